@@ -1,0 +1,2 @@
+//! The tests of the crates: worked rows, calls with ample memory, and devices that fail.
+#![tactic(auto)]
