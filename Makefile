@@ -1,0 +1,30 @@
+# Proves and builds `leveled`; `make demo` runs it on an example, `make test` is the whole gate.
+# Wants the Rattle toolchain (`rt` on the PATH) and nothing else.
+
+PREFIX ?= /usr/local
+EXAMPLE ?= examples/two_rooms.txt
+
+.PHONY: all demo test install clean
+
+all: bin/leveled
+
+# the program is built only once it and all that it stands on are proved
+bin/leveled: FORCE
+	cd crates/leveled && rt run -- --version
+	mkdir -p bin
+	cp crates/leveled/out/leveled bin/leveled
+
+demo: bin/leveled
+	bin/leveled scratch < $(EXAMPLE)
+
+test:
+	rt ci
+
+install: bin/leveled
+	install -d $(DESTDIR)$(PREFIX)/bin
+	install -m 755 bin/leveled $(DESTDIR)$(PREFIX)/bin/leveled
+
+clean:
+	rm -rf bin crates/*/out
+
+FORCE:
