@@ -1,4 +1,5 @@
 pub mod Chunks
+pub mod NameLemmas
 pub mod FieldBytes
 pub mod RecordBytes
 pub mod Ring
