@@ -40,6 +40,4 @@ returns-clause-record c =
 
 pub returns-clause-inverse : goal.returns-clause-inverse
 returns-clause-inverse c =
-    let u0 : Fits w16 c.args.node.now.right = search rules in
-    let u1 : Fits w16 c.args.node.now.left = search rules in
-    ap node_at (returns-clause-record c) ∙ node_at-record c.args.node.now (search rules) (search rules) (search rules) (search rules) (search rules) (search rules) (search rules) (search rules) (search rules) (search rules) (search rules) (search rules) (omega arith) (omega arith)
+    ap node_at (returns-clause-record c) ∙ node_at-record c.args.node.now (search rules) (search rules) (search rules) (search rules) (search rules) (search rules) (search rules) (search rules) (search rules) (search rules) (search rules) (search rules) c.put_unsigned.ensures.range c.put_unsigned-2.ensures.range

@@ -22,5 +22,4 @@ returns-clause-record c =
 
 pub returns-clause-inverse : goal.returns-clause-inverse
 returns-clause-inverse c =
-    let u0 : Fits w16 c.args.side.now.sector = search rules in
-    ap side_at (returns-clause-record c) ∙ side_at-record c.args.side.now (search rules) (search rules) (search rules) (search rules) (search rules) (omega arith)
+    ap side_at (returns-clause-record c) ∙ side_at-record c.args.side.now (search rules) (search rules) (search rules) (search rules) (search rules) c.put_unsigned.ensures.range
