@@ -1,2 +1,5 @@
 //! The tests of the crates: worked rows, calls with ample memory, and devices that fail.
 #![tactic(auto)]
+
+#[cfg(test)]
+mod lumps;
