@@ -1,0 +1,31 @@
+-- What follows where nothing speaks against an edit.
+use Rattle.std.proofs.Common.{◌≡◌, ℕ, ◌<◌, ◌≤◌, ◌+◌, Bool, true, false, List, [], ◌∷◌, length, None, refl, ltb, get_or}
+use Rattle.std.specs.List.{list_any, All}
+use Rattle.std.proofs.lemmas.Bool.{ltb-false, not-false, ltb-true, both_ways, false_from_ne_true}
+use Rattle.std.proofs.lemmas.List.Folds.{list_any_at}
+use Rattle.lv_maptables.specs.Outcomes.{least}
+use Rattle.lv_maptables.specs.Faults.{lacks, lacks_room, lacks_sector_room}
+
+-- no fault of the list holds
+abbrev pub NoneHold : List (ℕ × Bool) → Type 0
+NoneHold [] = Unit {0}
+NoneHold (fault ∷ faults) = (fault.1 ≡ false) × NoneHold faults
+
+pub none_hold : (faults : List (ℕ × Bool)) → least faults ≡ None → NoneHold faults
+none_hold [] e = tt
+none_hold ((code, true) ∷ faults) e = cc
+none_hold ((code, false) ∷ faults) e = (refl, none_hold faults e)
+
+-- a number that isn't lacking is a place
+pub not_lacking : {X : Type 0} (xs : List X) (n : ℕ) → lacks xs n ≡ false → n < length xs
+not_lacking xs n e = ltb-true n (length xs) (not-false (ltb n (length xs)) e)
+
+pub has_room : {X : Type 0} (xs : List X) → lacks_room xs 1 ≡ false → length xs + 1 ≤ 32767
+has_room xs e = ltb-false 32767 (length xs + 1) e
+
+pub has_sector_room : {X : Type 0} (xs : List X) → lacks_sector_room xs 1 ≡ false → length xs + 1 ≤ 4096
+has_sector_room xs e = ltb-false 4096 (length xs + 1) e
+
+-- where no element passes a test, none does at its place
+pub none_passes : {X : Type 0} (p : X → Bool) (xs : List X) → list_any p xs ≡ false → All (λ x. p x ≡ false) xs
+none_passes p xs e = λ k d h. false_from_ne_true (p (get_or xs k d)) (λ t. both_ways (list_any p xs) e (list_any_at p xs k d h t))
