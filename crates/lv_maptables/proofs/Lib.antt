@@ -1,3 +1,6 @@
 pub mod ListLemmas
 pub mod FaultLemmas
 pub mod VertexLemmas
+pub mod SectorLemmas
+pub mod SideLemmas
+pub mod LineLemmas

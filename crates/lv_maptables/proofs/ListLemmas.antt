@@ -1,5 +1,5 @@
 -- Lists with an element set or taken out, and the numbers of what stays.
-use Rattle.std.proofs.Common.{◌≡◌, ◌≢◌, ℕ, suc, ◌<◌, ◌≤◌, ◌+◌, ◌-◌, Bool, true, false, cond, List, length, refl, sym, ap, ◌∙◌, subst, inl, inr, arith, ltb, get_or}
+use Rattle.std.proofs.Common.{◌≡◌, ◌≢◌, ℕ, suc, ◌<◌, ◌≤◌, ◌+◌, ◌-◌, List, length, ap, ◌∙◌, inl, inr, arith, ltb, get_or}
 use Rattle.std.specs.List.{All, AllPairs, remove}
 use Rattle.std.proofs.Math.ListN.{set, take, drop}
 use Rattle.std.proofs.lemmas.Bool.{cases_eq, cases_lt, cond-true, cond-false, lt-ltb, le-ltb}
@@ -7,7 +7,7 @@ use Rattle.std.proofs.lemmas.Bool.Decides.{nat_tests}
 use Rattle.std.proofs.lemmas.Grind.{get_or-set_at}
 use Rattle.std.proofs.lemmas.List.{get_or-set_other, length-set}
 use Rattle.std.proofs.lemmas.List.Elements.{All-append, All-take, All-drop}
-use Rattle.std.proofs.lemmas.List.Edits.{get_or-remove_below, get_or-remove_above, length-remove}
+use Rattle.std.proofs.lemmas.List.Edits.{get_or-remove_below, get_or-remove_above}
 use Rattle.lv_maptables.specs.Edits.{lowered}
 
 -- what holds of each element holds of each that stays
@@ -20,21 +20,21 @@ pub all_pairs_set : {X : Type 0} (R : X → X → Type 0) (xs : List X) (n : ℕ
 all_pairs_set R xs n y at pairs beside = λ i j d before within.
     let inside : j < length xs = omega (arith, length-set xs n y) in
     elim (cases_eq i n) [
-      inl first ↦
-        let other : j ≢ n = omega arith in
-        let new : get_or (set xs n y) i d ≡ y = get_or-set_at xs n i y d first at in
-        let old : get_or (set xs n y) j d ≡ get_or xs j d = get_or-set_other xs n j y d other in
-        rw (new, old) ((beside j d inside other).1)
-    | inr apart ↦
-        let old : get_or (set xs n y) i d ≡ get_or xs i d = get_or-set_other xs n i y d apart in
-        elim (cases_eq j n) [
-          inl second ↦
-            let new : get_or (set xs n y) j d ≡ y = get_or-set_at xs n j y d second at in
-            rw (old, new) ((beside i d (omega arith) apart).0)
-        | inr other ↦
-            let old' : get_or (set xs n y) j d ≡ get_or xs j d = get_or-set_other xs n j y d other in
-            rw (old, old') (pairs i j d before inside)
-        ]
+      | inl first ↦
+          let other : j ≢ n = omega arith in
+          let new : get_or (set xs n y) i d ≡ y = get_or-set_at xs n i y d first at in
+          let old : get_or (set xs n y) j d ≡ get_or xs j d = get_or-set_other xs n j y d other in
+          rw (new, old) ((beside j d inside other).1)
+      | inr apart ↦
+          let old : get_or (set xs n y) i d ≡ get_or xs i d = get_or-set_other xs n i y d apart in
+          elim (cases_eq j n) [
+            | inl second ↦
+                let new : get_or (set xs n y) j d ≡ y = get_or-set_at xs n j y d second at in
+                rw (old, new) ((beside i d (omega arith) apart).0)
+            | inr other ↦
+                let old' : get_or (set xs n y) j d ≡ get_or xs j d = get_or-set_other xs n j y d other in
+                rw (old, old') (pairs i j d before inside)
+          ]
     ]
 
 -- a lowered number is no greater
@@ -53,12 +53,12 @@ lowered_apart gone a b p q r = grind (arith, nat_tests)
 pub get_or-lowered : {X : Type 0} (xs : List X) (gone n : ℕ) (d : X) → gone < length xs → n ≢ gone → get_or (remove xs gone) (lowered gone n) d ≡ get_or xs n d
 get_or-lowered xs gone n d at apart =
     elim (cases_lt gone n) [
-      inl above ↦
-        let it : lowered gone n ≡ n - 1 = cond-true (ltb gone n) (n - 1) n (lt-ltb gone n above) in
-        let back : n - 1 + 1 ≡ n = omega arith in
-        let moved : get_or (remove xs gone) (n - 1) d ≡ get_or xs (n - 1 + 1) d = get_or-remove_above xs gone d (n - 1) (omega arith) at in
-        rw it (moved ∙ ap (λ k. get_or xs k d) back)
-    | inr below ↦
-        let it : lowered gone n ≡ n = cond-false (ltb gone n) (n - 1) n (le-ltb gone n below) in
-        rw it (get_or-remove_below xs gone d n (omega arith) at)
+      | inl above ↦
+          let it : lowered gone n ≡ n - 1 = cond-true (ltb gone n) (n - 1) n (lt-ltb gone n above) in
+          let back : n - 1 + 1 ≡ n = omega arith in
+          let moved : get_or (remove xs gone) (n - 1) d ≡ get_or xs (n - 1 + 1) d = get_or-remove_above xs gone d (n - 1) (omega arith) at in
+          rw it (moved ∙ ap (λ k. get_or xs k d) back)
+      | inr below ↦
+          let it : lowered gone n ≡ n = cond-false (ltb gone n) (n - 1) n (le-ltb gone n below) in
+          rw it (get_or-remove_below xs gone d n (omega arith) at)
     ]

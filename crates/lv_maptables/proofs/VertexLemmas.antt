@@ -1,7 +1,6 @@
 -- A map stays well-formed under the edits of its vertices.
-use Rattle.std.proofs.Common.{◌≡◌, ◌≢◌, ℕ, ◌<◌, ◌≤◌, ◌+◌, Bool, true, false, ◌&&◌, not, eqb, List, [], ◌∷◌, ◌++◌, length, None, refl, sym, ap, subst, inl, inr, arith, get_or, length-append, ℤ, pos}
-use Rattle.std.specs.List.{All, AllPairs, list_any, remove, enumerate_from}
-use Rattle.std.specs.Ordering.{int_eq}
+use Rattle.std.proofs.Common.{◌≡◌, ◌≢◌, ℕ, ◌<◌, ◌+◌, true, false, ◌&&◌, not, eqb, List, [], ◌∷◌, ◌++◌, length, None, refl, sym, subst, inl, inr, arith, get_or, length-append}
+use Rattle.std.specs.List.{remove, enumerate_from}
 use Rattle.std.proofs.Math.ListN.{set}
 use Rattle.std.proofs.lemmas.Bool.{both_ways, and_from, and_cases, or_parts, eqb-false, ne_eqb, ltb-false, not_from_false}
 use Rattle.std.proofs.lemmas.Bool.Decides.{Decides-int_eq}
@@ -17,7 +16,7 @@ use Rattle.lv_maptables.specs.Tables.{Tables}
 use Rattle.lv_maptables.specs.Ranges.{IsVertex, IsLine, squared_distance, longest_squared}
 use Rattle.lv_maptables.specs.WellFormed.{WellFormed, HasEnds, HasSides, vertex_at}
 use Rattle.lv_maptables.specs.Outcomes.{least}
-use Rattle.lv_maptables.specs.Faults.{vertex_faults, set_vertex_faults, drop_vertex_faults, is_place, is_taken, is_taken_beside, is_too_long, uses_vertex, lacks_room}
+use Rattle.lv_maptables.specs.Faults.{vertex_faults, set_vertex_faults, drop_vertex_faults, is_place, is_taken_beside, is_too_long, uses_vertex}
 use Rattle.lv_maptables.specs.Edits.{with_vertex, with_vertex_at, without_vertex, line_without_vertex, lowered}
 use Rattle.lv_maptables.proofs.ListLemmas.{All-remove, all_pairs_set, lowered_le, lowered_fits, lowered_apart, get_or-lowered}
 use Rattle.lv_maptables.proofs.FaultLemmas.{none_hold, has_room, none_passes, not_lacking}
@@ -77,15 +76,20 @@ ends_without vs n l at unused h =
       v1 = lowered_fits n l.v1 (length (remove vs n)) (omega arith) (omega (arith, h.v1)) apart1;
       v2 = lowered_fits n l.v2 (length (remove vs n)) (omega arith) (omega (arith, h.v2)) apart2;
       differ = lowered_apart n l.v1 l.v2 apart1 apart2 h.differ;
-      short = rw (first, second) h.short
+      short = rw (first, second) h.short;
     }
 
 -- a line's numbers stay in range
 pub range_without_vertex : (n : ℕ) (l : Line) → IsLine l → IsLine (line_without_vertex n l)
 range_without_vertex n l h =
     record {
-      v1 = omega (arith, lowered_le n l.v1, h.v1); v2 = omega (arith, lowered_le n l.v2, h.v2); flags = h.flags;
-      special = h.special; tag = h.tag; right = h.right; left = h.left
+      v1 = omega (arith, lowered_le n l.v1, h.v1);
+      v2 = omega (arith, lowered_le n l.v2, h.v2);
+      flags = h.flags;
+      special = h.special;
+      tag = h.tag;
+      right = h.right;
+      left = h.left;
     }
 
 -- a line's sides don't depend on its vertices
@@ -101,13 +105,21 @@ without_vertex-keeps m n w fine =
     let fewer = length-remove m.vertices n at in
     let as_many = length-map m.lines (line_without_vertex n) in
     record {
-      name = w.name; vertices = All-remove IsVertex m.vertices n w.vertices; sectors = w.sectors; sides = w.sides;
+      name = w.name;
+      vertices = All-remove IsVertex m.vertices n w.vertices;
+      sectors = w.sectors;
+      sides = w.sides;
       lines = All-map IsLine (line_without_vertex n) m.lines (λ k d h. range_without_vertex n (get_or m.lines k d) (w.lines k d h));
-      things = w.things; places = all_pairs_remove (λ v w. v ≢ w) m.vertices n at w.places;
+      things = w.things;
+      places = all_pairs_remove (λ v w. v ≢ w) m.vertices n at w.places;
       ends = All-map (HasEnds (remove m.vertices n)) (line_without_vertex n) m.lines (λ k d h. ends_without m.vertices n (get_or m.lines k d) at (unused k d h) (w.ends k d h));
       line_sides = All-map (HasSides m.sides) (line_without_vertex n) m.lines (λ k d h. sides_without_vertex m.sides n (get_or m.lines k d) (w.line_sides k d h));
-      side_sectors = w.side_sectors; vertex_count = omega (arith, fewer, w.vertex_count); sector_count = w.sector_count;
-      side_count = w.side_count; line_count = rw as_many w.line_count; thing_count = w.thing_count
+      side_sectors = w.side_sectors;
+      vertex_count = omega (arith, fewer, w.vertex_count);
+      sector_count = w.sector_count;
+      side_count = w.side_count;
+      line_count = rw as_many w.line_count;
+      thing_count = w.thing_count;
     }
 
 -- no other vertex has the place
@@ -119,8 +131,8 @@ none_beside vs n v free k d h apart =
     let both : (not (eqb (0 + k) n) && is_place v (get_or vs k d)) ≡ false = subst (λ w. (not (eqb w.0 n) && is_place v w.1) ≡ false) it passes in
     let other : eqb (0 + k) n ≡ false = ne_eqb (0 + k) n (λ e. apart (omega arith)) in
     elim (and_cases (not (eqb (0 + k) n)) (is_place v (get_or vs k d)) both) [
-      inl same ↦ absurd (both_ways (not (eqb (0 + k) n)) same (not_from_false (eqb (0 + k) n) other))
-    | inr away ↦ away
+      | inl same ↦ absurd (both_ways (not (eqb (0 + k) n)) same (not_from_false (eqb (0 + k) n) other))
+      | inr away ↦ away
     ]
 
 -- a line has its ends once a vertex has moved, if it isn't too long then
@@ -128,15 +140,17 @@ pub ends_moved : (vs : List Vertex) (n : ℕ) (v : Vertex) (l : Line) → (uses_
 ends_moved vs n v l fits h =
     let as_many = length-set vs n v in
     record {
-      v1 = rw as_many h.v1; v2 = rw as_many h.v2; differ = h.differ;
+      v1 = rw as_many h.v1;
+      v2 = rw as_many h.v2;
+      differ = h.differ;
       short = elim (and_cases (uses_vertex n l) (is_too_long (set vs n v) l) fits) [
-          inl unused ↦
+        | inl unused ↦
             let apart = or_parts (eqb l.v1 n) (eqb l.v2 n) unused in
             let first : vertex_at (set vs n v) l.v1 ≡ vertex_at vs l.v1 = get_or-set_other vs n l.v1 v _ (eqb-false l.v1 n apart.0) in
             let second : vertex_at (set vs n v) l.v2 ≡ vertex_at vs l.v2 = get_or-set_other vs n l.v2 v _ (eqb-false l.v2 n apart.1) in
             rw (first, second) h.short
         | inr short ↦ ltb-false longest_squared (squared_distance (vertex_at (set vs n v) l.v1) (vertex_at (set vs n v) l.v2)) short
-        ]
+      ];
     }
 
 -- with a vertex moved to a place that no other has
@@ -148,13 +162,23 @@ with_vertex_at-keeps m n v w range fine =
     let fits = none_passes (λ l. uses_vertex n l && is_too_long (set m.vertices n v) l) m.lines none.1.1.0 in
     let as_many = length-set m.vertices n v in
     record {
-      name = w.name; vertices = All-set IsVertex m.vertices n v range w.vertices; sectors = w.sectors; sides = w.sides;
-      lines = w.lines; things = w.things;
+      name = w.name;
+      vertices = All-set IsVertex m.vertices n v range w.vertices;
+      sectors = w.sectors;
+      sides = w.sides;
+      lines = w.lines;
+      things = w.things;
       places = all_pairs_set (λ v w. v ≢ w) m.vertices n v at w.places (λ k d h apart.
-        let other = free k d h apart in
-        (λ e. both_ways (is_place v v) (subst (λ u. is_place v u ≡ false) e other) (own_place v),
-          λ e. both_ways (is_place v v) (subst (λ u. is_place v u ≡ false) (sym e) other) (own_place v)));
+          let other = free k d h apart in (
+            λ e. both_ways (is_place v v) (subst (λ u. is_place v u ≡ false) e other) (own_place v),
+            λ e. both_ways (is_place v v) (subst (λ u. is_place v u ≡ false) (sym e) other) (own_place v),
+          ));
       ends = λ k d h. ends_moved m.vertices n v (get_or m.lines k d) (fits k d h) (w.ends k d h);
-      line_sides = w.line_sides; side_sectors = w.side_sectors; vertex_count = rw as_many w.vertex_count;
-      sector_count = w.sector_count; side_count = w.side_count; line_count = w.line_count; thing_count = w.thing_count
+      line_sides = w.line_sides;
+      side_sectors = w.side_sectors;
+      vertex_count = rw as_many w.vertex_count;
+      sector_count = w.sector_count;
+      side_count = w.side_count;
+      line_count = w.line_count;
+      thing_count = w.thing_count;
     }

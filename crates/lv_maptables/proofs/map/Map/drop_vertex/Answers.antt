@@ -10,4 +10,4 @@ invariant_of-self c =
     let whole : length c.lower_ends.new.lines ≡ c.self.inside.lines.len = c.lower_ends.auto.lines ∙ c.deref_mut.ensures.len in
     let lowered = c.lower_ends.ensures ∙ ap (λ ls. map (line_without_vertex c.args.n) ls) c.deref_mut.ensures.value in
     rw (c.remove.ensures.items, with_items_is c.self.inside.lines c.lower_ends.new.lines whole, lowered)
-      (without_vertex-keeps _ c.args.n c.self.invariant (rw (← c.self.view_is) at c.in_ok-can_drop_vertex.ensures))
+    (without_vertex-keeps _ c.args.n c.self.invariant (rw (← c.self.view_is) at c.in_ok-can_drop_vertex.ensures))

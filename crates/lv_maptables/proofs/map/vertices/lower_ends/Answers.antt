@@ -1,5 +1,5 @@
 -- One more line names its vertices by their new numbers.
-use Rattle.std.proofs.Common.{◌<◌, ◌≡◌, length, arith, refl, ◌∙◌, get_or}
+use Rattle.std.proofs.Common.{arith}
 use Rattle.std.proofs.lemmas.List.Edits.{map_over_more}
 use Rattle.std.proofs.lemmas.List.{get_or_default}
 use Rattle.lv_maptables.specs.Edits.{line_without_vertex}

@@ -1,0 +1,125 @@
+ghost use Rattle.std.specs.Prelude.{◌≡◌, ◌+◌, ◌<◌, IsErrOf};
+ghost use Rattle.lv_maptables.specs.Ranges.{IsLine};
+ghost use Rattle.lv_maptables.specs.WellFormed.{is_two_sided};
+ghost use Rattle.lv_maptables.specs.Outcomes.{Ends, EndsExactly, Tells, Spends, one_line, nothing};
+ghost use Rattle.lv_maptables.specs.Faults.{reference_faults, shape_faults, line_faults, set_line_faults, drop_line_faults};
+ghost use Rattle.lv_maptables.specs.Edits.{added_line, changed_line, dropped_line};
+
+use crate::error::MapError;
+use crate::map::sides::has_left;
+use crate::map::vertices::is_too_long;
+use crate::map::{ITEM_LIMIT, Map};
+use lv_lumps::Line;
+
+/// The flag of the value 4: the line has two sides.
+pub(super) fn is_two_sided(line: &Line) -> bool
+    ensures { result ≡ is_two_sided line.now }
+{
+    line.flags / 4 % 2 == 1
+}
+
+/// Whether the line's own fields go together: `SameEnds`, `TwoSidedWithoutLeft`.
+fn check_shape(line: &Line) -> Result<(), MapError>
+    ensures { Tells result (shape_faults line.now) }
+{
+    if line.v1 == line.v2 {
+        return Err(MapError::SameEnds);
+    }
+    if is_two_sided(line) && !has_left(line) {
+        return Err(MapError::TwoSidedWithoutLeft);
+    }
+    Ok(())
+}
+
+impl Map {
+    /// Whether the map has what the line names: `NoVertex`, `NoSide`.
+    fn check_references(&self, line: &Line) -> Result<(), MapError>
+        ensures { Tells result (reference_faults self.now.tables line.now) }
+    {
+        let vertices = self.vertices.len();
+        if usize::from(line.v1) >= vertices || usize::from(line.v2) >= vertices {
+            return Err(MapError::NoVertex);
+        }
+        let sides = self.sides.len();
+        if usize::from(line.right) >= sides || has_left(line) && usize::from(line.left) >= sides {
+            return Err(MapError::NoSide);
+        }
+        Ok(())
+    }
+
+    /// Whether a line can be added, memory aside: `NoVertex`, `NoSide`, `SameEnds`,
+    /// `TwoSidedWithoutLeft`, `TableFull`, `LineTooLong`.
+    pub fn can_add_line(&self, line: Line) -> Result<(), MapError>
+        ensures { Tells result (line_faults self.now.tables line) }
+    {
+        self.check_references(&line)?;
+        check_shape(&line)?;
+        if self.lines.len() >= ITEM_LIMIT {
+            return Err(MapError::TableFull);
+        }
+        if is_too_long(&self.vertices, &line) {
+            return Err(MapError::LineTooLong);
+        }
+        Ok(())
+    }
+
+    /// Adds a line, and answers its number.
+    pub fn add_line(&mut self, line: Line) -> Result<u32, MapError>
+        requires { IsLine line }
+        ensures edit { Ends result (added_line self.old.tables line) self.old.tables self.new.tables }
+        ensures promised { 0 < self.old.spare.lines → IsErrOf result MapError.OutOfMemory → ⊥ }
+        ensures spare { Spends one_line self.old.spare self.new.spare }
+    {
+        self.can_add_line(line)?;
+        let number = self.lines.len() as u32;
+        self.lines.push(line)?;
+        Ok(number)
+    }
+
+    /// Whether a line can be changed: `NoVertex`, `NoSide`, `NoLine`, `SameEnds`,
+    /// `TwoSidedWithoutLeft`, `LineTooLong`.
+    pub fn can_set_line(&self, n: u32, line: Line) -> Result<(), MapError>
+        ensures { Tells result (set_line_faults self.now.tables n line) }
+    {
+        self.check_references(&line)?;
+        if n as usize >= self.lines.len() {
+            return Err(MapError::NoLine);
+        }
+        check_shape(&line)?;
+        if is_too_long(&self.vertices, &line) {
+            return Err(MapError::LineTooLong);
+        }
+        Ok(())
+    }
+
+    /// Puts a line in place of that of its number.
+    pub fn set_line(&mut self, n: u32, line: Line) -> Result<(), MapError>
+        requires { IsLine line }
+        ensures edit { EndsExactly result (changed_line self.old.tables n line) self.old.tables self.new.tables }
+        ensures spare { Spends nothing self.old.spare self.new.spare }
+    {
+        self.can_set_line(n, line)?;
+        self.lines[n as usize] = line;
+        Ok(())
+    }
+
+    /// Whether a line can be taken out: `NoLine`.
+    pub fn can_drop_line(&self, n: u32) -> Result<(), MapError>
+        ensures { Tells result (drop_line_faults self.now.tables n) }
+    {
+        if n as usize >= self.lines.len() {
+            return Err(MapError::NoLine);
+        }
+        Ok(())
+    }
+
+    /// Takes a line out, and lowers each greater number by one.
+    pub fn drop_line(&mut self, n: u32) -> Result<(), MapError>
+        ensures edit { EndsExactly result (dropped_line self.old.tables n) self.old.tables self.new.tables }
+        ensures spare { Spends nothing self.old.spare self.new.spare }
+    {
+        self.can_drop_line(n)?;
+        self.lines.remove(n as usize);
+        Ok(())
+    }
+}

@@ -1,0 +1,111 @@
+ghost use Rattle.std.specs.Prelude.{◌≡◌, ◌+◌, ◌<◌, map, IsErrOf};
+ghost use Rattle.std.specs.List.{list_any};
+ghost use Rattle.lv_maptables.specs.Ranges.{IsSector};
+ghost use Rattle.lv_maptables.specs.Outcomes.{Ends, EndsExactly, Tells, Spends, one_sector, nothing};
+ghost use Rattle.lv_maptables.specs.Faults.{in_sector, sector_faults, set_sector_faults, drop_sector_faults};
+ghost use Rattle.lv_maptables.specs.Edits.{side_without_sector, added_sector, changed_sector, dropped_sector};
+
+use crate::error::MapError;
+use crate::map::numbers::lowered;
+use crate::map::{Map, SECTOR_LIMIT};
+use lv_lumps::{Sector, Side};
+
+/// Whether a side belongs to the sector.
+fn has_side_in(sides: &[Side], n: u32) -> bool
+    ensures { result ≡ list_any (in_sector n) sides.now }
+{
+    sides.iter().any(|side| u32::from(side.sector) == n)
+}
+
+/// The side once a sector to which it doesn't belong has been taken out.
+fn side_without_sector(side: Side, gone: u32) -> Side
+    ensures { result ≡ side_without_sector gone side }
+{
+    Side {
+        x_offset: side.x_offset,
+        y_offset: side.y_offset,
+        upper: side.upper,
+        lower: side.lower,
+        middle: side.middle,
+        sector: lowered(gone, side.sector),
+    }
+}
+
+/// Lowers the numbers of the sectors behind one that is gone.
+fn lower_sectors(sides: &mut [Side], gone: u32)
+    ensures { sides.new ≡ map (side_without_sector gone) sides.old }
+{
+    for side in sides.iter_mut() {
+        *side = side_without_sector(*side, gone);
+    }
+}
+
+impl Map {
+    /// Whether a sector can be added, memory aside: `TableFull`.
+    pub fn can_add_sector(&self) -> Result<(), MapError>
+        ensures { Tells result (sector_faults self.now.tables) }
+    {
+        if self.sectors.len() >= SECTOR_LIMIT {
+            return Err(MapError::TableFull);
+        }
+        Ok(())
+    }
+
+    /// Adds a sector, and answers its number.
+    pub fn add_sector(&mut self, sector: Sector) -> Result<u32, MapError>
+        requires { IsSector sector }
+        ensures edit { Ends result (added_sector self.old.tables sector) self.old.tables self.new.tables }
+        ensures promised { 0 < self.old.spare.sectors → IsErrOf result MapError.OutOfMemory → ⊥ }
+        ensures spare { Spends one_sector self.old.spare self.new.spare }
+    {
+        self.can_add_sector()?;
+        let number = self.sectors.len() as u32;
+        self.sectors.push(sector)?;
+        Ok(number)
+    }
+
+    /// Whether a sector can be changed: `NoSector`.
+    pub fn can_set_sector(&self, n: u32) -> Result<(), MapError>
+        ensures { Tells result (set_sector_faults self.now.tables n) }
+    {
+        if n as usize >= self.sectors.len() {
+            return Err(MapError::NoSector);
+        }
+        Ok(())
+    }
+
+    /// Puts a sector in place of that of its number.
+    pub fn set_sector(&mut self, n: u32, sector: Sector) -> Result<(), MapError>
+        requires { IsSector sector }
+        ensures edit { EndsExactly result (changed_sector self.old.tables n sector) self.old.tables self.new.tables }
+        ensures spare { Spends nothing self.old.spare self.new.spare }
+    {
+        self.can_set_sector(n)?;
+        self.sectors[n as usize] = sector;
+        Ok(())
+    }
+
+    /// Whether a sector can be taken out: `NoSector`, `InUse`.
+    pub fn can_drop_sector(&self, n: u32) -> Result<(), MapError>
+        ensures { Tells result (drop_sector_faults self.now.tables n) }
+    {
+        if n as usize >= self.sectors.len() {
+            return Err(MapError::NoSector);
+        }
+        if has_side_in(&self.sides, n) {
+            return Err(MapError::InUse);
+        }
+        Ok(())
+    }
+
+    /// Takes a sector out, and lowers each greater number by one, in the sides too.
+    pub fn drop_sector(&mut self, n: u32) -> Result<(), MapError>
+        ensures edit { EndsExactly result (dropped_sector self.old.tables n) self.old.tables self.new.tables }
+        ensures spare { Spends nothing self.old.spare self.new.spare }
+    {
+        self.can_drop_sector(n)?;
+        self.sectors.remove(n as usize);
+        lower_sectors(&mut self.sides, n);
+        Ok(())
+    }
+}
