@@ -4,3 +4,5 @@ pub mod VertexLemmas
 pub mod SectorLemmas
 pub mod SideLemmas
 pub mod LineLemmas
+pub mod BodyLemmas
+pub mod FramedLemmas

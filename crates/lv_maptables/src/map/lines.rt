@@ -1,22 +1,14 @@
 ghost use Rattle.std.specs.Prelude.{◌≡◌, ◌+◌, ◌<◌, IsErrOf};
 ghost use Rattle.lv_maptables.specs.Ranges.{IsLine};
-ghost use Rattle.lv_maptables.specs.WellFormed.{is_two_sided};
 ghost use Rattle.lv_maptables.specs.Outcomes.{Ends, EndsExactly, Tells, Spends, one_line, nothing};
 ghost use Rattle.lv_maptables.specs.Faults.{reference_faults, shape_faults, line_faults, set_line_faults, drop_line_faults};
 ghost use Rattle.lv_maptables.specs.Edits.{added_line, changed_line, dropped_line};
 
 use crate::error::MapError;
-use crate::map::sides::has_left;
-use crate::map::vertices::is_too_long;
+use crate::lengths::is_too_long;
 use crate::map::{ITEM_LIMIT, Map};
+use crate::references::{has_left, is_two_sided};
 use lv_lumps::Line;
-
-/// The flag of the value 4: the line has two sides.
-pub(super) fn is_two_sided(line: &Line) -> bool
-    ensures { result ≡ is_two_sided line.now }
-{
-    line.flags / 4 % 2 == 1
-}
 
 /// Whether the line's own fields go together: `SameEnds`, `TwoSidedWithoutLeft`.
 fn check_shape(line: &Line) -> Result<(), MapError>

@@ -2,20 +2,14 @@ ghost use Rattle.std.specs.Prelude.{◌≡◌, ◌+◌, ◌<◌, map, IsErrOf};
 ghost use Rattle.std.specs.List.{list_any};
 ghost use Rattle.lv_maptables.specs.Ranges.{IsSide};
 ghost use Rattle.lv_maptables.specs.Outcomes.{Ends, EndsExactly, Tells, Spends, one_side, nothing};
-ghost use Rattle.lv_maptables.specs.Faults.{has_left, uses_side, side_faults, set_side_faults, drop_side_faults};
+ghost use Rattle.lv_maptables.specs.Faults.{uses_side, side_faults, set_side_faults, drop_side_faults};
 ghost use Rattle.lv_maptables.specs.Edits.{lowered_left, line_without_side, added_side, changed_side, dropped_side};
 
 use crate::error::MapError;
 use crate::map::numbers::lowered;
-use crate::map::{ITEM_LIMIT, Map, NO_SIDE};
+use crate::map::{ITEM_LIMIT, Map};
+use crate::references::{NO_SIDE, has_left};
 use lv_lumps::{Line, Side};
-
-/// Whether the line has a left side.
-pub(super) fn has_left(line: &Line) -> bool
-    ensures { result ≡ has_left line.now }
-{
-    line.left != NO_SIDE
-}
 
 /// Whether the side is the line's right or left one.
 fn uses_side(line: &Line, n: u32) -> bool

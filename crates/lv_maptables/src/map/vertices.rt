@@ -7,39 +7,10 @@ ghost use Rattle.lv_maptables.specs.Faults.{is_taken, is_taken_beside, is_too_lo
 ghost use Rattle.lv_maptables.specs.Edits.{line_without_vertex, added_vertex, changed_vertex, dropped_vertex};
 
 use crate::error::MapError;
+use crate::lengths::{LONGEST_SQUARED, squared_distance, vertex_at};
 use crate::map::numbers::lowered;
 use crate::map::{ITEM_LIMIT, Map};
 use lv_lumps::{Line, Vertex};
-
-/// The greatest squared length of a line.
-const LONGEST_SQUARED: u64 = 1_073_676_289;
-
-/// The squared distance of two places.
-pub fn squared_distance(a: Vertex, b: Vertex) -> u64
-    ensures { result ≡ squared_distance a b }
-{
-    let dx = gap(a.x, b.x);
-    let dy = gap(a.y, b.y);
-    dx * dx + dy * dy
-}
-
-/// How far two coordinates are apart.
-fn gap(a: i16, b: i16) -> u64
-    ensures value { result ≡ unsigned_abs (b -ℤ a) }
-    ensures bound { result < 65536 }
-{
-    u64::from((i32::from(b) - i32::from(a)).unsigned_abs())
-}
-
-/// The vertex of the number, and the origin where there is none.
-fn vertex_at(vertices: &[Vertex], n: u16) -> Vertex
-    ensures { result ≡ vertex_at vertices.now n }
-{
-    vertices
-        .get(usize::from(n))
-        .copied()
-        .unwrap_or(Vertex { x: 0, y: 0 })
-}
 
 /// The vertex of the number once vertex `moved` stands at another place.
 fn vertex_after_move(vertices: &[Vertex], moved: u32, to: Vertex, n: u16) -> Vertex
@@ -51,15 +22,6 @@ fn vertex_after_move(vertices: &[Vertex], moved: u32, to: Vertex, n: u16) -> Ver
     } else {
         vertex_at(vertices, n)
     }
-}
-
-/// Whether the line's ends are further apart than lines may be long.
-pub(super) fn is_too_long(vertices: &[Vertex], line: &Line) -> bool
-    ensures { result ≡ is_too_long vertices.now line.now }
-{
-    let start = vertex_at(vertices, line.v1);
-    let end = vertex_at(vertices, line.v2);
-    squared_distance(start, end) > LONGEST_SQUARED
 }
 
 /// Whether the line begins or ends at the vertex.

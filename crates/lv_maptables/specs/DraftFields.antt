@@ -1,0 +1,14 @@
+-- What a draft's fields mean.
+use Rattle.lv_maptables.specs.declared.map.draft.Draft.TheInside.{Inside}
+use Rattle.lv_maptables.specs.Tables.{Tables}
+
+abbrev pub drafted : Inside → Tables
+drafted a =
+    record {
+      name = a.name;
+      vertices = a.vertices.items;
+      sectors = a.sectors.items;
+      sides = a.sides.items;
+      lines = a.lines.items;
+      things = a.things.items;
+    }

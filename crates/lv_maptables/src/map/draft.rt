@@ -1,0 +1,129 @@
+ghost use Rattle.std.specs.Prelude.{◌≡◌, ◌≢◌, ◌≤◌, ◌↔◌, IfOk, IsOkUnless, IsTrue, All, AllPairs, length};
+ghost use Rattle.lv_maptables.specs.Ranges.{IsNamed, is_marker, IsVertex, IsSector, IsSide, IsLine, IsThing};
+ghost use Rattle.lv_maptables.specs.WellFormed.{WellFormed, HasEnds, HasSides, HasSector};
+ghost use Rattle.lv_maptables.specs.Body.{IsFramed, tables_at};
+
+use crate::error::MapError;
+use crate::form::{are_apart, are_linked, have_sectors};
+use crate::map::header::{count_at, name_at};
+use crate::map::{ITEM_LIMIT, Map, SECTOR_LIMIT};
+use crate::ranges::{are_areas, are_places, is_named_with};
+use lv_lumps::{
+    Line, Name8, Sector, Side, Thing, Vertex, decode_lines, decode_sectors, decode_sides,
+    decode_things, decode_vertices,
+};
+use std::alloc::Global;
+use std::marker::Model;
+
+/// The name and the tables that bytes hold, well-formed or not.
+#[derive(Drop)]
+pub(super) struct Draft {
+    name: Name8,
+    vertices: Vec<Vertex>,
+    sectors: Vec<Sector>,
+    sides: Vec<Side>,
+    lines: Vec<Line>,
+    things: Vec<Thing>,
+}
+
+impl Model for Draft {
+    ghost use Rattle.lv_maptables.specs.Tables.{Tables};
+
+    ghost Value = { Tables };
+
+    ghost use Rattle.lv_maptables.specs.DraftFields.{drafted};
+
+    ghost view = { drafted };
+}
+
+impl Draft {
+    /// What stands in framed bytes.
+    pub(super) fn read(alloc: Global, bytes: &[u8]) -> Result<Draft, MapError>
+        requires { IsFramed bytes.now }
+        ensures tables { IfOk result (λ d. d ≡ tables_at bytes.now) }
+        ensures memory { IsOkUnless result MapError.OutOfMemory }
+    {
+        let (_, behind) = bytes.split_at(20);
+        let (things, behind) = behind.split_at(10 * count_at(bytes, 10));
+        let (lines, behind) = behind.split_at(14 * count_at(bytes, 12));
+        let (sides, behind) = behind.split_at(30 * count_at(bytes, 14));
+        let (vertices, sectors) = behind.split_at(4 * count_at(bytes, 16));
+        // Each part is whole records long, so only memory can be lacking.
+        Ok(Draft {
+            name: name_at(bytes, 2),
+            vertices: decode_vertices(alloc, vertices).map_err(|_| MapError::OutOfMemory)?,
+            sectors: decode_sectors(alloc, sectors).map_err(|_| MapError::OutOfMemory)?,
+            sides: decode_sides(alloc, sides).map_err(|_| MapError::OutOfMemory)?,
+            lines: decode_lines(alloc, lines).map_err(|_| MapError::OutOfMemory)?,
+            things: decode_things(alloc, things).map_err(|_| MapError::OutOfMemory)?,
+        })
+    }
+
+    /// Whether each table is within its limit.
+    fn is_within_limits(&self) -> bool
+        ensures { IsTrue result ↔ ((length self.now.vertices ≤ 32767) × (length self.now.sectors ≤ 4096) × (length self.now.sides ≤ 32767) × (length self.now.lines ≤ 32767) × (length self.now.things ≤ 32767)) }
+    {
+        self.vertices.len() <= ITEM_LIMIT
+            && self.sectors.len() <= SECTOR_LIMIT
+            && self.sides.len() <= ITEM_LIMIT
+            && self.lines.len() <= ITEM_LIMIT
+            && self.things.len() <= ITEM_LIMIT
+    }
+
+    /// Whether the name and each item are in range.
+    fn is_in_range(&self) -> bool
+        ensures places { IsTrue result → (All IsVertex self.now.vertices × All IsThing self.now.things) }
+        ensures areas { IsTrue result → (All IsSector self.now.sectors × All IsSide self.now.sides) }
+        ensures lines { IsTrue result → (IsNamed is_marker self.now.name × All IsLine self.now.lines) }
+        ensures all { WellFormed self.now → IsTrue result }
+    {
+        if !are_places(&self.vertices, &self.things) {
+            return false;
+        }
+        are_areas(&self.sectors, &self.sides) && is_named_with(&self.name, &self.lines)
+    }
+
+    /// Whether each number names an item, and the lines go together with what they name.
+    fn is_linked(&self) -> bool
+        ensures lines { IsTrue result → (All (HasEnds self.now.vertices) self.now.lines × All (HasSides self.now.sides) self.now.lines) }
+        ensures sides { IsTrue result → All (HasSector self.now.sectors) self.now.sides }
+        ensures all { WellFormed self.now → IsTrue result }
+    {
+        are_linked(&self.vertices, &self.sides, &self.lines)
+            && have_sectors(&self.sectors, &self.sides)
+    }
+
+    /// Whether the tables are a map's.
+    pub(super) fn is_well_formed(&self, alloc: Global) -> Result<bool, MapError>
+        ensures answer { IfOk result (λ fine. IsTrue fine ↔ WellFormed self.now) }
+        ensures memory { IsOkUnless result MapError.OutOfMemory }
+    {
+        if !self.is_within_limits() || !self.is_in_range() || !self.is_linked() {
+            return Ok(false);
+        }
+        are_apart(alloc, &self.vertices)
+    }
+
+    /// The map of well-formed tables.
+    pub(super) fn into_map(self) -> Map
+        requires { WellFormed self }
+        ensures { result.tables ≡ self }
+    {
+        let Draft {
+            name,
+            vertices,
+            sectors,
+            sides,
+            lines,
+            things,
+        } = self;
+        Map {
+            name,
+            vertices,
+            sectors,
+            sides,
+            lines,
+            things,
+        }
+    }
+}

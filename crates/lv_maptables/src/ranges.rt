@@ -1,0 +1,244 @@
+ghost use Rattle.std.specs.Prelude.{◌≡◌, ◌↔◌, ◌≤◌, ◌&&◌, nat_le, length, IsTrue, All, pos};
+ghost use Rattle.std.specs.List.{list_all};
+ghost use Rattle.lv_lumps.specs.Names.{name_of, name_text};
+ghost use Rattle.lv_maptables.specs.Ranges.{IsBetween, IsCoordinate, IsShort, IsCode, is_name, is_marker, is_name_byte, IsNamed};
+ghost use Rattle.lv_maptables.specs.Ranges.{IsVertex, IsSector, IsSide, IsLine, IsThing};
+
+use lv_lumps::{Line, Name8, Sector, Side, Thing, Vertex};
+
+/// Whether the byte may stand in a name.
+fn is_name_byte(byte: u8) -> bool
+    ensures { result ≡ is_name_byte byte }
+{
+    matches!(byte, b'A'..=b'Z' | b'0'..=b'9' | b'_' | b'-' | b'[' | b']' | b'\\')
+}
+
+/// Whether the text is a name of a texture or a flat: one to eight bytes of `A` to `Z`, `0` to `9`,
+/// `_`, `-`, `[`, `]` and `\`.
+pub fn is_name(text: &[u8]) -> bool
+    ensures { result ≡ is_name text.now }
+{
+    has_name_length(text) && are_name_bytes(text)
+}
+
+/// Whether the text is one to eight bytes long.
+fn has_name_length(text: &[u8]) -> bool
+    ensures { result ≡ (nat_le 1 (length text.now) && nat_le (length text.now) 8) }
+{
+    1 <= text.len() && text.len() <= 8
+}
+
+/// Whether all bytes may stand in a name.
+fn are_name_bytes(text: &[u8]) -> bool
+    ensures { result ≡ list_all is_name_byte text.now }
+{
+    text.iter().all(|byte| is_name_byte(*byte))
+}
+
+/// Whether the text is a name of a map: `E1M1` to `E9M9`, or `MAP01` to `MAP99`.
+pub fn is_marker(text: &[u8]) -> bool
+    ensures { result ≡ is_marker text.now }
+{
+    match text {
+        [b'E', b'1'..=b'9', b'M', b'1'..=b'9'] => true,
+        [b'M', b'A', b'P', b'0', b'0'] => false,
+        [b'M', b'A', b'P', b'0'..=b'9', b'0'..=b'9'] => true,
+        _ => false,
+    }
+}
+
+/// Whether nothing but NUL follows the name's text.
+fn is_padded(name: &Name8) -> bool
+    ensures { IsTrue result ↔ (name.now ≡ name_of (name_text name.now)) }
+{
+    Name8::from_text(name.text()) == *name
+}
+
+/// Whether it is the name of a texture or a flat, as a map keeps it.
+fn is_texture(name: &Name8) -> bool
+    ensures { IsTrue result ↔ IsNamed is_name name.now }
+{
+    is_padded(name) && is_name(name.text())
+}
+
+/// Whether it is the name of a map, as a map keeps it.
+fn is_map_name(name: &Name8) -> bool
+    ensures { IsTrue result ↔ IsNamed is_marker name.now }
+{
+    is_padded(name) && is_marker(name.text())
+}
+
+/// Whether the number is a place's x or y.
+fn is_coordinate(z: i16) -> bool
+    ensures { IsTrue result ↔ IsCoordinate z }
+{
+    -16384 <= z && z <= 16383
+}
+
+/// Whether the number may be a height or an offset: any may.
+fn is_short(z: i16) -> bool
+    ensures { IsTrue result ↔ IsShort z }
+{
+    let _ = z;
+    true
+}
+
+/// Whether the number is a special, a tag, a type or options.
+fn is_code(z: i16) -> bool
+    ensures { IsTrue result ↔ IsCode z }
+{
+    0 <= z
+}
+
+/// Whether the number is at least 0 and at most the other.
+fn is_at_most(z: i16, high: i16) -> bool
+    ensures { IsTrue result ↔ IsBetween (pos 0) high z }
+{
+    0 <= z && z <= high
+}
+
+/// Whether the vertex is in range.
+fn is_vertex(vertex: &Vertex) -> bool
+    ensures { IsTrue result ↔ IsVertex vertex.now }
+{
+    is_coordinate(vertex.x) && is_coordinate(vertex.y)
+}
+
+/// Whether the sector's heights are in range.
+fn has_heights(sector: &Sector) -> bool
+    ensures { IsTrue result ↔ (IsShort sector.now.floor × IsShort sector.now.ceiling) }
+{
+    is_short(sector.floor) && is_short(sector.ceiling)
+}
+
+/// Whether the sector's other numbers are in range.
+fn has_sector_numbers(sector: &Sector) -> bool
+    ensures { IsTrue result ↔ (IsBetween (pos 0) (pos 255) sector.now.light × IsCode sector.now.special × IsCode sector.now.tag) }
+{
+    is_at_most(sector.light, 255) && is_code(sector.special) && is_code(sector.tag)
+}
+
+/// Whether the sector's names are names of flats.
+fn has_flats(sector: &Sector) -> bool
+    ensures { IsTrue result ↔ (IsNamed is_name sector.now.floor_name × IsNamed is_name sector.now.ceiling_name) }
+{
+    is_texture(&sector.floor_name) && is_texture(&sector.ceiling_name)
+}
+
+/// Whether the sector is in range.
+fn is_sector(sector: &Sector) -> bool
+    ensures { IsTrue result ↔ IsSector sector.now }
+{
+    has_heights(sector) && has_flats(sector) && has_sector_numbers(sector)
+}
+
+/// Whether the side's names are names of textures.
+fn has_textures(side: &Side) -> bool
+    ensures { IsTrue result ↔ (IsNamed is_name side.now.upper × IsNamed is_name side.now.lower × IsNamed is_name side.now.middle) }
+{
+    is_texture(&side.upper) && is_texture(&side.lower) && is_texture(&side.middle)
+}
+
+/// Whether the side's numbers are in range.
+fn has_side_numbers(side: &Side) -> bool
+    ensures { IsTrue result ↔ (IsShort side.now.x_offset × IsShort side.now.y_offset × (side.now.sector ≤ 4095)) }
+{
+    is_short(side.x_offset) && is_short(side.y_offset) && side.sector <= 4095
+}
+
+/// Whether the side is in range.
+fn is_side(side: &Side) -> bool
+    ensures { IsTrue result ↔ IsSide side.now }
+{
+    has_side_numbers(side) && has_textures(side)
+}
+
+/// Whether the line is in range.
+fn is_line(line: &Line) -> bool
+    ensures { IsTrue result ↔ IsLine line.now }
+{
+    line.v1 <= 32766
+        && line.v2 <= 32766
+        && line.flags <= 32767
+        && line.special <= 32767
+        && line.tag <= 32767
+        && line.right <= 32766
+        && (line.left <= 32766 || line.left == 65535)
+}
+
+/// Whether the thing's place is in range.
+fn has_thing_place(thing: &Thing) -> bool
+    ensures { IsTrue result ↔ (IsCoordinate thing.now.x × IsCoordinate thing.now.y) }
+{
+    is_coordinate(thing.x) && is_coordinate(thing.y)
+}
+
+/// Whether the thing's other numbers are in range.
+fn has_thing_numbers(thing: &Thing) -> bool
+    ensures { IsTrue result ↔ (IsBetween (pos 0) (pos 359) thing.now.angle × IsCode thing.now.kind × IsCode thing.now.options) }
+{
+    is_at_most(thing.angle, 359) && is_code(thing.kind) && is_code(thing.options)
+}
+
+/// Whether the thing is in range.
+fn is_thing(thing: &Thing) -> bool
+    ensures { IsTrue result ↔ IsThing thing.now }
+{
+    has_thing_place(thing) && has_thing_numbers(thing)
+}
+
+/// Whether all vertices are in range.
+fn are_vertices(vertices: &[Vertex]) -> bool
+    ensures { IsTrue result ↔ All IsVertex vertices.now }
+{
+    vertices.iter().all(is_vertex)
+}
+
+/// Whether all sectors are in range.
+fn are_sectors(sectors: &[Sector]) -> bool
+    ensures { IsTrue result ↔ All IsSector sectors.now }
+{
+    sectors.iter().all(is_sector)
+}
+
+/// Whether all sides are in range.
+fn are_sides(sides: &[Side]) -> bool
+    ensures { IsTrue result ↔ All IsSide sides.now }
+{
+    sides.iter().all(is_side)
+}
+
+/// Whether all lines are in range.
+fn are_lines(lines: &[Line]) -> bool
+    ensures { IsTrue result ↔ All IsLine lines.now }
+{
+    lines.iter().all(is_line)
+}
+
+/// Whether all things are in range.
+fn are_things(things: &[Thing]) -> bool
+    ensures { IsTrue result ↔ All IsThing things.now }
+{
+    things.iter().all(is_thing)
+}
+
+/// Whether all vertices and things are in range.
+pub fn are_places(vertices: &[Vertex], things: &[Thing]) -> bool
+    ensures { IsTrue result ↔ (All IsVertex vertices.now × All IsThing things.now) }
+{
+    are_vertices(vertices) && are_things(things)
+}
+
+/// Whether all sectors and sides are in range.
+pub fn are_areas(sectors: &[Sector], sides: &[Side]) -> bool
+    ensures { IsTrue result ↔ (All IsSector sectors.now × All IsSide sides.now) }
+{
+    are_sectors(sectors) && are_sides(sides)
+}
+
+/// Whether the name is a map's, and all lines are in range.
+pub fn is_named_with(name: &Name8, lines: &[Line]) -> bool
+    ensures { IsTrue result ↔ (IsNamed is_marker name.now × All IsLine lines.now) }
+{
+    is_map_name(name) && are_lines(lines)
+}
