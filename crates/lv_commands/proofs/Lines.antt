@@ -1,0 +1,33 @@
+-- A line is its words with a space between each two.
+use Rattle.std.proofs.Common.{◌≡◌, ℕ, Bool, true, false, cond, List, [], ◌∷◌, refl, sym, ◌∙◌, ap, arith, rules, nat_eq, length, ◌<◌, Result, Ok, Err}
+use Rattle.std.specs.Prelude.{IfOk}
+use Rattle.lv_commands.specs.declared.command.Command.{Command}
+use Rattle.std.specs.List.{join_with_byte}
+use Rattle.std.proofs.lemmas.Bool.Decides.{nat_tests}
+use Rattle.lv_commands.specs.Grammar.{parts, onto_first}
+use Rattle.lv_commands.specs.Spelling.{words_of, spelling}
+use Rattle.lv_commands.specs.CommandRanges.{InRange}
+use Rattle.lv_commands.proofs.Parts.{parts-some}
+
+join-onto : (b : ℕ) (ws : List (List ℕ)) → join_with_byte 32 (onto_first b ws) ≡ b ∷ join_with_byte 32 ws
+join-onto b [] = refl
+join-onto b (w ∷ []) = refl
+join-onto b (w ∷ v ∷ ws) = refl
+
+join-first : (b : ℕ) (ws : List (List ℕ)) → b ≡ 32 → 0 < length ws → join_with_byte 32 ([] ∷ ws) ≡ b ∷ join_with_byte 32 ws
+join-first b [] e h = absurd (omega arith)
+join-first b (w ∷ ws) e h = ap (λ x. x ∷ join_with_byte 32 (w ∷ ws)) (sym e)
+
+join-if : (b : ℕ) (bs : List ℕ) (t : Bool) → nat_eq b 32 ≡ t → join_with_byte 32 (parts bs) ≡ bs → join_with_byte 32 (cond t ([] ∷ parts bs) (onto_first b (parts bs))) ≡ b ∷ bs
+join-if b bs true s e =
+    let is : b ≡ 32 = grind (arith, nat_tests) in
+    join-first b (parts bs) is (parts-some bs) ∙ ap (λ xs. b ∷ xs) e
+join-if b bs false s e = join-onto b (parts bs) ∙ ap (λ xs. b ∷ xs) e
+
+pub join-parts : (line : List ℕ) → join_with_byte 32 (parts line) ≡ line
+join-parts [] = refl
+join-parts (b ∷ bs) = join-if b bs (nat_eq b 32) refl (join-parts bs)
+
+pub spelled : {E : Type 0} (line : List ℕ) (ws : List (List ℕ)) (r : Result Command E) → parts line ≡ ws → IfOk r (λ c. (ws ≡ words_of c) × InRange c) → IfOk r (λ c. (line ≡ spelling c) × InRange c)
+spelled line ws (Ok c) e h = (sym (join-parts line) ∙ ap (join_with_byte 32) (e ∙ h.0), h.1)
+spelled line ws (Err x) e h = search rules

@@ -1,0 +1,161 @@
+-- A word that is a numeral, as `parse` reads it.
+use Rattle.std.proofs.Common.{◌≡◌, ℕ, suc, zero, ◌≤◌, ◌<◌, ◌^◌, Bool, true, false, cond, ◌&&◌, List, [], ◌∷◌, length, get_or, refl, sym, ◌∙◌, ap, arith, ℤ, pos, negsuc, nat_eq, FitsSigned, Option, Some, None, subst}
+use Rattle.std.specs.Prelude.{decimal, neg_ℤ, int_le, not, bytes_eq, codes}
+use Rattle.std.specs.Int.{w16}
+use Rattle.std.specs.Fmt.{signed_decimal, digits}
+use Rattle.std.specs.List.{list_all}
+use Rattle.std.specs.Char.{is_ascii_digit}
+use Rattle.std.specs.Str.{all_ascii_digits, IsAscii, IsUtf8}
+use Rattle.std.specs.Str.Parse.{digits_value, IsNumeral, without_leading_sign}
+use Rattle.std.proofs.lemmas.Grind.{common_steps}
+use Rattle.std.proofs.lemmas.Bool.Decides.{nat_tests}
+use Rattle.std.proofs.lemmas.Str.{IsUtf8-from_ascii}
+use Rattle.std.proofs.lemmas.Str.Parse.{IsNumeralModel, numerals_by_value, tells_all_ascii_digits}
+use Rattle.std.proofs.lemmas.Fmt.{decimal-digits_value, digits_decimal, digits_value-decimal, decimal_nonempty, first_decimal}
+use Rattle.lv_maptables.specs.Ranges.{is_digit, is_nonzero_digit}
+use Rattle.lv_commands.specs.Grammar.{is_numeral, is_natural, numeral_value, place_fault, Number}
+
+own : IsNumeralModel (λ ds. all_ascii_digits ds ≡ true) (digits_value 10)
+own = numerals_by_value _ tells_all_ascii_digits
+
+-- what a natural's digits are
+record IsPlain (w : List ℕ) : Type 0 where
+  digits : all_ascii_digits w ≡ true
+  some : 0 < length w
+  front : get_or w 0 0 ≡ 48 → length w ≡ 1
+  low : 48 ≤ get_or w 0 0
+  high : get_or w 0 0 ≤ 57
+
+pub both : (a b : Bool) → (a && b) ≡ true → (a ≡ true) × (b ≡ true)
+both true b e = (refl, e)
+both false b e = absurd cc
+
+all-digits : (w : List ℕ) → list_all is_digit w ≡ true → all_ascii_digits w ≡ true
+all-digits [] e = refl
+all-digits (b ∷ bs) e = let h = both _ _ e in let r = all-digits bs h.1 in let d = h.0 in grind (arith, nat_tests)
+
+one-plain : (b : ℕ) → is_digit b ≡ true → IsPlain (b ∷ [])
+one-plain b e = record { digits = grind (arith, nat_tests); some = omega arith; front = λ h. refl; low = grind (arith, nat_tests); high = grind (arith, nat_tests) }
+
+more-plain : (b : ℕ) (bs : List ℕ) → is_nonzero_digit b ≡ true → all_ascii_digits bs ≡ true → IsPlain (b ∷ bs)
+more-plain b bs e r = record { digits = grind (arith, nat_tests); some = omega arith; front = λ (h : b ≡ 48). absurd (grind (arith, nat_tests)); low = grind (arith, nat_tests); high = grind (arith, nat_tests) }
+
+plain : (w : List ℕ) → is_natural w ≡ true → IsPlain w
+plain [] e = absurd cc
+plain (b ∷ []) e = one-plain b e
+plain (b ∷ c ∷ bs) e = more-plain b (c ∷ bs) (both _ _ e).0 (all-digits (c ∷ bs) (both _ _ e).1)
+
+-- a natural is what is written of its value
+natural-written : (w : List ℕ) → IsPlain w → digits_value 10 w < 2 ^ 64 → decimal (digits_value 10 w) ≡ w
+natural-written w p small = decimal-digits_value own w p.digits p.some p.front small
+
+natural-sign : (w : List ℕ) → IsPlain w → without_leading_sign w ≡ w
+natural-sign w p = let l = p.low in let h = p.high in grind (arith, nat_tests)
+
+natural-value : (w : List ℕ) → IsPlain w → numeral_value w ≡ pos (digits_value 10 w)
+natural-value w p = let l = p.low in let h = p.high in let e = natural-sign w p in grind (arith, nat_tests)
+
+numeral-if : {P : Type 0} (b : ℕ) (bs : List ℕ) (t : Bool) → nat_eq b 45 ≡ t → cond t (is_natural bs && not (bytes_eq bs (codes "0"))) (is_natural (b ∷ bs)) ≡ true → (IsPlain (b ∷ bs) → P) → ((ds : List ℕ) → b ∷ bs ≡ 45 ∷ ds → IsPlain ds → (ds ≡ codes "0" → ⊥) → P) → P
+numeral-if b bs true s e f g =
+    let h = both _ _ e in
+    let is : b ≡ 45 = grind (arith, nat_tests) in
+    g bs (ap (λ x. x ∷ bs) is) (plain bs h.0) (λ z. let k = ap (λ x. not (bytes_eq x (codes "0"))) z in cc (h.1, k))
+numeral-if b bs false s e f g = f (plain (b ∷ bs) e)
+
+-- a numeral has no sign, or a minus
+numeral-by : {P : Type 0} (w : List ℕ) → is_numeral w ≡ true → (IsPlain w → P) → ((ds : List ℕ) → w ≡ 45 ∷ ds → IsPlain ds → (ds ≡ codes "0" → ⊥) → P) → P
+numeral-by [] e f g = absurd cc
+numeral-by (b ∷ bs) e f g = numeral-if b bs (nat_eq b 45) refl e f g
+
+neg-written : (v : ℕ) (ds : List ℕ) → (v ≡ 0 → ⊥) → decimal v ≡ ds → signed_decimal (neg_ℤ (pos v)) ≡ 45 ∷ ds
+neg-written zero ds ne e = absurd (ne refl)
+neg-written (suc n) ds ne e = ap (λ xs. 45 ∷ xs) e
+
+neg-small : (v : ℕ) → FitsSigned w16 (neg_ℤ (pos v)) → v < 2 ^ 64
+neg-small zero f = omega arith
+neg-small (suc n) f = let h = f.sfits in omega (arith, h)
+
+zero-written : decimal 0 ≡ codes "0"
+unfolding digits
+zero-written = refl
+
+-- a numeral is what is written of its value
+pub canonical : (w : List ℕ) → is_numeral w ≡ true → FitsSigned w16 (numeral_value w) → signed_decimal (numeral_value w) ≡ w
+canonical w e fits =
+    numeral-by w e
+    (λ p.
+    let f = subst (FitsSigned w16) (natural-value w p) fits in
+    let h = f.sfits in
+    ap signed_decimal (natural-value w p) ∙ natural-written w p (omega (arith, h)))
+    (λ ds is p some.
+    let v = digits_value 10 ds in
+    let value : numeral_value w ≡ neg_ℤ (pos v) = ap numeral_value is in
+    let f = subst (FitsSigned w16) value fits in
+    let written = natural-written ds p (neg-small v f) in
+    let ne : v ≡ 0 → ⊥ = λ z. some (sym written ∙ ap decimal z ∙ zero-written) in
+    ap signed_decimal value ∙ neg-written v ds ne written ∙ sym is)
+
+pub numeral-parses : (w : List ℕ) → is_numeral w ≡ true → IsNumeral 10 (without_leading_sign w)
+numeral-parses w e =
+    numeral-by w e
+    (λ p. subst (IsNumeral 10) (sym (natural-sign w p)) (p.some, own.to w p.digits))
+    (λ ds is p some. subst (λ x. IsNumeral 10 (without_leading_sign x)) (sym is) (p.some, own.to ds p.digits))
+
+digits-ascii : (w : List ℕ) → all_ascii_digits w ≡ true → IsAscii w
+digits-ascii [] e i = grind (arith, common_steps)
+digits-ascii (b ∷ bs) e zero = let h = (both (is_ascii_digit b) (all_ascii_digits bs) e).0 in grind (arith, nat_tests)
+digits-ascii (b ∷ bs) e (suc i) = digits-ascii bs (both (is_ascii_digit b) (all_ascii_digits bs) e).1 i
+
+minus-ascii : (w : List ℕ) → IsAscii w → IsAscii (45 ∷ w)
+minus-ascii w h zero = omega arith
+minus-ascii w h (suc i) = h i
+
+pub numeral-utf8 : (w : List ℕ) → is_numeral w ≡ true → IsUtf8 w
+numeral-utf8 w e =
+    IsUtf8-from_ascii w (numeral-by w e (λ p. digits-ascii w p.digits)
+    (λ ds is p some. subst IsAscii (sym is) (minus-ascii ds (digits-ascii ds p.digits))))
+
+between : (low v high : ℤ) → FitsSigned w16 low → FitsSigned w16 high → int_le low v ≡ true → int_le v high ≡ true → FitsSigned w16 v
+between (pos a) (pos n) (pos b) f g p q = let h = g.sfits in record { sfits = grind (arith, nat_tests) }
+between (pos a) (pos n) (negsuc b) f g p q = absurd cc
+between (pos a) (negsuc n) high f g p q = absurd cc
+between (negsuc a) (pos n) (pos b) f g p q = let h = g.sfits in record { sfits = grind (arith, nat_tests) }
+between (negsuc a) (pos n) (negsuc b) f g p q = absurd cc
+between (negsuc a) (negsuc n) high f g p q = let h = f.sfits in record { sfits = grind (arith, nat_tests) }
+
+faulted : (n a b : Bool) → n ≡ true → (a ≡ true → b ≡ true → ⊥) → ◌≡◌ {A = Option ℕ} (cond n (cond (a && b) None (Some 2)) (Some 1)) (Some 2)
+faulted true true true e f = absurd (f refl refl)
+faulted true true false e f = refl
+faulted true false b e f = refl
+faulted false a b e f = absurd cc
+
+-- a numeral of no sixteen bits is out of each range
+pub fault-out : (w : List ℕ) (low high : ℤ) → is_numeral w ≡ true → FitsSigned w16 low → FitsSigned w16 high → (FitsSigned w16 (numeral_value w) → ⊥) → place_fault (Number low high) w ≡ Some 2
+fault-out w low high e f g beyond =
+    faulted (is_numeral w) (int_le low (numeral_value w)) (int_le (numeral_value w) high) e (λ p q. beyond (between low (numeral_value w) high f g p q))
+
+first-digit : (w : List ℕ) → all_ascii_digits w ≡ true → 0 < length w → (48 ≤ get_or w 0 0) × (get_or w 0 0 ≤ 57)
+first-digit [] e h = absurd (omega arith)
+first-digit (b ∷ bs) e h = let d = (both (is_ascii_digit b) (all_ascii_digits bs) e).0 in (grind (arith, nat_tests), grind (arith, nat_tests))
+
+decimal-front : (n : ℕ) → n < 2 ^ 64 → get_or (decimal n) 0 0 ≡ 48 → length (decimal n) ≡ 1
+decimal-front zero h e = ap length zero-written
+decimal-front (suc n) h e = let f = first_decimal (suc n) (omega arith) h in absurd (omega (arith, f, e))
+
+decimal-plain : (n : ℕ) → n < 2 ^ 64 → IsPlain (decimal n)
+decimal-plain n h =
+    let d = digits_decimal own n h in
+    let s = decimal_nonempty n h in
+    let f = first-digit (decimal n) d s in
+    record { digits = d; some = s; front = decimal-front n h; low = f.0; high = f.1 }
+
+-- the value of what is written of a number
+pub value-back : (z : ℤ) → FitsSigned w16 z → numeral_value (signed_decimal z) ≡ z
+value-back (pos n) f =
+    let h = f.sfits in
+    let small : n < 2 ^ 64 = omega (arith, h) in
+    natural-value (decimal n) (decimal-plain n small) ∙ ap pos (digits_value-decimal own n small)
+value-back (negsuc n) f =
+    let h = f.sfits in
+    let small : suc n < 2 ^ 64 = omega (arith, h) in
+    ap (λ v. neg_ℤ (pos v)) (digits_value-decimal own (suc n) small)

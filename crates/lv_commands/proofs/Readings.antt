@@ -1,0 +1,87 @@
+-- Reading place by place, and the fault of all places.
+use Rattle.std.proofs.Common.{◌≡◌, ℕ, Bool, true, false, List, [], ◌∷◌, refl, sym, ◌∙◌, ap, arith, Option, Some, None, nat_eq, cond, length, ◌<◌}
+use Rattle.std.proofs.lemmas.Bool.Decides.{nat_tests}
+use Rattle.lv_commands.specs.Grammar.{Place, place_fault, places_fault, first_of}
+use Rattle.lv_commands.specs.Reading.{Reading, Reads, IsDone, fault_with}
+
+pub first-nil : (x : Option ℕ) → first_of None x ≡ x
+first-nil x = refl
+
+first-end : (x : Option ℕ) → first_of x None ≡ x
+first-end None = refl
+first-end (Some k) = refl
+
+first-one : (x : Option ℕ) → first_of x (Some 1) ≡ Some 1
+first-one None = refl
+first-one (Some k) = refl
+
+same : (b : Bool) → ◌≡◌ {A = Option ℕ} (cond b (Some 1) (Some 1)) (Some 1)
+same true = refl
+same false = refl
+
+one-first : (x : Option ℕ) → first_of (Some 1) x ≡ Some 1
+one-first None = refl
+one-first (Some k) = same (nat_eq k 1)
+
+if-some : (b : Bool) (i j : ℕ) → ◌≡◌ {A = Option ℕ} (cond b (Some i) (Some j)) None → ⊥
+if-some true i j e = absurd cc
+if-some false i j e = absurd cc
+
+pub first-some : (x : Option ℕ) (k : ℕ) → first_of x (Some k) ≡ None → ⊥
+first-some None k e = absurd cc
+first-some (Some j) k e = if-some (nat_eq k 1) 1 j e
+
+pub first-assoc : (a b c : Option ℕ) → first_of (first_of a b) c ≡ first_of a (first_of b c)
+first-assoc None b c = refl
+first-assoc (Some i) None c = refl
+first-assoc (Some i) (Some j) None = first-end (first_of (Some i) (Some j))
+first-assoc (Some i) (Some j) (Some k) = grind (arith, nat_tests)
+
+-- there was no word at the place
+pub reads-missing : (old new : Reading) (p : Place) (written : List ℕ) → old.words ≡ [] → new.fault ≡ first_of old.fault (Some 1) → Reads old new p written
+reads-missing old new p written e f =
+    let one : new.fault ≡ Some 1 = f ∙ first-one old.fault in
+    record {
+      fault = λ ps. ap (λ ws. first_of old.fault (places_fault (p ∷ ps) ws)) e ∙ first-one old.fault ∙ sym (one-first (places_fault ps new.words)) ∙ ap (λ x. first_of x (places_fault ps new.words)) (sym one);
+      text = λ h. absurd (cc (one, h));
+    }
+
+-- the word has a fault
+pub reads-fault : (old new : Reading) (p : Place) (written w : List ℕ) (code : ℕ) → old.words ≡ w ∷ new.words → new.fault ≡ first_of old.fault (Some code) → place_fault p w ≡ Some code → Reads old new p written
+reads-fault old new p written w code e f at =
+    record {
+      fault = λ ps.
+          ap (λ ws. first_of old.fault (places_fault (p ∷ ps) ws)) e
+          ∙ ap (λ x. first_of old.fault (first_of x (places_fault ps new.words))) at
+          ∙ sym (first-assoc old.fault (Some code) (places_fault ps new.words))
+          ∙ ap (λ x. first_of x (places_fault ps new.words)) (sym f);
+      text = λ h. absurd (first-some old.fault code (sym f ∙ h));
+    }
+
+-- the word has none, and is what is written
+pub reads-word : (old new : Reading) (p : Place) (written w : List ℕ) → old.words ≡ w ∷ new.words → new.fault ≡ old.fault → place_fault p w ≡ None → written ≡ w → Reads old new p written
+reads-word old new p written w e f at is =
+    record {
+      fault = λ ps.
+          ap (λ ws. first_of old.fault (places_fault (p ∷ ps) ws)) e
+          ∙ ap (λ x. first_of old.fault (first_of x (places_fault ps new.words))) at
+          ∙ ap (first_of old.fault) (first-nil (places_fault ps new.words))
+          ∙ ap (λ x. first_of x (places_fault ps new.words)) (sym f);
+      text = λ h. (sym f ∙ h, e ∙ ap (λ x. x ∷ new.words) (sym is));
+    }
+
+-- one place more in front of those that were read
+pub took : (old new : Reading) (p : Place) (written : List ℕ) (rest : List (List ℕ)) → Reads old new p written → (new.fault ≡ None) × (new.words ≡ rest) → (old.fault ≡ None) × (old.words ≡ written ∷ rest)
+took old new p written rest r h = ((r.text h.0).0, (r.text h.0).1 ∙ ap (λ ws. written ∷ ws) h.1)
+
+pub done : (r : Reading) → IsDone r → fault_with r [] ≡ None
+done r h = ap (λ x. first_of x (places_fault [] r.words)) h.0 ∙ ap (λ ws. first_of None (places_fault [] ws)) h.1
+
+-- words are left
+pub left-over : (fault : Option ℕ) (ws : List (List ℕ)) → 0 < length ws → first_of fault (places_fault [] ws) ≡ Some 1
+left-over fault [] h = absurd (omega arith)
+left-over fault (w ∷ ws) h = first-one fault
+
+-- nothing has been read, and there is no fault yet
+pub fresh : (r : Reading) (ps : List Place) → r.fault ≡ None → fault_with r ps ≡ places_fault ps r.words
+fresh r ps e = ap (λ x. first_of x (places_fault ps r.words)) e

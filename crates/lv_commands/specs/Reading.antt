@@ -1,0 +1,21 @@
+-- A line that is read place by place.
+use Rattle.std.specs.Prelude.{◌≡◌, ℕ, List, [], ◌∷◌, Option, None}
+use Rattle.lv_commands.specs.Grammar.{Place, first_of, places_fault}
+
+-- the words still to be read, and the fault so far
+pub record Reading : Type 0 where
+  pub words : List (List ℕ)
+  pub fault : Option ℕ
+
+-- what is written was read at the place, and a fault of it noted
+pub record Reads (old new : Reading) (place : Place) (written : List ℕ) : Type 0 where
+  pub fault : (ps : List Place) → first_of old.fault (places_fault (place ∷ ps) old.words) ≡ first_of new.fault (places_fault ps new.words)
+  pub text : new.fault ≡ None → (old.fault ≡ None) × (old.words ≡ written ∷ new.words)
+
+-- the line is at its end, with no fault
+abbrev pub IsDone : Reading → Type 0
+IsDone r = (r.fault ≡ None) × (r.words ≡ [])
+
+-- the fault of a line of which the places are still to be read
+abbrev pub fault_with : Reading → List Place → Option ℕ
+fault_with r ps = first_of r.fault (places_fault ps r.words)

@@ -1,0 +1,93 @@
+ghost use Rattle.std.specs.Prelude.{◌≡◌};
+ghost use Rattle.lv_commands.specs.Errors.{of_map};
+ghost use Rattle.lv_commands.specs.declared.error.CommandError.TheVariants.{OutOfMemory};
+
+use lv_maptables::MapError;
+use std::alloc::AllocError;
+use thiserror::Error;
+
+/// Why a line is no command, or a command is refused. Where several hold of a command, the least is answered.
+#[derive(Clone, Copy, Debug, PartialEq, Eq, Error)]
+pub enum CommandError {
+    #[error("not a command")]
+    NotACommand,
+    #[error("a number is out of its range")]
+    OutOfRange,
+    #[error("no such vertex")]
+    NoVertex,
+    #[error("no such sector")]
+    NoSector,
+    #[error("no such side")]
+    NoSide,
+    #[error("no such line")]
+    NoLine,
+    #[error("no such thing")]
+    NoThing,
+    #[error("something refers to the item")]
+    InUse,
+    #[error("both ends of the line are one vertex")]
+    SameEnds,
+    #[error("another vertex has the place")]
+    PlaceTaken,
+    #[error("a two-sided line without a left side")]
+    TwoSidedWithoutLeft,
+    #[error("the table is full")]
+    TableFull,
+    #[error("the line is too long")]
+    LineTooLong,
+    #[error("the project is full")]
+    ProjectFull,
+    #[error("a bad name")]
+    BadName,
+    #[error("out of memory")]
+    OutOfMemory,
+}
+
+impl From<AllocError> for CommandError {
+    ghost from_gives = { λ _ e. e ≡ OutOfMemory };
+
+    fn from(_e: AllocError) -> CommandError {
+        CommandError::OutOfMemory
+    }
+}
+
+impl From<MapError> for CommandError {
+    ghost from_gives = { λ m e. e ≡ of_map m };
+
+    fn from(error: MapError) -> CommandError {
+        match error {
+            MapError::PlaceTaken => CommandError::PlaceTaken,
+            MapError::TableFull => CommandError::TableFull,
+            MapError::OutOfMemory => CommandError::OutOfMemory,
+        }
+    }
+}
+
+impl CommandError {
+    ghost use Rattle.std.specs.Prelude.{◌≡◌};
+    ghost use Rattle.lv_commands.specs.Errors.{code_of};
+
+    /// The number of the refusal.
+    pub fn code(&self) -> u16
+        ensures { result ≡ code_of self.now }
+    {
+        match self {
+            CommandError::NotACommand => 1,
+            CommandError::OutOfRange => 2,
+            CommandError::NoVertex => 3,
+            CommandError::NoSector => 4,
+            CommandError::NoSide => 5,
+            CommandError::NoLine => 6,
+            CommandError::NoThing => 7,
+            CommandError::InUse => 8,
+            CommandError::SameEnds => 9,
+            CommandError::PlaceTaken => 10,
+            CommandError::TwoSidedWithoutLeft => 11,
+            CommandError::TableFull => 12,
+            CommandError::LineTooLong => 13,
+            CommandError::ProjectFull => 14,
+            CommandError::BadName => 15,
+            CommandError::OutOfMemory => 31,
+        }
+    }
+}

@@ -1,0 +1,71 @@
+ghost use Rattle.std.specs.Prelude.{◌≡◌, ◌∷◌, IfOk, MatchResult, None, Some, option_copied};
+ghost use Rattle.std.specs.Fmt.{signed_decimal};
+ghost use Rattle.std.specs.List.{list_all};
+ghost use Rattle.lv_commands.specs.Errors.{code_of};
+ghost use Rattle.lv_commands.specs.Grammar.{Number, is_natural, is_numeral, numeral_value, parts, parts_behind, place_fault};
+ghost use Rattle.lv_maptables.specs.Ranges.{IsBetween, is_digit};
+
+use crate::error::CommandError;
+use std::str;
+
+/// Whether each byte is a digit.
+fn are_digits(bytes: &[u8]) -> bool
+    ensures { result ≡ list_all is_digit bytes.now }
+{
+    bytes.iter().all(|b| b'0' <= *b && *b <= b'9')
+}
+
+/// Whether the bytes are a number without a sign.
+fn has_natural_form(word: &[u8]) -> bool
+    ensures { result ≡ is_natural word.now }
+{
+    match word {
+        [] => false,
+        [b] => b'0' <= *b && *b <= b'9',
+        [b, rest @ ..] => b'1' <= *b && *b <= b'9' && are_digits(rest),
+    }
+}
+
+/// Whether the bytes are a number.
+fn has_numeral_form(word: &[u8]) -> bool
+    ensures { result ≡ is_numeral word.now }
+{
+    match word {
+        [] => false,
+        [b'-', rest @ ..] => has_natural_form(rest) && rest != b"0".as_slice(),
+        _ => has_natural_form(word),
+    }
+}
+
+/// The part before the first space, and what stands behind it.
+pub fn next_part(line: &[u8]) -> (&[u8], Option<&[u8]>)
+    ensures { parts line.now ≡ result.0.now ∷ parts_behind (option_copied result.1) }
+{
+    for (i, b) in line.iter().enumerate() {
+        if *b == b' ' {
+            return (&line[..i], Some(&line[i + 1..]));
+        }
+    }
+    (line, None)
+}
+
+/// The number that a word stands for, between two bounds.
+pub fn number_in(word: &[u8], low: i16, high: i16) -> Result<i16, CommandError>
+    ensures found { IfOk result (λ n. (numeral_value word.now ≡ n) × (signed_decimal n ≡ word.now) × IsBetween low high n) }
+    ensures fault { MatchResult result (λ n. place_fault (Number low high) word.now ≡ None) (λ e. place_fault (Number low high) word.now ≡ Some (code_of e)) }
+{
+    if !has_numeral_form(word) {
+        return Err(CommandError::NotACommand);
+    }
+    match str::from_utf8(word) {
+        Ok(text) => match text.parse::<i16>() {
+            Ok(n) => if low <= n && n <= high {
+                Ok(n)
+            } else {
+                Err(CommandError::OutOfRange)
+            },
+            Err(_) => Err(CommandError::OutOfRange),
+        },
+        Err(_) => unreachable!(),
+    }
+}
