@@ -1,4 +1,10 @@
-pub mod Parts
-pub mod Numerals
-pub mod Readings
+pub mod Cutting
+pub mod Drawing
 pub mod Lines
+pub mod Padding
+pub mod Numerals
+pub mod Parts
+pub mod Readings
+pub mod Rooms
+pub mod Steps
+pub mod Writing

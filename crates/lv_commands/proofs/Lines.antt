@@ -4,7 +4,7 @@ use Rattle.std.specs.Prelude.{IfOk}
 use Rattle.lv_commands.specs.declared.command.Command.{Command}
 use Rattle.std.specs.List.{join_with_byte}
 use Rattle.std.proofs.lemmas.Bool.Decides.{nat_tests}
-use Rattle.lv_commands.specs.Grammar.{parts, onto_first}
+use Rattle.lv_commands.specs.Words.{parts, onto_first}
 use Rattle.lv_commands.specs.Spelling.{words_of, spelling}
 use Rattle.lv_commands.specs.CommandRanges.{InRange}
 use Rattle.lv_commands.proofs.Parts.{parts-some}

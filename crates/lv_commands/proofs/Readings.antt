@@ -1,7 +1,9 @@
 -- Reading place by place, and the fault of all places.
 use Rattle.std.proofs.Common.{◌≡◌, ℕ, Bool, true, false, List, [], ◌∷◌, refl, sym, ◌∙◌, ap, arith, Option, Some, None, nat_eq, cond, length, ◌<◌}
+use Rattle.std.specs.Prelude.{◌||◌, ℤ, bytes_eq, codes}
 use Rattle.std.proofs.lemmas.Bool.Decides.{nat_tests}
-use Rattle.lv_commands.specs.Grammar.{Place, place_fault, places_fault, first_of}
+use Rattle.lv_commands.specs.Places.{Place, Number, NumberOrNone, fault_at, place_fault, places_fault, first_of}
+use Rattle.lv_commands.specs.Words.{is_numeral}
 use Rattle.lv_commands.specs.Reading.{Reading, Reads, IsDone, fault_with}
 
 pub first-nil : (x : Option ℕ) → first_of None x ≡ x
@@ -81,6 +83,15 @@ done r h = ap (λ x. first_of x (places_fault [] r.words)) h.0 ∙ ap (λ ws. fi
 pub left-over : (fault : Option ℕ) (ws : List (List ℕ)) → 0 < length ws → first_of fault (places_fault [] ws) ≡ Some 1
 left-over fault [] h = absurd (omega arith)
 left-over fault (w ∷ ws) h = first-one fault
+
+either : (n d : Bool) (f : Option ℕ) → d ≡ false → ◌≡◌ {A = Option ℕ} (cond (n || d) (cond n f None) (Some 1)) (cond n f (Some 1))
+either true d f e = refl
+either false true f e = absurd cc
+either false false f e = refl
+
+-- a word other than `-` is a number
+pub number-alone : (w : List ℕ) (low high : ℤ) → bytes_eq w (codes "-") ≡ false → place_fault (NumberOrNone low high) w ≡ place_fault (Number low high) w
+number-alone w low high e = either (is_numeral w) (bytes_eq w (codes "-")) (fault_at (Number low high) w) e
 
 -- nothing has been read, and there is no fault yet
 pub fresh : (r : Reading) (ps : List Place) → r.fault ≡ None → fault_with r ps ≡ places_fault ps r.words

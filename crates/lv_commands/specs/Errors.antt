@@ -1,7 +1,5 @@
 -- The numbers of the refusals.
 use Rattle.std.specs.Prelude.{ℕ, Option, Some, None}
-use Rattle.lv_maptables.specs.declared.error.MapError.{MapError}
-use Rattle.lv_maptables.specs.declared.error.MapError.TheVariants as of
 use Rattle.lv_commands.specs.declared.error.CommandError.{CommandError}
 use Rattle.lv_commands.specs.declared.error.CommandError.TheVariants.{NotACommand, OutOfRange, NoVertex, NoSector, NoSide, NoLine, NoThing, InUse, SameEnds, PlaceTaken, TwoSidedWithoutLeft, TableFull, LineTooLong, ProjectFull, BadName, OutOfMemory}
 
@@ -28,9 +26,3 @@ code_of OutOfMemory = 31
 abbrev pub code_in : Option CommandError → Option ℕ
 code_in None = None
 code_in (Some e) = Some (code_of e)
-
--- a map's refusal of an edit, as that of the command that asks for it
-abbrev pub of_map : MapError → CommandError
-of_map of.PlaceTaken = PlaceTaken
-of_map of.TableFull = TableFull
-of_map of.OutOfMemory = OutOfMemory

@@ -1,94 +1,86 @@
 -- Which lines are commands, by the fault that another line has: 1, 2 or 15.
-use Rattle.std.specs.Prelude.{ℕ, Bool, false, ◌&&◌, ◌==◌, not, nat_lt, if◌then◌else◌, List, [], ◌∷◌, length, ℤ, pos, negsuc, int_le, Option, Some, None, codes, bytes_eq}
-use Rattle.std.specs.Str.Parse.{signed_digits_value}
-use Rattle.std.specs.List.{list_all}
-use Rattle.lv_maptables.specs.Ranges.{is_digit, is_nonzero_digit}
+use Rattle.std.specs.Prelude.{ℕ, ◌&&◌, nat_lt, if◌then◌else◌, List, [], ◌∷◌, length, find, pos, int_lt, Option, Some, None, bytes_eq}
+use Rattle.lv_maptables.specs.declared.kind.Kind.{Kind}
+use Rattle.lv_maptables.specs.declared.kind.Kind.TheVariants as kind
+use Rattle.lv_maptables.specs.Ranges.{is_marker}
+use Rattle.lv_commands.specs.CommandRanges.{last_of}
+use Rattle.lv_commands.specs.Places.{Number, Named, places_fault, item, sector_item, vertex_places, sector_places, side_places, line_places, thing_places, room_places}
+use Rattle.lv_commands.specs.Spelling.{head_word, kind_word}
+use Rattle.lv_commands.specs.Words.{numeral_value}
+pub use Rattle.lv_commands.specs.Words.{parts}
+use Rattle.lv_commands.specs.declared.head.Head.{Head}
+use Rattle.lv_commands.specs.declared.head.Head.TheVariants as head
 
--- ---- Words
+-- 2 for a room of no width or no height
+abbrev pub flat_fault : List (List ℕ) → Option ℕ
+flat_fault (west ∷ south ∷ east ∷ north ∷ ws) =
+    if int_lt (numeral_value west) (numeral_value east) && int_lt (numeral_value south) (numeral_value north)
+    then None else Some 2
+flat_fault _ = None
 
--- a byte in front of the first part
-abbrev pub onto_first : ℕ → List (List ℕ) → List (List ℕ)
-onto_first b [] = (b ∷ []) ∷ []
-onto_first b (w ∷ ws) = (b ∷ w) ∷ ws
+-- the first, or else the other
+abbrev pub or_else : Option ℕ → Option ℕ → Option ℕ
+or_else (Some code) other = Some code
+or_else None other = other
 
--- the parts of a line between its spaces
-abbrev pub parts : List ℕ → List (List ℕ)
-parts [] = [] ∷ []
-parts (b ∷ bs) = if b == 32 then [] ∷ parts bs else onto_first b (parts bs)
+-- the fault of a room's words: flatness is looked at where all of them pass
+abbrev pub room_fault : List (List ℕ) → Option ℕ
+room_fault ws = or_else (places_fault room_places ws) (flat_fault ws)
 
--- the parts of what stands behind a space, if there is one
-abbrev pub parts_behind : Option (List ℕ) → List (List ℕ)
-parts_behind None = []
-parts_behind (Some rest) = parts rest
+-- all tables
+abbrev pub kinds : List Kind
+kinds = kind.Vertex ∷ kind.Sector ∷ kind.Side ∷ kind.Line ∷ kind.Thing ∷ []
 
--- digits of which the first isn't 0, or `0` alone
-abbrev pub is_natural : List ℕ → Bool
-is_natural [] = false
-is_natural (b ∷ []) = is_digit b
-is_natural (b ∷ c ∷ bs) = is_nonzero_digit b && list_all is_digit (c ∷ bs)
+-- the table that a word names
+abbrev pub kind_of : List ℕ → Option Kind
+kind_of w = find (λ k. bytes_eq w (kind_word k)) kinds
 
--- such digits, or a `-` and such digits other than `0`
-abbrev pub is_numeral : List ℕ → Bool
-is_numeral [] = false
-is_numeral (b ∷ bs) = if b == 45 then is_natural bs && not (bytes_eq bs (codes "0")) else is_natural (b ∷ bs)
+-- the fault of what stands behind the word of a table: 1 where it is none
+abbrev pub kind_fault : Option Kind → List (List ℕ) → Option ℕ
+kind_fault None ws = Some 1
+kind_fault (Some k) ws = places_fault (Number (pos 0) (pos (last_of k)) ∷ []) ws
 
--- the number that a numeral stands for
-abbrev pub numeral_value : List ℕ → ℤ
-numeral_value w = signed_digits_value 10 w
+-- KIND I
+abbrev pub drop_fault : List (List ℕ) → Option ℕ
+drop_fault [] = Some 1
+drop_fault (k ∷ ws) = kind_fault (kind_of k) ws
 
--- ---- Places
+-- the fault of the words behind a first word
+abbrev pub fault_behind : Head → List (List ℕ) → Option ℕ
+fault_behind head.Name ws = places_fault (Named is_marker ∷ []) ws
+fault_behind head.Vertex ws = places_fault vertex_places ws
+fault_behind head.Sector ws = places_fault sector_places ws
+fault_behind head.Side ws = places_fault side_places ws
+fault_behind head.Line ws = places_fault line_places ws
+fault_behind head.Thing ws = places_fault thing_places ws
+fault_behind head.MoveVertex ws = places_fault (item ∷ vertex_places) ws
+fault_behind head.SetSector ws = places_fault (sector_item ∷ sector_places) ws
+fault_behind head.SetSide ws = places_fault (item ∷ side_places) ws
+fault_behind head.SetLine ws = places_fault (item ∷ line_places) ws
+fault_behind head.SetThing ws = places_fault (item ∷ thing_places) ws
+fault_behind head.Drop ws = drop_fault ws
+fault_behind head.Room ws = room_fault ws
+fault_behind head.Split ws = places_fault (item ∷ vertex_places) ws
 
--- what may stand at a place of a line: a number from a least one to a greatest one
-pub data Place : Type 0 where
-  Number : ℤ → ℤ → Place
+-- all first words
+abbrev pub heads : List Head
+heads =
+    head.Name ∷ head.Vertex ∷ head.Sector ∷ head.Side ∷ head.Line ∷ head.Thing ∷ head.MoveVertex ∷ head.SetSector
+    ∷ head.SetSide ∷ head.SetLine ∷ head.SetThing ∷ head.Drop ∷ head.Room ∷ head.Split ∷ []
 
--- whether the word has the form of the place
-abbrev pub has_form : Place → List ℕ → Bool
-has_form (Number low high) w = is_numeral w
+-- the command that a first word begins
+abbrev pub head_of : List ℕ → Option Head
+head_of w = find (λ h. bytes_eq w (head_word h)) heads
 
--- 2 where the number is out of its range
-abbrev pub range_fault : ℤ → ℤ → List ℕ → Option ℕ
-range_fault low high w = if int_le low (numeral_value w) && int_le (numeral_value w) high then None else Some 2
-
--- what is wrong with a word that has the form of its place
-abbrev pub fault_at : Place → List ℕ → Option ℕ
-fault_at (Number low high) w = range_fault low high w
-
--- the fault of a word at its place: 1 where it hasn't the form
-abbrev pub place_fault : Place → List ℕ → Option ℕ
-place_fault p w = if has_form p w then fault_at p w else Some 1
-
--- whether it is 1
-abbrev pub is_form_fault : Option ℕ → Bool
-is_form_fault None = false
-is_form_fault (Some code) = code == 1
-
--- the fault of two places: the left one, but 1 where the right one is 1
-abbrev pub first_of : Option ℕ → Option ℕ → Option ℕ
-first_of None right = right
-first_of (Some code) right = if is_form_fault right then Some 1 else Some code
-
--- the fault of the words, one at each place: 1 where they aren't as many as the places
-abbrev pub places_fault : List Place → List (List ℕ) → Option ℕ
-places_fault [] [] = None
-places_fault [] (w ∷ ws) = Some 1
-places_fault (p ∷ ps) [] = Some 1
-places_fault (p ∷ ps) (w ∷ ws) = first_of (place_fault p w) (places_fault ps ws)
-
--- -16384 to 16383
-abbrev pub coordinate : Place
-coordinate = Number (negsuc 16383) (pos 16383)
-
--- X Y
-abbrev pub vertex_places : List Place
-vertex_places = coordinate ∷ coordinate ∷ []
-
--- ---- Lines
+-- the fault behind a first word, if it is one: else 1
+abbrev pub head_fault : Option Head → List (List ℕ) → Option ℕ
+head_fault None ws = Some 1
+head_fault (Some h) ws = fault_behind h ws
 
 -- the fault of the words of a line, of which the first says what stands behind it
 abbrev pub command_fault : List (List ℕ) → Option ℕ
 command_fault [] = Some 1
-command_fault (head ∷ ws) = if bytes_eq head (codes "vertex") then places_fault vertex_places ws else Some 1
+command_fault (w ∷ ws) = head_fault (head_of w) ws
 
 -- the fault of a line, and none exactly where it is a command
 abbrev pub fault_of : List ℕ → Option ℕ

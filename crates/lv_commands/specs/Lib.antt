@@ -1,7 +1,12 @@
 pub mod CommandRanges
 pub mod Errors
 pub mod Grammar
+pub mod Places
+pub mod Readiness
 pub mod Reading
+pub mod Rooms
 pub mod Spelling
+pub mod Splits
 pub mod Step
 pub mod Views
+pub mod Words

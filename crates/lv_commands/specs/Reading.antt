@@ -1,6 +1,6 @@
 -- A line that is read place by place.
 use Rattle.std.specs.Prelude.{◌≡◌, ℕ, List, [], ◌∷◌, Option, None}
-use Rattle.lv_commands.specs.Grammar.{Place, first_of, places_fault}
+use Rattle.lv_commands.specs.Places.{Place, first_of, places_fault}
 
 -- the words still to be read, and the fault so far
 pub record Reading : Type 0 where

@@ -1,9 +1,45 @@
-use lv_lumps::Vertex;
+use lv_lumps::{Line, Name8, Sector, Side, Thing, Vertex};
+use lv_maptables::Kind;
 
-/// A change of a map, as a line asks for it.
+/// A sector between two corners, with a side and a line along each edge and the inside on the right.
+#[derive(Clone, Copy, Debug, PartialEq, Eq)]
+pub struct RoomPlan {
+    pub west: i16,
+    pub south: i16,
+    pub east: i16,
+    pub north: i16,
+    pub floor: i16,
+    pub ceiling: i16,
+    pub floor_name: Name8,
+    pub ceiling_name: Name8,
+    pub wall: Name8,
+    pub light: i16,
+}
+
+/// A line, and the place at which it is cut in two. The place needn't be on the line.
+#[derive(Clone, Copy, Debug, PartialEq, Eq)]
+pub struct LineSplit {
+    pub line: u16,
+    pub at: Vertex,
+}
+
+/// A change of a map, as a line of input asks for it.
 #[derive(Clone, Copy, Debug, PartialEq, Eq)]
 pub enum Command {
+    Name(Name8),
     AddVertex(Vertex),
+    AddSector(Sector),
+    AddSide(Side),
+    AddLine(Line),
+    AddThing(Thing),
+    SetVertex(u16, Vertex),
+    SetSector(u16, Sector),
+    SetSide(u16, Side),
+    SetLine(u16, Line),
+    SetThing(u16, Thing),
+    Drop(Kind, u16),
+    Room(RoomPlan),
+    Split(LineSplit),
 }
 
 /// A command that nothing speaks against, and for which the map has memory.

@@ -1,5 +1,4 @@
 ghost use Rattle.std.specs.Prelude.{◌≡◌};
-ghost use Rattle.lv_commands.specs.Errors.{of_map};
 ghost use Rattle.lv_commands.specs.declared.error.CommandError.TheVariants.{OutOfMemory};
 
 use lv_maptables::MapError;
@@ -51,20 +50,9 @@ impl From<AllocError> for CommandError {
     }
 }
 
-impl From<MapError> for CommandError {
-    ghost from_gives = { λ m e. e ≡ of_map m };
-
-    fn from(error: MapError) -> CommandError {
-        match error {
-            MapError::PlaceTaken => CommandError::PlaceTaken,
-            MapError::TableFull => CommandError::TableFull,
-            MapError::OutOfMemory => CommandError::OutOfMemory,
-        }
-    }
-}
-
 impl CommandError {
-    ghost use Rattle.std.specs.Prelude.{◌≡◌};
+    ghost use Rattle.std.specs.Prelude.{◌≡◌, ◌≤◌};
+    ghost use Rattle.lv_maptables.specs.Errors as map_error;
     ghost use Rattle.lv_commands.specs.Errors.{code_of};
 
     /// The number of the refusal.
@@ -88,6 +76,28 @@ impl CommandError {
             CommandError::ProjectFull => 14,
             CommandError::BadName => 15,
             CommandError::OutOfMemory => 31,
+        }
+    }
+
+    /// The refusal of a command whose edit is refused by the map.
+    pub fn of_edit(error: MapError) -> CommandError
+        requires { map_error.code_of error ≤ 31 }
+        ensures { code_of result ≡ map_error.code_of error }
+    {
+        match error {
+            MapError::NoVertex => CommandError::NoVertex,
+            MapError::NoSector => CommandError::NoSector,
+            MapError::NoSide => CommandError::NoSide,
+            MapError::NoLine => CommandError::NoLine,
+            MapError::NoThing => CommandError::NoThing,
+            MapError::InUse => CommandError::InUse,
+            MapError::SameEnds => CommandError::SameEnds,
+            MapError::PlaceTaken => CommandError::PlaceTaken,
+            MapError::TwoSidedWithoutLeft => CommandError::TwoSidedWithoutLeft,
+            MapError::TableFull => CommandError::TableFull,
+            MapError::LineTooLong => CommandError::LineTooLong,
+            MapError::OutOfMemory => CommandError::OutOfMemory,
+            MapError::Damaged(_) => unreachable!(),
         }
     }
 }

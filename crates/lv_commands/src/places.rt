@@ -1,6 +1,17 @@
 use crate::error::CommandError;
+use crate::names::{marker_in, name_in};
 use crate::words::{next_part, number_in};
-use lv_lumps::Vertex;
+use lv_lumps::Name8;
+use lv_maptables::NO_SIDE;
+
+/// `-`: no texture.
+const NO_TEXTURE: Name8 = Name8 {
+    bytes: *b"-\0\0\0\0\0\0\0",
+};
+
+const FIRST_MAP: Name8 = Name8 {
+    bytes: *b"MAP01\0\0\0",
+};
 
 /// The words of a line that are still to be read, and the fault so far: 1 if there was one, else the leftmost.
 #[derive(Drop)]
@@ -10,12 +21,14 @@ pub struct Places<'a> {
 }
 
 impl<'a> Places<'a> {
-    ghost use Rattle.std.specs.Prelude.{◌≡◌, [], ◌∷◌, ◌≤ℤ◌, Some, None, IfOk, IfErr, MatchOption, MatchResult, option_copied};
+    ghost use Rattle.std.specs.Prelude.{◌≡◌, [], ◌∷◌, pos, ◌≤◌, ◌≤ℤ◌, ◌||◌, ◌==◌, nat_le, IsTrue, Some, None, IfOk, IfErr, MatchOption, decimal, option_copied};
     ghost use Rattle.std.specs.Fmt.{signed_decimal};
-    ghost use Rattle.lv_maptables.specs.Ranges.{IsBetween, IsVertex};
+    ghost use Rattle.lv_maptables.specs.Ranges.{IsBetween, IsNamed, is_marker, is_name, name_text};
+    ghost use Rattle.lv_maptables.specs.Tables.{no_side};
     ghost use Rattle.lv_commands.specs.Errors.{code_of};
-    ghost use Rattle.lv_commands.specs.Spelling.{vertex_words};
-    ghost use Rattle.lv_commands.specs.Grammar.{Number, first_of, parts_behind, vertex_places};
+    ghost use Rattle.lv_commands.specs.Spelling.{left_word};
+    ghost use Rattle.lv_commands.specs.Places.{Named, Number, NumberOrNone, first_of};
+    ghost use Rattle.lv_commands.specs.Words.{parts_behind};
     ghost use Rattle.lv_commands.specs.Reading.{Reads, IsDone, fault_with};
     ghost use Rattle.lv_commands.specs.Views.{reading};
 
@@ -28,7 +41,7 @@ impl<'a> Places<'a> {
     }
 
     /// The next word.
-    fn next(&mut self) -> Option<&'a [u8]>
+    pub fn next(&mut self) -> Option<&'a [u8]>
         ensures fault { (reading self.new).fault ≡ (reading self.old).fault }
         ensures words { MatchOption result (((reading self.old).words ≡ []) × ((reading self.new).words ≡ [])) (λ w. (reading self.old).words ≡ w.now ∷ (reading self.new).words) }
     {
@@ -53,7 +66,7 @@ impl<'a> Places<'a> {
         }
     }
 
-    /// A number between two bounds.
+    /// A number between two bounds. After a fault it answers some number between them.
     pub fn number(&mut self, low: i16, high: i16) -> i16
         requires { low ≤ℤ high }
         ensures reads { Reads (reading self.old) (reading self.new) (Number low high) (signed_decimal result) }
@@ -74,9 +87,83 @@ impl<'a> Places<'a> {
         }
     }
 
+    /// The number of an item.
+    pub fn item(&mut self, last: u16) -> u16
+        requires { last ≤ 32767 }
+        ensures reads { Reads (reading self.old) (reading self.new) (Number (pos 0) (pos last)) (decimal result) }
+        ensures range { result ≤ last }
+    {
+        self.number(0, last as i16) as u16
+    }
+
+    /// The number of a left side, or `-`. After a fault it answers that there is none.
+    pub fn left(&mut self) -> u16
+        ensures reads { Reads (reading self.old) (reading self.new) (NumberOrNone (pos 0) (pos 32766)) (left_word result) }
+        ensures range { IsTrue (nat_le result 32766 || (result == no_side)) }
+    {
+        match self.next() {
+            None => {
+                self.note(CommandError::NotACommand);
+                NO_SIDE
+            }
+            Some(word) => {
+                if word == b"-".as_slice() {
+                    return NO_SIDE;
+                }
+                match number_in(word, 0, 32766) {
+                    Ok(n) => n as u16,
+                    Err(error) => {
+                        self.note(error);
+                        NO_SIDE
+                    }
+                }
+            }
+        }
+    }
+
+    /// The name of a flat or a texture. After a fault it answers some name.
+    pub fn name(&mut self) -> Name8
+        ensures reads { Reads (reading self.old) (reading self.new) (Named is_name) (name_text result) }
+        ensures range { IsNamed is_name result }
+    {
+        match self.next() {
+            None => {
+                self.note(CommandError::NotACommand);
+                NO_TEXTURE
+            }
+            Some(word) => match name_in(word) {
+                Ok(name) => name,
+                Err(error) => {
+                    self.note(error);
+                    NO_TEXTURE
+                }
+            },
+        }
+    }
+
+    /// The name of a map. After a fault it answers some name.
+    pub fn marker(&mut self) -> Name8
+        ensures reads { Reads (reading self.old) (reading self.new) (Named is_marker) (name_text result) }
+        ensures range { IsNamed is_marker result }
+    {
+        match self.next() {
+            None => {
+                self.note(CommandError::NotACommand);
+                FIRST_MAP
+            }
+            Some(word) => match marker_in(word) {
+                Ok(name) => name,
+                Err(error) => {
+                    self.note(error);
+                    FIRST_MAP
+                }
+            },
+        }
+    }
+
     /// The end of the line.
     pub fn finish(self) -> Result<(), CommandError>
-        ensures ok { IfOk result (λ u. IsDone (reading self.entry)) }
+        ensures ok { IfOk result (λ _. IsDone (reading self.entry)) }
         ensures fault { IfErr result (λ e. fault_with (reading self.entry) [] ≡ Some (code_of e)) }
     {
         match (self.rest, self.fault) {
@@ -84,16 +171,5 @@ impl<'a> Places<'a> {
             (None, Some(error)) => Err(error),
             (None, None) => Ok(()),
         }
-    }
-
-    /// A place.
-    pub fn vertex(mut self) -> Result<Vertex, CommandError>
-        ensures ok { IfOk result (λ v. ((reading self.entry).fault ≡ None) × ((reading self.entry).words ≡ vertex_words v) × IsVertex v) }
-        ensures fault { MatchResult result (λ v. fault_with (reading self.entry) vertex_places ≡ None) (λ e. fault_with (reading self.entry) vertex_places ≡ Some (code_of e)) }
-    {
-        let x = self.number(-16384, 16383);
-        let y = self.number(-16384, 16383);
-        self.finish()?;
-        Ok(Vertex { x, y })
     }
 }

@@ -2,11 +2,26 @@ ghost use Rattle.std.specs.Prelude.{◌≡◌, ◌∷◌, IfOk, MatchResult, Non
 ghost use Rattle.std.specs.Fmt.{signed_decimal};
 ghost use Rattle.std.specs.List.{list_all};
 ghost use Rattle.lv_commands.specs.Errors.{code_of};
-ghost use Rattle.lv_commands.specs.Grammar.{Number, is_natural, is_numeral, numeral_value, parts, parts_behind, place_fault};
+ghost use Rattle.lv_commands.specs.Places.{Number, place_fault};
+ghost use Rattle.lv_commands.specs.Words.{is_natural, is_numeral, is_printable, is_word, numeral_value, parts, parts_behind};
 ghost use Rattle.lv_maptables.specs.Ranges.{IsBetween, is_digit};
 
 use crate::error::CommandError;
 use std::str;
+
+/// Whether each byte prints and is no space.
+fn are_printable(bytes: &[u8]) -> bool
+    ensures { result ≡ list_all is_printable bytes.now }
+{
+    bytes.iter().all(|b| b'!' <= *b && *b <= b'~')
+}
+
+/// Whether the bytes are a word.
+pub fn has_word_form(bytes: &[u8]) -> bool
+    ensures { result ≡ is_word bytes.now }
+{
+    !bytes.is_empty() && are_printable(bytes)
+}
 
 /// Whether each byte is a digit.
 fn are_digits(bytes: &[u8]) -> bool

@@ -3,7 +3,7 @@ use Rattle.std.specs.Int.{w16}
 use Rattle.std.specs.Fmt.{signed_decimal}
 use Rattle.std.specs.Str.Parse.{IsNumeral, without_leading_sign}
 use Rattle.std.proofs.lemmas.Int.{to_z-of_z}
-use Rattle.lv_commands.specs.Grammar.{is_numeral, numeral_value}
+use Rattle.lv_commands.specs.Words.{is_numeral, numeral_value}
 use Rattle.lv_commands.proofs.Numerals.{canonical, numeral-parses, numeral-utf8, fault-out}
 use Rattle.lv_commands.proofs.words.number_in.Goals as goal
 

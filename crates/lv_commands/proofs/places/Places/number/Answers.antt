@@ -2,7 +2,7 @@ use Rattle.std.proofs.Common.{◌∙◌, ◌∷◌, sym, ap, Some}
 use Rattle.std.specs.Int.{w16}
 use Rattle.std.proofs.lemmas.Int.{to_z-of_z}
 use Rattle.lv_commands.specs.Errors.{code_of}
-use Rattle.lv_commands.specs.Grammar.{first_of, place_fault, Number}
+use Rattle.lv_commands.specs.Places.{first_of, place_fault, Number}
 use Rattle.lv_commands.proofs.Readings.{reads-fault}
 use Rattle.lv_commands.proofs.places.Places.number.Goals as goal
 

@@ -1,0 +1,15 @@
+use Rattle.lv_commands.proofs.Writing.{further}
+use Rattle.lv_commands.proofs.text.Text.room.Goals as goal
+
+pub returns : goal.returns
+returns c =
+    further _ _ _ _ _ c.in_ok-number.ensures
+    (further _ _ _ _ _ c.in_ok-number-2.ensures
+    (further _ _ _ _ _ c.in_ok-number-3.ensures
+    (further _ _ _ _ _ c.in_ok-number-4.ensures
+    (further _ _ _ _ _ c.in_ok-number-5.ensures
+    (further _ _ _ _ _ c.in_ok-number-6.ensures
+    (further _ _ _ _ _ c.in_ok-name.ensures
+    (further _ _ _ _ _ c.in_ok-name-2.ensures
+    (further _ _ _ _ _ c.in_ok-name-3.ensures
+    (c.number-7.ensures)))))))))

@@ -1,0 +1,39 @@
+-- What `split` makes of a map, and what speaks against it.
+use Rattle.std.specs.Prelude.{ℕ, Bool, ◌||◌, List, [], ◌∷◌, ◌++◌, length, get_or, slice_set}
+use Rattle.lv_lumps.specs.declared.records.Line.{Line}
+use Rattle.lv_maptables.specs.Tables.{Tables}
+use Rattle.lv_maptables.specs.Faults.{is_taken, is_too_long, lacks, lacks_room}
+use Rattle.lv_commands.specs.Rooms.{wall}
+use Rattle.lv_commands.specs.declared.command.LineSplit.{LineSplit}
+
+-- the line of a number, and some line past the last
+abbrev pub line_at : List Line → ℕ → Line
+line_at ls n = get_or ls n (wall 0 0 0)
+
+-- the line that is split, which now ends at the new vertex
+abbrev pub cut_short : Line → ℕ → Line
+cut_short l vertex = record l { v2 = vertex }
+
+-- the new line, from the new vertex to the old end, with the same other fields and sides
+abbrev pub cut_off : Line → ℕ → Line
+cut_off l vertex = record l { v1 = vertex }
+
+-- the map with the new vertex, the line cut short, and the new line last
+abbrev pub with_split : Tables → LineSplit → Tables
+with_split m s =
+    let line = line_at m.lines s.line in
+    let vertex = length m.vertices in
+    record m {
+      vertices = m.vertices ++ s.at ∷ [];
+      lines = slice_set m.lines s.line (cut_short line vertex) ++ cut_off line vertex ∷ [];
+    }
+
+-- 6 where there is no such line, 10 where the place is taken, 12 where a table is full, 13 where a half is too long
+abbrev pub split_faults : Tables → LineSplit → List (ℕ × Bool)
+split_faults m s =
+    let line = line_at m.lines s.line in
+    let vertex = length m.vertices in
+    let vertices = m.vertices ++ s.at ∷ [] in
+    (6, lacks m.lines s.line) ∷ (10, is_taken m.vertices s.at)
+    ∷ (12, lacks_room m.vertices 1 || lacks_room m.lines 1)
+    ∷ (13, is_too_long vertices (cut_short line vertex) || is_too_long vertices (cut_off line vertex)) ∷ []

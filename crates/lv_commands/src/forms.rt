@@ -1,0 +1,271 @@
+ghost use Rattle.std.specs.Prelude.{◌≡◌, ◌&&◌, int_lt, [], ◌∷◌, ◌≤◌, Some, None, IfOk, MatchResult, decimal};
+ghost use Rattle.lv_maptables.specs.Ranges.{IsLine, IsNamed, IsSector, IsSide, IsThing, IsVertex, is_marker, name_text};
+ghost use Rattle.lv_commands.specs.CommandRanges.{IsPlan, IsRoom, last_of};
+ghost use Rattle.lv_commands.specs.Errors.{code_of};
+ghost use Rattle.lv_commands.specs.Grammar.{drop_fault, room_fault};
+ghost use Rattle.lv_commands.specs.Places.{Named, item, line_places, places_fault, room_places, sector_item, sector_places, side_places, thing_places, vertex_places};
+ghost use Rattle.lv_commands.specs.Reading.{fault_with};
+ghost use Rattle.lv_commands.specs.Spelling.{kind_word, line_words, room_words, sector_words, side_words, thing_words, vertex_words};
+ghost use Rattle.lv_commands.specs.Views.{reading};
+
+use crate::command::RoomPlan;
+use crate::error::CommandError;
+use crate::keywords::{kind_in, last_number};
+use crate::places::Places;
+use lv_lumps::{Line, Name8, Sector, Side, Thing, Vertex};
+use lv_maptables::Kind;
+
+/// Whether the room has some width and some height.
+fn has_area(plan: &RoomPlan) -> bool
+    ensures { result ≡ (int_lt plan.now.west plan.now.east && int_lt plan.now.south plan.now.north) }
+{
+    plan.west < plan.east && plan.south < plan.north
+}
+
+impl<'a> Places<'a> {
+    /// A place.
+    pub fn vertex(mut self) -> Result<Vertex, CommandError>
+        ensures ok { IfOk result (λ r. ((reading self.entry).fault ≡ None) × ((reading self.entry).words ≡ vertex_words r) × IsVertex r) }
+        ensures fault { MatchResult result (λ _. fault_with (reading self.entry) vertex_places ≡ None) (λ e. fault_with (reading self.entry) vertex_places ≡ Some (code_of e)) }
+    {
+        let x = self.number(-16384, 16383);
+        let y = self.number(-16384, 16383);
+        self.finish()?;
+        Ok(Vertex { x, y })
+    }
+
+    /// A sector.
+    pub fn sector(mut self) -> Result<Sector, CommandError>
+        ensures ok { IfOk result (λ r. ((reading self.entry).fault ≡ None) × ((reading self.entry).words ≡ sector_words r) × IsSector r) }
+        ensures fault { MatchResult result (λ _. fault_with (reading self.entry) sector_places ≡ None) (λ e. fault_with (reading self.entry) sector_places ≡ Some (code_of e)) }
+    {
+        let floor = self.number(-32768, 32767);
+        let ceiling = self.number(-32768, 32767);
+        let floor_name = self.name();
+        let ceiling_name = self.name();
+        let light = self.number(0, 255);
+        let special = self.number(0, 32767);
+        let tag = self.number(0, 32767);
+        self.finish()?;
+        Ok(Sector {
+            floor,
+            ceiling,
+            floor_name,
+            ceiling_name,
+            light,
+            special,
+            tag,
+        })
+    }
+
+    /// A side.
+    pub fn side(mut self) -> Result<Side, CommandError>
+        ensures ok { IfOk result (λ r. ((reading self.entry).fault ≡ None) × ((reading self.entry).words ≡ side_words r) × IsSide r) }
+        ensures fault { MatchResult result (λ _. fault_with (reading self.entry) side_places ≡ None) (λ e. fault_with (reading self.entry) side_places ≡ Some (code_of e)) }
+    {
+        let x_offset = self.number(-32768, 32767);
+        let y_offset = self.number(-32768, 32767);
+        let upper = self.name();
+        let lower = self.name();
+        let middle = self.name();
+        let sector = self.item(4095);
+        self.finish()?;
+        Ok(Side {
+            x_offset,
+            y_offset,
+            upper,
+            lower,
+            middle,
+            sector,
+        })
+    }
+
+    /// A line.
+    pub fn line(mut self) -> Result<Line, CommandError>
+        ensures ok { IfOk result (λ r. ((reading self.entry).fault ≡ None) × ((reading self.entry).words ≡ line_words r) × IsLine r) }
+        ensures fault { MatchResult result (λ _. fault_with (reading self.entry) line_places ≡ None) (λ e. fault_with (reading self.entry) line_places ≡ Some (code_of e)) }
+    {
+        let v1 = self.item(32766);
+        let v2 = self.item(32766);
+        let flags = self.item(32767);
+        let special = self.item(32767);
+        let tag = self.item(32767);
+        let right = self.item(32766);
+        let left = self.left();
+        self.finish()?;
+        Ok(Line {
+            v1,
+            v2,
+            flags,
+            special,
+            tag,
+            right,
+            left,
+        })
+    }
+
+    /// A thing.
+    pub fn thing(mut self) -> Result<Thing, CommandError>
+        ensures ok { IfOk result (λ r. ((reading self.entry).fault ≡ None) × ((reading self.entry).words ≡ thing_words r) × IsThing r) }
+        ensures fault { MatchResult result (λ _. fault_with (reading self.entry) thing_places ≡ None) (λ e. fault_with (reading self.entry) thing_places ≡ Some (code_of e)) }
+    {
+        let x = self.number(-16384, 16383);
+        let y = self.number(-16384, 16383);
+        let angle = self.number(0, 359);
+        let kind = self.number(0, 32767);
+        let options = self.number(0, 32767);
+        self.finish()?;
+        Ok(Thing {
+            x,
+            y,
+            angle,
+            kind,
+            options,
+        })
+    }
+
+    /// The number of a vertex, and what it becomes.
+    pub fn numbered_vertex(mut self) -> Result<(u16, Vertex), CommandError>
+        requires { (reading self).fault ≡ None }
+        ensures ok { IfOk result (λ r. ((reading self.entry).words ≡ decimal r.0 ∷ vertex_words r.1) × (r.0 ≤ 32766) × IsVertex r.1) }
+        ensures fault { MatchResult result (λ _. places_fault (item ∷ vertex_places) (reading self.entry).words ≡ None) (λ e. places_fault (item ∷ vertex_places) (reading self.entry).words ≡ Some (code_of e)) }
+    {
+        let number = self.item(32766);
+        match self.vertex() {
+            Ok(vertex) => Ok((number, vertex)),
+            Err(error) => Err(error),
+        }
+    }
+
+    /// The number of a sector, and what it becomes.
+    pub fn numbered_sector(mut self) -> Result<(u16, Sector), CommandError>
+        requires { (reading self).fault ≡ None }
+        ensures ok { IfOk result (λ r. ((reading self.entry).words ≡ decimal r.0 ∷ sector_words r.1) × (r.0 ≤ 4095) × IsSector r.1) }
+        ensures fault { MatchResult result (λ _. places_fault (sector_item ∷ sector_places) (reading self.entry).words ≡ None) (λ e. places_fault (sector_item ∷ sector_places) (reading self.entry).words ≡ Some (code_of e)) }
+    {
+        let number = self.item(4095);
+        match self.sector() {
+            Ok(sector) => Ok((number, sector)),
+            Err(error) => Err(error),
+        }
+    }
+
+    /// The number of a side, and what it becomes.
+    pub fn numbered_side(mut self) -> Result<(u16, Side), CommandError>
+        requires { (reading self).fault ≡ None }
+        ensures ok { IfOk result (λ r. ((reading self.entry).words ≡ decimal r.0 ∷ side_words r.1) × (r.0 ≤ 32766) × IsSide r.1) }
+        ensures fault { MatchResult result (λ _. places_fault (item ∷ side_places) (reading self.entry).words ≡ None) (λ e. places_fault (item ∷ side_places) (reading self.entry).words ≡ Some (code_of e)) }
+    {
+        let number = self.item(32766);
+        match self.side() {
+            Ok(side) => Ok((number, side)),
+            Err(error) => Err(error),
+        }
+    }
+
+    /// The number of a line, and what it becomes.
+    pub fn numbered_line(mut self) -> Result<(u16, Line), CommandError>
+        requires { (reading self).fault ≡ None }
+        ensures ok { IfOk result (λ r. ((reading self.entry).words ≡ decimal r.0 ∷ line_words r.1) × (r.0 ≤ 32766) × IsLine r.1) }
+        ensures fault { MatchResult result (λ _. places_fault (item ∷ line_places) (reading self.entry).words ≡ None) (λ e. places_fault (item ∷ line_places) (reading self.entry).words ≡ Some (code_of e)) }
+    {
+        let number = self.item(32766);
+        match self.line() {
+            Ok(line) => Ok((number, line)),
+            Err(error) => Err(error),
+        }
+    }
+
+    /// The number of a thing, and what it becomes.
+    pub fn numbered_thing(mut self) -> Result<(u16, Thing), CommandError>
+        requires { (reading self).fault ≡ None }
+        ensures ok { IfOk result (λ r. ((reading self.entry).words ≡ decimal r.0 ∷ thing_words r.1) × (r.0 ≤ 32766) × IsThing r.1) }
+        ensures fault { MatchResult result (λ _. places_fault (item ∷ thing_places) (reading self.entry).words ≡ None) (λ e. places_fault (item ∷ thing_places) (reading self.entry).words ≡ Some (code_of e)) }
+    {
+        let number = self.item(32766);
+        match self.thing() {
+            Ok(thing) => Ok((number, thing)),
+            Err(error) => Err(error),
+        }
+    }
+
+    /// The places of a room.
+    fn room_plan(mut self) -> Result<RoomPlan, CommandError>
+        ensures ok { IfOk result (λ r. ((reading self.entry).fault ≡ None) × ((reading self.entry).words ≡ room_words r) × IsPlan r) }
+        ensures fault { MatchResult result (λ _. fault_with (reading self.entry) room_places ≡ None) (λ e. fault_with (reading self.entry) room_places ≡ Some (code_of e)) }
+    {
+        let west = self.number(-16384, 16383);
+        let south = self.number(-16384, 16383);
+        let east = self.number(-16384, 16383);
+        let north = self.number(-16384, 16383);
+        let floor = self.number(-32768, 32767);
+        let ceiling = self.number(-32768, 32767);
+        let floor_name = self.name();
+        let ceiling_name = self.name();
+        let wall = self.name();
+        let light = self.number(0, 255);
+        self.finish()?;
+        Ok(RoomPlan {
+            west,
+            south,
+            east,
+            north,
+            floor,
+            ceiling,
+            floor_name,
+            ceiling_name,
+            wall,
+            light,
+        })
+    }
+
+    /// A room that isn't flat.
+    pub fn room(self) -> Result<RoomPlan, CommandError>
+        requires { (reading self).fault ≡ None }
+        ensures ok { IfOk result (λ r. ((reading self.entry).words ≡ room_words r) × IsRoom r) }
+        ensures fault { MatchResult result (λ _. room_fault (reading self.entry).words ≡ None) (λ e. room_fault (reading self.entry).words ≡ Some (code_of e)) }
+    {
+        match self.room_plan() {
+            Ok(plan) => {
+                if has_area(&plan) {
+                    Ok(plan)
+                } else {
+                    Err(CommandError::OutOfRange)
+                }
+            }
+            Err(error) => Err(error),
+        }
+    }
+
+    /// A table and the number of an item of it.
+    pub fn kind_and_item(mut self) -> Result<(Kind, u16), CommandError>
+        requires { (reading self).fault ≡ None }
+        ensures ok { IfOk result (λ r. ((reading self.entry).words ≡ kind_word r.0 ∷ decimal r.1 ∷ []) × (r.1 ≤ last_of r.0)) }
+        ensures fault { MatchResult result (λ _. drop_fault (reading self.entry).words ≡ None) (λ e. drop_fault (reading self.entry).words ≡ Some (code_of e)) }
+    {
+        let Some(word) = self.next() else {
+            return Err(CommandError::NotACommand);
+        };
+        let Some(kind) = kind_in(word) else {
+            return Err(CommandError::NotACommand);
+        };
+        let number = self.item(last_number(kind));
+        match self.finish() {
+            Ok(()) => Ok((kind, number)),
+            Err(error) => Err(error),
+        }
+    }
+
+    /// The name of a map, alone.
+    pub fn map_name(mut self) -> Result<Name8, CommandError>
+        requires { (reading self).fault ≡ None }
+        ensures ok { IfOk result (λ n. ((reading self.entry).words ≡ name_text n ∷ []) × IsNamed is_marker n) }
+        ensures fault { MatchResult result (λ _. places_fault (Named is_marker ∷ []) (reading self.entry).words ≡ None) (λ e. places_fault (Named is_marker ∷ []) (reading self.entry).words ≡ Some (code_of e)) }
+    {
+        let name = self.marker();
+        match self.finish() {
+            Ok(()) => Ok(name),
+            Err(error) => Err(error),
+        }
+    }
+}
