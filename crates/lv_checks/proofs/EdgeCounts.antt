@@ -1,0 +1,117 @@
+-- How many of a map's edges there are, at a corner and in all.
+use Rattle.std.proofs.Common.{◌≡◌, ℕ, ◌+◌, ◌*◌, ◌<◌, ◌≤◌, Bool, true, false, cond, eqb, ◌&&◌, not, List, [], ◌∷◌, ◌++◌, length, take, flat_map, count_by, Some, refl, sym, ap, ◌∙◌, ⊎_elim, arith}
+use Rattle.std.specs.List.{slice_get, AllByRecursion}
+use Rattle.std.specs.BTreeMap.{BTreeMap}
+use Rattle.std.proofs.lemmas.Bool.{and_left, and_right, ne_eqb}
+use Rattle.std.proofs.lemmas.List.{append-nil, take_more, length-append, length-take}
+use Rattle.std.proofs.lemmas.List.Concat.{flat_map-append}
+use Rattle.std.proofs.lemmas.List.Elements.{recursion_from_All}
+use Rattle.std.proofs.lemmas.List.Sums.{sum_by-append, sum_by-cons, count_by-le-length}
+use Rattle.std.proofs.lemmas.Option.{slice_get_within, get_or_from_slice_get}
+use Rattle.lv_lumps.specs.declared.records.Line.{Line}
+use Rattle.lv_maptables.specs.Tables.{Tables}
+use Rattle.lv_maptables.specs.Faults.{has_left}
+use Rattle.lv_maptables.specs.WellFormed.{WellFormed, HasEnds, HasSides}
+use Rattle.lv_checks.specs.declared.corners.Degrees.{Degrees}
+use Rattle.lv_checks.specs.Corners.{Edge, edges_of, edges, leaves, reaches}
+use Rattle.lv_checks.specs.Textures.{side_at, some_side}
+use Rattle.lv_checks.specs.Tallies.{HasRoom, AddsEdges, IsTally}
+use Rattle.lv_checks.proofs.CornerList.{ClosedOutside}
+use Rattle.lv_checks.proofs.InOrder.{each-flat_map, each-weaker}
+use Rattle.lv_checks.proofs.SideLemmas.{has_left-true}
+
+edges_more : (m : Tables) (n : ℕ) (l : Line) → slice_get m.lines n ≡ Some l
+    → flat_map (edges_of m) (take (n + 1) m.lines) ≡ flat_map (edges_of m) (take n m.lines) ++ edges_of m l
+edges_more m n l is =
+    ap (flat_map (edges_of m)) (take_more m.lines n l (slice_get_within m.lines n l is) ∙ ap (λ x. take n m.lines ++ x ∷ []) (get_or_from_slice_get m.lines n l l is))
+    ∙ flat_map-append (edges_of m) (take n m.lines) (l ∷ [])
+    ∙ ap (λ r. flat_map (edges_of m) (take n m.lines) ++ r) (append-nil (edges_of m l))
+
+count_by-append : {X : Type 0} (p : X → Bool) (xs ys : List X) → count_by p (xs ++ ys) ≡ count_by p xs + count_by p ys
+count_by-append p xs ys = sum_by-append (λ x. cond (p x) 1 0) xs ys
+
+-- one line more is counted
+pub tally_more : (m : Tables) (n : ℕ) (l : Line) → slice_get m.lines n ≡ Some l → (old new : BTreeMap (ℕ × ℕ) Degrees)
+    → IsTally (flat_map (edges_of m) (take n m.lines)) old → AddsEdges old new (edges_of m l)
+    → IsTally (flat_map (edges_of m) (take (n + 1) m.lines)) new
+tally_more m n l is old new t a =
+    let more = edges_more m n l is in
+    let done = flat_map (edges_of m) (take n m.lines) in
+    record {
+      outgoing = λ q.
+          a.outgoing q ∙ ap (λ x. x + count_by (leaves q.0 q.1) (edges_of m l)) (t.outgoing q)
+          ∙ sym (ap (count_by (leaves q.0 q.1)) more ∙ count_by-append (leaves q.0 q.1) done (edges_of m l));
+      incoming = λ q.
+          a.incoming q ∙ ap (λ x. x + count_by (reaches q.0 q.1) (edges_of m l)) (t.incoming q)
+          ∙ sym (ap (count_by (reaches q.0 q.1)) more ∙ count_by-append (reaches q.0 q.1) done (edges_of m l));
+    }
+
+short : {X : Type 0} (x y : X) (b : Bool) → length (x ∷ cond b (y ∷ []) []) ≤ 2
+short x y true = omega arith
+short x y false = omega arith
+
+edges-few : (m : Tables) (l : Line) → length (edges_of m l) ≤ 2
+edges-few m l =
+    let right : Edge = record { sector = (side_at m l.right).sector; from = l.v1; to = l.v2 } in
+    let left : Edge = record { sector = (side_at m l.left).sector; from = l.v2; to = l.v1 } in
+    short right left (has_left l)
+
+all_edges-few : (m : Tables) (ls : List Line) → length (flat_map (edges_of m) ls) ≤ 2 * length ls
+all_edges-few m [] = omega arith
+all_edges-few m (l ∷ ls) =
+    omega (arith, length-append (edges_of m l) (flat_map (edges_of m) ls), edges-few m l, all_edges-few m ls)
+
+-- a map has too few lines for a count to overflow
+pub tally_room : (m : Tables) (n : ℕ) (d : BTreeMap (ℕ × ℕ) Degrees) → n ≤ 32767 → IsTally (flat_map (edges_of m) (take n m.lines)) d → HasRoom 2 d
+tally_room m n d few t =
+    let es = flat_map (edges_of m) (take n m.lines) in
+    let long : length es ≤ 2 * n = omega (arith, all_edges-few m (take n m.lines), length-take n m.lines) in
+    record {
+      outgoing = λ q. omega (arith, t.outgoing q, count_by-le-length (leaves q.0 q.1) es);
+      incoming = λ q. omega (arith, t.incoming q, count_by-le-length (reaches q.0 q.1) es);
+    }
+
+-- ---- the edges of a map are among its sectors and vertices
+
+record InMap (m : Tables) (e : Edge) : Type 0 where
+  sector : e.sector < length m.sectors
+  from : e.from < length m.vertices
+  to : e.to < length m.vertices
+
+line-in_map : (m : Tables) → WellFormed m → (l : Line) → HasEnds m.vertices l → HasSides m.sides l → AllByRecursion (InMap m) (edges_of m l)
+line-in_map m w l ends sides = (
+  record { sector = w.side_sectors l.right some_side sides.right; from = ends.v1; to = ends.v2 },
+  left (has_left l) (λ h. w.side_sectors l.left some_side (sides.left (has_left-true l h))),
+)
+  where
+    left : (b : Bool) → (b ≡ true → (side_at m l.left).sector < length m.sectors)
+        → AllByRecursion (InMap m) (cond b ((record { sector = (side_at m l.left).sector; from = l.v2; to = l.v1 }) ∷ []) [])
+    left true h = (record { sector = h refl; from = ends.v2; to = ends.v1 }, tt)
+    left false h = tt
+
+edges-in_map : (m : Tables) → WellFormed m → AllByRecursion (InMap m) (edges m)
+edges-in_map m w =
+    let P : Line → Type 0 = λ l. HasEnds m.vertices l × HasSides m.sides l in
+    each-flat_map (InMap m) (edges_of m) m.lines
+    (each-weaker P (λ l. AllByRecursion (InMap m) (edges_of m l)) (λ l h. line-in_map m w l h.0 h.1) m.lines
+    (recursion_from_All P m.lines (λ k d h. (w.ends k d h, w.line_sides k d h))))
+
+none-counted : {X : Type 0} (p : X → Bool) (P : X → Type 0) → ((x : X) → P x → p x ≡ false) → (xs : List X) → AllByRecursion P xs
+    → count_by p xs ≡ 0
+none-counted p P h [] a = refl
+none-counted p P h (x ∷ xs) a =
+    sum_by-cons (λ x. cond (p x) 1 0) x xs ∙ (λ i. cond (h x a.0 i) 1 0 + none-counted p P h xs a.1 i)
+
+-- no corner beyond the map's is open
+pub closed_outside : (m : Tables) → WellFormed m → ClosedOutside m
+closed_outside m w s v h =
+    let none : (to : Edge → ℕ) → ((e : Edge) → InMap m e → to e < length m.vertices) → count_by (λ e. eqb e.sector s && eqb (to e) v) (edges m) ≡ 0 =
+    λ to within.
+    none-counted (λ e. eqb e.sector s && eqb (to e) v) (InMap m)
+    (λ e i.
+    ⊎_elim
+    (λ sg. and_left (eqb e.sector s) (eqb (to e) v) (ne_eqb e.sector s (λ x. omega (arith, i.sector, x))))
+    (λ vg. and_right (eqb e.sector s) (eqb (to e) v) (ne_eqb (to e) v (λ x. omega (arith, within e i, x))))
+    h)
+    (edges m) (edges-in_map m w) in
+    λ i. not (eqb (none (λ e. e.from) (λ e x. x.from) i) (none (λ e. e.to) (λ e x. x.to) i))

@@ -1,0 +1,11 @@
+use Rattle.std.proofs.Common.{sym, ◌∙◌}
+use Rattle.lv_checks.specs.Textures.{line_misses}
+use Rattle.lv_checks.proofs.TextureSteps.{numbered_more}
+use Rattle.lv_checks.proofs.textures.list_missing_textures.Goals as goal
+
+pub loop-n-preserved : goal.loop-n-preserved
+loop-n-preserved c =
+    let m = c.args.map.now.tables in
+    c.in_ok-list_line.ensures
+    ∙ numbered_more (line_misses m) m.lines c.loop-n.n c.unwrap-line.result (sym c.line.ensures.item ∙ c.unwrap-line.ensures)
+    c.args.found.now.items c.loop-n.found.items c.loop-n.invariant

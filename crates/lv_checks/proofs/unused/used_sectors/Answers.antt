@@ -1,0 +1,13 @@
+use Rattle.std.proofs.Common.{eqb, sym, ap, ◌∙◌, arith}
+use Rattle.lv_maptables.specs.Faults.{in_sector}
+use Rattle.lv_maptables.specs.WellFormed.{HasSector}
+use Rattle.lv_checks.proofs.MarkSteps.{marks_one, at_some}
+use Rattle.lv_checks.proofs.unused.used_sectors.Goals as goal
+
+pub loop-n-preserved : goal.loop-n-preserved
+loop-n-preserved c =
+    let m = c.args.map.now.tables in
+    let within = at_some (HasSector m.sectors) c.unwrap-side.result c.unwrap-side.ensures c.side.ensures.sector in
+    marks_one in_sector m.sectors m.sides c.loop-n.n c.unwrap-side.result (sym c.side.ensures.item ∙ c.unwrap-side.ensures)
+    c.loop-n.used.items c.loop-n.invariant c.from.result (omega (arith, within, c.from.ensures))
+    (λ k. ap (λ n. eqb n k) (sym c.from.ensures))

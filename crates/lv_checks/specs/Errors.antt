@@ -1,0 +1,8 @@
+-- The numbers of the refusals.
+use Rattle.std.specs.Prelude.{ℕ}
+use Rattle.lv_checks.specs.declared.error.CheckError.{CheckError}
+use Rattle.lv_checks.specs.declared.error.CheckError.TheVariants.{OutOfMemory}
+
+-- the number by which a refusal goes
+abbrev pub code_of : CheckError → ℕ
+code_of OutOfMemory = 31

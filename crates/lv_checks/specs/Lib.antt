@@ -1,0 +1,6 @@
+pub mod Errors
+pub mod Unused
+pub mod Textures
+pub mod Corners
+pub mod Findings
+pub mod Tallies

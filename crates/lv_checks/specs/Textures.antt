@@ -1,0 +1,89 @@
+-- The textures that a map's sides miss: those that can be seen, and have no name.
+use Rattle.std.specs.Prelude.{ℕ, Bool, true, false, ◌&&◌, not, if◌then◌else◌, List, [], ◌∷◌, ◌++◌, map, filter, get_or, pos, int_lt, codes, bytes_eq}
+use Rattle.lv_lumps.specs.Names.{name_of, name_text}
+use Rattle.lv_lumps.specs.declared.records.Name8.{Name8}
+use Rattle.lv_lumps.specs.declared.records.Line.{Line}
+use Rattle.lv_lumps.specs.declared.records.Side.{Side}
+use Rattle.lv_lumps.specs.declared.records.Sector.{Sector}
+use Rattle.lv_maptables.specs.Faults.{has_left}
+use Rattle.lv_maptables.specs.Tables.{Tables}
+use Rattle.lv_maptables.specs.WellFormed.{is_two_sided}
+use Rattle.lv_checks.specs.declared.finding.Texture.{Texture}
+use Rattle.lv_checks.specs.declared.finding.Texture.TheVariants.{Upper, Lower, Middle}
+use Rattle.lv_checks.specs.declared.finding.Finding.{Finding}
+use Rattle.lv_checks.specs.declared.finding.Finding.TheVariants.{TextureMissing}
+
+-- the name that stands for no texture
+abbrev pub nameless : Name8
+nameless = name_of (codes "-")
+
+-- a side and a sector past the last ones
+abbrev pub some_side : Side
+some_side =
+    record { x_offset = pos 0; y_offset = pos 0; upper = nameless; lower = nameless; middle = nameless; sector = 0 }
+
+abbrev pub some_sector : Sector
+some_sector =
+    record {
+      floor = pos 0;
+      ceiling = pos 0;
+      floor_name = nameless;
+      ceiling_name = nameless;
+      light = pos 0;
+      special = pos 0;
+      tag = pos 0;
+    }
+
+-- the side of a number
+abbrev pub side_at : Tables → ℕ → Side
+side_at m n = get_or m.sides n some_side
+
+-- the sector that the side of a number faces
+abbrev pub sector_of : Tables → ℕ → Sector
+sector_of m side = get_or m.sectors (side_at m side).sector some_sector
+
+-- whether a name stands for no texture
+abbrev pub is_missing : Name8 → Bool
+is_missing n = bytes_eq (name_text n) (codes "-")
+
+-- whether a sector's ceiling is the sky
+abbrev pub is_sky : Sector → Bool
+is_sky s = bytes_eq (name_text s.ceiling_name) (codes "F_SKY1")
+
+-- the number of one side of a line, and of the side behind it
+abbrev pub own_side : Line → Bool → ℕ
+own_side l left = if left then l.left else l.right
+
+abbrev pub side_behind : Line → Bool → ℕ
+side_behind l left = if left then l.right else l.left
+
+-- whether the wall over a lower ceiling can be seen, from the higher sector s: not between two skies
+abbrev pub upper_shows : Sector → Sector → Bool
+upper_shows s t = int_lt t.ceiling s.ceiling && not (is_sky s && is_sky t)
+
+-- whether the wall under a higher floor can be seen, from the lower sector s
+abbrev pub lower_shows : Sector → Sector → Bool
+lower_shows s t = int_lt s.floor t.floor
+
+-- Whether one side of a line misses a texture: the middle where the line isn't two-sided, the upper and the lower where
+-- it is and they show.
+abbrev pub misses : Tables → Line → Bool → Texture → Bool
+misses m l left Upper =
+    is_two_sided l
+    && (upper_shows (sector_of m (own_side l left)) (sector_of m (side_behind l left)) && is_missing (side_at m (own_side l left)).upper)
+misses m l left Lower =
+    is_two_sided l
+    && (lower_shows (sector_of m (own_side l left)) (sector_of m (side_behind l left)) && is_missing (side_at m (own_side l left)).lower)
+misses m l left Middle = not (is_two_sided l) && is_missing (side_at m (own_side l left)).middle
+
+-- a side's textures, in the order of their findings
+abbrev pub textures : List Texture
+textures = Upper ∷ Lower ∷ Middle ∷ []
+
+-- what one side of line n misses
+abbrev pub side_misses : Tables → ℕ → Line → Bool → List Finding
+side_misses m n l left = map (λ t. TextureMissing n left t) (filter (misses m l left) textures)
+
+-- what line n misses, on its right and then on its left
+abbrev pub line_misses : Tables → ℕ × Line → List Finding
+line_misses m (n, l) = side_misses m n l false ++ (if has_left l then side_misses m n l true else [])

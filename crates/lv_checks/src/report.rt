@@ -1,0 +1,28 @@
+ghost use Rattle.std.specs.Prelude.{◌≡◌, IfOk, IsOkUnless};
+ghost use Rattle.lv_checks.specs.Findings.{findings};
+
+use crate::corners::list_open_sectors;
+use crate::error::CheckError;
+use crate::finding::Finding;
+use crate::start::list_missing_start;
+use crate::textures::list_missing_textures;
+use crate::unused::{list_unused_sectors, list_unused_sides, list_unused_vertices};
+use lv_maptables::Map;
+use std::alloc::Global;
+
+/// What is wrong or unfinished in the map: unused vertices, unused sides and unused sectors, each by number; missing
+/// textures by line, the right side before the left, upper before lower before middle; open sectors by sector, then by
+/// vertex; and that there is no player start. It takes time near the map's size times its logarithm.
+pub fn check(alloc: Global, map: &Map) -> Result<Vec<Finding>, CheckError>
+    ensures found { IfOk result (λ found. found.items ≡ findings map.now.tables) }
+    ensures memory { IsOkUnless result CheckError.OutOfMemory }
+{
+    let mut found = Vec::new(alloc);
+    list_unused_vertices(alloc, map, &mut found)?;
+    list_unused_sides(alloc, map, &mut found)?;
+    list_unused_sectors(alloc, map, &mut found)?;
+    list_missing_textures(map, &mut found)?;
+    list_open_sectors(alloc, map, &mut found)?;
+    list_missing_start(map, &mut found)?;
+    Ok(found)
+}

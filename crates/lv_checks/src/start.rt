@@ -1,0 +1,41 @@
+ghost use Rattle.std.specs.Prelude.{◌≡◌, ◌++◌, OnOk};
+ghost use Rattle.std.specs.List.{list_any};
+ghost use Rattle.lv_checks.specs.Findings.{is_start, missing_start};
+
+use crate::error::CheckError;
+use crate::finding::Finding;
+use lv_lumps::Thing;
+use lv_maptables::{Kind, Map};
+
+/// The kind of the thing at which the first player starts.
+const PLAYER_START: i16 = 1;
+
+/// Whether the thing is the first player's start.
+fn is_start(thing: &Thing) -> bool
+    ensures { result ≡ is_start thing.now }
+{
+    thing.kind == PLAYER_START
+}
+
+/// Whether one of the things is.
+fn has_player_start(map: &Map) -> bool
+    ensures { result ≡ list_any is_start map.now.tables.things }
+{
+    for n in 0..map.count(Kind::Thing) {
+        let thing = map.thing(n).unwrap();
+        if is_start(&thing) {
+            return true;
+        }
+    }
+    false
+}
+
+/// Adds the finding that no thing is the first player's start, if none is.
+pub(crate) fn list_missing_start(map: &Map, found: &mut Vec<Finding>) -> Result<(), CheckError>
+    ensures { OnOk result (found.new.items ≡ found.old.items ++ missing_start map.now.tables) }
+{
+    if !has_player_start(map) {
+        found.push(Finding::NoPlayerStart)?;
+    }
+    Ok(())
+}

@@ -1,0 +1,156 @@
+ghost use Rattle.std.specs.Prelude.{◌≡◌, ◌<◌, ◌++◌, ◌&&◌, not, length, true, OnOk, int_lt};
+ghost use Rattle.lv_maptables.specs.Faults.{has_left};
+ghost use Rattle.lv_maptables.specs.WellFormed.{WellFormed, HasSides, HasSector, is_two_sided};
+ghost use Rattle.lv_checks.specs.Textures.{is_missing, is_sky, upper_shows, lower_shows, side_at, sector_of, own_side, side_behind, misses, side_misses, line_misses};
+ghost use Rattle.lv_checks.specs.Findings.{missing_textures};
+
+use crate::error::CheckError;
+use crate::finding::{Finding, Texture};
+use crate::unused::has_left;
+use lv_lumps::{Line, Name8, Sector, Side};
+use lv_maptables::{Kind, Map};
+
+/// The flag of a line that can be seen through: it has a side on its left.
+const TWO_SIDED: u16 = 4;
+
+/// A side's textures, in the order of their findings.
+const TEXTURES: [Texture; 3] = [Texture::Upper, Texture::Lower, Texture::Middle];
+
+fn is_two_sided(line: &Line) -> bool
+    ensures { result ≡ is_two_sided line.now }
+{
+    line.flags & TWO_SIDED != 0
+}
+
+/// Whether the name stands for no texture.
+fn is_missing(name: &Name8) -> bool
+    ensures { result ≡ is_missing name.now }
+{
+    name.text() == b"-".as_slice()
+}
+
+/// Whether the sector's ceiling is the sky.
+fn is_sky(sector: &Sector) -> bool
+    ensures { result ≡ is_sky sector.now }
+{
+    sector.ceiling_name.text() == b"F_SKY1".as_slice()
+}
+
+fn side_at(map: &Map, n: u16) -> Side
+    requires { n < length map.now.tables.sides }
+    ensures value { result ≡ side_at map.now.tables n }
+    ensures sector { HasSector map.now.tables.sectors result }
+{
+    map.side(u32::from(n)).unwrap()
+}
+
+/// The sector that the side faces.
+fn sector_of(map: &Map, side: u16) -> Sector
+    requires { side < length map.now.tables.sides }
+    ensures { result ≡ sector_of map.now.tables side }
+{
+    let sector = side_at(map, side).sector;
+    map.sector(u32::from(sector)).unwrap()
+}
+
+fn own_side(line: &Line, left: bool) -> u16
+    ensures { result ≡ own_side line.now left }
+{
+    if left { line.left } else { line.right }
+}
+
+fn side_behind(line: &Line, left: bool) -> u16
+    ensures { result ≡ side_behind line.now left }
+{
+    if left { line.right } else { line.left }
+}
+
+/// Whether the wall over the lower ceiling of `far` shows in `near`: not where both ceilings are the sky.
+fn upper_shows(near: &Sector, far: &Sector) -> bool
+    ensures { result ≡ upper_shows near.now far.now }
+{
+    far.ceiling < near.ceiling && !(is_sky(near) && is_sky(far))
+}
+
+/// Whether the side `own` misses its upper texture before the side `behind`.
+fn misses_upper(map: &Map, own: u16, behind: u16) -> bool
+    requires own { own < length map.now.tables.sides }
+    requires behind { behind < length map.now.tables.sides }
+    ensures { result ≡ (upper_shows (sector_of map.now.tables own) (sector_of map.now.tables behind)
+        && is_missing (side_at map.now.tables own).upper) }
+{
+    upper_shows(&sector_of(map, own), &sector_of(map, behind))
+        && is_missing(&side_at(map, own).upper)
+}
+
+/// Whether the side `own` misses its lower texture before the side `behind`.
+fn misses_lower(map: &Map, own: u16, behind: u16) -> bool
+    requires own { own < length map.now.tables.sides }
+    requires behind { behind < length map.now.tables.sides }
+    ensures { result ≡ (lower_shows (sector_of map.now.tables own) (sector_of map.now.tables behind)
+        && is_missing (side_at map.now.tables own).lower) }
+{
+    sector_of(map, own).floor < sector_of(map, behind).floor && is_missing(&side_at(map, own).lower)
+}
+
+/// Whether one side of the line misses the texture.
+fn misses(map: &Map, line: &Line, left: bool, texture: Texture) -> bool
+    requires sides { HasSides map.now.tables.sides line.now }
+    requires present { left ≡ true → has_left line.now ≡ true }
+    ensures { result ≡ misses map.now.tables line.now left texture }
+{
+    let own = own_side(line, left);
+    let behind = side_behind(line, left);
+    match texture {
+        Texture::Upper => is_two_sided(line) && misses_upper(map, own, behind),
+        Texture::Lower => is_two_sided(line) && misses_lower(map, own, behind),
+        Texture::Middle => !is_two_sided(line) && is_missing(&side_at(map, own).middle),
+    }
+}
+
+/// Adds a finding for each texture that one side of the line misses.
+fn list_side(
+    map: &Map,
+    n: u32,
+    line: &Line,
+    left: bool,
+    found: &mut Vec<Finding>,
+) -> Result<(), CheckError>
+    requires sides { HasSides map.now.tables.sides line.now }
+    requires present { left ≡ true → has_left line.now ≡ true }
+    ensures { OnOk result (found.new.items ≡ found.old.items ++ side_misses map.now.tables n line.now left) }
+{
+    for texture in &TEXTURES {
+        if misses(map, line, left, *texture) {
+            found.push(Finding::TextureMissing {
+                line: n,
+                left,
+                texture: *texture,
+            })?;
+        }
+    }
+    Ok(())
+}
+
+/// Adds a finding for each texture that the line misses, on its right and then on its left.
+fn list_line(map: &Map, n: u32, line: &Line, found: &mut Vec<Finding>) -> Result<(), CheckError>
+    requires { HasSides map.now.tables.sides line.now }
+    ensures { OnOk result (found.new.items ≡ found.old.items ++ line_misses map.now.tables (n, line.now)) }
+{
+    list_side(map, n, line, false, found)?;
+    if has_left(line) {
+        list_side(map, n, line, true, found)?;
+    }
+    Ok(())
+}
+
+/// Adds a finding for each texture that a line misses, by line.
+pub(crate) fn list_missing_textures(map: &Map, found: &mut Vec<Finding>) -> Result<(), CheckError>
+    ensures { OnOk result (found.new.items ≡ found.old.items ++ missing_textures map.now.tables) }
+{
+    for n in 0..map.count(Kind::Line) {
+        let line = map.line(n).unwrap();
+        list_line(map, n, &line, found)?;
+    }
+    Ok(())
+}

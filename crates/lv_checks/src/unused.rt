@@ -1,0 +1,126 @@
+ghost use Rattle.std.specs.Prelude.{◌≡◌, ◌++◌, ◌<◌, ◌≤◌, ◌^◌, vec_len, not, length, filter, get_or, false, IfOk, OnOk};
+ghost use Rattle.std.specs.List.{range_with_len};
+ghost use Rattle.lv_maptables.specs.Faults.{has_left, uses_vertex, uses_side, in_sector};
+ghost use Rattle.lv_checks.specs.Unused.{unused_vertices, unused_sides, unused_sectors};
+ghost use Rattle.lv_checks.specs.Tallies.{Marks};
+
+use crate::error::CheckError;
+use crate::finding::Finding;
+use lv_lumps::Line;
+use lv_maptables::{Kind, Map};
+use std::alloc::Global;
+
+/// What stands for a left side that a line doesn't have.
+const NO_SIDE: u16 = 0xffff;
+
+/// Whether the line has a left side.
+pub(crate) fn has_left(line: &Line) -> bool
+    ensures { result ≡ has_left line.now }
+{
+    line.left != NO_SIDE
+}
+
+/// Which vertices a line ends at.
+fn used_vertices(alloc: Global, map: &Map) -> Result<Vec<bool>, CheckError>
+    ensures marks { IfOk result (λ used. Marks uses_vertex map.now.tables.vertices map.now.tables.lines used.items) }
+    ensures few { IfOk result (λ used. vec_len used ≤ 32767) }
+{
+    let mut used = vec![in alloc; false; map.count(Kind::Vertex) as usize]?;
+    for n in 0..map.count(Kind::Line) {
+        let line = map.line(n).unwrap();
+        used[usize::from(line.v1)] = true;
+        used[usize::from(line.v2)] = true;
+    }
+    Ok(used)
+}
+
+/// Which sides a line has.
+fn used_sides(alloc: Global, map: &Map) -> Result<Vec<bool>, CheckError>
+    ensures marks { IfOk result (λ used. Marks uses_side map.now.tables.sides map.now.tables.lines used.items) }
+    ensures few { IfOk result (λ used. vec_len used ≤ 32767) }
+{
+    let mut used = vec![in alloc; false; map.count(Kind::Side) as usize]?;
+    for n in 0..map.count(Kind::Line) {
+        let line = map.line(n).unwrap();
+        used[usize::from(line.right)] = true;
+        if has_left(&line) {
+            used[usize::from(line.left)] = true;
+        }
+    }
+    Ok(used)
+}
+
+/// Which sectors a side faces.
+fn used_sectors(alloc: Global, map: &Map) -> Result<Vec<bool>, CheckError>
+    ensures marks { IfOk result (λ used. Marks in_sector map.now.tables.sectors map.now.tables.sides used.items) }
+    ensures few { IfOk result (λ used. vec_len used ≤ 32767) }
+{
+    let mut used = vec![in alloc; false; map.count(Kind::Sector) as usize]?;
+    for n in 0..map.count(Kind::Side) {
+        let side = map.side(n).unwrap();
+        used[usize::from(side.sector)] = true;
+    }
+    Ok(used)
+}
+
+/// The numbers of the items that aren't marked as used.
+fn unmarked(alloc: Global, used: &[bool]) -> Result<Vec<u32>, CheckError>
+    requires { length used.now < 2 ^ 32 }
+    ensures { IfOk result (λ numbers. numbers.items ≡ filter (λ n. not (get_or used.now n false)) (range_with_len 0 (length used.now))) }
+{
+    let mut numbers = Vec::new(alloc);
+    for (n, is_used) in used.iter().enumerate() {
+        if !*is_used {
+            numbers.push(n as u32)?;
+        }
+    }
+    Ok(numbers)
+}
+
+/// Adds a finding for each vertex that no line has.
+pub(crate) fn list_unused_vertices(
+    alloc: Global,
+    map: &Map,
+    found: &mut Vec<Finding>,
+) -> Result<(), CheckError>
+    ensures { OnOk result (found.new.items ≡ found.old.items ++ unused_vertices map.now.tables) }
+{
+    let used = used_vertices(alloc, map)?;
+    let numbers = unmarked(alloc, &used)?;
+    for n in &numbers {
+        found.push(Finding::VertexUnused(*n))?;
+    }
+    Ok(())
+}
+
+/// Adds a finding for each side that no line has.
+pub(crate) fn list_unused_sides(
+    alloc: Global,
+    map: &Map,
+    found: &mut Vec<Finding>,
+) -> Result<(), CheckError>
+    ensures { OnOk result (found.new.items ≡ found.old.items ++ unused_sides map.now.tables) }
+{
+    let used = used_sides(alloc, map)?;
+    let numbers = unmarked(alloc, &used)?;
+    for n in &numbers {
+        found.push(Finding::SideUnused(*n))?;
+    }
+    Ok(())
+}
+
+/// Adds a finding for each sector that no side faces.
+pub(crate) fn list_unused_sectors(
+    alloc: Global,
+    map: &Map,
+    found: &mut Vec<Finding>,
+) -> Result<(), CheckError>
+    ensures { OnOk result (found.new.items ≡ found.old.items ++ unused_sectors map.now.tables) }
+{
+    let used = used_sectors(alloc, map)?;
+    let numbers = unmarked(alloc, &used)?;
+    for n in &numbers {
+        found.push(Finding::SectorUnused(*n))?;
+    }
+    Ok(())
+}
