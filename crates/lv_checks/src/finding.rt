@@ -1,3 +1,5 @@
+use std::fmt;
+
 /// Which of a side's three textures.
 #[derive(Clone, Copy, Debug, PartialEq, Eq)]
 pub enum Texture {
@@ -9,7 +11,7 @@ pub enum Texture {
 /// What is wrong or unfinished in a map. Items go by their numbers.
 #[derive(Clone, Copy, Debug, PartialEq, Eq)]
 pub enum Finding {
-    /// No line ends at the vertex.
+    /// No line has the vertex.
     VertexUnused(u32),
     /// No line has the side.
     SideUnused(u32),
@@ -28,4 +30,46 @@ pub enum Finding {
     },
     /// No thing is the first player's start.
     NoPlayerStart,
+}
+
+impl fmt::Display for Texture {
+    ghost use Rattle.std.specs.Prelude.{Some};
+    ghost use Rattle.lv_checks.specs.Texts.{texture_text};
+
+    ghost output = { λ t. Some (texture_text t) };
+
+    fn fmt<W: fmt::Write>(&self, f: &mut fmt::Formatter<W>) -> fmt::Result {
+        match self {
+            Texture::Upper => f.write_str("upper"),
+            Texture::Lower => f.write_str("lower"),
+            Texture::Middle => f.write_str("middle"),
+        }
+    }
+}
+
+impl fmt::Display for Finding {
+    ghost use Rattle.std.specs.Prelude.{Some};
+    ghost use Rattle.lv_checks.specs.Texts.{finding_text};
+
+    ghost output = { λ x. Some (finding_text x) };
+
+    fn fmt<W: fmt::Write>(&self, f: &mut fmt::Formatter<W>) -> fmt::Result {
+        match self {
+            Finding::VertexUnused(n) => write!(f, "vertex {n} unused"),
+            Finding::SideUnused(n) => write!(f, "side {n} unused"),
+            Finding::SectorUnused(n) => write!(f, "sector {n} unused"),
+            Finding::TextureMissing {
+                line,
+                left,
+                texture,
+            } => {
+                let side = if *left { "left" } else { "right" };
+                write!(f, "line {line} {side} {texture} missing")
+            }
+            Finding::SectorOpen { sector, vertex } => {
+                write!(f, "sector {sector} open at vertex {vertex}")
+            }
+            Finding::NoPlayerStart => write!(f, "no player start"),
+        }
+    }
 }
