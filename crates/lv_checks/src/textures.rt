@@ -72,6 +72,13 @@ fn upper_shows(near: &Sector, far: &Sector) -> bool
     far.ceiling < near.ceiling && !(is_sky(near) && is_sky(far))
 }
 
+/// Whether the wall under the higher floor of `far` shows in `near`.
+fn lower_shows(near: &Sector, far: &Sector) -> bool
+    ensures { result ≡ lower_shows near.now far.now }
+{
+    near.floor < far.floor
+}
+
 /// Whether the side `own` misses its upper texture before the side `behind`.
 fn misses_upper(map: &Map, own: u16, behind: u16) -> bool
     requires own { own < length map.now.tables.sides }
@@ -90,7 +97,8 @@ fn misses_lower(map: &Map, own: u16, behind: u16) -> bool
     ensures { result ≡ (lower_shows (sector_of map.now.tables own) (sector_of map.now.tables behind)
         && is_missing (side_at map.now.tables own).lower) }
 {
-    sector_of(map, own).floor < sector_of(map, behind).floor && is_missing(&side_at(map, own).lower)
+    lower_shows(&sector_of(map, own), &sector_of(map, behind))
+        && is_missing(&side_at(map, own).lower)
 }
 
 /// Whether one side of the line misses the texture.
