@@ -1,6 +1,6 @@
 -- What the body counts: how many edges leave and reach each vertex of each sector.
-use Rattle.std.specs.Prelude.{◌≡◌, ℕ, ◌+◌, ◌<◌, ◌^◌, Bool, false, ◌&&◌, ◌==◌, not, if◌then◌else◌, List, length, get_or, count_by, unwrap_or}
-use Rattle.std.specs.List.{list_any}
+use Rattle.std.specs.Prelude.{◌≡◌, ℕ, ◌+◌, ◌<◌, ◌^◌, Bool, false, ◌&&◌, ◌==◌, not, if◌then◌else◌, List, length, get_or, map, filter, count_by, unwrap_or}
+use Rattle.std.specs.List.{list_any, range_with_len}
 use Rattle.std.specs.declared.cmp.Ordering.{Ordering}
 use Rattle.std.specs.Ordering.{nat_cmp, ordering_then}
 use Rattle.std.specs.BTreeMap.{BTreeMap, get}
@@ -62,7 +62,15 @@ is_uneven e = not (e.1.outgoing == e.1.incoming)
 abbrev pub corner_open : (ℕ × ℕ) × Degrees → Finding
 corner_open e = SectorOpen e.0.0 e.0.1
 
+-- a finding for each corner whose counts differ
+abbrev pub uneven_corners : BTreeMap (ℕ × ℕ) Degrees → List Finding
+uneven_corners m = map corner_open (filter is_uneven m.entries)
+
 -- each item's mark says whether one of the users uses it
 pub record Marks {X Y : Type 0} (uses : ℕ → Y → Bool) (items : List X) (users : List Y) (marks : List Bool) : Type 0 where
   pub count : length marks ≡ length items
   pub used : (n : ℕ) → n < length items → get_or marks n false ≡ list_any (uses n) users
+
+-- the numbers of the items without a mark
+abbrev pub unmarked : List Bool → List ℕ
+unmarked marks = filter (λ n. not (get_or marks n false)) (range_with_len 0 (length marks))

@@ -65,15 +65,19 @@ upper_shows s t = int_lt t.ceiling s.ceiling && not (is_sky s && is_sky t)
 abbrev pub lower_shows : Sector → Sector → Bool
 lower_shows s t = int_lt s.floor t.floor
 
+-- whether the side `own` misses its upper texture before the side `behind`
+abbrev pub misses_upper : Tables → ℕ → ℕ → Bool
+misses_upper m own behind = upper_shows (sector_of m own) (sector_of m behind) && is_missing (side_at m own).upper
+
+-- whether the side `own` misses its lower texture before the side `behind`
+abbrev pub misses_lower : Tables → ℕ → ℕ → Bool
+misses_lower m own behind = lower_shows (sector_of m own) (sector_of m behind) && is_missing (side_at m own).lower
+
 -- Whether one side of a line misses a texture: the middle where the line isn't two-sided, the upper and the lower where
--- it is and they show.
+-- it is.
 abbrev pub misses : Tables → Line → Bool → Texture → Bool
-misses m l left Upper =
-    is_two_sided l
-    && (upper_shows (sector_of m (own_side l left)) (sector_of m (side_behind l left)) && is_missing (side_at m (own_side l left)).upper)
-misses m l left Lower =
-    is_two_sided l
-    && (lower_shows (sector_of m (own_side l left)) (sector_of m (side_behind l left)) && is_missing (side_at m (own_side l left)).lower)
+misses m l left Upper = is_two_sided l && misses_upper m (own_side l left) (side_behind l left)
+misses m l left Lower = is_two_sided l && misses_lower m (own_side l left) (side_behind l left)
 misses m l left Middle = not (is_two_sided l) && is_missing (side_at m (own_side l left)).middle
 
 -- a side's textures, in the order of their findings

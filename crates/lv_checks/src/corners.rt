@@ -1,9 +1,9 @@
-ghost use Rattle.std.specs.Prelude.{◌≡◌, ◌<◌, [], ◌∷◌, ◌++◌, IfOk, OnOk, map, filter};
+ghost use Rattle.std.specs.Prelude.{◌≡◌, ◌<◌, [], ◌∷◌, ◌++◌, IfOk, OnOk};
 ghost use Rattle.std.specs.BTreeMap.{IsOrdered};
 ghost use Rattle.lv_maptables.specs.WellFormed.{WellFormed, HasSides};
 ghost use Rattle.lv_checks.specs.Corners.{edges, edges_of};
 ghost use Rattle.lv_checks.specs.Findings.{open_sectors};
-ghost use Rattle.lv_checks.specs.Tallies.{corner_cmp, degrees_of, HasRoom, Leaves, Reaches, AddsEdges, IsTally, is_uneven, corner_open};
+ghost use Rattle.lv_checks.specs.Tallies.{corner_cmp, degrees_of, HasRoom, Leaves, Reaches, AddsEdges, IsTally, uneven_corners};
 
 use crate::error::CheckError;
 use crate::finding::Finding;
@@ -23,6 +23,7 @@ struct Degrees {
 /// A sector's number, and the number of one of its vertices.
 type Corner = (u16, u16);
 
+/// What was counted at the corner.
 fn degrees_at(degrees: &BTreeMap<Corner, Degrees>, corner: Corner) -> Degrees
     ensures { result ≡ degrees_of degrees.now corner }
 {
@@ -33,6 +34,7 @@ fn degrees_at(degrees: &BTreeMap<Corner, Degrees>, corner: Corner) -> Degrees
     degrees.get(&corner).copied().unwrap_or(none)
 }
 
+/// Counts an edge that leaves the corner.
 fn leave(degrees: &mut BTreeMap<Corner, Degrees>, corner: Corner) -> Result<(), CheckError>
     requires { (degrees_of degrees.old corner).outgoing < u32.MAX }
     ensures { OnOk result (Leaves degrees.old degrees.new corner) }
@@ -43,6 +45,7 @@ fn leave(degrees: &mut BTreeMap<Corner, Degrees>, corner: Corner) -> Result<(), 
     Ok(())
 }
 
+/// Counts an edge that reaches the corner.
 fn reach(degrees: &mut BTreeMap<Corner, Degrees>, corner: Corner) -> Result<(), CheckError>
     requires { (degrees_of degrees.old corner).incoming < u32.MAX }
     ensures { OnOk result (Reaches degrees.old degrees.new corner) }
@@ -61,7 +64,8 @@ fn count_edge(
     to: u16,
 ) -> Result<(), CheckError>
     requires { HasRoom 1 degrees.old }
-    ensures { OnOk result (AddsEdges degrees.old degrees.new ((record { sector = sector; from = from; to = to }) ∷ [])) }
+    ensures { OnOk result
+        (AddsEdges degrees.old degrees.new ((record { sector = sector; from = from; to = to }) ∷ [])) }
 {
     leave(degrees, (sector, from))?;
     reach(degrees, (sector, to))
@@ -104,7 +108,7 @@ fn list_open(
     degrees: &BTreeMap<Corner, Degrees>,
     found: &mut Vec<Finding>,
 ) -> Result<(), CheckError>
-    ensures found { OnOk result (found.new.items ≡ found.old.items ++ map corner_open (filter is_uneven degrees.now.entries)) }
+    ensures found { OnOk result (found.new.items ≡ found.old.items ++ uneven_corners degrees.now) }
     ensures ordered { IsOrdered corner_cmp degrees.now }
 {
     for ((sector, vertex), at) in degrees {

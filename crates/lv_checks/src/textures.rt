@@ -1,7 +1,7 @@
 ghost use Rattle.std.specs.Prelude.{◌≡◌, ◌<◌, ◌++◌, ◌&&◌, not, length, true, OnOk, int_lt};
 ghost use Rattle.lv_maptables.specs.Faults.{has_left};
 ghost use Rattle.lv_maptables.specs.WellFormed.{WellFormed, HasSides, HasSector, is_two_sided};
-ghost use Rattle.lv_checks.specs.Textures.{is_missing, is_sky, upper_shows, lower_shows, side_at, sector_of, own_side, side_behind, misses, side_misses, line_misses};
+ghost use Rattle.lv_checks.specs.Textures.{is_missing, is_sky, upper_shows, lower_shows, side_at, sector_of, own_side, side_behind, misses_upper, misses_lower, misses, side_misses, line_misses};
 ghost use Rattle.lv_checks.specs.Findings.{missing_textures};
 
 use crate::error::CheckError;
@@ -16,6 +16,7 @@ const TWO_SIDED: u16 = 4;
 /// A side's textures, in the order of their findings.
 const TEXTURES: [Texture; 3] = [Texture::Upper, Texture::Lower, Texture::Middle];
 
+/// Whether the line's flags say that it has two sides.
 fn is_two_sided(line: &Line) -> bool
     ensures { result ≡ is_two_sided line.now }
 {
@@ -36,6 +37,7 @@ fn is_sky(sector: &Sector) -> bool
     sector.ceiling_name.text() == b"F_SKY1".as_slice()
 }
 
+/// The side of the number.
 fn side_at(map: &Map, n: u16) -> Side
     requires { n < length map.now.tables.sides }
     ensures value { result ≡ side_at map.now.tables n }
@@ -53,19 +55,22 @@ fn sector_of(map: &Map, side: u16) -> Sector
     map.sector(u32::from(sector)).unwrap()
 }
 
+/// The number of one of the line's sides.
 fn own_side(line: &Line, left: bool) -> u16
     ensures { result ≡ own_side line.now left }
 {
     if left { line.left } else { line.right }
 }
 
+/// The number of the side behind that one.
 fn side_behind(line: &Line, left: bool) -> u16
     ensures { result ≡ side_behind line.now left }
 {
     if left { line.right } else { line.left }
 }
 
-/// Whether the wall over the lower ceiling of `far` shows in `near`: not where both ceilings are the sky.
+/// Whether the wall over the lower ceiling of `far` shows in `near`: not where both ceilings are
+/// the sky.
 fn upper_shows(near: &Sector, far: &Sector) -> bool
     ensures { result ≡ upper_shows near.now far.now }
 {
@@ -83,8 +88,7 @@ fn lower_shows(near: &Sector, far: &Sector) -> bool
 fn misses_upper(map: &Map, own: u16, behind: u16) -> bool
     requires own { own < length map.now.tables.sides }
     requires behind { behind < length map.now.tables.sides }
-    ensures { result ≡ (upper_shows (sector_of map.now.tables own) (sector_of map.now.tables behind)
-        && is_missing (side_at map.now.tables own).upper) }
+    ensures { result ≡ misses_upper map.now.tables own behind }
 {
     upper_shows(&sector_of(map, own), &sector_of(map, behind))
         && is_missing(&side_at(map, own).upper)
@@ -94,8 +98,7 @@ fn misses_upper(map: &Map, own: u16, behind: u16) -> bool
 fn misses_lower(map: &Map, own: u16, behind: u16) -> bool
     requires own { own < length map.now.tables.sides }
     requires behind { behind < length map.now.tables.sides }
-    ensures { result ≡ (lower_shows (sector_of map.now.tables own) (sector_of map.now.tables behind)
-        && is_missing (side_at map.now.tables own).lower) }
+    ensures { result ≡ misses_lower map.now.tables own behind }
 {
     lower_shows(&sector_of(map, own), &sector_of(map, behind))
         && is_missing(&side_at(map, own).lower)
@@ -126,7 +129,8 @@ fn list_side(
 ) -> Result<(), CheckError>
     requires sides { HasSides map.now.tables.sides line.now }
     requires present { left ≡ true → has_left line.now ≡ true }
-    ensures { OnOk result (found.new.items ≡ found.old.items ++ side_misses map.now.tables n line.now left) }
+    ensures { OnOk result
+        (found.new.items ≡ found.old.items ++ side_misses map.now.tables n line.now left) }
 {
     for texture in &TEXTURES {
         if misses(map, line, left, *texture) {
@@ -143,7 +147,8 @@ fn list_side(
 /// Adds a finding for each texture that the line misses, on its right and then on its left.
 fn list_line(map: &Map, n: u32, line: &Line, found: &mut Vec<Finding>) -> Result<(), CheckError>
     requires { HasSides map.now.tables.sides line.now }
-    ensures { OnOk result (found.new.items ≡ found.old.items ++ line_misses map.now.tables (n, line.now)) }
+    ensures { OnOk result
+        (found.new.items ≡ found.old.items ++ line_misses map.now.tables (n, line.now)) }
 {
     list_side(map, n, line, false, found)?;
     if has_left(line) {

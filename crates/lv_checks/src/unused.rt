@@ -1,8 +1,7 @@
-ghost use Rattle.std.specs.Prelude.{◌≡◌, ◌++◌, ◌<◌, ◌≤◌, ◌^◌, vec_len, not, length, filter, get_or, false, IfOk, OnOk};
-ghost use Rattle.std.specs.List.{range_with_len};
+ghost use Rattle.std.specs.Prelude.{◌≡◌, ◌++◌, ◌<◌, ◌≤◌, ◌^◌, vec_len, length, IfOk, OnOk};
 ghost use Rattle.lv_maptables.specs.Faults.{has_left, uses_vertex, uses_side, in_sector};
 ghost use Rattle.lv_checks.specs.Unused.{unused_vertices, unused_sides, unused_sectors};
-ghost use Rattle.lv_checks.specs.Tallies.{Marks};
+ghost use Rattle.lv_checks.specs.Tallies.{Marks, unmarked};
 
 use crate::error::CheckError;
 use crate::finding::Finding;
@@ -22,7 +21,8 @@ pub(crate) fn has_left(line: &Line) -> bool
 
 /// Which vertices a line ends at.
 fn used_vertices(alloc: Global, map: &Map) -> Result<Vec<bool>, CheckError>
-    ensures marks { IfOk result (λ used. Marks uses_vertex map.now.tables.vertices map.now.tables.lines used.items) }
+    ensures marks { IfOk result
+        (λ used. Marks uses_vertex map.now.tables.vertices map.now.tables.lines used.items) }
     ensures few { IfOk result (λ used. vec_len used ≤ 32767) }
 {
     let mut used = vec![in alloc; false; map.count(Kind::Vertex) as usize]?;
@@ -36,7 +36,8 @@ fn used_vertices(alloc: Global, map: &Map) -> Result<Vec<bool>, CheckError>
 
 /// Which sides a line has.
 fn used_sides(alloc: Global, map: &Map) -> Result<Vec<bool>, CheckError>
-    ensures marks { IfOk result (λ used. Marks uses_side map.now.tables.sides map.now.tables.lines used.items) }
+    ensures marks { IfOk result
+        (λ used. Marks uses_side map.now.tables.sides map.now.tables.lines used.items) }
     ensures few { IfOk result (λ used. vec_len used ≤ 32767) }
 {
     let mut used = vec![in alloc; false; map.count(Kind::Side) as usize]?;
@@ -52,7 +53,8 @@ fn used_sides(alloc: Global, map: &Map) -> Result<Vec<bool>, CheckError>
 
 /// Which sectors a side faces.
 fn used_sectors(alloc: Global, map: &Map) -> Result<Vec<bool>, CheckError>
-    ensures marks { IfOk result (λ used. Marks in_sector map.now.tables.sectors map.now.tables.sides used.items) }
+    ensures marks { IfOk result
+        (λ used. Marks in_sector map.now.tables.sectors map.now.tables.sides used.items) }
     ensures few { IfOk result (λ used. vec_len used ≤ 32767) }
 {
     let mut used = vec![in alloc; false; map.count(Kind::Sector) as usize]?;
@@ -66,7 +68,7 @@ fn used_sectors(alloc: Global, map: &Map) -> Result<Vec<bool>, CheckError>
 /// The numbers of the items that aren't marked as used.
 fn unmarked(alloc: Global, used: &[bool]) -> Result<Vec<u32>, CheckError>
     requires { length used.now < 2 ^ 32 }
-    ensures { IfOk result (λ numbers. numbers.items ≡ filter (λ n. not (get_or used.now n false)) (range_with_len 0 (length used.now))) }
+    ensures { IfOk result (λ numbers. numbers.items ≡ unmarked used.now) }
 {
     let mut numbers = Vec::new(alloc);
     for (n, is_used) in used.iter().enumerate() {
