@@ -112,6 +112,25 @@ fn opening(v1: u16, v2: u16, right: u16, left: u16) -> Line
     }
 }
 
+/// A line with two sides that can't be seen through.
+fn closed(v1: u16, v2: u16, right: u16, left: u16) -> Line
+    requires v1 { v1 ≤ 32766 }
+    requires v2 { v2 ≤ 32766 }
+    requires right { right ≤ 32766 }
+    requires left { left ≤ 32766 }
+    ensures { IsLine result }
+{
+    Line {
+        v1,
+        v2,
+        flags: 1,
+        special: 0,
+        tag: 0,
+        right,
+        left,
+    }
+}
+
 /// Where the first player starts in a room.
 fn start() -> Thing
     ensures { IsThing result }
@@ -175,7 +194,10 @@ fn a_sector_of_one_line_is_open(rt: HostRuntime) -> Result<(), Fail> {
     map.add_sector(sector(0, 128))?;
     map.add_side(side(WALL, 0))?;
     map.add_line(wall(0, 1, 0))?;
-    assert_eq!(rt; report(rt.alloc(), &map)?.as_str(), "sector 0 open at vertex 0\nsector 0 open at vertex 1\nno player start\n");
+    assert_eq!(rt;
+        report(rt.alloc(), &map)?.as_str(),
+        "sector 0 open at vertex 0\nsector 0 open at vertex 1\nno player start\n"
+    );
     Ok(())
 }
 
@@ -187,18 +209,36 @@ fn two_rooms_miss_what_shows_between_them(rt: HostRuntime) -> Result<(), Fail> {
     assert_eq!(rt; report(rt.alloc(), &map)?.as_str(), "no player start\n");
 
     map.set_sector(1, sector(16, 128))?;
-    assert_eq!(rt; report(rt.alloc(), &map)?.as_str(), "line 2 right lower missing\nno player start\n");
+    assert_eq!(rt;
+        report(rt.alloc(), &map)?.as_str(),
+        "line 2 right lower missing\nno player start\n"
+    );
 
     map.set_sector(1, sector(16, 96))?;
-    assert_eq!(rt; report(rt.alloc(), &map)?.as_str(), "line 2 right upper missing\nline 2 right lower missing\nno player start\n");
+    assert_eq!(rt;
+        report(rt.alloc(), &map)?.as_str(),
+        "line 2 right upper missing\nline 2 right lower missing\nno player start\n"
+    );
 
     map.set_sector(0, open_air(0, 128))?;
     map.set_sector(1, open_air(16, 96))?;
     map.add_thing(start())?;
-    assert_eq!(rt; report(rt.alloc(), &map)?.as_str(), "line 2 right lower missing\n");
+    assert_eq!(rt;
+        report(rt.alloc(), &map)?.as_str(),
+        "line 2 right lower missing\n"
+    );
 
     map.set_sector(0, sector(32, 64))?;
-    assert_eq!(rt; report(rt.alloc(), &map)?.as_str(), "line 2 left upper missing\nline 2 left lower missing\n");
+    assert_eq!(rt;
+        report(rt.alloc(), &map)?.as_str(),
+        "line 2 left upper missing\nline 2 left lower missing\n"
+    );
+
+    map.set_line(2, closed(2, 3, 2, 4))?;
+    assert_eq!(rt;
+        report(rt.alloc(), &map)?.as_str(),
+        "line 2 right middle missing\nline 2 left middle missing\n"
+    );
     Ok(())
 }
 
@@ -231,7 +271,10 @@ fn each_kind_is_found_in_its_place(rt: HostRuntime) -> Result<(), Fail> {
         Finding::NoPlayerStart,
     ];
     assert_eq!(rt; found.as_slice(), expected.as_slice());
-    assert_eq!(rt; report(rt.alloc(), &map)?.as_str(), "vertex 4 unused\nside 3 unused\nsector 1 unused\nline 1 right middle missing\nsector 0 open at vertex 0\nsector 0 open at vertex 3\nno player start\n");
+    assert_eq!(rt;
+        report(rt.alloc(), &map)?.as_str(),
+        "vertex 4 unused\nside 3 unused\nsector 1 unused\nline 1 right middle missing\nsector 0 open at vertex 0\nsector 0 open at vertex 3\nno player start\n"
+    );
     Ok(())
 }
 
