@@ -2,6 +2,7 @@ pub mod CornerSteps
 pub mod AnyOf
 pub mod InOrder
 pub mod CornerList
+pub mod ItemReads
 pub mod MarkSteps
 pub mod SideLemmas
 pub mod EdgeCounts

@@ -1,12 +1,11 @@
 -- Marks of the items that are used, as one user more is read.
-use Rattle.std.proofs.Common.{◌≡◌, ℕ, zero, suc, not, ◌+◌, ◌<◌, Bool, true, false, eqb, cond, ◌||◌, List, [], ◌∷◌, ◌++◌, length, get_or, set, take, filter, zero-add, Option, Some, IfSome, refl, sym, ap, ◌∙◌, ⊎_elim, arith}
-use Rattle.std.specs.Bool.{⊤}
+use Rattle.std.proofs.Common.{◌≡◌, ℕ, zero, suc, not, ◌+◌, ◌<◌, Bool, true, false, eqb, cond, ◌||◌, List, [], ◌∷◌, ◌++◌, length, get_or, set, take, filter, zero-add, Some, refl, sym, ap, ◌∙◌, ⊎_elim, arith}
 use Rattle.std.specs.List.{list_any, slice_get, range_with_len}
 use Rattle.std.proofs.lemmas.List.FromFn.{filter_of_map_range_with_len_more}
 use Rattle.std.proofs.lemmas.Bool.{cases_eq, eq-eqb, ne_eqb}
 use Rattle.std.proofs.lemmas.List.{map-id, length-set, get_or-set_same, get_or-set_other}
 use Rattle.std.proofs.lemmas.List.Folds.{list_any_more}
-use Rattle.std.proofs.lemmas.Option.{MatchOption-at_some, slice_get_within, get_or_from_slice_get}
+use Rattle.std.proofs.lemmas.Option.{slice_get_within, get_or_from_slice_get}
 use Rattle.lv_checks.specs.Unused.{unused}
 use Rattle.lv_checks.specs.Tallies.{Marks}
 
@@ -58,10 +57,6 @@ module _ {X Y : Type 0} (uses : ℕ → Y → Bool) (items : List X) (users : Li
       ∙ ap (λ b. b || eqb w k) (get_or-set_mark marks v k (omega (arith, m.count)))
       ∙ or_assoc (get_or marks k false) (eqb v k) (eqb w k)
       ∙ ap (λ b. get_or marks k false || b) (sym (at k)))
-
--- what a clause says of the item that was read
-pub at_some : {A : Type 0} {o : Option A} (P : A → Type 0) (x : A) → o ≡ Some x → IfSome o P → P x
-at_some P x is h = MatchOption-at_some ⊤ P x is h
 
 -- the numbers up to n that pass a test
 pub filter_range_more : (p : ℕ → Bool) (n : ℕ) → filter p (range_with_len 0 (n + 1)) ≡ filter p (range_with_len 0 n) ++ cond (p n) (n ∷ []) []

@@ -1,7 +1,13 @@
-use Rattle.std.proofs.Common.{sym, ◌∙◌}
+use Rattle.std.proofs.Common.{sym, ◌∙◌, arith}
 use Rattle.lv_checks.specs.Textures.{line_misses}
+use Rattle.lv_checks.proofs.ItemReads.{is_there}
 use Rattle.lv_checks.proofs.TextureSteps.{numbered_more}
 use Rattle.lv_checks.proofs.textures.list_missing_textures.Goals as goal
+
+pub unwrap-line-requires : goal.unwrap-line-requires
+unwrap-line-requires c =
+    is_there c.args.map.now.tables.lines c.loop-n.n c.line.result c.line.ensures.item
+    (omega (arith, c.count-n-end.ensures.number, c.loop-n-test.true))
 
 pub loop-n-preserved : goal.loop-n-preserved
 loop-n-preserved c =

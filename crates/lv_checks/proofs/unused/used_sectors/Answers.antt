@@ -1,7 +1,8 @@
 use Rattle.std.proofs.Common.{eqb, sym, ap, ◌∙◌, arith}
 use Rattle.lv_maptables.specs.Faults.{in_sector}
 use Rattle.lv_maptables.specs.WellFormed.{HasSector}
-use Rattle.lv_checks.proofs.MarkSteps.{marks_one, at_some}
+use Rattle.lv_checks.proofs.ItemReads.{at_some}
+use Rattle.lv_checks.proofs.MarkSteps.{marks_one}
 use Rattle.lv_checks.proofs.unused.used_sectors.Goals as goal
 
 pub loop-n-preserved : goal.loop-n-preserved

@@ -2,7 +2,8 @@ use Rattle.std.proofs.Common.{◌≡◌, ◌≢◌, false, true, eqb, ◌&&◌, 
 use Rattle.lv_maptables.specs.Tables.{no_side}
 use Rattle.lv_maptables.specs.Faults.{uses_side, has_left}
 use Rattle.lv_maptables.specs.WellFormed.{HasSides}
-use Rattle.lv_checks.proofs.MarkSteps.{or_false, marks_one, marks_two, at_some}
+use Rattle.lv_checks.proofs.ItemReads.{at_some}
+use Rattle.lv_checks.proofs.MarkSteps.{or_false, marks_one, marks_two}
 use Rattle.lv_checks.proofs.SideLemmas.{has_left-true}
 use Rattle.lv_checks.proofs.unused.used_sides.Goals as goal
 use Rattle.lv_checks.proofs.unused.used_sides.Goals.{then-has_left, else-has_left}

@@ -1,7 +1,8 @@
 use Rattle.std.proofs.Common.{eqb, ◌||◌, sym, ◌∙◌, arith}
 use Rattle.lv_maptables.specs.Faults.{uses_vertex}
 use Rattle.lv_maptables.specs.WellFormed.{HasEnds}
-use Rattle.lv_checks.proofs.MarkSteps.{marks_two, at_some}
+use Rattle.lv_checks.proofs.ItemReads.{at_some}
+use Rattle.lv_checks.proofs.MarkSteps.{marks_two}
 use Rattle.lv_checks.proofs.unused.used_vertices.Goals as goal
 
 pub loop-n-preserved : goal.loop-n-preserved
