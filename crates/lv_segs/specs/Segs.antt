@@ -1,0 +1,87 @@
+-- Segs that run along the sides of lines, their fields, and subsectors of them that are convex to within rounding.
+use Rattle.std.specs.Prelude.{◌≡◌, ◌≢◌, ℕ, ◌+◌, ◌<◌, ◌≤◌, Bool, ◌&&◌, IsTrue, nat_eq, List, length, All, slice_get, slice_index_or, count_by, pos, Some, if◌then◌else◌}
+use Rattle.lv_lumps.specs.declared.records.Vertex.{Vertex}
+use Rattle.lv_lumps.specs.declared.records.Seg.{Seg}
+use Rattle.lv_lumps.specs.declared.records.Sub.{Sub}
+use Rattle.lv_segs.specs.declared.edge.Edge.{Edge}
+use Rattle.lv_segs.specs.declared.edge.Ray.{Ray}
+use Rattle.lv_segs.specs.declared.edge.Facing.{Facing}
+use Rattle.lv_segs.specs.declared.edge.Facing.TheVariants.{Along, Against}
+use Rattle.lv_segs.specs.declared.frac.Frac.{Frac}
+use Rattle.lv_segs.specs.Plane.{ray, LiesOn, RunsWith, RunsAgainst, NearRight, NearLeft}
+use Rattle.lv_segs.specs.Fractions.{IsFraction, point_at, steps_between, step_within}
+use Rattle.lv_segs.specs.Pieces.{no_edge}
+use Rattle.lv_segs.specs.Angle.{IsAngle}
+use Rattle.lv_segs.specs.Offset.{IsOffset}
+
+-- side 0 runs along its line, side 1 against it
+abbrev pub side_of : ℕ → Facing
+side_of side = (if nat_eq side 0 then Along else Against)
+
+abbrev pub origin : Vertex
+origin = record { x = pos 0; y = pos 0 }
+
+-- the seg i is one of the subsector's
+abbrev pub InSub : Sub → ℕ → Type 0
+InSub sub i = (sub.first ≤ i) × (i < sub.first + sub.count)
+
+module _ (lines : List Edge) (vertices : List Vertex) where
+  -- the whole line of a seg, and the same in the seg's direction
+  abbrev pub seg_edge : Seg → Edge
+  seg_edge s = slice_index_or lines s.line no_edge
+
+  abbrev pub seg_ray : Seg → Ray
+  seg_ray s = ray (seg_edge s) (side_of s.side)
+
+  -- the places of its ends
+  abbrev pub first_place : Seg → Vertex
+  first_place s = slice_index_or vertices s.first origin
+
+  abbrev pub second_place : Seg → Vertex
+  second_place s = slice_index_or vertices s.second origin
+
+  -- ---- run along
+  -- the seg covers the step k of a side of a line
+  abbrev pub seg_covers : ℕ → ℕ → ℕ → Seg → Bool
+  seg_covers line side k s =
+      nat_eq s.line line && nat_eq s.side side && (if nat_eq side 0
+      then step_within (seg_edge s) (first_place s) (second_place s) k
+      else step_within (seg_edge s) (second_place s) (first_place s) k)
+
+  -- the place is the rounded point at some fraction of the line
+  abbrev pub IsPointOf : Edge → Vertex → Type 0
+  IsPointOf e v = (t : Frac) × IsFraction t × (v ≡ point_at e t)
+
+  -- exactly one seg covers each step of each side present; segs run between rounded points of their lines;
+  -- no two vertices have one place
+  pub record RunAlong (segs : List Seg) : Type 0 where
+    pub right : (line k : ℕ) → line < length lines → let e = slice_index_or lines line no_edge in k < steps_between e.v1 e.v2 → count_by (seg_covers line 0 k) segs ≡ 1
+    pub left : (line k : ℕ) → line < length lines → let e = slice_index_or lines line no_edge in IsTrue e.two_sided → k < steps_between e.v1 e.v2 → count_by (seg_covers line 1 k) segs ≡ 1
+    pub first : All (λ s. IsPointOf (seg_edge s) (first_place s)) segs
+    pub second : All (λ s. IsPointOf (seg_edge s) (second_place s)) segs
+    pub ends_differ : All (λ s. first_place s ≢ second_place s) segs
+    pub places_differ : (i j : ℕ) (v : Vertex) → slice_get vertices i ≡ Some v → slice_get vertices j ≡ Some v → i ≡ j
+
+  -- ---- fields
+  -- the angle of the seg's direction, and the distance of its first place from where its side starts
+  pub record HasFields (s : Seg) : Type 0 where
+    pub angle : IsAngle (seg_ray s).dx (seg_ray s).dy s.angle
+    pub offset : IsOffset (seg_ray s).start (first_place s) s.offset
+
+  -- ---- convex
+  -- both ends of the seg lie on the right of the ray to within rounding; one along the ray runs with it
+  pub record SegLiesRight (r : Ray) (s : Seg) : Type 0 where
+    pub first_near : NearRight r (first_place s)
+    pub second_near : NearRight r (second_place s)
+    pub not_opposite : LiesOn r (seg_edge s) → RunsWith r (seg_ray s)
+
+  -- both ends lie on the left to within rounding; one along the ray runs against it
+  pub record SegLiesLeft (r : Ray) (s : Seg) : Type 0 where
+    pub first_near : NearLeft r (first_place s)
+    pub second_near : NearLeft r (second_place s)
+    pub opposite : LiesOn r (seg_edge s) → RunsAgainst r (seg_ray s)
+
+  -- each seg of the subsector lies on the right of each
+  abbrev pub IsConvexSub : List Seg → Sub → Type 0
+  IsConvexSub segs sub =
+      (i j : ℕ) (s t : Seg) → InSub sub i → InSub sub j → slice_get segs i ≡ Some s → slice_get segs j ≡ Some t → SegLiesRight (seg_ray s) t

@@ -1,0 +1,26 @@
+use lv_lumps::Vertex;
+
+/// A line of a map with the places of its ends, drawn from `v1` to `v2`. Its right side is on the
+/// right of that direction; it has a left side too where it is two-sided.
+#[derive(Clone, Copy, Debug)]
+pub struct Edge {
+    pub v1: Vertex,
+    pub v2: Vertex,
+    pub two_sided: bool,
+}
+
+/// A side of a line by the direction in which its segs run: `Along` the line for the right side,
+/// `Against` it for the left one.
+#[derive(Clone, Copy, Debug)]
+pub enum Facing {
+    Along,
+    Against,
+}
+
+/// A whole line in one of its two directions: where it starts, and its vector in map units.
+#[derive(Clone, Copy, Debug)]
+pub struct Ray {
+    pub start: Vertex,
+    pub dx: i32,
+    pub dy: i32,
+}

@@ -1,0 +1,19 @@
+//! Exact geometry of a map's lines: points, sides, angles, and the pieces into which a tree divides them.
+#![tactic(auto)]
+
+mod distance;
+mod edge;
+mod frac;
+mod laws;
+mod piece;
+mod plane;
+mod points;
+
+pub use distance::offset;
+pub use edge::{Edge, Facing, Ray};
+pub use frac::Frac;
+pub use laws::{
+    parts_keep_their_piece, points_rise, points_round_to_nearest, trees_keep_their_list,
+};
+pub use piece::{Parts, Piece, Place};
+pub use points::point;
