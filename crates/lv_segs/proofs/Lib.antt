@@ -5,4 +5,5 @@ pub mod Placing
 pub mod Division
 pub mod Convex
 pub mod Trees
+pub mod Turns
 pub mod Wide

@@ -24,7 +24,7 @@ pub record IsShrunk (x y x' y' : ℤ) : Type 0 where
 
 -- the vector at twice the angle, shrunk
 abbrev pub IsDoubled : (x y x' y' : ℤ) → Type 0
-IsDoubled x y x' y' = IsShrunk (x *ℤ x -ℤ y *ℤ y) (pos 2 *ℤ x *ℤ y) x' y'
+IsDoubled x y x' y' = IsShrunk (x *ℤ x -ℤ y *ℤ y) (pos 2 *ℤ (x *ℤ y)) x' y'
 
 -- the angle's first k bits, as a number: the first is the half turn of the vector, the others are those of the doubled one
 unfoldable pub HasTurns : ℕ → ℤ → ℤ → ℕ → Type 0

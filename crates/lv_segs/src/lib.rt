@@ -1,6 +1,7 @@
 //! Exact geometry of a map's lines: points, sides, angles, and the pieces into which a tree divides them.
 #![tactic(auto)]
 
+mod angle;
 mod distance;
 mod edge;
 mod frac;
@@ -9,6 +10,7 @@ mod piece;
 mod plane;
 mod points;
 
+pub use angle::angle16;
 pub use distance::offset;
 pub use edge::{Edge, Facing, Ray};
 pub use frac::Frac;
