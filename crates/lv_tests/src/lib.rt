@@ -5,3 +5,5 @@
 mod checks;
 #[cfg(test)]
 mod lumps;
+#[cfg(test)]
+mod segs;
