@@ -26,11 +26,12 @@ pub record IsShrunk (x y x' y' : ℤ) : Type 0 where
 abbrev pub IsDoubled : (x y x' y' : ℤ) → Type 0
 IsDoubled x y x' y' = IsShrunk (x *ℤ x -ℤ y *ℤ y) (pos 2 *ℤ (x *ℤ y)) x' y'
 
--- the angle's first k bits, as a number: the first is the half turn of the vector, the others are those of the doubled one
+-- the angle in k bits: the first is the half turn of the vector, the others are the bits of the doubled one
 unfoldable pub HasTurns : ℕ → ℤ → ℤ → ℕ → Type 0
 HasTurns zero x y angle = angle ≡ 0
 HasTurns (suc k) x y angle =
-    (x' : ℤ) × (y' : ℤ) × (rest : ℕ) × IsDoubled x y x' y' × HasTurns k x' y' rest × (angle ≡ half_turns x y * 2 ^ k + rest)
+    (x' : ℤ) × (y' : ℤ) × (rest : ℕ) ×
+    IsDoubled x y x' y' × HasTurns k x' y' rest × (angle ≡ half_turns x y * 2 ^ k + rest)
 
 abbrev pub IsAngle : ℤ → ℤ → ℕ → Type 0
 IsAngle x y angle = HasTurns 16 x y angle

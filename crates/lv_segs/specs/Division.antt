@@ -13,11 +13,12 @@ use Rattle.lv_segs.specs.Pieces.{edge_of, ray_of, first_end, last_end, same_plac
 -- the place by the side values of the two exact ends, and where both are 0 by the direction
 abbrev pub place_by : (from to direction : ℤ) → Place
 place_by from to direction =
-    (if int_le (pos 0) from && int_le (pos 0) to && (int_lt (pos 0) from || int_lt (pos 0) to || int_lt (pos 0) direction)
+    (if int_le (pos 0) from && int_le (pos 0) to &&
+    (int_lt (pos 0) from || int_lt (pos 0) to || int_lt (pos 0) direction)
     then Right
     else (if int_le from (pos 0) && int_le to (pos 0) then Left else Across))
 
--- on which side of a partition the exact piece lies; one along the partition is on the right where it runs with it
+-- on which side of a partition the exact piece lies; one along it is on the right where it runs with it
 abbrev pub place_of : List Edge → Piece → Piece → Place
 place_of lines partition p =
     let r = ray_of lines partition in
@@ -64,13 +65,15 @@ pub record IsPartOf (lines : List Edge) (p q : Piece) : Type 0 where
 pub record LiesInRight (lines : List Edge) (partition p : Piece) : Type 0 where
   pub from : pos 0 ≤ℤ exact_value (ray_of lines partition) (edge_of lines p) p.from
   pub to : pos 0 ≤ℤ exact_value (ray_of lines partition) (edge_of lines p) p.to
-  pub direction : LiesOn (ray_of lines partition) (edge_of lines p) → RunsWith (ray_of lines partition) (ray_of lines p)
+  pub direction : LiesOn (ray_of lines partition) (edge_of lines p) →
+      RunsWith (ray_of lines partition) (ray_of lines p)
 
 -- the exact piece lies on the left of the partition, and one along the partition runs against it
 pub record LiesInLeft (lines : List Edge) (partition p : Piece) : Type 0 where
   pub from : exact_value (ray_of lines partition) (edge_of lines p) p.from ≤ℤ pos 0
   pub to : exact_value (ray_of lines partition) (edge_of lines p) p.to ≤ℤ pos 0
-  pub direction : LiesOn (ray_of lines partition) (edge_of lines p) → RunsAgainst (ray_of lines partition) (ray_of lines p)
+  pub direction : LiesOn (ray_of lines partition) (edge_of lines p) →
+      RunsAgainst (ray_of lines partition) (ray_of lines p)
 
 -- the pieces that a division gives
 abbrev pub parts_list : Parts → List Piece
@@ -80,4 +83,5 @@ parts_list parts = option_to_list parts.right ++ option_to_list parts.left
 pub record IsDivided (lines : List Edge) (partition p : Piece) (parts : Parts) : Type 0 where
   pub right : IfSome parts.right (λ q. IsPartOf lines p q × LiesInRight lines partition q)
   pub left : IfSome parts.left (λ q. IsPartOf lines p q × LiesInLeft lines partition q)
-  pub cover : (line : ℕ) (side : Facing) (k : ℕ) → cover lines line side k (parts_list parts) ≡ cover lines line side k (p ∷ [])
+  pub cover : (line : ℕ) (side : Facing) (k : ℕ) →
+      cover lines line side k (parts_list parts) ≡ cover lines line side k (p ∷ [])

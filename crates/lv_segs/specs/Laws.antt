@@ -9,51 +9,55 @@ use Rattle.lv_segs.specs.Plane.{IsLine, NearRight, NearLeft}
 use Rattle.lv_segs.specs.Fractions.{IsFraction, AtMost, exact_value, twice_error, point_at, steps_between}
 use Rattle.lv_segs.specs.Pieces.{IsPiece, cover}
 use Rattle.lv_segs.specs.Division.{parts_of, IsDivided}
-use Rattle.lv_segs.specs.Tree.{Tree, Divides, unused, leaves, pieces, IsParted}
+use Rattle.lv_segs.specs.Tree.{Tree, IsTreeOf, leaves, pieces, IsParted}
 use Rattle.lv_segs.specs.Convex.{IsConvex}
 
 -- ---- rounding
 -- a rounded coordinate is within half a step of the exact one, and above it where it is half a step away
 abbrev pub RoundsToNearest : Type 0
-RoundsToNearest = (a b : ℤ) (t : Frac) → IsFraction t → (neg_ℤ t.d <ℤ twice_error a b t) × (twice_error a b t ≤ℤ t.d)
+RoundsToNearest =
+    (a b : ℤ) (t : Frac) → IsFraction t →
+    (neg_ℤ t.d <ℤ twice_error a b t) × (twice_error a b t ≤ℤ t.d)
 
 -- a point that lies exactly on one side of a ray lies there to within rounding once it is rounded
 abbrev pub RoundsNearItsSide : Type 0
 RoundsNearItsSide =
-    (r : Ray) (e : Edge) (t : Frac) → IsFraction t → (pos 0 ≤ℤ exact_value r e t → NearRight r (point_at e t)) × (exact_value r e t ≤ℤ pos 0 → NearLeft r (point_at e t))
+    (r : Ray) (e : Edge) (t : Frac) → IsFraction t →
+    (pos 0 ≤ℤ exact_value r e t → NearRight r (point_at e t)) ×
+    (exact_value r e t ≤ℤ pos 0 → NearLeft r (point_at e t))
 
 -- ---- points of one line
 -- along a line the steps to the rounded points never fall
 abbrev pub StepsRise : Type 0
 StepsRise =
-    (e : Edge) (s t : Frac) → IsFraction s → IsFraction t → AtMost s t → steps_between e.v1 (point_at e s) ≤ steps_between e.v1 (point_at e t)
+    (e : Edge) (s t : Frac) → IsFraction s → IsFraction t → AtMost s t →
+    steps_between e.v1 (point_at e s) ≤ steps_between e.v1 (point_at e t)
 
 -- rounded points at equal steps are one point
 abbrev pub EqualStepsAreOnePoint : Type 0
 EqualStepsAreOnePoint =
-    (e : Edge) (s t : Frac) → IsFraction s → IsFraction t → steps_between e.v1 (point_at e s) ≡ steps_between e.v1 (point_at e t) → point_at e s ≡ point_at e t
+    (e : Edge) (s t : Frac) → IsFraction s → IsFraction t →
+    steps_between e.v1 (point_at e s) ≡ steps_between e.v1 (point_at e t) → point_at e s ≡ point_at e t
 
 -- ---- division
 -- a piece's parts lie exactly in their half-planes and keep its cover
 abbrev pub PartsKeepTheirPiece : Type 0
 PartsKeepTheirPiece =
-    (lines : List Edge) (partition p : Piece) → All IsLine lines → IsPiece lines partition → IsPiece lines p → IsDivided lines partition p (parts_of lines partition p)
+    (lines : List Edge) (partition p : Piece) → All IsLine lines → IsPiece lines partition → IsPiece lines p →
+    IsDivided lines partition p (parts_of lines partition p)
 
--- ---- trees, over every list of pieces and each tree of it with no line used above
+-- ---- trees
 -- the pieces of the leaves cover what the list covers
 abbrev pub TreesKeepCover : Type 0
 TreesKeepCover =
-    (lines : List Edge) (ps : List Piece) (t : Tree) → All IsLine lines → All (IsPiece lines) ps → Divides lines ps (unused lines) t →
+    (lines : List Edge) (ps : List Piece) (t : Tree) → IsTreeOf lines ps t →
     (line : ℕ) (side : Facing) (k : ℕ) → cover lines line side k (pieces t) ≡ cover lines line side k ps
 
 -- each leaf is convex to within rounding
 abbrev pub LeavesAreConvex : Type 0
 LeavesAreConvex =
-    (lines : List Edge) (ps : List Piece) (t : Tree) → All IsLine lines → All (IsPiece lines) ps → Divides lines ps (unused lines) t →
-    All (IsConvex lines) (leaves t)
+    (lines : List Edge) (ps : List Piece) (t : Tree) → IsTreeOf lines ps t → All (IsConvex lines) (leaves t)
 
--- at each branch the pieces on its right lie exactly on the right of its partition, those on its left on the left
+-- each branch parts the pieces below it
 abbrev pub BranchesPart : Type 0
-BranchesPart =
-    (lines : List Edge) (ps : List Piece) (t : Tree) → All IsLine lines → All (IsPiece lines) ps → Divides lines ps (unused lines) t →
-    IsParted lines t
+BranchesPart = (lines : List Edge) (ps : List Piece) (t : Tree) → IsTreeOf lines ps t → IsParted lines t

@@ -11,11 +11,15 @@ use Rattle.lv_segs.specs.Fractions.{IsFraction, IsBelow, point_at, step_within}
 
 -- what stands for a line that the list doesn't have
 abbrev pub no_edge : Edge
-no_edge = let origin : Vertex = record { x = pos 0; y = pos 0 } in record { v1 = origin; v2 = origin; two_sided = false }
+no_edge = let origin : Vertex = record { x = pos 0; y = pos 0 } in record { v1 = origin; v2 = origin; has_left = false }
+
+-- the line of this number
+abbrev pub edge_at : List Edge → ℕ → Edge
+edge_at lines line = slice_index_or lines line no_edge
 
 -- the whole line of a piece
 abbrev pub edge_of : List Edge → Piece → Edge
-edge_of lines p = slice_index_or lines p.line no_edge
+edge_of lines p = edge_at lines p.line
 
 -- that line in the piece's direction
 abbrev pub ray_of : List Edge → Piece → Ray
@@ -49,7 +53,8 @@ same_side Against Against = true
 -- the piece covers the step k of a side of a line
 abbrev pub covers : List Edge → ℕ → Facing → ℕ → Piece → Bool
 covers lines line side k p =
-    nat_eq p.line line && same_side p.side side && step_within (edge_of lines p) (first_end lines p) (last_end lines p) k
+    nat_eq p.line line && same_side p.side side &&
+    step_within (edge_of lines p) (first_end lines p) (last_end lines p) k
 
 -- how many pieces of a list cover it
 abbrev pub cover : List Edge → ℕ → Facing → ℕ → List Piece → ℕ

@@ -10,7 +10,7 @@ use Rattle.lv_segs.specs.declared.edge.Facing.TheVariants.{Along, Against}
 use Rattle.lv_segs.specs.declared.frac.Frac.{Frac}
 use Rattle.lv_segs.specs.Plane.{ray, LiesOn, RunsWith, RunsAgainst, NearRight, NearLeft}
 use Rattle.lv_segs.specs.Fractions.{IsFraction, point_at, steps_between, step_within}
-use Rattle.lv_segs.specs.Pieces.{no_edge}
+use Rattle.lv_segs.specs.Pieces.{edge_at}
 use Rattle.lv_segs.specs.Angle.{IsAngle}
 use Rattle.lv_segs.specs.Offset.{IsOffset}
 
@@ -28,7 +28,7 @@ InSub sub i = (sub.first ≤ i) × (i < sub.first + sub.count)
 module _ (lines : List Edge) (vertices : List Vertex) where
   -- the whole line of a seg, and the same in the seg's direction
   abbrev pub seg_edge : Seg → Edge
-  seg_edge s = slice_index_or lines s.line no_edge
+  seg_edge s = edge_at lines s.line
 
   abbrev pub seg_ray : Seg → Ray
   seg_ray s = ray (seg_edge s) (side_of s.side)
@@ -52,15 +52,21 @@ module _ (lines : List Edge) (vertices : List Vertex) where
   abbrev pub IsPointOf : Edge → Vertex → Type 0
   IsPointOf e v = (t : Frac) × IsFraction t × (v ≡ point_at e t)
 
-  -- exactly one seg covers each step of each side present; segs run between rounded points of their lines;
+  -- there is such a line, and it has the step k
+  abbrev pub HasStep : ℕ → ℕ → Type 0
+  HasStep line k = (line < length lines) × (k < steps_between (edge_at lines line).v1 (edge_at lines line).v2)
+
+  -- exactly one seg covers each step of each side; segs run between different rounded points of their lines;
   -- no two vertices have one place
   pub record RunAlong (segs : List Seg) : Type 0 where
-    pub right : (line k : ℕ) → line < length lines → let e = slice_index_or lines line no_edge in k < steps_between e.v1 e.v2 → count_by (seg_covers line 0 k) segs ≡ 1
-    pub left : (line k : ℕ) → line < length lines → let e = slice_index_or lines line no_edge in IsTrue e.two_sided → k < steps_between e.v1 e.v2 → count_by (seg_covers line 1 k) segs ≡ 1
+    pub right : (line k : ℕ) → HasStep line k → count_by (seg_covers line 0 k) segs ≡ 1
+    pub left : (line k : ℕ) → HasStep line k → IsTrue (edge_at lines line).has_left →
+        count_by (seg_covers line 1 k) segs ≡ 1
     pub first : All (λ s. IsPointOf (seg_edge s) (first_place s)) segs
     pub second : All (λ s. IsPointOf (seg_edge s) (second_place s)) segs
     pub ends_differ : All (λ s. first_place s ≢ second_place s) segs
-    pub places_differ : (i j : ℕ) (v : Vertex) → slice_get vertices i ≡ Some v → slice_get vertices j ≡ Some v → i ≡ j
+    pub places_differ : (i j : ℕ) (v : Vertex) →
+        slice_get vertices i ≡ Some v → slice_get vertices j ≡ Some v → i ≡ j
 
   -- ---- fields
   -- the angle of the seg's direction, and the distance of its first place from where its side starts
@@ -84,4 +90,5 @@ module _ (lines : List Edge) (vertices : List Vertex) where
   -- each seg of the subsector lies on the right of each
   abbrev pub IsConvexSub : List Seg → Sub → Type 0
   IsConvexSub segs sub =
-      (i j : ℕ) (s t : Seg) → InSub sub i → InSub sub j → slice_get segs i ≡ Some s → slice_get segs j ≡ Some t → SegLiesRight (seg_ray s) t
+      (i j : ℕ) (s t : Seg) → InSub sub i → InSub sub j →
+      slice_get segs i ≡ Some s → slice_get segs j ≡ Some t → SegLiesRight (seg_ray s) t

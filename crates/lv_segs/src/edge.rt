@@ -1,12 +1,12 @@
 use lv_lumps::Vertex;
 
 /// A line of a map with the places of its ends, drawn from `v1` to `v2`. Its right side is on the
-/// right of that direction; it has a left side too where it is two-sided.
+/// right of that direction, and there may be a left side too.
 #[derive(Clone, Copy, Debug)]
 pub struct Edge {
     pub v1: Vertex,
     pub v2: Vertex,
-    pub two_sided: bool,
+    pub has_left: bool,
 }
 
 /// A side of a line by the direction in which its segs run: `Along` the line for the right side,

@@ -1,7 +1,7 @@
 use Rattle.std.proofs.Common.{arith, ◌≡◌, ap, sym, ◌∙◌, rules}
 use Rattle.std.proofs.lemmas.Int.{ints, to_z-of_z}
 use Rattle.std.specs.Prelude.{ℤ, pos, neg_ℤ, ◌+ℤ◌, ◌≤ℤ◌, FitsSigned}
-use Rattle.std.specs.Int.{w64, w128, w16}
+use Rattle.std.specs.Int.{w64, w16}
 use Rattle.lv_segs.specs.Fractions.{rounded}
 use Rattle.lv_segs.proofs.Rounding.{rounded_is, rounded_in}
 use Rattle.lv_segs.proofs.points.coordinate.Goals as goal
@@ -14,20 +14,12 @@ sum_is c =
     let f = c.requires.fraction in
     let e = rounded_is c.args.from c.args.to t in
     let r = rounded_in (neg_ℤ (pos 16384)) (pos 16383) c.args.from c.args.to t f.positive f.at_least_zero f.at_most_one c.requires.from_low c.requires.to_low c.requires.from_high c.requires.to_high in
-    let fn : FitsSigned w128 t.n = omega (arith, ints) in
-    let en = to_z-of_z w128 t.n fn in
-    let fn' : FitsSigned w64 t.n = omega (arith, ints) in
-    let en' = to_z-of_z w64 t.n fn' in
-    let fd : FitsSigned w128 t.d = omega (arith, ints) in
-    let ed = to_z-of_z w128 t.d fd in
-    let fd' : FitsSigned w64 t.d = omega (arith, ints) in
-    let ed' = to_z-of_z w64 t.d fd' in
     let fw : FitsSigned w64 c.difference-way.result = search rules in
     let ew = to_z-of_z w64 c.difference-way.result fw in
     let ea = to_z-of_z w16 c.args.from c.ranges.from in
     let eb = to_z-of_z w16 c.args.to c.ranges.to in
     let w = simp (ea, eb) at c.difference-way.ensures in
-    let s' = simp (en, en', ed, ed', ew) at c.steps_along-steps.ensures in
+    let s' = simp ew at c.steps_along-steps.ensures in
     let s = simp w at s' in
     (ap (λ (x : ℤ). c.args.from +ℤ x) s ∙ sym e, r.0, r.1)
 
