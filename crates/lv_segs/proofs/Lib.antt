@@ -3,6 +3,7 @@ pub mod Crossing
 pub mod Lengths
 pub mod Placing
 pub mod Division
+pub mod Choice
 pub mod Convex
 pub mod Trees
 pub mod Turns

@@ -1,5 +1,5 @@
 -- The laws of exact geometry on which the node builder rests.
-use Rattle.std.specs.Prelude.{◌≡◌, ℕ, ◌≤◌, List, All, ℤ, pos, neg_ℤ, ◌≤ℤ◌, ◌<ℤ◌}
+use Rattle.std.specs.Prelude.{◌≡◌, ℕ, ◌≤◌, Bool, List, All, ℤ, pos, neg_ℤ, ◌≤ℤ◌, ◌<ℤ◌}
 use Rattle.lv_segs.specs.declared.edge.Edge.{Edge}
 use Rattle.lv_segs.specs.declared.edge.Ray.{Ray}
 use Rattle.lv_segs.specs.declared.edge.Facing.{Facing}
@@ -9,7 +9,7 @@ use Rattle.lv_segs.specs.Plane.{IsLine, NearRight, NearLeft}
 use Rattle.lv_segs.specs.Fractions.{IsFraction, AtMost, exact_value, twice_error, point_at, steps_between}
 use Rattle.lv_segs.specs.Pieces.{IsPiece, cover}
 use Rattle.lv_segs.specs.Division.{parts_of, IsDivided}
-use Rattle.lv_segs.specs.Tree.{Tree, IsTreeOf, leaves, pieces, IsParted}
+use Rattle.lv_segs.specs.Tree.{Tree, Divides, IsTreeOf, leaves, pieces, IsParted}
 use Rattle.lv_segs.specs.Convex.{IsConvex}
 
 -- ---- rounding
@@ -47,6 +47,16 @@ PartsKeepTheirPiece =
     IsDivided lines partition p (parts_of lines partition p)
 
 -- ---- trees
+-- each list of pieces has a tree, whatever lines are used above
+abbrev pub EachListHasATree : Type 0
+EachListHasATree = (lines : List Edge) (ps : List Piece) (used : List Bool) → (t : Tree) × Divides lines ps used t
+
+-- and no list has two
+abbrev pub NoListHasTwoTrees : Type 0
+NoListHasTwoTrees =
+    (lines : List Edge) (ps : List Piece) (used : List Bool) (t u : Tree) →
+    Divides lines ps used t → Divides lines ps used u → t ≡ u
+
 -- the pieces of the leaves cover what the list covers
 abbrev pub TreesKeepCover : Type 0
 TreesKeepCover =
