@@ -11,8 +11,8 @@ use Rattle.lv_segs.specs.declared.piece.Place.{Place}
 use Rattle.lv_segs.specs.declared.piece.Place.TheVariants.{Right, Left, Across}
 use Rattle.lv_segs.specs.declared.edge.Facing.{Facing}
 use Rattle.lv_segs.specs.declared.edge.Facing.TheVariants.{Along, Against}
-use Rattle.lv_segs.specs.declared.edge.Ray.{Ray}
-use Rattle.lv_segs.specs.Plane.{ray, side_value, LiesOn, dot, NearRight}
+use Rattle.lv_lumps.specs.declared.plane.Ray.{Ray}
+use Rattle.lv_segs.specs.Plane.{ray, vertex_value, LiesOn, dot, NearRight}
 use Rattle.lv_segs.specs.Fractions.{exact_value, between, crossing, point_at}
 use Rattle.lv_segs.specs.Pieces.{edge_of, ray_of, first_end, last_end, same_place, IsPiece, no_edge}
 use Rattle.lv_segs.specs.Division.{place_of, kept, parts_by, parts_of, LiesInRight, LiesInLeft}
@@ -26,14 +26,14 @@ use Rattle.lv_segs.proofs.Lengths.{square_not_negative}
 use Rattle.lv_segs.proofs.Division.{same_vertex_is}
 
 -- ---- a line and the same line turned round
-turned_value : (e : Edge) (v : Vertex) → side_value (ray e Against) v ≡ neg_ℤ (side_value (ray e Along) v)
+turned_value : (e : Edge) (v : Vertex) → vertex_value (ray e Against) v ≡ neg_ℤ (vertex_value (ray e Along) v)
 turned_value e v = by_ring (e.v1.x ∷ e.v1.y ∷ e.v2.x ∷ e.v2.y ∷ v.x ∷ v.y ∷ []) _ _ (search quotes depth 30 fits 20000) (search quotes depth 30 fits 20000) tt
 
 pub turned_exact : (e e' : Edge) (t : Frac) → exact_value (ray e Against) e' t ≡ neg_ℤ (exact_value (ray e Along) e' t)
 turned_exact e e' t =
-    ap (λ (x : ℤ). between x (side_value (ray e Against) e'.v2) t) (turned_value e e'.v1)
-    ∙ ap (λ (x : ℤ). between (neg_ℤ (side_value (ray e Along) e'.v1)) x t) (turned_value e e'.v2)
-    ∙ negated (side_value (ray e Along) e'.v1) (side_value (ray e Along) e'.v2) t.n t.d
+    ap (λ (x : ℤ). between x (vertex_value (ray e Against) e'.v2) t) (turned_value e e'.v1)
+    ∙ ap (λ (x : ℤ). between (neg_ℤ (vertex_value (ray e Along) e'.v1)) x t) (turned_value e e'.v2)
+    ∙ negated (vertex_value (ray e Along) e'.v1) (vertex_value (ray e Along) e'.v2) t.n t.d
   where
     negated : (a b n d : ℤ) → (d -ℤ n) *ℤ neg_ℤ a +ℤ n *ℤ neg_ℤ b ≡ neg_ℤ ((d -ℤ n) *ℤ a +ℤ n *ℤ b)
     negated a b n d = by_ring (a ∷ b ∷ n ∷ d ∷ []) _ _ (search quotes depth 30 fits 20000) (search quotes depth 30 fits 20000) tt
@@ -114,12 +114,12 @@ none_same lines p e = by_test (same_place (first_end lines p) (last_end lines p)
 
 module _ (lines : List Edge) (p q : Piece) (ok : IsPiece lines q) where
   zero_on : (t : Frac) → LiesOn (ray_of lines p) (edge_of lines q) → exact_value (ray_of lines p) (edge_of lines q) t ≡ pos 0
-  zero_on t on = ap (λ (x : ℤ). between x (side_value (ray_of lines p) (edge_of lines q).v2) t) on.0 ∙ ap (λ (x : ℤ). between (pos 0) x t) on.1 ∙ zero_everywhere t
+  zero_on t on = ap (λ (x : ℤ). between x (vertex_value (ray_of lines p) (edge_of lines q).v2) t) on.0 ∙ ap (λ (x : ℤ). between (pos 0) x t) on.1 ∙ zero_everywhere t
 
   -- the crossing itself is near the ray
   near_crossing : pos 1 ≤ℤ (crossing (ray_of lines p) (edge_of lines q)).d → NearRight (ray_of lines p) (point_at (edge_of lines q) (crossing (ray_of lines p) (edge_of lines q)))
   near_crossing h =
-      let z = zero_there (side_value (ray_of lines p) (edge_of lines q).v1) (side_value (ray_of lines p) (edge_of lines q).v2) in
+      let z = zero_there (vertex_value (ray_of lines p) (edge_of lines q).v1) (vertex_value (ray_of lines p) (edge_of lines q).v2) in
       near_right (ray_of lines p) (edge_of lines q) (crossing (ray_of lines p) (edge_of lines q)) h (omega (arith, linear))
 
   down : (pos 0 <ℤ exact_value (ray_of lines p) (edge_of lines q) q.from) × (exact_value (ray_of lines p) (edge_of lines q) q.to <ℤ pos 0) → (parts_by lines p q Across).left ≡ None → LiesRight lines p q
@@ -129,7 +129,7 @@ module _ (lines : List Edge) (p q : Piece) (ok : IsPiece lines q) where
       by_test false e k = absurd (let h = m.0 in omega (arith, ints))
       by_test true e k =
           let r = ray_of lines p in
-          let x = crossing_down (side_value r (edge_of lines q).v1) (side_value r (edge_of lines q).v2) q.from q.to ok.from_in.positive ok.to_in.positive ok.rising m.0 m.1 in
+          let x = crossing_down (vertex_value r (edge_of lines q).v1) (vertex_value r (edge_of lines q).v2) q.from q.to ok.from_in.positive ok.to_in.positive ok.rising m.0 m.1 in
           let s = none_same lines (record q { from = crossing r (edge_of lines q) }) k in
           let h = m.0 in
           record {
@@ -145,7 +145,7 @@ module _ (lines : List Edge) (p q : Piece) (ok : IsPiece lines q) where
       by_test true e k = absurd (let h = m.0 in omega (arith, ints))
       by_test false e k =
           let r = ray_of lines p in
-          let x = crossing_up (side_value r (edge_of lines q).v1) (side_value r (edge_of lines q).v2) q.from q.to ok.from_in.positive ok.to_in.positive ok.rising m.0 m.1 in
+          let x = crossing_up (vertex_value r (edge_of lines q).v1) (vertex_value r (edge_of lines q).v2) q.from q.to ok.from_in.positive ok.to_in.positive ok.rising m.0 m.1 in
           let s = none_same lines (record q { to = crossing r (edge_of lines q) }) k in
           let h = m.1 in
           record {

@@ -11,8 +11,8 @@ use Rattle.lv_segs.specs.declared.piece.Piece.{Piece}
 use Rattle.lv_segs.specs.declared.piece.Place.{Place}
 use Rattle.lv_segs.specs.declared.piece.Place.TheVariants.{Right, Left, Across}
 use Rattle.lv_segs.specs.declared.edge.Facing.{Facing}
-use Rattle.lv_segs.specs.declared.edge.Ray.{Ray}
-use Rattle.lv_segs.specs.Plane.{side_value, LiesOn, dot, IsLine}
+use Rattle.lv_lumps.specs.declared.plane.Ray.{Ray}
+use Rattle.lv_segs.specs.Plane.{vertex_value, LiesOn, dot, IsLine}
 use Rattle.lv_segs.specs.Fractions.{exact_value, between, crossing, IsFraction, AtMost, point_at, steps_between, step_within}
 use Rattle.lv_segs.specs.Pieces.{edge_of, ray_of, first_end, last_end, same_place, IsPiece, covers, cover, same_side}
 use Rattle.lv_segs.specs.Division.{place_of, kept, parts_by, parts_of, IsPartOf, IsDivided}
@@ -81,7 +81,7 @@ kept_if lines p P h = by_test (same_place (first_end lines p) (last_end lines p)
 crossing_small : (r : Ray) (e : Edge) → dot r r ≤ℤ pos 1073676289 → IsLine e → (crossing r e).d ≤ℤ pos 1073676289
 crossing_small r e h l =
     let n = side_values_near r e h l in
-    by_lt_z (side_value r e.v1) (side_value r e.v2)
+    by_lt_z (vertex_value r e.v1) (vertex_value r e.v2)
     (λ k. subst (λ (c : Frac). c.d ≤ℤ pos 1073676289) (sym (zero_rising _ _ k)) n.1)
     (λ k. subst (λ (c : Frac). c.d ≤ℤ pos 1073676289) (sym (zero_falling _ _ k)) n.0)
 
@@ -97,7 +97,7 @@ module _ (lines : List Edge) (partition p : Piece) (may : MayDivide lines partit
   whole = record { piece = may.piece; line = refl; side = refl; from = at_most_self p.from; to = at_most_self p.to }
 
   on_it : (t : Frac) → LiesOn (ray_of lines partition) (edge_of lines p) → exact_value (ray_of lines partition) (edge_of lines p) t ≡ pos 0
-  on_it t on = ap (λ (x : ℤ). between x (side_value (ray_of lines partition) (edge_of lines p).v2) t) on.0 ∙ ap (λ (x : ℤ). between (pos 0) x t) on.1 ∙ zero_everywhere t
+  on_it t on = ap (λ (x : ℤ). between x (vertex_value (ray_of lines partition) (edge_of lines p).v2) t) on.0 ∙ ap (λ (x : ℤ). between (pos 0) x t) on.1 ∙ zero_everywhere t
 
   cut : (c : Frac) → IsFraction c → IsCrossing p.from c p.to → (same_place (first_end lines (record p { to = c })) (last_end lines (record p { to = c })) ≡ false → IsPartOf lines p (record p { to = c })) × (same_place (first_end lines (record p { from = c })) (last_end lines (record p { from = c })) ≡ false → IsPartOf lines p (record p { from = c }))
   cut c frac k =
@@ -136,8 +136,8 @@ module _ (lines : List Edge) (partition p : Piece) (may : MayDivide lines partit
       by_test false e = absurd (let h = m.0 in omega (arith, ints))
       by_test true e =
           let r = ray_of lines partition in
-          let a = side_value r (edge_of lines p).v1 in
-          let b = side_value r (edge_of lines p).v2 in
+          let a = vertex_value r (edge_of lines p).v1 in
+          let b = vertex_value r (edge_of lines p).v2 in
           let c = crossing r (edge_of lines p) in
           let down = m.0 in
           let after = m.1 in
@@ -157,8 +157,8 @@ module _ (lines : List Edge) (partition p : Piece) (may : MayDivide lines partit
       by_test true e = absurd (let h = m.0 in omega (arith, ints))
       by_test false e =
           let r = ray_of lines partition in
-          let a = side_value r (edge_of lines p).v1 in
-          let b = side_value r (edge_of lines p).v2 in
+          let a = vertex_value r (edge_of lines p).v1 in
+          let b = vertex_value r (edge_of lines p).v2 in
           let c = crossing r (edge_of lines p) in
           let down = m.0 in
           let after = m.1 in

@@ -5,8 +5,8 @@ use Rattle.std.specs.Prelude.{ℤ, pos, negsuc, ◌+ℤ◌, ◌-ℤ◌, ◌*ℤ�
 use Rattle.lv_segs.specs.declared.edge.Edge.{Edge}
 use Rattle.lv_segs.specs.declared.edge.Facing.{Facing}
 use Rattle.lv_segs.specs.declared.edge.Facing.TheVariants.{Along, Against}
-use Rattle.lv_segs.specs.declared.edge.Ray.{Ray}
-use Rattle.lv_segs.specs.Plane.{ray, side_value, LiesOn, dot, IsLine}
+use Rattle.lv_lumps.specs.declared.plane.Ray.{Ray}
+use Rattle.lv_segs.specs.Plane.{ray, vertex_value, LiesOn, dot, IsLine}
 use Rattle.lv_lumps.proofs.Ring.{by_ring, quotes}
 use Rattle.lv_lumps.proofs.Signs.{linear, times_at_most, times_below, product_positive}
 
@@ -51,11 +51,11 @@ pub ray_along : (e : Edge) (f : Facing) → dot (ray e f) (ray e f) ≡ dot (ray
 ray_along e Along = refl
 ray_along e Against = by_ring (e.v1.x ∷ e.v1.y ∷ e.v2.x ∷ e.v2.y ∷ []) _ _ (search quotes depth 30 fits 20000) (search quotes depth 30 fits 20000) tt
 
-cross_is : (r : Ray) (e : Edge) → side_value r e.v1 -ℤ side_value r e.v2 ≡ r.dx *ℤ (ray e Along).dy -ℤ r.dy *ℤ (ray e Along).dx
+cross_is : (r : Ray) (e : Edge) → vertex_value r e.v1 -ℤ vertex_value r e.v2 ≡ r.dx *ℤ (ray e Along).dy -ℤ r.dy *ℤ (ray e Along).dx
 cross_is r e = by_ring (r.dx ∷ r.dy ∷ r.start.x ∷ r.start.y ∷ e.v1.x ∷ e.v1.y ∷ e.v2.x ∷ e.v2.y ∷ []) _ _ (search quotes depth 40 fits 40000) (search quotes depth 40 fits 40000) tt
 
 -- the side values of a line's ends differ by at most the square of the greatest length
-pub side_values_near : (r : Ray) (e : Edge) → dot r r ≤ℤ pos 1073676289 → IsLine e → ((side_value r e.v1 -ℤ side_value r e.v2) ≤ℤ pos 1073676289) × ((side_value r e.v2 -ℤ side_value r e.v1) ≤ℤ pos 1073676289)
+pub side_values_near : (r : Ray) (e : Edge) → dot r r ≤ℤ pos 1073676289 → IsLine e → ((vertex_value r e.v1 -ℤ vertex_value r e.v2) ≤ℤ pos 1073676289) × ((vertex_value r e.v2 -ℤ vertex_value r e.v1) ≤ℤ pos 1073676289)
 side_values_near r e h l =
     let E = ray e Along in
     let c = cross_is r e in

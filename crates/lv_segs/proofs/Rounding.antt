@@ -6,8 +6,8 @@ use Rattle.std.specs.Int.{int_div_euclid}
 use Rattle.std.proofs.Math.IntN.{*ℤ_comm}
 use Rattle.lv_segs.specs.declared.edge.Edge.{Edge}
 use Rattle.lv_segs.specs.declared.frac.Frac.{Frac}
-use Rattle.lv_segs.specs.declared.edge.Ray.{Ray}
-use Rattle.lv_segs.specs.Plane.{side_value, blur, NearRight, NearLeft}
+use Rattle.lv_lumps.specs.declared.plane.Ray.{Ray}
+use Rattle.lv_segs.specs.Plane.{vertex_value, blur, NearRight, NearLeft}
 use Rattle.lv_segs.specs.Fractions.{IsFraction, exact_value, AtMost, rounded, twice_error, point_at, steps_between}
 use Rattle.lv_lumps.proofs.Ring.{by_ring, quotes}
 use Rattle.lv_lumps.proofs.Signs.{linear, IsFloor, floor_is, floor_rises, times_at_most, times_negative, factor_at_most, times_neg, neg_times, times_sum, zero_product}
@@ -46,7 +46,7 @@ within_product (negsuc c) u d l h =
     let k = neg_times (pos (suc c)) u in
     (omega (arith, linear), omega (arith, linear))
 
-pub blurred : (r : Ray) (e : Edge) (t : Frac) → pos 1 ≤ℤ t.d → (neg_ℤ (t.d *ℤ pos (blur r)) ≤ℤ (pos 2 *ℤ (t.d *ℤ side_value r (point_at e t) -ℤ exact_value r e t))) × ((pos 2 *ℤ (t.d *ℤ side_value r (point_at e t) -ℤ exact_value r e t)) ≤ℤ (t.d *ℤ pos (blur r)))
+pub blurred : (r : Ray) (e : Edge) (t : Frac) → pos 1 ≤ℤ t.d → (neg_ℤ (t.d *ℤ pos (blur r)) ≤ℤ (pos 2 *ℤ (t.d *ℤ vertex_value r (point_at e t) -ℤ exact_value r e t))) × ((pos 2 *ℤ (t.d *ℤ vertex_value r (point_at e t) -ℤ exact_value r e t)) ≤ℤ (t.d *ℤ pos (blur r)))
 blurred r e t h =
     let X = rounded e.v1.x e.v2.x t in
     let Y = rounded e.v1.y e.v2.y t in
@@ -54,7 +54,7 @@ blurred r e t h =
     let v = error_bounds e.v1.y e.v2.y t h in
     let p = within_product r.dy (twice_error e.v1.x e.v2.x t) t.d (omega (arith, linear)) u.1 in
     let q = within_product r.dx (twice_error e.v1.y e.v2.y t) t.d (omega (arith, linear)) v.1 in
-    let k : pos 2 *ℤ (t.d *ℤ side_value r (point_at e t) -ℤ exact_value r e t) ≡ r.dy *ℤ twice_error e.v1.x e.v2.x t -ℤ r.dx *ℤ twice_error e.v1.y e.v2.y t =
+    let k : pos 2 *ℤ (t.d *ℤ vertex_value r (point_at e t) -ℤ exact_value r e t) ≡ r.dy *ℤ twice_error e.v1.x e.v2.x t -ℤ r.dx *ℤ twice_error e.v1.y e.v2.y t =
     by_ring (X ∷ Y ∷ t.n ∷ t.d ∷ r.dx ∷ r.dy ∷ r.start.x ∷ r.start.y ∷ e.v1.x ∷ e.v1.y ∷ e.v2.x ∷ e.v2.y ∷ []) _ _ (search quotes depth 40 fits 60000) (search quotes depth 40 fits 60000) tt in
     let m : t.d *ℤ pos (blur r) ≡ pos (unsigned_abs r.dx) *ℤ t.d +ℤ pos (unsigned_abs r.dy) *ℤ t.d = times_sum t.d (pos (unsigned_abs r.dx)) (pos (unsigned_abs r.dy)) in
     (omega (arith, linear), omega (arith, linear))
@@ -63,16 +63,16 @@ pub near_right : (r : Ray) (e : Edge) (t : Frac) → pos 1 ≤ℤ t.d → pos 0 
 near_right r e t h k =
     let b = blurred r e t h in
     let E = exact_value r e t in
-    let s : pos 2 *ℤ (t.d *ℤ side_value r (point_at e t) -ℤ E) ≡ t.d *ℤ (pos 2 *ℤ side_value r (point_at e t)) -ℤ (E +ℤ E) = by_ring (t.d ∷ side_value r (point_at e t) ∷ E ∷ []) _ _ (search quotes depth 20) (search quotes depth 20) tt in
+    let s : pos 2 *ℤ (t.d *ℤ vertex_value r (point_at e t) -ℤ E) ≡ t.d *ℤ (pos 2 *ℤ vertex_value r (point_at e t)) -ℤ (E +ℤ E) = by_ring (t.d ∷ vertex_value r (point_at e t) ∷ E ∷ []) _ _ (search quotes depth 20) (search quotes depth 20) tt in
     let m = times_neg t.d (pos (blur r)) in
-    factor_at_most t.d (neg_ℤ (pos (blur r))) (pos 2 *ℤ side_value r (point_at e t)) (omega (arith, linear)) (omega (arith, linear))
+    factor_at_most t.d (neg_ℤ (pos (blur r))) (pos 2 *ℤ vertex_value r (point_at e t)) (omega (arith, linear)) (omega (arith, linear))
 
 pub near_left : (r : Ray) (e : Edge) (t : Frac) → pos 1 ≤ℤ t.d → exact_value r e t ≤ℤ pos 0 → NearLeft r (point_at e t)
 near_left r e t h k =
     let b = blurred r e t h in
     let E = exact_value r e t in
-    let s : pos 2 *ℤ (t.d *ℤ side_value r (point_at e t) -ℤ E) ≡ t.d *ℤ (pos 2 *ℤ side_value r (point_at e t)) -ℤ (E +ℤ E) = by_ring (t.d ∷ side_value r (point_at e t) ∷ E ∷ []) _ _ (search quotes depth 20) (search quotes depth 20) tt in
-    factor_at_most t.d (pos 2 *ℤ side_value r (point_at e t)) (pos (blur r)) (omega (arith, linear)) (omega (arith, linear))
+    let s : pos 2 *ℤ (t.d *ℤ vertex_value r (point_at e t) -ℤ E) ≡ t.d *ℤ (pos 2 *ℤ vertex_value r (point_at e t)) -ℤ (E +ℤ E) = by_ring (t.d ∷ vertex_value r (point_at e t) ∷ E ∷ []) _ _ (search quotes depth 20) (search quotes depth 20) tt in
+    factor_at_most t.d (pos 2 *ℤ vertex_value r (point_at e t)) (pos (blur r)) (omega (arith, linear)) (omega (arith, linear))
 
 -- ---- the order of rounded points
 pub rounded_rises : (a b : ℤ) (s t : Frac) → pos 1 ≤ℤ s.d → pos 1 ≤ℤ t.d → a ≤ℤ b → AtMost s t → rounded a b s ≤ℤ rounded a b t

@@ -10,7 +10,7 @@ use Rattle.lv_segs.specs.declared.edge.Edge.{Edge}
 use Rattle.lv_segs.specs.declared.frac.Frac.{Frac}
 use Rattle.lv_segs.specs.declared.piece.Piece.{Piece}
 use Rattle.lv_segs.specs.declared.edge.Facing.{Facing}
-use Rattle.lv_segs.specs.Plane.{ray, side_value, LiesOn, dot, IsLine}
+use Rattle.lv_segs.specs.Plane.{ray, vertex_value, LiesOn, dot, IsLine}
 use Rattle.lv_segs.specs.Fractions.{exact_value, AtMost}
 use Rattle.lv_segs.specs.Pieces.{no_edge, edge_of, ray_of, IsPiece, covers, cover}
 use Rattle.lv_segs.specs.Division.{parts_of, IsPartOf, LiesInRight, LiesInLeft, IsDivided, right_parts, left_parts}
@@ -76,8 +76,8 @@ module _ (lines : List Edge) (h p q : Piece) (ok : IsPiece lines p) (part : IsPa
 
   pub part_right : LiesInRight lines h p → LiesInRight lines h q
   part_right l =
-      let a = side_value (ray_of lines h) (edge_of lines p).v1 in
-      let b = side_value (ray_of lines h) (edge_of lines p).v2 in
+      let a = vertex_value (ray_of lines h) (edge_of lines p).v1 in
+      let b = vertex_value (ray_of lines h) (edge_of lines p).v2 in
       let x = inside a b p.from q.from p.to ok.from_in.positive part.piece.from_in.positive ok.to_in.positive order.0 order.1 l.from l.to in
       let y = inside a b p.from q.to p.to ok.from_in.positive part.piece.to_in.positive ok.to_in.positive order.2 order.3 l.from l.to in
       record {
@@ -88,8 +88,8 @@ module _ (lines : List Edge) (h p q : Piece) (ok : IsPiece lines p) (part : IsPa
 
   pub part_left : LiesInLeft lines h p → LiesInLeft lines h q
   part_left l =
-      let a = side_value (ray_of lines h) (edge_of lines p).v1 in
-      let b = side_value (ray_of lines h) (edge_of lines p).v2 in
+      let a = vertex_value (ray_of lines h) (edge_of lines p).v1 in
+      let b = vertex_value (ray_of lines h) (edge_of lines p).v2 in
       let x = inside_left a b p.from q.from p.to ok.from_in.positive part.piece.from_in.positive ok.to_in.positive order.0 order.1 l.from l.to in
       let y = inside_left a b p.from q.to p.to ok.from_in.positive part.piece.to_in.positive ok.to_in.positive order.2 order.3 l.from l.to in
       record {

@@ -3,9 +3,9 @@ use Rattle.std.specs.Prelude.{ℕ, ◌+◌, Bool, ◌&&◌, nat_le, nat_lt, ℤ,
 use Rattle.std.specs.Int.{int_div_euclid}
 use Rattle.lv_lumps.specs.declared.records.Vertex.{Vertex}
 use Rattle.lv_segs.specs.declared.edge.Edge.{Edge}
-use Rattle.lv_segs.specs.declared.edge.Ray.{Ray}
+use Rattle.lv_lumps.specs.declared.plane.Ray.{Ray}
 use Rattle.lv_segs.specs.declared.frac.Frac.{Frac}
-use Rattle.lv_segs.specs.Plane.{side_value}
+use Rattle.lv_segs.specs.Plane.{vertex_value}
 
 -- a fraction from 0 to 1 whose denominator is at most the square of the greatest length
 pub record IsFraction (t : Frac) : Type 0 where
@@ -28,7 +28,7 @@ between a b t = (t.d -ℤ t.n) *ℤ a +ℤ t.n *ℤ b
 
 -- the side value of the exact point n/d of a line, times d
 abbrev pub exact_value : Ray → Edge → Frac → ℤ
-exact_value r e t = between (side_value r e.v1) (side_value r e.v2) t
+exact_value r e t = between (vertex_value r e.v1) (vertex_value r e.v2) t
 
 abbrev pub fraction : ℤ → ℤ → Frac
 fraction n d = record { n = n; d = d }
@@ -39,7 +39,7 @@ zero_between a b = (if int_lt a b then fraction (neg_ℤ a) (b -ℤ a) else frac
 
 -- where a ray's straight line crosses a line
 abbrev pub crossing : Ray → Edge → Frac
-crossing r e = zero_between (side_value r e.v1) (side_value r e.v2)
+crossing r e = zero_between (vertex_value r e.v1) (vertex_value r e.v2)
 
 -- ---- rounded points
 -- the coordinate n/d of the way from a to b, rounded to the nearest whole number, and up from a half

@@ -2,7 +2,7 @@
 use Rattle.std.specs.Prelude.{◌≡◌, ℕ, ◌<◌, Bool, true, false, ◌&&◌, nat_eq, List, length, slice_index_or, count_by, pos, int_le}
 use Rattle.lv_lumps.specs.declared.records.Vertex.{Vertex}
 use Rattle.lv_segs.specs.declared.edge.Edge.{Edge}
-use Rattle.lv_segs.specs.declared.edge.Ray.{Ray}
+use Rattle.lv_lumps.specs.declared.plane.Ray.{Ray}
 use Rattle.lv_segs.specs.declared.edge.Facing.{Facing}
 use Rattle.lv_segs.specs.declared.edge.Facing.TheVariants.{Along, Against}
 use Rattle.lv_segs.specs.declared.piece.Piece.{Piece}

@@ -4,7 +4,7 @@ use Rattle.lv_lumps.specs.declared.records.Vertex.{Vertex}
 use Rattle.lv_lumps.specs.declared.records.Seg.{Seg}
 use Rattle.lv_lumps.specs.declared.records.Sub.{Sub}
 use Rattle.lv_segs.specs.declared.edge.Edge.{Edge}
-use Rattle.lv_segs.specs.declared.edge.Ray.{Ray}
+use Rattle.lv_lumps.specs.declared.plane.Ray.{Ray}
 use Rattle.lv_segs.specs.declared.edge.Facing.{Facing}
 use Rattle.lv_segs.specs.declared.edge.Facing.TheVariants.{Along, Against}
 use Rattle.lv_segs.specs.declared.frac.Frac.{Frac}

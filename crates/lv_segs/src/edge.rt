@@ -16,11 +16,3 @@ pub enum Facing {
     Along,
     Against,
 }
-
-/// A whole line in one of its two directions: where it starts, and its vector in map units.
-#[derive(Clone, Copy, Debug)]
-pub struct Ray {
-    pub start: Vertex,
-    pub dx: i32,
-    pub dy: i32,
-}

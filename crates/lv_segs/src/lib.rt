@@ -7,12 +7,11 @@ mod edge;
 mod frac;
 mod laws;
 mod piece;
-mod plane;
 mod points;
 
 pub use angle::angle16;
 pub use distance::offset;
-pub use edge::{Edge, Facing, Ray};
+pub use edge::{Edge, Facing};
 pub use frac::Frac;
 pub use laws::{
     parts_keep_their_piece, points_rise, points_round_to_nearest, trees_keep_their_list,

@@ -19,7 +19,7 @@ product_of z a b p q e =
     let f : FitsSigned w128 a = omega (arith, ints) in
     let g : FitsSigned w128 b = omega (arith, ints) in
     let is = rw (to_z-of_z w128 a f, to_z-of_z w128 b g) at e in
-    let size = long_product a b (record { low = p.0; high = p.1 }) (record { low = q.0; high = q.1 }) in
+    let size = long_product a b p q in
     record { is = is; low = omega (arith, ints); high = omega (arith, ints) }
 
 xx : (c : After-product-xy) → Product c.product-xx.result c.args.vector.x c.args.vector.x
