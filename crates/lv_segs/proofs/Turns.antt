@@ -8,7 +8,7 @@ use Rattle.std.specs.Int.{int_shr}
 use Rattle.lv_lumps.proofs.Ring.{by_ring, quotes}
 use Rattle.lv_lumps.proofs.Signs.{linear, product_positive, times_neg, neg_times, zero_product}
 use Rattle.lv_segs.proofs.Wide.{IsShort, short_product}
-use Rattle.lv_segs.specs.Angle.{is_turned, half_turns, IsSmall, IsShrunk, IsDoubled, HasTurns, IsAngle, quadrant_of}
+use Rattle.lv_segs.specs.Angle.{in_lower_half, half_turns, IsSmall, IsShrunk, IsDoubled, HasTurns, IsAngle, quadrant_of}
 
 -- ---- one angle
 -- the least shift is one number
@@ -36,9 +36,9 @@ same_turns (suc k) x y a b h g =
 
 -- k turns are k binary digits
 half_or_none : (x y : ℤ) → (half_turns x y ≡ 0) ⊎ (half_turns x y ≡ 1)
-half_or_none x y = by_test (is_turned x y) refl
+half_or_none x y = by_test (in_lower_half x y) refl
   where
-    by_test : (b : Bool) → is_turned x y ≡ b → (half_turns x y ≡ 0) ⊎ (half_turns x y ≡ 1)
+    by_test : (b : Bool) → in_lower_half x y ≡ b → (half_turns x y ≡ 0) ⊎ (half_turns x y ≡ 1)
     by_test true e = inr (grind arith)
     by_test false e = inl (grind arith)
 

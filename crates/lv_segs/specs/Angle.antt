@@ -3,11 +3,11 @@ use Rattle.std.specs.Prelude.{◌≡◌, ℕ, zero, suc, ◌+◌, ◌*◌, ◌^�
 use Rattle.std.specs.Int.{int_shr}
 
 -- the vector points down, or straight to the left: its angle is half a turn or more
-abbrev pub is_turned : ℤ → ℤ → Bool
-is_turned x y = int_lt y (pos 0) || (int_le y (pos 0) && int_lt x (pos 0))
+abbrev pub in_lower_half : ℤ → ℤ → Bool
+in_lower_half x y = int_lt y (pos 0) || (int_le y (pos 0) && int_lt x (pos 0))
 
 abbrev pub half_turns : ℤ → ℤ → ℕ
-half_turns x y = (if is_turned x y then 1 else 0)
+half_turns x y = (if in_lower_half x y then 1 else 0)
 
 -- strictly between -2^62 and 2^62
 abbrev pub IsSmall : ℤ → Type 0
