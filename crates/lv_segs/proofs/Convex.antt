@@ -6,7 +6,6 @@ use Rattle.lv_lumps.specs.declared.records.Vertex.{Vertex}
 use Rattle.lv_segs.specs.declared.edge.Edge.{Edge}
 use Rattle.lv_segs.specs.declared.frac.Frac.{Frac}
 use Rattle.lv_segs.specs.declared.piece.Piece.{Piece}
-use Rattle.lv_segs.specs.declared.piece.Parts.{Parts}
 use Rattle.lv_segs.specs.declared.piece.Place.{Place}
 use Rattle.lv_segs.specs.declared.piece.Place.TheVariants.{Right, Left, Across}
 use Rattle.lv_segs.specs.declared.edge.Facing.{Facing}
@@ -15,7 +14,7 @@ use Rattle.lv_lumps.specs.declared.plane.Ray.{Ray}
 use Rattle.lv_segs.specs.Plane.{ray, vertex_value, LiesOn, dot, NearRight}
 use Rattle.lv_segs.specs.Fractions.{exact_value, between, crossing, point_at}
 use Rattle.lv_segs.specs.Pieces.{edge_of, ray_of, first_end, last_end, same_place, IsPiece, no_edge}
-use Rattle.lv_segs.specs.Division.{place_of, kept, parts_by, parts_of, LiesInRight, LiesInLeft}
+use Rattle.lv_segs.specs.Division.{place_of, kept, cut_at, parts_by, parts_of, LiesInRight, LiesInLeft}
 use Rattle.lv_segs.specs.Convex.{LiesRight}
 use Rattle.lv_lumps.proofs.Ring.{by_ring, quotes}
 use Rattle.lv_lumps.proofs.Signs.{linear}
@@ -29,6 +28,7 @@ use Rattle.lv_segs.proofs.Division.{same_vertex_is}
 turned_value : (e : Edge) (v : Vertex) → vertex_value (ray e Against) v ≡ neg_ℤ (vertex_value (ray e Along) v)
 turned_value e v = by_ring (e.v1.x ∷ e.v1.y ∷ e.v2.x ∷ e.v2.y ∷ v.x ∷ v.y ∷ []) _ _ (search quotes depth 30 fits 20000) (search quotes depth 30 fits 20000) tt
 
+-- on a turned ray the exact values change their signs
 pub turned_exact : (e e' : Edge) (t : Frac) → exact_value (ray e Against) e' t ≡ neg_ℤ (exact_value (ray e Along) e' t)
 turned_exact e e' t =
     ap (λ (x : ℤ). between x (vertex_value (ray e Against) e'.v2) t) (turned_value e e'.v1)
@@ -38,6 +38,7 @@ turned_exact e e' t =
     negated : (a b n d : ℤ) → (d -ℤ n) *ℤ neg_ℤ a +ℤ n *ℤ neg_ℤ b ≡ neg_ℤ ((d -ℤ n) *ℤ a +ℤ n *ℤ b)
     negated a b n d = by_ring (a ∷ b ∷ n ∷ d ∷ []) _ _ (search quotes depth 30 fits 20000) (search quotes depth 30 fits 20000) tt
 
+-- and so do the inner products
 pub turned_dot : (e : Edge) (s : Ray) → dot (ray e Against) s ≡ neg_ℤ (dot (ray e Along) s)
 turned_dot e s = by_ring (e.v1.x ∷ e.v1.y ∷ e.v2.x ∷ e.v2.y ∷ s.dx ∷ s.dy ∷ []) _ _ (search quotes depth 30 fits 20000) (search quotes depth 30 fits 20000) tt
 
@@ -80,6 +81,7 @@ by_right e e' Against Along q s h k =
     let t = turned_dot e (ray e Along) in
     absurd (omega (arith, linear))
 
+-- the left side, over the ray alone
 pub record LeftOf (r : Ray) (e : Edge) (p : Piece) (s : Ray) : Type 0 where
   pub from : exact_value r e p.from ≤ℤ pos 0
   pub to : exact_value r e p.to ≤ℤ pos 0
@@ -125,7 +127,7 @@ module _ (lines : List Edge) (p q : Piece) (ok : IsPiece lines q) where
   down : (pos 0 <ℤ exact_value (ray_of lines p) (edge_of lines q) q.from) × (exact_value (ray_of lines p) (edge_of lines q) q.to <ℤ pos 0) → (parts_by lines p q Across).left ≡ None → LiesRight lines p q
   down m n = by_test (int_lt (pos 0) (exact_value (ray_of lines p) (edge_of lines q) q.from)) refl n
     where
-      by_test : (b : Bool) → int_lt (pos 0) (exact_value (ray_of lines p) (edge_of lines q) q.from) ≡ b → (if◌then◌else◌ {A = Parts} b (record { right = kept lines (record q { to = crossing (ray_of lines p) (edge_of lines q) }); left = kept lines (record q { from = crossing (ray_of lines p) (edge_of lines q) }) }) (record { right = kept lines (record q { from = crossing (ray_of lines p) (edge_of lines q) }); left = kept lines (record q { to = crossing (ray_of lines p) (edge_of lines q) }) })).left ≡ None → LiesRight lines p q
+      by_test : (b : Bool) → int_lt (pos 0) (exact_value (ray_of lines p) (edge_of lines q) q.from) ≡ b → (cut_at lines q (crossing (ray_of lines p) (edge_of lines q)) b).left ≡ None → LiesRight lines p q
       by_test false e k = absurd (let h = m.0 in omega (arith, ints))
       by_test true e k =
           let r = ray_of lines p in
@@ -141,7 +143,7 @@ module _ (lines : List Edge) (p q : Piece) (ok : IsPiece lines q) where
   upward : (exact_value (ray_of lines p) (edge_of lines q) q.from <ℤ pos 0) × (pos 0 <ℤ exact_value (ray_of lines p) (edge_of lines q) q.to) → (parts_by lines p q Across).left ≡ None → LiesRight lines p q
   upward m n = by_test (int_lt (pos 0) (exact_value (ray_of lines p) (edge_of lines q) q.from)) refl n
     where
-      by_test : (b : Bool) → int_lt (pos 0) (exact_value (ray_of lines p) (edge_of lines q) q.from) ≡ b → (if◌then◌else◌ {A = Parts} b (record { right = kept lines (record q { to = crossing (ray_of lines p) (edge_of lines q) }); left = kept lines (record q { from = crossing (ray_of lines p) (edge_of lines q) }) }) (record { right = kept lines (record q { from = crossing (ray_of lines p) (edge_of lines q) }); left = kept lines (record q { to = crossing (ray_of lines p) (edge_of lines q) }) })).left ≡ None → LiesRight lines p q
+      by_test : (b : Bool) → int_lt (pos 0) (exact_value (ray_of lines p) (edge_of lines q) q.from) ≡ b → (cut_at lines q (crossing (ray_of lines p) (edge_of lines q)) b).left ≡ None → LiesRight lines p q
       by_test true e k = absurd (let h = m.0 in omega (arith, ints))
       by_test false e k =
           let r = ray_of lines p in
@@ -171,6 +173,7 @@ by_used_right lines h p q same hp hq ok =
     let k : RightOf (ray (edge_of lines p) h.side) (edge_of lines q) q (ray_of lines q) = subst (λ (k : ℕ). RightOf (ray (slice_index_or lines k no_edge) h.side) (edge_of lines q) q (ray_of lines q)) same (record { from = hq.from; to = hq.to; direction = hq.direction }) in
     lies_right lines p q ok (by_right (edge_of lines p) (edge_of lines q) h.side p.side q (ray_of lines q) d k)
 
+-- the same where the used line has the pieces on its left
 pub by_used_left : (lines : List Edge) (h p q : Piece) → h.line ≡ p.line → LiesInLeft lines h p → LiesInLeft lines h q → IsPiece lines q → LiesRight lines p q
 by_used_left lines h p q same hp hq ok =
     let onto : LiesOn (ray_of lines h) (edge_of lines p) = subst (λ (k : ℕ). LiesOn (ray (slice_index_or lines k no_edge) h.side) (edge_of lines p)) (sym same) (on_itself (edge_of lines p) h.side) in

@@ -15,13 +15,14 @@ use Rattle.lv_lumps.specs.declared.plane.Ray.{Ray}
 use Rattle.lv_segs.specs.Plane.{vertex_value, LiesOn, dot, IsLine}
 use Rattle.lv_segs.specs.Fractions.{exact_value, between, crossing, IsFraction, AtMost, point_at, steps_between, step_within}
 use Rattle.lv_segs.specs.Pieces.{edge_of, ray_of, first_end, last_end, same_place, IsPiece, covers, cover, same_side}
-use Rattle.lv_segs.specs.Division.{place_of, kept, parts_by, parts_of, IsPartOf, IsDivided}
+use Rattle.lv_segs.specs.Division.{place_of, kept, cut_at, parts_by, parts_of, IsPartOf, IsDivided}
 use Rattle.lv_lumps.proofs.Signs.{linear}
 use Rattle.lv_segs.proofs.Rounding.{steps_rise}
 use Rattle.lv_segs.proofs.Crossing.{zero_everywhere, zero_there, zero_falling, zero_rising, IsCrossing, crossing_down, crossing_up, crossing_in}
 use Rattle.lv_segs.proofs.Lengths.{side_values_near, dot_not_zero}
 use Rattle.lv_segs.proofs.Placing.{Means, place_means}
 
+-- a fraction is at most itself
 pub at_most_self : (t : Frac) → AtMost t t
 at_most_self t = omega (arith, ints)
 
@@ -38,6 +39,7 @@ sum_of_one : (b : Bool) (x y z k : ℕ) → x ≤ y → y ≤ z → cond (b && (
 sum_of_one true x y z k h l = within_sum x y z k h l
 sum_of_one false x y z k h l = refl
 
+-- places that test as the same are the same
 pub same_vertex_is : (u v : Vertex) → same_place u v ≡ true → u ≡ v
 same_vertex_is u v e = let x : u.x ≡ v.x = grind (arith, ints) in let y : u.y ≡ v.y = grind (arith, ints) in
     let across : ℤ → Vertex = λ a. record { x = a; y = u.y } in
@@ -132,7 +134,7 @@ module _ (lines : List Edge) (partition p : Piece) (may : MayDivide lines partit
   across_down : (pos 0 <ℤ exact_value (ray_of lines partition) (edge_of lines p) p.from) × (exact_value (ray_of lines partition) (edge_of lines p) p.to <ℤ pos 0) → IsDivided lines partition p (parts_by lines partition p Across)
   across_down m = by_test (int_lt (pos 0) (exact_value (ray_of lines partition) (edge_of lines p) p.from)) refl
     where
-      by_test : (b : Bool) → int_lt (pos 0) (exact_value (ray_of lines partition) (edge_of lines p) p.from) ≡ b → IsDivided lines partition p (if b then record { right = kept lines (record p { to = crossing (ray_of lines partition) (edge_of lines p) }); left = kept lines (record p { from = crossing (ray_of lines partition) (edge_of lines p) }) } else record { right = kept lines (record p { from = crossing (ray_of lines partition) (edge_of lines p) }); left = kept lines (record p { to = crossing (ray_of lines partition) (edge_of lines p) }) })
+      by_test : (b : Bool) → int_lt (pos 0) (exact_value (ray_of lines partition) (edge_of lines p) p.from) ≡ b → IsDivided lines partition p (cut_at lines p (crossing (ray_of lines partition) (edge_of lines p)) b)
       by_test false e = absurd (let h = m.0 in omega (arith, ints))
       by_test true e =
           let r = ray_of lines partition in
@@ -153,7 +155,7 @@ module _ (lines : List Edge) (partition p : Piece) (may : MayDivide lines partit
   across_up : (exact_value (ray_of lines partition) (edge_of lines p) p.from <ℤ pos 0) × (pos 0 <ℤ exact_value (ray_of lines partition) (edge_of lines p) p.to) → IsDivided lines partition p (parts_by lines partition p Across)
   across_up m = by_test (int_lt (pos 0) (exact_value (ray_of lines partition) (edge_of lines p) p.from)) refl
     where
-      by_test : (b : Bool) → int_lt (pos 0) (exact_value (ray_of lines partition) (edge_of lines p) p.from) ≡ b → IsDivided lines partition p (if b then record { right = kept lines (record p { to = crossing (ray_of lines partition) (edge_of lines p) }); left = kept lines (record p { from = crossing (ray_of lines partition) (edge_of lines p) }) } else record { right = kept lines (record p { from = crossing (ray_of lines partition) (edge_of lines p) }); left = kept lines (record p { to = crossing (ray_of lines partition) (edge_of lines p) }) })
+      by_test : (b : Bool) → int_lt (pos 0) (exact_value (ray_of lines partition) (edge_of lines p) p.from) ≡ b → IsDivided lines partition p (cut_at lines p (crossing (ray_of lines partition) (edge_of lines p)) b)
       by_test true e = absurd (let h = m.0 in omega (arith, ints))
       by_test false e =
           let r = ray_of lines partition in

@@ -10,6 +10,7 @@ use Rattle.lv_segs.specs.Plane.{ray, vertex_value, LiesOn, dot, IsLine}
 use Rattle.lv_lumps.proofs.Ring.{by_ring, quotes}
 use Rattle.lv_lumps.proofs.Signs.{linear, times_at_most, times_below, product_positive}
 
+-- a square is not below 0
 pub square_not_negative : (x : ℤ) → pos 0 ≤ℤ (x *ℤ x)
 square_not_negative (pos n) = omega (arith, ints)
 square_not_negative (negsuc n) = omega (arith, ints)
@@ -47,6 +48,7 @@ cross_at_most a b c d m h k =
     let p = product_at_most (a *ℤ a +ℤ b *ℤ b) (c *ℤ c +ℤ d *ℤ d) m (omega (arith, linear)) (omega (arith, linear)) h k in
     at_most_by_squares (a *ℤ d -ℤ b *ℤ c) m (omega (arith, linear)) (omega (arith, linear))
 
+-- a line is as long in both directions
 pub ray_along : (e : Edge) (f : Facing) → dot (ray e f) (ray e f) ≡ dot (ray e Along) (ray e Along)
 ray_along e Along = refl
 ray_along e Against = by_ring (e.v1.x ∷ e.v1.y ∷ e.v2.x ∷ e.v2.y ∷ []) _ _ (search quotes depth 30 fits 20000) (search quotes depth 30 fits 20000) tt

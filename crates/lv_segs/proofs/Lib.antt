@@ -5,6 +5,7 @@ pub mod Placing
 pub mod Division
 pub mod Choice
 pub mod Convex
+pub mod Lists
 pub mod Trees
 pub mod Turns
 pub mod Wide

@@ -1,9 +1,9 @@
 -- The tree of divisions: its lists keep their half-planes, its leaves are convex, and its pieces cover what the first list covers.
-use Rattle.std.proofs.Common.{◌≡◌, refl, sym, ap, ◌∙◌, subst, ℕ, zero, suc, ◌+◌, ◌<◌, ◌⊎◌, inl, inr, ⊎_elim, List, [], ◌∷◌, ◌++◌, length, Option, Some, None, Bool, true, false, cond, arith, slice_get, All}
+use Rattle.std.proofs.Common.{◌≡◌, refl, sym, ap, ◌∙◌, subst, ℕ, ◌+◌, ◌<◌, ◌⊎◌, inl, inr, ⊎_elim, List, [], ◌∷◌, ◌++◌, length, Option, Some, None, Bool, true, false, cond, arith, slice_get, All}
 use Rattle.std.proofs.lemmas.Bool.{cases_eq}
 use Rattle.std.proofs.lemmas.List.Elements.{All-nil, All-cons, All-head, All-tail, All-append, All-get_or}
 use Rattle.std.proofs.lemmas.List.Sums.{sum_by-append}
-use Rattle.std.specs.Prelude.{ℤ, pos, ◌≤ℤ◌, ◌<ℤ◌, filter_map, IfSome, slice_index_or, slice_set, option_to_list, replicate}
+use Rattle.std.specs.Prelude.{ℤ, pos, ◌≤ℤ◌, ◌<ℤ◌, IfSome, slice_index_or, slice_set, option_to_list}
 use Rattle.std.specs.List.{cons_option}
 use Rattle.std.proofs.Math.ListN.{length-set}
 use Rattle.lv_segs.specs.declared.edge.Edge.{Edge}
@@ -20,38 +20,8 @@ use Rattle.lv_lumps.proofs.Signs.{linear}
 use Rattle.lv_segs.proofs.Crossing.{inside, inside_left, at_most_trans}
 use Rattle.lv_segs.proofs.Lengths.{ray_along}
 use Rattle.lv_segs.proofs.Division.{MayDivide, divided}
+use Rattle.lv_segs.proofs.Lists.{All-at, All-filter_map, none_left, set_true_cases, used_or_not, none_used, unused_length}
 use Rattle.lv_segs.proofs.Convex.{by_unused, by_used_right, by_used_left}
-
--- ---- lists
-pub All-at : {X : Type 0} (P : X → Type 0) (xs : List X) (i : ℕ) (x : X) → All P xs → slice_get xs i ≡ Some x → P x
-All-at P [] i x h e = cc
-All-at P (y ∷ ys) zero x h e = let s : y ≡ x = cc in subst P s (All-head P y ys h)
-All-at P (y ∷ ys) (suc i) x h e = All-at P ys i x (All-tail P y ys h) e
-
-pub All-filter_map : {X Y : Type 0} (P : X → Type 0) (Q : Y → Type 0) (f : X → Option Y) → ((x : X) → P x → IfSome (f x) Q) → (xs : List X) → All P xs → All Q (filter_map f xs)
-All-filter_map P Q f g [] h = All-nil Q
-All-filter_map {X} {Y} P Q f g (x ∷ xs) h = by_head (f x) (g x (All-head P x xs h)) (All-filter_map P Q f g xs (All-tail P x xs h))
-  where
-    by_head : (o : Option Y) → IfSome o Q → All Q (filter_map f xs) → All Q (cons_option o (filter_map f xs))
-    by_head None k r = r
-    by_head (Some y) k r = All-cons Q y (filter_map f xs) k r
-
-pub none_left : {X Y : Type 0} (f : X → Option Y) (xs : List X) (i : ℕ) (x : X) → length (filter_map f xs) ≡ 0 → slice_get xs i ≡ Some x → f x ≡ None
-none_left f [] i x h e = cc
-none_left {X} {Y} f (y ∷ ys) i x h e = by_head (f y) refl h i e (none_left f ys)
-  where
-    by_head : (o : Option Y) → f y ≡ o → length (cons_option o (filter_map f ys)) ≡ 0 → (i : ℕ) → slice_get (y ∷ ys) i ≡ Some x → ((i : ℕ) (x : X) → length (filter_map f ys) ≡ 0 → slice_get ys i ≡ Some x → f x ≡ None) → f x ≡ None
-    by_head (Some z) k l i e r = absurd (omega arith)
-    by_head None k l zero e r = let s : y ≡ x = cc in ap f (sym s) ∙ k
-    by_head None k l (suc i) e r = r i x l e
-
--- what a place that is now true was before
-set_true_cases : (bs : List Bool) (k i : ℕ) → slice_get (slice_set bs k true) i ≡ Some true → (i ≡ k) ⊎ (slice_get bs i ≡ Some true)
-set_true_cases [] k i e = inr e
-set_true_cases (b ∷ bs) zero zero e = inl refl
-set_true_cases (b ∷ bs) zero (suc i) e = inr e
-set_true_cases (b ∷ bs) (suc k) zero e = inr e
-set_true_cases (b ∷ bs) (suc k) (suc i) e = ⊎_elim (λ s. inl (ap suc s)) (λ s. inr s) (set_true_cases bs k i e)
 
 -- ---- parts keep the half-planes of the whole
 module _ (lines : List Edge) (h p q : Piece) (ok : IsPiece lines p) (part : IsPartOf lines p q) where
@@ -74,6 +44,7 @@ module _ (lines : List Edge) (h p q : Piece) (ok : IsPiece lines p) (part : IsPa
   same_value : (t : Frac) → exact_value (ray_of lines h) (edge_of lines q) t ≡ exact_value (ray_of lines h) (edge_of lines p) t
   same_value t = ap (λ (k : ℕ). exact_value (ray_of lines h) (slice_index_or lines k no_edge) t) part.line
 
+  -- a part of a piece on the right of h lies there too
   pub part_right : LiesInRight lines h p → LiesInRight lines h q
   part_right l =
       let a = vertex_value (ray_of lines h) (edge_of lines p).v1 in
@@ -86,6 +57,7 @@ module _ (lines : List Edge) (h p q : Piece) (ok : IsPiece lines p) (part : IsPa
         direction = λ on. subst (λ (z : ℤ). pos 0 <ℤ z) (sym same_dot) (l.direction (onto on));
       }
 
+  -- and on the left
   pub part_left : LiesInLeft lines h p → LiesInLeft lines h q
   part_left l =
       let a = vertex_value (ray_of lines h) (edge_of lines p).v1 in
@@ -128,9 +100,11 @@ module _ (lines : List Edge) (all : All IsLine lines) (used : List Bool) (ps : L
   left_half_left : (h : Piece) → All (LiesInLeft lines h) ps → All (LiesInLeft lines h) (left_parts lines p ps)
   left_half_left h a = All-filter_map (λ q. IsPiece lines q × LiesInLeft lines h q) (LiesInLeft lines h) (λ q. (parts_of lines p q).left) (λ q k. weaker _ _ _ (λ x m. part_left lines h q x k.0 m.0 k.1) (divided_at q k.0).left) ps (λ k d l. (reached.pieces k d l, a k d l))
 
+  -- the right parts lie on the right of the partition
   pub right_side : All (LiesInRight lines p) (right_parts lines p ps)
   right_side = All-filter_map (IsPiece lines) (LiesInRight lines p) (λ q. (parts_of lines p q).right) (λ q k. weaker (parts_of lines p q).right (λ x. IsPartOf lines q x × LiesInRight lines p x) _ (λ x m. m.1) (divided_at q k).right) ps reached.pieces
 
+  -- the left parts on its left
   pub left_side : All (LiesInLeft lines p) (left_parts lines p ps)
   left_side = All-filter_map (IsPiece lines) (LiesInLeft lines p) (λ q. (parts_of lines p q).left) (λ q k. weaker (parts_of lines p q).left (λ x. IsPartOf lines q x × LiesInLeft lines p x) _ (λ x m. m.1) (divided_at q k).left) ps reached.pieces
 
@@ -138,6 +112,7 @@ module _ (lines : List Edge) (all : All IsLine lines) (used : List Bool) (ps : L
   halves_of qs f g own line e =
       ⊎_elim (λ s. (p, sym s, own)) (λ s. let h = reached.halves line s in (h.0, h.1, ⊎_elim (λ a. inl (f h.0 a)) (λ a. inr (g h.0 a)) h.2)) (set_true_cases used p.line line e)
 
+  -- a tree reaches the right parts
   pub right_reached : IsReached lines (slice_set used p.line true) (right_parts lines p ps)
   right_reached = record {
     pieces = All-filter_map (IsPiece lines) (IsPiece lines) (λ q. (parts_of lines p q).right) (λ q k. weaker (parts_of lines p q).right (λ x. IsPartOf lines q x × LiesInRight lines p x) _ (λ x m. m.0.piece) (divided_at q k).right) ps reached.pieces;
@@ -145,6 +120,7 @@ module _ (lines : List Edge) (all : All IsLine lines) (used : List Bool) (ps : L
     known = length-set used p.line true ∙ reached.known;
   }
 
+  -- and the left parts
   pub left_reached : IsReached lines (slice_set used p.line true) (left_parts lines p ps)
   left_reached = record {
     pieces = All-filter_map (IsPiece lines) (IsPiece lines) (λ q. (parts_of lines p q).left) (λ q k. weaker (parts_of lines p q).left (λ x. IsPartOf lines q x × LiesInLeft lines p x) _ (λ x m. m.0.piece) (divided_at q k).left) ps reached.pieces;
@@ -153,12 +129,7 @@ module _ (lines : List Edge) (all : All IsLine lines) (used : List Bool) (ps : L
   }
 
 -- ---- a leaf
-used_or_not : (bs : List Bool) (i : ℕ) → i < length bs → (slice_get bs i ≡ Some true) ⊎ (slice_get bs i ≡ Some false)
-used_or_not [] i h = absurd (omega arith)
-used_or_not (true ∷ bs) zero h = inl refl
-used_or_not (false ∷ bs) zero h = inr refl
-used_or_not (b ∷ bs) (suc i) h = used_or_not bs i (omega arith)
-
+-- a reached list without a choice is convex to within rounding
 pub leaf_convex : (lines : List Edge) (used : List Bool) (ps : List Piece) → IsReached lines used ps → HasNoChoice lines ps used → IsConvex lines ps
 leaf_convex lines used ps reached none = λ i j p q ep eq. pair p q i j ep eq (All-at (IsPiece lines) ps i p reached.pieces ep) (All-at (IsPiece lines) ps j q reached.pieces eq)
   where
@@ -206,6 +177,7 @@ parts_cover lines all p ok line side k (q ∷ qs) h =
     one (Some x) None e r = let c = consed q qs in let x' = consed x (right_parts lines p qs) in omega arith
     one (Some x) (Some y) e r = let c = consed q qs in let x' = consed x (right_parts lines p qs) in let y' = consed y (left_parts lines p qs) in let j = consed x (y ∷ []) in omega arith
 
+-- over a whole tree
 pub tree_cover : (lines : List Edge) → All IsLine lines → (t : Tree) (ps : List Piece) (used : List Bool) → IsReached lines used ps → Divides lines ps used t → (line : ℕ) (side : Facing) (k : ℕ) → cover lines line side k (pieces t) ≡ cover lines line side k ps
 tree_cover lines all (Leaf qs) ps used r d line side k = ap (cover lines line side k) d.0
 tree_cover lines all (Branch p right left) ps used r d line side k =
@@ -226,6 +198,7 @@ tree_pieces lines all (Branch p right left) ps used r d =
     (tree_pieces lines all right (right_parts lines p ps) (slice_set used p.line true) (right_reached lines all used ps r p ok) d.1)
     (tree_pieces lines all left (left_parts lines p ps) (slice_set used p.line true) (left_reached lines all used ps r p ok) d.2)
 
+-- what lies on the right of h stays there
 pub tree_right : (lines : List Edge) → All IsLine lines → (h : Piece) (t : Tree) (ps : List Piece) (used : List Bool) → IsReached lines used ps → All (LiesInRight lines h) ps → Divides lines ps used t → All (LiesInRight lines h) (pieces t)
 tree_right lines all h (Leaf qs) ps used r a d = subst (All (LiesInRight lines h)) (sym d.0) a
 tree_right lines all h (Branch p right left) ps used r a d =
@@ -234,6 +207,7 @@ tree_right lines all h (Branch p right left) ps used r a d =
     (tree_right lines all h right (right_parts lines p ps) (slice_set used p.line true) (right_reached lines all used ps r p ok) (right_half lines all used ps r p ok h a) d.1)
     (tree_right lines all h left (left_parts lines p ps) (slice_set used p.line true) (left_reached lines all used ps r p ok) (left_half lines all used ps r p ok h a) d.2)
 
+-- and on its left
 pub tree_left : (lines : List Edge) → All IsLine lines → (h : Piece) (t : Tree) (ps : List Piece) (used : List Bool) → IsReached lines used ps → All (LiesInLeft lines h) ps → Divides lines ps used t → All (LiesInLeft lines h) (pieces t)
 tree_left lines all h (Leaf qs) ps used r a d = subst (All (LiesInLeft lines h)) (sym d.0) a
 tree_left lines all h (Branch p right left) ps used r a d =
@@ -243,18 +217,11 @@ tree_left lines all h (Branch p right left) ps used r a d =
     (tree_left lines all h left (left_parts lines p ps) (slice_set used p.line true) (left_reached lines all used ps r p ok) (left_half_left lines all used ps r p ok h a) d.2)
 
 -- ---- trees with no line used above
-none_used : (n i : ℕ) → slice_get (replicate n false) i ≡ Some true → ⊥
-none_used zero i e = cc
-none_used (suc n) zero e = cc
-none_used (suc n) (suc i) e = none_used n i e
-
-unused_length : (n : ℕ) → length (replicate n false) ≡ n
-unused_length zero = refl
-unused_length (suc n) = ap suc (unused_length n)
-
+-- a list with no line used is reached
 pub first_reached : (lines : List Edge) (ps : List Piece) → All (IsPiece lines) ps → IsReached lines (unused lines) ps
 first_reached lines ps h = record { pieces = h; halves = λ line e. absurd (none_used (length lines) line e); known = unused_length (length lines) }
 
+-- each branch parts the pieces below it
 pub tree_parted : (lines : List Edge) → All IsLine lines → (t : Tree) (ps : List Piece) (used : List Bool) → IsReached lines used ps → Divides lines ps used t → IsParted lines t
 tree_parted lines all (Leaf qs) ps used r d = tt
 tree_parted lines all (Branch p right left) ps used r d =

@@ -1,7 +1,8 @@
 -- How a partition, the whole line of a piece in that piece's direction, divides other pieces.
-use Rattle.std.specs.Prelude.{◌≡◌, ℕ, ◌&&◌, ◌||◌, if◌then◌else◌, List, [], ◌∷◌, ◌++◌, filter_map, ℤ, pos, ◌≤ℤ◌, int_lt, int_le, Option, Some, None, IfSome, option_to_list}
+use Rattle.std.specs.Prelude.{◌≡◌, ℕ, Bool, true, false, ◌&&◌, ◌||◌, if◌then◌else◌, List, [], ◌∷◌, ◌++◌, filter_map, ℤ, pos, ◌≤ℤ◌, int_lt, int_le, Option, Some, None, IfSome, option_to_list}
 use Rattle.lv_segs.specs.declared.edge.Edge.{Edge}
 use Rattle.lv_segs.specs.declared.edge.Facing.{Facing}
+use Rattle.lv_segs.specs.declared.frac.Frac.{Frac}
 use Rattle.lv_segs.specs.declared.piece.Piece.{Piece}
 use Rattle.lv_segs.specs.declared.piece.Parts.{Parts}
 use Rattle.lv_segs.specs.declared.piece.Place.{Place}
@@ -29,19 +30,21 @@ place_of lines partition p =
 abbrev pub kept : List Edge → Piece → Option Piece
 kept lines p = (if same_place (first_end lines p) (last_end lines p) then None else Some p)
 
+-- the parts of a piece cut at a fraction, by whether it starts on the right
+abbrev pub cut_at : List Edge → Piece → Frac → Bool → Parts
+cut_at lines p at true = record { right = kept lines (record p { to = at }); left = kept lines (record p { from = at }) }
+cut_at lines p at false = record { right = kept lines (record p { from = at }); left = kept lines (record p { to = at }) }
+
 -- the parts of a piece at this place: one across the partition is cut at the crossing
 abbrev pub parts_by : List Edge → Piece → Piece → Place → Parts
 parts_by lines partition p Right = record { right = Some p; left = None }
 parts_by lines partition p Left = record { right = None; left = Some p }
 parts_by lines partition p Across =
     let r = ray_of lines partition in
-    let at = crossing r (edge_of lines p) in
-    let near = kept lines (record p { to = at }) in
-    let far = kept lines (record p { from = at }) in
-    (if int_lt (pos 0) (exact_value r (edge_of lines p) p.from)
-    then record { right = near; left = far }
-    else record { right = far; left = near })
+    let e = edge_of lines p in
+    cut_at lines p (crossing r e) (int_lt (pos 0) (exact_value r e p.from))
 
+-- the parts that a partition makes of a piece
 abbrev pub parts_of : List Edge → Piece → Piece → Parts
 parts_of lines partition p = parts_by lines partition p (place_of lines partition p)
 
