@@ -12,10 +12,10 @@ use Rattle.lv_segs.specs.declared.piece.Place.{Place}
 use Rattle.lv_segs.specs.declared.piece.Place.TheVariants.{Right, Left, Across}
 use Rattle.lv_segs.specs.declared.edge.Facing.{Facing}
 use Rattle.lv_lumps.specs.declared.plane.Ray.{Ray}
-use Rattle.lv_segs.specs.Plane.{vertex_value, LiesOn, dot, IsLine}
-use Rattle.lv_segs.specs.Fractions.{exact_value, between, crossing, IsFraction, AtMost, point_at, steps_between, step_within}
+use Rattle.lv_segs.specs.Plane.{vertex_value, dot, IsLine}
+use Rattle.lv_segs.specs.Fractions.{between, crossing, IsFraction, AtMost, point_at, steps_between, step_within}
 use Rattle.lv_segs.specs.Pieces.{edge_of, ray_of, first_end, last_end, same_place, IsPiece, covers, cover, same_side}
-use Rattle.lv_segs.specs.Division.{place_of, kept, cut_at, parts_by, parts_of, IsPartOf, IsDivided}
+use Rattle.lv_segs.specs.Division.{value_by, LiesAlong, place_of, kept, cut_at, parts_by, parts_of, IsPartOf, IsDivided}
 use Rattle.lv_lumps.proofs.Signs.{linear}
 use Rattle.lv_segs.proofs.Rounding.{steps_rise}
 use Rattle.lv_segs.proofs.Crossing.{zero_everywhere, zero_there, zero_falling, zero_rising, IsCrossing, crossing_down, crossing_up, crossing_in}
@@ -98,7 +98,7 @@ module _ (lines : List Edge) (partition p : Piece) (may : MayDivide lines partit
   whole : IsPartOf lines p p
   whole = record { piece = may.piece; line = refl; side = refl; from = at_most_self p.from; to = at_most_self p.to }
 
-  on_it : (t : Frac) → LiesOn (ray_of lines partition) (edge_of lines p) → exact_value (ray_of lines partition) (edge_of lines p) t ≡ pos 0
+  on_it : (t : Frac) → LiesAlong lines partition p → value_by lines partition p t ≡ pos 0
   on_it t on = ap (λ (x : ℤ). between x (vertex_value (ray_of lines partition) (edge_of lines p).v2) t) on.0 ∙ ap (λ (x : ℤ). between (pos 0) x t) on.1 ∙ zero_everywhere t
 
   cut : (c : Frac) → IsFraction c → IsCrossing p.from c p.to → (same_place (first_end lines (record p { to = c })) (last_end lines (record p { to = c })) ≡ false → IsPartOf lines p (record p { to = c })) × (same_place (first_end lines (record p { from = c })) (last_end lines (record p { from = c })) ≡ false → IsPartOf lines p (record p { from = c }))
@@ -131,10 +131,10 @@ module _ (lines : List Edge) (partition p : Piece) (may : MayDivide lines partit
       omega arith
 
   -- from the right of the partition to its left
-  across_down : (pos 0 <ℤ exact_value (ray_of lines partition) (edge_of lines p) p.from) × (exact_value (ray_of lines partition) (edge_of lines p) p.to <ℤ pos 0) → IsDivided lines partition p (parts_by lines partition p Across)
-  across_down m = by_test (int_lt (pos 0) (exact_value (ray_of lines partition) (edge_of lines p) p.from)) refl
+  across_down : (pos 0 <ℤ value_by lines partition p p.from) × (value_by lines partition p p.to <ℤ pos 0) → IsDivided lines partition p (parts_by lines partition p Across)
+  across_down m = by_test (int_lt (pos 0) (value_by lines partition p p.from)) refl
     where
-      by_test : (b : Bool) → int_lt (pos 0) (exact_value (ray_of lines partition) (edge_of lines p) p.from) ≡ b → IsDivided lines partition p (cut_at lines p (crossing (ray_of lines partition) (edge_of lines p)) b)
+      by_test : (b : Bool) → int_lt (pos 0) (value_by lines partition p p.from) ≡ b → IsDivided lines partition p (cut_at lines p (crossing (ray_of lines partition) (edge_of lines p)) b)
       by_test false e = absurd (let h = m.0 in omega (arith, ints))
       by_test true e =
           let r = ray_of lines partition in
@@ -152,10 +152,10 @@ module _ (lines : List Edge) (partition p : Piece) (may : MayDivide lines partit
             cover = two_parts c frac k;
           }
 
-  across_up : (exact_value (ray_of lines partition) (edge_of lines p) p.from <ℤ pos 0) × (pos 0 <ℤ exact_value (ray_of lines partition) (edge_of lines p) p.to) → IsDivided lines partition p (parts_by lines partition p Across)
-  across_up m = by_test (int_lt (pos 0) (exact_value (ray_of lines partition) (edge_of lines p) p.from)) refl
+  across_up : (value_by lines partition p p.from <ℤ pos 0) × (pos 0 <ℤ value_by lines partition p p.to) → IsDivided lines partition p (parts_by lines partition p Across)
+  across_up m = by_test (int_lt (pos 0) (value_by lines partition p p.from)) refl
     where
-      by_test : (b : Bool) → int_lt (pos 0) (exact_value (ray_of lines partition) (edge_of lines p) p.from) ≡ b → IsDivided lines partition p (cut_at lines p (crossing (ray_of lines partition) (edge_of lines p)) b)
+      by_test : (b : Bool) → int_lt (pos 0) (value_by lines partition p p.from) ≡ b → IsDivided lines partition p (cut_at lines p (crossing (ray_of lines partition) (edge_of lines p)) b)
       by_test true e = absurd (let h = m.0 in omega (arith, ints))
       by_test false e =
           let r = ray_of lines partition in
@@ -173,7 +173,7 @@ module _ (lines : List Edge) (partition p : Piece) (may : MayDivide lines partit
             cover = two_parts_turned c frac k;
           }
 
-  by_place : (place : Place) → Means (exact_value (ray_of lines partition) (edge_of lines p) p.from) (exact_value (ray_of lines partition) (edge_of lines p) p.to) (dot (ray_of lines partition) (ray_of lines p)) place → IsDivided lines partition p (parts_by lines partition p place)
+  by_place : (place : Place) → Means (value_by lines partition p p.from) (value_by lines partition p p.to) (dot (ray_of lines partition) (ray_of lines p)) place → IsDivided lines partition p (parts_by lines partition p place)
   by_place Right m = record {
     right = (whole, record { from = m.from; to = m.to; direction = λ on. m.direction (on_it p.from on) (on_it p.to on) });
     left = tt;
@@ -188,4 +188,4 @@ module _ (lines : List Edge) (partition p : Piece) (may : MayDivide lines partit
 
   -- the whole rule of division
   pub divided : IsDivided lines partition p (parts_of lines partition p)
-  divided = by_place (place_of lines partition p) (place_means (exact_value (ray_of lines partition) (edge_of lines p) p.from) (exact_value (ray_of lines partition) (edge_of lines p) p.to) (dot (ray_of lines partition) (ray_of lines p)))
+  divided = by_place (place_of lines partition p) (place_means (value_by lines partition p p.from) (value_by lines partition p p.to) (dot (ray_of lines partition) (ray_of lines p)))

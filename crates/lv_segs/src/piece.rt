@@ -12,7 +12,7 @@ pub struct Piece {
 }
 
 /// Where a piece lies by a partition, the whole line of another piece in that piece's direction.
-#[derive(Clone, Copy, Debug)]
+#[derive(Clone, Copy, Debug, PartialEq, Eq)]
 pub enum Place {
     Right,
     Left,

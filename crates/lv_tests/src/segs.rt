@@ -11,7 +11,7 @@ fn angles(rt: HostRuntime) {
     assert_eq!(rt; angle16(0, -1), 49152);
 }
 
-// The long vectors are shrunk early; 1/3 and 2/3 of a turn are no whole numbers of 65,536.
+// The diagonals of the greatest vectors are exact; beside an axis the last bit decides.
 #[test]
 fn angles_of_long_vectors(rt: HostRuntime) {
     assert_eq!(rt; angle16(32767, 32767), 8192);
