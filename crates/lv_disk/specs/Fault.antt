@@ -1,0 +1,34 @@
+-- A disk of which one call fails: what it shows, and what each of its calls does.
+use Rattle.std.specs.Prelude.{◌≡◌, ◌≢◌, ◌⊎◌, ◌-◌, ℕ, List, Result, IsErr, length}
+use Rattle.lv_disk.specs.Files.{Failed, Written}
+use Rattle.lv_disk.specs.Stops.{Counted, Follows, Rose}
+use Rattle.lv_disk.specs.FaultCount.{one_if}
+use Rattle.lv_disk.specs.declared.fault.FaultDisk.{FaultDisk}
+
+-- the disk inside
+abbrev pub inner_of : {D : Type 0} → FaultDisk D → D
+inner_of disk = disk.inner
+
+-- how many calls are left up to the one that fails, 0 where none is
+abbrev pub left_of : {D : Type 0} → FaultDisk D → ℕ
+left_of disk = disk.left
+
+-- how many bytes of a failing write are put down
+abbrev pub part_of : {D : Type 0} → FaultDisk D → ℕ
+part_of disk = disk.part
+
+-- 1 where the call has failed, and not by a fault of the disk inside
+abbrev pub own_failures : {D : Type 0} → FaultDisk D → ℕ
+own_failures disk = one_if disk.failed
+
+-- The call that is next fails. Any other call passes on what the disk inside answers.
+pub record IsCounted {D T E : Type 0} (failures : D → ℕ) (old new : FaultDisk D) (result : Result T E) : Type 0 where
+  pub left : left_of new ≡ left_of old - 1
+  pub part : part_of new ≡ part_of old
+  pub fails : left_of old ≡ 1 → IsErr result
+  pub passes : left_of old ≢ 1 → Counted (failures (inner_of old)) (failures (inner_of new)) result
+
+-- these bytes are put down on the disk inside, unless it fails itself
+abbrev pub PutsDown : ℕ → List ℕ → (List ℕ → Type 0) → (List ℕ → Type 0) → ℕ → ℕ → Type 0
+PutsDown at bytes old new before now =
+    Follows (Written at bytes) old new ⊎ (Rose before now × Follows (Failed at (length bytes)) old new)

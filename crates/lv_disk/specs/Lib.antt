@@ -1,0 +1,5 @@
+pub mod Files
+pub mod Stops
+pub mod Gates
+pub mod FaultCount
+pub mod Fault

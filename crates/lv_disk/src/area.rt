@@ -1,0 +1,9 @@
+ghost use Rattle.std.specs.Prelude.{◌+◌, ◌<◌, ◌^◌};
+
+/// A part of a disk: `length` bytes from `base` on.
+#[derive(Clone, Copy, Debug, PartialEq, Eq)]
+pub struct Area {
+    pub base: u64,
+    pub length: u32,
+    pub ghost in_range: { base + length < 2 ^ 64 },
+}

@@ -1,0 +1,86 @@
+//! A disk as the layers above see it: what a read gives, and what a stop may leave.
+ghost use Rattle.std.specs.Prelude.{◌≡◌, ◌≤◌, ◌+◌, List, ℕ, length, OnOk, OnErr, IfOk};
+ghost use Rattle.lv_disk.specs.Files.{Failed, HasAt, Torn, Written};
+ghost use Rattle.lv_disk.specs.Stops.{Counted, Each, Elapses, Follows, From, LeavesOnly};
+
+use crate::DeviceFault;
+
+/// A file on a device that may stop, before or within any call.
+///
+/// Places and lengths are in bytes. A disk that tells no bytes, as a real file, has none of the sets below.
+pub trait Disk {
+    /// The bytes are those that a read gives.
+    ghost reads: { Self → List ℕ → Type 0 };
+
+    /// A stop now may leave this file.
+    ghost may_leave: { Self → List ℕ → Type 0 };
+
+    /// The moment, as a number that doesn't fall.
+    ghost moment: { Self → ℕ };
+
+    /// A stop at some moment from that one on might have left this file.
+    ghost left_since: { Self → ℕ → List ℕ → Type 0 };
+
+    /// How often the disk has failed.
+    ghost failures: { Self → ℕ };
+
+    /// The length of the file.
+    fn len(&mut self) -> Result<u64, DeviceFault>
+        ensures told { IfOk result (λ n. Each (reads self.old) (λ file. n ≡ length file)) }
+        ensures reads { Each (reads self.new) (reads self.old) }
+        ensures images { Each (may_leave self.new) (may_leave self.old) }
+        ensures time { Elapses (moment self.old) (moment self.new)
+            (left_since self.old) (left_since self.new) (may_leave self.new) }
+        ensures count { Counted (failures self.old) (failures self.new) result };
+
+    /// Reads the bytes from `at` on. After a fault `into` may hold anything.
+    fn read(&mut self, at: u64, into: &mut [u8]) -> Result<(), DeviceFault>
+        requires { Each (reads self.old) (λ file. at + length into.old ≤ length file) }
+        ensures told { OnOk result (Each (reads self.old) (HasAt at into.new)) }
+        ensures reads { Each (reads self.new) (reads self.old) }
+        ensures images { Each (may_leave self.new) (may_leave self.old) }
+        ensures time { Elapses (moment self.old) (moment self.new)
+            (left_since self.old) (left_since self.new) (may_leave self.new) }
+        ensures count { Counted (failures self.old) (failures self.new) result };
+
+    /// Writes the bytes from `at` on. Past the end it makes the gap read as zero; no bytes change nothing anywhere.
+    fn write_at(&mut self, at: u64, from: &[u8]) -> Result<(), DeviceFault>
+        ensures written { OnOk result (Follows (Written at from.now) (reads self.old) (reads self.new)) }
+        ensures failed { OnErr result (Follows (Failed at (length from.now)) (reads self.old) (reads self.new)) }
+        ensures images { Follows (Torn at (length from.now)) (may_leave self.old) (may_leave self.new) }
+        ensures time { Elapses (moment self.old) (moment self.new)
+            (left_since self.old) (left_since self.new) (may_leave self.new) }
+        ensures count { Counted (failures self.old) (failures self.new) result };
+
+    /// Puts all that was written on the device. A failed one changes no read.
+    fn sync(&mut self) -> Result<(), DeviceFault>
+        ensures durable { OnOk result (Each (may_leave self.new) (reads self.new)) }
+        ensures reads { Each (reads self.new) (reads self.old) }
+        ensures images { Each (may_leave self.new) (may_leave self.old) }
+        ensures time { Elapses (moment self.old) (moment self.new)
+            (left_since self.old) (left_since self.new) (may_leave self.new) }
+        ensures count { Counted (failures self.old) (failures self.new) result };
+
+    /// A disk as it reads is one of its images.
+    ghost reads_an_image: { (disk : Self) (file : List ℕ) → reads disk file → may_leave disk file };
+
+    /// This moment is one of those since an earlier one.
+    ghost counts_now: { (disk : Self) (t : ℕ) (file : List ℕ) → t ≤ moment disk → may_leave disk file → left_since disk t file };
+
+    /// Since this moment there is no other.
+    ghost only_now: { (disk : Self) (file : List ℕ) → left_since disk (moment disk) file → may_leave disk file };
+}
+
+/// A write, and then a sync.
+pub fn write_through<D: Disk>(disk: &mut D, at: u64, from: &[u8]) -> Result<(), DeviceFault>
+    ensures done { OnOk result (Follows (Written at from.now) (D.may_leave disk.old) (D.may_leave disk.new)) }
+    ensures durable { OnOk result (Each (D.may_leave disk.new) (D.reads disk.new)) }
+    ensures written { OnOk result (Follows (Written at from.now) (D.reads disk.old) (D.reads disk.new)) }
+    ensures failed { OnErr result (Follows (Failed at (length from.now)) (D.reads disk.old) (D.reads disk.new)) }
+    ensures any_moment { LeavesOnly D.moment D.left_since disk.old disk.new
+        (From (D.may_leave disk.old) (Torn at (length from.now))) }
+    ensures count { Counted (D.failures disk.old) (D.failures disk.new) result }
+{
+    disk.write_at(at, from)?;
+    disk.sync()
+}

@@ -1,0 +1,187 @@
+//! A disk of which one call fails.
+ghost use Rattle.std.specs.Prelude.{◌≡◌, ◌≢◌, ◌<◌, ◌≤◌, ◌+◌, ◌-◌, length, take, IfOk, IsErr, OnErr, OnOk, false, true};
+ghost use Rattle.lv_disk.specs.FaultCount.{one_if};
+ghost use Rattle.lv_disk.specs.Files.{Failed, HasAt, Torn, Written};
+ghost use Rattle.lv_disk.specs.Stops.{Counted, Each, Elapses, Follows};
+
+use crate::{DeviceFault, Disk};
+
+/// Any disk, of which one call fails.
+#[derive(Drop)]
+pub struct FaultDisk<D> {
+    inner: D,
+    // How many calls are left up to the one that fails, 0 where none is.
+    left: u64,
+    part: u32,
+    // Whether that call has failed, and not by a fault of the disk inside.
+    failed: bool,
+    ghost once: { 0 < left → failed ≡ false },
+}
+
+impl<D> FaultDisk<D> {
+    ghost use Rattle.lv_disk.specs.Fault.{inner_of, left_of, part_of, own_failures};
+
+    /// The `k`-th call from 1 fails, none where `k` is 0. Where that is a write, its first `part` bytes are put down.
+    pub fn new(inner: D, k: u64, part: u32) -> Self
+        ensures inner { inner_of result ≡ inner }
+        ensures left { left_of result ≡ k }
+        ensures part { part_of result ≡ part }
+        ensures failures { own_failures result ≡ 0 }
+    {
+        FaultDisk {
+            inner,
+            left: k,
+            part,
+            failed: false,
+        }
+    }
+
+    /// Lends the disk inside.
+    pub fn inner(&self) -> &D
+        ensures { result.now ≡ inner_of self.now }
+    {
+        &self.inner
+    }
+
+    // Counts a call, and tells whether it is the one that fails.
+    fn is_next(&mut self) -> bool
+        ensures inner { self.new.inner ≡ self.old.inner }
+        ensures left { self.new.left ≡ self.old.left - 1 }
+        ensures part { self.new.part ≡ self.old.part }
+        ensures failed { self.new.failed ≡ self.old.failed }
+        ensures next { result ≡ true → (self.old.left ≡ 1) × (self.old.failed ≡ false) }
+        ensures other { result ≡ false → self.old.left ≢ 1 }
+    {
+        let is_next = self.left == 1;
+        self.left = self.left.saturating_sub(1);
+        is_next
+    }
+
+    // The call fails here.
+    fn fail<T>(&mut self) -> Result<T, DeviceFault>
+        requires { self.old.left ≡ 0 }
+        ensures err { IsErr result }
+        ensures inner { self.new.inner ≡ self.old.inner }
+        ensures left { self.new.left ≡ self.old.left }
+        ensures part { self.new.part ≡ self.old.part }
+        ensures failed { self.new.failed ≡ true }
+    {
+        self.failed = true;
+        Err(DeviceFault)
+    }
+}
+
+impl<D: Disk> Disk for FaultDisk<D> {
+    ghost use Rattle.lv_disk.specs.Fault.{inner_of, left_of, part_of, own_failures, IsCounted, PutsDown};
+
+    ghost reads = { λ d. D.reads (inner_of d) };
+
+    ghost may_leave = { λ d. D.may_leave (inner_of d) };
+
+    ghost moment = { λ d. D.moment (inner_of d) };
+
+    ghost left_since = { λ d. D.left_since (inner_of d) };
+
+    ghost failures = { λ d. own_failures d + D.failures (inner_of d) };
+
+    ghost reads_an_image = { λ d file is. D.reads_an_image d.inner file is };
+
+    ghost counts_now = { λ d t file le now. D.counts_now d.inner t file le now };
+
+    ghost only_now = { λ d file left. D.only_now d.inner file left };
+
+    fn len(&mut self) -> Result<u64, DeviceFault>
+        ensures told { IfOk result (λ n. Each (D.reads (inner_of self.old)) (λ file. n ≡ length file)) }
+        ensures reads { Each (D.reads (inner_of self.new)) (D.reads (inner_of self.old)) }
+        ensures images { Each (D.may_leave (inner_of self.new)) (D.may_leave (inner_of self.old)) }
+        ensures time { let old = inner_of self.old in let new = inner_of self.new in
+            Elapses (D.moment old) (D.moment new) (D.left_since old) (D.left_since new) (D.may_leave new) }
+        ensures count { Counted (own_failures self.old + D.failures (inner_of self.old))
+            (own_failures self.new + D.failures (inner_of self.new)) result }
+
+        // Beyond what every disk promises: which call fails, and that the others are those of the disk inside.
+        ensures call { IsCounted D.failures self.old self.new result }
+        ensures untouched { left_of self.old ≡ 1 → inner_of self.new ≡ inner_of self.old }
+    {
+        if self.is_next() {
+            return self.fail();
+        }
+        self.inner.len()
+    }
+
+    fn read(&mut self, at: u64, into: &mut [u8]) -> Result<(), DeviceFault>
+        requires { Each (D.reads (inner_of self.old)) (λ file. at + length into.old ≤ length file) }
+        ensures told { OnOk result (Each (D.reads (inner_of self.old)) (HasAt at into.new)) }
+        ensures reads { Each (D.reads (inner_of self.new)) (D.reads (inner_of self.old)) }
+        ensures images { Each (D.may_leave (inner_of self.new)) (D.may_leave (inner_of self.old)) }
+        ensures time { let old = inner_of self.old in let new = inner_of self.new in
+            Elapses (D.moment old) (D.moment new) (D.left_since old) (D.left_since new) (D.may_leave new) }
+        ensures count { Counted (own_failures self.old + D.failures (inner_of self.old))
+            (own_failures self.new + D.failures (inner_of self.new)) result }
+
+        // Beyond what every disk promises: which call fails, and that the others are those of the disk inside.
+        ensures call { IsCounted D.failures self.old self.new result }
+        ensures untouched { left_of self.old ≡ 1 → inner_of self.new ≡ inner_of self.old }
+    {
+        if self.is_next() {
+            return self.fail();
+        }
+        self.inner.read(at, into)
+    }
+
+    fn write_at(&mut self, at: u64, from: &[u8]) -> Result<(), DeviceFault>
+        ensures written { OnOk result (Follows (Written at from.now)
+            (D.reads (inner_of self.old)) (D.reads (inner_of self.new))) }
+        ensures failed { OnErr result (Follows (Failed at (length from.now))
+            (D.reads (inner_of self.old)) (D.reads (inner_of self.new))) }
+        ensures images { Follows (Torn at (length from.now))
+            (D.may_leave (inner_of self.old)) (D.may_leave (inner_of self.new)) }
+        ensures time { let old = inner_of self.old in let new = inner_of self.new in
+            Elapses (D.moment old) (D.moment new) (D.left_since old) (D.left_since new) (D.may_leave new) }
+        ensures count { Counted (own_failures self.old + D.failures (inner_of self.old))
+            (own_failures self.new + D.failures (inner_of self.new)) result }
+
+        // Beyond what every disk promises: which call fails, and that the others are those of the disk inside.
+        ensures call { IsCounted D.failures self.old self.new result }
+        ensures untouched { left_of self.old ≡ 1 → part_of self.old ≡ 0 → inner_of self.new ≡ inner_of self.old }
+        ensures part { left_of self.old ≡ 1 → 0 < part_of self.old
+            → PutsDown at (take (part_of self.old) from.now) (D.reads (inner_of self.old)) (D.reads (inner_of self.new))
+            (D.failures (inner_of self.old)) (D.failures (inner_of self.new)) }
+    {
+        if !self.is_next() {
+            return self.inner.write_at(at, from);
+        }
+        if self.part > 0 {
+            self.inner.write_at(at, first_bytes(from, self.part))?;
+        }
+        self.fail()
+    }
+
+    fn sync(&mut self) -> Result<(), DeviceFault>
+        ensures durable { OnOk result (Each (D.may_leave (inner_of self.new)) (D.reads (inner_of self.new))) }
+        ensures reads { Each (D.reads (inner_of self.new)) (D.reads (inner_of self.old)) }
+        ensures images { Each (D.may_leave (inner_of self.new)) (D.may_leave (inner_of self.old)) }
+        ensures time { let old = inner_of self.old in let new = inner_of self.new in
+            Elapses (D.moment old) (D.moment new) (D.left_since old) (D.left_since new) (D.may_leave new) }
+        ensures count { Counted (own_failures self.old + D.failures (inner_of self.old))
+            (own_failures self.new + D.failures (inner_of self.new)) result }
+
+        // Beyond what every disk promises: which call fails, and that the others are those of the disk inside.
+        ensures call { IsCounted D.failures self.old self.new result }
+        ensures untouched { left_of self.old ≡ 1 → inner_of self.new ≡ inner_of self.old }
+    {
+        if self.is_next() {
+            return self.fail();
+        }
+        self.inner.sync()
+    }
+}
+
+// So many of the bytes, all where there are fewer.
+fn first_bytes(from: &[u8], part: u32) -> &[u8]
+    ensures first { result.now ≡ take part from.now }
+    ensures short { length result.now ≤ length from.now }
+{
+    let n = from.len().min(part as usize);
+    &from[..n]
+}

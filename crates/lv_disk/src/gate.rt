@@ -1,0 +1,7 @@
+//! A gate is one byte: what stands behind it counts where the gate is open.
+
+/// A gate with this byte is open. With any other it is closed.
+pub const OPEN_GATE: u8 = 165;
+
+/// The byte that closes a gate.
+pub const CLOSED_GATE: u8 = 0;
