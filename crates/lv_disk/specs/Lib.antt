@@ -1,5 +1,13 @@
-pub mod Files
-pub mod Stops
-pub mod Gates
-pub mod FaultCount
+pub mod Calls
+pub mod Entries
 pub mod Fault
+pub mod FaultCount
+pub mod Files
+pub mod Fill
+pub mod FixedFile
+pub mod Gates
+pub mod Kept
+pub mod Medium
+pub mod MediumLaws
+pub mod Memory
+pub mod Stops

@@ -2,13 +2,21 @@
 #![tactic(auto)]
 
 mod area;
+mod calls;
 mod disk;
+mod entry;
 mod error;
 mod fault;
+mod fill;
+mod fixed_file;
 mod gate;
+mod memory;
+mod put;
 
 pub use area::Area;
 pub use disk::{Disk, write_through};
 pub use error::{DeviceFault, OutOfMemory};
 pub use fault::FaultDisk;
+pub use fill::Fill;
 pub use gate::{CLOSED_GATE, OPEN_GATE};
+pub use memory::MemoryDisk;

@@ -1,0 +1,17 @@
+-- A record of calls in memory that was taken at once.
+use Rattle.std.specs.Prelude.{ℕ, List, length, take, drop}
+use Rattle.lv_disk.specs.Medium.{Call}
+use Rattle.lv_disk.specs.Entries.{made_by, ranges_of}
+use Rattle.lv_disk.specs.declared.calls.Calls.{Calls}
+
+-- the calls, the first of them first
+abbrev pub calls_in : Calls → List Call
+calls_in c = made_by (take c.count c.entries.items) (take c.used c.written.items)
+
+-- the ranges written since the last sync among them
+abbrev pub ranges_in : Calls → List (ℕ × ℕ)
+ranges_in c = ranges_of (drop c.since (take c.count c.entries.items))
+
+-- how many bytes the record may take
+abbrev pub limit_of : Calls → ℕ
+limit_of c = length c.written.items

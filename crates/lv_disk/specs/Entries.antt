@@ -1,0 +1,28 @@
+-- The calls that a record of entries and of written bytes stands for.
+use Rattle.std.specs.Prelude.{◌+◌, ℕ, Bool, false, List, [], ◌∷◌, take, drop}
+use Rattle.lv_disk.specs.Medium.{Call, Wrote, Synced, is_in}
+use Rattle.lv_disk.specs.declared.entry.Entry.{Entry}
+use Rattle.lv_disk.specs.declared.entry.Entry.TheVariants.{Write, Sync}
+
+-- the written bytes stand one write's after another's, and each entry says how many are its own
+abbrev pub made_by : List Entry → List ℕ → List Call
+made_by [] written = []
+made_by (Write at size ∷ entries) written = Wrote at (take size written) ∷ made_by entries (drop size written)
+made_by (Sync ∷ entries) written = Synced ∷ made_by entries written
+
+-- how many bytes all of them wrote
+abbrev pub total : List Entry → ℕ
+total [] = 0
+total (Write at size ∷ entries) = size + total entries
+total (Sync ∷ entries) = total entries
+
+-- the ranges that they wrote, each as its place and its length
+abbrev pub ranges_of : List Entry → List (ℕ × ℕ)
+ranges_of [] = []
+ranges_of (Write at size ∷ entries) = (at, size) ∷ ranges_of entries
+ranges_of (Sync ∷ entries) = ranges_of entries
+
+-- the entry is a write whose range has place i
+abbrev pub has_place : ℕ → Entry → Bool
+has_place i (Write at size) = is_in i (at, size)
+has_place i Sync = false

@@ -1,0 +1,66 @@
+-- A disk by the calls that were made of it, and what a stop may leave of it.
+use Rattle.std.specs.Prelude.{◌≡◌, ◌≤◌, ◌+◌, ◌-◌, ◌&&◌, ◌||◌, ℕ, max, Bool, false, List, [], ◌∷◌, ◌++◌, length, take, drop, replicate, slice_index, nat_lt, nat_le}
+use Rattle.std.specs.List.{list_any}
+
+-- a call that was good
+pub data Call : Type 0 where
+  Wrote : (at : ℕ) (bytes : List ℕ) → Call
+  Synced : Call
+
+-- What a disk holds: the file as it reads and, counted from the last good sync, the file of then, the ranges written
+-- since, each as its place and its length, and the greatest length since.
+pub record Medium : Type 0 where
+  pub file : List ℕ
+  pub synced : List ℕ
+  pub writes : List (ℕ × ℕ)
+  pub longest : ℕ
+
+-- the file with these bytes from `at` on, and zeros in a gap before them; no bytes change nothing
+abbrev pub overwritten : ℕ → List ℕ → List ℕ → List ℕ
+overwritten at [] file = file
+overwritten at (b ∷ bytes) file =
+    take at (file ++ replicate (at - length file) 0) ++ (b ∷ bytes) ++ drop (at + length (b ∷ bytes)) file
+
+-- a file that is all on the disk
+abbrev pub settled : List ℕ → Medium
+settled file = record { file = file; synced = file; writes = []; longest = length file }
+
+-- what a good call makes of a disk
+abbrev pub step : Medium → Call → Medium
+step m (Wrote at bytes) = record {
+  file = overwritten at bytes m.file;
+  synced = m.synced;
+  writes = m.writes ++ (at, length bytes) ∷ [];
+  longest = max m.longest (length (overwritten at bytes m.file));
+}
+step m Synced = settled m.file
+
+-- what these calls make of it, the first of them first
+abbrev pub after : Medium → List Call → Medium
+after m [] = m
+after m (call ∷ calls) = after (step m call) calls
+
+-- place i is in this range
+abbrev pub is_in : ℕ → ℕ × ℕ → Bool
+is_in i range = nat_le range.0 i && nat_lt i (range.0 + range.1)
+
+-- the byte at place i was written since the last good sync, or is past the length of then
+abbrev pub is_unsynced : Medium → ℕ → Bool
+is_unsynced m i = nat_le (length m.synced) i || list_any (is_in i) m.writes
+
+-- What a stop may leave: unsynced bytes are anything, all others are as synced, and the length lies between that of the
+-- last good sync and the greatest since.
+pub record IsImage (m : Medium) (file : List ℕ) : Type 0 where
+  pub no_shorter : length m.synced ≤ length file
+  pub no_longer : length file ≤ m.longest
+  pub same : (i : ℕ) → is_unsynced m i ≡ false → slice_index file i ≡ slice_index m.synced i
+
+-- what a stop after so many of the calls, or later, might have left
+abbrev pub LeftSince : Medium → List Call → ℕ → List ℕ → Type 0
+LeftSince first calls t file = (k : ℕ) × (t ≤ k) × (k ≤ length calls) × IsImage (after first (take k calls)) file
+
+-- the bytes that a record of these calls takes: 16 a call, and those written
+abbrev pub size_of : List Call → ℕ
+size_of [] = 0
+size_of (Wrote at bytes ∷ calls) = 16 + length bytes + size_of calls
+size_of (Synced ∷ calls) = 16 + size_of calls
