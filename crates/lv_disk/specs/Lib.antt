@@ -2,6 +2,7 @@ pub mod Calls
 pub mod Entries
 pub mod Fault
 pub mod FaultCount
+pub mod File
 pub mod Files
 pub mod Fill
 pub mod FixedFile

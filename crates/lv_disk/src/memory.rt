@@ -1,6 +1,6 @@
 //! A disk in memory, which knows what a stop at each moment since it was made may have left.
 ghost use Rattle.std.specs.List.{range_with_len};
-ghost use Rattle.std.specs.Prelude.{◌≡◌, ◌≤◌, ◌<◌, ◌+◌, ◌↔◌, map, [], ◌∷◌, ◌++◌, List, ℕ, length, IfOk, IsOk, IsTrue, OnErr, OnOk, is_ok};
+ghost use Rattle.std.specs.Prelude.{◌≡◌, ◌≤◌, ◌<◌, ◌+◌, ◌↔◌, map, [], ◌∷◌, ◌++◌, List, ℕ, length, IfOk, IsErr, IsOk, IsTrue, OnErr, OnOk, is_ok};
 ghost use Rattle.lv_disk.specs.Calls.{calls_in, ranges_in};
 ghost use Rattle.lv_disk.specs.Files.{Failed, HasAt, Torn, Written};
 ghost use Rattle.lv_disk.specs.Fill.{filled, left_at, stopped, unsynced_before};
@@ -125,6 +125,17 @@ impl MemoryDisk {
         within && self.calls.has_room(size)
     }
 
+    // Changes nothing, and counts it.
+    fn fail(&mut self) -> Result<(), DeviceFault>
+        ensures err { IsErr result }
+        ensures nothing { Goes [] self.old self.new }
+        ensures count { Counted (failures_of self.old) (failures_of self.new) result }
+    {
+        self.failures = self.failures.saturating_add(1);
+        Err(DeviceFault)
+    }
+
+    // The call as a good one.
     fn write(&mut self, at: usize, from: &[u8])
         requires within { at + length from.now ≤ room_of self.old }
         requires place { size_of (calls_of self.old) + 16 + length from.now ≤ log_of self.old }
@@ -135,6 +146,7 @@ impl MemoryDisk {
         self.calls.push_write(at, from);
     }
 
+    // Takes all that was written as on the disk.
     fn settle(&mut self)
         requires place { size_of (calls_of self.old) + 16 ≤ log_of self.old }
         ensures goes { Goes (Synced ∷ []) self.old self.new }
@@ -188,8 +200,7 @@ impl Disk for MemoryDisk {
         ensures count { Counted (failures_of self.old) (failures_of self.new) result }
     {
         if !self.has_room(at, from.len()) {
-            self.failures = self.failures.saturating_add(1);
-            return Err(DeviceFault);
+            return self.fail();
         }
         self.write(at as usize, from);
         Ok(())
@@ -202,8 +213,7 @@ impl Disk for MemoryDisk {
         ensures count { Counted (failures_of self.old) (failures_of self.new) result }
     {
         if !self.calls.has_room(0) {
-            self.failures = self.failures.saturating_add(1);
-            return Err(DeviceFault);
+            return self.fail();
         }
         self.settle();
         Ok(())

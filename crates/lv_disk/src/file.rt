@@ -1,0 +1,90 @@
+ghost use Rattle.std.specs.Prelude.{◌≡◌, ◌≤◌, ◌+◌, IfOk, IfErr, OnOk, is_ok};
+ghost use Rattle.lv_disk.specs.Stops.{Counted};
+
+use crate::{DeviceFault, Disk};
+use std::fs::{Files, OpenFile, OpenOptions};
+use std::io;
+use std::os::unix::fs::FileExt;
+
+/// A real file.
+///
+/// It tells no bytes: that what it reads and what a stop leaves of it keep the facts of `Disk` is assumed. An
+/// interrupted call of the system is tried again and a short one goes on; a read that meets the end early is a fault.
+#[derive(Drop)]
+pub struct FileDisk<F> {
+    file: F,
+    failures: u64,
+}
+
+impl<F> FileDisk<F> {
+    ghost use Rattle.lv_disk.specs.File.{failures_of};
+
+    /// Opens the file for reads and writes. With `new` one is made where there is none; nothing is cut.
+    pub fn open<R: Files<File = F>>(rt: &R, path: &str, new: bool) -> Result<FileDisk<F>, DeviceFault>
+        ensures { IfOk result (λ d. failures_of d ≡ 0) }
+    {
+        let opened = OpenOptions::new()
+            .read(true)
+            .write(true)
+            .create(new)
+            .open(rt, path);
+        match opened {
+            Ok(file) => Ok(FileDisk { file, failures: 0 }),
+            Err(_) => Err(DeviceFault),
+        }
+    }
+
+    // Counts a call that the system refused.
+    fn counted<T>(&mut self, outcome: io::Result<T>) -> Result<T, DeviceFault>
+        ensures count { Counted (failures_of self.old) (failures_of self.new) result }
+        ensures same { is_ok result ≡ is_ok outcome }
+    {
+        match outcome {
+            Ok(value) => Ok(value),
+            Err(_) => {
+                self.failures = self.failures.saturating_add(1);
+                Err(DeviceFault)
+            }
+        }
+    }
+}
+
+impl<F: FileExt + OpenFile> Disk for FileDisk<F> {
+    ghost use Rattle.lv_disk.specs.File.{failures_of};
+
+    ghost reads = { λ _ _. ⊥ };
+
+    ghost may_leave = { λ _ _. ⊥ };
+
+    ghost moment = { λ _. 0 };
+
+    ghost left_since = { λ _ _ _. ⊥ };
+
+    ghost failures = { λ d. failures_of d };
+
+    ghost reads_an_image = { λ _ _ is. is };
+
+    ghost counts_now = { λ _ _ _ _ is. is };
+
+    ghost only_now = { λ _ _ is. is };
+
+    fn len(&mut self) -> Result<u64, DeviceFault> {
+        let found = self.file.metadata();
+        Ok(self.counted(found)?.len())
+    }
+
+    fn read(&mut self, at: u64, into: &mut [u8]) -> Result<(), DeviceFault> {
+        let done = self.file.read_exact_at(into, at);
+        self.counted(done)
+    }
+
+    fn write_at(&mut self, at: u64, from: &[u8]) -> Result<(), DeviceFault> {
+        let done = self.file.write_all_at(from, at);
+        self.counted(done)
+    }
+
+    fn sync(&mut self) -> Result<(), DeviceFault> {
+        let done = self.file.sync_all();
+        self.counted(done)
+    }
+}

@@ -1,0 +1,385 @@
+use lv_disk::{
+    Area, CLOSED_GATE, DeviceFault, Disk, FaultDisk, FileDisk, Fill, MemoryDisk, OPEN_GATE,
+    OutOfMemory, write_through,
+};
+use std::alloc::{Allocator, Global};
+use std::cell::Cell;
+use std::fs::{File, Metadata, OpenFile, OpenOptions};
+use std::io::{Read, Seek, SeekFrom, Write};
+use std::os::unix::fs::FileExt;
+use std::process::Abort;
+use std::rt::Files;
+use std::test::Fail;
+use std::{fs, io};
+
+/// What a read of the whole disk gives.
+fn contents<D: Disk>(alloc: Global, disk: &mut D) -> Result<Vec<u8>, Fail> {
+    let n = disk.len()?;
+    let mut bytes = vec![in alloc; 0; n as usize]?;
+    disk.read(0, &mut bytes)?;
+    Ok(bytes)
+}
+
+/// Whether a read of the whole disk fails.
+fn read_fails<D: Disk>(alloc: Global, disk: &mut D) -> Result<bool, Fail> {
+    let n = disk.len()?;
+    let mut bytes = vec![in alloc; 0; n as usize]?;
+    Ok(disk.read(0, &mut bytes).is_err())
+}
+
+/// Each fill, with the longest and the shortest image of the disk by it.
+fn expect_stops(
+    rt: &impl Abort,
+    alloc: Global,
+    disk: &MemoryDisk,
+    images: &[(Fill, &[u8], &[u8])],
+) -> Result<(), Fail> {
+    for (fill, longest, shortest) in images {
+        for (is_longest, want) in [(true, *longest), (false, *shortest)] {
+            let mut left = disk.stop(alloc, *fill, is_longest)?;
+            assert_eq!(rt; contents(alloc, &mut left)?.as_slice(), want, "{fill:?} {is_longest}");
+            // It has no other image, so each further stop leaves the same.
+            let mut again = left.stop(alloc, Fill::Byte(9), !is_longest)?;
+            assert_eq!(rt; contents(alloc, &mut again)?.as_slice(), want, "again {fill:?}");
+        }
+    }
+    Ok(())
+}
+
+#[test]
+fn stops_after_a_write(rt: HostRuntime) -> Result<(), Fail> {
+    let mut disk = MemoryDisk::new(rt.alloc(), 16, 400)?;
+    disk.write_at(0, &[1, 2, 3])?;
+    let none: &[u8] = &[];
+    expect_stops(
+        &rt,
+        rt.alloc(),
+        &disk,
+        &[
+            (Fill::Stable, &[0, 0, 0], none),
+            (Fill::Written, &[1, 2, 3], none),
+            (Fill::Byte(7), &[7, 7, 7], none),
+            (Fill::Upto(0), &[0, 0, 0], none),
+            (Fill::Upto(2), &[1, 2, 0], none),
+            (Fill::Upto(9), &[1, 2, 3], none),
+        ],
+    )
+}
+
+#[test]
+fn stops_after_an_overwrite(rt: HostRuntime) -> Result<(), Fail> {
+    let mut disk = MemoryDisk::new(rt.alloc(), 16, 400)?;
+    write_through(&mut disk, 0, &[1, 2, 3, 4, 5])?;
+    disk.write_at(1, &[8])?;
+    disk.write_at(3, &[9])?;
+    expect_stops(
+        &rt,
+        rt.alloc(),
+        &disk,
+        &[
+            (Fill::Stable, &[1, 2, 3, 4, 5], &[1, 2, 3, 4, 5]),
+            (Fill::Written, &[1, 8, 3, 9, 5], &[1, 8, 3, 9, 5]),
+            (Fill::Byte(7), &[1, 7, 3, 7, 5], &[1, 7, 3, 7, 5]),
+            (Fill::Upto(1), &[1, 8, 3, 4, 5], &[1, 8, 3, 4, 5]),
+        ],
+    )
+}
+
+#[test]
+fn stops_after_a_write_past_the_end(rt: HostRuntime) -> Result<(), Fail> {
+    let mut disk = MemoryDisk::new(rt.alloc(), 16, 400)?;
+    write_through(&mut disk, 0, &[1, 2])?;
+    disk.write_at(4, &[5, 6])?;
+    assert_eq!(rt; contents(rt.alloc(), &mut disk)?.as_slice(), [1, 2, 0, 0, 5, 6].as_slice());
+    expect_stops(
+        &rt,
+        rt.alloc(),
+        &disk,
+        &[
+            (Fill::Stable, &[1, 2, 0, 0, 0, 0], &[1, 2]),
+            (Fill::Written, &[1, 2, 0, 0, 5, 6], &[1, 2]),
+            (Fill::Byte(7), &[1, 2, 7, 7, 7, 7], &[1, 2]),
+            (Fill::Upto(3), &[1, 2, 0, 0, 5, 0], &[1, 2]),
+        ],
+    )
+}
+
+#[test]
+fn stops_after_a_failed_sync(rt: HostRuntime) -> Result<(), Fail> {
+    // The record has a place for two writes of one byte and a sync, and for no more.
+    let mut disk = MemoryDisk::new(rt.alloc(), 16, 50)?;
+    write_through(&mut disk, 0, &[1])?;
+    disk.write_at(1, &[2])?;
+    assert_eq!(rt; disk.sync(), Err(DeviceFault));
+    assert_eq!(rt; contents(rt.alloc(), &mut disk)?.as_slice(), [1, 2].as_slice());
+    expect_stops(
+        &rt,
+        rt.alloc(),
+        &disk,
+        &[
+            (Fill::Stable, &[1, 0], &[1]),
+            (Fill::Written, &[1, 2], &[1]),
+            (Fill::Byte(7), &[1, 7], &[1]),
+            (Fill::Upto(1), &[1, 2], &[1]),
+        ],
+    )
+}
+
+#[test]
+fn runs_out_of_room_and_of_record(rt: HostRuntime) -> Result<(), Fail> {
+    let mut disk = MemoryDisk::new(rt.alloc(), 4, 67)?;
+    disk.write_at(0, &[1, 2, 3, 4])?;
+    for (at, bytes) in [(4, [9].as_slice()), (3, &[9, 9]), (5, &[]), (u64::MAX, &[9])] {
+        assert_eq!(rt; disk.write_at(at, bytes), Err(DeviceFault), "room at {at}");
+    }
+    assert_eq!(rt; contents(rt.alloc(), &mut disk)?.as_slice(), [1, 2, 3, 4].as_slice());
+    // 20 bytes of the record are taken, and a sync takes 16 more.
+    disk.sync()?;
+    assert_eq!(rt; disk.write_at(0, &[9; 16]), Err(DeviceFault));
+    // No bytes change nothing, and take a place all the same.
+    disk.write_at(4, &[])?;
+    assert_eq!(rt; disk.write_at(0, &[]), Err(DeviceFault));
+    assert_eq!(rt; disk.sync(), Err(DeviceFault));
+    assert_eq!(rt; contents(rt.alloc(), &mut disk)?.as_slice(), [1, 2, 3, 4].as_slice());
+    // The record of what a stop leaves is empty, and as long.
+    let mut left = disk.stop(rt.alloc(), Fill::Stable, false)?;
+    left.write_at(0, &[5])?;
+    left.sync()?;
+    assert_eq!(rt; left.write_at(4, &[5]), Err(DeviceFault));
+    assert_eq!(rt; contents(rt.alloc(), &mut left)?.as_slice(), [5, 2, 3, 4].as_slice());
+    Ok(())
+}
+
+/// Two writes and a sync on a disk of which the `k`-th call fails: which of them failed.
+fn three_calls<D: Disk>(disk: &mut FaultDisk<D>) -> [bool; 3] {
+    let first = disk.write_at(0, &[1, 2, 3, 4]).is_err();
+    let second = disk.write_at(4, &[5, 6, 7, 8]).is_err();
+    [first, second, disk.sync().is_err()]
+}
+
+#[test]
+fn fails_the_kth_call(rt: HostRuntime) -> Result<(), Fail> {
+    let whole = [1, 2, 3, 4, 5, 6, 7, 8];
+    for (k, part, read) in [
+        (0, 0, whole.as_slice()),
+        (1, 0, &[0, 0, 0, 0, 5, 6, 7, 8]),
+        (1, 1, &[1, 0, 0, 0, 5, 6, 7, 8]),
+        (1, 2, &[1, 2, 0, 0, 5, 6, 7, 8]),
+        (1, 4, &whole),
+        (2, 0, &[1, 2, 3, 4]),
+        (2, 1, &[1, 2, 3, 4, 5]),
+        (2, 2, &[1, 2, 3, 4, 5, 6]),
+        (2, 9, &whole),
+        (3, 0, &whole),
+        (3, 4, &whole),
+        (4, 4, &whole),
+    ] {
+        let inner = MemoryDisk::new(rt.alloc(), 16, 400)?;
+        let mut disk = FaultDisk::new(inner, k, part);
+        let failed = three_calls(&mut disk);
+        assert_eq!(rt; failed, [k == 1, k == 2, k == 3], "k {k} part {part}");
+        let mut left = disk.inner().stop(rt.alloc(), Fill::Written, true)?;
+        assert_eq!(rt; contents(rt.alloc(), &mut left)?.as_slice(), read, "k {k} part {part}");
+        // Where the sync failed nothing is sure to be on the disk.
+        let mut least = disk.inner().stop(rt.alloc(), Fill::Stable, false)?;
+        let synced = if k == 3 { [].as_slice() } else { read };
+        assert_eq!(rt; contents(rt.alloc(), &mut least)?.as_slice(), synced, "k {k} part {part}");
+    }
+    Ok(())
+}
+
+#[test]
+fn fails_a_read_and_a_length(rt: HostRuntime) -> Result<(), Fail> {
+    let mut inner = MemoryDisk::new(rt.alloc(), 16, 400)?;
+    write_through(&mut inner, 0, &[1, 2])?;
+    let mut disk = FaultDisk::new(inner, 1, 0);
+    assert_eq!(rt; disk.len(), Err(DeviceFault));
+    let mut disk = FaultDisk::new(disk, 2, 0);
+    assert!(rt; read_fails(rt.alloc(), &mut disk)?);
+    assert_eq!(rt; contents(rt.alloc(), &mut disk)?.as_slice(), [1, 2].as_slice());
+    Ok(())
+}
+
+#[test]
+fn keeps_a_real_file(rt: HostRuntime) -> Result<(), Fail> {
+    let path = "lv_disk_real_file";
+    let _ = fs::remove_file(&rt, path);
+    assert!(rt; FileDisk::open(&rt, path, false).is_err(), "there is none");
+    let mut disk = FileDisk::open(&rt, path, true)?;
+    assert_eq!(rt; disk.len(), Ok(0));
+    disk.write_at(2, &[1, 2, 3])?;
+    disk.write_at(9, &[])?;
+    disk.sync()?;
+    for new in [true, false] {
+        let mut again = FileDisk::open(&rt, path, new)?;
+        let read = contents(rt.alloc(), &mut again)?;
+        assert_eq!(rt; read.as_slice(), [0, 0, 1, 2, 3].as_slice(), "new {new}");
+        let mut beyond = [0; 2];
+        assert_eq!(rt; again.read(4, &mut beyond), Err(DeviceFault), "it meets the end early");
+        assert_eq!(rt; again.write_at(u64::MAX, &[1]), Err(DeviceFault));
+    }
+    fs::remove_file(&rt, path)?;
+    assert!(rt; FileDisk::open(&rt, ".", true).is_err(), "a folder");
+    assert!(rt; FileDisk::open(&rt, "lv_disk_no_folder/a", true).is_err());
+    Ok(())
+}
+
+#[test]
+fn has_its_numbers(rt: HostRuntime) {
+    assert_eq!(rt; DeviceFault.code(), 30);
+    assert_eq!(rt; OutOfMemory.code(), 31);
+    assert_eq!(rt; (OPEN_GATE, CLOSED_GATE), (165, 0));
+    let area = Area {
+        base: 1,
+        length: 2,
+    };
+    assert_eq!(rt; (area.base, area.length), (1, 2));
+}
+
+/// A file of which every other call is interrupted, and the others read or write one byte.
+#[derive(Drop)]
+struct Flaky {
+    file: File,
+    calls: Cell<u32>,
+}
+
+impl Flaky {
+    fn is_interrupted(&self) -> bool {
+        let calls = self.calls.get();
+        self.calls.set(calls.wrapping_add(1));
+        calls % 2 == 0
+    }
+}
+
+impl FileExt for Flaky {
+    fn read_at(&self, buf: &mut [u8], offset: u64) -> io::Result<usize> {
+        if self.is_interrupted() {
+            return Err(io::ErrorKind::Interrupted.into());
+        }
+        let n = buf.len().min(1);
+        self.file.read_at(&mut buf[..n], offset)
+    }
+
+    fn write_at(&self, buf: &[u8], offset: u64) -> io::Result<usize> {
+        if self.is_interrupted() {
+            return Err(io::ErrorKind::Interrupted.into());
+        }
+        let n = buf.len().min(1);
+        self.file.write_at(&buf[..n], offset)
+    }
+}
+
+impl OpenFile for Flaky {
+    fn metadata(&self) -> io::Result<Metadata> {
+        self.file.metadata()
+    }
+
+    fn set_len(&self, size: u64) -> io::Result<()> {
+        self.file.set_len(size)
+    }
+
+    fn sync_all(&self) -> io::Result<()> {
+        self.file.sync_all()
+    }
+
+    fn sync_data(&self) -> io::Result<()> {
+        self.file.sync_data()
+    }
+}
+
+impl Read for Flaky {
+    fn read(&mut self, buf: &mut [u8]) -> io::Result<usize> {
+        self.file.read(buf)
+    }
+}
+
+impl Write for Flaky {
+    fn write(&mut self, buf: &[u8]) -> io::Result<usize> {
+        self.file.write(buf)
+    }
+
+    fn flush(&mut self) -> io::Result<()> {
+        self.file.flush()
+    }
+}
+
+impl Seek for Flaky {
+    fn seek(&mut self, to: SeekFrom) -> io::Result<u64> {
+        self.file.seek(to)
+    }
+}
+
+/// A runtime whose files are flaky.
+#[derive(Drop)]
+struct FlakyFiles<'a> {
+    rt: &'a HostRuntime,
+}
+
+fn unsupported<T>() -> io::Result<T> {
+    Err(io::ErrorKind::Unsupported.into())
+}
+
+impl Files for FlakyFiles<'_> {
+    type File = Flaky;
+
+    type Dir = File;
+
+    fn open_file(&self, how: &OpenOptions, path: &str) -> io::Result<Flaky> {
+        let file = how.open(self.rt, path)?;
+        Ok(Flaky {
+            file,
+            calls: Cell::new(0),
+        })
+    }
+
+    fn open_dir(&self, _path: &str) -> io::Result<File> {
+        unsupported()
+    }
+
+    fn metadata(&self, _path: &str) -> io::Result<Metadata> {
+        unsupported()
+    }
+
+    fn symlink_metadata(&self, _path: &str) -> io::Result<Metadata> {
+        unsupported()
+    }
+
+    fn copy(&self, _from: &str, _to: &str) -> io::Result<u64> {
+        unsupported()
+    }
+
+    fn rename(&self, _from: &str, _to: &str) -> io::Result<()> {
+        unsupported()
+    }
+
+    fn remove_file(&self, _path: &str) -> io::Result<()> {
+        unsupported()
+    }
+
+    fn create_dir(&self, _path: &str) -> io::Result<()> {
+        unsupported()
+    }
+
+    fn remove_dir(&self, _path: &str) -> io::Result<()> {
+        unsupported()
+    }
+
+    fn remove_dir_all<B: Allocator>(&self, _alloc: B, _path: &str) -> io::Result<()> {
+        unsupported()
+    }
+}
+
+#[test]
+fn goes_on_after_interrupted_and_short_calls(rt: HostRuntime) -> Result<(), Fail> {
+    let path = "lv_disk_flaky_file";
+    let _ = fs::remove_file(&rt, path);
+    let mut disk = FileDisk::open(&FlakyFiles { rt: &rt }, path, true)?;
+    disk.write_at(1, &[1, 2, 3])?;
+    disk.sync()?;
+    let read = contents(rt.alloc(), &mut disk)?;
+    assert_eq!(rt; read.as_slice(), [0, 1, 2, 3].as_slice());
+    let mut beyond = [0; 3];
+    assert_eq!(rt; disk.read(2, &mut beyond), Err(DeviceFault), "it meets the end early");
+    fs::remove_file(&rt, path)?;
+    Ok(())
+}
