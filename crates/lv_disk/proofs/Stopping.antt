@@ -8,7 +8,7 @@ use Rattle.std.proofs.lemmas.Bool.Decides.{nat_tests}
 use Rattle.std.specs.List.{range_with_len}
 use Rattle.lv_disk.specs.Files.{Outside, Torn}
 use Rattle.lv_disk.specs.Stops.{From, Elapses}
-use Rattle.lv_disk.specs.Kept.{Shows}
+use Rattle.lv_disk.specs.Shows.{Shows}
 use Rattle.lv_disk.specs.Medium.{Call, Wrote, Synced, Medium, overwritten, settled, step, after, is_in, is_unsynced, IsImage, LeftSince}
 use Rattle.lv_disk.proofs.Overwriting.{overwritten_size, overwritten_no_shorter, overwritten_nothing, overwritten_out}
 

@@ -7,8 +7,8 @@ pub mod Files
 pub mod Fill
 pub mod FixedFile
 pub mod Gates
-pub mod Kept
 pub mod Medium
 pub mod MediumLaws
 pub mod Memory
+pub mod Shows
 pub mod Stops

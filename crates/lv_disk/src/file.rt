@@ -20,7 +20,11 @@ impl<F> FileDisk<F> {
     ghost use Rattle.lv_disk.specs.File.{failures_of};
 
     /// Opens the file for reads and writes. With `new` one is made where there is none; nothing is cut.
-    pub fn open<R: Files<File = F>>(rt: &R, path: &str, new: bool) -> Result<FileDisk<F>, DeviceFault>
+    pub fn open<R: Files<File = F>>(
+        rt: &R,
+        path: &str,
+        new: bool,
+    ) -> Result<FileDisk<F>, DeviceFault>
         ensures { IfOk result (λ d. failures_of d ≡ 0) }
     {
         let opened = OpenOptions::new()

@@ -5,7 +5,7 @@ ghost use Rattle.lv_disk.specs.Calls.{calls_in, ranges_in};
 ghost use Rattle.lv_disk.specs.Files.{Failed, HasAt, Torn, Written};
 ghost use Rattle.lv_disk.specs.Fill.{filled, left_at, stopped, unsynced_before};
 ghost use Rattle.lv_disk.specs.FixedFile.{bytes_of, most_of};
-ghost use Rattle.lv_disk.specs.Kept.{Shows};
+ghost use Rattle.lv_disk.specs.Shows.{Shows};
 ghost use Rattle.lv_disk.specs.Medium.{IsImage, LeftSince, Synced, Wrote, after, is_unsynced, settled, size_of};
 ghost use Rattle.lv_disk.specs.MediumLaws.{image_now, left_now, reads_image};
 ghost use Rattle.lv_disk.specs.Stops.{Counted, Each, Elapses, Follows};
@@ -28,7 +28,8 @@ pub struct MemoryDisk {
     first: FixedFile,
     calls: Calls,
     failures: u64,
-    ghost shows: { Shows (after (settled (bytes_of first)) (calls_in calls)) (bytes_of file) (bytes_of synced) (ranges_in calls) },
+    ghost shows: { Shows (after (settled (bytes_of first)) (calls_in calls))
+        (bytes_of file) (bytes_of synced) (ranges_in calls) },
     ghost same_room: { most_of synced ≡ most_of file },
 }
 
@@ -46,7 +47,8 @@ impl MemoryDisk {
     /// The disk as a stop now may leave it: the image that the fill names, of the greatest length or of the least.
     pub fn stop(&self, alloc: Global, fill: Fill, longest: bool) -> Result<MemoryDisk, OutOfMemory>
         ensures image { IsImage (medium_of self.now) (stopped (medium_of self.now) fill longest) }
-        ensures begins { IfOk result (Begins (stopped (medium_of self.now) fill longest) (room_of self.now) (log_of self.now)) }
+        ensures begins { IfOk result (Begins (stopped (medium_of self.now) fill longest)
+            (room_of self.now) (log_of self.now)) }
         ensures only { IfOk result (λ d. Each (IsImage (medium_of d)) (λ image. image ≡ (medium_of d).file)) }
     {
         let size = if longest {
@@ -61,7 +63,8 @@ impl MemoryDisk {
     // So many bytes of the image that the fill names.
     fn image(&self, alloc: Global, fill: Fill, size: usize) -> Result<FixedFile, OutOfMemory>
         requires { size ≤ room_of self.now }
-        ensures bytes { IfOk result (λ f. bytes_of f ≡ map (left_at (medium_of self.now) fill) (range_with_len 0 size)) }
+        ensures bytes { IfOk result (λ f.
+            bytes_of f ≡ map (left_at (medium_of self.now) fill) (range_with_len 0 size)) }
         ensures most { IfOk result (λ f. most_of f ≡ room_of self.now) }
     {
         let mut image = FixedFile::new(alloc, self.file.most())?;
@@ -118,7 +121,8 @@ impl MemoryDisk {
 
     // Whether a write of so many bytes ends within the room and has a place in the record.
     fn has_room(&self, at: u64, size: usize) -> bool
-        ensures { IsTrue result ↔ ((at + size ≤ room_of self.now) × (size_of (calls_of self.now) + 16 + size ≤ log_of self.now)) }
+        ensures { IsTrue result
+            ↔ ((at + size ≤ room_of self.now) × (size_of (calls_of self.now) + 16 + size ≤ log_of self.now)) }
     {
         let room = self.file.most();
         let within = at <= room as u64 && size <= room - at as usize;
@@ -194,7 +198,8 @@ impl Disk for MemoryDisk {
     }
 
     fn write_at(&mut self, at: u64, from: &[u8]) -> Result<(), DeviceFault>
-        ensures ok { IsOk result ↔ ((at + length from.now ≤ room_of self.old) × (size_of (calls_of self.old) + 16 + length from.now ≤ log_of self.old)) }
+        ensures ok { IsOk result ↔ ((at + length from.now ≤ room_of self.old)
+            × (size_of (calls_of self.old) + 16 + length from.now ≤ log_of self.old)) }
         ensures done { OnOk result (Goes (Wrote at from.now ∷ []) self.old self.new) }
         ensures nothing { OnErr result (Goes [] self.old self.new) }
         ensures count { Counted (failures_of self.old) (failures_of self.new) result }
