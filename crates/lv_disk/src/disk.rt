@@ -28,6 +28,7 @@ pub trait Disk {
     fn len(&mut self) -> Result<u64, DeviceFault>
         ensures told { IfOk result (λ n. Each (reads self.old) (λ file. n ≡ length file)) }
         ensures reads { Each (reads self.new) (reads self.old) }
+        ensures still { Each (reads self.old) (reads self.new) }
         ensures images { Each (may_leave self.new) (may_leave self.old) }
         ensures time { Elapses (moment self.old) (moment self.new)
             (left_since self.old) (left_since self.new) (may_leave self.new) }
@@ -38,6 +39,7 @@ pub trait Disk {
         requires { Each (reads self.old) (λ file. at + length into.old ≤ length file) }
         ensures told { OnOk result (Each (reads self.old) (HasAt at into.new)) }
         ensures reads { Each (reads self.new) (reads self.old) }
+        ensures still { Each (reads self.old) (reads self.new) }
         ensures images { Each (may_leave self.new) (may_leave self.old) }
         ensures time { Elapses (moment self.old) (moment self.new)
             (left_since self.old) (left_since self.new) (may_leave self.new) }

@@ -93,6 +93,7 @@ impl<D: Disk> Disk for FaultDisk<D> {
     fn len(&mut self) -> Result<u64, DeviceFault>
         ensures told { IfOk result (λ n. Each (D.reads (inner_of self.old)) (λ file. n ≡ length file)) }
         ensures reads { Each (D.reads (inner_of self.new)) (D.reads (inner_of self.old)) }
+        ensures still { Each (D.reads (inner_of self.old)) (D.reads (inner_of self.new)) }
         ensures images { Each (D.may_leave (inner_of self.new)) (D.may_leave (inner_of self.old)) }
         ensures time { let old = inner_of self.old in let new = inner_of self.new in
             Elapses (D.moment old) (D.moment new) (D.left_since old) (D.left_since new) (D.may_leave new) }
@@ -113,6 +114,7 @@ impl<D: Disk> Disk for FaultDisk<D> {
         requires { Each (D.reads (inner_of self.old)) (λ file. at + length into.old ≤ length file) }
         ensures told { OnOk result (Each (D.reads (inner_of self.old)) (HasAt at into.new)) }
         ensures reads { Each (D.reads (inner_of self.new)) (D.reads (inner_of self.old)) }
+        ensures still { Each (D.reads (inner_of self.old)) (D.reads (inner_of self.new)) }
         ensures images { Each (D.may_leave (inner_of self.new)) (D.may_leave (inner_of self.old)) }
         ensures time { let old = inner_of self.old in let new = inner_of self.new in
             Elapses (D.moment old) (D.moment new) (D.left_since old) (D.left_since new) (D.may_leave new) }
