@@ -1,0 +1,24 @@
+-- What the fields of a journal tell of.
+use Rattle.std.specs.Prelude.{◌<◌, ◌≤◌, ℕ, List, [], length, map, Option, Some, None, Vec}
+use Rattle.std.specs.declared.alloc.Global.{Global}
+use Rattle.lv_journal.specs.Records.{records_bytes}
+use Rattle.lv_journal.specs.State.{State}
+use Rattle.lv_journal.specs.declared.journal.Journal.TheInside.{Inside}
+
+-- the payloads that the journal was opened with, none where it was not opened
+abbrev pub found_in : Option (Vec (Vec ℕ Global) Global) → List (List ℕ)
+found_in None = []
+found_in (Some records) = map (λ payload. payload.items) records.items
+
+abbrev pub state_of : Inside → State
+state_of fields = record {
+  area = fields.area;
+  next = fields.next;
+  must_reopen = fields.must_reopen;
+  records = found_in fields.records;
+}
+
+-- the next gate lies inside the area, behind the records that the journal was opened with
+pub record IsInArea (fields : Inside) : Type 0 where
+  pub next : fields.next < fields.area.length
+  pub behind : length (records_bytes (found_in fields.records)) ≤ fields.next

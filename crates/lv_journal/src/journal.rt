@@ -1,0 +1,119 @@
+// A record counts where its gate is open. A closed gate stands behind the last one, on the disk before anything is
+// written behind it.
+ghost use Rattle.std.specs.Prelude.{◌≡◌, ◌≤◌, ◌<◌, ◌⊎◌, ◌↔◌, ◌+◌, ◌++◌, List, [], ◌∷◌, ℕ, length, take, map, true, false, OnOk, OnErr, IsErrOf, IfErr, IfOk};
+ghost use Rattle.lv_disk.specs.Stops.{From, Follows, Each, LeavesOnly, Rose};
+ghost use Rattle.lv_disk.specs.Gates.{IsClosedAt};
+ghost use Rattle.lv_journal.specs.Append.{Appends, MayAppend};
+
+use crate::JournalError;
+use crate::record::{records_len, write_record};
+use lv_disk::{Area, Disk};
+use std::marker::Model;
+
+/// The records of an area of a disk.
+#[derive(Drop)]
+pub struct Journal {
+    area: Area,
+    // Where in the area the next gate stands.
+    next: u32,
+    must_reopen: bool,
+    records: Option<Vec<Vec<u8>>>,
+}
+
+impl Model for Journal {
+    ghost use Rattle.lv_journal.specs.State.{State};
+
+    ghost Value = { State };
+
+    ghost use Rattle.lv_journal.specs.View.{state_of, IsInArea};
+
+    ghost view = { state_of };
+
+    ghost invariant = { IsInArea };
+}
+
+impl Journal {
+    ghost use Rattle.lv_journal.specs.State.{opened, room_of, place_of, IsAbove, IsReady};
+
+    /// The journal without records of an area that begins with a closed gate. It makes no device call.
+    pub fn fresh<D: Disk>(disk: &D, area: Area) -> Journal
+        requires some { 0 < area.length }
+        requires closed { Each (D.may_leave disk.now) (IsClosedAt area.base) }
+        ensures empty { result ≡ opened area [] }
+        ensures ready { IsReady result (D.may_leave disk.now) }
+    {
+        Journal {
+            area,
+            next: 0,
+            must_reopen: false,
+            records: None,
+        }
+    }
+
+    /// The payloads that `open` found, in order.
+    pub fn records(&self) -> &[Vec<u8>]
+        ensures { map (λ payload. payload.items) result.now ≡ self.now.records }
+    {
+        match &self.records {
+            Some(records) => records,
+            None => &[],
+        }
+    }
+
+    /// Where in the file the gate of the n-th of `records` stands.
+    pub fn place(&self, n: usize) -> Option<u64>
+        ensures { result ≡ place_of self.now n }
+    {
+        let records = self.records();
+        if n < records.len() {
+            Some(self.area.base + records_len(&records[..n]))
+        } else {
+            None
+        }
+    }
+
+    /// The length of the longest payload that still fits, none where not even an empty one does.
+    pub fn room(&self) -> Option<u32>
+        ensures { result ≡ room_of self.now }
+    {
+        (self.area.length - self.next).checked_sub(6)
+    }
+
+    /// Puts a payload of at most 256 bytes on the disk behind the others. It makes four device calls, and takes no
+    /// memory. After a `Device` each call is answered `Reopen`.
+    pub fn append<D: Disk>(&mut self, disk: &mut D, payload: &[u8]) -> Result<(), JournalError>
+        requires short { length payload.now ≤ 256 }
+        requires ready { IsReady self.old (D.may_leave disk.old) }
+
+        // After an Ok each file that a stop may leave has the record, and the journal takes the next one.
+        ensures appended { OnOk result (Follows (Appends self.old.area payload.now) (D.may_leave disk.old) (D.may_leave disk.new)) }
+        ensures durable { OnOk result (Each (D.may_leave disk.new) (D.reads disk.new)) }
+        ensures next { OnOk result (self.new ≡ record self.old { next = self.old.next + 5 + length payload.now }) }
+        ensures ready { IsReady self.new (D.may_leave disk.new) }
+
+        // A stop at any moment of the call leaves the records from before it, with the new one or without.
+        ensures any_moment { LeavesOnly D.moment D.left_since disk.old disk.new
+            (From (D.may_leave disk.old) (MayAppend self.old.area payload.now)) }
+
+        ensures device { IsErrOf result JournalError.Device
+            → (self.new ≡ record self.old { must_reopen = true }) × Rose (D.failures disk.old) (D.failures disk.new) }
+        ensures reopen { IsErrOf result JournalError.Reopen ↔ (self.old.must_reopen ≡ true) }
+        ensures full { IsErrOf result JournalError.JournalFull
+            ↔ ((self.old.must_reopen ≡ false) × IsAbove (room_of self.old) (length payload.now)) }
+        ensures nothing { IfErr result (λ e. (e ≡ JournalError.Device) ⊎ ((disk.new ≡ disk.old) × (self.new ≡ self.old))) }
+        ensures no_other { IfErr result (λ e. (e ≡ JournalError.Device) ⊎ ((e ≡ JournalError.Reopen) ⊎ (e ≡ JournalError.JournalFull))) }
+        ensures count { OnOk result (D.failures disk.new ≡ D.failures disk.old) }
+    {
+        if self.must_reopen {
+            return Err(JournalError::Reopen);
+        }
+        if payload.len() + 6 > (self.area.length - self.next) as usize {
+            return Err(JournalError::JournalFull);
+        }
+        self.must_reopen = true;
+        write_record(disk, self.area, self.next, payload)?;
+        self.next += 5 + payload.len() as u32;
+        self.must_reopen = false;
+        Ok(())
+    }
+}

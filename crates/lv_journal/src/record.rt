@@ -1,0 +1,56 @@
+// A record in the file: a gate, which is open or closed, the payload's length and the payload.
+ghost use Rattle.std.specs.Prelude.{◌≡◌, ◌≤◌, ◌<◌, ◌+◌, ◌++◌, List, [], ◌∷◌, ℕ, length, take, map, OnOk, ◌^◌};
+ghost use Rattle.std.specs.Int.{to_le_bytes, w32};
+ghost use Rattle.lv_disk.specs.Stops.{From, Follows, Each, LeavesOnly, Counted};
+ghost use Rattle.lv_journal.specs.Records.{records_bytes, EndsAt};
+ghost use Rattle.lv_journal.specs.Append.{Appends, MayAppend};
+
+use lv_disk::{Area, CLOSED_GATE, DeviceFault, Disk, OPEN_GATE, write_through};
+
+// The length, the payload and a closed gate.
+fn put_block(block: &mut [u8], payload: &[u8])
+    requires short { length payload.now ≤ 256 }
+    requires room { length block.old ≡ 261 }
+    ensures { take (length payload.now + 5) block.new ≡ to_le_bytes w32 (length payload.now) ++ payload.now ++ 0 ∷ [] }
+{
+    let n = payload.len();
+    block[..4].copy_from_slice(&(n as u32).to_le_bytes());
+    block[4..4 + n].copy_from_slice(payload);
+    block[4 + n] = CLOSED_GATE;
+}
+
+// Writes a record behind the closed gate `next` bytes into the area, and then opens that gate.
+pub fn write_record<D: Disk>(
+    disk: &mut D,
+    area: Area,
+    next: u32,
+    payload: &[u8],
+) -> Result<(), DeviceFault>
+    requires short { length payload.now ≤ 256 }
+    requires room { next + length payload.now + 6 ≤ area.length }
+    requires ready { Each (D.may_leave disk.old) (EndsAt area next) }
+    ensures appended { OnOk result (Follows (Appends area payload.now) (D.may_leave disk.old) (D.may_leave disk.new)) }
+    ensures durable { OnOk result (Each (D.may_leave disk.new) (D.reads disk.new)) }
+    ensures ready { OnOk result (Each (D.may_leave disk.new) (EndsAt area (next + 5 + length payload.now))) }
+    ensures any_moment { LeavesOnly D.moment D.left_since disk.old disk.new
+        (From (D.may_leave disk.old) (MayAppend area payload.now)) }
+    ensures count { Counted (D.failures disk.old) (D.failures disk.new) result }
+{
+    let mut block = [0; 261];
+    put_block(&mut block, payload);
+    let gate = area.base + next as u64;
+    write_through(disk, gate + 1, &block[..payload.len() + 5])?;
+    write_through(disk, gate, &[OPEN_GATE])
+}
+
+// How many bytes the records of the payloads take.
+pub fn records_len(payloads: &[Vec<u8>]) -> u64
+    requires { length (records_bytes (map (λ payload. payload.items) payloads.now)) < 2 ^ 64 }
+    ensures { result ≡ length (records_bytes (map (λ payload. payload.items) payloads.now)) }
+{
+    let mut len = 0;
+    for payload in payloads {
+        len += 5 + payload.len() as u64;
+    }
+    len
+}
