@@ -11,7 +11,7 @@ use Rattle.lv_disk.proofs.Bytes.{keeps_itself, keeps_wider, keeps_then, has_kept
 use Rattle.lv_journal.specs.Records.{record_bytes, records_bytes, IsJournal, EndsAt}
 use Rattle.lv_journal.specs.Append.{Appends, MayAppend}
 use Rattle.lv_journal.proofs.Lengths.{records_bytes-push}
-use Rattle.lv_journal.proofs.Reading.{one_journal}
+use Rattle.lv_journal.proofs.OneReading.{one_journal}
 
 -- the payload's record but for its gate, and the next gate
 abbrev pub block : List ℕ → List ℕ
@@ -77,7 +77,7 @@ module _ (area : Area) (next : ℕ) (payload : List ℕ) (short : length payload
       }
 
   ends_there : (payloads : List (List ℕ)) (old : List ℕ) → EndsAt area next old → IsJournal area payloads old → length (records_bytes payloads) ≡ next
-  ends_there payloads old ends is = ap (λ (ps : List (List ℕ)). length (records_bytes ps)) (one_journal area payloads ends.0 old is ends.1) ∙ ends.2
+  ends_there payloads old ends is = ap (λ (ps : List (List ℕ)). length (records_bytes ps)) (one_journal area old payloads ends.0 is ends.1) ∙ ends.2
 
   -- the first write, cut short anywhere, leaves the list
   pub torn_behind : (old new : List ℕ) → EndsAt area next old → Torn (gate + 1) (length payload + 5) old new → MayAppend area payload old new

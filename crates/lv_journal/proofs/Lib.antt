@@ -1,3 +1,5 @@
 pub mod Lengths
-pub mod Reading
+pub mod OneReading
+pub mod ReadingCalls
+pub mod ReadingLoop
 pub mod Append

@@ -1,5 +1,8 @@
 pub mod Records
+pub mod Damage
+pub mod Reading
 pub mod Append
 pub mod State
 pub mod View
 pub mod Errors
+pub mod Faults

@@ -1,13 +1,21 @@
 // A record counts where its gate is open. A closed gate stands behind the last one, on the disk before anything is
 // written behind it.
 ghost use Rattle.std.specs.Prelude.{◌≡◌, ◌≤◌, ◌<◌, ◌⊎◌, ◌↔◌, ◌+◌, ◌++◌, List, [], ◌∷◌, ℕ, length, take, map, true, false, OnOk, OnErr, IsErrOf, IfErr, IfOk};
-ghost use Rattle.lv_disk.specs.Stops.{From, Follows, Each, LeavesOnly, Rose};
+ghost use Rattle.lv_disk.specs.Stops.{From, Follows, Each, LeavesOnly};
 ghost use Rattle.lv_disk.specs.Gates.{IsClosedAt};
+ghost use Rattle.lv_disk.specs.Files.{Failed, Torn, Written};
 ghost use Rattle.lv_journal.specs.Append.{Appends, MayAppend};
+ghost use Rattle.lv_journal.specs.Damage.{IsDamagedAt};
+ghost use Rattle.lv_journal.specs.Faults.{CountsFaults};
+ghost use Rattle.lv_journal.specs.Reading.{OnlyReads};
+ghost use Rattle.lv_journal.specs.Records.{IsJournal};
+ghost use Rattle.lv_journal.specs.State.{opened, room_of, place_of, IsAbove, IsReady};
 
 use crate::JournalError;
+use crate::reading::read_records;
 use crate::record::{records_len, write_record};
-use lv_disk::{Area, Disk};
+use lv_disk::{Area, CLOSED_GATE, Disk};
+use std::alloc::Global;
 use std::marker::Model;
 
 /// The records of an area of a disk.
@@ -33,14 +41,41 @@ impl Model for Journal {
 }
 
 impl Journal {
-    ghost use Rattle.lv_journal.specs.State.{opened, room_of, place_of, IsAbove, IsReady};
+    /// Reads the records of an area. What the disk reads is to be its only image.
+    ///
+    /// A gate that isn't in the file, or an open one whose record isn't whole, is `Damaged` with the gate's place in the
+    /// file. Whatever stands behind a closed gate counts for nothing.
+    pub fn open<D: Disk>(alloc: Global, disk: &mut D, area: Area) -> Result<Journal, JournalError>
+        requires only { Each (D.may_leave disk.old) (D.reads disk.old) }
 
-    /// The journal without records of an area that begins with a closed gate. It makes no device call.
-    pub fn fresh<D: Disk>(disk: &D, area: Area) -> Journal
-        requires some { 0 < area.length }
-        requires closed { Each (D.may_leave disk.now) (IsClosedAt area.base) }
-        ensures empty { result ≡ opened area [] }
-        ensures ready { IsReady result (D.may_leave disk.now) }
+        // The records are those that the area's bytes stand for.
+        ensures opened { IfOk result (λ journal. journal ≡ opened area journal.records) }
+        ensures sound { IfOk result (λ journal. Each (D.reads disk.old) (IsJournal area journal.records)) }
+        ensures ready { IfOk result (λ journal. IsReady journal (D.may_leave disk.new)) }
+
+        ensures damaged { IfErr result (λ e. (place : ℕ) → e ≡ JournalError.Damaged place
+            → Each (D.reads disk.old) (IsDamagedAt area place)) }
+        ensures no_other { IfErr result (λ e. (e ≡ JournalError.Device)
+            ⊎ ((e ≡ JournalError.OutOfMemory) ⊎ ((place : ℕ) × (e ≡ JournalError.Damaged place)))) }
+
+        // It writes nothing.
+        ensures reads { OnlyReads D.reads D.may_leave D.moment D.left_since disk.old disk.new }
+        ensures only { Each (D.may_leave disk.new) (D.reads disk.new) }
+        ensures count { CountsFaults (D.failures disk.old) (D.failures disk.new) result }
+    {
+        let records = read_records(alloc, disk, area)?;
+        Ok(Journal {
+            area,
+            next: records_len(&records) as u32,
+            must_reopen: false,
+            records: Some(records),
+        })
+    }
+
+    // The journal of an area without records.
+    fn empty(area: Area) -> Journal
+        requires { 0 < area.length }
+        ensures { result ≡ opened area [] }
     {
         Journal {
             area,
@@ -48,6 +83,17 @@ impl Journal {
             must_reopen: false,
             records: None,
         }
+    }
+
+    /// The journal without records of an area that begins with a closed gate in every image of the disk. It makes no
+    /// device call.
+    pub fn fresh<D: Disk>(disk: &D, area: Area) -> Journal
+        requires some { 0 < area.length }
+        requires closed { Each (D.may_leave disk.now) (IsClosedAt area.base) }
+        ensures empty { result ≡ opened area [] }
+        ensures ready { IsReady result (D.may_leave disk.now) }
+    {
+        Journal::empty(area)
     }
 
     /// The payloads that `open` found, in order.
@@ -95,14 +141,13 @@ impl Journal {
         ensures any_moment { LeavesOnly D.moment D.left_since disk.old disk.new
             (From (D.may_leave disk.old) (MayAppend self.old.area payload.now)) }
 
-        ensures device { IsErrOf result JournalError.Device
-            → (self.new ≡ record self.old { must_reopen = true }) × Rose (D.failures disk.old) (D.failures disk.new) }
+        ensures device { IsErrOf result JournalError.Device → (self.new ≡ record self.old { must_reopen = true }) }
         ensures reopen { IsErrOf result JournalError.Reopen ↔ (self.old.must_reopen ≡ true) }
         ensures full { IsErrOf result JournalError.JournalFull
             ↔ ((self.old.must_reopen ≡ false) × IsAbove (room_of self.old) (length payload.now)) }
         ensures nothing { IfErr result (λ e. (e ≡ JournalError.Device) ⊎ ((disk.new ≡ disk.old) × (self.new ≡ self.old))) }
         ensures no_other { IfErr result (λ e. (e ≡ JournalError.Device) ⊎ ((e ≡ JournalError.Reopen) ⊎ (e ≡ JournalError.JournalFull))) }
-        ensures count { OnOk result (D.failures disk.new ≡ D.failures disk.old) }
+        ensures count { CountsFaults (D.failures disk.old) (D.failures disk.new) result }
     {
         if self.must_reopen {
             return Err(JournalError::Reopen);
@@ -116,4 +161,21 @@ impl Journal {
         self.must_reopen = false;
         Ok(())
     }
+}
+
+/// Writes a closed gate at the front of an area, and doesn't sync: from its sync on the area stands for no record, and
+/// the journal is the one of its area.
+pub fn blank<D: Disk>(disk: &mut D, area: Area) -> Result<Journal, JournalError>
+    requires { 0 < area.length }
+    ensures empty { IfOk result (λ journal. journal ≡ opened area []) }
+    ensures written { OnOk result (Follows (Written area.base (0 ∷ [])) (D.reads disk.old) (D.reads disk.new)) }
+    ensures none { OnOk result (Each (D.reads disk.new) (IsJournal area [])) }
+    ensures failed { OnErr result (Follows (Failed area.base 1) (D.reads disk.old) (D.reads disk.new)) }
+    ensures images { Follows (Torn area.base 1) (D.may_leave disk.old) (D.may_leave disk.new) }
+    ensures any_moment { LeavesOnly D.moment D.left_since disk.old disk.new (From (D.may_leave disk.old) (Torn area.base 1)) }
+    ensures device { IfErr result (λ e. e ≡ JournalError.Device) }
+    ensures count { CountsFaults (D.failures disk.old) (D.failures disk.new) result }
+{
+    disk.write_at(area.base, &[CLOSED_GATE])?;
+    Ok(Journal::empty(area))
 }

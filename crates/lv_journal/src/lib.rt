@@ -3,7 +3,10 @@
 
 mod error;
 mod journal;
+mod law;
+mod reading;
 mod record;
 
 pub use error::JournalError;
-pub use journal::Journal;
+pub use journal::{Journal, blank};
+pub use law::stand_for_one_list;
