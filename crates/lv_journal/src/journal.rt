@@ -1,5 +1,5 @@
-// A record counts where its gate is open. A closed gate stands behind the last one, on the disk before anything is
-// written behind it.
+//! A journal: a record counts where its gate is open, and a closed gate stands behind the last one, on the disk before
+//! anything is written behind it.
 ghost use Rattle.std.specs.Prelude.{◌≡◌, ◌≤◌, ◌<◌, ◌⊎◌, ◌↔◌, ◌+◌, ◌++◌, List, [], ◌∷◌, ℕ, length, take, map, true, false, OnOk, OnErr, IsErrOf, IfErr, IfOk};
 ghost use Rattle.lv_disk.specs.Stops.{From, Follows, Each, LeavesOnly};
 ghost use Rattle.lv_disk.specs.Gates.{IsClosedAt};
@@ -13,7 +13,7 @@ ghost use Rattle.lv_journal.specs.State.{opened, room_of, place_of, IsAbove, IsR
 
 use crate::JournalError;
 use crate::reading::read_records;
-use crate::record::{records_len, write_record};
+use crate::record::{LEAST, record_len, records_len, write_record};
 use lv_disk::{Area, CLOSED_GATE, Disk};
 use std::alloc::Global;
 use std::marker::Model;
@@ -91,6 +91,7 @@ impl Journal {
         requires some { 0 < area.length }
         requires closed { Each (D.may_leave disk.now) (IsClosedAt area.base) }
         ensures empty { result ≡ opened area [] }
+        ensures none { Each (D.may_leave disk.now) (IsJournal area []) }
         ensures ready { IsReady result (D.may_leave disk.now) }
     {
         Journal::empty(area)
@@ -122,7 +123,7 @@ impl Journal {
     pub fn room(&self) -> Option<u32>
         ensures { result ≡ room_of self.now }
     {
-        (self.area.length - self.next).checked_sub(6)
+        (self.area.length - self.next).checked_sub(LEAST as u32)
     }
 
     /// Puts a payload of at most 256 bytes on the disk behind the others. It makes four device calls, and takes no
@@ -134,7 +135,8 @@ impl Journal {
         // After an Ok each file that a stop may leave has the record, and the journal takes the next one.
         ensures appended { OnOk result (Follows (Appends self.old.area payload.now) (D.may_leave disk.old) (D.may_leave disk.new)) }
         ensures durable { OnOk result (Each (D.may_leave disk.new) (D.reads disk.new)) }
-        ensures next { OnOk result (self.new ≡ record self.old { next = self.old.next + 5 + length payload.now }) }
+        ensures next { OnOk result (self.new
+            ≡ record self.old { next = self.old.next + 5 + length payload.now; must_reopen = false }) }
         ensures ready { IsReady self.new (D.may_leave disk.new) }
 
         // A stop at any moment of the call leaves the records from before it, with the new one or without.
@@ -152,12 +154,13 @@ impl Journal {
         if self.must_reopen {
             return Err(JournalError::Reopen);
         }
-        if payload.len() + 6 > (self.area.length - self.next) as usize {
-            return Err(JournalError::JournalFull);
+        match self.room() {
+            Some(room) if payload.len() <= room as usize => {}
+            _ => return Err(JournalError::JournalFull),
         }
         self.must_reopen = true;
         write_record(disk, self.area, self.next, payload)?;
-        self.next += 5 + payload.len() as u32;
+        self.next += record_len(payload) as u32;
         self.must_reopen = false;
         Ok(())
     }

@@ -10,6 +10,7 @@ ghost use Rattle.lv_journal.specs.Reading.{OnlyReads};
 ghost use Rattle.lv_journal.specs.Records.{record_bytes, records_bytes, IsJournal};
 
 use crate::JournalError;
+use crate::record::{HEAD, LEAST, LONGEST, record_len};
 use lv_disk::{Area, DeviceFault, Disk, OPEN_GATE};
 use std::alloc::Global;
 
@@ -55,7 +56,7 @@ pub fn read_payload<D: Disk>(
     ensures count { CountsFaults (D.failures disk.old) (D.failures disk.new) result }
     ensures no_other { IfErr result (λ e. (e ≡ JournalError.Device) ⊎ (e ≡ JournalError.OutOfMemory)) }
 {
-    let mut buffer = [0; 256];
+    let mut buffer = [0; LONGEST];
     let payload = &mut buffer[..len];
     disk.read(at, payload)?;
     Ok(payload.to_vec(alloc)?)
@@ -85,14 +86,14 @@ pub fn read_record<D: Disk>(
     if read_gate(disk, place)? != OPEN_GATE {
         return Ok(None);
     }
-    if end - place < 6 {
+    if end - place < LEAST {
         return Err(JournalError::Damaged { place });
     }
     let len = read_length(disk, place + 1)?;
-    if len > 256 || len as u64 > end - place - 6 {
+    if len as usize > LONGEST || len as u64 > end - place - LEAST {
         return Err(JournalError::Damaged { place });
     }
-    let payload = read_payload(alloc, disk, place + 5, len as usize)?;
+    let payload = read_payload(alloc, disk, place + HEAD, len as usize)?;
     Ok(Some(payload))
 }
 
@@ -116,7 +117,7 @@ pub fn read_records<D: Disk>(
     let mut records = Vec::new(alloc);
     let mut next = 0;
     while let Some(payload) = read_record(alloc, disk, area, area.base + next, end)? {
-        next += 5 + payload.len() as u64;
+        next += record_len(&payload);
         records.push(payload)?;
     }
     Ok(records)

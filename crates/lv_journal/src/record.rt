@@ -1,4 +1,4 @@
-// A record in the file: a gate, which is open or closed, the payload's length and the payload.
+//! A record as it is written: an open gate, the length of the payload as a `u32`, and the payload.
 ghost use Rattle.std.specs.Prelude.{◌≡◌, ◌≤◌, ◌<◌, ◌+◌, ◌++◌, List, [], ◌∷◌, ℕ, length, take, map, OnOk, ◌^◌};
 ghost use Rattle.std.specs.Int.{to_le_bytes, w32};
 ghost use Rattle.lv_disk.specs.Stops.{From, Follows, Each, LeavesOnly, Counted};
@@ -6,6 +6,18 @@ ghost use Rattle.lv_journal.specs.Records.{records_bytes, EndsAt};
 ghost use Rattle.lv_journal.specs.Append.{Appends, MayAppend};
 
 use lv_disk::{Area, CLOSED_GATE, DeviceFault, Disk, OPEN_GATE, write_through};
+
+/// What stands before a payload: the gate and the length.
+pub const HEAD: u64 = 5;
+
+/// What an empty record takes, with the gate behind it.
+pub const LEAST: u64 = 6;
+
+/// The longest payload.
+pub const LONGEST: usize = 256;
+
+// The longest block that is written behind a gate: a length, a payload and the next gate.
+const BLOCK: usize = 261;
 
 // The length, the payload and a closed gate.
 fn put_block(block: &mut [u8], payload: &[u8])
@@ -19,7 +31,7 @@ fn put_block(block: &mut [u8], payload: &[u8])
     block[4 + n] = CLOSED_GATE;
 }
 
-// Writes a record behind the closed gate `next` bytes into the area, and then opens that gate.
+/// Writes a record behind the closed gate `next` bytes into the area, and then opens that gate.
 pub fn write_record<D: Disk>(
     disk: &mut D,
     area: Area,
@@ -36,21 +48,29 @@ pub fn write_record<D: Disk>(
         (From (D.may_leave disk.old) (MayAppend area payload.now)) }
     ensures count { Counted (D.failures disk.old) (D.failures disk.new) result }
 {
-    let mut block = [0; 261];
+    let mut block = [0; BLOCK];
     put_block(&mut block, payload);
     let gate = area.base + next as u64;
     write_through(disk, gate + 1, &block[..payload.len() + 5])?;
     write_through(disk, gate, &[OPEN_GATE])
 }
 
-// How many bytes the records of the payloads take.
+/// How many bytes the record of a payload takes.
+pub fn record_len(payload: &[u8]) -> u64
+    requires { 5 + length payload.now < 2 ^ 64 }
+    ensures { result ≡ 5 + length payload.now }
+{
+    HEAD + payload.len() as u64
+}
+
+/// How many bytes the records of the payloads take.
 pub fn records_len(payloads: &[Vec<u8>]) -> u64
     requires { length (records_bytes (map (λ payload. payload.items) payloads.now)) < 2 ^ 64 }
     ensures { result ≡ length (records_bytes (map (λ payload. payload.items) payloads.now)) }
 {
     let mut len = 0;
     for payload in payloads {
-        len += 5 + payload.len() as u64;
+        len += record_len(payload);
     }
     len
 }

@@ -20,9 +20,9 @@ loop-records-preserved g c = record {
       let more = has_one_more c.args.area c.min-end.result c.loop-records.next (map items_of c.loop-records.records.items) (g.D.Disk.reads c.args.disk.now) c.loop-records.invariant.found
       payload.items fits.0 (omega (arith, fits.1)) (λ file is. has file (c.loop-records.invariant.only.still file is)) in
       let pushed : map items_of c.push.new.self.items ≡ map items_of c.loop-records.records.items ++ payload.items ∷ [] = ap (map items_of) c.in_ok-push.ensures.items ∙ map-append items_of c.loop-records.records.items (payload ∷ []) in
-      let len : c.len-in-Some.result ≡ length payload.items = omega (arith, c.len-in-Some.ensures, payload.ok.0) in
-      subst (λ (ps : List (List ℕ)). HasRead c.args.area c.min-end.result (c.loop-records.next + (5 + c.len-in-Some.result)) ps (g.D.Disk.reads c.args.disk.now)) (sym pushed)
-      (subst (λ (k : ℕ). HasRead c.args.area c.min-end.result (c.loop-records.next + (5 + k)) (map items_of c.loop-records.records.items ++ payload.items ∷ []) (g.D.Disk.reads c.args.disk.now)) (sym len) more);
+      let len : c.record_len.result ≡ 5 + length payload.items = omega (arith, c.record_len.ensures, c.deref.ensures.len, payload.ok.0) in
+      subst (λ (ps : List (List ℕ)). HasRead c.args.area c.min-end.result (c.loop-records.next + c.record_len.result) ps (g.D.Disk.reads c.args.disk.now)) (sym pushed)
+      (subst (λ (k : ℕ). HasRead c.args.area c.min-end.result (c.loop-records.next + k) (map items_of c.loop-records.records.items ++ payload.items ∷ []) (g.D.Disk.reads c.args.disk.now)) (sym len) more);
   only = both_runs g.D.Disk.reads g.D.Disk.may_leave g.D.Disk.moment g.D.Disk.left_since g.met.D.Disk.only_now c.args.disk.now c.loop-records.disk c.read_record.new.disk c.loop-records.invariant.only c.read_record.ensures.reads;
   count = ⊎_elim (λ is. absurd cc) (λ same. same ∙ c.loop-records.invariant.count) c.in_ok-payload.ensures.count.no_other;
 }
