@@ -1,4 +1,4 @@
-//! The parts of a record, as they are read.
+//! Records as they are read.
 ghost use Rattle.std.specs.Prelude.{◌≡◌, ◌≤◌, ◌<◌, ◌⊎◌, ◌+◌, [], ◌∷◌, length, map, ℕ, min, IfOk, IfErr, IsErrOf, IfNone, IfSome};
 ghost use Rattle.std.specs.Int.{to_le_bytes, w32};
 ghost use Rattle.lv_disk.specs.Files.{HasAt};
@@ -14,7 +14,8 @@ use crate::record::{HEAD, LEAST, LONGEST, record_len};
 use lv_disk::{Area, DeviceFault, Disk, OPEN_GATE};
 use std::alloc::Global;
 
-pub fn read_gate<D: Disk>(disk: &mut D, at: u64) -> Result<u8, DeviceFault>
+// The byte at a place.
+fn read_gate<D: Disk>(disk: &mut D, at: u64) -> Result<u8, DeviceFault>
     requires { Each (D.reads disk.old) (λ file. at < length file) }
     ensures told { IfOk result (λ gate. Each (D.reads disk.old) (HasAt at (gate ∷ []))) }
     ensures reads { OnlyReads D.reads D.may_leave D.moment D.left_since disk.old disk.new }
@@ -25,7 +26,8 @@ pub fn read_gate<D: Disk>(disk: &mut D, at: u64) -> Result<u8, DeviceFault>
     Ok(gate[0])
 }
 
-pub fn read_length<D: Disk>(disk: &mut D, at: u64) -> Result<u32, DeviceFault>
+// The number in the four bytes from a place on.
+fn read_length<D: Disk>(disk: &mut D, at: u64) -> Result<u32, DeviceFault>
     requires { Each (D.reads disk.old) (λ file. at + 4 ≤ length file) }
     ensures told { IfOk result (λ n. Each (D.reads disk.old) (HasAt at (to_le_bytes w32 n))) }
     ensures reads { OnlyReads D.reads D.may_leave D.moment D.left_since disk.old disk.new }
@@ -36,13 +38,15 @@ pub fn read_length<D: Disk>(disk: &mut D, at: u64) -> Result<u32, DeviceFault>
     Ok(length_of(bytes))
 }
 
+// The number with these bytes, the lowest first.
 fn length_of(bytes: [u8; 4]) -> u32
     ensures { to_le_bytes w32 result ≡ bytes }
 {
     u32::from_le_bytes(bytes)
 }
 
-pub fn read_payload<D: Disk>(
+// So many bytes from a place on.
+fn read_payload<D: Disk>(
     alloc: Global,
     disk: &mut D,
     at: u64,
@@ -64,7 +68,7 @@ pub fn read_payload<D: Disk>(
 
 // The payload of the record whose gate stands at `place`, none where that gate is closed. The file or the area ends at
 // `end`.
-pub fn read_record<D: Disk>(
+fn read_record<D: Disk>(
     alloc: Global,
     disk: &mut D,
     area: Area,
@@ -97,7 +101,7 @@ pub fn read_record<D: Disk>(
     Ok(Some(payload))
 }
 
-// The payloads that the area's bytes stand for.
+/// The payloads that the area's bytes stand for.
 pub fn read_records<D: Disk>(
     alloc: Global,
     disk: &mut D,
