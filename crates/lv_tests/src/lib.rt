@@ -6,6 +6,8 @@ mod checks;
 #[cfg(test)]
 mod disk;
 #[cfg(test)]
+mod journal;
+#[cfg(test)]
 mod lumps;
 #[cfg(test)]
 mod segs;

@@ -1,0 +1,315 @@
+ghost use Rattle.std.specs.Prelude.{◌≡◌, IfOk, IfErr};
+ghost use Rattle.lv_journal.specs.State.{IsReady};
+
+use lv_disk::{Area, Disk, FaultDisk, Fill, MemoryDisk};
+use lv_journal::{Journal, JournalError, blank};
+use std::alloc::Global;
+use std::process::Abort;
+use std::test::Fail;
+
+const AREA: Area = Area {
+    base: 144,
+    length: 512,
+};
+
+/// A journal, opened on a disk of which all is on the device.
+fn opened<D: Disk>(alloc: Global, disk: &mut D) -> Result<Journal, JournalError>
+    ensures ready { IfOk result (λ journal. IsReady journal (D.may_leave disk.new)) }
+{
+    disk.sync()?;
+    Journal::open(alloc, disk, AREA)
+}
+
+/// The journal of a blank area, with the first gate on the device.
+fn blanked<D: Disk>(disk: &mut D) -> Result<Journal, JournalError>
+    ensures ready { IfOk result (λ journal. IsReady journal (D.may_leave disk.new)) }
+{
+    let journal = blank(disk, AREA)?;
+    disk.sync()?;
+    Ok(journal)
+}
+
+/// The same, without the device call that `blank` has made already.
+fn refreshed<D: Disk>(disk: &mut D) -> Result<Journal, JournalError>
+    ensures ready { IfOk result (λ journal. IsReady journal (D.may_leave disk.new)) }
+{
+    blank(disk, AREA)?;
+    disk.sync()?;
+    Ok(Journal::fresh(disk, AREA))
+}
+
+/// A disk with these bytes from the area on.
+fn disk_with(alloc: Global, bytes: &[u8]) -> Result<MemoryDisk, Fail> {
+    let mut disk = MemoryDisk::new(alloc, 1024, 4096)?;
+    disk.write_at(143, &[7])?;
+    disk.write_at(144, bytes)?;
+    disk.sync()?;
+    Ok(disk)
+}
+
+/// Whether the journal was opened with these payloads.
+fn holds(journal: &Journal, payloads: &[&[u8]]) -> bool {
+    let records = journal.records();
+    records.len() == payloads.len()
+        && records
+            .iter()
+            .zip(payloads)
+            .all(|(record, payload)| record.as_slice() == *payload)
+}
+
+/// What a read of the disk gives, from a place on.
+fn bytes_from<D: Disk>(alloc: Global, disk: &mut D, at: u64) -> Result<Vec<u8>, Fail> {
+    let n = disk.len()?.saturating_sub(at);
+    let mut bytes = vec![in alloc; 0; n as usize]?;
+    if n > 0 {
+        disk.read(at, &mut bytes)?;
+    }
+    Ok(bytes)
+}
+
+/// What a stop leaves of a journal with one record, `first`, to which `second` is appended where the k-th device call
+/// fails, none where `k` is 0.
+fn expect_outcomes(rt: &impl Abort, alloc: Global, k: u64, part: u32) -> Result<(), Fail> {
+    let mut inner = MemoryDisk::new(alloc, 1024, 4096)?;
+    let mut journal = blanked(&mut inner)?;
+    journal.append(&mut inner, b"first")?;
+    let mut journal = opened(alloc, &mut inner)?;
+    let mut disk = FaultDisk::new(inner, k, part);
+    let done = expect_appended(rt, &mut journal, &mut disk, k);
+    for fill in [
+        Fill::Stable,
+        Fill::Written,
+        Fill::Byte(0),
+        Fill::Byte(165),
+        Fill::Upto(1),
+        Fill::Upto(7),
+    ] {
+        for longest in [false, true] {
+            let mut left = disk.inner().stop(alloc, fill, longest)?;
+            let again = opened(alloc, &mut left)?;
+            let both = holds(&again, &[b"first", b"second"]);
+            assert!(rt;
+                both || (!done && holds(&again, &[b"first"])),
+                "{k} {part} {fill:?} {longest}"
+            );
+        }
+    }
+    let again = opened(alloc, &mut disk)?;
+    let both = holds(&again, &[b"first", b"second"]);
+    assert!(rt; both || (!done && holds(&again, &[b"first"])), "{k} {part}");
+    Ok(())
+}
+
+/// Appends `second`, and tells whether that was done.
+fn expect_appended<D: Disk>(rt: &impl Abort, journal: &mut Journal, disk: &mut D, k: u64) -> bool
+    requires { IsReady journal.old (D.may_leave disk.old) }
+{
+    let appended = journal.append(disk, b"second");
+    if k == 0 {
+        assert_eq!(rt; appended, Ok(()));
+        return true;
+    }
+    assert_eq!(rt; appended, Err(JournalError::Device), "call {k}");
+    // It is to be opened again, whatever it is asked, and asks nothing of the disk.
+    assert_eq!(rt;
+        journal.append(disk, b"third"),
+        Err(JournalError::Reopen),
+        "call {k}"
+    );
+    assert_eq!(rt;
+        journal.append(disk, &[0; 256]),
+        Err(JournalError::Reopen),
+        "call {k}"
+    );
+    false
+}
+
+#[test]
+fn appends_behind_a_closed_gate(rt: HostRuntime) -> Result<(), Fail> {
+    let mut disk = MemoryDisk::new(rt.alloc(), 1024, 4096)?;
+    let mut journal = blanked(&mut disk)?;
+    assert_eq!(rt; journal.room(), Some(506));
+    assert_eq!(rt; journal.place(0), None);
+    journal.append(&mut disk, b"vertex 0 0")?;
+    assert_eq!(rt; journal.room(), Some(491));
+    let bytes = bytes_from(rt.alloc(), &mut disk, 144)?;
+    assert_eq!(rt; bytes.as_slice(), b"\xa5\x0a\0\0\0vertex 0 0\0".as_slice());
+    // The payloads of a journal are those that it was opened with.
+    assert!(rt; holds(&journal, &[]));
+    let again = opened(rt.alloc(), &mut disk)?;
+    assert!(rt; holds(&again, &[b"vertex 0 0"]));
+    assert_eq!(rt; again.place(0), Some(144));
+    assert_eq!(rt; again.place(1), None);
+    assert_eq!(rt; again.room(), Some(491));
+    Ok(())
+}
+
+#[test]
+fn opens_what_the_area_stands_for(rt: HostRuntime) -> Result<(), Fail> {
+    let whole = b"\xa5\x0a\0\0\0vertex 0 0\0";
+    let none: &[&[u8]] = &[];
+    for (bytes, payloads) in [
+        (b"\0".as_slice(), none),
+        (b"\0\x0a\0\0\0vertex 0 0\0", none),
+        (b"\x01\xff\xff\xff\xff\xa5\xa5", none),
+        (whole, &[b"vertex 0 0"]),
+        (b"\xa5\x0a\0\0\0vertex 0 0\x07\xa5", &[b"vertex 0 0"]),
+        (b"\xa5\0\0\0\0\xa5\x01\0\0\0b\xa4", &[b"", b"b"]),
+    ] {
+        let mut disk = disk_with(rt.alloc(), bytes)?;
+        let journal = opened(rt.alloc(), &mut disk)?;
+        assert!(rt; holds(&journal, payloads), "{bytes:?}");
+    }
+    Ok(())
+}
+
+#[test]
+fn finds_damage_at_its_gate(rt: HostRuntime) -> Result<(), Fail> {
+    for (bytes, place) in [
+        // No gate, an open one alone, and a record that is cut before its next gate.
+        (b"".as_slice(), 144),
+        (b"\xa5", 144),
+        (b"\xa5\x0a\0\0", 144),
+        (b"\xa5\0\0\0\0", 144),
+        (b"\xa5\x0a\0\0\0vertex 0 0", 144),
+        // A length of 255 in a short file, and of 257.
+        (b"\xa5\xff\0\0\0vertex 0 0\0", 144),
+        (b"\xa5\x01\x01\0\0vertex 0 0\0", 144),
+        (b"\xa5\x0a\0\0\x80vertex 0 0\0", 144),
+        // A second record.
+        (b"\xa5\x01\0\0\0a\xa5\x01\0\0\0b", 150),
+    ] {
+        let mut disk = disk_with(rt.alloc(), bytes)?;
+        assert_eq!(rt;
+            opened(rt.alloc(), &mut disk).map(|_| ()),
+            Err(JournalError::Damaged { place }),
+            "{bytes:?}"
+        );
+    }
+    Ok(())
+}
+
+#[test]
+fn fills_the_area(rt: HostRuntime) -> Result<(), Fail> {
+    let mut disk = MemoryDisk::new(rt.alloc(), 1024, 8192)?;
+    refreshed(&mut disk)?;
+    for n in 0..34 {
+        let mut journal = opened(rt.alloc(), &mut disk)?;
+        assert_eq!(rt; journal.records().len(), n);
+        journal.append(&mut disk, b"name MAP01")?;
+    }
+    let mut journal = opened(rt.alloc(), &mut disk)?;
+    assert_eq!(rt; journal.records().len(), 34);
+    assert_eq!(rt; journal.place(33), Some(639));
+    assert_eq!(rt; journal.place(34), None);
+    assert_eq!(rt; journal.room(), None);
+    assert_eq!(rt;
+        journal.append(&mut disk, b"name MAP01"),
+        Err(JournalError::JournalFull)
+    );
+    assert_eq!(rt;
+        journal.append(&mut disk, b""),
+        Err(JournalError::JournalFull)
+    );
+    assert_eq!(rt;
+        bytes_from(rt.alloc(), &mut disk, 639)?.as_slice(),
+        b"\xa5\x0a\0\0\0name MAP01\0".as_slice()
+    );
+    Ok(())
+}
+
+#[test]
+fn stops_at_every_call(rt: HostRuntime) -> Result<(), Fail> {
+    for k in 0..5 {
+        for part in [0, 1, 5, 11] {
+            expect_outcomes(&rt, rt.alloc(), k, part)?;
+        }
+    }
+    Ok(())
+}
+
+#[test]
+fn writes_the_record_and_then_its_gate(rt: HostRuntime) -> Result<(), Fail> {
+    for (k, part, want) in [
+        (1, 0, b"\0".as_slice()),
+        (1, 3, b"\0\x0a\0\0"),
+        (1, 15, b"\0\x0a\0\0\0vertex 0 0\0"),
+        (2, 0, b"\0\x0a\0\0\0vertex 0 0\0"),
+        (3, 0, b"\0\x0a\0\0\0vertex 0 0\0"),
+        (3, 1, b"\xa5\x0a\0\0\0vertex 0 0\0"),
+        (4, 0, b"\xa5\x0a\0\0\0vertex 0 0\0"),
+    ] {
+        let mut disk = MemoryDisk::new(rt.alloc(), 1024, 4096)?;
+        let mut journal = blanked(&mut disk)?;
+        let mut disk = FaultDisk::new(disk, k, part);
+        assert_eq!(rt;
+            journal.append(&mut disk, b"vertex 0 0"),
+            Err(JournalError::Device)
+        );
+        assert_eq!(rt;
+            bytes_from(rt.alloc(), &mut disk, 144)?.as_slice(),
+            want,
+            "{k} {part}"
+        );
+    }
+    Ok(())
+}
+
+#[test]
+fn makes_four_device_calls(rt: HostRuntime) -> Result<(), Fail> {
+    let mut disk = MemoryDisk::new(rt.alloc(), 1024, 4096)?;
+    let mut journal = blanked(&mut disk)?;
+    let mut disk = FaultDisk::new(disk, 5, 0);
+    journal.append(&mut disk, b"vertex 0 0")?;
+    assert!(rt; disk.len().is_err());
+    Ok(())
+}
+
+#[test]
+fn answers_a_device_that_fails(rt: HostRuntime) -> Result<(), Fail> {
+    // A sync, the length, and for each record its gate, its length and its payload; then the last gate.
+    for k in 1..7 {
+        let disk = disk_with(rt.alloc(), b"\xa5\x01\0\0\0a\0")?;
+        let mut disk = FaultDisk::new(disk, k, 0);
+        assert_eq!(rt;
+            opened(rt.alloc(), &mut disk).map(|_| ()),
+            Err(JournalError::Device),
+            "call {k}"
+        );
+        assert!(rt; holds(&opened(rt.alloc(), &mut disk)?, &[b"a"]), "call {k}");
+    }
+    let mut disk = FaultDisk::new(MemoryDisk::new(rt.alloc(), 1024, 4096)?, 1, 0);
+    assert_eq!(rt;
+        blank(&mut disk, AREA).map(|_| ()),
+        Err(JournalError::Device)
+    );
+    Ok(())
+}
+
+#[test]
+fn blanks_a_journal(rt: HostRuntime) -> Result<(), Fail> {
+    let mut disk = disk_with(rt.alloc(), b"\xa5\x01\0\0\0a\0")?;
+    let mut journal = refreshed(&mut disk)?;
+    assert_eq!(rt; journal.room(), Some(506));
+    let mut left = disk.stop(rt.alloc(), Fill::Stable, false)?;
+    assert_eq!(rt;
+        bytes_from(rt.alloc(), &mut left, 143)?.as_slice(),
+        b"\x07\0\x01\0\0\0a\0".as_slice()
+    );
+    journal.append(&mut disk, b"bc")?;
+    assert!(rt; holds(&opened(rt.alloc(), &mut disk)?, &[b"bc"]));
+    Ok(())
+}
+
+#[test]
+fn numbers_its_refusals(rt: HostRuntime) {
+    for (error, code) in [
+        (JournalError::Device, 30),
+        (JournalError::OutOfMemory, 31),
+        (JournalError::Reopen, 32),
+        (JournalError::JournalFull, 34),
+        (JournalError::Damaged { place: 144 }, 40),
+    ] {
+        assert_eq!(rt; error.code(), code);
+    }
+}
