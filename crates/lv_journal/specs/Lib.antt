@@ -4,5 +4,4 @@ pub mod Reading
 pub mod Append
 pub mod State
 pub mod View
-pub mod Errors
-pub mod Faults
+pub mod Refusals

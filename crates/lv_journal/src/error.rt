@@ -47,7 +47,7 @@ impl<T: Drop> From<AllocFailed<T>> for JournalError {
 
 impl JournalError {
     ghost use Rattle.std.specs.Prelude.{◌≡◌};
-    ghost use Rattle.lv_journal.specs.Errors.{code_of};
+    ghost use Rattle.lv_journal.specs.Refusals.{code_of};
 
     /// The number of the refusal.
     pub fn code(&self) -> u16

@@ -1,14 +1,14 @@
 //! A journal: a record counts where its gate is open, and a closed gate stands behind the last one, on the disk before
 //! anything is written behind it.
-ghost use Rattle.std.specs.Prelude.{◌≡◌, ◌≤◌, ◌<◌, ◌⊎◌, ◌↔◌, ◌+◌, ◌++◌, List, [], ◌∷◌, ℕ, length, take, map, true, false, OnOk, OnErr, IsErrOf, IfErr, IfOk};
+ghost use Rattle.std.specs.Prelude.{◌≡◌, ◌≤◌, ◌<◌, ◌⊎◌, ◌↔◌, ◌+◌, [], ◌∷◌, length, true, false, OnOk, OnErr, IsErrOf, IfErr, IfOk};
 ghost use Rattle.lv_disk.specs.Stops.{From, Follows, Each, LeavesOnly};
 ghost use Rattle.lv_disk.specs.Gates.{IsClosedAt};
 ghost use Rattle.lv_disk.specs.Files.{Failed, Torn, Written};
 ghost use Rattle.lv_journal.specs.Append.{Appends, MayAppend};
 ghost use Rattle.lv_journal.specs.Damage.{IsDamagedAt};
-ghost use Rattle.lv_journal.specs.Faults.{CountsFaults};
+ghost use Rattle.lv_journal.specs.Refusals.{CountsFaults, IfDamaged, RefusesAppend, RefusesOpen};
 ghost use Rattle.lv_journal.specs.Reading.{OnlyReads};
-ghost use Rattle.lv_journal.specs.Records.{IsJournal};
+ghost use Rattle.lv_journal.specs.Records.{payloads_of, IsJournal};
 ghost use Rattle.lv_journal.specs.State.{opened, room_of, place_of, IsAbove, IsReady};
 
 use crate::JournalError;
@@ -41,10 +41,11 @@ impl Model for Journal {
 }
 
 impl Journal {
-    /// Reads the records of an area. What the disk reads is to be its only image.
+    /// Reads the records of an area of a disk of which what it reads is the only image. It writes nothing.
     ///
-    /// A gate that isn't in the file, or an open one whose record isn't whole, is `Damaged` with the gate's place in the
-    /// file. Whatever stands behind a closed gate counts for nothing.
+    /// `Damaged` tells the place in the file of a gate that isn't there, or of an open one whose record isn't whole, is
+    /// longer than 256 bytes or leaves no place in the area for the next gate. Whatever stands behind a closed gate
+    /// counts for nothing.
     pub fn open<D: Disk>(alloc: Global, disk: &mut D, area: Area) -> Result<Journal, JournalError>
         requires only { Each (D.may_leave disk.old) (D.reads disk.old) }
 
@@ -53,10 +54,9 @@ impl Journal {
         ensures sound { IfOk result (λ journal. Each (D.reads disk.old) (IsJournal area journal.records)) }
         ensures ready { IfOk result (λ journal. IsReady journal (D.may_leave disk.new)) }
 
-        ensures damaged { IfErr result (λ e. (place : ℕ) → e ≡ JournalError.Damaged place
-            → Each (D.reads disk.old) (IsDamagedAt area place)) }
-        ensures no_other { IfErr result (λ e. (e ≡ JournalError.Device)
-            ⊎ ((e ≡ JournalError.OutOfMemory) ⊎ ((place : ℕ) × (e ≡ JournalError.Damaged place)))) }
+        ensures damaged { IfErr result (λ e. IfDamaged e (λ place.
+            Each (D.reads disk.old) (IsDamagedAt area place))) }
+        ensures no_other { IfErr result RefusesOpen }
 
         // It writes nothing.
         ensures reads { OnlyReads D.reads D.may_leave D.moment D.left_since disk.old disk.new }
@@ -86,7 +86,7 @@ impl Journal {
     }
 
     /// The journal without records of an area that begins with a closed gate in every image of the disk. It makes no
-    /// device call.
+    /// device call, and takes no memory.
     pub fn fresh<D: Disk>(disk: &D, area: Area) -> Journal
         requires some { 0 < area.length }
         requires closed { Each (D.may_leave disk.now) (IsClosedAt area.base) }
@@ -99,7 +99,7 @@ impl Journal {
 
     /// The payloads that `open` found, in order.
     pub fn records(&self) -> &[Vec<u8>]
-        ensures { map (λ payload. payload.items) result.now ≡ self.now.records }
+        ensures { payloads_of result.now ≡ self.now.records }
     {
         match &self.records {
             Some(records) => records,
@@ -126,14 +126,18 @@ impl Journal {
         (self.area.length - self.next).checked_sub(LEAST as u32)
     }
 
-    /// Puts a payload of at most 256 bytes on the disk behind the others. It makes four device calls, and takes no
-    /// memory. After a `Device` each call is answered `Reopen`.
+    /// Puts a payload of at most 256 bytes behind the others, on the device before it answers. It takes no memory and
+    /// makes four device calls.
+    ///
+    /// After a `Device` each call is answered `Reopen`, before any `JournalFull`, which comes exactly where the payload
+    /// is longer than `room`. Neither makes a device call.
     pub fn append<D: Disk>(&mut self, disk: &mut D, payload: &[u8]) -> Result<(), JournalError>
         requires short { length payload.now ≤ 256 }
         requires ready { IsReady self.old (D.may_leave disk.old) }
 
         // After an Ok each file that a stop may leave has the record, and the journal takes the next one.
-        ensures appended { OnOk result (Follows (Appends self.old.area payload.now) (D.may_leave disk.old) (D.may_leave disk.new)) }
+        ensures appended { OnOk result
+            (Follows (Appends self.old.area payload.now) (D.may_leave disk.old) (D.may_leave disk.new)) }
         ensures durable { OnOk result (Each (D.may_leave disk.new) (D.reads disk.new)) }
         ensures next { OnOk result (self.new
             ≡ record self.old { next = self.old.next + 5 + length payload.now; must_reopen = false }) }
@@ -143,12 +147,14 @@ impl Journal {
         ensures any_moment { LeavesOnly D.moment D.left_since disk.old disk.new
             (From (D.may_leave disk.old) (MayAppend self.old.area payload.now)) }
 
-        ensures device { IsErrOf result JournalError.Device → (self.new ≡ record self.old { must_reopen = true }) }
+        ensures device { IsErrOf result JournalError.Device
+            → (self.new ≡ record self.old { must_reopen = true }) }
         ensures reopen { IsErrOf result JournalError.Reopen ↔ (self.old.must_reopen ≡ true) }
         ensures full { IsErrOf result JournalError.JournalFull
             ↔ ((self.old.must_reopen ≡ false) × IsAbove (room_of self.old) (length payload.now)) }
-        ensures nothing { IfErr result (λ e. (e ≡ JournalError.Device) ⊎ ((disk.new ≡ disk.old) × (self.new ≡ self.old))) }
-        ensures no_other { IfErr result (λ e. (e ≡ JournalError.Device) ⊎ ((e ≡ JournalError.Reopen) ⊎ (e ≡ JournalError.JournalFull))) }
+        ensures nothing { IfErr result (λ e.
+            (e ≡ JournalError.Device) ⊎ ((disk.new ≡ disk.old) × (self.new ≡ self.old))) }
+        ensures no_other { IfErr result RefusesAppend }
         ensures count { CountsFaults (D.failures disk.old) (D.failures disk.new) result }
     {
         if self.must_reopen {
@@ -166,16 +172,18 @@ impl Journal {
     }
 }
 
-/// Writes a closed gate at the front of an area, and doesn't sync: from its sync on the area stands for no record, and
-/// the journal is the one of its area.
+/// Writes a closed gate at the front of an area, and doesn't sync. Once it is synced the area stands for no record, and
+/// the journal is the one of its area. It takes no memory.
 pub fn blank<D: Disk>(disk: &mut D, area: Area) -> Result<Journal, JournalError>
     requires { 0 < area.length }
     ensures empty { IfOk result (λ journal. journal ≡ opened area []) }
-    ensures written { OnOk result (Follows (Written area.base (0 ∷ [])) (D.reads disk.old) (D.reads disk.new)) }
+    ensures written { OnOk result
+        (Follows (Written area.base (0 ∷ [])) (D.reads disk.old) (D.reads disk.new)) }
     ensures none { OnOk result (Each (D.reads disk.new) (IsJournal area [])) }
     ensures failed { OnErr result (Follows (Failed area.base 1) (D.reads disk.old) (D.reads disk.new)) }
     ensures images { Follows (Torn area.base 1) (D.may_leave disk.old) (D.may_leave disk.new) }
-    ensures any_moment { LeavesOnly D.moment D.left_since disk.old disk.new (From (D.may_leave disk.old) (Torn area.base 1)) }
+    ensures any_moment { LeavesOnly D.moment D.left_since disk.old disk.new
+        (From (D.may_leave disk.old) (Torn area.base 1)) }
     ensures device { IfErr result (λ e. e ≡ JournalError.Device) }
     ensures count { CountsFaults (D.failures disk.old) (D.failures disk.new) result }
 {

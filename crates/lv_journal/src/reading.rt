@@ -1,13 +1,13 @@
 //! Records as they are read.
-ghost use Rattle.std.specs.Prelude.{◌≡◌, ◌≤◌, ◌<◌, ◌⊎◌, ◌+◌, [], ◌∷◌, length, map, ℕ, min, IfOk, IfErr, IsErrOf, IfNone, IfSome};
+ghost use Rattle.std.specs.Prelude.{◌≡◌, ◌≤◌, ◌<◌, ◌⊎◌, ◌+◌, [], ◌∷◌, length, min, IfOk, IfErr, IfNone, IfSome};
 ghost use Rattle.std.specs.Int.{to_le_bytes, w32};
 ghost use Rattle.lv_disk.specs.Files.{HasAt};
 ghost use Rattle.lv_disk.specs.Stops.{Counted, Each};
 ghost use Rattle.lv_disk.specs.Gates.{IsClosedAt};
 ghost use Rattle.lv_journal.specs.Damage.{IsBadRecord, IsDamagedAt};
-ghost use Rattle.lv_journal.specs.Faults.{CountsFaults};
+ghost use Rattle.lv_journal.specs.Refusals.{CountsFaults, IfDamaged, RefusesOpen};
 ghost use Rattle.lv_journal.specs.Reading.{OnlyReads};
-ghost use Rattle.lv_journal.specs.Records.{record_bytes, records_bytes, IsJournal};
+ghost use Rattle.lv_journal.specs.Records.{record_bytes, records_bytes, payloads_of, IsJournal};
 
 use crate::JournalError;
 use crate::record::{HEAD, LEAST, LONGEST, record_len};
@@ -78,14 +78,15 @@ fn read_record<D: Disk>(
     requires inside { place < end }
     requires ends { Each (D.reads disk.old) (λ file. end ≡ min (length file) (area.base + area.length)) }
     ensures closed { IfOk result (λ found. IfNone found (Each (D.reads disk.old) (IsClosedAt place))) }
-    ensures found { IfOk result (λ found. IfSome found (λ payload. Each (D.reads disk.old) (HasAt place (record_bytes payload.items)))) }
+    ensures found { IfOk result (λ found. IfSome found (λ payload.
+        Each (D.reads disk.old) (HasAt place (record_bytes payload.items)))) }
     ensures fits { IfOk result (λ found. IfSome found (λ payload.
         (length payload.items ≤ 256) × (place + 6 + length payload.items ≤ end))) }
-    ensures damaged { IfErr result (λ e. (at : ℕ) → e ≡ JournalError.Damaged at
-        → (at ≡ place) × Each (D.reads disk.old) (IsBadRecord area place)) }
+    ensures damaged { IfErr result (λ e. IfDamaged e (λ at.
+        (at ≡ place) × Each (D.reads disk.old) (IsBadRecord area place))) }
     ensures reads { OnlyReads D.reads D.may_leave D.moment D.left_since disk.old disk.new }
     ensures count { CountsFaults (D.failures disk.old) (D.failures disk.new) result }
-    ensures no_other { IfErr result (λ e. (e ≡ JournalError.Device) ⊎ ((e ≡ JournalError.OutOfMemory) ⊎ (e ≡ JournalError.Damaged place))) }
+    ensures no_other { IfErr result RefusesOpen }
 {
     if read_gate(disk, place)? != OPEN_GATE {
         return Ok(None);
@@ -107,12 +108,12 @@ pub fn read_records<D: Disk>(
     disk: &mut D,
     area: Area,
 ) -> Result<Vec<Vec<u8>>, JournalError>
-    ensures sound { IfOk result (λ records. Each (D.reads disk.old) (IsJournal area (map (λ payload. payload.items) records.items))) }
-    ensures room { IfOk result (λ records. length (records_bytes (map (λ payload. payload.items) records.items)) < area.length) }
-    ensures damaged { IfErr result (λ e. (place : ℕ) → e ≡ JournalError.Damaged place → Each (D.reads disk.old) (IsDamagedAt area place)) }
+    ensures sound { IfOk result (λ records. Each (D.reads disk.old) (IsJournal area (payloads_of records.items))) }
+    ensures room { IfOk result (λ records. length (records_bytes (payloads_of records.items)) < area.length) }
+    ensures damaged { IfErr result (λ e. IfDamaged e (λ place. Each (D.reads disk.old) (IsDamagedAt area place))) }
     ensures reads { OnlyReads D.reads D.may_leave D.moment D.left_since disk.old disk.new }
     ensures count { CountsFaults (D.failures disk.old) (D.failures disk.new) result }
-    ensures no_other { IfErr result (λ e. (e ≡ JournalError.Device) ⊎ ((e ≡ JournalError.OutOfMemory) ⊎ ((place : ℕ) × (e ≡ JournalError.Damaged place)))) }
+    ensures no_other { IfErr result RefusesOpen }
 {
     let end = disk.len()?.min(area.base + area.length as u64);
     if end <= area.base {

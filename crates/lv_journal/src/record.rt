@@ -1,8 +1,8 @@
 //! A record as it is written: an open gate, the length of the payload as a `u32`, and the payload.
-ghost use Rattle.std.specs.Prelude.{◌≡◌, ◌≤◌, ◌<◌, ◌+◌, ◌++◌, List, [], ◌∷◌, ℕ, length, take, map, OnOk, ◌^◌};
+ghost use Rattle.std.specs.Prelude.{◌≡◌, ◌≤◌, ◌<◌, ◌+◌, ◌++◌, [], ◌∷◌, length, take, OnOk, ◌^◌};
 ghost use Rattle.std.specs.Int.{to_le_bytes, w32};
 ghost use Rattle.lv_disk.specs.Stops.{From, Follows, Each, LeavesOnly, Counted};
-ghost use Rattle.lv_journal.specs.Records.{records_bytes, EndsAt};
+ghost use Rattle.lv_journal.specs.Records.{records_bytes, payloads_of, EndsAt};
 ghost use Rattle.lv_journal.specs.Append.{Appends, MayAppend};
 
 use lv_disk::{Area, CLOSED_GATE, DeviceFault, Disk, OPEN_GATE, write_through};
@@ -23,7 +23,8 @@ const BLOCK: usize = 261;
 fn put_block(block: &mut [u8], payload: &[u8])
     requires short { length payload.now ≤ 256 }
     requires room { length block.old ≡ 261 }
-    ensures { take (length payload.now + 5) block.new ≡ to_le_bytes w32 (length payload.now) ++ payload.now ++ 0 ∷ [] }
+    ensures { take (length payload.now + 5) block.new
+        ≡ to_le_bytes w32 (length payload.now) ++ payload.now ++ 0 ∷ [] }
 {
     let n = payload.len();
     block[..4].copy_from_slice(&(n as u32).to_le_bytes());
@@ -41,7 +42,8 @@ pub fn write_record<D: Disk>(
     requires short { length payload.now ≤ 256 }
     requires room { next + length payload.now + 6 ≤ area.length }
     requires ready { Each (D.may_leave disk.old) (EndsAt area next) }
-    ensures appended { OnOk result (Follows (Appends area payload.now) (D.may_leave disk.old) (D.may_leave disk.new)) }
+    ensures appended { OnOk result
+        (Follows (Appends area payload.now) (D.may_leave disk.old) (D.may_leave disk.new)) }
     ensures durable { OnOk result (Each (D.may_leave disk.new) (D.reads disk.new)) }
     ensures ready { OnOk result (Each (D.may_leave disk.new) (EndsAt area (next + 5 + length payload.now))) }
     ensures any_moment { LeavesOnly D.moment D.left_since disk.old disk.new
@@ -65,8 +67,8 @@ pub fn record_len(payload: &[u8]) -> u64
 
 /// How many bytes the records of the payloads take.
 pub fn records_len(payloads: &[Vec<u8>]) -> u64
-    requires { length (records_bytes (map (λ payload. payload.items) payloads.now)) < 2 ^ 64 }
-    ensures { result ≡ length (records_bytes (map (λ payload. payload.items) payloads.now)) }
+    requires { length (records_bytes (payloads_of payloads.now)) < 2 ^ 64 }
+    ensures { result ≡ length (records_bytes (payloads_of payloads.now)) }
 {
     let mut len = 0;
     for payload in payloads {

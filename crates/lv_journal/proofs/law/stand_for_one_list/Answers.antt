@@ -7,5 +7,5 @@ returns-clause-list c area file ps qs = one_journal area file ps qs
 pub returns-clause-place : goal.returns-clause-place
 returns-clause-place c area file p q = one_place area file p q
 
-pub returns-clause-either : goal.returns-clause-either
-returns-clause-either c area file ps p = not_both area file ps p
+pub returns-clause-not_both : goal.returns-clause-not_both
+returns-clause-not_both c area file ps p = not_both area file ps p

@@ -1,0 +1,31 @@
+-- The refusals of a journal: their numbers, and when they come.
+use Rattle.std.specs.Prelude.{◌≡◌, ◌≤◌, ◌⊎◌, ℕ, Result, IsErrOf}
+use Rattle.lv_disk.specs.Stops.{Rose}
+use Rattle.lv_journal.specs.declared.error.JournalError.{JournalError}
+use Rattle.lv_journal.specs.declared.error.JournalError.TheVariants.{Device, OutOfMemory, Reopen, JournalFull, Damaged}
+
+-- the number of a refusal
+abbrev pub code_of : JournalError → ℕ
+code_of Device = 30
+code_of OutOfMemory = 31
+code_of Reopen = 32
+code_of JournalFull = 34
+code_of (Damaged place) = 40
+
+-- `Device` is answered only where the count of failures rose, and a count that rose is answered `Device`
+pub record CountsFaults {T : Type 0} (before now : ℕ) (result : Result T JournalError) : Type 0 where
+  pub later : before ≤ now
+  pub device : IsErrOf result Device → Rose before now
+  pub no_other : IsErrOf result Device ⊎ (now ≡ before)
+
+-- `open` refuses by these alone
+abbrev pub RefusesOpen : JournalError → Type 0
+RefusesOpen e = (e ≡ Device) ⊎ ((e ≡ OutOfMemory) ⊎ ((place : ℕ) × (e ≡ Damaged place)))
+
+-- `append` refuses by these alone
+abbrev pub RefusesAppend : JournalError → Type 0
+RefusesAppend e = (e ≡ Device) ⊎ ((e ≡ Reopen) ⊎ (e ≡ JournalFull))
+
+-- where it says that a gate is damaged, the gate's place has P
+abbrev pub IfDamaged : JournalError → (ℕ → Type 0) → Type 0
+IfDamaged e P = (place : ℕ) → e ≡ Damaged place → P place
