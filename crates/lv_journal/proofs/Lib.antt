@@ -1,5 +1,6 @@
 pub mod Lengths
 pub mod OneReading
+pub mod Kept
 pub mod ReadingCalls
 pub mod ReadingLoop
 pub mod Append

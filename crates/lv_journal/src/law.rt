@@ -1,11 +1,12 @@
-//! An area's bytes stand for one list at most.
-ghost use Rattle.std.specs.Prelude.{◌≡◌, List, ℕ};
+//! Laws on what the bytes of an area stand for. The functions have no bodies: their contracts are the laws.
+ghost use Rattle.std.specs.Prelude.{◌≡◌, ◌<◌, [], List, ℕ};
+ghost use Rattle.lv_disk.specs.Files.{KeepsOutside};
+ghost use Rattle.lv_disk.specs.Gates.{IsClosedAt};
 ghost use Rattle.lv_disk.specs.declared.area.Area.{Area};
-ghost use Rattle.lv_journal.specs.Records.{IsJournal};
 ghost use Rattle.lv_journal.specs.Damage.{IsDamagedAt};
+ghost use Rattle.lv_journal.specs.Records.{IsApart, IsJournal};
 
-/// A law, without a body: an area's bytes stand for one list of payloads at most, are damaged at one place at most, and
-/// are not both.
+/// An area's bytes stand for one list of payloads at most, are damaged at one place at most, and are not both.
 pub fn stand_for_one_list()
     ensures list { (area : Area) (file : List ℕ) (ps qs : List (List ℕ))
         → IsJournal area ps file → IsJournal area qs file → ps ≡ qs }
@@ -13,4 +14,14 @@ pub fn stand_for_one_list()
         → IsDamagedAt area p file → IsDamagedAt area q file → p ≡ q }
     ensures not_both { (area : Area) (file : List ℕ) (ps : List (List ℕ)) (p : ℕ)
         → IsJournal area ps file → ¬ IsDamagedAt area p file }
+{}
+
+/// What an area's bytes stand for depends on these bytes alone: a change outside the area leaves it, and where the first
+/// gate is closed they stand for no payload.
+pub fn stand_by_themselves()
+    ensures kept { (area : Area) (payloads : List (List ℕ)) (at n : ℕ) (old new : List ℕ)
+        → IsApart area at n → KeepsOutside at n old new
+        → IsJournal area payloads old → IsJournal area payloads new }
+    ensures none { (area : Area) (file : List ℕ)
+        → 0 < area.length → IsClosedAt area.base file → IsJournal area [] file }
 {}
