@@ -18,9 +18,11 @@ EndsBefore area place file = (length file < place) ⊎ (area.base + area.length 
 
 -- the length behind the gate is above 256, or the record or the next gate goes beyond the file or the area
 abbrev pub HasBadLength : Area → ℕ → List ℕ → Type 0
-HasBadLength area place file = (n : ℕ) × HasAt (place + 1) (to_le_bytes w32 n) file × (n < 2 ^ 32) × ((256 < n) ⊎ EndsBefore area (place + 6 + n) file)
+HasBadLength area place file =
+    (n : ℕ) × HasAt (place + 1) (to_le_bytes w32 n) file × (n < 2 ^ 32) × ((256 < n) ⊎ EndsBefore area (place + 6 + n) file)
 
--- an open gate stands here, and its record isn't one: not even an empty one has its place, or it has a bad length
+-- An open gate stands here, and its record isn't one: with its next gate not even an empty one fits the file and the
+-- area, or it has a bad length.
 pub record IsBadRecord (area : Area) (place : ℕ) (file : List ℕ) : Type 0 where
   pub inside : IsInside area place file
   pub gate : HasAt place (open_gate ∷ []) file
@@ -36,4 +38,5 @@ pub record BreaksOffAt (area : Area) (place : ℕ) (file : List ℕ) : Type 0 wh
 
 -- the area's bytes stand for no list: the first gate isn't there, or the records break off at a bad one
 abbrev pub IsDamagedAt : Area → ℕ → List ℕ → Type 0
-IsDamagedAt area place file = ((place ≡ area.base) × EndsBefore area (area.base + 1) file) ⊎ BreaksOffAt area place file
+IsDamagedAt area place file =
+    ((place ≡ area.base) × EndsBefore area (area.base + 1) file) ⊎ BreaksOffAt area place file

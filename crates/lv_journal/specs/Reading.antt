@@ -3,7 +3,8 @@ use Rattle.std.specs.Prelude.{ℕ, List}
 use Rattle.lv_disk.specs.Stops.{Each, LeavesOnly}
 
 -- what a read gives stays, and a stop leaves nothing that it might not have left before
-pub record OnlyReads {D : Type 0} (reads may_leave : D → List ℕ → Type 0) (moment : D → ℕ) (left_since : D → ℕ → List ℕ → Type 0) (old new : D) : Type 0 where
+pub record OnlyReads {D : Type 0} (reads may_leave : D → List ℕ → Type 0) (moment : D → ℕ)
+    (left_since : D → ℕ → List ℕ → Type 0) (old new : D) : Type 0 where
   pub no_other : Each (reads new) (reads old)
   pub still : Each (reads old) (reads new)
   pub images : Each (may_leave new) (may_leave old)

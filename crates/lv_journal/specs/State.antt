@@ -4,7 +4,8 @@ use Rattle.lv_disk.specs.Stops.{Each}
 use Rattle.lv_disk.specs.declared.area.Area.{Area}
 use Rattle.lv_journal.specs.Records.{records_bytes, EndsAt}
 
--- its area, where in the area its next gate stands, whether it must be opened again, and the payloads that it was opened with
+-- Its area, where in the area its next gate stands, whether it must be opened again, and the payloads that it was
+-- opened with. Later ones are on the disk alone.
 pub record State : Type 0 where
   pub area : Area
   pub next : ℕ
