@@ -10,4 +10,6 @@ mod journal;
 #[cfg(test)]
 mod lumps;
 #[cfg(test)]
+mod maptables;
+#[cfg(test)]
 mod segs;

@@ -1,7 +1,7 @@
-ghost use Rattle.std.specs.Prelude.{◌≡◌, ◌+◌, ◌<◌, IsErrOf};
+ghost use Rattle.std.specs.Prelude.{◌≡◌, [], ◌∷◌, ◌+◌, ◌<◌, IsErrOf};
 ghost use Rattle.lv_maptables.specs.Ranges.{IsLine};
 ghost use Rattle.lv_maptables.specs.Outcomes.{Ends, EndsExactly, Tells, Spends, one_line, nothing};
-ghost use Rattle.lv_maptables.specs.Faults.{reference_faults, shape_faults, line_faults, set_line_faults, drop_line_faults};
+ghost use Rattle.lv_maptables.specs.Faults.{lacks, reference_faults, shape_faults, line_faults, set_line_faults, drop_line_faults};
 ghost use Rattle.lv_maptables.specs.Edits.{added_line, changed_line, dropped_line};
 
 use crate::error::MapError;
@@ -24,6 +24,16 @@ fn check_shape(line: &Line) -> Result<(), MapError>
 }
 
 impl Map {
+    /// Whether the map has the line: `NoLine`.
+    fn check_has_line(&self, n: u32) -> Result<(), MapError>
+        ensures { Tells result ((6, lacks self.now.tables.lines n) ∷ []) }
+    {
+        if n as usize >= self.lines.len() {
+            return Err(MapError::NoLine);
+        }
+        Ok(())
+    }
+
     /// Whether the map has what the line names: `NoVertex`, `NoSide`.
     fn check_references(&self, line: &Line) -> Result<(), MapError>
         ensures { Tells result (reference_faults self.now.tables line.now) }
@@ -74,9 +84,7 @@ impl Map {
         ensures { Tells result (set_line_faults self.now.tables n line) }
     {
         self.check_references(&line)?;
-        if n as usize >= self.lines.len() {
-            return Err(MapError::NoLine);
-        }
+        self.check_has_line(n)?;
         check_shape(&line)?;
         if is_too_long(&self.vertices, &line) {
             return Err(MapError::LineTooLong);
@@ -99,10 +107,7 @@ impl Map {
     pub fn can_drop_line(&self, n: u32) -> Result<(), MapError>
         ensures { Tells result (drop_line_faults self.now.tables n) }
     {
-        if n as usize >= self.lines.len() {
-            return Err(MapError::NoLine);
-        }
-        Ok(())
+        self.check_has_line(n)
     }
 
     /// Takes a line out, and lowers each greater number by one.

@@ -1,8 +1,8 @@
-ghost use Rattle.std.specs.Prelude.{◌≡◌, ◌+◌, ◌<◌, map, IsErrOf};
+ghost use Rattle.std.specs.Prelude.{◌≡◌, [], ◌∷◌, ◌+◌, ◌<◌, map, IsErrOf};
 ghost use Rattle.std.specs.List.{list_any};
 ghost use Rattle.lv_maptables.specs.Ranges.{IsSector};
 ghost use Rattle.lv_maptables.specs.Outcomes.{Ends, EndsExactly, Tells, Spends, one_sector, nothing};
-ghost use Rattle.lv_maptables.specs.Faults.{in_sector, sector_faults, set_sector_faults, drop_sector_faults};
+ghost use Rattle.lv_maptables.specs.Faults.{lacks, in_sector, sector_faults, set_sector_faults, drop_sector_faults};
 ghost use Rattle.lv_maptables.specs.Edits.{side_without_sector, added_sector, changed_sector, dropped_sector};
 
 use crate::error::MapError;
@@ -41,6 +41,16 @@ fn lower_sectors(sides: &mut [Side], gone: u32)
 }
 
 impl Map {
+    /// Whether the map has the sector: `NoSector`.
+    pub(super) fn check_has_sector(&self, n: u32) -> Result<(), MapError>
+        ensures { Tells result ((4, lacks self.now.tables.sectors n) ∷ []) }
+    {
+        if n as usize >= self.sectors.len() {
+            return Err(MapError::NoSector);
+        }
+        Ok(())
+    }
+
     /// Whether a sector can be added, memory aside: `TableFull`.
     pub fn can_add_sector(&self) -> Result<(), MapError>
         ensures { Tells result (sector_faults self.now.tables) }
@@ -68,10 +78,7 @@ impl Map {
     pub fn can_set_sector(&self, n: u32) -> Result<(), MapError>
         ensures { Tells result (set_sector_faults self.now.tables n) }
     {
-        if n as usize >= self.sectors.len() {
-            return Err(MapError::NoSector);
-        }
-        Ok(())
+        self.check_has_sector(n)
     }
 
     /// Puts a sector in place of that of its number.
@@ -89,9 +96,7 @@ impl Map {
     pub fn can_drop_sector(&self, n: u32) -> Result<(), MapError>
         ensures { Tells result (drop_sector_faults self.now.tables n) }
     {
-        if n as usize >= self.sectors.len() {
-            return Err(MapError::NoSector);
-        }
+        self.check_has_sector(n)?;
         if has_side_in(&self.sides, n) {
             return Err(MapError::InUse);
         }

@@ -1,8 +1,8 @@
-ghost use Rattle.std.specs.Prelude.{◌≡◌, ◌+◌, ◌<◌, map, IsErrOf};
+ghost use Rattle.std.specs.Prelude.{◌≡◌, [], ◌∷◌, ◌+◌, ◌<◌, map, IsErrOf};
 ghost use Rattle.std.specs.List.{list_any};
 ghost use Rattle.lv_maptables.specs.Ranges.{IsSide};
 ghost use Rattle.lv_maptables.specs.Outcomes.{Ends, EndsExactly, Tells, Spends, one_side, nothing};
-ghost use Rattle.lv_maptables.specs.Faults.{uses_side, side_faults, set_side_faults, drop_side_faults};
+ghost use Rattle.lv_maptables.specs.Faults.{lacks, uses_side, side_faults, set_side_faults, drop_side_faults};
 ghost use Rattle.lv_maptables.specs.Edits.{lowered_left, line_without_side, added_side, changed_side, dropped_side};
 
 use crate::error::MapError;
@@ -61,13 +61,21 @@ fn lower_sides(lines: &mut [Line], gone: u32)
 }
 
 impl Map {
+    /// Whether the map has the side: `NoSide`.
+    fn check_has_side(&self, n: u32) -> Result<(), MapError>
+        ensures { Tells result ((5, lacks self.now.tables.sides n) ∷ []) }
+    {
+        if n as usize >= self.sides.len() {
+            return Err(MapError::NoSide);
+        }
+        Ok(())
+    }
+
     /// Whether a side can be added, memory aside: `NoSector`, `TableFull`.
     pub fn can_add_side(&self, side: Side) -> Result<(), MapError>
         ensures { Tells result (side_faults self.now.tables side) }
     {
-        if usize::from(side.sector) >= self.sectors.len() {
-            return Err(MapError::NoSector);
-        }
+        self.check_has_sector(u32::from(side.sector))?;
         if self.sides.len() >= ITEM_LIMIT {
             return Err(MapError::TableFull);
         }
@@ -91,13 +99,8 @@ impl Map {
     pub fn can_set_side(&self, n: u32, side: Side) -> Result<(), MapError>
         ensures { Tells result (set_side_faults self.now.tables n side) }
     {
-        if usize::from(side.sector) >= self.sectors.len() {
-            return Err(MapError::NoSector);
-        }
-        if n as usize >= self.sides.len() {
-            return Err(MapError::NoSide);
-        }
-        Ok(())
+        self.check_has_sector(u32::from(side.sector))?;
+        self.check_has_side(n)
     }
 
     /// Puts a side in place of that of its number.
@@ -115,9 +118,7 @@ impl Map {
     pub fn can_drop_side(&self, n: u32) -> Result<(), MapError>
         ensures { Tells result (drop_side_faults self.now.tables n) }
     {
-        if n as usize >= self.sides.len() {
-            return Err(MapError::NoSide);
-        }
+        self.check_has_side(n)?;
         if has_line_with(&self.lines, n) {
             return Err(MapError::InUse);
         }

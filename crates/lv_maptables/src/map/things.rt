@@ -1,7 +1,7 @@
-ghost use Rattle.std.specs.Prelude.{◌≡◌, ◌+◌, ◌<◌, IsErrOf};
+ghost use Rattle.std.specs.Prelude.{◌≡◌, [], ◌∷◌, ◌+◌, ◌<◌, IsErrOf};
 ghost use Rattle.lv_maptables.specs.Ranges.{IsThing};
 ghost use Rattle.lv_maptables.specs.Outcomes.{Ends, EndsExactly, Tells, Spends, one_thing, nothing};
-ghost use Rattle.lv_maptables.specs.Faults.{thing_faults, set_thing_faults, drop_thing_faults};
+ghost use Rattle.lv_maptables.specs.Faults.{lacks, thing_faults, set_thing_faults, drop_thing_faults};
 ghost use Rattle.lv_maptables.specs.Edits.{added_thing, changed_thing, dropped_thing};
 
 use crate::error::MapError;
@@ -9,6 +9,16 @@ use crate::map::{ITEM_LIMIT, Map};
 use lv_lumps::Thing;
 
 impl Map {
+    /// Whether the map has the thing: `NoThing`.
+    fn check_has_thing(&self, n: u32) -> Result<(), MapError>
+        ensures { Tells result ((7, lacks self.now.tables.things n) ∷ []) }
+    {
+        if n as usize >= self.things.len() {
+            return Err(MapError::NoThing);
+        }
+        Ok(())
+    }
+
     /// Whether a thing can be added, memory aside: `TableFull`.
     pub fn can_add_thing(&self) -> Result<(), MapError>
         ensures { Tells result (thing_faults self.now.tables) }
@@ -36,10 +46,7 @@ impl Map {
     pub fn can_set_thing(&self, n: u32) -> Result<(), MapError>
         ensures { Tells result (set_thing_faults self.now.tables n) }
     {
-        if n as usize >= self.things.len() {
-            return Err(MapError::NoThing);
-        }
-        Ok(())
+        self.check_has_thing(n)
     }
 
     /// Puts a thing in place of that of its number.
@@ -57,10 +64,7 @@ impl Map {
     pub fn can_drop_thing(&self, n: u32) -> Result<(), MapError>
         ensures { Tells result (drop_thing_faults self.now.tables n) }
     {
-        if n as usize >= self.things.len() {
-            return Err(MapError::NoThing);
-        }
-        Ok(())
+        self.check_has_thing(n)
     }
 
     /// Takes a thing out, and lowers each greater number by one.

@@ -1,9 +1,9 @@
-ghost use Rattle.std.specs.Prelude.{◌≡◌, ◌+◌, ◌<◌, ◌&&◌, length, map, slice_set, unsigned_abs, ◌-ℤ◌, IsErrOf};
+ghost use Rattle.std.specs.Prelude.{◌≡◌, [], ◌∷◌, ◌+◌, ◌<◌, ◌&&◌, length, map, slice_set, unsigned_abs, ◌-ℤ◌, IsErrOf};
 ghost use Rattle.std.specs.List.{list_any};
 ghost use Rattle.lv_maptables.specs.Ranges.{IsVertex, squared_distance};
 ghost use Rattle.lv_maptables.specs.WellFormed.{vertex_at};
 ghost use Rattle.lv_maptables.specs.Outcomes.{Ends, EndsExactly, Tells, Spends, one_vertex, nothing};
-ghost use Rattle.lv_maptables.specs.Faults.{is_taken, is_taken_beside, is_too_long, uses_vertex, vertex_faults, set_vertex_faults, drop_vertex_faults};
+ghost use Rattle.lv_maptables.specs.Faults.{lacks, is_taken, is_taken_beside, is_too_long, uses_vertex, vertex_faults, set_vertex_faults, drop_vertex_faults};
 ghost use Rattle.lv_maptables.specs.Edits.{line_without_vertex, added_vertex, changed_vertex, dropped_vertex};
 
 use crate::error::MapError;
@@ -133,13 +133,21 @@ impl Map {
         Ok(number)
     }
 
-    /// Whether a vertex can be moved to the place: `NoVertex`, `PlaceTaken`, `LineTooLong`.
-    pub fn can_set_vertex(&self, n: u32, vertex: Vertex) -> Result<(), MapError>
-        ensures { Tells result (set_vertex_faults self.now.tables n vertex) }
+    /// Whether the map has the vertex: `NoVertex`.
+    fn check_has_vertex(&self, n: u32) -> Result<(), MapError>
+        ensures { Tells result ((3, lacks self.now.tables.vertices n) ∷ []) }
     {
         if n as usize >= self.vertices.len() {
             return Err(MapError::NoVertex);
         }
+        Ok(())
+    }
+
+    /// Whether a vertex can be moved to the place: `NoVertex`, `PlaceTaken`, `LineTooLong`.
+    pub fn can_set_vertex(&self, n: u32, vertex: Vertex) -> Result<(), MapError>
+        ensures { Tells result (set_vertex_faults self.now.tables n vertex) }
+    {
+        self.check_has_vertex(n)?;
         if has_place_beside(&self.vertices, n, vertex) {
             return Err(MapError::PlaceTaken);
         }
@@ -164,9 +172,7 @@ impl Map {
     pub fn can_drop_vertex(&self, n: u32) -> Result<(), MapError>
         ensures { Tells result (drop_vertex_faults self.now.tables n) }
     {
-        if n as usize >= self.vertices.len() {
-            return Err(MapError::NoVertex);
-        }
+        self.check_has_vertex(n)?;
         if has_line_at(&self.lines, n) {
             return Err(MapError::InUse);
         }

@@ -1,0 +1,474 @@
+ghost use Rattle.lv_maptables.specs.Ranges.{IsCoordinate};
+
+use lv_lumps::{Line, Name8, Sector, Side, Thing, Vertex};
+use lv_maptables::{
+    Kind, Map, MapError, NO_SIDE, Need, decode_body, empty_body, is_marker, is_name,
+    squared_distance,
+};
+use std::alloc::Global;
+use std::test::Fail;
+
+const SECTOR: Sector = Sector {
+    floor: 0,
+    ceiling: 128,
+    floor_name: Name8 {
+        bytes: *b"FLOOR4_8",
+    },
+    ceiling_name: Name8 {
+        bytes: *b"CEIL3_5\0",
+    },
+    light: 160,
+    special: 0,
+    tag: 0,
+};
+
+const SIDE: Side = Side {
+    x_offset: 0,
+    y_offset: 0,
+    upper: Name8 {
+        bytes: *b"-\0\0\0\0\0\0\0",
+    },
+    lower: Name8 {
+        bytes: *b"-\0\0\0\0\0\0\0",
+    },
+    middle: Name8 {
+        bytes: *b"STARTAN3",
+    },
+    sector: 0,
+};
+
+const THING: Thing = Thing {
+    x: 64,
+    y: 64,
+    angle: 90,
+    kind: 1,
+    options: 7,
+};
+
+/// A line of side 0 alone.
+const LINE: Line = Line {
+    v1: 0,
+    v2: 1,
+    flags: 1,
+    special: 0,
+    tag: 0,
+    right: 0,
+    left: NO_SIDE,
+};
+
+/// Adds a vertex.
+fn place(map: &mut Map, x: i16, y: i16) -> Result<u32, MapError>
+    requires x { IsCoordinate x }
+    requires y { IsCoordinate y }
+{
+    map.add_vertex(Vertex { x, y })
+}
+
+/// A map with a sector, a side, and the vertices 0 0, 64 0 and 128 0.
+fn drawn(alloc: Global) -> Result<Map, MapError> {
+    let mut map = Map::new(alloc);
+    place(&mut map, 0, 0)?;
+    place(&mut map, 64, 0)?;
+    place(&mut map, 128, 0)?;
+    map.add_sector(SECTOR)?;
+    map.add_side(SIDE)?;
+    Ok(map)
+}
+
+#[test]
+fn the_new_map_is_empty(rt: HostRuntime) -> Result<(), Fail> {
+    let map = Map::new(rt.alloc());
+    assert_eq!(rt; map.name().text(), b"MAP01".as_slice());
+    for kind in [
+        Kind::Vertex,
+        Kind::Sector,
+        Kind::Side,
+        Kind::Line,
+        Kind::Thing,
+    ] {
+        assert_eq!(rt; map.count(kind), 0);
+        assert_eq!(rt; map.lump(rt.alloc(), kind)?.len(), 0);
+    }
+    assert_eq!(rt; map.vertex(0), None);
+    assert_eq!(rt; map.body_len(), 20);
+    Ok(())
+}
+
+#[test]
+fn additions_answer_their_number(rt: HostRuntime) -> Result<(), Fail> {
+    let mut map = Map::new(rt.alloc());
+    map.reserve(Need {
+        vertices: 3,
+        sectors: 1,
+        sides: 1,
+        lines: 1,
+        things: 1,
+    })?;
+    assert_eq!(rt; place(&mut map, 0, 0)?, 0);
+    assert_eq!(rt; place(&mut map, 128, 0)?, 1);
+    assert_eq!(rt;
+        map.lump(rt.alloc(), Kind::Vertex)?.as_slice(),
+        [0, 0, 0, 0, 0x80, 0, 0, 0].as_slice()
+    );
+    assert_eq!(rt; place(&mut map, 128, 0), Err(MapError::PlaceTaken));
+    assert_eq!(rt; place(&mut map, -16384, 16383)?, 2);
+    assert_eq!(rt; map.add_sector(SECTOR)?, 0);
+    assert_eq!(rt; map.add_side(SIDE)?, 0);
+    assert_eq!(rt; map.add_line(LINE)?, 0);
+    assert_eq!(rt; map.add_thing(THING)?, 0);
+    assert_eq!(rt; map.sector(0), Some(SECTOR));
+    assert_eq!(rt; map.side(0), Some(SIDE));
+    assert_eq!(rt; map.line(0), Some(LINE));
+    assert_eq!(rt; map.thing(0), Some(THING));
+    assert_eq!(rt; map.count(Kind::Vertex), 3);
+    assert_eq!(rt; map.body_len(), 20 + 10 + 14 + 30 + 3 * 4 + 26);
+    Ok(())
+}
+
+#[test]
+fn lumps_are_the_records(rt: HostRuntime) -> Result<(), Fail> {
+    let mut map = drawn(rt.alloc())?;
+    map.add_line(LINE)?;
+    map.add_thing(THING)?;
+    assert_eq!(rt;
+        map.lump(rt.alloc(), Kind::Thing)?.as_slice(),
+        [0x40, 0, 0x40, 0, 0x5a, 0, 1, 0, 7, 0].as_slice()
+    );
+    assert_eq!(rt;
+        map.lump(rt.alloc(), Kind::Line)?.as_slice(),
+        [0, 0, 1, 0, 1, 0, 0, 0, 0, 0, 0, 0, 0xff, 0xff].as_slice()
+    );
+    assert_eq!(rt;
+        map.lump(rt.alloc(), Kind::Side)?.as_slice(),
+        b"\0\0\0\0-\0\0\0\0\0\0\0-\0\0\0\0\0\0\0STARTAN3\0\0".as_slice()
+    );
+    assert_eq!(rt;
+        map.lump(rt.alloc(), Kind::Sector)?.as_slice(),
+        b"\0\0\x80\0FLOOR4_8CEIL3_5\0\xa0\0\0\0\0\0".as_slice()
+    );
+    Ok(())
+}
+
+#[test]
+fn the_least_fault_is_answered(rt: HostRuntime) -> Result<(), Fail> {
+    let mut map = drawn(rt.alloc())?;
+    assert_eq!(rt;
+        map.add_line(Line { v2: 3, ..LINE }),
+        Err(MapError::NoVertex)
+    );
+    assert_eq!(rt;
+        map.add_line(Line {
+            v2: 3,
+            right: 1,
+            ..LINE
+        }),
+        Err(MapError::NoVertex)
+    );
+    assert_eq!(rt;
+        map.add_line(Line { right: 1, ..LINE }),
+        Err(MapError::NoSide)
+    );
+    assert_eq!(rt;
+        map.add_line(Line { left: 1, ..LINE }),
+        Err(MapError::NoSide)
+    );
+    assert_eq!(rt;
+        map.add_line(Line { v2: 0, ..LINE }),
+        Err(MapError::SameEnds)
+    );
+    assert_eq!(rt;
+        map.add_line(Line { flags: 4, ..LINE }),
+        Err(MapError::TwoSidedWithoutLeft)
+    );
+    assert_eq!(rt; map.add_line(LINE)?, 0);
+    // A left side doesn't want the flag.
+    map.set_line(
+        0,
+        Line {
+            flags: 0,
+            left: 0,
+            ..LINE
+        },
+    )?;
+    assert_eq!(rt; map.set_line(1, LINE), Err(MapError::NoLine));
+    assert_eq!(rt;
+        map.add_side(Side { sector: 1, ..SIDE }),
+        Err(MapError::NoSector)
+    );
+    assert_eq!(rt;
+        map.set_side(1, Side { sector: 1, ..SIDE }),
+        Err(MapError::NoSector)
+    );
+    assert_eq!(rt; map.set_side(1, SIDE), Err(MapError::NoSide));
+    assert_eq!(rt; map.set_sector(1, SECTOR), Err(MapError::NoSector));
+    assert_eq!(rt; map.set_thing(0, THING), Err(MapError::NoThing));
+    assert_eq!(rt; map.drop_vertex(3), Err(MapError::NoVertex));
+    assert_eq!(rt; map.drop_vertex(1), Err(MapError::InUse));
+    assert_eq!(rt; map.drop_sector(0), Err(MapError::InUse));
+    assert_eq!(rt; map.drop_side(0), Err(MapError::InUse));
+    assert_eq!(rt; map.drop_line(1), Err(MapError::NoLine));
+    assert_eq!(rt; map.drop_thing(0), Err(MapError::NoThing));
+    assert_eq!(rt;
+        map.set_vertex(3, Vertex { x: 0, y: 1 }),
+        Err(MapError::NoVertex)
+    );
+    assert_eq!(rt;
+        map.set_vertex(1, Vertex { x: 0, y: 0 }),
+        Err(MapError::PlaceTaken)
+    );
+    // A vertex may be moved to its own place.
+    map.set_vertex(1, Vertex { x: 64, y: 0 })?;
+    Ok(())
+}
+
+#[test]
+fn a_drop_lowers_the_greater_numbers(rt: HostRuntime) -> Result<(), Fail> {
+    let mut map = drawn(rt.alloc())?;
+    map.add_line(Line {
+        v1: 1,
+        v2: 2,
+        ..LINE
+    })?;
+    assert_eq!(rt; map.drop_vertex(1), Err(MapError::InUse));
+    map.drop_vertex(0)?;
+    assert_eq!(rt;
+        map.lump(rt.alloc(), Kind::Line)?.as_slice(),
+        [0, 0, 1, 0, 1, 0, 0, 0, 0, 0, 0, 0, 0xff, 0xff].as_slice()
+    );
+    assert_eq!(rt; map.vertex(0), Some(Vertex { x: 64, y: 0 }));
+    assert_eq!(rt; map.add_sector(SECTOR)?, 1);
+    assert_eq!(rt; map.add_side(Side { sector: 1, ..SIDE })?, 1);
+    assert_eq!(rt; map.add_side(SIDE)?, 2);
+    map.set_line(
+        0,
+        Line {
+            right: 2,
+            left: 1,
+            flags: 4,
+            ..LINE
+        },
+    )?;
+    map.drop_side(0)?;
+    assert_eq!(rt;
+        map.line(0),
+        Some(Line {
+            right: 1,
+            left: 0,
+            flags: 4,
+            ..LINE
+        })
+    );
+    map.set_side(1, Side { sector: 1, ..SIDE })?;
+    map.drop_sector(0)?;
+    assert_eq!(rt; map.side(0), Some(SIDE));
+    assert_eq!(rt; map.side(1), Some(SIDE));
+    map.drop_line(0)?;
+    assert_eq!(rt; map.line(0), None);
+    Ok(())
+}
+
+#[test]
+fn lines_have_a_greatest_length(rt: HostRuntime) -> Result<(), Fail> {
+    let mut map = Map::new(rt.alloc());
+    place(&mut map, -16384, 0)?;
+    place(&mut map, 16383, 0)?;
+    place(&mut map, -12000, -12000)?;
+    place(&mut map, 11169, 11169)?;
+    place(&mut map, 11170, 11170)?;
+    map.add_sector(SECTOR)?;
+    map.add_side(SIDE)?;
+    // 32767 by 0, 23169 by 23169, 23170 by 23170
+    assert_eq!(rt; map.add_line(LINE)?, 0);
+    assert_eq!(rt;
+        map.add_line(Line {
+            v1: 2,
+            v2: 3,
+            ..LINE
+        })?,
+        1
+    );
+    assert_eq!(rt;
+        map.add_line(Line {
+            v1: 2,
+            v2: 4,
+            ..LINE
+        }),
+        Err(MapError::LineTooLong)
+    );
+    assert_eq!(rt;
+        map.set_line(
+            0,
+            Line {
+                v1: 2,
+                v2: 4,
+                ..LINE
+            }
+        ),
+        Err(MapError::LineTooLong)
+    );
+    map.drop_vertex(4)?;
+    assert_eq!(rt;
+        map.set_vertex(3, Vertex { x: 11170, y: 11170 }),
+        Err(MapError::LineTooLong)
+    );
+    assert_eq!(rt;
+        squared_distance(
+            Vertex {
+                x: -12000,
+                y: -12000
+            },
+            Vertex { x: 11169, y: 11169 }
+        ),
+        1_073_605_122
+    );
+    Ok(())
+}
+
+#[test]
+fn tables_have_limits(rt: HostRuntime) -> Result<(), Fail> {
+    let mut map = Map::new(rt.alloc());
+    for _ in 0..4096 {
+        map.add_sector(SECTOR)?;
+    }
+    assert_eq!(rt; map.add_sector(SECTOR), Err(MapError::TableFull));
+    for _ in 0..32767 {
+        map.add_side(SIDE)?;
+        map.add_thing(THING)?;
+    }
+    assert_eq!(rt; map.add_side(SIDE), Err(MapError::TableFull));
+    assert_eq!(rt;
+        map.add_side(Side {
+            sector: 4095,
+            ..SIDE
+        }),
+        Err(MapError::TableFull)
+    );
+    assert_eq!(rt; map.add_thing(THING), Err(MapError::TableFull));
+    place(&mut map, 0, 0)?;
+    place(&mut map, 1, 0)?;
+    for _ in 0..32767 {
+        map.add_line(LINE)?;
+    }
+    assert_eq!(rt; map.add_line(LINE), Err(MapError::TableFull));
+    assert_eq!(rt; map.body_len(), 2_007_002 - 32765 * 4);
+    Ok(())
+}
+
+#[test]
+fn names_have_their_bytes(rt: HostRuntime) {
+    for (text, name) in [
+        (b"-".as_slice(), true),
+        (b"FLOOR4_8", true),
+        (b"A[B]C\\_9", true),
+        (b"", false),
+        (b"floor4_8", false),
+        (b"FLOOR4_8X", false),
+        (b"A B", false),
+    ] {
+        assert_eq!(rt; is_name(text), name, "at {text:?}");
+    }
+    for (text, marker) in [
+        (b"MAP01".as_slice(), true),
+        (b"MAP99", true),
+        (b"E1M1", true),
+        (b"E9M9", true),
+        (b"MAP00", false),
+        (b"MAP1", false),
+        (b"MAP001", false),
+        (b"E0M1", false),
+        (b"E1M0", false),
+        (b"", false),
+    ] {
+        assert_eq!(rt; is_marker(text), marker, "at {text:?}");
+    }
+}
+
+/// The body of a map with one item of each kind but two vertices.
+const BODY: [u8; 108] =
+    *b"\x01\0MAP01\0\0\0\x01\0\x01\0\x01\0\x02\0\x01\0\x40\0\x40\0\x5a\0\x01\0\x07\0\
+\0\0\x01\0\x01\0\0\0\0\0\0\0\xff\xff\0\0\0\0-\0\0\0\0\0\0\0-\0\0\0\0\0\0\0STARTAN3\0\0\
+\0\0\0\0\x40\0\0\0\0\0\x80\0FLOOR4_8CEIL3_5\0\xa0\0\0\0\0\0";
+
+#[test]
+fn bodies_read_back(rt: HostRuntime) -> Result<(), Fail> {
+    let new = Map::new(rt.alloc());
+    assert_eq!(rt; empty_body(), *b"\x01\0MAP01\0\0\0\0\0\0\0\0\0\0\0\0\0");
+    assert_eq!(rt;
+        new.encode_body(rt.alloc())?.as_slice(),
+        empty_body().as_slice()
+    );
+    assert_eq!(rt;
+        decode_body(rt.alloc(), &empty_body())?.count(Kind::Vertex),
+        0
+    );
+
+    let mut map = drawn(rt.alloc())?;
+    map.drop_vertex(2)?;
+    map.add_line(LINE)?;
+    map.add_thing(THING)?;
+    assert_eq!(rt; map.encode_body(rt.alloc())?.as_slice(), BODY.as_slice());
+    let read = decode_body(rt.alloc(), &BODY)?;
+    assert_eq!(rt; read.name().text(), b"MAP01".as_slice());
+    assert_eq!(rt; read.thing(0), Some(THING));
+    assert_eq!(rt; read.line(0), Some(LINE));
+    assert_eq!(rt; read.side(0), Some(SIDE));
+    assert_eq!(rt; read.vertex(1), Some(Vertex { x: 64, y: 0 }));
+    assert_eq!(rt; read.sector(0), Some(SECTOR));
+    Ok(())
+}
+
+#[test]
+fn damaged_bodies_are_refused(rt: HostRuntime) {
+    // place, byte and what it spoils
+    for (at, byte, what) in [
+        (0, 2, "the version"),
+        (2, b'N', "the map's name"),
+        (7, b'X', "what follows the map's name"),
+        (10, 2, "the count of things"),
+        (16, 1, "the count of vertices"),
+        (25, 0x80, "a thing's angle"),
+        (30, 2, "a line's vertex"),
+        (30, 1, "a line's two ends"),
+        (34, 4, "the flags of a line without a left side"),
+        (40, 1, "a line's right side"),
+        (42, 1, "a line's left side"),
+        (48, b' ', "a texture's name"),
+        (72, 1, "a side's sector"),
+        (75, 0x40, "a vertex's coordinate"),
+        (78, 0, "the place of a vertex"),
+        (87, b'x', "a flat's name"),
+        (103, 1, "a sector's light"),
+    ] {
+        let mut body = BODY;
+        if let Some(place) = body.get_mut(at) {
+            *place = byte;
+        }
+        let answer = decode_body(rt.alloc(), &body).map(|map| map.count(Kind::Thing));
+        assert_eq!(rt; answer, Err(MapError::Damaged(0)), "with {what} spoilt");
+    }
+    let short = decode_body(rt.alloc(), &BODY[..107]).map(|map| map.count(Kind::Thing));
+    assert_eq!(rt; short, Err(MapError::Damaged(0)));
+    let header = decode_body(rt.alloc(), &BODY[..19]).map(|map| map.count(Kind::Thing));
+    assert_eq!(rt; header, Err(MapError::Damaged(0)));
+}
+
+#[test]
+fn refusals_have_their_numbers(rt: HostRuntime) {
+    for (refusal, code) in [
+        (MapError::NoVertex, 3),
+        (MapError::NoSector, 4),
+        (MapError::NoSide, 5),
+        (MapError::NoLine, 6),
+        (MapError::NoThing, 7),
+        (MapError::InUse, 8),
+        (MapError::SameEnds, 9),
+        (MapError::PlaceTaken, 10),
+        (MapError::TwoSidedWithoutLeft, 11),
+        (MapError::TableFull, 12),
+        (MapError::LineTooLong, 13),
+        (MapError::OutOfMemory, 31),
+        (MapError::Damaged(0), 40),
+    ] {
+        assert_eq!(rt; refusal.code(), code);
+    }
+}
