@@ -1,3 +1,5 @@
+pub mod Accepted
+pub mod Complete
 pub mod Cutting
 pub mod Drawing
 pub mod Lines
@@ -7,4 +9,5 @@ pub mod Parts
 pub mod Readings
 pub mod Rooms
 pub mod Steps
+pub mod Wordings
 pub mod Writing

@@ -20,12 +20,12 @@ own : IsNumeralModel (λ ds. all_ascii_digits ds ≡ true) (digits_value 10)
 own = numerals_by_value _ tells_all_ascii_digits
 
 -- what a natural's digits are
-record IsPlain (w : List ℕ) : Type 0 where
-  digits : all_ascii_digits w ≡ true
-  some : 0 < length w
-  front : get_or w 0 0 ≡ 48 → length w ≡ 1
-  low : 48 ≤ get_or w 0 0
-  high : get_or w 0 0 ≤ 57
+pub record IsPlain (w : List ℕ) : Type 0 where
+  pub digits : all_ascii_digits w ≡ true
+  pub some : 0 < length w
+  pub front : get_or w 0 0 ≡ 48 → length w ≡ 1
+  pub low : 48 ≤ get_or w 0 0
+  pub high : get_or w 0 0 ≤ 57
 
 pub both : (a b : Bool) → (a && b) ≡ true → (a ≡ true) × (b ≡ true)
 both true b e = (refl, e)
@@ -33,7 +33,7 @@ both false b e = absurd cc
 
 all-digits : (w : List ℕ) → list_all is_digit w ≡ true → all_ascii_digits w ≡ true
 all-digits [] e = refl
-all-digits (b ∷ bs) e = let h = both _ _ e in let r = all-digits bs h.1 in let d = h.0 in grind (arith, nat_tests)
+all-digits (b ∷ bs) e = let h = both (is_digit b) (list_all is_digit bs) e in let r = all-digits bs h.1 in let d = h.0 in grind (arith, nat_tests)
 
 one-plain : (b : ℕ) → is_digit b ≡ true → IsPlain (b ∷ [])
 one-plain b e = record { digits = grind (arith, nat_tests); some = omega arith; front = λ h. refl; low = grind (arith, nat_tests); high = grind (arith, nat_tests) }
@@ -58,7 +58,7 @@ natural-value w p = let l = p.low in let h = p.high in let e = natural-sign w p 
 
 numeral-if : {P : Type 0} (b : ℕ) (bs : List ℕ) (t : Bool) → nat_eq b 45 ≡ t → cond t (is_natural bs && not (bytes_eq bs (codes "0"))) (is_natural (b ∷ bs)) ≡ true → (IsPlain (b ∷ bs) → P) → ((ds : List ℕ) → b ∷ bs ≡ 45 ∷ ds → IsPlain ds → (ds ≡ codes "0" → ⊥) → P) → P
 numeral-if b bs true s e f g =
-    let h = both _ _ e in
+    let h = both (is_natural bs) (not (bytes_eq bs (codes "0"))) e in
     let is : b ≡ 45 = grind (arith, nat_tests) in
     g bs (ap (λ x. x ∷ bs) is) (plain bs h.0) (λ z. let k = ap (λ x. not (bytes_eq x (codes "0"))) z in cc (h.1, k))
 numeral-if b bs false s e f g = f (plain (b ∷ bs) e)
@@ -116,7 +116,7 @@ numeral-utf8 w e =
     IsUtf8-from_ascii w (numeral-by w e (λ p. digits-ascii w p.digits)
     (λ ds is p some. subst IsAscii (sym is) (minus-ascii ds (digits-ascii ds p.digits))))
 
-between : (low v high : ℤ) → FitsSigned w16 low → FitsSigned w16 high → int_le low v ≡ true → int_le v high ≡ true → FitsSigned w16 v
+pub between : (low v high : ℤ) → FitsSigned w16 low → FitsSigned w16 high → int_le low v ≡ true → int_le v high ≡ true → FitsSigned w16 v
 between (pos a) (pos n) (pos b) f g p q = let h = g.sfits in record { sfits = grind (arith, nat_tests) }
 between (pos a) (pos n) (negsuc b) f g p q = absurd cc
 between (pos a) (negsuc n) high f g p q = absurd cc
@@ -143,7 +143,7 @@ decimal-front : (n : ℕ) → n < 2 ^ 64 → get_or (decimal n) 0 0 ≡ 48 → l
 decimal-front zero h e = ap length zero-written
 decimal-front (suc n) h e = let f = first_decimal (suc n) (omega arith) h in absurd (omega (arith, f, e))
 
-decimal-plain : (n : ℕ) → n < 2 ^ 64 → IsPlain (decimal n)
+pub decimal-plain : (n : ℕ) → n < 2 ^ 64 → IsPlain (decimal n)
 decimal-plain n h =
     let d = digits_decimal own n h in
     let s = decimal_nonempty n h in
@@ -160,3 +160,6 @@ value-back (negsuc n) f =
     let h = f.sfits in
     let small : suc n < 2 ^ 64 = omega (arith, h) in
     ap (λ v. neg_ℤ (pos v)) (digits_value-decimal own (suc n) small)
+
+pub decimal-digits : (n : ℕ) → n < 2 ^ 64 → all_ascii_digits (decimal n) ≡ true
+decimal-digits n h = digits_decimal own n h

@@ -107,7 +107,7 @@ nonzero-digit : (b : ℕ) → is_nonzero_digit b ≡ true → is_name_byte b ≡
 nonzero-digit b e = grind (arith, nat_tests)
 
 -- a map's name is of bytes that a name may have
-marker-bytes : (w : List ℕ) → is_marker w ≡ true → list_all is_name_byte w ≡ true
+pub marker-bytes : (w : List ℕ) → is_marker w ≡ true → list_all is_name_byte w ≡ true
 marker-bytes [] e = absurd cc
 marker-bytes (a ∷ []) e = absurd cc
 marker-bytes (a ∷ b ∷ []) e = absurd cc

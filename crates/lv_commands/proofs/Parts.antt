@@ -7,7 +7,7 @@ use Rattle.lv_commands.specs.Words.{parts, onto_first}
 parts-space : (b : ℕ) (bs : List ℕ) → b ≡ 32 → parts (b ∷ bs) ≡ [] ∷ parts bs
 parts-space b bs e = grind (arith, nat_tests)
 
-parts-other : (b : ℕ) (bs : List ℕ) → (b ≡ 32 → ⊥) → parts (b ∷ bs) ≡ onto_first b (parts bs)
+pub parts-other : (b : ℕ) (bs : List ℕ) → (b ≡ 32 → ⊥) → parts (b ∷ bs) ≡ onto_first b (parts bs)
 parts-other b bs ne = grind (arith, nat_tests)
 
 -- the first space stands at i

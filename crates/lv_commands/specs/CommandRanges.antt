@@ -2,7 +2,7 @@
 use Rattle.std.specs.Prelude.{ℕ, ◌≤◌, pos, ◌<ℤ◌}
 use Rattle.lv_maptables.specs.declared.kind.Kind.{Kind}
 use Rattle.lv_maptables.specs.declared.kind.Kind.TheVariants as kind
-use Rattle.lv_maptables.specs.Ranges.{IsBetween, IsCoordinate, is_name, is_marker, IsNamed, IsVertex, IsSector, IsSide, IsLine, IsThing}
+use Rattle.lv_maptables.specs.Ranges.{IsBetween, IsCoordinate, IsShort, is_name, is_marker, IsNamed, IsVertex, IsSector, IsSide, IsLine, IsThing}
 use Rattle.lv_commands.specs.declared.command.RoomPlan.{RoomPlan}
 use Rattle.lv_commands.specs.declared.command.Command.{Command}
 use Rattle.lv_commands.specs.declared.command.Command.TheVariants.{Name, AddVertex, AddSector, AddSide, AddLine, AddThing, SetVertex, SetSector, SetSide, SetLine, SetThing, Drop, Room, Split}
@@ -18,6 +18,8 @@ pub record IsPlan (r : RoomPlan) : Type 0 where
   pub south : IsCoordinate r.south
   pub east : IsCoordinate r.east
   pub north : IsCoordinate r.north
+  pub floor : IsShort r.floor
+  pub ceiling : IsShort r.ceiling
   pub floor_name : IsNamed is_name r.floor_name
   pub ceiling_name : IsNamed is_name r.ceiling_name
   pub wall : IsNamed is_name r.wall

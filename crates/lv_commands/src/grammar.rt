@@ -1,8 +1,9 @@
-ghost use Rattle.std.specs.Prelude.{◌≡◌, ◌∷◌, None, Some, IfOk, MatchResult};
+ghost use Rattle.std.specs.Prelude.{◌≡◌, ◌∷◌, ◌≤◌, None, Some, Ok, IfOk, MatchResult, length};
 ghost use Rattle.lv_commands.specs.CommandRanges.{InRange};
 ghost use Rattle.lv_commands.specs.Errors.{code_of};
 ghost use Rattle.lv_commands.specs.Grammar.{fault_behind, fault_of};
 ghost use Rattle.lv_commands.specs.Spelling.{head_word, spelling, words_of};
+ghost use Rattle.lv_commands.specs.declared.command.Command.{Command};
 ghost use Rattle.lv_commands.specs.Views.{reading};
 
 use crate::command::{Command, LineSplit};
@@ -81,8 +82,8 @@ fn command(head: Head, places: Places) -> Result<Command, CommandError>
     }
 }
 
-/// The command that a line is. Where it is none the answer is 1, or the leftmost of 2 and 15. Takes no memory.
-pub fn parse(line: &[u8]) -> Result<Command, CommandError>
+/// The command that a line is, or what is wrong with it.
+fn read(line: &[u8]) -> Result<Command, CommandError>
     ensures ok { IfOk result (λ c. (line.now ≡ spelling c) × InRange c) }
     ensures fault { MatchResult result (λ _. fault_of line.now ≡ None) (λ e. fault_of line.now ≡ Some (code_of e)) }
 {
@@ -94,4 +95,14 @@ pub fn parse(line: &[u8]) -> Result<Command, CommandError>
         Some(head) => command(head, Places::new(rest)),
         None => Err(CommandError::NotACommand),
     }
+}
+
+/// The command that a line is. Where it is none the answer is 1, or the leftmost of 2 and 15. Takes no memory.
+pub fn parse(line: &[u8]) -> Result<Command, CommandError>
+    ensures ok { IfOk result (λ c. (line.now ≡ spelling c) × InRange c) }
+    ensures all { (c : Command) → InRange c → line.now ≡ spelling c → result ≡ Ok c }
+    ensures fault { MatchResult result (λ _. fault_of line.now ≡ None) (λ e. fault_of line.now ≡ Some (code_of e)) }
+    ensures short { IfOk result (λ _. length line.now ≤ 256) }
+{
+    read(line)
 }
