@@ -1,0 +1,4 @@
+pub mod Answering
+pub mod Cutting
+pub mod Going
+pub mod HexDigits

@@ -1,0 +1,4 @@
+pub mod Answers
+pub mod Errors
+pub mod Lines
+pub mod Runs

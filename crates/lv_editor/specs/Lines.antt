@@ -1,0 +1,36 @@
+-- The input as lines, cut at each LF (docs/COMMANDS.md, "Lines").
+use Rattle.std.specs.Prelude.{◌≡◌, ℕ, Bool, false, ◌==◌, if◌then◌else◌, List, [], ◌∷◌, ◌++◌, take}
+use Rattle.std.specs.List.{list_any}
+
+-- LF ends a line
+abbrev pub is_break : ℕ → Bool
+is_break b = b == 10
+
+-- a byte in front of the first line, if there is one
+abbrev pub onto_first : ℕ → List (List ℕ) → List (List ℕ)
+onto_first b [] = []
+onto_first b (line ∷ lines) = (b ∷ line) ∷ lines
+
+-- the lines that end with a LF, without it
+abbrev pub whole_lines : List ℕ → List (List ℕ)
+whole_lines [] = []
+whole_lines (b ∷ bs) = if is_break b then [] ∷ whole_lines bs else onto_first b (whole_lines bs)
+
+-- what stands behind the last LF
+abbrev pub unfinished : List ℕ → List ℕ
+unfinished [] = []
+unfinished (b ∷ bs) = if list_any is_break (b ∷ bs) then unfinished bs else b ∷ bs
+
+-- a last part is a line where it isn't empty
+abbrev pub line_if_any : List ℕ → List (List ℕ)
+line_if_any [] = []
+line_if_any (b ∷ bs) = (b ∷ bs) ∷ []
+
+-- all lines of an input
+abbrev pub lines_of : List ℕ → List (List ℕ)
+lines_of bytes = whole_lines bytes ++ line_if_any (unfinished bytes)
+
+-- what is kept of a line that hasn't ended yet: its first 257 bytes, one more than a command may have
+pub record IsBegun (kept part : List ℕ) : Type 0 where
+  pub front : kept ≡ take 257 part
+  pub open_ended : list_any is_break part ≡ false

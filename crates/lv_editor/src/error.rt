@@ -1,0 +1,31 @@
+use thiserror::Error;
+
+/// Why a run, or what it was asked for, ended before its end.
+#[derive(Clone, Copy, Debug, PartialEq, Eq, Error)]
+pub enum EditorError {
+    #[error("the input is too long")]
+    InputTooLong,
+    #[error("the reader failed")]
+    ReaderFailed,
+    #[error("the writer failed")]
+    WriterFailed,
+    #[error("out of memory")]
+    OutOfMemory,
+}
+
+impl EditorError {
+    ghost use Rattle.std.specs.Prelude.{◌≡◌};
+    ghost use Rattle.lv_editor.specs.Errors.{code_of};
+
+    /// The number of the refusal.
+    pub fn code(&self) -> u16
+        ensures { result ≡ code_of self.now }
+    {
+        match self {
+            EditorError::OutOfMemory => 31,
+            EditorError::InputTooLong => 36,
+            EditorError::ReaderFailed => 37,
+            EditorError::WriterFailed => 38,
+        }
+    }
+}
