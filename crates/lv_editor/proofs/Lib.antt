@@ -1,4 +1,5 @@
 pub mod Answering
 pub mod Cutting
+pub mod FromMatches
 pub mod Going
 pub mod HexDigits

@@ -1,4 +1,5 @@
 pub mod Answers
 pub mod Errors
 pub mod Lines
+pub mod Request
 pub mod Runs
