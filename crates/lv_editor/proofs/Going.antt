@@ -209,8 +209,8 @@ Feeds-stopped answer old new part xs after n e u v w p is = record {
 
 -- ---- The end of a run
 
-pub RanOver-err : {S : Type 0} (answer : S → List ℕ → List ℕ → S → Type 0) (e : EditorError) (first last : S) (read : List ℕ) (u w : Option (List ℕ)) → Ends answer (Err e) first last (lines_of read) u w → RanOver answer (Err e) first last read u w
-RanOver-err answer WriterFailed first last read u w p = p
-RanOver-err answer OutOfMemory first last read u w p = absurd p
-RanOver-err answer InputTooLong first last read u w p = absurd p
-RanOver-err answer ReaderFailed first last read u w p = absurd p
+pub RanOver-err : {S : Type 0} (answer : S → List ℕ → List ℕ → S → Type 0) (e : EditorError) (turns : ℕ) (first last : S) (read : List ℕ) (u w : Option (List ℕ)) → Ends answer (Err e) first last (lines_of read) u w → RanOver answer (Err e) turns first last read u w
+RanOver-err answer WriterFailed turns first last read u w p = p
+RanOver-err answer OutOfMemory turns first last read u w p = absurd p
+RanOver-err answer InputTooLong turns first last read u w p = absurd p
+RanOver-err answer ReaderFailed turns first last read u w p = absurd p

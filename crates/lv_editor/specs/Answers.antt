@@ -1,4 +1,4 @@
--- What is answered to a line, and what becomes of the map (docs/COMMANDS.md, "Answers").
+-- What is answered to a line, and what becomes of the map (docs/COMMANDS.md, "Answers and queries").
 use Rattle.std.specs.Prelude.{◌≡◌, ℕ, ◌+◌, ◌/◌, ◌%◌, nat_lt, if◌then◌else◌, List, [], ◌∷◌, ◌++◌, map, find, flat_map, Option, MatchOption, ◌⊎◌, Result, Ok, Err, codes, decimal, bytes_eq}
 use Rattle.std.specs.List.{join_with_byte}
 use Rattle.lv_lumps.specs.Records.{vertex_record}

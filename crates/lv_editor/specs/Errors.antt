@@ -1,4 +1,4 @@
--- The numbers of the editor's refusals, as docs/COMMANDS.md lists them.
+-- The numbers of the editor's refusals, as docs/FORMAT.md lists them ("Numbers of the refusals").
 use Rattle.std.specs.Prelude.{ℕ}
 use Rattle.lv_editor.specs.declared.error.EditorError.{EditorError}
 use Rattle.lv_editor.specs.declared.error.EditorError.TheVariants.{OutOfMemory, InputTooLong, ReaderFailed, WriterFailed}

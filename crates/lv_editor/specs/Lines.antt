@@ -1,4 +1,4 @@
--- The input as lines, cut at each LF (docs/COMMANDS.md, "Lines").
+-- The input as lines, cut at each LF (docs/COMMANDS.md, "Lines and turns").
 use Rattle.std.specs.Prelude.{◌≡◌, ℕ, Bool, false, ◌==◌, if◌then◌else◌, List, [], ◌∷◌, ◌++◌, take}
 use Rattle.std.specs.List.{list_any}
 

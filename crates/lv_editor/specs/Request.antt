@@ -1,10 +1,14 @@
 -- What the words of the program ask for (docs/COMMANDS.md, "The program"): the command line is clap's, in clap's words.
 use Rattle.std.specs.Prelude.{◌≡◌, List, codes, true, false}
-use Rattle.clap.specs.Words.{App, app_of, Row, Text, new_app, with_subcommand}
+use Rattle.clap.specs.Words.{App, app_of, Row, Text, new_app, takes, with_subcommand}
 use Rattle.clap.specs.Simple.{on_top}
 use Rattle.clap.specs.declared.builder.command.Command.{Command}
 use Rattle.clap.specs.declared.builder.command.Command.TheViews.{out-Command}
+use Rattle.clap.specs.Values.{kind_of}
+use Rattle.clap.specs.declared.error.kind.ErrorKind.TheVariants.{OutOfMemory}
 use Rattle.lv_editor.specs.declared.asked.Request.{Request}
+use Rattle.lv_editor.specs.declared.asked.RequestError.{RequestError}
+use Rattle.lv_editor.specs.declared.asked.RequestError.TheVariants.{Words, Number, Memory}
 use Rattle.lv_editor.specs.declared.asked.Request.TheVariants.{Scratch}
 
 -- the command has this shape, which no subcommand inherits from
@@ -21,3 +25,9 @@ leveled_app =
 -- the request is for this subcommand, with these values of its arguments
 abbrev pub AsksFor : Request → Text × List Row → Type 0
 AsksFor Scratch asked = asked.0 ≡ codes "scratch"
+
+-- clap refuses words that its simple command takes only where memory ran out
+abbrev pub IsRefusal : List Text → RequestError → Type 0
+IsRefusal words (Words error) = takes leveled_app words ≡ true → kind_of error ≡ OutOfMemory
+IsRefusal words Number = Unit {0}
+IsRefusal words Memory = Unit {0}

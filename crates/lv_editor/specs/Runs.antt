@@ -1,6 +1,6 @@
--- What a run has read, answered and written (docs/COMMANDS.md, "Runs"). The state that lines move and the answers that
--- a line may have are parameters: for a run in memory, a map and the answers of `Answers`.
-use Rattle.std.specs.Prelude.{◌≡◌, ℕ, List, [], ◌∷◌, ◌++◌, length, Result, Ok, Err, Option, MatchResult, OnOk}
+-- What a run has read, answered and written (docs/COMMANDS.md, "Lines and turns"). The state that lines move and the
+-- answers that a line may have are parameters: for a run in memory, a map and the answers of `Answers`.
+use Rattle.std.specs.Prelude.{◌≡◌, ◌≤◌, ℕ, List, [], ◌∷◌, ◌++◌, length, Result, Ok, Err, Option, MatchResult, OnOk}
 use Rattle.std.specs.Io.KnownBytes.{Consumes, Appends, IsAtEnd}
 use Rattle.lv_editor.specs.Lines.{IsBegun, whole_lines, unfinished, lines_of}
 use Rattle.lv_editor.specs.declared.error.EditorError.{EditorError}
@@ -52,22 +52,23 @@ pub record Feeds {S : Type 0} (answer : S → List ℕ → List ℕ → S → Ty
   pub ends : Ends answer result old new (whole_lines (part ++ more)) writer-old writer-new
   pub begun : OnOk result (IsBegun kept (unfinished (part ++ more)))
 
--- How a run ended that has read these bytes. All lines are answered at Ok, and all that were read whole where the
--- reader failed or the turns were used up. It never ends for want of memory: that is an answer of its line.
-abbrev pub RanOver : {S : Type 0} → (S → List ℕ → List ℕ → S → Type 0) → Result ℕ EditorError → S → S → List ℕ
+-- How a run of so many turns ended that has read these bytes. All lines are answered at Ok, and all that were read
+-- whole where the reader failed or the turns were used up, each for a byte at least. It never ends for want of memory:
+-- that is an answer of its line.
+abbrev pub RanOver : {S : Type 0} → (S → List ℕ → List ℕ → S → Type 0) → Result ℕ EditorError → ℕ → S → S → List ℕ
     → Option (List ℕ) → Option (List ℕ) → Type 0
-RanOver answer (Ok n) first last read writer-old writer-new =
+RanOver answer (Ok n) turns first last read writer-old writer-new =
     (n ≡ length (lines_of read)) × Answered answer first last (lines_of read) writer-old writer-new
-RanOver answer (Err InputTooLong) first last read writer-old writer-new =
+RanOver answer (Err InputTooLong) turns first last read writer-old writer-new =
+    (turns ≤ length read) × Answered answer first last (whole_lines read) writer-old writer-new
+RanOver answer (Err ReaderFailed) turns first last read writer-old writer-new =
     Answered answer first last (whole_lines read) writer-old writer-new
-RanOver answer (Err ReaderFailed) first last read writer-old writer-new =
-    Answered answer first last (whole_lines read) writer-old writer-new
-RanOver answer (Err WriterFailed) first last read writer-old writer-new = Stopped answer first last (lines_of read)
-RanOver answer (Err OutOfMemory) first last read writer-old writer-new = ⊥
+RanOver answer (Err WriterFailed) turns first last read writer-old writer-new = Stopped answer first last (lines_of read)
+RanOver answer (Err OutOfMemory) turns first last read writer-old writer-new = ⊥
 
 -- some bytes were read, at Ok all that there were, and the run over them ended so
-abbrev pub Ran : {S : Type 0} → (S → List ℕ → List ℕ → S → Type 0) → S → Result ℕ EditorError → Option (List ℕ)
+abbrev pub Ran : {S : Type 0} → (S → List ℕ → List ℕ → S → Type 0) → S → ℕ → Result ℕ EditorError → Option (List ℕ)
     → Option (List ℕ) → Option (List ℕ) → Option (List ℕ) → Type 0
-Ran {S = S} answer first result reader-old reader-new writer-old writer-new =
+Ran {S = S} answer first turns result reader-old reader-new writer-old writer-new =
     (read : List ℕ) × (last : S) × Consumes reader-old reader-new read × OnOk result (IsAtEnd reader-new)
-    × RanOver answer result first last read writer-old writer-new
+    × RanOver answer result turns first last read writer-old writer-new

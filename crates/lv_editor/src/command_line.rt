@@ -1,6 +1,7 @@
-ghost use Rattle.std.specs.Prelude.{◌≡◌, IfOk, IsSomeAnd, codes, map};
+ghost use Rattle.std.specs.Prelude.{◌≡◌, IfOk, IfErr, IsSomeAnd, codes, map};
 ghost use Rattle.clap.specs.Words.{new_app, app_of, found_of, rows_of, subcommand_of};
-ghost use Rattle.lv_editor.specs.Request.{AsksFor, IsCommand, leveled_app};
+ghost use Rattle.lv_editor.specs.declared.asked.RequestError.TheVariants.{Number};
+ghost use Rattle.lv_editor.specs.Request.{AsksFor, IsCommand, IsRefusal, leveled_app};
 
 use crate::asked::{Request, RequestError};
 use clap::{ArgMatches, Command, Error};
@@ -29,7 +30,8 @@ fn leveled<'a>(alloc: Global) -> Result<Command<'a>, Error>
 
 /// The request for a subcommand with what was found for its arguments.
 fn asked(name: &str, found: &ArgMatches<'_>) -> Result<Request, RequestError>
-    ensures { IfOk result (λ r. AsksFor r (name.now, rows_of (found_of found.now))) }
+    ensures asked { IfOk result (λ r. AsksFor r (name.now, rows_of (found_of found.now))) }
+    ensures refused { IfErr result (λ e. e ≡ Number) }
 {
     let _ = found;
     match name {
@@ -39,11 +41,24 @@ fn asked(name: &str, found: &ArgMatches<'_>) -> Result<Request, RequestError>
 }
 
 /// What the words ask for. The first is the program's name.
+///
+/// # Errors
+///
+/// `Words` where clap refuses the words, or answers them itself: help and the version. clap's error
+/// has the text, and says where it goes and with which status.
 pub fn request(alloc: Global, words: &[&str]) -> Result<Request, RequestError>
-    ensures { IfOk result (λ r. IsSomeAnd (subcommand_of leveled_app (map (λ w. w.now) words.now)) (AsksFor r)) }
+    ensures asked { IfOk result (λ r.
+        IsSomeAnd (subcommand_of leveled_app (map (λ w. w.now) words.now)) (AsksFor r)) }
+    ensures refused { IfErr result (IsRefusal (map (λ w. w.now) words.now)) }
 {
-    let command = leveled(alloc)?;
-    let matches = command.try_get_matches_from(words)?;
+    let command = match leveled(alloc) {
+        Ok(command) => command,
+        Err(_) => return Err(RequestError::Memory),
+    };
+    let matches = match command.try_get_matches_from(words) {
+        Ok(matches) => matches,
+        Err(error) => return Err(RequestError::Words(error)),
+    };
     match matches.subcommand() {
         Some((name, found)) => asked(name, found),
         None => Err(RequestError::Number),

@@ -20,7 +20,8 @@ fn scratch<R: Read, W: Write + Drop>(
     reader: &mut R,
     writer: W,
 ) -> Result<W, EditorError>
-    ensures { IfOk result (λ w. (n : ℕ) × Ran (Answers LONGEST_BODY) empty_tables (Ok n) (R.remaining reader.old) (R.remaining reader.new) (W.contents writer) (W.contents w)) }
+    ensures { IfOk result (λ w. (n : ℕ) × Ran (Answers LONGEST_BODY) empty_tables TURNS (Ok n)
+        (R.remaining reader.old) (R.remaining reader.new) (W.contents writer) (W.contents w)) }
 {
     let Ok(mut out) = BufWriter::new(alloc, writer) else {
         return Err(EditorError::OutOfMemory);

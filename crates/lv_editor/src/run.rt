@@ -15,7 +15,8 @@ use std::io::{Read, Write};
 
 /// Hands on what was written, so that a pipe or a terminal has it.
 fn flush<W: Write>(writer: &mut W) -> Result<(), EditorError>
-    ensures { MatchResult result (λ _. Keeps (W.contents writer.old) (W.contents writer.new)) (λ e. e ≡ WriterFailed) }
+    ensures { MatchResult result (λ _. Keeps (W.contents writer.old) (W.contents writer.new))
+        (λ e. e ≡ WriterFailed) }
 {
     match writer.flush() {
         Ok(()) => Ok(()),
@@ -30,7 +31,9 @@ fn finish<W: Write>(
     line: &InputLine,
     writer: &mut W,
 ) -> Result<u64, EditorError>
-    ensures { (part : List ℕ) → IsBegun line.now part → Ends (Answers LONGEST_BODY) result scratch.old.map.tables scratch.new.map.tables (line_if_any part) (W.contents writer.old) (W.contents writer.new) }
+    ensures { (part : List ℕ) → IsBegun line.now part
+        → Ends (Answers LONGEST_BODY) result scratch.old.map.tables scratch.new.map.tables
+        (line_if_any part) (W.contents writer.old) (W.contents writer.new) }
 {
     let kept = line.as_slice();
     if kept.is_empty() {
@@ -53,7 +56,9 @@ fn take_byte<W: Write>(
     b: u8,
     writer: &mut W,
 ) -> Result<u64, EditorError>
-    ensures feeds { (part : List ℕ) → IsBegun line.old part → Feeds (Answers LONGEST_BODY) result scratch.old.map.tables scratch.new.map.tables part (b ∷ []) line.new (W.contents writer.old) (W.contents writer.new) }
+    ensures feeds { (part : List ℕ) → IsBegun line.old part
+        → Feeds (Answers LONGEST_BODY) result scratch.old.map.tables scratch.new.map.tables
+        part (b ∷ []) line.new (W.contents writer.old) (W.contents writer.new) }
     ensures few { IfOk result (λ n. n ≤ 1) }
 {
     if b != b'\n' {
@@ -77,7 +82,9 @@ fn feed<W: Write>(
     bytes: &[u8],
     writer: &mut W,
 ) -> Result<u64, EditorError>
-    ensures feeds { (part : List ℕ) → IsBegun line.old part → Feeds (Answers LONGEST_BODY) result scratch.old.map.tables scratch.new.map.tables part bytes.now line.new (W.contents writer.old) (W.contents writer.new) }
+    ensures feeds { (part : List ℕ) → IsBegun line.old part
+        → Feeds (Answers LONGEST_BODY) result scratch.old.map.tables scratch.new.map.tables
+        part bytes.now line.new (W.contents writer.old) (W.contents writer.new) }
     ensures few { IfOk result (λ n. n ≤ length bytes.now) }
 {
     let mut answered: u64 = 0;
@@ -98,7 +105,9 @@ fn take_turn<W: Write>(
     bytes: &[u8],
     writer: &mut W,
 ) -> Result<u64, EditorError>
-    ensures feeds { (part : List ℕ) → IsBegun line.old part → Feeds (Answers LONGEST_BODY) result scratch.old.map.tables scratch.new.map.tables part bytes.now line.new (W.contents writer.old) (W.contents writer.new) }
+    ensures feeds { (part : List ℕ) → IsBegun line.old part
+        → Feeds (Answers LONGEST_BODY) result scratch.old.map.tables scratch.new.map.tables
+        part bytes.now line.new (W.contents writer.old) (W.contents writer.new) }
     ensures few { IfOk result (λ n. n ≤ length bytes.now) }
 {
     match feed(alloc, scratch, line, bytes, writer) {
@@ -127,7 +136,9 @@ pub fn run_in_memory<R: Read, W: Write>(
     writer: &mut W,
     turns: u32,
 ) -> Result<u64, EditorError>
-    ensures { Ran (Answers LONGEST_BODY) empty_tables result (R.remaining reader.old) (R.remaining reader.new) (W.contents writer.old) (W.contents writer.new) }
+    ensures { Ran (Answers LONGEST_BODY) empty_tables turns result
+        (R.remaining reader.old) (R.remaining reader.new)
+        (W.contents writer.old) (W.contents writer.new) }
 {
     let mut scratch = Scratch::new(alloc);
     let mut line = InputLine::new();

@@ -28,7 +28,9 @@ fn write_outcome<W: Write>(
     outcome: Result<u32, CommandError>,
     writer: &mut W,
 ) -> Result<(), EditorError>
-    ensures { MatchResult result (λ _. Appends (W.contents writer.old) (W.contents writer.new) (outcome_text outcome)) (λ e. e ≡ WriterFailed) }
+    ensures { MatchResult result
+        (λ _. Appends (W.contents writer.old) (W.contents writer.new) (outcome_text outcome))
+        (λ e. e ≡ WriterFailed) }
 {
     let written = match outcome {
         Ok(number) => write!(writer, "ok {number}\n"),
@@ -55,8 +57,10 @@ impl Scratch {
 
     /// Does what a line asks for that is no query.
     fn change(&mut self, line: &[u8]) -> Result<u32, CommandError>
-        ensures { CommandAnswer LONGEST_BODY self.old.map.tables line.now (outcome_text result) self.new.map.tables
-            ⊎ ((outcome_text result ≡ refused_text 31) × (self.new.map.tables ≡ self.old.map.tables)) }
+        ensures { CommandAnswer LONGEST_BODY self.old.map.tables line.now
+            (outcome_text result) self.new.map.tables
+            ⊎ ((outcome_text result ≡ refused_text 31)
+            × (self.new.map.tables ≡ self.old.map.tables)) }
     {
         let command = parse(line)?;
         apply(&mut self.map, &command, LONGEST_BODY)
@@ -83,7 +87,9 @@ impl Scratch {
         line: &[u8],
         writer: &mut W,
     ) -> Result<(), EditorError>
-        ensures { AnswersLine (Answers LONGEST_BODY) result self.old.map.tables self.new.map.tables line.now (W.contents writer.old) (W.contents writer.new) }
+        ensures { AnswersLine (Answers LONGEST_BODY) result
+            self.old.map.tables self.new.map.tables line.now
+            (W.contents writer.old) (W.contents writer.new) }
     {
         let Some(query) = read_query(line) else {
             let outcome = self.change(line);

@@ -1,4 +1,4 @@
-use Rattle.std.proofs.Common.{◌++◌, [], ◌≤◌, length, arith, take}
+use Rattle.std.proofs.Common.{◌≡◌, ◌++◌, [], ◌≤◌, length, arith, take, length-append}
 use Rattle.std.proofs.lemmas.Grind.{common_steps}
 use Rattle.lv_maptables.specs.Tables.{empty_tables}
 use Rattle.lv_editor.specs.declared.scratch.TheConstants.{LONGEST_BODY}
@@ -16,6 +16,7 @@ loop-preserved g c =
       read ++ more,
       record {
         took = Consumes-append _ _ _ read more i.took c.in-Ok.ensures.bytes.0;
+        turns = (let size : length more ≡ c.in-Ok.count = grind (arith, common_steps) in let some = c.if-count-eq0.false in omega (arith, i.turns, length-append read more));
         few = omega (arith, c.in-Ok-take_turn.ensures.few, i.few);
         fed = Feeds-ok (Answers LONGEST_BODY) empty_tables c.loop.scratch.map.tables c.take_turn.new.scratch.map.tables [] read more c.loop.line
             c.take_turn.new.line c.loop.answered c.in-Ok-take_turn.more (g.W.Write.contents c.args.writer.now) (g.W.Write.contents c.loop.writer)
@@ -39,7 +40,7 @@ returns-in-Err-take_turn g c =
       last,
       Consumes-append _ _ _ read more i.took c.in-Ok.ensures.bytes.0,
       tt,
-      RanOver-err (Answers LONGEST_BODY) error empty_tables last (read ++ more) u w
+      RanOver-err (Answers LONGEST_BODY) error c.args.turns empty_tables last (read ++ more) u w
           (Ends-more (Answers LONGEST_BODY) empty_tables last (whole_lines (read ++ more)) (line_if_any (unfinished (read ++ more))) error u w fed.ends),
     )
 
@@ -69,7 +70,7 @@ returns-in-Err-finish g c =
       last,
       Consumes-end _ _ _ read c.read.new.buf c.in-Ok.count c.if-count-eq0.true i.took c.in-Ok.ensures.bytes.0,
       tt,
-      RanOver-err (Answers LONGEST_BODY) error empty_tables last read u w
+      RanOver-err (Answers LONGEST_BODY) error c.args.turns empty_tables last read u w
           (Ends-err (Answers LONGEST_BODY) empty_tables c.loop.scratch.map.tables last (whole_lines read) (line_if_any (unfinished read)) c.loop.answered error
           u (g.W.Write.contents c.loop.writer) w i.fed.ends (c.in-Err-finish.ensures (unfinished read) i.fed.begun)),
     )
