@@ -8,6 +8,8 @@ mod commands;
 #[cfg(test)]
 mod disk;
 #[cfg(test)]
+mod editor;
+#[cfg(test)]
 mod journal;
 #[cfg(test)]
 mod lumps;

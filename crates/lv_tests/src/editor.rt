@@ -1,0 +1,276 @@
+//! Lines in and answers out, and the words of the program.
+
+use lv_editor::{EditorError, Request, RequestError, perform, request, run_in_memory};
+use std::alloc::Global;
+use std::io::{self, Read, Write};
+use std::test::Fail;
+
+const ROW: &[u8] = b"vertex 0 0\nvertex 128 0\nhex VERTEXES\n";
+
+const ROW_ANSWERS: &[u8] = b"ok 0\nok 1\n00 00 00 00 80 00 00 00\n";
+
+/// A reader that gives its bytes one at a time, and then fails or is at its end.
+#[derive(Drop)]
+struct Drip<'a> {
+    left: &'a [u8],
+    fails: bool,
+}
+
+impl Read for Drip<'_> {
+    fn read(&mut self, buf: &mut [u8]) -> io::Result<usize> {
+        let left = self.left;
+        match left {
+            [] => {
+                if self.fails {
+                    Err(io::Error::from(io::ErrorKind::BrokenPipe))
+                } else {
+                    Ok(0)
+                }
+            }
+            [first, rest @ ..] => {
+                if buf.is_empty() {
+                    return Ok(0);
+                }
+                buf[0] = *first;
+                self.left = rest;
+                Ok(1)
+            }
+        }
+    }
+}
+
+/// A writer that takes this many bytes, and then fails.
+#[derive(Drop)]
+struct Narrow {
+    room: usize,
+}
+
+impl Write for Narrow {
+    fn write(&mut self, buf: &[u8]) -> io::Result<usize> {
+        let taken = self.room.min(buf.len());
+        if taken == 0 {
+            return Err(io::Error::from(io::ErrorKind::StorageFull));
+        }
+        self.room -= taken;
+        Ok(taken)
+    }
+
+    fn flush(&mut self) -> io::Result<()> {
+        Ok(())
+    }
+}
+
+/// What a run over these bytes answers, and what it writes.
+fn run(alloc: Global, input: &[u8], turns: u32) -> (Result<u64, EditorError>, Vec<u8>) {
+    let mut reader = input;
+    let mut out = Vec::new(alloc);
+    let answered = run_in_memory(alloc, &mut reader, &mut out, turns);
+    (answered, out)
+}
+
+#[test]
+fn answers_lines(rt: HostRuntime) {
+    let rows: [(&[u8], u64, &[u8]); 9] = [
+        (b"", 0, b""),
+        (ROW, 3, ROW_ANSWERS),
+        (b"hex VERTEXES", 1, b"-\n"),
+        (
+            b"vertex -16384 16383\nhex VERTEXES\nvertex 16384 0\nvertex -16384 16383\nhex VERTEXES\n",
+            5,
+            b"ok 0\n00 c0 ff 3f\nno 2\nno 10\n00 c0 ff 3f\n",
+        ),
+        (
+            b"vertex 00 0\nvertex -0 0\nvertex  1 1\n\nvertex 1\n",
+            5,
+            b"no 1\nno 1\nno 1\nno 1\nno 1\n",
+        ),
+        (
+            b"hex\nhex  VERTEXES\nhex VERTEXES \nhex vertexes\n hex VERTEXES\n",
+            5,
+            b"no 1\nno 1\nno 1\nno 1\nno 1\n",
+        ),
+        (b"vertex 0 0\r\nvertex 0 0\n", 2, b"no 1\nok 0\n"),
+        (b"vertex 1 2\nvertex 3 4", 2, b"ok 0\nok 1\n"),
+        (b"\n\n\n", 3, b"no 1\nno 1\nno 1\n"),
+    ];
+    for (input, count, wanted) in rows {
+        let (answered, out) = run(rt.alloc(), input, 2);
+        assert_eq!(rt; answered, Ok(count), "{input:?}");
+        assert_eq!(rt; out.as_slice(), wanted, "{input:?}");
+    }
+}
+
+/// A line of these many digits behind `vertex 0 `, which is a command or too long for one.
+fn long_line(alloc: Global, digits: usize) -> Result<Vec<u8>, Fail> {
+    let mut line = Vec::from_slice(alloc, b"vertex 0 ")?;
+    for _ in 0..digits {
+        line.push(b'1')?;
+    }
+    line.push(b'\n')?;
+    Ok(line)
+}
+
+#[test]
+fn refuses_long_lines(rt: HostRuntime) -> Result<(), Fail> {
+    // A line of 256 bytes has a number out of its range; a longer one is no command, however long.
+    let rows: [(usize, &[u8]); 4] = [
+        (247, b"no 2\n"),
+        (248, b"no 1\n"),
+        (249, b"no 1\n"),
+        (9000, b"no 1\n"),
+    ];
+    for (digits, wanted) in rows {
+        let line = long_line(rt.alloc(), digits)?;
+        let (answered, out) = run(rt.alloc(), line.as_slice(), 4);
+        assert_eq!(rt; answered, Ok(1), "{digits} digits");
+        assert_eq!(rt; out.as_slice(), wanted, "{digits} digits");
+    }
+    // What stands behind a long line is answered as ever.
+    let mut lines = long_line(rt.alloc(), 4090)?;
+    lines.extend_from_slice(ROW)?;
+    let (answered, out) = run(rt.alloc(), lines.as_slice(), 3);
+    assert_eq!(rt; answered, Ok(4));
+    assert_eq!(rt;
+        out.as_slice(),
+        b"no 1\nok 0\nok 1\n00 00 00 00 80 00 00 00\n".as_slice()
+    );
+    Ok(())
+}
+
+#[test]
+fn counts_turns(rt: HostRuntime) {
+    let (answered, out) = run(rt.alloc(), ROW, 1);
+    assert_eq!(rt; answered, Err(EditorError::InputTooLong));
+    assert_eq!(rt; out.as_slice(), ROW_ANSWERS);
+    let (answered, out) = run(rt.alloc(), ROW, 0);
+    assert_eq!(rt; answered, Err(EditorError::InputTooLong));
+    assert_eq!(rt; out.as_slice(), b"".as_slice());
+
+    // 37 bytes one at a time, and the read that gives the end.
+    for (turns, wanted) in [(38, Ok(3)), (37, Err(EditorError::InputTooLong))] {
+        let mut reader = Drip {
+            left: ROW,
+            fails: false,
+        };
+        let mut out = Vec::new(rt.alloc());
+        let answered = run_in_memory(rt.alloc(), &mut reader, &mut out, turns);
+        assert_eq!(rt; answered, wanted, "{turns} turns");
+        assert_eq!(rt; out.as_slice(), ROW_ANSWERS, "{turns} turns");
+    }
+}
+
+#[test]
+fn stops_where_the_reader_fails(rt: HostRuntime) {
+    let mut reader = Drip {
+        left: b"vertex 0 0\nvert",
+        fails: true,
+    };
+    let mut out = Vec::new(rt.alloc());
+    let answered = run_in_memory(rt.alloc(), &mut reader, &mut out, 100);
+    assert_eq!(rt; answered, Err(EditorError::ReaderFailed));
+    assert_eq!(rt; out.as_slice(), b"ok 0\n".as_slice());
+}
+
+#[test]
+fn stops_where_the_writer_fails(rt: HostRuntime) {
+    for room in 0..35 {
+        let mut reader = ROW;
+        let mut writer = Narrow { room };
+        let answered = run_in_memory(rt.alloc(), &mut reader, &mut writer, 2);
+        let wanted = if room < 34 {
+            Err(EditorError::WriterFailed)
+        } else {
+            Ok(3)
+        };
+        assert_eq!(rt; answered, wanted, "{room} bytes");
+    }
+    // No further line is looked at: the second byte of the first answer is the last that is taken.
+    let mut reader = Drip {
+        left: ROW,
+        fails: false,
+    };
+    let mut writer = Narrow { room: 2 };
+    let answered = run_in_memory(rt.alloc(), &mut reader, &mut writer, 100);
+    assert_eq!(rt; answered, Err(EditorError::WriterFailed));
+    assert_eq!(rt; reader.left, b"vertex 128 0\nhex VERTEXES\n".as_slice());
+}
+
+#[test]
+fn numbers_refusals(rt: HostRuntime) {
+    let rows = [
+        (EditorError::OutOfMemory, 31),
+        (EditorError::InputTooLong, 36),
+        (EditorError::ReaderFailed, 37),
+        (EditorError::WriterFailed, 38),
+    ];
+    for (error, code) in rows {
+        assert_eq!(rt; error.code(), code);
+    }
+}
+
+/// What the program answers to `scratch` over this reader, and what it prints on standard error.
+fn scratch<R: Read + Drop, W: Write + Drop>(
+    rt: &HostRuntime,
+    reader: R,
+    writer: W,
+) -> Result<(u8, Vec<u8>), Fail> {
+    let words = ["leveled", "scratch"];
+    let Ok(asked) = request(rt.alloc(), words.as_slice()) else {
+        return Err(Fail::from("no request"));
+    };
+    let mut faults = Vec::new(rt.alloc());
+    let status = perform(rt, &asked, reader, writer, &mut faults);
+    Ok((status, faults))
+}
+
+#[test]
+fn performs_scratch(rt: HostRuntime) -> Result<(), Fail> {
+    let mut out = Vec::new(rt.alloc());
+    let (status, faults) = scratch(&rt, ROW, &mut out)?;
+    assert_eq!(rt; status, 0);
+    assert_eq!(rt; out.as_slice(), ROW_ANSWERS);
+    assert_eq!(rt; faults.as_slice(), b"".as_slice());
+
+    let mut out = Vec::new(rt.alloc());
+    let broken = Drip {
+        left: b"vertex 0 0\nvert",
+        fails: true,
+    };
+    let (status, faults) = scratch(&rt, broken, &mut out)?;
+    assert_eq!(rt; status, 1);
+    assert_eq!(rt; out.as_slice(), b"ok 0\n".as_slice());
+    assert_eq!(rt; faults.as_slice(), b"leveled: 37 ReaderFailed\n".as_slice());
+
+    let (status, faults) = scratch(&rt, ROW, Narrow { room: 2 })?;
+    assert_eq!(rt; status, 1);
+    assert_eq!(rt; faults.as_slice(), b"leveled: 38 WriterFailed\n".as_slice());
+    Ok(())
+}
+
+#[test]
+fn reads_words(rt: HostRuntime) -> Result<(), Fail> {
+    let words = ["leveled", "scratch"];
+    let asked = request(rt.alloc(), words.as_slice());
+    assert!(rt; matches!(asked, Ok(Request::Scratch)));
+
+    // The words, the status of what clap answers, and a part of its text.
+    let rows: [(&[&str], i32, &str); 6] = [
+        (&["leveled"], 2, "requires a subcommand"),
+        (&["leveled", "help"], 2, "unrecognized subcommand 'help'"),
+        (&["leveled", "scratch", "x"], 2, "unexpected argument 'x'"),
+        (&["leveled", "--slot"], 2, "unexpected argument '--slot'"),
+        (&["leveled", "--help"], 0, "Usage: leveled <COMMAND>"),
+        (&["leveled", "--version"], 0, "leveled 0.1.0"),
+    ];
+    for (words, status, part) in rows {
+        match request(rt.alloc(), words) {
+            Err(RequestError::Words(error)) => {
+                let text = error.to_string(rt.alloc())?;
+                assert_eq!(rt; error.exit_code(), status, "{words:?}");
+                assert!(rt; text.as_str().contains(part), "{words:?}");
+            }
+            _ => return Err(Fail::from("not refused by clap")),
+        }
+    }
+    Ok(())
+}
