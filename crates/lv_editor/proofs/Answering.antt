@@ -45,10 +45,10 @@ Answers-query cap m line text q some told = inl (go (query_of line) some)
 -- ---- A line that is too long
 
 -- texts of different lengths are different
-bytes-differ : (xs ys : List ℕ) → length xs < length ys → bytes_eq xs ys ≡ false
+bytes-differ : (xs ys : List ℕ) → length ys < length xs → bytes_eq xs ys ≡ false
 bytes-differ [] [] lt = absurd (omega arith)
-bytes-differ [] (y ∷ ys) lt = refl
-bytes-differ (x ∷ xs) [] lt = absurd (omega arith)
+bytes-differ [] (y ∷ ys) lt = absurd (omega arith)
+bytes-differ (x ∷ xs) [] lt = refl
 bytes-differ (x ∷ xs) (y ∷ ys) lt = ap (λ t. nat_eq x y && t) (bytes-differ xs ys (omega arith)) ∙ and-false (nat_eq x y)
 
 both-true : (s t : Bool) → (s && t) ≡ true → (s ≡ true) × (t ≡ true)
@@ -57,12 +57,12 @@ both-true false t e = cc
 
 -- no text as short as these is the line
 none-found : (qs : List (List ℕ × Query)) (line : List ℕ) → 256 < length line → list_all (λ q. nat_le (length q.0) 256) qs ≡ true
-    → find (λ q. bytes_eq q.0 line) qs ≡ None
+    → find (λ q. bytes_eq line q.0) qs ≡ None
 none-found [] line long short = refl
 none-found (q ∷ qs) line long short =
     let both = both-true (nat_le (length q.0) 256) (list_all (λ r. nat_le (length r.0) 256) qs) short in
     let here : length q.0 ≤ 256 = leb-true (length q.0) 256 both.0 in
-    ap (λ t. cond t (Some q) (find (λ r. bytes_eq r.0 line) qs)) (bytes-differ q.0 line (omega arith)) ∙ none-found qs line long both.1
+    ap (λ t. cond t (Some q) (find (λ r. bytes_eq line r.0) qs)) (bytes-differ line q.0 (omega arith)) ∙ none-found qs line long both.1
 
 long-query : (line : List ℕ) → 256 < length line → query_of line ≡ None
 long-query line long = none-found queries line long refl

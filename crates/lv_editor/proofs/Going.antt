@@ -1,6 +1,6 @@
 -- One stretch of a run after another.
 use Rattle.std.proofs.Common.{◌≡◌, ℕ, zero, suc, List, [], ◌∷◌, ◌++◌, false, refl, sym, ◌∙◌, ap, subst, arith, ◌+◌, length, length-append, take, ◌<◌, append_assoc, append-nil}
-use Rattle.std.specs.Prelude.{Option, Some, None, Ok, Err}
+use Rattle.std.specs.Prelude.{Option, Some, None, Result, Ok, Err, MatchResult}
 use Rattle.std.specs.List.{list_any}
 use Rattle.std.specs.Io.KnownBytes.{Appends, Consumes, Keeps}
 use Rattle.lv_editor.specs.Runs.{AnswersAll, Answered, Ends, Feeds, RanOver}
@@ -22,6 +22,15 @@ Appends-keeps None b c xs p q = tt
 Appends-keeps (Some x) None c xs p q = absurd p
 Appends-keeps (Some x) (Some y) None xs p q = absurd q
 Appends-keeps (Some x) (Some y) (Some z) xs p q = q ∙ p
+
+-- an answer, where nothing else was written before it
+pub Appends-kept : {U E : Type 0} (r : Result U E) (P : E → Type 0) (a b c : Option (List ℕ)) (xs : List ℕ) → Keeps a b
+    → MatchResult r (λ _. Appends b c xs) P → MatchResult r (λ _. Appends a c xs) P
+Appends-kept (Ok u) P None b c xs p q = tt
+Appends-kept (Ok u) P (Some x) None c xs p q = absurd p
+Appends-kept (Ok u) P (Some x) (Some y) None xs p q = absurd q
+Appends-kept (Ok u) P (Some x) (Some y) (Some z) xs p q = q ∙ ap (λ w. w ++ xs) p
+Appends-kept (Err e) P a b c xs p q = q
 
 pub Appends-none : (a : Option (List ℕ)) → Appends a a []
 Appends-none None = tt

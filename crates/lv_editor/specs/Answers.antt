@@ -1,8 +1,12 @@
 -- What is answered to a line, and what becomes of the map (docs/COMMANDS.md, "Answers and queries").
-use Rattle.std.specs.Prelude.{◌≡◌, ℕ, ◌+◌, ◌/◌, ◌%◌, nat_lt, if◌then◌else◌, List, [], ◌∷◌, ◌++◌, map, find, flat_map, Option, MatchOption, ◌⊎◌, Result, Ok, Err, codes, decimal, bytes_eq}
+use Rattle.std.specs.Prelude.{◌≡◌, ℕ, ◌+◌, ◌/◌, ◌%◌, nat_lt, if◌then◌else◌, List, [], ◌∷◌, ◌++◌, length, map, find, flat_map, Option, MatchOption, ◌⊎◌, Result, Ok, Err, codes, decimal, bytes_eq}
 use Rattle.std.specs.List.{join_with_byte}
-use Rattle.lv_lumps.specs.Records.{vertex_record}
 use Rattle.lv_maptables.specs.Tables.{Tables}
+use Rattle.lv_maptables.specs.Body.{lump_of}
+use Rattle.lv_maptables.specs.declared.kind.Kind.TheVariants as kind
+use Rattle.lv_checks.specs.declared.finding.Finding.{Finding}
+use Rattle.lv_checks.specs.Findings.{findings}
+use Rattle.lv_checks.specs.Texts.{finding_text}
 use Rattle.lv_commands.specs.declared.command.Command.{Command}
 use Rattle.lv_commands.specs.declared.error.CommandError.{CommandError}
 use Rattle.lv_commands.specs.Errors.{code_of}
@@ -10,10 +14,8 @@ use Rattle.lv_commands.specs.CommandRanges.{InRange}
 use Rattle.lv_commands.specs.Grammar.{fault_of}
 use Rattle.lv_commands.specs.Spelling.{spelling}
 use Rattle.lv_commands.specs.Step.{step}
-use Rattle.lv_editor.specs.declared.query.Lump.{Lump}
-use Rattle.lv_editor.specs.declared.query.Lump.TheVariants.{Vertexes}
 use Rattle.lv_editor.specs.declared.query.Query.{Query}
-use Rattle.lv_editor.specs.declared.query.Query.TheVariants.{Hex}
+use Rattle.lv_editor.specs.declared.query.Query.TheVariants.{Check, Count, Hex}
 
 -- ---- Texts
 
@@ -46,23 +48,47 @@ hex_digits (b ∷ bs) = join_with_byte 32 (map hex_byte (b ∷ bs))
 abbrev pub hex_text : List ℕ → List ℕ
 hex_text bytes = hex_digits bytes ++ 10 ∷ []
 
+-- so many items of each kind
+abbrev pub counts_text : ℕ → ℕ → ℕ → ℕ → ℕ → List ℕ
+counts_text vertices sectors sides lines things =
+    codes "vertices " ++ decimal vertices ++ codes " sectors " ++ decimal sectors ++ codes " sides " ++ decimal sides
+    ++ codes " lines " ++ decimal lines ++ codes " things " ++ decimal things ++ 10 ∷ []
+
+-- how many items there are of each kind
+abbrev pub count_text : Tables → List ℕ
+count_text m =
+    counts_text (length m.vertices) (length m.sectors) (length m.sides) (length m.lines) (length m.things)
+
+-- a finding as a line
+abbrev pub finding_line : Finding → List ℕ
+finding_line finding = finding_text finding ++ 10 ∷ []
+
+-- `findings N`
+abbrev pub total_text : ℕ → List ℕ
+total_text n = codes "findings " ++ decimal n ++ 10 ∷ []
+
+-- a line for each finding, and their number
+abbrev pub findings_text : List Finding → List ℕ
+findings_text found = flat_map finding_line found ++ total_text (length found)
+
 -- ---- Queries
 
 -- each query beside its line
 abbrev pub queries : List (List ℕ × Query)
-queries = (codes "hex VERTEXES", Hex Vertexes) ∷ []
+queries =
+    (codes "check", Check) ∷ (codes "count", Count) ∷ (codes "hex THINGS", Hex kind.Thing)
+    ∷ (codes "hex LINEDEFS", Hex kind.Line) ∷ (codes "hex SIDEDEFS", Hex kind.Side)
+    ∷ (codes "hex VERTEXES", Hex kind.Vertex) ∷ (codes "hex SECTORS", Hex kind.Sector) ∷ []
 
 -- the query that a line is
 abbrev pub query_of : List ℕ → Option (List ℕ × Query)
-query_of line = find (λ q. bytes_eq q.0 line) queries
+query_of line = find (λ q. bytes_eq line q.0) queries
 
--- the bytes of a drawn table: its records, end to end
-abbrev pub lump_bytes : Tables → Lump → List ℕ
-lump_bytes m Vertexes = flat_map vertex_record m.vertices
-
--- the answer to a query
+-- the answer to a query, from the map as it is
 abbrev pub query_text : Tables → Query → List ℕ
-query_text m (Hex lump) = hex_text (lump_bytes m lump)
+query_text m Check = findings_text (findings m)
+query_text m Count = count_text m
+query_text m (Hex table) = hex_text (lump_of m table)
 
 -- ---- Commands
 

@@ -1,7 +1,7 @@
 -- What a run has read, answered and written (docs/COMMANDS.md, "Lines and turns"). The state that lines move and the
 -- answers that a line may have are parameters: for a run in memory, a map and the answers of `Answers`.
 use Rattle.std.specs.Prelude.{◌≡◌, ◌≤◌, ℕ, List, [], ◌∷◌, ◌++◌, length, Result, Ok, Err, Option, MatchResult, OnOk}
-use Rattle.std.specs.Io.KnownBytes.{Consumes, Appends, IsAtEnd}
+use Rattle.std.specs.Io.KnownBytes.{Consumes, Appends, IsAtEnd, Keeps}
 use Rattle.lv_editor.specs.Lines.{IsBegun, whole_lines, unfinished, lines_of}
 use Rattle.lv_editor.specs.declared.error.EditorError.{EditorError}
 use Rattle.lv_editor.specs.declared.error.EditorError.TheVariants.{OutOfMemory, InputTooLong, ReaderFailed, WriterFailed}
@@ -34,6 +34,13 @@ abbrev pub AnswersLine : {S U : Type 0} → (S → List ℕ → List ℕ → S �
 AnswersLine answer result old new line writer-old writer-new =
     (text : List ℕ) × answer old line text new
     × MatchResult result (λ _. Appends writer-old writer-new text) (λ e. e ≡ WriterFailed)
+
+-- a call that was to write was refused: nothing was written where memory was wanting, and else the writer failed
+abbrev pub Unwritten : EditorError → Option (List ℕ) → Option (List ℕ) → Type 0
+Unwritten OutOfMemory writer-old writer-new = Keeps writer-old writer-new
+Unwritten WriterFailed writer-old writer-new = Unit {0}
+Unwritten InputTooLong writer-old writer-new = ⊥
+Unwritten ReaderFailed writer-old writer-new = ⊥
 
 -- how a call ended that should answer these lines: with their number, or because the writer failed
 abbrev pub Ends : {S : Type 0} → (S → List ℕ → List ℕ → S → Type 0) → Result ℕ EditorError → S → S → List (List ℕ)

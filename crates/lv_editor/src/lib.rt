@@ -4,6 +4,7 @@
 mod asked;
 mod command_line;
 mod error;
+mod findings;
 mod hex;
 mod input_line;
 mod program;
@@ -14,6 +15,6 @@ mod scratch;
 pub use asked::{Request, RequestError};
 pub use command_line::request;
 pub use error::EditorError;
+pub use findings::write_findings;
 pub use program::perform;
-pub use query::{Lump, Query};
 pub use run::run_in_memory;

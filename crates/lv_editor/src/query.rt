@@ -2,25 +2,38 @@ ghost use Rattle.std.specs.Prelude.{◌≡◌};
 ghost use Rattle.std.specs.Option.{option_map};
 ghost use Rattle.lv_editor.specs.Answers.{query_of};
 
-/// A table of a level, as `hex` names it.
-#[derive(Clone, Copy, Debug, PartialEq, Eq)]
-pub enum Lump {
-    Vertexes,
-}
+use lv_maptables::Kind;
 
 /// A line that asks and changes nothing.
 #[derive(Clone, Copy, Debug, PartialEq, Eq)]
 pub enum Query {
-    /// The bytes of a lump.
-    Hex(Lump),
+    /// What is wrong or unfinished in the map.
+    Check,
+    /// How many items there are of each kind.
+    Count,
+    /// The bytes of a drawn lump.
+    Hex(Kind),
 }
 
 /// The query that a line is, byte for byte.
 pub fn read_query(line: &[u8]) -> Option<Query>
     ensures { result ≡ option_map (λ q. q.1) (query_of line.now) }
 {
-    match line {
-        b"hex VERTEXES" => Some(Query::Hex(Lump::Vertexes)),
-        _ => None,
+    if line == b"check".as_slice() {
+        Some(Query::Check)
+    } else if line == b"count".as_slice() {
+        Some(Query::Count)
+    } else if line == b"hex THINGS".as_slice() {
+        Some(Query::Hex(Kind::Thing))
+    } else if line == b"hex LINEDEFS".as_slice() {
+        Some(Query::Hex(Kind::Line))
+    } else if line == b"hex SIDEDEFS".as_slice() {
+        Some(Query::Hex(Kind::Side))
+    } else if line == b"hex VERTEXES".as_slice() {
+        Some(Query::Hex(Kind::Vertex))
+    } else if line == b"hex SECTORS".as_slice() {
+        Some(Query::Hex(Kind::Sector))
+    } else {
+        None
     }
 }

@@ -1,0 +1,86 @@
+ghost use Rattle.std.specs.Prelude.{◌≡◌, IfErr, IfOk, MatchResult, flat_map, length};
+ghost use Rattle.std.specs.Io.KnownBytes.{Appends};
+ghost use Rattle.lv_checks.specs.Findings.{findings};
+ghost use Rattle.lv_editor.specs.declared.error.EditorError.TheVariants.{WriterFailed};
+ghost use Rattle.lv_editor.specs.Answers.{finding_line, findings_text, total_text};
+ghost use Rattle.lv_editor.specs.Runs.{Unwritten};
+
+use crate::error::EditorError;
+use lv_checks::{Finding, check};
+use lv_maptables::Map;
+use std::alloc::Global;
+use std::io::Write;
+
+/// Writes a finding as a line.
+fn write_finding<W: Write>(finding: &Finding, writer: &mut W) -> Result<(), EditorError>
+    ensures { MatchResult result
+        (λ _. Appends (W.contents writer.old) (W.contents writer.new) (finding_line finding.now))
+        (λ e. e ≡ WriterFailed) }
+{
+    match write!(writer, "{finding}\n") {
+        Ok(()) => Ok(()),
+        Err(_) => Err(EditorError::WriterFailed),
+    }
+}
+
+/// Writes a line for each finding.
+fn write_each<W: Write>(found: &[Finding], writer: &mut W) -> Result<(), EditorError>
+    ensures { MatchResult result
+        (λ _. Appends (W.contents writer.old) (W.contents writer.new)
+        (flat_map finding_line found.now))
+        (λ e. e ≡ WriterFailed) }
+{
+    for finding in found {
+        match write_finding(finding, writer) {
+            Ok(()) => {}
+            Err(error) => return Err(error),
+        }
+    }
+    Ok(())
+}
+
+/// Writes `findings N`.
+fn write_total<W: Write>(count: u32, writer: &mut W) -> Result<(), EditorError>
+    ensures { MatchResult result
+        (λ _. Appends (W.contents writer.old) (W.contents writer.new) (total_text count))
+        (λ e. e ≡ WriterFailed) }
+{
+    match write!(writer, "findings {count}\n") {
+        Ok(()) => Ok(()),
+        Err(_) => Err(EditorError::WriterFailed),
+    }
+}
+
+/// Writes what is wrong or unfinished in the map: a line for each finding, and then their number,
+/// which it answers.
+///
+/// # Errors
+///
+/// `OutOfMemory`, and then nothing is written, or `WriterFailed`.
+pub fn write_findings<W: Write>(
+    alloc: Global,
+    map: &Map,
+    writer: &mut W,
+) -> Result<u32, EditorError>
+    ensures number { IfOk result (λ n. n ≡ length (findings map.now.tables)) }
+    ensures written { IfOk result (λ _. Appends (W.contents writer.old) (W.contents writer.new)
+        (findings_text (findings map.now.tables))) }
+    ensures refused { IfErr result (λ e.
+        Unwritten e (W.contents writer.old) (W.contents writer.new)) }
+{
+    let Ok(found) = check(alloc, map) else {
+        return Err(EditorError::OutOfMemory);
+    };
+    // No memory holds more findings than that.
+    let Ok(count) = u32::try_from(found.len()) else {
+        return Err(EditorError::OutOfMemory);
+    };
+    match write_each(&found, writer) {
+        Ok(()) => {}
+        Err(error) => return Err(error),
+    }
+    match write_total(count, writer) {
+        Ok(()) => Ok(count),
+        Err(error) => Err(error),
+    }
+}
