@@ -19,7 +19,7 @@ use Rattle.lv_lumps.specs.declared.records.Vertex.{Vertex}
 use Rattle.lv_lumps.specs.declared.records.Sector.{Sector}
 use Rattle.lv_lumps.proofs.FieldBytes.{next, name-here, unsigned-here, unsigned-part, after}
 use Rattle.lv_lumps.proofs.RecordBytes.{thing_at-record, line_at-record, side_at-record, vertex_at-record, sector_at-record, thing_record-at, line_record-at, side_record-at, vertex_record-at, sector_record-at}
-use Rattle.lv_maptables.specs.Tables.{Tables, no_side}
+use Rattle.lv_maptables.specs.Tables.{Tables, no_side, body_len}
 use Rattle.lv_maptables.specs.Ranges.{IsNamed, is_name, is_name_byte, is_marker, IsBetween, IsShort, IsCode, IsCoordinate, IsVertex, IsSector, IsSide, IsLine, IsThing}
 use Rattle.lv_maptables.specs.WellFormed.{WellFormed}
 use Rattle.lv_maptables.specs.Body.{body, header, NoMapHas, IsMapOf, IsFramed, tables_at, behind_header, behind_things, behind_lines, behind_sides, behind_vertices}
@@ -142,6 +142,11 @@ pub record IsRead (bs name things lines sides vertices sectors : List ℕ) : Typ
   pub vertices_are : take (4 * unsigned_at 16 bs) (behind_sides bs) ≡ vertices
   pub sectors_are : behind_vertices bs ≡ sectors
 
+laid_out_size : (bs name things lines sides vertices sectors : List ℕ) (t l d v s : ℕ)
+    → IsLaidOut bs name things lines sides vertices sectors t l d v s → length bs ≡ 20 + (10 * t + (14 * l + (30 * d + (4 * v + 26 * s))))
+laid_out_size bs name things lines sides vertices sectors t l d v s h =
+    ap length h.is ∙ simp length-append (omega (arith, h.name_size, h.things_size, h.lines_size, h.sides_size, h.vertices_size, h.sectors_size))
+
 read_back : (bs name things lines sides vertices sectors : List ℕ) (t l d v s : ℕ)
     → IsLaidOut bs name things lines sides vertices sectors t l d v s → IsRead bs name things lines sides vertices sectors
 read_back bs name things lines sides vertices sectors t l d v s h =
@@ -161,8 +166,7 @@ read_back bs name things lines sides vertices sectors t l d v s h =
     let q = part_here 14 l (unsigned_at 12 bs) (behind_things bs) lines (sides ++ (vertices ++ sectors)) l_is h.lines_size p.1 in
     let r = part_here 30 d (unsigned_at 14 bs) (behind_lines bs) sides (vertices ++ sectors) d_is h.sides_size q.1 in
     let u = part_here 4 v (unsigned_at 16 bs) (behind_sides bs) vertices sectors v_is h.vertices_size r.1 in
-    let size : length bs ≡ 20 + (10 * t + (14 * l + (30 * d + (4 * v + 26 * s)))) =
-    ap length h.is ∙ simp length-append (omega (arith, h.name_size, h.things_size, h.lines_size, h.sides_size, h.vertices_size, h.sectors_size)) in
+    let size = laid_out_size bs name things lines sides vertices sectors t l d v s h in
     record {
       framed = record {
         long = omega (arith, size);
@@ -177,50 +181,54 @@ read_back bs name things lines sides vertices sectors t l d v s h =
       sectors_are = u.1;
     }
 
+-- ---- A map's items in range
+
+things_back : (m : Tables) → WellFormed m → All (IsBack thing_at thing_record 10) m.things
+things_back m w = λ k d h. thing_back (get_or m.things k d) (w.things k d h)
+
+lines_back : (m : Tables) → WellFormed m → All (IsBack line_at line_record 14) m.lines
+lines_back m w = λ k d h. line_back (get_or m.lines k d) (w.lines k d h)
+
+sides_back : (m : Tables) → WellFormed m → All (IsBack side_at side_record 30) m.sides
+sides_back m w = λ k d h. side_back (get_or m.sides k d) (w.sides k d h)
+
+vertices_back : (m : Tables) → WellFormed m → All (IsBack vertex_at vertex_record 4) m.vertices
+vertices_back m w = λ k d h. vertex_back (get_or m.vertices k d) (w.vertices k d h)
+
+sectors_back : (m : Tables) → WellFormed m → All (IsBack sector_at sector_record 26) m.sectors
+sectors_back m w = λ k d h. sector_back (get_or m.sectors k d) (w.sectors k d h)
+
+-- a well-formed map's body is laid out by its counts
+body_laid_out : (m : Tables) → WellFormed m
+    → IsLaidOut (body m) m.name.bytes (flat_map thing_record m.things) (flat_map line_record m.lines) (flat_map side_record m.sides) (flat_map vertex_record m.vertices) (flat_map sector_record m.sectors)
+    (length m.things) (length m.lines) (length m.sides) (length m.vertices) (length m.sectors)
+body_laid_out m w =
+    record {
+      is = nested_12 (unsigned 1) m.name.bytes (unsigned (length m.things)) (unsigned (length m.lines)) (unsigned (length m.sides)) (unsigned (length m.vertices)) (unsigned (length m.sectors)) _ _ _ _ _;
+      name_size = marker_size m.name w.name; t_fits = omega (arith, w.thing_count);
+      l_fits = omega (arith, w.line_count); d_fits = omega (arith, w.side_count);
+      v_fits = omega (arith, w.vertex_count); s_fits = omega (arith, w.sector_count);
+      things_size = length-lump thing_at thing_record 10 m.things (things_back m w);
+      lines_size = length-lump line_at line_record 14 m.lines (lines_back m w);
+      sides_size = length-lump side_at side_record 30 m.sides (sides_back m w);
+      vertices_size = length-lump vertex_at vertex_record 4 m.vertices (vertices_back m w);
+      sectors_size = length-lump sector_at sector_record 26 m.sectors (sectors_back m w)
+    }
+
+-- its length is that of its counts
+pub body_size : (m : Tables) → WellFormed m → length (body m) ≡ body_len m
+body_size m w = laid_out_size _ _ _ _ _ _ _ _ _ _ _ _ (body_laid_out m w) ∙ omega arith
+
 -- what stands in a well-formed map's body
 pub body_holds : (m : Tables) → WellFormed m → IsFramed (body m) × (tables_at (body m) ≡ m)
 body_holds m w =
-    let things : All (IsBack thing_at thing_record 10) m.things = λ k d h. thing_back (get_or m.things k d) (w.things k d h) in
-    let lines : All (IsBack line_at line_record 14) m.lines = λ k d h. line_back (get_or m.lines k d) (w.lines k d h) in
-    let sides : All (IsBack side_at side_record 30) m.sides = λ k d h. side_back (get_or m.sides k d) (w.sides k d h) in
-    let vertices : All (IsBack vertex_at vertex_record 4) m.vertices = λ k d h. vertex_back (get_or m.vertices k d) (w.vertices k d h) in
-    let sectors : All (IsBack sector_at sector_record 26) m.sectors = λ k d h. sector_back (get_or m.sectors k d) (w.sectors k d h) in
-    let t = flat_map thing_record m.things in
-    let l = flat_map line_record m.lines in
-    let d = flat_map side_record m.sides in
-    let v = flat_map vertex_record m.vertices in
-    let s = flat_map sector_record m.sectors in
-    let laid_out : IsLaidOut (body m) m.name.bytes t l d v s (length m.things) (length m.lines) (length m.sides) (length m.vertices) (length m.sectors) =
-    record {
-      is = nested_12 (unsigned 1) m.name.bytes (unsigned (length m.things)) (unsigned (length m.lines)) (unsigned (length m.sides)) (unsigned (length m.vertices)) (unsigned (length m.sectors)) t l d v s;
-      name_size = marker_size m.name w.name;
-      t_fits = omega (arith, w.thing_count);
-      l_fits = omega (arith, w.line_count);
-      d_fits = omega (arith, w.side_count);
-      v_fits = omega (arith, w.vertex_count);
-      s_fits = omega (arith, w.sector_count);
-      things_size = length-lump thing_at thing_record 10 m.things things;
-      lines_size = length-lump line_at line_record 14 m.lines lines;
-      sides_size = length-lump side_at side_record 30 m.sides sides;
-      vertices_size = length-lump vertex_at vertex_record 4 m.vertices vertices;
-      sectors_size = length-lump sector_at sector_record 26 m.sectors sectors;
-    } in
-    let read = read_back (body m) m.name.bytes t l d v s (length m.things) (length m.lines) (length m.sides) (length m.vertices) (length m.sectors) laid_out in
-    let things_back = ap (records_of thing_at 10) read.things_are ∙ records-back thing_at thing_record 10 m.things (omega arith) things in
-    let lines_back = ap (records_of line_at 14) read.lines_are ∙ records-back line_at line_record 14 m.lines (omega arith) lines in
-    let sides_back = ap (records_of side_at 30) read.sides_are ∙ records-back side_at side_record 30 m.sides (omega arith) sides in
-    let vertices_back = ap (records_of vertex_at 4) read.vertices_are ∙ records-back vertex_at vertex_record 4 m.vertices (omega arith) vertices in
-    let sectors_back = ap (records_of sector_at 26) read.sectors_are ∙ records-back sector_at sector_record 26 m.sectors (omega arith) sectors in (
-      read.framed,
-      λ i. record {
-        name = record { bytes = read.name_is i };
-        vertices = vertices_back i;
-        sectors = sectors_back i;
-        sides = sides_back i;
-        lines = lines_back i;
-        things = things_back i;
-      },
-    )
+    let read = read_back _ _ _ _ _ _ _ _ _ _ _ _ (body_laid_out m w) in
+    let things = ap (records_of thing_at 10) read.things_are ∙ records-back thing_at thing_record 10 m.things (omega arith) (things_back m w) in
+    let lines = ap (records_of line_at 14) read.lines_are ∙ records-back line_at line_record 14 m.lines (omega arith) (lines_back m w) in
+    let sides = ap (records_of side_at 30) read.sides_are ∙ records-back side_at side_record 30 m.sides (omega arith) (sides_back m w) in
+    let vertices = ap (records_of vertex_at 4) read.vertices_are ∙ records-back vertex_at vertex_record 4 m.vertices (omega arith) (vertices_back m w) in
+    let sectors = ap (records_of sector_at 26) read.sectors_are ∙ records-back sector_at sector_record 26 m.sectors (omega arith) (sectors_back m w) in
+    (read.framed, λ i. record { name = record { bytes = read.name_is i }; vertices = vertices i; sectors = sectors i; sides = sides i; lines = lines i; things = things i })
 
 -- framed bytes are the body of what they hold
 pub body_of_held : (bs : List ℕ) → AreBytes bs → IsFramed bs → body (tables_at bs) ≡ bs

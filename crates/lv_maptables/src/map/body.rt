@@ -1,6 +1,7 @@
-ghost use Rattle.std.specs.Prelude.{◌≡◌, IfOk, IfErr, IsOkUnless, ◌^◌, ◌<◌, ◌++◌, OnOk};
+ghost use Rattle.std.specs.Prelude.{◌≡◌, IfOk, IfErr, IsOkUnless, ◌^◌, ◌<◌, ◌++◌, OnOk, length};
 ghost use Rattle.lv_lumps.specs.Fields.{unsigned};
 ghost use Rattle.lv_maptables.specs.Tables.{empty_tables, body_len};
+ghost use Rattle.lv_maptables.specs.WellFormed.{WellFormed};
 ghost use Rattle.lv_maptables.specs.Body.{lump_of, header, body, IsMapOf, RefusesBody};
 
 use crate::error::MapError;
@@ -73,6 +74,7 @@ impl Map {
     /// The version, the name, and the counts of things, lines, sides, vertices and sectors.
     fn header(&self, alloc: Global) -> Result<Vec<u8>, MapError>
         ensures bytes { IfOk result (λ v. v.items ≡ header self.now.tables) }
+        ensures well_formed { OnOk result (WellFormed self.now.tables) }
         ensures memory { IsOkUnless result MapError.OutOfMemory }
     {
         let mut bytes = Vec::with_capacity(alloc, self.body_len() as usize)?;
@@ -90,6 +92,7 @@ impl Map {
     /// sectors.
     pub fn encode_body(&self, alloc: Global) -> Result<Vec<u8>, MapError>
         ensures bytes { IfOk result (λ v. v.items ≡ body self.now.tables) }
+        ensures length { IfOk result (λ v. length v.items ≡ body_len self.now.tables) }
         ensures memory { IsOkUnless result MapError.OutOfMemory }
     {
         let mut bytes = self.header(alloc)?;
