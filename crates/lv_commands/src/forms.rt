@@ -15,6 +15,20 @@ use crate::places::Places;
 use lv_lumps::{Line, Name8, Sector, Side, Thing, Vertex};
 use lv_maptables::Kind;
 
+const LEAST_COORDINATE: i16 = -16384;
+
+const GREATEST_COORDINATE: i16 = 16383;
+
+const GREATEST_LIGHT: i16 = 255;
+/// In degrees.
+const GREATEST_ANGLE: i16 = 359;
+/// The greatest flags, special and tag of a line.
+const GREATEST_FLAGS: u16 = 32767;
+/// The greatest number of a vertex, a side, a line or a thing.
+const LAST_ITEM: u16 = 32766;
+
+const LAST_SECTOR: u16 = 4095;
+
 /// Whether the room has some width and some height.
 fn has_area(plan: &RoomPlan) -> bool
     ensures { result ≡ (int_lt plan.now.west plan.now.east && int_lt plan.now.south plan.now.north) }
@@ -28,8 +42,8 @@ impl<'a> Places<'a> {
         ensures ok { IfOk result (λ r. ((reading self.entry).fault ≡ None) × ((reading self.entry).words ≡ vertex_words r) × IsVertex r) }
         ensures fault { MatchResult result (λ _. fault_with (reading self.entry) vertex_places ≡ None) (λ e. fault_with (reading self.entry) vertex_places ≡ Some (code_of e)) }
     {
-        let x = self.number(-16384, 16383);
-        let y = self.number(-16384, 16383);
+        let x = self.number(LEAST_COORDINATE, GREATEST_COORDINATE);
+        let y = self.number(LEAST_COORDINATE, GREATEST_COORDINATE);
         self.finish()?;
         Ok(Vertex { x, y })
     }
@@ -39,13 +53,13 @@ impl<'a> Places<'a> {
         ensures ok { IfOk result (λ r. ((reading self.entry).fault ≡ None) × ((reading self.entry).words ≡ sector_words r) × IsSector r) }
         ensures fault { MatchResult result (λ _. fault_with (reading self.entry) sector_places ≡ None) (λ e. fault_with (reading self.entry) sector_places ≡ Some (code_of e)) }
     {
-        let floor = self.number(-32768, 32767);
-        let ceiling = self.number(-32768, 32767);
+        let floor = self.number(i16::MIN, i16::MAX);
+        let ceiling = self.number(i16::MIN, i16::MAX);
         let floor_name = self.name();
         let ceiling_name = self.name();
-        let light = self.number(0, 255);
-        let special = self.number(0, 32767);
-        let tag = self.number(0, 32767);
+        let light = self.number(0, GREATEST_LIGHT);
+        let special = self.number(0, i16::MAX);
+        let tag = self.number(0, i16::MAX);
         self.finish()?;
         Ok(Sector {
             floor,
@@ -63,12 +77,12 @@ impl<'a> Places<'a> {
         ensures ok { IfOk result (λ r. ((reading self.entry).fault ≡ None) × ((reading self.entry).words ≡ side_words r) × IsSide r) }
         ensures fault { MatchResult result (λ _. fault_with (reading self.entry) side_places ≡ None) (λ e. fault_with (reading self.entry) side_places ≡ Some (code_of e)) }
     {
-        let x_offset = self.number(-32768, 32767);
-        let y_offset = self.number(-32768, 32767);
+        let x_offset = self.number(i16::MIN, i16::MAX);
+        let y_offset = self.number(i16::MIN, i16::MAX);
         let upper = self.name();
         let lower = self.name();
         let middle = self.name();
-        let sector = self.item(4095);
+        let sector = self.item(LAST_SECTOR);
         self.finish()?;
         Ok(Side {
             x_offset,
@@ -85,12 +99,12 @@ impl<'a> Places<'a> {
         ensures ok { IfOk result (λ r. ((reading self.entry).fault ≡ None) × ((reading self.entry).words ≡ line_words r) × IsLine r) }
         ensures fault { MatchResult result (λ _. fault_with (reading self.entry) line_places ≡ None) (λ e. fault_with (reading self.entry) line_places ≡ Some (code_of e)) }
     {
-        let v1 = self.item(32766);
-        let v2 = self.item(32766);
-        let flags = self.item(32767);
-        let special = self.item(32767);
-        let tag = self.item(32767);
-        let right = self.item(32766);
+        let v1 = self.item(LAST_ITEM);
+        let v2 = self.item(LAST_ITEM);
+        let flags = self.item(GREATEST_FLAGS);
+        let special = self.item(GREATEST_FLAGS);
+        let tag = self.item(GREATEST_FLAGS);
+        let right = self.item(LAST_ITEM);
         let left = self.left();
         self.finish()?;
         Ok(Line {
@@ -109,11 +123,11 @@ impl<'a> Places<'a> {
         ensures ok { IfOk result (λ r. ((reading self.entry).fault ≡ None) × ((reading self.entry).words ≡ thing_words r) × IsThing r) }
         ensures fault { MatchResult result (λ _. fault_with (reading self.entry) thing_places ≡ None) (λ e. fault_with (reading self.entry) thing_places ≡ Some (code_of e)) }
     {
-        let x = self.number(-16384, 16383);
-        let y = self.number(-16384, 16383);
-        let angle = self.number(0, 359);
-        let kind = self.number(0, 32767);
-        let options = self.number(0, 32767);
+        let x = self.number(LEAST_COORDINATE, GREATEST_COORDINATE);
+        let y = self.number(LEAST_COORDINATE, GREATEST_COORDINATE);
+        let angle = self.number(0, GREATEST_ANGLE);
+        let kind = self.number(0, i16::MAX);
+        let options = self.number(0, i16::MAX);
         self.finish()?;
         Ok(Thing {
             x,
@@ -130,7 +144,7 @@ impl<'a> Places<'a> {
         ensures ok { IfOk result (λ r. ((reading self.entry).words ≡ decimal r.0 ∷ vertex_words r.1) × (r.0 ≤ 32766) × IsVertex r.1) }
         ensures fault { MatchResult result (λ _. places_fault (item ∷ vertex_places) (reading self.entry).words ≡ None) (λ e. places_fault (item ∷ vertex_places) (reading self.entry).words ≡ Some (code_of e)) }
     {
-        let number = self.item(32766);
+        let number = self.item(LAST_ITEM);
         match self.vertex() {
             Ok(vertex) => Ok((number, vertex)),
             Err(error) => Err(error),
@@ -143,7 +157,7 @@ impl<'a> Places<'a> {
         ensures ok { IfOk result (λ r. ((reading self.entry).words ≡ decimal r.0 ∷ sector_words r.1) × (r.0 ≤ 4095) × IsSector r.1) }
         ensures fault { MatchResult result (λ _. places_fault (sector_item ∷ sector_places) (reading self.entry).words ≡ None) (λ e. places_fault (sector_item ∷ sector_places) (reading self.entry).words ≡ Some (code_of e)) }
     {
-        let number = self.item(4095);
+        let number = self.item(LAST_SECTOR);
         match self.sector() {
             Ok(sector) => Ok((number, sector)),
             Err(error) => Err(error),
@@ -156,7 +170,7 @@ impl<'a> Places<'a> {
         ensures ok { IfOk result (λ r. ((reading self.entry).words ≡ decimal r.0 ∷ side_words r.1) × (r.0 ≤ 32766) × IsSide r.1) }
         ensures fault { MatchResult result (λ _. places_fault (item ∷ side_places) (reading self.entry).words ≡ None) (λ e. places_fault (item ∷ side_places) (reading self.entry).words ≡ Some (code_of e)) }
     {
-        let number = self.item(32766);
+        let number = self.item(LAST_ITEM);
         match self.side() {
             Ok(side) => Ok((number, side)),
             Err(error) => Err(error),
@@ -169,7 +183,7 @@ impl<'a> Places<'a> {
         ensures ok { IfOk result (λ r. ((reading self.entry).words ≡ decimal r.0 ∷ line_words r.1) × (r.0 ≤ 32766) × IsLine r.1) }
         ensures fault { MatchResult result (λ _. places_fault (item ∷ line_places) (reading self.entry).words ≡ None) (λ e. places_fault (item ∷ line_places) (reading self.entry).words ≡ Some (code_of e)) }
     {
-        let number = self.item(32766);
+        let number = self.item(LAST_ITEM);
         match self.line() {
             Ok(line) => Ok((number, line)),
             Err(error) => Err(error),
@@ -182,7 +196,7 @@ impl<'a> Places<'a> {
         ensures ok { IfOk result (λ r. ((reading self.entry).words ≡ decimal r.0 ∷ thing_words r.1) × (r.0 ≤ 32766) × IsThing r.1) }
         ensures fault { MatchResult result (λ _. places_fault (item ∷ thing_places) (reading self.entry).words ≡ None) (λ e. places_fault (item ∷ thing_places) (reading self.entry).words ≡ Some (code_of e)) }
     {
-        let number = self.item(32766);
+        let number = self.item(LAST_ITEM);
         match self.thing() {
             Ok(thing) => Ok((number, thing)),
             Err(error) => Err(error),
@@ -194,16 +208,16 @@ impl<'a> Places<'a> {
         ensures ok { IfOk result (λ r. ((reading self.entry).fault ≡ None) × ((reading self.entry).words ≡ room_words r) × IsPlan r) }
         ensures fault { MatchResult result (λ _. fault_with (reading self.entry) room_places ≡ None) (λ e. fault_with (reading self.entry) room_places ≡ Some (code_of e)) }
     {
-        let west = self.number(-16384, 16383);
-        let south = self.number(-16384, 16383);
-        let east = self.number(-16384, 16383);
-        let north = self.number(-16384, 16383);
-        let floor = self.number(-32768, 32767);
-        let ceiling = self.number(-32768, 32767);
+        let west = self.number(LEAST_COORDINATE, GREATEST_COORDINATE);
+        let south = self.number(LEAST_COORDINATE, GREATEST_COORDINATE);
+        let east = self.number(LEAST_COORDINATE, GREATEST_COORDINATE);
+        let north = self.number(LEAST_COORDINATE, GREATEST_COORDINATE);
+        let floor = self.number(i16::MIN, i16::MAX);
+        let ceiling = self.number(i16::MIN, i16::MAX);
         let floor_name = self.name();
         let ceiling_name = self.name();
         let wall = self.name();
-        let light = self.number(0, 255);
+        let light = self.number(0, GREATEST_LIGHT);
         self.finish()?;
         Ok(RoomPlan {
             west,

@@ -22,64 +22,44 @@ fn command(head: Head, places: Places) -> Result<Command, CommandError>
     ensures ok { IfOk result (λ c. (head_word head ∷ (reading places.entry).words ≡ words_of c) × InRange c) }
     ensures fault { MatchResult result (λ _. fault_behind head (reading places.entry).words ≡ None) (λ e. fault_behind head (reading places.entry).words ≡ Some (code_of e)) }
 {
-    match head {
-        Head::Name => match places.map_name() {
-            Ok(name) => Ok(Command::Name(name)),
-            Err(error) => Err(error),
-        },
-        Head::Vertex => match places.vertex() {
-            Ok(vertex) => Ok(Command::AddVertex(vertex)),
-            Err(error) => Err(error),
-        },
-        Head::Sector => match places.sector() {
-            Ok(sector) => Ok(Command::AddSector(sector)),
-            Err(error) => Err(error),
-        },
-        Head::Side => match places.side() {
-            Ok(side) => Ok(Command::AddSide(side)),
-            Err(error) => Err(error),
-        },
-        Head::Line => match places.line() {
-            Ok(line) => Ok(Command::AddLine(line)),
-            Err(error) => Err(error),
-        },
-        Head::Thing => match places.thing() {
-            Ok(thing) => Ok(Command::AddThing(thing)),
-            Err(error) => Err(error),
-        },
-        Head::MoveVertex => match places.numbered_vertex() {
-            Ok((number, vertex)) => Ok(Command::SetVertex(number, vertex)),
-            Err(error) => Err(error),
-        },
-        Head::SetSector => match places.numbered_sector() {
-            Ok((number, sector)) => Ok(Command::SetSector(number, sector)),
-            Err(error) => Err(error),
-        },
-        Head::SetSide => match places.numbered_side() {
-            Ok((number, side)) => Ok(Command::SetSide(number, side)),
-            Err(error) => Err(error),
-        },
-        Head::SetLine => match places.numbered_line() {
-            Ok((number, line)) => Ok(Command::SetLine(number, line)),
-            Err(error) => Err(error),
-        },
-        Head::SetThing => match places.numbered_thing() {
-            Ok((number, thing)) => Ok(Command::SetThing(number, thing)),
-            Err(error) => Err(error),
-        },
-        Head::Drop => match places.kind_and_item() {
-            Ok((kind, number)) => Ok(Command::Drop(kind, number)),
-            Err(error) => Err(error),
-        },
-        Head::Room => match places.room() {
-            Ok(plan) => Ok(Command::Room(plan)),
-            Err(error) => Err(error),
-        },
-        Head::Split => match places.numbered_vertex() {
-            Ok((line, at)) => Ok(Command::Split(LineSplit { line, at })),
-            Err(error) => Err(error),
-        },
-    }
+    let command = match head {
+        Head::Name => Command::Name(places.map_name()?),
+        Head::Vertex => Command::AddVertex(places.vertex()?),
+        Head::Sector => Command::AddSector(places.sector()?),
+        Head::Side => Command::AddSide(places.side()?),
+        Head::Line => Command::AddLine(places.line()?),
+        Head::Thing => Command::AddThing(places.thing()?),
+        Head::MoveVertex => {
+            let (n, vertex) = places.numbered_vertex()?;
+            Command::SetVertex(n, vertex)
+        }
+        Head::SetSector => {
+            let (n, sector) = places.numbered_sector()?;
+            Command::SetSector(n, sector)
+        }
+        Head::SetSide => {
+            let (n, side) = places.numbered_side()?;
+            Command::SetSide(n, side)
+        }
+        Head::SetLine => {
+            let (n, line) = places.numbered_line()?;
+            Command::SetLine(n, line)
+        }
+        Head::SetThing => {
+            let (n, thing) = places.numbered_thing()?;
+            Command::SetThing(n, thing)
+        }
+        Head::Drop => {
+            let (kind, n) = places.kind_and_item()?;
+            Command::Drop(kind, n)
+        }
+        Head::Room => Command::Room(places.room()?),
+        Head::Split => {
+            let (line, at) = places.numbered_vertex()?;
+            Command::Split(LineSplit { line, at })
+        }
+    };
+    Ok(command)
 }
 
 /// The command that a line is, or what is wrong with it.

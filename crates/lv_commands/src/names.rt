@@ -11,6 +11,16 @@ use crate::words::has_word_form;
 use lv_lumps::Name8;
 use std::str;
 
+/// `-`: no texture.
+pub const NO_TEXTURE: Name8 = Name8 {
+    bytes: *b"-\0\0\0\0\0\0\0",
+};
+
+/// The name of a game's first map.
+pub const FIRST_MAP: Name8 = Name8 {
+    bytes: *b"MAP01\0\0\0",
+};
+
 /// Whether each byte may stand in a name.
 fn are_name_bytes(bytes: &[u8]) -> bool
     ensures { result ≡ list_all is_name_byte bytes.now }

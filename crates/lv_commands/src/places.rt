@@ -1,17 +1,8 @@
 use crate::error::CommandError;
-use crate::names::{marker_in, name_in};
+use crate::names::{FIRST_MAP, NO_TEXTURE, marker_in, name_in};
 use crate::words::{next_part, number_in};
 use lv_lumps::Name8;
 use lv_maptables::NO_SIDE;
-
-/// `-`: no texture.
-const NO_TEXTURE: Name8 = Name8 {
-    bytes: *b"-\0\0\0\0\0\0\0",
-};
-
-const FIRST_MAP: Name8 = Name8 {
-    bytes: *b"MAP01\0\0\0",
-};
 
 /// The words of a line that are still to be read, and the fault so far: 1 if there was one, else the leftmost.
 #[derive(Drop)]
