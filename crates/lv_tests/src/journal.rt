@@ -29,7 +29,7 @@ fn blanked<D: Disk>(disk: &mut D) -> Result<Journal, JournalError>
     Ok(journal)
 }
 
-/// The same, without the device call that `blank` has made already.
+/// The same by `fresh`, of an area whose first gate is closed on the device.
 fn refreshed<D: Disk>(disk: &mut D) -> Result<Journal, JournalError>
     ensures ready { IfOk result (λ journal. IsReady journal (D.may_leave disk.new)) }
 {
@@ -86,12 +86,20 @@ fn expect_outcomes(rt: &impl Abort, alloc: Global, k: u64, part: u32) -> Result<
     ] {
         for longest in [false, true] {
             let mut left = disk.inner().stop(alloc, fill, longest)?;
-            let again = opened(alloc, &mut left)?;
+            let mut again = opened(alloc, &mut left)?;
             let both = holds(&again, &[b"first", b"second"]);
             assert!(rt;
                 both || (!done && holds(&again, &[b"first"])),
                 "{k} {part} {fill:?} {longest}"
             );
+            // It goes on from there.
+            again.append(&mut left, b"third")?;
+            let last = opened(alloc, &mut left)?;
+            assert!(rt;
+                holds(&last, &[b"first", b"second", b"third"]) == both,
+                "{k} {part} {fill:?} {longest}"
+            );
+            assert_eq!(rt; last.records().len(), if both { 3 } else { 2 });
         }
     }
     let again = opened(alloc, &mut disk)?;
