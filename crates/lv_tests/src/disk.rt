@@ -37,10 +37,18 @@ fn expect_stops(
     for (fill, longest, shortest) in images {
         for (is_longest, want) in [(true, *longest), (false, *shortest)] {
             let mut left = disk.stop(alloc, *fill, is_longest)?;
-            assert_eq!(rt; contents(alloc, &mut left)?.as_slice(), want, "{fill:?} {is_longest}");
+            assert_eq!(rt;
+                contents(alloc, &mut left)?.as_slice(),
+                want,
+                "{fill:?} {is_longest}"
+            );
             // It has no other image, so each further stop leaves the same.
             let mut again = left.stop(alloc, Fill::Byte(9), !is_longest)?;
-            assert_eq!(rt; contents(alloc, &mut again)?.as_slice(), want, "again {fill:?}");
+            assert_eq!(rt;
+                contents(alloc, &mut again)?.as_slice(),
+                want,
+                "again {fill:?}"
+            );
         }
     }
     Ok(())
@@ -90,7 +98,10 @@ fn stops_after_a_write_past_the_end(rt: HostRuntime) -> Result<(), Fail> {
     let mut disk = MemoryDisk::new(rt.alloc(), 16, 400)?;
     write_through(&mut disk, 0, &[1, 2])?;
     disk.write_at(4, &[5, 6])?;
-    assert_eq!(rt; contents(rt.alloc(), &mut disk)?.as_slice(), [1, 2, 0, 0, 5, 6].as_slice());
+    assert_eq!(rt;
+        contents(rt.alloc(), &mut disk)?.as_slice(),
+        [1, 2, 0, 0, 5, 6].as_slice()
+    );
     expect_stops(
         &rt,
         rt.alloc(),
@@ -111,7 +122,10 @@ fn stops_after_a_failed_sync(rt: HostRuntime) -> Result<(), Fail> {
     write_through(&mut disk, 0, &[1])?;
     disk.write_at(1, &[2])?;
     assert_eq!(rt; disk.sync(), Err(DeviceFault));
-    assert_eq!(rt; contents(rt.alloc(), &mut disk)?.as_slice(), [1, 2].as_slice());
+    assert_eq!(rt;
+        contents(rt.alloc(), &mut disk)?.as_slice(),
+        [1, 2].as_slice()
+    );
     expect_stops(
         &rt,
         rt.alloc(),
@@ -129,10 +143,18 @@ fn stops_after_a_failed_sync(rt: HostRuntime) -> Result<(), Fail> {
 fn runs_out_of_room_and_of_record(rt: HostRuntime) -> Result<(), Fail> {
     let mut disk = MemoryDisk::new(rt.alloc(), 4, 67)?;
     disk.write_at(0, &[1, 2, 3, 4])?;
-    for (at, bytes) in [(4, [9].as_slice()), (3, &[9, 9]), (5, &[]), (u64::MAX, &[9])] {
+    for (at, bytes) in [
+        (4, [9].as_slice()),
+        (3, &[9, 9]),
+        (5, &[]),
+        (u64::MAX, &[9]),
+    ] {
         assert_eq!(rt; disk.write_at(at, bytes), Err(DeviceFault), "room at {at}");
     }
-    assert_eq!(rt; contents(rt.alloc(), &mut disk)?.as_slice(), [1, 2, 3, 4].as_slice());
+    assert_eq!(rt;
+        contents(rt.alloc(), &mut disk)?.as_slice(),
+        [1, 2, 3, 4].as_slice()
+    );
     // 20 bytes of the record are taken, and a sync takes 16 more.
     disk.sync()?;
     assert_eq!(rt; disk.write_at(0, &[9; 16]), Err(DeviceFault));
@@ -140,13 +162,19 @@ fn runs_out_of_room_and_of_record(rt: HostRuntime) -> Result<(), Fail> {
     disk.write_at(4, &[])?;
     assert_eq!(rt; disk.write_at(0, &[]), Err(DeviceFault));
     assert_eq!(rt; disk.sync(), Err(DeviceFault));
-    assert_eq!(rt; contents(rt.alloc(), &mut disk)?.as_slice(), [1, 2, 3, 4].as_slice());
+    assert_eq!(rt;
+        contents(rt.alloc(), &mut disk)?.as_slice(),
+        [1, 2, 3, 4].as_slice()
+    );
     // The record of what a stop leaves is empty, and as long.
     let mut left = disk.stop(rt.alloc(), Fill::Stable, false)?;
     left.write_at(0, &[5])?;
     left.sync()?;
     assert_eq!(rt; left.write_at(4, &[5]), Err(DeviceFault));
-    assert_eq!(rt; contents(rt.alloc(), &mut left)?.as_slice(), [5, 2, 3, 4].as_slice());
+    assert_eq!(rt;
+        contents(rt.alloc(), &mut left)?.as_slice(),
+        [5, 2, 3, 4].as_slice()
+    );
     Ok(())
 }
 
@@ -179,11 +207,19 @@ fn fails_the_kth_call(rt: HostRuntime) -> Result<(), Fail> {
         let failed = three_calls(&mut disk);
         assert_eq!(rt; failed, [k == 1, k == 2, k == 3], "k {k} part {part}");
         let mut left = disk.inner().stop(rt.alloc(), Fill::Written, true)?;
-        assert_eq!(rt; contents(rt.alloc(), &mut left)?.as_slice(), read, "k {k} part {part}");
+        assert_eq!(rt;
+            contents(rt.alloc(), &mut left)?.as_slice(),
+            read,
+            "k {k} part {part}"
+        );
         // Where the sync failed nothing is sure to be on the disk.
         let mut least = disk.inner().stop(rt.alloc(), Fill::Stable, false)?;
         let synced = if k == 3 { [].as_slice() } else { read };
-        assert_eq!(rt; contents(rt.alloc(), &mut least)?.as_slice(), synced, "k {k} part {part}");
+        assert_eq!(rt;
+            contents(rt.alloc(), &mut least)?.as_slice(),
+            synced,
+            "k {k} part {part}"
+        );
     }
     Ok(())
 }
@@ -196,7 +232,10 @@ fn fails_a_read_and_a_length(rt: HostRuntime) -> Result<(), Fail> {
     assert_eq!(rt; disk.len(), Err(DeviceFault));
     let mut disk = FaultDisk::new(disk, 2, 0);
     assert!(rt; read_fails(rt.alloc(), &mut disk)?);
-    assert_eq!(rt; contents(rt.alloc(), &mut disk)?.as_slice(), [1, 2].as_slice());
+    assert_eq!(rt;
+        contents(rt.alloc(), &mut disk)?.as_slice(),
+        [1, 2].as_slice()
+    );
     Ok(())
 }
 
@@ -215,7 +254,11 @@ fn keeps_a_real_file(rt: HostRuntime) -> Result<(), Fail> {
         let read = contents(rt.alloc(), &mut again)?;
         assert_eq!(rt; read.as_slice(), [0, 0, 1, 2, 3].as_slice(), "new {new}");
         let mut beyond = [0; 2];
-        assert_eq!(rt; again.read(4, &mut beyond), Err(DeviceFault), "it meets the end early");
+        assert_eq!(rt;
+            again.read(4, &mut beyond),
+            Err(DeviceFault),
+            "it meets the end early"
+        );
         assert_eq!(rt; again.write_at(u64::MAX, &[1]), Err(DeviceFault));
     }
     fs::remove_file(&rt, path)?;
@@ -229,10 +272,7 @@ fn has_its_numbers(rt: HostRuntime) {
     assert_eq!(rt; DeviceFault.code(), 30);
     assert_eq!(rt; OutOfMemory.code(), 31);
     assert_eq!(rt; (OPEN_GATE, CLOSED_GATE), (165, 0));
-    let area = Area {
-        base: 1,
-        length: 2,
-    };
+    let area = Area { base: 1, length: 2 };
     assert_eq!(rt; (area.base, area.length), (1, 2));
 }
 
@@ -379,7 +419,11 @@ fn goes_on_after_interrupted_and_short_calls(rt: HostRuntime) -> Result<(), Fail
     let read = contents(rt.alloc(), &mut disk)?;
     assert_eq!(rt; read.as_slice(), [0, 1, 2, 3].as_slice());
     let mut beyond = [0; 3];
-    assert_eq!(rt; disk.read(2, &mut beyond), Err(DeviceFault), "it meets the end early");
+    assert_eq!(rt;
+        disk.read(2, &mut beyond),
+        Err(DeviceFault),
+        "it meets the end early"
+    );
     fs::remove_file(&rt, path)?;
     Ok(())
 }
