@@ -1,4 +1,4 @@
-//! The tests of the crates: worked rows, calls with ample memory, and devices that fail.
+//! The tests of the crates: worked examples, calls with ample memory, and devices that fail.
 #![tactic(auto)]
 
 #[cfg(test)]
