@@ -205,14 +205,17 @@ body_laid_out : (m : Tables) → WellFormed m
 body_laid_out m w =
     record {
       is = nested_12 (unsigned 1) m.name.bytes (unsigned (length m.things)) (unsigned (length m.lines)) (unsigned (length m.sides)) (unsigned (length m.vertices)) (unsigned (length m.sectors)) _ _ _ _ _;
-      name_size = marker_size m.name w.name; t_fits = omega (arith, w.thing_count);
-      l_fits = omega (arith, w.line_count); d_fits = omega (arith, w.side_count);
-      v_fits = omega (arith, w.vertex_count); s_fits = omega (arith, w.sector_count);
+      name_size = marker_size m.name w.name;
+      t_fits = omega (arith, w.thing_count);
+      l_fits = omega (arith, w.line_count);
+      d_fits = omega (arith, w.side_count);
+      v_fits = omega (arith, w.vertex_count);
+      s_fits = omega (arith, w.sector_count);
       things_size = length-lump thing_at thing_record 10 m.things (things_back m w);
       lines_size = length-lump line_at line_record 14 m.lines (lines_back m w);
       sides_size = length-lump side_at side_record 30 m.sides (sides_back m w);
       vertices_size = length-lump vertex_at vertex_record 4 m.vertices (vertices_back m w);
-      sectors_size = length-lump sector_at sector_record 26 m.sectors (sectors_back m w)
+      sectors_size = length-lump sector_at sector_record 26 m.sectors (sectors_back m w);
     }
 
 -- its length is that of its counts
