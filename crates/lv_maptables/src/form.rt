@@ -1,4 +1,4 @@
-ghost use Rattle.std.specs.Prelude.{◌≡◌, ◌≢◌, ◌<◌, ◌↔◌, length, IsTrue, All, AllPairs, IfOk, IsOkUnless};
+ghost use Rattle.std.specs.Prelude.{◌≢◌, ◌<◌, ◌↔◌, length, IsTrue, All, AllPairs, IfOk, IsOkUnless};
 ghost use Rattle.lv_maptables.specs.Tables.{no_side};
 ghost use Rattle.lv_maptables.specs.WellFormed.{HasEnds, HasSides, HasSector, is_two_sided};
 

@@ -1,4 +1,4 @@
-ghost use Rattle.std.specs.Prelude.{◌≡◌, ◌≢◌, ◌≤◌, ◌↔◌, IfOk, IsOkUnless, IsTrue, All, AllPairs, length};
+ghost use Rattle.std.specs.Prelude.{◌≡◌, ◌≤◌, ◌↔◌, IfOk, IsOkUnless, IsTrue, All, length};
 ghost use Rattle.lv_maptables.specs.Ranges.{IsNamed, is_marker, IsVertex, IsSector, IsSide, IsLine, IsThing};
 ghost use Rattle.lv_maptables.specs.WellFormed.{WellFormed, HasEnds, HasSides, HasSector};
 ghost use Rattle.lv_maptables.specs.Body.{IsFramed, tables_at};

@@ -1,4 +1,4 @@
-ghost use Rattle.std.specs.Prelude.{◌≡◌, [], ◌∷◌, ◌+◌, ◌<◌, IsErrOf};
+ghost use Rattle.std.specs.Prelude.{[], ◌∷◌, ◌<◌, IsErrOf};
 ghost use Rattle.lv_maptables.specs.Ranges.{IsLine};
 ghost use Rattle.lv_maptables.specs.Outcomes.{Ends, EndsExactly, Tells, Spends, one_line, nothing};
 ghost use Rattle.lv_maptables.specs.Faults.{lacks, reference_faults, shape_faults, line_faults, set_line_faults, drop_line_faults};

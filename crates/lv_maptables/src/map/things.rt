@@ -1,4 +1,4 @@
-ghost use Rattle.std.specs.Prelude.{◌≡◌, [], ◌∷◌, ◌+◌, ◌<◌, IsErrOf};
+ghost use Rattle.std.specs.Prelude.{[], ◌∷◌, ◌<◌, IsErrOf};
 ghost use Rattle.lv_maptables.specs.Ranges.{IsThing};
 ghost use Rattle.lv_maptables.specs.Outcomes.{Ends, EndsExactly, Tells, Spends, one_thing, nothing};
 ghost use Rattle.lv_maptables.specs.Faults.{lacks, thing_faults, set_thing_faults, drop_thing_faults};
