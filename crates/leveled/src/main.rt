@@ -8,7 +8,8 @@ use std::{env, io};
 /// The status of words that are no request.
 const REFUSED: u8 = 2;
 
-/// Says why the words are no request. Help and the version are asked for, and go to standard output.
+/// Says why the words are no request. Help and the version are asked for: they go to standard
+/// output.
 fn refuse(rt: &HostRuntime, error: RequestError) -> io::Result<ExitCode> {
     match error {
         RequestError::Words(error) => {
@@ -34,7 +35,13 @@ fn main(rt: HostRuntime) -> io::Result<ExitCode> {
     let texts: Vec<&str> = words.iter().map(|word| word.as_str()).collect(alloc)?;
     match request(alloc, texts.as_slice()) {
         Ok(request) => {
-            let status = perform(&rt, &request, rt.stdin(), rt.stdout(), rt.stderr());
+            let status = perform(
+                &rt,
+                &request,
+                &mut rt.stdin(),
+                rt.stdout(),
+                &mut rt.stderr(),
+            );
             Ok(ExitCode::from(status))
         }
         Err(error) => refuse(&rt, error),

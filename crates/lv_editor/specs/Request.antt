@@ -1,5 +1,6 @@
 -- What the words of the program ask for (docs/COMMANDS.md, "The program"): the command line is clap's, in clap's words.
-use Rattle.std.specs.Prelude.{◌≡◌, List, codes, true, false}
+use Rattle.std.specs.Prelude.{◌≡◌, ℕ, Option, List, codes, true, false}
+use Rattle.std.specs.Io.KnownBytes.{IsAtEnd}
 use Rattle.clap.specs.Words.{App, app_of, Row, Text, new_app, takes, with_subcommand}
 use Rattle.clap.specs.Simple.{on_top}
 use Rattle.clap.specs.declared.builder.command.Command.{Command}
@@ -31,3 +32,7 @@ abbrev pub IsRefusal : List Text → RequestError → Type 0
 IsRefusal words (Words error) = takes leveled_app words ≡ true → kind_of error ≡ OutOfMemory
 IsRefusal words Number = Unit {0}
 IsRefusal words Memory = Unit {0}
+
+-- what is left to read where the request was done: nothing of an input whose lines it was to answer
+abbrev pub HasRead : Request → Option (List ℕ) → Type 0
+HasRead Scratch left = IsAtEnd left

@@ -1,8 +1,10 @@
 ghost use Rattle.std.specs.Prelude.{◌≡◌, ◌≤◌, ℕ, Ok, IfOk};
+ghost use Rattle.std.specs.Io.KnownBytes.{Keeps};
 ghost use Rattle.lv_maptables.specs.Tables.{empty_tables};
 ghost use Rattle.lv_editor.specs.declared.scratch.TheConstants.{LONGEST_BODY};
 ghost use Rattle.lv_editor.specs.Answers.{Answers};
 ghost use Rattle.lv_editor.specs.Runs.{Ran};
+ghost use Rattle.lv_editor.specs.Request.{HasRead};
 
 use crate::asked::Request;
 use crate::error::EditorError;
@@ -55,21 +57,29 @@ fn report<F: Write>(error: EditorError, faults: &mut F) {
 
 /// Does what the words asked for, with standard input, output and error handed in, and answers the
 /// status: 0 where it is done, and 1 where it was refused, with a line on `faults` that says why.
-pub fn perform<E, R, W, F>(rt: &E, request: &Request, mut reader: R, writer: W, mut faults: F) -> u8
+pub fn perform<E, R, W, F>(
+    rt: &E,
+    request: &Request,
+    reader: &mut R,
+    writer: W,
+    faults: &mut F,
+) -> u8
 where
     E: AllocGlobal,
-    R: Read + Drop,
+    R: Read,
     W: Write + Drop,
-    F: Write + Drop,
-    ensures { result ≤ 3 }
+    F: Write,
+    ensures status { result ≤ 3 }
+    ensures read { result ≡ 0 → HasRead request.now (R.remaining reader.new) }
+    ensures quiet { result ≡ 0 → Keeps (F.contents faults.old) (F.contents faults.new) }
 {
     let done = match request {
-        Request::Scratch => scratch(rt.alloc(), &mut reader, writer),
+        Request::Scratch => scratch(rt.alloc(), reader, writer),
     };
     match done {
         Ok(_writer) => 0,
         Err(error) => {
-            report(error, &mut faults);
+            report(error, faults);
             1
         }
     }

@@ -212,9 +212,9 @@ fn numbers_refusals(rt: HostRuntime) {
 }
 
 /// What the program answers to `scratch` over this reader, and what it prints on standard error.
-fn scratch<R: Read + Drop, W: Write + Drop>(
+fn scratch<R: Read, W: Write + Drop>(
     rt: &HostRuntime,
-    reader: R,
+    reader: &mut R,
     writer: W,
 ) -> Result<(u8, Vec<u8>), Fail> {
     let words = ["leveled", "scratch"];
@@ -228,23 +228,25 @@ fn scratch<R: Read + Drop, W: Write + Drop>(
 
 #[test]
 fn performs_scratch(rt: HostRuntime) -> Result<(), Fail> {
+    let mut row = ROW;
     let mut out = Vec::new(rt.alloc());
-    let (status, faults) = scratch(&rt, ROW, &mut out)?;
+    let (status, faults) = scratch(&rt, &mut row, &mut out)?;
     assert_eq!(rt; status, 0);
     assert_eq!(rt; out.as_slice(), ROW_ANSWERS);
     assert_eq!(rt; faults.as_slice(), b"".as_slice());
 
     let mut out = Vec::new(rt.alloc());
-    let broken = Drip {
+    let mut broken = Drip {
         left: b"vertex 0 0\nvert",
         fails: true,
     };
-    let (status, faults) = scratch(&rt, broken, &mut out)?;
+    let (status, faults) = scratch(&rt, &mut broken, &mut out)?;
     assert_eq!(rt; status, 1);
     assert_eq!(rt; out.as_slice(), b"ok 0\n".as_slice());
     assert_eq!(rt; faults.as_slice(), b"leveled: 37 ReaderFailed\n".as_slice());
 
-    let (status, faults) = scratch(&rt, ROW, Narrow { room: 2 })?;
+    let mut row = ROW;
+    let (status, faults) = scratch(&rt, &mut row, Narrow { room: 2 })?;
     assert_eq!(rt; status, 1);
     assert_eq!(rt; faults.as_slice(), b"leveled: 38 WriterFailed\n".as_slice());
     Ok(())
