@@ -150,7 +150,7 @@ fn lumps_are_the_records(rt: HostRuntime) -> Result<(), Fail> {
 }
 
 #[test]
-fn the_least_fault_is_answered(rt: HostRuntime) -> Result<(), Fail> {
+fn added_lines_answer_their_least_fault(rt: HostRuntime) -> Result<(), Fail> {
     let mut map = drawn(rt.alloc())?;
     assert_eq!(rt;
         map.add_line(Line { v2: 3, ..LINE }),
@@ -190,6 +190,13 @@ fn the_least_fault_is_answered(rt: HostRuntime) -> Result<(), Fail> {
             ..LINE
         },
     )?;
+    Ok(())
+}
+
+#[test]
+fn edits_answer_their_least_fault(rt: HostRuntime) -> Result<(), Fail> {
+    let mut map = drawn(rt.alloc())?;
+    map.add_line(LINE)?;
     assert_eq!(rt; map.set_line(1, LINE), Err(MapError::NoLine));
     assert_eq!(rt;
         map.add_side(Side { sector: 1, ..SIDE }),
