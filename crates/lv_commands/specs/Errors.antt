@@ -1,5 +1,5 @@
 -- The numbers of the refusals.
-use Rattle.std.specs.Prelude.{ℕ, Option, Some, None}
+use Rattle.std.specs.Prelude.{◌≡◌, ℕ, Option, Some, None, Result, MatchResult}
 use Rattle.lv_commands.specs.declared.error.CommandError.{CommandError}
 use Rattle.lv_commands.specs.declared.error.CommandError.TheVariants.{NotACommand, OutOfRange, NoVertex, NoSector, NoSide, NoLine, NoThing, InUse, SameEnds, PlaceTaken, TwoSidedWithoutLeft, TableFull, LineTooLong, ProjectFull, BadName, OutOfMemory}
 
@@ -26,3 +26,7 @@ code_of OutOfMemory = 31
 abbrev pub code_in : Option CommandError → Option ℕ
 code_in None = None
 code_in (Some e) = Some (code_of e)
+
+-- the call ended Ok where there is no fault, and else with the fault's number
+abbrev pub TellsFault : {X : Type 0} → Result X CommandError → Option ℕ → Type 0
+TellsFault result fault = MatchResult result (λ _. fault ≡ None) (λ e. fault ≡ Some (code_of e))

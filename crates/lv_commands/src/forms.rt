@@ -1,7 +1,7 @@
-ghost use Rattle.std.specs.Prelude.{◌≡◌, ◌&&◌, int_lt, [], ◌∷◌, ◌≤◌, Some, None, IfOk, MatchResult, decimal};
+ghost use Rattle.std.specs.Prelude.{◌≡◌, ◌&&◌, int_lt, [], ◌∷◌, ◌≤◌, Some, None, IfOk, decimal};
 ghost use Rattle.lv_maptables.specs.Ranges.{IsLine, IsNamed, IsSector, IsSide, IsThing, IsVertex, is_marker, name_text};
 ghost use Rattle.lv_commands.specs.CommandRanges.{IsPlan, IsRoom, last_of};
-ghost use Rattle.lv_commands.specs.Errors.{code_of};
+ghost use Rattle.lv_commands.specs.Errors.{TellsFault};
 ghost use Rattle.lv_commands.specs.Grammar.{drop_fault, room_fault};
 ghost use Rattle.lv_commands.specs.Places.{Named, item, line_places, places_fault, room_places, sector_item, sector_places, side_places, thing_places, vertex_places};
 ghost use Rattle.lv_commands.specs.Reading.{fault_with};
@@ -40,7 +40,7 @@ impl<'a> Places<'a> {
     /// A place.
     pub fn vertex(mut self) -> Result<Vertex, CommandError>
         ensures ok { IfOk result (λ r. ((reading self.entry).fault ≡ None) × ((reading self.entry).words ≡ vertex_words r) × IsVertex r) }
-        ensures fault { MatchResult result (λ _. fault_with (reading self.entry) vertex_places ≡ None) (λ e. fault_with (reading self.entry) vertex_places ≡ Some (code_of e)) }
+        ensures fault { TellsFault result (fault_with (reading self.entry) vertex_places) }
     {
         let x = self.number(LEAST_COORDINATE, GREATEST_COORDINATE);
         let y = self.number(LEAST_COORDINATE, GREATEST_COORDINATE);
@@ -51,7 +51,7 @@ impl<'a> Places<'a> {
     /// A sector.
     pub fn sector(mut self) -> Result<Sector, CommandError>
         ensures ok { IfOk result (λ r. ((reading self.entry).fault ≡ None) × ((reading self.entry).words ≡ sector_words r) × IsSector r) }
-        ensures fault { MatchResult result (λ _. fault_with (reading self.entry) sector_places ≡ None) (λ e. fault_with (reading self.entry) sector_places ≡ Some (code_of e)) }
+        ensures fault { TellsFault result (fault_with (reading self.entry) sector_places) }
     {
         let floor = self.number(i16::MIN, i16::MAX);
         let ceiling = self.number(i16::MIN, i16::MAX);
@@ -75,7 +75,7 @@ impl<'a> Places<'a> {
     /// A side.
     pub fn side(mut self) -> Result<Side, CommandError>
         ensures ok { IfOk result (λ r. ((reading self.entry).fault ≡ None) × ((reading self.entry).words ≡ side_words r) × IsSide r) }
-        ensures fault { MatchResult result (λ _. fault_with (reading self.entry) side_places ≡ None) (λ e. fault_with (reading self.entry) side_places ≡ Some (code_of e)) }
+        ensures fault { TellsFault result (fault_with (reading self.entry) side_places) }
     {
         let x_offset = self.number(i16::MIN, i16::MAX);
         let y_offset = self.number(i16::MIN, i16::MAX);
@@ -97,7 +97,7 @@ impl<'a> Places<'a> {
     /// A line.
     pub fn line(mut self) -> Result<Line, CommandError>
         ensures ok { IfOk result (λ r. ((reading self.entry).fault ≡ None) × ((reading self.entry).words ≡ line_words r) × IsLine r) }
-        ensures fault { MatchResult result (λ _. fault_with (reading self.entry) line_places ≡ None) (λ e. fault_with (reading self.entry) line_places ≡ Some (code_of e)) }
+        ensures fault { TellsFault result (fault_with (reading self.entry) line_places) }
     {
         let v1 = self.item(LAST_ITEM);
         let v2 = self.item(LAST_ITEM);
@@ -121,7 +121,7 @@ impl<'a> Places<'a> {
     /// A thing.
     pub fn thing(mut self) -> Result<Thing, CommandError>
         ensures ok { IfOk result (λ r. ((reading self.entry).fault ≡ None) × ((reading self.entry).words ≡ thing_words r) × IsThing r) }
-        ensures fault { MatchResult result (λ _. fault_with (reading self.entry) thing_places ≡ None) (λ e. fault_with (reading self.entry) thing_places ≡ Some (code_of e)) }
+        ensures fault { TellsFault result (fault_with (reading self.entry) thing_places) }
     {
         let x = self.number(LEAST_COORDINATE, GREATEST_COORDINATE);
         let y = self.number(LEAST_COORDINATE, GREATEST_COORDINATE);
@@ -142,7 +142,7 @@ impl<'a> Places<'a> {
     pub fn numbered_vertex(mut self) -> Result<(u16, Vertex), CommandError>
         requires { (reading self).fault ≡ None }
         ensures ok { IfOk result (λ r. ((reading self.entry).words ≡ decimal r.0 ∷ vertex_words r.1) × (r.0 ≤ 32766) × IsVertex r.1) }
-        ensures fault { MatchResult result (λ _. places_fault (item ∷ vertex_places) (reading self.entry).words ≡ None) (λ e. places_fault (item ∷ vertex_places) (reading self.entry).words ≡ Some (code_of e)) }
+        ensures fault { TellsFault result (places_fault (item ∷ vertex_places) (reading self.entry).words) }
     {
         let number = self.item(LAST_ITEM);
         match self.vertex() {
@@ -155,7 +155,7 @@ impl<'a> Places<'a> {
     pub fn numbered_sector(mut self) -> Result<(u16, Sector), CommandError>
         requires { (reading self).fault ≡ None }
         ensures ok { IfOk result (λ r. ((reading self.entry).words ≡ decimal r.0 ∷ sector_words r.1) × (r.0 ≤ 4095) × IsSector r.1) }
-        ensures fault { MatchResult result (λ _. places_fault (sector_item ∷ sector_places) (reading self.entry).words ≡ None) (λ e. places_fault (sector_item ∷ sector_places) (reading self.entry).words ≡ Some (code_of e)) }
+        ensures fault { TellsFault result (places_fault (sector_item ∷ sector_places) (reading self.entry).words) }
     {
         let number = self.item(LAST_SECTOR);
         match self.sector() {
@@ -168,7 +168,7 @@ impl<'a> Places<'a> {
     pub fn numbered_side(mut self) -> Result<(u16, Side), CommandError>
         requires { (reading self).fault ≡ None }
         ensures ok { IfOk result (λ r. ((reading self.entry).words ≡ decimal r.0 ∷ side_words r.1) × (r.0 ≤ 32766) × IsSide r.1) }
-        ensures fault { MatchResult result (λ _. places_fault (item ∷ side_places) (reading self.entry).words ≡ None) (λ e. places_fault (item ∷ side_places) (reading self.entry).words ≡ Some (code_of e)) }
+        ensures fault { TellsFault result (places_fault (item ∷ side_places) (reading self.entry).words) }
     {
         let number = self.item(LAST_ITEM);
         match self.side() {
@@ -181,7 +181,7 @@ impl<'a> Places<'a> {
     pub fn numbered_line(mut self) -> Result<(u16, Line), CommandError>
         requires { (reading self).fault ≡ None }
         ensures ok { IfOk result (λ r. ((reading self.entry).words ≡ decimal r.0 ∷ line_words r.1) × (r.0 ≤ 32766) × IsLine r.1) }
-        ensures fault { MatchResult result (λ _. places_fault (item ∷ line_places) (reading self.entry).words ≡ None) (λ e. places_fault (item ∷ line_places) (reading self.entry).words ≡ Some (code_of e)) }
+        ensures fault { TellsFault result (places_fault (item ∷ line_places) (reading self.entry).words) }
     {
         let number = self.item(LAST_ITEM);
         match self.line() {
@@ -194,7 +194,7 @@ impl<'a> Places<'a> {
     pub fn numbered_thing(mut self) -> Result<(u16, Thing), CommandError>
         requires { (reading self).fault ≡ None }
         ensures ok { IfOk result (λ r. ((reading self.entry).words ≡ decimal r.0 ∷ thing_words r.1) × (r.0 ≤ 32766) × IsThing r.1) }
-        ensures fault { MatchResult result (λ _. places_fault (item ∷ thing_places) (reading self.entry).words ≡ None) (λ e. places_fault (item ∷ thing_places) (reading self.entry).words ≡ Some (code_of e)) }
+        ensures fault { TellsFault result (places_fault (item ∷ thing_places) (reading self.entry).words) }
     {
         let number = self.item(LAST_ITEM);
         match self.thing() {
@@ -206,7 +206,7 @@ impl<'a> Places<'a> {
     /// The places of a room.
     fn room_plan(mut self) -> Result<RoomPlan, CommandError>
         ensures ok { IfOk result (λ r. ((reading self.entry).fault ≡ None) × ((reading self.entry).words ≡ room_words r) × IsPlan r) }
-        ensures fault { MatchResult result (λ _. fault_with (reading self.entry) room_places ≡ None) (λ e. fault_with (reading self.entry) room_places ≡ Some (code_of e)) }
+        ensures fault { TellsFault result (fault_with (reading self.entry) room_places) }
     {
         let west = self.number(LEAST_COORDINATE, GREATEST_COORDINATE);
         let south = self.number(LEAST_COORDINATE, GREATEST_COORDINATE);
@@ -237,7 +237,7 @@ impl<'a> Places<'a> {
     pub fn room(self) -> Result<RoomPlan, CommandError>
         requires { (reading self).fault ≡ None }
         ensures ok { IfOk result (λ r. ((reading self.entry).words ≡ room_words r) × IsRoom r) }
-        ensures fault { MatchResult result (λ _. room_fault (reading self.entry).words ≡ None) (λ e. room_fault (reading self.entry).words ≡ Some (code_of e)) }
+        ensures fault { TellsFault result (room_fault (reading self.entry).words) }
     {
         match self.room_plan() {
             Ok(plan) => {
@@ -255,7 +255,7 @@ impl<'a> Places<'a> {
     pub fn kind_and_item(mut self) -> Result<(Kind, u16), CommandError>
         requires { (reading self).fault ≡ None }
         ensures ok { IfOk result (λ r. ((reading self.entry).words ≡ kind_word r.0 ∷ decimal r.1 ∷ []) × (r.1 ≤ last_of r.0)) }
-        ensures fault { MatchResult result (λ _. drop_fault (reading self.entry).words ≡ None) (λ e. drop_fault (reading self.entry).words ≡ Some (code_of e)) }
+        ensures fault { TellsFault result (drop_fault (reading self.entry).words) }
     {
         let Some(word) = self.next() else {
             return Err(CommandError::NotACommand);
@@ -274,7 +274,7 @@ impl<'a> Places<'a> {
     pub fn map_name(mut self) -> Result<Name8, CommandError>
         requires { (reading self).fault ≡ None }
         ensures ok { IfOk result (λ n. ((reading self.entry).words ≡ name_text n ∷ []) × IsNamed is_marker n) }
-        ensures fault { MatchResult result (λ _. places_fault (Named is_marker ∷ []) (reading self.entry).words ≡ None) (λ e. places_fault (Named is_marker ∷ []) (reading self.entry).words ≡ Some (code_of e)) }
+        ensures fault { TellsFault result (places_fault (Named is_marker ∷ []) (reading self.entry).words) }
     {
         let name = self.marker();
         match self.finish() {

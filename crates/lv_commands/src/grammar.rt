@@ -1,6 +1,6 @@
-ghost use Rattle.std.specs.Prelude.{◌≡◌, ◌∷◌, ◌≤◌, None, Some, Ok, IfOk, MatchResult, length};
+ghost use Rattle.std.specs.Prelude.{◌≡◌, ◌∷◌, ◌≤◌, None, Some, Ok, IfOk, length};
 ghost use Rattle.lv_commands.specs.CommandRanges.{InRange};
-ghost use Rattle.lv_commands.specs.Errors.{code_of};
+ghost use Rattle.lv_commands.specs.Errors.{TellsFault};
 ghost use Rattle.lv_commands.specs.Grammar.{fault_behind, fault_of};
 ghost use Rattle.lv_commands.specs.Spelling.{head_word, spelling, words_of};
 ghost use Rattle.lv_commands.specs.declared.command.Command.{Command};
@@ -20,7 +20,7 @@ const LONGEST_LINE: usize = 256;
 fn command(head: Head, places: Places) -> Result<Command, CommandError>
     requires { (reading places).fault ≡ None }
     ensures ok { IfOk result (λ c. (head_word head ∷ (reading places.entry).words ≡ words_of c) × InRange c) }
-    ensures fault { MatchResult result (λ _. fault_behind head (reading places.entry).words ≡ None) (λ e. fault_behind head (reading places.entry).words ≡ Some (code_of e)) }
+    ensures fault { TellsFault result (fault_behind head (reading places.entry).words) }
 {
     let command = match head {
         Head::Name => Command::Name(places.map_name()?),
@@ -65,7 +65,7 @@ fn command(head: Head, places: Places) -> Result<Command, CommandError>
 /// The command that a line is, or what is wrong with it.
 fn read(line: &[u8]) -> Result<Command, CommandError>
     ensures ok { IfOk result (λ c. (line.now ≡ spelling c) × InRange c) }
-    ensures fault { MatchResult result (λ _. fault_of line.now ≡ None) (λ e. fault_of line.now ≡ Some (code_of e)) }
+    ensures fault { TellsFault result (fault_of line.now) }
 {
     if line.len() > LONGEST_LINE {
         return Err(CommandError::NotACommand);
@@ -81,7 +81,7 @@ fn read(line: &[u8]) -> Result<Command, CommandError>
 pub fn parse(line: &[u8]) -> Result<Command, CommandError>
     ensures ok { IfOk result (λ c. (line.now ≡ spelling c) × InRange c) }
     ensures all { (c : Command) → InRange c → line.now ≡ spelling c → result ≡ Ok c }
-    ensures fault { MatchResult result (λ _. fault_of line.now ≡ None) (λ e. fault_of line.now ≡ Some (code_of e)) }
+    ensures fault { TellsFault result (fault_of line.now) }
     ensures short { IfOk result (λ _. length line.now ≤ 256) }
 {
     read(line)

@@ -1,7 +1,7 @@
-ghost use Rattle.std.specs.Prelude.{◌≡◌, ◌&&◌, ◌==◌, not, length, IfOk, MatchResult, ◌≤◌, None, Some};
+ghost use Rattle.std.specs.Prelude.{◌≡◌, ◌&&◌, ◌==◌, not, length, IfOk, ◌≤◌, None, Some};
 ghost use Rattle.std.specs.List.{list_all};
 ghost use Rattle.std.specs.Str.{IsUtf8};
-ghost use Rattle.lv_commands.specs.Errors.{code_of};
+ghost use Rattle.lv_commands.specs.Errors.{TellsFault};
 ghost use Rattle.lv_commands.specs.Places.{Named, place_fault};
 ghost use Rattle.lv_maptables.specs.Ranges.{IsNamed, is_digit, is_marker, is_name, is_name_byte, name_text};
 ghost use Rattle.lv_maptables.specs.Tables.{name_of};
@@ -43,7 +43,7 @@ fn padded(text: &[u8]) -> Name8
 /// The name of a flat or a texture that a word is.
 pub fn name_in(word: &[u8]) -> Result<Name8, CommandError>
     ensures found { IfOk result (λ n. (name_text n ≡ word.now) × IsNamed is_name n) }
-    ensures fault { MatchResult result (λ _. place_fault (Named is_name) word.now ≡ None) (λ e. place_fault (Named is_name) word.now ≡ Some (code_of e)) }
+    ensures fault { TellsFault result (place_fault (Named is_name) word.now) }
 {
     if !has_word_form(word) {
         return Err(CommandError::NotACommand);
@@ -81,7 +81,7 @@ fn has_marker_form(word: &[u8]) -> bool
 /// The name of a map that a word is.
 pub fn marker_in(word: &[u8]) -> Result<Name8, CommandError>
     ensures found { IfOk result (λ n. (name_text n ≡ word.now) × IsNamed is_marker n) }
-    ensures fault { MatchResult result (λ _. place_fault (Named is_marker) word.now ≡ None) (λ e. place_fault (Named is_marker) word.now ≡ Some (code_of e)) }
+    ensures fault { TellsFault result (place_fault (Named is_marker) word.now) }
 {
     if !has_word_form(word) {
         return Err(CommandError::NotACommand);

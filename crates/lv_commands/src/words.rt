@@ -1,7 +1,7 @@
-ghost use Rattle.std.specs.Prelude.{◌≡◌, ◌∷◌, IfOk, MatchResult, None, Some, option_copied};
+ghost use Rattle.std.specs.Prelude.{◌≡◌, ◌∷◌, IfOk, None, Some, option_copied};
 ghost use Rattle.std.specs.Fmt.{signed_decimal};
 ghost use Rattle.std.specs.List.{list_all};
-ghost use Rattle.lv_commands.specs.Errors.{code_of};
+ghost use Rattle.lv_commands.specs.Errors.{TellsFault};
 ghost use Rattle.lv_commands.specs.Places.{Number, place_fault};
 ghost use Rattle.lv_commands.specs.Words.{is_natural, is_numeral, is_printable, is_word, numeral_value, parts, parts_behind};
 ghost use Rattle.lv_maptables.specs.Ranges.{IsBetween, is_digit};
@@ -67,7 +67,7 @@ pub fn next_part(line: &[u8]) -> (&[u8], Option<&[u8]>)
 /// The number that a word stands for, between two bounds.
 pub fn number_in(word: &[u8], low: i16, high: i16) -> Result<i16, CommandError>
     ensures found { IfOk result (λ n. (numeral_value word.now ≡ n) × (signed_decimal n ≡ word.now) × IsBetween low high n) }
-    ensures fault { MatchResult result (λ n. place_fault (Number low high) word.now ≡ None) (λ e. place_fault (Number low high) word.now ≡ Some (code_of e)) }
+    ensures fault { TellsFault result (place_fault (Number low high) word.now) }
 {
     if !has_numeral_form(word) {
         return Err(CommandError::NotACommand);
