@@ -1,7 +1,8 @@
 use lv_lumps::{Line, Name8, Sector, Side, Thing, Vertex};
 use lv_maptables::Kind;
 
-/// A sector between two corners, with a side and a line along each edge and the inside on the right.
+/// A sector between two corners, with a side and a line along each edge and the inside on the right. Coordinates and
+/// heights are map units.
 #[derive(Clone, Copy, Debug, PartialEq, Eq)]
 pub struct RoomPlan {
     pub west: i16,
@@ -26,17 +27,20 @@ pub struct LineSplit {
 /// A change of a map, as a line of input asks for it.
 #[derive(Clone, Copy, Debug, PartialEq, Eq)]
 pub enum Command {
+    /// The map's name.
     Name(Name8),
     AddVertex(Vertex),
     AddSector(Sector),
     AddSide(Side),
     AddLine(Line),
     AddThing(Thing),
+    /// The number of an item, and what it becomes; likewise the others that set one.
     SetVertex(u16, Vertex),
     SetSector(u16, Sector),
     SetSide(u16, Side),
     SetLine(u16, Line),
     SetThing(u16, Thing),
+    /// A table, and the number of the item that is taken out.
     Drop(Kind, u16),
     Room(RoomPlan),
     Split(LineSplit),
