@@ -1,14 +1,8 @@
-//! Lines that are commands and lines that are none, and what commands make of a map.
+//! Lines that are commands, and lines that are none.
 
-use lv_commands::{CommandError, apply, commit, parse, print, ready};
-use lv_lumps::{Line, Name8, Sector, Side, Vertex};
-use lv_maptables::{Kind, Map, NO_SIDE};
+use lv_commands::{parse, print};
 use std::alloc::Global;
-use std::process::Abort;
 use std::test::Fail;
-
-/// The longest body that a map can have.
-const AMPLE: u32 = 2_007_002;
 
 /// 0 for a line that is a command and is printed as it came in, else the code of its refusal. 999: printed otherwise.
 fn told(alloc: Global, line: &[u8]) -> u16 {
@@ -21,89 +15,79 @@ fn told(alloc: Global, line: &[u8]) -> u16 {
     }
 }
 
-/// The number that a line is answered with, or the code.
-fn answer(map: &mut Map, line: &[u8], cap: u32) -> Result<u32, u16> {
-    match parse(line) {
-        Ok(command) => {
-            if map.body_len() > cap {
-                return Err(999);
-            }
-            apply(map, &command, cap).map_err(|error| error.code())
-        }
-        Err(error) => Err(error.code()),
-    }
-}
+/// Each place of each command that holds a number, marked by a star, with its least and its greatest number.
+#[rattlefmt::skip]
+const NUMBER_PLACES: [(&str, i16, i16); 64] = [
+    ("vertex * 0", -16384, 16383),
+    ("vertex 0 *", -16384, 16383),
+    ("sector * 128 FLOOR4_8 CEIL3_5 160 0 0", -32768, 32767),
+    ("sector 0 * FLOOR4_8 CEIL3_5 160 0 0", -32768, 32767),
+    ("sector 0 128 FLOOR4_8 CEIL3_5 * 0 0", 0, 255),
+    ("sector 0 128 FLOOR4_8 CEIL3_5 160 * 0", 0, 32767),
+    ("sector 0 128 FLOOR4_8 CEIL3_5 160 0 *", 0, 32767),
+    ("side * 0 - - STARTAN3 0", -32768, 32767),
+    ("side 0 * - - STARTAN3 0", -32768, 32767),
+    ("side 0 0 - - STARTAN3 *", 0, 4095),
+    ("line * 1 1 0 0 0 -", 0, 32766),
+    ("line 0 * 1 0 0 0 -", 0, 32766),
+    ("line 0 1 * 0 0 0 -", 0, 32767),
+    ("line 0 1 1 * 0 0 -", 0, 32767),
+    ("line 0 1 1 0 * 0 -", 0, 32767),
+    ("line 0 1 1 0 0 * -", 0, 32766),
+    ("line 0 1 1 0 0 0 *", 0, 32766),
+    ("thing * 64 90 1 7", -16384, 16383),
+    ("thing 64 * 90 1 7", -16384, 16383),
+    ("thing 64 64 * 1 7", 0, 359),
+    ("thing 64 64 90 * 7", 0, 32767),
+    ("thing 64 64 90 1 *", 0, 32767),
+    ("move-vertex * 0 0", 0, 32766),
+    ("move-vertex 0 * 0", -16384, 16383),
+    ("move-vertex 0 0 *", -16384, 16383),
+    ("set-sector * 0 128 FLOOR4_8 CEIL3_5 160 0 0", 0, 4095),
+    ("set-sector 0 * 128 FLOOR4_8 CEIL3_5 160 0 0", -32768, 32767),
+    ("set-sector 0 0 * FLOOR4_8 CEIL3_5 160 0 0", -32768, 32767),
+    ("set-sector 0 0 128 FLOOR4_8 CEIL3_5 * 0 0", 0, 255),
+    ("set-sector 0 0 128 FLOOR4_8 CEIL3_5 160 * 0", 0, 32767),
+    ("set-sector 0 0 128 FLOOR4_8 CEIL3_5 160 0 *", 0, 32767),
+    ("set-side * 0 0 - - STARTAN3 0", 0, 32766),
+    ("set-side 0 * 0 - - STARTAN3 0", -32768, 32767),
+    ("set-side 0 0 * - - STARTAN3 0", -32768, 32767),
+    ("set-side 0 0 0 - - STARTAN3 *", 0, 4095),
+    ("set-line * 0 1 1 0 0 0 -", 0, 32766),
+    ("set-line 0 * 1 1 0 0 0 -", 0, 32766),
+    ("set-line 0 0 * 1 0 0 0 -", 0, 32766),
+    ("set-line 0 0 1 * 0 0 0 -", 0, 32767),
+    ("set-line 0 0 1 1 * 0 0 -", 0, 32767),
+    ("set-line 0 0 1 1 0 * 0 -", 0, 32767),
+    ("set-line 0 0 1 1 0 0 * -", 0, 32766),
+    ("set-line 0 0 1 1 0 0 0 *", 0, 32766),
+    ("set-thing * 64 64 90 1 7", 0, 32766),
+    ("set-thing 0 * 64 90 1 7", -16384, 16383),
+    ("set-thing 0 64 * 90 1 7", -16384, 16383),
+    ("set-thing 0 64 64 * 1 7", 0, 359),
+    ("set-thing 0 64 64 90 * 7", 0, 32767),
+    ("set-thing 0 64 64 90 1 *", 0, 32767),
+    ("drop vertex *", 0, 32766),
+    ("drop side *", 0, 32766),
+    ("drop line *", 0, 32766),
+    ("drop thing *", 0, 32766),
+    ("drop sector *", 0, 4095),
+    ("room * 0 16383 128 0 128 FLOOR4_8 CEIL3_5 STARTAN3 160", -16384, 16382),
+    ("room 0 * 128 16383 0 128 FLOOR4_8 CEIL3_5 STARTAN3 160", -16384, 16382),
+    ("room -16384 0 * 128 0 128 FLOOR4_8 CEIL3_5 STARTAN3 160", -16383, 16383),
+    ("room 0 -16384 128 * 0 128 FLOOR4_8 CEIL3_5 STARTAN3 160", -16383, 16383),
+    ("room 0 0 128 128 * 128 FLOOR4_8 CEIL3_5 STARTAN3 160", -32768, 32767),
+    ("room 0 0 128 128 0 * FLOOR4_8 CEIL3_5 STARTAN3 160", -32768, 32767),
+    ("room 0 0 128 128 0 128 FLOOR4_8 CEIL3_5 STARTAN3 *", 0, 255),
+    ("split * 0 0", 0, 32766),
+    ("split 0 * 0", -16384, 16383),
+    ("split 0 0 *", -16384, 16383),
+];
 
 /// Each place of each command that holds a number, at its least, its greatest and one beyond.
 #[test]
 fn numbers_have_ranges(rt: HostRuntime) -> Result<(), Fail> {
-    let places: [(&str, i16, i16); 64] = [
-        ("vertex * 0", -16384, 16383),
-        ("vertex 0 *", -16384, 16383),
-        ("sector * 128 FLOOR4_8 CEIL3_5 160 0 0", -32768, 32767),
-        ("sector 0 * FLOOR4_8 CEIL3_5 160 0 0", -32768, 32767),
-        ("sector 0 128 FLOOR4_8 CEIL3_5 * 0 0", 0, 255),
-        ("sector 0 128 FLOOR4_8 CEIL3_5 160 * 0", 0, 32767),
-        ("sector 0 128 FLOOR4_8 CEIL3_5 160 0 *", 0, 32767),
-        ("side * 0 - - STARTAN3 0", -32768, 32767),
-        ("side 0 * - - STARTAN3 0", -32768, 32767),
-        ("side 0 0 - - STARTAN3 *", 0, 4095),
-        ("line * 1 1 0 0 0 -", 0, 32766),
-        ("line 0 * 1 0 0 0 -", 0, 32766),
-        ("line 0 1 * 0 0 0 -", 0, 32767),
-        ("line 0 1 1 * 0 0 -", 0, 32767),
-        ("line 0 1 1 0 * 0 -", 0, 32767),
-        ("line 0 1 1 0 0 * -", 0, 32766),
-        ("line 0 1 1 0 0 0 *", 0, 32766),
-        ("thing * 64 90 1 7", -16384, 16383),
-        ("thing 64 * 90 1 7", -16384, 16383),
-        ("thing 64 64 * 1 7", 0, 359),
-        ("thing 64 64 90 * 7", 0, 32767),
-        ("thing 64 64 90 1 *", 0, 32767),
-        ("move-vertex * 0 0", 0, 32766),
-        ("move-vertex 0 * 0", -16384, 16383),
-        ("move-vertex 0 0 *", -16384, 16383),
-        ("set-sector * 0 128 FLOOR4_8 CEIL3_5 160 0 0", 0, 4095),
-        ("set-sector 0 * 128 FLOOR4_8 CEIL3_5 160 0 0", -32768, 32767),
-        ("set-sector 0 0 * FLOOR4_8 CEIL3_5 160 0 0", -32768, 32767),
-        ("set-sector 0 0 128 FLOOR4_8 CEIL3_5 * 0 0", 0, 255),
-        ("set-sector 0 0 128 FLOOR4_8 CEIL3_5 160 * 0", 0, 32767),
-        ("set-sector 0 0 128 FLOOR4_8 CEIL3_5 160 0 *", 0, 32767),
-        ("set-side * 0 0 - - STARTAN3 0", 0, 32766),
-        ("set-side 0 * 0 - - STARTAN3 0", -32768, 32767),
-        ("set-side 0 0 * - - STARTAN3 0", -32768, 32767),
-        ("set-side 0 0 0 - - STARTAN3 *", 0, 4095),
-        ("set-line * 0 1 1 0 0 0 -", 0, 32766),
-        ("set-line 0 * 1 1 0 0 0 -", 0, 32766),
-        ("set-line 0 0 * 1 0 0 0 -", 0, 32766),
-        ("set-line 0 0 1 * 0 0 0 -", 0, 32767),
-        ("set-line 0 0 1 1 * 0 0 -", 0, 32767),
-        ("set-line 0 0 1 1 0 * 0 -", 0, 32767),
-        ("set-line 0 0 1 1 0 0 * -", 0, 32766),
-        ("set-line 0 0 1 1 0 0 0 *", 0, 32766),
-        ("set-thing * 64 64 90 1 7", 0, 32766),
-        ("set-thing 0 * 64 90 1 7", -16384, 16383),
-        ("set-thing 0 64 * 90 1 7", -16384, 16383),
-        ("set-thing 0 64 64 * 1 7", 0, 359),
-        ("set-thing 0 64 64 90 * 7", 0, 32767),
-        ("set-thing 0 64 64 90 1 *", 0, 32767),
-        ("drop vertex *", 0, 32766),
-        ("drop side *", 0, 32766),
-        ("drop line *", 0, 32766),
-        ("drop thing *", 0, 32766),
-        ("drop sector *", 0, 4095),
-        ("room * 0 16383 128 0 128 FLOOR4_8 CEIL3_5 STARTAN3 160", -16384, 16382),
-        ("room 0 * 128 16383 0 128 FLOOR4_8 CEIL3_5 STARTAN3 160", -16384, 16382),
-        ("room -16384 0 * 128 0 128 FLOOR4_8 CEIL3_5 STARTAN3 160", -16383, 16383),
-        ("room 0 -16384 128 * 0 128 FLOOR4_8 CEIL3_5 STARTAN3 160", -16383, 16383),
-        ("room 0 0 128 128 * 128 FLOOR4_8 CEIL3_5 STARTAN3 160", -32768, 32767),
-        ("room 0 0 128 128 0 * FLOOR4_8 CEIL3_5 STARTAN3 160", -32768, 32767),
-        ("room 0 0 128 128 0 128 FLOOR4_8 CEIL3_5 STARTAN3 *", 0, 255),
-        ("split * 0 0", 0, 32766),
-        ("split 0 * 0", -16384, 16383),
-        ("split 0 0 *", -16384, 16383),
-    ];
-    for (form, least, greatest) in places {
+    for (form, least, greatest) in NUMBER_PLACES {
         let (front, behind) = form.split_once('*').ok_or("no place")?;
         let (least, greatest) = (i32::from(least), i32::from(greatest));
         for (value, code) in [(least, 0), (greatest, 0), (least - 1, 2), (greatest + 1, 2)] {
@@ -114,31 +98,37 @@ fn numbers_have_ranges(rt: HostRuntime) -> Result<(), Fail> {
     Ok(())
 }
 
+/// Each place of each command that holds a name, marked by a star.
+#[rattlefmt::skip]
+const NAME_PLACES: [&str; 13] = [
+    "sector 0 128 * CEIL3_5 160 0 0",
+    "sector 0 128 FLOOR4_8 * 160 0 0",
+    "side 0 0 * - STARTAN3 0",
+    "side 0 0 - * STARTAN3 0",
+    "side 0 0 - - * 0",
+    "set-sector 0 0 128 * CEIL3_5 160 0 0",
+    "set-sector 0 0 128 FLOOR4_8 * 160 0 0",
+    "set-side 0 0 0 * - STARTAN3 0",
+    "set-side 0 0 0 - * STARTAN3 0",
+    "set-side 0 0 0 - - * 0",
+    "room 0 0 128 128 0 128 * CEIL3_5 STARTAN3 160",
+    "room 0 0 128 128 0 128 FLOOR4_8 * STARTAN3 160",
+    "room 0 0 128 128 0 128 FLOOR4_8 CEIL3_5 * 160",
+];
+
+/// Names, and what a line with them is told: 0 for a command, else its code.
+#[rattlefmt::skip]
+const NAMES: [(&str, u16); 16] = [
+    ("A", 0), ("-", 0), ("0", 0), ("ABCDEFGH", 0), ("_-[]\\09Z", 0), ("ABCDEFGHI", 15), ("floor4_8", 15), ("A.B", 15),
+    ("~", 15), ("@", 15), ("`", 15), ("^", 15), ("\u{7f}", 1), ("\u{e9}", 1), ("", 1), ("A B", 1),
+];
+
 /// Each place of each command that holds a name.
 #[test]
 fn names_have_a_form(rt: HostRuntime) -> Result<(), Fail> {
-    let places = [
-        "sector 0 128 * CEIL3_5 160 0 0",
-        "sector 0 128 FLOOR4_8 * 160 0 0",
-        "side 0 0 * - STARTAN3 0",
-        "side 0 0 - * STARTAN3 0",
-        "side 0 0 - - * 0",
-        "set-sector 0 0 128 * CEIL3_5 160 0 0",
-        "set-sector 0 0 128 FLOOR4_8 * 160 0 0",
-        "set-side 0 0 0 * - STARTAN3 0",
-        "set-side 0 0 0 - * STARTAN3 0",
-        "set-side 0 0 0 - - * 0",
-        "room 0 0 128 128 0 128 * CEIL3_5 STARTAN3 160",
-        "room 0 0 128 128 0 128 FLOOR4_8 * STARTAN3 160",
-        "room 0 0 128 128 0 128 FLOOR4_8 CEIL3_5 * 160",
-    ];
-    let names = [
-        ("A", 0), ("-", 0), ("0", 0), ("ABCDEFGH", 0), ("_-[]\\09Z", 0), ("ABCDEFGHI", 15), ("floor4_8", 15), ("A.B", 15),
-        ("~", 15), ("@", 15), ("`", 15), ("^", 15), ("\u{7f}", 1), ("\u{e9}", 1), ("", 1), ("A B", 1),
-    ];
-    for place in places {
+    for place in NAME_PLACES {
         let (front, behind) = place.split_once('*').ok_or("no place")?;
-        for (name, code) in names {
+        for (name, code) in NAMES {
             let line = format!(in rt.alloc(); "{front}{name}{behind}")?;
             assert_eq!(rt; told(rt.alloc(), line.as_bytes()), code, "{line}");
         }
@@ -146,83 +136,86 @@ fn names_have_a_form(rt: HostRuntime) -> Result<(), Fail> {
     Ok(())
 }
 
+/// Lines, and what each is told: 0 for a command, else its code.
+#[rattlefmt::skip]
+const LINES: [(&[u8], u16); 72] = [
+    (b"name E1M1", 0),
+    (b"name E9M9", 0),
+    (b"name MAP01", 0),
+    (b"name MAP10", 0),
+    (b"name MAP99", 0),
+    (b"line 0 1 1 0 0 0 -", 0),
+    (b"set-line 0 0 1 1 0 0 0 -", 0),
+    (b"room 0 0 128 128 0 128 FLOOR4_8 CEIL3_5 STARTAN3 160", 0),
+    (b"drop vertex 0", 0),
+    (b"split 2 128 64", 0),
+    (b"name MAP00", 15),
+    (b"name E0M1", 15),
+    (b"name E1M0", 15),
+    (b"name E1M10", 15),
+    (b"name MAP1", 15),
+    (b"name MAP100", 15),
+    (b"name map01", 15),
+    (b"name E1M", 15),
+    (b"name M1E1", 15),
+    (b"name -", 15),
+    (b"name MAPAB", 15),
+    (b"sector 0 128 floor4_8 CEIL3_5 160 0 0", 15),
+    (b"sector 0 128 floor4_8 CEIL3_5 999 0 0", 15),
+    (b"room 0 0 0 128 0 128 floor CEIL3_5 STARTAN3 160", 15),
+    (b"vertex 16384 0", 2),
+    (b"sector 40000 128 FLOOR4_8 CEIL3_5 160 0 0", 2),
+    (b"sector 40000 128 floor4_8 CEIL3_5 160 0 0", 2),
+    (b"sector 0 99999 floor4_8 CEIL3_5 999 0 0", 2),
+    (b"line 0 1 1 0 0 0 -5", 2),
+    (b"drop sector 4096", 2),
+    (b"room 0 0 0 128 0 128 FLOOR4_8 CEIL3_5 STARTAN3 160", 2),
+    (b"room 0 0 128 0 0 128 FLOOR4_8 CEIL3_5 STARTAN3 160", 2),
+    (b"room 128 0 0 128 0 128 FLOOR4_8 CEIL3_5 STARTAN3 160", 2),
+    (b"room 0 128 128 0 0 128 FLOOR4_8 CEIL3_5 STARTAN3 160", 2),
+    (b"vertex 99999999999999999999999999 0", 2),
+    (b"vertex -99999999999999999999999999 0", 2),
+    (b"", 1),
+    (b"vertex", 1),
+    (b"vertex 1", 1),
+    (b"vertex 1 1 1", 1),
+    (b"vertex 00 0", 1),
+    (b"vertex -0 0", 1),
+    (b"vertex 01 0", 1),
+    (b"vertex -01 0", 1),
+    (b"vertex +1 0", 1),
+    (b"vertex 1x 0", 1),
+    (b"vertex - 0", 1),
+    (b"vertex  1 1", 1),
+    (b" vertex 1 1", 1),
+    (b"vertex 1 1 ", 1),
+    (b"vertex 1 1\r", 1),
+    (b"vertex\t1 1", 1),
+    (b"Vertex 1 1", 1),
+    (b"vertices 1 1", 1),
+    (b"vertex 99999 x", 1),
+    (b"sector 40000 128 floor4_8 CEIL3_5 160 0", 1),
+    (b"room 0 0 0 128 0 128 FLOOR4_8 CEIL3_5 STARTAN3 x", 1),
+    (b"drop", 1),
+    (b"drop vertex", 1),
+    (b"drop map 0", 1),
+    (b"drop vertex 0 0", 1),
+    (b"drop map 99999", 1),
+    (b"line 0 1 1 0 0 0 --", 1),
+    (b"line 0 1 1 0 0 - -", 1),
+    (b"line 0 1 1 0 0 0", 1),
+    (b"name", 1),
+    (b"name E1M1 E1M1", 1),
+    (b"split 0 0", 1),
+    (b"move-vertex 0 0", 1),
+    (b"hex VERTEXES", 1),
+    (b"check", 1),
+    (b"undo", 1),
+];
+
 #[test]
 fn lines_are_told_apart(rt: HostRuntime) -> Result<(), Fail> {
-    let lines: [(&[u8], u16); 72] = [
-        (b"name E1M1", 0),
-        (b"name E9M9", 0),
-        (b"name MAP01", 0),
-        (b"name MAP10", 0),
-        (b"name MAP99", 0),
-        (b"line 0 1 1 0 0 0 -", 0),
-        (b"set-line 0 0 1 1 0 0 0 -", 0),
-        (b"room 0 0 128 128 0 128 FLOOR4_8 CEIL3_5 STARTAN3 160", 0),
-        (b"drop vertex 0", 0),
-        (b"split 2 128 64", 0),
-        (b"name MAP00", 15),
-        (b"name E0M1", 15),
-        (b"name E1M0", 15),
-        (b"name E1M10", 15),
-        (b"name MAP1", 15),
-        (b"name MAP100", 15),
-        (b"name map01", 15),
-        (b"name E1M", 15),
-        (b"name M1E1", 15),
-        (b"name -", 15),
-        (b"name MAPAB", 15),
-        (b"sector 0 128 floor4_8 CEIL3_5 160 0 0", 15),
-        (b"sector 0 128 floor4_8 CEIL3_5 999 0 0", 15),
-        (b"room 0 0 0 128 0 128 floor CEIL3_5 STARTAN3 160", 15),
-        (b"vertex 16384 0", 2),
-        (b"sector 40000 128 FLOOR4_8 CEIL3_5 160 0 0", 2),
-        (b"sector 40000 128 floor4_8 CEIL3_5 160 0 0", 2),
-        (b"sector 0 99999 floor4_8 CEIL3_5 999 0 0", 2),
-        (b"line 0 1 1 0 0 0 -5", 2),
-        (b"drop sector 4096", 2),
-        (b"room 0 0 0 128 0 128 FLOOR4_8 CEIL3_5 STARTAN3 160", 2),
-        (b"room 0 0 128 0 0 128 FLOOR4_8 CEIL3_5 STARTAN3 160", 2),
-        (b"room 128 0 0 128 0 128 FLOOR4_8 CEIL3_5 STARTAN3 160", 2),
-        (b"room 0 128 128 0 0 128 FLOOR4_8 CEIL3_5 STARTAN3 160", 2),
-        (b"vertex 99999999999999999999999999 0", 2),
-        (b"vertex -99999999999999999999999999 0", 2),
-        (b"", 1),
-        (b"vertex", 1),
-        (b"vertex 1", 1),
-        (b"vertex 1 1 1", 1),
-        (b"vertex 00 0", 1),
-        (b"vertex -0 0", 1),
-        (b"vertex 01 0", 1),
-        (b"vertex -01 0", 1),
-        (b"vertex +1 0", 1),
-        (b"vertex 1x 0", 1),
-        (b"vertex - 0", 1),
-        (b"vertex  1 1", 1),
-        (b" vertex 1 1", 1),
-        (b"vertex 1 1 ", 1),
-        (b"vertex 1 1\r", 1),
-        (b"vertex\t1 1", 1),
-        (b"Vertex 1 1", 1),
-        (b"vertices 1 1", 1),
-        (b"vertex 99999 x", 1),
-        (b"sector 40000 128 floor4_8 CEIL3_5 160 0", 1),
-        (b"room 0 0 0 128 0 128 FLOOR4_8 CEIL3_5 STARTAN3 x", 1),
-        (b"drop", 1),
-        (b"drop vertex", 1),
-        (b"drop map 0", 1),
-        (b"drop vertex 0 0", 1),
-        (b"drop map 99999", 1),
-        (b"line 0 1 1 0 0 0 --", 1),
-        (b"line 0 1 1 0 0 - -", 1),
-        (b"line 0 1 1 0 0 0", 1),
-        (b"name", 1),
-        (b"name E1M1 E1M1", 1),
-        (b"split 0 0", 1),
-        (b"move-vertex 0 0", 1),
-        (b"hex VERTEXES", 1),
-        (b"check", 1),
-        (b"undo", 1),
-    ];
-    for (line, code) in lines {
+    for (line, code) in LINES {
         assert_eq!(rt; told(rt.alloc(), line), code, "{line:?}");
     }
     // a numeral may have any length that fits a line
@@ -233,255 +226,5 @@ fn lines_are_told_apart(rt: HostRuntime) -> Result<(), Fail> {
     assert_eq!(rt; told(rt.alloc(), long.as_slice()), 2, "a line of 256 bytes");
     long.push(b'1')?;
     assert_eq!(rt; told(rt.alloc(), long.as_slice()), 1, "a line of 257 bytes");
-    Ok(())
-}
-
-/// Whether the lines are answered as they should be, from the empty map on; the map that they leave.
-fn drawn(rt: &impl Abort, alloc: Global, lines: &[(&[u8], Result<u32, u16>)]) -> Map {
-    let mut map = Map::new(alloc);
-    for (line, want) in lines {
-        let got = answer(&mut map, *line, AMPLE);
-        assert_eq!(rt; got, *want, "{line:?}");
-    }
-    map
-}
-
-/// The first commands on a map.
-#[test]
-fn draws_vertices_and_things(rt: HostRuntime) -> Result<(), Fail> {
-    let map = drawn(
-        &rt,
-        rt.alloc(),
-        &[
-            (b"vertex -16384 16383", Ok(0)),
-            (b"vertex 16384 0", Err(2)),
-            (b"vertex -16384 16383", Err(10)),
-            (b"vertex 00 0", Err(1)),
-            (b"name MAP00", Err(15)),
-            (b"name E1M1", Ok(0)),
-            (b"thing 64 64 90 1 7", Ok(0)),
-            (b"set-thing 1 64 64 90 1 7", Err(7)),
-            (b"set-thing 0 0 0 0 1 7", Ok(0)),
-            (b"drop thing 1", Err(7)),
-            (b"drop thing 0", Ok(0)),
-            (b"move-vertex 1 0 0", Err(3)),
-            (b"move-vertex 0 5 5", Ok(0)),
-            (b"move-vertex 0 5 5", Ok(0)),
-        ],
-    );
-    assert_eq!(rt; map.vertex(0), Some(Vertex { x: 5, y: 5 }));
-    assert_eq!(rt; map.count(Kind::Thing), 0);
-    assert_eq!(rt; map.name(), Name8 { bytes: *b"E1M1\0\0\0\0" });
-    Ok(())
-}
-
-/// A room, and one of its walls cut in two.
-#[test]
-fn draws_a_room_and_splits_a_wall(rt: HostRuntime) -> Result<(), Fail> {
-    let map = drawn(
-        &rt,
-        rt.alloc(),
-        &[
-            (b"room 0 0 128 128 0 128 FLOOR4_8 CEIL3_5 STARTAN3 160", Ok(0)),
-            (b"room 0 0 128 128 0 128 FLOOR4_8 CEIL3_5 STARTAN3 160", Err(10)),
-            (b"split 2 128 64", Ok(4)),
-            (b"split 9 0 0", Err(6)),
-            (b"split 9 1 1", Err(6)),
-            (b"split 0 0 0", Err(10)),
-        ],
-    );
-    let wall = |v1: u16, v2: u16, right: u16| Line { v1, v2, flags: 1, special: 0, tag: 0, right, left: NO_SIDE };
-    let lines = [wall(0, 1, 0), wall(1, 2, 1), wall(2, 4, 2), wall(3, 0, 3), wall(4, 3, 2)];
-    assert_eq!(rt; map.count(Kind::Line), 5);
-    for (n, line) in lines.iter().enumerate() {
-        assert_eq!(rt; map.line(n as u32), Some(*line), "line {n}");
-    }
-    let vertices = [(0, 0), (0, 128), (128, 128), (128, 0), (128, 64)];
-    assert_eq!(rt; map.count(Kind::Vertex), 5);
-    for (n, (x, y)) in vertices.iter().enumerate() {
-        assert_eq!(rt; map.vertex(n as u32), Some(Vertex { x: *x, y: *y }), "vertex {n}");
-    }
-    let nothing = Name8 { bytes: *b"-\0\0\0\0\0\0\0" };
-    let side = Side { x_offset: 0, y_offset: 0, upper: nothing, lower: nothing, middle: Name8 { bytes: *b"STARTAN3" }, sector: 0 };
-    assert_eq!(rt; map.count(Kind::Side), 4);
-    for n in 0..4 {
-        assert_eq!(rt; map.side(n), Some(side), "side {n}");
-    }
-    let sector = Sector {
-        floor: 0,
-        ceiling: 128,
-        floor_name: Name8 { bytes: *b"FLOOR4_8" },
-        ceiling_name: Name8 { bytes: *b"CEIL3_5\0" },
-        light: 160,
-        special: 0,
-        tag: 0,
-    };
-    assert_eq!(rt; map.sector(0), Some(sector));
-    Ok(())
-}
-
-/// Two rooms with a two-sided line between them.
-#[test]
-fn draws_two_rooms(rt: HostRuntime) -> Result<(), Fail> {
-    let map = drawn(
-        &rt,
-        rt.alloc(),
-        &[
-            (b"room 0 0 128 128 0 128 FLOOR4_8 CEIL3_5 STARTAN3 160", Ok(0)),
-            (b"sector 0 128 FLOOR4_8 CEIL3_5 160 0 0", Ok(1)),
-            (b"side 0 0 - - - 1", Ok(4)),
-            (b"side 0 0 - - STARTAN3 1", Ok(5)),
-            (b"set-side 2 0 0 - - - 0", Ok(2)),
-            (b"vertex 256 128", Ok(4)),
-            (b"vertex 256 0", Ok(5)),
-            (b"set-line 2 2 3 4 0 0 2 4", Ok(2)),
-            (b"line 2 4 1 0 0 5 -", Ok(4)),
-            (b"line 4 5 1 0 0 5 -", Ok(5)),
-            (b"line 5 3 1 0 0 5 -", Ok(6)),
-            (b"set-sector 1 0 96 FLOOR4_8 CEIL3_5 160 0 0", Ok(1)),
-            (b"set-sector 2 0 96 FLOOR4_8 CEIL3_5 160 0 0", Err(4)),
-            (b"side 0 0 - - - 2", Err(4)),
-            (b"set-side 9 0 0 - - - 0", Err(5)),
-            (b"set-side 9 0 0 - - - 2", Err(4)),
-            (b"set-line 9 2 3 4 0 0 2 4", Err(6)),
-            (b"set-line 9 2 9 4 0 0 2 4", Err(3)),
-            (b"set-line 2 2 3 4 0 0 2 9", Err(5)),
-            (b"drop side 4", Err(8)),
-            (b"drop side 0", Err(8)),
-            (b"drop sector 1", Err(8)),
-            (b"drop sector 2", Err(4)),
-            (b"drop line 7", Err(6)),
-            (b"drop side 6", Err(5)),
-            (b"drop vertex 6", Err(3)),
-        ],
-    );
-    assert_eq!(rt; map.line(2), Some(Line { v1: 2, v2: 3, flags: 4, special: 0, tag: 0, right: 2, left: 4 }));
-    Ok(())
-}
-
-/// A line without its vertices, of one vertex, or two-sided without a left side.
-#[test]
-fn refuses_lines(rt: HostRuntime) -> Result<(), Fail> {
-    let map = drawn(
-        &rt,
-        rt.alloc(),
-        &[
-            (b"vertex 0 0", Ok(0)),
-            (b"vertex 64 0", Ok(1)),
-            (b"sector 0 128 FLOOR4_8 CEIL3_5 160 0 0", Ok(0)),
-            (b"side 0 0 - - STARTAN3 0", Ok(0)),
-            (b"line 0 1 4 0 0 0 -", Err(11)),
-            (b"line 0 0 1 0 0 0 -", Err(9)),
-            (b"line 0 0 4 0 0 0 -", Err(9)),
-            (b"line 0 2 1 0 0 0 -", Err(3)),
-            (b"line 0 1 1 0 0 1 -", Err(5)),
-            (b"line 0 1 1 0 0 0 1", Err(5)),
-            (b"line 0 1 1 0 0 0 -", Ok(0)),
-            (b"set-line 0 0 1 1 0 0 0 0", Ok(0)),
-        ],
-    );
-    assert_eq!(rt; map.count(Kind::Line), 1);
-    Ok(())
-}
-
-/// What is taken out lowers each greater number by one.
-#[test]
-fn lowers_the_numbers_behind_a_drop(rt: HostRuntime) -> Result<(), Fail> {
-    let map = drawn(
-        &rt,
-        rt.alloc(),
-        &[
-            (b"vertex 0 0", Ok(0)),
-            (b"vertex 64 0", Ok(1)),
-            (b"vertex 128 0", Ok(2)),
-            (b"sector 0 128 FLOOR4_8 CEIL3_5 160 0 0", Ok(0)),
-            (b"sector 0 128 FLOOR4_8 CEIL3_5 160 0 0", Ok(1)),
-            (b"side 0 0 - - STARTAN3 1", Ok(0)),
-            (b"side 0 0 - - STARTAN3 1", Ok(1)),
-            (b"line 1 2 1 0 0 1 -", Ok(0)),
-            (b"drop vertex 1", Err(8)),
-            (b"drop vertex 0", Ok(0)),
-            (b"drop side 0", Ok(0)),
-            (b"drop sector 0", Ok(0)),
-        ],
-    );
-    assert_eq!(rt; map.line(0), Some(Line { v1: 0, v2: 1, flags: 1, special: 0, tag: 0, right: 0, left: NO_SIDE }));
-    assert_eq!(rt; map.side(0).map(|side| side.sector), Some(0));
-    Ok(())
-}
-
-/// Lines of the greatest length, and one beyond.
-#[test]
-fn keeps_lines_short(rt: HostRuntime) -> Result<(), Fail> {
-    let map = drawn(
-        &rt,
-        rt.alloc(),
-        &[
-            (b"vertex -16384 0", Ok(0)),
-            (b"vertex 16383 0", Ok(1)),
-            (b"vertex -12000 -12000", Ok(2)),
-            (b"vertex 11169 11169", Ok(3)),
-            (b"vertex 11170 11170", Ok(4)),
-            (b"sector 0 128 FLOOR4_8 CEIL3_5 160 0 0", Ok(0)),
-            (b"side 0 0 - - STARTAN3 0", Ok(0)),
-            (b"line 0 1 1 0 0 0 -", Ok(0)),
-            (b"line 2 3 1 0 0 0 -", Ok(1)),
-            (b"line 2 4 1 0 0 0 -", Err(13)),
-            (b"set-line 1 2 4 1 0 0 0 -", Err(13)),
-            (b"move-vertex 3 11171 11170", Err(13)),
-            (b"move-vertex 3 11170 11170", Err(10)),
-            (b"split 0 0 1", Ok(2)),
-            (b"split 1 11171 11170", Err(13)),
-            (b"split 1 16383 16383", Err(13)),
-        ],
-    );
-    assert_eq!(rt; map.count(Kind::Line), 3);
-    Ok(())
-}
-
-/// A table's limit.
-#[test]
-fn tables_have_limits(rt: HostRuntime) -> Result<(), Fail> {
-    let mut map = Map::new(rt.alloc());
-    for _ in 0..4096 {
-        assert!(rt; answer(&mut map, b"sector 0 128 FLOOR4_8 CEIL3_5 160 0 0", AMPLE).is_ok());
-    }
-    for (line, count) in [(b"thing 64 64 90 1 7".as_slice(), 32767), (b"side 0 0 - - STARTAN3 0", 32767)] {
-        for n in 0..count {
-            assert_eq!(rt; answer(&mut map, line, AMPLE), Ok(n), "{line:?}");
-        }
-        assert_eq!(rt; answer(&mut map, line, AMPLE), Err(12), "{line:?}");
-    }
-    assert_eq!(rt; answer(&mut map, b"sector 0 128 FLOOR4_8 CEIL3_5 160 0 0", AMPLE), Err(12));
-    assert_eq!(rt; answer(&mut map, b"room 0 0 128 128 0 128 FLOOR4_8 CEIL3_5 STARTAN3 160", AMPLE), Err(12));
-    Ok(())
-}
-
-/// A body of 51 bytes has room for seven vertices; what doesn't lengthen it is never refused for it.
-#[test]
-fn bodies_have_a_limit(rt: HostRuntime) -> Result<(), Fail> {
-    let mut map = Map::new(rt.alloc());
-    for n in 0..7 {
-        let line = format!(in rt.alloc(); "vertex {n} 0")?;
-        assert_eq!(rt; answer(&mut map, line.as_bytes(), 51), Ok(n));
-    }
-    assert_eq!(rt; answer(&mut map, b"vertex 7 0", 51), Err(14));
-    assert_eq!(rt; answer(&mut map, b"vertex 6 0", 51), Err(10));
-    assert_eq!(rt; answer(&mut map, b"move-vertex 6 9 9", 51), Ok(6));
-    assert_eq!(rt; answer(&mut map, b"drop vertex 6", 51), Ok(6));
-    Ok(())
-}
-
-/// The change comes with `commit`, and not before.
-#[test]
-fn commits_what_is_ready(rt: HostRuntime) -> Result<(), Fail> {
-    let mut map = Map::new(rt.alloc());
-    let command = parse(b"vertex 3 4")?;
-    assert!(rt; map.body_len() <= AMPLE);
-    let change = ready(&mut map, &command, AMPLE)?;
-    assert_eq!(rt; map.count(Kind::Vertex), 0);
-    assert_eq!(rt; commit(&mut map, change), 0);
-    assert_eq!(rt; map.vertex(0), Some(Vertex { x: 3, y: 4 }));
-    assert_eq!(rt; CommandError::OutOfMemory.code(), 31);
     Ok(())
 }

@@ -8,6 +8,8 @@ mod commands;
 #[cfg(test)]
 mod disk;
 #[cfg(test)]
+mod drawing;
+#[cfg(test)]
 mod editor;
 #[cfg(test)]
 mod journal;
