@@ -15,6 +15,7 @@ bin/leveled: FORCE
 	cp crates/leveled/out/leveled bin/leveled
 
 demo: bin/leveled
+	bin/leveled scratch < examples/first_lines.txt
 	bin/leveled scratch < $(EXAMPLE)
 
 test:
