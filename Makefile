@@ -4,7 +4,7 @@
 PREFIX ?= /usr/local
 EXAMPLE ?= examples/two_rooms.txt
 
-.PHONY: all demo test install clean
+.PHONY: all demo test install uninstall clean distclean
 
 all: bin/leveled
 
@@ -25,7 +25,14 @@ install: bin/leveled
 	install -d $(DESTDIR)$(PREFIX)/bin
 	install -m 755 bin/leveled $(DESTDIR)$(PREFIX)/bin/leveled
 
+uninstall:
+	rm -f $(DESTDIR)$(PREFIX)/bin/leveled
+
+# the results of the proofs stay, so that the next build is quick
 clean:
-	rm -rf bin crates/*/out
+	rm -rf bin
+
+distclean: clean
+	rm -rf crates/*/out
 
 FORCE:

@@ -1,49 +1,131 @@
 //! The program `leveled`: hands its words to `request`, and what they ask for to `perform`.
 #![tactic(auto)]
 
+use clap::Error;
+use clap::error::ErrorKind;
 use lv_editor::{RequestError, perform, request};
+use std::env::{self, Env, FillError};
+use std::io::{self, BufWriter};
 use std::process::ExitCode;
-use std::{env, io};
+
+/// The status where what was asked for is done.
+const DONE: u8 = 0;
+
+/// The status of a request that was refused.
+const REFUSED: u8 = 1;
 
 /// The status of words that are no request.
-const REFUSED: u8 = 2;
+const NO_REQUEST: u8 = 2;
 
-/// Says why the words are no request. Help and the version are asked for: they go to standard
-/// output.
-fn refuse(rt: &HostRuntime, error: RequestError) -> io::Result<ExitCode> {
-    match error {
-        RequestError::Words(error) => {
-            error.print(rt)?;
-            if !error.use_stderr() {
-                return Ok(ExitCode::SUCCESS);
-            }
-        }
-        error => eprintln!(rt; "leveled: {error}")?,
-    }
-    Ok(ExitCode::from(REFUSED))
+/// Says that memory is wanting, whatever becomes of standard error.
+fn complain_of_memory(rt: &HostRuntime) {
+    let _ = eprintln!(rt; "leveled: 31 Memory");
 }
 
-fn main(rt: HostRuntime) -> io::Result<ExitCode> {
-    let alloc = rt.alloc();
-    let words: Vec<String> = match env::args(&rt) {
-        Ok(words) => words.collect(alloc)?,
-        Err(error) => {
-            eprintln!(rt; "leveled: an argument can't be read: {error}")?;
-            return Ok(ExitCode::from(REFUSED));
+/// The place of the first word that is no text; that of the program's name is 0. A word of more
+/// than 4,096 bytes ends the search.
+fn place_of_no_text(rt: &HostRuntime) -> Option<usize> {
+    let mut bytes = [0; 4096];
+    for place in 0..usize::MAX {
+        match rt.arg(place, &mut bytes) {
+            Ok(len) => {
+                if str::from_utf8(&bytes[..len]).is_err() {
+                    return Some(place);
+                }
+            }
+            Err(FillError::NotPresent) | Err(FillError::TooLong) => return None,
         }
-    };
-    let texts: Vec<&str> = words.iter().map(|word| word.as_str()).collect(alloc)?;
-    match request(alloc, texts.as_slice()) {
-        Ok(request) => {
-            let status = perform(
-                &rt,
-                &request,
-                &mut rt.stdin(),
-                rt.stdout(),
-                &mut rt.stderr(),
-            );
-            Ok(ExitCode::from(status))
-        }
-        Err(error) => refuse(&rt, error),
     }
+    None
+}
+
+/// Says why the words can't be read, and answers the status.
+fn refuse_unread(rt: &HostRuntime, error: &io::Error) -> u8 {
+    if error.kind() == io::ErrorKind::OutOfMemory {
+        complain_of_memory(rt);
+        return REFUSED;
+    }
+    let _ = match place_of_no_text(rt) {
+        Some(place) => eprintln!(rt; "leveled: word {place} is no text"),
+        None => eprintln!(rt; "leveled: a word is no text"),
+    };
+    NO_REQUEST
+}
+
+/// Prints what clap answers to the words, and answers the status. Help and the version are asked
+/// for: they go to standard output.
+fn answer_words(rt: &HostRuntime, error: &Error) -> u8 {
+    if error.kind() == ErrorKind::OutOfMemory {
+        complain_of_memory(rt);
+        return NO_REQUEST;
+    }
+    let printed = error.print(rt);
+    if error.use_stderr() {
+        return NO_REQUEST;
+    }
+    match printed {
+        Ok(()) => DONE,
+        Err(_) => {
+            let _ = eprintln!(rt; "leveled: 38 WriterFailed");
+            REFUSED
+        }
+    }
+}
+
+/// Says why the words are no request, and answers the status.
+fn refuse(rt: &HostRuntime, error: &RequestError) -> u8 {
+    match error {
+        RequestError::Words(error) => answer_words(rt, error),
+        RequestError::Memory => {
+            complain_of_memory(rt);
+            NO_REQUEST
+        }
+        RequestError::Number => {
+            let _ = eprintln!(rt; "leveled: {error}");
+            NO_REQUEST
+        }
+    }
+}
+
+/// Does what the words ask for, and answers the status. `help` alone asks for what `--help` does.
+fn answer(rt: &HostRuntime, words: &[&str]) -> u8 {
+    let words = match words {
+        [_, "help"] => ["leveled", "--help"].as_slice(),
+        words => words,
+    };
+    match request(rt.alloc(), words) {
+        Ok(request) => {
+            let Ok(mut out) = BufWriter::new(rt.alloc(), rt.stdout()) else {
+                complain_of_memory(rt);
+                return REFUSED;
+            };
+            perform(rt, &request, &mut rt.stdin(), &mut out, &mut rt.stderr())
+        }
+        Err(error) => refuse(rt, &error),
+    }
+}
+
+/// Reads the words, and does what they ask for.
+fn run(rt: &HostRuntime) -> u8 {
+    let read = match env::args(rt) {
+        Ok(read) => read,
+        Err(error) => return refuse_unread(rt, &error),
+    };
+    let Ok(words) = read.collect::<Vec<String>>(rt.alloc()) else {
+        complain_of_memory(rt);
+        return REFUSED;
+    };
+    let Ok(texts) = words
+        .iter()
+        .map(|word| word.as_str())
+        .collect::<Vec<&str>>(rt.alloc())
+    else {
+        complain_of_memory(rt);
+        return REFUSED;
+    };
+    answer(rt, texts.as_slice())
+}
+
+fn main(rt: HostRuntime) -> ExitCode {
+    ExitCode::from(run(&rt))
 }

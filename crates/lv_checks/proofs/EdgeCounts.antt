@@ -10,11 +10,11 @@ use Rattle.std.proofs.lemmas.List.Sums.{sum_by-append, sum_by-cons, count_by-le-
 use Rattle.std.proofs.lemmas.Option.{slice_get_within, get_or_from_slice_get}
 use Rattle.lv_lumps.specs.declared.records.Line.{Line}
 use Rattle.lv_maptables.specs.Tables.{Tables}
-use Rattle.lv_maptables.specs.Faults.{has_left}
+use Rattle.lv_lumps.specs.Sides.{has_left}
 use Rattle.lv_maptables.specs.WellFormed.{WellFormed, HasEnds, HasSides}
 use Rattle.lv_checks.specs.declared.corners.Degrees.{Degrees}
 use Rattle.lv_checks.specs.Corners.{Edge, edges_of, edges, leaves, reaches}
-use Rattle.lv_checks.specs.Textures.{side_at, some_side}
+use Rattle.lv_checks.specs.Textures.{side_in, some_side}
 use Rattle.lv_checks.specs.Tallies.{HasRoom, AddsEdges, IsTally}
 use Rattle.lv_checks.proofs.CornerList.{ClosedOutside}
 use Rattle.lv_checks.proofs.InOrder.{each-flat_map, each-weaker}
@@ -52,8 +52,8 @@ short x y false = omega arith
 
 edges-few : (m : Tables) (l : Line) → length (edges_of m l) ≤ 2
 edges-few m l =
-    let right : Edge = record { sector = (side_at m l.right).sector; from = l.v1; to = l.v2 } in
-    let left : Edge = record { sector = (side_at m l.left).sector; from = l.v2; to = l.v1 } in
+    let right : Edge = record { sector = (side_in m l.right).sector; from = l.v1; to = l.v2 } in
+    let left : Edge = record { sector = (side_in m l.left).sector; from = l.v2; to = l.v1 } in
     short right left (has_left l)
 
 all_edges-few : (m : Tables) (ls : List Line) → length (flat_map (edges_of m) ls) ≤ 2 * length ls
@@ -84,8 +84,8 @@ line-in_map m w l ends sides = (
   left (has_left l) (λ h. w.side_sectors l.left some_side (sides.left (has_left-true l h))),
 )
   where
-    left : (b : Bool) → (b ≡ true → (side_at m l.left).sector < length m.sectors)
-        → AllByRecursion (InMap m) (cond b ((record { sector = (side_at m l.left).sector; from = l.v2; to = l.v1 }) ∷ []) [])
+    left : (b : Bool) → (b ≡ true → (side_in m l.left).sector < length m.sectors)
+        → AllByRecursion (InMap m) (cond b ((record { sector = (side_in m l.left).sector; from = l.v2; to = l.v1 }) ∷ []) [])
     left true h = (record { sector = h refl; from = ends.v2; to = ends.v1 }, tt)
     left false h = tt
 

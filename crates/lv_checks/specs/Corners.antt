@@ -1,12 +1,12 @@
 -- Where a map's sectors aren't closed: a sector's edges go round it, so each vertex is left as often as it is reached.
 use Rattle.std.specs.Prelude.{ℕ, Bool, ◌&&◌, ◌==◌, not, if◌then◌else◌, List, [], ◌∷◌, map, filter, count_by, flat_map}
 use Rattle.lv_lumps.specs.declared.records.Line.{Line}
-use Rattle.lv_maptables.specs.Faults.{has_left}
+use Rattle.lv_lumps.specs.Sides.{has_left}
 use Rattle.lv_maptables.specs.Tables.{Tables}
 use Rattle.lv_checks.specs.declared.finding.Finding.{Finding}
 use Rattle.lv_checks.specs.declared.finding.Finding.TheVariants.{SectorOpen}
 use Rattle.lv_checks.specs.Unused.{numbers_of}
-use Rattle.lv_checks.specs.Textures.{side_at}
+use Rattle.lv_checks.specs.Textures.{side_in}
 
 -- an edge of a sector, which is on its right
 pub record Edge : Type 0 where
@@ -17,8 +17,8 @@ pub record Edge : Type 0 where
 -- a line's edges: its right side's along the line, its left side's against it
 abbrev pub edges_of : Tables → Line → List Edge
 edges_of m l =
-    (record { sector = (side_at m l.right).sector; from = l.v1; to = l.v2 })
-    ∷ (if has_left l then (record { sector = (side_at m l.left).sector; from = l.v2; to = l.v1 }) ∷ [] else [])
+    (record { sector = (side_in m l.right).sector; from = l.v1; to = l.v2 })
+    ∷ (if has_left l then (record { sector = (side_in m l.left).sector; from = l.v2; to = l.v1 }) ∷ [] else [])
 
 -- the edges of all sectors
 abbrev pub edges : Tables → List Edge

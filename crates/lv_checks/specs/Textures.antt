@@ -1,13 +1,12 @@
 -- The textures that a map's sides miss: those that can be seen, and have no name.
 use Rattle.std.specs.Prelude.{ℕ, Bool, true, false, ◌&&◌, not, if◌then◌else◌, List, [], ◌∷◌, ◌++◌, map, filter, get_or, pos, int_lt, codes, bytes_eq}
-use Rattle.lv_lumps.specs.Names.{name_of, name_text}
 use Rattle.lv_lumps.specs.declared.records.Name8.{Name8}
 use Rattle.lv_lumps.specs.declared.records.Line.{Line}
 use Rattle.lv_lumps.specs.declared.records.Side.{Side}
 use Rattle.lv_lumps.specs.declared.records.Sector.{Sector}
-use Rattle.lv_maptables.specs.Faults.{has_left}
 use Rattle.lv_maptables.specs.Tables.{Tables}
-use Rattle.lv_maptables.specs.WellFormed.{is_two_sided}
+use Rattle.lv_lumps.specs.Names.{name_of, name_text}
+use Rattle.lv_lumps.specs.Sides.{has_left, is_two_sided}
 use Rattle.lv_checks.specs.declared.finding.Texture.{Texture}
 use Rattle.lv_checks.specs.declared.finding.Texture.TheVariants.{Upper, Lower, Middle}
 use Rattle.lv_checks.specs.declared.finding.Finding.{Finding}
@@ -35,12 +34,12 @@ some_sector =
     }
 
 -- the side of a number
-abbrev pub side_at : Tables → ℕ → Side
-side_at m n = get_or m.sides n some_side
+abbrev pub side_in : Tables → ℕ → Side
+side_in m n = get_or m.sides n some_side
 
 -- the sector that the side of a number faces
 abbrev pub sector_of : Tables → ℕ → Sector
-sector_of m side = get_or m.sectors (side_at m side).sector some_sector
+sector_of m side = get_or m.sectors (side_in m side).sector some_sector
 
 -- whether a name stands for no texture
 abbrev pub is_missing : Name8 → Bool
@@ -67,18 +66,18 @@ lower_shows s t = int_lt s.floor t.floor
 
 -- whether the side `own` misses its upper texture before the side `behind`
 abbrev pub misses_upper : Tables → ℕ → ℕ → Bool
-misses_upper m own behind = upper_shows (sector_of m own) (sector_of m behind) && is_missing (side_at m own).upper
+misses_upper m own behind = upper_shows (sector_of m own) (sector_of m behind) && is_missing (side_in m own).upper
 
 -- whether the side `own` misses its lower texture before the side `behind`
 abbrev pub misses_lower : Tables → ℕ → ℕ → Bool
-misses_lower m own behind = lower_shows (sector_of m own) (sector_of m behind) && is_missing (side_at m own).lower
+misses_lower m own behind = lower_shows (sector_of m own) (sector_of m behind) && is_missing (side_in m own).lower
 
 -- Whether one side of a line misses a texture: the middle where the line isn't two-sided, the upper and the lower where
 -- it is.
 abbrev pub misses : Tables → Line → Bool → Texture → Bool
 misses m l left Upper = is_two_sided l && misses_upper m (own_side l left) (side_behind l left)
 misses m l left Lower = is_two_sided l && misses_lower m (own_side l left) (side_behind l left)
-misses m l left Middle = not (is_two_sided l) && is_missing (side_at m (own_side l left)).middle
+misses m l left Middle = not (is_two_sided l) && is_missing (side_in m (own_side l left)).middle
 
 -- a side's textures, in the order of their findings
 abbrev pub textures : List Texture

@@ -7,7 +7,6 @@ ghost use Rattle.lv_checks.specs.Tallies.{corner_cmp, degrees_of, HasRoom, Leave
 
 use crate::error::CheckError;
 use crate::finding::Finding;
-use crate::unused::has_left;
 use lv_lumps::Line;
 use lv_maptables::{Kind, Map};
 use std::alloc::Global;
@@ -83,7 +82,7 @@ fn count_line(
 {
     let right = map.side(u32::from(line.right)).unwrap();
     count_edge(degrees, right.sector, line.v1, line.v2)?;
-    if has_left(line) {
+    if line.has_left() {
         let left = map.side(u32::from(line.left)).unwrap();
         count_edge(degrees, left.sector, line.v2, line.v1)?;
     }

@@ -1,27 +1,16 @@
 ghost use Rattle.std.specs.Prelude.{◌≡◌, ◌<◌, ◌++◌, ◌&&◌, not, length, true, OnOk, int_lt};
-ghost use Rattle.lv_maptables.specs.Faults.{has_left};
-ghost use Rattle.lv_maptables.specs.WellFormed.{WellFormed, HasSides, HasSector, is_two_sided};
-ghost use Rattle.lv_checks.specs.Textures.{is_missing, is_sky, upper_shows, lower_shows, side_at, sector_of, own_side, side_behind, misses_upper, misses_lower, misses, side_misses, line_misses};
+ghost use Rattle.lv_lumps.specs.Sides.{has_left, is_two_sided};
+ghost use Rattle.lv_maptables.specs.WellFormed.{WellFormed, HasSides, HasSector};
+ghost use Rattle.lv_checks.specs.Textures.{is_missing, is_sky, upper_shows, lower_shows, side_in, sector_of, own_side, side_behind, misses_upper, misses_lower, misses, side_misses, line_misses};
 ghost use Rattle.lv_checks.specs.Findings.{missing_textures};
 
 use crate::error::CheckError;
 use crate::finding::{Finding, Texture};
-use crate::unused::has_left;
 use lv_lumps::{Line, Name8, Sector, Side};
 use lv_maptables::{Kind, Map};
 
-/// The flag of a line that can be seen through: it has a side on its left.
-const TWO_SIDED: u16 = 4;
-
 /// A side's textures, in the order of their findings.
 const TEXTURES: [Texture; 3] = [Texture::Upper, Texture::Lower, Texture::Middle];
-
-/// Whether the line's flags say that it has two sides.
-fn is_two_sided(line: &Line) -> bool
-    ensures { result ≡ is_two_sided line.now }
-{
-    line.flags & TWO_SIDED != 0
-}
 
 /// Whether the name stands for no texture.
 fn is_missing(name: &Name8) -> bool
@@ -38,9 +27,9 @@ fn is_sky(sector: &Sector) -> bool
 }
 
 /// The side of the number.
-fn side_at(map: &Map, n: u16) -> Side
+fn side_in(map: &Map, n: u16) -> Side
     requires { n < length map.now.tables.sides }
-    ensures value { result ≡ side_at map.now.tables n }
+    ensures value { result ≡ side_in map.now.tables n }
     ensures sector { HasSector map.now.tables.sectors result }
 {
     map.side(u32::from(n)).unwrap()
@@ -51,7 +40,7 @@ fn sector_of(map: &Map, side: u16) -> Sector
     requires { side < length map.now.tables.sides }
     ensures { result ≡ sector_of map.now.tables side }
 {
-    let sector = side_at(map, side).sector;
+    let sector = side_in(map, side).sector;
     map.sector(u32::from(sector)).unwrap()
 }
 
@@ -91,7 +80,7 @@ fn misses_upper(map: &Map, own: u16, behind: u16) -> bool
     ensures { result ≡ misses_upper map.now.tables own behind }
 {
     upper_shows(&sector_of(map, own), &sector_of(map, behind))
-        && is_missing(&side_at(map, own).upper)
+        && is_missing(&side_in(map, own).upper)
 }
 
 /// Whether the side `own` misses its lower texture before the side `behind`.
@@ -101,7 +90,7 @@ fn misses_lower(map: &Map, own: u16, behind: u16) -> bool
     ensures { result ≡ misses_lower map.now.tables own behind }
 {
     lower_shows(&sector_of(map, own), &sector_of(map, behind))
-        && is_missing(&side_at(map, own).lower)
+        && is_missing(&side_in(map, own).lower)
 }
 
 /// Whether one side of the line misses the texture.
@@ -113,9 +102,9 @@ fn misses(map: &Map, line: &Line, left: bool, texture: Texture) -> bool
     let own = own_side(line, left);
     let behind = side_behind(line, left);
     match texture {
-        Texture::Upper => is_two_sided(line) && misses_upper(map, own, behind),
-        Texture::Lower => is_two_sided(line) && misses_lower(map, own, behind),
-        Texture::Middle => !is_two_sided(line) && is_missing(&side_at(map, own).middle),
+        Texture::Upper => line.is_two_sided() && misses_upper(map, own, behind),
+        Texture::Lower => line.is_two_sided() && misses_lower(map, own, behind),
+        Texture::Middle => !line.is_two_sided() && is_missing(&side_in(map, own).middle),
     }
 }
 
@@ -151,7 +140,7 @@ fn list_line(map: &Map, n: u32, line: &Line, found: &mut Vec<Finding>) -> Result
         (found.new.items ≡ found.old.items ++ line_misses map.now.tables (n, line.now)) }
 {
     list_side(map, n, line, false, found)?;
-    if has_left(line) {
+    if line.has_left() {
         list_side(map, n, line, true, found)?;
     }
     Ok(())

@@ -1,23 +1,12 @@
 ghost use Rattle.std.specs.Prelude.{◌≡◌, ◌++◌, ◌<◌, ◌≤◌, ◌^◌, vec_len, length, IfOk, OnOk};
-ghost use Rattle.lv_maptables.specs.Faults.{has_left, uses_vertex, uses_side, in_sector};
+ghost use Rattle.lv_maptables.specs.Faults.{uses_vertex, uses_side, in_sector};
 ghost use Rattle.lv_checks.specs.Unused.{unused_vertices, unused_sides, unused_sectors};
 ghost use Rattle.lv_checks.specs.Tallies.{Marks, unmarked};
 
 use crate::error::CheckError;
 use crate::finding::Finding;
-use lv_lumps::Line;
 use lv_maptables::{Kind, Map};
 use std::alloc::Global;
-
-/// What stands for a left side that a line doesn't have.
-const NO_SIDE: u16 = 0xffff;
-
-/// Whether the line has a left side.
-pub(crate) fn has_left(line: &Line) -> bool
-    ensures { result ≡ has_left line.now }
-{
-    line.left != NO_SIDE
-}
 
 /// Which vertices a line ends at.
 fn used_vertices(alloc: Global, map: &Map) -> Result<Vec<bool>, CheckError>
@@ -44,7 +33,7 @@ fn used_sides(alloc: Global, map: &Map) -> Result<Vec<bool>, CheckError>
     for n in 0..map.count(Kind::Line) {
         let line = map.line(n).unwrap();
         used[usize::from(line.right)] = true;
-        if has_left(&line) {
+        if line.has_left() {
             used[usize::from(line.left)] = true;
         }
     }

@@ -11,8 +11,9 @@ use Rattle.std.proofs.lemmas.Bool.Decides.{nat_tests}
 use Rattle.std.proofs.lemmas.Fmt.{first_decimal}
 use Rattle.std.proofs.lemmas.Int.{ints}
 use Rattle.lv_lumps.specs.declared.records.Name8.{Name8}
-use Rattle.lv_maptables.specs.Tables.{no_side}
-use Rattle.lv_maptables.specs.Ranges.{IsBetween, IsNamed, is_digit, is_nonzero_digit, is_marker, is_name, is_name_byte, name_text}
+use Rattle.lv_lumps.specs.Drawing.{IsBetween}
+use Rattle.lv_lumps.specs.Names.{IsNamed, is_digit, is_marker, is_name, is_name_byte, is_nonzero_digit, name_text}
+use Rattle.lv_lumps.specs.Sides.{no_side}
 use Rattle.lv_commands.specs.Spelling.{left_word}
 use Rattle.lv_commands.specs.Words.{is_natural, is_numeral, is_printable, is_word}
 use Rattle.lv_commands.specs.Places.{Place, Number, NumberOrNone, Named, first_of, place_fault, places_fault}

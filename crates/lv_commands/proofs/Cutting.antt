@@ -1,20 +1,24 @@
 -- Cutting a line in two: nothing speaks against its halves.
-use Rattle.std.proofs.Common.{◌≡◌, ◌≢◌, ℕ, ◌+◌, Bool, true, false, ◌&&◌, not, List, [], ◌∷◌, ◌++◌, length, None, Some, Option, refl, sym, subst, ◌∙◌, ap, arith, length-append, nat_eq, nat_lt}
+use Rattle.std.proofs.Common.{◌≡◌, ◌≢◌, ℕ, ◌+◌, ◌<◌, ◌≤◌, ◌⊎◌, inl, inr, Bool, true, false, cond, ◌&&◌, not, Result, Ok, Err, List, [], ◌∷◌, ◌++◌, length, None, Some, Option, refl, sym, subst, ◌∙◌, ap, arith, length-append, get_or, nat_eq, nat_lt}
 use Rattle.std.specs.Prelude.{◌||◌, IfSome, slice_get}
 use Rattle.std.proofs.lemmas.Bool.{both_ways, eq-eqb, eqb-true, false_from_ne_true, or_parts}
+use Rattle.std.proofs.lemmas.Bool.Decides.{nat_tests}
 use Rattle.std.proofs.lemmas.List.{length-set}
-use Rattle.std.proofs.lemmas.Option.{get_or_from_slice_get}
+use Rattle.std.proofs.lemmas.Option.{get_or_from_slice_get, slice_get_cases, slice_get_within}
 use Rattle.lv_lumps.specs.declared.records.Line.{Line}
 use Rattle.lv_lumps.specs.declared.records.Side.{Side}
 use Rattle.lv_lumps.specs.declared.records.Vertex.{Vertex}
-use Rattle.lv_maptables.specs.Tables.{Tables, no_side}
-use Rattle.lv_maptables.specs.WellFormed.{HasEnds, HasSides, is_two_sided}
-use Rattle.lv_maptables.specs.Outcomes.{least}
-use Rattle.lv_maptables.specs.Faults.{has_left, is_too_long, lacks, lacks_room, line_faults, set_line_faults}
+use Rattle.lv_maptables.specs.Tables.{Tables}
+use Rattle.lv_maptables.specs.WellFormed.{HasEnds, HasSides}
+use Rattle.lv_maptables.specs.Outcomes.{least, Tells}
+use Rattle.lv_maptables.specs.declared.error.MapError.{MapError}
+use Rattle.lv_lumps.specs.Sides.{has_left, is_two_sided, no_side}
+use Rattle.lv_maptables.specs.Faults.{is_too_long, lacks, lacks_room, line_faults, set_line_faults}
 use Rattle.lv_maptables.specs.Edits.{with_line, with_line_at, with_vertex}
 use Rattle.lv_maptables.proofs.FaultLemmas.{none_hold}
 use Rattle.lv_commands.specs.declared.command.LineSplit.{LineSplit}
-use Rattle.lv_commands.specs.Splits.{cut_off, cut_short, line_at, split_faults, with_split}
+use Rattle.lv_commands.specs.Rooms.{wall}
+use Rattle.lv_commands.specs.Splits.{cut_faults, cut_off, cut_short, line_at, split_faults, with_split}
 use Rattle.lv_commands.proofs.Drawing.{lacks-not, or-both}
 
 left-if : (none missing : Bool) → (none ≡ false → missing ≡ false) → (not none && missing) ≡ false
@@ -109,3 +113,33 @@ found_line ls n k o l named e f = ap (line_at ls) (sym named) ∙ get_or_from_sl
 
 pub of_found : (P : Line → Type 0) (o : Option Line) (l : Line) → IfSome o P → o ≡ Some l → P l
 of_found P o l h e = subst (λ x. IfSome x P) e h
+
+-- ---- Telling
+
+-- two lists of faults with one least code are told alike
+pub tells-alike : {X : Type 0} (r : Result X MapError) (fs gs : List (ℕ × Bool)) → least fs ≡ least gs → Tells r fs → Tells r gs
+tells-alike (Ok x) fs gs e h = sym e ∙ h
+tells-alike (Err f) fs gs e h = sym e ∙ h
+
+-- the table has the line
+pub with-line : (m : Tables) (s : LineSplit) (n : ℕ) (l : Line) → n ≡ s.line → slice_get m.lines n ≡ Some l → least (cut_faults m l s.at) ≡ least (split_faults m s)
+with-line m s n l e at =
+    let here : slice_get m.lines s.line ≡ Some l = subst (λ (k : ℕ). slice_get m.lines k ≡ Some l) e at in
+    let there : lacks m.lines s.line ≡ false = lacks-not m.lines s.line (slice_get_within m.lines s.line l here) in
+    let is : line_at m.lines s.line ≡ l = get_or_from_slice_get m.lines s.line l (wall 0 0 0) here in
+    sym (ap (λ (t : Bool). cond t (Some 6) (least (cut_faults m (line_at m.lines s.line) s.at))) there ∙ ap (λ (x : Line). least (cut_faults m x s.at)) is)
+
+lacks-past : {X : Type 0} (xs : List X) (n : ℕ) → length xs ≤ n → lacks xs n ≡ true
+lacks-past xs n h = grind (arith, nat_tests)
+
+lacks-none : {X : Type 0} (xs : List X) (n : ℕ) → slice_get xs n ≡ None → lacks xs n ≡ true
+lacks-none {X = X} xs n e = at (slice_get_cases xs n).1
+  where
+    at : ((x : X) × (n < length xs) × (slice_get xs n ≡ Some x) × (get_or xs n x ≡ x)) ⊎ ((length xs ≤ n) × (slice_get xs n ≡ None)) → lacks xs n ≡ true
+    at (inl (x, lt, some, is)) = absurd (cc (e, some))
+    at (inr (le, none)) = lacks-past xs n le
+
+-- the table hasn't the line
+pub without-line : (m : Tables) (s : LineSplit) (n : ℕ) → n ≡ s.line → slice_get m.lines n ≡ None → least (split_faults m s) ≡ Some 6
+without-line m s n e none =
+    ap (λ (t : Bool). cond t (Some 6) (least (cut_faults m (line_at m.lines s.line) s.at))) (lacks-none m.lines s.line (subst (λ (k : ℕ). slice_get m.lines k ≡ None) e none))

@@ -9,8 +9,8 @@ use Rattle.std.proofs.lemmas.List.{get_or-drop}
 use Rattle.lv_lumps.specs.declared.records.Line.{Line}
 use Rattle.lv_lumps.specs.declared.records.Vertex.{Vertex}
 use Rattle.lv_maptables.specs.Tables.{Tables}
-use Rattle.lv_maptables.specs.Ranges.{IsCoordinate, longest_squared, squared_distance}
-use Rattle.lv_maptables.specs.WellFormed.{vertex_at}
+use Rattle.lv_lumps.specs.Drawing.{IsCoordinate, longest_squared, squared_distance}
+use Rattle.lv_maptables.specs.WellFormed.{nth_vertex}
 use Rattle.lv_maptables.specs.Outcomes.{least}
 use Rattle.lv_maptables.specs.Faults.{lacks, lacks_room, line_faults}
 use Rattle.lv_maptables.specs.Edits.{with_line}
@@ -60,7 +60,7 @@ pub record StandsFree (m : Tables) (from to side : ℕ) : Type 0 where
   pub end : to < length m.vertices
   pub differ : from ≢ to
   pub right : side < length m.sides
-  pub short : squared_distance (vertex_at m.vertices from) (vertex_at m.vertices to) ≤ longest_squared
+  pub short : squared_distance (nth_vertex m.vertices from) (nth_vertex m.vertices to) ≤ longest_squared
 
 pub wall_free : (m n : Tables) (ls : List Line) (l : Line) (v1 v2 right : ℕ) → n ≡ with_lines m ls → l ≡ wall v1 v2 right → StandsFree m v1 v2 right → length m.lines + length ls < 32767 → least (line_faults n l) ≡ None
 wall_free m n ls l v1 v2 right e is s h =
@@ -74,12 +74,12 @@ wall_free m n ls l v1 v2 right e is s h =
     let long = length-append m.lines ls in
     let count : length n.lines ≡ length m.lines + length ls = ap (λ t. length t.lines) e ∙ long in
     let room : lacks_room n.lines 1 ≡ false = grind (arith, nat_tests) in
-    let short : nat_lt longest_squared (squared_distance (vertex_at n.vertices v1) (vertex_at n.vertices v2)) ≡ false = ap (λ t. nat_lt longest_squared (squared_distance (vertex_at t.vertices v1) (vertex_at t.vertices v2))) e ∙ not-longer (squared_distance (vertex_at m.vertices v1) (vertex_at m.vertices v2)) far in
+    let short : nat_lt longest_squared (squared_distance (nth_vertex n.vertices v1) (nth_vertex n.vertices v2)) ≡ false = ap (λ t. nat_lt longest_squared (squared_distance (nth_vertex t.vertices v1) (nth_vertex t.vertices v2))) e ∙ not-longer (squared_distance (nth_vertex m.vertices v1) (nth_vertex m.vertices v2)) far in
     ap (λ k. least (line_faults n k)) is
     ∙ (λ i. least ((3, ends i) ∷ (5, sides i) ∷ (9, differ i) ∷ (11, false) ∷ (12, room i) ∷ (13, short i) ∷ []))
 
-corner-at : (vs cs : List Vertex) (f n k : ℕ) → drop f vs ≡ cs → n ≡ f + k → vertex_at vs n ≡ vertex_at cs k
-corner-at vs cs f n k e is = ap (vertex_at vs) is ∙ sym (get_or-drop f vs k _) ∙ ap (λ xs. vertex_at xs k) e
+corner-at : (vs cs : List Vertex) (f n k : ℕ) → drop f vs ≡ cs → n ≡ f + k → nth_vertex vs n ≡ nth_vertex cs k
+corner-at vs cs f n k e is = ap (nth_vertex vs) is ∙ sym (get_or-drop f vs k _) ∙ ap (λ xs. nth_vertex xs k) e
 
 far-enough : (a b c d : Vertex) → a ≡ c → b ≡ d → squared_distance c d ≤ longest_squared → squared_distance a b ≤ longest_squared
 far-enough a b c d e f h = subst (λ n. n ≤ longest_squared) (λ i. squared_distance (sym e i) (sym f i)) h

@@ -12,7 +12,7 @@ use Rattle.std.proofs.lemmas.Bool.Decides.{nat_tests}
 use Rattle.std.proofs.lemmas.Str.{IsUtf8-from_ascii}
 use Rattle.std.proofs.lemmas.Str.Parse.{IsNumeralModel, numerals_by_value, tells_all_ascii_digits}
 use Rattle.std.proofs.lemmas.Fmt.{decimal-digits_value, digits_decimal, digits_value-decimal, decimal_nonempty, first_decimal}
-use Rattle.lv_maptables.specs.Ranges.{is_digit, is_nonzero_digit}
+use Rattle.lv_lumps.specs.Names.{is_digit, is_nonzero_digit}
 use Rattle.lv_commands.specs.Words.{is_numeral, is_natural, numeral_value}
 use Rattle.lv_commands.specs.Places.{place_fault, Number}
 

@@ -1,15 +1,15 @@
 -- A name filled up with NUL, and its text.
-use Rattle.std.proofs.Common.{◌≡◌, ℕ, Bool, true, false, cond, List, [], ◌∷◌, ◌++◌, length, refl, ◌∙◌, ap, arith, zero, suc, ◌-◌, nat_eq, ◌<◌, get_or, nat_le, take, ◌&&◌}
+use Rattle.std.proofs.Common.{◌≡◌, ℕ, Bool, true, false, cond, List, [], ◌∷◌, ◌++◌, length, refl, ◌∙◌, ap, arith, zero, suc, ◌-◌, nat_eq, nat_le, ◌≤◌, ◌&&◌, sym, subst, lit≤}
 use Rattle.std.specs.Prelude.{take_while, replicate, not}
 use Rattle.std.specs.List.{list_all}
 use Rattle.std.specs.Str.{IsAscii, IsUtf8}
 use Rattle.std.proofs.lemmas.Grind.{common_steps}
 use Rattle.std.proofs.lemmas.Str.{IsUtf8-from_ascii}
 use Rattle.std.proofs.lemmas.List.Sums.{take_while-cons}
+use Rattle.std.proofs.lemmas.Bool.{leb-true}
 use Rattle.std.proofs.lemmas.Bool.Decides.{nat_tests}
 use Rattle.lv_lumps.specs.declared.records.Name8.{Name8}
-use Rattle.lv_maptables.specs.Ranges.{is_name_byte, is_digit, is_nonzero_digit, name_text, is_name, is_marker, IsNamed}
-use Rattle.lv_maptables.specs.Tables.{name_of}
+use Rattle.lv_lumps.specs.Names.{IsNamed, is_digit, is_marker, is_name, is_name_byte, is_nonzero_digit, name_of, name_text}
 use Rattle.lv_commands.proofs.Numerals.{both}
 
 abbrev pub is_set : ℕ → Bool
@@ -17,12 +17,6 @@ is_set b = not (nat_eq b 0)
 
 set : (b : ℕ) → is_name_byte b ≡ true → is_set b ≡ true
 set b e = grind (arith, nat_tests)
-
-is-set : (b : ℕ) → (b ≡ 0 → ⊥) → is_set b ≡ true
-is-set b ne = grind (arith, nat_tests)
-
-stop : (b : ℕ) (xs : List ℕ) → b ≡ 0 → cond (is_set b) (b ∷ xs) [] ≡ []
-stop b xs e = grind (arith, nat_tests)
 
 front : (b : ℕ) (t : Bool) (xs ys : List ℕ) → t ≡ true → xs ≡ ys → cond t (b ∷ xs) [] ≡ b ∷ ys
 front b true xs ys e f = ap (λ z. b ∷ z) f
@@ -57,33 +51,43 @@ marker-set (a ∷ b ∷ c ∷ d ∷ []) e = grind (arith, nat_tests)
 marker-set (a ∷ b ∷ c ∷ d ∷ f ∷ []) e = grind (arith, nat_tests)
 marker-set (a ∷ b ∷ c ∷ d ∷ f ∷ g ∷ ws) e = absurd cc
 
-pub marker-text : (w : List ℕ) → is_marker w ≡ true → name_text (name_of w) ≡ w
+marker-text : (w : List ℕ) → is_marker w ≡ true → name_text (name_of w) ≡ w
 marker-text w e = trim w (8 - length w) (marker-set w e)
 
-pub name-text : (w : List ℕ) → list_all is_name_byte w ≡ true → name_text (name_of w) ≡ w
+name-text : (w : List ℕ) → list_all is_name_byte w ≡ true → name_text (name_of w) ≡ w
 name-text w e = trim w (8 - length w) (all-set w e)
+
+named : (test : List ℕ → Bool) (w : List ℕ) (n : Name8) → n ≡ name_of w → name_text (name_of w) ≡ w → test w ≡ true → (name_text n ≡ w) × IsNamed test n
+named test w n is text e =
+    let same : name_text n ≡ w = ap name_text is ∙ text in
+    (same, record { padded = is ∙ ap name_of (sym same); named = subst (λ (v : List ℕ). test v ≡ true) (sym same) e })
+
+-- the name of a text that is one
+pub found-name : (w : List ℕ) (n : Name8) → n ≡ name_of w → is_name w ≡ true → (name_text n ≡ w) × IsNamed is_name n
+found-name w n is e =
+    named is_name w n is (name-text w (both (nat_le 1 (length w) && nat_le (length w) 8) (list_all is_name_byte w) e).1) e
+
+pub found-marker : (w : List ℕ) (n : Name8) → n ≡ name_of w → is_marker w ≡ true → (name_text n ≡ w) × IsNamed is_marker n
+found-marker w n is e = named is_marker w n is (marker-text w e) e
+
+-- neither is longer than eight bytes
+pub name-short : (w : List ℕ) → is_name w ≡ true → length w ≤ 8
+name-short w e =
+    leb-true (length w) 8 (both (nat_le 1 (length w)) (nat_le (length w) 8) (both (nat_le 1 (length w) && nat_le (length w) 8) (list_all is_name_byte w) e).0).1
+
+pub marker-short : (w : List ℕ) → is_marker w ≡ true → length w ≤ 8
+marker-short [] e = absurd cc
+marker-short (a ∷ []) e = absurd cc
+marker-short (a ∷ b ∷ []) e = absurd cc
+marker-short (a ∷ b ∷ c ∷ []) e = absurd cc
+marker-short (a ∷ b ∷ c ∷ d ∷ []) e = lit≤ tt
+marker-short (a ∷ b ∷ c ∷ d ∷ f ∷ []) e = lit≤ tt
+marker-short (a ∷ b ∷ c ∷ d ∷ f ∷ g ∷ ws) e = absurd cc
 
 name-ascii : (w : List ℕ) → list_all is_name_byte w ≡ true → IsAscii w
 name-ascii [] e i = grind (arith, common_steps)
 name-ascii (b ∷ bs) e zero = let h = (both (is_name_byte b) (list_all is_name_byte bs) e).0 in grind (arith, nat_tests)
 name-ascii (b ∷ bs) e (suc i) = name-ascii bs (both (is_name_byte b) (list_all is_name_byte bs) e).1 i
-
--- the first NUL stands at i
-pub front-at : (bs : List ℕ) (i : ℕ) → ((k : ℕ) → k < i → get_or bs k 0 ≡ 0 → ⊥) → i < length bs → get_or bs i 0 ≡ 0 → take_while is_set bs ≡ take i bs
-front-at [] i before lt here = absurd (omega arith)
-front-at (b ∷ bs) zero before lt here = take_while-cons is_set b bs ∙ stop b (take_while is_set bs) here
-front-at (b ∷ bs) (suc i) before lt here =
-    take_while-cons is_set b bs
-    ∙ front b (is_set b) (take_while is_set bs) (take i bs) (is-set b (before 0 (omega arith)))
-    (front-at bs i (λ k h. before (suc k) (omega arith)) (omega arith) here)
-
--- there is no NUL
-pub front-all : (bs : List ℕ) → ((k : ℕ) → k < length bs → get_or bs k 0 ≡ 0 → ⊥) → take_while is_set bs ≡ bs
-front-all [] before = refl
-front-all (b ∷ bs) before =
-    take_while-cons is_set b bs
-    ∙ front b (is_set b) (take_while is_set bs) bs (is-set b (before 0 (omega arith)))
-    (front-all bs (λ k h. before (suc k) (omega arith)))
 
 pub name_utf8 : (n : Name8) → IsNamed is_name n → IsUtf8 (name_text n)
 name_utf8 n h = IsUtf8-from_ascii (name_text n) (name-ascii (name_text n) (both (nat_le 1 (length (name_text n)) && nat_le (length (name_text n)) 8) (list_all is_name_byte (name_text n)) h.named).1)

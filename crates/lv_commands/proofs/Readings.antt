@@ -39,15 +39,6 @@ first-assoc (Some i) None c = refl
 first-assoc (Some i) (Some j) None = first-end (first_of (Some i) (Some j))
 first-assoc (Some i) (Some j) (Some k) = grind (arith, nat_tests)
 
--- there was no word at the place
-pub reads-missing : (old new : Reading) (p : Place) (written : List ℕ) → old.words ≡ [] → new.fault ≡ first_of old.fault (Some 1) → Reads old new p written
-reads-missing old new p written e f =
-    let one : new.fault ≡ Some 1 = f ∙ first-one old.fault in
-    record {
-      fault = λ ps. ap (λ ws. first_of old.fault (places_fault (p ∷ ps) ws)) e ∙ first-one old.fault ∙ sym (one-first (places_fault ps new.words)) ∙ ap (λ x. first_of x (places_fault ps new.words)) (sym one);
-      text = λ h. absurd (cc (one, h));
-    }
-
 -- the word has a fault
 pub reads-fault : (old new : Reading) (p : Place) (written w : List ℕ) (code : ℕ) → old.words ≡ w ∷ new.words → new.fault ≡ first_of old.fault (Some code) → place_fault p w ≡ Some code → Reads old new p written
 reads-fault old new p written w code e f at =
@@ -58,18 +49,6 @@ reads-fault old new p written w code e f at =
           ∙ sym (first-assoc old.fault (Some code) (places_fault ps new.words))
           ∙ ap (λ x. first_of x (places_fault ps new.words)) (sym f);
       text = λ h. absurd (first-some old.fault code (sym f ∙ h));
-    }
-
--- the word has none, and is what is written
-pub reads-word : (old new : Reading) (p : Place) (written w : List ℕ) → old.words ≡ w ∷ new.words → new.fault ≡ old.fault → place_fault p w ≡ None → written ≡ w → Reads old new p written
-reads-word old new p written w e f at is =
-    record {
-      fault = λ ps.
-          ap (λ ws. first_of old.fault (places_fault (p ∷ ps) ws)) e
-          ∙ ap (λ x. first_of old.fault (first_of x (places_fault ps new.words))) at
-          ∙ ap (first_of old.fault) (first-nil (places_fault ps new.words))
-          ∙ ap (λ x. first_of x (places_fault ps new.words)) (sym f);
-      text = λ h. (sym f ∙ h, e ∙ ap (λ x. x ∷ new.words) (sym is));
     }
 
 -- one place more in front of those that were read

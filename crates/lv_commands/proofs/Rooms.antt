@@ -3,7 +3,7 @@ use Rattle.std.proofs.Common.{◌≡◌, ℕ, cond, ◌&&◌, List, [], ◌∷�
 use Rattle.std.specs.Prelude.{int_lt}
 use Rattle.std.specs.Int.{w16}
 use Rattle.std.proofs.lemmas.Int.{ints}
-use Rattle.lv_maptables.specs.Ranges.{IsCoordinate}
+use Rattle.lv_lumps.specs.Drawing.{IsCoordinate}
 use Rattle.lv_commands.specs.declared.command.RoomPlan.{RoomPlan}
 use Rattle.lv_commands.specs.CommandRanges.{IsPlan, last_of}
 use Rattle.lv_commands.specs.Grammar.{room_fault, or_else, flat_fault, kind_of, kind_fault, drop_fault}

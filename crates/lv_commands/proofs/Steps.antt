@@ -12,8 +12,8 @@ use Rattle.lv_commands.specs.declared.command.Command.{Command}
 use Rattle.lv_commands.specs.declared.command.Command.TheVariants.{Name, AddVertex, AddSector, AddSide, AddLine, AddThing, SetVertex, SetSector, SetSide, SetLine, SetThing, Drop, Room, Split}
 use Rattle.lv_commands.specs.Errors.{code_of}
 use Rattle.lv_commands.specs.declared.error.CommandError.{CommandError}
-use Rattle.lv_commands.specs.declared.error.CommandError.TheVariants.{NotACommand, OutOfRange, NoVertex, NoSector, NoSide, NoLine, NoThing, InUse, SameEnds, PlaceTaken, TwoSidedWithoutLeft, TableFull, LineTooLong, ProjectFull, BadName, OutOfMemory}
-use Rattle.lv_commands.specs.Readiness.{RefusedBy, growth_of, need_of}
+use Rattle.lv_commands.specs.declared.error.CommandError.TheVariants.{NotACommand, OutOfRange, NoVertex, NoSector, NoSide, NoLine, NoThing, InUse, SameEnds, PlaceTaken, TwoSidedWithoutLeft, TableFull, LineTooLong, ProjectFull, BadName, TooManyMaps, MapNameTaken, NoSuchMap, CurrentMap, OutOfMemory}
+use Rattle.lv_commands.specs.Readiness.{RefusesStep, growth_of, need_of}
 use Rattle.lv_commands.specs.Rooms.{corners, room_sector, room_sides, walls}
 use Rattle.lv_commands.specs.Splits.{cut_off, cut_short, line_at}
 use Rattle.lv_commands.specs.Step.{after, drop_faults, faults, number_of, step, without}
@@ -75,8 +75,8 @@ faults-low m (Room r) = search arith
 faults-low m (Split s) = search arith
 
 -- what speaks against a command is a map's refusal of an edit
-pub code_is_low : (m : Tables) (c : Command) (k : ℕ) → least (faults m c) ≡ Some k → k ≤ 31
-code_is_low m c k e = let h = least-low (faults m c) k (faults-low m c) e in omega arith
+pub code_is_low : (m : Tables) (c : Command) (k : ℕ) → least (faults m c) ≡ Some k → k ≤ 13
+code_is_low m c k e = least-low (faults m c) k (faults-low m c) e
 
 -- ---- The length of the body
 
@@ -117,11 +117,6 @@ fullness m (Split s) cap fits =
 
 -- ---- The step
 
--- nothing speaks against the command, and the new body isn't too long
-pub step_accepts : (m : Tables) (c : Command) (cap : ℕ) → least (faults m c) ≡ None → nat_lt cap (body_len (after m c)) ≡ false → step m c cap ≡ Ok (after m c, number_of m c)
-step_accepts m c cap e f =
-    ap (λ o. unless o (after m c) (number_of m c)) (least-none (faults m c) ((14, nat_lt cap (body_len (after m c))) ∷ []) e ∙ ap (λ t. least ((14, t) ∷ [])) f)
-
 -- the new body would be too long
 pub step_is_full : (m : Tables) (c : Command) (cap : ℕ) → least (faults m c) ≡ None → nat_lt cap (body_len (after m c)) ≡ true → step m c cap ≡ Err 14
 step_is_full m c cap e f =
@@ -132,21 +127,25 @@ pub step_refuses : (m : Tables) (c : Command) (cap k : ℕ) → least (faults m 
 step_refuses m c cap k e =
     ap (λ o. unless o (after m c) (number_of m c)) (least-some (faults m c) ((14, nat_lt cap (body_len (after m c))) ∷ []) k e)
 
--- a refusal by the step's code
-pub refused-by : (e : CommandError) (change : Result (Tables × ℕ) ℕ) → change ≡ Err (code_of e) → RefusedBy e change
-refused-by NotACommand change h = h
-refused-by OutOfRange change h = h
-refused-by NoVertex change h = h
-refused-by NoSector change h = h
-refused-by NoSide change h = h
-refused-by NoLine change h = h
-refused-by NoThing change h = h
-refused-by InUse change h = h
-refused-by SameEnds change h = h
-refused-by PlaceTaken change h = h
-refused-by TwoSidedWithoutLeft change h = h
-refused-by TableFull change h = h
-refused-by LineTooLong change h = h
-refused-by ProjectFull change h = h
-refused-by BadName change h = h
-refused-by OutOfMemory change h = tt
+-- a refusal by the step's code, which isn't that of memory
+pub refused-by : (e : CommandError) (change : Result (Tables × ℕ) ℕ) → code_of e ≤ 15 → change ≡ Err (code_of e) → RefusesStep e change
+refused-by NotACommand change l h = h
+refused-by OutOfRange change l h = h
+refused-by NoVertex change l h = h
+refused-by NoSector change l h = h
+refused-by NoSide change l h = h
+refused-by NoLine change l h = h
+refused-by NoThing change l h = h
+refused-by InUse change l h = h
+refused-by SameEnds change l h = h
+refused-by PlaceTaken change l h = h
+refused-by TwoSidedWithoutLeft change l h = h
+refused-by TableFull change l h = h
+refused-by LineTooLong change l h = h
+refused-by ProjectFull change l h = h
+refused-by BadName change l h = h
+refused-by TooManyMaps change l h = absurd (omega arith)
+refused-by MapNameTaken change l h = absurd (omega arith)
+refused-by NoSuchMap change l h = absurd (omega arith)
+refused-by CurrentMap change l h = absurd (omega arith)
+refused-by OutOfMemory change l h = absurd (omega arith)

@@ -12,7 +12,7 @@ use Rattle.std.proofs.lemmas.Fmt.{length-decimal-le}
 use Rattle.lv_lumps.specs.declared.records.Name8.{Name8}
 use Rattle.lv_maptables.specs.declared.kind.Kind.{Kind}
 use Rattle.lv_maptables.specs.declared.kind.Kind.TheVariants as kind
-use Rattle.lv_maptables.specs.Ranges.{IsNamed, is_marker, is_name, is_name_byte, name_text}
+use Rattle.lv_lumps.specs.Names.{IsNamed, is_marker, is_name, is_name_byte, name_text}
 use Rattle.lv_commands.specs.Spelling.{kind_word}
 use Rattle.lv_commands.specs.Words.{onto_first, parts}
 use Rattle.lv_commands.proofs.Numerals.{both, decimal-digits}

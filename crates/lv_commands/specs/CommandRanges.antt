@@ -2,7 +2,9 @@
 use Rattle.std.specs.Prelude.{ℕ, ◌≤◌, pos, ◌<ℤ◌}
 use Rattle.lv_maptables.specs.declared.kind.Kind.{Kind}
 use Rattle.lv_maptables.specs.declared.kind.Kind.TheVariants as kind
-use Rattle.lv_maptables.specs.Ranges.{IsBetween, IsCoordinate, IsShort, is_name, is_marker, IsNamed, IsVertex, IsSector, IsSide, IsLine, IsThing}
+use Rattle.lv_lumps.specs.Drawing.{IsBetween, IsCoordinate}
+use Rattle.lv_lumps.specs.Names.{IsNamed, is_marker, is_name}
+use Rattle.lv_maptables.specs.Ranges.{IsShort, IsVertex, IsSector, IsSide, IsLine, IsThing}
 use Rattle.lv_commands.specs.declared.command.RoomPlan.{RoomPlan}
 use Rattle.lv_commands.specs.declared.command.Command.{Command}
 use Rattle.lv_commands.specs.declared.command.Command.TheVariants.{Name, AddVertex, AddSector, AddSide, AddLine, AddThing, SetVertex, SetSector, SetSide, SetLine, SetThing, Drop, Room, Split}

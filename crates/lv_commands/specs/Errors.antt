@@ -1,7 +1,7 @@
 -- The numbers of the refusals.
 use Rattle.std.specs.Prelude.{◌≡◌, ℕ, Option, Some, None, Result, MatchResult}
 use Rattle.lv_commands.specs.declared.error.CommandError.{CommandError}
-use Rattle.lv_commands.specs.declared.error.CommandError.TheVariants.{NotACommand, OutOfRange, NoVertex, NoSector, NoSide, NoLine, NoThing, InUse, SameEnds, PlaceTaken, TwoSidedWithoutLeft, TableFull, LineTooLong, ProjectFull, BadName, OutOfMemory}
+use Rattle.lv_commands.specs.declared.error.CommandError.TheVariants.{NotACommand, OutOfRange, NoVertex, NoSector, NoSide, NoLine, NoThing, InUse, SameEnds, PlaceTaken, TwoSidedWithoutLeft, TableFull, LineTooLong, ProjectFull, BadName, TooManyMaps, MapNameTaken, NoSuchMap, CurrentMap, OutOfMemory}
 
 -- the number of a refusal
 abbrev pub code_of : CommandError → ℕ
@@ -20,6 +20,10 @@ code_of TableFull = 12
 code_of LineTooLong = 13
 code_of ProjectFull = 14
 code_of BadName = 15
+code_of TooManyMaps = 16
+code_of MapNameTaken = 17
+code_of NoSuchMap = 18
+code_of CurrentMap = 19
 code_of OutOfMemory = 31
 
 -- the number of a refusal, if there is one

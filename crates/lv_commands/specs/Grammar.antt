@@ -2,7 +2,7 @@
 use Rattle.std.specs.Prelude.{ℕ, ◌&&◌, nat_lt, if◌then◌else◌, List, [], ◌∷◌, length, find, pos, int_lt, Option, Some, None, bytes_eq}
 use Rattle.lv_maptables.specs.declared.kind.Kind.{Kind}
 use Rattle.lv_maptables.specs.declared.kind.Kind.TheVariants as kind
-use Rattle.lv_maptables.specs.Ranges.{is_marker}
+use Rattle.lv_lumps.specs.Names.{is_marker}
 use Rattle.lv_commands.specs.CommandRanges.{last_of}
 use Rattle.lv_commands.specs.Places.{Number, Named, places_fault, item, sector_item, vertex_places, sector_places, side_places, line_places, thing_places, room_places}
 use Rattle.lv_commands.specs.Spelling.{head_word, kind_word}

@@ -1,6 +1,8 @@
 pub mod CommandRanges
 pub mod Errors
 pub mod Grammar
+pub mod Laws
+pub mod LineSteps
 pub mod Places
 pub mod Readiness
 pub mod Reading

@@ -1,6 +1,6 @@
 -- The places of a command behind its first word: what may stand at each, and the fault of what else does.
 use Rattle.std.specs.Prelude.{ℕ, Bool, false, ◌&&◌, ◌||◌, ◌==◌, if◌then◌else◌, List, [], ◌∷◌, ℤ, pos, negsuc, int_le, Option, Some, None, codes, bytes_eq}
-use Rattle.lv_maptables.specs.Ranges.{is_name}
+use Rattle.lv_lumps.specs.Names.{is_name}
 use Rattle.lv_commands.specs.Words.{is_numeral, is_word, numeral_value}
 
 -- what may stand at a place of a line: a number from a least one to a greatest one, such a number or `-`, or a name

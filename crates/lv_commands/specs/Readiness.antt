@@ -1,5 +1,5 @@
 -- When `commit` can do a command, and how a call ends that does one.
-use Rattle.std.specs.Prelude.{◌≡◌, ℕ, ◌+◌, ◌*◌, Result, Ok, Err, None}
+use Rattle.std.specs.Prelude.{◌≡◌, ℕ, ◌+◌, ◌*◌, Result, Ok, Err, IsOk, None}
 use Rattle.lv_maptables.specs.declared.map.Need.{Need}
 use Rattle.lv_maptables.specs.Tables.{Tables, MapView}
 use Rattle.lv_maptables.specs.Outcomes.{Covers, least}
@@ -38,17 +38,17 @@ growth_of need =
     10 * need.things + 14 * need.lines + 30 * need.sides + 4 * need.vertices + 26 * need.sectors
 
 -- nothing speaks against the command, its numbers and names are in range, and what it adds takes no memory
-pub record IsReady (m : MapView) (c : Command) : Type 0 where
+pub record CanCommit (m : MapView) (c : Command) : Type 0 where
   pub range : InRange c
   pub accepted : least (faults m.tables c) ≡ None
   pub covered : Covers m.spare (need_of c)
 
--- a refusal is the code that the step answers; want of memory may take the place of any other answer
-abbrev pub RefusedBy : CommandError → Result (Tables × ℕ) ℕ → Type 0
-RefusedBy OutOfMemory change = Unit {0}
-RefusedBy e change = change ≡ Err (code_of e)
+-- a refusal is the code that the step answers, and want of memory one of a step that is accepted
+abbrev pub RefusesStep : CommandError → Result (Tables × ℕ) ℕ → Type 0
+RefusesStep OutOfMemory change = IsOk change
+RefusesStep e change = change ≡ Err (code_of e)
 
 -- how a call ended that should do this change: the map is as the change says, or as before
-abbrev pub Ends : Result ℕ CommandError → Result (Tables × ℕ) ℕ → Tables → Tables → Type 0
-Ends (Ok n) change old new = change ≡ Ok (new, n)
-Ends (Err e) change old new = RefusedBy e change × (new ≡ old)
+abbrev pub EndsStep : Result ℕ CommandError → Result (Tables × ℕ) ℕ → Tables → Tables → Type 0
+EndsStep (Ok n) change old new = change ≡ Ok (new, n)
+EndsStep (Err e) change old new = RefusesStep e change × (new ≡ old)

@@ -5,7 +5,9 @@ use Rattle.lv_lumps.specs.declared.records.Line.{Line}
 use Rattle.lv_lumps.specs.declared.records.Sector.{Sector}
 use Rattle.lv_lumps.specs.declared.records.Side.{Side}
 use Rattle.lv_lumps.specs.declared.records.Vertex.{Vertex}
-use Rattle.lv_maptables.specs.Tables.{Tables, Counts, no_side, name_of}
+use Rattle.lv_lumps.specs.Names.{name_of}
+use Rattle.lv_lumps.specs.Sides.{no_side}
+use Rattle.lv_maptables.specs.Tables.{Tables, Counts}
 use Rattle.lv_maptables.specs.Faults.{is_taken, lacks_room, lacks_sector_room}
 use Rattle.lv_commands.specs.declared.command.RoomPlan.{RoomPlan}
 

@@ -9,8 +9,8 @@ use Rattle.lv_lumps.specs.declared.records.Vertex.{Vertex}
 use Rattle.lv_lumps.specs.declared.records.Sector.{Sector}
 use Rattle.lv_maptables.specs.declared.kind.Kind.{Kind}
 use Rattle.lv_maptables.specs.declared.kind.Kind.TheVariants as kind
-use Rattle.lv_maptables.specs.Tables.{no_side}
-use Rattle.lv_maptables.specs.Ranges.{name_text}
+use Rattle.lv_lumps.specs.Names.{name_text}
+use Rattle.lv_lumps.specs.Sides.{no_side}
 use Rattle.lv_commands.specs.declared.head.Head.{Head}
 use Rattle.lv_commands.specs.declared.head.Head.TheVariants as head
 use Rattle.lv_commands.specs.declared.command.RoomPlan.{RoomPlan}
@@ -81,22 +81,43 @@ room_words r =
     ∷ signed_decimal r.floor ∷ signed_decimal r.ceiling ∷ name_text r.floor_name ∷ name_text r.ceiling_name
     ∷ name_text r.wall ∷ signed_decimal r.light ∷ []
 
+-- the first word of a command
+abbrev pub head_for : Command → Head
+head_for (Name n) = head.Name
+head_for (AddVertex v) = head.Vertex
+head_for (AddSector s) = head.Sector
+head_for (AddSide s) = head.Side
+head_for (AddLine l) = head.Line
+head_for (AddThing t) = head.Thing
+head_for (SetVertex i v) = head.MoveVertex
+head_for (SetSector i s) = head.SetSector
+head_for (SetSide i s) = head.SetSide
+head_for (SetLine i l) = head.SetLine
+head_for (SetThing i t) = head.SetThing
+head_for (Drop k i) = head.Drop
+head_for (Room r) = head.Room
+head_for (Split s) = head.Split
+
+-- the words behind the first
+abbrev pub words_behind : Command → List (List ℕ)
+words_behind (Name n) = name_text n ∷ []
+words_behind (AddVertex v) = vertex_words v
+words_behind (AddSector s) = sector_words s
+words_behind (AddSide s) = side_words s
+words_behind (AddLine l) = line_words l
+words_behind (AddThing t) = thing_words t
+words_behind (SetVertex i v) = decimal i ∷ vertex_words v
+words_behind (SetSector i s) = decimal i ∷ sector_words s
+words_behind (SetSide i s) = decimal i ∷ side_words s
+words_behind (SetLine i l) = decimal i ∷ line_words l
+words_behind (SetThing i t) = decimal i ∷ thing_words t
+words_behind (Drop k i) = kind_word k ∷ decimal i ∷ []
+words_behind (Room r) = room_words r
+words_behind (Split s) = decimal s.line ∷ vertex_words s.at
+
 -- the words of a command
 abbrev pub words_of : Command → List (List ℕ)
-words_of (Name n) = head_word head.Name ∷ name_text n ∷ []
-words_of (AddVertex v) = head_word head.Vertex ∷ vertex_words v
-words_of (AddSector s) = head_word head.Sector ∷ sector_words s
-words_of (AddSide s) = head_word head.Side ∷ side_words s
-words_of (AddLine l) = head_word head.Line ∷ line_words l
-words_of (AddThing t) = head_word head.Thing ∷ thing_words t
-words_of (SetVertex i v) = head_word head.MoveVertex ∷ decimal i ∷ vertex_words v
-words_of (SetSector i s) = head_word head.SetSector ∷ decimal i ∷ sector_words s
-words_of (SetSide i s) = head_word head.SetSide ∷ decimal i ∷ side_words s
-words_of (SetLine i l) = head_word head.SetLine ∷ decimal i ∷ line_words l
-words_of (SetThing i t) = head_word head.SetThing ∷ decimal i ∷ thing_words t
-words_of (Drop k i) = head_word head.Drop ∷ kind_word k ∷ decimal i ∷ []
-words_of (Room r) = head_word head.Room ∷ room_words r
-words_of (Split s) = head_word head.Split ∷ decimal s.line ∷ vertex_words s.at
+words_of c = head_word (head_for c) ∷ words_behind c
 
 -- the line that is the command: its words with one space between each two
 abbrev pub spelling : Command → List ℕ

@@ -1,6 +1,7 @@
 -- What `split` makes of a map, and what speaks against it.
 use Rattle.std.specs.Prelude.{ℕ, Bool, ◌||◌, List, [], ◌∷◌, ◌++◌, length, get_or, slice_set}
 use Rattle.lv_lumps.specs.declared.records.Line.{Line}
+use Rattle.lv_lumps.specs.declared.records.Vertex.{Vertex}
 use Rattle.lv_maptables.specs.Tables.{Tables}
 use Rattle.lv_maptables.specs.Faults.{is_taken, is_too_long, lacks, lacks_room}
 use Rattle.lv_commands.specs.Rooms.{wall}
@@ -28,12 +29,14 @@ with_split m s =
       lines = slice_set m.lines s.line (cut_short line vertex) ++ cut_off line vertex ∷ [];
     }
 
--- 6 where there is no such line, 10 where the place is taken, 12 where a table is full, 13 where a half is too long
-abbrev pub split_faults : Tables → LineSplit → List (ℕ × Bool)
-split_faults m s =
-    let line = line_at m.lines s.line in
+-- 10 where the place is taken, 12 where a table is full, 13 where a half of the line is too long
+abbrev pub cut_faults : Tables → Line → Vertex → List (ℕ × Bool)
+cut_faults m line at =
     let vertex = length m.vertices in
-    let vertices = m.vertices ++ s.at ∷ [] in
-    (6, lacks m.lines s.line) ∷ (10, is_taken m.vertices s.at)
-    ∷ (12, lacks_room m.vertices 1 || lacks_room m.lines 1)
+    let vertices = m.vertices ++ at ∷ [] in
+    (10, is_taken m.vertices at) ∷ (12, lacks_room m.vertices 1 || lacks_room m.lines 1)
     ∷ (13, is_too_long vertices (cut_short line vertex) || is_too_long vertices (cut_off line vertex)) ∷ []
+
+-- the same, and before it 6 where there is no such line
+abbrev pub split_faults : Tables → LineSplit → List (ℕ × Bool)
+split_faults m s = (6, lacks m.lines s.line) ∷ cut_faults m (line_at m.lines s.line) s.at

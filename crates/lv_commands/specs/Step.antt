@@ -1,5 +1,5 @@
 -- What a command makes of a map: a new map and a number, or the least of the codes that hold.
-use Rattle.std.specs.Prelude.{◌≡◌, ℕ, Bool, nat_lt, List, [], ◌∷◌, ◌++◌, length, Result, Ok}
+use Rattle.std.specs.Prelude.{ℕ, Bool, nat_lt, List, [], ◌∷◌, ◌++◌, length, Result}
 use Rattle.lv_maptables.specs.declared.kind.Kind.{Kind}
 use Rattle.lv_maptables.specs.declared.kind.Kind.TheVariants as kind
 use Rattle.lv_maptables.specs.Tables.{Tables, body_len}
@@ -81,8 +81,3 @@ number_of m (Split s) = length m.lines
 -- the new map and the number, or the least code; a body may be at most `cap` long
 abbrev pub step : Tables → Command → ℕ → Result (Tables × ℕ) ℕ
 step m c cap = unless (least (faults m c ++ (14, nat_lt cap (body_len (after m c))) ∷ [])) (after m c) (number_of m c)
-
--- the commands lead from one map to the other, each accepted
-abbrev pub Fold : ℕ → Tables → List Command → Tables → Type 0
-Fold cap old [] new = new ≡ old
-Fold cap old (c ∷ cs) new = (mid : Tables) × (number : ℕ) × (step old c cap ≡ Ok (mid, number)) × Fold cap mid cs new

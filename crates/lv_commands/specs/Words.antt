@@ -2,7 +2,7 @@
 use Rattle.std.specs.Prelude.{ℕ, Bool, false, ◌&&◌, ◌==◌, not, nat_le, nat_lt, if◌then◌else◌, List, [], ◌∷◌, length, ℤ, Option, Some, None, codes, bytes_eq}
 use Rattle.std.specs.Str.Parse.{signed_digits_value}
 use Rattle.std.specs.List.{list_all}
-use Rattle.lv_maptables.specs.Ranges.{is_digit, is_nonzero_digit}
+use Rattle.lv_lumps.specs.Names.{is_digit, is_nonzero_digit}
 
 -- a byte in front of the first part
 abbrev pub onto_first : ℕ → List (List ℕ) → List (List ℕ)

@@ -2,7 +2,7 @@ ghost use Rattle.std.specs.Prelude.{◌≡◌, ◌≤◌, IfOk, IfErr, IsOk, Ok}
 ghost use Rattle.lv_maptables.specs.Outcomes.{EndsExactly, least, unless};
 ghost use Rattle.lv_maptables.specs.Tables.{body_len};
 ghost use Rattle.lv_commands.specs.CommandRanges.{InRange};
-ghost use Rattle.lv_commands.specs.Readiness.{Ends, IsReady, RefusedBy, growth_of, need_of};
+ghost use Rattle.lv_commands.specs.Readiness.{CanCommit, EndsStep, RefusesStep, growth_of, need_of};
 ghost use Rattle.lv_commands.specs.Step.{after, drop_faults, number_of, step, without};
 
 use crate::additions::{put_line, put_sector, put_side, put_thing, put_vertex};
@@ -68,8 +68,9 @@ pub fn ready(map: &mut Map, command: &Command, cap: u32) -> Result<Ready, Comman
     ensures tables { map.new.tables ≡ map.old.tables }
     ensures same { IfOk result (λ r. r.command ≡ command.now) }
     ensures accepted { IfOk result (λ _. step map.old.tables command.now cap ≡ Ok (after map.old.tables command.now, number_of map.old.tables command.now)) }
-    ensures ready { IfOk result (λ r. IsReady map.new r.command) }
-    ensures refused { IfErr result (λ e. RefusedBy e (step map.old.tables command.now cap)) }
+    ensures fits { IfOk result (λ _. body_len (after map.old.tables command.now) ≤ cap) }
+    ensures ready { IfOk result (λ r. CanCommit map.new r.command) }
+    ensures refused { IfErr result (λ e. RefusesStep e (step map.old.tables command.now cap)) }
 {
     if let Err(error) = can_do(map, command) {
         return Err(CommandError::of_edit(error));
@@ -108,7 +109,7 @@ fn edited(n: u16, edit: Result<(), MapError>) -> u32
 
 /// Makes the change that `ready` has decided on, and answers its number. It takes no memory and can't be refused.
 pub fn commit(map: &mut Map, ready: Ready) -> u32
-    requires { IsReady map.old ready.command }
+    requires { CanCommit map.old ready.command }
     ensures tables { map.new.tables ≡ after map.old.tables ready.command }
     ensures number { result ≡ number_of map.old.tables ready.command }
 {
@@ -138,7 +139,8 @@ pub fn commit(map: &mut Map, ready: Ready) -> u32
 pub fn apply(map: &mut Map, command: &Command, cap: u32) -> Result<u32, CommandError>
     requires range { InRange command.now }
     requires fits { body_len map.old.tables ≤ cap }
-    ensures { Ends result (step map.old.tables command.now cap) map.old.tables map.new.tables }
+    ensures ends { EndsStep result (step map.old.tables command.now cap) map.old.tables map.new.tables }
+    ensures fits { body_len map.new.tables ≤ cap }
 {
     let ready = ready(map, command, cap)?;
     Ok(commit(map, ready))

@@ -2,37 +2,24 @@ ghost use Rattle.std.specs.Prelude.{◌≡◌, ◌+◌, ◌≤◌, ◌<◌, ◌|
 ghost use Rattle.std.specs.List.{list_any};
 ghost use Rattle.lv_maptables.specs.Faults.{is_taken, lacks_room, lacks_sector_room, is_too_long};
 ghost use Rattle.lv_maptables.specs.Outcomes.{Tells};
-ghost use Rattle.lv_maptables.specs.Tables.{count_of, limit_of};
-ghost use Rattle.lv_maptables.specs.Ranges.{squared_distance, longest_squared};
-ghost use Rattle.lv_maptables.specs.WellFormed.{HasEnds, vertex_at};
+ghost use Rattle.lv_maptables.specs.Tables.{count_of, table_limit};
+ghost use Rattle.lv_lumps.specs.Drawing.{longest_squared, squared_distance};
+ghost use Rattle.lv_maptables.specs.WellFormed.{HasEnds, nth_vertex};
 ghost use Rattle.lv_commands.specs.Rooms.{corners, room_faults};
-ghost use Rattle.lv_commands.specs.Splits.{cut_off, cut_short, split_faults};
+ghost use Rattle.lv_commands.specs.Splits.{cut_faults, cut_off, cut_short, split_faults};
 ghost use Rattle.lv_commands.specs.Step.{drop_faults, faults};
 
 use crate::command::{Command, LineSplit, RoomPlan};
 use crate::room::corners_of;
-use lv_lumps::{Line, Vertex};
-use lv_maptables::{Kind, Map, MapError, squared_distance};
-
-/// The greatest squared length of a line.
-const LONGEST_SQUARED: u64 = 1_073_676_289;
-
-/// How many items a map may have of a kind.
-fn limit_of(kind: Kind) -> u32
-    ensures { result ≡ limit_of kind }
-{
-    match kind {
-        Kind::Sector => 4096,
-        _ => 32767,
-    }
-}
+use lv_lumps::{LONGEST_SQUARED, Line, Vertex, squared_distance};
+use lv_maptables::{Kind, Map, MapError};
 
 /// Whether the map has no room for so many more items of a kind.
 fn lacks_room(map: &Map, kind: Kind, more: u32) -> bool
     requires { more ≤ 4 }
-    ensures { result ≡ nat_lt (limit_of kind) (count_of map.now.tables kind + more) }
+    ensures { result ≡ nat_lt (table_limit kind) (count_of map.now.tables kind + more) }
 {
-    map.count(kind) + more > limit_of(kind)
+    map.count(kind) + more > kind.limit()
 }
 
 /// Whether an item can be taken out.
@@ -88,7 +75,7 @@ fn are_too_far(a: Vertex, b: Vertex) -> bool
 /// The vertex of a number.
 fn vertex_of(map: &Map, n: u16) -> Vertex
     requires { n < length map.now.tables.vertices }
-    ensures { result ≡ vertex_at map.now.tables.vertices n }
+    ensures { result ≡ nth_vertex map.now.tables.vertices n }
 {
     map.vertex(u32::from(n)).unwrap()
 }
@@ -103,23 +90,31 @@ fn has_long_half(map: &Map, line: &Line, at: Vertex) -> bool
     are_too_far(start, at) || are_too_far(at, end)
 }
 
-/// Whether a line can be split.
-fn can_split(map: &Map, split: &LineSplit) -> Result<(), MapError>
-    ensures { Tells result (split_faults map.now.tables split.now) }
+/// Whether a line can be cut in two at a place, where the table has it: `PlaceTaken`, `TableFull`, `LineTooLong`.
+fn can_cut(map: &Map, line: &Line, at: Vertex) -> Result<(), MapError>
+    requires { HasEnds map.now.tables.vertices line.now }
+    ensures { Tells result (cut_faults map.now.tables line.now at) }
 {
-    let Some(line) = map.line(u32::from(split.line)) else {
-        return Err(MapError::NoLine);
-    };
-    if map.has_place(split.at) {
+    if map.has_place(at) {
         return Err(MapError::PlaceTaken);
     }
     if lacks_room(map, Kind::Vertex, 1) || lacks_room(map, Kind::Line, 1) {
         return Err(MapError::TableFull);
     }
-    if has_long_half(map, &line, split.at) {
+    if has_long_half(map, line, at) {
         return Err(MapError::LineTooLong);
     }
     Ok(())
+}
+
+/// Whether a line can be split.
+fn can_split(map: &Map, split: &LineSplit) -> Result<(), MapError>
+    ensures { Tells result (split_faults map.now.tables split.now) }
+{
+    match map.line(u32::from(split.line)) {
+        Some(line) => can_cut(map, &line, split.at),
+        None => Err(MapError::NoLine),
+    }
 }
 
 /// Whether nothing speaks against a command, memory and the body's length aside: else the least code that does.

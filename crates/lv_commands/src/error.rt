@@ -12,33 +12,41 @@ pub enum CommandError {
     NotACommand,
     #[error("a number is out of its range")]
     OutOfRange,
-    #[error("no such vertex")]
+    #[error("{text}", text = MapError::NoVertex)]
     NoVertex,
-    #[error("no such sector")]
+    #[error("{text}", text = MapError::NoSector)]
     NoSector,
-    #[error("no such side")]
+    #[error("{text}", text = MapError::NoSide)]
     NoSide,
-    #[error("no such line")]
+    #[error("{text}", text = MapError::NoLine)]
     NoLine,
-    #[error("no such thing")]
+    #[error("{text}", text = MapError::NoThing)]
     NoThing,
-    #[error("something refers to the item")]
+    #[error("{text}", text = MapError::InUse)]
     InUse,
-    #[error("both ends of the line are one vertex")]
+    #[error("{text}", text = MapError::SameEnds)]
     SameEnds,
-    #[error("another vertex has the place")]
+    #[error("{text}", text = MapError::PlaceTaken)]
     PlaceTaken,
-    #[error("a two-sided line without a left side")]
+    #[error("{text}", text = MapError::TwoSidedWithoutLeft)]
     TwoSidedWithoutLeft,
-    #[error("the table is full")]
+    #[error("{text}", text = MapError::TableFull)]
     TableFull,
-    #[error("the line is too long")]
+    #[error("{text}", text = MapError::LineTooLong)]
     LineTooLong,
     #[error("the project is full")]
     ProjectFull,
     #[error("a bad name")]
     BadName,
-    #[error("out of memory")]
+    #[error("{text}", text = MapError::TooManyMaps)]
+    TooManyMaps,
+    #[error("{text}", text = MapError::MapNameTaken)]
+    MapNameTaken,
+    #[error("{text}", text = MapError::NoSuchMap)]
+    NoSuchMap,
+    #[error("{text}", text = MapError::CurrentMap)]
+    CurrentMap,
+    #[error("{text}", text = MapError::OutOfMemory)]
     OutOfMemory,
 }
 
@@ -75,6 +83,10 @@ impl CommandError {
             CommandError::LineTooLong => 13,
             CommandError::ProjectFull => 14,
             CommandError::BadName => 15,
+            CommandError::TooManyMaps => 16,
+            CommandError::MapNameTaken => 17,
+            CommandError::NoSuchMap => 18,
+            CommandError::CurrentMap => 19,
             CommandError::OutOfMemory => 31,
         }
     }
@@ -96,6 +108,10 @@ impl CommandError {
             MapError::TwoSidedWithoutLeft => CommandError::TwoSidedWithoutLeft,
             MapError::TableFull => CommandError::TableFull,
             MapError::LineTooLong => CommandError::LineTooLong,
+            MapError::TooManyMaps => CommandError::TooManyMaps,
+            MapError::MapNameTaken => CommandError::MapNameTaken,
+            MapError::NoSuchMap => CommandError::NoSuchMap,
+            MapError::CurrentMap => CommandError::CurrentMap,
             MapError::OutOfMemory => CommandError::OutOfMemory,
             MapError::Damaged(_) => unreachable!(),
         }

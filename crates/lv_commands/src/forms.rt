@@ -1,5 +1,6 @@
 ghost use Rattle.std.specs.Prelude.{◌≡◌, ◌&&◌, int_lt, [], ◌∷◌, ◌≤◌, Some, None, IfOk, decimal};
-ghost use Rattle.lv_maptables.specs.Ranges.{IsLine, IsNamed, IsSector, IsSide, IsThing, IsVertex, is_marker, name_text};
+ghost use Rattle.lv_lumps.specs.Names.{IsNamed, is_marker, name_text};
+ghost use Rattle.lv_maptables.specs.Ranges.{IsLine, IsSector, IsSide, IsThing, IsVertex};
 ghost use Rattle.lv_commands.specs.CommandRanges.{IsPlan, IsRoom, last_of};
 ghost use Rattle.lv_commands.specs.Errors.{TellsFault};
 ghost use Rattle.lv_commands.specs.Grammar.{drop_fault, room_fault};

@@ -1,4 +1,4 @@
-ghost use Rattle.std.specs.Prelude.{◌≡◌, ◌≤◌, IfSome};
+ghost use Rattle.std.specs.Prelude.{◌≡◌, ◌≤◌, IfSome, bytes_eq};
 ghost use Rattle.lv_commands.specs.CommandRanges.{last_of};
 ghost use Rattle.lv_commands.specs.Grammar.{head_of, kind_of};
 ghost use Rattle.lv_commands.specs.Spelling.{head_word, kind_word};
@@ -6,42 +6,88 @@ ghost use Rattle.lv_commands.specs.Spelling.{head_word, kind_word};
 use crate::head::Head;
 use lv_maptables::Kind;
 
+/// All first words.
+const HEADS: [Head; 14] = [
+    Head::Name,
+    Head::Vertex,
+    Head::Sector,
+    Head::Side,
+    Head::Line,
+    Head::Thing,
+    Head::MoveVertex,
+    Head::SetSector,
+    Head::SetSide,
+    Head::SetLine,
+    Head::SetThing,
+    Head::Drop,
+    Head::Room,
+    Head::Split,
+];
+
+/// All tables.
+const KINDS: [Kind; 5] = [
+    Kind::Vertex,
+    Kind::Sector,
+    Kind::Side,
+    Kind::Line,
+    Kind::Thing,
+];
+
+/// The word that is written for a first word.
+pub fn head_text(head: Head) -> &'static str
+    ensures { result.now ≡ head_word head }
+{
+    match head {
+        Head::Name => "name",
+        Head::Vertex => "vertex",
+        Head::Sector => "sector",
+        Head::Side => "side",
+        Head::Line => "line",
+        Head::Thing => "thing",
+        Head::MoveVertex => "move-vertex",
+        Head::SetSector => "set-sector",
+        Head::SetSide => "set-side",
+        Head::SetLine => "set-line",
+        Head::SetThing => "set-thing",
+        Head::Drop => "drop",
+        Head::Room => "room",
+        Head::Split => "split",
+    }
+}
+
+/// The word of a table.
+pub fn kind_text(kind: Kind) -> &'static str
+    ensures { result.now ≡ kind_word kind }
+{
+    match kind {
+        Kind::Vertex => "vertex",
+        Kind::Sector => "sector",
+        Kind::Side => "side",
+        Kind::Line => "line",
+        Kind::Thing => "thing",
+    }
+}
+
+/// Whether the word is this first word.
+fn is_head(word: &[u8], head: Head) -> bool
+    ensures { result ≡ bytes_eq word.now (head_word head) }
+{
+    word == head_text(head).as_bytes()
+}
+
+/// Whether the word is that of the table.
+fn is_kind(word: &[u8], kind: Kind) -> bool
+    ensures { result ≡ bytes_eq word.now (kind_word kind) }
+{
+    word == kind_text(kind).as_bytes()
+}
+
 /// The command that a first word begins.
 pub fn head_in(word: &[u8]) -> Option<Head>
     ensures value { result ≡ head_of word.now }
     ensures text { IfSome result (λ h. head_word h ≡ word.now) }
 {
-    if word == b"name".as_slice() {
-        Some(Head::Name)
-    } else if word == b"vertex".as_slice() {
-        Some(Head::Vertex)
-    } else if word == b"sector".as_slice() {
-        Some(Head::Sector)
-    } else if word == b"side".as_slice() {
-        Some(Head::Side)
-    } else if word == b"line".as_slice() {
-        Some(Head::Line)
-    } else if word == b"thing".as_slice() {
-        Some(Head::Thing)
-    } else if word == b"move-vertex".as_slice() {
-        Some(Head::MoveVertex)
-    } else if word == b"set-sector".as_slice() {
-        Some(Head::SetSector)
-    } else if word == b"set-side".as_slice() {
-        Some(Head::SetSide)
-    } else if word == b"set-line".as_slice() {
-        Some(Head::SetLine)
-    } else if word == b"set-thing".as_slice() {
-        Some(Head::SetThing)
-    } else if word == b"drop".as_slice() {
-        Some(Head::Drop)
-    } else if word == b"room".as_slice() {
-        Some(Head::Room)
-    } else if word == b"split".as_slice() {
-        Some(Head::Split)
-    } else {
-        None
-    }
+    HEADS.iter().copied().find(|head| is_head(word, *head))
 }
 
 /// The table that a word names.
@@ -49,19 +95,7 @@ pub fn kind_in(word: &[u8]) -> Option<Kind>
     ensures value { result ≡ kind_of word.now }
     ensures text { IfSome result (λ k. kind_word k ≡ word.now) }
 {
-    if word == b"vertex".as_slice() {
-        Some(Kind::Vertex)
-    } else if word == b"sector".as_slice() {
-        Some(Kind::Sector)
-    } else if word == b"side".as_slice() {
-        Some(Kind::Side)
-    } else if word == b"line".as_slice() {
-        Some(Kind::Line)
-    } else if word == b"thing".as_slice() {
-        Some(Kind::Thing)
-    } else {
-        None
-    }
+    KINDS.iter().copied().find(|kind| is_kind(word, *kind))
 }
 
 /// The greatest number of an item of a table.

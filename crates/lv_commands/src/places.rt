@@ -1,8 +1,7 @@
 use crate::error::CommandError;
 use crate::names::{FIRST_MAP, NO_TEXTURE, marker_in, name_in};
 use crate::words::{next_part, number_in};
-use lv_lumps::Name8;
-use lv_maptables::NO_SIDE;
+use lv_lumps::{NO_SIDE, Name8};
 
 /// The words of a line that are still to be read, and the fault so far: 1 if there was one, else the leftmost.
 #[derive(Drop)]
@@ -14,8 +13,9 @@ pub struct Places<'a> {
 impl<'a> Places<'a> {
     ghost use Rattle.std.specs.Prelude.{◌≡◌, [], ◌∷◌, pos, ◌≤◌, ◌≤ℤ◌, ◌||◌, ◌==◌, nat_le, IsTrue, Some, None, IfOk, IfErr, MatchOption, decimal, option_copied};
     ghost use Rattle.std.specs.Fmt.{signed_decimal};
-    ghost use Rattle.lv_maptables.specs.Ranges.{IsBetween, IsNamed, is_marker, is_name, name_text};
-    ghost use Rattle.lv_maptables.specs.Tables.{no_side};
+    ghost use Rattle.lv_lumps.specs.Drawing.{IsBetween};
+    ghost use Rattle.lv_lumps.specs.Names.{IsNamed, is_marker, is_name, name_text};
+    ghost use Rattle.lv_lumps.specs.Sides.{no_side};
     ghost use Rattle.lv_commands.specs.Errors.{code_of};
     ghost use Rattle.lv_commands.specs.Spelling.{left_word};
     ghost use Rattle.lv_commands.specs.Places.{Named, Number, NumberOrNone, first_of};

@@ -9,8 +9,8 @@ ghost use Rattle.lv_commands.specs.Rooms.{corners, four_sides, four_vertices, ro
 use crate::additions::{put_line, put_sector, put_side, put_vertex};
 use crate::command::{Command, RoomPlan};
 use crate::names::NO_TEXTURE;
-use lv_lumps::{Line, Sector, Side, Vertex};
-use lv_maptables::{Kind, Map, NO_SIDE};
+use lv_lumps::{Line, NO_SIDE, Sector, Side, Vertex};
+use lv_maptables::{Kind, Map};
 
 /// The corners, from the one in the south-west on by way of the north.
 pub fn corners_of(plan: &RoomPlan) -> [Vertex; 4]

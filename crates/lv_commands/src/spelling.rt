@@ -1,51 +1,69 @@
-ghost use Rattle.std.specs.Prelude.{◌≡◌, IfOk, IsOkUnless};
+ghost use Rattle.std.specs.Prelude.{◌≡◌, ◌∷◌, IfOk, IsOkUnless};
+ghost use Rattle.std.specs.List.{join_with_byte};
 ghost use Rattle.lv_commands.specs.CommandRanges.{InRange};
-ghost use Rattle.lv_commands.specs.Spelling.{kind_word, spelling};
-ghost use Rattle.lv_commands.specs.Views.{written};
+ghost use Rattle.lv_commands.specs.Spelling.{head_for, spelling, words_behind};
+ghost use Rattle.lv_commands.specs.Views.{Adds, written};
 
 use crate::command::Command;
 use crate::error::CommandError;
+use crate::head::Head;
+use crate::keywords::head_text;
 use crate::text::Text;
-use lv_maptables::Kind;
 use std::alloc::{AllocError, Global};
 
-/// The word of a table.
-fn kind_text(kind: Kind) -> &'static str
-    ensures { result.now ≡ kind_word kind }
+/// The first word of a command.
+fn head_for(command: &Command) -> Head
+    ensures { result ≡ head_for command.now }
 {
-    match kind {
-        Kind::Vertex => "vertex",
-        Kind::Sector => "sector",
-        Kind::Side => "side",
-        Kind::Line => "line",
-        Kind::Thing => "thing",
+    match command {
+        Command::Name(_) => Head::Name,
+        Command::AddVertex(_) => Head::Vertex,
+        Command::AddSector(_) => Head::Sector,
+        Command::AddSide(_) => Head::Side,
+        Command::AddLine(_) => Head::Line,
+        Command::AddThing(_) => Head::Thing,
+        Command::SetVertex(_, _) => Head::MoveVertex,
+        Command::SetSector(_, _) => Head::SetSector,
+        Command::SetSide(_, _) => Head::SetSide,
+        Command::SetLine(_, _) => Head::SetLine,
+        Command::SetThing(_, _) => Head::SetThing,
+        Command::Drop(_, _) => Head::Drop,
+        Command::Room(_) => Head::Room,
+        Command::Split(_) => Head::Split,
     }
 }
 
-/// The words of a command.
+/// The words behind the first.
 #[tactic(auto, using(crate::proofs::Padding::marker_utf8))]
+fn words_behind(text: Text, command: &Command) -> Result<Text, AllocError>
+    requires { InRange command.now }
+    ensures { IfOk result (λ t. Adds text t (32 ∷ join_with_byte 32 (words_behind command.now))) }
+{
+    match command {
+        Command::Name(name) => text.name(name),
+        Command::AddVertex(vertex) => text.vertex(vertex),
+        Command::AddSector(sector) => text.sector(sector),
+        Command::AddSide(side) => text.side(side),
+        Command::AddLine(line) => text.line(line),
+        Command::AddThing(thing) => text.thing(thing),
+        Command::SetVertex(n, vertex) => text.numbered_vertex(*n, vertex),
+        Command::SetSector(n, sector) => text.numbered_sector(*n, sector),
+        Command::SetSide(n, side) => text.numbered_side(*n, side),
+        Command::SetLine(n, line) => text.numbered_line(*n, line),
+        Command::SetThing(n, thing) => text.numbered_thing(*n, thing),
+        Command::Drop(kind, n) => text.item_of(*kind, *n),
+        Command::Room(plan) => text.room(plan),
+        Command::Split(split) => text.numbered_vertex(split.line, &split.at),
+    }
+}
+
+/// All words of a command.
 fn words(alloc: Global, command: &Command) -> Result<Text, AllocError>
     requires { InRange command.now }
     ensures { IfOk result (λ t. written t ≡ spelling command.now) }
 {
-    match command {
-        Command::Name(name) => Text::new(alloc, "name")?.name(name),
-        Command::AddVertex(vertex) => Text::new(alloc, "vertex")?.vertex(vertex),
-        Command::AddSector(sector) => Text::new(alloc, "sector")?.sector(sector),
-        Command::AddSide(side) => Text::new(alloc, "side")?.side(side),
-        Command::AddLine(line) => Text::new(alloc, "line")?.line(line),
-        Command::AddThing(thing) => Text::new(alloc, "thing")?.thing(thing),
-        Command::SetVertex(n, vertex) => Text::new(alloc, "move-vertex")?.item(*n)?.vertex(vertex),
-        Command::SetSector(n, sector) => Text::new(alloc, "set-sector")?.item(*n)?.sector(sector),
-        Command::SetSide(n, side) => Text::new(alloc, "set-side")?.item(*n)?.side(side),
-        Command::SetLine(n, line) => Text::new(alloc, "set-line")?.item(*n)?.line(line),
-        Command::SetThing(n, thing) => Text::new(alloc, "set-thing")?.item(*n)?.thing(thing),
-        Command::Drop(kind, n) => Text::new(alloc, "drop")?.word(kind_text(*kind))?.item(*n),
-        Command::Room(plan) => Text::new(alloc, "room")?.room(plan),
-        Command::Split(split) => Text::new(alloc, "split")?
-            .item(split.line)?
-            .vertex(&split.at),
-    }
+    let text = Text::new(alloc, head_text(head_for(command)))?;
+    words_behind(text, command)
 }
 
 /// The line that is the command, without an end of line. It is the one line that `parse` takes for it.

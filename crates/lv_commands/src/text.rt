@@ -1,7 +1,8 @@
 use crate::command::RoomPlan;
+use crate::keywords::kind_text;
 use crate::names::text_of;
-use lv_lumps::{Line, Name8, Sector, Side, Thing, Vertex};
-use lv_maptables::NO_SIDE;
+use lv_lumps::{Line, NO_SIDE, Name8, Sector, Side, Thing, Vertex};
+use lv_maptables::Kind;
 use std::alloc::{AllocError, Global};
 
 /// A command's line, written word by word from the first on.
@@ -11,13 +12,14 @@ pub struct Text {
 }
 
 impl Text {
-    ghost use Rattle.std.specs.Prelude.{◌≡◌, ◌∷◌, IfOk, string_bytes, decimal};
+    ghost use Rattle.std.specs.Prelude.{◌≡◌, [], ◌∷◌, IfOk, string_bytes, decimal};
     ghost use Rattle.std.specs.Fmt.{signed_decimal};
     ghost use Rattle.std.specs.List.{join_with_byte};
     ghost use Rattle.std.specs.Str.{IsUtf8};
-    ghost use Rattle.lv_maptables.specs.Ranges.{IsSector, IsSide, name_text};
+    ghost use Rattle.lv_lumps.specs.Names.{name_text};
+    ghost use Rattle.lv_maptables.specs.Ranges.{IsSector, IsSide};
     ghost use Rattle.lv_commands.specs.CommandRanges.{IsPlan};
-    ghost use Rattle.lv_commands.specs.Spelling.{left_word, line_words, room_words, sector_words, side_words, thing_words, vertex_words};
+    ghost use Rattle.lv_commands.specs.Spelling.{kind_word, left_word, line_words, room_words, sector_words, side_words, thing_words, vertex_words};
     ghost use Rattle.lv_commands.specs.Views.{Adds, written};
 
     /// The first word.
@@ -36,7 +38,7 @@ impl Text {
     }
 
     /// One more word.
-    pub fn word(mut self, word: &str) -> Result<Self, AllocError>
+    fn word(mut self, word: &str) -> Result<Self, AllocError>
         ensures { IfOk result (λ t. Adds self t (32 ∷ word.now)) }
     {
         self.line.push(' ')?;
@@ -54,7 +56,7 @@ impl Text {
     }
 
     /// The number of an item.
-    pub fn item(mut self, n: u16) -> Result<Self, AllocError>
+    fn item(mut self, n: u16) -> Result<Self, AllocError>
         ensures { IfOk result (λ t. Adds self t (32 ∷ decimal n)) }
     {
         write!(self.line, " {n}")?;
@@ -156,5 +158,48 @@ impl Text {
             .name(&plan.ceiling_name)?
             .name(&plan.wall)?
             .number(&plan.light)
+    }
+    /// The number of a vertex, and the words of a place.
+    pub fn numbered_vertex(self, n: u16, vertex: &Vertex) -> Result<Self, AllocError>
+        ensures { IfOk result (λ t. Adds self t (32 ∷ join_with_byte 32 (decimal n ∷ vertex_words vertex.now))) }
+    {
+        self.item(n)?.vertex(vertex)
+    }
+
+    /// The number of a sector, and its words.
+    pub fn numbered_sector(self, n: u16, sector: &Sector) -> Result<Self, AllocError>
+        requires { IsSector sector.now }
+        ensures { IfOk result (λ t. Adds self t (32 ∷ join_with_byte 32 (decimal n ∷ sector_words sector.now))) }
+    {
+        self.item(n)?.sector(sector)
+    }
+
+    /// The number of a side, and its words.
+    pub fn numbered_side(self, n: u16, side: &Side) -> Result<Self, AllocError>
+        requires { IsSide side.now }
+        ensures { IfOk result (λ t. Adds self t (32 ∷ join_with_byte 32 (decimal n ∷ side_words side.now))) }
+    {
+        self.item(n)?.side(side)
+    }
+
+    /// The number of a line, and its words.
+    pub fn numbered_line(self, n: u16, line: &Line) -> Result<Self, AllocError>
+        ensures { IfOk result (λ t. Adds self t (32 ∷ join_with_byte 32 (decimal n ∷ line_words line.now))) }
+    {
+        self.item(n)?.line(line)
+    }
+
+    /// The number of a thing, and its words.
+    pub fn numbered_thing(self, n: u16, thing: &Thing) -> Result<Self, AllocError>
+        ensures { IfOk result (λ t. Adds self t (32 ∷ join_with_byte 32 (decimal n ∷ thing_words thing.now))) }
+    {
+        self.item(n)?.thing(thing)
+    }
+
+    /// The word of a table, and the number of an item of it.
+    pub fn item_of(self, kind: Kind, n: u16) -> Result<Self, AllocError>
+        ensures { IfOk result (λ t. Adds self t (32 ∷ join_with_byte 32 (kind_word kind ∷ decimal n ∷ []))) }
+    {
+        self.word(kind_text(kind))?.item(n)
     }
 }

@@ -4,7 +4,8 @@ ghost use Rattle.std.specs.List.{list_all};
 ghost use Rattle.lv_commands.specs.Errors.{TellsFault};
 ghost use Rattle.lv_commands.specs.Places.{Number, place_fault};
 ghost use Rattle.lv_commands.specs.Words.{is_natural, is_numeral, is_printable, is_word, numeral_value, parts, parts_behind};
-ghost use Rattle.lv_maptables.specs.Ranges.{IsBetween, is_digit};
+ghost use Rattle.lv_lumps.specs.Drawing.{IsBetween};
+ghost use Rattle.lv_lumps.specs.Names.{is_digit};
 
 use crate::error::CommandError;
 use std::str;

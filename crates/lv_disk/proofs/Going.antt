@@ -2,13 +2,13 @@
 use Rattle.std.proofs.Common.{◌≡◌, inl, ℕ, List, [], ◌∷◌, length, refl, sym, ◌∙◌, ap, subst, arith}
 use Rattle.std.proofs.lemmas.List.{append-nil, get_or_past}
 use Rattle.lv_disk.specs.Files.{Failed, Torn, Written}
-use Rattle.lv_disk.specs.Stops.{Follows, Each, Elapses}
+use Rattle.lv_disk.specs.Stops.{Follows, Leads, Each, Elapses}
 use Rattle.lv_disk.specs.Medium.{Call, Wrote, Synced, Medium, step, after, overwritten, IsImage, LeftSince}
 use Rattle.lv_disk.specs.Memory.{Goes, calls_of, first_of, medium_of}
 use Rattle.lv_disk.specs.declared.memory.MemoryDisk.{MemoryDisk}
 use Rattle.lv_disk.proofs.Bytes.{torn_itself}
 use Rattle.lv_disk.proofs.Overwriting.{overwritten_is_written}
-use Rattle.lv_disk.proofs.Stopping.{after-push, elapses_push, settled_only, torn_from}
+use Rattle.lv_disk.proofs.Stopping.{after-push, elapses_push, settled_only, still_image, torn_from}
 
 -- what a read gives
 abbrev pub Reads : Medium → List ℕ → Type 0
@@ -53,6 +53,16 @@ module _ (old new : MemoryDisk) where
     pub same_images : Each (IsImage (medium_of new)) (IsImage (medium_of old))
     same_images file is = subst (λ (m : Medium). IsImage m file) same_medium is
 
+    pub stays_reads : Each (Reads (medium_of old)) (Reads (medium_of new))
+    stays_reads file is = is ∙ sym (ap (λ (m : Medium). m.file) same_medium)
+
+    pub leads_nowhere : (at n : ℕ) → Leads (Failed at n) (Reads (medium_of old)) (Reads (medium_of new))
+    leads_nowhere at n file is =
+        (file, stays_reads file is, record { torn = torn_itself at n file; gap = λ i past before. get_or_past file i 0 past })
+
+    pub same_kept : Each (IsImage (medium_of old)) (IsImage (medium_of new))
+    same_kept file is = subst (λ (m : Medium). IsImage m file) (sym same_medium) is
+
     pub same_torn : (at n : ℕ) → Follows (Torn at n) (IsImage (medium_of old)) (IsImage (medium_of new))
     same_torn at n file is = (file, same_images file is, torn_itself at n file)
 
@@ -62,12 +72,25 @@ module _ (old new : MemoryDisk) where
         let now : file ≡ overwritten at x (medium_of old).file = is ∙ ap (λ (m : Medium). m.file) (medium_now (Wrote at x) goes) in
         ((medium_of old).file, refl, subst (λ (f : List ℕ). Written at x (medium_of old).file f) (sym now) (overwritten_is_written at x (medium_of old).file))
 
+    pub wrote_leads : Leads (Written at x) (Reads (medium_of old)) (Reads (medium_of new))
+    wrote_leads file is = (
+      overwritten at x file,
+      ap (overwritten at x) is ∙ sym (ap (λ (m : Medium). m.file) (medium_now (Wrote at x) goes)),
+      overwritten_is_written at x file,
+    )
+
+    pub wrote_kept : Each (IsImage (medium_of old)) (IsImage (medium_of new))
+    wrote_kept file is = subst (λ (m : Medium). IsImage m file) (sym (medium_now (Wrote at x) goes)) (still_image (medium_of old) at x file is)
+
     pub wrote_images : IsImage (medium_of old) (medium_of old).file → Follows (Torn at (length x)) (IsImage (medium_of old)) (IsImage (medium_of new))
     wrote_images image file is = torn_from (medium_of old) at x image file (subst (λ (m : Medium). IsImage m file) (medium_now (Wrote at x) goes) is)
 
   module _ (goes : Goes (Synced ∷ []) old new) where
     pub synced_reads : Each (Reads (medium_of new)) (Reads (medium_of old))
     synced_reads file is = is ∙ ap (λ (m : Medium). m.file) (medium_now Synced goes)
+
+    pub synced_still : Each (Reads (medium_of old)) (Reads (medium_of new))
+    synced_still file is = is ∙ sym (ap (λ (m : Medium). m.file) (medium_now Synced goes))
 
     -- after a sync there's no image but the file
     only_image : (file : List ℕ) → IsImage (medium_of new) file → file ≡ (medium_of old).file

@@ -42,6 +42,14 @@ module _ (m : Medium) (at : ℕ) (x : List ℕ) where
     same = λ i un. overwritten_out at x m.file i (synced_outside i un) ∙ image.same i (synced_before i un);
   }
 
+  -- an image stays one
+  pub still_image : (file : List ℕ) → IsImage m file → IsImage written file
+  still_image file is = record {
+    no_shorter = is.no_shorter;
+    no_longer = omega (arith, is.no_longer);
+    same = λ i un. is.same i (synced_before i un);
+  }
+
   -- an image after the write is a torn one of before it: the same, but for the bytes that were synced then
   module _ (image : IsImage m m.file) (file : List ℕ) (is : IsImage written file) where
     before_at : ℕ → ℕ

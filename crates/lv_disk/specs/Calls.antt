@@ -13,5 +13,5 @@ abbrev pub ranges_in : Calls → List (ℕ × ℕ)
 ranges_in c = ranges_of (drop c.since (take c.count c.entries.items))
 
 -- how many bytes the record may take
-abbrev pub limit_of : Calls → ℕ
-limit_of c = length c.written.items
+abbrev pub record_room : Calls → ℕ
+record_room c = length c.written.items

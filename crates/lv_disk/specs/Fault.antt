@@ -1,6 +1,6 @@
 -- A disk of which one call fails: what it shows, and what each of its calls does.
 use Rattle.std.specs.Prelude.{◌≡◌, ◌≢◌, ◌⊎◌, ◌-◌, ℕ, List, Result, IsErr, length}
-use Rattle.lv_disk.specs.Files.{Failed, Written}
+use Rattle.lv_disk.specs.Files.{Failed, Torn, Written}
 use Rattle.lv_disk.specs.Stops.{Counted, Follows, Rose}
 use Rattle.lv_disk.specs.FaultCount.{one_if}
 use Rattle.lv_disk.specs.declared.fault.FaultDisk.{FaultDisk}
@@ -28,7 +28,9 @@ pub record IsCounted {D T E : Type 0} (failures : D → ℕ) (old new : FaultDis
   pub fails : left_of old ≡ 1 → IsErr result
   pub passes : left_of old ≢ 1 → Counted (failures (inner_of old)) (failures (inner_of new)) result
 
--- these bytes are put down on the disk inside, unless it fails itself
-abbrev pub PutsDown : ℕ → List ℕ → (List ℕ → Type 0) → (List ℕ → Type 0) → ℕ → ℕ → Type 0
-PutsDown at bytes old new before now =
-    Follows (Written at bytes) old new ⊎ (Rose before now × Follows (Failed at (length bytes)) old new)
+-- These bytes are put down on the disk inside, unless it fails itself; what a stop leaves is a torn write of them.
+pub record PutsDown {D : Type 0} (at : ℕ) (bytes : List ℕ) (reads may_leave : D → List ℕ → Type 0) (failures : D → ℕ)
+    (old new : D) : Type 0 where
+  pub down : Follows (Written at bytes) (reads old) (reads new)
+      ⊎ (Rose (failures old) (failures new) × Follows (Failed at (length bytes)) (reads old) (reads new))
+  pub images : Follows (Torn at (length bytes)) (may_leave old) (may_leave new)

@@ -1,3 +1,4 @@
+pub mod Areas
 pub mod Calls
 pub mod Entries
 pub mod Fault
@@ -10,5 +11,6 @@ pub mod Gates
 pub mod Medium
 pub mod MediumLaws
 pub mod Memory
+pub mod Reading
 pub mod Shows
 pub mod Stops

@@ -2,7 +2,7 @@
 use Rattle.std.specs.Prelude.{◌≡◌, ℕ, List, [], ◌++◌}
 use Rattle.lv_disk.specs.Medium.{Call, Medium, settled, after}
 use Rattle.lv_disk.specs.FixedFile.{bytes_of, most_of}
-use Rattle.lv_disk.specs.Calls.{calls_in, limit_of}
+use Rattle.lv_disk.specs.Calls.{calls_in, record_room}
 use Rattle.lv_disk.specs.declared.memory.MemoryDisk.{MemoryDisk}
 
 -- the file as it was before the first call of the record
@@ -22,7 +22,7 @@ abbrev pub room_of : MemoryDisk → ℕ
 room_of d = most_of d.file
 
 abbrev pub log_of : MemoryDisk → ℕ
-log_of d = limit_of d.calls
+log_of d = record_room d.calls
 
 -- how often it has failed
 abbrev pub failures_of : MemoryDisk → ℕ

@@ -1,5 +1,5 @@
 -- What a stop may leave: sets of files, and how they follow one another.
-use Rattle.std.specs.Prelude.{◌≡◌, ◌<◌, ◌≤◌, ◌⊎◌, ◌^◌, ◌-◌, ◌+◌, ℕ, List, Result, OnErr, OnOk}
+use Rattle.std.specs.Prelude.{◌≡◌, ◌<◌, ◌≤◌, ◌⊎◌, ◌^◌, ◌-◌, ◌+◌, ℕ, List, Result, IsErrOf, OnErr, OnOk}
 
 -- some file of the old ones becomes this one by the step
 abbrev pub From : (List ℕ → Type 0) → (List ℕ → List ℕ → Type 0) → List ℕ → Type 0
@@ -8,6 +8,10 @@ From old step new = (file : List ℕ) × old file × step file new
 -- each new file is an old one after the step
 abbrev pub Follows : (List ℕ → List ℕ → Type 0) → (List ℕ → Type 0) → (List ℕ → Type 0) → Type 0
 Follows step old new = (file : List ℕ) → new file → From old step file
+
+-- each old file becomes some new one by the step
+abbrev pub Leads : (List ℕ → List ℕ → Type 0) → (List ℕ → Type 0) → (List ℕ → Type 0) → Type 0
+Leads step old new = (file : List ℕ) → old file → (next : List ℕ) × new next × step file next
 
 -- each of the files has P
 abbrev pub Each : (List ℕ → Type 0) → (List ℕ → Type 0) → Type 0
@@ -35,3 +39,9 @@ pub record Counted {T E : Type 0} (before now : ℕ) (result : Result T E) : Typ
   pub later : before ≤ now
   pub failed : OnErr result (before < 2 ^ 64 - 1 → now ≡ before + 1)
   pub done : OnOk result (now ≡ before)
+
+-- this refusal is answered only where the count of failures rose, and a count that rose is answered by it
+pub record CountsFaults {T E : Type 0} (device : E) (before now : ℕ) (result : Result T E) : Type 0 where
+  pub later : before ≤ now
+  pub rose : IsErrOf result device → Rose before now
+  pub no_other : IsErrOf result device ⊎ (now ≡ before)

@@ -25,12 +25,12 @@ pub struct Calls {
 }
 
 impl Calls {
-    ghost use Rattle.lv_disk.specs.Calls.{calls_in, limit_of, ranges_in};
+    ghost use Rattle.lv_disk.specs.Calls.{calls_in, record_room, ranges_in};
 
     pub fn new(alloc: Global, limit: usize) -> Result<Calls, OutOfMemory>
         ensures calls { IfOk result (λ c. calls_in c ≡ []) }
         ensures ranges { IfOk result (λ c. ranges_in c ≡ []) }
-        ensures limit { IfOk result (λ c. limit_of c ≡ limit) }
+        ensures limit { IfOk result (λ c. record_room c ≡ limit) }
     {
         Ok(Calls {
             entries: vec![in alloc; Entry::Sync; limit / 16]?,
@@ -42,24 +42,24 @@ impl Calls {
     }
 
     pub fn limit(&self) -> usize
-        ensures { result ≡ limit_of self.now }
+        ensures { result ≡ record_room self.now }
     {
         self.written.len()
     }
 
     // Whether the record has a place for one call more, with so many bytes.
     pub fn has_room(&self, size: usize) -> bool
-        ensures { IsTrue result ↔ (size_of (calls_in self.now) + 16 + size ≤ limit_of self.now) }
+        ensures { IsTrue result ↔ (size_of (calls_in self.now) + 16 + size ≤ record_room self.now) }
     {
         let left = self.written.len() - 16 * self.count - self.used;
         left >= 16 && size <= left - 16
     }
 
     pub fn push_write(&mut self, at: usize, from: &[u8])
-        requires { size_of (calls_in self.old) + 16 + length from.now ≤ limit_of self.old }
+        requires { size_of (calls_in self.old) + 16 + length from.now ≤ record_room self.old }
         ensures calls { calls_in self.new ≡ calls_in self.old ++ Wrote at from.now ∷ [] }
         ensures ranges { ranges_in self.new ≡ ranges_in self.old ++ (at, length from.now) ∷ [] }
-        ensures limit { limit_of self.new ≡ limit_of self.old }
+        ensures limit { record_room self.new ≡ record_room self.old }
     {
         put(&mut self.written, self.used, from);
         self.entries[self.count] = Entry::Write {
@@ -71,10 +71,10 @@ impl Calls {
     }
 
     pub fn push_sync(&mut self)
-        requires { size_of (calls_in self.old) + 16 ≤ limit_of self.old }
+        requires { size_of (calls_in self.old) + 16 ≤ record_room self.old }
         ensures calls { calls_in self.new ≡ calls_in self.old ++ Synced ∷ [] }
         ensures ranges { ranges_in self.new ≡ [] }
-        ensures limit { limit_of self.new ≡ limit_of self.old }
+        ensures limit { record_room self.new ≡ record_room self.old }
     {
         self.entries[self.count] = Entry::Sync;
         self.count += 1;

@@ -1,7 +1,7 @@
 //! A disk as the layers above see it: what a read gives, and what a stop may leave.
 ghost use Rattle.std.specs.Prelude.{◌≡◌, ◌≤◌, ◌+◌, List, ℕ, length, OnOk, OnErr, IfOk};
 ghost use Rattle.lv_disk.specs.Files.{Failed, HasAt, Torn, Written};
-ghost use Rattle.lv_disk.specs.Stops.{Counted, Each, Elapses, Follows, From, LeavesOnly};
+ghost use Rattle.lv_disk.specs.Stops.{Counted, Each, Elapses, Follows, From, Leads, LeavesOnly};
 
 use crate::DeviceFault;
 
@@ -30,6 +30,7 @@ pub trait Disk {
         ensures reads { Each (reads self.new) (reads self.old) }
         ensures still { Each (reads self.old) (reads self.new) }
         ensures images { Each (may_leave self.new) (may_leave self.old) }
+        ensures kept { Each (may_leave self.old) (may_leave self.new) }
         ensures time { Elapses (moment self.old) (moment self.new)
             (left_since self.old) (left_since self.new) (may_leave self.new) }
         ensures count { Counted (failures self.old) (failures self.new) result };
@@ -41,6 +42,7 @@ pub trait Disk {
         ensures reads { Each (reads self.new) (reads self.old) }
         ensures still { Each (reads self.old) (reads self.new) }
         ensures images { Each (may_leave self.new) (may_leave self.old) }
+        ensures kept { Each (may_leave self.old) (may_leave self.new) }
         ensures time { Elapses (moment self.old) (moment self.new)
             (left_since self.old) (left_since self.new) (may_leave self.new) }
         ensures count { Counted (failures self.old) (failures self.new) result };
@@ -48,8 +50,11 @@ pub trait Disk {
     /// Writes the bytes from `at` on. Past the end it makes the gap read as zero; no bytes change nothing anywhere.
     fn write_at(&mut self, at: u64, from: &[u8]) -> Result<(), DeviceFault>
         ensures written { OnOk result (Follows (Written at from.now) (reads self.old) (reads self.new)) }
+        ensures leads { OnOk result (Leads (Written at from.now) (reads self.old) (reads self.new)) }
         ensures failed { OnErr result (Follows (Failed at (length from.now)) (reads self.old) (reads self.new)) }
+        ensures leads_failed { OnErr result (Leads (Failed at (length from.now)) (reads self.old) (reads self.new)) }
         ensures images { Follows (Torn at (length from.now)) (may_leave self.old) (may_leave self.new) }
+        ensures kept { Each (may_leave self.old) (may_leave self.new) }
         ensures time { Elapses (moment self.old) (moment self.new)
             (left_since self.old) (left_since self.new) (may_leave self.new) }
         ensures count { Counted (failures self.old) (failures self.new) result };
@@ -58,6 +63,7 @@ pub trait Disk {
     fn sync(&mut self) -> Result<(), DeviceFault>
         ensures durable { OnOk result (Each (may_leave self.new) (reads self.new)) }
         ensures reads { Each (reads self.new) (reads self.old) }
+        ensures still { Each (reads self.old) (reads self.new) }
         ensures images { Each (may_leave self.new) (may_leave self.old) }
         ensures time { Elapses (moment self.old) (moment self.new)
             (left_since self.old) (left_since self.new) (may_leave self.new) }
@@ -78,7 +84,9 @@ pub fn write_through<D: Disk>(disk: &mut D, at: u64, from: &[u8]) -> Result<(), 
     ensures done { OnOk result (Follows (Written at from.now) (D.may_leave disk.old) (D.may_leave disk.new)) }
     ensures durable { OnOk result (Each (D.may_leave disk.new) (D.reads disk.new)) }
     ensures written { OnOk result (Follows (Written at from.now) (D.reads disk.old) (D.reads disk.new)) }
+    ensures leads { OnOk result (Leads (Written at from.now) (D.reads disk.old) (D.reads disk.new)) }
     ensures failed { OnErr result (Follows (Failed at (length from.now)) (D.reads disk.old) (D.reads disk.new)) }
+    ensures leads_failed { OnErr result (Leads (Failed at (length from.now)) (D.reads disk.old) (D.reads disk.new)) }
     ensures any_moment { LeavesOnly D.moment D.left_since disk.old disk.new
         (From (D.may_leave disk.old) (Torn at (length from.now))) }
     ensures count { Counted (D.failures disk.old) (D.failures disk.new) result }

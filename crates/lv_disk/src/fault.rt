@@ -2,7 +2,7 @@
 ghost use Rattle.std.specs.Prelude.{◌≡◌, ◌≢◌, ◌<◌, ◌≤◌, ◌+◌, ◌-◌, length, take, IfOk, IsErr, OnErr, OnOk, false, true};
 ghost use Rattle.lv_disk.specs.FaultCount.{one_if};
 ghost use Rattle.lv_disk.specs.Files.{Failed, HasAt, Torn, Written};
-ghost use Rattle.lv_disk.specs.Stops.{Counted, Each, Elapses, Follows};
+ghost use Rattle.lv_disk.specs.Stops.{Counted, Each, Elapses, Follows, Leads};
 
 use crate::{DeviceFault, Disk};
 
@@ -71,6 +71,39 @@ impl<D> FaultDisk<D> {
     }
 }
 
+impl<D: Disk> FaultDisk<D> {
+    ghost use Rattle.lv_disk.specs.Fault.{inner_of, left_of, part_of, own_failures, PutsDown};
+
+    // A write that fails: puts its first bytes down.
+    fn put_down(&mut self, at: u64, from: &[u8]) -> Result<(), DeviceFault>
+        requires last { left_of self.old ≡ 0 }
+        requires first { self.old.failed ≡ false }
+        ensures err { IsErr result }
+        ensures failed { Follows (Failed at (length from.now))
+            (D.reads (inner_of self.old)) (D.reads (inner_of self.new)) }
+        ensures leads { Leads (Failed at (length from.now))
+            (D.reads (inner_of self.old)) (D.reads (inner_of self.new)) }
+        ensures images { Follows (Torn at (length from.now))
+            (D.may_leave (inner_of self.old)) (D.may_leave (inner_of self.new)) }
+        ensures kept { Each (D.may_leave (inner_of self.old)) (D.may_leave (inner_of self.new)) }
+        ensures time { let old = inner_of self.old in let new = inner_of self.new in
+            Elapses (D.moment old) (D.moment new) (D.left_since old) (D.left_since new) (D.may_leave new) }
+        ensures count { Counted (own_failures self.old + D.failures (inner_of self.old))
+            (own_failures self.new + D.failures (inner_of self.new)) result }
+        ensures left { left_of self.new ≡ 0 }
+        ensures same { part_of self.new ≡ part_of self.old }
+        ensures untouched { part_of self.old ≡ 0 → inner_of self.new ≡ inner_of self.old }
+        ensures part { 0 < part_of self.old → PutsDown at (take (part_of self.old) from.now)
+            D.reads D.may_leave D.failures (inner_of self.old) (inner_of self.new) }
+    {
+        if self.part == 0 {
+            return self.fail();
+        }
+        self.inner.write_at(at, first_bytes(from, self.part))?;
+        self.fail()
+    }
+}
+
 impl<D: Disk> Disk for FaultDisk<D> {
     ghost use Rattle.lv_disk.specs.Fault.{inner_of, left_of, part_of, own_failures, IsCounted, PutsDown};
 
@@ -95,6 +128,7 @@ impl<D: Disk> Disk for FaultDisk<D> {
         ensures reads { Each (D.reads (inner_of self.new)) (D.reads (inner_of self.old)) }
         ensures still { Each (D.reads (inner_of self.old)) (D.reads (inner_of self.new)) }
         ensures images { Each (D.may_leave (inner_of self.new)) (D.may_leave (inner_of self.old)) }
+        ensures kept { Each (D.may_leave (inner_of self.old)) (D.may_leave (inner_of self.new)) }
         ensures time { let old = inner_of self.old in let new = inner_of self.new in
             Elapses (D.moment old) (D.moment new) (D.left_since old) (D.left_since new) (D.may_leave new) }
         ensures count { Counted (own_failures self.old + D.failures (inner_of self.old))
@@ -116,6 +150,7 @@ impl<D: Disk> Disk for FaultDisk<D> {
         ensures reads { Each (D.reads (inner_of self.new)) (D.reads (inner_of self.old)) }
         ensures still { Each (D.reads (inner_of self.old)) (D.reads (inner_of self.new)) }
         ensures images { Each (D.may_leave (inner_of self.new)) (D.may_leave (inner_of self.old)) }
+        ensures kept { Each (D.may_leave (inner_of self.old)) (D.may_leave (inner_of self.new)) }
         ensures time { let old = inner_of self.old in let new = inner_of self.new in
             Elapses (D.moment old) (D.moment new) (D.left_since old) (D.left_since new) (D.may_leave new) }
         ensures count { Counted (own_failures self.old + D.failures (inner_of self.old))
@@ -134,10 +169,15 @@ impl<D: Disk> Disk for FaultDisk<D> {
     fn write_at(&mut self, at: u64, from: &[u8]) -> Result<(), DeviceFault>
         ensures written { OnOk result (Follows (Written at from.now)
             (D.reads (inner_of self.old)) (D.reads (inner_of self.new))) }
+        ensures leads { OnOk result (Leads (Written at from.now)
+            (D.reads (inner_of self.old)) (D.reads (inner_of self.new))) }
         ensures failed { OnErr result (Follows (Failed at (length from.now))
+            (D.reads (inner_of self.old)) (D.reads (inner_of self.new))) }
+        ensures leads_failed { OnErr result (Leads (Failed at (length from.now))
             (D.reads (inner_of self.old)) (D.reads (inner_of self.new))) }
         ensures images { Follows (Torn at (length from.now))
             (D.may_leave (inner_of self.old)) (D.may_leave (inner_of self.new)) }
+        ensures kept { Each (D.may_leave (inner_of self.old)) (D.may_leave (inner_of self.new)) }
         ensures time { let old = inner_of self.old in let new = inner_of self.new in
             Elapses (D.moment old) (D.moment new) (D.left_since old) (D.left_since new) (D.may_leave new) }
         ensures count { Counted (own_failures self.old + D.failures (inner_of self.old))
@@ -147,21 +187,19 @@ impl<D: Disk> Disk for FaultDisk<D> {
         ensures call { IsCounted D.failures self.old self.new result }
         ensures untouched { left_of self.old ≡ 1 → part_of self.old ≡ 0 → inner_of self.new ≡ inner_of self.old }
         ensures part { left_of self.old ≡ 1 → 0 < part_of self.old
-            → PutsDown at (take (part_of self.old) from.now) (D.reads (inner_of self.old)) (D.reads (inner_of self.new))
-            (D.failures (inner_of self.old)) (D.failures (inner_of self.new)) }
+            → PutsDown at (take (part_of self.old) from.now) D.reads D.may_leave D.failures
+            (inner_of self.old) (inner_of self.new) }
     {
-        if !self.is_next() {
-            return self.inner.write_at(at, from);
+        if self.is_next() {
+            return self.put_down(at, from);
         }
-        if self.part > 0 {
-            self.inner.write_at(at, first_bytes(from, self.part))?;
-        }
-        self.fail()
+        self.inner.write_at(at, from)
     }
 
     fn sync(&mut self) -> Result<(), DeviceFault>
         ensures durable { OnOk result (Each (D.may_leave (inner_of self.new)) (D.reads (inner_of self.new))) }
         ensures reads { Each (D.reads (inner_of self.new)) (D.reads (inner_of self.old)) }
+        ensures still { Each (D.reads (inner_of self.old)) (D.reads (inner_of self.new)) }
         ensures images { Each (D.may_leave (inner_of self.new)) (D.may_leave (inner_of self.old)) }
         ensures time { let old = inner_of self.old in let new = inner_of self.new in
             Elapses (D.moment old) (D.moment new) (D.left_since old) (D.left_since new) (D.may_leave new) }

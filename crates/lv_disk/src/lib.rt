@@ -11,8 +11,10 @@ mod file;
 mod fill;
 mod fixed_file;
 mod gate;
+mod law;
 mod memory;
 mod put;
+mod reading;
 
 pub use area::Area;
 pub use disk::{Disk, write_through};
@@ -21,4 +23,6 @@ pub use fault::FaultDisk;
 pub use file::FileDisk;
 pub use fill::Fill;
 pub use gate::{CLOSED_GATE, OPEN_GATE};
+pub use law::show_the_disk_model;
 pub use memory::MemoryDisk;
+pub use reading::{read_gate, read_length};

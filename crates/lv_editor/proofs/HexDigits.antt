@@ -2,7 +2,7 @@
 use Rattle.std.proofs.Common.{◌≡◌, ℕ, List, [], ◌∷◌, ◌++◌, ap, append-nil, sym, ◌≤◌, ◌-◌, length, get_or, take, drop, arith}
 use Rattle.std.proofs.lemmas.List.{take_all}
 use Rattle.std.specs.Prelude.{flat_map}
-use Rattle.lv_editor.specs.Answers.{hex_byte, hex_digits, spaced_byte}
+use Rattle.lv_editor.specs.Texts.{hex_byte, hex_digits, spaced_byte}
 
 pub hex_digits-cons : (b : ℕ) (bs : List ℕ) → hex_digits (b ∷ bs) ≡ hex_byte b ++ flat_map spaced_byte bs
 hex_digits-cons b [] = sym (append-nil (hex_byte b))

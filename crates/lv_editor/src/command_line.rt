@@ -1,10 +1,10 @@
 ghost use Rattle.std.specs.Prelude.{◌≡◌, IfOk, IfErr, IsSomeAnd, codes, map};
-ghost use Rattle.clap.specs.Words.{new_app, app_of, found_of, rows_of, subcommand_of};
-ghost use Rattle.lv_editor.specs.declared.asked.RequestError.TheVariants.{Number};
+ghost use Rattle.clap.specs.Words.{new_app, app_of, subcommand_of};
+ghost use Rattle.lv_editor.specs.declared.asked.Request.TheVariants.{Scratch};
 ghost use Rattle.lv_editor.specs.Request.{AsksFor, IsCommand, IsRefusal, leveled_app};
 
 use crate::asked::{Request, RequestError};
-use clap::{ArgMatches, Command, Error};
+use clap::{Command, Error};
 use std::alloc::Global;
 
 /// `scratch`.
@@ -28,15 +28,14 @@ fn leveled<'a>(alloc: Global) -> Result<Command<'a>, Error>
     )
 }
 
-/// The request for a subcommand with what was found for its arguments.
-fn asked(name: &str, found: &ArgMatches<'_>) -> Result<Request, RequestError>
-    ensures asked { IfOk result (λ r. AsksFor r (name.now, rows_of (found_of found.now))) }
-    ensures refused { IfErr result (λ e. e ≡ Number) }
+/// The request for a subcommand.
+fn asked(name: &str) -> Request
+    requires { name.now ≡ codes "scratch" }
+    ensures { result ≡ Scratch }
 {
-    let _ = found;
     match name {
-        "scratch" => Ok(Request::Scratch),
-        _ => Err(RequestError::Number),
+        "scratch" => Request::Scratch,
+        _ => unreachable!(),
     }
 }
 
@@ -45,7 +44,7 @@ fn asked(name: &str, found: &ArgMatches<'_>) -> Result<Request, RequestError>
 /// # Errors
 ///
 /// `Words` where clap refuses the words, or answers them itself: help and the version. clap's error
-/// has the text, and says where it goes and with which status.
+/// has the text, and says where it goes and with which status. `Memory` where there is none.
 pub fn request(alloc: Global, words: &[&str]) -> Result<Request, RequestError>
     ensures asked { IfOk result (λ r.
         IsSomeAnd (subcommand_of leveled_app (map (λ w. w.now) words.now)) (AsksFor r)) }
@@ -60,7 +59,7 @@ pub fn request(alloc: Global, words: &[&str]) -> Result<Request, RequestError>
         Err(error) => return Err(RequestError::Words(error)),
     };
     match matches.subcommand() {
-        Some((name, found)) => asked(name, found),
-        None => Err(RequestError::Number),
+        Some((name, _)) => Ok(asked(name)),
+        None => unreachable!(),
     }
 }

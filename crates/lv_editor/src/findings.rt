@@ -2,7 +2,7 @@ ghost use Rattle.std.specs.Prelude.{◌≡◌, IfErr, IfOk, MatchResult, flat_ma
 ghost use Rattle.std.specs.Io.KnownBytes.{Appends};
 ghost use Rattle.lv_checks.specs.Findings.{findings};
 ghost use Rattle.lv_editor.specs.declared.error.EditorError.TheVariants.{WriterFailed};
-ghost use Rattle.lv_editor.specs.Answers.{finding_line, findings_text, total_text};
+ghost use Rattle.lv_editor.specs.Texts.{finding_line, findings_text, total_text};
 ghost use Rattle.lv_editor.specs.Runs.{Unwritten};
 
 use crate::error::EditorError;

@@ -1,5 +1,5 @@
 ghost use Rattle.std.specs.Prelude.{◌≡◌, ◌<◌, ◌++◌, flat_map, IfOk, OnOk};
-ghost use Rattle.lv_editor.specs.Answers.{hex_byte, hex_digit, hex_digits, hex_text, spaced_byte};
+ghost use Rattle.lv_editor.specs.Texts.{hex_byte, hex_digit, hex_digits, hex_text, spaced_byte};
 
 use std::alloc::{AllocError, Global};
 

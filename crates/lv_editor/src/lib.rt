@@ -1,20 +1,25 @@
 //! The editor: lines in, answers out, and the words of the program.
 #![tactic(auto)]
 
+mod answers;
 mod asked;
 mod command_line;
+mod drawing;
 mod error;
 mod findings;
 mod hex;
 mod input_line;
+mod limits;
+mod lump;
+mod outcome;
 mod program;
 mod query;
 mod run;
-mod scratch;
+mod session;
 
 pub use asked::{Request, RequestError};
 pub use command_line::request;
+pub use drawing::run_in_memory;
 pub use error::EditorError;
 pub use findings::write_findings;
 pub use program::perform;
-pub use run::run_in_memory;

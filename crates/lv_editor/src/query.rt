@@ -1,8 +1,8 @@
 ghost use Rattle.std.specs.Prelude.{◌≡◌};
 ghost use Rattle.std.specs.Option.{option_map};
-ghost use Rattle.lv_editor.specs.Answers.{query_of};
+ghost use Rattle.lv_editor.specs.Queries.{query_of};
 
-use lv_maptables::Kind;
+use crate::lump::Lump;
 
 /// A line that asks and changes nothing.
 #[derive(Clone, Copy, Debug, PartialEq, Eq)]
@@ -11,8 +11,8 @@ pub enum Query {
     Check,
     /// How many items there are of each kind.
     Count,
-    /// The bytes of a drawn lump.
-    Hex(Kind),
+    /// The bytes of a lump.
+    Hex(Lump),
 }
 
 /// The query that a line is, byte for byte.
@@ -24,15 +24,15 @@ pub fn read_query(line: &[u8]) -> Option<Query>
     } else if line == b"count".as_slice() {
         Some(Query::Count)
     } else if line == b"hex THINGS".as_slice() {
-        Some(Query::Hex(Kind::Thing))
+        Some(Query::Hex(Lump::Things))
     } else if line == b"hex LINEDEFS".as_slice() {
-        Some(Query::Hex(Kind::Line))
+        Some(Query::Hex(Lump::Linedefs))
     } else if line == b"hex SIDEDEFS".as_slice() {
-        Some(Query::Hex(Kind::Side))
+        Some(Query::Hex(Lump::Sidedefs))
     } else if line == b"hex VERTEXES".as_slice() {
-        Some(Query::Hex(Kind::Vertex))
+        Some(Query::Hex(Lump::Vertexes))
     } else if line == b"hex SECTORS".as_slice() {
-        Some(Query::Hex(Kind::Sector))
+        Some(Query::Hex(Lump::Sectors))
     } else {
         None
     }

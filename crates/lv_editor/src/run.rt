@@ -1,15 +1,12 @@
 ghost use Rattle.std.specs.Prelude.{◌≡◌, ◌≤◌, ◌+◌, ◌++◌, ℕ, List, ◌∷◌, [], length, OnOk, IfOk, MatchResult};
 ghost use Rattle.std.specs.Io.KnownBytes.{Keeps};
-ghost use Rattle.lv_maptables.specs.Tables.{empty_tables};
-ghost use Rattle.lv_editor.specs.declared.scratch.TheConstants.{LONGEST_BODY};
 ghost use Rattle.lv_editor.specs.declared.error.EditorError.TheVariants.{WriterFailed};
 ghost use Rattle.lv_editor.specs.Lines.{IsBegun, line_if_any};
-ghost use Rattle.lv_editor.specs.Answers.{Answers};
-ghost use Rattle.lv_editor.specs.Runs.{Ends, Feeds, Ran};
+ghost use Rattle.lv_editor.specs.Runs.{AnswersLines, Exchange, Feeds, Ran, Replies};
 
 use crate::error::EditorError;
 use crate::input_line::InputLine;
-use crate::scratch::Scratch;
+use crate::session::Session;
 use std::alloc::Global;
 use std::io::{Read, Write};
 
@@ -25,21 +22,21 @@ fn flush<W: Write>(writer: &mut W) -> Result<(), EditorError>
 }
 
 /// Answers a last line without LF, where it isn't empty.
-fn finish<W: Write>(
+fn finish<S: Session, W: Write>(
     alloc: Global,
-    scratch: &mut Scratch,
+    session: &mut S,
     line: &InputLine,
     writer: &mut W,
 ) -> Result<u64, EditorError>
     ensures { (part : List ℕ) → IsBegun line.now part
-        → Ends (Answers LONGEST_BODY) result scratch.old.map.tables scratch.new.map.tables
+        → AnswersLines (Replies S.answers S.lacks) result session.old session.new
         (line_if_any part) (W.contents writer.old) (W.contents writer.new) }
 {
     let kept = line.as_slice();
     if kept.is_empty() {
         return Ok(0);
     }
-    match scratch.answer(alloc, kept, writer) {
+    match session.answer(alloc, kept, writer) {
         Ok(()) => match flush(writer) {
             Ok(()) => Ok(1),
             Err(error) => Err(error),
@@ -49,15 +46,15 @@ fn finish<W: Write>(
 }
 
 /// Takes one byte: answers the line that it ends, or goes on with the line.
-fn take_byte<W: Write>(
+fn take_byte<S: Session, W: Write>(
     alloc: Global,
-    scratch: &mut Scratch,
+    session: &mut S,
     line: &mut InputLine,
     b: u8,
     writer: &mut W,
 ) -> Result<u64, EditorError>
     ensures feeds { (part : List ℕ) → IsBegun line.old part
-        → Feeds (Answers LONGEST_BODY) result scratch.old.map.tables scratch.new.map.tables
+        → Feeds (Replies S.answers S.lacks) result session.old session.new
         part (b ∷ []) line.new (W.contents writer.old) (W.contents writer.new) }
     ensures few { IfOk result (λ n. n ≤ 1) }
 {
@@ -65,7 +62,7 @@ fn take_byte<W: Write>(
         line.push(b);
         return Ok(0);
     }
-    match scratch.answer(alloc, line.as_slice(), writer) {
+    match session.answer(alloc, line.as_slice(), writer) {
         Ok(()) => {
             line.clear();
             Ok(1)
@@ -75,21 +72,21 @@ fn take_byte<W: Write>(
 }
 
 /// Takes more bytes: answers each line that they end, and keeps what stands behind the last.
-fn feed<W: Write>(
+fn feed<S: Session, W: Write>(
     alloc: Global,
-    scratch: &mut Scratch,
+    session: &mut S,
     line: &mut InputLine,
     bytes: &[u8],
     writer: &mut W,
 ) -> Result<u64, EditorError>
     ensures feeds { (part : List ℕ) → IsBegun line.old part
-        → Feeds (Answers LONGEST_BODY) result scratch.old.map.tables scratch.new.map.tables
+        → Feeds (Replies S.answers S.lacks) result session.old session.new
         part bytes.now line.new (W.contents writer.old) (W.contents writer.new) }
     ensures few { IfOk result (λ n. n ≤ length bytes.now) }
 {
     let mut answered: u64 = 0;
     for b in bytes {
-        match take_byte(alloc, scratch, line, *b, writer) {
+        match take_byte(alloc, session, line, *b, writer) {
             Ok(count) => answered += count,
             Err(error) => return Err(error),
         }
@@ -98,19 +95,19 @@ fn feed<W: Write>(
 }
 
 /// Takes the bytes of one turn, and hands on the answers.
-fn take_turn<W: Write>(
+fn take_turn<S: Session, W: Write>(
     alloc: Global,
-    scratch: &mut Scratch,
+    session: &mut S,
     line: &mut InputLine,
     bytes: &[u8],
     writer: &mut W,
 ) -> Result<u64, EditorError>
     ensures feeds { (part : List ℕ) → IsBegun line.old part
-        → Feeds (Answers LONGEST_BODY) result scratch.old.map.tables scratch.new.map.tables
+        → Feeds (Replies S.answers S.lacks) result session.old session.new
         part bytes.now line.new (W.contents writer.old) (W.contents writer.new) }
     ensures few { IfOk result (λ n. n ≤ length bytes.now) }
 {
-    match feed(alloc, scratch, line, bytes, writer) {
+    match feed(alloc, session, line, bytes, writer) {
         Ok(count) => match flush(writer) {
             Ok(()) => Ok(count),
             Err(error) => Err(error),
@@ -119,28 +116,19 @@ fn take_turn<W: Write>(
     }
 }
 
-/// Answers the lines that the reader gives, in at most `turns` reads of at most 4,096 bytes, over
-/// a map that is empty at first, and says how many lines it answered. The writer is flushed after
-/// each turn.
-///
-/// # Errors
-///
-/// - `InputTooLong` where that many reads did not give the end, and `ReaderFailed`: every line that
-///   was read whole has been answered, and the rest is dropped.
-/// - `WriterFailed`: no further line was looked at.
-///
-/// It takes no memory of its own. A line that finds none is answered `no 31`.
-pub fn run_in_memory<R: Read, W: Write>(
+/// Answers the lines that the reader gives, in at most `turns` reads of at most 4,096 bytes, and says how many lines it
+/// answered. The writer is flushed after each turn.
+pub fn run_lines<S: Session, R: Read, W: Write>(
     alloc: Global,
+    session: &mut S,
     reader: &mut R,
     writer: &mut W,
     turns: u32,
 ) -> Result<u64, EditorError>
-    ensures { Ran (Answers LONGEST_BODY) empty_tables turns result
+    ensures { (trace : List (Exchange S)) × Ran (Replies S.answers S.lacks) session.old session.new trace turns result
         (R.remaining reader.old) (R.remaining reader.new)
         (W.contents writer.old) (W.contents writer.new) }
 {
-    let mut scratch = Scratch::new(alloc);
     let mut line = InputLine::new();
     let mut answered: u64 = 0;
     let mut buffer = [0; 4096];
@@ -150,12 +138,12 @@ pub fn run_in_memory<R: Read, W: Write>(
             Err(_) => return Err(EditorError::ReaderFailed),
         };
         if count == 0 {
-            match finish(alloc, &mut scratch, &line, writer) {
+            match finish(alloc, session, &line, writer) {
                 Ok(last) => return Ok(answered + last),
                 Err(error) => return Err(error),
             }
         }
-        match take_turn(alloc, &mut scratch, &mut line, &buffer[..count], writer) {
+        match take_turn(alloc, session, &mut line, &buffer[..count], writer) {
             Ok(more) => answered += more,
             Err(error) => return Err(error),
         }

@@ -28,7 +28,7 @@ module _ (area : Area) (next : ℕ) (payload : List ℕ) (short : length payload
   gate = area.base + next
 
   pub itself : (file : List ℕ) → MayAppend area payload file file
-  itself file = record { keeps = keeps_itself area.base area.length file; journal = λ payloads is. inl is }
+  itself file = record { keeps = keeps_itself area.base area.length file; no_longer = omega arith; journal = λ payloads is. inl is }
 
   -- all that stood up to the gate stands, and it's closed
   stays : (payloads : List (List ℕ)) (old new : List ℕ) → length (records_bytes payloads) ≡ next → IsJournal area payloads old → KeepsOutside gate 1 old new → get_or new gate 0 ≢ 165 → IsJournal area payloads new
@@ -83,6 +83,7 @@ module _ (area : Area) (next : ℕ) (payload : List ℕ) (short : length payload
   pub torn_behind : (old new : List ℕ) → EndsAt area next old → Torn (gate + 1) (length payload + 5) old new → MayAppend area payload old new
   torn_behind old new ends torn = record {
     keeps = keeps_wider (gate + 1) (length payload + 5) area.base area.length old new (omega arith) (omega (arith, fits)) torn.keeps;
+    no_longer = omega (arith, torn.no_longer, fits);
     journal = λ payloads is. inl (behind payloads old new (ends_there payloads old ends is) is torn.keeps);
   }
 
@@ -90,6 +91,7 @@ module _ (area : Area) (next : ℕ) (payload : List ℕ) (short : length payload
   pub torn_gate : (old mid new : List ℕ) → EndsAt area next old → Written (gate + 1) (block payload) old mid → Torn gate 1 mid new → MayAppend area payload old new
   torn_gate old mid new ends written torn = record {
     keeps = keeps_then area.base area.length old mid new (keeps_wider (gate + 1) (length (block payload)) area.base area.length old mid (omega arith) (omega (arith, fits, length-block payload)) written.keeps) (keeps_wider gate 1 area.base area.length mid new (omega arith) (omega (arith, fits)) torn.keeps);
+    no_longer = omega (arith, written.long (some_block payload), torn.no_longer, length-block payload, fits);
     journal = λ payloads is. either payloads (ends_there payloads old ends is) is;
   }
     where
@@ -104,6 +106,7 @@ module _ (area : Area) (next : ℕ) (payload : List ℕ) (short : length payload
   pub written_gate : (old mid new : List ℕ) → EndsAt area next old → Written (gate + 1) (block payload) old mid → Written gate (165 ∷ []) mid new → Appends area payload old new
   written_gate old mid new ends written opens = record {
     keeps = keeps_then area.base area.length old mid new (keeps_wider (gate + 1) (length (block payload)) area.base area.length old mid (omega arith) (omega (arith, fits, length-block payload)) written.keeps) (keeps_wider gate 1 area.base area.length mid new (omega arith) (omega (arith, fits)) opens.keeps);
+    no_longer = omega (arith, written.long (some_block payload), opens.long (omega arith), length-block payload, fits);
     journal = λ payloads is.
         let at = ends_there payloads old ends is in
         let staged : IsJournal area payloads mid = behind payloads old mid at is (subst (λ (k : ℕ). KeepsOutside (gate + 1) k old mid) (length-block payload) written.keeps) in

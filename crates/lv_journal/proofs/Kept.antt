@@ -1,17 +1,13 @@
 -- What the bytes of an area stand for depends on these bytes alone.
-use Rattle.std.proofs.Common.{◌≡◌, inl, inr, ⊎_elim, ◌<◌, ◌+◌, ℕ, List, [], length, get_or, sym, ◌∙◌, ap, arith}
-use Rattle.lv_disk.specs.Files.{Outside, KeepsOutside}
+use Rattle.std.proofs.Common.{◌≡◌, inl, inr, ⊎_elim, ◌<◌, ◌≤◌, ◌+◌, ℕ, List, [], length, get_or, sym, ◌∙◌, ap, subst, arith}
+use Rattle.lv_disk.specs.Areas.{IsApart}
+use Rattle.lv_disk.specs.Files.{KeepsOutside}
 use Rattle.lv_disk.specs.Gates.{IsClosedAt}
 use Rattle.lv_disk.specs.declared.area.Area.{Area}
 use Rattle.lv_disk.proofs.Bytes.{has_kept}
-use Rattle.lv_journal.specs.Records.{records_bytes, IsApart, IsJournal}
-
--- a closed gate outside the range stays closed
-closed_kept : (place at n : ℕ) (old new : List ℕ) → Outside at n place → KeepsOutside at n old new → IsClosedAt place old → IsClosedAt place new
-closed_kept place at n old new out keeps is = record {
-  within = omega (arith, is.within, keeps.no_shorter);
-  closed = λ is_open. is.closed (sym (keeps.same place is.within out) ∙ is_open);
-}
+use Rattle.lv_disk.proofs.Gates.{closed_kept}
+use Rattle.lv_journal.specs.Damage.{IsDamagedAt}
+use Rattle.lv_journal.specs.Records.{records_bytes, IsJournal}
 
 pub journal_kept : (area : Area) (payloads : List (List ℕ)) (at n : ℕ) (old new : List ℕ) → IsApart area at n → KeepsOutside at n old new → IsJournal area payloads old → IsJournal area payloads new
 journal_kept area payloads at n old new apart keeps is = record {
@@ -20,6 +16,19 @@ journal_kept area payloads at n old new apart keeps is = record {
   room = is.room;
   short = is.short;
 }
+
+-- an area that stands for no payload begins with a closed gate
+pub none_closed : (area : Area) (file : List ℕ) → IsJournal area [] file → IsClosedAt area.base file
+none_closed area file is =
+    let here : area.base + 0 ≡ area.base = omega arith in
+    subst (λ (k : ℕ). IsClosedAt k file) here is.gate
+
+pub begins_inside : (area : Area) (payloads : List (List ℕ)) (file : List ℕ) → IsJournal area payloads file → (0 < area.length) × (area.base < length file)
+begins_inside area payloads file is = (omega (arith, is.room), omega (arith, is.gate.within))
+
+pub damage_inside : (area : Area) (place : ℕ) (file : List ℕ) → 0 < area.length → IsDamagedAt area place file → (area.base ≤ place) × (place < area.base + area.length)
+damage_inside area place file some (inl first) = (omega (arith, first.0), omega (arith, first.0, some))
+damage_inside area place file some (inr breaks) = (omega (arith, breaks.there), breaks.bad.inside.in_area)
 
 pub journal_none : (area : Area) (file : List ℕ) → 0 < area.length → IsClosedAt area.base file → IsJournal area [] file
 journal_none area file some shut =

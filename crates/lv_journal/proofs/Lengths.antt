@@ -4,7 +4,7 @@ use Rattle.std.proofs.lemmas.List.{append-nil, take_more, take-append-drop, map-
 use Rattle.std.specs.Int.{to_le_bytes, w32}
 use Rattle.std.proofs.lemmas.Bool.{cond_below}
 use Rattle.lv_journal.specs.Records.{record_bytes, records_bytes}
-use Rattle.lv_journal.specs.State.{State, place_of}
+use Rattle.lv_journal.specs.State.{State, gate_of}
 
 pub length-record : (payload : List ℕ) → length (record_bytes payload) ≡ length payload + 5
 length-record payload = omega (arith, length-append (to_le_bytes w32 (length payload)) payload)
@@ -39,6 +39,6 @@ module _ {X : Type 0} (view : X → List ℕ) where
 
 -- the place of a record that there is
 pub place-found : (journal : State) (n base before : ℕ) → n < length journal.records → base ≡ journal.area.base → before ≡ length (records_bytes (take n journal.records))
-    → Some (base + before) ≡ place_of journal n
+    → Some (base + before) ≡ gate_of journal n
 place-found journal n base before lt base_is before_is =
     ap (λ k. Some (k + before)) base_is ∙ ap (λ k. Some (journal.area.base + k)) before_is ∙ cond_below n (length journal.records) (Some (journal.area.base + length (records_bytes (take n journal.records)))) None lt

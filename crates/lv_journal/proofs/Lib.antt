@@ -1,6 +1,5 @@
 pub mod Lengths
 pub mod OneReading
 pub mod Kept
-pub mod ReadingCalls
 pub mod ReadingLoop
 pub mod Append

@@ -19,14 +19,6 @@ pub record HasRead (area : Area) (end next : ℕ) (payloads : List (List ℕ)) (
   pub short : All (λ payload. length payload ≤ 256) payloads
   pub has : Each reads (HasAt area.base (records_bytes payloads))
 
-pub has_none : (area : Area) (end : ℕ) (reads : List ℕ → Type 0) → area.base < end → Each reads (λ file. end ≡ min (length file) (area.base + area.length)) → HasRead area end 0 [] reads
-has_none area end reads lt ends = record {
-  len = refl;
-  inside = omega (arith, lt);
-  short = λ k d lt. absurd (omega (arith, lt));
-  has = λ file is. record { within = omega (arith, lt, ends file is); same = λ i below. absurd (omega (arith, below)) };
-}
-
 -- where the file or the area ends before the first gate
 pub no_gate : (area : Area) (end : ℕ) (file : List ℕ) → end ≡ min (length file) (area.base + area.length) → end ≤ area.base → EndsBefore area (area.base + 1) file
 no_gate area end file ends le =

@@ -1,6 +1,5 @@
 pub mod Records
 pub mod Damage
-pub mod Reading
 pub mod Append
 pub mod State
 pub mod View

@@ -1,5 +1,5 @@
 -- What the bytes of an area of a file stand for: a list of payloads.
-use Rattle.std.specs.Prelude.{◌≡◌, ◌<◌, ◌≤◌, ◌⊎◌, ◌+◌, ℕ, List, [], ◌∷◌, ◌++◌, length, map, Vec}
+use Rattle.std.specs.Prelude.{◌≡◌, ◌<◌, ◌≤◌, ◌+◌, ℕ, List, [], ◌∷◌, ◌++◌, length, map, Vec}
 use Rattle.std.specs.declared.alloc.Global.{Global}
 use Rattle.std.specs.List.{All}
 use Rattle.std.specs.Int.{to_le_bytes, w32}
@@ -31,7 +31,3 @@ EndsAt area end file =
 -- the payloads, each in a vector
 abbrev pub payloads_of : List (Vec ℕ Global) → List (List ℕ)
 payloads_of payloads = map (λ payload. payload.items) payloads
-
--- the area lies outside the n bytes from `at` on
-abbrev pub IsApart : Area → ℕ → ℕ → Type 0
-IsApart area at n = (area.base + area.length ≤ at) ⊎ (at + n ≤ area.base)

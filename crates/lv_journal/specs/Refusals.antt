@@ -1,6 +1,5 @@
 -- The refusals of a journal: their numbers, and when they come.
-use Rattle.std.specs.Prelude.{◌≡◌, ◌≤◌, ◌⊎◌, ℕ, Result, IsErrOf}
-use Rattle.lv_disk.specs.Stops.{Rose}
+use Rattle.std.specs.Prelude.{◌≡◌, ◌⊎◌, ℕ}
 use Rattle.lv_journal.specs.declared.error.JournalError.{JournalError}
 use Rattle.lv_journal.specs.declared.error.JournalError.TheVariants.{Device, OutOfMemory, Reopen, JournalFull, Damaged}
 
@@ -11,12 +10,6 @@ code_of OutOfMemory = 31
 code_of Reopen = 32
 code_of JournalFull = 34
 code_of (Damaged place) = 40
-
--- `Device` is answered only where the count of failures rose, and a count that rose is answered `Device`
-pub record CountsFaults {T : Type 0} (before now : ℕ) (result : Result T JournalError) : Type 0 where
-  pub later : before ≤ now
-  pub device : IsErrOf result Device → Rose before now
-  pub no_other : IsErrOf result Device ⊎ (now ≡ before)
 
 -- `open` refuses by these alone
 abbrev pub RefusesOpen : JournalError → Type 0

@@ -26,10 +26,10 @@ IsAbove None n = Unit {0}
 IsAbove (Some room) n = room < n
 
 -- where in the file the gate of the n-th payload stands
-abbrev pub place_of : State → ℕ → Option ℕ
-place_of journal n =
+abbrev pub gate_of : State → ℕ → Option ℕ
+gate_of journal n =
     if nat_lt n (length journal.records) then Some (journal.area.base + length (records_bytes (take n journal.records))) else None
 
 -- a journal that needn't be opened again ends in each of these files where it says
-abbrev pub IsReady : State → (List ℕ → Type 0) → Type 0
-IsReady journal files = journal.must_reopen ≡ false → Each files (EndsAt journal.area journal.next)
+abbrev pub IsReadyIn : State → (List ℕ → Type 0) → Type 0
+IsReadyIn journal files = journal.must_reopen ≡ false → Each files (EndsAt journal.area journal.next)

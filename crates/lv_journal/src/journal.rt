@@ -1,15 +1,15 @@
 //! A journal: a record counts where its gate is open, and a closed gate stands behind the last one, on the disk before
 //! anything is written behind it.
 ghost use Rattle.std.specs.Prelude.{◌≡◌, ◌≤◌, ◌<◌, ◌⊎◌, ◌↔◌, ◌+◌, [], ◌∷◌, length, true, false, OnOk, OnErr, IsErrOf, IfErr, IfOk};
-ghost use Rattle.lv_disk.specs.Stops.{From, Follows, Each, LeavesOnly};
+ghost use Rattle.lv_disk.specs.Stops.{CountsFaults, From, Follows, Each, Leads, LeavesOnly};
 ghost use Rattle.lv_disk.specs.Gates.{IsClosedAt};
 ghost use Rattle.lv_disk.specs.Files.{Failed, Torn, Written};
 ghost use Rattle.lv_journal.specs.Append.{Appends, MayAppend};
 ghost use Rattle.lv_journal.specs.Damage.{IsDamagedAt};
-ghost use Rattle.lv_journal.specs.Refusals.{CountsFaults, IfDamaged, RefusesAppend, RefusesOpen};
-ghost use Rattle.lv_journal.specs.Reading.{OnlyReads};
+ghost use Rattle.lv_journal.specs.Refusals.{IfDamaged, RefusesAppend, RefusesOpen};
+ghost use Rattle.lv_disk.specs.Reading.{OnlyReads};
 ghost use Rattle.lv_journal.specs.Records.{payloads_of, IsJournal};
-ghost use Rattle.lv_journal.specs.State.{opened, room_of, place_of, IsAbove, IsReady};
+ghost use Rattle.lv_journal.specs.State.{opened, room_of, gate_of, IsAbove, IsReadyIn};
 
 use crate::JournalError;
 use crate::reading::read_records;
@@ -52,7 +52,7 @@ impl Journal {
         // The records are those that the area's bytes stand for.
         ensures opened { IfOk result (λ journal. journal ≡ opened area journal.records) }
         ensures sound { IfOk result (λ journal. Each (D.reads disk.old) (IsJournal area journal.records)) }
-        ensures ready { IfOk result (λ journal. IsReady journal (D.may_leave disk.new)) }
+        ensures ready { IfOk result (λ journal. IsReadyIn journal (D.may_leave disk.new)) }
 
         ensures damaged { IfErr result (λ e. IfDamaged e (λ place.
             Each (D.reads disk.old) (IsDamagedAt area place))) }
@@ -61,7 +61,7 @@ impl Journal {
         // It writes nothing.
         ensures reads { OnlyReads D.reads D.may_leave D.moment D.left_since disk.old disk.new }
         ensures only { Each (D.may_leave disk.new) (D.reads disk.new) }
-        ensures count { CountsFaults (D.failures disk.old) (D.failures disk.new) result }
+        ensures count { CountsFaults JournalError.Device (D.failures disk.old) (D.failures disk.new) result }
     {
         let records = read_records(alloc, disk, area)?;
         Ok(Journal {
@@ -92,7 +92,7 @@ impl Journal {
         requires closed { Each (D.may_leave disk.now) (IsClosedAt area.base) }
         ensures empty { result ≡ opened area [] }
         ensures none { Each (D.may_leave disk.now) (IsJournal area []) }
-        ensures ready { IsReady result (D.may_leave disk.now) }
+        ensures ready { IsReadyIn result (D.may_leave disk.now) }
     {
         Journal::empty(area)
     }
@@ -109,7 +109,7 @@ impl Journal {
 
     /// Where in the file the gate of the n-th of `records` stands.
     pub fn place(&self, n: usize) -> Option<u64>
-        ensures { result ≡ place_of self.now n }
+        ensures { result ≡ gate_of self.now n }
     {
         let records = self.records();
         if n < records.len() {
@@ -133,7 +133,7 @@ impl Journal {
     /// is longer than `room`. Neither makes a device call.
     pub fn append<D: Disk>(&mut self, disk: &mut D, payload: &[u8]) -> Result<(), JournalError>
         requires short { length payload.now ≤ 256 }
-        requires ready { IsReady self.old (D.may_leave disk.old) }
+        requires ready { IsReadyIn self.old (D.may_leave disk.old) }
 
         // After an Ok each file that a stop may leave has the record, and the journal takes the next one.
         ensures appended { OnOk result
@@ -141,7 +141,7 @@ impl Journal {
         ensures durable { OnOk result (Each (D.may_leave disk.new) (D.reads disk.new)) }
         ensures next { OnOk result (self.new
             ≡ record self.old { next = self.old.next + 5 + length payload.now; must_reopen = false }) }
-        ensures ready { IsReady self.new (D.may_leave disk.new) }
+        ensures ready { IsReadyIn self.new (D.may_leave disk.new) }
 
         // A stop at any moment of the call leaves the records from before it, with the new one or without.
         ensures any_moment { LeavesOnly D.moment D.left_since disk.old disk.new
@@ -155,7 +155,7 @@ impl Journal {
         ensures nothing { IfErr result (λ e.
             (e ≡ JournalError.Device) ⊎ ((disk.new ≡ disk.old) × (self.new ≡ self.old))) }
         ensures no_other { IfErr result RefusesAppend }
-        ensures count { CountsFaults (D.failures disk.old) (D.failures disk.new) result }
+        ensures count { CountsFaults JournalError.Device (D.failures disk.old) (D.failures disk.new) result }
     {
         if self.must_reopen {
             return Err(JournalError::Reopen);
@@ -179,13 +179,20 @@ pub fn blank<D: Disk>(disk: &mut D, area: Area) -> Result<Journal, JournalError>
     ensures empty { IfOk result (λ journal. journal ≡ opened area []) }
     ensures written { OnOk result
         (Follows (Written area.base (0 ∷ [])) (D.reads disk.old) (D.reads disk.new)) }
+    ensures closed { OnOk result (Each (D.reads disk.new) (IsClosedAt area.base)) }
     ensures none { OnOk result (Each (D.reads disk.new) (IsJournal area [])) }
     ensures failed { OnErr result (Follows (Failed area.base 1) (D.reads disk.old) (D.reads disk.new)) }
+    ensures leads { OnOk result
+        (Leads (Written area.base (0 ∷ [])) (D.reads disk.old) (D.reads disk.new)) }
+    ensures leads_failed { OnErr result (Leads (Failed area.base 1) (D.reads disk.old) (D.reads disk.new)) }
+
+    // Each image stays one, so nothing is synced.
     ensures images { Follows (Torn area.base 1) (D.may_leave disk.old) (D.may_leave disk.new) }
+    ensures kept { Each (D.may_leave disk.old) (D.may_leave disk.new) }
     ensures any_moment { LeavesOnly D.moment D.left_since disk.old disk.new
         (From (D.may_leave disk.old) (Torn area.base 1)) }
     ensures device { IfErr result (λ e. e ≡ JournalError.Device) }
-    ensures count { CountsFaults (D.failures disk.old) (D.failures disk.new) result }
+    ensures count { CountsFaults JournalError.Device (D.failures disk.old) (D.failures disk.new) result }
 {
     disk.write_at(area.base, &[CLOSED_GATE])?;
     Ok(Journal::empty(area))

@@ -1,10 +1,11 @@
 //! Laws on what the bytes of an area stand for. The functions have no bodies: their contracts are the laws.
-ghost use Rattle.std.specs.Prelude.{◌≡◌, ◌<◌, [], List, ℕ};
+ghost use Rattle.std.specs.Prelude.{◌≡◌, ◌<◌, ◌≤◌, ◌+◌, [], List, ℕ, length};
+ghost use Rattle.lv_disk.specs.Areas.{IsApart};
 ghost use Rattle.lv_disk.specs.Files.{KeepsOutside};
 ghost use Rattle.lv_disk.specs.Gates.{IsClosedAt};
 ghost use Rattle.lv_disk.specs.declared.area.Area.{Area};
 ghost use Rattle.lv_journal.specs.Damage.{IsDamagedAt};
-ghost use Rattle.lv_journal.specs.Records.{IsApart, IsJournal};
+ghost use Rattle.lv_journal.specs.Records.{IsJournal};
 
 /// An area's bytes stand for one list of payloads at most, are damaged at one place at most, and are not both.
 pub fn stand_for_one_list()
@@ -24,4 +25,14 @@ pub fn stand_by_themselves()
         → IsJournal area payloads old → IsJournal area payloads new }
     ensures none { (area : Area) (file : List ℕ)
         → 0 < area.length → IsClosedAt area.base file → IsJournal area [] file }
+{}
+
+/// An area that stands for payloads has a first gate in the file, which is closed where there are none; and a damaged
+/// place lies in its area.
+pub fn begin_in_their_area()
+    ensures first { (area : Area) (payloads : List (List ℕ)) (file : List ℕ)
+        → IsJournal area payloads file → (0 < area.length) × (area.base < length file) }
+    ensures closed { (area : Area) (file : List ℕ) → IsJournal area [] file → IsClosedAt area.base file }
+    ensures place { (area : Area) (file : List ℕ) (place : ℕ) → 0 < area.length
+        → IsDamagedAt area place file → (area.base ≤ place) × (place < area.base + area.length) }
 {}

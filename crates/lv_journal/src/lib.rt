@@ -9,4 +9,4 @@ mod record;
 
 pub use error::JournalError;
 pub use journal::{Journal, blank};
-pub use law::{stand_by_themselves, stand_for_one_list};
+pub use law::{begin_in_their_area, stand_by_themselves, stand_for_one_list};

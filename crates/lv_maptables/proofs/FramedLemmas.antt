@@ -17,6 +17,7 @@ use Rattle.lv_lumps.specs.declared.records.Line.{Line}
 use Rattle.lv_lumps.specs.declared.records.Side.{Side}
 use Rattle.lv_lumps.specs.declared.records.Vertex.{Vertex}
 use Rattle.lv_lumps.specs.declared.records.Sector.{Sector}
+use Rattle.lv_lumps.proofs.DrawingLemmas.{drawable_x, drawable_y}
 use Rattle.lv_lumps.proofs.FieldBytes.{next, name-here, unsigned-here, unsigned-part, after}
 use Rattle.lv_lumps.proofs.RecordBytes.{thing_at-record, line_at-record, side_at-record, vertex_at-record, sector_at-record, thing_record-at, line_record-at, side_record-at, vertex_record-at, sector_record-at}
 use Rattle.lv_maptables.specs.Tables.{Tables, no_side, body_len}
@@ -66,7 +67,7 @@ fits_code : (z : ℤ) → IsCode z → FitsSigned w16 z
 fits_code z h = fits_between (pos 0) (pos 32767) z h (search rules) (search rules)
 
 vertex_back : (v : Vertex) → IsVertex v → IsBack vertex_at vertex_record 4 v
-vertex_back v h = record { size = refl; back = vertex_at-record v (fits_coordinate v.x h.x) (fits_coordinate v.y h.y) }
+vertex_back v h = record { size = refl; back = vertex_at-record v (fits_coordinate v.x (drawable_x v h)) (fits_coordinate v.y (drawable_y v h)) }
 
 thing_back : (t : Thing) → IsThing t → IsBack thing_at thing_record 10 t
 thing_back t h =

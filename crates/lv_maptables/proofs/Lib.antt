@@ -1,8 +1,10 @@
 pub mod ListLemmas
 pub mod FaultLemmas
+pub mod FormLemmas
 pub mod VertexLemmas
 pub mod SectorLemmas
 pub mod SideLemmas
 pub mod LineLemmas
 pub mod BodyLemmas
 pub mod FramedLemmas
+pub mod ProjectLemmas

@@ -1,48 +1,27 @@
 -- A map stays well-formed under the edits of its lines and its things.
-use Rattle.std.proofs.Common.{◌≡◌, ℕ, false, ◌&&◌, not, eqb, [], ◌∷◌, None, inl, inr, arith, length-append}
-use Rattle.std.proofs.lemmas.Bool.{eqb-false, eqb-true, or_parts, and_cases, ltb-false, both_ways, not_from_false, not_from_true, eq-eqb, not-false}
+use Rattle.std.proofs.Common.{◌≡◌, ℕ, false, [], ◌∷◌, None, arith, length-append}
 use Rattle.std.proofs.lemmas.List.Elements.{All-push, All-set}
 use Rattle.std.proofs.lemmas.List.{length-set}
 use Rattle.std.proofs.lemmas.List.Edits.{length-remove}
 use Rattle.lv_lumps.specs.declared.records.Line.{Line}
 use Rattle.lv_lumps.specs.declared.records.Thing.{Thing}
-use Rattle.lv_maptables.specs.Tables.{Tables, no_side}
-use Rattle.lv_maptables.specs.Ranges.{IsLine, IsThing, squared_distance, longest_squared}
-use Rattle.lv_maptables.specs.WellFormed.{WellFormed, HasEnds, HasSides, is_two_sided, vertex_at}
+use Rattle.lv_maptables.specs.Tables.{Tables}
+use Rattle.lv_maptables.specs.Ranges.{IsLine, IsThing}
+use Rattle.lv_maptables.specs.WellFormed.{WellFormed, HasEnds, HasSides}
 use Rattle.lv_maptables.specs.Outcomes.{least}
-use Rattle.lv_maptables.specs.Faults.{reference_faults, shape_faults, line_faults, set_line_faults, drop_line_faults, thing_faults, drop_thing_faults, has_left, lacks, is_too_long}
+use Rattle.lv_maptables.specs.Faults.{reference_faults, shape_faults, line_faults, set_line_faults, drop_line_faults, thing_faults, drop_thing_faults, is_too_long}
 use Rattle.lv_maptables.specs.Edits.{with_line, with_line_at, without_line, with_thing, with_thing_at, without_thing}
 use Rattle.lv_maptables.proofs.ListLemmas.{All-remove}
 use Rattle.lv_maptables.proofs.FaultLemmas.{NoneHold, none_hold, has_room, not_lacking}
+use Rattle.lv_maptables.proofs.FormLemmas.{ends_from, sides_from}
 
 -- a line has its ends where nothing speaks against them
 pub ends_of : (m : Tables) (l : Line) → NoneHold (reference_faults m l) → NoneHold (shape_faults l) → is_too_long m.vertices l ≡ false → HasEnds m.vertices l
-ends_of m l references shape short =
-    let there = or_parts (lacks m.vertices l.v1) (lacks m.vertices l.v2) references.0 in
-    record {
-      v1 = not_lacking m.vertices l.v1 there.0;
-      v2 = not_lacking m.vertices l.v2 there.1;
-      differ = eqb-false l.v1 l.v2 shape.0;
-      short = ltb-false longest_squared (squared_distance (vertex_at m.vertices l.v1) (vertex_at m.vertices l.v2)) short;
-    }
+ends_of m l references shape short = ends_from m.vertices l references.0 shape.0 short
 
 -- and its sides
 pub sides_of : (m : Tables) (l : Line) → NoneHold (reference_faults m l) → NoneHold (shape_faults l) → HasSides m.sides l
-sides_of m l references shape =
-    let there = or_parts (lacks m.sides l.right) (has_left l && lacks m.sides l.left) references.1.0 in
-    record {
-      right = not_lacking m.sides l.right there.0;
-      left = λ some. elim (and_cases (has_left l) (lacks m.sides l.left) there.1) [
-        | inl none ↦ absurd (some (eqb-true l.left no_side (not-false (eqb l.left no_side) none)))
-        | inr found ↦ not_lacking m.sides l.left found
-      ];
-      two_sided = λ two none.
-          let missing : has_left l ≡ false = not_from_true (eqb l.left no_side) (eq-eqb l.left no_side none) in
-          elim (and_cases (is_two_sided l) (not (has_left l)) shape.1.0) [
-            | inl single ↦ both_ways (is_two_sided l) single two
-            | inr left ↦ both_ways (not (has_left l)) left (not_from_false (has_left l) missing)
-          ];
-    }
+sides_of m l references shape = sides_from m.sides l references.1.0 shape.1.0
 
 -- with one more line
 pub with_line-keeps : (m : Tables) (l : Line) → WellFormed m → IsLine l → least (line_faults m l) ≡ None → WellFormed (with_line m l)

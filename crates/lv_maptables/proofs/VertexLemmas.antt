@@ -14,7 +14,7 @@ use Rattle.lv_lumps.specs.declared.records.Line.{Line}
 use Rattle.lv_lumps.specs.declared.records.Side.{Side}
 use Rattle.lv_maptables.specs.Tables.{Tables}
 use Rattle.lv_maptables.specs.Ranges.{IsVertex, IsLine, squared_distance, longest_squared}
-use Rattle.lv_maptables.specs.WellFormed.{WellFormed, HasEnds, HasSides, vertex_at}
+use Rattle.lv_maptables.specs.WellFormed.{WellFormed, HasEnds, HasSides, nth_vertex}
 use Rattle.lv_maptables.specs.Outcomes.{least}
 use Rattle.lv_maptables.specs.Faults.{vertex_faults, set_vertex_faults, drop_vertex_faults, is_place, is_taken_beside, is_too_long, uses_vertex}
 use Rattle.lv_maptables.specs.Edits.{with_vertex, with_vertex_at, without_vertex, line_without_vertex, lowered}
@@ -29,8 +29,8 @@ own_place v = and_from _ _ ((Decides-int_eq v.x v.x).1 refl) ((Decides-int_eq v.
 pub ends_more : (vs : List Vertex) (v : Vertex) (l : Line) → HasEnds vs l → HasEnds (vs ++ v ∷ []) l
 ends_more vs v l h =
     let longer = length-append vs (v ∷ []) in
-    let first : vertex_at (vs ++ v ∷ []) l.v1 ≡ vertex_at vs l.v1 = get_or_append_left vs (v ∷ []) _ l.v1 h.v1 in
-    let second : vertex_at (vs ++ v ∷ []) l.v2 ≡ vertex_at vs l.v2 = get_or_append_left vs (v ∷ []) _ l.v2 h.v2 in
+    let first : nth_vertex (vs ++ v ∷ []) l.v1 ≡ nth_vertex vs l.v1 = get_or_append_left vs (v ∷ []) _ l.v1 h.v1 in
+    let second : nth_vertex (vs ++ v ∷ []) l.v2 ≡ nth_vertex vs l.v2 = get_or_append_left vs (v ∷ []) _ l.v2 h.v2 in
     record {
       v1 = omega (arith, longer, h.v1);
       v2 = omega (arith, longer, h.v2);
@@ -70,8 +70,8 @@ ends_without vs n l at unused h =
     let apart = or_parts (eqb l.v1 n) (eqb l.v2 n) unused in
     let apart1 : l.v1 ≢ n = eqb-false l.v1 n apart.0 in
     let apart2 : l.v2 ≢ n = eqb-false l.v2 n apart.1 in
-    let first : vertex_at (remove vs n) (lowered n l.v1) ≡ vertex_at vs l.v1 = get_or-lowered vs n l.v1 _ at apart1 in
-    let second : vertex_at (remove vs n) (lowered n l.v2) ≡ vertex_at vs l.v2 = get_or-lowered vs n l.v2 _ at apart2 in
+    let first : nth_vertex (remove vs n) (lowered n l.v1) ≡ nth_vertex vs l.v1 = get_or-lowered vs n l.v1 _ at apart1 in
+    let second : nth_vertex (remove vs n) (lowered n l.v2) ≡ nth_vertex vs l.v2 = get_or-lowered vs n l.v2 _ at apart2 in
     record {
       v1 = lowered_fits n l.v1 (length (remove vs n)) (omega arith) (omega (arith, h.v1)) apart1;
       v2 = lowered_fits n l.v2 (length (remove vs n)) (omega arith) (omega (arith, h.v2)) apart2;
@@ -146,10 +146,10 @@ ends_moved vs n v l fits h =
       short = elim (and_cases (uses_vertex n l) (is_too_long (set vs n v) l) fits) [
         | inl unused ↦
             let apart = or_parts (eqb l.v1 n) (eqb l.v2 n) unused in
-            let first : vertex_at (set vs n v) l.v1 ≡ vertex_at vs l.v1 = get_or-set_other vs n l.v1 v _ (eqb-false l.v1 n apart.0) in
-            let second : vertex_at (set vs n v) l.v2 ≡ vertex_at vs l.v2 = get_or-set_other vs n l.v2 v _ (eqb-false l.v2 n apart.1) in
+            let first : nth_vertex (set vs n v) l.v1 ≡ nth_vertex vs l.v1 = get_or-set_other vs n l.v1 v _ (eqb-false l.v1 n apart.0) in
+            let second : nth_vertex (set vs n v) l.v2 ≡ nth_vertex vs l.v2 = get_or-set_other vs n l.v2 v _ (eqb-false l.v2 n apart.1) in
             rw (first, second) h.short
-        | inr short ↦ ltb-false longest_squared (squared_distance (vertex_at (set vs n v) l.v1) (vertex_at (set vs n v) l.v2)) short
+        | inr short ↦ ltb-false longest_squared (squared_distance (nth_vertex (set vs n v) l.v1) (nth_vertex (set vs n v) l.v2)) short
       ];
     }
 

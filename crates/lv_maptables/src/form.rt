@@ -1,10 +1,9 @@
-ghost use Rattle.std.specs.Prelude.{◌≢◌, ◌<◌, ◌↔◌, length, IsTrue, All, AllPairs, IfOk, IsOkUnless};
-ghost use Rattle.lv_maptables.specs.Tables.{no_side};
-ghost use Rattle.lv_maptables.specs.WellFormed.{HasEnds, HasSides, HasSector, is_two_sided};
+ghost use Rattle.std.specs.Prelude.{◌≡◌, ◌≢◌, ◌==◌, ◌&&◌, ◌||◌, not, ◌↔◌, IsTrue, All, AllPairs, IfOk, IsOkUnless};
+ghost use Rattle.lv_maptables.specs.Faults.{lacks, has_left, is_two_sided};
+ghost use Rattle.lv_maptables.specs.WellFormed.{HasEnds, HasSides, HasSector};
 
 use crate::error::MapError;
 use crate::lengths::is_too_long;
-use crate::references::{has_left, is_two_sided};
 use lv_lumps::{Line, Sector, Side, Vertex};
 use std::alloc::Global;
 use std::collections::HashSet;
@@ -18,43 +17,47 @@ pub fn are_apart(alloc: Global, vertices: &[Vertex]) -> Result<bool, MapError>
     Ok(places.len() == vertices.len())
 }
 
-/// Whether the line runs between two of the vertices.
-fn joins_vertices(vertices: &[Vertex], line: &Line) -> bool
-    ensures { IsTrue result ↔ ((line.now.v1 < length vertices.now) × (line.now.v2 < length vertices.now) × (line.now.v1 ≢ line.now.v2)) }
+/// Whether one of the line's ends isn't among the vertices.
+pub fn lacks_vertex(vertices: &[Vertex], line: &Line) -> bool
+    ensures { result ≡ (lacks vertices.now line.now.v1 || lacks vertices.now line.now.v2) }
 {
-    usize::from(line.v1) < vertices.len()
-        && usize::from(line.v2) < vertices.len()
-        && line.v1 != line.v2
+    usize::from(line.v1) >= vertices.len() || usize::from(line.v2) >= vertices.len()
+}
+
+/// Whether a side that the line names isn't among the sides.
+pub fn lacks_side(sides: &[Side], line: &Line) -> bool
+    ensures { result ≡ (lacks sides.now line.now.right || (has_left line.now && lacks sides.now line.now.left)) }
+{
+    usize::from(line.right) >= sides.len()
+        || line.has_left() && usize::from(line.left) >= sides.len()
+}
+
+/// Whether the line begins and ends at one vertex.
+pub fn has_same_ends(line: &Line) -> bool
+    ensures { result ≡ (line.now.v1 == line.now.v2) }
+{
+    line.v1 == line.v2
+}
+
+/// Whether the line's flags say that it is two-sided, and it has no left side.
+pub fn lacks_left(line: &Line) -> bool
+    ensures { result ≡ (is_two_sided line.now && not (has_left line.now)) }
+{
+    line.is_two_sided() && !line.has_left()
 }
 
 /// Whether the line's ends are two of the vertices, which aren't too far apart.
 fn has_ends(vertices: &[Vertex], line: &Line) -> bool
     ensures { IsTrue result ↔ HasEnds vertices.now line.now }
 {
-    joins_vertices(vertices, line) && !is_too_long(vertices, line)
+    !(lacks_vertex(vertices, line) || has_same_ends(line) || is_too_long(vertices, line))
 }
 
-/// Whether the line's left side is missing or among the sides.
-fn has_left_among(sides: &[Side], line: &Line) -> bool
-    ensures { IsTrue result ↔ (line.now.left ≢ no_side → line.now.left < length sides.now) }
-{
-    !has_left(line) || usize::from(line.left) < sides.len()
-}
-
-/// Whether the line has a left side if its flags say that it is two-sided.
-fn has_left_if_two_sided(line: &Line) -> bool
-    ensures { IsTrue result ↔ (IsTrue (is_two_sided line.now) → line.now.left ≢ no_side) }
-{
-    !is_two_sided(line) || has_left(line)
-}
-
-/// Whether the line's sides are among the sides.
+/// Whether the line's sides are among the sides, and it has a left one where its flags say so.
 fn has_sides(sides: &[Side], line: &Line) -> bool
     ensures { IsTrue result ↔ HasSides sides.now line.now }
 {
-    usize::from(line.right) < sides.len()
-        && has_left_among(sides, line)
-        && has_left_if_two_sided(line)
+    !(lacks_side(sides, line) || lacks_left(line))
 }
 
 /// Whether each line has its ends among the vertices.

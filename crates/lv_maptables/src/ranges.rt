@@ -1,51 +1,8 @@
-ghost use Rattle.std.specs.Prelude.{◌≡◌, ◌↔◌, ◌≤◌, ◌&&◌, nat_le, length, IsTrue, All, pos};
-ghost use Rattle.std.specs.List.{list_all};
-ghost use Rattle.lv_lumps.specs.Names.{name_of, name_text};
-ghost use Rattle.lv_maptables.specs.Ranges.{IsBetween, IsCoordinate, IsShort, IsCode, is_name, is_marker, is_name_byte, IsNamed};
+ghost use Rattle.std.specs.Prelude.{◌≡◌, ◌↔◌, ◌≤◌, IsTrue, All, pos};
+ghost use Rattle.lv_maptables.specs.Ranges.{IsBetween, IsCoordinate, IsShort, IsCode, is_name, is_marker, IsNamed, name_of, name_text};
 ghost use Rattle.lv_maptables.specs.Ranges.{IsVertex, IsSector, IsSide, IsLine, IsThing};
 
-use lv_lumps::{Line, Name8, Sector, Side, Thing, Vertex};
-
-/// Whether the byte may stand in a name.
-fn is_name_byte(byte: u8) -> bool
-    ensures { result ≡ is_name_byte byte }
-{
-    matches!(byte, b'A'..=b'Z' | b'0'..=b'9' | b'_' | b'-' | b'[' | b']' | b'\\')
-}
-
-/// Whether the text is a name of a texture or a flat: one to eight bytes of `A` to `Z`, `0` to `9`,
-/// `_`, `-`, `[`, `]` and `\`.
-pub fn is_name(text: &[u8]) -> bool
-    ensures { result ≡ is_name text.now }
-{
-    has_name_length(text) && are_name_bytes(text)
-}
-
-/// Whether the text is one to eight bytes long.
-fn has_name_length(text: &[u8]) -> bool
-    ensures { result ≡ (nat_le 1 (length text.now) && nat_le (length text.now) 8) }
-{
-    1 <= text.len() && text.len() <= 8
-}
-
-/// Whether all bytes may stand in a name.
-fn are_name_bytes(text: &[u8]) -> bool
-    ensures { result ≡ list_all is_name_byte text.now }
-{
-    text.iter().all(|byte| is_name_byte(*byte))
-}
-
-/// Whether the text is a name of a map: `E1M1` to `E9M9`, or `MAP01` to `MAP99`.
-pub fn is_marker(text: &[u8]) -> bool
-    ensures { result ≡ is_marker text.now }
-{
-    match text {
-        [b'E', b'1'..=b'9', b'M', b'1'..=b'9'] => true,
-        [b'M', b'A', b'P', b'0', b'0'] => false,
-        [b'M', b'A', b'P', b'0'..=b'9', b'0'..=b'9'] => true,
-        _ => false,
-    }
-}
+use lv_lumps::{Line, NO_SIDE, Name8, Sector, Side, Thing, Vertex, is_marker, is_name};
 
 /// Whether nothing but NUL follows the name's text.
 fn is_padded(name: &Name8) -> bool
@@ -163,7 +120,7 @@ fn is_line(line: &Line) -> bool
         && line.special <= 32767
         && line.tag <= 32767
         && line.right <= 32766
-        && (line.left <= 32766 || line.left == 65535)
+        && (line.left <= 32766 || line.left == NO_SIDE)
 }
 
 /// Whether the thing's place is in range.

@@ -12,7 +12,7 @@ use Rattle.lv_segs.specs.declared.piece.Place.{Place}
 use Rattle.lv_segs.specs.declared.piece.Place.TheVariants.{Right, Left, Across}
 use Rattle.lv_segs.specs.declared.edge.Facing.{Facing}
 use Rattle.lv_lumps.specs.declared.plane.Ray.{Ray}
-use Rattle.lv_segs.specs.Plane.{vertex_value, dot, IsLine}
+use Rattle.lv_segs.specs.Plane.{vertex_value, dot, IsEdge}
 use Rattle.lv_segs.specs.Fractions.{between, crossing, IsFraction, AtMost, point_at, steps_between, step_within}
 use Rattle.lv_segs.specs.Pieces.{edge_of, ray_of, first_end, last_end, same_place, IsPiece, covers, cover, same_side}
 use Rattle.lv_segs.specs.Division.{value_by, LiesAlong, place_of, kept, cut_at, parts_by, parts_of, IsPartOf, IsDivided}
@@ -80,7 +80,7 @@ kept_if lines p P h = by_test (same_place (first_end lines p) (last_end lines p)
     by_test true e = tt
     by_test false e = h e
 
-crossing_small : (r : Ray) (e : Edge) → dot r r ≤ℤ pos 1073676289 → IsLine e → (crossing r e).d ≤ℤ pos 1073676289
+pub crossing_small : (r : Ray) (e : Edge) → dot r r ≤ℤ pos 1073676289 → IsEdge e → (crossing r e).d ≤ℤ pos 1073676289
 crossing_small r e h l =
     let n = side_values_near r e h l in
     by_lt_z (vertex_value r e.v1) (vertex_value r e.v2)
@@ -91,7 +91,7 @@ crossing_small r e h l =
 pub record MayDivide (lines : List Edge) (partition p : Piece) : Type 0 where
   pub long : pos 0 <ℤ dot (ray_of lines partition) (ray_of lines partition)
   pub short : dot (ray_of lines partition) (ray_of lines partition) ≤ℤ pos 1073676289
-  pub line : IsLine (edge_of lines p)
+  pub line : IsEdge (edge_of lines p)
   pub piece : IsPiece lines p
 
 module _ (lines : List Edge) (partition p : Piece) (may : MayDivide lines partition p) where

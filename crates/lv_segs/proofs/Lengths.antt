@@ -6,7 +6,7 @@ use Rattle.lv_segs.specs.declared.edge.Edge.{Edge}
 use Rattle.lv_segs.specs.declared.edge.Facing.{Facing}
 use Rattle.lv_segs.specs.declared.edge.Facing.TheVariants.{Along, Against}
 use Rattle.lv_lumps.specs.declared.plane.Ray.{Ray}
-use Rattle.lv_segs.specs.Plane.{ray, vertex_value, LiesOn, dot, IsLine}
+use Rattle.lv_segs.specs.Plane.{ray, vertex_value, LiesOn, dot, IsEdge}
 use Rattle.lv_lumps.proofs.Ring.{by_ring, quotes}
 use Rattle.lv_lumps.proofs.Signs.{linear, times_at_most, times_below, product_positive}
 
@@ -16,7 +16,7 @@ square_not_negative (pos n) = omega (arith, ints)
 square_not_negative (negsuc n) = omega (arith, ints)
 
 -- a number whose square is at most the square of m is at most m
-at_most_by_squares : (z m : ℤ) → pos 0 ≤ℤ m → (z *ℤ z) ≤ℤ (m *ℤ m) → z ≤ℤ m
+pub at_most_by_squares : (z m : ℤ) → pos 0 ≤ℤ m → (z *ℤ z) ≤ℤ (m *ℤ m) → z ≤ℤ m
 at_most_by_squares z m h k = by_lt_z m z over (λ l. l)
   where
     over : m <ℤ z → z ≤ℤ m
@@ -57,7 +57,7 @@ cross_is : (r : Ray) (e : Edge) → vertex_value r e.v1 -ℤ vertex_value r e.v2
 cross_is r e = by_ring (r.dx ∷ r.dy ∷ r.start.x ∷ r.start.y ∷ e.v1.x ∷ e.v1.y ∷ e.v2.x ∷ e.v2.y ∷ []) _ _ (search quotes depth 40 fits 40000) (search quotes depth 40 fits 40000) tt
 
 -- the side values of a line's ends differ by at most the square of the greatest length
-pub side_values_near : (r : Ray) (e : Edge) → dot r r ≤ℤ pos 1073676289 → IsLine e → ((vertex_value r e.v1 -ℤ vertex_value r e.v2) ≤ℤ pos 1073676289) × ((vertex_value r e.v2 -ℤ vertex_value r e.v1) ≤ℤ pos 1073676289)
+pub side_values_near : (r : Ray) (e : Edge) → dot r r ≤ℤ pos 1073676289 → IsEdge e → ((vertex_value r e.v1 -ℤ vertex_value r e.v2) ≤ℤ pos 1073676289) × ((vertex_value r e.v2 -ℤ vertex_value r e.v1) ≤ℤ pos 1073676289)
 side_values_near r e h l =
     let E = ray e Along in
     let c = cross_is r e in
@@ -68,22 +68,23 @@ side_values_near r e h l =
     let q = cross_at_most r.dy r.dx E.dy E.dx (pos 1073676289) (omega (arith, linear)) (omega (arith, linear)) in
     (omega (arith, linear), omega (arith, linear))
 
+-- a line on a ray's straight line runs along it
+pub lies_crossed : (r : Ray) (e : Edge) → LiesOn r e → (f : Facing) → r.dx *ℤ (ray e f).dy -ℤ r.dy *ℤ (ray e f).dx ≡ pos 0
+lies_crossed r e on Along = let c = cross_is r e in let a = on.0 in let b = on.1 in omega (arith, linear)
+lies_crossed r e on Against =
+    let c = cross_is r e in let a = on.0 in let b = on.1 in
+    let t : r.dx *ℤ (ray e Against).dy -ℤ r.dy *ℤ (ray e Against).dx ≡ neg_ℤ (r.dx *ℤ (ray e Along).dy -ℤ r.dy *ℤ (ray e Along).dx) = by_ring (r.dx ∷ r.dy ∷ e.v1.x ∷ e.v1.y ∷ e.v2.x ∷ e.v2.y ∷ []) _ _ (search quotes depth 30 fits 20000) (search quotes depth 30 fits 20000) tt in
+    omega (arith, linear)
+
 -- two lines on one straight line have a product that isn't 0
-pub dot_not_zero : (r : Ray) (e : Edge) (f : Facing) → pos 0 <ℤ dot r r → IsLine e → LiesOn r e → dot r (ray e f) ≡ pos 0 → ⊥
+pub dot_not_zero : (r : Ray) (e : Edge) (f : Facing) → pos 0 <ℤ dot r r → IsEdge e → LiesOn r e → dot r (ray e f) ≡ pos 0 → ⊥
 dot_not_zero r e f h l on z =
     let E = ray e f in
     let p = ray_along e f in
     let q = l.apart in
     let m = product_positive (dot r r) (dot E E) h (omega (arith, linear)) in
     let g = lagrange r.dx r.dy E.dx E.dy in
-    let c = crossed f in
+    let c = lies_crossed r e on f in
     let c2 = ap (λ (x : ℤ). x *ℤ x) c in
     let z2 = ap (λ (x : ℤ). x *ℤ x) z in
     omega (arith, linear)
-  where
-    crossed : (f : Facing) → r.dx *ℤ (ray e f).dy -ℤ r.dy *ℤ (ray e f).dx ≡ pos 0
-    crossed Along = let c = cross_is r e in let a = on.0 in let b = on.1 in omega (arith, linear)
-    crossed Against =
-        let c = cross_is r e in let a = on.0 in let b = on.1 in
-        let t : r.dx *ℤ (ray e Against).dy -ℤ r.dy *ℤ (ray e Against).dx ≡ neg_ℤ (r.dx *ℤ (ray e Along).dy -ℤ r.dy *ℤ (ray e Along).dx) = by_ring (r.dx ∷ r.dy ∷ e.v1.x ∷ e.v1.y ∷ e.v2.x ∷ e.v2.y ∷ []) _ _ (search quotes depth 30 fits 20000) (search quotes depth 30 fits 20000) tt in
-        omega (arith, linear)

@@ -9,3 +9,17 @@ pub mod Lists
 pub mod Trees
 pub mod Turns
 pub mod Wide
+pub mod Bounds
+pub mod Boxes
+pub mod Stops
+pub mod BlockCounts
+pub mod LocalLemmas
+pub mod SignLemmas
+pub mod Straight
+pub mod Zeros
+pub mod FirstList
+pub mod Steps
+pub mod EdgeLemmas
+pub mod ItemReads
+pub mod Known
+pub mod Shifts

@@ -3,18 +3,35 @@
 
 mod angle;
 mod distance;
+mod dividing;
 mod edge;
+mod edges;
+mod error;
+mod first;
 mod frac;
 mod laws;
+mod numbered;
 mod piece;
+mod piece_box;
+mod place;
 mod points;
+mod values;
 
 pub use angle::angle16;
 pub use distance::offset;
+pub use dividing::{divide, divide_in, divide_on, lies_along, place_on, side_in, side_of};
 pub use edge::{Edge, Facing};
+pub use edges::{edges_of, lines_are_drawn};
+pub use error::SegsError;
+pub use first::{pieces_in, pieces_of};
 pub use frac::Frac;
 pub use laws::{
-    parts_keep_their_piece, points_rise, points_round_to_nearest, trees_keep_their_list,
+    boxes_hold_their_pieces, first_list_covers_each_side, lists_have_one_tree,
+    parts_keep_their_piece, pieces_cover_a_step, points_rise, points_round_to_nearest,
+    trees_keep_their_list,
 };
+pub use numbered::Points;
 pub use piece::{Parts, Piece, Place};
+pub use piece_box::{box_on, boxes_in};
 pub use points::point;
+pub use values::{ray_of, value_at};

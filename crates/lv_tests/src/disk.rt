@@ -239,6 +239,39 @@ fn fails_a_read_and_a_length(rt: HostRuntime) -> Result<(), Fail> {
     Ok(())
 }
 
+/// Which of five calls fail: a length, a read, a write, a sync, and a length again.
+fn five_calls<D: Disk>(disk: &mut D) -> [bool; 5] {
+    let length = disk.len().is_err();
+    let read = disk.read(0, &mut []).is_err();
+    let write = disk.write_at(0, &[1]).is_err();
+    let sync = disk.sync().is_err();
+    [length, read, write, sync, disk.len().is_err()]
+}
+
+#[test]
+fn makes_one_inner_call_for_each(rt: HostRuntime) -> Result<(), Fail> {
+    // The call that fails, the bytes that it puts down, the call of the disk inside that fails, and the calls that then do.
+    for (k, part, inside, failed) in [
+        (0, 0, 1, [true, false, false, false, false]),
+        (0, 0, 2, [false, true, false, false, false]),
+        (0, 0, 3, [false, false, true, false, false]),
+        (0, 0, 4, [false, false, false, true, false]),
+        (0, 0, 5, [false, false, false, false, true]),
+        // Where a call fails none is made inside, but for the bytes that it puts down.
+        (1, 0, 1, [true, true, false, false, false]),
+        (2, 0, 2, [false, true, true, false, false]),
+        (3, 0, 3, [false, false, true, true, false]),
+        (3, 1, 3, [false, false, true, false, false]),
+        (3, 1, 4, [false, false, true, true, false]),
+        (4, 1, 4, [false, false, false, true, true]),
+    ] {
+        let inner = MemoryDisk::new(rt.alloc(), 16, 400)?;
+        let mut disk = FaultDisk::new(FaultDisk::new(inner, inside, 0), k, part);
+        assert_eq!(rt; five_calls(&mut disk), failed, "{k} {part} {inside}");
+    }
+    Ok(())
+}
+
 #[test]
 fn keeps_a_real_file(rt: HostRuntime) -> Result<(), Fail> {
     let path = "lv_disk_real_file";
@@ -276,14 +309,16 @@ fn has_its_numbers(rt: HostRuntime) {
     assert_eq!(rt; (area.base, area.length), (1, 2));
 }
 
-/// A file of which every other call is interrupted, and the others read or write one byte.
+/// A file of which every other call is interrupted, and the others read or write one byte. Its syncs are counted, and
+/// the second of them fails.
 #[derive(Drop)]
-struct Flaky {
+struct Flaky<'a> {
     file: File,
     calls: Cell<u32>,
+    syncs: &'a Cell<u32>,
 }
 
-impl Flaky {
+impl Flaky<'_> {
     fn is_interrupted(&self) -> bool {
         let calls = self.calls.get();
         self.calls.set(calls.wrapping_add(1));
@@ -291,7 +326,7 @@ impl Flaky {
     }
 }
 
-impl FileExt for Flaky {
+impl FileExt for Flaky<'_> {
     fn read_at(&self, buf: &mut [u8], offset: u64) -> io::Result<usize> {
         if self.is_interrupted() {
             return Err(io::ErrorKind::Interrupted.into());
@@ -309,7 +344,7 @@ impl FileExt for Flaky {
     }
 }
 
-impl OpenFile for Flaky {
+impl OpenFile for Flaky<'_> {
     fn metadata(&self) -> io::Result<Metadata> {
         self.file.metadata()
     }
@@ -319,6 +354,11 @@ impl OpenFile for Flaky {
     }
 
     fn sync_all(&self) -> io::Result<()> {
+        let syncs = self.syncs.get().wrapping_add(1);
+        self.syncs.set(syncs);
+        if syncs == 2 {
+            return Err(io::ErrorKind::Other.into());
+        }
         self.file.sync_all()
     }
 
@@ -327,13 +367,13 @@ impl OpenFile for Flaky {
     }
 }
 
-impl Read for Flaky {
+impl Read for Flaky<'_> {
     fn read(&mut self, buf: &mut [u8]) -> io::Result<usize> {
         self.file.read(buf)
     }
 }
 
-impl Write for Flaky {
+impl Write for Flaky<'_> {
     fn write(&mut self, buf: &[u8]) -> io::Result<usize> {
         self.file.write(buf)
     }
@@ -343,7 +383,7 @@ impl Write for Flaky {
     }
 }
 
-impl Seek for Flaky {
+impl Seek for Flaky<'_> {
     fn seek(&mut self, to: SeekFrom) -> io::Result<u64> {
         self.file.seek(to)
     }
@@ -353,22 +393,24 @@ impl Seek for Flaky {
 #[derive(Drop)]
 struct FlakyFiles<'a> {
     rt: &'a HostRuntime,
+    syncs: &'a Cell<u32>,
 }
 
 fn unsupported<T>() -> io::Result<T> {
     Err(io::ErrorKind::Unsupported.into())
 }
 
-impl Files for FlakyFiles<'_> {
-    type File = Flaky;
+impl<'a> Files for FlakyFiles<'a> {
+    type File = Flaky<'a>;
 
     type Dir = File;
 
-    fn open_file(&self, how: &OpenOptions, path: &str) -> io::Result<Flaky> {
+    fn open_file(&self, how: &OpenOptions, path: &str) -> io::Result<Flaky<'a>> {
         let file = how.open(self.rt, path)?;
         Ok(Flaky {
             file,
             calls: Cell::new(0),
+            syncs: self.syncs,
         })
     }
 
@@ -413,7 +455,12 @@ impl Files for FlakyFiles<'_> {
 fn goes_on_after_interrupted_and_short_calls(rt: HostRuntime) -> Result<(), Fail> {
     let path = "lv_disk_flaky_file";
     let _ = fs::remove_file(&rt, path);
-    let mut disk = FileDisk::open(&FlakyFiles { rt: &rt }, path, true)?;
+    let syncs = Cell::new(0);
+    let files = FlakyFiles {
+        rt: &rt,
+        syncs: &syncs,
+    };
+    let mut disk = FileDisk::open(&files, path, true)?;
     disk.write_at(1, &[1, 2, 3])?;
     disk.sync()?;
     let read = contents(rt.alloc(), &mut disk)?;
@@ -424,6 +471,27 @@ fn goes_on_after_interrupted_and_short_calls(rt: HostRuntime) -> Result<(), Fail
         Err(DeviceFault),
         "it meets the end early"
     );
+    fs::remove_file(&rt, path)?;
+    Ok(())
+}
+
+#[test]
+fn syncs_its_file(rt: HostRuntime) -> Result<(), Fail> {
+    let path = "lv_disk_synced_file";
+    let _ = fs::remove_file(&rt, path);
+    let syncs = Cell::new(0);
+    let files = FlakyFiles {
+        rt: &rt,
+        syncs: &syncs,
+    };
+    let mut disk = FileDisk::open(&files, path, true)?;
+    disk.write_at(0, &[1])?;
+    assert_eq!(rt; syncs.get(), 0);
+    disk.sync()?;
+    assert_eq!(rt; syncs.get(), 1);
+    assert_eq!(rt; disk.sync(), Err(DeviceFault), "the second one fails");
+    disk.sync()?;
+    assert_eq!(rt; syncs.get(), 3);
     fs::remove_file(&rt, path)?;
     Ok(())
 }

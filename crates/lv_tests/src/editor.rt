@@ -42,16 +42,55 @@ impl Read for Drip<'_> {
     }
 }
 
-/// A writer that takes this many bytes, and then fails.
+/// A reader that gives an empty line at each read, and counts its reads.
+#[derive(Drop)]
+struct Endless {
+    reads: u32,
+}
+
+impl Read for Endless {
+    fn read(&mut self, buf: &mut [u8]) -> io::Result<usize> {
+        self.reads = self.reads.saturating_add(1);
+        if buf.is_empty() {
+            return Ok(0);
+        }
+        buf[0] = b'\n';
+        Ok(1)
+    }
+}
+
+/// A writer whose bytes are seen once it is flushed.
+#[derive(Drop)]
+struct Held {
+    held: Vec<u8>,
+    seen: Vec<u8>,
+}
+
+impl Write for Held {
+    fn write(&mut self, buf: &[u8]) -> io::Result<usize> {
+        self.held.extend_from_slice(buf)?;
+        Ok(buf.len())
+    }
+
+    fn flush(&mut self) -> io::Result<()> {
+        self.seen.extend_from_slice(self.held.as_slice())?;
+        self.held.clear();
+        Ok(())
+    }
+}
+
+/// A writer that takes this many bytes, and then fails and counts how often.
 #[derive(Drop)]
 struct Narrow {
     room: usize,
+    failures: u32,
 }
 
 impl Write for Narrow {
     fn write(&mut self, buf: &[u8]) -> io::Result<usize> {
         let taken = self.room.min(buf.len());
         if taken == 0 {
+            self.failures = self.failures.saturating_add(1);
             return Err(io::Error::from(io::ErrorKind::StorageFull));
         }
         self.room -= taken;
@@ -160,6 +199,17 @@ fn counts_turns(rt: HostRuntime) {
         assert_eq!(rt; answered, wanted, "{turns} turns");
         assert_eq!(rt; out.as_slice(), ROW_ANSWERS, "{turns} turns");
     }
+
+    // There are no more reads than turns.
+    let mut endless = Endless { reads: 0 };
+    let mut out = Vec::new(rt.alloc());
+    let answered = run_in_memory(rt.alloc(), &mut endless, &mut out, 5);
+    assert_eq!(rt; answered, Err(EditorError::InputTooLong));
+    assert_eq!(rt; endless.reads, 5);
+    assert_eq!(rt;
+        out.as_slice(),
+        b"no 1\nno 1\nno 1\nno 1\nno 1\n".as_slice()
+    );
 }
 
 #[test]
@@ -178,7 +228,7 @@ fn stops_where_the_reader_fails(rt: HostRuntime) {
 fn stops_where_the_writer_fails(rt: HostRuntime) {
     for room in 0..35 {
         let mut reader = ROW;
-        let mut writer = Narrow { room };
+        let mut writer = Narrow { room, failures: 0 };
         let answered = run_in_memory(rt.alloc(), &mut reader, &mut writer, 2);
         let wanted = if room < 34 {
             Err(EditorError::WriterFailed)
@@ -192,10 +242,53 @@ fn stops_where_the_writer_fails(rt: HostRuntime) {
         left: ROW,
         fails: false,
     };
-    let mut writer = Narrow { room: 2 };
+    let mut writer = Narrow {
+        room: 2,
+        failures: 0,
+    };
     let answered = run_in_memory(rt.alloc(), &mut reader, &mut writer, 100);
     assert_eq!(rt; answered, Err(EditorError::WriterFailed));
     assert_eq!(rt; reader.left, b"vertex 128 0\nhex VERTEXES\n".as_slice());
+
+    // Nor is a line that was read with it.
+    let mut writer = Narrow {
+        room: 2,
+        failures: 0,
+    };
+    let answered = run_in_memory(rt.alloc(), &mut ROW, &mut writer, 100);
+    assert_eq!(rt; answered, Err(EditorError::WriterFailed));
+    assert_eq!(rt; writer.failures, 1);
+}
+
+/// What is seen of the answers of a run that flushes its writer.
+fn seen<R: Read>(alloc: Global, reader: &mut R, turns: u32) -> (Result<u64, EditorError>, Vec<u8>) {
+    let mut writer = Held {
+        held: Vec::new(alloc),
+        seen: Vec::new(alloc),
+    };
+    let answered = run_in_memory(alloc, reader, &mut writer, turns);
+    let Held { held: _, seen } = writer;
+    (answered, seen)
+}
+
+#[test]
+fn hands_on_the_answers_of_a_turn(rt: HostRuntime) {
+    let (answered, out) = seen(rt.alloc(), &mut ROW, 1);
+    assert_eq!(rt; answered, Err(EditorError::InputTooLong));
+    assert_eq!(rt; out.as_slice(), ROW_ANSWERS);
+
+    let mut broken = Drip {
+        left: b"vertex 0 0\nvert",
+        fails: true,
+    };
+    let (answered, out) = seen(rt.alloc(), &mut broken, 100);
+    assert_eq!(rt; answered, Err(EditorError::ReaderFailed));
+    assert_eq!(rt; out.as_slice(), b"ok 0\n".as_slice());
+
+    let mut unended: &[u8] = b"vertex 0 0\nvertex 1 0";
+    let (answered, out) = seen(rt.alloc(), &mut unended, 2);
+    assert_eq!(rt; answered, Ok(2));
+    assert_eq!(rt; out.as_slice(), b"ok 0\nok 1\n".as_slice());
 }
 
 #[test]
@@ -212,10 +305,10 @@ fn numbers_refusals(rt: HostRuntime) {
 }
 
 /// What the program answers to `scratch` over this reader, and what it prints on standard error.
-fn scratch<R: Read, W: Write + Drop>(
+fn scratch<R: Read, W: Write>(
     rt: &HostRuntime,
     reader: &mut R,
-    writer: W,
+    writer: &mut W,
 ) -> Result<(u8, Vec<u8>), Fail> {
     let words = ["leveled", "scratch"];
     let Ok(asked) = request(rt.alloc(), words.as_slice()) else {
@@ -245,8 +338,22 @@ fn performs_scratch(rt: HostRuntime) -> Result<(), Fail> {
     assert_eq!(rt; out.as_slice(), b"ok 0\n".as_slice());
     assert_eq!(rt; faults.as_slice(), b"leveled: 37 ReaderFailed\n".as_slice());
 
+    // A byte a turn takes many turns.
+    let mut out = Vec::new(rt.alloc());
+    let mut slow = Drip {
+        left: ROW,
+        fails: false,
+    };
+    let (status, _) = scratch(&rt, &mut slow, &mut out)?;
+    assert_eq!(rt; status, 0);
+    assert_eq!(rt; out.as_slice(), ROW_ANSWERS);
+
     let mut row = ROW;
-    let (status, faults) = scratch(&rt, &mut row, Narrow { room: 2 })?;
+    let mut narrow = Narrow {
+        room: 2,
+        failures: 0,
+    };
+    let (status, faults) = scratch(&rt, &mut row, &mut narrow)?;
     assert_eq!(rt; status, 1);
     assert_eq!(rt; faults.as_slice(), b"leveled: 38 WriterFailed\n".as_slice());
     Ok(())
@@ -281,7 +388,7 @@ fn reads_words(rt: HostRuntime) -> Result<(), Fail> {
 }
 
 /// Lines and their answers, each beside what it is about.
-const MAPS: [(&str, &[u8], &[u8]); 9] = [
+const MAPS: [(&str, &[u8], &[u8]); 10] = [
     (
         "drawn lumps of an empty map",
         b"count\n\
@@ -449,6 +556,45 @@ const MAPS: [(&str, &[u8], &[u8]); 9] = [
         vertices 5 sectors 1 sides 4 lines 5 things 0\n",
     ),
     (
+        "many findings",
+        b"vertex 0 0\n\
+        vertex 1 0\n\
+        vertex 2 0\n\
+        vertex 3 0\n\
+        vertex 4 0\n\
+        vertex 5 0\n\
+        vertex 6 0\n\
+        vertex 7 0\n\
+        vertex 8 0\n\
+        vertex 9 0\n\
+        vertex 10 0\n\
+        check\n",
+        b"ok 0\n\
+        ok 1\n\
+        ok 2\n\
+        ok 3\n\
+        ok 4\n\
+        ok 5\n\
+        ok 6\n\
+        ok 7\n\
+        ok 8\n\
+        ok 9\n\
+        ok 10\n\
+        vertex 0 unused\n\
+        vertex 1 unused\n\
+        vertex 2 unused\n\
+        vertex 3 unused\n\
+        vertex 4 unused\n\
+        vertex 5 unused\n\
+        vertex 6 unused\n\
+        vertex 7 unused\n\
+        vertex 8 unused\n\
+        vertex 9 unused\n\
+        vertex 10 unused\n\
+        no player start\n\
+        findings 12\n",
+    ),
+    (
         "unused items",
         b"sector 0 128 FLOOR4_8 CEIL3_5 160 0 0\n\
         side 0 0 - - STARTAN3 0\n\
@@ -486,7 +632,10 @@ fn writes_findings(rt: HostRuntime) {
     assert_eq!(rt; write_findings(rt.alloc(), &map, &mut out), Ok(1));
     assert_eq!(rt; out.as_slice(), b"no player start\nfindings 1\n".as_slice());
 
-    let mut writer = Narrow { room: 20 };
+    let mut writer = Narrow {
+        room: 20,
+        failures: 0,
+    };
     let written = write_findings(rt.alloc(), &map, &mut writer);
     assert_eq!(rt; written, Err(EditorError::WriterFailed));
 }

@@ -1,5 +1,5 @@
 ghost use Rattle.std.specs.Prelude.{◌≡◌, IfOk, IfErr};
-ghost use Rattle.lv_journal.specs.State.{IsReady};
+ghost use Rattle.lv_journal.specs.State.{IsReadyIn};
 
 use lv_disk::{Area, Disk, FaultDisk, Fill, MemoryDisk};
 use lv_journal::{Journal, JournalError, blank};
@@ -14,7 +14,7 @@ const AREA: Area = Area {
 
 /// A journal, opened on a disk of which all is on the device.
 fn opened<D: Disk>(alloc: Global, disk: &mut D) -> Result<Journal, JournalError>
-    ensures ready { IfOk result (λ journal. IsReady journal (D.may_leave disk.new)) }
+    ensures ready { IfOk result (λ journal. IsReadyIn journal (D.may_leave disk.new)) }
 {
     disk.sync()?;
     Journal::open(alloc, disk, AREA)
@@ -22,7 +22,7 @@ fn opened<D: Disk>(alloc: Global, disk: &mut D) -> Result<Journal, JournalError>
 
 /// The journal of a blank area, with the first gate on the device.
 fn blanked<D: Disk>(disk: &mut D) -> Result<Journal, JournalError>
-    ensures ready { IfOk result (λ journal. IsReady journal (D.may_leave disk.new)) }
+    ensures ready { IfOk result (λ journal. IsReadyIn journal (D.may_leave disk.new)) }
 {
     let journal = blank(disk, AREA)?;
     disk.sync()?;
@@ -31,7 +31,7 @@ fn blanked<D: Disk>(disk: &mut D) -> Result<Journal, JournalError>
 
 /// The same by `fresh`, of an area whose first gate is closed on the device.
 fn refreshed<D: Disk>(disk: &mut D) -> Result<Journal, JournalError>
-    ensures ready { IfOk result (λ journal. IsReady journal (D.may_leave disk.new)) }
+    ensures ready { IfOk result (λ journal. IsReadyIn journal (D.may_leave disk.new)) }
 {
     blank(disk, AREA)?;
     disk.sync()?;
@@ -110,7 +110,7 @@ fn expect_outcomes(rt: &impl Abort, alloc: Global, k: u64, part: u32) -> Result<
 
 /// Appends `second`, and tells whether that was done.
 fn expect_appended<D: Disk>(rt: &impl Abort, journal: &mut Journal, disk: &mut D, k: u64) -> bool
-    requires { IsReady journal.old (D.may_leave disk.old) }
+    requires { IsReadyIn journal.old (D.may_leave disk.old) }
 {
     let appended = journal.append(disk, b"second");
     if k == 0 {
@@ -269,6 +269,25 @@ fn makes_four_device_calls(rt: HostRuntime) -> Result<(), Fail> {
     let mut journal = blanked(&mut disk)?;
     let mut disk = FaultDisk::new(disk, 5, 0);
     journal.append(&mut disk, b"vertex 0 0")?;
+    assert!(rt; disk.len().is_err());
+    Ok(())
+}
+
+#[test]
+fn opens_by_its_reads_alone(rt: HostRuntime) -> Result<(), Fail> {
+    // The length, for the one record its gate, its length and its payload, and the last gate, behind the test's own sync.
+    let disk = disk_with(rt.alloc(), b"\xa5\x01\0\0\0a\0")?;
+    let mut disk = FaultDisk::new(disk, 7, 0);
+    assert!(rt; holds(&opened(rt.alloc(), &mut disk)?, &[b"a"]));
+    assert!(rt; disk.len().is_err());
+    Ok(())
+}
+
+#[test]
+fn blanks_by_one_device_call(rt: HostRuntime) -> Result<(), Fail> {
+    let inner = MemoryDisk::new(rt.alloc(), 1024, 4096)?;
+    let mut disk = FaultDisk::new(inner, 2, 0);
+    blank(&mut disk, AREA)?;
     assert!(rt; disk.len().is_err());
     Ok(())
 }

@@ -2,6 +2,8 @@
 #![tactic(auto)]
 
 #[cfg(test)]
+mod checkpoint;
+#[cfg(test)]
 mod checks;
 #[cfg(test)]
 mod commands;
@@ -17,5 +19,11 @@ mod journal;
 mod lumps;
 #[cfg(test)]
 mod maptables;
+#[cfg(test)]
+mod nodes;
+#[cfg(test)]
+mod partition;
+#[cfg(test)]
+mod project;
 #[cfg(test)]
 mod segs;

@@ -473,6 +473,10 @@ fn refusals_have_their_numbers(rt: HostRuntime) {
         (MapError::TwoSidedWithoutLeft, 11),
         (MapError::TableFull, 12),
         (MapError::LineTooLong, 13),
+        (MapError::TooManyMaps, 16),
+        (MapError::MapNameTaken, 17),
+        (MapError::NoSuchMap, 18),
+        (MapError::CurrentMap, 19),
         (MapError::OutOfMemory, 31),
         (MapError::Damaged(0), 40),
     ] {

@@ -1,5 +1,55 @@
-use lv_lumps::Vertex;
-use lv_segs::{Frac, angle16, offset, point};
+ghost use Rattle.std.specs.Prelude.{◌<◌, length, All};
+ghost use Rattle.lv_segs.specs.Pieces.{IsPiece};
+ghost use Rattle.lv_segs.specs.Edges.{edges_of};
+
+use lv_commands::{apply, parse};
+use lv_lumps::{Bounds, Vertex};
+use lv_maptables::Map;
+use lv_segs::{
+    Facing, Frac, Parts, Piece, Place, Points, SegsError, angle16, boxes_in, divide, edges_of,
+    offset, pieces_of, point, side_of,
+};
+use std::alloc::Global;
+use std::process::Abort;
+use std::test::Fail;
+
+/// The longest body that a map can have.
+const AMPLE: u32 = 2_007_002;
+
+/// The map that the lines draw, each of which is accepted.
+fn drawn(rt: &impl Abort, alloc: Global, lines: &[&[u8]]) -> Map {
+    let mut map = Map::new(alloc);
+    for line in lines {
+        let command = parse(*line).expect(rt, "a command");
+        if map.body_len() <= AMPLE {
+            assert!(rt; apply(&mut map, &command, AMPLE).is_ok(), "{line:?}");
+        }
+    }
+    map
+}
+
+/// A piece's line, side and fractions.
+type Fields = (u16, Facing, [i128; 4]);
+
+fn fields(piece: Option<Piece>) -> Option<Fields> {
+    let piece = piece?;
+    let fractions = [piece.from.n, piece.from.d, piece.to.n, piece.to.d];
+    Some((piece.line, piece.side, fractions))
+}
+
+/// What the piece `by` of a list makes of the piece `at`: its place, and its parts.
+fn parts(map: &Map, pieces: &[Piece], by: usize, at: usize) -> (Place, Parts)
+    requires pieces { All (IsPiece (edges_of map.now.tables)) pieces.now }
+    requires by { by < length pieces.now }
+    requires at { at < length pieces.now }
+{
+    let partition = pieces[by];
+    let piece = pieces[at];
+    (
+        side_of(map, &partition, &piece),
+        divide(map, &partition, &piece),
+    )
+}
 
 #[test]
 fn angles(rt: HostRuntime) {
@@ -52,3 +102,101 @@ fn offsets(rt: HostRuntime) {
     let east = Vertex { x: 16383, y: 7 };
     assert_eq!(rt; offset(west, east), 32767);
 }
+
+// Two lines that cross a two-sided one at 20/50, and cut both its sides there.
+#[test]
+fn cuts_both_sides_at_one_fraction(rt: HostRuntime) -> Result<(), Fail> {
+    let map = drawn(
+        &rt,
+        rt.alloc(),
+        &[
+            b"vertex 0 0",
+            b"vertex 10 3",
+            b"vertex 4 10",
+            b"vertex 4 5",
+            b"vertex 4 -5",
+            b"vertex 4 -10",
+            b"sector 0 128 FLOOR4_8 CEIL3_5 160 0 0",
+            b"side 0 0 - - - 0",
+            b"line 0 1 4 0 0 0 0",
+            b"line 2 3 1 0 0 0 -",
+            b"line 4 5 1 0 0 0 -",
+        ],
+    );
+    let pieces = pieces_of(rt.alloc(), &map)?;
+    assert_eq!(rt; pieces.len(), 4);
+    let order: [(u16, Facing); 4] = [
+        (0, Facing::Along),
+        (0, Facing::Against),
+        (1, Facing::Along),
+        (2, Facing::Along),
+    ];
+    for (piece, want) in pieces.iter().zip(&order) {
+        assert_eq!(rt; (piece.line, piece.side), *want);
+    }
+    let (place, right_side) = parts(&map, &pieces, 2, 0);
+    assert_eq!(rt; place, Place::Across);
+    assert_eq!(rt;
+        fields(right_side.right),
+        Some((0, Facing::Along, [0, 1, 20, 50]))
+    );
+    assert_eq!(rt;
+        fields(right_side.left),
+        Some((0, Facing::Along, [20, 50, 1, 1]))
+    );
+    let (_, left_side) = parts(&map, &pieces, 2, 1);
+    assert_eq!(rt;
+        fields(left_side.right),
+        Some((0, Facing::Against, [0, 1, 20, 50]))
+    );
+    assert_eq!(rt;
+        fields(left_side.left),
+        Some((0, Facing::Against, [20, 50, 1, 1]))
+    );
+    Ok(())
+}
+
+// A crossing that rounds to an end of its line: the part between is left out.
+// The L of six lines: its third line cuts the last one in the middle.
+// On one straight line the direction decides.
+#[test]
+fn parts_collinear_pieces_by_direction(rt: HostRuntime) -> Result<(), Fail> {
+    let map = drawn(
+        &rt,
+        rt.alloc(),
+        &[
+            b"vertex 0 0",
+            b"vertex 64 0",
+            b"vertex 128 0",
+            b"vertex 192 0",
+            b"sector 0 128 FLOOR4_8 CEIL3_5 160 0 0",
+            b"side 0 0 - - - 0",
+            b"line 0 1 4 0 0 0 0",
+            b"line 2 3 1 0 0 0 -",
+            b"line 3 1 1 0 0 0 -",
+        ],
+    );
+    let pieces = pieces_of(rt.alloc(), &map)?;
+    assert_eq!(rt; pieces.len(), 4);
+    let wanted = [
+        (0, 0, Place::Right),
+        (0, 1, Place::Left),
+        (0, 2, Place::Right),
+        (0, 3, Place::Left),
+        (1, 0, Place::Left),
+        (1, 3, Place::Right),
+        (3, 2, Place::Left),
+    ];
+    for (by, at, want) in &wanted {
+        if *by < pieces.len() && *at < pieces.len() {
+            let (place, made) = parts(&map, &pieces, *by, *at);
+            assert_eq!(rt; place, *want);
+            assert_eq!(rt; made.right.is_some(), place == Place::Right);
+            assert_eq!(rt; made.left.is_some(), place == Place::Left);
+        }
+    }
+    Ok(())
+}
+
+// The box of each piece is one step wider than its ends.
+// A map's vertices have their own numbers, the new places the next ones, and there are 32,767.

@@ -1,6 +1,6 @@
-ghost use Rattle.std.specs.Prelude.{◌≡◌, IfOk, IfErr, IsOkUnless, ◌^◌, ◌<◌, ◌++◌, OnOk, length};
+ghost use Rattle.std.specs.Prelude.{◌≡◌, IfOk, IfErr, IsOkUnless, ◌^◌, ◌<◌, ◌≤◌, ◌++◌, OnOk, length};
 ghost use Rattle.lv_lumps.specs.Fields.{unsigned};
-ghost use Rattle.lv_maptables.specs.Tables.{empty_tables, body_len};
+ghost use Rattle.lv_maptables.specs.Tables.{empty_tables, body_len, part_len};
 ghost use Rattle.lv_maptables.specs.WellFormed.{WellFormed};
 ghost use Rattle.lv_maptables.specs.Body.{lump_of, header, body, IsMapOf, RefusesBody};
 
@@ -14,7 +14,8 @@ use std::alloc::Global;
 
 /// The body of the empty map, whose name is MAP01.
 pub fn empty_body() -> [u8; 20]
-    ensures { result ≡ body empty_tables }
+    ensures bytes { result ≡ body empty_tables }
+    ensures well_formed { WellFormed empty_tables }
 {
     *b"\x01\0MAP01\0\0\0\0\0\0\0\0\0\0\0\0\0"
 }
@@ -71,6 +72,18 @@ impl Map {
             + 26 * self.sectors.len() as u32
     }
 
+    /// The length of the map's part of a project's body, in bytes.
+    pub(crate) fn part_len(&self) -> u32
+        ensures value { result ≡ part_len self.now.tables }
+        ensures bound { result ≤ 2007000 }
+    {
+        18 + 10 * self.things.len() as u32
+            + 14 * self.lines.len() as u32
+            + 30 * self.sides.len() as u32
+            + 4 * self.vertices.len() as u32
+            + 26 * self.sectors.len() as u32
+    }
+
     /// The version, the name, and the counts of things, lines, sides, vertices and sectors.
     fn header(&self, alloc: Global) -> Result<Vec<u8>, MapError>
         ensures bytes { IfOk result (λ v. v.items ≡ header self.now.tables) }
@@ -93,6 +106,7 @@ impl Map {
     pub fn encode_body(&self, alloc: Global) -> Result<Vec<u8>, MapError>
         ensures bytes { IfOk result (λ v. v.items ≡ body self.now.tables) }
         ensures length { IfOk result (λ v. length v.items ≡ body_len self.now.tables) }
+        ensures well_formed { OnOk result (WellFormed self.now.tables) }
         ensures memory { IsOkUnless result MapError.OutOfMemory }
     {
         let mut bytes = self.header(alloc)?;

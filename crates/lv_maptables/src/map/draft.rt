@@ -1,16 +1,17 @@
 ghost use Rattle.std.specs.Prelude.{◌≡◌, ◌≤◌, ◌↔◌, IfOk, IsOkUnless, IsTrue, All, length};
+ghost use Rattle.lv_lumps.specs.Limits.{item_limit, sector_limit};
 ghost use Rattle.lv_maptables.specs.Ranges.{IsNamed, is_marker, IsVertex, IsSector, IsSide, IsLine, IsThing};
 ghost use Rattle.lv_maptables.specs.WellFormed.{WellFormed, HasEnds, HasSides, HasSector};
 ghost use Rattle.lv_maptables.specs.Body.{IsFramed, tables_at};
 
 use crate::error::MapError;
 use crate::form::{are_apart, are_linked, have_sectors};
+use crate::map::Map;
 use crate::map::header::{count_at, name_at};
-use crate::map::{ITEM_LIMIT, Map, SECTOR_LIMIT};
 use crate::ranges::{are_areas, are_places, is_named_with};
 use lv_lumps::{
-    Line, Name8, Sector, Side, Thing, Vertex, decode_lines, decode_sectors, decode_sides,
-    decode_things, decode_vertices,
+    ITEM_LIMIT, Line, Name8, SECTOR_LIMIT, Sector, Side, Thing, Vertex, decode_lines,
+    decode_sectors, decode_sides, decode_things, decode_vertices,
 };
 use std::alloc::Global;
 use std::marker::Model;
@@ -61,7 +62,7 @@ impl Draft {
 
     /// Whether each table is within its limit.
     fn is_within_limits(&self) -> bool
-        ensures { IsTrue result ↔ ((length self.now.vertices ≤ 32767) × (length self.now.sectors ≤ 4096) × (length self.now.sides ≤ 32767) × (length self.now.lines ≤ 32767) × (length self.now.things ≤ 32767)) }
+        ensures { IsTrue result ↔ ((length self.now.vertices ≤ item_limit) × (length self.now.sectors ≤ sector_limit) × (length self.now.sides ≤ item_limit) × (length self.now.lines ≤ item_limit) × (length self.now.things ≤ item_limit)) }
     {
         self.vertices.len() <= ITEM_LIMIT
             && self.sectors.len() <= SECTOR_LIMIT

@@ -1,23 +1,24 @@
-ghost use Rattle.std.specs.Prelude.{[], ◌∷◌, ◌<◌, IsErrOf};
+ghost use Rattle.std.specs.Prelude.{◌≡◌, [], ◌∷◌, ◌<◌, IsErrOf};
 ghost use Rattle.lv_maptables.specs.Ranges.{IsLine};
-ghost use Rattle.lv_maptables.specs.Outcomes.{Ends, EndsExactly, Tells, Spends, one_line, nothing};
+ghost use Rattle.lv_maptables.specs.Outcomes.{EndsEdit, EndsExactly, Tells, Spends, places, one_line, nothing};
 ghost use Rattle.lv_maptables.specs.Faults.{lacks, reference_faults, shape_faults, line_faults, set_line_faults, drop_line_faults};
 ghost use Rattle.lv_maptables.specs.Edits.{added_line, changed_line, dropped_line};
 
 use crate::error::MapError;
+use crate::form::{has_same_ends, lacks_left, lacks_side, lacks_vertex};
 use crate::lengths::is_too_long;
-use crate::map::{ITEM_LIMIT, Map};
-use crate::references::{has_left, is_two_sided};
-use lv_lumps::Line;
+use crate::map::Map;
+use crate::map::growth::append;
+use lv_lumps::{ITEM_LIMIT, Line};
 
 /// Whether the line's own fields go together: `SameEnds`, `TwoSidedWithoutLeft`.
 fn check_shape(line: &Line) -> Result<(), MapError>
     ensures { Tells result (shape_faults line.now) }
 {
-    if line.v1 == line.v2 {
+    if has_same_ends(line) {
         return Err(MapError::SameEnds);
     }
-    if is_two_sided(line) && !has_left(line) {
+    if lacks_left(line) {
         return Err(MapError::TwoSidedWithoutLeft);
     }
     Ok(())
@@ -38,12 +39,10 @@ impl Map {
     fn check_references(&self, line: &Line) -> Result<(), MapError>
         ensures { Tells result (reference_faults self.now.tables line.now) }
     {
-        let vertices = self.vertices.len();
-        if usize::from(line.v1) >= vertices || usize::from(line.v2) >= vertices {
+        if lacks_vertex(&self.vertices, line) {
             return Err(MapError::NoVertex);
         }
-        let sides = self.sides.len();
-        if usize::from(line.right) >= sides || has_left(line) && usize::from(line.left) >= sides {
+        if lacks_side(&self.sides, line) {
             return Err(MapError::NoSide);
         }
         Ok(())
@@ -68,13 +67,14 @@ impl Map {
     /// Adds a line, and answers its number.
     pub fn add_line(&mut self, line: Line) -> Result<u32, MapError>
         requires { IsLine line }
-        ensures edit { Ends result (added_line self.old.tables line) self.old.tables self.new.tables }
+        ensures edit { EndsEdit result (added_line self.old.tables line) self.old.tables self.new.tables }
         ensures promised { 0 < self.old.spare.lines → IsErrOf result MapError.OutOfMemory → ⊥ }
         ensures spare { Spends one_line self.old.spare self.new.spare }
+        ensures places { 0 < self.old.spare.lines → places self.new.tables self.new.spare ≡ places self.old.tables self.old.spare }
     {
         self.can_add_line(line)?;
         let number = self.lines.len() as u32;
-        self.lines.push(line)?;
+        append(&mut self.lines, line)?;
         Ok(number)
     }
 
@@ -97,6 +97,7 @@ impl Map {
         requires { IsLine line }
         ensures edit { EndsExactly result (changed_line self.old.tables n line) self.old.tables self.new.tables }
         ensures spare { Spends nothing self.old.spare self.new.spare }
+        ensures places { places self.new.tables self.new.spare ≡ places self.old.tables self.old.spare }
     {
         self.can_set_line(n, line)?;
         self.lines[n as usize] = line;
@@ -114,6 +115,7 @@ impl Map {
     pub fn drop_line(&mut self, n: u32) -> Result<(), MapError>
         ensures edit { EndsExactly result (dropped_line self.old.tables n) self.old.tables self.new.tables }
         ensures spare { Spends nothing self.old.spare self.new.spare }
+        ensures places { places self.new.tables self.new.spare ≡ places self.old.tables self.old.spare }
     {
         self.can_drop_line(n)?;
         self.lines.remove(n as usize);

@@ -1,14 +1,15 @@
 ghost use Rattle.std.specs.Prelude.{◌≡◌, [], ◌∷◌, ◌<◌, map, IsErrOf};
 ghost use Rattle.std.specs.List.{list_any};
 ghost use Rattle.lv_maptables.specs.Ranges.{IsSector};
-ghost use Rattle.lv_maptables.specs.Outcomes.{Ends, EndsExactly, Tells, Spends, one_sector, nothing};
+ghost use Rattle.lv_maptables.specs.Outcomes.{EndsEdit, EndsExactly, Tells, Spends, places, one_sector, nothing};
 ghost use Rattle.lv_maptables.specs.Faults.{lacks, in_sector, sector_faults, set_sector_faults, drop_sector_faults};
 ghost use Rattle.lv_maptables.specs.Edits.{side_without_sector, added_sector, changed_sector, dropped_sector};
 
 use crate::error::MapError;
+use crate::map::Map;
+use crate::map::growth::append;
 use crate::map::numbers::lowered;
-use crate::map::{Map, SECTOR_LIMIT};
-use lv_lumps::{Sector, Side};
+use lv_lumps::{SECTOR_LIMIT, Sector, Side};
 
 /// Whether a side belongs to the sector.
 fn has_side_in(sides: &[Side], n: u32) -> bool
@@ -64,13 +65,14 @@ impl Map {
     /// Adds a sector, and answers its number.
     pub fn add_sector(&mut self, sector: Sector) -> Result<u32, MapError>
         requires { IsSector sector }
-        ensures edit { Ends result (added_sector self.old.tables sector) self.old.tables self.new.tables }
+        ensures edit { EndsEdit result (added_sector self.old.tables sector) self.old.tables self.new.tables }
         ensures promised { 0 < self.old.spare.sectors → IsErrOf result MapError.OutOfMemory → ⊥ }
         ensures spare { Spends one_sector self.old.spare self.new.spare }
+        ensures places { 0 < self.old.spare.sectors → places self.new.tables self.new.spare ≡ places self.old.tables self.old.spare }
     {
         self.can_add_sector()?;
         let number = self.sectors.len() as u32;
-        self.sectors.push(sector)?;
+        append(&mut self.sectors, sector)?;
         Ok(number)
     }
 
@@ -86,6 +88,7 @@ impl Map {
         requires { IsSector sector }
         ensures edit { EndsExactly result (changed_sector self.old.tables n sector) self.old.tables self.new.tables }
         ensures spare { Spends nothing self.old.spare self.new.spare }
+        ensures places { places self.new.tables self.new.spare ≡ places self.old.tables self.old.spare }
     {
         self.can_set_sector(n)?;
         self.sectors[n as usize] = sector;
@@ -107,6 +110,7 @@ impl Map {
     pub fn drop_sector(&mut self, n: u32) -> Result<(), MapError>
         ensures edit { EndsExactly result (dropped_sector self.old.tables n) self.old.tables self.new.tables }
         ensures spare { Spends nothing self.old.spare self.new.spare }
+        ensures places { places self.new.tables self.new.spare ≡ places self.old.tables self.old.spare }
     {
         self.can_drop_sector(n)?;
         self.sectors.remove(n as usize);

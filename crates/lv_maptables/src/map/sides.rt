@@ -1,21 +1,21 @@
 ghost use Rattle.std.specs.Prelude.{◌≡◌, [], ◌∷◌, ◌<◌, map, IsErrOf};
 ghost use Rattle.std.specs.List.{list_any};
 ghost use Rattle.lv_maptables.specs.Ranges.{IsSide};
-ghost use Rattle.lv_maptables.specs.Outcomes.{Ends, EndsExactly, Tells, Spends, one_side, nothing};
+ghost use Rattle.lv_maptables.specs.Outcomes.{EndsEdit, EndsExactly, Tells, Spends, places, one_side, nothing};
 ghost use Rattle.lv_maptables.specs.Faults.{lacks, uses_side, side_faults, set_side_faults, drop_side_faults};
 ghost use Rattle.lv_maptables.specs.Edits.{lowered_left, line_without_side, added_side, changed_side, dropped_side};
 
 use crate::error::MapError;
+use crate::map::Map;
+use crate::map::growth::append;
 use crate::map::numbers::lowered;
-use crate::map::{ITEM_LIMIT, Map};
-use crate::references::{NO_SIDE, has_left};
-use lv_lumps::{Line, Side};
+use lv_lumps::{ITEM_LIMIT, Line, NO_SIDE, Side};
 
 /// Whether the side is the line's right or left one.
 fn uses_side(line: &Line, n: u32) -> bool
     ensures { result ≡ uses_side n line.now }
 {
-    u32::from(line.right) == n || has_left(line) && u32::from(line.left) == n
+    u32::from(line.right) == n || line.has_left() && u32::from(line.left) == n
 }
 
 /// Whether a line has the side.
@@ -85,13 +85,14 @@ impl Map {
     /// Adds a side, and answers its number.
     pub fn add_side(&mut self, side: Side) -> Result<u32, MapError>
         requires { IsSide side }
-        ensures edit { Ends result (added_side self.old.tables side) self.old.tables self.new.tables }
+        ensures edit { EndsEdit result (added_side self.old.tables side) self.old.tables self.new.tables }
         ensures promised { 0 < self.old.spare.sides → IsErrOf result MapError.OutOfMemory → ⊥ }
         ensures spare { Spends one_side self.old.spare self.new.spare }
+        ensures places { 0 < self.old.spare.sides → places self.new.tables self.new.spare ≡ places self.old.tables self.old.spare }
     {
         self.can_add_side(side)?;
         let number = self.sides.len() as u32;
-        self.sides.push(side)?;
+        append(&mut self.sides, side)?;
         Ok(number)
     }
 
@@ -108,6 +109,7 @@ impl Map {
         requires { IsSide side }
         ensures edit { EndsExactly result (changed_side self.old.tables n side) self.old.tables self.new.tables }
         ensures spare { Spends nothing self.old.spare self.new.spare }
+        ensures places { places self.new.tables self.new.spare ≡ places self.old.tables self.old.spare }
     {
         self.can_set_side(n, side)?;
         self.sides[n as usize] = side;
@@ -129,6 +131,7 @@ impl Map {
     pub fn drop_side(&mut self, n: u32) -> Result<(), MapError>
         ensures edit { EndsExactly result (dropped_side self.old.tables n) self.old.tables self.new.tables }
         ensures spare { Spends nothing self.old.spare self.new.spare }
+        ensures places { places self.new.tables self.new.spare ≡ places self.old.tables self.old.spare }
     {
         self.can_drop_side(n)?;
         self.sides.remove(n as usize);

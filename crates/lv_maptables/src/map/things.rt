@@ -1,12 +1,13 @@
-ghost use Rattle.std.specs.Prelude.{[], ◌∷◌, ◌<◌, IsErrOf};
+ghost use Rattle.std.specs.Prelude.{◌≡◌, [], ◌∷◌, ◌<◌, IsErrOf};
 ghost use Rattle.lv_maptables.specs.Ranges.{IsThing};
-ghost use Rattle.lv_maptables.specs.Outcomes.{Ends, EndsExactly, Tells, Spends, one_thing, nothing};
+ghost use Rattle.lv_maptables.specs.Outcomes.{EndsEdit, EndsExactly, Tells, Spends, places, one_thing, nothing};
 ghost use Rattle.lv_maptables.specs.Faults.{lacks, thing_faults, set_thing_faults, drop_thing_faults};
 ghost use Rattle.lv_maptables.specs.Edits.{added_thing, changed_thing, dropped_thing};
 
 use crate::error::MapError;
-use crate::map::{ITEM_LIMIT, Map};
-use lv_lumps::Thing;
+use crate::map::Map;
+use crate::map::growth::append;
+use lv_lumps::{ITEM_LIMIT, Thing};
 
 impl Map {
     /// Whether the map has the thing: `NoThing`.
@@ -32,13 +33,14 @@ impl Map {
     /// Adds a thing, and answers its number.
     pub fn add_thing(&mut self, thing: Thing) -> Result<u32, MapError>
         requires { IsThing thing }
-        ensures edit { Ends result (added_thing self.old.tables thing) self.old.tables self.new.tables }
+        ensures edit { EndsEdit result (added_thing self.old.tables thing) self.old.tables self.new.tables }
         ensures promised { 0 < self.old.spare.things → IsErrOf result MapError.OutOfMemory → ⊥ }
         ensures spare { Spends one_thing self.old.spare self.new.spare }
+        ensures places { 0 < self.old.spare.things → places self.new.tables self.new.spare ≡ places self.old.tables self.old.spare }
     {
         self.can_add_thing()?;
         let number = self.things.len() as u32;
-        self.things.push(thing)?;
+        append(&mut self.things, thing)?;
         Ok(number)
     }
 
@@ -54,6 +56,7 @@ impl Map {
         requires { IsThing thing }
         ensures edit { EndsExactly result (changed_thing self.old.tables n thing) self.old.tables self.new.tables }
         ensures spare { Spends nothing self.old.spare self.new.spare }
+        ensures places { places self.new.tables self.new.spare ≡ places self.old.tables self.old.spare }
     {
         self.can_set_thing(n)?;
         self.things[n as usize] = thing;
@@ -71,6 +74,7 @@ impl Map {
     pub fn drop_thing(&mut self, n: u32) -> Result<(), MapError>
         ensures edit { EndsExactly result (dropped_thing self.old.tables n) self.old.tables self.new.tables }
         ensures spare { Spends nothing self.old.spare self.new.spare }
+        ensures places { places self.new.tables self.new.spare ≡ places self.old.tables self.old.spare }
     {
         self.can_drop_thing(n)?;
         self.things.remove(n as usize);

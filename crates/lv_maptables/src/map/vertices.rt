@@ -1,26 +1,27 @@
 ghost use Rattle.std.specs.Prelude.{◌≡◌, [], ◌∷◌, ◌<◌, ◌&&◌, length, map, slice_set, IsErrOf};
 ghost use Rattle.std.specs.List.{list_any};
 ghost use Rattle.lv_maptables.specs.Ranges.{IsVertex, squared_distance};
-ghost use Rattle.lv_maptables.specs.WellFormed.{vertex_at};
-ghost use Rattle.lv_maptables.specs.Outcomes.{Ends, EndsExactly, Tells, Spends, one_vertex, nothing};
+ghost use Rattle.lv_maptables.specs.WellFormed.{nth_vertex};
+ghost use Rattle.lv_maptables.specs.Outcomes.{EndsEdit, EndsExactly, Tells, Spends, places, one_vertex, nothing};
 ghost use Rattle.lv_maptables.specs.Faults.{lacks, is_taken, is_taken_beside, is_too_long, uses_vertex, vertex_faults, set_vertex_faults, drop_vertex_faults};
 ghost use Rattle.lv_maptables.specs.Edits.{line_without_vertex, added_vertex, changed_vertex, dropped_vertex};
 
 use crate::error::MapError;
-use crate::lengths::{LONGEST_SQUARED, squared_distance, vertex_at};
+use crate::lengths::nth_vertex;
+use crate::map::Map;
+use crate::map::growth::append;
 use crate::map::numbers::lowered;
-use crate::map::{ITEM_LIMIT, Map};
-use lv_lumps::{Line, Vertex};
+use lv_lumps::{ITEM_LIMIT, LONGEST_SQUARED, Line, Vertex, squared_distance};
 
 /// The vertex of the number once vertex `moved` stands at another place.
 fn vertex_after_move(vertices: &[Vertex], moved: u32, to: Vertex, n: u16) -> Vertex
     requires { moved < length vertices.now }
-    ensures { result ≡ vertex_at (slice_set vertices.now moved to) n }
+    ensures { result ≡ nth_vertex (slice_set vertices.now moved to) n }
 {
     if u32::from(n) == moved {
         to
     } else {
-        vertex_at(vertices, n)
+        nth_vertex(vertices, n)
     }
 }
 
@@ -123,13 +124,14 @@ impl Map {
     /// Adds a vertex, and answers its number.
     pub fn add_vertex(&mut self, vertex: Vertex) -> Result<u32, MapError>
         requires { IsVertex vertex }
-        ensures edit { Ends result (added_vertex self.old.tables vertex) self.old.tables self.new.tables }
+        ensures edit { EndsEdit result (added_vertex self.old.tables vertex) self.old.tables self.new.tables }
         ensures promised { 0 < self.old.spare.vertices → IsErrOf result MapError.OutOfMemory → ⊥ }
         ensures spare { Spends one_vertex self.old.spare self.new.spare }
+        ensures places { 0 < self.old.spare.vertices → places self.new.tables self.new.spare ≡ places self.old.tables self.old.spare }
     {
         self.can_add_vertex(vertex)?;
         let number = self.vertices.len() as u32;
-        self.vertices.push(vertex)?;
+        append(&mut self.vertices, vertex)?;
         Ok(number)
     }
 
@@ -162,6 +164,7 @@ impl Map {
         requires { IsVertex vertex }
         ensures edit { EndsExactly result (changed_vertex self.old.tables n vertex) self.old.tables self.new.tables }
         ensures spare { Spends nothing self.old.spare self.new.spare }
+        ensures places { places self.new.tables self.new.spare ≡ places self.old.tables self.old.spare }
     {
         self.can_set_vertex(n, vertex)?;
         self.vertices[n as usize] = vertex;
@@ -183,6 +186,7 @@ impl Map {
     pub fn drop_vertex(&mut self, n: u32) -> Result<(), MapError>
         ensures edit { EndsExactly result (dropped_vertex self.old.tables n) self.old.tables self.new.tables }
         ensures spare { Spends nothing self.old.spare self.new.spare }
+        ensures places { places self.new.tables self.new.spare ≡ places self.old.tables self.old.spare }
     {
         self.can_drop_vertex(n)?;
         self.vertices.remove(n as usize);

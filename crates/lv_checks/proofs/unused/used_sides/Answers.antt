@@ -1,6 +1,6 @@
 use Rattle.std.proofs.Common.{◌≡◌, ◌≢◌, false, true, eqb, ◌&&◌, ◌||◌, sym, ap, ◌∙◌, arith}
-use Rattle.lv_maptables.specs.Tables.{no_side}
-use Rattle.lv_maptables.specs.Faults.{uses_side, has_left}
+use Rattle.lv_lumps.specs.Sides.{has_left, no_side}
+use Rattle.lv_maptables.specs.Faults.{uses_side}
 use Rattle.lv_maptables.specs.WellFormed.{HasSides}
 use Rattle.lv_checks.proofs.ItemReads.{at_some}
 use Rattle.lv_checks.proofs.MarkSteps.{or_false, marks_one, marks_two}

@@ -1,14 +1,17 @@
-use Rattle.std.proofs.Common.{◌∙◌, ap, sym, rules}
+use Rattle.std.proofs.Common.{◌∙◌, ap, sym, arith, rules}
 use Rattle.std.specs.Prelude.{Err}
 use Rattle.lv_commands.proofs.Steps.{code_is_low, fullness, refused-by, step_is_full, step_refuses}
 use Rattle.lv_commands.proofs.changes.ready.Goals as goal
 
 pub of_edit-requires : goal.of_edit-requires
-of_edit-requires c = code_is_low c.args.map.now.tables c.args.command.now _ c.in-Err.ensures
+of_edit-requires c =
+    let low = code_is_low c.args.map.now.tables c.args.command.now _ c.in-Err.ensures in
+    omega (arith, low)
 
 pub returns-in-Err-clause-refused : goal.returns-in-Err-clause-refused
 returns-in-Err-clause-refused c =
-    refused-by c.of_edit.result _ (step_refuses c.args.map.now.tables c.args.command.now c.args.cap _ c.in-Err.ensures ∙ ap Err (sym c.of_edit.ensures))
+    let low = code_is_low c.args.map.now.tables c.args.command.now _ c.in-Err.ensures in
+    refused-by c.of_edit.result _ (omega (arith, low, c.of_edit.ensures)) (step_refuses c.args.map.now.tables c.args.command.now c.args.cap _ c.in-Err.ensures ∙ ap Err (sym c.of_edit.ensures))
 
 pub returns-then-from-growth_of-clause-refused : goal.returns-then-from-growth_of-clause-refused
 returns-then-from-growth_of-clause-refused c =

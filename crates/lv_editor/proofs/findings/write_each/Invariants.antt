@@ -1,7 +1,7 @@
 use Rattle.std.proofs.Common.{take}
 use Rattle.std.specs.Prelude.{flat_map}
 use Rattle.std.specs.Io.KnownBytes.{Appends}
-use Rattle.lv_editor.specs.Answers.{finding_line}
+use Rattle.lv_editor.specs.Texts.{finding_line}
 use Rattle.lv_editor.proofs.findings.write_each.Given as goal
 
 -- the findings so far have been written

@@ -1,6 +1,6 @@
 use Rattle.std.proofs.Common.{◌∙◌, ◌++◌, ap, sym, append_assoc, get_or, take, drop, length, ◌-◌}
 use Rattle.std.specs.Prelude.{flat_map}
-use Rattle.lv_editor.specs.Answers.{hex_byte, hex_digits, spaced_byte}
+use Rattle.lv_editor.specs.Texts.{hex_byte, hex_digits, spaced_byte}
 use Rattle.lv_editor.proofs.HexDigits.{first-rest, hex_digits-cons}
 use Rattle.lv_editor.proofs.hex.push_digits.Goals as goal
 

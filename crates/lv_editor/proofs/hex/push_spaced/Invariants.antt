@@ -1,6 +1,6 @@
 use Rattle.std.proofs.Common.{◌≡◌, ◌++◌, take}
 use Rattle.std.specs.Prelude.{flat_map}
-use Rattle.lv_editor.specs.Answers.{spaced_byte}
+use Rattle.lv_editor.specs.Texts.{spaced_byte}
 use Rattle.lv_editor.proofs.hex.push_spaced.Given as goal
 
 abbrev pub invariant-loop-b : goal.invariant-loop-b

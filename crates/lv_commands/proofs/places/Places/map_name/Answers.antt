@@ -1,5 +1,5 @@
 use Rattle.std.proofs.Common.{◌∙◌, sym, [], ◌∷◌}
-use Rattle.lv_maptables.specs.Ranges.{is_marker}
+use Rattle.lv_lumps.specs.Names.{is_marker}
 use Rattle.lv_commands.specs.Places.{Named}
 use Rattle.lv_commands.specs.Views.{reading}
 use Rattle.lv_commands.proofs.Readings.{fresh, done}

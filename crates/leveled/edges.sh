@@ -1,0 +1,24 @@
+#!/bin/sh
+# What the program does at its edges, where the gate can't look: `sh crates/leveled/edges.sh bin/leveled`.
+# Prints each case that isn't as it should be, and ends with status 1 if there is one.
+program=$1
+bad=0
+
+# NAME STATUS: the status of the last command
+status_is() {
+    [ "$2" = "$3" ] || { echo "$1: status $3, not $2"; bad=1; }
+}
+
+"$program" bogus 2>&-; status_is 'no standard error' 2 $?
+"$program" bogus 2>/dev/full; status_is 'a full standard error' 2 $?
+"$program" --help >/dev/full 2>/dev/null; status_is 'help on a full disk' 1 $?
+"$program" --version >&- 2>/dev/null; status_is 'the version without standard output' 1 $?
+said=$("$program" --help 2>&1 >/dev/full)
+[ "$said" = 'leveled: 38 WriterFailed' ] || { echo "help on a full disk says: $said"; bad=1; }
+[ "$("$program" help)" = "$("$program" --help)" ] || { echo 'help is not as --help'; bad=1; }
+"$program" help >/dev/null; status_is 'help' 0 $?
+said=$("$program" scratch "$(printf '\377')" 2>&1); status_is 'a word that is no text' 2 $?
+[ "$said" = 'leveled: word 2 is no text' ] || { echo "a word that is no text says: $said"; bad=1; }
+printf 'vertex 0 0\n' | "$program" scratch >/dev/full 2>/dev/null; status_is 'answers on a full disk' 1 $?
+
+exit $bad

@@ -1,0 +1,14 @@
+pub mod Extremes
+pub mod TouchLemmas
+pub mod FilingLemmas
+pub mod RowLemmas
+pub mod FillLemmas
+pub mod OnceLemmas
+pub mod LayoutLemmas
+pub mod OffsetLemmas
+pub mod GatherLemmas
+pub mod NoteLemmas
+pub mod GridLemmas
+pub mod SizeLemmas
+pub mod RisingLemmas
+pub mod EndsLemmas

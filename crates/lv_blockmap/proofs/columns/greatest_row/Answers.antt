@@ -1,0 +1,15 @@
+use Rattle.std.proofs.Common.{arith}
+use Rattle.std.proofs.lemmas.Int.{to_z-of_z}
+use Rattle.std.specs.Int.{w16, w32}
+use Rattle.lv_blockmap.proofs.RowLemmas.{none_above}
+use Rattle.lv_blockmap.proofs.columns.greatest_row.Goals as goal
+
+pub returns-then-not-touches_row-clause-greatest : goal.returns-then-not-touches_row-clause-greatest
+returns-then-not-touches_row-clause-greatest c =
+    let e1 = to_z-of_z w32 c.args.left c.ranges.left in
+    let e2 = to_z-of_z w16 c.args.bottom c.ranges.bottom in
+    let i = simp (e1, e2) at c.loop-row.invariant in
+    let t = simp (e1, e2) at c.touches_row.ensures in
+    let at = i.0 in
+    let low = i.1 in
+    λ r h k u. none_above c.args.line.start c.args.line.end c.args.left c.args.bottom c.loop-row.high c.loop-row.row c.args.rows (omega (arith, at)) i.3 (λ v. let w = t.1 v in let f = c.if-not-touches_row.true in cc) r (omega (arith, at)) k u

@@ -1,0 +1,32 @@
+use Rattle.std.proofs.Common.{rules, ◌<◌, ℕ, length}
+use Rattle.std.proofs.lemmas.Int.{to_z-of_z}
+use Rattle.std.specs.Prelude.{FitsSigned, ◌/◌}
+use Rattle.std.specs.Int.{w16, w32}
+use Rattle.lv_blockmap.proofs.FillLemmas.{row_among, column_files, column_skipped, all_columns}
+use Rattle.lv_blockmap.proofs.fill.file_line.Goals as goal
+use Rattle.lv_blockmap.proofs.fill.file_line.Goals.{in-Some+in_ok-file_rows-in-Some, in-None}
+
+pub loop-column-preserved : goal.loop-column-preserved
+loop-column-preserved c =
+    let f1 : FitsSigned w16 c.args.grid.left = search rules in
+    let e1 = to_z-of_z w16 c.args.grid.left f1 in
+    let f2 : FitsSigned w16 c.args.grid.bottom = search rules in
+    let e2 = to_z-of_z w16 c.args.grid.bottom f2 in
+    let f3 : FitsSigned w32 c.side_of_strip-left.result = search rules in
+    let e3 = to_z-of_z w32 c.side_of_strip-left.result f3 in
+    let v = simp e1 at c.side_of_strip-left.ensures in
+    let rows : (n : ℕ) → n < length c.args.lists.now → n / c.args.grid.columns < c.args.grid.rows = λ n h. row_among c.args.grid (length c.args.lists.now) n c.requires.grid.some_column c.requires.all h in
+    elim c.match-touched_rows.branch [
+      | in-Some+in_ok-file_rows-in-Some w ↦
+          (let r0 = simp (e2, e3) at w.in-Some.ensures in
+          let r = simp v at r0 in
+          rw w.lists-is (column_files c.args.line c.args.grid c.loop-column.column w.in-Some.rows.low w.in-Some.rows.high c.args.number c.args.lists.now c.loop-column.lists w.file_rows.new.lists rows r c.loop-column.invariant w.in_ok-file_rows-in-Some.ensures.ok))
+      | in-None w ↦
+          (let r0 = simp (e2, e3) at w.in-None.ensures in
+          let r = simp v at r0 in
+          rw w.lists-is (column_skipped c.args.line c.args.grid c.loop-column.column c.args.number c.args.lists.now c.loop-column.lists rows r c.loop-column.invariant))
+    ]
+
+pub returns-clause-ok : goal.returns-clause-ok
+returns-clause-ok c =
+    all_columns c.args.line c.args.grid c.loop-column.column c.args.number c.args.lists.now c.loop-column.lists c.requires.grid.some_column c.loop-column-test.false c.loop-column.invariant

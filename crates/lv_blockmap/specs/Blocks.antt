@@ -1,0 +1,77 @@
+-- The grid of blocks over a map's lines, and the list of lines of each block.
+use Rattle.std.specs.Prelude.{◌≡◌, ℕ, ◌+◌, ◌*◌, ◌/◌, ◌%◌, ◌<◌, ◌≤◌, ◌↔◌, List, [], ◌∷◌, map, length, get_or, fold, ℤ, pos, ◌+ℤ◌, ◌-ℤ◌, unsigned_abs, AllPairs, Contains, flat_map, slice_get, Some}
+use Rattle.std.specs.Int.{int_min, int_max}
+use Rattle.lv_lumps.specs.declared.records.Line.{Line}
+use Rattle.lv_lumps.specs.declared.records.Vertex.{Vertex}
+use Rattle.lv_maptables.specs.Tables.{Tables}
+use Rattle.lv_maptables.specs.WellFormed.{nth_vertex}
+use Rattle.lv_blockmap.specs.declared.line_ends.LineEnds.{LineEnds}
+use Rattle.lv_blockmap.specs.declared.grid.Grid.{Grid}
+use Rattle.lv_blockmap.specs.Touch.{Touches}
+
+-- the places of a line's ends
+abbrev pub ends_in : List Vertex → Line → LineEnds
+ends_in vertices l = record { start = nth_vertex vertices l.v1; end = nth_vertex vertices l.v2 }
+
+-- those of each line of a map, by its number
+abbrev pub ends_of : Tables → List LineEnds
+ends_of m = map (ends_in m.vertices) m.lines
+
+-- all ends of the lines
+abbrev pub all_ends : List LineEnds → List Vertex
+all_ends lines = flat_map (λ e. e.start ∷ e.end ∷ []) lines
+
+abbrev pub least : List ℤ → ℤ
+least [] = pos 0
+least (z ∷ zs) = fold int_min z zs
+
+abbrev pub greatest : List ℤ → ℤ
+greatest [] = pos 0
+greatest (z ∷ zs) = fold int_max z zs
+
+-- how many blocks of side 128 cover the way from `low` to `high`, both with it
+abbrev pub blocks_over : ℤ → ℤ → ℕ
+blocks_over low high = unsigned_abs (high -ℤ low) / 128 + 1
+
+-- where the blocks begin, and how many there are
+abbrev pub grid_of : List LineEnds → Grid
+grid_of lines =
+    let xs = map (λ v. v.x) (all_ends lines) in
+    let ys = map (λ v. v.y) (all_ends lines) in
+    record { left = least xs; bottom = least ys; columns = blocks_over (least xs) (greatest xs); rows = blocks_over (least ys) (greatest ys) }
+
+abbrev pub block_count : Grid → ℕ
+block_count g = g.columns * g.rows
+
+-- the lower left corner of a block: they are counted row by row from the lowest
+abbrev pub block_left : Grid → ℕ → ℤ
+block_left g n = g.left +ℤ pos (128 * (n % g.columns))
+
+abbrev pub block_bottom : Grid → ℕ → ℤ
+block_bottom g n = g.bottom +ℤ pos (128 * (n / g.columns))
+
+-- the line touches the block of this number
+abbrev pub TouchesBlock : LineEnds → Grid → ℕ → Type 0
+TouchesBlock line g n = Touches line.start line.end (block_left g n) (block_bottom g n)
+
+-- the line of this number touches the block
+pub record LineTouches (lines : List LineEnds) (g : Grid) (n k : ℕ) : Type 0 where
+  pub line : LineEnds
+  pub is_line : slice_get lines k ≡ Some line
+  pub touches : TouchesBlock line g n
+
+-- the numbers of the lines that touch the block, rising
+pub record IsBlockList (lines : List LineEnds) (g : Grid) (n : ℕ) (list : List ℕ) : Type 0 where
+  pub rising : AllPairs (λ j k. j < k) list
+  pub exactly : (k : ℕ) → Contains list k ↔ LineTouches lines g n k
+
+-- the list of each block of the grid
+pub record AreBlockLists (lines : List LineEnds) (g : Grid) (lists : List (List ℕ)) : Type 0 where
+  pub count : length lists ≡ block_count g
+  pub each : (n : ℕ) → n < length lists → IsBlockList lines g n (get_or lists n [])
+
+-- a grid that blocks can be counted in
+pub record IsGrid (g : Grid) : Type 0 where
+  pub columns : g.columns ≤ 512
+  pub rows : g.rows ≤ 512
+  pub some_column : 0 < g.columns

@@ -1,0 +1,44 @@
+-- What `blockmap` answers.
+use Rattle.std.specs.Prelude.{◌≡◌, ◌≢◌, ℕ, ◌≤◌, List, [], length}
+use Rattle.lv_maptables.specs.Tables.{Tables}
+use Rattle.lv_blockmap.specs.declared.line_ends.LineEnds.{LineEnds}
+use Rattle.lv_blockmap.specs.Blocks.{grid_of, ends_of, AreBlockLists}
+use Rattle.lv_blockmap.specs.Layout.{ListsBlocks, OffsetsFit, blockmap_words, word_bytes}
+use Rattle.lv_blockmap.specs.declared.error.BlockmapError.{BlockmapError}
+use Rattle.lv_blockmap.specs.declared.error.BlockmapError.TheVariants.{NothingToBuild, BlockmapTooLarge, OutOfMemory}
+
+-- the blocks' lists, laid out as words with every offset small enough
+pub record IsLaidOut (lines : List LineEnds) (words : List ℕ) : Type 0 where
+  pub lists : List (List ℕ)
+  pub are_lists : AreBlockLists lines (grid_of lines) lists
+  pub words_are : words ≡ blockmap_words (grid_of lines) lists
+  pub fit : OffsetsFit lists
+
+-- an offset of the layout of the blocks' lists is too great
+pub record IsTooLarge (lines : List LineEnds) : Type 0 where
+  pub lists : List (List ℕ)
+  pub are_lists : AreBlockLists lines (grid_of lines) lists
+  pub too_large : ¬ OffsetsFit lists
+
+-- the bytes of words in which each block lists exactly the lines that touch it
+pub record IsBlockmapOver (lines : List LineEnds) (bytes : List ℕ) : Type 0 where
+  pub some_line : lines ≢ []
+  pub words : List ℕ
+  pub bytes_are : bytes ≡ word_bytes words
+  pub lists : ListsBlocks lines words
+  pub laid_out : IsLaidOut lines words
+  pub short : length words ≤ 65536
+
+-- the refusal has its cause
+abbrev pub RefusesBlockmapOver : List LineEnds → BlockmapError → Type 0
+RefusesBlockmapOver lines NothingToBuild = lines ≡ []
+RefusesBlockmapOver lines BlockmapTooLarge = (lines ≢ []) × IsTooLarge lines
+RefusesBlockmapOver lines OutOfMemory = Unit {0}
+
+-- the same of a map's lines
+
+abbrev pub IsBlockmap : Tables → List ℕ → Type 0
+IsBlockmap m bytes = IsBlockmapOver (ends_of m) bytes
+
+abbrev pub RefusesBlockmap : Tables → BlockmapError → Type 0
+RefusesBlockmap m e = RefusesBlockmapOver (ends_of m) e

@@ -1,0 +1,23 @@
+-- The rows of a column that a line touches.
+use Rattle.std.specs.Prelude.{ℕ, ◌*◌, ◌<◌, ◌≤◌, ℤ, pos, ◌+ℤ◌}
+use Rattle.lv_lumps.specs.declared.records.Vertex.{Vertex}
+use Rattle.lv_blockmap.specs.Touch.{Touches}
+
+-- the line touches the block of this row, where rows are counted from `bottom`
+abbrev pub TouchesRow : Vertex → Vertex → ℤ → ℤ → ℕ → Type 0
+TouchesRow a b left bottom r = Touches a b left (bottom +ℤ pos (128 * r))
+
+-- the least and the greatest of the rows that the line touches in the column
+pub record IsRowRange (a b : Vertex) (left bottom : ℤ) (rows low high : ℕ) : Type 0 where
+  pub least : TouchesRow a b left bottom low
+  pub greatest : TouchesRow a b left bottom high
+  pub among : high < rows
+  pub within : (r : ℕ) → r < rows → TouchesRow a b left bottom r → (low ≤ r) × (r ≤ high)
+
+-- no row below this one is touched
+abbrev pub NoRowBelow : Vertex → Vertex → ℤ → ℤ → ℕ → Type 0
+NoRowBelow a b left bottom n = (r : ℕ) → r < n → TouchesRow a b left bottom r → ⊥
+
+-- no row from this one on is touched
+abbrev pub NoRowFrom : Vertex → Vertex → ℤ → ℤ → ℕ → ℕ → Type 0
+NoRowFrom a b left bottom n rows = (r : ℕ) → n ≤ r → r < rows → TouchesRow a b left bottom r → ⊥

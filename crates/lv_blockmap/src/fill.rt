@@ -1,0 +1,86 @@
+ghost use Rattle.std.specs.Prelude.{◌≡◌, ◌≤◌, [], length, replicate, IfOk, OnOk, IsOkUnless};
+ghost use Rattle.lv_blockmap.specs.Blocks.{IsGrid, TouchesBlock, AreBlockLists, block_count};
+ghost use Rattle.lv_blockmap.specs.Filing.{Files};
+
+use crate::columns::{Rows, touched_rows};
+use crate::error::BlockmapError;
+use crate::grid::{Grid, side_of_strip};
+use crate::line_ends::LineEnds;
+use crate::lists::{BlockList, file_rows};
+use std::alloc::Global;
+
+/// The row of the end that lies further to the left, if the rows are counted from `bottom`.
+fn first_hint(line: LineEnds, bottom: i16) -> u32 {
+    let leftmost = if line.start.x <= line.end.x {
+        line.start
+    } else {
+        line.end
+    };
+    (i32::from(leftmost.y) - i32::from(bottom)).unsigned_abs() / 128
+}
+
+/// Where to look next for a row that the line touches, in the column on the right of one where it touches these: they
+/// share a point of the line, which lies in the greatest row where the line rises to the right, else in the least.
+fn next_hint(line: LineEnds, rows: Rows) -> u32 {
+    if (line.start.x <= line.end.x) == (line.start.y <= line.end.y) {
+        rows.high
+    } else {
+        rows.low
+    }
+}
+
+/// Puts the line at the end of the lists of the blocks that it touches, column by column.
+fn file_line(
+    lists: &mut [BlockList],
+    grid: Grid,
+    line: LineEnds,
+    number: u16,
+) -> Result<(), BlockmapError>
+    requires grid { IsGrid grid }
+    requires all { length lists.old ≡ block_count grid }
+    ensures ok { OnOk result (Files (TouchesBlock line grid) number lists.old lists.new) }
+    ensures memory { IsOkUnless result BlockmapError.OutOfMemory }
+{
+    let mut near = first_hint(line, grid.bottom);
+    for column in 0..grid.columns {
+        let left = side_of_strip(grid.left, column);
+        match touched_rows(line, left, grid.bottom, grid.rows, near) {
+            Some(rows) => {
+                file_rows(lists, grid.columns, column, rows.low, rows.high, number)?;
+                near = next_hint(line, rows);
+            }
+            None => {}
+        }
+    }
+    Ok(())
+}
+
+/// A list without a line for each block.
+fn empty_lists(alloc: Global, count: usize) -> Result<Vec<BlockList>, BlockmapError>
+    ensures lists { IfOk result (λ v. v.items ≡ replicate count []) }
+    ensures memory { IsOkUnless result BlockmapError.OutOfMemory }
+{
+    let mut lists = Vec::with_capacity(alloc, count)?;
+    for block in 0..count {
+        lists.push(BlockList::new(alloc))?;
+    }
+    Ok(lists)
+}
+
+/// The list of each block.
+pub fn block_lists(
+    alloc: Global,
+    grid: Grid,
+    lines: &[LineEnds],
+) -> Result<Vec<BlockList>, BlockmapError>
+    requires grid { IsGrid grid }
+    requires few { length lines.now ≤ 32767 }
+    ensures lists { IfOk result (λ v. AreBlockLists lines.now grid v.items) }
+    ensures memory { IsOkUnless result BlockmapError.OutOfMemory }
+{
+    let mut lists = empty_lists(alloc, (grid.columns * grid.rows) as usize)?;
+    for number in 0..lines.len() {
+        file_line(&mut lists, grid, lines[number], number as u16)?;
+    }
+    Ok(lists)
+}

@@ -1,0 +1,44 @@
+ghost use Rattle.std.specs.Prelude.{◌≡◌, map, OnOk, IfOk, IsOkUnless};
+ghost use Rattle.std.specs.List.{position_or_len};
+ghost use Rattle.lv_blockmap.specs.Layout.{noted, once, place_in, same};
+
+use crate::error::BlockmapError;
+use crate::lists::BlockList;
+use indexmap::IndexSet;
+use std::alloc::{AllocFailed, Global};
+
+/// Equal lists once, in the order of their first places, and the place of each block's list among them.
+#[derive(Drop)]
+pub struct Gathered<'a> {
+    pub written: IndexSet<&'a [u16]>,
+    pub places: Vec<usize>,
+}
+
+/// Puts the list behind those that are written, if it isn't one of them, and answers its place among them.
+fn note<'a>(
+    written: &mut IndexSet<&'a [u16]>,
+    list: &'a [u16],
+) -> Result<usize, AllocFailed<&'a [u16]>>
+    ensures keys { OnOk result (map (λ l. l.now) written.new.keys
+        ≡ noted (map (λ l. l.now) written.old.keys) list.now) }
+    ensures place { IfOk result (λ place. place
+        ≡ position_or_len (same list.now) (map (λ l. l.now) written.old.keys)) }
+{
+    let (place, _new) = written.insert_full(list)?;
+    Ok(place)
+}
+
+/// Gathers equal lists once.
+pub fn gather<'a>(alloc: Global, lists: &'a [BlockList]) -> Result<Gathered<'a>, BlockmapError>
+    ensures written { IfOk result (λ g. map (λ l. l.now) g.written.keys ≡ once lists.now) }
+    ensures places { IfOk result (λ g. g.places.items ≡ map (place_in (once lists.now)) lists.now) }
+    ensures memory { IsOkUnless result BlockmapError.OutOfMemory }
+{
+    let mut written = IndexSet::new(alloc);
+    let mut places = Vec::with_capacity(alloc, lists.len())?;
+    for n in 0..lists.len() {
+        let place = note(&mut written, lists[n].numbers())?;
+        places.push(place)?;
+    }
+    Ok(Gathered { written, places })
+}

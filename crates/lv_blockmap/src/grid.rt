@@ -1,0 +1,74 @@
+ghost use Rattle.std.specs.Prelude.{◌≡◌, ◌*◌, ◌<◌, ◌≤◌, ◌+ℤ◌, ◌≤ℤ◌, pos, length};
+ghost use Rattle.std.specs.Int.{int_min, int_max};
+ghost use Rattle.lv_blockmap.specs.Blocks.{IsGrid, blocks_over, grid_of};
+
+use crate::line_ends::LineEnds;
+use lv_lumps::Vertex;
+
+/// The blocks over a map's lines: the lower left corner, and how many columns and rows there are.
+#[derive(Clone, Copy, Debug, PartialEq, Eq)]
+pub struct Grid {
+    pub left: i16,
+    pub bottom: i16,
+    pub columns: u32,
+    pub rows: u32,
+}
+
+/// The lower side of a row, or the left side of a column, where the first begins at `from`.
+pub fn side_of_strip(from: i16, number: u32) -> i32
+    requires { number < 512 }
+    ensures { result ≡ from +ℤ pos (128 * number) }
+{
+    from as i32 + 128 * number as i32
+}
+
+/// The lesser of each coordinate.
+fn lesser(a: Vertex, b: Vertex) -> Vertex
+    ensures x { result.x ≡ int_min a.x b.x }
+    ensures y { result.y ≡ int_min a.y b.y }
+{
+    Vertex {
+        x: a.x.min(b.x),
+        y: a.y.min(b.y),
+    }
+}
+
+/// The greater of each coordinate.
+fn greater(a: Vertex, b: Vertex) -> Vertex
+    ensures x { result.x ≡ int_max a.x b.x }
+    ensures y { result.y ≡ int_max a.y b.y }
+{
+    Vertex {
+        x: a.x.max(b.x),
+        y: a.y.max(b.y),
+    }
+}
+
+/// How many blocks cover the way from `low` to `high`, both with it.
+fn blocks_over(low: i16, high: i16) -> u32
+    requires { low ≤ℤ high }
+    ensures count { result ≡ blocks_over low high }
+    ensures limit { (0 < result) × (result ≤ 512) }
+{
+    (high as i32 - low as i32) as u32 / 128 + 1
+}
+
+/// The blocks over the lines.
+pub fn grid_over(lines: &[LineEnds]) -> Grid
+    requires { 0 < length lines.now }
+    ensures grid { result ≡ grid_of lines.now }
+    ensures limits { IsGrid result }
+{
+    let mut low = lines[0].start;
+    let mut high = lines[0].start;
+    for line in lines {
+        low = lesser(lesser(low, line.start), line.end);
+        high = greater(greater(high, line.start), line.end);
+    }
+    Grid {
+        left: low.x,
+        bottom: low.y,
+        columns: blocks_over(low.x, high.x),
+        rows: blocks_over(low.y, high.y),
+    }
+}

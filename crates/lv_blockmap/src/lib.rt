@@ -1,0 +1,19 @@
+//! The blocks of a map: which lines touch which of them, and the bytes of the lump BLOCKMAP.
+#![tactic(auto)]
+
+mod columns;
+mod error;
+mod fill;
+mod gather;
+mod grid;
+mod laws;
+mod layout;
+mod line_ends;
+mod lists;
+mod lump;
+mod touch;
+
+pub use error::BlockmapError;
+pub use laws::blocks_have_one_list;
+pub use lump::blockmap;
+pub use touch::touches;

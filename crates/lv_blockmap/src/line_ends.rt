@@ -1,0 +1,48 @@
+ghost use Rattle.std.specs.Prelude.{◌≡◌, ◌≤◌, length, IfOk, IsOkUnless};
+ghost use Rattle.lv_maptables.specs.WellFormed.{nth_vertex};
+ghost use Rattle.lv_blockmap.specs.Blocks.{ends_in, ends_of};
+
+use crate::error::BlockmapError;
+use lv_lumps::{Line, Vertex};
+use lv_maptables::{Kind, Map};
+use std::alloc::Global;
+
+/// A line by the places of its ends.
+#[derive(Clone, Copy, Debug, PartialEq, Eq)]
+pub struct LineEnds {
+    pub start: Vertex,
+    pub end: Vertex,
+}
+
+/// The place of a vertex of the map.
+fn place(map: &Map, vertex: u16) -> Vertex
+    ensures { result ≡ nth_vertex map.now.tables.vertices vertex }
+{
+    map.vertex(u32::from(vertex))
+        .unwrap_or(Vertex { x: 0, y: 0 })
+}
+
+/// The ends of a line of the map.
+fn ends_in(map: &Map, line: Line) -> LineEnds
+    ensures { result ≡ ends_in map.now.tables.vertices line }
+{
+    LineEnds {
+        start: place(map, line.v1),
+        end: place(map, line.v2),
+    }
+}
+
+/// The ends of each line of the map, by its number.
+pub fn ends_of(alloc: Global, map: &Map) -> Result<Vec<LineEnds>, BlockmapError>
+    ensures ends { IfOk result (λ v. v.items ≡ ends_of map.now.tables) }
+    ensures few { IfOk result (λ v. length v.items ≤ 32767) }
+    ensures memory { IsOkUnless result BlockmapError.OutOfMemory }
+{
+    let mut ends = Vec::new(alloc);
+    for n in 0..map.count(Kind::Line) {
+        if let Some(line) = map.line(n) {
+            ends.push(ends_in(map, line))?;
+        }
+    }
+    Ok(ends)
+}

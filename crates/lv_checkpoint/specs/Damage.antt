@@ -1,0 +1,32 @@
+-- Where the bytes of two slots stand for no body.
+use Rattle.std.specs.Prelude.{◌≡◌, ◌<◌, ◌≤◌, ◌⊎◌, ◌+◌, ◌^◌, ℕ, List, [], ◌∷◌, length}
+use Rattle.std.specs.Int.{to_le_bytes, w32}
+use Rattle.lv_disk.specs.Files.{HasAt}
+use Rattle.lv_disk.specs.Gates.{open_gate, IsClosedAt}
+use Rattle.lv_disk.specs.declared.area.Area.{Area}
+use Rattle.lv_checkpoint.specs.Bodies.{IsOpenWith}
+
+-- the slot's length isn't in the file whole, is too great for the slot, or goes beyond the file
+abbrev pub HasBadLength : Area → List ℕ → Type 0
+HasBadLength slot file = (length file < slot.base + 13)
+    ⊎ ((n : ℕ) × HasAt (slot.base + 9) (to_le_bytes w32 n) file × (n < 2 ^ 32)
+    × ((slot.length < 13 + n) ⊎ (length file < slot.base + 13 + n)))
+
+-- the slot's gate isn't in the file, or it is open and its length is bad
+abbrev pub IsBadSlot : Area → List ℕ → Type 0
+IsBadSlot slot file = (length file ≤ slot.base)
+    ⊎ (HasAt slot.base (open_gate ∷ []) file × HasBadLength slot file)
+
+-- both slots are open with one generation
+abbrev pub AreOneGeneration : Area → Area → List ℕ → Type 0
+AreOneGeneration a b file = (generation : ℕ) × (n : ℕ) × (m : ℕ)
+    × IsOpenWith a generation n file × IsOpenWith b generation m file
+
+-- the least place of a fault: that of a bad slot, or the second's where both are open with one generation
+abbrev pub IsDamagedAt : Area → Area → ℕ → List ℕ → Type 0
+IsDamagedAt a b place file = (IsBadSlot a file × (place ≡ a.base))
+    ⊎ ((¬ IsBadSlot a file) × (place ≡ b.base) × (IsBadSlot b file ⊎ AreOneGeneration a b file))
+
+-- no slot is open
+abbrev pub AreBlank : Area → Area → List ℕ → Type 0
+AreBlank a b file = IsClosedAt a.base file × IsClosedAt b.base file

@@ -1,0 +1,67 @@
+-- What a handle of two slots tells of, and when a file has the slots that it tells of.
+use Rattle.std.specs.Prelude.{◌≡◌, ◌==◌, ℕ, Bool, true, false, List, drop, if◌then◌else◌}
+use Rattle.lv_disk.specs.Gates.{IsClosedAt}
+use Rattle.lv_disk.specs.declared.area.Area.{Area}
+use Rattle.lv_checkpoint.specs.Bodies.{IsOpen, IsOlder}
+use Rattle.lv_checkpoint.specs.declared.slots.Slots.{Slots}
+use Rattle.lv_checkpoint.specs.declared.image.Image.{Image}
+use Rattle.lv_checkpoint.specs.declared.change.Closed.{Closed}
+use Rattle.lv_checkpoint.specs.declared.change.Filled.{Filled}
+
+-- the first of the two areas in the file
+abbrev pub first_of : Slots → Area
+first_of slots = slots.a
+
+-- the second of them
+abbrev pub second_of : Slots → Area
+second_of slots = slots.b
+
+-- which of them is live: 0 is the first, 1 the second
+abbrev pub slot_of : Slots → ℕ
+slot_of slots = slots.slot
+
+-- the other of two slots
+abbrev pub other_slot : ℕ → ℕ
+other_slot slot = if slot == 0 then 1 else 0
+
+-- the live generation
+abbrev pub generation_of : Slots → ℕ
+generation_of slots = slots.generation
+
+-- whether the other one was found open
+abbrev pub finds_open : Slots → Bool
+finds_open slots = slots.other_is_open
+
+-- the area of the live slot
+abbrev pub live_of : Slots → Area
+live_of slots = if slots.slot == 0 then slots.a else slots.b
+
+-- the area of the other one
+abbrev pub other_of : Slots → Area
+other_of slots = if slots.slot == 0 then slots.b else slots.a
+
+-- the slots of a change of which the other slot is closed
+abbrev pub closed_of : Closed → Slots
+closed_of closed = closed.slots
+
+-- the slots of a change of which the other slot is filled
+abbrev pub filled_of : Filled → Slots
+filled_of filled = filled.slots
+
+-- the generation of an image
+abbrev pub generation_in : Image → ℕ
+generation_in image = image.generation
+
+-- the body of an image: what stands behind the twelve bytes of its generation and length
+abbrev pub body_in : Image → List ℕ
+body_in image = drop 12 image.bytes.items
+
+-- the file has the slots that the handle tells of, and this body is the live one
+pub record HasSlots (slots : Slots) (body file : List ℕ) : Type 0 where
+  pub live : IsOpen (live_of slots) (generation_of slots) body file
+  pub shut : finds_open slots ≡ false → IsClosedAt (other_of slots).base file
+  pub older : finds_open slots ≡ true → IsOlder (other_of slots) (generation_of slots) file
+
+-- the same with some body
+abbrev pub HasSomeSlots : Slots → List ℕ → Type 0
+HasSomeSlots slots file = (body : List ℕ) × HasSlots slots body file

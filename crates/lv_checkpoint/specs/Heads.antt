@@ -1,0 +1,24 @@
+-- What was found of two slots by their gates and their numbers alone.
+use Rattle.std.specs.Prelude.{◌≡◌, ◌≤◌, ◌+◌, ℕ, true, false, List, Option, Some, None}
+use Rattle.lv_disk.specs.Gates.{IsClosedAt}
+use Rattle.lv_disk.specs.declared.area.Area.{Area}
+use Rattle.lv_checkpoint.specs.Bodies.{IsOpenWith, IsOlder}
+use Rattle.lv_checkpoint.specs.Handles.{live_of, other_of, generation_of, finds_open}
+use Rattle.lv_checkpoint.specs.declared.heads.Head.{Head}
+use Rattle.lv_checkpoint.specs.declared.slots.Slots.{Slots}
+
+-- the slot is closed where no head was found, else open with that head
+abbrev pub Shows : Area → Option Head → List ℕ → Type 0
+Shows slot None file = IsClosedAt slot.base file
+Shows slot (Some head) file = IsOpenWith slot head.generation head.len file
+
+-- the slot has room for the body
+abbrev pub HasRoom : Area → Option Head → Type 0
+HasRoom slot None = Unit {0}
+HasRoom slot (Some head) = 13 + head.len ≤ slot.length
+
+-- the file has the slots that the handle tells of, and the live body has n bytes
+pub record HasHeads (slots : Slots) (n : ℕ) (file : List ℕ) : Type 0 where
+  pub live : IsOpenWith (live_of slots) (generation_of slots) n file
+  pub shut : finds_open slots ≡ false → IsClosedAt (other_of slots).base file
+  pub older : finds_open slots ≡ true → IsOlder (other_of slots) (generation_of slots) file

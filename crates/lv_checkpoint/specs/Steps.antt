@@ -1,0 +1,79 @@
+-- What the calls that change the live slot make of a file.
+use Rattle.std.specs.Prelude.{◌⊎◌, ◌+◌, ℕ, List, [], ◌∷◌}
+use Rattle.lv_disk.specs.Files.{HasAt, KeepsOutside}
+use Rattle.lv_disk.specs.Gates.{IsClosedAt}
+use Rattle.lv_disk.specs.declared.area.Area.{Area}
+use Rattle.lv_checkpoint.specs.Bodies.{HasContent, IsLive}
+use Rattle.lv_checkpoint.specs.Handles.{live_of, other_of, generation_of}
+use Rattle.lv_checkpoint.specs.declared.slots.Slots.{Slots}
+
+-- the file is live as the handle says, with this body
+abbrev pub IsLiveBy : Slots → List ℕ → List ℕ → Type 0
+IsLiveBy slots body file = IsLive (live_of slots) (other_of slots) (generation_of slots) body file
+
+-- the file is live after the change: the other slot is the live one, with the next generation
+abbrev pub IsNextBy : Slots → List ℕ → List ℕ → Type 0
+IsNextBy slots body file = IsLive (other_of slots) (live_of slots) (generation_of slots + 1) body file
+
+-- the file is live as the handle says, with some body
+abbrev pub IsSomeLive : Slots → List ℕ → Type 0
+IsSomeLive slots file = (body : List ℕ) × IsLiveBy slots body file
+
+-- some body stands behind the other slot's gate, with the next generation
+abbrev pub IsFilled : Slots → List ℕ → Type 0
+IsFilled slots file = (body : List ℕ) × HasContent (other_of slots) (generation_of slots + 1) body file
+
+-- what `close_other` leaves: the file is live as the handle says, and the other slot is closed
+pub record HasClosed (slots : Slots) (file : List ℕ) : Type 0 where
+  pub live : IsSomeLive slots file
+  pub closed : IsClosedAt (other_of slots).base file
+
+-- what `fill` leaves: the same, and a body stands behind the other slot's gate
+pub record HasFilled (slots : Slots) (file : List ℕ) : Type 0 where
+  pub closed : HasClosed slots file
+  pub filled : IsFilled slots file
+
+-- the live body stays, and all bytes outside the other slot
+pub record KeepsLive (slots : Slots) (old new : List ℕ) : Type 0 where
+  pub keeps : KeepsOutside (other_of slots).base (other_of slots).length old new
+  pub live : (body : List ℕ) → IsLiveBy slots body old → IsLiveBy slots body new
+
+-- and the other slot is closed
+pub record ClosesOther (slots : Slots) (old new : List ℕ) : Type 0 where
+  pub keeps : KeepsLive slots old new
+  pub closed : IsClosedAt (other_of slots).base new
+
+-- the live body stays, and all bytes outside the other slot, but for the first byte of the other journal
+pub record MayFill (slots : Slots) (journal : Area) (old new : List ℕ) : Type 0 where
+  pub middle : List ℕ
+  pub first : KeepsOutside (other_of slots).base (other_of slots).length old middle
+  pub second : KeepsOutside journal.base 1 middle new
+  pub live : (body : List ℕ) → IsLiveBy slots body old → IsLiveBy slots body new
+
+-- and the other slot has the content behind a closed gate, and the other journal begins with a closed one
+pub record Fills (slots : Slots) (body : List ℕ) (journal : Area) (old new : List ℕ) : Type 0 where
+  pub may : MayFill slots journal old new
+  pub closed : IsClosedAt (other_of slots).base new
+  pub content : HasContent (other_of slots) (generation_of slots + 1) body new
+  pub begins : HasAt journal.base (0 ∷ []) new
+
+-- the content behind the other slot's gate is the live body, and all bytes outside that slot stay
+pub record OpensOther (slots : Slots) (old new : List ℕ) : Type 0 where
+  pub keeps : KeepsOutside (other_of slots).base (other_of slots).length old new
+  pub live : (body : List ℕ)
+      → HasContent (other_of slots) (generation_of slots + 1) body old → IsNextBy slots body new
+
+-- the live body is the one from before, or that content, and all bytes outside that slot stay
+pub record MayOpenOther (slots : Slots) (old new : List ℕ) : Type 0 where
+  pub keeps : KeepsOutside (other_of slots).base (other_of slots).length old new
+  pub either : (live_body body : List ℕ) → IsLiveBy slots live_body old
+      → HasContent (other_of slots) (generation_of slots + 1) body old
+      → IsLiveBy slots live_body new ⊎ IsNextBy slots body new
+
+-- what `first` makes of what a disk reads: a live first slot, a closed second one, and all bytes outside the two stay
+pub record IsFirst (a b : Area) (body old new : List ℕ) : Type 0 where
+  pub middle : List ℕ
+  pub at_a : KeepsOutside a.base a.length old middle
+  pub at_b : KeepsOutside b.base 1 middle new
+  pub live : IsLive a b 1 body new
+  pub closed : IsClosedAt b.base new

@@ -1,0 +1,98 @@
+//! The head of a slot as it is read: its gate, its generation and the length of its body.
+ghost use Rattle.std.specs.Prelude.{◌≡◌, ◌≤◌, ◌<◌, ◌⊎◌, ◌+◌, ◌++◌, [], ◌∷◌, length, take, drop, IfOk, IfErr, IfNone, IfSome, OnOk};
+ghost use Rattle.std.specs.Int.{to_le_bytes, w64};
+ghost use Rattle.lv_disk.specs.Files.{HasAt};
+ghost use Rattle.lv_disk.specs.Stops.{Counted, CountsFaults, Each};
+ghost use Rattle.lv_disk.specs.Gates.{IsClosedAt};
+ghost use Rattle.lv_checkpoint.specs.Damage.{IsBadSlot};
+ghost use Rattle.lv_checkpoint.specs.Heads.{HasRoom, Shows};
+ghost use Rattle.lv_checkpoint.specs.Refusals.{IfDamaged, RefusesOpen};
+ghost use Rattle.lv_disk.specs.Reading.{OnlyReads};
+
+use crate::CheckpointError;
+use lv_disk::{Area, DeviceFault, Disk, OPEN_GATE, read_gate, read_length};
+use std::alloc::Global;
+
+/// What stands before a body in its slot: the gate, the generation and the length.
+pub const BEFORE_BODY: u64 = 13;
+
+/// The generation of an open slot, and the length of its body.
+#[derive(Clone, Copy, Debug)]
+pub struct Head {
+    pub generation: u64,
+    pub len: u32,
+}
+
+// The number with these bytes, the lowest first.
+fn generation_of(bytes: [u8; 8]) -> u64
+    ensures { to_le_bytes w64 result ≡ bytes }
+{
+    u64::from_le_bytes(bytes)
+}
+
+// The generation in the eight bytes from a place on.
+fn read_generation<D: Disk>(disk: &mut D, at: u64) -> Result<u64, DeviceFault>
+    requires { Each (D.reads disk.old) (λ file. at + 8 ≤ length file) }
+    ensures told { IfOk result (λ n. Each (D.reads disk.old) (HasAt at (to_le_bytes w64 n))) }
+    ensures reads { OnlyReads D.reads D.may_leave D.moment D.left_since disk.old disk.new }
+    ensures count { Counted (D.failures disk.old) (D.failures disk.new) result }
+{
+    let mut bytes = [0; 8];
+    disk.read(at, &mut bytes)?;
+    Ok(generation_of(bytes))
+}
+
+// So many bytes from a place on.
+pub fn read_body<D: Disk>(
+    alloc: Global,
+    disk: &mut D,
+    at: u64,
+    len: u32,
+) -> Result<Vec<u8>, CheckpointError>
+    requires within { Each (D.reads disk.old) (λ file. at + len ≤ length file) }
+    ensures len { IfOk result (λ body. length body.items ≡ len) }
+    ensures told { IfOk result (λ body. Each (D.reads disk.old) (HasAt at body.items)) }
+    ensures reads { OnlyReads D.reads D.may_leave D.moment D.left_since disk.old disk.new }
+    ensures count { CountsFaults CheckpointError.Device (D.failures disk.old) (D.failures disk.new) result }
+    ensures no_other { IfErr result (λ e. (e ≡ CheckpointError.Device) ⊎ (e ≡ CheckpointError.OutOfMemory)) }
+{
+    let mut body = vec![in alloc; 0; len as usize]?;
+    disk.read(at, &mut body)?;
+    Ok(body)
+}
+
+/// The head of a slot, none where its gate is closed. The file ends at `end`.
+pub fn read_head<D: Disk>(
+    disk: &mut D,
+    slot: Area,
+    end: u64,
+) -> Result<Option<Head>, CheckpointError>
+    requires ends { Each (D.reads disk.old) (λ file. end ≡ length file) }
+    ensures shows { IfOk result (λ found. Each (D.reads disk.old) (Shows slot found)) }
+    ensures fits { IfOk result (HasRoom slot) }
+    ensures damaged { IfErr result (λ e. IfDamaged e (λ place.
+        (place ≡ slot.base) × Each (D.reads disk.old) (IsBadSlot slot))) }
+    ensures no_other { IfErr result (λ e.
+        (e ≡ CheckpointError.Device) ⊎ (e ≡ CheckpointError.Damaged slot.base)) }
+    ensures reads { OnlyReads D.reads D.may_leave D.moment D.left_since disk.old disk.new }
+    ensures count { CountsFaults CheckpointError.Device (D.failures disk.old) (D.failures disk.new) result }
+{
+    let place = slot.base;
+    if end <= place {
+        return Err(CheckpointError::Damaged { place });
+    }
+    if read_gate(disk, place)? != OPEN_GATE {
+        return Ok(None);
+    }
+    let behind = end - place;
+    if behind < BEFORE_BODY {
+        return Err(CheckpointError::Damaged { place });
+    }
+    let generation = read_generation(disk, place + 1)?;
+    let len = read_length(disk, place + 9)?;
+    let whole = BEFORE_BODY + len as u64;
+    if whole > slot.length as u64 || whole > behind {
+        return Err(CheckpointError::Damaged { place });
+    }
+    Ok(Some(Head { generation, len }))
+}

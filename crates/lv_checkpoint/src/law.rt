@@ -1,0 +1,32 @@
+//! Laws on what the bytes of two slots stand for. The functions have no bodies: their contracts are the laws.
+ghost use Rattle.std.specs.Prelude.{◌≡◌, ◌<◌, List, ℕ};
+ghost use Rattle.lv_disk.specs.Files.{KeepsOutside};
+ghost use Rattle.lv_disk.specs.declared.area.Area.{Area};
+ghost use Rattle.lv_disk.specs.Areas.{IsApart};
+ghost use Rattle.lv_checkpoint.specs.Bodies.{IsLive};
+ghost use Rattle.lv_checkpoint.specs.Damage.{AreBlank, IsDamagedAt};
+
+/// Two slots have one live slot, generation and body at most; they are damaged at one place at most; and no two of
+/// live, damaged and blank hold at once.
+pub fn stand_for_one_body()
+    ensures one { (a b : Area) (g h : ℕ) (x y file : List ℕ)
+        → IsLive a b g x file → IsLive a b h y file → (g ≡ h) × (x ≡ y) }
+    ensures one_slot { (a b : Area) (g h : ℕ) (x y file : List ℕ)
+        → IsLive a b g x file → ¬ IsLive b a h y file }
+    ensures place { (a b : Area) (p q : ℕ) (file : List ℕ)
+        → IsDamagedAt a b p file → IsDamagedAt a b q file → p ≡ q }
+    ensures not_damaged { (a b : Area) (g p : ℕ) (x file : List ℕ)
+        → IsLive a b g x file → ¬ IsDamagedAt a b p file }
+    ensures nor_damaged { (a b : Area) (g p : ℕ) (x file : List ℕ)
+        → IsLive b a g x file → ¬ IsDamagedAt a b p file }
+    ensures not_blank { (a b : Area) (g : ℕ) (x file : List ℕ) → IsLive a b g x file → ¬ AreBlank a b file }
+    ensures nor_blank { (a b : Area) (g : ℕ) (x file : List ℕ) → IsLive b a g x file → ¬ AreBlank a b file }
+    ensures nor_both { (a b : Area) (p : ℕ) (file : List ℕ) → AreBlank a b file → ¬ IsDamagedAt a b p file }
+{}
+
+/// What the bytes of two slots stand for depends on these bytes alone.
+pub fn stand_by_themselves()
+    ensures kept { (live other : Area) (generation : ℕ) (body : List ℕ) (at n : ℕ) (old new : List ℕ)
+        → 0 < other.length → IsApart live at n → IsApart other at n → KeepsOutside at n old new
+        → IsLive live other generation body old → IsLive live other generation body new }
+{}

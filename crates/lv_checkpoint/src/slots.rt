@@ -1,0 +1,284 @@
+ghost use Rattle.std.specs.Prelude.{◌≤◌, ◌<◌, ◌+◌};
+
+use crate::CheckpointError;
+use crate::heads::{BEFORE_BODY, Head, read_body, read_head};
+use crate::image::Image;
+use lv_disk::{Area, Disk};
+use std::alloc::Global;
+
+/// Two slots of a file, as a handle tells of them: which is live, with which generation, and whether the other one is
+/// open too. It holds no disk.
+#[derive(Clone, Copy, Debug)]
+pub struct Slots {
+    a: Area,
+    b: Area,
+    // 0 where the first is live, else the second.
+    slot: u8,
+    generation: u64,
+    other_is_open: bool,
+    ghost in_order: { a.base + a.length ≤ b.base },
+    ghost a_some: { 0 < a.length },
+    ghost b_some: { 0 < b.length },
+}
+
+/// The live body as `Slots::open` found it. Slot 0 is the first, 1 the second.
+#[derive(Debug, Drop)]
+pub struct Found {
+    pub slot: u8,
+    pub generation: u64,
+    pub body: Vec<u8>,
+}
+
+impl Slots {
+    ghost use Rattle.std.specs.Prelude.{◌≡◌, ◌≤◌, ◌<◌, ◌⊎◌, ◌↔◌, ◌+◌, ◌-◌, ◌^◌, List, ℕ, Option, length, false, true, OnOk, IfOk, IfErr, IsErrOf};
+    ghost use Rattle.lv_disk.specs.Stops.{CountsFaults, Each};
+    ghost use Rattle.lv_checkpoint.specs.Bodies.{IsOpenWith};
+    ghost use Rattle.lv_checkpoint.specs.Damage.{AreBlank, AreOneGeneration, IsDamagedAt};
+    ghost use Rattle.lv_checkpoint.specs.Handles.{body_in, finds_open, first_of, generation_in, generation_of, live_of, other_of, other_slot, second_of, slot_of, HasSlots};
+    ghost use Rattle.lv_checkpoint.specs.Heads.{HasRoom, HasHeads, Shows};
+    ghost use Rattle.lv_disk.specs.Reading.{OnlyReads};
+    ghost use Rattle.lv_checkpoint.specs.Refusals.{IfDamaged, RefusesImage, RefusesOpen};
+
+    // Which slot is live, and how long its body is.
+    fn choose(
+        a: Area,
+        b: Area,
+        first: Option<Head>,
+        second: Option<Head>,
+    ) -> Result<(Slots, u32), CheckpointError>
+        requires in_order { a.base + a.length ≤ b.base }
+        requires a_some { 0 < a.length }
+        requires b_some { 0 < b.length }
+        requires first_fits { HasRoom a first }
+        requires second_fits { HasRoom b second }
+        ensures areas { IfOk result (λ r. (first_of r.0 ≡ a) × (second_of r.0 ≡ b)) }
+        ensures which { IfOk result (λ r. slot_of r.0 ≤ 1) }
+        ensures fits { IfOk result (λ r. 13 + r.1 ≤ (live_of r.0).length) }
+        ensures heads { IfOk result (λ r. (file : List ℕ)
+            → Shows a first file → Shows b second file → HasHeads r.0 r.1 file) }
+        ensures blank { IsErrOf result CheckpointError.Blank
+            → ((file : List ℕ) → Shows a first file → Shows b second file → AreBlank a b file) }
+        ensures damaged { IfErr result (λ e. IfDamaged e (λ place. (place ≡ b.base)
+            × ((file : List ℕ) → Shows a first file → Shows b second file → AreOneGeneration a b file))) }
+        ensures no_other { IfErr result (λ e.
+            (e ≡ CheckpointError.Blank) ⊎ (e ≡ CheckpointError.Damaged b.base)) }
+    {
+        match (first, second) {
+            (None, None) => Err(CheckpointError::Blank),
+            (Some(head), None) => {
+                let slots = Slots {
+                    a,
+                    b,
+                    slot: 0,
+                    generation: head.generation,
+                    other_is_open: false,
+                };
+                Ok((slots, head.len))
+            }
+            (None, Some(head)) => {
+                let slots = Slots {
+                    a,
+                    b,
+                    slot: 1,
+                    generation: head.generation,
+                    other_is_open: false,
+                };
+                Ok((slots, head.len))
+            }
+            (Some(one), Some(other)) => Slots::choose_greater(a, b, one, other),
+        }
+    }
+
+    // The same of two slots that are both open.
+    fn choose_greater(
+        a: Area,
+        b: Area,
+        one: Head,
+        other: Head,
+    ) -> Result<(Slots, u32), CheckpointError>
+        requires in_order { a.base + a.length ≤ b.base }
+        requires a_some { 0 < a.length }
+        requires b_some { 0 < b.length }
+        requires one_fits { 13 + one.len ≤ a.length }
+        requires other_fits { 13 + other.len ≤ b.length }
+        ensures areas { IfOk result (λ r. (first_of r.0 ≡ a) × (second_of r.0 ≡ b)) }
+        ensures which { IfOk result (λ r. slot_of r.0 ≤ 1) }
+        ensures fits { IfOk result (λ r. 13 + r.1 ≤ (live_of r.0).length) }
+        ensures heads { IfOk result (λ r. (file : List ℕ)
+            → IsOpenWith a one.generation one.len file → IsOpenWith b other.generation other.len file
+            → HasHeads r.0 r.1 file) }
+        ensures damaged { IfErr result (λ e. (e ≡ CheckpointError.Damaged b.base)
+            × (one.generation ≡ other.generation)) }
+    {
+        if one.generation == other.generation {
+            return Err(CheckpointError::Damaged { place: b.base });
+        }
+        if other.generation < one.generation {
+            let slots = Slots {
+                a,
+                b,
+                slot: 0,
+                generation: one.generation,
+                other_is_open: true,
+            };
+            Ok((slots, one.len))
+        } else {
+            let slots = Slots {
+                a,
+                b,
+                slot: 1,
+                generation: other.generation,
+                other_is_open: true,
+            };
+            Ok((slots, other.len))
+        }
+    }
+
+    /// Reads the live body of two slots of a disk of which what it reads is the only image. It writes nothing.
+    ///
+    /// `Damaged` tells the place in the file of a slot that isn't there, or that is open and whose length isn't there,
+    /// is too great for the slot or goes beyond the file; or of the second one, where both are open with one generation.
+    pub fn open<D: Disk>(
+        alloc: Global,
+        disk: &mut D,
+        a: Area,
+        b: Area,
+    ) -> Result<(Slots, Found), CheckpointError>
+        requires only { Each (D.may_leave disk.old) (D.reads disk.old) }
+        requires in_order { a.base + a.length ≤ b.base }
+        requires a_some { 0 < a.length }
+        requires b_some { 0 < b.length }
+
+        // The slots and the body are those that the bytes stand for.
+        ensures areas { IfOk result (λ r. (first_of r.0 ≡ a) × (second_of r.0 ≡ b)) }
+        ensures tells { IfOk result (λ r. (slot_of r.0 ≡ r.1.slot) × (generation_of r.0 ≡ r.1.generation)) }
+        ensures which { IfOk result (λ r. r.1.slot ≤ 1) }
+        ensures fits { IfOk result (λ r. 13 + length r.1.body.items ≤ (live_of r.0).length) }
+        ensures sound { IfOk result (λ r. Each (D.reads disk.old) (HasSlots r.0 r.1.body.items)) }
+        ensures ready { IfOk result (λ r. Each (D.may_leave disk.new) (HasSlots r.0 r.1.body.items)) }
+
+        ensures damaged { IfErr result (λ e. IfDamaged e (λ place.
+            Each (D.reads disk.old) (IsDamagedAt a b place))) }
+        ensures blank { IsErrOf result CheckpointError.Blank → Each (D.reads disk.old) (AreBlank a b) }
+        ensures no_other { IfErr result RefusesOpen }
+
+        // It writes nothing.
+        ensures reads { OnlyReads D.reads D.may_leave D.moment D.left_since disk.old disk.new }
+        ensures only { Each (D.may_leave disk.new) (D.reads disk.new) }
+        ensures count { CountsFaults CheckpointError.Device (D.failures disk.old) (D.failures disk.new) result }
+    {
+        let end = disk.len()?;
+        let first = read_head(disk, a, end)?;
+        let second = match read_head(disk, b, end) {
+            Ok(second) => second,
+            Err(error) => return Err(error),
+        };
+        let (slots, len) = match Slots::choose(a, b, first, second) {
+            Ok(chosen) => chosen,
+            Err(error) => return Err(error),
+        };
+        let body = read_body(alloc, disk, slots.live().base + BEFORE_BODY, len)?;
+        let found = Found {
+            slot: slots.slot,
+            generation: slots.generation,
+            body,
+        };
+        Ok((slots, found))
+    }
+
+    /// Which slot is live: 0 is the first, 1 the second.
+    pub fn slot(&self) -> u8
+        ensures { result ≡ slot_of self.now }
+    {
+        self.slot
+    }
+
+    /// The live generation.
+    pub fn generation(&self) -> u64
+        ensures { result ≡ generation_of self.now }
+    {
+        self.generation
+    }
+
+    fn live(self) -> Area
+        ensures { result ≡ live_of self }
+    {
+        if self.slot == 0 { self.a } else { self.b }
+    }
+
+    pub fn other(self) -> Area
+        ensures { result ≡ other_of self }
+    {
+        if self.slot == 0 { self.b } else { self.a }
+    }
+
+    // The slots after a change: the other one is live, with the next generation.
+    pub fn turned(self) -> Slots
+        requires { generation_of self + 1 < 2 ^ 64 }
+        ensures areas { (first_of result ≡ first_of self) × (second_of result ≡ second_of self) }
+        ensures live { (live_of result ≡ other_of self) × (other_of result ≡ live_of self) }
+        ensures slot { slot_of result ≡ other_slot (slot_of self) }
+        ensures generation { generation_of result ≡ generation_of self + 1 }
+        ensures other { finds_open result ≡ true }
+    {
+        Slots {
+            a: self.a,
+            b: self.b,
+            slot: if self.slot == 0 { 1 } else { 0 },
+            generation: self.generation + 1,
+            other_is_open: true,
+        }
+    }
+
+    pub fn other_is_open(self) -> bool
+        ensures { result ≡ finds_open self }
+    {
+        self.other_is_open
+    }
+
+    /// The body as it is to stand in the other slot, with the next generation. Nothing is written.
+    ///
+    /// `SlotFull` exactly where the body is longer than the other slot less 13, else `GenerationsSpent` exactly where
+    /// the live generation is the last.
+    pub fn image(&self, alloc: Global, body: &[u8]) -> Result<Image, CheckpointError>
+        ensures made { IfOk result (λ image. (generation_in image ≡ generation_of self.now + 1)
+            × (body_in image ≡ body.now)) }
+        ensures fits { OnOk result (13 + length body.now ≤ (other_of self.now).length) }
+        ensures full { IsErrOf result CheckpointError.SlotFull
+            ↔ ((other_of self.now).length < 13 + length body.now) }
+        ensures spent { IsErrOf result CheckpointError.GenerationsSpent
+            ↔ (13 + length body.now ≤ (other_of self.now).length) × (generation_of self.now ≡ 2 ^ 64 - 1) }
+        ensures number { OnOk result (generation_of self.now + 1 < 2 ^ 64) }
+        ensures no_other { IfErr result RefusesImage }
+    {
+        let room = (self.other().length as usize).checked_sub(BEFORE_BODY as usize);
+        match room {
+            Some(room) if body.len() <= room => {}
+            _ => return Err(CheckpointError::SlotFull),
+        }
+        let Some(generation) = self.generation.checked_add(1) else {
+            return Err(CheckpointError::GenerationsSpent);
+        };
+        Image::write(alloc, generation, body)
+    }
+
+    // The handle of two slots of which the first was just filled.
+    pub fn fresh(a: Area, b: Area) -> Slots
+        requires in_order { a.base + a.length ≤ b.base }
+        requires a_some { 0 < a.length }
+        requires b_some { 0 < b.length }
+        ensures areas { (first_of result ≡ a) × (second_of result ≡ b) }
+        ensures live { (live_of result ≡ a) × (other_of result ≡ b) }
+        ensures slot { slot_of result ≡ 0 }
+        ensures generation { generation_of result ≡ 1 }
+        ensures other { finds_open result ≡ false }
+    {
+        Slots {
+            a,
+            b,
+            slot: 0,
+            generation: 1,
+            other_is_open: false,
+        }
+    }
+}

@@ -1,0 +1,128 @@
+ghost use Rattle.std.specs.Prelude.{◌≡◌, ◌≤◌, ℕ, List};
+ghost use Rattle.lv_maptables.specs.Tables.{Tables, body_len, empty_tables};
+ghost use Rattle.lv_editor.specs.declared.limits.TheConstants.{LONGEST_BODY};
+ghost use Rattle.lv_editor.specs.Answers.{AnswersInMemory, ChangesBy, LacksMemory, RepliesInMemory, outcome_of};
+ghost use Rattle.lv_editor.specs.Queries.{WritesAnswer};
+ghost use Rattle.lv_editor.specs.Runs.{Exchange, Ran};
+
+use crate::answers::write_answer;
+use crate::error::EditorError;
+use crate::limits::LONGEST_BODY;
+use crate::outcome::write_outcome;
+use crate::query::{Query, read_query};
+use crate::run::run_lines;
+use crate::session::Session;
+use lv_commands::{CommandError, apply, parse};
+use lv_maptables::Map;
+use std::alloc::Global;
+use std::io::{Read, Write};
+use std::marker::Model;
+
+/// The outcome of a command: its number, or the refusal's code.
+fn outcome_of(ended: Result<u32, CommandError>) -> Result<u32, u16>
+    ensures { result ≡ outcome_of ended }
+{
+    match ended {
+        Ok(number) => Ok(number),
+        Err(error) => Err(error.code()),
+    }
+}
+
+/// A map in memory, which lines ask and change.
+#[derive(Drop)]
+pub struct Drawing {
+    map: Map,
+}
+
+impl Model for Drawing {
+    ghost Value = { Tables };
+
+    ghost view = { λ d. d.map.tables };
+
+    ghost invariant = { λ d. body_len d.map.tables ≤ 2007002 };
+}
+
+impl Drawing {
+    /// The empty map.
+    pub fn new(alloc: Global) -> Self
+        ensures { result ≡ empty_tables }
+    {
+        Drawing {
+            map: Map::new(alloc),
+        }
+    }
+
+    /// Does what a line asks for that is no query, and answers its number or the refusal's code.
+    fn change(&mut self, line: &[u8]) -> Result<u32, u16>
+        ensures { ChangesBy LONGEST_BODY self.old line.now result self.new }
+    {
+        let command = match parse(line) {
+            Ok(command) => command,
+            Err(error) => return Err(error.code()),
+        };
+        outcome_of(apply(&mut self.map, &command, LONGEST_BODY))
+    }
+
+    /// Writes the answer to a query.
+    fn answer_query<W: Write>(
+        &self,
+        alloc: Global,
+        query: Query,
+        writer: &mut W,
+    ) -> Result<(), EditorError>
+        ensures { WritesAnswer result self.now query (W.contents writer.old) (W.contents writer.new) }
+    {
+        write_answer(alloc, &self.map, query, writer)
+    }
+}
+
+impl Session for Drawing {
+    ghost answers = { AnswersInMemory 2007002 };
+
+    ghost lacks = { LacksMemory 2007002 };
+
+    fn answer<W: Write>(
+        &mut self,
+        alloc: Global,
+        line: &[u8],
+        writer: &mut W,
+    ) -> Result<(), EditorError> {
+        let Some(query) = read_query(line) else {
+            let outcome = self.change(line);
+            return write_outcome(outcome, writer);
+        };
+        match self.answer_query(alloc, query, writer) {
+            Ok(()) => Ok(()),
+            Err(EditorError::OutOfMemory) => {
+                write_outcome(Err(CommandError::OutOfMemory.code()), writer)
+            }
+            Err(_) => Err(EditorError::WriterFailed),
+        }
+    }
+}
+
+/// Answers the lines that the reader gives, in at most `turns` reads of at most 4,096 bytes, over
+/// a map that is empty at first, and says how many lines it answered. The writer is flushed after
+/// each turn.
+///
+/// # Errors
+///
+/// - `InputTooLong` where that many reads did not give the end, and `ReaderFailed`: every line that
+///   was read whole has been answered, and the rest is dropped.
+/// - `WriterFailed`: no further line was looked at.
+///
+/// It takes no memory of its own. A line that finds none is answered `no 31`.
+pub fn run_in_memory<R: Read, W: Write>(
+    alloc: Global,
+    reader: &mut R,
+    writer: &mut W,
+    turns: u32,
+) -> Result<u64, EditorError>
+    ensures { (last : Tables) × (trace : List (Exchange Tables))
+        × Ran (RepliesInMemory LONGEST_BODY) empty_tables last trace turns result
+        (R.remaining reader.old) (R.remaining reader.new)
+        (W.contents writer.old) (W.contents writer.new) }
+{
+    let mut drawing = Drawing::new(alloc);
+    run_lines(alloc, &mut drawing, reader, writer, turns)
+}

@@ -1,0 +1,25 @@
+ghost use Rattle.std.specs.Prelude.{◌≡◌, ◌≤◌, pos, unsigned_abs, ◌+ℤ◌, ◌-ℤ◌, ◌*ℤ◌};
+ghost use Rattle.lv_lumps.specs.Drawing.{squared_distance};
+
+use crate::records::Vertex;
+
+/// The greatest squared length of a line, in squared map units: that of 32,767.
+pub const LONGEST_SQUARED: u64 = 1_073_676_289;
+
+/// The squared distance of two places, in squared map units.
+pub fn squared_distance(a: Vertex, b: Vertex) -> u64
+    ensures value { result ≡ squared_distance a b }
+    ensures products { pos result ≡ (b.x -ℤ a.x) *ℤ (b.x -ℤ a.x) +ℤ (b.y -ℤ a.y) *ℤ (b.y -ℤ a.y) }
+{
+    let dx = gap(a.x, b.x);
+    let dy = gap(a.y, b.y);
+    dx * dx + dy * dy
+}
+
+/// How far two coordinates are apart.
+fn gap(a: i16, b: i16) -> u64
+    ensures value { result ≡ unsigned_abs (b -ℤ a) }
+    ensures bound { result ≤ 65535 }
+{
+    u64::from((i32::from(b) - i32::from(a)).unsigned_abs())
+}

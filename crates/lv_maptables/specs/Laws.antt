@@ -1,0 +1,31 @@
+-- Laws of the definitions.
+use Rattle.std.specs.Prelude.{ℕ, ◌<◌, Bool, List, [], ◌∷◌}
+use Rattle.lv_lumps.specs.declared.records.Line.{Line}
+use Rattle.lv_lumps.specs.declared.records.Side.{Side}
+use Rattle.lv_lumps.specs.declared.records.Vertex.{Vertex}
+use Rattle.lv_maptables.specs.Tables.{Tables}
+use Rattle.lv_maptables.specs.Faults.{vertex_faults, set_vertex_faults, drop_vertex_faults, sector_faults, set_sector_faults, drop_sector_faults, side_faults, set_side_faults, drop_side_faults, line_faults, set_line_faults, drop_line_faults, thing_faults, set_thing_faults, drop_thing_faults}
+
+-- each code is less than the next
+abbrev pub Rises : List (ℕ × Bool) → Type 0
+Rises [] = Unit {0}
+Rises (fault ∷ []) = Unit {0}
+Rises (fault ∷ next ∷ faults) = (fault.0 < next.0) × Rises (next ∷ faults)
+
+-- what speaks against an edit of a map stands by rising code, so that the first that holds is the least
+pub record FaultsRise (m : Tables) (n : ℕ) (v : Vertex) (s : Side) (l : Line) : Type 0 where
+  pub vertex : Rises (vertex_faults m v)
+  pub set_vertex : Rises (set_vertex_faults m n v)
+  pub drop_vertex : Rises (drop_vertex_faults m n)
+  pub sector : Rises (sector_faults m)
+  pub set_sector : Rises (set_sector_faults m n)
+  pub drop_sector : Rises (drop_sector_faults m n)
+  pub side : Rises (side_faults m s)
+  pub set_side : Rises (set_side_faults m n s)
+  pub drop_side : Rises (drop_side_faults m n)
+  pub line : Rises (line_faults m l)
+  pub set_line : Rises (set_line_faults m n l)
+  pub drop_line : Rises (drop_line_faults m n)
+  pub thing : Rises (thing_faults m)
+  pub set_thing : Rises (set_thing_faults m n)
+  pub drop_thing : Rises (drop_thing_faults m n)

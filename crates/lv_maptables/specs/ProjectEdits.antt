@@ -1,0 +1,51 @@
+-- What selecting, dropping and naming a map make of a project, and what speaks against it, by rising code.
+use Rattle.std.specs.Prelude.{ℕ, ◌+◌, Bool, ◌&&◌, not, nat_lt, if◌then◌else◌, List, [], ◌∷◌, ◌++◌, length, remove, Result, ⊤}
+use Rattle.lv_lumps.specs.declared.records.Name8.{Name8}
+use Rattle.lv_maptables.specs.Tables.{empty_tables}
+use Rattle.lv_maptables.specs.Outcomes.{least, unless}
+use Rattle.lv_maptables.specs.Edits.{with_name, lowered}
+use Rattle.lv_maptables.specs.Projects.{ProjectMaps, map_limit, current_map, with_current, is_named, has_map, number_of}
+
+-- ---- What speaks against it
+
+-- there is no map of the name, and no room for one more
+abbrev pub select_faults : ProjectMaps → Name8 → List (ℕ × Bool)
+select_faults p name = (16, not (has_map p name) && nat_lt map_limit (length p.maps + 1)) ∷ []
+
+-- there is no map of the name, or it is the current one
+abbrev pub drop_map_faults : ProjectMaps → Name8 → List (ℕ × Bool)
+drop_map_faults p name = (18, not (has_map p name)) ∷ (19, is_named name (current_map p)) ∷ []
+
+-- another map than the current one has the name
+abbrev pub name_faults : ProjectMaps → Name8 → List (ℕ × Bool)
+name_faults p name = (17, has_map p name && not (is_named name (current_map p))) ∷ []
+
+-- ---- The project afterwards
+
+-- the map of the name is current; where there is none, an empty one is added last
+abbrev pub with_selected : ProjectMaps → Name8 → ProjectMaps
+with_selected p name =
+    record {
+      maps = if has_map p name then p.maps else p.maps ++ with_name empty_tables name ∷ [];
+      current = number_of p name;
+    }
+
+-- the map of the name is taken out; each greater number, the current one too, falls by one
+abbrev pub without_map : ProjectMaps → Name8 → ProjectMaps
+without_map p name =
+    record { maps = remove p.maps (number_of p name); current = lowered (number_of p name) p.current }
+
+-- the current map has the name
+abbrev pub with_current_named : ProjectMaps → Name8 → ProjectMaps
+with_current_named p name = with_current p (with_name (current_map p) name)
+
+-- ---- What each gives: the new project and the map's number, or the least code that speaks against it
+
+abbrev pub selected_map : ProjectMaps → Name8 → Result (ProjectMaps × ℕ) ℕ
+selected_map p name = unless (least (select_faults p name)) (with_selected p name) (number_of p name)
+
+abbrev pub dropped_map : ProjectMaps → Name8 → Result (ProjectMaps × ℕ) ℕ
+dropped_map p name = unless (least (drop_map_faults p name)) (without_map p name) (number_of p name)
+
+abbrev pub named_map : ProjectMaps → Name8 → Result (ProjectMaps × ⊤) ℕ
+named_map p name = unless (least (name_faults p name)) (with_current_named p name) tt

@@ -1,0 +1,39 @@
+-- What reading an item of a list by its number gives, and the items before it.
+use Rattle.std.proofs.Common.{◌≡◌, ◌≢◌, ℕ, zero, suc, ◌<◌, List, [], ◌∷◌, ◌++◌, length, map, take, Option, Some, IfSome, refl, sym, ap, ◌∙◌, subst, arith}
+use Rattle.std.specs.Prelude.{AllPairs}
+use Rattle.std.specs.Bool.{⊤}
+use Rattle.std.specs.List.{slice_get}
+use Rattle.std.specs.Option.{IsSome}
+use Rattle.std.proofs.lemmas.Option.{MatchOption-at_some, slice_get-get_or, get_or_from_slice_get, slice_get_within}
+
+-- what a clause says of the item that was read
+pub at_some : {A : Type 0} {o : Option A} (P : A → Type 0) (x : A) → o ≡ Some x → IfSome o P → P x
+at_some P x is h = MatchOption-at_some ⊤ P x is h
+
+-- there is an item of each number below the count
+pub is_there : {A : Type 0} (xs : List A) (n : ℕ) (o : Option A) → o ≡ slice_get xs n → n < length xs → IsSome o
+is_there [] n o e h = absurd (omega arith)
+is_there (x ∷ xs) n o e h = subst IsSome (sym (e ∙ slice_get-get_or (x ∷ xs) n x h)) refl
+
+-- the item behind the first n
+pub taken : {A : Type 0} (xs : List A) (n : ℕ) (x : A) → slice_get xs n ≡ Some x → take n xs ++ x ∷ [] ≡ take (suc n) xs
+taken [] n x e = cc
+taken (y ∷ xs) zero x e = let s : y ≡ x = cc in ap (λ z. z ∷ []) (sym s)
+taken (y ∷ xs) (suc n) x e = ap (λ zs. y ∷ zs) (taken xs n x e)
+
+pub mapped : {A B : Type 0} (f : A → B) (xs : List A) (n : ℕ) (x : A) → slice_get xs n ≡ Some x → map f (take n xs) ++ f x ∷ [] ≡ map f (take (suc n) xs)
+mapped f [] n x e = cc
+mapped f (y ∷ xs) zero x e = let s : y ≡ x = cc in ap (λ z. f z ∷ []) (sym s)
+mapped f (y ∷ xs) (suc n) x e = ap (λ zs. f y ∷ zs) (mapped f xs n x e)
+
+-- an item of the first n stands before them
+pub is_before : {A : Type 0} (xs : List A) (n k : ℕ) (x : A) → slice_get (take n xs) k ≡ Some x → (k < n) × (slice_get xs k ≡ Some x)
+is_before xs zero k x e = cc
+is_before [] (suc n) k x e = cc
+is_before (y ∷ xs) (suc n) zero x e = (omega arith, e)
+is_before (y ∷ xs) (suc n) (suc k) x e = let h = is_before xs n k x e in let l = h.0 in (omega arith, h.1)
+
+-- where no two items are one, an item stands at one place
+pub one_place : {A : Type 0} (xs : List A) → AllPairs (λ x y. x ≢ y) xs → (i j : ℕ) (x : A) → i < j → slice_get xs i ≡ Some x → slice_get xs j ≡ Some x → ⊥
+one_place xs all i j x l a b =
+    all i j x l (slice_get_within xs j x b) (get_or_from_slice_get xs i x x a ∙ sym (get_or_from_slice_get xs j x x b))

@@ -1,0 +1,181 @@
+-- A sound tree's references lie in their lists; its parts make up a built tree of a map.
+use Rattle.std.proofs.Common.{◌≡◌, ◌≢◌, refl, sym, ap, ◌∙◌, subst, ℕ, zero, suc, ◌+◌, ◌<◌, ◌≤◌, ◌⊎◌, inl, inr, ⊎_elim, List, [], ◌∷◌, length, map, Bool, true, false, Some, arith, slice_get, Result, Ok, Err, IfOk, IfErr}
+use Rattle.std.specs.Prelude.{sum, count_by, flat_map, nat_eq, nat_lt, ◌==◌, ◌&&◌, not, IsTrue, AllPairs}
+use Rattle.std.proofs.lemmas.Bool.{cases_eq, cases_lt, cases_order, eq-eqb, ne_eqb, lt-ltb}
+use Rattle.std.proofs.lemmas.List.Sums.{sum_by-cons}
+use Rattle.std.proofs.lemmas.Option.{slice_get_within}
+use Rattle.lv_lumps.specs.Sides.{no_side}
+use Rattle.lv_lumps.specs.declared.records.Vertex.{Vertex}
+use Rattle.lv_lumps.specs.declared.records.Line.{Line}
+use Rattle.lv_lumps.specs.declared.records.Seg.{Seg}
+use Rattle.lv_lumps.specs.declared.records.Sub.{Sub}
+use Rattle.lv_lumps.specs.declared.records.Node.{Node}
+use Rattle.lv_maptables.specs.Tables.{Tables}
+use Rattle.lv_segs.specs.declared.edge.Edge.{Edge}
+use Rattle.lv_segs.specs.Pieces.{edge_at}
+use Rattle.lv_segs.proofs.FirstList.{index_is}
+use Rattle.lv_segs.proofs.Lists.{All-at}
+use Rattle.lv_nodes.specs.Edges.{edge_between, edges_of}
+use Rattle.lv_nodes.specs.References.{HasPlaces, FollowsFrom, IsChild, AreTree, children, times_child, subsector}
+use Rattle.lv_nodes.specs.Tiling.{count_list, total}
+use Rattle.lv_nodes.specs.InRange.{sub_bit, SegInRange, Tiles, ChildInRange, TreeInRange, times_sub, times_node, children as all_children}
+use Rattle.lv_nodes.specs.Sound.{AllDiffer, IsSound, IsSmall, IsBuiltOf}
+use Rattle.lv_nodes.specs.Refusals.{IsBuildRefused}
+use Rattle.lv_nodes.specs.Built.{IsBuilt, IsTreeRefusal}
+use Rattle.lv_nodes.specs.declared.built.Built.{Built}
+use Rattle.lv_nodes.specs.declared.error.TreeError.{TreeError}
+use Rattle.lv_nodes.specs.declared.error.TreeError.TheVariants.{OutOfMemory, NothingToBuild, TooManyVertices, TooManySegs, TooManySubsectors, TooDeep}
+use Rattle.lv_nodes.proofs.Below.{at_place}
+use Rattle.lv_nodes.proofs.Covering.{same_counts}
+use Rattle.lv_nodes.proofs.Partings.{all_by}
+
+-- ---- places differ
+pub all_differ : (vs : List Vertex) → AllPairs (λ v w. v ≢ w) vs → AllDiffer vs
+all_differ vs h i j v a b = by_order (cases_order i j)
+  where
+    apart : (i j : ℕ) → i < j → slice_get vs i ≡ Some v → slice_get vs j ≡ Some v → i ≡ j
+    apart i j l a b = absurd (h i j v l (slice_get_within vs j v b) (index_is vs i v v a ∙ sym (index_is vs j v v b)))
+
+    by_order : ((i ≡ j) ⊎ ((i < j) ⊎ (j < i))) → i ≡ j
+    by_order o = ⊎_elim (λ e. e) (λ r. ⊎_elim (λ l. apart i j l a b) (λ l. sym (apart j i l b a)) r) o
+
+-- ---- tiles
+tiles_from : (at : ℕ) (us : List Sub) (to : ℕ) → FollowsFrom at us → at + total (count_list us) ≡ to → Tiles at us to
+tiles_from at [] to f e = omega arith
+tiles_from at (u ∷ us) to f e = (f.2, f.0, (let a = f.0 in let b = f.1 in omega arith), tiles_from (at + u.count) us to f.3 (omega arith))
+
+sum_total : (xs : List ℕ) → sum xs ≡ total xs
+sum_total [] = refl
+sum_total (x ∷ xs) = let c = sum_by-cons (λ (n : ℕ). n) x xs in c ∙ ap (λ (n : ℕ). x + n) (sum_total xs)
+
+-- ---- children
+node_children : List Node → List ℕ
+node_children ns = flat_map (λ m. m.right ∷ m.left ∷ []) ns
+
+children_are : (ns : List Node) → flat_map (λ m. m.right ∷ m.left ∷ []) ns ≡ children ns
+children_are [] = refl
+children_are (n ∷ ns) = ap (λ (l : List ℕ). n.right ∷ n.left ∷ l) (children_are ns)
+
+same_test : (c x : ℕ) → (c == x) ≡ nat_eq x c
+same_test c x = ⊎_elim (λ e. eq-eqb c x e ∙ sym (eq-eqb x c (sym e))) (λ n. ne_eqb c x n ∙ sym (ne_eqb x c (λ e. n (sym e)))) (cases_eq c x)
+
+node_test : (c i : ℕ) → i < sub_bit → (nat_lt c sub_bit && (c == i)) ≡ nat_eq i c
+node_test c i l = ⊎_elim (λ e. ap (λ (b : Bool). b && (c == i)) (lt-ltb c sub_bit (omega arith)) ∙ same_test c i) (λ n. ap (λ (b : Bool). nat_lt c sub_bit && b) (ne_eqb c i n) ∙ nothing (nat_lt c sub_bit) ∙ sym (ne_eqb i c (λ e. n (sym e)))) (cases_eq c i)
+  where
+    nothing : (b : Bool) → (b && false) ≡ false
+    nothing true = refl
+    nothing false = refl
+
+counts_by : (f g : ℕ → Bool) (xs : List ℕ) → ((c : ℕ) → f c ≡ g c) → count_by f xs ≡ count_by g xs
+counts_by f g xs h = same_counts f g xs xs refl (λ i y x a b. let e : x ≡ y = cc in h x ∙ ap g e)
+
+subs_times : (ns : List Node) (s : ℕ) → 0 < length ns → times_sub ns s ≡ times_child ns (subsector s)
+subs_times [] s h = absurd (omega arith)
+subs_times (n ∷ ns) s h = counts_by (λ c. c == (sub_bit + s)) (nat_eq (subsector s)) (all_children (n ∷ ns)) (λ c. same_test c (sub_bit + s)) ∙ ap (count_by (nat_eq (subsector s))) (children_are (n ∷ ns))
+
+nodes_times : (ns : List Node) (i : ℕ) → 0 < length ns → i < sub_bit → times_node ns i ≡ times_child ns i
+nodes_times [] i h l = absurd (omega arith)
+nodes_times (n ∷ ns) i h l = counts_by (λ c. nat_lt c sub_bit && (c == i)) (nat_eq i) (all_children (n ∷ ns)) (λ c. node_test c i l) ∙ ap (count_by (nat_eq i)) (children_are (n ∷ ns))
+
+no_nodes_once : (ns : List Node) (s : ℕ) → length ns ≡ 0 → s ≡ 0 → times_sub ns s ≡ 1
+no_nodes_once [] s e z = ap (λ (k : ℕ). count_by (λ c. c == (sub_bit + k)) (sub_bit ∷ [])) z
+no_nodes_once (n ∷ ns) s e z = absurd (omega arith)
+
+child_in_range : (subs : List Sub) (i c : ℕ) → i < 32768 → length subs ≤ 32767 → IsChild (length subs) i c → ChildInRange subs i c
+child_in_range subs i c few few_subs h = record {
+  node = λ l. ⊎_elim (λ a. a) (λ a. let e = a.2 in absurd (omega arith)) h;
+  sub = λ l. ⊎_elim (λ a. absurd (omega arith)) (λ a. let e = a.2 in let m = a.1 in record { among = omega arith; small = omega arith }) h;
+}
+
+some_sub_of : (subs : List Sub) (nodes : List Node) → AreTree subs nodes → 0 < length subs
+some_sub_of subs nodes t = ⊎_elim (λ z. let o = t.one_sub z in omega arith) (λ n. of_first (at_place nodes 0 (more n))) (cases_eq (length nodes) 0)
+  where
+    more : (length nodes ≡ 0 → ⊥) → 0 < length nodes
+    more n = ⊎_elim (λ l. absurd (n (omega arith))) (λ l. l) (cases_lt (length nodes) 1)
+
+    of_first : ((x : Node) × (slice_get nodes 0 ≡ Some x)) → 0 < length subs
+    of_first g = ⊎_elim (λ l. absurd (omega arith)) (λ a. let m = a.1 in omega arith) (t.right 0 g.0 g.1)
+
+-- ---- over the lines of a map
+module _ (m : Tables) where
+  mapped : (ls : List Line) (n : ℕ) (l : Line) → slice_get ls n ≡ Some l → edge_at (map (edge_between m.vertices) ls) n ≡ edge_between m.vertices l
+  mapped [] n l e = cc
+  mapped (x ∷ ls) zero l e = let s : x ≡ l = cc in ap (edge_between m.vertices) s
+  mapped (x ∷ ls) (suc n) l e = mapped ls n l e
+
+  pub edges_many : (ls : List Line) → length (map (edge_between m.vertices) ls) ≡ length ls
+  edges_many [] = refl
+  edges_many (l ∷ ls) = ap suc (edges_many ls)
+
+  left_there : (n : ℕ) → IsTrue (edge_at (edges_of m) n).has_left → (l : Line) → slice_get m.lines n ≡ Some l → l.left ≢ no_side
+  left_there n t l at = λ e. by_test (ap (λ (x : Edge). x.has_left) (mapped m.lines n l at)) (eq-eqb l.left no_side e)
+    where
+      by_test : (edge_at (edges_of m) n).has_left ≡ not (l.left == no_side) → (l.left == no_side) ≡ true → ⊥
+      by_test e f = let g = ap not f in cc
+
+  seg_in_range : (vertices : List Vertex) (s : Seg) → HasPlaces (edges_of m) vertices s → SegInRange vertices m.lines s
+  seg_in_range vertices s h =
+      let c = edges_many m.lines in
+      let l = h.line.0 in
+      record {
+        first = record { among = h.first.0; small = h.first.1 };
+        second = record { among = h.second.0; small = h.second.1 };
+        line = record { among = omega arith; small = h.line.1 };
+        side = ⊎_elim (λ z. inl z) (λ o. inr (o.0, left_there s.line o.1)) h.side;
+      }
+
+  tree_in_range : (vertices : List Vertex) (segs : List Seg) (subs : List Sub) (nodes : List Node) → IsSound (edges_of m) m.vertices vertices segs subs nodes → TreeInRange vertices m.lines segs subs nodes
+  tree_in_range vertices segs subs nodes h =
+      let t = h.tree in
+      let nf = t.nodes_few in
+      let sf = t.subs_few in
+      record {
+        segs = all_by (SegInRange vertices m.lines) segs (λ i s e. seg_in_range vertices s (All-at (HasPlaces (edges_of m) vertices) segs i s h.places e));
+        tiles = tiles_from 0 subs (length segs) h.tiles.follow (let a = h.tiles.total in let b = sum_total (count_list subs) in omega arith);
+        node_children = λ i n e. let w = slice_get_within nodes i n e in (child_in_range subs i n.right (omega arith) sf (t.right i n e), child_in_range subs i n.left (omega arith) sf (t.left i n e));
+        some_sub = some_sub_of subs nodes t;
+        subs_once = λ s l. ⊎_elim (λ z. no_nodes_once nodes s z (let o = t.one_sub z in omega arith)) (λ n. let p = more n in subs_times nodes s p ∙ t.subs_once p s l) (cases_eq (length nodes) 0);
+        nodes_once = λ i l. nodes_times nodes i (omega arith) (omega arith) ∙ t.nodes_once i l;
+      }
+    where
+      more : (length nodes ≡ 0 → ⊥) → 0 < length nodes
+      more n = ⊎_elim (λ l. absurd (n (omega arith))) (λ l. l) (cases_lt (length nodes) 1)
+
+  -- the parts of a built tree
+  pub is_built : (b : Built) → 0 < length m.lines → IsSound (edges_of m) m.vertices b.vertices.items b.segs.items b.subs.items b.nodes.items → IsBuiltOf (edges_of m) b.vertices.items b.segs.items b.subs.items b.nodes.items → IsSmall b.vertices.items b.segs.items b.subs.items b.nodes.items → IsBuilt m b
+  is_built b some h of_tree small = record {
+    some_line = some;
+    small = small;
+    added = h.added_ends;
+    in_range = tree_in_range b.vertices.items b.segs.items b.subs.items b.nodes.items h;
+    along = h.run_along;
+    fields = h.fields;
+    convex = h.convex;
+    partings = h.partings;
+    of_tree = of_tree;
+  }
+
+  -- the causes
+  pub refusal_of : (e : TreeError) → IsBuildRefused (edges_of m) m.vertices e → IsTreeRefusal m e
+  refusal_of OutOfMemory h = tt
+  refusal_of NothingToBuild h = absurd h
+  refusal_of TooManyVertices h = h
+  refusal_of TooManySegs h = h
+  refusal_of TooManySubsectors h = h
+  refusal_of TooDeep h = h
+
+  -- ---- what the build over the edges says of the map
+  pub built_result : (lines : List Edge) (drawn : List Vertex) (r : Result Built TreeError) → lines ≡ edges_of m → drawn ≡ m.vertices → 0 < length m.lines → IfOk r (λ (b : Built). IsSound lines drawn b.vertices.items b.segs.items b.subs.items b.nodes.items) → IfOk r (λ (b : Built). IsBuiltOf lines b.vertices.items b.segs.items b.subs.items b.nodes.items) → IfOk r (λ (b : Built). IsSmall b.vertices.items b.segs.items b.subs.items b.nodes.items) → IfOk r (λ (b : Built). IsBuilt m b)
+  built_result lines drawn (Ok b) e f some h g s =
+      is_built b some
+      (subst (λ (x : List Edge). IsSound x m.vertices b.vertices.items b.segs.items b.subs.items b.nodes.items) e (subst (λ (d : List Vertex). IsSound lines d b.vertices.items b.segs.items b.subs.items b.nodes.items) f h))
+      (subst (λ (x : List Edge). IsBuiltOf x b.vertices.items b.segs.items b.subs.items b.nodes.items) e g) s
+  built_result lines drawn (Err x) e f some h g s = tt
+
+  pub refused_result : (lines : List Edge) (drawn : List Vertex) (r : Result Built TreeError) → lines ≡ edges_of m → drawn ≡ m.vertices → IfErr r (IsBuildRefused lines drawn) → IfErr r (IsTreeRefusal m)
+  refused_result lines drawn (Ok b) e f h = tt
+  refused_result lines drawn (Err x) e f h = refusal_of x (subst (λ (ls : List Edge). IsBuildRefused ls m.vertices x) e (subst (λ (d : List Vertex). IsBuildRefused lines d x) f h))
+
+pub never_nothing : (lines : List Edge) (drawn : List Vertex) (r : Result Built TreeError) → IfErr r (IsBuildRefused lines drawn) → r ≡ Err NothingToBuild → ⊥
+never_nothing lines drawn (Ok b) h e = cc
+never_nothing lines drawn (Err x) h e = let s : x ≡ NothingToBuild = cc in subst (IsBuildRefused lines drawn) s h

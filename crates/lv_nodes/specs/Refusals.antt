@@ -1,0 +1,40 @@
+-- The lists of the tree of the lines, and why there is none.
+use Rattle.std.specs.Prelude.{◌≡◌, ◌≤◌, List, length}
+use Rattle.lv_lumps.specs.declared.records.Vertex.{Vertex}
+use Rattle.lv_segs.specs.declared.edge.Edge.{Edge}
+use Rattle.lv_segs.specs.Tree.{Tree, pieces, counts, depth}
+use Rattle.lv_nodes.specs.declared.error.TreeError.{TreeError}
+use Rattle.lv_nodes.specs.declared.error.TreeError.TheVariants.{OutOfMemory, NothingToBuild, TooManyVertices, TooManySegs, TooManySubsectors, TooDeep}
+use Rattle.lv_nodes.specs.References.{greatest_number}
+use Rattle.lv_nodes.specs.TreeLists.{HasNodes}
+use Rattle.lv_nodes.specs.Sound.{IsTreeOfLines, HasTooManyVertices, HasTooManySegs, HasTooManySubsectors, IsTooDeep}
+use Rattle.lv_nodes.specs.Growth.{Lists}
+
+-- the lists are those of the tree of the lines
+pub record AreTreeLists (lines : List Edge) (lists : Lists) : Type 0 where
+  pub tree : Tree
+  pub of_lines : IsTreeOfLines lines tree
+  pub segs : lists.segs ≡ pieces tree
+  pub sizes : lists.sizes ≡ counts tree
+  pub has_nodes : HasNodes lines tree 0 0 lists.nodes
+  pub shallow : depth tree ≤ 1024
+  pub few_segs : length lists.segs ≤ greatest_number
+  pub few_sizes : length lists.sizes ≤ greatest_number
+
+-- the tree goes beyond a limit
+abbrev pub IsTreeRefused : List Edge → TreeError → Type 0
+IsTreeRefused lines TooDeep = IsTooDeep lines
+IsTreeRefused lines TooManySegs = HasTooManySegs lines
+IsTreeRefused lines TooManySubsectors = HasTooManySubsectors lines
+IsTreeRefused lines OutOfMemory = Unit {0}
+IsTreeRefused lines NothingToBuild = ⊥
+IsTreeRefused lines TooManyVertices = ⊥
+
+-- the tree goes beyond a limit, or the drawn places and the ends of its pieces are more than there are numbers
+abbrev pub IsBuildRefused : List Edge → List Vertex → TreeError → Type 0
+IsBuildRefused lines drawn TooManyVertices = HasTooManyVertices lines drawn
+IsBuildRefused lines drawn TooDeep = IsTooDeep lines
+IsBuildRefused lines drawn TooManySegs = HasTooManySegs lines
+IsBuildRefused lines drawn TooManySubsectors = HasTooManySubsectors lines
+IsBuildRefused lines drawn OutOfMemory = Unit {0}
+IsBuildRefused lines drawn NothingToBuild = ⊥

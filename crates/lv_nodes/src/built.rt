@@ -1,0 +1,147 @@
+ghost use Rattle.std.specs.Prelude.{◌≡◌, ◌<◌, ◌≤◌, length, All, ◌↔◌, Err, IfOk, IfErr, replicate, false};
+ghost use Rattle.lv_segs.specs.Plane.{IsEdge};
+ghost use Rattle.lv_nodes.specs.Growth.{lists_of};
+ghost use Rattle.lv_nodes.specs.Sound.{AllDiffer, IsSound, IsBuiltOf, IsSmall};
+ghost use Rattle.lv_nodes.specs.Built.{IsBuilt, IsTreeRefusal};
+ghost use Rattle.lv_nodes.specs.Refusals.{AreTreeLists, IsTreeRefused, IsBuildRefused};
+
+use crate::edges::edges_of;
+use crate::error::TreeError;
+use crate::growth::{Grown, grow};
+use crate::points::{Points, points_of};
+use crate::segs::segs_of;
+use crate::subsectors::subs_of;
+use lv_lumps::{Node, Seg, Sub, Vertex};
+use lv_maptables::{Kind, Map};
+use lv_partition::StraightLines;
+use lv_segs::{Edge, pieces_in};
+use std::alloc::{AllocError, Global};
+
+/// How many nodes a path may have.
+const DEEPEST: u32 = 1024;
+
+/// A built tree: the drawn vertices with the added ones behind, the segs, the subsectors and the nodes.
+#[derive(Drop)]
+pub struct Built {
+    pub vertices: Vec<Vertex>,
+    pub segs: Vec<Seg>,
+    pub subs: Vec<Sub>,
+    pub nodes: Vec<Node>,
+}
+
+// A flag for each line: none is used.
+fn no_flags(alloc: Global, count: usize) -> Result<Vec<bool>, AllocError>
+    ensures { IfOk result (λ flags. flags.items ≡ replicate count false) }
+{
+    Vec::from_elem(alloc, false, count)
+}
+
+// The pieces, counts and nodes of the tree of the lines.
+fn grown_of(alloc: Global, lines: &[Edge]) -> Result<Grown, TreeError>
+    requires lines { All IsEdge lines.now }
+    requires few { length lines.now ≤ 32767 }
+    requires some { 0 < length lines.now }
+    ensures lists { IfOk result (λ grown. AreTreeLists lines.now (lists_of grown)) }
+    ensures refused { IfErr result (IsTreeRefused lines.now) }
+{
+    let list = match pieces_in(alloc, lines) {
+        Err(_) => return Err(TreeError::OutOfMemory),
+        Ok(list) => list,
+    };
+    let mut used = match no_flags(alloc, lines.len()) {
+        Err(_) => return Err(TreeError::OutOfMemory),
+        Ok(used) => used,
+    };
+    let mut straight = match StraightLines::new(alloc, lines) {
+        Err(_) => return Err(TreeError::OutOfMemory),
+        Ok(straight) => straight,
+    };
+    let mut grown = Grown {
+        pieces: Vec::new(alloc),
+        counts: Vec::new(alloc),
+        nodes: Vec::new(alloc),
+    };
+    match grow(
+        alloc,
+        lines,
+        list,
+        &mut used,
+        &mut straight,
+        DEEPEST,
+        &mut grown,
+    ) {
+        Err(error) => Err(error),
+        Ok(_) => Ok(grown),
+    }
+}
+
+// The places by number.
+fn vertices_of(alloc: Global, points: &Points) -> Result<Vec<Vertex>, AllocError>
+    ensures { IfOk result (λ vertices. vertices.items ≡ points.now) }
+{
+    let mut vertices = Vec::new(alloc);
+    for n in 0..points.len() {
+        let place = points.at(n).unwrap();
+        vertices.push(place)?;
+    }
+    Ok(vertices)
+}
+
+// The tree of the lines, over the drawn places.
+fn build_over(alloc: Global, lines: &[Edge], points: &mut Points) -> Result<Built, TreeError>
+    requires lines { All IsEdge lines.now }
+    requires few { length lines.now ≤ 32767 }
+    requires some { 0 < length lines.now }
+    requires few_places { length points.old ≤ 32767 }
+    requires differ { AllDiffer points.old }
+    ensures sound { IfOk result (λ b.
+        IsSound lines.now points.old b.vertices.items b.segs.items b.subs.items b.nodes.items) }
+    ensures built { IfOk result (λ b. IsBuiltOf lines.now b.vertices.items b.segs.items b.subs.items b.nodes.items) }
+    ensures small { IfOk result (λ b. IsSmall b.vertices.items b.segs.items b.subs.items b.nodes.items) }
+    ensures refused { IfErr result (IsBuildRefused lines.now points.old) }
+{
+    let grown = match grown_of(alloc, lines) {
+        Err(error) => return Err(error),
+        Ok(grown) => grown,
+    };
+    let segs = match segs_of(alloc, points, lines, &grown.pieces) {
+        Err(error) => return Err(error),
+        Ok(segs) => segs,
+    };
+    let subs = match subs_of(alloc, &grown.counts) {
+        Err(_) => return Err(TreeError::OutOfMemory),
+        Ok(subs) => subs,
+    };
+    match vertices_of(alloc, points) {
+        Err(_) => Err(TreeError::OutOfMemory),
+        Ok(vertices) => Ok(Built {
+            vertices,
+            segs,
+            subs,
+            nodes: grown.nodes,
+        }),
+    }
+}
+
+/// The tree over all sides of a map's lines: the pieces of each side are divided by the lines of one
+/// another until no piece of an unused line separates its list. It is refused where the map has no
+/// line (`NothingToBuild`), where the tree has more than 32,767 vertices, segs or subsectors or a path
+/// of more than 1,024 nodes, and for want of memory.
+pub fn build_tree(alloc: Global, map: &Map) -> Result<Built, TreeError>
+    ensures built { IfOk result (λ b. IsBuilt map.now.tables b) }
+    ensures refused { IfErr result (IsTreeRefusal map.now.tables) }
+    ensures nothing { result ≡ Err TreeError.NothingToBuild ↔ length map.now.tables.lines ≡ 0 }
+{
+    if map.count(Kind::Line) == 0 {
+        return Err(TreeError::NothingToBuild);
+    }
+    let lines = match edges_of(alloc, map) {
+        Err(_) => return Err(TreeError::OutOfMemory),
+        Ok(lines) => lines,
+    };
+    let mut points = match points_of(alloc, map) {
+        Err(_) => return Err(TreeError::OutOfMemory),
+        Ok(points) => points,
+    };
+    build_over(alloc, &lines, &mut points)
+}

@@ -1,0 +1,16 @@
+//! The node builder: the tree over all sides of a map's lines, with its vertices, segs, subsectors and nodes.
+#![tactic(auto)]
+
+mod built;
+mod corners;
+mod edges;
+mod error;
+mod growth;
+mod points;
+mod segs;
+mod shape;
+mod step;
+mod subsectors;
+
+pub use built::{Built, build_tree};
+pub use error::TreeError;

@@ -1,0 +1,81 @@
+ghost use Rattle.std.specs.Prelude.{◌≡◌, ◌≤◌, length, All, IfOk, IfErr};
+ghost use Rattle.lv_segs.specs.Plane.{IsEdge};
+ghost use Rattle.lv_segs.specs.Pieces.{IsPiece};
+ghost use Rattle.lv_nodes.specs.TreeLists.{IsSegOf, AreSegsOf};
+ghost use Rattle.lv_nodes.specs.Sound.{AllDiffer};
+ghost use Rattle.lv_nodes.specs.Numbers.{IsNumbered, IsPlaceRefused, HasNumbers, IsSegRefused, AreNumbered, AreSegsRefused};
+
+use crate::error::TreeError;
+use crate::points::Points;
+use crate::shape::shape_of;
+use lv_lumps::{Seg, Vertex};
+use lv_segs::{Edge, Piece};
+use std::alloc::Global;
+
+// The number of a place.
+fn number_of(points: &mut Points, place: Vertex) -> Result<u16, TreeError>
+    requires few { length points.old ≤ 32767 }
+    ensures numbered { IfOk result (λ n. IsNumbered points.old points.new place n) }
+    ensures refused { IfErr result (IsPlaceRefused points.old place) }
+{
+    match points.number(place) {
+        Ok(number) => Ok(number as u16),
+        Err(error) => Err(error),
+    }
+}
+
+// The seg of a piece, with its start numbered before its end.
+fn seg_of(points: &mut Points, lines: &[Edge], piece: &Piece) -> Result<Seg, TreeError>
+    requires lines { All IsEdge lines.now }
+    requires piece { IsPiece lines.now piece.now }
+    requires few { length points.old ≤ 32767 }
+    ensures seg { IfOk result (λ seg. IsSegOf lines.now points.new piece.now seg) }
+    ensures numbers { IfOk result (λ seg. HasNumbers points.old points.new seg) }
+    ensures refused { IfErr result (IsSegRefused lines.now points.old piece.now) }
+{
+    let shape = shape_of(lines, piece);
+    let first = match number_of(points, shape.start) {
+        Err(error) => return Err(error),
+        Ok(number) => number,
+    };
+    match number_of(points, shape.end) {
+        Err(error) => Err(error),
+        Ok(second) => Ok(Seg {
+            first,
+            second,
+            angle: shape.angle,
+            line: piece.line,
+            side: shape.side,
+            offset: shape.offset,
+        }),
+    }
+}
+
+/// The segs of pieces, in their order. A new place is numbered behind the others.
+pub(crate) fn segs_of(
+    alloc: Global,
+    points: &mut Points,
+    lines: &[Edge],
+    pieces: &[Piece],
+) -> Result<Vec<Seg>, TreeError>
+    requires lines { All IsEdge lines.now }
+    requires pieces { All (IsPiece lines.now) pieces.now }
+    requires few { length points.old ≤ 32767 }
+    requires differ { AllDiffer points.old }
+    ensures segs { IfOk result (λ segs. AreSegsOf lines.now points.new pieces.now segs.items) }
+    ensures numbered { IfOk result (λ segs. AreNumbered lines.now points.old points.new pieces.now segs.items) }
+    ensures refused { IfErr result (AreSegsRefused lines.now points.old pieces.now) }
+{
+    let mut segs = Vec::new(alloc);
+    for piece in pieces {
+        let seg = match seg_of(points, lines, piece) {
+            Err(error) => return Err(error),
+            Ok(seg) => seg,
+        };
+        match segs.push(seg) {
+            Err(_) => return Err(TreeError::OutOfMemory),
+            Ok(()) => {}
+        }
+    }
+    Ok(segs)
+}

@@ -1,0 +1,52 @@
+ghost use Rattle.std.specs.Prelude.{◌≡◌, ◌<◌, All};
+ghost use Rattle.lv_segs.specs.Plane.{IsEdge};
+ghost use Rattle.lv_segs.specs.Pieces.{IsPiece, ray_of as piece_ray};
+ghost use Rattle.lv_segs.specs.Angle.{IsAngle};
+ghost use Rattle.lv_segs.specs.Offset.{IsOffset};
+ghost use Rattle.lv_nodes.specs.TreeLists.{side_number, start_of, end_of};
+
+use lv_lumps::Vertex;
+use lv_segs::{Edge, Facing, Piece, angle16, offset, point, ray_of};
+
+/// What a seg takes from its piece alone: the places of its ends, its side, angle and offset.
+#[derive(Clone, Copy, Debug)]
+pub(crate) struct Shape {
+    pub start: Vertex,
+    pub end: Vertex,
+    pub side: u16,
+    pub angle: u16,
+    pub offset: u16,
+}
+
+/// The places and fields of a piece's seg.
+pub(crate) fn shape_of(lines: &[Edge], piece: &Piece) -> Shape
+    requires lines { All IsEdge lines.now }
+    requires piece { IsPiece lines.now piece.now }
+    ensures start { result.start ≡ start_of lines.now piece.now.side piece.now }
+    ensures end { result.end ≡ end_of lines.now piece.now.side piece.now }
+    ensures side { result.side ≡ side_number piece.now.side }
+    ensures angle { IsAngle (piece_ray lines.now piece.now).dx (piece_ray lines.now piece.now).dy result.angle }
+    ensures offset { IsOffset (piece_ray lines.now piece.now).start result.start result.offset }
+{
+    let edge = lines[piece.line as usize];
+    let from = point(edge.v1, edge.v2, piece.from);
+    let to = point(edge.v1, edge.v2, piece.to);
+    let ray = ray_of(edge, piece.side);
+    let angle = angle16(ray.dx, ray.dy);
+    match piece.side {
+        Facing::Along => Shape {
+            start: from,
+            end: to,
+            side: 0,
+            angle,
+            offset: offset(edge.v1, from),
+        },
+        Facing::Against => Shape {
+            start: to,
+            end: from,
+            side: 1,
+            angle,
+            offset: offset(edge.v2, to),
+        },
+    }
+}

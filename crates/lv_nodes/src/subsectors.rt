@@ -1,0 +1,24 @@
+ghost use Rattle.std.specs.Prelude.{◌≡◌, ◌<◌, ◌≤◌, ℕ, map, All, IfOk};
+ghost use Rattle.lv_lumps.specs.declared.records.Sub.{Sub as SubRecord};
+ghost use Rattle.lv_nodes.specs.References.{FollowsFrom};
+ghost use Rattle.lv_nodes.specs.Tiling.{total};
+
+use lv_lumps::Sub;
+use std::alloc::{AllocError, Global};
+
+/// The subsectors that hold so many segs each, one after the other.
+pub(crate) fn subs_of(alloc: Global, counts: &[usize]) -> Result<Vec<Sub>, AllocError>
+    requires some { All (λ (n : ℕ). 0 < n) counts.now }
+    requires few { total counts.now ≤ 32767 }
+    ensures counts { IfOk result (λ subs. map (λ (sub : SubRecord). sub.count) subs.items ≡ counts.now) }
+    ensures follow { IfOk result (λ subs. FollowsFrom 0 subs.items) }
+{
+    let mut subs = Vec::new(alloc);
+    let mut first: u16 = 0;
+    for count in counts {
+        let size = *count as u16;
+        subs.push(Sub { count: size, first })?;
+        first += size;
+    }
+    Ok(subs)
+}

@@ -1,0 +1,6 @@
+pub mod OneMore
+pub mod Best
+pub mod Casts
+pub mod BlockSteps
+pub mod BoxLemmas
+pub mod Reaching

@@ -1,0 +1,95 @@
+use Rattle.std.proofs.Common.{◌≡◌, ◌+◌, ◌*◌, ◌-◌, ◌<◌, ◌≤◌, sym, subst, length, take, drop, min, get_or, arith, ℕ, List}
+use Rattle.std.proofs.lemmas.List.{length-drop}
+use Rattle.lv_segs.specs.declared.piece.Piece.{Piece}
+use Rattle.lv_lumps.specs.declared.records.Bounds.{Bounds}
+use Rattle.lv_segs.specs.declared.edge.Edge.{Edge}
+use Rattle.lv_segs.specs.Boxes.{HoldsPiece, boxes_of}
+use Rattle.lv_partition.specs.Blocks.{AreBlocks}
+use Rattle.lv_partition.proofs.BoxLemmas.{no_box, boxes_length, part_boxes, block_holds}
+use Rattle.lv_segs.proofs.Stops.{Counted, cost_at_least}
+use Rattle.lv_partition.proofs.Best.{stands_at}
+use Rattle.lv_partition.proofs.BlockSteps.{part_length, shorter_front, AtMost, counts_at_most, block_taken}
+use Rattle.lv_partition.proofs.walk.count_in_boxes.Goals as goal
+use Rattle.lv_partition.proofs.walk.count_in_boxes.Goals.{After-count_block-more, After-plus-counts}
+
+-- where the block begins and ends
+record Ends (from m n : ℕ) : Type 0 where
+  within : from ≤ n
+  end : m ≡ min (from + 16) n
+
+ends : (lines : List Edge) (ps : List Piece) (boxes blocks : List Bounds) (k m : ℕ) → boxes ≡ boxes_of lines ps → AreBlocks boxes blocks → k < length blocks → m ≡ min (16 * k + 16) (length ps) → Ends (16 * k) m (length ps)
+ends lines ps boxes blocks k m e a h f = let b = a.each_needed in let l = boxes_length lines ps boxes e in record { within = omega arith; end = f }
+
+pub count_block-more-requires-clause-boxes : goal.count_block-more-requires-clause-boxes
+count_block-more-requires-clause-boxes c = subst (λ (bs : List Bounds). take (c.min-end.result - 16 * c.loop-k.k) (drop (16 * c.loop-k.k) bs) ≡ boxes_of c.args.lines.now (take (c.min-end.result - 16 * c.loop-k.k) (drop (16 * c.loop-k.k) c.args.pieces.now))) (sym c.requires.boxes) (part_boxes c.args.lines.now c.args.pieces.now (c.min-end.result - 16 * c.loop-k.k) (16 * c.loop-k.k))
+
+pub count_block-more-requires-clause-holds : goal.count_block-more-requires-clause-holds
+count_block-more-requires-clause-holds c =
+    let e = (ends c.args.lines.now c.args.pieces.now c.args.boxes.now c.args.blocks.now c.loop-k.k c.min-end.result c.requires.boxes c.requires.blocks c.loop-k-test.true c.min-end.ensures).end in
+    let box = get_or c.args.blocks.now c.loop-k.k no_box in
+    shorter_front (HoldsPiece c.args.lines.now box) (drop (16 * c.loop-k.k) c.args.pieces.now) (c.min-end.result - 16 * c.loop-k.k) 16 (omega arith)
+    (block_holds c.args.lines.now c.args.pieces.now c.args.blocks.now c.loop-k.k box (subst (λ (bs : List Bounds). AreBlocks bs c.args.blocks.now) c.requires.boxes c.requires.blocks) (stands_at c.args.blocks.now c.loop-k.k no_box c.loop-k-test.true))
+
+most : (c : After-count_block-more) → AtMost c.count_block-more.result (c.min-end.result - 16 * c.loop-k.k)
+most c = counts_at_most _ _ _ c.count_block-more.result _ (part_length c.args.pieces.now (16 * c.loop-k.k) (c.min-end.result - 16 * c.loop-k.k)) c.count_block-more.ensures
+
+pub plus-counts-requires-clause-right : goal.plus-counts-requires-clause-right
+plus-counts-requires-clause-right c =
+    let a = (goal.at.plus-counts-requires-clause-right c).After-count_block-more in
+    let m = (most a).right in
+    let e = (ends c.args.lines.now c.args.pieces.now c.args.boxes.now c.args.blocks.now c.loop-k.k c.min-end.result c.requires.boxes c.requires.blocks c.loop-k-test.true c.min-end.ensures).within in
+    let n = c.min-end.ensures in
+    let i = c.loop-k.invariant.right in
+    let f = c.requires.few in
+    omega arith
+
+pub plus-counts-requires-clause-left : goal.plus-counts-requires-clause-left
+plus-counts-requires-clause-left c =
+    let a = (goal.at.plus-counts-requires-clause-left c).After-count_block-more in
+    let m = (most a).left in
+    let e = (ends c.args.lines.now c.args.pieces.now c.args.boxes.now c.args.blocks.now c.loop-k.k c.min-end.result c.requires.boxes c.requires.blocks c.loop-k-test.true c.min-end.ensures).within in
+    let n = c.min-end.ensures in
+    let i = c.loop-k.invariant.left in
+    let f = c.requires.few in
+    omega arith
+
+taken : (c : After-plus-counts) → Counted c.args.lines.now c.args.partition.now c.args.pieces.now (drop (16 * c.loop-k.k + 16) c.args.pieces.now) c.plus-counts.result.right c.plus-counts.result.left c.plus-counts.result.splits
+taken c =
+    let e = ends c.args.lines.now c.args.pieces.now c.args.boxes.now c.args.blocks.now c.loop-k.k c.min-end.result c.requires.boxes c.requires.blocks c.loop-k-test.true c.min-end.ensures in
+    let p = c.plus-counts.ensures in
+    block_taken c.args.lines.now c.args.partition.now c.args.pieces.now (16 * c.loop-k.k) c.min-end.result _ _ _ _ _ _ c.count_block-more.result e.within e.end c.loop-k.invariant.counted c.count_block-more.ensures p.right p.left p.splits
+
+pub returns-then-limit-least_cost : goal.returns-then-limit-least_cost
+returns-then-limit-least_cost c =
+    let a = (goal.at.returns-then-limit-least_cost c).After-plus-counts in
+    let e = ends c.args.lines.now c.args.pieces.now c.args.boxes.now c.args.blocks.now c.loop-k.k c.min-end.result c.requires.boxes c.requires.blocks c.loop-k-test.true c.min-end.ensures in
+    let end = e.end in
+    let k = cost_at_least _ _ _ _ _ _ _ (taken a) in
+    let l = length-drop (16 * c.loop-k.k + 16) c.args.pieces.now in
+    let s = c.least_cost.ensures in
+    let t = c.if-limit-least_cost.true in
+    omega arith
+
+pub loop-k-preserved : goal.loop-k-preserved
+loop-k-preserved c =
+    let a = (goal.at.loop-k-preserved c).After-plus-counts in
+    let m = most (goal.at.loop-k-preserved c).After-count_block-more in
+    let n = c.min-end.ensures in
+    let mr = m.right in
+    let ml = m.left in
+    let ms = m.splits in
+    let i = c.loop-k.invariant in
+    let ir = i.right in
+    let il = i.left in
+    let is = i.splits in
+    let p = c.plus-counts.ensures in
+    let pr = p.right in
+    let pl = p.left in
+    let ps = p.splits in
+    let same : 16 * c.loop-k.k + 16 ≡ 16 * (c.loop-k.k + 1) = omega arith in
+    record {
+      counted = subst (λ (n : ℕ). Counted c.args.lines.now c.args.partition.now c.args.pieces.now (drop n c.args.pieces.now) c.plus-counts.result.right c.plus-counts.result.left c.plus-counts.result.splits) same (taken a);
+      right = omega arith;
+      left = omega arith;
+      splits = omega arith;
+    }

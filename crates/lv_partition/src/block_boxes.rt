@@ -1,0 +1,52 @@
+ghost use Rattle.std.specs.Prelude.{◌≡◌, ◌^◌, ◌<◌, ◌≤◌, length, All, IfOk};
+ghost use Rattle.lv_partition.specs.Blocks.{IsWithinBox, AreBlocks};
+
+use lv_lumps::Bounds;
+use std::alloc::{AllocError, Global};
+
+// How many pieces have one box.
+pub(crate) const BLOCK: usize = 16;
+
+// The box round two boxes.
+fn joined(a: Bounds, b: Bounds) -> Bounds
+    ensures first { IsWithinBox a result }
+    ensures second { IsWithinBox b result }
+{
+    Bounds {
+        top: a.top.max(b.top),
+        bottom: a.bottom.min(b.bottom),
+        left: a.left.min(b.left),
+        right: a.right.max(b.right),
+    }
+}
+
+// The box round all boxes of a list; it holds no place where there are none.
+fn joined_all(boxes: &[Bounds]) -> Bounds
+    ensures { All (λ bounds. IsWithinBox bounds result) boxes.now }
+{
+    let mut all = Bounds {
+        top: i16::MIN,
+        bottom: i16::MAX,
+        left: i16::MAX,
+        right: i16::MIN,
+    };
+    for bounds in boxes {
+        all = joined(all, *bounds);
+    }
+    all
+}
+
+/// A box round each block of sixteen boxes of a list, the last one round those that are left.
+pub fn blocks_of(alloc: Global, boxes: &[Bounds]) -> Result<Vec<Bounds>, AllocError>
+    requires { length boxes.now < 2 ^ 32 }
+    ensures { IfOk result (λ blocks. AreBlocks boxes.now blocks.items) }
+{
+    let mut blocks = Vec::new(alloc);
+    let count = boxes.len().div_ceil(BLOCK);
+    for k in 0..count {
+        let from = BLOCK * k;
+        let end = (from + BLOCK).min(boxes.len());
+        blocks.push(joined_all(&boxes[from..end]))?;
+    }
+    Ok(blocks)
+}

@@ -1,0 +1,52 @@
+ghost use Rattle.std.specs.Prelude.{◌≡◌, ◌<◌, ◌^◌};
+ghost use Rattle.lv_partition.specs.SoFar.{limit_by, taken_in};
+
+use crate::counts::Counts;
+
+/// A chosen piece: its place in the list, how many pieces its line splits, and how many parts come to
+/// lie on its right and on its left.
+#[derive(Clone, Copy, Debug, PartialEq, Eq)]
+pub struct Choice {
+    pub at: u32,
+    pub splits: u32,
+    pub right: u32,
+    pub left: u32,
+}
+
+// What another candidate must cost less than.
+pub(crate) fn limit_of(best: Option<Choice>) -> u64
+    ensures { result ≡ limit_by best }
+{
+    match best {
+        None => u64::MAX,
+        Some(choice) => { 8 * choice.splits as u64 + choice.right.abs_diff(choice.left) as u64 }
+    }
+}
+
+// The best candidate so far, with a counted piece of an unused line taken in: it must separate, and
+// cost less.
+pub(crate) fn take_in(
+    at: usize,
+    best: Option<Choice>,
+    limit: u64,
+    counted: Option<Counts>,
+) -> Option<Choice>
+    requires place { at < 2 ^ 32 }
+    requires limit { limit ≡ limit_by best }
+    ensures { result ≡ taken_in at best counted }
+{
+    match counted {
+        None => best,
+        Some(counts) => {
+            if counts.left == 0 || limit <= counts.cost() {
+                return best;
+            }
+            Some(Choice {
+                at: at as u32,
+                splits: counts.splits,
+                right: counts.right,
+                left: counts.left,
+            })
+        }
+    }
+}

@@ -1,0 +1,120 @@
+ghost use Rattle.std.specs.Prelude.{◌≡◌, ◌+◌, ◌≤◌, ◌<◌, ◌^◌, length, All, MatchOption, Some, slice_get, false};
+ghost use Rattle.lv_segs.specs.Plane.{IsEdge};
+ghost use Rattle.lv_segs.specs.Pieces.{IsPiece};
+ghost use Rattle.lv_segs.specs.Tree.{HasNoChoice, cost};
+ghost use Rattle.lv_segs.specs.Boxes.{boxes_of};
+ghost use Rattle.lv_partition.specs.Blocks.{AreBlocks};
+ghost use Rattle.lv_partition.specs.Counts.{AreCounts};
+ghost use Rattle.lv_partition.specs.Choices.{IsChoice};
+ghost use Rattle.lv_partition.specs.SoFar.{SoFar};
+
+use crate::choice::{Choice, limit_of, take_in};
+use crate::counts::count_below;
+use crate::straight::StraightLines;
+use crate::walk::count_by_boxes;
+use lv_lumps::Bounds;
+use lv_segs::{Edge, Piece};
+
+// The best candidate among the first pieces, with the piece at a place taken in.
+fn consider(
+    lines: &[Edge],
+    pieces: &[Piece],
+    used: &[bool],
+    at: usize,
+    piece: &Piece,
+    best: Option<Choice>,
+) -> Option<Choice>
+    requires lines { All IsEdge lines.now }
+    requires pieces { All (IsPiece lines.now) pieces.now }
+    requires known { length used.now ≡ length lines.now }
+    requires few { length pieces.now < 2 ^ 32 }
+    requires piece { IsPiece lines.now piece.now }
+    requires stands { slice_get pieces.now at ≡ Some piece.now }
+    requires so_far { SoFar lines.now pieces.now used.now at best }
+    ensures { SoFar lines.now pieces.now used.now (at + 1) result }
+{
+    if used[piece.line as usize] {
+        return best;
+    }
+    let limit = limit_of(best);
+    let counted = count_below(lines, piece, pieces, limit);
+    take_in(at, best, limit, counted)
+}
+
+/// The separating piece of an unused line that costs least, and the first of those that cost as little.
+pub fn choose_in(lines: &[Edge], pieces: &[Piece], used: &[bool]) -> Option<Choice>
+    requires lines { All IsEdge lines.now }
+    requires pieces { All (IsPiece lines.now) pieces.now }
+    requires known { length used.now ≡ length lines.now }
+    requires few { length pieces.now < 2 ^ 32 }
+    ensures { MatchOption result (HasNoChoice lines.now pieces.now used.now)
+        (λ c. IsChoice lines.now pieces.now used.now c) }
+{
+    let mut best = None;
+    for (at, piece) in pieces.iter().enumerate() {
+        best = consider(lines, pieces, used, at, piece, best);
+    }
+    best
+}
+
+// The same as `consider`, by boxes, and with no count for a piece on an earlier one's straight line.
+fn consider_in_boxes(
+    lines: &[Edge],
+    pieces: &[Piece],
+    boxes: &[Bounds],
+    blocks: &[Bounds],
+    used: &[bool],
+    at: usize,
+    piece: &Piece,
+    best: Option<Choice>,
+    straight: &mut StraightLines,
+) -> Option<Choice>
+    requires lines { All IsEdge lines.now }
+    requires pieces { All (IsPiece lines.now) pieces.now }
+    requires boxes { boxes.now ≡ boxes_of lines.now pieces.now }
+    requires blocks { AreBlocks boxes.now blocks.now }
+    requires known { length used.now ≡ length lines.now }
+    requires few { length pieces.now < 2 ^ 32 }
+    requires piece { IsPiece lines.now piece.now }
+    requires stands { slice_get pieces.now at ≡ Some piece.now }
+    requires so_far { SoFar lines.now pieces.now used.now at best }
+    ensures { SoFar lines.now pieces.now used.now (at + 1) result }
+{
+    if used[piece.line as usize] {
+        return best;
+    }
+    if straight.has_earlier(lines, pieces, used, at, piece) {
+        return best;
+    }
+    let limit = limit_of(best);
+    let counted = count_by_boxes(lines, piece, pieces, boxes, blocks, limit);
+    take_in(at, best, limit, counted)
+}
+
+/// The same choice as `choose_in`, by the boxes of the pieces and of blocks of sixteen of them.
+/// `straight` saves counts, whatever it holds.
+pub fn choose_in_boxes(
+    lines: &[Edge],
+    pieces: &[Piece],
+    boxes: &[Bounds],
+    blocks: &[Bounds],
+    used: &[bool],
+    straight: &mut StraightLines,
+) -> Option<Choice>
+    requires lines { All IsEdge lines.now }
+    requires pieces { All (IsPiece lines.now) pieces.now }
+    requires boxes { boxes.now ≡ boxes_of lines.now pieces.now }
+    requires blocks { AreBlocks boxes.now blocks.now }
+    requires known { length used.now ≡ length lines.now }
+    requires few { length pieces.now < 2 ^ 32 }
+    ensures { MatchOption result (HasNoChoice lines.now pieces.now used.now)
+        (λ c. IsChoice lines.now pieces.now used.now c) }
+{
+    let mut best = None;
+    for (at, piece) in pieces.iter().enumerate() {
+        best = consider_in_boxes(
+            lines, pieces, boxes, blocks, used, at, piece, best, straight,
+        );
+    }
+    best
+}

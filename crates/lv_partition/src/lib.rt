@@ -1,0 +1,19 @@
+//! The choice of a partition: the separating piece of an unused line that costs least.
+#![tactic(auto)]
+
+mod block_boxes;
+mod box_side;
+mod choice;
+mod choosing;
+mod counts;
+mod map_choice;
+mod separating;
+mod straight;
+mod walk;
+
+pub use block_boxes::blocks_of;
+pub use choice::Choice;
+pub use choosing::{choose_in, choose_in_boxes};
+pub use map_choice::{choose, separates};
+pub use separating::separates_in;
+pub use straight::StraightLines;

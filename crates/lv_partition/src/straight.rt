@@ -1,0 +1,115 @@
+ghost use Rattle.std.specs.Prelude.{◌≡◌, ◌<◌, ◌^◌, length, All, Some, slice_get, true};
+ghost use Rattle.lv_segs.specs.Plane.{IsEdge};
+ghost use Rattle.lv_segs.specs.Pieces.{IsPiece};
+
+use indexmap::IndexSet;
+use lv_segs::{Edge, Facing, Piece, lies_along, ray_of};
+use std::alloc::{AllocError, Global};
+
+/// Hints that save counts: a number for the straight line of each line, and under each number the
+/// place where a piece on that straight line was met last. What they say is tested before it is
+/// used, so a choice is right whatever stands here, and old or wrong hints cost time alone.
+#[derive(Drop)]
+pub struct StraightLines {
+    numbers: Vec<u16>,
+    met: Vec<u32>,
+}
+
+// A straight line by its direction in least whole numbers, east or else north, and by how far it is
+// from the origin, times that direction's length. Two lines lie on one where these are the same.
+#[derive(Clone, Copy, PartialEq, Eq, Hash)]
+struct StraightLine {
+    dx: i64,
+    dy: i64,
+    offset: i64,
+}
+
+impl StraightLine {
+    // The numbers wrap where they would not fit, which no line of a map comes near.
+    fn of(edge: Edge) -> StraightLine
+        requires { IsEdge edge }
+    {
+        let ray = ray_of(edge, Facing::Along);
+        let measure = i64::from(common_measure(ray.dx.unsigned_abs(), ray.dy.unsigned_abs()));
+        let east = i64::from(ray.dx).checked_div(measure).unwrap_or(0);
+        let north = i64::from(ray.dy).checked_div(measure).unwrap_or(0);
+        let turned = east < 0 || (east == 0 && north < 0);
+        let dx = if turned { east.wrapping_neg() } else { east };
+        let dy = if turned { north.wrapping_neg() } else { north };
+        let across = dy.wrapping_mul(i64::from(edge.v1.x));
+        let upward = dx.wrapping_mul(i64::from(edge.v1.y));
+        StraightLine {
+            dx,
+            dy,
+            offset: across.wrapping_sub(upward),
+        }
+    }
+}
+
+// The greatest number that divides both; 0 where both are 0.
+fn common_measure(mut a: u32, mut b: u32) -> u32 {
+    while b != 0 {
+        let rest = a % b;
+        a = b;
+        b = rest;
+    }
+    a
+}
+
+impl StraightLines {
+    ghost use Rattle.lv_partition.specs.Choices.{HasEarlier};
+
+    /// The straight lines of a map's lines, with no piece met.
+    pub fn new(alloc: Global, lines: &[Edge]) -> Result<StraightLines, AllocError>
+        requires { All IsEdge lines.now }
+    {
+        let mut known = IndexSet::new(alloc);
+        let mut numbers = Vec::new(alloc);
+        let mut met = Vec::new(alloc);
+        for edge in lines {
+            let (number, is_new) = known.insert_full(StraightLine::of(*edge))?;
+            if is_new {
+                met.push(0)?;
+            }
+            numbers.push(u16::try_from(number).unwrap_or(u16::MAX))?;
+        }
+        Ok(StraightLines { numbers, met })
+    }
+
+    // An earlier piece of an unused line lies on the straight line of this one. It is looked for at
+    // one place alone.
+    pub(crate) fn has_earlier(
+        &mut self,
+        lines: &[Edge],
+        pieces: &[Piece],
+        used: &[bool],
+        at: usize,
+        piece: &Piece,
+    ) -> bool
+        requires lines { All IsEdge lines.now }
+        requires pieces { All (IsPiece lines.now) pieces.now }
+        requires known { length used.now ≡ length lines.now }
+        requires few { length pieces.now < 2 ^ 32 }
+        requires piece { IsPiece lines.now piece.now }
+        requires stands { slice_get pieces.now at ≡ Some piece.now }
+        ensures { result ≡ true → HasEarlier lines.now pieces.now used.now at piece.now }
+    {
+        let line = piece.line as usize;
+        if line >= self.numbers.len() {
+            return false;
+        }
+        let number = self.numbers[line] as usize;
+        if number >= self.met.len() {
+            return false;
+        }
+        let earlier = self.met[number] as usize;
+        if earlier < at {
+            let first = &pieces[earlier];
+            if !used[first.line as usize] && lies_along(lines, first, piece) {
+                return true;
+            }
+        }
+        self.met[number] = at as u32;
+        false
+    }
+}

@@ -1,0 +1,95 @@
+-- How an `apply` ends, from how its last step ends.
+use Rattle.std.proofs.Common.{◌≡◌, ◌⊎◌, inl, inr, ◌≤◌, ℕ, false, List, length, Option, None, MatchOption, Result, Ok, Err, sym, ◌∙◌, ap, subst, arith}
+use Rattle.std.proofs.lemmas.Bool.{true≢false}
+use Rattle.lv_disk.specs.Stops.{Rose}
+use Rattle.lv_journal.specs.State.{IsAbove}
+use Rattle.lv_maptables.specs.Tables.{Tables}
+use Rattle.lv_commands.specs.CommandRanges.{InRange}
+use Rattle.lv_commands.specs.Grammar.{fault_of}
+use Rattle.lv_commands.specs.Spelling.{spelling}
+use Rattle.lv_commands.specs.Step.{step}
+use Rattle.lv_commands.specs.Errors as commands
+use Rattle.lv_commands.specs.Readiness as readiness
+use Rattle.lv_commands.specs.declared.command.Command.{Command}
+use Rattle.lv_commands.specs.declared.error.CommandError.{CommandError}
+use Rattle.lv_commands.specs.declared.error.CommandError.TheVariants as command
+use Rattle.lv_commands.specs.LineSteps.{Accepts, LeadsTo}
+use Rattle.lv_project.specs.States.{State}
+use Rattle.lv_project.specs.Outcomes.{EndsApply, RefusesApply, RefusesCheckpoint}
+use Rattle.lv_commands.specs.LineSteps.{RefusesCommand, RefusesLine}
+use Rattle.lv_project.specs.Refusals.{IsRefusalOf}
+use Rattle.lv_project.specs.declared.error.ProjectError.{ProjectError}
+use Rattle.lv_project.specs.declared.error.ProjectError.TheVariants.{Device, OutOfMemory, Reopen, GenerationsSpent, Refused, Damaged, Blank, NotAProject, NotEmpty, BadGeometry}
+
+pub rose_before : (a b n : ℕ) → a ≤ b → b ≤ n → Rose b n → Rose a n
+rose_before a b n low high rose short = grind (arith, low, high, rose, short)
+
+module _ {D : Type 0} (failures : D → ℕ) (old mid new : State D) (line : List ℕ) (map_is : mid.map.tables ≡ old.map.tables) (cap_is : mid.cap ≡ old.cap) (ready : old.must_reopen ≡ false) (still : mid.must_reopen ≡ false)
+    (first : failures old.disk ≤ failures mid.disk) (second : failures mid.disk ≤ failures new.disk) (room : IsAbove mid.room (length line) → ⊥) where
+  line_from : (code : ℕ) → RefusesLine mid.cap mid.map.tables line code → RefusesLine old.cap old.map.tables line code
+  line_from code is = subst (λ (k : ℕ). RefusesLine k old.map.tables line code) cap_is (subst (λ (t : Tables). RefusesLine mid.cap t line code) map_is is)
+
+  refuses_from : (e : ProjectError) → RefusesApply failures e mid new line → RefusesApply failures e old new line
+  refuses_from Device (a, b, rose) = (ready, b, rose_before (failures old.disk) (failures mid.disk) (failures new.disk) first second rose)
+  refuses_from OutOfMemory (a, b) = (ready, b)
+  refuses_from Reopen (a, b) = absurd (true≢false (sym a ∙ still))
+  refuses_from GenerationsSpent (a, b, spent, above, leads) = absurd (room above)
+  refuses_from (Refused e) (a, b, is) = (ready, b, line_from (commands.code_of e) is)
+  refuses_from (Damaged place) is = absurd is
+  refuses_from Blank is = absurd is
+  refuses_from NotAProject is = absurd is
+  refuses_from NotEmpty is = absurd is
+  refuses_from BadGeometry is = absurd is
+
+  pub ends_from : (r : Result ℕ ProjectError) → EndsApply failures r mid new line → EndsApply failures r old new line
+  ends_from (Ok n) (a, b, accepts) = (ready, b, subst (λ (k : ℕ). Accepts k old.map.tables line new.map.tables n) cap_is (subst (λ (t : Tables). Accepts mid.cap t line new.map.tables n) map_is accepts))
+  ends_from (Err e) (same, refuses) = (same ∙ map_is, refuses_from e refuses)
+
+-- what a refusal of a command becomes
+pub split : (e : CommandError) (r : ProjectError) (change : Result (Tables × ℕ) ℕ) → IsRefusalOf r e → readiness.RefusesStep e change → (r ≡ OutOfMemory) ⊎ ((r ≡ Refused e) × (change ≡ Err (commands.code_of e)))
+split command.OutOfMemory r change is by = inl is
+split command.NotACommand r change is by = inr (is, by)
+split command.OutOfRange r change is by = inr (is, by)
+split command.NoVertex r change is by = inr (is, by)
+split command.NoSector r change is by = inr (is, by)
+split command.NoSide r change is by = inr (is, by)
+split command.NoLine r change is by = inr (is, by)
+split command.NoThing r change is by = inr (is, by)
+split command.InUse r change is by = inr (is, by)
+split command.SameEnds r change is by = inr (is, by)
+split command.PlaceTaken r change is by = inr (is, by)
+split command.TwoSidedWithoutLeft r change is by = inr (is, by)
+split command.TableFull r change is by = inr (is, by)
+split command.LineTooLong r change is by = inr (is, by)
+split command.ProjectFull r change is by = inr (is, by)
+split command.BadName r change is by = inr (is, by)
+split command.TooManyMaps r change is by = inr (is, by)
+split command.MapNameTaken r change is by = inr (is, by)
+split command.NoSuchMap r change is by = inr (is, by)
+split command.CurrentMap r change is by = inr (is, by)
+
+pub refused_ends : {D : Type 0} (failures : D → ℕ) (old new : State D) (line : List ℕ) (c : Command) (e : CommandError) (r : ProjectError) → IsRefusalOf r e → readiness.RefusesStep e (step old.map.tables c old.cap)
+    → InRange c → line ≡ spelling c → fault_of line ≡ None → old.must_reopen ≡ false → new.must_reopen ≡ false → RefusesApply failures r old new line
+refused_ends failures old new line c e r is by range line_is whole ready still = at (split e r (step old.map.tables c old.cap) is by)
+  where
+    line_refused : step old.map.tables c old.cap ≡ Err (commands.code_of e) → RefusesLine old.cap old.map.tables line (commands.code_of e)
+    line_refused stepped = subst (λ (o : Option ℕ). MatchOption o (RefusesCommand old.cap old.map.tables line (commands.code_of e)) (λ fault. commands.code_of e ≡ fault)) (sym whole) (record { command = c; range = range; line_is = line_is; stepped = stepped })
+
+    at : (r ≡ OutOfMemory) ⊎ ((r ≡ Refused e) × (step old.map.tables c old.cap ≡ Err (commands.code_of e))) → RefusesApply failures r old new line
+    at (inl memory) = subst (λ (q : ProjectError). RefusesApply failures q old new line) (sym memory) (ready, still)
+    at (inr (refused, stepped)) = subst (λ (q : ProjectError). RefusesApply failures q old new line) (sym refused) (ready, still, line_refused stepped)
+
+-- a line for which no room could be made, of a map that accepts it
+module _ {D : Type 0} (failures : D → ℕ) (old mid new : State D) (line : List ℕ) (ready : old.must_reopen ≡ false) (reopen_is : mid.must_reopen ≡ old.must_reopen) (generation_is : mid.generation ≡ old.generation)
+    (room_is : mid.room ≡ old.room) (disk_is : mid.disk ≡ old.disk) (leads : (next : Tables) × LeadsTo old.cap old.map.tables line next) where
+  pub room_refused : (e : ProjectError) → RefusesCheckpoint failures e mid new → IsAbove mid.room (length line) → RefusesApply failures e old new line
+  room_refused Device (a, b, rose) above = (ready, b, subst (λ (d : D). Rose (failures d) (failures new.disk)) disk_is rose)
+  room_refused OutOfMemory (a, same) above = (ready, ap (λ (s : State D). s.must_reopen) same ∙ a)
+  room_refused Reopen (a, same) above = absurd (true≢false (sym a ∙ reopen_is ∙ ready))
+  room_refused GenerationsSpent (a, same, last) above = (ready, ap (λ (s : State D). s.must_reopen) same ∙ a, sym generation_is ∙ last, subst (λ (r : Option ℕ). IsAbove r (length line)) room_is above, leads)
+  room_refused (Refused e) is above = absurd is
+  room_refused (Damaged place) is above = absurd is
+  room_refused Blank is above = absurd is
+  room_refused NotAProject is above = absurd is
+  room_refused NotEmpty is above = absurd is
+  room_refused BadGeometry is above = absurd is

@@ -1,0 +1,351 @@
+-- The moments of a session: each image stands for a prefix that holds what was acknowledged before.
+use Rattle.std.proofs.Common.{◌≡◌, ◌⊎◌, inl, inr, ⊎_elim, ◌≤◌, ℕ, Bool, true, false, cond, List, [], ◌∷◌, ◌++◌, length, length-append, Some, None, Ok, Err, refl, sym, ◌∙◌, ap, subst, arith}
+use Rattle.std.proofs.lemmas.Bool.{cases_Bool, true≢false}
+use Rattle.std.proofs.lemmas.List.{append_assoc, append-nil}
+use Rattle.lv_disk.specs.Stops.{Each, LeavesOnly}
+use Rattle.lv_disk.proofs.Moments.{started, weaker, and_then}
+use Rattle.lv_maptables.specs.Tables.{empty_tables, Tables, MapView}
+use Rattle.lv_project.specs.Stands.{IsOutcome, StandsFor}
+use Rattle.lv_commands.specs.LineSteps.{Leads, LeadsTo}
+use Rattle.lv_project.specs.States.{State, IsKept}
+use Rattle.lv_project.specs.Outcomes.{RefusesApply, RefusesCheckpoint}
+use Rattle.lv_project.specs.declared.error.ProjectError.{ProjectError}
+use Rattle.lv_project.specs.declared.error.ProjectError.TheVariants.{Device, OutOfMemory, Reopen, GenerationsSpent, Refused, Damaged, Blank, NotAProject, NotEmpty, BadGeometry}
+use Rattle.lv_project.proofs.Recording.{leads_push}
+use Rattle.lv_project.specs.Sessions.{HoldsEach, KeepEach, KeepsAcknowledged, Opens, Passes, PassInTurn, Session}
+use Rattle.lv_project.specs.Calls.{Call, acknowledged, accepted, begins, AllMade}
+
+accepted_append : (xs ys : List Call) → accepted (xs ++ ys) ≡ accepted xs ++ accepted ys
+accepted_append [] ys = refl
+accepted_append ((None, answer) ∷ xs) ys = accepted_append xs ys
+accepted_append ((Some line, answer) ∷ xs) ys = at (begins answer) (accepted_append xs ys)
+  where
+    at : (t : Bool) → accepted (xs ++ ys) ≡ accepted xs ++ accepted ys → cond t (line ∷ accepted (xs ++ ys)) (accepted (xs ++ ys)) ≡ cond t (line ∷ accepted xs) (accepted xs) ++ accepted ys
+    at true e = ap (λ (l : List (List ℕ)). line ∷ l) e
+    at false e = e
+
+module _ {D : Type 0} (failures : D → ℕ) (old new : State D) (line : List ℕ) where
+  -- a project that must be opened again stays
+  no_apply : (e : ProjectError) → old.must_reopen ≡ true → RefusesApply failures e old new line → new ≡ old
+  no_apply Device reopen (a, b, rose) = absurd (true≢false (sym reopen ∙ a))
+  no_apply OutOfMemory reopen (a, b) = absurd (true≢false (sym reopen ∙ a))
+  no_apply Reopen reopen (a, same) = same
+  no_apply GenerationsSpent reopen (a, b, last, above, leads) = absurd (true≢false (sym reopen ∙ a))
+  no_apply (Refused e) reopen (a, b, is) = absurd (true≢false (sym reopen ∙ a))
+  no_apply (Damaged place) reopen is = absurd is
+  no_apply Blank reopen is = absurd is
+  no_apply NotAProject reopen is = absurd is
+  no_apply NotEmpty reopen is = absurd is
+  no_apply BadGeometry reopen is = absurd is
+
+  no_checkpoint : (e : ProjectError) → old.must_reopen ≡ true → RefusesCheckpoint failures e old new → new ≡ old
+  no_checkpoint Device reopen (a, b, rose) = absurd (true≢false (sym reopen ∙ a))
+  no_checkpoint OutOfMemory reopen (a, same) = same
+  no_checkpoint Reopen reopen (a, same) = same
+  no_checkpoint GenerationsSpent reopen (a, same, last) = same
+  no_checkpoint (Refused e) reopen is = absurd is
+  no_checkpoint (Damaged place) reopen is = absurd is
+  no_checkpoint Blank reopen is = absurd is
+  no_checkpoint NotAProject reopen is = absurd is
+  no_checkpoint NotEmpty reopen is = absurd is
+  no_checkpoint BadGeometry reopen is = absurd is
+
+  -- a line that was begun and refused leaves the project to be opened again
+  faulted : (e : ProjectError) → begins (Err e) ≡ true → RefusesApply failures e old new line → new.must_reopen ≡ true
+  faulted Device is (a, b, rose) = b
+  faulted OutOfMemory is r = absurd (true≢false (sym is))
+  faulted Reopen is r = absurd (true≢false (sym is))
+  faulted GenerationsSpent is r = absurd (true≢false (sym is))
+  faulted (Refused e) is r = absurd (true≢false (sym is))
+  faulted (Damaged place) is r = absurd (true≢false (sym is))
+  faulted Blank is r = absurd (true≢false (sym is))
+  faulted NotAProject is r = absurd (true≢false (sym is))
+  faulted NotEmpty is r = absurd (true≢false (sym is))
+  faulted BadGeometry is r = absurd (true≢false (sym is))
+
+module _ {D : Type 0} (moment failures : D → ℕ) (left_since : D → ℕ → List ℕ → Type 0) (may_leave : D → List ℕ → Type 0)
+    (only_now : (d : D) (file : List ℕ) → left_since d (moment d) file → may_leave d file)
+    (counts_now : (d : D) (t : ℕ) (file : List ℕ) → t ≤ moment d → may_leave d file → left_since d t file) where
+  stuck : (calls : List Call) (old new : State D) → old.must_reopen ≡ true → AllMade moment failures left_since may_leave old calls new → new ≡ old
+  stuck [] old new reopen same = same
+  stuck ((Some line, Ok n) ∷ calls) old new reopen (mid, made, more) = absurd (true≢false (sym reopen ∙ made.ends.0))
+  stuck ((Some line, Err e) ∷ calls) old new reopen (mid, made, more) =
+      let same : mid ≡ old = no_apply failures old mid line e reopen made.ends.1 in
+      stuck calls mid new (ap (λ (s : State D). s.must_reopen) same ∙ reopen) more ∙ same
+  stuck ((None, Ok n) ∷ calls) old new reopen (mid, made, more) = absurd (true≢false (sym reopen ∙ made.ends.0))
+  stuck ((None, Err e) ∷ calls) old new reopen (mid, made, more) =
+      let same : mid ≡ old = no_checkpoint failures old mid [] e reopen made.ends in
+      stuck calls mid new (ap (λ (s : State D). s.must_reopen) same ∙ reopen) more ∙ same
+
+  unacknowledged : (calls : List Call) (old new : State D) → old.must_reopen ≡ true → AllMade moment failures left_since may_leave old calls new → acknowledged calls ≡ []
+  unacknowledged [] old new reopen same = refl
+  unacknowledged ((Some line, Ok n) ∷ calls) old new reopen (mid, made, more) = absurd (true≢false (sym reopen ∙ made.ends.0))
+  unacknowledged ((Some line, Err e) ∷ calls) old new reopen (mid, made, more) =
+      unacknowledged calls mid new (ap (λ (s : State D). s.must_reopen) (no_apply failures old mid line e reopen made.ends.1) ∙ reopen) more
+  unacknowledged ((None, Ok n) ∷ calls) old new reopen (mid, made, more) = absurd (true≢false (sym reopen ∙ made.ends.0))
+  unacknowledged ((None, Err e) ∷ calls) old new reopen (mid, made, more) =
+      unacknowledged calls mid new (ap (λ (s : State D). s.must_reopen) (no_checkpoint failures old mid [] e reopen made.ends) ∙ reopen) more
+
+  -- the calls behind the first
+  go_on : (old mid new : State D) (calls : List Call) (P : List ℕ → Type 0) → AllMade moment failures left_since may_leave mid calls new → LeavesOnly moment left_since old.disk mid.disk P
+      → (mid.must_reopen ≡ false → LeavesOnly moment left_since mid.disk new.disk P) → LeavesOnly moment left_since old.disk new.disk P
+  go_on old mid new calls P more first second = elim (cases_Bool mid.must_reopen) [
+    | inl reopen ↦ subst (λ (s : State D). LeavesOnly moment left_since old.disk s.disk P) (sym (stuck calls mid new reopen more)) first
+    | inr still ↦ and_then moment left_since old.disk mid.disk new.disk P first (second still)
+  ]
+
+  module _ (limit : ℕ) (base : Tables) where
+    -- a prefix of at least so many of the lines leads to a map that the file stands for
+    pub record Holds (all : List (List ℕ)) (n : ℕ) (file : List ℕ) : Type 0 where
+      pub lines : List (List ℕ)
+      pub rest : List (List ℕ)
+      pub prefix : all ≡ lines ++ rest
+      pub holds : n ≤ length lines
+      pub map : Tables
+      pub leads : Leads limit base lines map
+      pub stands : StandsFor limit map file
+
+    -- these lines lead to the project's map
+    pub record Known (done : List (List ℕ)) (now : State D) : Type 0 where
+      pub cap_is : now.cap ≡ limit
+      pub leads : Leads limit base done now.map.tables
+      pub kept : IsKept may_leave now
+
+    here : (done rest all : List (List ℕ)) (now : State D) → Known done now → all ≡ done ++ rest → (file : List ℕ) → StandsFor now.cap now.map.tables file → Holds all (length done) file
+    here done rest all now known is file stands = record {
+      lines = done;
+      rest = rest;
+      prefix = is;
+      holds = omega arith;
+      map = now.map.tables;
+      leads = known.leads;
+      stands = subst (λ (k : ℕ). StandsFor k now.map.tables file) known.cap_is stands;
+    }
+
+    led : (done : List (List ℕ)) (line : List ℕ) (now : State D) (next : Tables) → Known done now → LeadsTo now.cap now.map.tables line next → Leads limit base (done ++ line ∷ []) next
+    led done line now next known leads = leads_push limit base done line now.map.tables next known.leads (subst (λ (k : ℕ). LeadsTo k now.map.tables line next) known.cap_is leads)
+
+    outcome : (done : List (List ℕ)) (line : List ℕ) (rest all : List (List ℕ)) (now : State D) → Known done now → all ≡ done ++ line ∷ rest → (file : List ℕ) → IsOutcome now.cap now.map.tables line file → Holds all (length done) file
+    outcome done line rest all now known is file (inl stands) = here done (line ∷ rest) all now known is file stands
+    outcome done line rest all now known is file (inr (next, leads, stands)) = record {
+      lines = done ++ line ∷ [];
+      rest = rest;
+      prefix = is ∙ sym (append_assoc done (line ∷ []) rest);
+      holds = omega (arith, length-append done (line ∷ []));
+      map = next;
+      leads = led done line now next known leads;
+      stands = subst (λ (k : ℕ). StandsFor k next file) known.cap_is stands;
+    }
+
+    same_map : (done : List (List ℕ)) (old mid : State D) → Known done old → mid.cap ≡ old.cap → mid.map.tables ≡ old.map.tables → IsKept may_leave mid → Known done mid
+    same_map done old mid known cap_is map_is kept = record {
+      cap_is = cap_is ∙ known.cap_is;
+      leads = subst (λ (t : Tables). Leads limit base done t) (sym map_is) known.leads;
+      kept = kept;
+    }
+
+    pub moves : (calls : List Call) (done : List (List ℕ)) (old new : State D) → Known done old → old.must_reopen ≡ false → AllMade moment failures left_since may_leave old calls new
+        → LeavesOnly moment left_since old.disk new.disk (Holds (done ++ accepted calls) (length done))
+    moves [] done old new known ready same =
+        subst (λ (s : State D). LeavesOnly moment left_since old.disk s.disk (Holds (done ++ []) (length done))) (sym same)
+        (started moment left_since old.disk (Holds (done ++ []) (length done)) (λ file left. here done [] (done ++ []) old known refl file (old.generation, known.kept ready file (only_now old.disk file left))))
+    moves ((None, answer) ∷ calls) done old new known ready (mid, made, more) =
+        go_on old mid new calls (Holds (done ++ accepted calls) (length done)) more
+        (weaker moment left_since old.disk mid.disk (StandsFor old.cap old.map.tables) (Holds (done ++ accepted calls) (length done)) (made.any_moment ready) (here done (accepted calls) (done ++ accepted calls) old known refl))
+        (λ still. moves calls done mid new (same_map done old mid known made.same_cap (ap (λ (m : MapView). m.tables) made.map) made.kept) still more)
+    moves ((Some line, Ok n) ∷ calls) done old new known ready (mid, made, more) =
+        let all = done ++ line ∷ accepted calls in
+        let then_known : Known (done ++ line ∷ []) mid = record {
+          cap_is = made.same_cap ∙ known.cap_is;
+          leads = led done line old mid.map.tables known (n, made.ends.2);
+          kept = made.kept;
+        } in
+        go_on old mid new calls (Holds all (length done)) more
+        (weaker moment left_since old.disk mid.disk (IsOutcome old.cap old.map.tables line) (Holds all (length done)) (made.any_moment ready) (outcome done line (accepted calls) all old known refl))
+        (λ still. weaker moment left_since mid.disk new.disk (Holds ((done ++ line ∷ []) ++ accepted calls) (length (done ++ line ∷ []))) (Holds all (length done))
+        (moves calls (done ++ line ∷ []) mid new then_known still more)
+        (λ file h. record {
+          lines = h.lines;
+          rest = h.rest;
+          prefix = sym (append_assoc done (line ∷ []) (accepted calls)) ∙ h.prefix;
+          holds = omega (arith, h.holds, length-append done (line ∷ []));
+          map = h.map;
+          leads = h.leads;
+          stands = h.stands;
+        }))
+    moves ((Some line, Err e) ∷ calls) done old new known ready (mid, made, more) = at (λ stays still. moves calls done mid new stays still more) (begins (Err e)) refl
+      where
+        stays : Known done mid
+        stays = same_map done old mid known made.same_cap made.ends.0 made.kept
+
+        the_lines : Bool → List (List ℕ)
+        the_lines t = cond t (line ∷ accepted calls) (accepted calls)
+
+        at : (Known done mid → mid.must_reopen ≡ false → LeavesOnly moment left_since mid.disk new.disk (Holds (done ++ accepted calls) (length done))) → (t : Bool) → begins (Err e) ≡ t
+            → LeavesOnly moment left_since old.disk new.disk (Holds (done ++ the_lines t) (length done))
+        at behind true is = go_on old mid new calls (Holds (done ++ line ∷ accepted calls) (length done)) more
+            (weaker moment left_since old.disk mid.disk (IsOutcome old.cap old.map.tables line) (Holds (done ++ line ∷ accepted calls) (length done)) (made.any_moment ready)
+            (outcome done line (accepted calls) (done ++ line ∷ accepted calls) old known refl))
+            (λ still. absurd (true≢false (sym (faulted failures old mid line e is made.ends.1) ∙ still)))
+        at behind false is = go_on old mid new calls (Holds (done ++ accepted calls) (length done)) more
+            (⊎_elim (λ device. absurd (true≢false (sym (ap (λ (x : ProjectError). begins (Err x)) device) ∙ is)))
+            (λ quiet. weaker moment left_since old.disk mid.disk (StandsFor old.cap old.map.tables) (Holds (done ++ accepted calls) (length done)) quiet (here done (accepted calls) (done ++ accepted calls) old known refl))
+            (made.refused_moment ready))
+            (λ still. behind stays still)
+
+    -- after some calls: the acknowledged lines lead to the map; or the project must be opened again
+    abbrev AfterOf : List (List ℕ) → List (List ℕ) → List (List ℕ) → State D → Type 0
+    AfterOf done acc ack new = ((new.must_reopen ≡ false) × Known (done ++ ack) new × (acc ≡ ack))
+        ⊎ ((new.must_reopen ≡ true) × Each (may_leave new.disk) (Holds (done ++ acc) (length (done ++ ack))))
+
+    broken : (done all : List (List ℕ)) (calls : List Call) (old mid new : State D) → mid.must_reopen ≡ true → AllMade moment failures left_since may_leave mid calls new
+        → LeavesOnly moment left_since old.disk mid.disk (Holds all (length done)) → (new.must_reopen ≡ true) × Each (may_leave new.disk) (Holds all (length (done ++ acknowledged calls)))
+    broken done all calls old mid new reopen more first =
+        let same : new ≡ mid = stuck calls mid new reopen more in
+        let none : length (acknowledged calls) ≡ 0 = ap length (unacknowledged calls mid new reopen more) in (
+          ap (λ (s : State D). s.must_reopen) same ∙ reopen,
+          λ file left.
+              let h = first.each file (counts_now mid.disk (moment old.disk) file first.later (subst (λ (s : State D). may_leave s.disk file) same left)) in
+              record {
+                lines = h.lines;
+                rest = h.rest;
+                prefix = h.prefix;
+                holds = omega (arith, h.holds, length-append done (acknowledged calls), none);
+                map = h.map;
+                leads = h.leads;
+                stands = h.stands;
+              },
+        )
+
+    pub fronts : (calls : List Call) (done : List (List ℕ)) (old new : State D) → Known done old → old.must_reopen ≡ false → AllMade moment failures left_since may_leave old calls new
+        → AfterOf done (accepted calls) (acknowledged calls) new
+    fronts [] done old new known ready same =
+        inl (ap (λ (s : State D). s.must_reopen) same ∙ ready, subst (λ (s : State D). Known (done ++ []) s) (sym same) (subst (λ (l : List (List ℕ)). Known l old) (sym (append-nil done)) known), refl)
+    fronts ((None, answer) ∷ calls) done old new known ready (mid, made, more) = elim (cases_Bool mid.must_reopen) [
+      | inl reopen ↦ inr (broken done (done ++ accepted calls) calls old mid new reopen more
+          (weaker moment left_since old.disk mid.disk (StandsFor old.cap old.map.tables) (Holds (done ++ accepted calls) (length done)) (made.any_moment ready) (here done (accepted calls) (done ++ accepted calls) old known refl)))
+      | inr still ↦ fronts calls done mid new (same_map done old mid known made.same_cap (ap (λ (m : MapView). m.tables) made.map) made.kept) still more
+    ]
+    fronts ((Some line, Ok n) ∷ calls) done old new known ready (mid, made, more) =
+        let then_known : Known (done ++ line ∷ []) mid = record {
+          cap_is = made.same_cap ∙ known.cap_is;
+          leads = led done line old mid.map.tables known (n, made.ends.2);
+          kept = made.kept;
+        } in
+        ⊎_elim
+        (λ well. inl (well.0, subst (λ (l : List (List ℕ)). Known l new) (append_assoc done (line ∷ []) (acknowledged calls)) well.1, ap (λ (l : List (List ℕ)). line ∷ l) well.2))
+        (λ bad. inr (
+          bad.0,
+          λ file left.
+              subst (λ (l : List (List ℕ)). Holds l (length (done ++ line ∷ acknowledged calls)) file) (append_assoc done (line ∷ []) (accepted calls))
+              (subst (λ (l : List (List ℕ)). Holds ((done ++ line ∷ []) ++ accepted calls) (length l) file) (append_assoc done (line ∷ []) (acknowledged calls)) (bad.1 file left)),
+        ))
+        (fronts calls (done ++ line ∷ []) mid new then_known made.ends.1 more)
+    fronts ((Some line, Err e) ∷ calls) done old new known ready (mid, made, more) = at (λ stays still. fronts calls done mid new stays still more) (begins (Err e)) refl
+      where
+        stays : Known done mid
+        stays = same_map done old mid known made.same_cap made.ends.0 made.kept
+
+        the_lines : Bool → List (List ℕ)
+        the_lines t = cond t (line ∷ accepted calls) (accepted calls)
+
+        at : (Known done mid → mid.must_reopen ≡ false → AfterOf done (accepted calls) (acknowledged calls) new) → (t : Bool) → begins (Err e) ≡ t → AfterOf done (the_lines t) (acknowledged calls) new
+        at behind true is = inr (broken done (done ++ line ∷ accepted calls) calls old mid new (faulted failures old mid line e is made.ends.1) more
+            (weaker moment left_since old.disk mid.disk (IsOutcome old.cap old.map.tables line) (Holds (done ++ line ∷ accepted calls) (length done)) (made.any_moment ready)
+            (outcome done line (accepted calls) (done ++ line ∷ accepted calls) old known refl)))
+        at behind false is = elim (cases_Bool mid.must_reopen) [
+          | inl reopen ↦ inr (broken done (done ++ accepted calls) calls old mid new reopen more
+              (⊎_elim (λ device. absurd (true≢false (sym (ap (λ (x : ProjectError). begins (Err x)) device) ∙ is)))
+              (λ quiet. weaker moment left_since old.disk mid.disk (StandsFor old.cap old.map.tables) (Holds (done ++ accepted calls) (length done)) quiet (here done (accepted calls) (done ++ accepted calls) old known refl))
+              (made.refused_moment ready)))
+          | inr still ↦ behind stays still
+        ]
+
+  -- ---- a session
+
+  -- a file stands for what the session leads to from a map
+  abbrev StandsAfter : ℕ → Tables → Session → List ℕ → Type 0
+  StandsAfter cap base s file = (map : Tables) × KeepsAcknowledged cap base s map × StandsFor cap map file
+
+  session_moments : (cap : ℕ) (s : Session) (first mid last : State D) → first.cap ≡ cap → first.must_reopen ≡ false → IsKept may_leave first
+      → AllMade moment failures left_since may_leave first s.front mid → AllMade moment failures left_since may_leave mid s.back last
+      → LeavesOnly moment left_since mid.disk last.disk (StandsAfter cap first.map.tables s)
+  session_moments cap s first mid last cap_is ready kept front back =
+      ⊎_elim
+      (λ well. weaker moment left_since mid.disk last.disk (Holds cap first.map.tables (acknowledged s.front ++ accepted s.back) (length (acknowledged s.front))) (StandsAfter cap first.map.tables s)
+      (moves cap first.map.tables s.back (acknowledged s.front) mid last well.1 well.0 back)
+      (λ file h. (
+        h.map,
+        record {
+          lines = h.lines;
+          rest = h.rest;
+          prefix = accepted_append s.front s.back ∙ ap (λ (l : List (List ℕ)). l ++ accepted s.back) well.2 ∙ h.prefix;
+          holds = h.holds;
+          leads = h.leads;
+        },
+        h.stands,
+      )))
+      (λ bad. subst (λ (t : State D). LeavesOnly moment left_since mid.disk t.disk (StandsAfter cap first.map.tables s)) (sym (stuck s.back mid last bad.0 back))
+      (started moment left_since mid.disk (StandsAfter cap first.map.tables s) (λ file left.
+      let h = bad.1 file (only_now mid.disk file left) in (
+        h.map,
+        record {
+          lines = h.lines;
+          rest = h.rest ++ accepted s.back;
+          prefix = accepted_append s.front s.back ∙ ap (λ (l : List (List ℕ)). l ++ accepted s.back) h.prefix ∙ append_assoc h.lines h.rest (accepted s.back);
+          holds = h.holds;
+          leads = h.leads;
+        },
+        h.stands,
+      ))))
+      (fronts cap first.map.tables s.front [] first mid (record { cap_is = cap_is; leads = refl; kept = kept }) ready front)
+
+  -- one session more
+  keep_push : (cap : ℕ) (base : Tables) (done : List Session) (mid : Tables) (s : Session) (map : Tables) → KeepEach cap base done mid → KeepsAcknowledged cap mid s map → KeepEach cap base (done ++ s ∷ []) map
+  keep_push cap base [] mid s map held more = (map, subst (λ (t : Tables). KeepsAcknowledged cap t s map) held more, refl)
+  keep_push cap base (q ∷ done) mid s map (next, first, held) more = (next, first, keep_push cap next done mid s map held more)
+
+  -- a state to which the sessions before lead
+  pub record Reaches (cap : ℕ) (done : List Session) (f : State D) : Type 0 where
+    pub ready : f.must_reopen ≡ false
+    pub kept : IsKept may_leave f
+    pub cap_is : f.cap ≡ cap
+    pub held : KeepEach cap empty_tables done f.map.tables
+
+  -- a session that begins so begins at such a state
+  abbrev Good : ℕ → List Session → (State D → Type 0) → Type 0
+  Good cap done begun = (f : State D) → begun f → Reaches cap done f
+
+  passes_moments : (cap : ℕ) (done : List Session) (begun : State D → Type 0) → Good cap done begun → (s : Session) (mid last : State D) → Passes moment failures left_since may_leave begun s mid last
+      → LeavesOnly moment left_since mid.disk last.disk (HoldsEach cap (done ++ s ∷ []))
+  passes_moments cap done begun good s mid last p =
+      let from = good p.first p.begun in
+      weaker moment left_since mid.disk last.disk (StandsAfter cap p.first.map.tables s) (HoldsEach cap (done ++ s ∷ []))
+      (session_moments cap s p.first mid last from.cap_is from.ready from.kept p.front p.back)
+      (λ file h. (h.0, keep_push cap empty_tables done p.first.map.tables s h.0 from.held h.1, h.2))
+
+  module _ (reads : D → List ℕ → Type 0) (reads_an_image : (d : D) (file : List ℕ) → reads d file → may_leave d file) where
+    -- what the next session opens to
+    pub opens_well : (cap : ℕ) (done : List Session) (m l : State D) (next : D) → LeavesOnly moment left_since m.disk l.disk (HoldsEach cap done) → Each (may_leave next) (left_since l.disk (moment m.disk))
+        → Good cap done (Opens moment left_since may_leave reads next)
+    opens_well cap done m l next leaves images f o =
+        let file = o.told.0 in
+        let image = o.any_moment.each file (counts_now f.disk (moment next) file o.any_moment.later (reads_an_image f.disk file o.told.1)) in
+        let held = leaves.each file (images file image) in
+        let same = (o.opened file o.told.1).only cap held.0 held.2.0 held.2.1 in
+        record {
+          ready = o.reopen;
+          kept = o.kept;
+          cap_is = sym same.0;
+          held = subst (λ (t : Tables). KeepEach cap empty_tables done t) same.1 held.1;
+        }
+
+    pub all_moments : (cap : ℕ) (done before : List Session) (begun : State D → Type 0) → Good cap done begun → (s : Session) (mid last : State D) → PassInTurn moment failures left_since may_leave reads begun before s mid last
+        → LeavesOnly moment left_since mid.disk last.disk (HoldsEach cap (done ++ (before ++ s ∷ [])))
+    all_moments cap done [] begun good s mid last p =
+        let one : s ∷ [] ≡ [] ++ s ∷ [] = refl in
+        subst (λ (ss : List Session). LeavesOnly moment left_since mid.disk last.disk (HoldsEach cap (done ++ ss))) one (passes_moments cap done begun good s mid last p)
+    all_moments cap done (q ∷ qs) begun good s mid last (m, l, next, passes, images, more) =
+        subst (λ (ss : List Session). LeavesOnly moment left_since mid.disk last.disk (HoldsEach cap ss)) (append_assoc done (q ∷ []) (qs ++ s ∷ []))
+        (all_moments cap (done ++ q ∷ []) qs (Opens moment left_since may_leave reads next)
+        (opens_well cap (done ++ q ∷ []) m l next (passes_moments cap done begun good q m l passes) images) s mid last more)

@@ -1,0 +1,13 @@
+pub mod Placing
+pub mod Turning
+pub mod TurnMoments
+pub mod Recording
+pub mod Sound
+pub mod Endings
+pub mod Gates
+pub mod Creating
+pub mod Openings
+pub mod Spent
+pub mod OneMap
+pub mod Holding
+pub mod Excluding

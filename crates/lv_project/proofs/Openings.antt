@@ -1,0 +1,263 @@
+-- What is read when a project is opened, and why it is refused.
+use Rattle.std.proofs.Common.{◌≡◌, inl, inr, ◌<◌, ◌≤◌, ◌+◌, ℕ, Bool, true, false, List, [], ◌∷◌, ◌++◌, length, map as map_list, take, drop, get_or, eqb, cond, nat_lt, Option, None, Some, Result, Ok, Err, IfErr, Vec, Global, refl, sym, ◌∙◌, ap, subst, arith}
+use Rattle.std.proofs.lemmas.Bool.{cases_Bool}
+use Rattle.std.proofs.lemmas.List.{take-append-drop, take_more, length-map, get_or-map, append_assoc}
+use Rattle.lv_disk.specs.Gates.{IsClosedAt}
+use Rattle.lv_disk.specs.Stops.{Each}
+use Rattle.lv_disk.specs.declared.area.Area.{Area}
+use Rattle.lv_journal.specs.Records.{IsJournal, records_bytes}
+use Rattle.lv_journal.specs.State as journal
+use Rattle.lv_checkpoint.specs.Bodies.{IsLive, IsOpen, IsOlder}
+use Rattle.lv_checkpoint.specs.Damage as damage
+use Rattle.lv_checkpoint.specs.Refusals as checkpoint
+use Rattle.lv_checkpoint.specs.Handles.{first_of, second_of, slot_of, generation_of, finds_open, live_of, HasSlots}
+use Rattle.lv_checkpoint.specs.declared.slots.Slots.{Slots}
+use Rattle.lv_checkpoint.specs.declared.error.CheckpointError.{CheckpointError}
+use Rattle.lv_checkpoint.specs.declared.error.CheckpointError.TheVariants as slot
+use Rattle.lv_maptables.specs.Tables.{Tables, body_len}
+use Rattle.lv_maptables.specs.Body.{body, NoMapHas, IsMapOf, RefusesBody}
+use Rattle.lv_maptables.specs.declared.error.MapError.{MapError}
+use Rattle.lv_maptables.specs.declared.error.MapError.TheVariants as map
+use Rattle.lv_maptables.proofs.FramedLemmas.{body_size}
+use Rattle.lv_project.specs.Places.{IsAllowed, IsLaidOut, cap_of, parts_of}
+use Rattle.lv_project.specs.Stands.{HasGeometry, Stands}
+use Rattle.lv_project.specs.Damage.{IsBadPart}
+use Rattle.lv_project.specs.Opening.{HoldsMap, IsOpened, IsOfBody, IsOfSlots, IsRefusedRead, RefusesGates, RefusesHeader, RefusesLines, RefusesReplay, RefusesSlots}
+use Rattle.lv_project.specs.declared.geometry.Geometry.{Geometry}
+use Rattle.lv_project.specs.declared.places.Places.{Places}
+use Rattle.lv_project.specs.declared.places.Parts.{Parts}
+use Rattle.lv_project.specs.declared.opening.Opened.{Opened}
+use Rattle.lv_project.specs.declared.error.ProjectError.{ProjectError}
+use Rattle.lv_project.specs.declared.error.ProjectError.TheVariants.{Device, OutOfMemory, Reopen, GenerationsSpent, Refused, Damaged, Blank, NotAProject, NotEmpty, BadGeometry}
+use Rattle.lv_project.proofs.Placing.{TellsParts, tells_parts}
+use Rattle.lv_project.proofs.Sound.{some_none}
+
+-- ---- the header
+
+pub header_refused : (reads : List ℕ → Type 0) (e : ProjectError) → RefusesHeader reads e → IsRefusedRead reads e
+header_refused reads Device r = r
+header_refused reads NotAProject r = r
+header_refused reads BadGeometry r = r
+header_refused reads OutOfMemory r = absurd r
+header_refused reads Reopen r = absurd r
+header_refused reads GenerationsSpent r = absurd r
+header_refused reads (Refused e) r = absurd r
+header_refused reads (Damaged place) r = absurd r
+header_refused reads Blank r = absurd r
+header_refused reads NotEmpty r = absurd r
+
+-- ---- the slots
+
+-- the live slot is the parts' one
+pub live_from : (s : Slots) (q : Parts) (x file : List ℕ) → TellsParts s q → HasSlots s x file → IsLive q.live q.other (generation_of s) x file
+live_from s q x file tells has = record {
+  is_open = subst (λ (a : Area). IsOpen a (generation_of s) x file) tells.live_is has.live;
+  behind = elim (cases_Bool (finds_open s)) [
+    | inl ajar ↦ inr (subst (λ (a : Area). IsOlder a (generation_of s) file) tells.other_is (has.older ajar))
+    | inr shut ↦ inl (subst (λ (a : Area). IsClosedAt a.base file) tells.other_is (has.shut shut))
+  ];
+}
+
+spent : (e : CheckpointError) → checkpoint.code_of e ≡ 33 → checkpoint.RefusesOpen e → ⊥
+spent e is (inl a) = let n : 33 ≡ 30 = sym is ∙ ap checkpoint.code_of a in omega (arith, n)
+spent e is (inr (inl a)) = let n : 33 ≡ 31 = sym is ∙ ap checkpoint.code_of a in omega (arith, n)
+spent e is (inr (inr (inl a))) = let n : 33 ≡ 41 = sym is ∙ ap checkpoint.code_of a in omega (arith, n)
+spent e is (inr (inr (inr (place, a)))) = let n : 33 ≡ 40 = sym is ∙ ap checkpoint.code_of a in omega (arith, n)
+
+full : (e : CheckpointError) → checkpoint.code_of e ≡ 35 → checkpoint.RefusesOpen e → ⊥
+full e is (inl a) = let n : 35 ≡ 30 = sym is ∙ ap checkpoint.code_of a in omega (arith, n)
+full e is (inr (inl a)) = let n : 35 ≡ 31 = sym is ∙ ap checkpoint.code_of a in omega (arith, n)
+full e is (inr (inr (inl a))) = let n : 35 ≡ 41 = sym is ∙ ap checkpoint.code_of a in omega (arith, n)
+full e is (inr (inr (inr (place, a)))) = let n : 35 ≡ 40 = sym is ∙ ap checkpoint.code_of a in omega (arith, n)
+
+module _ (reads : List ℕ → Type 0) (g : Geometry) (p : Places) where
+  pub slots_refused : (e : CheckpointError) (r : ProjectError) → IsOfSlots e r → checkpoint.RefusesOpen e
+      → ((place : ℕ) → e ≡ slot.Damaged place → Each reads (damage.IsDamagedAt p.a p.b place)) → (e ≡ slot.Blank → Each reads (damage.AreBlank p.a p.b)) → RefusesSlots reads g p r
+  slots_refused slot.Device r is only damaged blank = subst (RefusesSlots reads g p) (sym is) tt
+  slots_refused slot.OutOfMemory r is only damaged blank = subst (RefusesSlots reads g p) (sym is) tt
+  slots_refused slot.Blank r is only damaged blank = subst (RefusesSlots reads g p) (sym is) (blank refl)
+  slots_refused (slot.Damaged place) r is only damaged blank = subst (RefusesSlots reads g p) (sym is) (λ file read. inl (damaged place refl file read))
+  slots_refused slot.GenerationsSpent r is only damaged blank = absurd (spent slot.GenerationsSpent refl only)
+  slots_refused slot.SlotFull r is only damaged blank = absurd (full slot.SlotFull refl only)
+
+  -- a body that no map has
+  bad_body : (s : Slots) (x : List ℕ) → IsAllowed g.slot g.journal → IsLaidOut g p → first_of s ≡ p.a → second_of s ≡ p.b → slot_of s ≤ 1 → Each reads (HasSlots s x) → NoMapHas x
+      → (place : ℕ) → place ≡ (parts_of p (slot_of s)).live.base → Each reads (IsBadPart g p place)
+  bad_body s x allowed laid first second which has none place there file read =
+      inr (slot_of s, generation_of s, x, which, live_from s (parts_of p (slot_of s)) x file (tells_parts g p allowed laid s first second) (has file read), inl (none, there))
+
+  pub body_refused : (s : Slots) (x : List ℕ) → IsAllowed g.slot g.journal → IsLaidOut g p → first_of s ≡ p.a → second_of s ≡ p.b → slot_of s ≤ 1 → Each reads (HasSlots s x)
+      → (place : ℕ) → place ≡ (parts_of p (slot_of s)).live.base → (e : MapError) (r : ProjectError) → IsOfBody e place r → RefusesBody x e → RefusesSlots reads g p r
+  body_refused s x allowed laid first second which has place there map.OutOfMemory r is refuses = subst (RefusesSlots reads g p) (sym is) tt
+  body_refused s x allowed laid first second which has place there (map.Damaged at) r is refuses = subst (RefusesSlots reads g p) (sym is) (bad_body s x allowed laid first second which has refuses.1 place there)
+  body_refused s x allowed laid first second which has place there map.NoVertex r is refuses = absurd refuses
+  body_refused s x allowed laid first second which has place there map.NoSector r is refuses = absurd refuses
+  body_refused s x allowed laid first second which has place there map.NoSide r is refuses = absurd refuses
+  body_refused s x allowed laid first second which has place there map.NoLine r is refuses = absurd refuses
+  body_refused s x allowed laid first second which has place there map.NoThing r is refuses = absurd refuses
+  body_refused s x allowed laid first second which has place there map.InUse r is refuses = absurd refuses
+  body_refused s x allowed laid first second which has place there map.SameEnds r is refuses = absurd refuses
+  body_refused s x allowed laid first second which has place there map.PlaceTaken r is refuses = absurd refuses
+  body_refused s x allowed laid first second which has place there map.TwoSidedWithoutLeft r is refuses = absurd refuses
+  body_refused s x allowed laid first second which has place there map.TableFull r is refuses = absurd refuses
+  body_refused s x allowed laid first second which has place there map.LineTooLong r is refuses = absurd refuses
+  body_refused s x allowed laid first second which has place there map.TooManyMaps r is refuses = absurd refuses
+  body_refused s x allowed laid first second which has place there map.MapNameTaken r is refuses = absurd refuses
+  body_refused s x allowed laid first second which has place there map.NoSuchMap r is refuses = absurd refuses
+  body_refused s x allowed laid first second which has place there map.CurrentMap r is refuses = absurd refuses
+
+  -- the map of the live body
+  pub holds : (s : Slots) (x : List ℕ) (m : Tables) → IsAllowed g.slot g.journal → IsLaidOut g p → first_of s ≡ p.a → second_of s ≡ p.b → Each reads (HasSlots s x) → IsMapOf x m
+      → Each reads (HoldsMap (parts_of p (slot_of s)) (generation_of s) m)
+  holds s x m allowed laid first second has is file read = record {
+    well_formed = is.well_formed;
+    live = subst (λ (y : List ℕ). IsLive (parts_of p (slot_of s)).live (parts_of p (slot_of s)).other (generation_of s) y file) (sym is.encoded)
+        (live_from s (parts_of p (slot_of s)) x file (tells_parts g p allowed laid s first second) (has file read));
+  }
+
+  pub of_slots : Each reads (HasGeometry g p) → (e : ProjectError) → RefusesSlots reads g p e → IsRefusedRead reads e
+  of_slots has Device r = r
+  of_slots has OutOfMemory r = r
+  of_slots has Blank r = λ file read. (g, p, has file read, r file read)
+  of_slots has (Damaged place) r = λ file read. (g, p, has file read, r file read)
+  of_slots has Reopen r = absurd r
+  of_slots has GenerationsSpent r = absurd r
+  of_slots has (Refused e) r = absurd r
+  of_slots has NotAProject r = absurd r
+  of_slots has NotEmpty r = absurd r
+  of_slots has BadGeometry r = absurd r
+
+  -- from the reads of a later disk
+  pub slots_later : (later : List ℕ → Type 0) → Each reads later → (e : ProjectError) → RefusesSlots later g p e → RefusesSlots reads g p e
+  slots_later later still Device r = r
+  slots_later later still OutOfMemory r = r
+  slots_later later still Blank r = λ file read. r file (still file read)
+  slots_later later still (Damaged place) r = λ file read. r file (still file read)
+  slots_later later still Reopen r = absurd r
+  slots_later later still GenerationsSpent r = absurd r
+  slots_later later still (Refused e) r = absurd r
+  slots_later later still NotAProject r = absurd r
+  slots_later later still NotEmpty r = absurd r
+  slots_later later still BadGeometry r = absurd r
+
+  pub of_lines : Each reads (HasGeometry g p) → (n k : ℕ) (base : Tables) → n ≤ 1 → Each reads (HoldsMap (parts_of p n) k base) → (e : ProjectError) → RefusesLines reads (cap_of g) (parts_of p n) base e → IsRefusedRead reads e
+  of_lines has n k base which held Device r = r
+  of_lines has n k base which held OutOfMemory r = r
+  of_lines has n k base which held (Damaged place) r = λ file read.
+      (g, p, has file read, inr (n, k, body base, which, (held file read).live, inr (base, (held file read).well_formed, refl, r file read)))
+  of_lines has n k base which held Blank r = absurd r
+  of_lines has n k base which held Reopen r = absurd r
+  of_lines has n k base which held GenerationsSpent r = absurd r
+  of_lines has n k base which held (Refused e) r = absurd r
+  of_lines has n k base which held NotAProject r = absurd r
+  of_lines has n k base which held NotEmpty r = absurd r
+  of_lines has n k base which held BadGeometry r = absurd r
+
+-- ---- the lines
+
+module _ (reads : List ℕ → Type 0) (cap : ℕ) (q : Parts) (base : Tables) where
+  pub of_gates : (e : ProjectError) → RefusesGates reads q e → RefusesLines reads cap q base e
+  of_gates Device r = r
+  of_gates OutOfMemory r = r
+  of_gates (Damaged place) r = λ file read. inl (r file read)
+  of_gates Blank r = absurd r
+  of_gates Reopen r = absurd r
+  of_gates GenerationsSpent r = absurd r
+  of_gates (Refused e) r = absurd r
+  of_gates NotAProject r = absurd r
+  of_gates NotEmpty r = absurd r
+  of_gates BadGeometry r = absurd r
+
+  pub lines_later : (later : List ℕ → Type 0) → Each reads later → (e : ProjectError) → RefusesLines later cap q base e → RefusesLines reads cap q base e
+  lines_later later still Device r = r
+  lines_later later still OutOfMemory r = r
+  lines_later later still (Damaged place) r = λ file read. r file (still file read)
+  lines_later later still Blank r = absurd r
+  lines_later later still Reopen r = absurd r
+  lines_later later still GenerationsSpent r = absurd r
+  lines_later later still (Refused e) r = absurd r
+  lines_later later still NotAProject r = absurd r
+  lines_later later still NotEmpty r = absurd r
+  lines_later later still BadGeometry r = absurd r
+
+  pub of_replay : (j : journal.State) → j ≡ journal.opened q.journal j.records → Each reads (IsJournal q.journal j.records) → Each reads (λ file. q.other_journal.base < length file)
+      → (e : ProjectError) → RefusesReplay cap base j e → RefusesLines reads cap q base e
+  of_replay j is sound other OutOfMemory r = r
+  of_replay j is sound other (Damaged place) (front, line, back, split, m, leads, refused, there) = λ file read. inr (record {
+    front = front;
+    line = line;
+    back = back;
+    journal = subst (λ (ls : List (List ℕ)). IsJournal q.journal ls file) split (sound file read);
+    other = other file read;
+    map = m;
+    leads = leads;
+    refused = refused;
+    there = there ∙ ap (λ (k : journal.State). k.area.base + length (records_bytes front)) is;
+  })
+  of_replay j is sound other Device r = absurd r
+  of_replay j is sound other Blank r = absurd r
+  of_replay j is sound other Reopen r = absurd r
+  of_replay j is sound other GenerationsSpent r = absurd r
+  of_replay j is sound other (Refused e) r = absurd r
+  of_replay j is sound other NotAProject r = absurd r
+  of_replay j is sound other NotEmpty r = absurd r
+  of_replay j is sound other BadGeometry r = absurd r
+
+-- ---- the lines, one by one
+
+abbrev items_of : Vec ℕ Global → List ℕ
+items_of payload = payload.items
+
+module _ (xs : List (Vec ℕ Global)) (rs : List (List ℕ)) (is : map_list items_of xs ≡ rs) (n : ℕ) (x : Vec ℕ Global) (line : List ℕ) (lt : n < length xs) (item : x ≡ get_or xs n x) (line_is : line ≡ x.items) where
+  there_is : n < length rs
+  there_is = omega (arith, lt, ap length is, length-map xs items_of)
+
+  found_line : get_or rs n [] ≡ line
+  found_line = ap (λ (l : List (List ℕ)). get_or l n []) (sym is) ∙ get_or-map items_of xs n x [] lt ∙ sym (line_is ∙ ap items_of item)
+
+  pub taken : take (n + 1) rs ≡ take n rs ++ line ∷ []
+  taken = take_more rs n [] there_is ∙ ap (λ (l : List ℕ). take n rs ++ l ∷ []) found_line
+
+  pub split_at : rs ≡ take n rs ++ line ∷ drop (n + 1) rs
+  split_at = sym (take-append-drop (n + 1) rs) ∙ ap (λ (l : List (List ℕ)). l ++ drop (n + 1) rs) taken ∙ append_assoc (take n rs) (line ∷ []) (drop (n + 1) rs)
+
+abbrev value_in : Option ℕ → ℕ
+value_in None = 0
+value_in (Some n) = n
+
+pub place_is : (j : journal.State) (n place : ℕ) → Some place ≡ journal.gate_of j n → place ≡ j.area.base + length (records_bytes (take n j.records))
+place_is j n place is = at (nat_lt n (length j.records)) (j.area.base + length (records_bytes (take n j.records))) is
+  where
+    at : (t : Bool) (k : ℕ) → Some place ≡ cond t (Some k) None → place ≡ k
+    at true k e = ap value_in e
+    at false k e = absurd (some_none place e)
+
+-- ---- the map fits
+
+pub map_fits : (g : Geometry) (p : Places) (s : Slots) (x : List ℕ) (m : Tables) → IsLaidOut g p → first_of s ≡ p.a → second_of s ≡ p.b → 13 + length x ≤ (live_of s).length → IsMapOf x m → body_len m ≤ cap_of g
+map_fits g p s x m laid first second fits is =
+    let size : length x ≡ body_len m = ap length (sym is.encoded) ∙ body_size m is.well_formed in
+    let len : (live_of s).length ≡ g.slot = at (eqb (slot_of s) 0) in
+    omega (arith, size, len, fits)
+  where
+    at : (t : Bool) → (cond t s.a s.b).length ≡ g.slot
+    at true = ap (λ (a : Area). a.length) first ∙ laid.a_length
+    at false = ap (λ (a : Area). a.length) second ∙ laid.b_length
+
+-- ---- the whole project
+
+pub result_later : {T : Type 0} (old new : List ℕ → Type 0) → Each new old → (r : Result T ProjectError) → IfErr r (IsRefusedRead old) → IfErr r (IsRefusedRead new)
+result_later {T = T} old new fewer (Ok t) h = h
+result_later {T = T} old new fewer (Err Device) h = h
+result_later {T = T} old new fewer (Err OutOfMemory) h = h
+result_later {T = T} old new fewer (Err NotAProject) h = λ file read. h file (fewer file read)
+result_later {T = T} old new fewer (Err BadGeometry) h = λ file read. h file (fewer file read)
+result_later {T = T} old new fewer (Err Blank) h = λ file read. h file (fewer file read)
+result_later {T = T} old new fewer (Err (Damaged place)) h = λ file read. h file (fewer file read)
+result_later {T = T} old new fewer (Err Reopen) h = absurd h
+result_later {T = T} old new fewer (Err GenerationsSpent) h = absurd h
+result_later {T = T} old new fewer (Err (Refused e)) h = absurd h
+result_later {T = T} old new fewer (Err NotEmpty) h = absurd h
+
+pub stands_opened : (o : Opened) (file : List ℕ) → slot_of o.slots ≤ 1 → IsOpened o file → Stands (cap_of o.geometry) o.map.tables (generation_of o.slots) file
+stands_opened o file which is = record { geometry = o.geometry; places = o.places; has = is.has; cap_is = refl; slot = slot_of o.slots; which = which; at = is.stands }

@@ -1,0 +1,259 @@
+-- What a change of the live slot, and an append, make of a project that is sound.
+use Rattle.std.proofs.Common.{◌≡◌, inl, inr, ⊎_elim, ◌<◌, ◌≤◌, ◌+◌, ℕ, Bool, true, false, List, [], ◌∷◌, ◌++◌, length, eqb, cond, Option, None, Some, Result, Ok, Err, nat_lt, refl, sym, ◌∙◌, ap, subst, arith}
+use Rattle.std.proofs.lemmas.Bool.{true≢false}
+use Rattle.std.proofs.lemmas.Bool.Decides.{nat_tests}
+use Rattle.lv_disk.specs.Stops.{From, Follows, Each, LeavesOnly}
+use Rattle.lv_disk.proofs.Moments.{weaker, started, and_then}
+use Rattle.lv_disk.specs.declared.area.Area.{Area}
+use Rattle.lv_journal.specs.Append.{Appends, MayAppend}
+use Rattle.lv_journal.specs.State as journal
+use Rattle.lv_checkpoint.specs.Handles.{live_of, other_of, other_slot, first_of, second_of, slot_of, generation_of, HasSomeSlots}
+use Rattle.lv_checkpoint.specs.declared.slots.Slots.{Slots}
+use Rattle.lv_maptables.specs.Tables.{Tables, MapView, body_len}
+use Rattle.lv_maptables.specs.Outcomes.{least, unless}
+use Rattle.lv_maptables.specs.WellFormed.{WellFormed}
+use Rattle.lv_maptables.specs.Body.{body}
+use Rattle.lv_commands.specs.Step.{step, after, faults, number_of}
+use Rattle.lv_commands.specs.declared.command.Command.{Command}
+use Rattle.lv_project.specs.Places.{IsInOrder, cap_of, parts_of}
+use Rattle.lv_project.specs.Stands.{HasGeometry, Stands, StandsAt, StandsFor, IsOutcome}
+use Rattle.lv_commands.specs.LineSteps.{LeadsTo}
+use Rattle.lv_project.specs.States.{State, IsKept}
+use Rattle.lv_project.specs.Turns.{turned, KeepsHeader, MayTurn, Turns}
+use Rattle.lv_project.specs.Fields.{state_of, parts_in, IsFramed, IsReady, IsSound}
+use Rattle.lv_project.specs.declared.places.Places.{Places}
+use Rattle.lv_project.specs.declared.places.Parts.{Parts}
+use Rattle.lv_project.specs.declared.project.Project.TheInside.{Inside}
+use Rattle.lv_project.proofs.Placing.{in_order, tells_parts, behind_slots, geometry_kept, other_length}
+use Rattle.lv_maptables.proofs.FramedLemmas.{body_size}
+use Rattle.lv_project.proofs.Recording.{appended, may_append, append_header, slots_kept}
+use Rattle.lv_disk.specs.Files.{KeepsOutside}
+use Rattle.lv_disk.specs.Areas as areas
+
+-- the parts where the other slot is live
+pub flipped : (p : Places) (n : ℕ) → parts_of p (other_slot n) ≡ turned (parts_of p n)
+flipped p n = at (eqb n 0)
+  where
+    A : Parts
+    A = record { live = p.a; other = p.b; journal = p.first; other_journal = p.second }
+
+    B : Parts
+    B = record { live = p.b; other = p.a; journal = p.second; other_journal = p.first }
+
+    at : (t : Bool) → cond {A = Parts} (eqb (cond t 1 0) 0) A B ≡ turned (cond {A = Parts} t A B)
+    at true = refl
+    at false = refl
+
+flip_which : (n : ℕ) → other_slot n ≤ 1
+flip_which n = at (eqb n 0)
+  where
+    at : (t : Bool) → cond t 1 0 ≤ 1
+    at true = omega arith
+    at false = omega arith
+
+pub some_none : (k : ℕ) → Some k ≡ None → ⊥
+some_none k is = true≢false (ap (λ (o : Option ℕ). is_there o) is)
+  where
+    is_there : Option ℕ → Bool
+    is_there None = false
+    is_there (Some n) = true
+
+-- an accepted step's map fits
+least_last : (fs : List (ℕ × Bool)) (k : ℕ) (b : Bool) → least (fs ++ (k, b) ∷ []) ≡ None → b ≡ false
+least_last [] k true is = absurd (some_none k is)
+least_last [] k false is = refl
+least_last ((code, true) ∷ fs) k b is = absurd (some_none code is)
+least_last ((code, false) ∷ fs) k b is = least_last fs k b is
+
+none_of : (o : Option ℕ) (m : Tables) (n : ℕ) (x : Tables × ℕ) → unless o m n ≡ Ok x → (o ≡ None) × (m ≡ x.0)
+none_of None m n x is = (refl, ap (λ (r : Result (Tables × ℕ) ℕ). map_in m r) is)
+  where
+    map_in : Tables → Result (Tables × ℕ) ℕ → Tables
+    map_in d (Ok y) = y.0
+    map_in d (Err e) = d
+none_of (Some code) m n x is = absurd (true≢false (sym (ap is_good is)))
+  where
+    is_good : Result (Tables × ℕ) ℕ → Bool
+    is_good (Ok y) = true
+    is_good (Err e) = false
+
+pub step_fits : (m : Tables) (c : Command) (cap : ℕ) (new : Tables) (n : ℕ) → step m c cap ≡ Ok (new, n) → body_len new ≤ cap
+step_fits m c cap new n is =
+    let none = none_of (least (faults m c ++ (14, nat_lt cap (body_len (after m c))) ∷ [])) (after m c) (number_of m c) (new, n) is in
+    let short : nat_lt cap (body_len (after m c)) ≡ false = least_last (faults m c) 14 (nat_lt cap (body_len (after m c))) none.0 in
+    let le : body_len (after m c) ≤ cap = grind (arith, nat_tests, short) in
+    subst (λ (t : Tables). body_len t ≤ cap) none.1 le
+
+module _ {D : Type 0} (may_leave : D → List ℕ → Type 0) (p : Inside D) (framed : IsFramed p) where
+  abbrev cap : ℕ
+  cap = cap_of p.geometry
+
+  abbrev q : Parts
+  q = parts_in p
+
+  abbrev g : ℕ
+  g = generation_of p.slots
+
+  pub order : IsInOrder q
+  order = in_order p.geometry p.places framed.allowed framed.laid_out (slot_of p.slots)
+
+  pub live_is : live_of p.slots ≡ q.live
+  live_is = (tells_parts p.geometry p.places framed.allowed framed.laid_out p.slots framed.first framed.second).live_is
+
+  pub other_is : other_of p.slots ≡ q.other
+  other_is = (tells_parts p.geometry p.places framed.allowed framed.laid_out p.slots framed.first framed.second).other_is
+
+  pub behind : (second_of p.slots).base + (second_of p.slots).length ≤ q.other_journal.base
+  behind = behind_slots p.geometry p.places framed.allowed framed.laid_out p.slots (slot_of p.slots) framed.second
+
+  -- a file that stands at the parts stands
+  stands_here : (map : Tables) (file : List ℕ) → HasGeometry p.geometry p.places file → StandsAt cap q map g file → Stands cap map g file
+  stands_here map file has st = record { geometry = p.geometry; places = p.places; has = has; cap_is = refl; slot = slot_of p.slots; which = framed.which; at = st }
+
+  stands_there : (map : Tables) (file : List ℕ) → HasGeometry p.geometry p.places file → StandsAt cap (turned q) map (g + 1) file → Stands cap map (g + 1) file
+  stands_there map file has st = record {
+    geometry = p.geometry;
+    places = p.places;
+    has = has;
+    cap_is = refl;
+    slot = other_slot (slot_of p.slots);
+    which = flip_which (slot_of p.slots);
+    at = subst (λ (r : Parts). StandsAt cap r map (g + 1) file) (sym (flipped p.places (slot_of p.slots))) st;
+  }
+
+  kept_header : (old new : List ℕ) → KeepsHeader old new → HasGeometry p.geometry p.places old → HasGeometry p.geometry p.places new
+  kept_header old new keeps has = geometry_kept p.geometry p.places framed.allowed framed.laid_out old new keeps has
+
+  pub is_kept : (p.must_reopen ≡ false → IsReady may_leave p) → IsKept may_leave (state_of p)
+  is_kept ready go file left = stands_here p.map.tables file ((ready go).geometry file left) ((ready go).stands file left)
+
+  -- as a contract sees it
+  pub kept_view : (v : State D) → state_of p ≡ v → (p.must_reopen ≡ false → IsReady may_leave p) → IsKept may_leave v
+  kept_view v is ready = subst (λ (w : State D). IsKept may_leave w) is (is_kept ready)
+
+  -- a call that leaves the disk alone
+  pub no_moment : (moment : D → ℕ) (left_since : D → ℕ → List ℕ → Type 0) (v : State D) → state_of p ≡ v → (p.must_reopen ≡ false → IsReady may_leave p)
+      → ((file : List ℕ) → left_since v.disk (moment v.disk) file → may_leave v.disk file) → v.must_reopen ≡ false → LeavesOnly moment left_since v.disk v.disk (StandsFor v.cap v.map.tables)
+  no_moment moment left_since v is ready only go = started moment left_since v.disk (StandsFor v.cap v.map.tables) (λ file left. (v.generation, kept_view v is ready go file (only file left)))
+
+  pub no_outcome : (moment : D → ℕ) (left_since : D → ℕ → List ℕ → Type 0) (v : State D) (line : List ℕ) → state_of p ≡ v → (p.must_reopen ≡ false → IsReady may_leave p)
+      → ((file : List ℕ) → left_since v.disk (moment v.disk) file → may_leave v.disk file) → v.must_reopen ≡ false → LeavesOnly moment left_since v.disk v.disk (IsOutcome v.cap v.map.tables line)
+  no_outcome moment left_since v line is ready only go = weaker moment left_since v.disk v.disk (StandsFor v.cap v.map.tables) (IsOutcome v.cap v.map.tables line) (no_moment moment left_since v is ready only go) (λ file st. inl st)
+
+  -- the map's body fits the other slot
+  pub body_fits : (bytes : List ℕ) → bytes ≡ body p.map.tables → WellFormed p.map.tables → 13 + length bytes ≤ (other_of p.slots).length
+  body_fits bytes is formed =
+      let size : length bytes ≡ body_len p.map.tables = ap length is ∙ body_size p.map.tables formed in
+      let len : (other_of p.slots).length ≡ p.geometry.slot = ap (λ (a : Area). a.length) other_is ∙ other_length p.geometry p.places framed.allowed framed.laid_out (slot_of p.slots) in
+      omega (arith, size, len, framed.fits, framed.allowed.slot_low)
+
+  module _ (ready : IsReady may_leave p) where
+    -- during a change of the live slot
+    pub turn_moments : (moment : D → ℕ) (left_since : D → ℕ → List ℕ → Type 0) (new : D) (bytes : List ℕ) → bytes ≡ body p.map.tables → WellFormed p.map.tables
+        → LeavesOnly moment left_since p.disk new (From (may_leave p.disk) (MayTurn cap g q bytes)) → LeavesOnly moment left_since p.disk new (StandsFor cap p.map.tables)
+    turn_moments moment left_since new bytes is formed leaves = weaker moment left_since p.disk new (From (may_leave p.disk) (MayTurn cap g q bytes)) (StandsFor cap p.map.tables) leaves
+        (λ file from.
+        let has = kept_header from.0 file from.2.header (ready.geometry from.0 from.1) in
+        ⊎_elim (λ here. (g, stands_here p.map.tables file has here)) (λ there. (g + 1, stands_there p.map.tables file has there))
+        (from.2.stands p.map.tables formed (sym is) (ready.stands from.0 from.1)))
+
+    -- and after it
+    pub sound_turned : (new : D) (s : Slots) (j : journal.State) (bytes : List ℕ) → bytes ≡ body p.map.tables → WellFormed p.map.tables
+        → Follows (Turns cap g q bytes) (may_leave p.disk) (may_leave new) → Each (may_leave new) (HasSomeSlots s)
+        → (first_of s ≡ first_of p.slots) × (second_of s ≡ second_of p.slots) → slot_of s ≡ other_slot (slot_of p.slots) → generation_of s ≡ g + 1
+        → j ≡ journal.opened q.other_journal [] → journal.IsReadyIn j (may_leave new)
+        → IsSound may_leave (record p { disk = new; slots = s; journal = j })
+    sound_turned new s j bytes is formed turns slots areas slot_is generation_is journal_is ends =
+        let parts : parts_of p.places (slot_of s) ≡ turned q = ap (parts_of p.places) slot_is ∙ flipped p.places (slot_of p.slots) in
+        let area : j.area ≡ (parts_of p.places (slot_of s)).journal = ap (λ (k : journal.State). k.area) journal_is ∙ sym (ap (λ (r : Parts). r.journal) parts) in
+        record {
+          framed = record {
+            allowed = framed.allowed;
+            laid_out = framed.laid_out;
+            first = areas.0 ∙ framed.first;
+            second = areas.1 ∙ framed.second;
+            which = omega (arith, slot_is, flip_which (slot_of p.slots));
+            journal = area;
+            fits = framed.fits;
+          };
+          ready = λ _. record {
+            journal = ap (λ (k : journal.State). k.must_reopen) journal_is;
+            geometry = λ file left. let from = turns file left in kept_header from.0 file from.2.header (ready.geometry from.0 from.1);
+            stands = λ file left.
+                let from = turns file left in
+                subst (λ (r : Parts). StandsAt cap r p.map.tables (generation_of s) file) (sym parts)
+                (subst (λ (k : ℕ). StandsAt cap (turned q) p.map.tables k file) (sym generation_is) (from.2.stands p.map.tables formed (sym is) (ready.stands from.0 from.1)));
+            slots = slots;
+            ends = ends (ap (λ (k : journal.State). k.must_reopen) journal_is);
+          };
+        }
+
+    -- during an append
+    pub append_moments : (moment : D → ℕ) (left_since : D → ℕ → List ℕ → Type 0) (new : D) (line : List ℕ) (next : Tables) → LeadsTo cap p.map.tables line next
+        → LeavesOnly moment left_since p.disk new (From (may_leave p.disk) (MayAppend p.journal.area line)) → LeavesOnly moment left_since p.disk new (IsOutcome cap p.map.tables line)
+    append_moments moment left_since new line next leads leaves = weaker moment left_since p.disk new (From (may_leave p.disk) (MayAppend p.journal.area line)) (IsOutcome cap p.map.tables line) leaves
+        (λ file from.
+        let has = kept_header from.0 file (append_header cap g q order p.journal.area framed.journal line from.0 file from.2.keeps) (ready.geometry from.0 from.1) in
+        ⊎_elim (λ same. inl (g, stands_here p.map.tables file has same)) (λ more. inr (next, leads, (g, stands_here next file has more)))
+        (may_append cap g q order p.journal.area framed.journal line p.map.tables next from.0 file leads from.2 (ready.stands from.0 from.1)))
+
+    -- and after it
+    pub sound_recorded : (new : D) (j : journal.State) (m : MapView) (line : List ℕ) (next : Tables) → LeadsTo cap p.map.tables line next → m.tables ≡ next → body_len next ≤ cap
+        → Follows (Appends p.journal.area line) (may_leave p.disk) (may_leave new) → j ≡ record p.journal { next = p.journal.next + 5 + length line; must_reopen = false } → journal.IsReadyIn j (may_leave new)
+        → IsSound may_leave (record p { disk = new; journal = j; map = m })
+    sound_recorded new j m line next leads map_is short appends journal_is ends =
+        let area : j.area ≡ p.journal.area = ap (λ (k : journal.State). k.area) journal_is in
+        let go : j.must_reopen ≡ false = ap (λ (k : journal.State). k.must_reopen) journal_is in
+        record {
+          framed = record {
+            allowed = framed.allowed;
+            laid_out = framed.laid_out;
+            first = framed.first;
+            second = framed.second;
+            which = framed.which;
+            journal = area ∙ framed.journal;
+            fits = subst (λ (t : Tables). body_len t ≤ cap) (sym map_is) short;
+          };
+          ready = λ _. record {
+            journal = go;
+            geometry = λ file left.
+                let from = appends file left in
+                kept_header from.0 file (append_header cap g q order p.journal.area framed.journal line from.0 file from.2.keeps) (ready.geometry from.0 from.1);
+            stands = λ file left.
+                let from = appends file left in
+                subst (λ (t : Tables). StandsAt cap q t g file) (sym map_is)
+                (appended cap g q order p.journal.area framed.journal line p.map.tables next from.0 file leads from.2 (ready.stands from.0 from.1));
+            slots = λ file left.
+                let from = appends file left in
+                let has = ready.slots from.0 from.1 in (
+                  has.0,
+                  slots_kept p.slots q.journal.base q.journal.length from.0 file (subst (λ (a : Area). KeepsOutside a.base a.length from.0 file) framed.journal from.2.keeps)
+                      (subst (λ (a : Area). areas.IsApart a q.journal.base q.journal.length) (sym live_is) (inl order.live_first))
+                      (subst (λ (a : Area). areas.IsApart a q.journal.base q.journal.length) (sym other_is) (inl order.other_first))
+                      (subst (λ (a : Area). 0 < a.length) (sym other_is) (omega (arith, order.other_some))) has.0 has.1,
+                );
+            ends = ends go;
+          };
+        }
+
+-- a call that leaves the disk alone, as a contract sees it
+module _ {D : Type 0} (moment : D → ℕ) (left_since : D → ℕ → List ℕ → Type 0) (may_leave : D → List ℕ → Type 0) (v : State D) (kept : IsKept may_leave v)
+    (only : (file : List ℕ) → left_since v.disk (moment v.disk) file → may_leave v.disk file) where
+  pub still_moment : v.must_reopen ≡ false → LeavesOnly moment left_since v.disk v.disk (StandsFor v.cap v.map.tables)
+  still_moment go = started moment left_since v.disk (StandsFor v.cap v.map.tables) (λ file left. (v.generation, kept go file (only file left)))
+
+  pub still_outcome : (line : List ℕ) → v.must_reopen ≡ false → LeavesOnly moment left_since v.disk v.disk (IsOutcome v.cap v.map.tables line)
+  still_outcome line go = weaker moment left_since v.disk v.disk (StandsFor v.cap v.map.tables) (IsOutcome v.cap v.map.tables line) (still_moment go) (λ file st. inl st)
+
+-- a checkpoint, and then an append
+pub both_moments : {D : Type 0} (moment : D → ℕ) (left_since : D → ℕ → List ℕ → Type 0) (cap : ℕ) (old mid : Tables) (mid_cap : ℕ) (line : List ℕ) (d0 d1 d2 : D) → mid ≡ old → mid_cap ≡ cap
+    → LeavesOnly moment left_since d0 d1 (StandsFor cap old) → LeavesOnly moment left_since d1 d2 (IsOutcome mid_cap mid line) → LeavesOnly moment left_since d0 d2 (IsOutcome cap old line)
+both_moments moment left_since cap old mid mid_cap line d0 d1 d2 map_is cap_is first second =
+    and_then moment left_since d0 d1 d2 (IsOutcome cap old line)
+    (weaker moment left_since d0 d1 (StandsFor cap old) (IsOutcome cap old line) first (λ file st. inl st))
+    (subst (λ (k : ℕ). LeavesOnly moment left_since d1 d2 (IsOutcome k old line)) cap_is (subst (λ (t : Tables). LeavesOnly moment left_since d1 d2 (IsOutcome mid_cap t line)) map_is second))
+
+pub room_moments : {D : Type 0} (moment : D → ℕ) (left_since : D → ℕ → List ℕ → Type 0) (cap : ℕ) (old mid : Tables) (line : List ℕ) (d0 d1 : D) → mid ≡ old
+    → LeavesOnly moment left_since d0 d1 (StandsFor cap mid) → LeavesOnly moment left_since d0 d1 (IsOutcome cap old line)
+room_moments moment left_since cap old mid line d0 d1 map_is first =
+    weaker moment left_since d0 d1 (StandsFor cap mid) (IsOutcome cap old line) first (λ file st. inl (subst (λ (t : Tables). StandsFor cap t file) map_is st))

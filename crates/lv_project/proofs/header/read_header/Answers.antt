@@ -1,0 +1,21 @@
+use Rattle.std.proofs.Common.{rules, ℕ, List, subst}
+use Rattle.lv_disk.specs.Files.{HasAt}
+use Rattle.lv_disk.proofs.Bytes.{has_same}
+use Rattle.lv_project.specs.Places.{header_bytes}
+use Rattle.lv_project.proofs.header.read_header.Goals as goal
+
+pub returns-in-None-clause-refused : goal.returns-in-None-clause-refused
+returns-in-None-clause-refused g c file read slot journal slot_fits journal_fits has =
+    c.in-None.ensures.none slot journal slot_fits journal_fits
+    (has_same 0 c.read.new.into (header_bytes slot journal) file (search rules) (c.in_ok-read.ensures.told file (c.in_ok-len.ensures.still file read)) has)
+
+pub returns-in-Some-2-clause-refused : goal.returns-in-Some-2-clause-refused
+returns-in-Some-2-clause-refused g c file read =
+    let geometry = c.in-Some-2.field-0 in (
+      geometry.slot,
+      geometry.journal,
+      c.in-Some-2.ensures.small.0,
+      c.in-Some-2.ensures.small.1,
+      subst (λ (bytes : List ℕ). HasAt 0 bytes file) c.in-Some-2.ensures.some (c.in_ok-read.ensures.told file (c.in_ok-len.ensures.still file read)),
+      search rules,
+    )

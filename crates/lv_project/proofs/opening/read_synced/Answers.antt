@@ -1,0 +1,33 @@
+use Rattle.std.proofs.Common.{◌≡◌, ◌∙◌, ℕ, ap, subst}
+use Rattle.lv_checkpoint.specs.Handles.{generation_of, slot_of}
+use Rattle.lv_project.specs.Opening.{RefusesLines}
+use Rattle.lv_project.specs.Places.{cap_of, parts_of}
+use Rattle.lv_project.specs.declared.places.Parts.{Parts}
+use Rattle.lv_project.proofs.Openings.{lines_later, of_lines, of_slots, slots_later}
+use Rattle.lv_project.proofs.opening.read_synced.Goals as goal
+
+pub returns-in-Err-read_slots-clause-refused : goal.returns-in-Err-read_slots-clause-refused
+returns-in-Err-read_slots-clause-refused g c =
+    let reads = g.D.Disk.reads c.args.disk.now in
+    let later = g.D.Disk.reads c.read_header.new.disk in
+    let geometry = c.in-Ok.geometry in
+    let places = c.places-places.result in
+    of_slots reads geometry places (λ file read. record { allowed = c.in-Ok.ensures.allowed; header = c.in-Ok.ensures.header file read; laid_out = c.places-places.ensures.laid_out })
+    c.in-Err-read_slots.error (slots_later reads geometry places later c.in-Ok.ensures.reads.still c.in-Err-read_slots.error c.in-Err-read_slots.ensures.refused)
+
+pub returns-in-Err-read_lines-clause-refused : goal.returns-in-Err-read_lines-clause-refused
+returns-in-Err-read_lines-clause-refused g c =
+    let reads = g.D.Disk.reads c.args.disk.now in
+    let later = g.D.Disk.reads c.read_slots.new.disk in
+    let geometry = c.in-Ok.geometry in
+    let places = c.places-places.result in
+    let r = c.in-Ok-read_slots.found in
+    let error = c.in-Err-read_lines.error in
+    let parts : c.parts-parts.result ≡ parts_of places (slot_of r.0) = c.parts-parts.ensures ∙ ap (parts_of places) c.slot.ensures in
+    of_lines reads geometry places (λ file read. record { allowed = c.in-Ok.ensures.allowed; header = c.in-Ok.ensures.header file read; laid_out = c.places-places.ensures.laid_out })
+    (slot_of r.0) (generation_of r.0) r.1.tables c.in-Ok-read_slots.ensures.areas.2 (λ file read. c.in-Ok-read_slots.ensures.holds file (c.in-Ok.ensures.reads.still file read))
+    error
+    (lines_later reads (cap_of geometry) (parts_of places (slot_of r.0)) r.1.tables later
+    (λ file read. c.in-Ok-read_slots.ensures.reads.still file (c.in-Ok.ensures.reads.still file read)) error
+    (subst (λ (q : Parts). RefusesLines later (cap_of geometry) q r.1.tables error) parts
+    (subst (λ (n : ℕ). RefusesLines later n c.parts-parts.result r.1.tables error) c.cap.ensures c.in-Err-read_lines.ensures.refused)))

@@ -1,0 +1,119 @@
+use Rattle.std.proofs.Common.{◌≡◌, ◌∙◌, ℕ, false, inl, inr, length, Ok, Err, ap, sym, subst, refl}
+use Rattle.lv_disk.specs.Stops.{LeavesOnly}
+use Rattle.lv_maptables.specs.Tables.{Tables}
+use Rattle.lv_commands.specs.Readiness as readiness
+use Rattle.lv_commands.specs.LineSteps.{Accepts, LeadsTo}
+use Rattle.lv_commands.specs.Step.{after, number_of, step}
+use Rattle.lv_project.specs.Fields.{state_of}
+use Rattle.lv_project.specs.Outcomes.{EndsApply}
+use Rattle.lv_project.specs.Places.{cap_of}
+use Rattle.lv_project.specs.Stands.{IsOutcome, Stands, StandsFor}
+use Rattle.lv_project.proofs.Sound.{both_moments, is_kept, kept_view, no_moment, no_outcome, room_moments}
+use Rattle.lv_project.proofs.Endings.{ends_from, refused_ends, room_refused}
+use Rattle.lv_journal.specs.State.{IsAbove}
+use Rattle.lv_project.specs.declared.error.ProjectError.TheVariants.{GenerationsSpent}
+use Rattle.lv_project.proofs.Spent.{device_or, err_ok, error_same, not_refused}
+use Rattle.lv_project.proofs.project.Project.apply.Goals as goal
+
+pub returns-in-Err-clause-any_moment : goal.returns-in-Err-clause-any_moment
+returns-in-Err-clause-any_moment g c =
+    no_outcome g.D.Disk.may_leave c.self.inside c.self.invariant.framed g.D.Disk.moment g.D.Disk.left_since c.args.self.now c.args.line.now c.self.view_is c.self.invariant.ready (λ file left. g.met.D.Disk.only_now c.args.self.now.disk file left)
+
+pub returns-in-Err-clause-kept : goal.returns-in-Err-clause-kept
+returns-in-Err-clause-kept g c = kept_view g.D.Disk.may_leave c.self.inside c.self.invariant.framed c.args.self.now c.self.view_is c.self.invariant.ready
+
+pub returns-in-Err-ready-clause-kept : goal.returns-in-Err-ready-clause-kept
+returns-in-Err-ready-clause-kept g c go file left =
+    subst (λ (t : Tables). Stands (cap_of c.self.inside.geometry) t c.self.inside.slots.generation file) (sym c.ready.ensures.tables)
+    (is_kept g.D.Disk.may_leave c.self.inside c.self.invariant.framed c.self.invariant.ready go file left)
+
+pub returns-in-Err-ready-clause-any_moment : goal.returns-in-Err-ready-clause-any_moment
+returns-in-Err-ready-clause-any_moment g c =
+    subst (λ (v : _). v.must_reopen ≡ false → LeavesOnly g.D.Disk.moment g.D.Disk.left_since v.disk c.self.inside.disk (IsOutcome v.cap v.map.tables c.args.line.now)) c.self.view_is
+    (no_outcome g.D.Disk.may_leave c.self.inside c.self.invariant.framed g.D.Disk.moment g.D.Disk.left_since (state_of c.self.inside) c.args.line.now refl c.self.invariant.ready (λ file left. g.met.D.Disk.only_now c.self.inside.disk file left))
+
+pub returns-in-Err-make_room-clause-any_moment : goal.returns-in-Err-make_room-clause-any_moment
+returns-in-Err-make_room-clause-any_moment g c =
+    subst (λ (v : _). v.must_reopen ≡ false → LeavesOnly g.D.Disk.moment g.D.Disk.left_since v.disk c.make_room.new.self.disk (IsOutcome v.cap v.map.tables c.args.line.now)) c.self.view_is
+    (λ go. room_moments g.D.Disk.moment g.D.Disk.left_since (cap_of c.self.inside.geometry) c.self.inside.map.tables c.ready.new.map.tables c.args.line.now c.self.inside.disk c.make_room.new.self.disk c.ready.ensures.tables c.make_room.ensures.any_moment)
+
+pub returns-clause-any_moment : goal.returns-clause-any_moment
+returns-clause-any_moment g c =
+    subst (λ (v : _). v.must_reopen ≡ false → LeavesOnly g.D.Disk.moment g.D.Disk.left_since v.disk c.record.new.self.disk (IsOutcome v.cap v.map.tables c.args.line.now)) c.self.view_is
+    (λ go. both_moments g.D.Disk.moment g.D.Disk.left_since (cap_of c.self.inside.geometry) c.self.inside.map.tables c.make_room.new.self.map.tables c.make_room.new.self.cap c.args.line.now
+    c.self.inside.disk c.make_room.new.self.disk c.record.new.self.disk (ap (λ (m : _). m.tables) c.make_room.ensures.map ∙ c.ready.ensures.tables) c.make_room.ensures.cap
+    (subst (λ (t : Tables). LeavesOnly g.D.Disk.moment g.D.Disk.left_since c.self.inside.disk c.make_room.new.self.disk (StandsFor (cap_of c.self.inside.geometry) t)) c.ready.ensures.tables c.make_room.ensures.any_moment) c.record.ensures.any_moment)
+
+pub returns-clause-ends : goal.returns-clause-ends
+returns-clause-ends g c =
+    subst (λ (v : _). v.must_reopen ≡ false → EndsApply g.D.Disk.failures c.record.result v c.record.new.self c.args.line.now) c.self.view_is
+    (λ go. ends_from g.D.Disk.failures (state_of c.self.inside) c.make_room.new.self c.record.new.self c.args.line.now (ap (λ (m : _). m.tables) c.make_room.ensures.map ∙ c.ready.ensures.tables) c.make_room.ensures.cap
+    go c.in-Ok-make_room.ensures.ends.0 c.make_room.ensures.later c.record.ensures.later c.in-Ok-make_room.ensures.ends.1 c.record.result c.record.ensures.ends)
+    (sym (ap (λ (v : _). v.must_reopen) c.self.view_is) ∙ c.if-self.false)
+
+pub returns-in-Err-ready-clause-ends : goal.returns-in-Err-ready-clause-ends
+returns-in-Err-ready-clause-ends g c =
+    let by = subst (λ (v : _). readiness.RefusesStep c.in-Err-ready.error (step v.map.tables c.in-Ok.command v.cap)) c.self.view_is
+    (subst (λ (k : ℕ). readiness.RefusesStep c.in-Err-ready.error (step c.self.inside.map.tables c.in-Ok.command k)) c.cap.ensures c.in-Err-ready.ensures.refused) in (
+      c.ready.ensures.tables ∙ ap (λ (v : _). v.map.tables) c.self.view_is,
+      refused_ends g.D.Disk.failures c.args.self.now _ c.args.line.now c.in-Ok.command c.in-Err-ready.error c.refusal_of-in-Err-ready.result c.refusal_of-in-Err-ready.ensures by
+          c.in-Ok.ensures.ok.1 c.in-Ok.ensures.ok.0 c.in-Ok.ensures.fault (sym (ap (λ (v : _). v.must_reopen) c.self.view_is) ∙ c.if-self.false) c.if-self.false,
+    )
+
+pub returns-in-Err-clause-spent : goal.returns-in-Err-clause-spent
+returns-in-Err-clause-spent g c go above last new leads =
+    absurd (err_ok c.in-Err.error leads.1.command (Err c.in-Err.error) refl (c.in-Err.ensures.all leads.1.command leads.1.range leads.1.line_is))
+
+pub returns-in-Err-ready-clause-spent : goal.returns-in-Err-ready-clause-spent
+returns-in-Err-ready-clause-spent g c go above last new leads =
+    let by = subst (λ (v : _). readiness.RefusesStep c.in-Err-ready.error (step v.map.tables c.in-Ok.command v.cap)) c.self.view_is
+    (subst (λ (k : ℕ). readiness.RefusesStep c.in-Err-ready.error (step c.self.inside.map.tables c.in-Ok.command k)) c.cap.ensures c.in-Err-ready.ensures.refused) in
+    not_refused c.args.self.now.map.tables c.args.self.now.cap c.args.line.now c.in-Ok.command c.in-Err-ready.error c.refusal_of-in-Err-ready.result c.refusal_of-in-Err-ready.ensures by
+    c.in-Ok.ensures.ok.0 c.in-Ok.ensures.ok.1 new leads
+
+pub returns-in-Err-make_room-clause-spent : goal.returns-in-Err-make_room-clause-spent
+returns-in-Err-make_room-clause-spent g c go above last new leads =
+    inl (error_same c.in-Err-make_room.error GenerationsSpent (c.in-Err-make_room.ensures.spent.1
+    (subst (λ (v : _). IsAbove v.room (length c.args.line.now)) (sym c.self.view_is) above, ap (λ (v : _). v.generation) c.self.view_is ∙ last)))
+
+pub returns-clause-spent : goal.returns-clause-spent
+returns-clause-spent g c go above last new leads =
+    absurd (err_ok GenerationsSpent c.in-Ok-make_room.field-0 (Ok c.in-Ok-make_room.field-0)
+    (c.in-Ok-make_room.ensures.spent.1 (subst (λ (v : _). IsAbove v.room (length c.args.line.now)) (sym c.self.view_is) above, ap (λ (v : _). v.generation) c.self.view_is ∙ last)) refl)
+
+pub returns-in-Err-clause-refused_moment : goal.returns-in-Err-clause-refused_moment
+returns-in-Err-clause-refused_moment g c go =
+    inr (no_moment g.D.Disk.may_leave c.self.inside c.self.invariant.framed g.D.Disk.moment g.D.Disk.left_since c.args.self.now c.self.view_is c.self.invariant.ready (λ file left. g.met.D.Disk.only_now c.args.self.now.disk file left) go)
+
+pub returns-in-Err-ready-clause-refused_moment : goal.returns-in-Err-ready-clause-refused_moment
+returns-in-Err-ready-clause-refused_moment g c go =
+    inr (subst (λ (v : _). v.must_reopen ≡ false → LeavesOnly g.D.Disk.moment g.D.Disk.left_since v.disk c.self.inside.disk (StandsFor v.cap v.map.tables)) c.self.view_is
+    (no_moment g.D.Disk.may_leave c.self.inside c.self.invariant.framed g.D.Disk.moment g.D.Disk.left_since (state_of c.self.inside) refl c.self.invariant.ready (λ file left. g.met.D.Disk.only_now c.self.inside.disk file left)) go)
+
+pub returns-in-Err-make_room-clause-refused_moment : goal.returns-in-Err-make_room-clause-refused_moment
+returns-in-Err-make_room-clause-refused_moment g c go =
+    inr (subst (λ (v : _). LeavesOnly g.D.Disk.moment g.D.Disk.left_since v.disk c.make_room.new.self.disk (StandsFor v.cap v.map.tables)) c.self.view_is
+    (subst (λ (t : Tables). LeavesOnly g.D.Disk.moment g.D.Disk.left_since c.self.inside.disk c.make_room.new.self.disk (StandsFor (cap_of c.self.inside.geometry) t)) c.ready.ensures.tables c.make_room.ensures.any_moment))
+
+pub returns-clause-refused_moment : goal.returns-clause-refused_moment
+returns-clause-refused_moment g c =
+    device_or (c.args.self.now.must_reopen ≡ false) (LeavesOnly g.D.Disk.moment g.D.Disk.left_since c.args.self.now.disk c.record.new.self.disk (StandsFor c.args.self.now.cap c.args.self.now.map.tables)) c.record.result c.record.ensures.device
+
+pub returns-in-Err-make_room-clause-ends : goal.returns-in-Err-make_room-clause-ends
+returns-in-Err-make_room-clause-ends g c =
+    let m = c.self.inside.map.tables in
+    let n = cap_of c.self.inside.geometry in
+    let accepts : Accepts n m c.args.line.now (after m c.in-Ok.command) (number_of m c.in-Ok.command) = record {
+      command = c.in-Ok.command;
+      range = c.in-Ok.ensures.ok.1;
+      line_is = c.in-Ok.ensures.ok.0;
+      stepped = subst (λ (k : ℕ). step m c.in-Ok.command k ≡ Ok (after m c.in-Ok.command, number_of m c.in-Ok.command)) c.cap.ensures c.in-Ok-ready.ensures.accepted;
+    } in
+    let leads : (next : Tables) × LeadsTo n m c.args.line.now next = (after m c.in-Ok.command, (number_of m c.in-Ok.command, accepts)) in
+    subst (λ (v : _). v.must_reopen ≡ false → EndsApply g.D.Disk.failures (Err c.in-Err-make_room.error) v c.make_room.new.self c.args.line.now) c.self.view_is
+    (λ go. (
+      ap (λ (w : _). w.tables) c.make_room.ensures.map ∙ c.ready.ensures.tables,
+      room_refused g.D.Disk.failures (state_of c.self.inside) (record (state_of c.self.inside) { map = c.ready.new.map }) c.make_room.new.self c.args.line.now go refl refl refl refl leads
+          c.in-Err-make_room.error c.in-Err-make_room.ensures.ends.0 c.in-Err-make_room.ensures.ends.1,
+    ))
+    (sym (ap (λ (v : _). v.must_reopen) c.self.view_is) ∙ c.if-self.false)

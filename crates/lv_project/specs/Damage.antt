@@ -1,0 +1,68 @@
+-- Why the bytes of a file are no project's, in the order in which `open` looks.
+use Rattle.std.specs.Prelude.{◌≡◌, ◌<◌, ◌≤◌, ◌⊎◌, ◌+◌, ◌^◌, ℕ, List, ◌∷◌, ◌++◌, length}
+use Rattle.lv_disk.specs.Files.{HasAt}
+use Rattle.lv_journal.specs.Records.{IsJournal, records_bytes}
+use Rattle.lv_journal.specs.Damage as journal
+use Rattle.lv_checkpoint.specs.Bodies.{IsLive}
+use Rattle.lv_checkpoint.specs.Damage as slots
+use Rattle.lv_maptables.specs.Tables.{Tables}
+use Rattle.lv_maptables.specs.WellFormed.{WellFormed}
+use Rattle.lv_maptables.specs.Body.{body, NoMapHas}
+use Rattle.lv_project.specs.Places.{IsAllowed, header_bytes, parts_of, cap_of}
+use Rattle.lv_project.specs.Stands.{HasGeometry}
+use Rattle.lv_commands.specs.LineSteps.{Leads, LeadsTo}
+use Rattle.lv_project.specs.declared.geometry.Geometry.{Geometry}
+use Rattle.lv_project.specs.declared.places.Places.{Places}
+use Rattle.lv_project.specs.declared.places.Parts.{Parts}
+
+-- no project file: no lengths make its first bytes a header
+abbrev pub IsForeign : List ℕ → Type 0
+IsForeign file = (slot journal : ℕ) → slot < 2 ^ 32 → journal < 2 ^ 32 → ¬ HasAt 0 (header_bytes slot journal) file
+
+-- its header has lengths outside the limits
+abbrev pub HasBadGeometry : List ℕ → Type 0
+HasBadGeometry file = (slot : ℕ) × (journal : ℕ) × (slot < 2 ^ 32) × (journal < 2 ^ 32)
+    × HasAt 0 (header_bytes slot journal) file × (¬ IsAllowed slot journal)
+
+-- no slot is open
+abbrev pub IsBlank : List ℕ → Type 0
+IsBlank file = (g : Geometry) × (p : Places) × HasGeometry g p file × slots.AreBlank p.a p.b file
+
+-- a gate's place at which the live journal is damaged, or at which the other journal's first gate isn't there
+abbrev pub IsGateFault : Parts → ℕ → List ℕ → Type 0
+IsGateFault parts place file = journal.IsDamagedAt parts.journal place file
+    ⊎ ((place ≡ parts.other_journal.base) × (length file ≤ parts.other_journal.base))
+
+-- the least such place
+pub record IsLeastGateFault (parts : Parts) (place : ℕ) (file : List ℕ) : Type 0 where
+  pub fault : IsGateFault parts place file
+  pub least : (other : ℕ) → IsGateFault parts other file → place ≤ other
+
+-- the gate of the first payload that is no accepted command stands here
+pub record IsBadLine (cap : ℕ) (parts : Parts) (base : Tables) (place : ℕ) (file : List ℕ) : Type 0 where
+  pub front : List (List ℕ)
+  pub line : List ℕ
+  pub back : List (List ℕ)
+  pub journal : IsJournal parts.journal (front ++ line ∷ back) file
+  pub other : parts.other_journal.base < length file
+  pub map : Tables
+  pub leads : Leads cap base front map
+  pub refused : (new : Tables) → ¬ LeadsTo cap map line new
+  pub there : place ≡ parts.journal.base + length (records_bytes front)
+
+-- the live body is no map's; or it is, and a gate of its journal or a payload is at fault
+abbrev pub IsBadChain : ℕ → Parts → List ℕ → ℕ → List ℕ → Type 0
+IsBadChain cap parts bytes place file = (NoMapHas bytes × (place ≡ parts.live.base))
+    ⊎ ((base : Tables) × WellFormed base × (bytes ≡ body base)
+    × (IsLeastGateFault parts place file ⊎ IsBadLine cap parts base place file))
+
+-- a slot is damaged; or one is live, and what hangs on it is at fault
+abbrev pub IsBadPart : Geometry → Places → ℕ → List ℕ → Type 0
+IsBadPart g p place file = slots.IsDamagedAt p.a p.b place file
+    ⊎ ((slot : ℕ) × (generation : ℕ) × (bytes : List ℕ) × (slot ≤ 1)
+    × IsLive (parts_of p slot).live (parts_of p slot).other generation bytes file
+    × IsBadChain (cap_of g) (parts_of p slot) bytes place file)
+
+-- the bytes are a project's by their header, and damaged at this place
+abbrev pub IsDamagedAt : ℕ → List ℕ → Type 0
+IsDamagedAt place file = (g : Geometry) × (p : Places) × HasGeometry g p file × IsBadPart g p place file

@@ -1,0 +1,50 @@
+-- What the fields of a project tell of, and what they keep.
+use Rattle.std.specs.Prelude.{◌≡◌, ◌≤◌, ℕ, false, List}
+use Rattle.lv_disk.specs.Stops.{Each}
+use Rattle.lv_journal.specs.Records.{EndsAt}
+use Rattle.lv_journal.specs.State.{room_of}
+use Rattle.lv_checkpoint.specs.Handles.{first_of, second_of, slot_of, generation_of, HasSomeSlots}
+use Rattle.lv_maptables.specs.Tables.{body_len}
+use Rattle.lv_project.specs.Places.{IsAllowed, IsLaidOut, cap_of, parts_of}
+use Rattle.lv_project.specs.Stands.{HasGeometry, StandsAt}
+use Rattle.lv_project.specs.States.{State}
+use Rattle.lv_project.specs.declared.places.Parts.{Parts}
+use Rattle.lv_project.specs.declared.project.Project.TheInside.{Inside}
+
+-- what a contract sees of the fields
+abbrev pub state_of : {D : Type 0} → Inside D → State D
+state_of p = record {
+  disk = p.disk;
+  map = p.map;
+  generation = generation_of p.slots;
+  must_reopen = p.must_reopen;
+  cap = cap_of p.geometry;
+  room = room_of p.journal;
+}
+
+-- the live slot and the other one, each with its journal
+abbrev pub parts_in : {D : Type 0} → Inside D → Parts
+parts_in p = parts_of p.places (slot_of p.slots)
+
+-- what holds of each project: its parts stand where its geometry says, and its map's body fits
+pub record IsFramed {D : Type 0} (p : Inside D) : Type 0 where
+  pub allowed : IsAllowed p.geometry.slot p.geometry.journal
+  pub laid_out : IsLaidOut p.geometry p.places
+  pub first : first_of p.slots ≡ p.places.a
+  pub second : second_of p.slots ≡ p.places.b
+  pub which : slot_of p.slots ≤ 1
+  pub journal : p.journal.area ≡ (parts_in p).journal
+  pub fits : body_len p.map.tables ≤ cap_of p.geometry
+
+-- what holds of a project that needn't be opened again: each image of its disk stands for its map
+pub record IsReady {D : Type 0} (may_leave : D → List ℕ → Type 0) (p : Inside D) : Type 0 where
+  pub journal : p.journal.must_reopen ≡ false
+  pub geometry : Each (may_leave p.disk) (HasGeometry p.geometry p.places)
+  pub stands : Each (may_leave p.disk) (StandsAt (cap_of p.geometry) (parts_in p) p.map.tables (generation_of p.slots))
+  pub slots : Each (may_leave p.disk) (HasSomeSlots p.slots)
+  pub ends : Each (may_leave p.disk) (EndsAt p.journal.area p.journal.next)
+
+-- what each project keeps
+pub record IsSound {D : Type 0} (may_leave : D → List ℕ → Type 0) (p : Inside D) : Type 0 where
+  pub framed : IsFramed p
+  pub ready : p.must_reopen ≡ false → IsReady may_leave p

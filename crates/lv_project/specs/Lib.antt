@@ -1,0 +1,11 @@
+pub mod Places
+pub mod Stands
+pub mod Damage
+pub mod States
+pub mod Outcomes
+pub mod Refusals
+pub mod Turns
+pub mod Fields
+pub mod Calls
+pub mod Sessions
+pub mod Opening

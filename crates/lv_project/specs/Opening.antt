@@ -1,0 +1,110 @@
+-- What a file is opened as, and why it isn't.
+use Rattle.std.specs.Prelude.{◌≡◌, ◌<◌, ◌⊎◌, ◌+◌, ℕ, List, ◌∷◌, ◌++◌, length}
+use Rattle.lv_disk.specs.Stops.{Each}
+use Rattle.lv_journal.specs.State as journal
+use Rattle.lv_journal.specs.Records.{records_bytes, IsJournal}
+use Rattle.lv_checkpoint.specs.Bodies.{IsLive}
+use Rattle.lv_checkpoint.specs.Damage as damage
+use Rattle.lv_checkpoint.specs.Handles.{generation_of, slot_of, HasSomeSlots}
+use Rattle.lv_checkpoint.specs.declared.error.CheckpointError as slots
+use Rattle.lv_checkpoint.specs.declared.error.CheckpointError.TheVariants as slot
+use Rattle.lv_maptables.specs.Tables.{Tables}
+use Rattle.lv_maptables.specs.WellFormed.{WellFormed}
+use Rattle.lv_maptables.specs.declared.error.MapError.{MapError}
+use Rattle.lv_maptables.specs.declared.error.MapError.TheVariants as map
+use Rattle.lv_maptables.specs.Body.{body}
+use Rattle.lv_project.specs.Places.{cap_of, parts_of, IsAllowed}
+use Rattle.lv_project.specs.Stands.{HasGeometry, Stands, StandsAt}
+use Rattle.lv_commands.specs.LineSteps.{Leads, LeadsTo}
+use Rattle.lv_project.specs.Damage.{HasBadGeometry, IsBadLine, IsBadPart, IsBlank, IsDamagedAt, IsForeign, IsLeastGateFault}
+use Rattle.lv_project.specs.declared.opening.Opened.{Opened}
+use Rattle.lv_project.specs.declared.geometry.Geometry.{Geometry}
+use Rattle.lv_project.specs.declared.places.Places.{Places}
+use Rattle.lv_project.specs.declared.places.Parts.{Parts}
+use Rattle.lv_project.specs.declared.error.ProjectError.{ProjectError}
+use Rattle.lv_project.specs.declared.error.ProjectError.TheVariants.{Device, OutOfMemory, Damaged, Blank, NotAProject, NotEmpty, BadGeometry}
+
+-- the file stands for what was opened
+pub record IsOpened (o : Opened) (file : List ℕ) : Type 0 where
+  pub has : HasGeometry o.geometry o.places file
+  pub stands : StandsAt (cap_of o.geometry) (parts_of o.places (slot_of o.slots)) o.map.tables (generation_of o.slots) file
+  pub slots : HasSomeSlots o.slots file
+  pub journal : IsJournal (parts_of o.places (slot_of o.slots)).journal o.journal.records file
+
+-- the live slot of the parts holds this map, with this generation
+pub record HoldsMap (parts : Parts) (generation : ℕ) (base : Tables) (file : List ℕ) : Type 0 where
+  pub well_formed : WellFormed base
+  pub live : IsLive parts.live parts.other generation (body base) file
+
+-- a header is refused because the bytes have none, or one with lengths outside the limits
+abbrev pub RefusesHeader : (List ℕ → Type 0) → ProjectError → Type 0
+RefusesHeader reads Device = Unit {0}
+RefusesHeader reads NotAProject = Each reads IsForeign
+RefusesHeader reads BadGeometry = Each reads HasBadGeometry
+RefusesHeader reads _ = ⊥
+
+-- the gates are refused at the least place of a fault
+abbrev pub RefusesGates : (List ℕ → Type 0) → Parts → ProjectError → Type 0
+RefusesGates reads parts Device = Unit {0}
+RefusesGates reads parts OutOfMemory = Unit {0}
+RefusesGates reads parts (Damaged place) = Each reads (IsLeastGateFault parts place)
+RefusesGates reads parts _ = ⊥
+
+-- the lines are refused at the first that is no accepted command
+abbrev pub RefusesReplay : ℕ → Tables → journal.State → ProjectError → Type 0
+RefusesReplay cap base j OutOfMemory = Unit {0}
+RefusesReplay cap base j (Damaged place) =
+    (front : List (List ℕ)) × (line : List ℕ) × (back : List (List ℕ)) × (j.records ≡ front ++ line ∷ back)
+    × (map : Tables) × Leads cap base front map × ((new : Tables) → ¬ LeadsTo cap map line new)
+    × (place ≡ j.area.base + length (records_bytes front))
+RefusesReplay cap base j _ = ⊥
+
+-- the slots are refused: none is open, or they or the live body are at fault
+abbrev pub RefusesSlots : (List ℕ → Type 0) → Geometry → Places → ProjectError → Type 0
+RefusesSlots reads g p Device = Unit {0}
+RefusesSlots reads g p OutOfMemory = Unit {0}
+RefusesSlots reads g p Blank = Each reads (damage.AreBlank p.a p.b)
+RefusesSlots reads g p (Damaged place) = Each reads (IsBadPart g p place)
+RefusesSlots reads g p _ = ⊥
+
+-- the lines behind a map are refused: a gate of the journals or a line is at fault
+abbrev pub RefusesLines : (List ℕ → Type 0) → ℕ → Parts → Tables → ProjectError → Type 0
+RefusesLines reads cap parts base Device = Unit {0}
+RefusesLines reads cap parts base OutOfMemory = Unit {0}
+RefusesLines reads cap parts base (Damaged place) = Each reads (λ file. IsLeastGateFault parts place file ⊎ IsBadLine cap parts base place file)
+RefusesLines reads cap parts base _ = ⊥
+
+-- the file stands for this map with this generation, and for no other
+pub record StandsOnlyFor (cap : ℕ) (map : Tables) (generation : ℕ) (file : List ℕ) : Type 0 where
+  pub stands : Stands cap map generation file
+  pub only : (c : ℕ) (other : Tables) (g : ℕ) → Stands c other g file → (c ≡ cap) × (other ≡ map) × (g ≡ generation)
+
+-- why no project is made: the geometry is outside the limits, the file isn't empty, or the device failed
+abbrev pub RefusesCreate : (List ℕ → Type 0) → Geometry → ProjectError → Type 0
+RefusesCreate reads g Device = IsAllowed g.slot g.journal
+RefusesCreate reads g NotEmpty = IsAllowed g.slot g.journal × Each reads (λ file. 0 < length file)
+RefusesCreate reads g BadGeometry = ¬ IsAllowed g.slot g.journal
+RefusesCreate reads g _ = ⊥
+
+-- why a file isn't opened: exactly the first of the reasons in their order
+abbrev pub IsRefusedRead : (List ℕ → Type 0) → ProjectError → Type 0
+IsRefusedRead reads Device = Unit {0}
+IsRefusedRead reads OutOfMemory = Unit {0}
+IsRefusedRead reads NotAProject = Each reads IsForeign
+IsRefusedRead reads BadGeometry = Each reads HasBadGeometry
+IsRefusedRead reads Blank = Each reads IsBlank
+IsRefusedRead reads (Damaged place) = Each reads (IsDamagedAt place)
+IsRefusedRead reads _ = ⊥
+
+-- a refusal of the slots as a project answers it
+abbrev pub IsOfSlots : slots.CheckpointError → ProjectError → Type 0
+IsOfSlots slot.Device e = e ≡ Device
+IsOfSlots slot.OutOfMemory e = e ≡ OutOfMemory
+IsOfSlots slot.Blank e = e ≡ Blank
+IsOfSlots (slot.Damaged place) e = e ≡ Damaged place
+IsOfSlots _ e = Unit {0}
+
+-- a refusal of a live body, whose slot stands at this place
+abbrev pub IsOfBody : MapError → ℕ → ProjectError → Type 0
+IsOfBody map.OutOfMemory place e = e ≡ OutOfMemory
+IsOfBody _ place e = e ≡ Damaged place

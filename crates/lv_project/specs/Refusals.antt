@@ -1,0 +1,25 @@
+-- The numbers of a project's refusals.
+use Rattle.std.specs.Prelude.{◌≡◌, ℕ}
+use Rattle.lv_commands.specs.declared.error.CommandError.{CommandError}
+use Rattle.lv_commands.specs.declared.error.CommandError.TheVariants as command
+use Rattle.lv_commands.specs.Errors as commands
+use Rattle.lv_project.specs.declared.error.ProjectError.{ProjectError}
+use Rattle.lv_project.specs.declared.error.ProjectError.TheVariants.{Device, OutOfMemory, Reopen, GenerationsSpent, Refused, Damaged, Blank, NotAProject, NotEmpty, BadGeometry}
+
+-- the number of a refusal
+abbrev pub code_of : ProjectError → ℕ
+code_of (Refused e) = commands.code_of e
+code_of Device = 30
+code_of OutOfMemory = 31
+code_of Reopen = 32
+code_of GenerationsSpent = 33
+code_of (Damaged place) = 40
+code_of Blank = 41
+code_of NotAProject = 42
+code_of NotEmpty = 43
+code_of BadGeometry = 44
+
+-- the refusal of a command as a project answers it
+abbrev pub IsRefusalOf : ProjectError → CommandError → Type 0
+IsRefusalOf refusal command.OutOfMemory = refusal ≡ OutOfMemory
+IsRefusalOf refusal e = refusal ≡ Refused e

@@ -1,0 +1,48 @@
+-- What the bytes of a project file stand for: a map and a generation.
+use Rattle.std.specs.Prelude.{◌≡◌, ◌<◌, ◌≤◌, ◌⊎◌, ℕ, List, length}
+use Rattle.lv_disk.specs.Files.{HasAt}
+use Rattle.lv_journal.specs.Records.{IsJournal}
+use Rattle.lv_checkpoint.specs.Bodies.{IsLive}
+use Rattle.lv_maptables.specs.Tables.{Tables}
+use Rattle.lv_maptables.specs.WellFormed.{WellFormed}
+use Rattle.lv_maptables.specs.Body.{body}
+use Rattle.lv_commands.specs.LineSteps.{Leads, LeadsTo}
+use Rattle.lv_project.specs.Places.{IsAllowed, IsLaidOut, header_bytes, parts_of, cap_of}
+use Rattle.lv_project.specs.declared.geometry.Geometry.{Geometry}
+use Rattle.lv_project.specs.declared.places.Places.{Places}
+use Rattle.lv_project.specs.declared.places.Parts.{Parts}
+
+-- the parts stand for a map: the live body's, after the commands in its journal
+pub record StandsAt (cap : ℕ) (parts : Parts) (map : Tables) (generation : ℕ) (file : List ℕ) : Type 0 where
+  pub base : Tables
+  pub lines : List (List ℕ)
+  pub well_formed : WellFormed base
+  pub live : IsLive parts.live parts.other generation (body base) file
+  pub journal : IsJournal parts.journal lines file
+  pub other : parts.other_journal.base < length file
+  pub leads : Leads cap base lines map
+
+-- the file begins with the header of this geometry, whose parts stand there
+pub record HasGeometry (geometry : Geometry) (places : Places) (file : List ℕ) : Type 0 where
+  pub allowed : IsAllowed geometry.slot geometry.journal
+  pub header : HasAt 0 (header_bytes geometry.slot geometry.journal) file
+  pub laid_out : IsLaidOut geometry places
+
+-- The bytes have the form of a project file whose bodies have at most so many bytes, and stand for this map with this
+-- generation.
+pub record Stands (cap : ℕ) (map : Tables) (generation : ℕ) (file : List ℕ) : Type 0 where
+  pub geometry : Geometry
+  pub places : Places
+  pub has : HasGeometry geometry places file
+  pub cap_is : cap_of geometry ≡ cap
+  pub slot : ℕ
+  pub which : slot ≤ 1
+  pub at : StandsAt cap (parts_of places slot) map generation file
+
+-- the same with some generation
+abbrev pub StandsFor : ℕ → Tables → List ℕ → Type 0
+StandsFor cap map file = (generation : ℕ) × Stands cap map generation file
+
+-- the file is an outcome of a line: it stands for the map, or for the one that the line leads to
+abbrev pub IsOutcome : ℕ → Tables → List ℕ → List ℕ → Type 0
+IsOutcome cap map line file = StandsFor cap map file ⊎ ((new : Tables) × LeadsTo cap map line new × StandsFor cap new file)

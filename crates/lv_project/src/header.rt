@@ -1,0 +1,71 @@
+//! The first bytes of a project file.
+ghost use Rattle.std.specs.Prelude.{ℕ, ◌≡◌, ◌≤◌, ◌<◌, ◌+◌, ◌++◌, ◌^◌, length, IfOk, IfErr, IfSome, IfNone};
+ghost use Rattle.lv_disk.specs.Files.{HasAt};
+ghost use Rattle.lv_disk.specs.Stops.{Each};
+ghost use Rattle.lv_disk.specs.Stops.{CountsFaults};
+ghost use Rattle.lv_disk.specs.Reading.{OnlyReads};
+ghost use Rattle.lv_project.specs.Places.{header_bytes, IsAllowed};
+ghost use Rattle.lv_project.specs.Damage.{HasBadGeometry, IsForeign};
+ghost use Rattle.lv_project.specs.Opening.{RefusesHeader};
+
+use crate::ProjectError;
+use crate::geometry::Geometry;
+use lv_disk::Disk;
+
+// The magic, the version, and the two lengths.
+pub fn header(geometry: Geometry) -> [u8; 16]
+    ensures { result ≡ header_bytes geometry.slot geometry.journal }
+{
+    let s = geometry.slot.to_le_bytes();
+    let j = geometry.journal.to_le_bytes();
+    [
+        76, 86, 80, 74, 1, 0, 0, 0, s[0], s[1], s[2], s[3], j[0], j[1], j[2], j[3],
+    ]
+}
+
+// The lengths where a header has them.
+fn lengths_of(bytes: [u8; 16]) -> Geometry
+    ensures small { (result.slot < 2 ^ 32) × (result.journal < 2 ^ 32) }
+    ensures only { (slot : ℕ) → (journal : ℕ) → slot < 2 ^ 32 → journal < 2 ^ 32
+        → bytes ≡ header_bytes slot journal → (result.slot ≡ slot) × (result.journal ≡ journal) }
+{
+    Geometry {
+        slot: u32::from_le_bytes([bytes[8], bytes[9], bytes[10], bytes[11]]),
+        journal: u32::from_le_bytes([bytes[12], bytes[13], bytes[14], bytes[15]]),
+    }
+}
+
+// The lengths that a header has, none where the bytes are no header.
+fn lengths_in(bytes: [u8; 16]) -> Option<Geometry>
+    ensures some { IfSome result (λ g. bytes ≡ header_bytes g.slot g.journal) }
+    ensures small { IfSome result (λ g. (g.slot < 2 ^ 32) × (g.journal < 2 ^ 32)) }
+    ensures none { IfNone result ((slot : ℕ) → (journal : ℕ) → slot < 2 ^ 32 → journal < 2 ^ 32
+        → ¬ (bytes ≡ header_bytes slot journal)) }
+{
+    let geometry = lengths_of(bytes);
+    if bytes == header(geometry) {
+        Some(geometry)
+    } else {
+        None
+    }
+}
+
+// The geometry that the file's header tells.
+pub fn read_header<D: Disk>(disk: &mut D) -> Result<Geometry, ProjectError>
+    ensures header { IfOk result (λ g. Each (D.reads disk.old) (HasAt 0 (header_bytes g.slot g.journal))) }
+    ensures allowed { IfOk result (λ g. IsAllowed g.slot g.journal) }
+    ensures refused { IfErr result (RefusesHeader (D.reads disk.old)) }
+    ensures reads { OnlyReads D.reads D.may_leave D.moment D.left_since disk.old disk.new }
+    ensures count { CountsFaults ProjectError.Device (D.failures disk.old) (D.failures disk.new) result }
+{
+    if disk.len()? < 16 {
+        return Err(ProjectError::NotAProject);
+    }
+    let mut bytes = [0; 16];
+    disk.read(0, &mut bytes)?;
+    match lengths_in(bytes) {
+        Some(geometry) if geometry.is_allowed() => Ok(geometry),
+        Some(_) => Err(ProjectError::BadGeometry),
+        None => Err(ProjectError::NotAProject),
+    }
+}

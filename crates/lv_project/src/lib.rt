@@ -1,0 +1,18 @@
+//! A project file: a map, of which each accepted command is on the disk before it is answered.
+#![tactic(auto)]
+
+mod change;
+mod error;
+mod geometry;
+mod header;
+mod law;
+mod opening;
+mod places;
+mod project;
+mod sessions;
+
+pub use error::ProjectError;
+pub use geometry::Geometry;
+pub use law::{exclude_one_another, stand_for_one_map};
+pub use project::{Project, Refused};
+pub use sessions::{applies, checkpoints, creates, hold_each_acknowledged, opens};

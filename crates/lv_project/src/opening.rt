@@ -1,0 +1,275 @@
+//! A project as its file is read or made.
+ghost use Rattle.std.specs.Prelude.{◌≡◌, ◌≤◌, ◌<◌, ◌+◌, ◌^◌, ℕ, [], false, true, Ok, length, IfOk, IfErr, IsErrOf, OnOk};
+ghost use Rattle.lv_disk.specs.Stops.{Each, LeavesOnly};
+ghost use Rattle.lv_journal.specs.Records.{IsJournal};
+ghost use Rattle.lv_journal.specs.State as journal;
+ghost use Rattle.lv_checkpoint.specs.Handles.{first_of, generation_of, second_of, slot_of, HasSomeSlots};
+ghost use Rattle.lv_disk.specs.Stops.{CountsFaults};
+ghost use Rattle.lv_disk.specs.Reading.{OnlyReads};
+ghost use Rattle.lv_maptables.specs.Tables.{body_len, empty_tables};
+ghost use Rattle.lv_maptables.specs.WellFormed.{WellFormed};
+ghost use Rattle.lv_project.specs.Places.{cap_of, parts_of, IsAllowed, IsInOrder, IsLaidOut};
+ghost use Rattle.lv_project.specs.Stands.{HasGeometry, StandsAt};
+ghost use Rattle.lv_commands.specs.LineSteps.{Leads, LeadsTo};
+ghost use Rattle.lv_project.specs.Opening.{HoldsMap, IsOfBody, IsOfSlots, IsOpened, IsRefusedRead, RefusesCreate, RefusesGates, RefusesLines, RefusesReplay, RefusesSlots};
+
+use crate::ProjectError;
+use crate::geometry::Geometry;
+use crate::header::{header, read_header};
+use crate::places::{Parts, Places};
+use lv_checkpoint::{CheckpointError, Slots, first};
+use lv_commands::{CommandError, apply, parse};
+use lv_disk::Disk;
+use lv_journal::{Journal, JournalError, blank};
+use lv_maptables::{Map, MapError, decode_body, empty_body};
+use std::alloc::Global;
+
+/// What a file was read as, or made to be.
+#[derive(Drop)]
+pub struct Opened {
+    pub geometry: Geometry,
+    pub places: Places,
+    pub slots: Slots,
+    pub journal: Journal,
+    pub map: Map,
+}
+
+// Does what a line of the journal says; false where the map accepts no such command.
+fn advance(map: &mut Map, line: &[u8], cap: u32) -> Result<bool, ProjectError>
+    requires { body_len map.old.tables ≤ cap }
+    ensures led { result ≡ Ok true → LeadsTo cap map.old.tables line.now map.new.tables }
+    ensures not_led { result ≡ Ok false → (new : _) → ¬ LeadsTo cap map.old.tables line.now new }
+    ensures fits { body_len map.new.tables ≤ cap }
+    ensures memory { IfErr result (λ e. e ≡ ProjectError.OutOfMemory) }
+{
+    let Ok(command) = parse(line) else {
+        return Ok(false);
+    };
+    match apply(map, &command, cap) {
+        Ok(_) => Ok(true),
+        Err(CommandError::OutOfMemory) => Err(ProjectError::OutOfMemory),
+        Err(_) => Ok(false),
+    }
+}
+
+// The map after the journal's lines. `Damaged` tells the gate of the first that is no accepted command.
+fn replay(map: &mut Map, journal: &Journal, cap: u32) -> Result<(), ProjectError>
+    requires { body_len map.old.tables ≤ cap }
+    ensures led { OnOk result (Leads cap map.old.tables journal.now.records map.new.tables) }
+    ensures refused { IfErr result (RefusesReplay cap map.old.tables journal.now) }
+    ensures fits { body_len map.new.tables ≤ cap }
+{
+    let records = journal.records();
+    for n in 0..records.len() {
+        if !advance(map, &records[n], cap)? {
+            return match journal.place(n) {
+                Some(place) => Err(ProjectError::Damaged { place }),
+                None => unreachable!(),
+            };
+        }
+    }
+    Ok(())
+}
+
+// The live journal. `Damaged` tells the least place of a gate at fault, be it the other journal's first that isn't there.
+fn open_journal<D: Disk>(alloc: Global, disk: &mut D, parts: Parts) -> Result<Journal, ProjectError>
+    requires only { Each (D.may_leave disk.old) (D.reads disk.old) }
+    ensures opened { IfOk result (λ j. j ≡ journal.opened parts.journal j.records) }
+    ensures sound { IfOk result (λ j. Each (D.reads disk.old) (IsJournal parts.journal j.records)) }
+    ensures other { OnOk result (Each (D.reads disk.old) (λ file. parts.other_journal.base < length file)) }
+    ensures refused { IfErr result (RefusesGates (D.reads disk.old) parts) }
+    ensures reads { OnlyReads D.reads D.may_leave D.moment D.left_since disk.old disk.new }
+    ensures count { CountsFaults ProjectError.Device (D.failures disk.old) (D.failures disk.new) result }
+{
+    let end = disk.len()?;
+    let other = parts.other_journal.base;
+    match Journal::open(alloc, disk, parts.journal) {
+        Ok(_) if end <= other => Err(ProjectError::Damaged { place: other }),
+        Ok(journal) => Ok(journal),
+        Err(JournalError::Damaged { place }) if end <= other => Err(ProjectError::Damaged {
+            place: place.min(other),
+        }),
+        Err(JournalError::Damaged { place }) => Err(ProjectError::Damaged { place }),
+        Err(JournalError::OutOfMemory) => Err(ProjectError::OutOfMemory),
+        Err(JournalError::Device) => Err(ProjectError::Device),
+        Err(_) => unreachable!(),
+    }
+}
+
+// The refusal of slots that can't be read.
+fn refusal_of_slots(error: CheckpointError) -> ProjectError
+    ensures { IsOfSlots error result }
+{
+    match error {
+        CheckpointError::Device => ProjectError::Device,
+        CheckpointError::OutOfMemory => ProjectError::OutOfMemory,
+        CheckpointError::Blank => ProjectError::Blank,
+        CheckpointError::Damaged { place } => ProjectError::Damaged { place },
+        CheckpointError::GenerationsSpent => ProjectError::GenerationsSpent,
+        CheckpointError::SlotFull => ProjectError::BadGeometry,
+    }
+}
+
+// The refusal of a body, whose slot stands at this place.
+fn refusal_of_body(error: MapError, place: u64) -> ProjectError
+    ensures { IsOfBody error place result }
+{
+    match error {
+        MapError::OutOfMemory => ProjectError::OutOfMemory,
+        _ => ProjectError::Damaged { place },
+    }
+}
+
+// The slots, and the map of the live body.
+fn read_slots<D: Disk>(
+    alloc: Global,
+    disk: &mut D,
+    geometry: Geometry,
+    places: Places,
+) -> Result<(Slots, Map), ProjectError>
+    requires allowed { IsAllowed geometry.slot geometry.journal }
+    requires laid_out { IsLaidOut geometry places }
+    requires only { Each (D.may_leave disk.old) (D.reads disk.old) }
+    ensures holds { IfOk result (λ r. Each (D.reads disk.old)
+        (HoldsMap (parts_of places (slot_of r.0)) (generation_of r.0) r.1.tables)) }
+    ensures slots { IfOk result (λ r. Each (D.reads disk.old) (HasSomeSlots r.0)) }
+    ensures areas { IfOk result (λ r. (first_of r.0 ≡ places.a) × (second_of r.0 ≡ places.b) × (slot_of r.0 ≤ 1)) }
+    ensures fits { IfOk result (λ r. body_len r.1.tables ≤ cap_of geometry) }
+    ensures refused { IfErr result (RefusesSlots (D.reads disk.old) geometry places) }
+    ensures reads { OnlyReads D.reads D.may_leave D.moment D.left_since disk.old disk.new }
+    ensures only { Each (D.may_leave disk.new) (D.reads disk.new) }
+    ensures count { CountsFaults ProjectError.Device (D.failures disk.old) (D.failures disk.new) result }
+{
+    let (slots, found) = match Slots::open(alloc, disk, places.a, places.b) {
+        Ok(live) => live,
+        Err(error) => return Err(refusal_of_slots(error)),
+    };
+    match decode_body(alloc, &found.body) {
+        Ok(map) => Ok((slots, map)),
+        Err(error) => Err(refusal_of_body(error, places.parts(found.slot).live.base)),
+    }
+}
+
+// The live journal, and the map after its lines.
+fn read_lines<D: Disk>(
+    alloc: Global,
+    disk: &mut D,
+    parts: Parts,
+    map: &mut Map,
+    cap: u32,
+) -> Result<Journal, ProjectError>
+    requires fits { body_len map.old.tables ≤ cap }
+    requires only { Each (D.may_leave disk.old) (D.reads disk.old) }
+    ensures opened { IfOk result (λ j. j ≡ journal.opened parts.journal j.records) }
+    ensures sound { IfOk result (λ j. Each (D.reads disk.old) (IsJournal parts.journal j.records)) }
+    ensures other { OnOk result (Each (D.reads disk.old) (λ file. parts.other_journal.base < length file)) }
+    ensures led { IfOk result (λ j. Leads cap map.old.tables j.records map.new.tables) }
+    ensures fits { body_len map.new.tables ≤ cap }
+    ensures refused { IfErr result (RefusesLines (D.reads disk.old) cap parts map.old.tables) }
+    ensures reads { OnlyReads D.reads D.may_leave D.moment D.left_since disk.old disk.new }
+    ensures count { CountsFaults ProjectError.Device (D.failures disk.old) (D.failures disk.new) result }
+{
+    let journal = match open_journal(alloc, disk, parts) {
+        Ok(journal) => journal,
+        Err(error) => return Err(error),
+    };
+    match replay(map, &journal, cap) {
+        Ok(()) => Ok(journal),
+        Err(error) => Err(error),
+    }
+}
+
+// A project of a disk of which what it reads is the only image. It only reads.
+fn read_synced<D: Disk>(alloc: Global, disk: &mut D) -> Result<Opened, ProjectError>
+    requires only { Each (D.may_leave disk.old) (D.reads disk.old) }
+    ensures opened { IfOk result (λ o. Each (D.reads disk.old) (IsOpened o)) }
+    ensures journal { IfOk result (λ o. o.journal
+        ≡ journal.opened (parts_of o.places (slot_of o.slots)).journal o.journal.records) }
+    ensures places { IfOk result (λ o. IsAllowed o.geometry.slot o.geometry.journal × IsLaidOut o.geometry o.places) }
+    ensures areas { IfOk result (λ o. (first_of o.slots ≡ o.places.a) × (second_of o.slots ≡ o.places.b)
+        × (slot_of o.slots ≤ 1)) }
+    ensures fits { IfOk result (λ o. body_len o.map.tables ≤ cap_of o.geometry) }
+    ensures refused { IfErr result (IsRefusedRead (D.reads disk.old)) }
+    ensures reads { OnlyReads D.reads D.may_leave D.moment D.left_since disk.old disk.new }
+    ensures count { CountsFaults ProjectError.Device (D.failures disk.old) (D.failures disk.new) result }
+{
+    let geometry = match read_header(disk) {
+        Ok(geometry) => geometry,
+        Err(error) => return Err(error),
+    };
+    let places = geometry.places();
+    let (slots, map) = match read_slots(alloc, disk, geometry, places) {
+        Ok(found) => found,
+        Err(error) => return Err(error),
+    };
+    let mut map = map;
+    let parts = places.parts(slots.slot());
+    match read_lines(alloc, disk, parts, &mut map, geometry.cap()) {
+        Ok(journal) => Ok(Opened {
+            geometry,
+            places,
+            slots,
+            journal,
+            map,
+        }),
+        Err(error) => Err(error),
+    }
+}
+
+/// Reads a project: one sync, and then reads alone.
+pub fn read_project<D: Disk>(alloc: Global, disk: &mut D) -> Result<Opened, ProjectError>
+    ensures opened { IfOk result (λ o. Each (D.reads disk.new) (IsOpened o)) }
+    ensures journal { IfOk result (λ o. o.journal
+        ≡ journal.opened (parts_of o.places (slot_of o.slots)).journal o.journal.records) }
+    ensures places { IfOk result (λ o. IsAllowed o.geometry.slot o.geometry.journal × IsLaidOut o.geometry o.places) }
+    ensures areas { IfOk result (λ o. (first_of o.slots ≡ o.places.a) × (second_of o.slots ≡ o.places.b)
+        × (slot_of o.slots ≤ 1)) }
+    ensures fits { IfOk result (λ o. body_len o.map.tables ≤ cap_of o.geometry) }
+    ensures refused { IfErr result (IsRefusedRead (D.reads disk.new)) }
+    ensures only { OnOk result (Each (D.may_leave disk.new) (D.reads disk.new)) }
+    ensures any_moment { LeavesOnly D.moment D.left_since disk.old disk.new (D.may_leave disk.old) }
+    ensures count { CountsFaults ProjectError.Device (D.failures disk.old) (D.failures disk.new) result }
+{
+    match disk.sync() {
+        Ok(()) => read_synced(alloc, disk),
+        Err(_) => Err(ProjectError::Device),
+    }
+}
+
+/// Makes a project of an empty disk: the header, the first slot with the empty map, closed gates, and one sync.
+pub fn write_new<D: Disk>(
+    disk: &mut D,
+    geometry: Geometry,
+) -> Result<(Places, Slots, Journal), ProjectError>
+    requires formed { WellFormed empty_tables }
+    ensures made { IfOk result (λ r. Each (D.may_leave disk.new)
+        (λ file. HasGeometry geometry r.0 file × StandsAt (cap_of geometry) (parts_of r.0 0) empty_tables 1 file)) }
+    ensures slots { IfOk result (λ r. Each (D.may_leave disk.new) (HasSomeSlots r.1)) }
+    ensures none { IfOk result (λ r. Each (D.may_leave disk.new) (IsJournal r.0.first [])) }
+    ensures handle { IfOk result (λ r. (slot_of r.1 ≡ 0) × (generation_of r.1 ≡ 1) × (first_of r.1 ≡ r.0.a)
+        × (second_of r.1 ≡ r.0.b)) }
+    ensures journal { IfOk result (λ r. r.2 ≡ journal.opened r.0.first []) }
+    ensures places { IfOk result (λ r. IsAllowed geometry.slot geometry.journal × IsLaidOut geometry r.0) }
+    ensures refused { IfErr result (RefusesCreate (D.reads disk.old) geometry) }
+    ensures count { CountsFaults ProjectError.Device (D.failures disk.old) (D.failures disk.new) result }
+{
+    if !geometry.is_allowed() {
+        return Err(ProjectError::BadGeometry);
+    }
+    if disk.len()? != 0 {
+        return Err(ProjectError::NotEmpty);
+    }
+    let places = geometry.places();
+    disk.write_at(0, &header(geometry))?;
+    let slots = first(disk, places.a, places.b, &empty_body())?;
+    let journal = match blank(disk, places.first) {
+        Ok(journal) => journal,
+        Err(_) => return Err(ProjectError::Device),
+    };
+    match blank(disk, places.second) {
+        Ok(_) => {}
+        Err(_) => return Err(ProjectError::Device),
+    }
+    disk.sync()?;
+    Ok((places, slots, journal))
+}

@@ -1,0 +1,103 @@
+ghost use Rattle.std.specs.Prelude.{◌≡◌, ◌≤◌, ◌↔◌, IsTrue};
+ghost use Rattle.lv_project.specs.Places.{IsAllowed, IsLaidOut, cap_of, parts_of};
+
+use crate::geometry::Geometry;
+use lv_disk::Area;
+
+/// The two slots of a file, and behind them their journals.
+#[derive(Clone, Copy, Debug)]
+pub struct Places {
+    pub a: Area,
+    pub b: Area,
+    pub first: Area,
+    pub second: Area,
+}
+
+/// The live slot and the other one, each with its journal.
+#[derive(Clone, Copy, Debug)]
+pub struct Parts {
+    pub live: Area,
+    pub other: Area,
+    pub journal: Area,
+    pub other_journal: Area,
+}
+
+impl Geometry {
+    // Whether both lengths are within the limits.
+    pub fn is_allowed(self) -> bool
+        ensures { IsTrue result ↔ IsAllowed self.slot self.journal }
+    {
+        has_slot(self.slot) && has_journal(self.journal)
+    }
+
+    // Where the parts of a file stand.
+    pub fn places(self) -> Places
+        requires { IsAllowed self.slot self.journal }
+        ensures laid_out { IsLaidOut self result }
+        ensures allowed { IsAllowed self.slot self.journal }
+    {
+        let slot = self.slot as u64;
+        let journal = self.journal as u64;
+        Places {
+            a: Area {
+                base: 16,
+                length: self.slot,
+            },
+            b: Area {
+                base: 16 + slot,
+                length: self.slot,
+            },
+            first: Area {
+                base: 16 + 2 * slot,
+                length: self.journal,
+            },
+            second: Area {
+                base: 16 + 2 * slot + journal,
+                length: self.journal,
+            },
+        }
+    }
+
+    // How long a body may be.
+    pub fn cap(self) -> u32
+        requires { 13 ≤ self.slot }
+        ensures { result ≡ cap_of self }
+    {
+        self.slot - 13
+    }
+}
+
+fn has_slot(slot: u32) -> bool
+    ensures { IsTrue result ↔ (33 ≤ slot) × (slot ≤ 2007015) }
+{
+    slot >= 33 && slot <= 2_007_015
+}
+
+fn has_journal(journal: u32) -> bool
+    ensures { IsTrue result ↔ (512 ≤ journal) × (journal ≤ 1048576) }
+{
+    journal >= 512 && journal <= 1_048_576
+}
+
+impl Places {
+    // Which is which, where this slot is live.
+    pub fn parts(self, slot: u8) -> Parts
+        ensures { result ≡ parts_of self slot }
+    {
+        if slot == 0 {
+            Parts {
+                live: self.a,
+                other: self.b,
+                journal: self.first,
+                other_journal: self.second,
+            }
+        } else {
+            Parts {
+                live: self.b,
+                other: self.a,
+                journal: self.second,
+                other_journal: self.first,
+            }
+        }
+    }
+}

@@ -1,0 +1,333 @@
+ghost use Rattle.std.specs.Prelude.{◌≡◌, ◌≤◌, ◌<◌, ◌⊎◌, ◌↔◌, ◌+◌, ◌-◌, ◌^◌, [], length, false, true, Ok, IfOk, IfErr, IsErrOf, IfSome, MatchResult, OnOk};
+ghost use Rattle.lv_disk.specs.Stops.{Each, LeavesOnly};
+ghost use Rattle.lv_journal.specs.State.{IsAbove};
+ghost use Rattle.lv_maptables.specs.Tables.{body_len};
+ghost use Rattle.lv_commands.specs.Readiness as readiness;
+ghost use Rattle.lv_project.specs.Refusals.{IsRefusalOf};
+ghost use Rattle.lv_commands.specs.Spelling.{spelling};
+ghost use Rattle.lv_commands.specs.Step.{after, number_of, step};
+
+use crate::ProjectError;
+use crate::change::turn;
+use crate::geometry::Geometry;
+use crate::opening::{read_project, write_new};
+use crate::places::Places;
+use lv_checkpoint::{CheckpointError, Image, Slots};
+use lv_commands::{CommandError, Ready, commit, parse, ready};
+use lv_disk::Disk;
+use lv_journal::{Journal, JournalError};
+use lv_maptables::{Kind, Map};
+use std::alloc::Global;
+use std::marker::Model;
+
+/// A map on a disk. It owns the disk until `into_disk`.
+#[derive(Drop)]
+pub struct Project<D: Disk> {
+    alloc: Global,
+    disk: D,
+    geometry: Geometry,
+    places: Places,
+    slots: Slots,
+    journal: Journal,
+    map: Map,
+    must_reopen: bool,
+}
+
+/// Why a disk gave no project, and the disk.
+#[derive(Drop)]
+pub struct Refused<D> {
+    pub error: ProjectError,
+    pub disk: D,
+}
+
+impl<D: Disk> Model for Project<D> {
+    ghost use Rattle.lv_project.specs.States.{State};
+
+    ghost Value = { State D };
+
+    ghost use Rattle.lv_project.specs.Fields.{state_of, IsSound};
+
+    ghost view = { state_of };
+
+    ghost invariant = { IsSound D.may_leave };
+}
+
+// The refusal of a line.
+fn refusal_of(error: CommandError) -> ProjectError
+    ensures { IsRefusalOf result error }
+{
+    match error {
+        CommandError::OutOfMemory => ProjectError::OutOfMemory,
+        error => ProjectError::Refused(error),
+    }
+}
+
+impl<D: Disk> Project<D> {
+    ghost use Rattle.lv_disk.specs.Stops.{Rose};
+    ghost use Rattle.lv_maptables.specs.Tables.{empty_tables, Tables};
+    ghost use Rattle.lv_project.specs.Places.{cap_of};
+    ghost use Rattle.lv_project.specs.Opening.{IsRefusedRead, RefusesCreate, StandsOnlyFor};
+    ghost use Rattle.lv_project.specs.Stands.{IsOutcome, StandsFor};
+    ghost use Rattle.lv_commands.specs.LineSteps.{LeadsTo};
+    ghost use Rattle.lv_checkpoint.specs.Handles.{body_in, generation_in};
+    ghost use Rattle.lv_maptables.specs.Body.{body};
+    ghost use Rattle.lv_maptables.specs.WellFormed.{WellFormed};
+    ghost use Rattle.lv_project.specs.States.{IsKept};
+    ghost use Rattle.lv_project.specs.Outcomes.{EndsApply, EndsCheckpoint, EndsRoom, IsFresh};
+
+    /// The map.
+    pub fn map(&self) -> &Map
+        ensures { result.now ≡ self.now.map }
+    {
+        &self.map
+    }
+
+    /// The live generation.
+    pub fn generation(&self) -> u64
+        ensures { result ≡ self.now.generation }
+    {
+        self.slots.generation()
+    }
+
+    /// Whether a device fault has left the disk in doubt, so that the project must be opened again.
+    pub fn must_reopen(&self) -> bool
+        ensures reopen { result ≡ self.now.must_reopen }
+        ensures kept { IsKept D.may_leave self.now }
+    {
+        self.must_reopen
+    }
+
+    /// The disk.
+    pub fn into_disk(self) -> D
+        ensures disk { result ≡ self.disk }
+        ensures kept { IsKept D.may_leave self }
+    {
+        self.disk
+    }
+
+    /// A project with the empty map on an empty disk. It takes no memory, and syncs once, last.
+    pub fn create(alloc: Global, disk: D, geometry: Geometry) -> Result<Project<D>, Refused<D>>
+        ensures made { IfOk result (λ p. (p.map.tables ≡ empty_tables) × (p.generation ≡ 1)
+            × (p.must_reopen ≡ false) × (p.cap ≡ cap_of geometry)) }
+        ensures kept { IfOk result (λ p. IsKept D.may_leave p) }
+        ensures refused { IfErr result (λ r. RefusesCreate (D.reads disk) geometry r.error) }
+        ensures count { IfErr result (λ r. r.error ≡ ProjectError.Device → Rose (D.failures disk) (D.failures r.disk)) }
+    {
+        let mut disk = disk;
+        let map = Map::new(alloc);
+        // Every map is well-formed, which this call tells.
+        let _ = map.count(Kind::Vertex);
+        match write_new(&mut disk, geometry) {
+            Ok((places, slots, journal)) => Ok(Project {
+                alloc,
+                disk,
+                geometry,
+                places,
+                slots,
+                journal,
+                map,
+                must_reopen: false,
+            }),
+            Err(error) => Err(Refused { error, disk }),
+        }
+    }
+
+    /// The project that the disk's bytes stand for. It begins with one sync, and writes nothing.
+    pub fn open(alloc: Global, disk: D) -> Result<Project<D>, Refused<D>>
+        // The map and the generation are those that the bytes stand for, as the disk reads after its sync.
+        ensures opened { IfOk result (λ p. (p.must_reopen ≡ false)
+            × Each (D.reads p.disk) (StandsOnlyFor p.cap p.map.tables p.generation)) }
+        // Each image now stands for the map, and no stop within the call left a new image.
+        ensures kept { IfOk result (λ p. IsKept D.may_leave p) }
+        ensures any_moment { MatchResult result
+            (λ p. LeavesOnly D.moment D.left_since disk p.disk (D.may_leave disk))
+            (λ r. LeavesOnly D.moment D.left_since disk r.disk (D.may_leave disk)) }
+        ensures refused { IfErr result (λ r. IsRefusedRead (D.reads r.disk) r.error) }
+        ensures count { IfErr result (λ r. r.error ≡ ProjectError.Device → Rose (D.failures disk) (D.failures r.disk)) }
+    {
+        let mut disk = disk;
+        match read_project(alloc, &mut disk) {
+            Ok(opened) => Ok(Project {
+                alloc,
+                disk,
+                geometry: opened.geometry,
+                places: opened.places,
+                slots: opened.slots,
+                journal: opened.journal,
+                map: opened.map,
+                must_reopen: false,
+            }),
+            Err(error) => Err(Refused { error, disk }),
+        }
+    }
+
+    // Whether the journal has room for so many bytes.
+    fn has_room(&self, len: usize) -> bool
+        ensures full { result ≡ false → IsAbove self.now.room len }
+        ensures room { result ≡ true → ¬ IsAbove self.now.room len }
+        ensures kept { IsKept D.may_leave self.now }
+    {
+        match self.journal.room() {
+            Some(room) => len <= room as usize,
+            None => false,
+        }
+    }
+
+    // Writes the image's slot and opens it.
+    fn turn_to(&mut self, image: &Image) -> Result<u64, ProjectError>
+        requires ready { self.old.must_reopen ≡ false }
+        requires next { generation_in image.now ≡ self.old.generation + 1 }
+        requires number { self.old.generation + 1 < 2 ^ 64 }
+        requires body { body_in image.now ≡ body self.old.map.tables }
+        requires well_formed { WellFormed self.old.map.tables }
+        ensures device { IfErr result (λ e. e ≡ ProjectError.Device) }
+        ensures ends { EndsCheckpoint D.failures result self.old self.new }
+        ensures map { self.new.map ≡ self.old.map }
+        ensures any_moment { LeavesOnly D.moment D.left_since self.old.disk self.new.disk
+            (StandsFor self.old.cap self.old.map.tables) }
+        ensures room { OnOk result (IsFresh self.new.room) }
+        ensures cap { self.new.cap ≡ self.old.cap }
+        ensures later { D.failures self.old.disk ≤ D.failures self.new.disk }
+        ensures kept { IsKept D.may_leave self.new }
+    {
+        let parts = self.places.parts(self.slots.slot());
+        match turn(&mut self.disk, self.slots, parts, image) {
+            Ok(slots) => {
+                self.slots = slots;
+                self.journal = Journal::fresh(&self.disk, parts.other_journal);
+                Ok(self.slots.generation())
+            }
+            Err(_) => {
+                self.must_reopen = true;
+                Err(ProjectError::Device)
+            }
+        }
+    }
+
+    /// Puts the map into the other slot, and makes that the live one, with the next generation. The journal is then
+    /// empty. It answers the new generation and changes no map.
+    pub fn checkpoint(&mut self) -> Result<u64, ProjectError>
+        // `GenerationsSpent` exactly where no generation is left.
+        ensures spent { IsErrOf result ProjectError.GenerationsSpent
+            ↔ (self.old.must_reopen ≡ false) × (self.old.generation ≡ 2 ^ 64 - 1) }
+        ensures ends { EndsCheckpoint D.failures result self.old self.new }
+        ensures map { self.new.map ≡ self.old.map }
+
+        // A stop at any moment of the call leaves the map.
+        ensures any_moment { self.old.must_reopen ≡ false
+            → LeavesOnly D.moment D.left_since self.old.disk self.new.disk
+            (StandsFor self.old.cap self.old.map.tables) }
+        ensures room { OnOk result (IsFresh self.new.room) }
+        ensures cap { self.new.cap ≡ self.old.cap }
+        ensures later { D.failures self.old.disk ≤ D.failures self.new.disk }
+        ensures kept { IsKept D.may_leave self.new }
+    {
+        if self.must_reopen {
+            return Err(ProjectError::Reopen);
+        }
+        if self.slots.generation() == u64::MAX {
+            return Err(ProjectError::GenerationsSpent);
+        }
+        // Every map is well-formed, which this call tells.
+        let _ = self.map.count(Kind::Vertex);
+        let Ok(body) = self.map.encode_body(self.alloc) else {
+            return Err(ProjectError::OutOfMemory);
+        };
+        match self.slots.image(self.alloc, &body) {
+            Ok(image) => self.turn_to(&image),
+            Err(CheckpointError::OutOfMemory) => Err(ProjectError::OutOfMemory),
+            Err(_) => unreachable!(),
+        }
+    }
+
+    // Makes room in the journal for a line of so many bytes, by a checkpoint where there is none.
+    fn make_room(&mut self, len: usize) -> Result<(), ProjectError>
+        requires ready { self.old.must_reopen ≡ false }
+        requires short { len ≤ 256 }
+        ensures spent { IsErrOf result ProjectError.GenerationsSpent
+            ↔ IsAbove self.old.room len × (self.old.generation ≡ 2 ^ 64 - 1) }
+        ensures ends { EndsRoom D.failures result self.old self.new len }
+        ensures later { D.failures self.old.disk ≤ D.failures self.new.disk }
+        ensures map { self.new.map ≡ self.old.map }
+        ensures any_moment { LeavesOnly D.moment D.left_since self.old.disk self.new.disk
+            (StandsFor self.old.cap self.old.map.tables) }
+        ensures cap { self.new.cap ≡ self.old.cap }
+        ensures kept { IsKept D.may_leave self.new }
+    {
+        if self.has_room(len) {
+            return Ok(());
+        }
+        match self.checkpoint() {
+            Ok(_) => Ok(()),
+            Err(error) => Err(error),
+        }
+    }
+
+    // Appends the line of a command that the map is ready for, and then changes the map.
+    fn record(&mut self, line: &[u8], ready: Ready) -> Result<u32, ProjectError>
+        requires reopen { self.old.must_reopen ≡ false }
+        requires short { length line.now ≤ 256 }
+        requires room { ¬ IsAbove self.old.room (length line.now) }
+        requires line { line.now ≡ spelling ready.command }
+        requires ready { readiness.CanCommit self.old.map ready.command }
+        requires accepted { step self.old.map.tables ready.command self.old.cap
+            ≡ Ok (after self.old.map.tables ready.command, number_of self.old.map.tables ready.command) }
+        ensures device { IfErr result (λ e. e ≡ ProjectError.Device) }
+        ensures ends { EndsApply D.failures result self.old self.new line.now }
+        ensures later { D.failures self.old.disk ≤ D.failures self.new.disk }
+        ensures any_moment { LeavesOnly D.moment D.left_since self.old.disk self.new.disk
+            (IsOutcome self.old.cap self.old.map.tables line.now) }
+        ensures cap { self.new.cap ≡ self.old.cap }
+        ensures kept { IsKept D.may_leave self.new }
+    {
+        match self.journal.append(&mut self.disk, line) {
+            Ok(()) => Ok(commit(&mut self.map, ready)),
+            Err(JournalError::Device) => {
+                self.must_reopen = true;
+                Err(ProjectError::Device)
+            }
+            Err(_) => unreachable!(),
+        }
+    }
+
+    /// Does what a line asks for that is a command. The command is on the disk before its number is answered.
+    ///
+    /// After a `Device` the map is as before, and each call is answered `Reopen` until the file is opened again.
+    pub fn apply(&mut self, line: &[u8]) -> Result<u32, ProjectError>
+        // `GenerationsSpent`, or `OutOfMemory` before it, where an accepted line finds neither room nor a generation left.
+        ensures spent { self.old.must_reopen ≡ false → IsAbove self.old.room (length line.now)
+            → self.old.generation ≡ 2 ^ 64 - 1 → (new : Tables) → LeadsTo self.old.cap self.old.map.tables line.now new
+            → IsErrOf result ProjectError.GenerationsSpent ⊎ IsErrOf result ProjectError.OutOfMemory }
+        ensures ends { EndsApply D.failures result self.old self.new line.now }
+
+        // A stop at any moment of the call leaves the map, or the one that the line leads to.
+        ensures any_moment { self.old.must_reopen ≡ false → LeavesOnly D.moment D.left_since self.old.disk self.new.disk
+            (IsOutcome self.old.cap self.old.map.tables line.now) }
+
+        // A refusal but `Device` leaves the map alone.
+        ensures refused_moment { IfErr result (λ e. self.old.must_reopen ≡ false → (e ≡ ProjectError.Device)
+            ⊎ LeavesOnly D.moment D.left_since self.old.disk self.new.disk
+            (StandsFor self.old.cap self.old.map.tables)) }
+
+        // Each image now stands for the map, unless the project must be opened again.
+        ensures kept { IsKept D.may_leave self.new }
+        ensures cap { self.new.cap ≡ self.old.cap }
+    {
+        if self.must_reopen {
+            return Err(ProjectError::Reopen);
+        }
+        let command = match parse(line) {
+            Ok(command) => command,
+            Err(error) => return Err(refusal_of(error)),
+        };
+        let ready = match ready(&mut self.map, &command, self.geometry.cap()) {
+            Ok(ready) => ready,
+            Err(error) => return Err(refusal_of(error)),
+        };
+        match self.make_room(line.len()) {
+            Ok(()) => {}
+            Err(error) => return Err(error),
+        }
+        self.record(line, ready)
+    }
+}

@@ -1,0 +1,9 @@
+pub mod Errors
+pub mod Levels
+pub mod Views
+pub mod Reject
+pub mod Words
+pub mod Range
+pub mod Endings
+pub mod Counts
+pub mod Audit

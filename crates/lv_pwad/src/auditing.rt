@@ -1,0 +1,42 @@
+ghost use Rattle.std.specs.Prelude.{◌≡◌, ◌↔◌, None, IfOk, IsOkUnless};
+ghost use Rattle.lv_pwad.specs.Audit.{first_fault, first_some, list_faults};
+ghost use Rattle.lv_pwad.specs.Range.{InRange};
+ghost use Rattle.lv_pwad.specs.Views.{view};
+
+use crate::blocks::lump_fault;
+use crate::children::{child_fault, once_fault};
+use crate::error::ReadError;
+use crate::fault::Fault;
+use crate::level::Level;
+use crate::ranges::{drawn_fault, first_of, seg_fault};
+use crate::subs::sub_fault;
+use std::alloc::Global;
+
+/// The first fault of the lists as they stand, for which no memory is needed.
+fn list_fault(level: &Level) -> Option<Fault>
+    ensures { result ≡ first_some (list_faults (view level.now)) }
+{
+    let front = first_of(drawn_fault(level), seg_fault(level));
+    let back = first_of(sub_fault(level), child_fault(level));
+    first_of(front, back)
+}
+
+/// The first fault of a level, in the order of docs/FORMAT.md, "What an audit looks for"; none exactly where every
+/// reference of the level is in range. It is refused for want of memory alone.
+pub fn audit(alloc: Global, level: &Level) -> Result<Option<Fault>, ReadError>
+    ensures first { IfOk result (λ fault. fault ≡ first_fault (view level.now)) }
+    ensures sound { IfOk result (λ fault. (fault ≡ None) ↔ InRange (view level.now)) }
+    ensures memory { IsOkUnless result ReadError.OutOfMemory }
+{
+    if let Some(fault) = list_fault(level) {
+        return Ok(Some(fault));
+    }
+    match once_fault(alloc, level) {
+        Ok(Some(fault)) => Ok(Some(fault)),
+        Ok(None) => match lump_fault(alloc, level) {
+            Ok(fault) => Ok(fault),
+            Err(error) => Err(error),
+        },
+        Err(error) => Err(error),
+    }
+}

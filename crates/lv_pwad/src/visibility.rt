@@ -1,0 +1,16 @@
+ghost use Rattle.std.specs.Prelude.{◌≡◌, replicate, IfOk, IsOkUnless};
+ghost use Rattle.lv_pwad.specs.Reject.{reject_size};
+
+use crate::error::ReadError;
+use std::alloc::Global;
+
+/// The bytes of REJECT of so many sectors: no sector is out of sight of another, so that the engine tests sight itself
+/// (docs/FORMAT.md, "REJECT and BLOCKMAP"). It is refused for want of memory alone.
+pub fn reject(alloc: Global, sectors: u16) -> Result<Vec<u8>, ReadError>
+    ensures bytes { IfOk result (λ v. v.items ≡ replicate (reject_size sectors) 0) }
+    ensures memory { IsOkUnless result ReadError.OutOfMemory }
+{
+    let pairs = u64::from(sectors) * u64::from(sectors);
+    let bytes = vec![in alloc; 0u8; ((pairs + 7) / 8) as usize]?;
+    Ok(bytes)
+}

@@ -1,0 +1,399 @@
+-- Two partitions on one straight line: the counts that they make of a list agree, or have right and left exchanged.
+use Rattle.std.proofs.Common.{◌≡◌, refl, sym, ap, ◌∙◌, subst, ⊎_elim, ◌⊎◌, inl, inr, slice_get, ℕ, ◌+◌, ◌*◌, ◌-◌, ◌<◌, List, [], ◌∷◌, length, Option, Some, None, Bool, true, false, cond, ◌&&◌, arith, All}
+use Rattle.std.proofs.lemmas.Int.{ints, by_lt_z}
+use Rattle.std.proofs.lemmas.Bool.{cases_lt}
+use Rattle.std.proofs.lemmas.List.Elements.{All-head, All-tail}
+use Rattle.std.proofs.lemmas.List.Sums.{sum_by-append}
+use Rattle.std.specs.Prelude.{ℤ, pos, ◌+ℤ◌, ◌-ℤ◌, ◌*ℤ◌, neg_ℤ, ◌≤ℤ◌, ◌<ℤ◌, int_lt, if◌then◌else◌, filter_map, is_some, count_by}
+use Rattle.std.specs.List.{cons_option}
+use Rattle.lv_lumps.specs.declared.records.Vertex.{Vertex}
+use Rattle.lv_lumps.specs.declared.plane.Ray.{Ray}
+use Rattle.lv_segs.specs.declared.edge.Edge.{Edge}
+use Rattle.lv_segs.specs.declared.edge.Facing.{Facing}
+use Rattle.lv_segs.specs.declared.edge.Facing.TheVariants.{Along, Against}
+use Rattle.lv_segs.specs.declared.frac.Frac.{Frac}
+use Rattle.lv_segs.specs.declared.piece.Piece.{Piece}
+use Rattle.lv_segs.specs.declared.piece.Parts.{Parts}
+use Rattle.lv_segs.specs.declared.piece.Place.{Place}
+use Rattle.lv_segs.specs.declared.piece.Place.TheVariants.{Right, Left, Across}
+use Rattle.lv_segs.specs.Plane.{ray, vertex_value, dot, IsEdge, LiesOn, RunsWith, RunsAgainst}
+use Rattle.lv_segs.specs.Fractions.{between, exact_value, zero_between, crossing, point_at, IsFraction}
+use Rattle.lv_segs.specs.Pieces.{edge_of, ray_of, first_end, last_end, same_place, IsPiece}
+use Rattle.lv_segs.specs.Division.{value_by, LiesAlong, place_by, place_of, kept, cut_at, parts_by, parts_of}
+use Rattle.lv_segs.specs.Tree.{is_split, cost, Separates, IsCandidate, IsBestAt}
+use Rattle.lv_lumps.proofs.Ring.{by_ring, quotes}
+use Rattle.lv_lumps.proofs.Signs.{linear, zero_product, factor_at_most}
+use Rattle.lv_segs.proofs.Rounding.{steps_rise, one_point}
+use Rattle.lv_segs.proofs.Crossing.{zero_rising, zero_falling, crossing_down, crossing_up, crossing_in, zero_at_ends, zero_everywhere}
+use Rattle.lv_segs.proofs.Lengths.{dot_not_zero, lies_crossed}
+use Rattle.lv_segs.proofs.Placing.{Means, place_means}
+use Rattle.lv_segs.proofs.Division.{MayDivide, crossing_small}
+use Rattle.lv_segs.proofs.Trees.{may_divide}
+use Rattle.lv_segs.proofs.SignLemmas.{left_if, HasSign, has_sign, HasOther, has_other, same_place_by, turned, turned_place_by}
+use Rattle.lv_segs.proofs.Lists.{none_left}
+use Rattle.lv_segs.proofs.Stops.{rights, lefts, splits}
+
+-- ---- the values by the two rays
+-- what is got from one ray is k/m of what is got from the other
+pub record IsScaled (r r' : Ray) (k m : ℤ) : Type 0 where
+  pub value : (v : Vertex) → k *ℤ vertex_value r' v ≡ m *ℤ vertex_value r v
+  pub dot : (s : Ray) → k *ℤ dot r' s ≡ m *ℤ dot r s
+
+cross_times : (a b c d x y : ℤ) → (a *ℤ a +ℤ b *ℤ b) *ℤ (d *ℤ x -ℤ c *ℤ y) ≡ (a *ℤ c +ℤ b *ℤ d) *ℤ (b *ℤ x -ℤ a *ℤ y) +ℤ (a *ℤ x +ℤ b *ℤ y) *ℤ (a *ℤ d -ℤ b *ℤ c)
+cross_times a b c d x y = by_ring (a ∷ b ∷ c ∷ d ∷ x ∷ y ∷ []) _ _ (search quotes depth 30 fits 20000) (search quotes depth 30 fits 20000) tt
+
+dot_times : (a b c d p q : ℤ) → (a *ℤ a +ℤ b *ℤ b) *ℤ (c *ℤ p +ℤ d *ℤ q) ≡ (a *ℤ c +ℤ b *ℤ d) *ℤ (a *ℤ p +ℤ b *ℤ q) +ℤ (a *ℤ q -ℤ b *ℤ p) *ℤ (a *ℤ d -ℤ b *ℤ c)
+dot_times a b c d p q = by_ring (a ∷ b ∷ c ∷ d ∷ p ∷ q ∷ []) _ _ (search quotes depth 30 fits 20000) (search quotes depth 30 fits 20000) tt
+
+value_from : (r : Ray) (u v : Vertex) → r.dy *ℤ (v.x -ℤ u.x) -ℤ r.dx *ℤ (v.y -ℤ u.y) ≡ vertex_value r v -ℤ vertex_value r u
+value_from r u v = by_ring (r.dx ∷ r.dy ∷ r.start.x ∷ r.start.y ∷ u.x ∷ u.y ∷ v.x ∷ v.y ∷ []) _ _ (search quotes depth 40 fits 40000) (search quotes depth 40 fits 40000) tt
+
+-- a ray that starts on the straight line of another, and runs along it
+pub scaled : (r r' : Ray) → r.dx *ℤ r'.dy -ℤ r.dy *ℤ r'.dx ≡ pos 0 → vertex_value r r'.start ≡ pos 0 → IsScaled r r' (dot r r) (dot r r')
+scaled r r' c s = record {
+  value = λ v.
+      let x = v.x -ℤ r'.start.x in
+      let y = v.y -ℤ r'.start.y in
+      let t = cross_times r.dx r.dy r'.dx r'.dy x y in
+      let z = ap (λ (n : ℤ). (r.dx *ℤ x +ℤ r.dy *ℤ y) *ℤ n) c ∙ zero_product (r.dx *ℤ x +ℤ r.dy *ℤ y) in
+      let f : r.dy *ℤ x -ℤ r.dx *ℤ y ≡ vertex_value r v = let g = value_from r r'.start v in omega (arith, linear) in
+      let h = ap (λ (n : ℤ). dot r r' *ℤ n) f in
+      omega (arith, linear);
+  dot = λ s.
+      let t = dot_times r.dx r.dy r'.dx r'.dy s.dx s.dy in
+      let z = ap (λ (n : ℤ). (r.dx *ℤ s.dy -ℤ r.dy *ℤ s.dx) *ℤ n) c ∙ zero_product (r.dx *ℤ s.dy -ℤ r.dy *ℤ s.dx) in
+      omega (arith, linear);
+}
+
+-- the ray of a line that lies on another ray
+pub scaled_line : (r : Ray) (e : Edge) (f : Facing) → LiesOn r e → IsScaled r (ray e f) (dot r r) (dot r (ray e f))
+scaled_line r e Along on = scaled r (ray e Along) (lies_crossed r e on Along) on.0
+scaled_line r e Against on = scaled r (ray e Against) (lies_crossed r e on Against) on.1
+
+scaled_between : (k m a b a' b' : ℤ) (t : Frac) → k *ℤ a' ≡ m *ℤ a → k *ℤ b' ≡ m *ℤ b → k *ℤ between a' b' t ≡ m *ℤ between a b t
+scaled_between k m a b a' b' t e f =
+    let g : k *ℤ between a' b' t ≡ (t.d -ℤ t.n) *ℤ (k *ℤ a') +ℤ t.n *ℤ (k *ℤ b') = by_ring (k ∷ a' ∷ b' ∷ t.n ∷ t.d ∷ []) _ _ (search quotes depth 30 fits 20000) (search quotes depth 30 fits 20000) tt in
+    let h : m *ℤ between a b t ≡ (t.d -ℤ t.n) *ℤ (m *ℤ a) +ℤ t.n *ℤ (m *ℤ b) = by_ring (m ∷ a ∷ b ∷ t.n ∷ t.d ∷ []) _ _ (search quotes depth 30 fits 20000) (search quotes depth 30 fits 20000) tt in
+    g ∙ ap (λ (x : ℤ). (t.d -ℤ t.n) *ℤ x +ℤ t.n *ℤ (k *ℤ b')) e ∙ ap (λ (x : ℤ). (t.d -ℤ t.n) *ℤ (m *ℤ a) +ℤ t.n *ℤ x) f ∙ sym h
+
+-- ---- the crossing
+-- both rays cross a line at one fraction, whatever its form
+abbrev pub SameValue : Frac → Frac → Type 0
+SameValue s t = s.n *ℤ t.d ≡ t.n *ℤ s.d
+
+cross_same : (k m a b a' b' : ℤ) → pos 0 <ℤ k → k *ℤ a' ≡ m *ℤ a → k *ℤ b' ≡ m *ℤ b → a *ℤ b' ≡ a' *ℤ b
+cross_same k m a b a' b' h e f =
+    let x : k *ℤ (a *ℤ b') ≡ a *ℤ (k *ℤ b') = by_ring (k ∷ a ∷ b' ∷ []) _ _ (search quotes depth 20) (search quotes depth 20) tt in
+    let y : k *ℤ (a' *ℤ b) ≡ b *ℤ (k *ℤ a') = by_ring (k ∷ a' ∷ b ∷ []) _ _ (search quotes depth 20) (search quotes depth 20) tt in
+    let z : a *ℤ (m *ℤ b) ≡ b *ℤ (m *ℤ a) = by_ring (m ∷ a ∷ b ∷ []) _ _ (search quotes depth 20) (search quotes depth 20) tt in
+    let ef = ap (λ (n : ℤ). a *ℤ n) f in
+    let ee = ap (λ (n : ℤ). b *ℤ n) e in
+    let p = factor_at_most k (a *ℤ b') (a' *ℤ b) h (omega (arith, linear)) in
+    let q = factor_at_most k (a' *ℤ b) (a *ℤ b') h (omega (arith, linear)) in
+    omega (arith, linear)
+
+zeros_same : (a b a' b' : ℤ) → a *ℤ b' ≡ a' *ℤ b → SameValue (zero_between a b) (zero_between a' b')
+zeros_same a b a' b' e = by_lt_z a b rises falls
+  where
+    rise_rise : neg_ℤ a *ℤ (b' -ℤ a') -ℤ neg_ℤ a' *ℤ (b -ℤ a) ≡ a' *ℤ b -ℤ a *ℤ b'
+    rise_rise = by_ring (a ∷ b ∷ a' ∷ b' ∷ []) _ _ (search quotes depth 20) (search quotes depth 20) tt
+
+    rise_fall : neg_ℤ a *ℤ (a' -ℤ b') -ℤ a' *ℤ (b -ℤ a) ≡ a *ℤ b' -ℤ a' *ℤ b
+    rise_fall = by_ring (a ∷ b ∷ a' ∷ b' ∷ []) _ _ (search quotes depth 20) (search quotes depth 20) tt
+
+    fall_rise : a *ℤ (b' -ℤ a') -ℤ neg_ℤ a' *ℤ (a -ℤ b) ≡ a *ℤ b' -ℤ a' *ℤ b
+    fall_rise = by_ring (a ∷ b ∷ a' ∷ b' ∷ []) _ _ (search quotes depth 20) (search quotes depth 20) tt
+
+    fall_fall : a *ℤ (a' -ℤ b') -ℤ a' *ℤ (a -ℤ b) ≡ a' *ℤ b -ℤ a *ℤ b'
+    fall_fall = by_ring (a ∷ b ∷ a' ∷ b' ∷ []) _ _ (search quotes depth 20) (search quotes depth 20) tt
+
+    both : (c c' : Frac) → zero_between a b ≡ c → zero_between a' b' ≡ c' → SameValue c c' → SameValue (zero_between a b) (zero_between a' b')
+    both c c' f g s = subst (λ (x : Frac). SameValue x (zero_between a' b')) (sym f) (subst (SameValue c) (sym g) s)
+
+    rises : a <ℤ b → SameValue (zero_between a b) (zero_between a' b')
+    rises h =
+        by_lt_z a' b'
+        (λ k. both _ _ (zero_rising a b h) (zero_rising a' b' k) (let t = rise_rise in omega (arith, linear)))
+        (λ k. both _ _ (zero_rising a b h) (zero_falling a' b' k) (let t = rise_fall in omega (arith, linear)))
+
+    falls : b ≤ℤ a → SameValue (zero_between a b) (zero_between a' b')
+    falls h =
+        by_lt_z a' b'
+        (λ k. both _ _ (zero_falling a b h) (zero_rising a' b' k) (let t = fall_rise in omega (arith, linear)))
+        (λ k. both _ _ (zero_falling a b h) (zero_falling a' b' k) (let t = fall_fall in omega (arith, linear)))
+
+-- rounding depends on a fraction's value alone
+pub same_point : (e : Edge) (s t : Frac) → IsFraction s → IsFraction t → SameValue s t → point_at e s ≡ point_at e t
+same_point e s t fs ft v =
+    let a = steps_rise e s t fs.positive ft.positive fs.at_least_zero (omega (arith, linear)) in
+    let b = steps_rise e t s ft.positive fs.positive ft.at_least_zero (omega (arith, linear)) in
+    one_point e s t fs ft (omega arith)
+
+-- a crossing is a fraction
+across_fraction : (lines : List Edge) (h p : Piece) → MayDivide lines h p → place_of lines h p ≡ Across → IsFraction (crossing (ray_of lines h) (edge_of lines p))
+across_fraction lines h p may a =
+    let r = ray_of lines h in
+    let e = edge_of lines p in
+    let u = value_by lines h p p.from in
+    let w = value_by lines h p p.to in
+    let z = dot r (ray_of lines p) in
+    let m = subst (Means u w z) a (place_means u w z) in
+    let small = crossing_small r e may.short may.line in
+    let q = may.piece in
+    let x = vertex_value r e.v1 in
+    let y = vertex_value r e.v2 in
+    ⊎_elim
+    (λ d. crossing_in p.from (crossing r e) p.to q.from_in q.to_in (crossing_down x y p.from p.to q.from_in.positive q.to_in.positive q.rising d.0 d.1) small)
+    (λ d. crossing_in p.from (crossing r e) p.to q.from_in q.to_in (crossing_up x y p.from p.to q.from_in.positive q.to_in.positive q.rising d.0 d.1) small) m
+
+-- ---- what is kept
+abbrev negated : Bool → Bool
+negated true = false
+negated false = true
+
+kept_some : (b : Bool) (x : Piece) → is_some (if b then None else Some x) ≡ negated b
+kept_some true x = refl
+kept_some false x = refl
+
+first_kept : (lines : List Edge) (p : Piece) (c d : Frac) → point_at (edge_of lines p) c ≡ point_at (edge_of lines p) d → is_some (kept lines (record p { to = c })) ≡ is_some (kept lines (record p { to = d }))
+first_kept lines p c d e =
+    kept_some (same_place (first_end lines p) (point_at (edge_of lines p) c)) (record p { to = c })
+    ∙ ap (λ (v : Vertex). negated (same_place (first_end lines p) v)) e
+    ∙ sym (kept_some (same_place (first_end lines p) (point_at (edge_of lines p) d)) (record p { to = d }))
+
+last_kept : (lines : List Edge) (p : Piece) (c d : Frac) → point_at (edge_of lines p) c ≡ point_at (edge_of lines p) d → is_some (kept lines (record p { from = c })) ≡ is_some (kept lines (record p { from = d }))
+last_kept lines p c d e =
+    kept_some (same_place (point_at (edge_of lines p) c) (last_end lines p)) (record p { from = c })
+    ∙ ap (λ (v : Vertex). negated (same_place v (last_end lines p))) e
+    ∙ sym (kept_some (same_place (point_at (edge_of lines p) d) (last_end lines p)) (record p { from = d }))
+
+-- two divisions keep the same sides of a piece
+pub record KeepsSame (x y : Parts) : Type 0 where
+  pub right : is_some x.right ≡ is_some y.right
+  pub left : is_some x.left ≡ is_some y.left
+
+-- or the one keeps on its right what the other keeps on its left
+pub record KeepsTurned (x y : Parts) : Type 0 where
+  pub right : is_some x.right ≡ is_some y.left
+  pub left : is_some x.left ≡ is_some y.right
+
+cut_same : (lines : List Edge) (p : Piece) (c d : Frac) (b : Bool) → point_at (edge_of lines p) c ≡ point_at (edge_of lines p) d → KeepsSame (cut_at lines p c b) (cut_at lines p d b)
+cut_same lines p c d true e = record { right = first_kept lines p c d e; left = last_kept lines p c d e }
+cut_same lines p c d false e = record { right = last_kept lines p c d e; left = first_kept lines p c d e }
+
+cut_turned : (lines : List Edge) (p : Piece) (c d : Frac) (b : Bool) → point_at (edge_of lines p) c ≡ point_at (edge_of lines p) d → KeepsTurned (cut_at lines p c b) (cut_at lines p d (negated b))
+cut_turned lines p c d true e = record { right = first_kept lines p c d e; left = last_kept lines p c d e }
+cut_turned lines p c d false e = record { right = last_kept lines p c d e; left = first_kept lines p c d e }
+
+is_above : (x : ℤ) → pos 0 <ℤ x → int_lt (pos 0) x ≡ true
+is_above x h = grind (arith, ints)
+
+not_at : (x : ℤ) → x ≤ℤ pos 0 → int_lt (pos 0) x ≡ false
+not_at x h = grind (arith, ints)
+
+-- ---- one piece by two partitions on one straight line
+-- what is known of two pieces of a list of lines
+pub record OnOneLine (lines : List Edge) (a b : Piece) : Type 0 where
+  pub drawn : All IsEdge lines
+  pub first : IsPiece lines a
+  pub second : IsPiece lines b
+  pub along : LiesAlong lines a b
+
+module _ (lines : List Edge) (a b : Piece) (on : OnOneLine lines a b) where
+  by_two : IsScaled (ray_of lines a) (ray_of lines b) (dot (ray_of lines a) (ray_of lines a)) (dot (ray_of lines a) (ray_of lines b))
+  by_two = scaled_line (ray_of lines a) (edge_of lines b) b.side on.along
+
+  may_first : (q : Piece) → IsPiece lines q → MayDivide lines a q
+  may_first q h = may_divide lines on.drawn a q on.first h
+
+  may_second : (q : Piece) → IsPiece lines q → MayDivide lines b q
+  may_second q h = may_divide lines on.drawn b q on.second h
+
+  long : pos 0 <ℤ dot (ray_of lines a) (ray_of lines a)
+  long = (may_first a on.first).long
+
+  -- the exact values at a fraction of a line
+  values : (e : Edge) (t : Frac) → dot (ray_of lines a) (ray_of lines a) *ℤ exact_value (ray_of lines b) e t ≡ dot (ray_of lines a) (ray_of lines b) *ℤ exact_value (ray_of lines a) e t
+  values e t = scaled_between _ _ (vertex_value (ray_of lines a) e.v1) (vertex_value (ray_of lines a) e.v2) (vertex_value (ray_of lines b) e.v1) (vertex_value (ray_of lines b) e.v2) t (by_two.value e.v1) (by_two.value e.v2)
+
+  crossings : (e : Edge) → SameValue (crossing (ray_of lines a) e) (crossing (ray_of lines b) e)
+  crossings e =
+      zeros_same (vertex_value (ray_of lines a) e.v1) (vertex_value (ray_of lines a) e.v2) (vertex_value (ray_of lines b) e.v1) (vertex_value (ray_of lines b) e.v2)
+      (cross_same (dot (ray_of lines a) (ray_of lines a)) (dot (ray_of lines a) (ray_of lines b)) _ _ _ _ long (by_two.value e.v1) (by_two.value e.v2))
+
+  points : (q : Piece) → IsPiece lines q → place_of lines a q ≡ Across → place_of lines b q ≡ Across → point_at (edge_of lines q) (crossing (ray_of lines a) (edge_of lines q)) ≡ point_at (edge_of lines q) (crossing (ray_of lines b) (edge_of lines q))
+  points q h x y = same_point (edge_of lines q) _ _ (across_fraction lines a q (may_first q h) x) (across_fraction lines b q (may_second q h) y) (crossings (edge_of lines q))
+
+  -- ---- in one direction
+  module _ (with : RunsWith (ray_of lines a) (ray_of lines b)) where
+    sign_at : (e : Edge) (t : Frac) → HasSign (exact_value (ray_of lines a) e t) (exact_value (ray_of lines b) e t)
+    sign_at e t = has_sign _ _ _ _ long with (values e t)
+
+    pub same_place_of : (q : Piece) → place_of lines a q ≡ place_of lines b q
+    same_place_of q = same_place_by _ _ _ _ _ _ (sign_at (edge_of lines q) q.from) (sign_at (edge_of lines q) q.to) (has_sign _ _ _ _ long with (by_two.dot (ray_of lines q)))
+
+    same_start : (x y : ℤ) → HasSign x y → int_lt (pos 0) x ≡ int_lt (pos 0) y
+    same_start x y s = by_lt_z (pos 0) x (λ h. is_above x h ∙ sym (is_above y (s.above h))) (λ h. not_at x h ∙ sym (not_at y (by_lt_z x (pos 0) (λ k. let t = s.below k in omega (arith, linear)) (λ k. let t = s.zero (omega (arith, linear)) in omega (arith, linear)))))
+
+    pub same_kept : (q : Piece) → IsPiece lines q → KeepsSame (parts_of lines a q) (parts_of lines b q)
+    same_kept q h = by_place (place_of lines a q) refl
+      where
+        moved : (place : Place) → place_of lines a q ≡ place → KeepsSame (parts_by lines a q place) (parts_by lines b q place) → KeepsSame (parts_of lines a q) (parts_of lines b q)
+        moved place e k = subst (λ (x : Place). KeepsSame (parts_by lines a q x) (parts_of lines b q)) (sym e) (subst (λ (x : Place). KeepsSame (parts_by lines a q place) (parts_by lines b q x)) (sym e ∙ same_place_of q) k)
+
+        by_place : (place : Place) → place_of lines a q ≡ place → KeepsSame (parts_of lines a q) (parts_of lines b q)
+        by_place Right e = moved Right e (record { right = refl; left = refl })
+        by_place Left e = moved Left e (record { right = refl; left = refl })
+        by_place Across e =
+            let s = same_start _ _ (sign_at (edge_of lines q) q.from) in
+            moved Across e (subst (λ (x : Bool). KeepsSame (parts_by lines a q Across) (cut_at lines q (crossing (ray_of lines b) (edge_of lines q)) x)) s (cut_same lines q _ _ (int_lt (pos 0) (value_by lines a q q.from)) (points q h e (sym (same_place_of q) ∙ e))))
+
+  -- ---- in opposite directions
+  module _ (against : RunsAgainst (ray_of lines a) (ray_of lines b)) where
+    other_at : (e : Edge) (t : Frac) → HasOther (exact_value (ray_of lines a) e t) (exact_value (ray_of lines b) e t)
+    other_at e t = has_other _ _ _ _ long against (values e t)
+
+    -- a piece with both values 0 lies along, and so runs with the ray or against it
+    not_none : (q : Piece) → IsPiece lines q → value_by lines a q q.from ≡ pos 0 → value_by lines a q q.to ≡ pos 0 → dot (ray_of lines a) (ray_of lines q) ≡ pos 0 → ⊥
+    not_none q h u w z =
+        let e = edge_of lines q in
+        dot_not_zero (ray_of lines a) e q.side long (may_first q h).line (zero_at_ends (vertex_value (ray_of lines a) e.v1) (vertex_value (ray_of lines a) e.v2) q.from q.to h.from_in.positive h.to_in.positive h.rising u w) z
+
+    pub turned_place_of : (q : Piece) → IsPiece lines q → turned (place_of lines a q) ≡ place_of lines b q
+    turned_place_of q h = turned_place_by _ _ _ _ _ _ (other_at (edge_of lines q) q.from) (other_at (edge_of lines q) q.to) (has_other _ _ _ _ long against (by_two.dot (ray_of lines q))) (not_none q h)
+
+    turned_start : (x y : ℤ) → HasOther x y → (x ≡ pos 0 → ⊥) → negated (int_lt (pos 0) x) ≡ int_lt (pos 0) y
+    turned_start x y s nz = by_lt_z (pos 0) x (λ h. ap negated (is_above x h) ∙ sym (not_at y (let t = s.above h in omega (arith, linear)))) (λ h. ap negated (not_at x h) ∙ sym (is_above y (by_lt_z x (pos 0) s.below (λ k. absurd (nz (omega (arith, linear)))))))
+
+    across_not_zero : (u w z : ℤ) → place_by u w z ≡ Across → u ≡ pos 0 → ⊥
+    across_not_zero u w z e k =
+        let m = subst (Means u w z) e (place_means u w z) in
+        ⊎_elim (λ d. let x = d.0 in omega (arith, linear)) (λ d. let x = d.0 in omega (arith, linear)) m
+
+    pub turned_kept : (q : Piece) → IsPiece lines q → KeepsTurned (parts_of lines a q) (parts_of lines b q)
+    turned_kept q h = by_place (place_of lines a q) refl
+      where
+        moved : (place : Place) → place_of lines a q ≡ place → KeepsTurned (parts_by lines a q place) (parts_by lines b q (turned place)) → KeepsTurned (parts_of lines a q) (parts_of lines b q)
+        moved place e k = subst (λ (x : Place). KeepsTurned (parts_by lines a q x) (parts_of lines b q)) (sym e) (subst (λ (x : Place). KeepsTurned (parts_by lines a q place) (parts_by lines b q x)) (ap turned (sym e) ∙ turned_place_of q h) k)
+
+        by_place : (place : Place) → place_of lines a q ≡ place → KeepsTurned (parts_of lines a q) (parts_of lines b q)
+        by_place Right e = moved Right e (record { right = refl; left = refl })
+        by_place Left e = moved Left e (record { right = refl; left = refl })
+        by_place Across e =
+            let s = turned_start _ _ (other_at (edge_of lines q) q.from) (across_not_zero _ (value_by lines a q q.to) (dot (ray_of lines a) (ray_of lines q)) e) in
+            moved Across e (subst (λ (x : Bool). KeepsTurned (parts_by lines a q Across) (cut_at lines q (crossing (ray_of lines b) (edge_of lines q)) x)) s (cut_turned lines q _ _ (int_lt (pos 0) (value_by lines a q q.from)) (points q h e (sym (turned_place_of q h) ∙ ap turned e))))
+
+-- ---- whole lists
+kept_as_many : {X Y Z : Type 0} (f : X → Option Y) (g : X → Option Z) (xs : List X) → All (λ x. is_some (f x) ≡ is_some (g x)) xs → length (filter_map f xs) ≡ length (filter_map g xs)
+kept_as_many f g [] h = refl
+kept_as_many {X} {Y} {Z} f g (x ∷ xs) h =
+    by_heads (f x) (g x) (All-head (λ x. is_some (f x) ≡ is_some (g x)) x xs h) (kept_as_many f g xs (All-tail (λ x. is_some (f x) ≡ is_some (g x)) x xs h))
+  where
+    by_heads : (o : Option Y) (u : Option Z) → is_some o ≡ is_some u → length (filter_map f xs) ≡ length (filter_map g xs) → length (cons_option o (filter_map f xs)) ≡ length (cons_option u (filter_map g xs))
+    by_heads None None e k = k
+    by_heads None (Some z) e k = cc
+    by_heads (Some y) None e k = cc
+    by_heads (Some y) (Some z) e k = omega arith
+
+counted_as_many : {X : Type 0} (f g : X → Bool) (xs : List X) → All (λ x. f x ≡ g x) xs → count_by f xs ≡ count_by g xs
+counted_as_many f g [] h = refl
+counted_as_many {X} f g (x ∷ xs) h =
+    let e = All-head (λ x. f x ≡ g x) x xs h in
+    let t = counted_as_many f g xs (All-tail (λ x. f x ≡ g x) x xs h) in
+    let a : count_by f (x ∷ xs) ≡ count_by f (x ∷ []) + count_by f xs = sum_by-append (λ (y : X). cond (f y) 1 0) (x ∷ []) xs in
+    let b : count_by g (x ∷ xs) ≡ count_by g (x ∷ []) + count_by g xs = sum_by-append (λ (y : X). cond (g y) 1 0) (x ∷ []) xs in
+    let c : count_by f (x ∷ []) ≡ count_by g (x ∷ []) = ap (λ (y : Bool). 0 + cond y 1 0) e in
+    omega arith
+
+both_same : (a b c d : Bool) → a ≡ c → b ≡ d → (a && b) ≡ (c && d)
+both_same a b c d e f = cc
+
+both_turned : (a b c d : Bool) → a ≡ d → b ≡ c → (a && b) ≡ (c && d)
+both_turned true true true true e f = refl
+both_turned true true true false e f = cc
+both_turned true true false d e f = cc
+both_turned true false true d e f = cc
+both_turned true false false d e f = refl
+both_turned false true false d e f = cc
+both_turned false true true true e f = cc
+both_turned false true true false e f = refl
+both_turned false false true d e f = cc
+both_turned false false false d e f = refl
+
+-- the counts by the second are those by the first
+pub record CountSame (lines : List Edge) (a b : Piece) (ps : List Piece) : Type 0 where
+  pub right : rights lines b ps ≡ rights lines a ps
+  pub left : lefts lines b ps ≡ lefts lines a ps
+  pub splits : splits lines b ps ≡ splits lines a ps
+
+-- or have right and left exchanged
+pub record CountTurned (lines : List Edge) (a b : Piece) (ps : List Piece) : Type 0 where
+  pub right : rights lines b ps ≡ lefts lines a ps
+  pub left : lefts lines b ps ≡ rights lines a ps
+  pub splits : splits lines b ps ≡ splits lines a ps
+
+pub same_counts : (lines : List Edge) (a b : Piece) (ps : List Piece) → OnOneLine lines a b → All (IsPiece lines) ps → RunsWith (ray_of lines a) (ray_of lines b) → CountSame lines a b ps
+same_counts lines a b ps on each with = record {
+  right = sym (kept_as_many (λ q. (parts_of lines a q).right) (λ q. (parts_of lines b q).right) ps (λ k d l. (same_kept lines a b on with _ (each k d l)).right));
+  left = sym (kept_as_many (λ q. (parts_of lines a q).left) (λ q. (parts_of lines b q).left) ps (λ k d l. (same_kept lines a b on with _ (each k d l)).left));
+  splits = sym (counted_as_many (is_split lines a) (is_split lines b) ps (λ k d l. let s = same_kept lines a b on with _ (each k d l) in both_same _ _ _ _ s.right s.left));
+}
+
+pub turned_counts : (lines : List Edge) (a b : Piece) (ps : List Piece) → OnOneLine lines a b → All (IsPiece lines) ps → RunsAgainst (ray_of lines a) (ray_of lines b) → CountTurned lines a b ps
+turned_counts lines a b ps on each against = record {
+  right = sym (kept_as_many (λ q. (parts_of lines a q).left) (λ q. (parts_of lines b q).right) ps (λ k d l. (turned_kept lines a b on against _ (each k d l)).left));
+  left = sym (kept_as_many (λ q. (parts_of lines a q).right) (λ q. (parts_of lines b q).left) ps (λ k d l. (turned_kept lines a b on against _ (each k d l)).right));
+  splits = sym (counted_as_many (is_split lines a) (is_split lines b) ps (λ k d l. let s = turned_kept lines a b on against _ (each k d l) in both_turned _ _ _ _ s.right s.left));
+}
+
+-- ---- the choice
+-- the straight line is run along one way or the other
+one_way : (lines : List Edge) (a b : Piece) → OnOneLine lines a b → RunsWith (ray_of lines a) (ray_of lines b) ⊎ RunsAgainst (ray_of lines a) (ray_of lines b)
+one_way lines a b on =
+    let z = dot (ray_of lines a) (ray_of lines b) in
+    let may = may_divide lines on.drawn a b on.first on.second in
+    by_lt_z (pos 0) z (λ h. inl h) (λ h. by_lt_z z (pos 0) (λ k. inr k) (λ k. absurd (dot_not_zero (ray_of lines a) (edge_of lines b) b.side may.long may.line on.along (omega (arith, linear)))))
+
+-- two pieces on one straight line cost the same, in whatever directions
+pub same_cost : (lines : List Edge) (a b : Piece) (ps : List Piece) → OnOneLine lines a b → All (IsPiece lines) ps → cost lines b ps ≡ cost lines a ps
+same_cost lines a b ps on each = ⊎_elim
+    (λ h. let c = same_counts lines a b ps on each h in by_same _ _ _ _ _ _ c.right c.left c.splits)
+    (λ h. let c = turned_counts lines a b ps on each h in by_turned _ _ _ _ _ _ c.right c.left c.splits) (one_way lines a b on)
+  where
+    by_same : (r l s R L S : ℕ) → r ≡ R → l ≡ L → s ≡ S → 8 * s + ((r - l) + (l - r)) ≡ 8 * S + ((R - L) + (L - R))
+    by_same r l s R L S e f g = omega arith
+
+    by_turned : (r l s R L S : ℕ) → r ≡ L → l ≡ R → s ≡ S → 8 * s + ((r - l) + (l - r)) ≡ 8 * S + ((R - L) + (L - R))
+    by_turned r l s R L S e f g = omega arith
+
+-- one that runs against a partition on its straight line goes to the left
+goes_left : (lines : List Edge) (a b : Piece) → LiesAlong lines a b → RunsAgainst (ray_of lines a) (ray_of lines b) → parts_of lines a b ≡ record { right = None; left = Some b }
+goes_left lines a b on against =
+    let u = at_zero b.from in
+    let w = at_zero b.to in
+    ap (parts_by lines a b) (left_if (value_by lines a b b.from) (value_by lines a b b.to) (dot (ray_of lines a) (ray_of lines b)) (omega (arith, linear)) (omega (arith, linear)) (λ e f. omega (arith, linear)))
+  where
+    at_zero : (t : Frac) → value_by lines a b t ≡ pos 0
+    at_zero t = ap (λ (x : ℤ). between x (vertex_value (ray_of lines a) (edge_of lines b).v2) t) on.0 ∙ ap (λ (x : ℤ). between (pos 0) x t) on.1 ∙ zero_everywhere t
+
+-- where the later of two pieces of a list separates it, so does the earlier
+pub separates_too : (lines : List Edge) (a b : Piece) (ps : List Piece) (n : ℕ) → OnOneLine lines a b → All (IsPiece lines) ps → slice_get ps n ≡ Some b → Separates lines b ps → Separates lines a ps
+separates_too lines a b ps n on each at s = ⊎_elim
+    (λ h. let l = (same_counts lines a b ps on each h).left in omega arith)
+    (λ h. ⊎_elim (λ z. absurd (none (goes_left lines a b on.along h) (none_left (λ q. (parts_of lines a q).left) ps n b (omega arith) at))) (λ z. z) (cases_lt (lefts lines a ps) 1))
+    (one_way lines a b on)
+  where
+    none : parts_of lines a b ≡ record { right = None; left = Some b } → (parts_of lines a b).left ≡ None → ⊥
+    none e f = let g = ap (λ (x : Parts). x.left) e in cc
+
+-- what may be chosen on a straight line: the earlier one too, where its line is unused
+pub candidate_too : (lines : List Edge) (used : List Bool) (a b : Piece) (ps : List Piece) (n : ℕ) → OnOneLine lines a b → All (IsPiece lines) ps → slice_get ps n ≡ Some b → slice_get used a.line ≡ Some false → IsCandidate lines ps used b → IsCandidate lines ps used a
+candidate_too lines used a b ps n on each at free can = (free, separates_too lines a b ps n on each at can.1)
+
+-- so a piece on the straight line of an earlier one of an unused line is never the first best
+pub never_best : (lines : List Edge) (used : List Bool) (a b : Piece) (ps : List Piece) (k n : ℕ) → OnOneLine lines a b → All (IsPiece lines) ps → k < n → slice_get ps k ≡ Some a → slice_get used a.line ≡ Some false → IsBestAt lines ps used n b → ⊥
+never_best lines used a b ps k n on each before at free best =
+    let c = candidate_too lines used a b ps n on each best.stands free best.candidate in
+    let f = best.first k a before at c in
+    let e = same_cost lines a b ps on each in
+    absurd (omega arith)

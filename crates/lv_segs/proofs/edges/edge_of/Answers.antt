@@ -1,0 +1,29 @@
+use Rattle.std.proofs.Common.{◌≡◌, sym, ap, ◌∙◌, arith, slice_get, Some}
+use Rattle.lv_maptables.specs.WellFormed.{HasEnds}
+use Rattle.lv_segs.specs.Plane.{IsEdge}
+use Rattle.lv_segs.specs.Pieces.{no_edge}
+use Rattle.lv_segs.specs.Edges.{edge_between, edges_of}
+use Rattle.lv_segs.proofs.FirstList.{index_is}
+use Rattle.lv_segs.proofs.Lists.{All-at}
+use Rattle.lv_segs.proofs.ItemReads.{is_there, at_some, mapped_at}
+use Rattle.lv_segs.proofs.edges.edge_of.Goals as goal
+use Rattle.lv_segs.proofs.edges.edge_of.Goals.{After-edge_between}
+
+pub unwrap-line-requires : goal.unwrap-line-requires
+unwrap-line-requires c = let e = c.from.ensures in let h = c.requires in is_there c.args.map.now.tables.lines c.from.result c.line.result c.line.ensures.item (omega arith)
+
+pub edge_between-requires : goal.edge_between-requires
+edge_between-requires c = at_some (HasEnds c.args.map.now.tables.vertices) c.unwrap-line.result c.unwrap-line.ensures c.line.ensures.ends
+
+-- the edge stands at its line's number
+stands : (c : After-edge_between) → slice_get (edges_of c.args.map.now.tables) c.args.line ≡ Some c.edge_between.result
+stands c =
+    let m = c.args.map.now.tables in
+    mapped_at (edge_between m.vertices) m.lines c.args.line c.unwrap-line.result (ap (slice_get m.lines) (sym c.from.ensures) ∙ sym c.line.ensures.item ∙ c.unwrap-line.ensures)
+    ∙ ap Some (sym c.edge_between.ensures)
+
+pub returns-clause-value : goal.returns-clause-value
+returns-clause-value c = sym (index_is (edges_of c.args.map.now.tables) c.args.line no_edge c.edge_between.result (stands c))
+
+pub returns-clause-drawn : goal.returns-clause-drawn
+returns-clause-drawn c = All-at IsEdge (edges_of c.args.map.now.tables) c.args.line c.edge_between.result c.lines_are_drawn.ensures.drawn (stands c)

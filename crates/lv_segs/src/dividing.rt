@@ -1,0 +1,182 @@
+ghost use Rattle.std.specs.Prelude.{◌≡◌, pos, neg_ℤ, ◌≤ℤ◌, length, All, true, false};
+ghost use Rattle.lv_lumps.specs.Drawing.{IsDrawable};
+ghost use Rattle.lv_segs.specs.Plane.{IsEdge, dot};
+ghost use Rattle.lv_segs.specs.Fractions.{IsFraction};
+ghost use Rattle.lv_segs.specs.Pieces.{IsPiece};
+ghost use Rattle.lv_segs.specs.Division.{place_of, parts_of, IsDivided, LiesAlong};
+ghost use Rattle.lv_segs.specs.Edges.{edges_of};
+ghost use Rattle.lv_segs.specs.Local.{IsLineRay, HasFractions, place_on, parts_on, kept_on, cut_on};
+
+use crate::edge::Edge;
+use crate::edges::{edge_of, lines_are_drawn};
+use crate::frac::Frac;
+use crate::piece::{Parts, Piece, Place};
+use crate::place::{place_by_signs, value_between};
+use crate::points::point;
+use crate::values::{dot_of, ray_of, value_at, zero_of};
+use lv_lumps::Ray;
+use lv_maptables::Map;
+
+// A part of a line, left out where its ends round to one place.
+fn kept(edge: Edge, piece: Piece) -> Option<Piece>
+    requires line { IsEdge edge }
+    requires from { IsFraction piece.from }
+    requires to { IsFraction piece.to }
+    ensures { result ≡ kept_on edge piece }
+{
+    let first = point(edge.v1, edge.v2, piece.from);
+    let last = point(edge.v1, edge.v2, piece.to);
+    if first == last { None } else { Some(piece) }
+}
+
+// The parts of a piece that is cut at a fraction of its line.
+fn cut(edge: Edge, piece: &Piece, at: Frac, starts_right: bool) -> Parts
+    requires line { IsEdge edge }
+    requires fractions { HasFractions piece.now }
+    requires at { IsFraction at }
+    ensures { result ≡ cut_on edge piece.now at starts_right }
+{
+    let before = kept(
+        edge,
+        Piece {
+            line: piece.line,
+            side: piece.side,
+            from: piece.from,
+            to: at,
+        },
+    );
+    let after = kept(
+        edge,
+        Piece {
+            line: piece.line,
+            side: piece.side,
+            from: at,
+            to: piece.to,
+        },
+    );
+    if starts_right {
+        Parts {
+            right: before,
+            left: after,
+        }
+    } else {
+        Parts {
+            right: after,
+            left: before,
+        }
+    }
+}
+
+/// On which side of a ray a piece of a line lies.
+pub fn place_on(ray: Ray, edge: Edge, piece: &Piece) -> Place
+    requires ray { IsLineRay ray }
+    requires line { IsEdge edge }
+    requires fractions { HasFractions piece.now }
+    ensures { result ≡ place_on ray edge piece.now }
+{
+    let first = value_at(ray, edge.v1);
+    let last = value_at(ray, edge.v2);
+    let from = value_between(first, last, piece.from);
+    let to = value_between(first, last, piece.to);
+    let own = ray_of(edge, piece.side);
+    let direction = dot_of(ray, own);
+    place_by_signs(from, to, direction)
+}
+
+/// The parts that a ray makes of a piece of a line.
+pub fn divide_on(ray: Ray, edge: Edge, piece: &Piece) -> Parts
+    requires ray { IsLineRay ray }
+    requires line { IsEdge edge }
+    requires fractions { HasFractions piece.now }
+    ensures { result ≡ parts_on ray edge piece.now }
+{
+    let first = value_at(ray, edge.v1);
+    let last = value_at(ray, edge.v2);
+    let from = value_between(first, last, piece.from);
+    let place = place_on(ray, edge, piece);
+    match place {
+        Place::Right => Parts {
+            right: Some(*piece),
+            left: None,
+        },
+        Place::Left => Parts {
+            right: None,
+            left: Some(*piece),
+        },
+        Place::Across => {
+            let at = zero_of(first, last);
+            cut(edge, piece, at, from > 0)
+        }
+    }
+}
+
+/// On which side of a partition a piece lies, over the lines of a map.
+pub fn side_in(lines: &[Edge], partition: &Piece, piece: &Piece) -> Place
+    requires lines { All IsEdge lines.now }
+    requires partition { IsPiece lines.now partition.now }
+    requires piece { IsPiece lines.now piece.now }
+    ensures { result ≡ place_of lines.now partition.now piece.now }
+{
+    let along = lines[partition.line as usize];
+    let edge = lines[piece.line as usize];
+    let ray = ray_of(along, partition.side);
+    place_on(ray, edge, piece)
+}
+
+/// What a partition makes of a piece, over the lines of a map.
+pub fn divide_in(lines: &[Edge], partition: &Piece, piece: &Piece) -> Parts
+    requires lines { All IsEdge lines.now }
+    requires partition { IsPiece lines.now partition.now }
+    requires piece { IsPiece lines.now piece.now }
+    ensures exact { result ≡ parts_of lines.now partition.now piece.now }
+    ensures law { IsDivided lines.now partition.now piece.now result }
+{
+    let along = lines[partition.line as usize];
+    let edge = lines[piece.line as usize];
+    let ray = ray_of(along, partition.side);
+    divide_on(ray, edge, piece)
+}
+
+/// The line of the second piece lies on the straight line of the first one.
+pub fn lies_along(lines: &[Edge], first: &Piece, second: &Piece) -> bool
+    requires lines { All IsEdge lines.now }
+    requires first { IsPiece lines.now first.now }
+    requires second { IsPiece lines.now second.now }
+    ensures yes { result ≡ true → LiesAlong lines.now first.now second.now }
+    ensures no { LiesAlong lines.now first.now second.now → result ≡ true }
+{
+    let along = lines[first.line as usize];
+    let edge = lines[second.line as usize];
+    let ray = ray_of(along, first.side);
+    let start = value_at(ray, edge.v1);
+    let end = value_at(ray, edge.v2);
+    start == 0 && end == 0
+}
+
+/// On which side of a partition a piece of a map lies, by the exact signs of its ends: `Across` where
+/// the partition crosses it, whether both parts will be kept or not. It takes no memory.
+pub fn side_of(map: &Map, partition: &Piece, piece: &Piece) -> Place
+    requires partition { IsPiece (edges_of map.now.tables) partition.now }
+    requires piece { IsPiece (edges_of map.now.tables) piece.now }
+    ensures { result ≡ place_of (edges_of map.now.tables) partition.now piece.now }
+{
+    let along = edge_of(map, partition.line);
+    let own = edge_of(map, piece.line);
+    let ray = ray_of(along, partition.side);
+    place_on(ray, own, piece)
+}
+
+/// What a partition makes of a piece of a map: its parts on the right and on the left, with exact
+/// fractions. A part whose ends round to one point is left out. It takes no memory.
+pub fn divide(map: &Map, partition: &Piece, piece: &Piece) -> Parts
+    requires partition { IsPiece (edges_of map.now.tables) partition.now }
+    requires piece { IsPiece (edges_of map.now.tables) piece.now }
+    ensures exact { result ≡ parts_of (edges_of map.now.tables) partition.now piece.now }
+    ensures law { IsDivided (edges_of map.now.tables) partition.now piece.now result }
+{
+    lines_are_drawn(map);
+    let along = edge_of(map, partition.line);
+    let edge = edge_of(map, piece.line);
+    let ray = ray_of(along, partition.side);
+    divide_on(ray, edge, piece)
+}

@@ -1,0 +1,64 @@
+ghost use Rattle.std.specs.Prelude.{◌≡◌, pos, neg_ℤ, ◌≤ℤ◌, ◌-ℤ◌};
+ghost use Rattle.lv_lumps.specs.Drawing.{IsDrawable};
+ghost use Rattle.lv_segs.specs.Plane.{vertex_value, ray, IsEdge, dot};
+ghost use Rattle.lv_segs.specs.Fractions.{zero_between};
+ghost use Rattle.lv_segs.specs.Local.{IsLineRay};
+
+use crate::edge::{Edge, Facing};
+use crate::frac::Frac;
+use lv_lumps::{Point, Ray, Vertex, product};
+
+/// A line in one of its two directions.
+pub fn ray_of(edge: Edge, facing: Facing) -> Ray
+    requires { IsEdge edge }
+    ensures ray { result ≡ ray edge facing }
+    ensures line { IsLineRay result }
+{
+    match facing {
+        Facing::Along => Ray::between(edge.v1, edge.v2),
+        Facing::Against => Ray::between(edge.v2, edge.v1),
+    }
+}
+
+/// How far a place lies to the right of the ray of a line, times the line's length.
+pub fn value_at(ray: Ray, place: Vertex) -> i64
+    requires ray { IsLineRay ray }
+    requires place { IsDrawable place }
+    ensures value { result ≡ vertex_value ray place }
+    ensures low { neg_ℤ (pos 2147483648) ≤ℤ result }
+    ensures high { result ≤ℤ pos 2147483648 }
+{
+    ray.side_value(Point::from(place))
+}
+
+// Where a value that goes evenly from one number to another is 0.
+pub(crate) fn zero_of(first: i64, last: i64) -> Frac
+    requires first_low { neg_ℤ (pos 2147483648) ≤ℤ first }
+    requires first_high { first ≤ℤ pos 2147483648 }
+    requires last_low { neg_ℤ (pos 2147483648) ≤ℤ last }
+    requires last_high { last ≤ℤ pos 2147483648 }
+    ensures { result ≡ zero_between first last }
+{
+    if first < last {
+        Frac {
+            n: -first as i128,
+            d: (last - first) as i128,
+        }
+    } else {
+        Frac {
+            n: first as i128,
+            d: (first - last) as i128,
+        }
+    }
+}
+
+// The inner product of the vectors of two lines.
+pub(crate) fn dot_of(ray: Ray, other: Ray) -> i64
+    requires ray { IsLineRay ray }
+    requires other { IsLineRay other }
+    ensures { result ≡ dot ray other }
+{
+    let across = product(ray.dx as i64, other.dx as i64);
+    let upward = product(ray.dy as i64, other.dy as i64);
+    across + upward
+}
