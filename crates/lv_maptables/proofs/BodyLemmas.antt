@@ -1,4 +1,4 @@
--- A map's body holds that map, and framed bytes are the body of what they hold.
+-- A map's part holds that map, and framed bytes begin with the part of what they hold.
 use Rattle.std.proofs.Common.{◌≡◌, ℕ, zero, suc, ◌+◌, ◌*◌, ◌/◌, ◌≤◌, ◌<◌, List, [], ◌∷◌, ◌++◌, length, map, get_or, take, drop, refl, sym, ◌∙◌, ap, arith, length-append, length-drop, append_assoc, inl, inr}
 use Rattle.std.specs.Prelude.{flat_map}
 use Rattle.std.specs.List.{All}
@@ -85,8 +85,8 @@ module _ {R : Type 0} (at : List ℕ → R) (bytes_of : R → List ℕ) (n : ℕ
       let many : length bytes / n ≡ k = rw whole (mul-div_cancel_left k some) in
       rw many (chunks-lump k bytes (mul_comm k n ∙ sym whole) fits same)
 
-nested_6 : (a b c d e f : List ℕ) → ((((a ++ b) ++ c) ++ d) ++ e) ++ f ≡ a ++ (b ++ (c ++ (d ++ (e ++ f))))
-nested_6 a b c d e f = simp append_assoc
+nested_7 : (a b c d e f g : List ℕ) → (((((a ++ b) ++ c) ++ d) ++ e) ++ f) ++ g ≡ a ++ (b ++ (c ++ (d ++ (e ++ (f ++ g)))))
+nested_7 a b c d e f g = simp append_assoc
 
 -- a part of n items for each of a count, and what follows
 pub part_here : (n k count : ℕ) (bytes part rest : List ℕ) → count ≡ k → length part ≡ n * k → bytes ≡ part ++ rest → (take (n * count) bytes ≡ part) × (drop (n * count) bytes ≡ rest)
@@ -95,8 +95,8 @@ part_here n k count bytes part rest same size is =
     (rw is (take_at part rest (n * count) size'), rw is (drop_at part rest (n * count) size'))
 
 -- parts that follow one another are the whole
-pub parts_joined : (a p q r s : List ℕ) (whole b c d e z : List ℕ) → a ++ b ≡ whole → p ++ c ≡ b → q ++ d ≡ c → r ++ e ≡ d → s ++ z ≡ e
-    → ((((a ++ p) ++ q) ++ r) ++ s) ++ z ≡ whole
-parts_joined a p q r s whole b c d e z e0 e1 e2 e3 e4 =
-    nested_6 a p q r s z ∙ ap (λ x. a ++ (p ++ (q ++ (r ++ x)))) e4 ∙ ap (λ x. a ++ (p ++ (q ++ x))) e3
-    ∙ ap (λ x. a ++ (p ++ x)) e2 ∙ ap (λ x. a ++ x) e1 ∙ e0
+pub parts_joined : (a p q r s t : List ℕ) (whole b c d e f z : List ℕ) → a ++ b ≡ whole → p ++ c ≡ b → q ++ d ≡ c → r ++ e ≡ d → s ++ f ≡ e → t ++ z ≡ f
+    → (((((a ++ p) ++ q) ++ r) ++ s) ++ t) ++ z ≡ whole
+parts_joined a p q r s t whole b c d e f z e0 e1 e2 e3 e4 e5 =
+    nested_7 a p q r s t z ∙ ap (λ x. a ++ (p ++ (q ++ (r ++ (s ++ x))))) e5 ∙ ap (λ x. a ++ (p ++ (q ++ (r ++ x)))) e4
+    ∙ ap (λ x. a ++ (p ++ (q ++ x))) e3 ∙ ap (λ x. a ++ (p ++ x)) e2 ∙ ap (λ x. a ++ x) e1 ∙ e0

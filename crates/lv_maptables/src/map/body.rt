@@ -1,14 +1,13 @@
-ghost use Rattle.std.specs.Prelude.{◌≡◌, IfOk, IfErr, IsOkUnless, ◌^◌, ◌<◌, ◌≤◌, ◌++◌, OnOk, length};
+ghost use Rattle.std.specs.Prelude.{◌≡◌, ◌++◌, ◌↔◌, IfOk, IfErr, IsOkUnless, IsTrue, OnOk, length, drop};
 ghost use Rattle.lv_lumps.specs.Fields.{unsigned};
-ghost use Rattle.lv_maptables.specs.Tables.{empty_tables, body_len, part_len};
+ghost use Rattle.lv_maptables.specs.Tables.{empty_tables, body_len};
 ghost use Rattle.lv_maptables.specs.WellFormed.{WellFormed};
-ghost use Rattle.lv_maptables.specs.Body.{lump_of, header, body, IsMapOf, RefusesBody};
+ghost use Rattle.lv_maptables.specs.Body.{lump_of, body, IsMapOf, RefusesBody};
 
 use crate::error::MapError;
 use crate::kind::Kind;
 use crate::map::Map;
-use crate::map::draft::Draft;
-use crate::map::header::{VERSION, is_framed};
+use crate::map::part::first_map;
 use lv_lumps::{encode_lines, encode_sectors, encode_sides, encode_things, encode_vertices};
 use std::alloc::Global;
 
@@ -20,29 +19,26 @@ pub fn empty_body() -> [u8; 20]
     *b"\x01\0MAP01\0\0\0\0\0\0\0\0\0\0\0\0\0"
 }
 
+/// Whether the bytes begin with version 1.
+fn has_version_1(bytes: &[u8]) -> bool
+    ensures { IsTrue result ↔ (bytes.now ≡ unsigned 1 ++ drop 2 bytes.now) }
+{
+    bytes.len() >= 2 && bytes[0] == 1 && bytes[1] == 0
+}
+
 /// The map whose body the bytes are. `Damaged` with place 0 where no well-formed map has these bytes.
 pub fn decode_body(alloc: Global, bytes: &[u8]) -> Result<Map, MapError>
     ensures map { IfOk result (λ m. IsMapOf bytes.now m.tables) }
     ensures refused { IfErr result (RefusesBody bytes.now) }
 {
-    if !is_framed(bytes) {
+    if !has_version_1(bytes) {
         return Err(MapError::Damaged(0));
     }
-    let draft = Draft::read(alloc, bytes)?;
-    if !draft.is_well_formed(alloc)? {
+    let map = first_map(alloc, &bytes[2..])?;
+    if bytes.len() != 2 + map.part_len() as usize {
         return Err(MapError::Damaged(0));
     }
-    Ok(draft.into_map())
-}
-
-/// Appends a count of items.
-fn put_count(bytes: &mut Vec<u8>, count: usize) -> Result<(), MapError>
-    requires { count < 2 ^ 16 }
-    ensures bytes { OnOk result (bytes.new.items ≡ bytes.old.items ++ unsigned count) }
-    ensures memory { IsOkUnless result MapError.OutOfMemory }
-{
-    bytes.extend_from_slice(&(count as u16).to_le_bytes())?;
-    Ok(())
+    Ok(map)
 }
 
 impl Map {
@@ -65,56 +61,19 @@ impl Map {
     pub fn body_len(&self) -> u32
         ensures { result ≡ body_len self.now.tables }
     {
-        20 + 10 * self.things.len() as u32
-            + 14 * self.lines.len() as u32
-            + 30 * self.sides.len() as u32
-            + 4 * self.vertices.len() as u32
-            + 26 * self.sectors.len() as u32
+        2 + self.part_len()
     }
 
-    /// The length of the map's part of a project's body, in bytes.
-    pub(crate) fn part_len(&self) -> u32
-        ensures value { result ≡ part_len self.now.tables }
-        ensures bound { result ≤ 2007000 }
-    {
-        18 + 10 * self.things.len() as u32
-            + 14 * self.lines.len() as u32
-            + 30 * self.sides.len() as u32
-            + 4 * self.vertices.len() as u32
-            + 26 * self.sectors.len() as u32
-    }
-
-    /// The version, the name, and the counts of things, lines, sides, vertices and sectors.
-    fn header(&self, alloc: Global) -> Result<Vec<u8>, MapError>
-        ensures bytes { IfOk result (λ v. v.items ≡ header self.now.tables) }
-        ensures well_formed { OnOk result (WellFormed self.now.tables) }
-        ensures memory { IsOkUnless result MapError.OutOfMemory }
-    {
-        let mut bytes = Vec::with_capacity(alloc, self.body_len() as usize)?;
-        bytes.extend_from_slice(&VERSION.to_le_bytes())?;
-        bytes.extend_from_slice(&self.name.bytes)?;
-        put_count(&mut bytes, self.things.len())?;
-        put_count(&mut bytes, self.lines.len())?;
-        put_count(&mut bytes, self.sides.len())?;
-        put_count(&mut bytes, self.vertices.len())?;
-        put_count(&mut bytes, self.sectors.len())?;
-        Ok(bytes)
-    }
-
-    /// The map's body, version 1: its header, and the records of its things, lines, sides, vertices and
-    /// sectors.
+    /// The map's body, version 1.
     pub fn encode_body(&self, alloc: Global) -> Result<Vec<u8>, MapError>
         ensures bytes { IfOk result (λ v. v.items ≡ body self.now.tables) }
         ensures length { IfOk result (λ v. length v.items ≡ body_len self.now.tables) }
         ensures well_formed { OnOk result (WellFormed self.now.tables) }
         ensures memory { IsOkUnless result MapError.OutOfMemory }
     {
-        let mut bytes = self.header(alloc)?;
-        bytes.extend_from_slice(&self.lump(alloc, Kind::Thing)?)?;
-        bytes.extend_from_slice(&self.lump(alloc, Kind::Line)?)?;
-        bytes.extend_from_slice(&self.lump(alloc, Kind::Side)?)?;
-        bytes.extend_from_slice(&self.lump(alloc, Kind::Vertex)?)?;
-        bytes.extend_from_slice(&self.lump(alloc, Kind::Sector)?)?;
+        let mut bytes = Vec::with_capacity(alloc, self.body_len() as usize)?;
+        bytes.extend_from_slice(&[1, 0])?;
+        self.put_part(alloc, &mut bytes)?;
         Ok(bytes)
     }
 }

@@ -2,7 +2,7 @@ ghost use Rattle.std.specs.Prelude.{◌≡◌, ◌≤◌, ◌↔◌, IfOk, IsOkU
 ghost use Rattle.lv_lumps.specs.Limits.{item_limit, sector_limit};
 ghost use Rattle.lv_maptables.specs.Ranges.{IsNamed, is_marker, IsVertex, IsSector, IsSide, IsLine, IsThing};
 ghost use Rattle.lv_maptables.specs.WellFormed.{WellFormed, HasEnds, HasSides, HasSector};
-ghost use Rattle.lv_maptables.specs.Body.{IsFramed, tables_at};
+ghost use Rattle.lv_maptables.specs.Parts.{IsFramed, tables_in};
 
 use crate::error::MapError;
 use crate::form::{are_apart, are_linked, have_sectors};
@@ -38,20 +38,21 @@ impl Model for Draft {
 }
 
 impl Draft {
-    /// What stands in framed bytes.
+    /// What framed bytes begin with.
     pub(super) fn read(alloc: Global, bytes: &[u8]) -> Result<Draft, MapError>
         requires { IsFramed bytes.now }
-        ensures tables { IfOk result (λ d. d ≡ tables_at bytes.now) }
+        ensures tables { IfOk result (λ d. d ≡ tables_in bytes.now) }
         ensures memory { IsOkUnless result MapError.OutOfMemory }
     {
-        let (_, behind) = bytes.split_at(20);
-        let (things, behind) = behind.split_at(10 * count_at(bytes, 10));
-        let (lines, behind) = behind.split_at(14 * count_at(bytes, 12));
-        let (sides, behind) = behind.split_at(30 * count_at(bytes, 14));
-        let (vertices, sectors) = behind.split_at(4 * count_at(bytes, 16));
+        let (_, behind) = bytes.split_at(18);
+        let (things, behind) = behind.split_at(10 * count_at(bytes, 8));
+        let (lines, behind) = behind.split_at(14 * count_at(bytes, 10));
+        let (sides, behind) = behind.split_at(30 * count_at(bytes, 12));
+        let (vertices, behind) = behind.split_at(4 * count_at(bytes, 14));
+        let (sectors, _) = behind.split_at(26 * count_at(bytes, 16));
         // Each part is whole records long, so only memory can be lacking.
         Ok(Draft {
-            name: name_at(bytes, 2),
+            name: name_at(bytes, 0),
             vertices: decode_vertices(alloc, vertices).map_err(|_| MapError::OutOfMemory)?,
             sectors: decode_sectors(alloc, sectors).map_err(|_| MapError::OutOfMemory)?,
             sides: decode_sides(alloc, sides).map_err(|_| MapError::OutOfMemory)?,

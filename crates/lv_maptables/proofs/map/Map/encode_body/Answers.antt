@@ -6,5 +6,5 @@ use Rattle.lv_maptables.proofs.map.Map.encode_body.Goals as goal
 
 pub returns-clause-length : goal.returns-clause-length
 returns-clause-length c =
-    let is : c.extend_from_slice-5.new.self.items ≡ body c.args.self.now.tables = search rules in
-    ap length is ∙ body_size c.args.self.now.tables c.in_ok-bytes.ensures.well_formed
+    let is : c.put_part.new.bytes.items ≡ body c.args.self.now.tables = search rules in
+    ap length is ∙ body_size c.args.self.now.tables c.in_ok-put_part.ensures.well_formed

@@ -1,26 +1,25 @@
--- A map's body is framed and holds that map, so what framed bytes hold is the one map that they can be the body of.
-use Rattle.std.proofs.Common.{refl, rules}
-use Rattle.std.proofs.lemmas.Bool.{false≢true, both_ways}
-use Rattle.lv_maptables.specs.WellFormed.{WellFormed}
-use Rattle.lv_maptables.specs.Body.{tables_at}
-use Rattle.lv_maptables.proofs.FramedLemmas.{not_framed, not_well_formed, map_of}
+-- The bytes are version 1 and a map's part, with none behind it.
+use Rattle.std.proofs.Common.{◌≡◌, ◌∙◌, ℕ, List, ◌∷◌, ◌-◌, ◌≤◌, refl, ap, sym, length, take, drop, take_all, length-drop, arith}
+use Rattle.lv_maptables.proofs.FramedLemmas.{refused_by, not_behind, no_map_longer, map_behind}
 use Rattle.lv_maptables.proofs.map.body.decode_body.Goals as goal
 
-pub returns-then-not-is_framed-clause-refused : goal.returns-then-not-is_framed-clause-refused
-returns-then-not-is_framed-clause-refused c =
-    (refl, not_framed c.args.bytes.now (λ framed. false≢true (c.if-not-is_framed.ensures.1 framed)))
+behind : (bs : List ℕ) → bs ≡ 1 ∷ 0 ∷ drop 2 bs → bs ≡ 1 ∷ 0 ∷ take (length bs - 2) (drop 2 bs)
+behind bs is = is ∙ ap (λ r. 1 ∷ 0 ∷ r) (sym (take_all (length bs - 2) (drop 2 bs) (omega (arith, length-drop 2 bs))))
 
-pub returns-then-not-branch-clause-refused : goal.returns-then-not-branch-clause-refused
-returns-then-not-branch-clause-refused c =
-    let held = c.in_ok-draft.ensures.tables in (
-      refl,
-      not_well_formed c.args.bytes.now (λ fine.
-          both_ways c.in_ok-is_well_formed.field-0 c.if-not-branch.true (c.in_ok-is_well_formed.ensures.answer.1 (rw held fine))),
-    )
+pub returns-in_err-map-clause-refused : goal.returns-in_err-map-clause-refused
+returns-in_err-map-clause-refused c =
+    let bs = c.args.bytes.now in
+    let v = behind bs (c.has_version_1.ensures.0 c.if-not-has_version_1.false) in
+    refused_by (not_behind bs (take (length bs - 2) (drop 2 bs)) v) c.from_residual.result c.in_err-map.field-0.0 c.from_residual.ensures.1 c.in_err-map.ensures.refused
+
+pub returns-then-bytes-part_len-clause-refused : goal.returns-then-bytes-part_len-clause-refused
+returns-then-bytes-part_len-clause-refused c =
+    let bs = c.args.bytes.now in
+    let v = behind bs (c.has_version_1.ensures.0 c.if-not-has_version_1.false) in
+    (refl, no_map_longer bs (take (length bs - 2) (drop 2 bs)) v c.in_ok-map.map.tables c.in_ok-map.ensures.map (λ long. c.if-bytes-part_len.true (omega (arith, c.part_len.ensures.value))))
 
 pub returns-clause-map : goal.returns-clause-map
 returns-clause-map c =
-    let held = c.in_ok-draft.ensures.tables in
-    let framed = c.is_framed.ensures.0 c.if-not-is_framed.false in
-    let fine : WellFormed (tables_at c.args.bytes.now) = rw held at (c.in_ok-is_well_formed.ensures.answer.0 c.if-not-branch.false) in
-    rw (c.into_map.ensures, held) (map_of c.args.bytes.now (λ k. search (rules, c.type_inv.bytes k)) framed fine)
+    let bs = c.args.bytes.now in
+    let v = behind bs (c.has_version_1.ensures.0 c.if-not-has_version_1.false) in
+    map_behind bs (take (length bs - 2) (drop 2 bs)) v c.in_ok-map.map.tables c.in_ok-map.ensures.map (omega (arith, c.part_len.ensures.value))

@@ -1,0 +1,26 @@
+-- A map's part is framed and holds that map, so what framed bytes hold is the one map whose part can begin them.
+use Rattle.std.proofs.Common.{refl, rules}
+use Rattle.std.proofs.lemmas.Bool.{false≢true, both_ways}
+use Rattle.lv_maptables.specs.WellFormed.{WellFormed}
+use Rattle.lv_maptables.specs.Parts.{tables_in}
+use Rattle.lv_maptables.proofs.FramedLemmas.{not_framed, not_well_formed, map_of}
+use Rattle.lv_maptables.proofs.map.part.first_map.Goals as goal
+
+pub returns-then-not-is_framed-clause-refused : goal.returns-then-not-is_framed-clause-refused
+returns-then-not-is_framed-clause-refused c =
+    (refl, not_framed c.args.bytes.now (λ framed. false≢true (c.if-not-is_framed.ensures.1 framed)))
+
+pub returns-then-not-branch-clause-refused : goal.returns-then-not-branch-clause-refused
+returns-then-not-branch-clause-refused c =
+    let held = c.in_ok-draft.ensures.tables in (
+      refl,
+      not_well_formed c.args.bytes.now (λ fine.
+          both_ways c.in_ok-is_well_formed.field-0 c.if-not-branch.true (c.in_ok-is_well_formed.ensures.answer.1 (rw held fine))),
+    )
+
+pub returns-clause-map : goal.returns-clause-map
+returns-clause-map c =
+    let held = c.in_ok-draft.ensures.tables in
+    let framed = c.is_framed.ensures.0 c.if-not-is_framed.false in
+    let fine : WellFormed (tables_in c.args.bytes.now) = rw held at (c.in_ok-is_well_formed.ensures.answer.0 c.if-not-branch.false) in
+    rw (c.into_map.ensures, held) (map_of c.args.bytes.now (λ k. search (rules, c.type_inv.bytes k)) framed fine)

@@ -1,0 +1,83 @@
+ghost use Rattle.std.specs.Prelude.{◌≡◌, IfOk, IfErr, IsOkUnless, ◌^◌, ◌<◌, ◌≤◌, ◌++◌, OnOk};
+ghost use Rattle.lv_lumps.specs.Fields.{unsigned};
+ghost use Rattle.lv_maptables.specs.Tables.{part_len};
+ghost use Rattle.lv_maptables.specs.WellFormed.{WellFormed};
+ghost use Rattle.lv_maptables.specs.Parts.{part, part_head, BeginsWith, RefusesPart};
+
+use crate::error::MapError;
+use crate::kind::Kind;
+use crate::map::Map;
+use crate::map::draft::Draft;
+use crate::map::header::is_framed;
+use std::alloc::Global;
+
+/// The map whose part of a body the bytes begin with. `Damaged` with place 0 where no well-formed map's
+/// part begins them.
+pub(super) fn first_map(alloc: Global, bytes: &[u8]) -> Result<Map, MapError>
+    ensures map { IfOk result (λ m. BeginsWith bytes.now m.tables) }
+    ensures refused { IfErr result (RefusesPart bytes.now) }
+{
+    if !is_framed(bytes) {
+        return Err(MapError::Damaged(0));
+    }
+    let draft = Draft::read(alloc, bytes)?;
+    if !draft.is_well_formed(alloc)? {
+        return Err(MapError::Damaged(0));
+    }
+    Ok(draft.into_map())
+}
+
+/// Appends a count of items.
+fn put_count(bytes: &mut Vec<u8>, count: usize) -> Result<(), MapError>
+    requires { count < 2 ^ 16 }
+    ensures bytes { OnOk result (bytes.new.items ≡ bytes.old.items ++ unsigned count) }
+    ensures memory { IsOkUnless result MapError.OutOfMemory }
+{
+    bytes.extend_from_slice(&(count as u16).to_le_bytes())?;
+    Ok(())
+}
+
+impl Map {
+    /// The length of the map's part of a body, in bytes.
+    pub(crate) fn part_len(&self) -> u32
+        ensures value { result ≡ part_len self.now.tables }
+        ensures bound { result ≤ 2007000 }
+    {
+        18 + 10 * self.things.len() as u32
+            + 14 * self.lines.len() as u32
+            + 30 * self.sides.len() as u32
+            + 4 * self.vertices.len() as u32
+            + 26 * self.sectors.len() as u32
+    }
+
+    /// Appends the name, and the counts of things, lines, sides, vertices and sectors.
+    fn put_head(&self, bytes: &mut Vec<u8>) -> Result<(), MapError>
+        ensures bytes { OnOk result (bytes.new.items ≡ bytes.old.items ++ part_head self.now.tables) }
+        ensures well_formed { OnOk result (WellFormed self.now.tables) }
+        ensures memory { IsOkUnless result MapError.OutOfMemory }
+    {
+        bytes.extend_from_slice(&self.name.bytes)?;
+        put_count(bytes, self.things.len())?;
+        put_count(bytes, self.lines.len())?;
+        put_count(bytes, self.sides.len())?;
+        put_count(bytes, self.vertices.len())?;
+        put_count(bytes, self.sectors.len())?;
+        Ok(())
+    }
+
+    /// Appends the map's part of a body: its head, and the records of its things, lines, sides, vertices
+    /// and sectors.
+    pub(crate) fn put_part(&self, alloc: Global, bytes: &mut Vec<u8>) -> Result<(), MapError>
+        ensures bytes { OnOk result (bytes.new.items ≡ bytes.old.items ++ part self.now.tables) }
+        ensures well_formed { OnOk result (WellFormed self.now.tables) }
+        ensures memory { IsOkUnless result MapError.OutOfMemory }
+    {
+        self.put_head(bytes)?;
+        bytes.extend_from_slice(&self.lump(alloc, Kind::Thing)?)?;
+        bytes.extend_from_slice(&self.lump(alloc, Kind::Line)?)?;
+        bytes.extend_from_slice(&self.lump(alloc, Kind::Side)?)?;
+        bytes.extend_from_slice(&self.lump(alloc, Kind::Vertex)?)?;
+        bytes.extend_from_slice(&self.lump(alloc, Kind::Sector)?)?;
+        Ok(())
+    }
+}
