@@ -8,3 +8,5 @@ pub mod LineLemmas
 pub mod BodyLemmas
 pub mod FramedLemmas
 pub mod ProjectLemmas
+pub mod PartsLemmas
+pub mod ProjectBodyLemmas

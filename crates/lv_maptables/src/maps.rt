@@ -1,3 +1,4 @@
+mod body;
 mod edits;
 mod names;
 

@@ -13,7 +13,7 @@ use std::alloc::Global;
 
 /// The map whose part of a body the bytes begin with. `Damaged` with place 0 where no well-formed map's
 /// part begins them.
-pub(super) fn first_map(alloc: Global, bytes: &[u8]) -> Result<Map, MapError>
+pub fn first_map(alloc: Global, bytes: &[u8]) -> Result<Map, MapError>
     ensures map { IfOk result (λ m. BeginsWith bytes.now m.tables) }
     ensures refused { IfErr result (RefusesPart bytes.now) }
 {

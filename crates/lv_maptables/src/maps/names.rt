@@ -1,7 +1,9 @@
 ghost use Rattle.std.specs.Prelude.{◌≡◌, ◌≢◌, ◌≤◌, ◌<◌, false, length, position, remove};
 ghost use Rattle.lv_maptables.specs.Ranges.{IsNamed, is_marker};
 ghost use Rattle.lv_maptables.specs.Outcomes.{EndsExactly, Tells};
-ghost use Rattle.lv_maptables.specs.Projects.{project_of, current_map, is_named, number_of, has_map, map_limit};
+ghost use Rattle.lv_maptables.specs.WellFormed.{WellFormed};
+ghost use Rattle.lv_maptables.specs.Projects.{WellFormedProject, project_of, current_map, is_named, number_of, has_map, map_limit};
+ghost use Rattle.lv_maptables.specs.ProjectBody.{with_last};
 ghost use Rattle.lv_maptables.specs.ProjectEdits.{name_faults, select_faults, drop_map_faults, named_map, selected_map, dropped_map, with_selected};
 ghost use Rattle.lv_maptables.specs.Edits.{lowered};
 
@@ -42,7 +44,7 @@ impl Maps {
     }
 
     /// Whether a map has the name.
-    fn has_map(&self, name: Name8) -> bool
+    pub(super) fn has_map(&self, name: Name8) -> bool
         ensures { result ≡ has_map (project_of self.now) name }
     {
         self.number_of(name) < self.len()
@@ -128,7 +130,7 @@ impl Maps {
     }
 
     /// Makes the map of the number current.
-    fn make_current(&mut self, n: usize)
+    pub(super) fn make_current(&mut self, n: usize)
         requires { n < length (project_of self.old).maps }
         ensures { project_of self.new ≡ record (project_of self.old) { current = n } }
     {
@@ -148,6 +150,17 @@ impl Maps {
     {
         let mut map = Map::new(*self.others.allocator());
         map.set_name(name);
+        self.push(map);
+    }
+
+    /// Adds a map of a new name behind the others, and makes it current.
+    pub(super) fn push(&mut self, map: Map)
+        requires well_formed { WellFormed map.tables }
+        requires new { has_map (project_of self.old) map.tables.name ≡ false }
+        requires room { length (project_of self.old).maps < map_limit }
+        ensures project { project_of self.new ≡ with_last (project_of self.old) map.tables }
+        ensures well_formed { WellFormedProject (project_of self.new) }
+    {
         let previous = mem::replace(&mut self.map, map);
         self.others.insert(self.number, previous);
         self.number = self.others.len();

@@ -1,0 +1,127 @@
+ghost use Rattle.std.specs.Prelude.{◌≡◌, ◌<◌, ◌↔◌, ◌∷◌, [], ◌++◌, false, IfOk, IfErr, IsOkUnless, IsTrue, OnOk, length, drop, slice_index};
+ghost use Rattle.lv_maptables.specs.WellFormed.{WellFormed};
+ghost use Rattle.lv_maptables.specs.Parts.{RefusesFor};
+ghost use Rattle.lv_maptables.specs.Projects.{WellFormedProject, project_of, empty_project, body_len};
+ghost use Rattle.lv_maptables.specs.ProjectBody.{project_body, alone, IsProjectOf, RefusesProject, AreMapsOf, NoMapsHave, NoneFollow, ReadsNext};
+
+use crate::error::MapError;
+use crate::map::{Map, decode_body, first_map};
+use crate::maps::{MAP_LIMIT, Maps};
+use arrayvec::ArrayVec;
+use std::alloc::Global;
+
+/// The version of a project's body that is written.
+const VERSION: u8 = 2;
+
+/// Whether the bytes begin with version 2 and a number.
+fn has_version_2(bytes: &[u8]) -> bool
+    ensures { IsTrue result ↔ (bytes.now ≡ 2 ∷ slice_index bytes.now 1 ∷ drop 2 bytes.now) }
+{
+    bytes.len() >= 2 && bytes[0] == VERSION
+}
+
+/// The project whose maps' parts the bytes are, its last map current.
+fn read_maps(alloc: Global, bytes: &[u8]) -> Result<Maps, MapError>
+    ensures maps { IfOk result (λ maps. AreMapsOf bytes.now (project_of maps)) }
+    ensures refused { IfErr result (RefusesFor (NoMapsHave bytes.now)) }
+{
+    let first = first_map(alloc, bytes)?;
+    let mut at = first.part_len() as usize;
+    let mut maps = Maps::alone(alloc, first);
+    while at < bytes.len() {
+        at += maps.read_next(alloc, &bytes[at..])?;
+    }
+    Ok(maps)
+}
+
+/// The project that has the bytes behind version 2 and a current number.
+fn decode_version_2(alloc: Global, bytes: &[u8]) -> Result<Maps, MapError>
+    requires { bytes.now ≡ 2 ∷ slice_index bytes.now 1 ∷ drop 2 bytes.now }
+    ensures project { IfOk result (λ maps. IsProjectOf bytes.now (project_of maps)) }
+    ensures refused { IfErr result (RefusesProject bytes.now) }
+{
+    let number = usize::from(bytes[1]);
+    let mut maps = read_maps(alloc, &bytes[2..])?;
+    if maps.len() as usize <= number {
+        return Err(MapError::Damaged(0));
+    }
+    maps.make_current(number);
+    Ok(maps)
+}
+
+impl Maps {
+    /// The body of a new project, version 2: the empty map MAP01 alone.
+    pub fn empty_body() -> [u8; 20]
+        ensures bytes { result ≡ project_body empty_project }
+        ensures well_formed { WellFormedProject empty_project }
+    {
+        *b"\x02\0MAP01\0\0\0\0\0\0\0\0\0\0\0\0\0"
+    }
+
+    /// The version and the current number.
+    fn head(&self) -> [u8; 2]
+        ensures bytes { result ≡ 2 ∷ (project_of self.now).current ∷ [] }
+        ensures well_formed { WellFormedProject (project_of self.now) }
+    {
+        [VERSION, self.number as u8]
+    }
+
+    /// The project's body, version 2: the current number, and each map's name, counts and tables.
+    pub fn encode_body(&self, alloc: Global) -> Result<Vec<u8>, MapError>
+        ensures bytes { IfOk result (λ v. v.items ≡ project_body (project_of self.now)) }
+        ensures length { IfOk result (λ v. length v.items ≡ body_len (project_of self.now)) }
+        ensures well_formed { OnOk result (WellFormedProject (project_of self.now)) }
+        ensures memory { IsOkUnless result MapError.OutOfMemory }
+    {
+        let mut bytes = Vec::with_capacity(alloc, self.body_len() as usize)?;
+        bytes.extend_from_slice(&self.head())?;
+        for n in 0..self.len() {
+            self.nth(n as usize).put_part(alloc, &mut bytes)?;
+        }
+        Ok(bytes)
+    }
+
+    /// The project whose body the bytes are, of version 2 or, where it has one map, of version 1.
+    /// `Damaged` with place 0 where no well-formed project has these bytes in either version.
+    pub fn decode_body(alloc: Global, bytes: &[u8]) -> Result<Maps, MapError>
+        ensures project { IfOk result (λ maps. IsProjectOf bytes.now (project_of maps)) }
+        ensures refused { IfErr result (RefusesProject bytes.now) }
+    {
+        if has_version_2(bytes) {
+            return decode_version_2(alloc, bytes);
+        }
+        let map = decode_body(alloc, bytes)?;
+        Ok(Maps::alone(alloc, map))
+    }
+
+    /// The project of one map.
+    fn alone(alloc: Global, map: Map) -> Self
+        requires { WellFormed map.tables }
+        ensures project { project_of result ≡ alone map.tables }
+        ensures well_formed { WellFormedProject (project_of result) }
+    {
+        Maps {
+            map,
+            number: 0,
+            others: ArrayVec::new_in(alloc),
+        }
+    }
+
+    /// Adds the map whose part the bytes begin with behind the others, and makes it current. It answers
+    /// how long its part is.
+    fn read_next(&mut self, alloc: Global, bytes: &[u8]) -> Result<usize, MapError>
+        ensures next { IfOk result (λ n. ReadsNext bytes.now n (project_of self.old) (project_of self.new)) }
+        ensures refused { IfErr result (RefusesFor (NoneFollow (project_of self.old).maps bytes.now)) }
+    {
+        let map = first_map(alloc, bytes)?;
+        if self.has_map(map.name()) {
+            return Err(MapError::Damaged(0));
+        }
+        if self.len() as usize == MAP_LIMIT {
+            return Err(MapError::Damaged(0));
+        }
+        let len = map.part_len() as usize;
+        self.push(map);
+        Ok(len)
+    }
+}
