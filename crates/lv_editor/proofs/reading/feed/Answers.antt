@@ -3,7 +3,7 @@ use Rattle.std.proofs.lemmas.List.{take_more, take-append-drop}
 use Rattle.lv_editor.specs.Lines.{unfinished}
 use Rattle.lv_editor.specs.Runs.{Feeds, Replies}
 use Rattle.lv_editor.proofs.Going.{Feeds-none, Feeds-ok, Feeds-err, Feeds-further}
-use Rattle.lv_editor.proofs.run.feed.Goals as goal
+use Rattle.lv_editor.proofs.reading.feed.Goals as goal
 
 pub loop-b-init : goal.loop-b-init
 loop-b-init g c = record {

@@ -2,7 +2,7 @@ use Rattle.std.proofs.Common.{◌<◌, ◌∷◌, [], length, ◌∙◌, arith}
 use Rattle.std.proofs.lemmas.Bool.Decides.{nat_tests}
 use Rattle.lv_editor.specs.Runs.{Replies}
 use Rattle.lv_editor.proofs.Going.{kept, line, line-of-some, lost, stopped}
-use Rattle.lv_editor.proofs.run.finish.Goals as goal
+use Rattle.lv_editor.proofs.reading.finish.Goals as goal
 
 pub returns-in-Ok-flush : goal.returns-in-Ok-flush
 returns-in-Ok-flush g c = λ part begun.

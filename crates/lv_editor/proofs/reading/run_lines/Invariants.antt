@@ -1,7 +1,7 @@
 use Rattle.std.proofs.Common.{[], ◌≤◌, ◌*◌, length, List, ℕ, Ok}
 use Rattle.std.specs.Io.KnownBytes.{Consumes}
 use Rattle.lv_editor.specs.Runs.{Feeds, Replies}
-use Rattle.lv_editor.proofs.run.run_lines.Given as goal
+use Rattle.lv_editor.proofs.reading.run_lines.Given as goal
 
 -- some bytes have been read, and taken
 abbrev pub invariant-loop : goal.invariant-loop

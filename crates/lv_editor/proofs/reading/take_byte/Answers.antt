@@ -3,7 +3,7 @@ use Rattle.std.proofs.lemmas.Bool.Decides.{nat_tests}
 use Rattle.lv_editor.specs.Lines.{is_break}
 use Rattle.lv_editor.specs.Runs.{Replies}
 use Rattle.lv_editor.proofs.Going.{Feeds-byte, Feeds-line, Feeds-lost, line, lost}
-use Rattle.lv_editor.proofs.run.take_byte.Goals as goal
+use Rattle.lv_editor.proofs.reading.take_byte.Goals as goal
 
 pub returns-then-b-ne10-clause-feeds : goal.returns-then-b-ne10-clause-feeds
 returns-then-b-ne10-clause-feeds g c = λ part begun.

@@ -1,7 +1,7 @@
 use Rattle.std.proofs.Common.{◌≤◌, ℕ, List, take, Ok}
 use Rattle.lv_editor.specs.Lines.{IsBegun}
 use Rattle.lv_editor.specs.Runs.{Feeds, Replies}
-use Rattle.lv_editor.proofs.run.feed.Given as goal
+use Rattle.lv_editor.proofs.reading.feed.Given as goal
 
 -- the bytes so far have been taken
 abbrev pub invariant-loop-b : goal.invariant-loop-b

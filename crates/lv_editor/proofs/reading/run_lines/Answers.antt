@@ -3,7 +3,7 @@ use Rattle.std.proofs.lemmas.Grind.{common_steps}
 use Rattle.lv_editor.specs.Lines.{whole_lines, unfinished, line_if_any}
 use Rattle.lv_editor.specs.Runs.{Replies}
 use Rattle.lv_editor.proofs.Going.{Consumes-append, Consumes-end, Feeds-ok, Feeds-err, Ran-lost, Ran-ok, both, both_lost, further}
-use Rattle.lv_editor.proofs.run.run_lines.Goals as goal
+use Rattle.lv_editor.proofs.reading.run_lines.Goals as goal
 
 pub loop-preserved : goal.loop-preserved
 loop-preserved g c =
