@@ -9,6 +9,8 @@ pub mod Numerals
 pub mod Outcomes
 pub mod Padding
 pub mod Parts
+pub mod ProjectOutcomes
+pub mod ProjectWords
 pub mod Readings
 pub mod RecordWords
 pub mod Rooms

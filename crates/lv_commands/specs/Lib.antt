@@ -4,6 +4,11 @@ pub mod Grammar
 pub mod Laws
 pub mod LineSteps
 pub mod Places
+pub mod ProjectCommands
+pub mod ProjectGrammar
+pub mod ProjectLaws
+pub mod ProjectLines
+pub mod ProjectStep
 pub mod Readiness
 pub mod Reading
 pub mod Rooms

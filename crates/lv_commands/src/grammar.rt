@@ -14,7 +14,7 @@ use crate::places::Places;
 use crate::words::next_part;
 
 /// The longest line of input that may be a command, in bytes.
-const LONGEST_LINE: usize = 256;
+pub const LONGEST_LINE: usize = 256;
 
 /// The command whose words stand behind the first.
 fn command(head: Head, places: Places) -> Result<Command, CommandError>

@@ -1,4 +1,4 @@
-//! The commands that draw a map: their lines, and what each makes of a map.
+//! The commands that draw a map: their lines, and what each makes of a map. Those of a project of maps stand in `project`.
 #![tactic(auto)]
 
 mod additions;
@@ -13,6 +13,7 @@ mod keywords;
 mod laws;
 mod names;
 mod places;
+pub mod project;
 mod room;
 mod spelling;
 mod split;

@@ -34,25 +34,25 @@ none-found (q ∷ qs) line long short =
     let here : length q.0 ≤ 256 = leb-true (length q.0) 256 both.0 in
     ap (λ t. cond t (Some q) (find (λ r. bytes_eq line r.0) qs)) (bytes-differ line q.0 (omega arith)) ∙ none-found qs line long both.1
 
-long-query : (line : List ℕ) → 256 < length line → query_of line ≡ None
+pub long-query : (line : List ℕ) → 256 < length line → query_of line ≡ None
 long-query line long = none-found queries line long refl
 
-long-fault : (line : List ℕ) → 256 < length line → fault_of line ≡ Some 1
+pub long-fault : (line : List ℕ) → 256 < length line → fault_of line ≡ Some 1
 long-fault line long = ap (λ t. cond t (Some 1) (command_fault (parts line))) (lt-ltb 256 (length line) long)
 
 -- it is no command's line
-long-accepts : (cap : ℕ) (old new : Tables) (line : List ℕ) (n : ℕ) → 256 < length line → Accepts cap old line new n → ⊥
+pub long-accepts : (cap : ℕ) (old new : Tables) (line : List ℕ) (n : ℕ) → 256 < length line → Accepts cap old line new n → ⊥
 long-accepts limit old new line n long accepts =
     let none : fault_of line ≡ None = ap fault_of accepts.line_is ∙ spelling-accepted accepts.command accepts.range in
     let one : fault_of line ≡ Some 1 = long-fault line long in
     cc
 
-long-refused : (cap : ℕ) (old : Tables) (line : List ℕ) (code : ℕ) (fault : Option ℕ) → fault ≡ Some 1
+pub long-refused : (cap : ℕ) (old : Tables) (line : List ℕ) (code : ℕ) (fault : Option ℕ) → fault ≡ Some 1
     → MatchOption fault (RefusesCommand cap old line code) (λ f. code ≡ f) → code ≡ 1
 long-refused limit old line code None e told = cc
 long-refused limit old line code (Some f) e told = let is : f ≡ 1 = cc in told ∙ is
 
-refused-long : (cap : ℕ) (old : Tables) (line : List ℕ) (code : ℕ) (fault : Option ℕ) → fault ≡ Some 1
+pub refused-long : (cap : ℕ) (old : Tables) (line : List ℕ) (code : ℕ) (fault : Option ℕ) → fault ≡ Some 1
     → code ≡ 1 → MatchOption fault (RefusesCommand cap old line code) (λ f. code ≡ f)
 refused-long limit old line code None e told = cc
 refused-long limit old line code (Some f) e told = let is : f ≡ 1 = cc in told ∙ sym is

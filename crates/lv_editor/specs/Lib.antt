@@ -1,7 +1,9 @@
 pub mod Answers
+pub mod Editing
 pub mod Errors
 pub mod Lines
 pub mod Queries
 pub mod Request
 pub mod Runs
+pub mod Sessions
 pub mod Texts

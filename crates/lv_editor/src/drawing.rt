@@ -10,7 +10,7 @@ use crate::error::EditorError;
 use crate::limits::LONGEST_BODY;
 use crate::outcome::write_outcome;
 use crate::query::{Query, read_query};
-use crate::run::run_lines;
+use crate::reading::run_lines;
 use crate::session::Session;
 use lv_commands::{CommandError, apply, parse};
 use lv_maptables::Map;

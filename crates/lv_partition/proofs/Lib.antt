@@ -4,3 +4,4 @@ pub mod Casts
 pub mod BlockSteps
 pub mod BoxLemmas
 pub mod Reaching
+pub mod Reordered

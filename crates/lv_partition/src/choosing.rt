@@ -1,4 +1,5 @@
 ghost use Rattle.std.specs.Prelude.{◌≡◌, ◌+◌, ◌≤◌, ◌<◌, ◌^◌, length, All, MatchOption, Some, slice_get, false};
+ghost use Rattle.std.specs.List.Sorted.{IsPermutation};
 ghost use Rattle.lv_segs.specs.Plane.{IsEdge};
 ghost use Rattle.lv_segs.specs.Pieces.{IsPiece};
 ghost use Rattle.lv_segs.specs.Tree.{HasNoChoice, cost};
@@ -58,9 +59,10 @@ pub fn choose_in(lines: &[Edge], pieces: &[Piece], used: &[bool]) -> Option<Choi
 }
 
 // The same as `consider`, by boxes, and with no count for a piece on an earlier one's straight line.
-fn consider_in_boxes(
+fn consider_ordered(
     lines: &[Edge],
     pieces: &[Piece],
+    ordered: &[Piece],
     boxes: &[Bounds],
     blocks: &[Bounds],
     used: &[bool],
@@ -71,7 +73,8 @@ fn consider_in_boxes(
 ) -> Option<Choice>
     requires lines { All IsEdge lines.now }
     requires pieces { All (IsPiece lines.now) pieces.now }
-    requires boxes { boxes.now ≡ boxes_of lines.now pieces.now }
+    requires ordered { IsPermutation pieces.now ordered.now }
+    requires boxes { boxes.now ≡ boxes_of lines.now ordered.now }
     requires blocks { AreBlocks boxes.now blocks.now }
     requires known { length used.now ≡ length lines.now }
     requires few { length pieces.now < 2 ^ 32 }
@@ -87,8 +90,39 @@ fn consider_in_boxes(
         return best;
     }
     let limit = limit_of(best);
-    let counted = count_by_boxes(lines, piece, pieces, boxes, blocks, limit);
+    let counted = count_by_boxes(lines, piece, ordered, boxes, blocks, limit);
     take_in(at, best, limit, counted)
+}
+
+/// The same choice as `choose_in`, by the boxes of the pieces and of blocks of sixteen of them.
+/// `straight` saves counts, whatever it holds. `ordered` holds the same pieces in any order, as
+/// `by_place` gives one, and the boxes are those of this list.
+pub fn choose_ordered(
+    lines: &[Edge],
+    pieces: &[Piece],
+    ordered: &[Piece],
+    boxes: &[Bounds],
+    blocks: &[Bounds],
+    used: &[bool],
+    straight: &mut StraightLines,
+) -> Option<Choice>
+    requires lines { All IsEdge lines.now }
+    requires pieces { All (IsPiece lines.now) pieces.now }
+    requires ordered { IsPermutation pieces.now ordered.now }
+    requires boxes { boxes.now ≡ boxes_of lines.now ordered.now }
+    requires blocks { AreBlocks boxes.now blocks.now }
+    requires known { length used.now ≡ length lines.now }
+    requires few { length pieces.now < 2 ^ 32 }
+    ensures { MatchOption result (HasNoChoice lines.now pieces.now used.now)
+        (λ c. IsChoice lines.now pieces.now used.now c) }
+{
+    let mut best = None;
+    for (at, piece) in pieces.iter().enumerate() {
+        best = consider_ordered(
+            lines, pieces, ordered, boxes, blocks, used, at, piece, best, straight,
+        );
+    }
+    best
 }
 
 /// The same choice as `choose_in`, by the boxes of the pieces and of blocks of sixteen of them.
@@ -110,11 +144,5 @@ pub fn choose_in_boxes(
     ensures { MatchOption result (HasNoChoice lines.now pieces.now used.now)
         (λ c. IsChoice lines.now pieces.now used.now c) }
 {
-    let mut best = None;
-    for (at, piece) in pieces.iter().enumerate() {
-        best = consider_in_boxes(
-            lines, pieces, boxes, blocks, used, at, piece, best, straight,
-        );
-    }
-    best
+    choose_ordered(lines, pieces, pieces, boxes, blocks, used, straight)
 }

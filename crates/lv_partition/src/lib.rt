@@ -9,11 +9,13 @@ mod counts;
 mod map_choice;
 mod separating;
 mod straight;
+mod strips;
 mod walk;
 
 pub use block_boxes::blocks_of;
 pub use choice::Choice;
-pub use choosing::{choose_in, choose_in_boxes};
+pub use choosing::{choose_in, choose_in_boxes, choose_ordered};
 pub use map_choice::{choose, separates};
 pub use separating::separates_in;
 pub use straight::StraightLines;
+pub use strips::by_place;

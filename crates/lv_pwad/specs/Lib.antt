@@ -1,5 +1,6 @@
 pub mod Errors
 pub mod Levels
+pub mod Wad
 pub mod Views
 pub mod Reject
 pub mod Words

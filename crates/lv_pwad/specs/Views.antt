@@ -1,9 +1,12 @@
--- What contracts see of a level, and of a refusal to read one.
-use Rattle.std.specs.Prelude.{◌≡◌, ℕ, List, Some}
+-- What contracts see of a level, of a refusal to read one, and of what is to be written.
+use Rattle.std.specs.Prelude.{◌≡◌, ℕ, List, map, Some}
 use Rattle.lv_pwad.specs.declared.level.Level.{Level}
 use Rattle.lv_pwad.specs.declared.error.ReadError.{ReadError}
 use Rattle.lv_pwad.specs.declared.error.ReadError.TheVariants.{OutOfMemory}
 use Rattle.lv_pwad.specs.Levels.{Lumps, refusal}
+use Rattle.lv_pwad.specs.Wad.{Lump, Part, part_of}
+use Rattle.lv_pwad.specs.declared.wad.NamedLump.{NamedLump}
+use Rattle.lv_pwad.specs.declared.levels.NamedLevel.{NamedLevel}
 
 -- the lists of a level
 abbrev pub view : Level → Lumps
@@ -25,3 +28,11 @@ view l =
 abbrev pub RefusesLevel : List ℕ → List ℕ → ReadError → Type 0
 RefusesLevel wad name OutOfMemory = Unit {0}
 RefusesLevel wad name e = refusal wad name ≡ Some e
+
+-- the names and bytes of lumps that are to be written
+abbrev pub views : List NamedLump → List Lump
+views lumps = map (λ l. record { name = l.name; bytes = l.bytes.items }) lumps
+
+-- the bytes of the lumps of levels that are to be written
+abbrev pub parts_of : List NamedLevel → List Part
+parts_of levels = map (λ l. part_of l.name (view l.level)) levels

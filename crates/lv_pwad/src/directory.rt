@@ -107,7 +107,7 @@ pub fn marker(wad: &[u8], name: &[u8]) -> Option<u32>
 }
 
 /// The names of a level's lumps behind its marker, in order.
-const LUMP_NAMES: [Name8; 10] = [
+pub const LUMP_NAMES: [Name8; 10] = [
     Name8 {
         bytes: *b"THINGS\0\0",
     },

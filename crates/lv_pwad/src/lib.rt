@@ -10,12 +10,14 @@ mod endings;
 mod error;
 mod fault;
 mod level;
+mod levels;
 mod ranges;
 mod subs;
 mod visibility;
+mod wad;
 
 pub use auditing::audit;
-pub use error::ReadError;
+pub use error::{BuildError, ReadError};
 pub use fault::Fault;
 pub use level::{Level, read_level};
 pub use visibility::reject;

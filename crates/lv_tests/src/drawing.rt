@@ -66,12 +66,11 @@ fn draws_vertices_and_things(rt: HostRuntime) -> Result<(), Fail> {
     Ok(())
 }
 
-/// A room, and one of its walls cut in two.
-#[test]
-fn draws_a_room_and_splits_a_wall(rt: HostRuntime) -> Result<(), Fail> {
-    let map = drawn(
-        &rt,
-        rt.alloc(),
+/// A room of which one wall is split.
+fn split_room(rt: &impl Abort, alloc: Global) -> Map {
+    drawn(
+        rt,
+        alloc,
         &[
             (
                 b"room 0 0 128 128 0 128 FLOOR4_8 CEIL3_5 STARTAN3 160",
@@ -79,7 +78,12 @@ fn draws_a_room_and_splits_a_wall(rt: HostRuntime) -> Result<(), Fail> {
             ),
             (b"split 2 128 64", Ok(4)),
         ],
-    );
+    )
+}
+
+#[test]
+fn splits_a_wall(rt: HostRuntime) {
+    let map = split_room(&rt, rt.alloc());
     let wall = |v1: u16, v2: u16, right: u16| Line {
         v1,
         v2,
@@ -100,6 +104,11 @@ fn draws_a_room_and_splits_a_wall(rt: HostRuntime) -> Result<(), Fail> {
     for (n, line) in lines.iter().enumerate() {
         assert_eq!(rt; map.line(n as u32), Some(*line), "line {n}");
     }
+}
+
+#[test]
+fn draws_the_corners_of_a_room(rt: HostRuntime) {
+    let map = split_room(&rt, rt.alloc());
     let vertices = [(0, 0), (0, 128), (128, 128), (128, 0), (128, 64)];
     assert_eq!(rt; map.count(Kind::Vertex), 5);
     for (n, (x, y)) in vertices.iter().enumerate() {
@@ -109,17 +118,18 @@ fn draws_a_room_and_splits_a_wall(rt: HostRuntime) -> Result<(), Fail> {
             "vertex {n}"
         );
     }
-    let nothing = Name8 {
-        bytes: *b"-\0\0\0\0\0\0\0",
-    };
+}
+
+#[test]
+fn draws_the_sector_and_the_sides_of_a_room(rt: HostRuntime) {
+    let map = split_room(&rt, rt.alloc());
+    let nothing = Name8::from_text(b"-");
     let side = Side {
         x_offset: 0,
         y_offset: 0,
         upper: nothing,
         lower: nothing,
-        middle: Name8 {
-            bytes: *b"STARTAN3",
-        },
+        middle: Name8::from_text(b"STARTAN3"),
         sector: 0,
     };
     assert_eq!(rt; map.count(Kind::Side), 4);
@@ -129,18 +139,13 @@ fn draws_a_room_and_splits_a_wall(rt: HostRuntime) -> Result<(), Fail> {
     let sector = Sector {
         floor: 0,
         ceiling: 128,
-        floor_name: Name8 {
-            bytes: *b"FLOOR4_8",
-        },
-        ceiling_name: Name8 {
-            bytes: *b"CEIL3_5\0",
-        },
+        floor_name: Name8::from_text(b"FLOOR4_8"),
+        ceiling_name: Name8::from_text(b"CEIL3_5"),
         light: 160,
         special: 0,
         tag: 0,
     };
     assert_eq!(rt; map.sector(0), Some(sector));
-    Ok(())
 }
 
 /// Two rooms with a two-sided line between them.

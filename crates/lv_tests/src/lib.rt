@@ -2,6 +2,10 @@
 #![tactic(auto)]
 
 #[cfg(test)]
+mod answers;
+#[cfg(test)]
+mod bodies;
+#[cfg(test)]
 mod checkpoint;
 #[cfg(test)]
 mod checks;
@@ -13,6 +17,8 @@ mod disk;
 mod drawing;
 #[cfg(test)]
 mod editor;
+#[cfg(test)]
+mod file_disk;
 #[cfg(test)]
 mod journal;
 #[cfg(test)]
@@ -27,3 +33,5 @@ mod partition;
 mod project;
 #[cfg(test)]
 mod segs;
+#[cfg(test)]
+mod slots;

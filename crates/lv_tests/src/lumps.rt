@@ -61,7 +61,7 @@ fn l_node() -> Node {
 }
 
 #[test]
-fn drawn_records_have_their_bytes(rt: HostRuntime) {
+fn vertices_and_things_have_their_bytes(rt: HostRuntime) {
     for (vertex, bytes) in [
         (Vertex { x: 0, y: 0 }, [0x00, 0x00, 0x00, 0x00]),
         (Vertex { x: 128, y: 0 }, [0x80, 0x00, 0x00, 0x00]),
@@ -87,7 +87,10 @@ fn drawn_records_have_their_bytes(rt: HostRuntime) {
     let bytes = [0x40, 0x00, 0x40, 0x00, 0x5a, 0x00, 0x01, 0x00, 0x07, 0x00];
     assert_eq!(rt; thing_bytes(&thing), bytes);
     assert_eq!(rt; thing_of(&bytes), thing);
+}
 
+#[test]
+fn sectors_and_lines_have_their_bytes(rt: HostRuntime) {
     let sector = Sector {
         floor: 0,
         ceiling: 128,
@@ -162,7 +165,7 @@ fn built_lists_go_both_ways(rt: HostRuntime) -> Result<(), Fail> {
 }
 
 #[test]
-fn drawn_lists_go_both_ways(rt: HostRuntime) -> Result<(), Fail> {
+fn vertex_lists_go_both_ways(rt: HostRuntime) -> Result<(), Fail> {
     let vertices = [Vertex { x: 0, y: 0 }, Vertex { x: 128, y: 0 }];
     let bytes = [0x00, 0x00, 0x00, 0x00, 0x80, 0x00, 0x00, 0x00];
     assert_eq!(rt;
@@ -173,7 +176,11 @@ fn drawn_lists_go_both_ways(rt: HostRuntime) -> Result<(), Fail> {
         decode_vertices(rt.alloc(), &bytes)?.as_slice(),
         vertices.as_slice()
     );
+    Ok(())
+}
 
+#[test]
+fn thing_lists_go_both_ways(rt: HostRuntime) -> Result<(), Fail> {
     let things = [thing_of(&[0x40, 0x00, 0x40, 0x00, 0x5a, 0x00, 0x01, 0x00, 0x07, 0x00])];
     let bytes = encode_things(rt.alloc(), &things)?;
     assert_eq!(rt; bytes.len(), 10);
@@ -181,7 +188,11 @@ fn drawn_lists_go_both_ways(rt: HostRuntime) -> Result<(), Fail> {
         decode_things(rt.alloc(), &bytes)?.as_slice(),
         things.as_slice()
     );
+    Ok(())
+}
 
+#[test]
+fn line_lists_go_both_ways(rt: HostRuntime) -> Result<(), Fail> {
     let lines = [line_of(&[
         0x00, 0x00, 0x01, 0x00, 0x01, 0x00, 0x00, 0x00, 0x00, 0x00, 0x00, 0x00, 0xff, 0xff,
     ])];
@@ -191,7 +202,11 @@ fn drawn_lists_go_both_ways(rt: HostRuntime) -> Result<(), Fail> {
         decode_lines(rt.alloc(), &bytes)?.as_slice(),
         lines.as_slice()
     );
+    Ok(())
+}
 
+#[test]
+fn side_lists_go_both_ways(rt: HostRuntime) -> Result<(), Fail> {
     let none = Name8::from_text(b"-");
     let sides = [Side {
         x_offset: 0,
@@ -210,7 +225,11 @@ fn drawn_lists_go_both_ways(rt: HostRuntime) -> Result<(), Fail> {
         decode_sides(rt.alloc(), &bytes)?.as_slice(),
         sides.as_slice()
     );
+    Ok(())
+}
 
+#[test]
+fn sector_lists_go_both_ways(rt: HostRuntime) -> Result<(), Fail> {
     let sectors = [sector_of(b"\0\0\x80\0FLOOR4_8CEIL3_5\0\xa0\0\0\0\0\0")];
     let bytes = encode_sectors(rt.alloc(), &sectors)?;
     assert_eq!(rt; bytes.len(), 26);

@@ -1,14 +1,11 @@
 ghost use Rattle.lv_maptables.specs.Ranges.{IsCoordinate};
 
 use lv_lumps::{Line, Name8, Sector, Side, Thing, Vertex};
-use lv_maptables::{
-    Kind, Map, MapError, NO_SIDE, Need, decode_body, empty_body, is_marker, is_name,
-    squared_distance,
-};
+use lv_maptables::{Kind, Map, MapError, NO_SIDE, Need, is_marker, is_name, squared_distance};
 use std::alloc::Global;
 use std::test::Fail;
 
-const SECTOR: Sector = Sector {
+pub const SECTOR: Sector = Sector {
     floor: 0,
     ceiling: 128,
     floor_name: Name8 {
@@ -22,7 +19,7 @@ const SECTOR: Sector = Sector {
     tag: 0,
 };
 
-const SIDE: Side = Side {
+pub const SIDE: Side = Side {
     x_offset: 0,
     y_offset: 0,
     upper: Name8 {
@@ -37,7 +34,7 @@ const SIDE: Side = Side {
     sector: 0,
 };
 
-const THING: Thing = Thing {
+pub const THING: Thing = Thing {
     x: 64,
     y: 64,
     angle: 90,
@@ -46,7 +43,7 @@ const THING: Thing = Thing {
 };
 
 /// A line of side 0 alone.
-const LINE: Line = Line {
+pub const LINE: Line = Line {
     v1: 0,
     v2: 1,
     flags: 1,
@@ -65,7 +62,7 @@ fn place(map: &mut Map, x: i16, y: i16) -> Result<u32, MapError>
 }
 
 /// A map with a sector, a side, and the vertices 0 0, 64 0 and 128 0.
-fn drawn(alloc: Global) -> Result<Map, MapError> {
+pub fn drawn(alloc: Global) -> Result<Map, MapError> {
     let mut map = Map::new(alloc);
     place(&mut map, 0, 0)?;
     place(&mut map, 64, 0)?;
@@ -229,7 +226,7 @@ fn edits_answer_their_least_fault(rt: HostRuntime) -> Result<(), Fail> {
 }
 
 #[test]
-fn a_drop_lowers_the_greater_numbers(rt: HostRuntime) -> Result<(), Fail> {
+fn a_dropped_vertex_lowers_the_ends(rt: HostRuntime) -> Result<(), Fail> {
     let mut map = drawn(rt.alloc())?;
     map.add_line(Line {
         v1: 1,
@@ -243,40 +240,41 @@ fn a_drop_lowers_the_greater_numbers(rt: HostRuntime) -> Result<(), Fail> {
         [0, 0, 1, 0, 1, 0, 0, 0, 0, 0, 0, 0, 0xff, 0xff].as_slice()
     );
     assert_eq!(rt; map.vertex(0), Some(Vertex { x: 64, y: 0 }));
-    assert_eq!(rt; map.add_sector(SECTOR)?, 1);
-    assert_eq!(rt; map.add_side(Side { sector: 1, ..SIDE })?, 1);
-    assert_eq!(rt; map.add_side(SIDE)?, 2);
-    map.set_line(
-        0,
-        Line {
-            right: 2,
-            left: 1,
-            flags: 4,
-            ..LINE
-        },
-    )?;
-    map.drop_side(0)?;
-    assert_eq!(rt;
-        map.line(0),
-        Some(Line {
-            right: 1,
-            left: 0,
-            flags: 4,
-            ..LINE
-        })
-    );
-    map.set_side(1, Side { sector: 1, ..SIDE })?;
-    map.drop_sector(0)?;
-    assert_eq!(rt; map.side(0), Some(SIDE));
-    assert_eq!(rt; map.side(1), Some(SIDE));
     map.drop_line(0)?;
     assert_eq!(rt; map.line(0), None);
     Ok(())
 }
 
 #[test]
-fn lines_have_a_greatest_length(rt: HostRuntime) -> Result<(), Fail> {
-    let mut map = Map::new(rt.alloc());
+fn dropped_sides_and_sectors_lower_what_names_them(rt: HostRuntime) -> Result<(), Fail> {
+    let mut map = drawn(rt.alloc())?;
+    assert_eq!(rt; map.add_sector(SECTOR)?, 1);
+    assert_eq!(rt; map.add_side(Side { sector: 1, ..SIDE })?, 1);
+    assert_eq!(rt; map.add_side(SIDE)?, 2);
+    let two_sided = Line {
+        flags: 4,
+        right: 2,
+        left: 1,
+        ..LINE
+    };
+    map.add_line(two_sided)?;
+    map.drop_side(0)?;
+    let lowered = Line {
+        right: 1,
+        left: 0,
+        ..two_sided
+    };
+    assert_eq!(rt; map.line(0), Some(lowered));
+    map.set_side(1, Side { sector: 1, ..SIDE })?;
+    map.drop_sector(0)?;
+    assert_eq!(rt; map.side(0), Some(SIDE));
+    assert_eq!(rt; map.side(1), Some(SIDE));
+    Ok(())
+}
+
+/// A map with the places of lines of the greatest length, and beyond it, and no line.
+fn far_places(alloc: Global) -> Result<Map, MapError> {
+    let mut map = Map::new(alloc);
     place(&mut map, -16384, 0)?;
     place(&mut map, 16383, 0)?;
     place(&mut map, -12000, -12000)?;
@@ -284,50 +282,38 @@ fn lines_have_a_greatest_length(rt: HostRuntime) -> Result<(), Fail> {
     place(&mut map, 11170, 11170)?;
     map.add_sector(SECTOR)?;
     map.add_side(SIDE)?;
+    Ok(map)
+}
+
+#[test]
+fn lines_have_a_greatest_length(rt: HostRuntime) -> Result<(), Fail> {
+    let mut map = far_places(rt.alloc())?;
     // 32767 by 0, 23169 by 23169, 23170 by 23170
+    let longest = Line {
+        v1: 2,
+        v2: 3,
+        ..LINE
+    };
+    let longer = Line {
+        v1: 2,
+        v2: 4,
+        ..LINE
+    };
     assert_eq!(rt; map.add_line(LINE)?, 0);
-    assert_eq!(rt;
-        map.add_line(Line {
-            v1: 2,
-            v2: 3,
-            ..LINE
-        })?,
-        1
-    );
-    assert_eq!(rt;
-        map.add_line(Line {
-            v1: 2,
-            v2: 4,
-            ..LINE
-        }),
-        Err(MapError::LineTooLong)
-    );
-    assert_eq!(rt;
-        map.set_line(
-            0,
-            Line {
-                v1: 2,
-                v2: 4,
-                ..LINE
-            }
-        ),
-        Err(MapError::LineTooLong)
-    );
+    assert_eq!(rt; map.add_line(longest)?, 1);
+    assert_eq!(rt; map.add_line(longer), Err(MapError::LineTooLong));
+    assert_eq!(rt; map.set_line(0, longer), Err(MapError::LineTooLong));
     map.drop_vertex(4)?;
     assert_eq!(rt;
         map.set_vertex(3, Vertex { x: 11170, y: 11170 }),
         Err(MapError::LineTooLong)
     );
-    assert_eq!(rt;
-        squared_distance(
-            Vertex {
-                x: -12000,
-                y: -12000
-            },
-            Vertex { x: 11169, y: 11169 }
-        ),
-        1_073_605_122
-    );
+    let from = Vertex {
+        x: -12000,
+        y: -12000,
+    };
+    let to = Vertex { x: 11169, y: 11169 };
+    assert_eq!(rt; squared_distance(from, to), 1_073_605_122);
     Ok(())
 }
 
@@ -388,75 +374,6 @@ fn names_have_their_bytes(rt: HostRuntime) {
     ] {
         assert_eq!(rt; is_marker(text), marker, "at {text:?}");
     }
-}
-
-/// The body of a map with one item of each kind but two vertices.
-const BODY: [u8; 108] =
-    *b"\x01\0MAP01\0\0\0\x01\0\x01\0\x01\0\x02\0\x01\0\x40\0\x40\0\x5a\0\x01\0\x07\0\
-\0\0\x01\0\x01\0\0\0\0\0\0\0\xff\xff\0\0\0\0-\0\0\0\0\0\0\0-\0\0\0\0\0\0\0STARTAN3\0\0\
-\0\0\0\0\x40\0\0\0\0\0\x80\0FLOOR4_8CEIL3_5\0\xa0\0\0\0\0\0";
-
-#[test]
-fn bodies_read_back(rt: HostRuntime) -> Result<(), Fail> {
-    let new = Map::new(rt.alloc());
-    assert_eq!(rt; empty_body(), *b"\x01\0MAP01\0\0\0\0\0\0\0\0\0\0\0\0\0");
-    assert_eq!(rt;
-        new.encode_body(rt.alloc())?.as_slice(),
-        empty_body().as_slice()
-    );
-    assert_eq!(rt;
-        decode_body(rt.alloc(), &empty_body())?.count(Kind::Vertex),
-        0
-    );
-
-    let mut map = drawn(rt.alloc())?;
-    map.drop_vertex(2)?;
-    map.add_line(LINE)?;
-    map.add_thing(THING)?;
-    assert_eq!(rt; map.encode_body(rt.alloc())?.as_slice(), BODY.as_slice());
-    let read = decode_body(rt.alloc(), &BODY)?;
-    assert_eq!(rt; read.name().text(), b"MAP01".as_slice());
-    assert_eq!(rt; read.thing(0), Some(THING));
-    assert_eq!(rt; read.line(0), Some(LINE));
-    assert_eq!(rt; read.side(0), Some(SIDE));
-    assert_eq!(rt; read.vertex(1), Some(Vertex { x: 64, y: 0 }));
-    assert_eq!(rt; read.sector(0), Some(SECTOR));
-    Ok(())
-}
-
-#[test]
-fn damaged_bodies_are_refused(rt: HostRuntime) {
-    // place, byte and what it spoils
-    for (at, byte, what) in [
-        (0, 2, "the version"),
-        (2, b'N', "the map's name"),
-        (7, b'X', "what follows the map's name"),
-        (10, 2, "the count of things"),
-        (16, 1, "the count of vertices"),
-        (25, 0x80, "a thing's angle"),
-        (30, 2, "a line's vertex"),
-        (30, 1, "a line's two ends"),
-        (34, 4, "the flags of a line without a left side"),
-        (40, 1, "a line's right side"),
-        (42, 1, "a line's left side"),
-        (48, b' ', "a texture's name"),
-        (72, 1, "a side's sector"),
-        (75, 0x40, "a vertex's coordinate"),
-        (78, 0, "the place of a vertex"),
-        (87, b'x', "a flat's name"),
-        (103, 1, "a sector's light"),
-    ] {
-        let mut body = BODY;
-        if let Some(place) = body.get_mut(at) {
-            *place = byte;
-        }
-        let answer = decode_body(rt.alloc(), &body).map(|map| map.count(Kind::Thing));
-        assert_eq!(rt; answer, Err(MapError::Damaged(0)), "with {what} spoilt");
-    }
-    let short = decode_body(rt.alloc(), &BODY[..107]).map(|map| map.count(Kind::Thing));
-    assert_eq!(rt; short, Err(MapError::Damaged(0)));
-    let header = decode_body(rt.alloc(), &BODY[..19]).map(|map| map.count(Kind::Thing));
-    assert_eq!(rt; header, Err(MapError::Damaged(0)));
 }
 
 #[test]

@@ -1,10 +1,10 @@
-//! The trees of drawn maps: the worked examples, the limits, and a check of many small maps by plain code.
+//! The trees of drawn maps: the worked examples, and a row of rooms.
 
 ghost use Rattle.std.specs.Prelude.{◌<◌};
 
 use lv_commands::{apply, parse};
-use lv_lumps::{Bounds, Node, Seg, Sub, Vertex};
-use lv_maptables::{Kind, Map};
+use lv_lumps::{Sub, Vertex, encode_nodes, encode_segs, encode_subs};
+use lv_maptables::Map;
 use lv_nodes::{Built, TreeError, build_tree};
 use std::alloc::{AllocError, Global};
 use std::process::Abort;
@@ -41,35 +41,44 @@ const SECTOR: &[u8] = b"sector 0 128 FLOOR4_8 CEIL3_5 160 0 0";
 
 const SIDE: &[u8] = b"side 0 0 - - STARTAN3 0";
 
-fn seg(first: u16, second: u16, angle: u16, line: u16, side: u16, offset: u16) -> Seg {
-    Seg {
-        first,
-        second,
-        angle,
-        line,
-        side,
-        offset,
-    }
+#[test]
+fn a_map_without_lines_has_no_tree(rt: HostRuntime) {
+    let map = drawn(&rt, rt.alloc(), &[b"vertex 0 0"]);
+    let error = build_tree(rt.alloc(), &map).err();
+    assert_eq!(rt; error, Some(TreeError::NothingToBuild));
+    assert_eq!(rt; TreeError::NothingToBuild.code(), 60);
 }
 
+/// The segs of a room from (0,0) to (128,128), as bytes.
+const ROOM_SEGS: [u8; 48] = [
+    0, 0, 1, 0, 0, 0x40, 0, 0, 0, 0, 0, 0, // west
+    1, 0, 2, 0, 0, 0, 1, 0, 0, 0, 0, 0, // north
+    2, 0, 3, 0, 0, 0xc0, 2, 0, 0, 0, 0, 0, // east
+    3, 0, 0, 0, 0, 0x80, 3, 0, 0, 0, 0, 0, // south
+];
+
 #[test]
-fn a_room_is_one_subsector(rt: HostRuntime) {
+fn a_room_is_one_subsector(rt: HostRuntime) -> Result<(), Fail> {
     let tree = built(&rt, rt.alloc(), &[ROOM]);
-    let segs = [
-        seg(0, 1, 0x4000, 0, 0, 0),
-        seg(1, 2, 0, 1, 0, 0),
-        seg(2, 3, 0xc000, 2, 0, 0),
-        seg(3, 0, 0x8000, 3, 0, 0),
-    ];
     assert_eq!(rt; tree.vertices.len(), 4);
-    assert_eq!(rt; tree.segs.as_slice(), segs.as_slice());
-    let subs = [Sub { count: 4, first: 0 }];
-    assert_eq!(rt; tree.subs.as_slice(), subs.as_slice());
+    let segs = encode_segs(rt.alloc(), &tree.segs)?;
+    assert_eq!(rt; segs.as_slice(), ROOM_SEGS.as_slice());
+    let subs = encode_subs(rt.alloc(), &tree.subs)?;
+    assert_eq!(rt; subs.as_slice(), [4, 0, 0, 0].as_slice());
     assert_eq!(rt; tree.nodes.len(), 0);
+    Ok(())
 }
 
+/// The one node of the L, as bytes: start and vector, the boxes, the two children.
+const L_NODE: [u8; 28] = [
+    0x80, 0, 0, 1, 0, 0, 0x80, 0xff, // from (128,256) by (0,-128)
+    0, 1, 0, 0, 0, 0, 0x80, 0, // the west
+    0x80, 0, 0, 0, 0x80, 0, 0, 1, // the east
+    0, 0x80, 1, 0x80,
+];
+
 #[test]
-fn an_l_is_cut_by_the_first_of_two_equal_walls(rt: HostRuntime) {
+fn an_l_is_cut_by_the_first_of_two_equal_walls(rt: HostRuntime) -> Result<(), Fail> {
     let tree = built(
         &rt,
         rt.alloc(),
@@ -95,29 +104,11 @@ fn an_l_is_cut_by_the_first_of_two_equal_walls(rt: HostRuntime) {
     assert_eq!(rt; tree.vertices[6], Vertex { x: 128, y: 0 });
     assert_eq!(rt; tree.segs[3].line, 5);
     assert_eq!(rt; tree.segs[3].offset, 128);
-    let subs = [Sub { count: 4, first: 0 }, Sub { count: 3, first: 4 }];
-    assert_eq!(rt; tree.subs.as_slice(), subs.as_slice());
-    let node = Node {
-        x: 128,
-        y: 256,
-        dx: 0,
-        dy: -128,
-        right_box: Bounds {
-            top: 256,
-            bottom: 0,
-            left: 0,
-            right: 128,
-        },
-        left_box: Bounds {
-            top: 128,
-            bottom: 0,
-            left: 128,
-            right: 256,
-        },
-        right: 0x8000,
-        left: 0x8001,
-    };
-    assert_eq!(rt; tree.nodes.as_slice(), [node].as_slice());
+    let subs = encode_subs(rt.alloc(), &tree.subs)?;
+    assert_eq!(rt; subs.as_slice(), [4, 0, 0, 0, 3, 0, 4, 0].as_slice());
+    let nodes = encode_nodes(rt.alloc(), &tree.nodes)?;
+    assert_eq!(rt; nodes.as_slice(), L_NODE.as_slice());
+    Ok(())
 }
 
 #[test]
@@ -205,6 +196,8 @@ fn the_two_sides_of_a_line_are_parted(rt: HostRuntime) {
     let subs = [Sub { count: 4, first: 0 }, Sub { count: 4, first: 4 }];
     assert_eq!(rt; tree.subs.as_slice(), subs.as_slice());
     assert_eq!(rt; tree.nodes.len(), 1);
+    let first = tree.segs[..4].iter().filter(|seg| seg.line == 2);
+    assert_eq!(rt; first.count(), 1);
 }
 
 #[test]

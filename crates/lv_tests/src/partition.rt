@@ -97,8 +97,6 @@ fn walked(map: &Map, pieces: &[Piece], used: &[bool]) -> Option<Choice>
 }
 
 // The L of six lines: the third and the fourth cost the same, eight for the split and one.
-// Two lines on one straight line run against each other: each has the other on its left.
-// The crossing rounds to an end of its line, so nothing is left on the left.
 /// A fixed sequence of numbers.
 #[derive(Drop)]
 struct Sequence {
@@ -116,6 +114,15 @@ impl Sequence {
     }
 }
 
+/// Draws seven vertices of a grid, side by side.
+fn draw_row(rt: &impl Abort, alloc: Global, map: &mut Map, y: u32) -> Result<(), Fail> {
+    for x in 0..7u32 {
+        let x = x * 12;
+        draw(rt, map, format!(in alloc; "vertex {x} {y}")?.as_bytes());
+    }
+    Ok(())
+}
+
 /// Lines between places of a small grid, so that many cross, overlap or lie on one straight line.
 fn draw_tangle(
     rt: &impl Abort,
@@ -131,13 +138,8 @@ fn draw_tangle(
             b"side 0 0 - - STARTAN3 0",
         ],
     );
-    for place in 0..49 {
-        let (x, y) = (place % 7 * 12, place / 7 * 12);
-        draw(
-            rt,
-            &mut map,
-            format!(in alloc; "vertex {x} {y}")?.as_bytes(),
-        );
+    for y in 0..7u32 {
+        draw_row(rt, alloc, &mut map, y * 12)?;
     }
     for _ in 0..lines {
         let from = numbers.below(49);

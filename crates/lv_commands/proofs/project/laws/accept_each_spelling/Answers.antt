@@ -1,0 +1,5 @@
+use Rattle.lv_commands.proofs.ProjectWords.{spelling-accepted}
+use Rattle.lv_commands.proofs.project.laws.accept_each_spelling.Goals as goal
+
+pub returns : goal.returns
+returns c = spelling-accepted

@@ -1,0 +1,5 @@
+use Rattle.lv_commands.proofs.ProjectWords.{spelling-one}
+use Rattle.lv_commands.proofs.project.laws.spell_one_command.Goals as goal
+
+pub returns : goal.returns
+returns c = spelling-one

@@ -1,0 +1,31 @@
+-- The commands of a project: their names in range, and the one spelling of each.
+use Rattle.std.specs.Prelude.{ℕ, List, [], ◌∷◌, codes}
+use Rattle.std.specs.List.{join_with_byte}
+use Rattle.lv_lumps.specs.Names.{IsNamed, is_marker, name_text}
+use Rattle.lv_commands.specs.CommandRanges as of_one
+use Rattle.lv_commands.specs.Spelling as of_one_map
+use Rattle.lv_commands.specs.declared.project.command.MapHead.{MapHead}
+use Rattle.lv_commands.specs.declared.project.command.MapHead.TheVariants as head
+use Rattle.lv_commands.specs.declared.project.command.ProjectCommand.{ProjectCommand}
+use Rattle.lv_commands.specs.declared.project.command.ProjectCommand.TheVariants.{Edit, SelectMap, DropMap}
+
+-- each number and name of the command is in its range
+abbrev pub InRange : ProjectCommand → Type 0
+InRange (Edit c) = of_one.InRange c
+InRange (SelectMap name) = IsNamed is_marker name
+InRange (DropMap name) = IsNamed is_marker name
+
+-- the first word of a command that names a map of the project
+abbrev pub map_word : MapHead → List ℕ
+map_word head.Select = codes "map"
+map_word head.Drop = codes "drop-map"
+
+-- the words of a command
+abbrev pub words_of : ProjectCommand → List (List ℕ)
+words_of (Edit c) = of_one_map.words_of c
+words_of (SelectMap name) = map_word head.Select ∷ name_text name ∷ []
+words_of (DropMap name) = map_word head.Drop ∷ name_text name ∷ []
+
+-- the line that is the command: its words with one space between each two
+abbrev pub spelling : ProjectCommand → List ℕ
+spelling c = join_with_byte 32 (words_of c)

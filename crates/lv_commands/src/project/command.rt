@@ -1,0 +1,20 @@
+use crate::command::Command;
+use lv_lumps::Name8;
+
+/// A change of a project, as a line of input asks for it.
+#[derive(Clone, Copy, Debug, PartialEq, Eq)]
+pub enum ProjectCommand {
+    /// A change of the current map.
+    Edit(Command),
+    /// The name of the map that becomes current. Where no map has it, an empty one is added last.
+    SelectMap(Name8),
+    /// The name of the map that is taken out.
+    DropMap(Name8),
+}
+
+/// The first word of a command that names a map of the project.
+#[derive(Clone, Copy)]
+pub enum MapHead {
+    Select,
+    Drop,
+}

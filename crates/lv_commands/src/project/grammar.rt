@@ -1,0 +1,97 @@
+ghost use Rattle.std.specs.Prelude.{◌≡◌, [], ◌∷◌, ◌≤◌, None, Some, Ok, IfOk, IfSome, bytes_eq, length};
+ghost use Rattle.lv_lumps.specs.Names.{is_marker};
+ghost use Rattle.lv_commands.specs.Errors.{TellsFault};
+ghost use Rattle.lv_commands.specs.Grammar as of_one_map;
+ghost use Rattle.lv_commands.specs.Places.{Named, places_fault};
+ghost use Rattle.lv_commands.specs.ProjectCommands.{InRange, map_word, spelling, words_of};
+ghost use Rattle.lv_commands.specs.ProjectGrammar.{fault_of, map_head_of};
+ghost use Rattle.lv_commands.specs.declared.project.command.ProjectCommand.{ProjectCommand};
+ghost use Rattle.lv_commands.specs.Views.{reading};
+
+use crate::error::CommandError;
+use crate::grammar;
+use crate::places::Places;
+use crate::project::command::{MapHead, ProjectCommand};
+use crate::words::next_part;
+
+/// All first words behind which a map is named.
+const MAP_HEADS: [MapHead; 2] = [MapHead::Select, MapHead::Drop];
+
+/// The word that is written for such a first word.
+pub fn map_text(head: MapHead) -> &'static str
+    ensures { result.now ≡ map_word head }
+{
+    match head {
+        MapHead::Select => "map",
+        MapHead::Drop => "drop-map",
+    }
+}
+
+/// Whether the word is this first word.
+fn is_map_head(word: &[u8], head: MapHead) -> bool
+    ensures { result ≡ bytes_eq word.now (map_word head) }
+{
+    word == map_text(head).as_bytes()
+}
+
+/// Which of these first words the word is.
+fn map_head_in(word: &[u8]) -> Option<MapHead>
+    ensures value { result ≡ map_head_of word.now }
+    ensures text { IfSome result (λ h. map_word h ≡ word.now) }
+{
+    MAP_HEADS
+        .iter()
+        .copied()
+        .find(|head| is_map_head(word, *head))
+}
+
+/// The command whose words stand behind such a first word.
+fn map_command(head: MapHead, places: Places) -> Result<ProjectCommand, CommandError>
+    requires { (reading places).fault ≡ None }
+    ensures ok { IfOk result (λ c. (map_word head ∷ (reading places.entry).words ≡ words_of c) × InRange c) }
+    ensures fault { TellsFault result (places_fault (Named is_marker ∷ []) (reading places.entry).words) }
+{
+    match places.map_name() {
+        Ok(name) => match head {
+            MapHead::Select => Ok(ProjectCommand::SelectMap(name)),
+            MapHead::Drop => Ok(ProjectCommand::DropMap(name)),
+        },
+        Err(error) => Err(error),
+    }
+}
+
+/// The command of the current map that a line is.
+fn edit(line: &[u8]) -> Result<ProjectCommand, CommandError>
+    ensures ok { IfOk result (λ c. (line.now ≡ spelling c) × InRange c) }
+    ensures fault { TellsFault result (of_one_map.fault_of line.now) }
+{
+    match grammar::parse(line) {
+        Ok(command) => Ok(ProjectCommand::Edit(command)),
+        Err(error) => Err(error),
+    }
+}
+
+/// The command that a line is, or what is wrong with it.
+fn read(line: &[u8]) -> Result<ProjectCommand, CommandError>
+    ensures ok { IfOk result (λ c. (line.now ≡ spelling c) × InRange c) }
+    ensures fault { TellsFault result (fault_of line.now) }
+{
+    if line.len() > grammar::LONGEST_LINE {
+        return Err(CommandError::NotACommand);
+    }
+    let (word, rest) = next_part(line);
+    match map_head_in(word) {
+        Some(head) => map_command(head, Places::new(rest)),
+        None => edit(line),
+    }
+}
+
+/// The command that a line is. Where it is none the answer is 1, or the leftmost of 2 and 15. Takes no memory.
+pub fn parse(line: &[u8]) -> Result<ProjectCommand, CommandError>
+    ensures ok { IfOk result (λ c. (line.now ≡ spelling c) × InRange c) }
+    ensures all { (c : ProjectCommand) → InRange c → line.now ≡ spelling c → result ≡ Ok c }
+    ensures fault { TellsFault result (fault_of line.now) }
+    ensures short { IfOk result (λ _. length line.now ≤ 256) }
+{
+    read(line)
+}

@@ -1,0 +1,44 @@
+ghost use Rattle.std.specs.Prelude.{◌≡◌, [], ◌∷◌, IfOk, IsOkUnless};
+ghost use Rattle.std.specs.List.{join_with_byte};
+ghost use Rattle.lv_lumps.specs.Names.{IsNamed, is_marker, name_text};
+ghost use Rattle.lv_commands.specs.ProjectCommands.{InRange, map_word, spelling};
+ghost use Rattle.lv_commands.specs.Views.{written};
+
+use crate::error::CommandError;
+use crate::project::command::{MapHead, ProjectCommand};
+use crate::project::grammar::map_text;
+use crate::spelling;
+use crate::text::Text;
+use lv_lumps::Name8;
+use std::alloc::{AllocError, Global};
+
+/// A first word and a map's name.
+#[tactic(auto, using(crate::proofs::Padding::marker_utf8))]
+fn named(alloc: Global, head: MapHead, name: &Name8) -> Result<Text, AllocError>
+    requires { IsNamed is_marker name.now }
+    ensures { IfOk result (λ t. written t ≡ join_with_byte 32 (map_word head ∷ name_text name.now ∷ [])) }
+{
+    Text::new(alloc, map_text(head))?.name(name)
+}
+
+/// The line of a command that names a map.
+fn line(alloc: Global, head: MapHead, name: &Name8) -> Result<Vec<u8>, CommandError>
+    requires { IsNamed is_marker name.now }
+    ensures spelling { IfOk result (λ v. v.items ≡ join_with_byte 32 (map_word head ∷ name_text name.now ∷ [])) }
+    ensures memory { IsOkUnless result CommandError.OutOfMemory }
+{
+    Ok(named(alloc, head, name)?.into_bytes())
+}
+
+/// The line that is the command, without an end of line. It is the one line that `parse` takes for it.
+pub fn print(alloc: Global, command: &ProjectCommand) -> Result<Vec<u8>, CommandError>
+    requires { InRange command.now }
+    ensures spelling { IfOk result (λ v. v.items ≡ spelling command.now) }
+    ensures memory { IsOkUnless result CommandError.OutOfMemory }
+{
+    match command {
+        ProjectCommand::Edit(edit) => spelling::print(alloc, edit),
+        ProjectCommand::SelectMap(name) => line(alloc, MapHead::Select, name),
+        ProjectCommand::DropMap(name) => line(alloc, MapHead::Drop, name),
+    }
+}

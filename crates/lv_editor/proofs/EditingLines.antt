@@ -1,0 +1,123 @@
+-- The answer to a line over a project, by what the line is; a long line is answered as its front.
+use Rattle.std.proofs.Common.{◌≡◌, ◌∙◌, ◌⊎◌, inl, inr, ℕ, ◌<◌, ◌≤◌, Bool, true, false, List, [], ◌∷◌, Option, Some, None, Result, Ok, Err, length, take, refl, sym, ap, subst, arith}
+use Rattle.std.specs.Prelude.{MatchOption, nat_lt}
+use Rattle.std.specs.Option.{option_map}
+use Rattle.std.proofs.lemmas.Bool.{ltb-false, ltb-true}
+use Rattle.std.proofs.lemmas.List.{take_all, length-take-le}
+use Rattle.lv_disk.specs.Stops.{LeavesOnly}
+use Rattle.lv_disk.proofs.Moments.{weaker}
+use Rattle.lv_maptables.specs.Tables.{Tables}
+use Rattle.lv_commands.specs.Grammar.{fault_of}
+use Rattle.lv_commands.specs.Errors as commands
+use Rattle.lv_project.specs.Calls.{Applies}
+use Rattle.lv_project.specs.Outcomes.{EndsApply, RefusesApply}
+use Rattle.lv_project.specs.Stands.{IsOutcome, StandsFor}
+use Rattle.lv_project.specs.States.{State}
+use Rattle.lv_project.specs.declared.error.ProjectError.{ProjectError}
+use Rattle.lv_project.specs.declared.error.ProjectError.TheVariants.{Device, OutOfMemory, Reopen, GenerationsSpent, Refused, Damaged, Blank, NotAProject, NotEmpty, BadGeometry}
+use Rattle.lv_editor.specs.Editing.{AnswersInProject, AnswersQuery, IsTold, LacksInProject, MayLack, RepliesInProject, RepliesToQuery, outcome_in}
+use Rattle.lv_editor.specs.Queries.{query_of}
+use Rattle.lv_editor.specs.Texts.{outcome_text, refused_text}
+use Rattle.lv_editor.specs.declared.query.Query.{Query}
+use Rattle.lv_editor.proofs.LongLines.{long-accepts, long-fault, long-query, long-refused, refused-long}
+
+-- what a line is that is no query
+at_none : (P : Type 0) (Q : List ℕ × Query → Type 0) (o : Option (List ℕ × Query)) → o ≡ None → MatchOption o P Q → P
+at_none P Q None e told = told
+at_none P Q (Some q) e told = cc
+
+to_none : (P : Type 0) (Q : List ℕ × Query → Type 0) (o : Option (List ℕ × Query)) → o ≡ None → P → MatchOption o P Q
+to_none P Q None e told = told
+to_none P Q (Some q) e told = cc
+
+some_to : (P : Type 0) (Q : Query → Type 0) (o : Option (List ℕ × Query)) (q : Query) → Some q ≡ option_map (λ q. q.1) o → Q q → MatchOption o P (λ r. Q r.1)
+some_to P Q None q e told = cc
+some_to P Q (Some r) q e told = let same : q ≡ r.1 = cc in subst Q same told
+
+none_of : (o : Option (List ℕ × Query)) → None ≡ option_map (λ q. q.1) o → o ≡ None
+none_of None e = refl
+none_of (Some q) e = cc
+
+module _ {D : Type 0} (moment failures : D → ℕ) (left_since : D → ℕ → List ℕ → Type 0) (may_leave : D → List ℕ → Type 0) where
+  abbrev Told : State D → List ℕ → List ℕ → State D → Type 0
+  Told = RepliesInProject moment failures left_since may_leave
+
+  abbrev Tried : State D → List ℕ → List ℕ → State D → Type 0
+  Tried = IsTold moment failures left_since may_leave
+
+  -- ---- A long line
+
+  long_refusal : (e : ProjectError) (old new : State D) (a b : List ℕ) → 256 < length a → 256 < length b → RefusesApply failures e old new a → RefusesApply failures e old new b
+  long_refusal Device old new a b long longer told = told
+  long_refusal OutOfMemory old new a b long longer told = told
+  long_refusal Reopen old new a b long longer told = told
+  long_refusal GenerationsSpent old new a b long longer (ready, still, last, above, (next, (n, accepts))) = absurd (long-accepts old.cap old.map.tables next a n long accepts)
+  long_refusal (Refused e) old new a b long longer (ready, still, told) = (
+    ready,
+    still,
+    refused-long old.cap old.map.tables b (commands.code_of e) (fault_of b) (long-fault b longer)
+        (long-refused old.cap old.map.tables a (commands.code_of e) (fault_of a) (long-fault a long) told),
+  )
+  long_refusal (Damaged place) old new a b long longer told = absurd told
+  long_refusal Blank old new a b long longer told = absurd told
+  long_refusal NotAProject old new a b long longer told = absurd told
+  long_refusal NotEmpty old new a b long longer told = absurd told
+  long_refusal BadGeometry old new a b long longer told = absurd told
+
+  long_ends : (answer : Result ℕ ProjectError) (old new : State D) (a b : List ℕ) → 256 < length a → 256 < length b → EndsApply failures answer old new a → EndsApply failures answer old new b
+  long_ends (Ok n) old new a b long longer (ready, still, accepts) = absurd (long-accepts old.cap old.map.tables new.map.tables a n long accepts)
+  long_ends (Err e) old new a b long longer (same, told) = (same, long_refusal e old new a b long longer told)
+
+  long_outcome : (cap : ℕ) (map : Tables) (a b : List ℕ) → 256 < length a → (file : List ℕ) → IsOutcome cap map a file → IsOutcome cap map b file
+  long_outcome cap map a b long file (inl stands) = inl stands
+  long_outcome cap map a b long file (inr (next, (n, accepts), stands)) = absurd (long-accepts cap map next a n long accepts)
+
+  long_tried : (old new : State D) (a b text : List ℕ) → 256 < length a → 256 < length b → Tried old a text new → Tried old b text new
+  long_tried old new a b text long longer (answer, p, is) = (
+    answer,
+    record {
+      ends = long_ends answer old new a b long longer p.ends;
+      any_moment =
+          λ ready.
+          weaker moment left_since old.disk new.disk (IsOutcome old.cap old.map.tables a) (IsOutcome old.cap old.map.tables b) (p.any_moment ready)
+          (long_outcome old.cap old.map.tables a b long);
+      refused_moment = p.refused_moment;
+      kept = p.kept;
+      same_cap = p.same_cap;
+    },
+    is,
+  )
+
+  long_told : (old new : State D) (a b text : List ℕ) → 256 < length a → 256 < length b → Told old a text new → Told old b text new
+  long_told old new a b text long longer (inl told) =
+      inl (to_none (Tried old b text new) (λ q. AnswersQuery old q.1 text × (new ≡ old)) (query_of b) (long-query b longer)
+      (long_tried old new a b text long longer (at_none (Tried old a text new) (λ q. AnswersQuery old q.1 text × (new ≡ old)) (query_of a) (long-query a long) told)))
+  long_told old new a b text long longer (inr ((lacks, same), is)) = absurd (at_none ⊥ (λ q. MayLack old q.1) (query_of a) (long-query a long) lacks)
+
+  -- a line is answered as its front
+  pub long_line : (old new : State D) (line text : List ℕ) → Told old (take 257 line) text new → Told old line text new
+  long_line old new line text told = go (nat_lt 257 (length line)) refl
+    where
+      go : (t : Bool) → nat_lt 257 (length line) ≡ t → Told old line text new
+      go false e =
+          let short : length line ≤ 257 = ltb-false 257 (length line) e in
+          subst (λ (l : List ℕ). Told old l text new) (take_all 257 line short) told
+      go true e =
+          let long : 257 < length line = ltb-true 257 (length line) e in
+          let front : length (take 257 line) ≡ 257 = length-take-le 257 line (omega arith) in
+          long_told old new (take 257 line) line text (omega arith) (omega arith) told
+
+  -- ---- What a line is
+
+  -- a line that is no query
+  pub replies_change : (old new : State D) (line : List ℕ) (outcome : Result ℕ ℕ) → None ≡ option_map (λ q. q.1) (query_of line)
+      → ((answer : Result ℕ ProjectError) × Applies moment failures left_since may_leave old line answer new × (outcome ≡ outcome_in answer))
+      → Told old line (outcome_text outcome) new
+  replies_change old new line outcome none (answer, applies, is) =
+      inl (to_none (Tried old line (outcome_text outcome) new) (λ q. AnswersQuery old q.1 (outcome_text outcome) × (new ≡ old)) (query_of line) (none_of (query_of line) none)
+      (answer, applies, ap outcome_text is))
+
+  -- a query
+  pub replies_query : (m : State D) (line text : List ℕ) (q : Query) → Some q ≡ option_map (λ q. q.1) (query_of line) → RepliesToQuery m q text → Told m line text m
+  replies_query m line text q some (inl told) = inl (some_to (Tried m line text m) (λ x. AnswersQuery m x text × (m ≡ m)) (query_of line) q some (told, refl))
+  replies_query m line text q some (inr (lacks, is)) = inr ((some_to ⊥ (λ x. MayLack m x) (query_of line) q some lacks, refl), is)

@@ -1,0 +1,52 @@
+-- What is answered to a line over a project, and what becomes of it (docs/COMMANDS.md, "Answers and queries").
+use Rattle.std.specs.Prelude.{◌≡◌, ◌⊎◌, ℕ, true, false, List, MatchOption, Result, Ok, Err}
+use Rattle.lv_project.specs.Calls.{Applies}
+use Rattle.lv_project.specs.Refusals.{code_of}
+use Rattle.lv_project.specs.States.{State}
+use Rattle.lv_project.specs.declared.error.ProjectError.{ProjectError}
+use Rattle.lv_editor.specs.Queries.{IsAnswer, TakesMemory, query_of}
+use Rattle.lv_editor.specs.Runs.{Replies}
+use Rattle.lv_editor.specs.Texts.{outcome_text, refused_text}
+use Rattle.lv_editor.specs.declared.query.Query.{Query}
+
+-- the outcome of a line that was tried: its number, or the refusal's code
+abbrev pub outcome_in : Result ℕ ProjectError → Result ℕ ℕ
+outcome_in (Ok n) = Ok n
+outcome_in (Err error) = Err (code_of error)
+
+-- what is answered to a query: `no 32` where the project must be opened again, and else an answer of the map as it is
+abbrev pub AnswersQuery : {D : Type 0} → State D → Query → List ℕ → Type 0
+AnswersQuery project query text = ((project.must_reopen ≡ true) × (text ≡ refused_text 32))
+    ⊎ ((project.must_reopen ≡ false) × IsAnswer project.map.tables query text)
+
+-- a query has to be put together in memory, of a project that needn't be opened again
+abbrev pub MayLack : {D : Type 0} → State D → Query → Type 0
+MayLack project query = (project.must_reopen ≡ false) × TakesMemory query
+
+-- what may be answered to a query: its answer, or `no 31` where that takes memory
+abbrev pub RepliesToQuery : {D : Type 0} → State D → Query → List ℕ → Type 0
+RepliesToQuery project query text = AnswersQuery project query text ⊎ (MayLack project query × (text ≡ refused_text 31))
+
+-- a line that is no query: `apply` kept its promises of it, and the text tells what it answered
+abbrev pub IsTold : {D : Type 0} → (D → ℕ) → (D → ℕ) → (D → ℕ → List ℕ → Type 0) → (D → List ℕ → Type 0) → State D → List ℕ
+    → List ℕ → State D → Type 0
+IsTold moment failures left_since may_leave old line text new =
+    (answer : Result ℕ ProjectError) × Applies moment failures left_since may_leave old line answer new
+    × (text ≡ outcome_text (outcome_in answer))
+
+-- what is answered to a line over a project, and the project after it
+abbrev pub AnswersInProject : {D : Type 0} → (D → ℕ) → (D → ℕ) → (D → ℕ → List ℕ → Type 0) → (D → List ℕ → Type 0) → State D
+    → List ℕ → List ℕ → State D → Type 0
+AnswersInProject moment failures left_since may_leave old line text new =
+    MatchOption (query_of line) (IsTold moment failures left_since may_leave old line text new)
+    (λ q. AnswersQuery old q.1 text × (new ≡ old))
+
+-- the line is a query that finds no memory, and the project stays
+abbrev pub LacksInProject : {D : Type 0} → State D → List ℕ → State D → Type 0
+LacksInProject old line new = MatchOption (query_of line) ⊥ (λ q. MayLack old q.1) × (new ≡ old)
+
+-- what may be answered to a line over a project, and the project after it
+abbrev pub RepliesInProject : {D : Type 0} → (D → ℕ) → (D → ℕ) → (D → ℕ → List ℕ → Type 0) → (D → List ℕ → Type 0) → State D
+    → List ℕ → List ℕ → State D → Type 0
+RepliesInProject moment failures left_since may_leave =
+    Replies (AnswersInProject moment failures left_since may_leave) LacksInProject

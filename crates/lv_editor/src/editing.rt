@@ -1,0 +1,151 @@
+ghost use Rattle.std.specs.Prelude.{◌≡◌, ℕ, List, true, false, Result, MatchResult, take};
+ghost use Rattle.std.specs.Io.KnownBytes.{Appends};
+ghost use Rattle.lv_disk.specs.Stops.{Each, LeavesOnly};
+ghost use Rattle.lv_project.specs.Calls.{Applies};
+ghost use Rattle.lv_project.specs.Stands.{IsOutcome};
+ghost use Rattle.lv_project.specs.States.{IsKept, State};
+ghost use Rattle.lv_project.specs.declared.error.ProjectError.{ProjectError};
+ghost use Rattle.lv_editor.specs.Editing.{AnswersInProject, LacksInProject, RepliesInProject, RepliesToQuery, outcome_in};
+ghost use Rattle.lv_editor.specs.Runs.{AnswersLine, Exchange, Ran};
+ghost use Rattle.lv_editor.specs.Sessions.{RunsOver};
+ghost use Rattle.lv_editor.specs.declared.error.EditorError.TheVariants.{WriterFailed};
+
+use crate::answers::write_answer;
+use crate::error::EditorError;
+use crate::outcome::write_outcome;
+use crate::query::{Query, read_query};
+use crate::reading::run_lines;
+use crate::session::Session;
+use lv_disk::Disk;
+use lv_project::{Project, ProjectError};
+use std::alloc::Global;
+use std::io::{Read, Write};
+
+/// The outcome of a line: its number, or the refusal's code.
+fn outcome_in(ended: Result<u32, ProjectError>) -> Result<u32, u16>
+    ensures { result ≡ outcome_in ended }
+{
+    match ended {
+        Ok(number) => Ok(number),
+        Err(error) => Err(error.code()),
+    }
+}
+
+/// Does what a line asks for that is no query, and answers its number or the refusal's code.
+fn change<D: Disk>(project: &mut Project<D>, line: &[u8]) -> Result<u32, u16>
+    ensures { (answer : Result ℕ ProjectError)
+        × Applies D.moment D.failures D.left_since D.may_leave project.old line.now answer project.new
+        × (result ≡ outcome_in answer) }
+{
+    outcome_in(project.apply(line))
+}
+
+/// As much of a line as decides what it is.
+fn front(line: &[u8]) -> &[u8]
+    ensures { result.now ≡ take 257 line.now }
+{
+    if line.len() <= 257 {
+        line
+    } else {
+        &line[..257]
+    }
+}
+
+/// Writes the answer to a query.
+fn answer_query<D: Disk, W: Write>(
+    alloc: Global,
+    project: &Project<D>,
+    query: Query,
+    writer: &mut W,
+) -> Result<(), EditorError>
+    ensures { (text : List ℕ) × RepliesToQuery project.now query text
+        × MatchResult result (λ _. Appends (W.contents writer.old) (W.contents writer.new) text)
+        (λ e. e ≡ WriterFailed) }
+{
+    if project.must_reopen() {
+        return write_outcome(Err(ProjectError::Reopen.code()), writer);
+    }
+    match write_answer(alloc, project.map(), query, writer) {
+        Ok(()) => Ok(()),
+        Err(EditorError::OutOfMemory) => {
+            write_outcome(Err(ProjectError::OutOfMemory.code()), writer)
+        }
+        Err(_) => Err(EditorError::WriterFailed),
+    }
+}
+
+impl<D: Disk> Session for Project<D> {
+    ghost answers = { AnswersInProject D.moment D.failures D.left_since D.may_leave };
+
+    ghost lacks = { LacksInProject };
+
+    fn answer<W: Write>(
+        &mut self,
+        alloc: Global,
+        line: &[u8],
+        writer: &mut W,
+    ) -> Result<(), EditorError> {
+        let Some(query) = read_query(line) else {
+            let outcome = change(self, line);
+            return write_outcome(outcome, writer);
+        };
+        answer_query(alloc, self, query, writer)
+    }
+}
+
+/// Answers a line over a project. A command is on the disk before its number is answered.
+///
+/// # Errors
+///
+/// `WriterFailed` alone; the line's command may then be recorded.
+pub fn answer<D: Disk, W: Write>(
+    alloc: Global,
+    project: &mut Project<D>,
+    line: &[u8],
+    writer: &mut W,
+) -> Result<(), EditorError>
+    ensures answered { AnswersLine (RepliesInProject D.moment D.failures D.left_since D.may_leave) result
+        project.old project.new line.now (W.contents writer.old) (W.contents writer.new) }
+
+    // A stop at any moment of the call leaves the map, or the one that the line leads to.
+    ensures any_moment { project.old.must_reopen ≡ false
+        → LeavesOnly D.moment D.left_since project.old.disk project.new.disk
+        (IsOutcome project.old.cap project.old.map.tables line.now) }
+
+    // Each image now stands for the map, or, where the project must be opened again, for its step by the line.
+    ensures kept { IsKept D.may_leave project.new }
+    ensures in_doubt { project.old.must_reopen ≡ false → project.new.must_reopen ≡ true
+        → Each (D.may_leave project.new.disk) (IsOutcome project.new.cap project.new.map.tables line.now) }
+{
+    // What each image stands for as the call begins, which this call tells.
+    let _ = project.must_reopen();
+    project.answer(alloc, front(line), writer)
+}
+
+/// Answers the lines that the reader gives over a project, in at most `turns` reads of at most 4,096 bytes, and says how
+/// many lines it answered. The writer is flushed after each turn.
+///
+/// After a line that was answered `no 30` each is answered `no 32`, queries too, until the file is opened again.
+///
+/// # Errors
+///
+/// - `InputTooLong` where that many reads did not give the end, and `ReaderFailed`: every line that
+///   was read whole has been answered, and the rest is dropped.
+/// - `WriterFailed`: no further line was looked at.
+pub fn run<D: Disk, R: Read, W: Write>(
+    alloc: Global,
+    project: &mut Project<D>,
+    reader: &mut R,
+    writer: &mut W,
+    turns: u32,
+) -> Result<u64, EditorError>
+    ensures { (trace : List (Exchange (State D)))
+        × Ran (RepliesInProject D.moment D.failures D.left_since D.may_leave) project.old project.new trace turns result
+        (R.remaining reader.old) (R.remaining reader.new)
+        (W.contents writer.old) (W.contents writer.new)
+        × RunsOver D.moment D.failures D.left_since D.may_leave project.old project.new trace }
+{
+    // What each image stands for as the run begins, which this call tells.
+    let _ = project.must_reopen();
+    run_lines(alloc, project, reader, writer, turns)
+}

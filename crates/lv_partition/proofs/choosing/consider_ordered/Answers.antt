@@ -1,0 +1,37 @@
+use Rattle.std.proofs.Common.{◌<◌, ◌≤◌, ◌+◌, ◌∙◌, ap, sym, subst, length, ℕ, Some, false, arith}
+use Rattle.std.proofs.lemmas.Option.{slice_get_within}
+use Rattle.std.proofs.lemmas.List.Sorted.{length_permutation, All-permutation}
+use Rattle.std.specs.Prelude.{MatchOption}
+use Rattle.lv_segs.specs.Pieces.{IsPiece}
+use Rattle.lv_segs.specs.Tree.{cost}
+use Rattle.lv_partition.specs.Counts.{AreCounts}
+use Rattle.lv_partition.specs.SoFar.{SoFar}
+use Rattle.lv_partition.proofs.Best.{stands_at, skips, taken}
+use Rattle.lv_partition.proofs.Reordered.{reordered}
+use Rattle.lv_partition.proofs.choosing.consider_ordered.Goals as goal
+
+pub take_in-requires-clause-place : goal.take_in-requires-clause-place
+take_in-requires-clause-place c = let w = slice_get_within c.args.pieces.now c.args.at c.args.piece.now c.requires.stands in let f = c.requires.few in omega arith
+
+pub count_by_boxes-counted-requires-clause-pieces : goal.count_by_boxes-counted-requires-clause-pieces
+count_by_boxes-counted-requires-clause-pieces c = All-permutation (IsPiece c.args.lines.now) c.args.pieces.now c.args.ordered.now c.requires.ordered c.requires.pieces
+
+pub count_by_boxes-counted-requires-clause-few : goal.count_by_boxes-counted-requires-clause-few
+count_by_boxes-counted-requires-clause-few c = let l = length_permutation c.args.pieces.now c.args.ordered.now c.requires.ordered in let f = c.requires.few in omega arith
+
+pub returns-then-has_earlier : goal.returns-then-has_earlier
+returns-then-has_earlier c =
+    skips c.args.lines.now c.args.pieces.now c.args.used.now c.args.at c.args.piece.now c.requires.stands c.requires.lines c.requires.pieces c.args.best c.requires.few c.requires.so_far (c.has_earlier.ensures c.if-has_earlier.true)
+
+pub returns : goal.returns
+returns c =
+    let lines = c.args.lines.now in
+    let p = c.args.piece.now in
+    let ps = c.args.pieces.now in
+    let within : p.line < length c.args.used.now = let l = c.requires.piece.line_in in let k = c.requires.known in omega arith in
+    let free = stands_at c.args.used.now p.line false within ∙ ap Some c.if-used-piece.false in
+    let o = c.count_by_boxes-counted.result in
+    let e = reordered lines p ps c.args.ordered.now c.requires.ordered c.limit_of-limit.result o c.count_by_boxes-counted.ensures in
+    let m = subst (λ (limit : ℕ). MatchOption o (limit ≤ cost lines p ps) (λ k. AreCounts lines p ps k)) c.limit_of-limit.ensures e in
+    subst (SoFar lines ps c.args.used.now (c.args.at + 1)) (sym c.take_in.ensures)
+    (taken lines ps c.args.used.now c.args.at p c.requires.stands c.args.best o c.requires.few c.requires.so_far free m)
