@@ -10,3 +10,4 @@ pub mod FramedLemmas
 pub mod ProjectLemmas
 pub mod PartsLemmas
 pub mod ProjectBodyLemmas
+pub mod BodyLaws

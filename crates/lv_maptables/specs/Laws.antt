@@ -1,9 +1,12 @@
 -- Laws of the definitions.
-use Rattle.std.specs.Prelude.{ℕ, ◌<◌, Bool, List, [], ◌∷◌}
+use Rattle.std.specs.Prelude.{◌≡◌, ℕ, ◌<◌, Bool, List, [], ◌∷◌, length}
 use Rattle.lv_lumps.specs.declared.records.Line.{Line}
 use Rattle.lv_lumps.specs.declared.records.Side.{Side}
 use Rattle.lv_lumps.specs.declared.records.Vertex.{Vertex}
 use Rattle.lv_maptables.specs.Tables.{Tables}
+use Rattle.lv_maptables.specs.Body.{body}
+use Rattle.lv_maptables.specs.Projects.{ProjectMaps, WellFormedProject}
+use Rattle.lv_maptables.specs.ProjectBody.{project_body, alone, HasBody}
 use Rattle.lv_maptables.specs.Faults.{vertex_faults, set_vertex_faults, drop_vertex_faults, sector_faults, set_sector_faults, drop_sector_faults, side_faults, set_side_faults, drop_side_faults, line_faults, set_line_faults, drop_line_faults, thing_faults, set_thing_faults, drop_thing_faults}
 
 -- each code is less than the next
@@ -29,3 +32,13 @@ pub record FaultsRise (m : Tables) (n : ℕ) (v : Vertex) (s : Side) (l : Line) 
   pub thing : Rises (thing_faults m)
   pub set_thing : Rises (set_thing_faults m n)
   pub drop_thing : Rises (drop_thing_faults m n)
+
+-- one well-formed project at most has a body's bytes, in either version
+abbrev pub BodiesTellProjects : Type 0
+BodiesTellProjects =
+    (p q : ProjectMaps) (bytes : List ℕ) → WellFormedProject p → WellFormedProject q → HasBody p bytes → HasBody q bytes
+    → p ≡ q
+
+-- the body of a project of one map is as long as that map's body
+abbrev pub OneMapKeepsItsLength : Type 0
+OneMapKeepsItsLength = (m : Tables) → length (project_body (alone m)) ≡ length (body m)

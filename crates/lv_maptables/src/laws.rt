@@ -3,9 +3,19 @@ ghost use Rattle.lv_lumps.specs.declared.records.Line.{Line};
 ghost use Rattle.lv_lumps.specs.declared.records.Side.{Side};
 ghost use Rattle.lv_lumps.specs.declared.records.Vertex.{Vertex};
 ghost use Rattle.lv_maptables.specs.Tables.{Tables};
-ghost use Rattle.lv_maptables.specs.Laws.{FaultsRise};
+ghost use Rattle.lv_maptables.specs.Laws.{FaultsRise, BodiesTellProjects, OneMapKeepsItsLength};
 
 /// What speaks against each edit of a map stands by rising code, so the first that holds is the least.
 pub fn list_faults_by_rising_code()
     ensures { (m : Tables) (n : ℕ) (v : Vertex) (s : Side) (l : Line) → FaultsRise m n v s l }
+{}
+
+/// One well-formed project at most has the bytes of a body, in either version.
+pub fn tell_projects_apart()
+    ensures { BodiesTellProjects }
+{}
+
+/// The body of a project of one map is as long as the body of that map.
+pub fn keep_the_length_of_one_map()
+    ensures { OneMapKeepsItsLength }
 {}
