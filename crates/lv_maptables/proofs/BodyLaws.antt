@@ -1,5 +1,5 @@
 -- The laws of bodies.
-use Rattle.std.proofs.Common.{◌≡◌, ℕ, List, ◌∷◌, length, get_or, drop, sym, ◌∙◌, ap, inl, inr}
+use Rattle.std.proofs.Common.{◌≡◌, ◌∷◌, length, get_or, drop, sym, ◌∙◌, ap, inl, inr}
 use Rattle.std.proofs.lemmas.List.{append-nil}
 use Rattle.lv_maptables.specs.Parts.{part}
 use Rattle.lv_maptables.specs.Body.{body, tables_at}
