@@ -2,7 +2,7 @@
 use Rattle.std.proofs.Common.{◌≡◌, ◌∙◌, ◌⊎◌, IfSome, IfNone, ◌<◌, ◌≤◌, ◌^◌, inl, inr, arith, ℕ, Result, Ok, Err, List, [], ◌∷◌, Option, Some, None, Box, Bool, IsSomeAnd, true, false, cond, refl, sym, ap, subst, option_map}
 use Rattle.std.specs.Prelude.{codes, find, map, not, ◌&&◌, is_some}
 use Rattle.std.specs.Box.{box_value}
-use Rattle.clap.specs.Words.{HasMatchesOf, Kinds, ReadsOne, Row, Shape, Text, fault_of, found_of, is_simple, is_simple_and_free, one_of, one_text, rows_of, subcommand_name_of, subcommand_of, subcommand_rows, subcommand_rows_of}
+use Rattle.clap.specs.Words.{HasMatchesOf, Kinds, ReadsOne, Row, Shape, Text, fault_of, found_of, is_simple, is_simple_and_free, one_text, rows_of, subcommand_name_of, subcommand_of, subcommand_rows, subcommand_rows_of}
 use Rattle.clap.specs.Kinds.{check_kinds, or_else}
 use Rattle.clap.specs.Simple.{argument_words, built, entered, label_of, names_of, rows_at}
 use Rattle.clap.specs.Walk.{Held, Names, answers_to, finished, nothing_held, settled, stop_after, walk, walk_from}
