@@ -3,6 +3,7 @@
 
 PREFIX ?= /usr/local
 EXAMPLE ?= examples/two_rooms.txt
+DOC = $(PREFIX)/share/doc/leveled
 
 .PHONY: all demo test install uninstall clean distclean
 
@@ -14,19 +15,29 @@ bin/leveled: FORCE
 	mkdir -p bin
 	cp crates/leveled/out/leveled bin/leveled
 
+# each command beside its answer, drawn into a project file that is then opened again
 demo: bin/leveled
-	bin/leveled scratch < examples/first_lines.txt
-	bin/leveled scratch < $(EXAMPLE)
+	@rm -f bin/demo.lv
+	bin/leveled create bin/demo.lv
+	@bin/leveled edit bin/demo.lv < $(EXAMPLE) > bin/answers
+	@awk -v answers=bin/answers -f examples/beside.awk $(EXAMPLE)
+	echo count | bin/leveled edit bin/demo.lv
+	@echo 'The last line is that of the file, opened again: each command answered ok is in it.'
 
 test:
 	rt ci
 
+# the program, its manual page, and what a user reads and runs
 install: bin/leveled
-	install -d $(DESTDIR)$(PREFIX)/bin
+	install -d $(DESTDIR)$(PREFIX)/bin $(DESTDIR)$(PREFIX)/share/man/man1 $(DESTDIR)$(DOC)/examples
 	install -m 755 bin/leveled $(DESTDIR)$(PREFIX)/bin/leveled
+	install -m 644 docs/leveled.1 $(DESTDIR)$(PREFIX)/share/man/man1/leveled.1
+	install -m 644 README.md LICENSE CHANGELOG.md docs/COMMANDS.md docs/FIRST_LEVEL.md docs/FORMAT.md $(DESTDIR)$(DOC)
+	install -m 644 examples/* $(DESTDIR)$(DOC)/examples
 
 uninstall:
-	rm -f $(DESTDIR)$(PREFIX)/bin/leveled
+	rm -f $(DESTDIR)$(PREFIX)/bin/leveled $(DESTDIR)$(PREFIX)/share/man/man1/leveled.1
+	rm -rf $(DESTDIR)$(DOC)
 
 # the results of the proofs stay, so that the next build is quick
 clean:

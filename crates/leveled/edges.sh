@@ -21,4 +21,18 @@ said=$("$program" scratch "$(printf '\377')" 2>&1); status_is 'a word that is no
 [ "$said" = 'leveled: word 2 is no text' ] || { echo "a word that is no text says: $said"; bad=1; }
 printf 'vertex 0 0\n' | "$program" scratch >/dev/full 2>/dev/null; status_is 'answers on a full disk' 1 $?
 
+# A folder and a missing file are no project; what can't be told is kept.
+place=$(mktemp -d)
+for word in create edit check; do
+    said=$("$program" "$word" "$place" </dev/null 2>&1); status_is "$word of a folder" 1 $?
+    [ "$said" = 'leveled: 30 Device' ] || { echo "$word of a folder says: $said"; bad=1; }
+done
+"$program" edit "$place/none" </dev/null 2>/dev/null; status_is 'a missing file' 1 $?
+[ ! -e "$place/none" ] || { echo 'edit made a file'; bad=1; }
+"$program" create "$place/map" >/dev/full 2>/dev/null; status_is 'a new file and a full disk' 1 $?
+printf 'vertex 0 0\n' | "$program" edit "$place/map" >/dev/full 2>/dev/null; status_is 'edit and a full disk' 1 $?
+said=$(printf 'vertex 0 0\n' | "$program" edit "$place/map"); status_is 'the same line again' 0 $?
+[ "$said" = 'no 10' ] || { echo "the same line again says: $said"; bad=1; }
+rm -r "$place"
+
 exit $bad

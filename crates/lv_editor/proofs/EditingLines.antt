@@ -1,23 +1,22 @@
 -- The answer to a line over a project, by what the line is; a long line is answered as its front.
-use Rattle.std.proofs.Common.{◌≡◌, ◌∙◌, ◌⊎◌, inl, inr, ℕ, ◌<◌, ◌≤◌, Bool, true, false, List, [], ◌∷◌, Option, Some, None, Result, Ok, Err, length, take, refl, sym, ap, subst, arith}
+use Rattle.std.proofs.Common.{◌≡◌, inl, inr, ℕ, ◌<◌, ◌≤◌, Bool, true, false, List, Option, Some, None, Result, Ok, Err, length, take, refl, ap, subst, arith}
 use Rattle.std.specs.Prelude.{MatchOption, nat_lt}
 use Rattle.std.specs.Option.{option_map}
 use Rattle.std.proofs.lemmas.Bool.{ltb-false, ltb-true}
 use Rattle.std.proofs.lemmas.List.{take_all, length-take-le}
-use Rattle.lv_disk.specs.Stops.{LeavesOnly}
 use Rattle.lv_disk.proofs.Moments.{weaker}
 use Rattle.lv_maptables.specs.Tables.{Tables}
 use Rattle.lv_commands.specs.Grammar.{fault_of}
 use Rattle.lv_commands.specs.Errors as commands
 use Rattle.lv_project.specs.Calls.{Applies}
 use Rattle.lv_project.specs.Outcomes.{EndsApply, RefusesApply}
-use Rattle.lv_project.specs.Stands.{IsOutcome, StandsFor}
+use Rattle.lv_project.specs.Stands.{IsOutcome}
 use Rattle.lv_project.specs.States.{State}
 use Rattle.lv_project.specs.declared.error.ProjectError.{ProjectError}
 use Rattle.lv_project.specs.declared.error.ProjectError.TheVariants.{Device, OutOfMemory, Reopen, GenerationsSpent, Refused, Damaged, Blank, NotAProject, NotEmpty, BadGeometry}
-use Rattle.lv_editor.specs.Editing.{AnswersInProject, AnswersQuery, IsTold, LacksInProject, MayLack, RepliesInProject, RepliesToQuery, outcome_in}
+use Rattle.lv_editor.specs.Editing.{AnswersQuery, IsTold, MayLack, RepliesInProject, RepliesToQuery, outcome_in}
 use Rattle.lv_editor.specs.Queries.{query_of}
-use Rattle.lv_editor.specs.Texts.{outcome_text, refused_text}
+use Rattle.lv_editor.specs.Texts.{outcome_text}
 use Rattle.lv_editor.specs.declared.query.Query.{Query}
 use Rattle.lv_editor.proofs.LongLines.{long-accepts, long-fault, long-query, long-refused, refused-long}
 

@@ -1,8 +1,8 @@
 -- From the matches of a parse to what the words ask for.
-use Rattle.std.proofs.Common.{◌≡◌, ◌∙◌, List, [], ◌∷◌, Option, Some, None, Box, Bool, IsSomeAnd, true, false, cond, refl, sym, ap, subst, option_map}
+use Rattle.std.proofs.Common.{◌≡◌, ◌∙◌, ◌⊎◌, IfSome, IfNone, ◌<◌, ◌≤◌, ◌^◌, inl, inr, arith, ℕ, Result, Ok, Err, List, [], ◌∷◌, Option, Some, None, Box, Bool, IsSomeAnd, true, false, cond, refl, sym, ap, subst, option_map}
 use Rattle.std.specs.Prelude.{codes, find, map, not, ◌&&◌, is_some}
 use Rattle.std.specs.Box.{box_value}
-use Rattle.clap.specs.Words.{HasMatchesOf, Kinds, Row, Shape, Text, fault_of, found_of, is_simple, is_simple_and_free, rows_of, subcommand_name_of, subcommand_of, subcommand_rows, subcommand_rows_of}
+use Rattle.clap.specs.Words.{HasMatchesOf, Kinds, ReadsOne, Row, Shape, Text, fault_of, found_of, is_simple, is_simple_and_free, one_text, rows_of, subcommand_name_of, subcommand_of, subcommand_rows, subcommand_rows_of}
 use Rattle.clap.specs.Kinds.{check_kinds, or_else}
 use Rattle.clap.specs.Simple.{argument_words, built, entered, label_of, names_of, rows_at}
 use Rattle.clap.specs.Walk.{Held, Names, answers_to, finished, nothing_held, settled, stop_after, walk, walk_from}
@@ -15,9 +15,12 @@ use Rattle.clap.specs.declared.parser.matches.ArgMatches.{ArgMatches}
 use Rattle.clap.specs.declared.parser.matches.SubCommand.{SubCommand}
 use Rattle.clap.specs.declared.parser.matches.ArgMatches.TheViews.{out-ArgMatches, out-SubCommand}
 use Rattle.clap.proofs.OnLiterals.{clap_on_literals}
-use Rattle.lv_editor.specs.Request.{AsksFor, leveled_app}
-use Rattle.lv_editor.specs.declared.asked.Request.{Request}
-use Rattle.lv_editor.specs.declared.asked.Request.TheVariants.{Scratch}
+use Rattle.std.specs.Str.Parse.{ParsesUnsigned}
+use Rattle.clap.specs.declared.parser.matches.Found.{Found}
+use Rattle.clap.proofs.WalkLemmas.{one_text-rows}
+use Rattle.lv_editor.specs.Request.{HasNumber, IsRefusal, IsSubcommand, LacksNumber, LacksValue, RefusesValues, leveled_app}
+use Rattle.lv_editor.specs.declared.asked.RequestError.{RequestError}
+use Rattle.lv_editor.specs.declared.asked.RequestError.TheVariants.{Words, Number, Memory}
 
 pub is_simple-leveled : is_simple leveled_app ≡ true
 unfolding clap_on_literals
@@ -47,32 +50,39 @@ pub words_name : (m : ArgMatches) (words : List Text) (name : Text) (rows : List
     → Some rows ≡ option_map (λ p. p.1) (subcommand_rows_of m) → subcommand_of leveled_app words ≡ Some (name, rows)
 words_name m words name rows has named given = sym (has is_simple-leveled).1 ∙ row_met m name rows named given
 
--- the one subcommand is `scratch`
+-- the name is one of these
+abbrev IsAmong : List Text → Text → Type 0
+IsAmong [] name = ⊥
+IsAmong (n ∷ ns) name = (name ≡ n) ⊎ IsAmong ns name
+
 abbrev name_in : Text → Option (Text × List Row) → Text
 name_in other None = other
 name_in other (Some p) = p.0
 
-of_one : (test : Shape → Bool) (s : Shape) (words : List Text) (name : Text) (rows : List Row) (found : Option Shape) → found ≡ find test (s ∷ [])
-    → option_map (λ t. rows_at t words) found ≡ Some (name, rows) → name ≡ s.name
-of_one test s words name rows found is e = go (test s) found is e
+of_found : (test : Shape → Bool) (subs : List Shape) (words : List Text) (name : Text) (rows : List Row)
+    → option_map (λ t. rows_at t words) (find test subs) ≡ Some (name, rows) → IsAmong (map (λ s. s.name) subs) name
+of_found test [] words name rows e = cc
+of_found test (s ∷ subs) words name rows e = go (test s) (of_found test subs words name rows) e
   where
-    go : (t : Bool) (found : Option Shape) → found ≡ cond t (Some s) None → option_map (λ u. rows_at u words) found ≡ Some (name, rows) → name ≡ s.name
-    go true found is d = ap (name_in s.name) (sym d ∙ ap (option_map (λ u. rows_at u words)) is)
-    go false found is d = let never : ◌≡◌ {A = Option (Text × List Row)} None (Some (name, rows)) = sym (ap (option_map (λ u. rows_at u words)) is) ∙ d in cc
+    go : (t : Bool) → (option_map (λ u. rows_at u words) (find test subs) ≡ Some (name, rows) → IsAmong (map (λ t. t.name) subs) name)
+        → option_map (λ u. rows_at u words) (cond t (Some s) (find test subs)) ≡ Some (name, rows) → (name ≡ s.name) ⊎ IsAmong (map (λ t. t.name) subs) name
+    go true behind d = inl (ap (name_in s.name) (sym d))
+    go false behind d = inr (behind d)
 
-of_named : (test : Shape → Bool) (subs : List Shape) (words : List Text) (name : Text) (rows : List Row) → map (λ s. s.name) subs ≡ codes "scratch" ∷ []
-    → option_map (λ t. rows_at t words) (find test subs) ≡ Some (name, rows) → name ≡ codes "scratch"
-of_named test [] words name rows one e = cc
-of_named test (s ∷ []) words name rows one e = let is : s.name ≡ codes "scratch" = cc in of_one test s words name rows _ refl e ∙ is
-of_named test (s ∷ t ∷ ts) words name rows one e = cc
+of_four : (name : Text) → IsAmong (codes "scratch" ∷ codes "create" ∷ codes "edit" ∷ codes "check" ∷ []) name → IsSubcommand name
+of_four name (inl is) = inl is
+of_four name (inr (inl is)) = inr (inl is)
+of_four name (inr (inr (inl is))) = inr (inr (inl is))
+of_four name (inr (inr (inr (inl is)))) = inr (inr (inr is))
+of_four name (inr (inr (inr (inr never)))) = absurd never
 
-only_scratch : (stop : Option (Text × List Text)) (name : Text) (rows : List Row) → entered (built leveled_app) stop ≡ Some (name, rows) → name ≡ codes "scratch"
-only_scratch None name rows e = cc
-only_scratch (Some p) name rows e = of_named (λ s. answers_to p.0 (label_of s)) (built leveled_app).subs p.1 name rows refl e
+only_four : (stop : Option (Text × List Text)) (name : Text) (rows : List Row) → entered (built leveled_app) stop ≡ Some (name, rows) → IsSubcommand name
+only_four None name rows e = cc
+only_four (Some p) name rows e = of_four name (of_found (λ s. answers_to p.0 (label_of s)) (built leveled_app).subs p.1 name rows e)
 
-pub is_scratch : (words : List Text) (name : Text) (rows : List Row) → subcommand_of leveled_app words ≡ Some (name, rows) → name ≡ codes "scratch"
-is_scratch words name rows e =
-    only_scratch (stop_after (built leveled_app).top.rules (names_of (built leveled_app)) (argument_words leveled_app words)) name rows e
+pub is_subcommand : (words : List Text) (name : Text) (rows : List Row) → subcommand_of leveled_app words ≡ Some (name, rows) → IsSubcommand name
+is_subcommand words name rows e =
+    only_four (stop_after (built leveled_app).top.rules (names_of (built leveled_app)) (argument_words leveled_app words)) name rows e
 
 -- ---- A subcommand was met
 
@@ -121,6 +131,74 @@ met m words has none without =
 
 -- ---- The request
 
-pub asks : (o : Option (Text × List Row)) (name : Text) (rows : List Row) (r : Request) → o ≡ Some (name, rows) → name ≡ codes "scratch" → r ≡ Scratch → IsSomeAnd o (AsksFor r)
-asks o name rows r is named e =
-    subst (λ (x : Request). IsSomeAnd o (AsksFor x)) (sym e) (subst (λ (p : Option (Text × List Row)). IsSomeAnd p (AsksFor Scratch)) (sym is) named)
+pub asks : (o : Option (Text × List Row)) (name : Text) (rows : List Row) (P : Text × List Row → Type 0) → o ≡ Some (name, rows) → P (name, rows) → IsSomeAnd o P
+asks o name rows P is holds = subst (λ (p : Option (Text × List Row)). IsSomeAnd p P) (sym is) holds
+
+pub refuses : (words : List Text) (name : Text) (rows : List Row) (e : RequestError) → subcommand_of leveled_app words ≡ Some (name, rows) → RefusesValues (name, rows) e → IsRefusal words e
+refuses words name rows (Words error) is never = absurd never
+refuses words name rows Number is lacks = asks (subcommand_of leveled_app words) name rows LacksValue is lacks
+refuses words name rows Memory is told = tt
+
+-- ---- The values
+
+-- the number that a text is read as
+pub number_read : {E : Type 0} (G : List ℕ → Result ℕ E → Type 0) (f : Found) (id : Text) (low high n : ℕ) (o : Option ℕ) → o ≡ Some n
+    → (one_text f id ≡ None → o ≡ None) → ((t : List ℕ) → one_text f id ≡ Some t → ReadsOne G t o)
+    → ((u : List ℕ) (x : Result ℕ E) → G u x → ParsesUnsigned 32 10 u x) → low ≤ n → n ≤ high
+    → HasNumber id (rows_of f) low high n
+number_read {E} G f id low high n o is none some parses least most = go (one_text f id) refl
+  where
+    go : (p : Option (List ℕ)) → one_text f id ≡ p → HasNumber id (rows_of f) low high n
+    go None e = let bad : ◌≡◌ {A = Option ℕ} (Some n) None = sym is ∙ none e in cc
+    go (Some t) e =
+        let read = parses t (Ok n) (subst (λ (q : Option ℕ). ReadsOne G t q) is (some t e)) in
+        record {
+          text = t;
+          given = sym (one_text-rows f id) ∙ e;
+          numeral = read.0.0;
+          is = read.1;
+          least = least;
+          most = most;
+        }
+
+-- no number is read, or one outside the limits
+pub number_lacks : {E : Type 0} (G : List ℕ → Result ℕ E → Type 0) (f : Found) (id : Text) (low high : ℕ) (o : Option ℕ)
+    → ((t : List ℕ) → one_text f id ≡ Some t → ReadsOne G t o)
+    → ((u : List ℕ) (x : Result ℕ E) → G u x → ParsesUnsigned 32 10 u x) → high < 2 ^ 32
+    → ((n : ℕ) → o ≡ Some n → low ≤ n → n ≤ high → ⊥) → LacksNumber id (rows_of f) low high
+number_lacks {E} G f id low high o some parses small outside = λ n h. go n h o (λ m is. outside m is) (some h.text (one_text-rows f id ∙ h.given))
+  where
+    go : (n : ℕ) (h : HasNumber id (rows_of f) low high n) (p : Option ℕ) → ((m : ℕ) → p ≡ Some m → low ≤ m → m ≤ high → ⊥) → ReadsOne G h.text p → ⊥
+    go n h None out (error, read) = parses h.text (Err error) read (h.numeral, (let is = h.is in let most = h.most in omega (arith, small)))
+    go n h (Some m) out read =
+        let is : m ≡ n = (parses h.text (Ok m) read).1 ∙ sym h.is in
+        out m refl (subst (λ (k : ℕ). low ≤ k) (sym is) h.least) (subst (λ (k : ℕ). k ≤ high) (sym is) h.most)
+
+-- a number of which it is known whether it is within the limits
+pub within_read : {E : Type 0} (G : List ℕ → Result ℕ E → Type 0) (f : Found) (id : Text) (low high n : ℕ) (o : Option ℕ) → o ≡ Some n
+    → (one_text f id ≡ None → o ≡ None) → ((t : List ℕ) → one_text f id ≡ Some t → ReadsOne G t o)
+    → ((u : List ℕ) (x : Result ℕ E) → G u x → ParsesUnsigned 32 10 u x)
+    → (r : Option ℕ) → IfSome r (λ m. (m ≡ n) × (low ≤ n) × (n ≤ high)) → IfSome r (HasNumber id (rows_of f) low high)
+within_read G f id low high n o is none some parses None h = tt
+within_read G f id low high n o is none some parses (Some m) (same, least, most) =
+    subst (λ k. HasNumber id (rows_of f) low high k) (sym same) (number_read G f id low high n o is none some parses least most)
+
+pub within_lacks : {E : Type 0} (G : List ℕ → Result ℕ E → Type 0) (f : Found) (id : Text) (low high n : ℕ) (o : Option ℕ) → o ≡ Some n
+    → ((t : List ℕ) → one_text f id ≡ Some t → ReadsOne G t o)
+    → ((u : List ℕ) (x : Result ℕ E) → G u x → ParsesUnsigned 32 10 u x) → high < 2 ^ 32
+    → (r : Option ℕ) → IfNone r (¬ ((low ≤ n) × (n ≤ high))) → IfNone r (LacksNumber id (rows_of f) low high)
+within_lacks G f id low high n o is some parses small (Some m) h = tt
+within_lacks G f id low high n o is some parses small None out = number_lacks G f id low high o some parses small outside
+  where
+    outside : (k : ℕ) → o ≡ Some k → low ≤ k → k ≤ high → ⊥
+    outside k other least most =
+        let e : k ≡ n = cc in
+        out (subst (λ m. low ≤ m) e least, subst (λ m. m ≤ high) e most)
+
+pub none_lacks : {E : Type 0} (G : List ℕ → Result ℕ E → Type 0) (f : Found) (id : Text) (low high : ℕ) (o : Option ℕ) → o ≡ None
+    → ((t : List ℕ) → one_text f id ≡ Some t → ReadsOne G t o)
+    → ((u : List ℕ) (x : Result ℕ E) → G u x → ParsesUnsigned 32 10 u x) → high < 2 ^ 32 → LacksNumber id (rows_of f) low high
+none_lacks G f id low high o is some parses small = number_lacks G f id low high o some parses small outside
+  where
+    outside : (k : ℕ) → o ≡ Some k → low ≤ k → k ≤ high → ⊥
+    outside k other least most = cc

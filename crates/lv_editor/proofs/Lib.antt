@@ -1,4 +1,5 @@
 pub mod Answering
+pub mod Built
 pub mod Cutting
 pub mod EditingLines
 pub mod FromMatches

@@ -1,42 +1,139 @@
 -- What the words of the program ask for (docs/COMMANDS.md, "The program"): the command line is clap's, in clap's words.
-use Rattle.std.specs.Prelude.{◌≡◌, ℕ, Option, Result, Ok, Err, List, codes, true, false}
-use Rattle.clap.specs.Words.{App, HasKind, app_of, fault_of, Row, Text, new_app, takes, with_subcommand}
+use Rattle.std.specs.Prelude.{◌≡◌, ◌≤◌, ◌⊎◌, ℕ, pos, Option, Some, None, Result, Ok, Err, List, [], ◌∷◌, ◌++◌, codes, string_bytes, true, false, IsSomeAnd, length, nat_eq, if◌then◌else◌}
+use Rattle.std.specs.Str.Parse.{IsNumeral, digits_value, without_leading_plus}
+use Rattle.std.specs.Io.KnownBytes.{Appends, Keeps}
+use Rattle.clap.specs.Words.{App, HasKind, Rule, app_of, fault_of, first_of, Row, Text, new_app, new_rule, one_of, rule_of, subcommand_of, takes, with_rule, with_subcommand}
 use Rattle.clap.specs.Simple.{on_top}
+use Rattle.clap.specs.declared.builder.arg.Arg.{Arg}
 use Rattle.clap.specs.declared.builder.command.Command.{Command}
 use Rattle.clap.specs.declared.builder.command.Command.TheViews.{out-Command}
+use Rattle.clap.specs.declared.builder.value_parser.ValueParser.TheVariants as vp
 use Rattle.clap.specs.Values.{kind_of}
 use Rattle.clap.specs.declared.error.kind.ErrorKind.TheVariants.{OutOfMemory}
 use Rattle.lv_maptables.specs.Tables.{Tables, empty_tables}
+use Rattle.lv_checks.specs.Findings.{findings}
+use Rattle.lv_project.specs.States.{State}
 use Rattle.lv_editor.specs.Answers.{RepliesInMemory}
+use Rattle.lv_editor.specs.Editing.{RepliesInProject}
 use Rattle.lv_editor.specs.Runs.{Exchange, Ran}
+use Rattle.lv_editor.specs.Sessions.{RunsOver}
+use Rattle.lv_editor.specs.Texts.{findings_text}
 use Rattle.lv_editor.specs.declared.error.EditorError.{EditorError}
 use Rattle.lv_editor.specs.declared.asked.Request.{Request}
 use Rattle.lv_editor.specs.declared.asked.RequestError.{RequestError}
 use Rattle.lv_editor.specs.declared.asked.RequestError.TheVariants.{Words, Number, Memory}
-use Rattle.lv_editor.specs.declared.asked.Request.TheVariants.{Scratch}
+use Rattle.lv_editor.specs.declared.refusal.Refusal.{Refusal}
+use Rattle.lv_editor.specs.declared.asked.Request.TheVariants.{Scratch, Create, Edit, Check}
+
+-- ---- The command line
+
+-- the argument has this rule, and isn't for all subcommands
+pub record IsArg (a : Arg) (r : Rule) : Type 0 where
+  pub rule : rule_of a ≡ r
+  pub local : a.global ≡ false
 
 -- the command has this shape, which no subcommand inherits from
 pub record IsCommand (c : Command) (a : App) : Type 0 where
   pub app : app_of c ≡ a
   pub local : (out-Command c).has_globals ≡ false
 
+-- a word that has to be there
+abbrev pub word_rule : Text → Rule
+word_rule id = record (new_rule id) { required = true }
+
+-- `--ID N`, with the N that is taken where there is none
+abbrev pub option_rule : Text → Text → Rule
+option_rule id default = record (new_rule id) { long = Some id; defaults = default ∷ [] }
+
+-- the same, with N in these limits
+abbrev pub number_rule : Text → ℕ → ℕ → Text → Rule
+number_rule id low high default = record (option_rule id default) { parser = Some (vp.Signed (pos low) (pos high)) }
+
+-- `--slot N` and `--journal N`
+abbrev pub slot_rule : Rule
+slot_rule = number_rule (codes "slot") 33 2007015 (codes "262144")
+
+abbrev pub journal_rule : Rule
+journal_rule = number_rule (codes "journal") 512 1048576 (codes "65536")
+
+-- a subcommand with one word
+abbrev pub with_word : Text → Text → App
+with_word name id = with_rule (new_app name) (word_rule id)
+
+-- `create FILE [--slot N] [--journal N]`
+abbrev pub create_app : App
+create_app = with_rule (with_rule (with_word (codes "create") (codes "file")) slot_rule) journal_rule
+
+-- the program with its subcommands
+abbrev pub with_subcommands : App
+with_subcommands =
+    with_subcommand (with_subcommand (with_subcommand (with_subcommand (new_app (codes "leveled"))
+    (new_app (codes "scratch")).top)
+    create_app.top)
+    (with_word (codes "edit") (codes "file")).top)
+    (with_word (codes "check") (codes "file")).top
+
 -- the program's command line: a subcommand has to be there, and `help` is none
 abbrev pub leveled_app : App
 leveled_app =
-    on_top (λ s. record s { has_version = true; subcommand_required = true; disable_help_subcommand = true })
-    (with_subcommand (new_app (codes "leveled")) (new_app (codes "scratch")).top)
+    on_top (λ s. record s { has_version = true; subcommand_required = true; disable_help_subcommand = true }) with_subcommands
+
+-- ---- The request
+
+-- the number that the argument's text is in decimal digits, within its limits
+pub record HasNumber (id : Text) (rows : List Row) (low high n : ℕ) : Type 0 where
+  pub text : Text
+  pub given : one_of id rows ≡ Some text
+  pub numeral : IsNumeral 10 (without_leading_plus text)
+  pub is : n ≡ digits_value 10 (without_leading_plus text)
+  pub least : low ≤ n
+  pub most : n ≤ high
+
+-- the argument has no number within its limits
+abbrev pub LacksNumber : Text → List Row → ℕ → ℕ → Type 0
+LacksNumber id rows low high = (n : ℕ) → ¬ HasNumber id rows low high n
 
 -- the request is for this subcommand, with these values of its arguments
 abbrev pub AsksFor : Request → Text × List Row → Type 0
 AsksFor Scratch asked = asked.0 ≡ codes "scratch"
+AsksFor (Create file slot journal) asked = (asked.0 ≡ codes "create")
+    × (first_of (codes "file") asked.1 ≡ Some (string_bytes file))
+    × HasNumber (codes "slot") asked.1 33 2007015 slot
+    × HasNumber (codes "journal") asked.1 512 1048576 journal
+AsksFor (Edit file) asked = (asked.0 ≡ codes "edit") × (first_of (codes "file") asked.1 ≡ Some (string_bytes file))
+AsksFor (Check file) asked = (asked.0 ≡ codes "check") × (first_of (codes "file") asked.1 ≡ Some (string_bytes file))
+
+-- the name is a subcommand's
+abbrev pub IsSubcommand : Text → Type 0
+IsSubcommand name = (name ≡ codes "scratch") ⊎ (name ≡ codes "create") ⊎ (name ≡ codes "edit") ⊎ (name ≡ codes "check")
+
+-- the text of an argument is refused: it has none, or there is no memory for it
+abbrev pub RefusesText : Text → List Row → RequestError → Type 0
+RefusesText id rows (Words error) = ⊥
+RefusesText id rows Number = first_of id rows ≡ None
+RefusesText id rows Memory = Unit {0}
+
+-- what clap let pass has no file where the subcommand takes one, or no number within the limits of `create`
+abbrev pub LacksValue : Text × List Row → Type 0
+LacksValue asked = ((¬ (asked.0 ≡ codes "scratch")) × (first_of (codes "file") asked.1 ≡ None))
+    ⊎ ((asked.0 ≡ codes "create")
+    × (LacksNumber (codes "slot") asked.1 33 2007015 ⊎ LacksNumber (codes "journal") asked.1 512 1048576))
+
+-- the values of a subcommand are refused
+abbrev pub RefusesValues : Text × List Row → RequestError → Type 0
+RefusesValues asked (Words error) = ⊥
+RefusesValues asked Number = LacksValue asked
+RefusesValues asked Memory = Unit {0}
 
 -- clap refuses words that its simple command takes only where memory ran out, and else by a fault that it names for the
--- words; no number can be wrong where no word is one
+-- words; `Number` stands where it let an argument without a value within its limits pass
 abbrev pub IsRefusal : List Text → RequestError → Type 0
 IsRefusal words (Words error) =
     HasKind (fault_of leveled_app words) error × (takes leveled_app words ≡ true → kind_of error ≡ OutOfMemory)
-IsRefusal words Number = ⊥
+IsRefusal words Number = IsSomeAnd (subcommand_of leveled_app words) LacksValue
 IsRefusal words Memory = Unit {0}
+
+-- ---- What was done
 
 -- the length of the longest body, in bytes: what a map in memory has room for
 abbrev pub longest_body : ℕ
@@ -51,9 +148,49 @@ abbrev pub status_of : Result ℕ EditorError → ℕ
 status_of (Ok n) = 0
 status_of (Err e) = 1
 
--- what was done for a request with this status: the lines of the input were answered over the empty map, and the answers
--- written
-abbrev pub IsPerformed : Request → ℕ → Option (List ℕ) → Option (List ℕ) → Option (List ℕ) → Option (List ℕ) → Type 0
-IsPerformed Scratch status reader-old reader-new writer-old writer-new =
+-- the status where it is done, and 1 where it is refused
+abbrev pub status_in : Result ℕ Refusal → ℕ
+status_in (Ok status) = status
+status_in (Err refusal) = 1
+
+-- the lines of the input were answered over the empty map, and the answers written
+abbrev pub IsScratched : ℕ → Option (List ℕ) → Option (List ℕ) → Option (List ℕ) → Option (List ℕ) → Type 0
+IsScratched status reader-old reader-new writer-old writer-new =
     (result : Result ℕ EditorError) × (last : Tables) × (trace : List (Exchange Tables)) × (status ≡ status_of result)
     × Ran (RepliesInMemory longest_body) empty_tables last trace turns result reader-old reader-new writer-old writer-new
+
+-- the status after so many findings
+abbrev pub status_after : ℕ → ℕ
+status_after found = if nat_eq found 0 then 0 else 3
+
+-- `created` was written, or it was refused
+abbrev pub IsCreated : ℕ → Option (List ℕ) → Option (List ℕ) → Type 0
+IsCreated status writer-old writer-new = ((status ≡ 0) × Appends writer-old writer-new (codes "created" ++ 10 ∷ [])) ⊎ (status ≡ 1)
+
+-- no project was opened and nothing written, or the lines of the input were answered over one, and the answers written
+abbrev pub IsEdited : {D : Type 0} → (D → ℕ) → (D → ℕ) → (D → ℕ → List ℕ → Type 0) → (D → List ℕ → Type 0) → ℕ
+    → Option (List ℕ) → Option (List ℕ) → Option (List ℕ) → Option (List ℕ) → Type 0
+IsEdited {D = D} moment failures left_since may_leave status reader-old reader-new writer-old writer-new =
+    ((status ≡ 1) × Keeps reader-old reader-new × Keeps writer-old writer-new)
+    ⊎ ((result : Result ℕ EditorError) × (first : State D) × (last : State D) × (trace : List (Exchange (State D)))
+    × (first.must_reopen ≡ false) × (status ≡ status_of result)
+    × Ran (RepliesInProject moment failures left_since may_leave) first last trace turns result reader-old reader-new writer-old writer-new
+    × RunsOver moment failures left_since may_leave first last trace)
+
+-- the findings of a map were written, and the status tells whether there are any; or it was refused
+abbrev pub IsChecked : ℕ → Option (List ℕ) → Option (List ℕ) → Type 0
+IsChecked status writer-old writer-new =
+    ((m : Tables) × (status ≡ status_after (length (findings m))) × Appends writer-old writer-new (findings_text (findings m)))
+    ⊎ (status ≡ 1)
+
+-- what was done for a request with this status
+abbrev pub IsPerformed : {D : Type 0} → (D → ℕ) → (D → ℕ) → (D → ℕ → List ℕ → Type 0) → (D → List ℕ → Type 0) → Request → ℕ
+    → Option (List ℕ) → Option (List ℕ) → Option (List ℕ) → Option (List ℕ) → Type 0
+IsPerformed moment failures left_since may_leave Scratch status reader-old reader-new writer-old writer-new =
+    IsScratched status reader-old reader-new writer-old writer-new
+IsPerformed moment failures left_since may_leave (Create file slot journal) status reader-old reader-new writer-old writer-new =
+    IsCreated status writer-old writer-new
+IsPerformed moment failures left_since may_leave (Edit file) status reader-old reader-new writer-old writer-new =
+    IsEdited moment failures left_since may_leave status reader-old reader-new writer-old writer-new
+IsPerformed moment failures left_since may_leave (Check file) status reader-old reader-new writer-old writer-new =
+    IsChecked status writer-old writer-new

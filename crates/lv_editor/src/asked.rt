@@ -1,10 +1,24 @@
 use thiserror::Error;
 
-/// What the program is asked to do.
+/// What the program is asked to do. A file is a path as it was given.
 #[derive(Debug, Drop)]
 pub enum Request {
     /// Answer the lines of the input over a map in memory.
     Scratch,
+    /// Make a project with slots and journals of these lengths, in bytes.
+    Create {
+        file: String,
+        slot: u32,
+        journal: u32,
+    },
+    /// Answer the lines of the input over a project.
+    Edit {
+        file: String,
+    },
+    /// Say what is wrong or unfinished in the map of a project.
+    Check {
+        file: String,
+    },
 }
 
 /// Why the words are no request.
@@ -13,7 +27,7 @@ pub enum RequestError {
     /// The words are not the program's, or ask for its help or its version.
     #[error(transparent)]
     Words(#[from] clap::Error),
-    /// A number outside its limits.
+    /// An argument without a value within its limits, which clap let pass.
     #[error("a number is outside its limits")]
     Number,
     /// No memory for a text of the request.

@@ -1,26 +1,83 @@
-ghost use Rattle.std.specs.Prelude.{◌≡◌, IfOk, IfErr, IsSomeAnd, codes, map};
-ghost use Rattle.clap.specs.Words.{new_app, app_of, subcommand_of};
-ghost use Rattle.lv_editor.specs.declared.asked.Request.TheVariants.{Scratch};
-ghost use Rattle.lv_editor.specs.Request.{AsksFor, IsCommand, IsRefusal, leveled_app};
+ghost use Rattle.std.specs.Prelude.{◌≡◌, ◌≤◌, IfOk, IfErr, IfSome, IfNone, IsSomeAnd, Some, codes, map, string_bytes};
+ghost use Rattle.clap.specs.Words.{app_of, first_of, found_of, new_app, rows_of, subcommand_of};
+ghost use Rattle.lv_editor.specs.Request.{AsksFor, HasNumber, IsArg, IsCommand, IsRefusal, IsSubcommand, LacksNumber, RefusesText, RefusesValues, create_app, journal_rule, leveled_app, option_rule, slot_rule, with_subcommands, with_word, word_rule};
 
 use crate::asked::{Request, RequestError};
-use clap::{Command, Error};
+use clap::{Arg, ArgMatches, Command, Error, value_parser};
 use std::alloc::Global;
 
-/// `scratch`.
-fn scratch<'a>(alloc: Global) -> Command<'a>
-    ensures { IsCommand result (new_app (codes "scratch")) }
+/// A word that has to be there.
+fn word(alloc: Global, id: &str) -> Arg<'_>
+    ensures { IsArg result (word_rule id.now) }
 {
-    Command::new(alloc, "scratch").about("Answers lines over a map in memory")
+    Arg::new(alloc, id).required(true)
+}
+
+/// A subcommand without arguments.
+fn named<'a>(alloc: Global, name: &'a str, about: &'a str) -> Command<'a>
+    ensures { IsCommand result (new_app name.now) }
+{
+    Command::new(alloc, name).about(about)
+}
+
+/// A subcommand over a file.
+fn over_file<'a>(alloc: Global, name: &'a str, about: &'a str) -> Result<Command<'a>, Error>
+    ensures { IfOk result (λ c. IsCommand c (with_word name.now (codes "file"))) }
+{
+    Ok(named(alloc, name, about).arg(word(alloc, "file"))?)
+}
+
+/// `--ID N`, with the N that is taken where there is none.
+fn option<'a>(alloc: Global, id: &'a str, default: &'a str) -> Arg<'a>
+    ensures { IsArg result (option_rule id.now default.now) }
+{
+    Arg::new(alloc, id).long(id).default_value(default)
+}
+
+/// `--slot N`.
+fn slot<'a>(alloc: Global) -> Arg<'a>
+    ensures { IsArg result slot_rule }
+{
+    option(alloc, "slot", "262144").value_parser(value_parser!(u32).range(33..=2007015))
+}
+
+/// `--journal N`.
+fn journal<'a>(alloc: Global) -> Arg<'a>
+    ensures { IsArg result journal_rule }
+{
+    option(alloc, "journal", "65536").value_parser(value_parser!(u32).range(512..=1048576))
+}
+
+/// `create`.
+fn create<'a>(alloc: Global) -> Result<Command<'a>, Error>
+    ensures { IfOk result (λ c. IsCommand c create_app) }
+{
+    Ok(
+        over_file(alloc, "create", "Makes a project file")?
+            .arg(slot(alloc))?
+            .arg(journal(alloc))?,
+    )
+}
+
+/// The program with its subcommands.
+fn with_subcommands<'a>(alloc: Global) -> Result<Command<'a>, Error>
+    ensures { IfOk result (λ c. IsCommand c with_subcommands) }
+{
+    Ok(
+        Command::new(alloc, "leveled")
+            .subcommand(named(alloc, "scratch", "Answers lines over a map in memory"))?
+            .subcommand(create(alloc)?)?
+            .subcommand(over_file(alloc, "edit", "Answers lines over a project file")?)?
+            .subcommand(over_file(alloc, "check", "Says what is wrong in a project's map")?)?,
+    )
 }
 
 /// The program's command line.
 fn leveled<'a>(alloc: Global) -> Result<Command<'a>, Error>
     ensures { IfOk result (λ c. app_of c ≡ leveled_app) }
 {
-    let command = Command::new(alloc, "leveled").subcommand(scratch(alloc))?;
     Ok(
-        command
+        with_subcommands(alloc)?
             .version("0.1.0")
             .about("Draws Doom maps by command lines")
             .subcommand_required(true)
@@ -28,13 +85,85 @@ fn leveled<'a>(alloc: Global) -> Result<Command<'a>, Error>
     )
 }
 
-/// The request for a subcommand.
-fn asked(name: &str) -> Request
-    requires { name.now ≡ codes "scratch" }
-    ensures { result ≡ Scratch }
+/// A text of the request's own.
+fn owned(alloc: Global, text: &str) -> Result<String, RequestError>
+    ensures same { IfOk result (λ s. string_bytes s ≡ text.now) }
+    ensures refused { IfErr result (λ e. e ≡ RequestError.Memory) }
+{
+    match String::from_str(alloc, text) {
+        Ok(text) => Ok(text),
+        Err(_) => Err(RequestError::Memory),
+    }
+}
+
+/// The text of an argument.
+fn text(alloc: Global, found: &ArgMatches<'_>, id: &str) -> Result<String, RequestError>
+    ensures given { IfOk result (λ s. first_of id.now (rows_of (found_of found.now)) ≡ Some (string_bytes s)) }
+    ensures refused { IfErr result (RefusesText id.now (rows_of (found_of found.now))) }
+{
+    match found.get_str(id) {
+        Some(text) => owned(alloc, text),
+        None => Err(RequestError::Number),
+    }
+}
+
+/// The number, where it is within these limits.
+fn within(n: u32, low: u32, high: u32) -> Option<u32>
+    ensures some { IfSome result (λ m. (m ≡ n) × (low ≤ n) × (n ≤ high)) }
+    ensures none { IfNone result (¬ ((low ≤ n) × (n ≤ high))) }
+{
+    if low <= n && n <= high { Some(n) } else { None }
+}
+
+/// The number of an argument, where it has one within these limits.
+fn number(found: &ArgMatches<'_>, id: &str, low: u32, high: u32) -> Option<u32>
+    ensures some { IfSome result (HasNumber id.now (rows_of (found_of found.now)) low high) }
+    ensures none { IfNone result (LacksNumber id.now (rows_of (found_of found.now)) low high) }
+{
+    match found.get_one::<u32>(id) {
+        Some(n) => within(n, low, high),
+        None => None,
+    }
+}
+
+/// The request to make a project.
+fn asked_create(alloc: Global, found: &ArgMatches<'_>) -> Result<Request, RequestError>
+    ensures asked { IfOk result (λ r. AsksFor r (codes "create", rows_of (found_of found.now))) }
+    ensures refused { IfErr result (RefusesValues (codes "create", rows_of (found_of found.now))) }
+{
+    let Some(slot) = number(found, "slot", 33, 2007015) else {
+        return Err(RequestError::Number);
+    };
+    let Some(journal) = number(found, "journal", 512, 1048576) else {
+        return Err(RequestError::Number);
+    };
+    match text(alloc, found, "file") {
+        Ok(file) => Ok(Request::Create {
+            file,
+            slot,
+            journal,
+        }),
+        Err(error) => Err(error),
+    }
+}
+
+/// The request for a subcommand with what was found for its arguments.
+fn asked(alloc: Global, name: &str, found: &ArgMatches<'_>) -> Result<Request, RequestError>
+    requires { IsSubcommand name.now }
+    ensures asked { IfOk result (λ r. AsksFor r (name.now, rows_of (found_of found.now))) }
+    ensures refused { IfErr result (RefusesValues (name.now, rows_of (found_of found.now))) }
 {
     match name {
-        "scratch" => Request::Scratch,
+        "scratch" => Ok(Request::Scratch),
+        "create" => asked_create(alloc, found),
+        "edit" => match text(alloc, found, "file") {
+            Ok(file) => Ok(Request::Edit { file }),
+            Err(error) => Err(error),
+        },
+        "check" => match text(alloc, found, "file") {
+            Ok(file) => Ok(Request::Check { file }),
+            Err(error) => Err(error),
+        },
         _ => unreachable!(),
     }
 }
@@ -44,7 +173,8 @@ fn asked(name: &str) -> Request
 /// # Errors
 ///
 /// `Words` where clap refuses the words, or answers them itself: help and the version. clap's error
-/// has the text, and says where it goes and with which status. `Memory` where there is none.
+/// has the text, and says where it goes and with which status. `Number` where clap let an argument
+/// without a value within its limits pass. `Memory` where there is none.
 pub fn request(alloc: Global, words: &[&str]) -> Result<Request, RequestError>
     ensures asked { IfOk result (λ r.
         IsSomeAnd (subcommand_of leveled_app (map (λ w. w.now) words.now)) (AsksFor r)) }
@@ -59,7 +189,7 @@ pub fn request(alloc: Global, words: &[&str]) -> Result<Request, RequestError>
         Err(error) => return Err(RequestError::Words(error)),
     };
     match matches.subcommand() {
-        Some((name, _)) => Ok(asked(name)),
+        Some((name, found)) => asked(alloc, name, found),
         None => unreachable!(),
     }
 }

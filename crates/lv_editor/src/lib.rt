@@ -16,6 +16,7 @@ mod outcome;
 mod program;
 mod query;
 mod reading;
+mod refusal;
 mod session;
 
 pub use asked::{Request, RequestError};

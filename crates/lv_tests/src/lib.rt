@@ -32,6 +32,8 @@ mod partition;
 #[cfg(test)]
 mod project;
 #[cfg(test)]
+mod project_stops;
+#[cfg(test)]
 mod segs;
 #[cfg(test)]
 mod slots;

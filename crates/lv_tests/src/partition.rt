@@ -4,7 +4,9 @@ ghost use Rattle.lv_segs.specs.Pieces.{IsPiece};
 
 use lv_commands::{apply, parse};
 use lv_maptables::Map;
-use lv_partition::{Choice, StraightLines, blocks_of, choose, choose_in_boxes, separates};
+use lv_partition::{
+    Choice, StraightLines, blocks_of, by_place, choose, choose_in_boxes, choose_ordered, separates,
+};
 use lv_segs::{Piece, boxes_in, divide, edges_of, pieces_of};
 use std::alloc::Global;
 use std::process::Abort;
@@ -48,7 +50,36 @@ fn chosen(
     let choice = choose(map, &pieces, used);
     let by_boxes = choose_in_boxes(&edges, &pieces, &boxes, &blocks, used, &mut straight);
     assert_eq!(rt; choice, by_boxes);
+    assert_eq!(rt; choice, chosen_by_place(rt, alloc, map, used)?);
     assert_eq!(rt; choice, walked(map, &pieces, used));
+    Ok(choice)
+}
+
+/// The same choice, by boxes of the pieces in an order by their places.
+fn chosen_by_place(
+    rt: &impl Abort,
+    alloc: Global,
+    map: &Map,
+    used: &[bool],
+) -> Result<Option<Choice>, Fail> {
+    let pieces = pieces_of(alloc, map)?;
+    let edges = edges_of(alloc, map)?;
+    assert_eq!(rt; used.len(), edges.len());
+    assert!(rt; pieces.len() <= 60);
+    let ordered = by_place(alloc, &edges, &pieces)?;
+    let boxes = boxes_in(alloc, &edges, &ordered)?;
+    assert!(rt; boxes.len() <= 60);
+    let blocks = blocks_of(alloc, &boxes)?;
+    let mut straight = StraightLines::new(alloc, &edges)?;
+    let choice = choose_ordered(
+        &edges,
+        &pieces,
+        &ordered,
+        &boxes,
+        &blocks,
+        used,
+        &mut straight,
+    );
     Ok(choice)
 }
 
@@ -97,6 +128,103 @@ fn walked(map: &Map, pieces: &[Piece], used: &[bool]) -> Option<Choice>
 }
 
 // The L of six lines: the third and the fourth cost the same, eight for the split and one.
+#[test]
+fn takes_the_first_of_equals(rt: HostRuntime) -> Result<(), Fail> {
+    let map = drawn(
+        &rt,
+        rt.alloc(),
+        &[
+            b"vertex 0 0",
+            b"vertex 0 256",
+            b"vertex 128 256",
+            b"vertex 128 128",
+            b"vertex 256 128",
+            b"vertex 256 0",
+            b"sector 0 128 FLOOR4_8 CEIL3_5 160 0 0",
+            b"side 0 0 - - STARTAN3 0",
+            b"line 0 1 1 0 0 0 -",
+            b"line 1 2 1 0 0 0 -",
+            b"line 2 3 1 0 0 0 -",
+            b"line 3 4 1 0 0 0 -",
+            b"line 4 5 1 0 0 0 -",
+            b"line 5 0 1 0 0 0 -",
+        ],
+    );
+    let wanted = [
+        ([false, false, false, false, false, false], Some(2)),
+        ([false, false, true, false, false, false], Some(3)),
+        ([false, false, true, true, false, false], None),
+    ];
+    for (used, want) in &wanted {
+        let want = want.map(|at| Choice {
+            at,
+            splits: 1,
+            right: 4,
+            left: 3,
+        });
+        let choice = chosen(&rt, rt.alloc(), &map, used)?;
+        assert_eq!(rt; choice, want);
+    }
+    Ok(())
+}
+
+// Two lines on one straight line run against each other: each has the other on its left.
+#[test]
+fn parts_lines_that_run_against_each_other(rt: HostRuntime) -> Result<(), Fail> {
+    let map = drawn(
+        &rt,
+        rt.alloc(),
+        &[
+            b"vertex 0 0",
+            b"vertex 64 0",
+            b"vertex 128 0",
+            b"vertex 192 0",
+            b"sector 0 128 FLOOR4_8 CEIL3_5 160 0 0",
+            b"side 0 0 - - STARTAN3 0",
+            b"line 0 1 1 0 0 0 -",
+            b"line 3 2 1 0 0 0 -",
+        ],
+    );
+    let wanted = [([false, false], Some(0)), ([true, false], Some(1))];
+    for (used, want) in &wanted {
+        let want = want.map(|at| Choice {
+            at,
+            splits: 0,
+            right: 1,
+            left: 1,
+        });
+        let choice = chosen(&rt, rt.alloc(), &map, used)?;
+        assert_eq!(rt; choice, want);
+    }
+    Ok(())
+}
+
+// The crossing rounds to an end of its line, so nothing is left on the left.
+#[test]
+fn a_sliver_separates_nothing(rt: HostRuntime) -> Result<(), Fail> {
+    let map = drawn(
+        &rt,
+        rt.alloc(),
+        &[
+            b"vertex 10 0",
+            b"vertex 0 0",
+            b"vertex 8 17",
+            b"vertex 9 7",
+            b"sector 0 128 FLOOR4_8 CEIL3_5 160 0 0",
+            b"side 0 0 - - STARTAN3 0",
+            b"line 0 1 1 0 0 0 -",
+            b"line 2 3 1 0 0 0 -",
+        ],
+    );
+    let pieces = pieces_of(rt.alloc(), &map)?;
+    for partition in &pieces {
+        assert!(rt; !separates(&map, partition, &pieces));
+    }
+    let choice = chosen(&rt, rt.alloc(), &map, &[false, false])?;
+    assert_eq!(rt; choice, None);
+    Ok(())
+}
+
 /// A fixed sequence of numbers.
 #[derive(Drop)]
 struct Sequence {

@@ -1,5 +1,5 @@
 use lv_commands::CommandError;
-use lv_disk::{Disk, FaultDisk, Fill, MemoryDisk};
+use lv_disk::{DeviceFault, Disk, FaultDisk, Fill, MemoryDisk};
 use lv_maptables::Kind;
 use lv_project::{Geometry, Project, ProjectError};
 use std::alloc::Global;
@@ -7,12 +7,13 @@ use std::process::Abort;
 use std::test::Fail;
 
 /// Slots at 16 and 80, journals at 144 and 656, and a new file of 657 bytes.
-const SMALL: Geometry = Geometry {
+pub const SMALL: Geometry = Geometry {
     slot: 64,
     journal: 512,
 };
 
-const FILLS: [Fill; 6] = [
+/// What a stop may leave, by its fill.
+pub const FILLS: [Fill; 6] = [
     Fill::Stable,
     Fill::Written,
     Fill::Byte(0),
@@ -22,7 +23,7 @@ const FILLS: [Fill; 6] = [
 ];
 
 /// A new project on this disk.
-fn created<D: Disk + Drop>(
+pub fn created<D: Disk + Drop>(
     alloc: Global,
     disk: D,
     geometry: Geometry,
@@ -34,7 +35,7 @@ fn created<D: Disk + Drop>(
 }
 
 /// The project of this disk.
-fn opened<D: Disk + Drop>(alloc: Global, disk: D) -> Result<Project<D>, ProjectError> {
+pub fn opened<D: Disk + Drop>(alloc: Global, disk: D) -> Result<Project<D>, ProjectError> {
     match Project::open(alloc, disk) {
         Ok(project) => Ok(project),
         Err(refused) => Err(refused.error),
@@ -42,12 +43,12 @@ fn opened<D: Disk + Drop>(alloc: Global, disk: D) -> Result<Project<D>, ProjectE
 }
 
 /// A disk with room for a small project.
-fn empty_disk(alloc: Global) -> Result<MemoryDisk, Fail> {
+pub fn empty_disk(alloc: Global) -> Result<MemoryDisk, Fail> {
     Ok(MemoryDisk::new(alloc, 2048, 65536)?)
 }
 
 /// A disk with a small project in which these lines were accepted.
-fn disk_after(alloc: Global, lines: &[&[u8]]) -> Result<MemoryDisk, Fail> {
+pub fn disk_after(alloc: Global, lines: &[&[u8]]) -> Result<MemoryDisk, Fail> {
     let mut project = created(alloc, empty_disk(alloc)?, SMALL)?;
     for line in lines {
         project.apply(line)?;
@@ -55,17 +56,13 @@ fn disk_after(alloc: Global, lines: &[&[u8]]) -> Result<MemoryDisk, Fail> {
     Ok(project.into_disk())
 }
 
-/// A copy of the first bytes of a disk's file, all of it on the device.
-fn cut(alloc: Global, disk: &mut MemoryDisk, end: usize) -> Result<MemoryDisk, Fail> {
-    let bytes = bytes_from(alloc, disk, 0, end)?;
-    let mut copy = empty_disk(alloc)?;
-    copy.write_at(0, &bytes)?;
-    copy.sync()?;
-    Ok(copy)
-}
-
 /// What a read of the disk gives: so many bytes from a place on, fewer where the file ends.
-fn bytes_from<D: Disk>(alloc: Global, disk: &mut D, at: u64, n: usize) -> Result<Vec<u8>, Fail> {
+pub fn bytes_from<D: Disk>(
+    alloc: Global,
+    disk: &mut D,
+    at: u64,
+    n: usize,
+) -> Result<Vec<u8>, Fail> {
     let left = disk.len()?.saturating_sub(at);
     let n = n.min(left as usize);
     let mut bytes = vec![in alloc; 0; n]?;
@@ -76,13 +73,83 @@ fn bytes_from<D: Disk>(alloc: Global, disk: &mut D, at: u64, n: usize) -> Result
 }
 
 /// How many vertices the project's map has.
-fn vertices<D: Disk>(project: &Project<D>) -> u32 {
+pub fn vertices<D: Disk>(project: &Project<D>) -> u32 {
     project.map().count(Kind::Vertex)
 }
 
-/// The file as `create` makes it.
+/// What a new file has but zeros: the header, and slot A with its gate, the generation 1, the length 20 and the body.
 const NEW_FILE: &[u8] = b"LVPJ\x01\0\0\0\x40\0\0\0\0\x02\0\0\
 \xa5\x01\0\0\0\0\0\0\0\x14\0\0\0\x01\0MAP01\0\0\0\0\0\0\0\0\0\0\0\0\0";
+
+#[test]
+fn makes_an_empty_project(rt: HostRuntime) -> Result<(), Fail> {
+    let disk = FaultDisk::new(empty_disk(rt.alloc())?, 9, 0);
+    let project = created(rt.alloc(), disk, SMALL)?;
+    assert_eq!(rt; (vertices(&project), project.generation()), (0, 1));
+    assert!(rt; !project.must_reopen());
+    let mut disk = project.into_disk();
+    assert_eq!(rt; disk.len(), Err(DeviceFault), "it made eight calls");
+    for fill in FILLS {
+        let mut left = disk.inner().stop(rt.alloc(), fill, true)?;
+        assert_eq!(rt; left.len()?, 657, "{fill:?}");
+        let bytes = bytes_from(rt.alloc(), &mut left, 0, 657)?;
+        assert_eq!(rt; &bytes[..49.min(bytes.len())], NEW_FILE, "{fill:?}");
+        let zeros = bytes_from(rt.alloc(), &mut left, 49, 608)?;
+        assert_eq!(rt; zeros.as_slice(), [0; 608].as_slice(), "{fill:?}");
+    }
+    Ok(())
+}
+
+#[test]
+fn syncs_a_new_file_once_and_last(rt: HostRuntime) -> Result<(), Fail> {
+    for k in 1..9 {
+        let disk = FaultDisk::new(empty_disk(rt.alloc())?, k, 0);
+        let Err(refused) = Project::create(rt.alloc(), disk, SMALL) else {
+            return Err(ProjectError::Device.into());
+        };
+        assert_eq!(rt; refused.error, ProjectError::Device, "call {k}");
+        let mut left = refused.disk.inner().stop(rt.alloc(), Fill::Written, false)?;
+        assert_eq!(rt; left.len()?, 0, "call {k}");
+    }
+    Ok(())
+}
+
+#[test]
+fn has_a_file_of_its_lengths(rt: HostRuntime) -> Result<(), Fail> {
+    for (slot, journal, len) in [
+        (33, 512, 595),
+        (64, 512, 657),
+        (2_007_015, 512, 4_014_559),
+        (64, 1_048_576, 1_048_721),
+        (262_144, 65_536, 589_841),
+    ] {
+        let disk = MemoryDisk::new(rt.alloc(), 4_100_000, 4096)?;
+        let project = created(rt.alloc(), disk, Geometry { slot, journal })?;
+        assert_eq!(rt; project.into_disk().len()?, len, "{slot} {journal}");
+    }
+    Ok(())
+}
+
+#[test]
+fn refuses_other_lengths_and_other_files(rt: HostRuntime) -> Result<(), Fail> {
+    for (slot, journal, error) in [
+        (32, 512, ProjectError::BadGeometry),
+        (2_007_016, 512, ProjectError::BadGeometry),
+        (64, 511, ProjectError::BadGeometry),
+        (64, 1_048_577, ProjectError::BadGeometry),
+        (64, 512, ProjectError::NotEmpty),
+    ] {
+        let mut disk = empty_disk(rt.alloc())?;
+        disk.write_at(0, b"LVPJ")?;
+        let Err(refused) = Project::create(rt.alloc(), disk, Geometry { slot, journal }) else {
+            return Err(ProjectError::NotEmpty.into());
+        };
+        assert_eq!(rt; refused.error, error, "{slot} {journal}");
+        let mut disk = refused.disk;
+        assert_eq!(rt; disk.len()?, 4, "{slot} {journal}");
+    }
+    Ok(())
+}
 
 #[test]
 fn records_a_line_before_its_answer(rt: HostRuntime) -> Result<(), Fail> {
@@ -110,73 +177,25 @@ fn records_a_line_before_its_answer(rt: HostRuntime) -> Result<(), Fail> {
     Ok(())
 }
 
-#[test]
-fn opens_again_after_a_fault(rt: HostRuntime) -> Result<(), Fail> {
-    for (k, part, now, stable, written) in [
-        (1, 15, 0, 0, 0),
-        (2, 0, 0, 0, 0),
-        (3, 0, 0, 0, 0),
-        (3, 1, 1, 0, 1),
-        (4, 0, 1, 0, 1),
-    ] {
-        let project = created(
-            rt.alloc(),
-            FaultDisk::new(empty_disk(rt.alloc())?, 8 + k, part),
-            SMALL,
-        )?;
-        let mut project = project;
-        assert_eq!(rt;
-            project.apply(b"vertex 0 0"),
-            Err(ProjectError::Device),
-            "{k} {part}"
-        );
-        assert_eq!(rt;
-            (project.must_reopen(), vertices(&project)),
-            (true, 0),
-            "{k} {part}"
-        );
-        assert_eq!(rt;
-            project.apply(b"vertex 1 0"),
-            Err(ProjectError::Reopen),
-            "{k} {part}"
-        );
-        assert_eq!(rt;
-            project.apply(b"no command"),
-            Err(ProjectError::Reopen),
-            "{k} {part}"
-        );
-        assert_eq!(rt;
-            project.checkpoint(),
-            Err(ProjectError::Reopen),
-            "{k} {part}"
-        );
-        let disk = project.into_disk();
-        for (fill, want) in [
-            (Fill::Stable, stable),
-            (Fill::Written, written),
-            (Fill::Byte(0), stable),
-            (Fill::Byte(165), written),
-        ] {
-            let left = disk.inner().stop(rt.alloc(), fill, true)?;
-            assert_eq!(rt;
-                vertices(&opened(rt.alloc(), left)?),
-                want,
-                "{k} {part} {fill:?}"
-            );
-        }
-        let mut again = opened(rt.alloc(), disk)?;
-        assert_eq!(rt; vertices(&again), now, "{k} {part}");
-        assert_eq!(rt; again.apply(b"vertex 5 5"), Ok(now), "{k} {part}");
-    }
-    Ok(())
+/// A copy of the first bytes of a disk's file, all of it on the device.
+fn cut(alloc: Global, disk: &mut MemoryDisk, end: usize) -> Result<MemoryDisk, Fail> {
+    let bytes = bytes_from(alloc, disk, 0, end)?;
+    let mut copy = empty_disk(alloc)?;
+    copy.write_at(0, &bytes)?;
+    copy.sync()?;
+    Ok(copy)
+}
+
+/// How the project of a disk is refused.
+fn refusal_of<D: Disk + Drop>(alloc: Global, disk: D) -> Option<ProjectError> {
+    opened(alloc, disk).err()
 }
 
 #[test]
-fn tells_where_a_file_is_damaged(rt: HostRuntime) -> Result<(), Fail> {
-    let foreign = ProjectError::NotAProject;
+fn tells_where_a_file_ends(rt: HostRuntime) -> Result<(), Fail> {
     let at = |place: u64| ProjectError::Damaged { place };
     for (end, error) in [
-        (15, foreign),
+        (15, ProjectError::NotAProject),
         (16, at(16)),
         (40, at(16)),
         (80, at(80)),
@@ -186,14 +205,16 @@ fn tells_where_a_file_is_damaged(rt: HostRuntime) -> Result<(), Fail> {
     ] {
         let mut whole = disk_after(rt.alloc(), &[b"vertex 0 0"])?;
         let disk = cut(rt.alloc(), &mut whole, end)?;
-        assert_eq!(rt;
-            opened(rt.alloc(), disk).map(|_| ()),
-            Err(error),
-            "cut to {end}"
-        );
+        assert_eq!(rt; refusal_of(rt.alloc(), disk), Some(error), "cut to {end}");
     }
+    Ok(())
+}
+
+#[test]
+fn tells_where_a_file_is_damaged(rt: HostRuntime) -> Result<(), Fail> {
+    let at = |place: u64| ProjectError::Damaged { place };
     for (place, bytes, error) in [
-        (4, b"\x02".as_slice(), foreign),
+        (4, b"\x02".as_slice(), ProjectError::NotAProject),
         (8, b"\x20", ProjectError::BadGeometry),
         (25, b"\x34", at(16)),
         (29, b"\x03", at(16)),
@@ -206,14 +227,115 @@ fn tells_where_a_file_is_damaged(rt: HostRuntime) -> Result<(), Fail> {
         let mut disk = disk_after(rt.alloc(), &[b"vertex 0 0"])?;
         disk.write_at(place, bytes)?;
         assert_eq!(rt;
-            opened(rt.alloc(), disk).map(|_| ()),
-            Err(error),
+            refusal_of(rt.alloc(), disk),
+            Some(error),
             "{place} {bytes:?}"
         );
     }
+    Ok(())
+}
+
+#[test]
+fn opens_beside_an_older_slot(rt: HostRuntime) -> Result<(), Fail> {
     let mut disk = disk_after(rt.alloc(), &[b"vertex 0 0"])?;
     disk.write_at(80, &[165])?;
     let project = opened(rt.alloc(), disk)?;
     assert_eq!(rt; (vertices(&project), project.generation()), (1, 1));
     Ok(())
+}
+
+#[test]
+fn refuses_a_body_that_is_too_long(rt: HostRuntime) -> Result<(), Fail> {
+    let mut project = created(rt.alloc(), empty_disk(rt.alloc())?, SMALL)?;
+    for (line, answer) in [
+        (b"vertex 0 0", Ok(0)),
+        (b"vertex 1 0", Ok(1)),
+        (b"vertex 2 0", Ok(2)),
+        (b"vertex 3 0", Ok(3)),
+        (b"vertex 4 0", Ok(4)),
+        (b"vertex 5 0", Ok(5)),
+        (b"vertex 6 0", Ok(6)),
+        (
+            b"vertex 7 0",
+            Err(ProjectError::Refused(CommandError::ProjectFull)),
+        ),
+    ] {
+        assert_eq!(rt; project.apply(line), answer);
+    }
+    assert_eq!(rt; vertices(&opened(rt.alloc(), project.into_disk())?), 7);
+    Ok(())
+}
+
+#[test]
+fn makes_room_by_a_checkpoint(rt: HostRuntime) -> Result<(), Fail> {
+    let mut project = created(rt.alloc(), empty_disk(rt.alloc())?, SMALL)?;
+    for n in 0..34 {
+        assert_eq!(rt; project.apply(b"name MAP01"), Ok(0), "record {n}");
+        assert_eq!(rt; project.generation(), 1, "record {n}");
+    }
+    assert_eq!(rt; project.apply(b"name MAP01"), Ok(0));
+    assert_eq!(rt; project.generation(), 2);
+    let mut disk = project.into_disk();
+    assert_eq!(rt;
+        bytes_from(rt.alloc(), &mut disk, 656, 16)?.as_slice(),
+        b"\xa5\x0a\0\0\0name MAP01\0".as_slice()
+    );
+    Ok(())
+}
+
+/// A project whose generation is the last, on a disk of which the next call fails.
+fn spent(alloc: Global) -> Result<Project<FaultDisk<MemoryDisk>>, Fail> {
+    for k in 1..50 {
+        let mut disk = disk_after(alloc, &[])?;
+        disk.write_at(17, &[255; 8])?;
+        if let Ok(project) = Project::open(alloc, FaultDisk::new(disk, k, 0)) {
+            return Ok(project);
+        }
+    }
+    Err(ProjectError::Device.into())
+}
+
+#[test]
+fn spends_its_generations(rt: HostRuntime) -> Result<(), Fail> {
+    let mut project = spent(rt.alloc())?;
+    assert_eq!(rt; project.generation(), u64::MAX);
+    assert_eq!(rt; project.checkpoint(), Err(ProjectError::GenerationsSpent));
+    let mut disk = project.into_disk();
+    assert_eq!(rt; disk.len(), Err(DeviceFault), "no call was made");
+    let mut project = opened(rt.alloc(), disk)?;
+    for n in 0..34 {
+        assert_eq!(rt; project.apply(b"name MAP02"), Ok(0), "record {n}");
+    }
+    assert_eq!(rt;
+        project.apply(b"name MAP01"),
+        Err(ProjectError::GenerationsSpent)
+    );
+    assert_eq!(rt;
+        (project.must_reopen(), project.generation()),
+        (false, u64::MAX)
+    );
+    assert_eq!(rt;
+        opened(rt.alloc(), project.into_disk())?.generation(),
+        u64::MAX
+    );
+    Ok(())
+}
+
+#[test]
+fn numbers_its_refusals(rt: HostRuntime) {
+    for (error, code) in [
+        (ProjectError::Refused(CommandError::NotACommand), 1),
+        (ProjectError::Refused(CommandError::BadName), 15),
+        (ProjectError::Device, 30),
+        (ProjectError::OutOfMemory, 31),
+        (ProjectError::Reopen, 32),
+        (ProjectError::GenerationsSpent, 33),
+        (ProjectError::Damaged { place: 16 }, 40),
+        (ProjectError::Blank, 41),
+        (ProjectError::NotAProject, 42),
+        (ProjectError::NotEmpty, 43),
+        (ProjectError::BadGeometry, 44),
+    ] {
+        assert_eq!(rt; error.code(), code);
+    }
 }

@@ -157,7 +157,71 @@ fn cuts_both_sides_at_one_fraction(rt: HostRuntime) -> Result<(), Fail> {
 }
 
 // A crossing that rounds to an end of its line: the part between is left out.
-// The L of six lines: its third line cuts the last one in the middle.
+#[test]
+fn leaves_a_sliver_out(rt: HostRuntime) -> Result<(), Fail> {
+    let map = drawn(
+        &rt,
+        rt.alloc(),
+        &[
+            b"vertex 10 0",
+            b"vertex 0 0",
+            b"vertex 8 17",
+            b"vertex 9 7",
+            b"sector 0 128 FLOOR4_8 CEIL3_5 160 0 0",
+            b"side 0 0 - - STARTAN3 0",
+            b"line 0 1 1 0 0 0 -",
+            b"line 2 3 1 0 0 0 -",
+        ],
+    );
+    let pieces = pieces_of(rt.alloc(), &map)?;
+    assert_eq!(rt; pieces.len(), 2);
+    let (place, made) = parts(&map, &pieces, 1, 0);
+    assert_eq!(rt; place, Place::Across);
+    assert_eq!(rt;
+        fields(made.right),
+        Some((0, Facing::Along, [3, 100, 1, 1]))
+    );
+    assert_eq!(rt; fields(made.left), None);
+    Ok(())
+}
+
+/// The L of six lines.
+const L: [&[u8]; 14] = [
+    b"vertex 0 0",
+    b"vertex 0 256",
+    b"vertex 128 256",
+    b"vertex 128 128",
+    b"vertex 256 128",
+    b"vertex 256 0",
+    b"sector 0 128 FLOOR4_8 CEIL3_5 160 0 0",
+    b"side 0 0 - - STARTAN3 0",
+    b"line 0 1 1 0 0 0 -",
+    b"line 1 2 1 0 0 0 -",
+    b"line 2 3 1 0 0 0 -",
+    b"line 3 4 1 0 0 0 -",
+    b"line 4 5 1 0 0 0 -",
+    b"line 5 0 1 0 0 0 -",
+];
+
+// The third line of the L cuts the last one in the middle: 128 by 128 of 256 by 128.
+#[test]
+fn cuts_the_l_in_the_middle(rt: HostRuntime) -> Result<(), Fail> {
+    let map = drawn(&rt, rt.alloc(), &L);
+    let pieces = pieces_of(rt.alloc(), &map)?;
+    assert_eq!(rt; pieces.len(), 6);
+    let (place, made) = parts(&map, &pieces, 2, 5);
+    assert_eq!(rt; place, Place::Across);
+    assert_eq!(rt;
+        fields(made.right),
+        Some((5, Facing::Along, [16384, 32768, 1, 1]))
+    );
+    assert_eq!(rt;
+        fields(made.left),
+        Some((5, Facing::Along, [0, 1, 16384, 32768]))
+    );
+    Ok(())
+}
+
 // On one straight line the direction decides.
 #[test]
 fn parts_collinear_pieces_by_direction(rt: HostRuntime) -> Result<(), Fail> {
@@ -199,4 +263,59 @@ fn parts_collinear_pieces_by_direction(rt: HostRuntime) -> Result<(), Fail> {
 }
 
 // The box of each piece is one step wider than its ends.
+#[test]
+fn boxes_are_one_step_wider(rt: HostRuntime) -> Result<(), Fail> {
+    let map = drawn(&rt, rt.alloc(), &L);
+    let edges = edges_of(rt.alloc(), &map)?;
+    let pieces = pieces_of(rt.alloc(), &map)?;
+    let boxes = boxes_in(rt.alloc(), &edges, &pieces)?;
+    let wanted = [
+        (257, -1, -1, 1),
+        (257, 255, -1, 129),
+        (257, 127, 127, 129),
+        (129, 127, 127, 257),
+        (129, -1, 255, 257),
+        (1, -1, -1, 257),
+    ];
+    assert_eq!(rt; boxes.len(), wanted.len());
+    for (found, want) in boxes.iter().zip(&wanted) {
+        let (top, bottom, left, right) = *want;
+        let want = Bounds {
+            top,
+            bottom,
+            left,
+            right,
+        };
+        assert_eq!(rt; *found, want);
+    }
+    Ok(())
+}
+
+/// The n-th of many places, of which no two are one.
+fn nth_place(n: u32) -> Vertex {
+    Vertex {
+        x: (n % 256) as i16,
+        y: (n / 256 % 128) as i16,
+    }
+}
+
 // A map's vertices have their own numbers, the new places the next ones, and there are 32,767.
+#[test]
+fn numbers_each_place_once(rt: HostRuntime) -> Result<(), Fail> {
+    let map = drawn(&rt, rt.alloc(), &[b"vertex 0 0", b"vertex 1 0"]);
+    let mut points = Points::new(rt.alloc(), &map)?;
+    assert_eq!(rt; points.len(), 2);
+    for n in 0..32_767 {
+        assert_eq!(rt; points.number(nth_place(n)), Ok(n));
+    }
+    let next = points.number(nth_place(32_767));
+    assert_eq!(rt; next, Err(SegsError::TooManyVertices));
+    assert_eq!(rt; SegsError::TooManyVertices.code(), 61);
+    assert_eq!(rt; points.len(), 32_767);
+    for n in 0..32_767 {
+        assert_eq!(rt; points.at(n), Some(nth_place(n)));
+        assert_eq!(rt; points.number(nth_place(n)), Ok(n));
+    }
+    assert_eq!(rt; points.at(32_767), None);
+    Ok(())
+}

@@ -1,0 +1,7 @@
+use Rattle.lv_editor.proofs.Built.{arg_added}
+use Rattle.lv_editor.proofs.command_line.create.Goals as goal
+
+pub returns : goal.returns
+returns c =
+    let first = arg_added _ _ _ _ _ c.in_ok-arg.ensures c.in_ok-over_file.ensures c.slot.ensures in
+    arg_added _ _ _ _ _ c.in_ok-arg-2.ensures first c.journal.ensures

@@ -1,0 +1,7 @@
+use Rattle.std.proofs.Common.{◌∙◌, ap, inl}
+use Rattle.lv_editor.specs.Request.{status_after}
+use Rattle.lv_editor.proofs.program.check.Goals as goal
+
+pub returns-in-Ok-tell-clause-found : goal.returns-in-Ok-tell-clause-found
+returns-in-Ok-tell-clause-found g c =
+    inl (c.map.result.now.tables, c.status_for.ensures ∙ ap status_after c.in-Ok-tell.ensures.number, c.in-Ok-tell.ensures.written)

@@ -1,0 +1,68 @@
+use crate::error::EditorError;
+use lv_project::ProjectError;
+use std::io::Write;
+
+/// Why a request was refused.
+#[derive(Clone, Copy, Debug, PartialEq, Eq)]
+pub enum Refusal {
+    /// The lines of the input, or the output.
+    Lines(EditorError),
+    /// The project file.
+    Project(ProjectError),
+}
+
+impl Refusal {
+    /// The number of the refusal.
+    fn code(&self) -> u16 {
+        match self {
+            Refusal::Lines(error) => error.code(),
+            Refusal::Project(error) => error.code(),
+        }
+    }
+
+    /// The name of the refusal, as the program prints it.
+    fn name(&self) -> &'static str {
+        match self {
+            Refusal::Lines(error) => name_of(*error),
+            Refusal::Project(error) => name_of_project(*error),
+        }
+    }
+}
+
+/// The name of what ended a run.
+fn name_of(error: EditorError) -> &'static str {
+    match error {
+        EditorError::OutOfMemory => "Memory",
+        EditorError::InputTooLong => "InputTooLong",
+        EditorError::ReaderFailed => "ReaderFailed",
+        EditorError::WriterFailed => "WriterFailed",
+    }
+}
+
+/// The name of what a project file was refused for.
+fn name_of_project(error: ProjectError) -> &'static str {
+    match error {
+        ProjectError::Refused(_) => "Refused",
+        ProjectError::Device => "Device",
+        ProjectError::OutOfMemory => "Memory",
+        ProjectError::Reopen => "Reopen",
+        ProjectError::GenerationsSpent => "GenerationsSpent",
+        ProjectError::Damaged { .. } => "Damaged",
+        ProjectError::Blank => "Blank",
+        ProjectError::NotAProject => "NotAProject",
+        ProjectError::NotEmpty => "NotEmpty",
+        ProjectError::BadGeometry => "BadGeometry",
+    }
+}
+
+/// Says why a request was refused, as `leveled: CODE NAME`, and where a file is damaged.
+pub fn report<F: Write>(refusal: &Refusal, faults: &mut F) {
+    let code = refusal.code();
+    let name = refusal.name();
+    let _ = match refusal {
+        Refusal::Project(ProjectError::Damaged { place }) => {
+            writeln!(faults, "leveled: {code} {name} at {place}")
+        }
+        _ => writeln!(faults, "leveled: {code} {name}"),
+    };
+}
