@@ -186,6 +186,15 @@ fn cut(alloc: Global, disk: &mut MemoryDisk, end: usize) -> Result<MemoryDisk, F
     Ok(copy)
 }
 
+/// Damage at the places of the slots and the journals.
+const AT_SLOT_A: ProjectError = ProjectError::Damaged { place: 16 };
+
+const AT_SLOT_B: ProjectError = ProjectError::Damaged { place: 80 };
+
+const AT_JOURNAL_A: ProjectError = ProjectError::Damaged { place: 144 };
+
+const AT_JOURNAL_B: ProjectError = ProjectError::Damaged { place: 656 };
+
 /// How the project of a disk is refused.
 fn refusal_of<D: Disk + Drop>(alloc: Global, disk: D) -> Option<ProjectError> {
     opened(alloc, disk).err()
@@ -193,15 +202,14 @@ fn refusal_of<D: Disk + Drop>(alloc: Global, disk: D) -> Option<ProjectError> {
 
 #[test]
 fn tells_where_a_file_ends(rt: HostRuntime) -> Result<(), Fail> {
-    let at = |place: u64| ProjectError::Damaged { place };
     for (end, error) in [
         (15, ProjectError::NotAProject),
-        (16, at(16)),
-        (40, at(16)),
-        (80, at(80)),
-        (144, at(144)),
-        (159, at(144)),
-        (656, at(656)),
+        (16, AT_SLOT_A),
+        (40, AT_SLOT_A),
+        (80, AT_SLOT_B),
+        (144, AT_JOURNAL_A),
+        (159, AT_JOURNAL_A),
+        (656, AT_JOURNAL_B),
     ] {
         let mut whole = disk_after(rt.alloc(), &[b"vertex 0 0"])?;
         let disk = cut(rt.alloc(), &mut whole, end)?;
@@ -212,17 +220,16 @@ fn tells_where_a_file_ends(rt: HostRuntime) -> Result<(), Fail> {
 
 #[test]
 fn tells_where_a_file_is_damaged(rt: HostRuntime) -> Result<(), Fail> {
-    let at = |place: u64| ProjectError::Damaged { place };
     for (place, bytes, error) in [
         (4, b"\x02".as_slice(), ProjectError::NotAProject),
         (8, b"\x20", ProjectError::BadGeometry),
-        (25, b"\x34", at(16)),
-        (29, b"\x03", at(16)),
-        (31, b"\x6d", at(16)),
-        (145, b"\xff", at(144)),
-        (145, b"\x01\x01", at(144)),
+        (25, b"\x34", AT_SLOT_A),
+        (29, b"\x03", AT_SLOT_A),
+        (31, b"\x6d", AT_SLOT_A),
+        (145, b"\xff", AT_JOURNAL_A),
+        (145, b"\x01\x01", AT_JOURNAL_A),
         (16, b"\0", ProjectError::Blank),
-        (80, b"\xa5\x01", at(80)),
+        (80, b"\xa5\x01", AT_SLOT_B),
     ] {
         let mut disk = disk_after(rt.alloc(), &[b"vertex 0 0"])?;
         disk.write_at(place, bytes)?;
