@@ -69,20 +69,21 @@ of_found test (s ∷ subs) words name rows e = go (test s) (of_found test subs w
     go true behind d = inl (ap (name_in s.name) (sym d))
     go false behind d = inr (behind d)
 
-of_four : (name : Text) → IsAmong (codes "scratch" ∷ codes "create" ∷ codes "edit" ∷ codes "check" ∷ []) name → IsSubcommand name
-of_four name (inl is) = inl is
-of_four name (inr (inl is)) = inr (inl is)
-of_four name (inr (inr (inl is))) = inr (inr (inl is))
-of_four name (inr (inr (inr (inl is)))) = inr (inr (inr is))
-of_four name (inr (inr (inr (inr never)))) = absurd never
+of_all : (name : Text) → IsAmong (codes "scratch" ∷ codes "create" ∷ codes "edit" ∷ codes "check" ∷ codes "inspect" ∷ []) name → IsSubcommand name
+of_all name (inl is) = inl is
+of_all name (inr (inl is)) = inr (inl is)
+of_all name (inr (inr (inl is))) = inr (inr (inl is))
+of_all name (inr (inr (inr (inl is)))) = inr (inr (inr (inl is)))
+of_all name (inr (inr (inr (inr (inl is))))) = inr (inr (inr (inr is)))
+of_all name (inr (inr (inr (inr (inr never))))) = absurd never
 
-only_four : (stop : Option (Text × List Text)) (name : Text) (rows : List Row) → entered (built leveled_app) stop ≡ Some (name, rows) → IsSubcommand name
-only_four None name rows e = cc
-only_four (Some p) name rows e = of_four name (of_found (λ s. answers_to p.0 (label_of s)) (built leveled_app).subs p.1 name rows e)
+only_these : (stop : Option (Text × List Text)) (name : Text) (rows : List Row) → entered (built leveled_app) stop ≡ Some (name, rows) → IsSubcommand name
+only_these None name rows e = cc
+only_these (Some p) name rows e = of_all name (of_found (λ s. answers_to p.0 (label_of s)) (built leveled_app).subs p.1 name rows e)
 
 pub is_subcommand : (words : List Text) (name : Text) (rows : List Row) → subcommand_of leveled_app words ≡ Some (name, rows) → IsSubcommand name
 is_subcommand words name rows e =
-    only_four (stop_after (built leveled_app).top.rules (names_of (built leveled_app)) (argument_words leveled_app words)) name rows e
+    only_these (stop_after (built leveled_app).top.rules (names_of (built leveled_app)) (argument_words leveled_app words)) name rows e
 
 -- ---- A subcommand was met
 

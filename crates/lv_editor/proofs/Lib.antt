@@ -5,5 +5,6 @@ pub mod EditingLines
 pub mod FromMatches
 pub mod Going
 pub mod HexDigits
+pub mod Inspecting
 pub mod LongLines
 pub mod RunCalls

@@ -1,7 +1,11 @@
 -- The numbers of the editor's refusals, as docs/FORMAT.md lists them ("Numbers of the refusals").
 use Rattle.std.specs.Prelude.{ℕ}
+use Rattle.lv_pwad.specs.Errors.{code_of as level_code_of}
 use Rattle.lv_editor.specs.declared.error.EditorError.{EditorError}
 use Rattle.lv_editor.specs.declared.error.EditorError.TheVariants.{OutOfMemory, InputTooLong, ReaderFailed, WriterFailed}
+use Rattle.lv_editor.specs.declared.error.InspectError.{InspectError}
+use Rattle.lv_editor.specs.declared.error.InspectError.TheVariants as inspecting
+use Rattle.lv_editor.specs.declared.error.InspectError.TheVariants.{Level}
 
 -- the number that a refusal is known by
 abbrev pub code_of : EditorError → ℕ
@@ -9,3 +13,8 @@ code_of OutOfMemory = 31
 code_of InputTooLong = 36
 code_of ReaderFailed = 37
 code_of WriterFailed = 38
+
+-- the number that a refusal to inspect is known by
+abbrev pub inspect_code_of : InspectError → ℕ
+inspect_code_of (Level e) = level_code_of e
+inspect_code_of inspecting.WriterFailed = 38

@@ -1,6 +1,7 @@
 pub mod Answers
 pub mod Editing
 pub mod Errors
+pub mod Inspections
 pub mod Lines
 pub mod Queries
 pub mod Request

@@ -1,5 +1,5 @@
 -- What the words of the program ask for (docs/COMMANDS.md, "The program"): the command line is clap's, in clap's words.
-use Rattle.std.specs.Prelude.{◌≡◌, ◌≤◌, ◌⊎◌, ℕ, pos, Option, Some, None, Result, Ok, Err, List, [], ◌∷◌, ◌++◌, codes, string_bytes, true, false, IsSomeAnd, length, nat_eq, if◌then◌else◌}
+use Rattle.std.specs.Prelude.{◌≡◌, ◌≤◌, ◌⊎◌, ℕ, Bool, pos, Option, Some, None, Result, Ok, Err, List, [], ◌∷◌, ◌++◌, codes, string_bytes, true, false, IsSomeAnd, length, nat_eq, if◌then◌else◌}
 use Rattle.std.specs.Str.Parse.{IsNumeral, digits_value, without_leading_plus}
 use Rattle.std.specs.Io.KnownBytes.{Appends, Keeps}
 use Rattle.clap.specs.Words.{App, HasKind, Rule, app_of, fault_of, first_of, Row, Text, new_app, new_rule, one_of, rule_of, subcommand_of, takes, with_rule, with_subcommand}
@@ -15,6 +15,7 @@ use Rattle.lv_checks.specs.Findings.{findings}
 use Rattle.lv_project.specs.States.{State}
 use Rattle.lv_editor.specs.Answers.{RepliesInMemory}
 use Rattle.lv_editor.specs.Editing.{RepliesInProject}
+use Rattle.lv_editor.specs.Inspections.{IsInspected}
 use Rattle.lv_editor.specs.Runs.{Exchange, Ran}
 use Rattle.lv_editor.specs.Sessions.{RunsOver}
 use Rattle.lv_editor.specs.Texts.{findings_text}
@@ -23,7 +24,7 @@ use Rattle.lv_editor.specs.declared.asked.Request.{Request}
 use Rattle.lv_editor.specs.declared.asked.RequestError.{RequestError}
 use Rattle.lv_editor.specs.declared.asked.RequestError.TheVariants.{Words, Number, Memory}
 use Rattle.lv_editor.specs.declared.refusal.Refusal.{Refusal}
-use Rattle.lv_editor.specs.declared.asked.Request.TheVariants.{Scratch, Create, Edit, Check}
+use Rattle.lv_editor.specs.declared.asked.Request.TheVariants.{Scratch, Create, Edit, Check, Inspect}
 
 -- ---- The command line
 
@@ -64,14 +65,19 @@ with_word name id = with_rule (new_app name) (word_rule id)
 abbrev pub create_app : App
 create_app = with_rule (with_rule (with_word (codes "create") (codes "file")) slot_rule) journal_rule
 
+-- `inspect WAD NAME`
+abbrev pub inspect_app : App
+inspect_app = with_rule (with_word (codes "inspect") (codes "wad")) (word_rule (codes "name"))
+
 -- the program with its subcommands
 abbrev pub with_subcommands : App
 with_subcommands =
-    with_subcommand (with_subcommand (with_subcommand (with_subcommand (new_app (codes "leveled"))
+    with_subcommand (with_subcommand (with_subcommand (with_subcommand (with_subcommand (new_app (codes "leveled"))
     (new_app (codes "scratch")).top)
     create_app.top)
     (with_word (codes "edit") (codes "file")).top)
-    (with_word (codes "check") (codes "file")).top
+    (with_word (codes "check") (codes "file")).top)
+    inspect_app.top
 
 -- the program's command line: a subcommand has to be there, and `help` is none
 abbrev pub leveled_app : App
@@ -102,10 +108,18 @@ AsksFor (Create file slot journal) asked = (asked.0 ≡ codes "create")
     × HasNumber (codes "journal") asked.1 512 1048576 journal
 AsksFor (Edit file) asked = (asked.0 ≡ codes "edit") × (first_of (codes "file") asked.1 ≡ Some (string_bytes file))
 AsksFor (Check file) asked = (asked.0 ≡ codes "check") × (first_of (codes "file") asked.1 ≡ Some (string_bytes file))
+AsksFor (Inspect wad name) asked = (asked.0 ≡ codes "inspect")
+    × (first_of (codes "wad") asked.1 ≡ Some (string_bytes wad))
+    × (first_of (codes "name") asked.1 ≡ Some (string_bytes name))
 
 -- the name is a subcommand's
 abbrev pub IsSubcommand : Text → Type 0
 IsSubcommand name = (name ≡ codes "scratch") ⊎ (name ≡ codes "create") ⊎ (name ≡ codes "edit") ⊎ (name ≡ codes "check")
+    ⊎ (name ≡ codes "inspect")
+
+-- the subcommand is over a project file
+abbrev pub IsOverFile : Text → Type 0
+IsOverFile name = (¬ (name ≡ codes "scratch")) × (¬ (name ≡ codes "inspect"))
 
 -- the text of an argument is refused: it has none, or there is no memory for it
 abbrev pub RefusesText : Text → List Row → RequestError → Type 0
@@ -113,9 +127,11 @@ RefusesText id rows (Words error) = ⊥
 RefusesText id rows Number = first_of id rows ≡ None
 RefusesText id rows Memory = Unit {0}
 
--- what clap let pass has no file where the subcommand takes one, or no number within the limits of `create`
+-- what clap let pass has no file, WAD or name where the subcommand takes one, or no number within the limits of `create`
 abbrev pub LacksValue : Text × List Row → Type 0
-LacksValue asked = ((¬ (asked.0 ≡ codes "scratch")) × (first_of (codes "file") asked.1 ≡ None))
+LacksValue asked = (IsOverFile asked.0 × (first_of (codes "file") asked.1 ≡ None))
+    ⊎ ((asked.0 ≡ codes "inspect")
+    × ((first_of (codes "wad") asked.1 ≡ None) ⊎ (first_of (codes "name") asked.1 ≡ None)))
     ⊎ ((asked.0 ≡ codes "create")
     × (LacksNumber (codes "slot") asked.1 33 2007015 ⊎ LacksNumber (codes "journal") asked.1 512 1048576))
 
@@ -163,6 +179,10 @@ IsScratched status reader-old reader-new writer-old writer-new =
 abbrev pub status_after : ℕ → ℕ
 status_after found = if nat_eq found 0 then 0 else 3
 
+-- the status that tells whether a level is sound
+abbrev pub status_told : Bool → ℕ
+status_told sound = if sound then 0 else 3
+
 -- `created` was written, or it was refused
 abbrev pub IsCreated : ℕ → Option (List ℕ) → Option (List ℕ) → Type 0
 IsCreated status writer-old writer-new = ((status ≡ 0) × Appends writer-old writer-new (codes "created" ++ 10 ∷ [])) ⊎ (status ≡ 1)
@@ -183,6 +203,12 @@ IsChecked status writer-old writer-new =
     ((m : Tables) × (status ≡ status_after (length (findings m))) × Appends writer-old writer-new (findings_text (findings m)))
     ⊎ (status ≡ 1)
 
+-- the level of the name in what was read of a WAD was inspected, and the status tells whether it is sound; or it was refused
+abbrev pub IsExamined : List ℕ → ℕ → Option (List ℕ) → Option (List ℕ) → Type 0
+IsExamined name status writer-old writer-new =
+    ((wad : List ℕ) × (sound : Bool) × (status ≡ status_told sound) × IsInspected wad name sound writer-old writer-new)
+    ⊎ (status ≡ 1)
+
 -- what was done for a request with this status
 abbrev pub IsPerformed : {D : Type 0} → (D → ℕ) → (D → ℕ) → (D → ℕ → List ℕ → Type 0) → (D → List ℕ → Type 0) → Request → ℕ
     → Option (List ℕ) → Option (List ℕ) → Option (List ℕ) → Option (List ℕ) → Type 0
@@ -194,3 +220,5 @@ IsPerformed moment failures left_since may_leave (Edit file) status reader-old r
     IsEdited moment failures left_since may_leave status reader-old reader-new writer-old writer-new
 IsPerformed moment failures left_since may_leave (Check file) status reader-old reader-new writer-old writer-new =
     IsChecked status writer-old writer-new
+IsPerformed moment failures left_since may_leave (Inspect wad name) status reader-old reader-new writer-old writer-new =
+    IsExamined (string_bytes name) status writer-old writer-new

@@ -19,6 +19,11 @@ pub enum Request {
     Check {
         file: String,
     },
+    /// Say how long the lumps of a level are, and whether the level is sound.
+    Inspect {
+        wad: String,
+        name: String,
+    },
 }
 
 /// Why the words are no request.

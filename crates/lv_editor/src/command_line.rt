@@ -1,6 +1,6 @@
 ghost use Rattle.std.specs.Prelude.{◌≡◌, ◌≤◌, IfOk, IfErr, IfSome, IfNone, IsSomeAnd, Some, codes, map, string_bytes};
 ghost use Rattle.clap.specs.Words.{app_of, first_of, found_of, new_app, rows_of, subcommand_of};
-ghost use Rattle.lv_editor.specs.Request.{AsksFor, HasNumber, IsArg, IsCommand, IsRefusal, IsSubcommand, LacksNumber, RefusesText, RefusesValues, create_app, journal_rule, leveled_app, option_rule, slot_rule, with_subcommands, with_word, word_rule};
+ghost use Rattle.lv_editor.specs.Request.{AsksFor, HasNumber, IsArg, IsCommand, IsRefusal, IsSubcommand, LacksNumber, RefusesText, RefusesValues, create_app, inspect_app, journal_rule, leveled_app, option_rule, slot_rule, with_subcommands, with_word, word_rule};
 
 use crate::asked::{Request, RequestError};
 use clap::{Arg, ArgMatches, Command, Error, value_parser};
@@ -59,6 +59,17 @@ fn create<'a>(alloc: Global) -> Result<Command<'a>, Error>
     )
 }
 
+/// `inspect`.
+fn inspect<'a>(alloc: Global) -> Result<Command<'a>, Error>
+    ensures { IfOk result (λ c. IsCommand c inspect_app) }
+{
+    Ok(
+        named(alloc, "inspect", "Says whether a level of a WAD is sound")
+            .arg(word(alloc, "wad"))?
+            .arg(word(alloc, "name"))?,
+    )
+}
+
 /// The program with its subcommands.
 fn with_subcommands<'a>(alloc: Global) -> Result<Command<'a>, Error>
     ensures { IfOk result (λ c. IsCommand c with_subcommands) }
@@ -68,7 +79,8 @@ fn with_subcommands<'a>(alloc: Global) -> Result<Command<'a>, Error>
             .subcommand(named(alloc, "scratch", "Answers lines over a map in memory"))?
             .subcommand(create(alloc)?)?
             .subcommand(over_file(alloc, "edit", "Answers lines over a project file")?)?
-            .subcommand(over_file(alloc, "check", "Says what is wrong in a project's map")?)?,
+            .subcommand(over_file(alloc, "check", "Says what is wrong in a project's map")?)?
+            .subcommand(inspect(alloc)?)?,
     )
 }
 
@@ -147,6 +159,21 @@ fn asked_create(alloc: Global, found: &ArgMatches<'_>) -> Result<Request, Reques
     }
 }
 
+/// The request to inspect a level.
+fn asked_inspect(alloc: Global, found: &ArgMatches<'_>) -> Result<Request, RequestError>
+    ensures asked { IfOk result (λ r. AsksFor r (codes "inspect", rows_of (found_of found.now))) }
+    ensures refused { IfErr result (RefusesValues (codes "inspect", rows_of (found_of found.now))) }
+{
+    let wad = match text(alloc, found, "wad") {
+        Ok(wad) => wad,
+        Err(error) => return Err(error),
+    };
+    match text(alloc, found, "name") {
+        Ok(name) => Ok(Request::Inspect { wad, name }),
+        Err(error) => Err(error),
+    }
+}
+
 /// The request for a subcommand with what was found for its arguments.
 fn asked(alloc: Global, name: &str, found: &ArgMatches<'_>) -> Result<Request, RequestError>
     requires { IsSubcommand name.now }
@@ -164,6 +191,7 @@ fn asked(alloc: Global, name: &str, found: &ArgMatches<'_>) -> Result<Request, R
             Ok(file) => Ok(Request::Check { file }),
             Err(error) => Err(error),
         },
+        "inspect" => asked_inspect(alloc, found),
         _ => unreachable!(),
     }
 }

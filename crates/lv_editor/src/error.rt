@@ -1,3 +1,4 @@
+use lv_pwad::ReadError;
 use thiserror::Error;
 
 /// Why a run, or what it was asked for, ended before its end.
@@ -26,6 +27,31 @@ impl EditorError {
             EditorError::InputTooLong => 36,
             EditorError::ReaderFailed => 37,
             EditorError::WriterFailed => 38,
+        }
+    }
+}
+
+/// Why a level was not inspected.
+#[derive(Clone, Copy, Debug, PartialEq, Eq, Error)]
+pub enum InspectError {
+    /// The WAD holds no such level, or there is no memory to read and audit it.
+    #[error(transparent)]
+    Level(#[from] ReadError),
+    #[error("the writer failed")]
+    WriterFailed,
+}
+
+impl InspectError {
+    ghost use Rattle.std.specs.Prelude.{◌≡◌};
+    ghost use Rattle.lv_editor.specs.Errors.{inspect_code_of};
+
+    /// The number of the refusal.
+    pub fn code(&self) -> u16
+        ensures { result ≡ inspect_code_of self.now }
+    {
+        match self {
+            InspectError::Level(error) => error.code(),
+            InspectError::WriterFailed => 38,
         }
     }
 }

@@ -8,6 +8,7 @@ use crate::asked::Request;
 use crate::drawing::run_in_memory;
 use crate::editing::run;
 use crate::error::EditorError;
+use crate::examining::examine;
 use crate::findings::write_findings;
 use crate::limits::TURNS;
 use crate::refusal::{Refusal, report};
@@ -180,12 +181,15 @@ where
             Ok(disk) => check(rt.alloc(), disk, writer),
             Err(refusal) => Err(refusal),
         },
+        Request::Inspect { wad, name } => {
+            examine(rt.alloc(), rt, wad.as_str(), name.as_str(), TURNS, writer)
+        }
     }
 }
 
 /// Does what the words asked for, with standard input, output and error handed in, and answers the
-/// status: 0 where it is done, 3 where a map has findings, and 1 where it was refused, with a line
-/// on `faults` that says why. The writer is flushed after each turn of reading.
+/// status: 0 where it is done, 3 where a map has findings or a level a fault, and 1 where it was
+/// refused, with a line on `faults` that says why. The writer is flushed after each turn of reading.
 pub fn perform<E, R, W, F>(
     rt: &E,
     request: &Request,

@@ -1,5 +1,6 @@
-use crate::error::EditorError;
+use crate::error::{EditorError, InspectError};
 use lv_project::ProjectError;
+use lv_pwad::ReadError;
 use std::io::Write;
 
 /// Why a request was refused.
@@ -9,6 +10,8 @@ pub enum Refusal {
     Lines(EditorError),
     /// The project file.
     Project(ProjectError),
+    /// The level of a WAD.
+    Level(InspectError),
 }
 
 impl Refusal {
@@ -17,6 +20,7 @@ impl Refusal {
         match self {
             Refusal::Lines(error) => error.code(),
             Refusal::Project(error) => error.code(),
+            Refusal::Level(error) => error.code(),
         }
     }
 
@@ -25,6 +29,7 @@ impl Refusal {
         match self {
             Refusal::Lines(error) => name_of(*error),
             Refusal::Project(error) => name_of_project(*error),
+            Refusal::Level(error) => name_of_level(*error),
         }
     }
 }
@@ -52,6 +57,21 @@ fn name_of_project(error: ProjectError) -> &'static str {
         ProjectError::NotAProject => "NotAProject",
         ProjectError::NotEmpty => "NotEmpty",
         ProjectError::BadGeometry => "BadGeometry",
+    }
+}
+
+/// The name of what a level was not inspected for.
+fn name_of_level(error: InspectError) -> &'static str {
+    match error {
+        InspectError::Level(ReadError::LumpLength) => "LumpLength",
+        InspectError::Level(ReadError::NotAWad) => "NotAWad",
+        InspectError::Level(ReadError::DirectoryOutside) => "DirectoryOutside",
+        InspectError::Level(ReadError::NoSuchLevel) => "NoSuchLevel",
+        InspectError::Level(ReadError::LumpMissing) => "LumpMissing",
+        InspectError::Level(ReadError::LumpOutside) => "LumpOutside",
+        InspectError::Level(ReadError::HexenLevel) => "HexenLevel",
+        InspectError::Level(ReadError::OutOfMemory) => "Memory",
+        InspectError::WriterFailed => "WriterFailed",
     }
 }
 

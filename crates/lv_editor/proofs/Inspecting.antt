@@ -1,0 +1,79 @@
+-- From what was read, audited and written of a level to what an inspection tells.
+use Rattle.std.proofs.Common.{◌≡◌, ◌++◌, ℕ, Bool, true, List, Option, Some, None, Result, Ok, Err, MatchResult, IfOk, is_none, length, refl, subst, inl, ◌∙◌, ap, append_assoc}
+use Rattle.std.specs.Prelude.{◌↔◌}
+use Rattle.std.specs.Io.KnownBytes.{Appends, Keeps}
+use Rattle.lv_pwad.specs.Audit.{first_fault}
+use Rattle.lv_pwad.specs.Levels.{IsLevel, Lumps}
+use Rattle.lv_pwad.specs.Range.{InRange}
+use Rattle.lv_pwad.specs.declared.fault.Fault.{Fault}
+use Rattle.lv_editor.specs.Inspections.{IsInspected, back_text, front_text, lengths_text, verdict_text}
+use Rattle.lv_editor.specs.Request.{IsExamined, status_told}
+use Rattle.lv_editor.specs.declared.error.InspectError.{InspectError}
+use Rattle.lv_editor.specs.declared.error.InspectError.TheVariants.{WriterFailed}
+
+-- no fault is told exactly where there is none
+none_told : (fault : Option Fault) → (is_none fault ≡ true) ↔ (fault ≡ None)
+none_told None = (λ e. refl, λ e. refl)
+none_told (Some fault) = (λ e. cc, λ e. cc)
+
+pub told : (wad name : List ℕ) (l : Lumps) (fault : Option Fault) (r : Result Bool InspectError) (u w : Option (List ℕ))
+    → IsLevel wad name l → fault ≡ first_fault l → (fault ≡ None) ↔ InRange l
+    → MatchResult r (λ sound. (sound ≡ is_none fault) × Appends u w (lengths_text l ++ verdict_text fault)) (λ e. e ≡ WriterFailed)
+    → IfOk r (λ sound. IsInspected wad name sound u w)
+told wad name l fault (Err e) u w level first range done = tt
+told wad name l fault (Ok sound) u w level first range (is, written) = record {
+  level = l;
+  read = level;
+  written = subst (λ (f : Option Fault). Appends u w (lengths_text l ++ verdict_text f)) first written;
+  is = (
+    λ e. range.0 ((none_told fault).0 (let same : is_none fault ≡ sound = cc in same ∙ e)),
+    λ right. is ∙ (none_told fault).1 (range.1 right),
+  );
+}
+
+-- one text, and then the other
+both : (u w x : Option (List ℕ)) (first second : List ℕ) → Appends u w first → Appends w x second → Appends u x (first ++ second)
+both None w x first second a b = tt
+both (Some u) None x first second a b = absurd a
+both (Some u) (Some w) None first second a b = absurd b
+both (Some u) (Some w) (Some x) first second a b = b ∙ ap (λ (t : List ℕ). t ++ second) a ∙ append_assoc u first second
+
+pub then_told : (r : Result Bool InspectError) (P : Bool → Type 0) (u w x : Option (List ℕ)) (first second : List ℕ) → Appends u w first
+    → MatchResult r (λ sound. P sound × Appends w x second) (λ e. e ≡ WriterFailed)
+    → MatchResult r (λ sound. P sound × Appends u x (first ++ second)) (λ e. e ≡ WriterFailed)
+then_told (Ok sound) P u w x first second a (is, b) = (is, both u w x first second a b)
+then_told (Err e) P u w x first second a b = b
+
+pub then_written : {T : Type 0} (r : Result T InspectError) (u w x : Option (List ℕ)) (first second : List ℕ) → Appends u w first
+    → MatchResult r (λ done. Appends w x second) (λ e. e ≡ WriterFailed)
+    → MatchResult r (λ done. Appends u x (first ++ second)) (λ e. e ≡ WriterFailed)
+then_written (Ok done) u w x first second a b = both u w x first second a b
+then_written (Err e) u w x first second a b = b
+
+-- the lengths of a level, written in two parts
+pub lengths_written : {T : Type 0} (l : Lumps) (r : Result T InspectError) (u w x : Option (List ℕ)) (a b c d e f g h i j : ℕ)
+    → a ≡ length l.things → b ≡ length l.lines → c ≡ length l.sides → d ≡ length l.vertices → e ≡ length l.segs
+    → f ≡ length l.subs → g ≡ length l.nodes → h ≡ length l.sectors → i ≡ length l.reject → j ≡ length l.blockmap
+    → Appends u w (front_text a b c d e) → MatchResult r (λ done. Appends w x (back_text f g h i j)) (λ e. e ≡ WriterFailed)
+    → MatchResult r (λ done. Appends u x (lengths_text l)) (λ e. e ≡ WriterFailed)
+lengths_written l r u w x a b c d e f g h i j ea eb ec ed ee ef eg eh ei ej first second =
+    let texts : front_text a b c d e ++ back_text f g h i j ≡ lengths_text l = rw (ea, eb, ec, ed, ee, ef, eg, eh, ei, ej) refl in
+    subst (λ (text : List ℕ). MatchResult r (λ done. Appends u x text) (λ e. e ≡ WriterFailed)) texts
+    (then_written r u w x (front_text a b c d e) (back_text f g h i j) first second)
+
+-- what is told stays when it is handed on
+kept_on : (u w x : Option (List ℕ)) (text : List ℕ) → Appends u w text → Keeps w x → Appends u x text
+kept_on None w x text written kept = tt
+kept_on (Some u) None x text written kept = absurd written
+kept_on (Some u) (Some w) None text written kept = absurd kept
+kept_on (Some u) (Some w) (Some x) text written kept = kept ∙ written
+
+pub examined : (wad name : List ℕ) (sound : Bool) (status : ℕ) (u w x : Option (List ℕ)) → status ≡ status_told sound
+    → IsInspected wad name sound u w → Keeps w x → IsExamined name status u x
+examined wad name sound status u w x is done kept =
+    inl (wad, sound, is, record {
+      level = done.level;
+      read = done.read;
+      written = kept_on u w x _ done.written kept;
+      is = done.is;
+    })

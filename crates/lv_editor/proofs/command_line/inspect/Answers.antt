@@ -1,0 +1,7 @@
+use Rattle.lv_editor.proofs.Built.{arg_added}
+use Rattle.lv_editor.proofs.command_line.inspect.Goals as goal
+
+pub returns : goal.returns
+returns c =
+    let first = arg_added _ _ _ _ _ c.in_ok-arg.ensures c.named.ensures c.word.ensures in
+    arg_added _ _ _ _ _ c.in_ok-arg-2.ensures first c.word-2.ensures

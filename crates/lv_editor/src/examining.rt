@@ -1,0 +1,87 @@
+ghost use Rattle.std.specs.Prelude.{◌≡◌, ◌≤◌, IfErr, IfOk, MatchResult};
+ghost use Rattle.std.specs.Io.KnownBytes.{Appends, Consumes, IsAtEnd, Keeps};
+ghost use Rattle.lv_editor.specs.Inspections.{EndsReading};
+ghost use Rattle.lv_editor.specs.Request.{IsExamined, status_in, status_told};
+
+use crate::error::EditorError;
+use crate::inspection::inspect;
+use crate::refusal::Refusal;
+use std::alloc::Global;
+use std::fs::{self, Files};
+use std::io::{Read, Write};
+
+/// All that the reader gives, in at most `turns` reads of at most 65,536 bytes.
+fn read_whole<R: Read>(alloc: Global, reader: &mut R, turns: u32) -> Result<Vec<u8>, EditorError>
+    ensures whole { IfOk result (λ bytes.
+        Consumes (R.remaining reader.old) (R.remaining reader.new) bytes.items
+        × IsAtEnd (R.remaining reader.new)) }
+    ensures refused { IfErr result EndsReading }
+{
+    let mut bytes = Vec::new(alloc);
+    let mut buffer = [0; 65536];
+    for _ in 0..turns {
+        let count = match reader.read(&mut buffer) {
+            Ok(count) => count,
+            Err(_) => return Err(EditorError::ReaderFailed),
+        };
+        if count == 0 {
+            return Ok(bytes);
+        }
+        if bytes.extend_from_slice(&buffer[..count]).is_err() {
+            return Err(EditorError::OutOfMemory);
+        }
+    }
+    Err(EditorError::InputTooLong)
+}
+
+/// The status that tells whether a level is sound.
+fn status_for(sound: bool) -> u8
+    ensures { result ≡ status_told sound }
+{
+    if sound { 0 } else { 3 }
+}
+
+/// Inspects the level of the name in what the reader gives, hands on what is told, and answers the status.
+fn examine_read<R: Read, W: Write>(
+    alloc: Global,
+    reader: &mut R,
+    name: &[u8],
+    turns: u32,
+    writer: &mut W,
+) -> Result<u8, Refusal>
+    ensures small { IfOk result (λ s. s ≤ 3) }
+    ensures examined { IsExamined name.now (status_in result)
+        (W.contents writer.old) (W.contents writer.new) }
+{
+    let wad = match read_whole(alloc, reader, turns) {
+        Ok(wad) => wad,
+        Err(error) => return Err(Refusal::Lines(error)),
+    };
+    let sound = match inspect(alloc, &wad, name, writer) {
+        Ok(sound) => sound,
+        Err(error) => return Err(Refusal::Level(error)),
+    };
+    match writer.flush() {
+        Ok(()) => Ok(status_for(sound)),
+        Err(_) => Err(Refusal::Lines(EditorError::WriterFailed)),
+    }
+}
+
+/// Inspects the level of the name in the WAD at the path, and answers the status.
+pub fn examine<E: Files, W: Write>(
+    alloc: Global,
+    rt: &E,
+    path: &str,
+    name: &str,
+    turns: u32,
+    writer: &mut W,
+) -> Result<u8, Refusal>
+    ensures small { IfOk result (λ s. s ≤ 3) }
+    ensures examined { IsExamined name.now (status_in result)
+        (W.contents writer.old) (W.contents writer.new) }
+{
+    match fs::open(rt, path) {
+        Ok(mut file) => examine_read(alloc, &mut file, name.as_bytes(), turns, writer),
+        Err(_) => Err(Refusal::Lines(EditorError::ReaderFailed)),
+    }
+}
