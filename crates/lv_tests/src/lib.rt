@@ -20,6 +20,8 @@ mod editor;
 #[cfg(test)]
 mod file_disk;
 #[cfg(test)]
+mod inspection;
+#[cfg(test)]
 mod journal;
 #[cfg(test)]
 mod lumps;
