@@ -103,11 +103,21 @@ one_size name l w =
     let f8 = w.short_reject in let f9 = w.short_blockmap in
     omega (arith, t, e0, e1, e2, e3, e4, e5, e6, e7, f0, f1, f2, f3, f4, f5, f6, f7, f8, f9)
 
+-- the lumps of one level under a map's name
+pub is_part : (name : Name8) (l : Lumps) → IsNamed is_marker name → IsWritable l → IsPart (part_of name l)
+is_part name l n w =
+    record {
+      long = marker_size name n;
+      free = marker_free (name_text name) n.named;
+      ten = refl;
+      whole = whole_lumps name l (lengths l w) w.words;
+    }
+
 -- one level under a map's name can be written
 pub one_part : (name : Name8) (l : Lumps) → IsNamed is_marker name → IsWritable l → AreParts (part_of name l ∷ [])
 one_part name l n w =
     record {
-      each = All-cons IsPart (part_of name l) [] (record { long = marker_size name n; free = marker_free (name_text name) n.named; ten = refl; whole = whole_lumps name l (lengths l w) w.words }) (All-nil IsPart);
+      each = All-cons IsPart (part_of name l) [] (is_part name l n w) (All-nil IsPart);
       differ = λ i j p h k d. absurd (d (omega (arith, h, k)));
       fits = one_size name l w;
     }

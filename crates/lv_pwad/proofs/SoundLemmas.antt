@@ -1,6 +1,6 @@
 -- A map with its tree and its blocks is a sound level.
 use Rattle.std.proofs.Common.{◌≡◌, ◌≢◌, ◌∙◌, refl, sym, ap, subst, ℕ, ◌+◌, ◌*◌, ◌<◌, ◌≤◌, ◌⊎◌, inl, inr, List, [], ◌∷◌, ◌++◌, length, get_or, arith, length-append}
-use Rattle.std.specs.Prelude.{Some, count_by, nat_lt, ◌==◌, ◌&&◌}
+use Rattle.std.specs.Prelude.{Some, count_by, nat_lt, ◌==◌, ◌&&◌, ◌↔◌, Result, Ok, Err}
 use Rattle.std.proofs.Math.Nat.{mul-le-mul}
 use Rattle.std.proofs.lemmas.List.{length-replicate, length-map}
 use Rattle.std.proofs.lemmas.Option.{slice_get-get_or}
@@ -14,8 +14,10 @@ use Rattle.lv_lumps.specs.declared.records.Sub.{Sub}
 use Rattle.lv_lumps.specs.declared.records.Node.{Node}
 use Rattle.lv_maptables.specs.Tables.{Tables}
 use Rattle.lv_maptables.specs.WellFormed.{WellFormed}
-use Rattle.lv_blockmap.specs.Blocks.{ends_in, ends_of}
-use Rattle.lv_blockmap.specs.Lump.{IsBlockmap, RefusesBlockmap}
+use Rattle.lv_blockmap.proofs.SizeLemmas.{one_lists}
+use Rattle.lv_blockmap.specs.Layout.{OffsetsFit}
+use Rattle.lv_blockmap.specs.Blocks.{ends_in, ends_of, grid_of}
+use Rattle.lv_blockmap.specs.Lump.{IsBlockmap, IsTooLarge, RefusesBlockmap}
 use Rattle.lv_blockmap.specs.declared.error.BlockmapError.{BlockmapError}
 use Rattle.lv_blockmap.specs.declared.error.BlockmapError.TheVariants as blocks
 use Rattle.lv_nodes.specs.InRange.{TreeInRange, Tiles as TreeTiles, children as tree_children, SegInRange as TreeSeg, HasSide, ChildInRange as TreeChild}
@@ -23,13 +25,15 @@ use Rattle.lv_nodes.specs.Built.{IsBuilt, IsTreeRefusal}
 use Rattle.lv_nodes.specs.declared.error.TreeError.{TreeError}
 use Rattle.lv_nodes.specs.declared.error.TreeError.TheVariants as tree
 use Rattle.lv_nodes.specs.declared.built.Built.{Built}
+use Rattle.lv_pwad.specs.declared.error.BuildError.{BuildError}
+use Rattle.lv_pwad.specs.declared.error.BuildError.TheVariants as build
 use Rattle.lv_pwad.specs.Levels.{Lumps, IsLevel}
 use Rattle.lv_pwad.specs.Range.{LineInRange, SegInRange, Tiles, ChildInRange, InRange, children, line_of_seg, sub_bit}
 use Rattle.lv_pwad.specs.Reject.{reject_size}
 use Rattle.lv_pwad.specs.Words.{words}
-use Rattle.lv_pwad.specs.Sound.{IsBuildRefusal, IsSoundBuild, IsSoundLevel, level_over, no_rejects, of_blockmap, of_tree}
-use Rattle.lv_pwad.specs.Wad.{AreParts, part_of}
-use Rattle.lv_pwad.proofs.LengthLemmas.{IsWritable, one_part}
+use Rattle.lv_pwad.specs.Sound.{IsBuildable, IsBuildRefusal, IsBuiltLevel, IsSoundBuild, IsSoundLevel, level_over, no_rejects, of_blockmap, of_tree}
+use Rattle.lv_pwad.specs.Wad.{AreParts, IsPart, part_of}
+use Rattle.lv_pwad.proofs.LengthLemmas.{IsWritable, is_part, one_part}
 use Rattle.lv_pwad.proofs.BlockLemmas.{words_back, words_long, blocks_in_range}
 
 -- ---- the tree's references
@@ -159,17 +163,32 @@ writable m b bytes w t k =
 
 -- ---- a level that was made of the map, its tree and its blocks
 
-pub part_of_level : (m : Tables) (b : Built) (bytes : List ℕ) (l : Lumps) (name : Name8) → name ≡ m.name → l ≡ level_over m b bytes → WellFormed m → IsBuilt m b → IsBlockmap m bytes → AreParts (part_of name l ∷ [])
-part_of_level m b bytes l name n e w t k =
-    one_part name l (subst (λ (x : Name8). IsNamed is_marker x) (sym n) w.name) (subst (λ (x : Lumps). IsWritable x) (sym e) (writable m b bytes w t k))
+pub part_of_level : (m : Tables) (l : Lumps) (name : Name8) → name ≡ m.name → IsBuiltLevel m l → IsPart (part_of name l)
+part_of_level m l name n b =
+    let named : IsNamed is_marker name = subst (λ (x : Name8). IsNamed is_marker x) (sym n) b.well_formed.name in
+    let w : IsWritable l = subst (λ (x : Lumps). IsWritable x) (sym b.is_over) (writable m b.tree b.blockmap b.well_formed b.built b.is_blockmap) in
+    is_part name l named w
 
-pub sound_build : (m : Tables) (b : Built) (bytes : List ℕ) (l : Lumps) (wad : List ℕ) (name : Name8) → name ≡ m.name → l ≡ level_over m b bytes → WellFormed m → IsBuilt m b → IsBlockmap m bytes → IsLevel wad (name_text name) l → IsSoundBuild m wad
-sound_build m b bytes l wad name n e w t k r =
+pub parts_of_level : (m : Tables) (l : Lumps) (name : Name8) → name ≡ m.name → IsBuiltLevel m l → AreParts (part_of name l ∷ [])
+parts_of_level m l name n b =
+    one_part name l (subst (λ (x : Name8). IsNamed is_marker x) (sym n) b.well_formed.name) (subst (λ (x : Lumps). IsWritable x) (sym b.is_over) (writable m b.tree b.blockmap b.well_formed b.built b.is_blockmap))
+
+pub sound_build : (m : Tables) (l : Lumps) (wad : List ℕ) (name : Name8) → name ≡ m.name → IsBuiltLevel m l → IsLevel wad (name_text name) l → IsSoundBuild m wad
+sound_build m l wad name n b r =
     record {
-      level = level_over m b bytes;
-      reads = subst (λ (x : Lumps). IsLevel wad (name_text m.name) x) e (subst (λ (x : Name8). IsLevel wad (name_text x) l) n r);
-      sound = sound_level m b bytes w t k;
+      level = l;
+      reads = subst (λ (x : Name8). IsLevel wad (name_text x) l) n r;
+      sound = subst (λ (x : Lumps). IsSoundLevel m x) (sym b.is_over) (sound_level m b.tree b.blockmap b.well_formed b.built b.is_blockmap);
     }
+
+never_both : (m : Tables) (bytes : List ℕ) → IsBlockmap m bytes → IsTooLarge (ends_of m) → ⊥
+never_both m bytes k t =
+    let o = k.laid_out in
+    let same : o.lists ≡ t.lists = one_lists (ends_of m) (grid_of (ends_of m)) o.lists t.lists o.are_lists t.are_lists in
+    t.too_large (subst (λ (x : List (List ℕ)). OffsetsFit x) same o.fit)
+
+pub buildable : (m : Tables) (l : Lumps) → IsBuiltLevel m l → IsBuildable m
+buildable m l b = record { tree = b.tree; built = b.built; fits = never_both m b.blockmap b.is_blockmap }
 
 -- ---- the refusals
 
@@ -185,3 +204,31 @@ pub blockmap_cause : (m : Tables) (b : Built) (e : BlockmapError) → IsBuilt m 
 blockmap_cause m b blocks.OutOfMemory t h = tt
 blockmap_cause m b blocks.NothingToBuild t h = sym (length-map m.lines (ends_in m.vertices)) ∙ ap length h
 blockmap_cause m b blocks.BlockmapTooLarge t h = record { tree = b; built = t; too_large = h.1 }
+
+-- ---- a map without a line
+
+abbrev refused : (X E : Type 0) → E → Result X E
+refused X E e = Err e
+
+pub same_error : {X E : Type 0} {P : Type 0} (a b : E) → (a ≡ b ↔ P) → (refused X E a ≡ refused X E b ↔ P)
+same_error a b h = (λ q. h.0 (cc), λ z. ap Err (h.1 z))
+
+pub tree_nothing : (r : Result Built TreeError) (e : TreeError) (b : BuildError) (n : ℕ) → r ≡ Err e → b ≡ of_tree e → (r ≡ Err tree.NothingToBuild ↔ n ≡ 0) → (b ≡ build.NothingToBuild ↔ n ≡ 0)
+tree_nothing r tree.OutOfMemory b n is e h = (λ q. cc, λ z. let w = h.1 z in cc)
+tree_nothing r tree.NothingToBuild b n is e h = (λ q. h.0 is, λ z. e)
+tree_nothing r tree.TooManyVertices b n is e h = (λ q. cc, λ z. let w = h.1 z in cc)
+tree_nothing r tree.TooManySegs b n is e h = (λ q. cc, λ z. let w = h.1 z in cc)
+tree_nothing r tree.TooManySubsectors b n is e h = (λ q. cc, λ z. let w = h.1 z in cc)
+tree_nothing r tree.TooDeep b n is e h = (λ q. cc, λ z. let w = h.1 z in cc)
+
+pub blockmap_nothing : (m : Tables) (t : Built) (e : BlockmapError) (b : BuildError) → IsBuilt m t → RefusesBlockmap m e → b ≡ of_blockmap e → (b ≡ build.NothingToBuild ↔ length m.lines ≡ 0)
+blockmap_nothing m t blocks.OutOfMemory b k h e = (λ q. cc, λ z. let s = k.some_line in absurd (omega (arith, s, z)))
+blockmap_nothing m t blocks.NothingToBuild b k h e = (λ q. blockmap_cause m t blocks.NothingToBuild k h, λ z. e)
+blockmap_nothing m t blocks.BlockmapTooLarge b k h e = (λ q. cc, λ z. let s = k.some_line in absurd (omega (arith, s, z)))
+
+-- a map that was built has one
+pub built_some : {E : Type 0} {X : Type 0} (m : Tables) (t : Built) (x : X) (e : E) → IsBuilt m t → (Ok x ≡ Err e ↔ length m.lines ≡ 0)
+built_some m t x e k = (λ q. cc, λ z. let s = k.some_line in absurd (omega (arith, s, z)))
+
+pub memory_some : {X : Type 0} (m : Tables) (t : Built) → IsBuilt m t → (refused X BuildError build.OutOfMemory ≡ refused X BuildError build.NothingToBuild ↔ length m.lines ≡ 0)
+memory_some m t k = (λ q. cc, λ z. let s = k.some_line in absurd (omega (arith, s, z)))

@@ -2,9 +2,10 @@
 use Rattle.std.specs.Prelude.{◌≡◌, ℕ, List, length, replicate, All}
 use Rattle.lv_lumps.specs.Names.{name_text}
 use Rattle.lv_maptables.specs.Tables.{Tables}
+use Rattle.lv_maptables.specs.WellFormed.{WellFormed}
 use Rattle.lv_blockmap.specs.Blocks.{ends_of}
 use Rattle.lv_blockmap.specs.Layout.{ListsBlocks}
-use Rattle.lv_blockmap.specs.Lump.{IsTooLarge}
+use Rattle.lv_blockmap.specs.Lump.{IsBlockmap, IsTooLarge}
 use Rattle.lv_segs.specs.Segs.{RunAlong, HasFields, IsConvexSub}
 use Rattle.lv_segs.specs.Nodes.{IsParting}
 use Rattle.lv_nodes.specs.Edges.{edges_of}
@@ -42,6 +43,15 @@ level_over m b blockmap =
       blockmap = blockmap;
     }
 
+-- a level of the map, of a tree of it, and of the bytes of its blocks
+pub record IsBuiltLevel (m : Tables) (l : Lumps) : Type 0 where
+  pub well_formed : WellFormed m
+  pub tree : Built
+  pub built : IsBuilt m tree
+  pub blockmap : List ℕ
+  pub is_blockmap : IsBlockmap m blockmap
+  pub is_over : l ≡ level_over m tree blockmap
+
 -- a level that holds the map as drawn, and a sound tree and the blocks of it
 pub record IsSoundLevel (m : Tables) (l : Lumps) : Type 0 where
   pub things : l.things ≡ m.things
@@ -62,6 +72,12 @@ pub record IsSoundBuild (m : Tables) (wad : List ℕ) : Type 0 where
   pub level : Lumps
   pub reads : IsLevel wad (name_text m.name) level
   pub sound : IsSoundLevel m level
+
+-- the map has a tree, and the layout of its blocks' lists has no offset that is too great
+pub record IsBuildable (m : Tables) : Type 0 where
+  pub tree : Built
+  pub built : IsBuilt m tree
+  pub fits : ¬ IsTooLarge (ends_of m)
 
 -- the map has a tree, but the layout of its blocks' lists needs an offset that is too great
 pub record HasOnlyTree (m : Tables) : Type 0 where

@@ -1,8 +1,9 @@
-ghost use Rattle.std.specs.Prelude.{◌≡◌, [], ◌∷◌, IfOk, IfErr, IsOkUnless};
+ghost use Rattle.std.specs.Prelude.{◌≡◌, ◌↔◌, [], ◌∷◌, length, Err, IfOk, IfErr, OnOk, IsOkUnless};
 ghost use Rattle.lv_lumps.specs.Names.{name_text};
 ghost use Rattle.lv_maptables.specs.WellFormed.{WellFormed};
 ghost use Rattle.lv_pwad.specs.Levels.{IsLevel};
-ghost use Rattle.lv_pwad.specs.Sound.{IsBuildRefusal, IsSoundBuild, level_over, of_blockmap, of_tree};
+ghost use Rattle.lv_pwad.specs.Sound.{IsBuildable, IsBuildRefusal, IsBuiltLevel, IsSoundBuild};
+ghost use Rattle.lv_pwad.specs.Sound.{level_over, of_blockmap, of_tree};
 ghost use Rattle.lv_pwad.specs.Views.{view};
 ghost use Rattle.lv_pwad.specs.Wad.{AreParts, part_of};
 
@@ -76,15 +77,11 @@ fn wad_of_level(alloc: Global, name: Name8, level: Level) -> Result<Vec<u8>, Bui
     }
 }
 
-/// The PWAD of a map: its level with all eleven lumps under its name.
-///
-/// # Errors
-///
-/// Those of `build_tree` first: `NothingToBuild`, `TooManyVertices`, `TooManySegs`, `TooManySubsectors`, `TooDeep`. Then
-/// `BlockmapTooLarge`; or `OutOfMemory`.
-pub fn build_wad(alloc: Global, map: &Map) -> Result<Vec<u8>, BuildError>
-    ensures sound { IfOk result (λ wad. IsSoundBuild map.now.tables wad.items) }
+/// The level of a map: the refusals of its tree come before those of its blockmap.
+pub fn level_of_map(alloc: Global, map: &Map) -> Result<Level, BuildError>
+    ensures level { IfOk result (λ level. IsBuiltLevel map.now.tables (view level)) }
     ensures refused { IfErr result (IsBuildRefusal map.now.tables) }
+    ensures nothing { result ≡ Err BuildError.NothingToBuild ↔ length map.now.tables.lines ≡ 0 }
 {
     let tree = match build_tree(alloc, map) {
         Ok(tree) => tree,
@@ -94,9 +91,27 @@ pub fn build_wad(alloc: Global, map: &Map) -> Result<Vec<u8>, BuildError>
         Ok(bytes) => bytes,
         Err(error) => return Err(blockmap_refusal(error)),
     };
-    let level = match level_of(alloc, map, tree, blockmap) {
+    match level_of(alloc, map, tree, blockmap) {
+        Ok(level) => Ok(level),
+        Err(_) => Err(BuildError::OutOfMemory),
+    }
+}
+
+/// The PWAD of a map: its level with all eleven lumps under its name.
+///
+/// # Errors
+///
+/// Those of `build_tree` first: `NothingToBuild` exactly where the map has no line, `TooManyVertices`, `TooManySegs`,
+/// `TooManySubsectors`, `TooDeep`. Then `BlockmapTooLarge`; or `OutOfMemory`.
+pub fn build_wad(alloc: Global, map: &Map) -> Result<Vec<u8>, BuildError>
+    ensures sound { IfOk result (λ wad. IsSoundBuild map.now.tables wad.items) }
+    ensures buildable { OnOk result (IsBuildable map.now.tables) }
+    ensures refused { IfErr result (IsBuildRefusal map.now.tables) }
+    ensures nothing { result ≡ Err BuildError.NothingToBuild ↔ length map.now.tables.lines ≡ 0 }
+{
+    let level = match level_of_map(alloc, map) {
         Ok(level) => level,
-        Err(_) => return Err(BuildError::OutOfMemory),
+        Err(error) => return Err(error),
     };
     match wad_of_level(alloc, map.name(), level) {
         Ok(wad) => Ok(wad),
