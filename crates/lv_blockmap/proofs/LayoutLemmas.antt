@@ -1,7 +1,7 @@
 -- The lump lists each block's lines.
 use Rattle.std.proofs.Common.{◌≡◌, ◌≢◌, refl, sym, ap, ◌∙◌, subst, ℕ, zero, suc, ◌+◌, ◌<◌, ◌≤◌, List, [], ◌∷◌, ◌++◌, length, take, drop, get_or, length-append, append_assoc, arith}
 use Rattle.std.proofs.Common.{Bool, false}
-use Rattle.std.specs.Prelude.{flat_map, ◌==◌}
+use Rattle.std.specs.Prelude.{All, flat_map, ◌==◌}
 use Rattle.std.proofs.lemmas.Bool.Decides.{nat_tests}
 use Rattle.std.proofs.lemmas.List.{length-map, get_or-map}
 use Rattle.lv_blockmap.specs.declared.line_ends.LineEnds.{LineEnds}
@@ -69,13 +69,14 @@ lists_blocks lines lists a = record { grid = refl; each = each }
         }
 
 -- ---- the answers
-pub blockmap_found : (lines : List LineEnds) (g : Grid) (lists : List (List ℕ)) (bytes : List ℕ) → lines ≢ [] → g ≡ grid_of lines → AreBlockLists lines g lists → length (blockmap_words g lists) ≤ 65536 → bytes ≡ word_bytes (blockmap_words g lists) → OffsetsFit lists → IsBlockmapOver lines bytes
-blockmap_found lines g lists bytes some e a short b f =
+pub blockmap_found : (lines : List LineEnds) (g : Grid) (lists : List (List ℕ)) (bytes : List ℕ) → lines ≢ [] → g ≡ grid_of lines → AreBlockLists lines g lists → length (blockmap_words g lists) ≤ 65536 → All (λ (w : ℕ). w < 65536) (blockmap_words g lists) → bytes ≡ word_bytes (blockmap_words g lists) → OffsetsFit lists → IsBlockmapOver lines bytes
+blockmap_found lines g lists bytes some e a short bits b f =
     let l : AreBlockLists lines (grid_of lines) lists = subst (λ (h : Grid). AreBlockLists lines h lists) e a in
     record {
       some_line = some;
       words = blockmap_words (grid_of lines) lists;
       bytes_are = b ∙ ap (λ (h : Grid). word_bytes (blockmap_words h lists)) e;
+      sixteen_bits = subst (λ (h : Grid). All (λ (w : ℕ). w < 65536) (blockmap_words h lists)) e bits;
       lists = lists_blocks lines lists l;
       laid_out = record { lists = lists; are_lists = l; words_are = refl; fit = f };
       short = subst (λ (h : Grid). length (blockmap_words h lists) ≤ 65536) e short;

@@ -12,3 +12,4 @@ pub mod GridLemmas
 pub mod SizeLemmas
 pub mod RisingLemmas
 pub mod EndsLemmas
+pub mod WordLemmas

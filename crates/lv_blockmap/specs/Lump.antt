@@ -1,5 +1,5 @@
 -- What `blockmap` answers.
-use Rattle.std.specs.Prelude.{◌≡◌, ◌≢◌, ℕ, ◌≤◌, List, [], length}
+use Rattle.std.specs.Prelude.{◌≡◌, ◌≢◌, ℕ, ◌<◌, ◌≤◌, List, [], length, All}
 use Rattle.lv_maptables.specs.Tables.{Tables}
 use Rattle.lv_blockmap.specs.declared.line_ends.LineEnds.{LineEnds}
 use Rattle.lv_blockmap.specs.Blocks.{grid_of, ends_of, AreBlockLists}
@@ -20,11 +20,12 @@ pub record IsTooLarge (lines : List LineEnds) : Type 0 where
   pub are_lists : AreBlockLists lines (grid_of lines) lists
   pub too_large : ¬ OffsetsFit lists
 
--- the bytes of words in which each block lists exactly the lines that touch it
+-- the bytes of words of sixteen bits in which each block lists exactly the lines that touch it
 pub record IsBlockmapOver (lines : List LineEnds) (bytes : List ℕ) : Type 0 where
   pub some_line : lines ≢ []
   pub words : List ℕ
   pub bytes_are : bytes ≡ word_bytes words
+  pub sixteen_bits : All (λ w. w < 65536) words
   pub lists : ListsBlocks lines words
   pub laid_out : IsLaidOut lines words
   pub short : length words ≤ 65536

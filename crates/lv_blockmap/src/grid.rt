@@ -1,5 +1,5 @@
-ghost use Rattle.std.specs.Prelude.{◌≡◌, ◌*◌, ◌<◌, ◌≤◌, ◌+ℤ◌, ◌≤ℤ◌, pos, length};
-ghost use Rattle.std.specs.Int.{int_min, int_max};
+ghost use Rattle.std.specs.Prelude.{◌≡◌, ◌*◌, ◌<◌, ◌≤◌, ◌+ℤ◌, ◌≤ℤ◌, pos, length, FitsSigned};
+ghost use Rattle.std.specs.Int.{w16, int_min, int_max};
 ghost use Rattle.lv_blockmap.specs.Blocks.{IsGrid, blocks_over, grid_of};
 
 use crate::line_ends::LineEnds;
@@ -58,6 +58,8 @@ pub fn grid_over(lines: &[LineEnds]) -> Grid
     requires { 0 < length lines.now }
     ensures grid { result ≡ grid_of lines.now }
     ensures limits { IsGrid result }
+    // for the words of the header
+    ensures corner { FitsSigned w16 result.left × FitsSigned w16 result.bottom }
 {
     let mut low = lines[0].start;
     let mut high = lines[0].start;

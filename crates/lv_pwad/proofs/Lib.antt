@@ -9,3 +9,9 @@ pub mod WrittenLemmas
 pub mod PartLemmas
 pub mod PutLemmas
 pub mod LevelLemmas
+pub mod NameLemmas
+pub mod LengthLemmas
+pub mod BlockLemmas
+pub mod SoundLemmas
+pub mod ReadBackLemmas
+pub mod CopyLemmas

@@ -8,3 +8,4 @@ pub mod Range
 pub mod Endings
 pub mod Counts
 pub mod Audit
+pub mod Sound

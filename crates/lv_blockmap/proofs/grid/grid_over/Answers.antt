@@ -28,3 +28,11 @@ returns-clause-grid c =
     let p = simp (e1, e3) at c.blocks_over.ensures.count in
     let q = simp (e2, e4) at c.blocks_over-2.ensures.count in
     rw (e1, e2) (grid_found c.args.lines.now (get_or c.args.lines.now 0 no_line) c.loop-line.line-index c.loop-line.low c.loop-line.high c.blocks_over.result c.blocks_over-2.result c.requires c.loop-line-test.false (get_or_default c.args.lines.now 0 _ _ c.requires) p q c.loop-line.invariant)
+
+pub returns-clause-corner : goal.returns-clause-corner
+returns-clause-corner c =
+    let f1 : FitsSigned w16 c.loop-line.low.x = search rules in
+    let e1 = to_z-of_z w16 c.loop-line.low.x f1 in
+    let f2 : FitsSigned w16 c.loop-line.low.y = search rules in
+    let e2 = to_z-of_z w16 c.loop-line.low.y f2 in
+    (rw e1 f1, rw e2 f2)

@@ -1,4 +1,4 @@
-use Rattle.std.proofs.Common.{◌≡◌, sym}
+use Rattle.std.proofs.Common.{sym}
 use Rattle.lv_pwad.proofs.LevelLemmas.{lumps_more, coded_more}
 use Rattle.lv_pwad.proofs.levels.lumps_of.Goals as goal
 

@@ -1,6 +1,6 @@
-use Rattle.std.proofs.Common.{◌≡◌, ◌∙◌, sym, ap, refl, flat_map}
+use Rattle.std.proofs.Common.{◌∙◌, sym, ap, flat_map}
 use Rattle.lv_lumps.specs.Lumps.{records_of}
-use Rattle.lv_lumps.specs.Records.{thing_record, line_record, side_record, vertex_record, seg_record, sub_record, node_record, sector_record, thing_at, line_at, side_at, vertex_at, seg_at, sub_at, node_at, sector_at}
+use Rattle.lv_lumps.specs.Records.{thing_record, line_record, side_record, vertex_record, thing_at, line_at, side_at, vertex_at}
 use Rattle.lv_pwad.specs.Views.{views}
 use Rattle.lv_pwad.proofs.LevelLemmas.{first_lump, next_lump}
 use Rattle.lv_pwad.proofs.levels.push_drawn.Goals as goal

@@ -1,4 +1,3 @@
-use Rattle.std.proofs.Common.{◌≡◌, ◌∙◌, ap}
 use Rattle.lv_pwad.specs.Views.{view, views}
 use Rattle.lv_pwad.specs.Wad.{drawn_lumps, tree_lumps, last_lumps}
 use Rattle.lv_pwad.proofs.LevelLemmas.{first_lump, level_lumps}

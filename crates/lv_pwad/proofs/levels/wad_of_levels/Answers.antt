@@ -1,4 +1,4 @@
-use Rattle.std.proofs.Common.{◌≡◌, ◌∙◌, ap}
+use Rattle.std.proofs.Common.{◌∙◌, ap}
 use Rattle.lv_pwad.specs.Wad.{wad_bytes}
 use Rattle.lv_pwad.specs.Views.{views}
 use Rattle.lv_pwad.proofs.LevelLemmas.{levels_read}

@@ -1,4 +1,4 @@
-use Rattle.std.proofs.Common.{arith, rules, ◌≡◌, ◌∙◌, sym, ap, ◌++◌, ◌+◌, ◌<◌, length, take, length-append}
+use Rattle.std.proofs.Common.{arith, ◌≡◌, sym, ap, ◌+◌, length, take, length-append}
 use Rattle.lv_pwad.specs.Wad.{all_bytes}
 use Rattle.lv_pwad.specs.Views.{views}
 use Rattle.lv_pwad.proofs.PutLemmas.{body_fits, body_more, directory_more, same_entry}

@@ -1,0 +1,234 @@
+-- A map with its tree and its blocks is a sound level.
+use Rattle.std.proofs.Common.{◌≡◌, ◌≢◌, ◌∙◌, refl, sym, ap, subst, ℕ, ◌+◌, ◌*◌, ◌<◌, ◌≤◌, ◌⊎◌, inl, inr, List, [], ◌∷◌, ◌++◌, length, get_or, arith, length-append}
+use Rattle.std.specs.Prelude.{Some, count_by, nat_lt, ◌==◌, ◌&&◌, ◌↔◌, Result, Ok, Err}
+use Rattle.std.proofs.Math.Nat.{mul-le-mul}
+use Rattle.std.proofs.lemmas.List.{length-replicate, length-map}
+use Rattle.std.proofs.lemmas.Option.{slice_get-get_or}
+use Rattle.lv_lumps.specs.Names.{name_text, is_marker, IsNamed}
+use Rattle.lv_lumps.specs.declared.records.Name8.{Name8}
+use Rattle.lv_lumps.specs.Sides.{no_side}
+use Rattle.lv_lumps.specs.declared.records.Line.{Line}
+use Rattle.lv_lumps.specs.declared.records.Vertex.{Vertex}
+use Rattle.lv_lumps.specs.declared.records.Seg.{Seg}
+use Rattle.lv_lumps.specs.declared.records.Sub.{Sub}
+use Rattle.lv_lumps.specs.declared.records.Node.{Node}
+use Rattle.lv_maptables.specs.Tables.{Tables}
+use Rattle.lv_maptables.specs.WellFormed.{WellFormed}
+use Rattle.lv_blockmap.proofs.SizeLemmas.{one_lists}
+use Rattle.lv_blockmap.specs.Layout.{OffsetsFit}
+use Rattle.lv_blockmap.specs.Blocks.{ends_in, ends_of, grid_of}
+use Rattle.lv_blockmap.specs.Lump.{IsBlockmap, IsTooLarge, RefusesBlockmap}
+use Rattle.lv_blockmap.specs.declared.error.BlockmapError.{BlockmapError}
+use Rattle.lv_blockmap.specs.declared.error.BlockmapError.TheVariants as blocks
+use Rattle.lv_nodes.specs.InRange.{TreeInRange, Tiles as TreeTiles, children as tree_children, SegInRange as TreeSeg, HasSide, ChildInRange as TreeChild}
+use Rattle.lv_nodes.specs.Built.{IsBuilt, IsTreeRefusal}
+use Rattle.lv_nodes.specs.declared.error.TreeError.{TreeError}
+use Rattle.lv_nodes.specs.declared.error.TreeError.TheVariants as tree
+use Rattle.lv_nodes.specs.declared.built.Built.{Built}
+use Rattle.lv_pwad.specs.declared.error.BuildError.{BuildError}
+use Rattle.lv_pwad.specs.declared.error.BuildError.TheVariants as build
+use Rattle.lv_pwad.specs.Levels.{Lumps, IsLevel}
+use Rattle.lv_pwad.specs.Range.{LineInRange, SegInRange, Tiles, ChildInRange, InRange, children, line_of_seg, sub_bit}
+use Rattle.lv_pwad.specs.Reject.{reject_size}
+use Rattle.lv_pwad.specs.Words.{words}
+use Rattle.lv_pwad.specs.Sound.{IsBuildable, IsBuildRefusal, IsBuiltLevel, IsSoundBuild, IsSoundLevel, level_over, no_rejects, of_blockmap, of_tree}
+use Rattle.lv_pwad.specs.Wad.{AreParts, IsPart, part_of}
+use Rattle.lv_pwad.proofs.LengthLemmas.{IsWritable, is_part, one_part}
+use Rattle.lv_pwad.proofs.BlockLemmas.{words_back, words_long, blocks_in_range}
+
+-- ---- the tree's references
+
+abbrev no_line : Line
+no_line = record { v1 = 0; v2 = 0; flags = 0; special = 0; tag = 0; right = 0; left = no_side }
+
+tiles : (at : ℕ) (subs : List Sub) (to : ℕ) → TreeTiles at subs to → Tiles at subs to
+tiles at [] to t = t
+tiles at (s ∷ subs) to t = (t.0, t.1, t.2, tiles (at + s.count) subs to t.3)
+
+same_children : (nodes : List Node) → tree_children nodes ≡ children nodes
+same_children [] = refl
+same_children (n ∷ nodes) = refl
+
+seg_in : (l : Lumps) (s : Seg) → TreeSeg l.vertices l.lines s → SegInRange l s
+seg_in l s r =
+    record {
+      first = record { among = r.first.among; small = r.first.small };
+      second = record { among = r.second.among; small = r.second.small };
+      line = record { among = r.line.among; small = r.line.small };
+      side = by r.side;
+    }
+  where
+    by : HasSide l.lines s.line s.side → (s.side ≡ 0) ⊎ ((s.side ≡ 1) × ((line_of_seg l s).left ≢ no_side))
+    by (inl zero) = inl zero
+    by (inr one) = inr (one.0, one.1 (line_of_seg l s) (slice_get-get_or l.lines s.line no_line r.line.among))
+
+child_in : (l : Lumps) (i c : ℕ) → TreeChild l.subs i c → ChildInRange l i c
+child_in l i c r = record { node = r.node; sub = λ h. let s = r.sub h in record { among = s.among; small = s.small } }
+
+children_in : (l : Lumps) → TreeInRange l.vertices l.lines l.segs l.subs l.nodes → (i : ℕ) → i < length l.nodes → (n : Node) → get_or l.nodes i n ≡ n → ChildInRange l i n.right × ChildInRange l i n.left
+children_in l r i h n e =
+    let both = r.node_children i n (slice_get-get_or l.nodes i n h ∙ ap Some e) in
+    (child_in l i n.right both.0, child_in l i n.left both.1)
+
+-- ---- the drawn lumps' references
+
+line_in : (m : Tables) (l : Lumps) (added : List Vertex) → WellFormed m → l.vertices ≡ m.vertices ++ added → l.sides ≡ m.sides → (k : ℕ) (d : Line) → k < length m.lines → LineInRange l (get_or m.lines k d)
+line_in m l added w v s k d h =
+    let ends = w.ends k d h in
+    let sides = w.line_sides k d h in
+    let range = w.lines k d h in
+    let some = ap length v in
+    let more = length-append m.vertices added in
+    let same = ap length s in
+    let e1 = ends.v1 in let e2 = ends.v2 in let r1 = range.v1 in let r2 = range.v2 in
+    let right = sides.right in let few = w.side_count in
+    record {
+      v1 = record { among = omega (arith, e1, some, more); small = omega (arith, r1) };
+      v2 = record { among = omega (arith, e2, some, more); small = omega (arith, r2) };
+      right = record { among = omega (arith, right, same); small = omega (arith, right, few) };
+      left = λ q. let left = sides.left q in record { among = omega (arith, left, same); small = omega (arith, left, few) };
+      two_sided = λ q. sides.two_sided q;
+    }
+
+level_in_range : (m : Tables) (b : Built) (bytes : List ℕ) → WellFormed m → IsBuilt m b → IsBlockmap m bytes → InRange (level_over m b bytes)
+level_in_range m b bytes w t k =
+    let l = level_over m b bytes in
+    let some = t.some_line in
+    let few = w.line_count in
+    let long = length-map m.lines (ends_in m.vertices) in
+    let same : words bytes ≡ k.words = ap words k.bytes_are ∙ words_back k.words k.sixteen_bits in
+    let blocks = blocks_in_range l (ends_of m) bytes k long (omega (arith, long, some)) (omega (arith, long, few)) in
+    let r = t.in_range in
+    record {
+      lines = λ i d h. line_in m l t.added.added w t.added.all refl i d h;
+      sides = λ i d h. let s = w.side_sectors i d h in let c = w.sector_count in record { among = s; small = omega (arith, s, c) };
+      segs = λ i d h. seg_in l (get_or l.segs i d) (r.segs i d h);
+      tiles = tiles 0 l.subs (length l.segs) r.tiles;
+      children = children_in l r;
+      some_sub = r.some_sub;
+      subs_once = λ s h. ap (count_by (λ c. c == (sub_bit + s))) (sym (same_children l.nodes)) ∙ r.subs_once s h;
+      nodes_once = λ i h. ap (count_by (λ c. nat_lt c sub_bit && (c == i))) (sym (same_children l.nodes)) ∙ r.nodes_once i h;
+      reject = let e : length (no_rejects (length m.sectors)) ≡ reject_size (length m.sectors) = length-replicate (reject_size (length m.sectors)) 0 in omega (arith, e);
+      header = rw same blocks.header;
+      lists = rw same blocks.lists;
+    }
+
+pub sound_level : (m : Tables) (b : Built) (bytes : List ℕ) → WellFormed m → IsBuilt m b → IsBlockmap m bytes → IsSoundLevel m (level_over m b bytes)
+sound_level m b bytes w t k =
+    let same : words bytes ≡ k.words = ap words k.bytes_are ∙ words_back k.words k.sixteen_bits in
+    record {
+      things = refl;
+      lines = refl;
+      sides = refl;
+      sectors = refl;
+      added = t.added;
+      reject = refl;
+      in_range = level_in_range m b bytes w t k;
+      along = t.along;
+      fields = t.fields;
+      convex = t.convex;
+      partings = t.partings;
+      blocks = rw same k.lists;
+    }
+
+-- ---- it can be written
+
+square : (n : ℕ) → n ≤ 4096 → n * n ≤ 16777216
+square n h = mul-le-mul h h
+
+reject_short : (n : ℕ) → n ≤ 4096 → length (no_rejects n) ≡ reject_size n → length (no_rejects n) ≤ 2097153
+reject_short n h e = let s = square n h in omega (arith, e, s)
+
+pub writable : (m : Tables) (b : Built) (bytes : List ℕ) → WellFormed m → IsBuilt m b → IsBlockmap m bytes → IsWritable (level_over m b bytes)
+writable m b bytes w t k =
+    let long : length bytes ≡ 2 * length k.words = ap length k.bytes_are ∙ words_long k.words in
+    let short = k.short in
+    let c = w.sector_count in
+    let e : length (no_rejects (length m.sectors)) ≡ reject_size (length m.sectors) = length-replicate (reject_size (length m.sectors)) 0 in
+    record {
+      sides = w.sides;
+      sectors = w.sectors;
+      few_things = w.thing_count;
+      few_lines = w.line_count;
+      few_sides = w.side_count;
+      few_vertices = t.small.few_vertices;
+      few_segs = t.small.few_segs;
+      few_subs = t.small.few_subs;
+      few_nodes = t.small.few_nodes;
+      few_sectors = c;
+      short_reject = reject_short (length m.sectors) c e;
+      short_blockmap = omega (arith, long, short);
+      words = omega (arith, long);
+    }
+
+-- ---- a level that was made of the map, its tree and its blocks
+
+pub part_of_level : (m : Tables) (l : Lumps) (name : Name8) → name ≡ m.name → IsBuiltLevel m l → IsPart (part_of name l)
+part_of_level m l name n b =
+    let named : IsNamed is_marker name = subst (λ (x : Name8). IsNamed is_marker x) (sym n) b.well_formed.name in
+    let w : IsWritable l = subst (λ (x : Lumps). IsWritable x) (sym b.is_over) (writable m b.tree b.blockmap b.well_formed b.built b.is_blockmap) in
+    is_part name l named w
+
+pub parts_of_level : (m : Tables) (l : Lumps) (name : Name8) → name ≡ m.name → IsBuiltLevel m l → AreParts (part_of name l ∷ [])
+parts_of_level m l name n b =
+    one_part name l (subst (λ (x : Name8). IsNamed is_marker x) (sym n) b.well_formed.name) (subst (λ (x : Lumps). IsWritable x) (sym b.is_over) (writable m b.tree b.blockmap b.well_formed b.built b.is_blockmap))
+
+pub sound_build : (m : Tables) (l : Lumps) (wad : List ℕ) (name : Name8) → name ≡ m.name → IsBuiltLevel m l → IsLevel wad (name_text name) l → IsSoundBuild m wad
+sound_build m l wad name n b r =
+    record {
+      level = l;
+      reads = subst (λ (x : Name8). IsLevel wad (name_text x) l) n r;
+      sound = subst (λ (x : Lumps). IsSoundLevel m x) (sym b.is_over) (sound_level m b.tree b.blockmap b.well_formed b.built b.is_blockmap);
+    }
+
+never_both : (m : Tables) (bytes : List ℕ) → IsBlockmap m bytes → IsTooLarge (ends_of m) → ⊥
+never_both m bytes k t =
+    let o = k.laid_out in
+    let same : o.lists ≡ t.lists = one_lists (ends_of m) (grid_of (ends_of m)) o.lists t.lists o.are_lists t.are_lists in
+    t.too_large (subst (λ (x : List (List ℕ)). OffsetsFit x) same o.fit)
+
+pub buildable : (m : Tables) (l : Lumps) → IsBuiltLevel m l → IsBuildable m
+buildable m l b = record { tree = b.tree; built = b.built; fits = never_both m b.blockmap b.is_blockmap }
+
+-- ---- the refusals
+
+pub tree_cause : (m : Tables) (e : TreeError) → IsTreeRefusal m e → IsBuildRefusal m (of_tree e)
+tree_cause m tree.OutOfMemory h = tt
+tree_cause m tree.NothingToBuild h = h
+tree_cause m tree.TooManyVertices h = h
+tree_cause m tree.TooManySegs h = h
+tree_cause m tree.TooManySubsectors h = h
+tree_cause m tree.TooDeep h = h
+
+pub blockmap_cause : (m : Tables) (b : Built) (e : BlockmapError) → IsBuilt m b → RefusesBlockmap m e → IsBuildRefusal m (of_blockmap e)
+blockmap_cause m b blocks.OutOfMemory t h = tt
+blockmap_cause m b blocks.NothingToBuild t h = sym (length-map m.lines (ends_in m.vertices)) ∙ ap length h
+blockmap_cause m b blocks.BlockmapTooLarge t h = record { tree = b; built = t; too_large = h.1 }
+
+-- ---- a map without a line
+
+abbrev refused : (X E : Type 0) → E → Result X E
+refused X E e = Err e
+
+pub same_error : {X E : Type 0} {P : Type 0} (a b : E) → (a ≡ b ↔ P) → (refused X E a ≡ refused X E b ↔ P)
+same_error a b h = (λ q. h.0 (cc), λ z. ap Err (h.1 z))
+
+pub tree_nothing : (r : Result Built TreeError) (e : TreeError) (b : BuildError) (n : ℕ) → r ≡ Err e → b ≡ of_tree e → (r ≡ Err tree.NothingToBuild ↔ n ≡ 0) → (b ≡ build.NothingToBuild ↔ n ≡ 0)
+tree_nothing r tree.OutOfMemory b n is e h = (λ q. cc, λ z. let w = h.1 z in cc)
+tree_nothing r tree.NothingToBuild b n is e h = (λ q. h.0 is, λ z. e)
+tree_nothing r tree.TooManyVertices b n is e h = (λ q. cc, λ z. let w = h.1 z in cc)
+tree_nothing r tree.TooManySegs b n is e h = (λ q. cc, λ z. let w = h.1 z in cc)
+tree_nothing r tree.TooManySubsectors b n is e h = (λ q. cc, λ z. let w = h.1 z in cc)
+tree_nothing r tree.TooDeep b n is e h = (λ q. cc, λ z. let w = h.1 z in cc)
+
+pub blockmap_nothing : (m : Tables) (t : Built) (e : BlockmapError) (b : BuildError) → IsBuilt m t → RefusesBlockmap m e → b ≡ of_blockmap e → (b ≡ build.NothingToBuild ↔ length m.lines ≡ 0)
+blockmap_nothing m t blocks.OutOfMemory b k h e = (λ q. cc, λ z. let s = k.some_line in absurd (omega (arith, s, z)))
+blockmap_nothing m t blocks.NothingToBuild b k h e = (λ q. blockmap_cause m t blocks.NothingToBuild k h, λ z. e)
+blockmap_nothing m t blocks.BlockmapTooLarge b k h e = (λ q. cc, λ z. let s = k.some_line in absurd (omega (arith, s, z)))
+
+-- a map that was built has one
+pub built_some : {E : Type 0} {X : Type 0} (m : Tables) (t : Built) (x : X) (e : E) → IsBuilt m t → (Ok x ≡ Err e ↔ length m.lines ≡ 0)
+built_some m t x e k = (λ q. cc, λ z. let s = k.some_line in absurd (omega (arith, s, z)))
+
+pub memory_some : {X : Type 0} (m : Tables) (t : Built) → IsBuilt m t → (refused X BuildError build.OutOfMemory ≡ refused X BuildError build.NothingToBuild ↔ length m.lines ≡ 0)
+memory_some m t k = (λ q. cc, λ z. let s = k.some_line in absurd (omega (arith, s, z)))

@@ -1,0 +1,110 @@
+-- A PWAD that is a sound build of a map, and why there is none.
+use Rattle.std.specs.Prelude.{◌≡◌, ℕ, List, length, replicate, All}
+use Rattle.lv_lumps.specs.Names.{name_text}
+use Rattle.lv_maptables.specs.Tables.{Tables}
+use Rattle.lv_maptables.specs.WellFormed.{WellFormed}
+use Rattle.lv_blockmap.specs.Blocks.{ends_of}
+use Rattle.lv_blockmap.specs.Layout.{ListsBlocks}
+use Rattle.lv_blockmap.specs.Lump.{IsBlockmap, IsTooLarge}
+use Rattle.lv_segs.specs.Segs.{RunAlong, HasFields, IsConvexSub}
+use Rattle.lv_segs.specs.Nodes.{IsParting}
+use Rattle.lv_nodes.specs.Edges.{edges_of}
+use Rattle.lv_nodes.specs.Sound.{AddsEnds, HasTooManyVertices, HasTooManySegs, HasTooManySubsectors, IsTooDeep}
+use Rattle.lv_nodes.specs.Built.{IsBuilt}
+use Rattle.lv_nodes.specs.declared.built.Built.{Built}
+use Rattle.lv_nodes.specs.declared.error.TreeError.{TreeError}
+use Rattle.lv_nodes.specs.declared.error.TreeError.TheVariants as tree
+use Rattle.lv_blockmap.specs.declared.error.BlockmapError.{BlockmapError}
+use Rattle.lv_blockmap.specs.declared.error.BlockmapError.TheVariants as blocks
+use Rattle.lv_pwad.specs.Levels.{Lumps, IsLevel}
+use Rattle.lv_pwad.specs.Range.{InRange}
+use Rattle.lv_pwad.specs.Reject.{reject_size}
+use Rattle.lv_pwad.specs.Words.{words}
+use Rattle.lv_pwad.specs.declared.error.BuildError.{BuildError}
+use Rattle.lv_pwad.specs.declared.error.BuildError.TheVariants.{NothingToBuild, TooManyVertices, TooManySegs, TooManySubsectors, TooDeep, BlockmapTooLarge, OutOfMemory}
+
+-- the bytes of REJECT: no sector is out of sight of another
+abbrev pub no_rejects : ℕ → List ℕ
+no_rejects sectors = replicate (reject_size sectors) 0
+
+-- the level of a map, a tree of it, and the bytes of BLOCKMAP
+abbrev pub level_over : Tables → Built → List ℕ → Lumps
+level_over m b blockmap =
+    record {
+      things = m.things;
+      lines = m.lines;
+      sides = m.sides;
+      vertices = b.vertices.items;
+      segs = b.segs.items;
+      subs = b.subs.items;
+      nodes = b.nodes.items;
+      sectors = m.sectors;
+      reject = no_rejects (length m.sectors);
+      blockmap = blockmap;
+    }
+
+-- a level of the map, of a tree of it, and of the bytes of its blocks
+pub record IsBuiltLevel (m : Tables) (l : Lumps) : Type 0 where
+  pub well_formed : WellFormed m
+  pub tree : Built
+  pub built : IsBuilt m tree
+  pub blockmap : List ℕ
+  pub is_blockmap : IsBlockmap m blockmap
+  pub is_over : l ≡ level_over m tree blockmap
+
+-- a level that holds the map as drawn, and a sound tree and the blocks of it
+pub record IsSoundLevel (m : Tables) (l : Lumps) : Type 0 where
+  pub things : l.things ≡ m.things
+  pub lines : l.lines ≡ m.lines
+  pub sides : l.sides ≡ m.sides
+  pub sectors : l.sectors ≡ m.sectors
+  pub added : AddsEnds m.vertices l.vertices l.segs
+  pub reject : l.reject ≡ no_rejects (length m.sectors)
+  pub in_range : InRange l
+  pub along : RunAlong (edges_of m) l.vertices l.segs
+  pub fields : All (HasFields (edges_of m) l.vertices) l.segs
+  pub convex : All (IsConvexSub (edges_of m) l.vertices l.segs) l.subs
+  pub partings : All (IsParting (edges_of m) l.vertices l.segs l.subs l.nodes) l.nodes
+  pub blocks : ListsBlocks (ends_of m) (words l.blockmap)
+
+-- under the map's name the bytes hold a sound level of the map
+pub record IsSoundBuild (m : Tables) (wad : List ℕ) : Type 0 where
+  pub level : Lumps
+  pub reads : IsLevel wad (name_text m.name) level
+  pub sound : IsSoundLevel m level
+
+-- the map has a tree, and the layout of its blocks' lists has no offset that is too great
+pub record IsBuildable (m : Tables) : Type 0 where
+  pub tree : Built
+  pub built : IsBuilt m tree
+  pub fits : ¬ IsTooLarge (ends_of m)
+
+-- the map has a tree, but the layout of its blocks' lists needs an offset that is too great
+pub record HasOnlyTree (m : Tables) : Type 0 where
+  pub tree : Built
+  pub built : IsBuilt m tree
+  pub too_large : IsTooLarge (ends_of m)
+
+-- the cause of each refusal: the tree's come first
+abbrev pub IsBuildRefusal : Tables → BuildError → Type 0
+IsBuildRefusal m OutOfMemory = Unit {0}
+IsBuildRefusal m NothingToBuild = length m.lines ≡ 0
+IsBuildRefusal m TooManyVertices = HasTooManyVertices (edges_of m) m.vertices
+IsBuildRefusal m TooManySegs = HasTooManySegs (edges_of m)
+IsBuildRefusal m TooManySubsectors = HasTooManySubsectors (edges_of m)
+IsBuildRefusal m TooDeep = IsTooDeep (edges_of m)
+IsBuildRefusal m BlockmapTooLarge = HasOnlyTree m
+
+-- the refusal of a build that a refused tree, or a refused blockmap, comes to
+abbrev pub of_tree : TreeError → BuildError
+of_tree tree.OutOfMemory = OutOfMemory
+of_tree tree.NothingToBuild = NothingToBuild
+of_tree tree.TooManyVertices = TooManyVertices
+of_tree tree.TooManySegs = TooManySegs
+of_tree tree.TooManySubsectors = TooManySubsectors
+of_tree tree.TooDeep = TooDeep
+
+abbrev pub of_blockmap : BlockmapError → BuildError
+of_blockmap blocks.OutOfMemory = OutOfMemory
+of_blockmap blocks.NothingToBuild = NothingToBuild
+of_blockmap blocks.BlockmapTooLarge = BlockmapTooLarge

@@ -1,0 +1,120 @@
+ghost use Rattle.std.specs.Prelude.{◌≡◌, ◌↔◌, [], ◌∷◌, length, Err, IfOk, IfErr, OnOk, IsOkUnless};
+ghost use Rattle.lv_lumps.specs.Names.{name_text};
+ghost use Rattle.lv_maptables.specs.WellFormed.{WellFormed};
+ghost use Rattle.lv_pwad.specs.Levels.{IsLevel};
+ghost use Rattle.lv_pwad.specs.Sound.{IsBuildable, IsBuildRefusal, IsBuiltLevel, IsSoundBuild};
+ghost use Rattle.lv_pwad.specs.Sound.{level_over, of_blockmap, of_tree};
+ghost use Rattle.lv_pwad.specs.Views.{view};
+ghost use Rattle.lv_pwad.specs.Wad.{AreParts, part_of};
+
+use crate::drawn::{lines_of, sectors_of, sides_of, things_of};
+use crate::error::BuildError;
+use crate::level::Level;
+use crate::levels::{NamedLevel, wad_of_levels};
+use crate::visibility::reject;
+use lv_blockmap::{BlockmapError, blockmap};
+use lv_lumps::Name8;
+use lv_maptables::{Kind, Map};
+use lv_nodes::{Built, TreeError, build_tree};
+use std::alloc::Global;
+
+/// The refusal of the tree is that of the build.
+fn tree_refusal(error: TreeError) -> BuildError
+    ensures { result ≡ of_tree error }
+{
+    match error {
+        TreeError::OutOfMemory => BuildError::OutOfMemory,
+        TreeError::NothingToBuild => BuildError::NothingToBuild,
+        TreeError::TooManyVertices => BuildError::TooManyVertices,
+        TreeError::TooManySegs => BuildError::TooManySegs,
+        TreeError::TooManySubsectors => BuildError::TooManySubsectors,
+        TreeError::TooDeep => BuildError::TooDeep,
+    }
+}
+
+/// The refusal of the blockmap is that of the build, where there is a tree.
+fn blockmap_refusal(error: BlockmapError) -> BuildError
+    ensures { result ≡ of_blockmap error }
+{
+    match error {
+        BlockmapError::NothingToBuild => BuildError::NothingToBuild,
+        BlockmapError::BlockmapTooLarge => BuildError::BlockmapTooLarge,
+        BlockmapError::OutOfMemory => BuildError::OutOfMemory,
+    }
+}
+
+/// The level of a map, with its tree and the bytes of its blockmap.
+fn level_of(alloc: Global, map: &Map, tree: Built, blockmap: Vec<u8>) -> Result<Level, BuildError>
+    ensures level { IfOk result (λ level. view level ≡ level_over map.now.tables tree blockmap.items) }
+    ensures well_formed { IfOk result (λ level. WellFormed map.now.tables) }
+    ensures memory { IsOkUnless result BuildError.OutOfMemory }
+{
+    let sectors = map.count(Kind::Sector) as u16;
+    Ok(Level {
+        things: things_of(alloc, map)?,
+        lines: lines_of(alloc, map)?,
+        sides: sides_of(alloc, map)?,
+        vertices: tree.vertices,
+        segs: tree.segs,
+        subs: tree.subs,
+        nodes: tree.nodes,
+        sectors: sectors_of(alloc, map)?,
+        reject: reject(alloc, sectors).map_err(|_| BuildError::OutOfMemory)?,
+        blockmap,
+    })
+}
+
+/// The PWAD of one level, which is read back by its name.
+fn wad_of_level(alloc: Global, name: Name8, level: Level) -> Result<Vec<u8>, BuildError>
+    requires { AreParts (part_of name (view level) ∷ []) }
+    ensures level { IfOk result (λ wad. IsLevel wad.items (name_text name) (view level)) }
+    ensures memory { IsOkUnless result BuildError.OutOfMemory }
+{
+    let levels = [NamedLevel { name, level }];
+    match wad_of_levels(alloc, &levels) {
+        Ok(wad) => Ok(wad),
+        Err(_) => Err(BuildError::OutOfMemory),
+    }
+}
+
+/// The level of a map: the refusals of its tree come before those of its blockmap.
+pub fn level_of_map(alloc: Global, map: &Map) -> Result<Level, BuildError>
+    ensures level { IfOk result (λ level. IsBuiltLevel map.now.tables (view level)) }
+    ensures refused { IfErr result (IsBuildRefusal map.now.tables) }
+    ensures nothing { result ≡ Err BuildError.NothingToBuild ↔ length map.now.tables.lines ≡ 0 }
+{
+    let tree = match build_tree(alloc, map) {
+        Ok(tree) => tree,
+        Err(error) => return Err(tree_refusal(error)),
+    };
+    let blockmap = match blockmap(alloc, map) {
+        Ok(bytes) => bytes,
+        Err(error) => return Err(blockmap_refusal(error)),
+    };
+    match level_of(alloc, map, tree, blockmap) {
+        Ok(level) => Ok(level),
+        Err(_) => Err(BuildError::OutOfMemory),
+    }
+}
+
+/// The PWAD of a map: its level with all eleven lumps under its name.
+///
+/// # Errors
+///
+/// Those of `build_tree` first: `NothingToBuild` exactly where the map has no line, `TooManyVertices`, `TooManySegs`,
+/// `TooManySubsectors`, `TooDeep`. Then `BlockmapTooLarge`; or `OutOfMemory`.
+pub fn build_wad(alloc: Global, map: &Map) -> Result<Vec<u8>, BuildError>
+    ensures sound { IfOk result (λ wad. IsSoundBuild map.now.tables wad.items) }
+    ensures buildable { OnOk result (IsBuildable map.now.tables) }
+    ensures refused { IfErr result (IsBuildRefusal map.now.tables) }
+    ensures nothing { result ≡ Err BuildError.NothingToBuild ↔ length map.now.tables.lines ≡ 0 }
+{
+    let level = match level_of_map(alloc, map) {
+        Ok(level) => level,
+        Err(error) => return Err(error),
+    };
+    match wad_of_level(alloc, map.name(), level) {
+        Ok(wad) => Ok(wad),
+        Err(_) => Err(BuildError::OutOfMemory),
+    }
+}

@@ -1,0 +1,19 @@
+//! What a built PWAD reads back to. The functions have no body: their contracts are the laws.
+ghost use Rattle.std.specs.Prelude.{◌≡◌, ℕ, List, None};
+ghost use Rattle.lv_lumps.specs.Names.{name_text};
+ghost use Rattle.lv_maptables.specs.Tables.{Tables};
+ghost use Rattle.lv_pwad.specs.Audit.{first_fault};
+ghost use Rattle.lv_pwad.specs.Levels.{IsLevel, Lumps};
+ghost use Rattle.lv_pwad.specs.Sound.{IsSoundBuild, IsSoundLevel};
+ghost use Rattle.lv_pwad.specs.Views.{RefusesLevel};
+ghost use Rattle.lv_pwad.specs.declared.error.ReadError.{ReadError};
+
+/// `read_level` of the bytes of a sound build gives a sound level of the map, or lacks memory; `audit` finds no fault in
+/// that level.
+pub fn sound_builds_read_back()
+    ensures read { (m : Tables) (wad : List ℕ) (level : Lumps)
+        → IsSoundBuild m wad → IsLevel wad (name_text m.name) level → IsSoundLevel m level }
+    ensures memory { (m : Tables) (wad : List ℕ) (e : ReadError)
+        → IsSoundBuild m wad → RefusesLevel wad (name_text m.name) e → e ≡ ReadError.OutOfMemory }
+    ensures no_fault { (m : Tables) (level : Lumps) → IsSoundLevel m level → first_fault level ≡ None }
+{}
