@@ -71,9 +71,14 @@ kept_on (Some u) (Some w) (Some x) text written kept = kept ∙ written
 pub examined : (wad name : List ℕ) (sound : Bool) (status : ℕ) (u w x : Option (List ℕ)) → status ≡ status_told sound
     → IsInspected wad name sound u w → Keeps w x → IsExamined name status u x
 examined wad name sound status u w x is done kept =
-    inl (wad, sound, is, record {
-      level = done.level;
-      read = done.read;
-      written = kept_on u w x _ done.written kept;
-      is = done.is;
-    })
+    inl (
+      wad,
+      sound,
+      is,
+      record {
+        level = done.level;
+        read = done.read;
+        written = kept_on u w x _ done.written kept;
+        is = done.is;
+      },
+    )

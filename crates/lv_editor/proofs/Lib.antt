@@ -1,5 +1,6 @@
 pub mod Answering
 pub mod Built
+pub mod Counting
 pub mod Cutting
 pub mod EditingLines
 pub mod FromMatches

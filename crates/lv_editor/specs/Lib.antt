@@ -1,4 +1,5 @@
 pub mod Answers
+pub mod Building
 pub mod Editing
 pub mod Errors
 pub mod Inspections

@@ -14,6 +14,7 @@ use Rattle.lv_maptables.specs.Tables.{Tables, empty_tables}
 use Rattle.lv_checks.specs.Findings.{findings}
 use Rattle.lv_project.specs.States.{State}
 use Rattle.lv_editor.specs.Answers.{RepliesInMemory}
+use Rattle.lv_editor.specs.Building.{IsBuiltInto}
 use Rattle.lv_editor.specs.Editing.{RepliesInProject}
 use Rattle.lv_editor.specs.Inspections.{IsInspected}
 use Rattle.lv_editor.specs.Runs.{Exchange, Ran}
@@ -24,7 +25,7 @@ use Rattle.lv_editor.specs.declared.asked.Request.{Request}
 use Rattle.lv_editor.specs.declared.asked.RequestError.{RequestError}
 use Rattle.lv_editor.specs.declared.asked.RequestError.TheVariants.{Words, Number, Memory}
 use Rattle.lv_editor.specs.declared.refusal.Refusal.{Refusal}
-use Rattle.lv_editor.specs.declared.asked.Request.TheVariants.{Scratch, Create, Edit, Check, Inspect}
+use Rattle.lv_editor.specs.declared.asked.Request.TheVariants.{Scratch, Create, Edit, Check, Inspect, Build}
 
 -- ---- The command line
 
@@ -65,6 +66,10 @@ with_word name id = with_rule (new_app name) (word_rule id)
 abbrev pub create_app : App
 create_app = with_rule (with_rule (with_word (codes "create") (codes "file")) slot_rule) journal_rule
 
+-- `build FILE OUT`
+abbrev pub build_app : App
+build_app = with_rule (with_word (codes "build") (codes "file")) (word_rule (codes "out"))
+
 -- `inspect WAD NAME`
 abbrev pub inspect_app : App
 inspect_app = with_rule (with_word (codes "inspect") (codes "wad")) (word_rule (codes "name"))
@@ -72,12 +77,13 @@ inspect_app = with_rule (with_word (codes "inspect") (codes "wad")) (word_rule (
 -- the program with its subcommands
 abbrev pub with_subcommands : App
 with_subcommands =
-    with_subcommand (with_subcommand (with_subcommand (with_subcommand (with_subcommand (new_app (codes "leveled"))
+    with_subcommand (with_subcommand (with_subcommand (with_subcommand (with_subcommand (with_subcommand (new_app (codes "leveled"))
     (new_app (codes "scratch")).top)
     create_app.top)
     (with_word (codes "edit") (codes "file")).top)
     (with_word (codes "check") (codes "file")).top)
-    inspect_app.top
+    inspect_app.top)
+    build_app.top
 
 -- the program's command line: a subcommand has to be there, and `help` is none
 abbrev pub leveled_app : App
@@ -108,6 +114,9 @@ AsksFor (Create file slot journal) asked = (asked.0 ≡ codes "create")
     × HasNumber (codes "journal") asked.1 512 1048576 journal
 AsksFor (Edit file) asked = (asked.0 ≡ codes "edit") × (first_of (codes "file") asked.1 ≡ Some (string_bytes file))
 AsksFor (Check file) asked = (asked.0 ≡ codes "check") × (first_of (codes "file") asked.1 ≡ Some (string_bytes file))
+AsksFor (Build file out) asked = (asked.0 ≡ codes "build")
+    × (first_of (codes "file") asked.1 ≡ Some (string_bytes file))
+    × (first_of (codes "out") asked.1 ≡ Some (string_bytes out))
 AsksFor (Inspect wad name) asked = (asked.0 ≡ codes "inspect")
     × (first_of (codes "wad") asked.1 ≡ Some (string_bytes wad))
     × (first_of (codes "name") asked.1 ≡ Some (string_bytes name))
@@ -115,7 +124,7 @@ AsksFor (Inspect wad name) asked = (asked.0 ≡ codes "inspect")
 -- the name is a subcommand's
 abbrev pub IsSubcommand : Text → Type 0
 IsSubcommand name = (name ≡ codes "scratch") ⊎ (name ≡ codes "create") ⊎ (name ≡ codes "edit") ⊎ (name ≡ codes "check")
-    ⊎ (name ≡ codes "inspect")
+    ⊎ (name ≡ codes "inspect") ⊎ (name ≡ codes "build")
 
 -- the subcommand is over a project file
 abbrev pub IsOverFile : Text → Type 0
@@ -127,11 +136,12 @@ RefusesText id rows (Words error) = ⊥
 RefusesText id rows Number = first_of id rows ≡ None
 RefusesText id rows Memory = Unit {0}
 
--- what clap let pass has no file, WAD or name where the subcommand takes one, or no number within the limits of `create`
+-- what clap let pass has no path or name where the subcommand takes one, or no number within the limits of `create`
 abbrev pub LacksValue : Text × List Row → Type 0
 LacksValue asked = (IsOverFile asked.0 × (first_of (codes "file") asked.1 ≡ None))
     ⊎ ((asked.0 ≡ codes "inspect")
     × ((first_of (codes "wad") asked.1 ≡ None) ⊎ (first_of (codes "name") asked.1 ≡ None)))
+    ⊎ ((asked.0 ≡ codes "build") × (first_of (codes "out") asked.1 ≡ None))
     ⊎ ((asked.0 ≡ codes "create")
     × (LacksNumber (codes "slot") asked.1 33 2007015 ⊎ LacksNumber (codes "journal") asked.1 512 1048576))
 
@@ -222,3 +232,5 @@ IsPerformed moment failures left_since may_leave (Check file) status reader-old 
     IsChecked status writer-old writer-new
 IsPerformed moment failures left_since may_leave (Inspect wad name) status reader-old reader-new writer-old writer-new =
     IsExamined (string_bytes name) status writer-old writer-new
+IsPerformed moment failures left_since may_leave (Build file out) status reader-old reader-new writer-old writer-new =
+    IsBuiltInto status writer-old writer-new

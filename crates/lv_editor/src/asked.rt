@@ -19,6 +19,11 @@ pub enum Request {
     Check {
         file: String,
     },
+    /// Build the map of a project into a PWAD.
+    Build {
+        file: String,
+        out: String,
+    },
     /// Say how long the lumps of a level are, and whether the level is sound.
     Inspect {
         wad: String,

@@ -1,6 +1,6 @@
 ghost use Rattle.std.specs.Prelude.{◌≡◌, ◌≤◌, IfOk, IfErr, IfSome, IfNone, IsSomeAnd, Some, codes, map, string_bytes};
 ghost use Rattle.clap.specs.Words.{app_of, first_of, found_of, new_app, rows_of, subcommand_of};
-ghost use Rattle.lv_editor.specs.Request.{AsksFor, HasNumber, IsArg, IsCommand, IsRefusal, IsSubcommand, LacksNumber, RefusesText, RefusesValues, create_app, inspect_app, journal_rule, leveled_app, option_rule, slot_rule, with_subcommands, with_word, word_rule};
+ghost use Rattle.lv_editor.specs.Request.{AsksFor, HasNumber, IsArg, IsCommand, IsRefusal, IsSubcommand, LacksNumber, RefusesText, RefusesValues, build_app, create_app, inspect_app, journal_rule, leveled_app, option_rule, slot_rule, with_subcommands, with_word, word_rule};
 
 use crate::asked::{Request, RequestError};
 use clap::{Arg, ArgMatches, Command, Error, value_parser};
@@ -59,6 +59,13 @@ fn create<'a>(alloc: Global) -> Result<Command<'a>, Error>
     )
 }
 
+/// `build`.
+fn build<'a>(alloc: Global) -> Result<Command<'a>, Error>
+    ensures { IfOk result (λ c. IsCommand c build_app) }
+{
+    Ok(over_file(alloc, "build", "Builds a project's map into a PWAD")?.arg(word(alloc, "out"))?)
+}
+
 /// `inspect`.
 fn inspect<'a>(alloc: Global) -> Result<Command<'a>, Error>
     ensures { IfOk result (λ c. IsCommand c inspect_app) }
@@ -80,7 +87,8 @@ fn with_subcommands<'a>(alloc: Global) -> Result<Command<'a>, Error>
             .subcommand(create(alloc)?)?
             .subcommand(over_file(alloc, "edit", "Answers lines over a project file")?)?
             .subcommand(over_file(alloc, "check", "Says what is wrong in a project's map")?)?
-            .subcommand(inspect(alloc)?)?,
+            .subcommand(inspect(alloc)?)?
+            .subcommand(build(alloc)?)?,
     )
 }
 
@@ -159,6 +167,21 @@ fn asked_create(alloc: Global, found: &ArgMatches<'_>) -> Result<Request, Reques
     }
 }
 
+/// The request to build a map.
+fn asked_build(alloc: Global, found: &ArgMatches<'_>) -> Result<Request, RequestError>
+    ensures asked { IfOk result (λ r. AsksFor r (codes "build", rows_of (found_of found.now))) }
+    ensures refused { IfErr result (RefusesValues (codes "build", rows_of (found_of found.now))) }
+{
+    let file = match text(alloc, found, "file") {
+        Ok(file) => file,
+        Err(error) => return Err(error),
+    };
+    match text(alloc, found, "out") {
+        Ok(out) => Ok(Request::Build { file, out }),
+        Err(error) => Err(error),
+    }
+}
+
 /// The request to inspect a level.
 fn asked_inspect(alloc: Global, found: &ArgMatches<'_>) -> Result<Request, RequestError>
     ensures asked { IfOk result (λ r. AsksFor r (codes "inspect", rows_of (found_of found.now))) }
@@ -192,6 +215,7 @@ fn asked(alloc: Global, name: &str, found: &ArgMatches<'_>) -> Result<Request, R
             Err(error) => Err(error),
         },
         "inspect" => asked_inspect(alloc, found),
+        "build" => asked_build(alloc, found),
         _ => unreachable!(),
     }
 }

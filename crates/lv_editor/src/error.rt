@@ -1,4 +1,4 @@
-use lv_pwad::ReadError;
+use lv_pwad::{BuildError, ReadError};
 use thiserror::Error;
 
 /// Why a run, or what it was asked for, ended before its end.
@@ -52,6 +52,31 @@ impl InspectError {
         match self {
             InspectError::Level(error) => error.code(),
             InspectError::WriterFailed => 38,
+        }
+    }
+}
+
+/// Why no PWAD was written.
+#[derive(Clone, Copy, Debug, PartialEq, Eq, Error)]
+pub enum WriteError {
+    /// The map is not built.
+    #[error(transparent)]
+    Build(#[from] BuildError),
+    #[error("the writer failed")]
+    WriterFailed,
+}
+
+impl WriteError {
+    ghost use Rattle.std.specs.Prelude.{◌≡◌};
+    ghost use Rattle.lv_editor.specs.Errors.{write_code_of};
+
+    /// The number of the refusal.
+    pub fn code(&self) -> u16
+        ensures { result ≡ write_code_of self.now }
+    {
+        match self {
+            WriteError::Build(error) => error.code(),
+            WriteError::WriterFailed => 38,
         }
     }
 }

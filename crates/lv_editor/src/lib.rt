@@ -3,6 +3,7 @@
 
 mod answers;
 mod asked;
+mod building;
 mod command_line;
 mod drawing;
 mod editing;
@@ -22,10 +23,11 @@ mod refusal;
 mod session;
 
 pub use asked::{Request, RequestError};
+pub use building::{Counts, write_wad};
 pub use command_line::request;
 pub use drawing::run_in_memory;
 pub use editing::{answer, run};
-pub use error::{EditorError, InspectError};
+pub use error::{EditorError, InspectError, WriteError};
 pub use findings::write_findings;
 pub use inspection::inspect;
 pub use program::perform;

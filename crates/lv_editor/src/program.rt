@@ -5,6 +5,7 @@ ghost use Rattle.lv_editor.specs.Texts.{findings_text};
 ghost use Rattle.lv_editor.specs.Request.{IsChecked, IsCreated, IsEdited, IsPerformed, IsScratched, status_after, status_in, status_of};
 
 use crate::asked::Request;
+use crate::building::build;
 use crate::drawing::run_in_memory;
 use crate::editing::run;
 use crate::error::EditorError;
@@ -179,6 +180,10 @@ where
         },
         Request::Check { file } => match file_at(rt, file.as_str(), false) {
             Ok(disk) => check(rt.alloc(), disk, writer),
+            Err(refusal) => Err(refusal),
+        },
+        Request::Build { file, out } => match file_at(rt, file.as_str(), false) {
+            Ok(disk) => build(rt.alloc(), rt, disk, out.as_str(), writer),
             Err(refusal) => Err(refusal),
         },
         Request::Inspect { wad, name } => {

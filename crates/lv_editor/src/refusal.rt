@@ -1,6 +1,6 @@
-use crate::error::{EditorError, InspectError};
+use crate::error::{EditorError, InspectError, WriteError};
 use lv_project::ProjectError;
-use lv_pwad::ReadError;
+use lv_pwad::{BuildError, ReadError};
 use std::io::Write;
 
 /// Why a request was refused.
@@ -12,6 +12,8 @@ pub enum Refusal {
     Project(ProjectError),
     /// The level of a WAD.
     Level(InspectError),
+    /// The PWAD of a map.
+    Build(WriteError),
 }
 
 impl Refusal {
@@ -21,6 +23,7 @@ impl Refusal {
             Refusal::Lines(error) => error.code(),
             Refusal::Project(error) => error.code(),
             Refusal::Level(error) => error.code(),
+            Refusal::Build(error) => error.code(),
         }
     }
 
@@ -30,6 +33,7 @@ impl Refusal {
             Refusal::Lines(error) => name_of(*error),
             Refusal::Project(error) => name_of_project(*error),
             Refusal::Level(error) => name_of_level(*error),
+            Refusal::Build(error) => name_of_build(*error),
         }
     }
 }
@@ -72,6 +76,20 @@ fn name_of_level(error: InspectError) -> &'static str {
         InspectError::Level(ReadError::HexenLevel) => "HexenLevel",
         InspectError::Level(ReadError::OutOfMemory) => "Memory",
         InspectError::WriterFailed => "WriterFailed",
+    }
+}
+
+/// The name of what no PWAD was written for.
+fn name_of_build(error: WriteError) -> &'static str {
+    match error {
+        WriteError::Build(BuildError::NothingToBuild) => "NothingToBuild",
+        WriteError::Build(BuildError::TooManyVertices) => "TooManyVertices",
+        WriteError::Build(BuildError::TooManySegs) => "TooManySegs",
+        WriteError::Build(BuildError::TooManySubsectors) => "TooManySubsectors",
+        WriteError::Build(BuildError::TooDeep) => "TooDeep",
+        WriteError::Build(BuildError::BlockmapTooLarge) => "BlockmapTooLarge",
+        WriteError::Build(BuildError::OutOfMemory) => "Memory",
+        WriteError::WriterFailed => "WriterFailed",
     }
 }
 

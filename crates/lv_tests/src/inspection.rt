@@ -84,36 +84,115 @@ fn tells_a_changed_byte(rt: HostRuntime) -> Result<(), Fail> {
     Ok(())
 }
 
-/// What the program does for `inspect WAD NAME`: the status, the output, and what it says of a refusal.
-fn asked(rt: &HostRuntime, wad: &str, name: &str) -> Result<(u8, Vec<u8>, Vec<u8>), Fail> {
-    let Ok(request) = request(rt.alloc(), &["leveled", "inspect", wad, name]) else {
+/// A call of the program: its words, its input, its status, what it writes, and what it says of a refusal.
+type Call = (
+    &'static [&'static str],
+    &'static [u8],
+    u8,
+    &'static [u8],
+    &'static [u8],
+);
+
+const ROOM: &[u8] = b"room 0 0 128 128 0 128 FLOOR4_8 CEIL3_5 STARTAN3 160\n";
+
+/// A room is drawn into a project file, built into a PWAD and inspected.
+const CALLS: [Call; 9] = [
+    (&["leveled", "create", "room.lv"], b"", 0, b"created\n", b""),
+    (
+        &["leveled", "build", "room.lv", "room.wad"],
+        b"",
+        1,
+        b"",
+        b"leveled: 60 NothingToBuild\n",
+    ),
+    (&["leveled", "edit", "room.lv"], ROOM, 0, b"ok 0\n", b""),
+    (
+        &["leveled", "build", "none.lv", "room.wad"],
+        b"",
+        1,
+        b"",
+        b"leveled: 30 Device\n",
+    ),
+    (
+        &["leveled", "build", "room.lv", "none/room.wad"],
+        b"",
+        1,
+        b"",
+        b"leveled: 38 WriterFailed\n",
+    ),
+    (
+        &["leveled", "build", "room.lv", "room.wad"],
+        b"",
+        0,
+        ROOM_BUILT,
+        b"",
+    ),
+    (
+        &["leveled", "inspect", "room.wad", "MAP01"],
+        b"",
+        0,
+        ROOM_TEXT,
+        b"",
+    ),
+    (
+        &["leveled", "inspect", "room.wad", "MAP02"],
+        b"",
+        1,
+        b"",
+        b"leveled: 72 NoSuchLevel\n",
+    ),
+    (
+        &["leveled", "inspect", "none.wad", "MAP01"],
+        b"",
+        1,
+        b"",
+        b"leveled: 37 ReaderFailed\n",
+    ),
+];
+
+/// What is told of the room as it is built.
+const ROOM_BUILT: &[u8] = b"built vertices 4 segs 4 subsectors 1 nodes 0 bytes 515\n";
+
+/// What the program does for these words: the status, the output, and what it says of a refusal.
+fn performed(
+    rt: &HostRuntime,
+    words: &[&str],
+    input: &[u8],
+) -> Result<(u8, Vec<u8>, Vec<u8>), Fail> {
+    let Ok(request) = request(rt.alloc(), words) else {
         return Err(Fail::from("no request"));
     };
     let mut out = Vec::new(rt.alloc());
     let mut faults = Vec::new(rt.alloc());
-    let mut none: &[u8] = &[];
-    let status = perform(rt, &request, &mut none, &mut out, &mut faults);
+    let mut left = input;
+    let status = perform(rt, &request, &mut left, &mut out, &mut faults);
     Ok((status, out, faults))
 }
 
 #[test]
-fn inspects_files(rt: HostRuntime) -> Result<(), Fail> {
-    fs::write(&rt, "room.wad", &ROOM_WAD)?;
-    let (status, out, faults) = asked(&rt, "room.wad", "MAP01")?;
-    assert_eq!(rt; status, 0);
-    assert_eq!(rt; out.as_slice(), ROOM_TEXT);
-    assert_eq!(rt; faults.as_slice(), b"".as_slice());
-    let (status, out, faults) = asked(&rt, "room.wad", "MAP02")?;
-    assert_eq!(rt; status, 1);
-    assert_eq!(rt; out.as_slice(), b"".as_slice());
-    assert_eq!(rt; faults.as_slice(), b"leveled: 72 NoSuchLevel\n".as_slice());
-    fs::write(&rt, "room.wad", &changed(252, 3))?;
-    let (status, _, faults) = asked(&rt, "room.wad", "MAP01")?;
-    assert_eq!(rt; status, 3);
-    assert_eq!(rt; faults.as_slice(), b"".as_slice());
-    fs::remove_file(&rt, "room.wad")?;
-    let (status, _, faults) = asked(&rt, "room.wad", "MAP01")?;
-    assert_eq!(rt; status, 1);
-    assert_eq!(rt; faults.as_slice(), b"leveled: 37 ReaderFailed\n".as_slice());
+fn builds_and_inspects_a_room(rt: HostRuntime) -> Result<(), Fail> {
+    let _ = fs::remove_file(&rt, "room.lv");
+    for (words, input, status, written, said) in CALLS {
+        let (ended, out, faults) = performed(&rt, words, input)?;
+        assert_eq!(rt; ended, status, "{written:?} {said:?}");
+        assert_eq!(rt; out.as_slice(), written);
+        assert_eq!(rt; faults.as_slice(), said);
+    }
+    let wad = fs::read(&rt, "room.wad")?;
+    assert_eq!(rt; wad.as_slice(), ROOM_WAD.as_slice());
+    Ok(())
+}
+
+/// A refused build leaves what stood in the file, and a shorter one cuts it off.
+#[test]
+fn builds_over_a_file(rt: HostRuntime) -> Result<(), Fail> {
+    let _ = fs::remove_file(&rt, "old.lv");
+    fs::write(&rt, "old.wad", &[7; 600])?;
+    performed(&rt, &["leveled", "create", "old.lv"], b"")?;
+    performed(&rt, &["leveled", "build", "old.lv", "old.wad"], b"")?;
+    assert_eq!(rt; fs::read(&rt, "old.wad")?.as_slice(), [7; 600].as_slice());
+    performed(&rt, &["leveled", "edit", "old.lv"], ROOM)?;
+    performed(&rt, &["leveled", "build", "old.lv", "old.wad"], b"")?;
+    assert_eq!(rt; fs::read(&rt, "old.wad")?.as_slice(), ROOM_WAD.as_slice());
     Ok(())
 }
