@@ -15,14 +15,17 @@ bin/leveled: FORCE
 	mkdir -p bin
 	cp crates/leveled/out/leveled bin/leveled
 
-# each command beside its answer, drawn into a project file that is then opened again
+# each command beside its answer, drawn into a project file that is then opened again, built and inspected
 demo: bin/leveled
 	@rm -f bin/demo.lv
 	bin/leveled create bin/demo.lv
 	@bin/leveled edit bin/demo.lv < $(EXAMPLE) > bin/answers
 	@awk -v answers=bin/answers -f examples/beside.awk $(EXAMPLE)
 	echo count | bin/leveled edit bin/demo.lv
-	@echo 'The last line is that of the file, opened again: each command answered ok is in it.'
+	@echo 'That line is of the file, opened again: each command answered ok is in it.'
+	bin/leveled build bin/demo.lv bin/demo.wad
+	name=$$(sed -n 's/^name //p' $(EXAMPLE)); bin/leveled inspect bin/demo.wad $${name:-MAP01}
+	@echo 'bin/demo.wad is a PWAD: chocolate-doom -file bin/demo.wad'
 
 test:
 	rt ci
