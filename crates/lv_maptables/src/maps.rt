@@ -3,7 +3,7 @@ mod edits;
 mod names;
 
 ghost use Rattle.std.specs.Prelude.{◌≡◌, ◌≤◌, ◌<◌, length, get_or, slice_get, MatchOption, Some, None, OnOk, IsOkUnless, IsErrOf};
-ghost use Rattle.lv_maptables.specs.Projects.{project_of, empty_project, body_len};
+ghost use Rattle.lv_maptables.specs.Projects.{WellFormedProject, project_of, empty_project, body_len};
 ghost use Rattle.lv_maptables.specs.Tables.{Tables};
 ghost use Rattle.lv_maptables.specs.Outcomes.{Covers, Spends, nothing};
 
@@ -62,6 +62,8 @@ impl Maps {
     pub fn len(&self) -> u32
         ensures value { result ≡ length (project_of self.now).maps }
         ensures limit { result ≤ 32 }
+        // what every project keeps, for those who read its maps by number
+        ensures well_formed { WellFormedProject (project_of self.now) }
     {
         self.others.len() as u32 + 1
     }

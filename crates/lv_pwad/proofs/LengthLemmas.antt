@@ -10,7 +10,7 @@ use Rattle.lv_lumps.specs.declared.records.Side.{Side}
 use Rattle.lv_lumps.specs.declared.records.Sector.{Sector}
 use Rattle.lv_maptables.specs.Ranges.{IsSide, IsSector}
 use Rattle.lv_pwad.specs.Levels.{Lumps, record_sizes}
-use Rattle.lv_pwad.specs.Wad.{IsPart, AreParts, all_lumps, part_of, wad_size}
+use Rattle.lv_pwad.specs.Wad.{IsPart, AreParts, all_bytes, all_lumps, lumps_of, part_of, wad_size}
 use Rattle.lv_pwad.proofs.NameLemmas.{marker_free, marker_size, texture_size}
 
 -- records of n bytes
@@ -92,8 +92,8 @@ ten_long : (b0 b1 b2 b3 b4 b5 b6 b7 b8 b9 : List ℕ) → length (b0 ++ (b1 ++ (
 ten_long b0 b1 b2 b3 b4 b5 b6 b7 b8 b9 = simp length-append (omega arith)
 
 -- one level's lumps
-one_size : (name : Name8) (l : Lumps) → IsWritable l → wad_size (all_lumps (part_of name l ∷ [])) < 4294967296
-one_size name l w =
+pub one_long : (name : Name8) (l : Lumps) → IsWritable l → length (all_bytes (lumps_of (part_of name l))) ≤ 6000000
+one_long name l w =
     let a = lengths l w in
     let t = ten_long (flat_map thing_record l.things) (flat_map line_record l.lines) (flat_map side_record l.sides) (flat_map vertex_record l.vertices) (flat_map seg_record l.segs) (flat_map sub_record l.subs) (flat_map node_record l.nodes) (flat_map sector_record l.sectors) l.reject l.blockmap in
     let e0 = a.things in let e1 = a.lines in let e2 = a.sides in let e3 = a.vertices in
@@ -102,6 +102,9 @@ one_size name l w =
     let f4 = w.few_segs in let f5 = w.few_subs in let f6 = w.few_nodes in let f7 = w.few_sectors in
     let f8 = w.short_reject in let f9 = w.short_blockmap in
     omega (arith, t, e0, e1, e2, e3, e4, e5, e6, e7, f0, f1, f2, f3, f4, f5, f6, f7, f8, f9)
+
+one_size : (name : Name8) (l : Lumps) → IsWritable l → wad_size (all_lumps (part_of name l ∷ [])) < 4294967296
+one_size name l w = let t = one_long name l w in omega (arith, t)
 
 -- the lumps of one level under a map's name
 pub is_part : (name : Name8) (l : Lumps) → IsNamed is_marker name → IsWritable l → IsPart (part_of name l)

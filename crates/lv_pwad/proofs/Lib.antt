@@ -15,3 +15,4 @@ pub mod BlockLemmas
 pub mod SoundLemmas
 pub mod ReadBackLemmas
 pub mod CopyLemmas
+pub mod ProjectLemmas

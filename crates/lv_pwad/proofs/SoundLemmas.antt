@@ -163,15 +163,17 @@ writable m b bytes w t k =
 
 -- ---- a level that was made of the map, its tree and its blocks
 
+pub level_writable : (m : Tables) (l : Lumps) → IsBuiltLevel m l → IsWritable l
+level_writable m l b = subst (λ (x : Lumps). IsWritable x) (sym b.is_over) (writable m b.tree b.blockmap b.well_formed b.built b.is_blockmap)
+
 pub part_of_level : (m : Tables) (l : Lumps) (name : Name8) → name ≡ m.name → IsBuiltLevel m l → IsPart (part_of name l)
 part_of_level m l name n b =
     let named : IsNamed is_marker name = subst (λ (x : Name8). IsNamed is_marker x) (sym n) b.well_formed.name in
-    let w : IsWritable l = subst (λ (x : Lumps). IsWritable x) (sym b.is_over) (writable m b.tree b.blockmap b.well_formed b.built b.is_blockmap) in
-    is_part name l named w
+    is_part name l named (level_writable m l b)
 
 pub parts_of_level : (m : Tables) (l : Lumps) (name : Name8) → name ≡ m.name → IsBuiltLevel m l → AreParts (part_of name l ∷ [])
 parts_of_level m l name n b =
-    one_part name l (subst (λ (x : Name8). IsNamed is_marker x) (sym n) b.well_formed.name) (subst (λ (x : Lumps). IsWritable x) (sym b.is_over) (writable m b.tree b.blockmap b.well_formed b.built b.is_blockmap))
+    one_part name l (subst (λ (x : Name8). IsNamed is_marker x) (sym n) b.well_formed.name) (level_writable m l b)
 
 pub sound_build : (m : Tables) (l : Lumps) (wad : List ℕ) (name : Name8) → name ≡ m.name → IsBuiltLevel m l → IsLevel wad (name_text name) l → IsSoundBuild m wad
 sound_build m l wad name n b r =

@@ -9,3 +9,4 @@ pub mod Endings
 pub mod Counts
 pub mod Audit
 pub mod Sound
+pub mod Projects

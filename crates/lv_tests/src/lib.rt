@@ -36,6 +36,8 @@ mod project;
 #[cfg(test)]
 mod project_stops;
 #[cfg(test)]
+mod pwad;
+#[cfg(test)]
 mod segs;
 #[cfg(test)]
 mod slots;

@@ -21,7 +21,7 @@ fn draw(rt: &impl Abort, map: &mut Map, line: &[u8]) {
 }
 
 /// The map that the lines leave.
-fn drawn(rt: &impl Abort, alloc: Global, lines: &[&[u8]]) -> Map {
+pub fn drawn(rt: &impl Abort, alloc: Global, lines: &[&[u8]]) -> Map {
     let mut map = Map::new(alloc);
     for line in lines {
         draw(rt, &mut map, *line);
@@ -35,11 +35,11 @@ fn built(rt: &impl Abort, alloc: Global, lines: &[&[u8]]) -> Built {
     build_tree(alloc, &map).expect(rt, "a tree")
 }
 
-const ROOM: &[u8] = b"room 0 0 128 128 0 128 FLOOR4_8 CEIL3_5 STARTAN3 160";
+pub const ROOM: &[u8] = b"room 0 0 128 128 0 128 FLOOR4_8 CEIL3_5 STARTAN3 160";
 
-const SECTOR: &[u8] = b"sector 0 128 FLOOR4_8 CEIL3_5 160 0 0";
+pub const SECTOR: &[u8] = b"sector 0 128 FLOOR4_8 CEIL3_5 160 0 0";
 
-const SIDE: &[u8] = b"side 0 0 - - STARTAN3 0";
+pub const SIDE: &[u8] = b"side 0 0 - - STARTAN3 0";
 
 #[test]
 fn a_map_without_lines_has_no_tree(rt: HostRuntime) {

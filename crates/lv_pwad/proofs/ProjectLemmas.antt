@@ -1,0 +1,148 @@
+-- The levels of a project's maps can stand in one WAD.
+use Rattle.std.proofs.Common.{◌≡◌, ◌≢◌, ◌∙◌, refl, sym, ap, subst, ℕ, zero, suc, ◌+◌, ◌*◌, ◌<◌, ◌≤◌, ◌⊎◌, inl, inr, List, [], ◌∷◌, ◌++◌, length, get_or, take, arith, length-append}
+use Rattle.std.specs.Prelude.{All, AllPairs, Option, None, Some, MatchOption, slice_get}
+use Rattle.std.proofs.lemmas.List.Elements.{All-head, All-tail, All-nil, All-cons}
+use Rattle.std.proofs.lemmas.Grind.{flat_map-append}
+use Rattle.lv_lumps.specs.Names.{name_of, name_text, is_marker, IsNamed}
+use Rattle.lv_lumps.specs.declared.records.Name8.{Name8}
+use Rattle.lv_maptables.specs.Tables.{Tables}
+use Rattle.lv_maptables.specs.Projects.{ProjectMaps, WellFormedProject}
+use Rattle.lv_pwad.specs.Levels.{IsLevel}
+use Rattle.lv_pwad.specs.Wad.{Part, AreParts, IsPart, all_bytes, all_lumps, lumps_of, part_of}
+use Rattle.lv_pwad.specs.Views.{view, parts_of}
+use Rattle.lv_pwad.specs.Sound.{IsBuildable, IsBuildRefusal, IsSoundBuild}
+use Rattle.lv_pwad.specs.Projects.{IsLevelOf, AreLevelsOf, IsSoundBuildOfAll, IsRefusalOfAll}
+use Rattle.lv_pwad.specs.declared.levels.NamedLevel.{NamedLevel}
+use Rattle.lv_pwad.specs.declared.error.BuildError.{BuildError}
+use Rattle.lv_pwad.specs.declared.error.BuildError.TheVariants.{NothingToBuild, TooManyVertices, TooManySegs, TooManySubsectors, TooDeep, BlockmapTooLarge, OutOfMemory}
+use Rattle.lv_pwad.proofs.CopyLemmas.{item_more}
+use Rattle.lv_pwad.proofs.LengthLemmas.{one_long}
+use Rattle.lv_pwad.proofs.SoundLemmas.{part_of_level, sound_build, buildable, level_writable}
+
+-- where a number names no item it is beyond the last
+pub none_there : {X : Type 0} (P : Type 0) (Q : X → Type 0) (r : Option X) → MatchOption r P Q → ((x : X) → r ≡ Some x → ⊥) → P
+none_there P Q None h never = h
+none_there P Q (Some x) h never = absurd (never x refl)
+
+-- ---- one level more
+
+snoc : (ms : List Tables) (xs : List NamedLevel) (m : Tables) (x : NamedLevel) → AreLevelsOf ms xs → IsLevelOf m x → AreLevelsOf (ms ++ m ∷ []) (xs ++ x ∷ [])
+snoc [] [] m x a h = (h, tt)
+snoc [] (y ∷ xs) m x a h = absurd a
+snoc (k ∷ ms) [] m x a h = absurd a
+snoc (k ∷ ms) (y ∷ xs) m x a h = (a.0, snoc ms xs m x a.1 h)
+
+pub levels_more : (ms : List Tables) (n : ℕ) (m : Tables) (xs : List NamedLevel) (x : NamedLevel) → slice_get ms n ≡ Some m → AreLevelsOf (take n ms) xs → IsLevelOf m x → AreLevelsOf (take (n + 1) ms) (xs ++ x ∷ [])
+levels_more ms n m xs x at a h =
+    subst (λ (ks : List Tables). AreLevelsOf ks (xs ++ x ∷ [])) (item_more ms (take n ms) n m at refl) (snoc (take n ms) xs m x a h)
+
+-- ---- what the levels tell of the maps
+
+pub all_buildable : (ms : List Tables) (xs : List NamedLevel) → AreLevelsOf ms xs → All IsBuildable ms
+all_buildable [] [] a = All-nil IsBuildable
+all_buildable [] (x ∷ xs) a = absurd a
+all_buildable (m ∷ ms) [] a = absurd a
+all_buildable (m ∷ ms) (x ∷ xs) a = All-cons IsBuildable m ms (buildable m (view x.level) a.0.level) (all_buildable ms xs a.1)
+
+pub first_refused : (ms : List Tables) (n : ℕ) (m : Tables) (xs : List NamedLevel) (e : BuildError) → slice_get ms n ≡ Some m → AreLevelsOf (take n ms) xs → IsBuildRefusal m e → IsRefusalOfAll ms e
+first_refused ms n m xs OutOfMemory at a h = tt
+first_refused ms n m xs NothingToBuild at a h = record { number = n; refused = m; is_refused = at; before = all_buildable (take n ms) xs a; cause = h }
+first_refused ms n m xs TooManyVertices at a h = record { number = n; refused = m; is_refused = at; before = all_buildable (take n ms) xs a; cause = h }
+first_refused ms n m xs TooManySegs at a h = record { number = n; refused = m; is_refused = at; before = all_buildable (take n ms) xs a; cause = h }
+first_refused ms n m xs TooManySubsectors at a h = record { number = n; refused = m; is_refused = at; before = all_buildable (take n ms) xs a; cause = h }
+first_refused ms n m xs TooDeep at a h = record { number = n; refused = m; is_refused = at; before = all_buildable (take n ms) xs a; cause = h }
+first_refused ms n m xs BlockmapTooLarge at a h = record { number = n; refused = m; is_refused = at; before = all_buildable (take n ms) xs a; cause = h }
+
+pub all_sound : (wad : List ℕ) (ms : List Tables) (xs : List NamedLevel) → AreLevelsOf ms xs → All (λ (l : NamedLevel). IsLevel wad (name_text l.name) (view l.level)) xs → IsSoundBuildOfAll ms wad
+all_sound wad [] [] a r = All-nil (λ (m : Tables). IsSoundBuild m wad)
+all_sound wad [] (x ∷ xs) a r = absurd a
+all_sound wad (m ∷ ms) [] a r = absurd a
+all_sound wad (m ∷ ms) (x ∷ xs) a r =
+    let P = λ (l : NamedLevel). IsLevel wad (name_text l.name) (view l.level) in
+    All-cons (λ (k : Tables). IsSoundBuild k wad) m ms (sound_build m (view x.level) wad x.name a.0.named a.0.level (All-head P x xs r)) (all_sound wad ms xs a.1 (All-tail P x xs r))
+
+-- ---- they can stand in one WAD
+
+same_count : (ms : List Tables) (xs : List NamedLevel) → AreLevelsOf ms xs → length (parts_of xs) ≡ length ms
+same_count [] [] a = refl
+same_count [] (x ∷ xs) a = absurd a
+same_count (m ∷ ms) [] a = absurd a
+same_count (m ∷ ms) (x ∷ xs) a = ap suc (same_count ms xs a.1)
+
+all_parts : (ms : List Tables) (xs : List NamedLevel) → AreLevelsOf ms xs → All IsPart (parts_of xs)
+all_parts [] [] a = All-nil IsPart
+all_parts [] (x ∷ xs) a = absurd a
+all_parts (m ∷ ms) [] a = absurd a
+all_parts (m ∷ ms) (x ∷ xs) a = All-cons IsPart (part_of x.name (view x.level)) (parts_of xs) (part_of_level m (view x.level) x.name a.0.named a.0.level) (all_parts ms xs a.1)
+
+-- the name of a level is its map's
+pub record HasMapName (name : Name8) (m : Tables) : Type 0 where
+  pub is : name ≡ m.name
+  pub marker : IsNamed is_marker m.name
+
+name_at : (ms : List Tables) (xs : List NamedLevel) (i : ℕ) (p : Part) (d : Tables) → AreLevelsOf ms xs → i < length (parts_of xs) → HasMapName (get_or (parts_of xs) i p).name (get_or ms i d)
+name_at [] [] i p d a h = absurd (omega arith)
+name_at [] (x ∷ xs) i p d a h = absurd a
+name_at (m ∷ ms) [] i p d a h = absurd a
+name_at (m ∷ ms) (x ∷ xs) zero p d a h = record { is = a.0.named; marker = a.0.level.well_formed.name }
+name_at (m ∷ ms) (x ∷ xs) (suc i) p d a h = name_at ms xs i p d a.1 (omega (arith, h))
+
+same_text : (a b : Name8) (m n : Tables) → HasMapName a m → HasMapName b n → name_text a ≡ name_text b → m.name ≡ n.name
+same_text a b m n h k e =
+    let texts : name_text m.name ≡ name_text n.name = ap name_text (sym h.is) ∙ e ∙ ap name_text k.is in
+    h.marker.padded ∙ ap name_of texts ∙ sym k.marker.padded
+
+apart : (i j : ℕ) → i ≢ j → (i < j) ⊎ (j < i)
+apart zero zero d = absurd (d refl)
+apart zero (suc j) d = inl (omega arith)
+apart (suc i) zero d = inr (omega arith)
+apart (suc i) (suc j) d = up (apart i j (λ e. d (ap suc e)))
+  where
+    up : (i < j) ⊎ (j < i) → (suc i < suc j) ⊎ (suc j < suc i)
+    up (inl h) = inl (omega (arith, h))
+    up (inr h) = inr (omega (arith, h))
+
+names_differ : (ms : List Tables) (xs : List NamedLevel) (d : Tables) → AreLevelsOf ms xs → AllPairs (λ m n. m.name ≢ n.name) ms → (i j : ℕ) (p : Part) → i < length (parts_of xs) → j < length (parts_of xs) → i ≢ j → name_text (get_or (parts_of xs) i p).name ≢ name_text (get_or (parts_of xs) j p).name
+names_differ ms xs d a names i j p h k ne e = by (apart i j ne)
+  where
+    count : length (parts_of xs) ≡ length ms
+    count = same_count ms xs a
+
+    same : (get_or ms i d).name ≡ (get_or ms j d).name
+    same = same_text (get_or (parts_of xs) i p).name (get_or (parts_of xs) j p).name (get_or ms i d) (get_or ms j d) (name_at ms xs i p d a h) (name_at ms xs j p d a k) e
+
+    by : (i < j) ⊎ (j < i) → ⊥
+    by (inl l) = names i j d l (let c = count in omega (arith, k, c)) same
+    by (inr l) = names j i d l (let c = count in omega (arith, h, c)) (sym same)
+
+-- how long they are
+all_long : (ms : List Tables) (xs : List NamedLevel) → AreLevelsOf ms xs → length (all_bytes (all_lumps (parts_of xs))) ≤ 6000000 * length ms
+all_long [] [] a = omega arith
+all_long [] (x ∷ xs) a = absurd a
+all_long (m ∷ ms) [] a = absurd a
+all_long (m ∷ ms) (x ∷ xs) a =
+    let rest = all_long ms xs a.1 in
+    let here = one_long x.name (view x.level) (level_writable m (view x.level) a.0.level) in
+    let both : length (all_bytes (all_lumps (parts_of (x ∷ xs)))) ≡ length (all_bytes (lumps_of (part_of x.name (view x.level)))) + length (all_bytes (all_lumps (parts_of xs))) =
+    ap length (flat_map-append (λ l. l.bytes) (lumps_of (part_of x.name (view x.level))) (all_lumps (parts_of xs))) ∙ length-append (all_bytes (lumps_of (part_of x.name (view x.level)))) (all_bytes (all_lumps (parts_of xs))) in
+    omega (arith, rest, here, both)
+
+all_count : (ms : List Tables) (xs : List NamedLevel) → AreLevelsOf ms xs → length (all_lumps (parts_of xs)) ≡ 11 * length ms
+all_count [] [] a = refl
+all_count [] (x ∷ xs) a = absurd a
+all_count (m ∷ ms) [] a = absurd a
+all_count (m ∷ ms) (x ∷ xs) a =
+    let rest = all_count ms xs a.1 in
+    let both : length (all_lumps (parts_of (x ∷ xs))) ≡ 11 + length (all_lumps (parts_of xs)) = length-append (lumps_of (part_of x.name (view x.level))) (all_lumps (parts_of xs)) in
+    omega (arith, rest, both)
+
+pub one_wad : (p : ProjectMaps) (xs : List NamedLevel) (d : Tables) → WellFormedProject p → AreLevelsOf p.maps xs → AreParts (parts_of xs)
+one_wad p xs d w a =
+    let long = all_long p.maps xs a in
+    let lumps = all_count p.maps xs a in
+    let count = w.count in
+    record {
+      each = all_parts p.maps xs a;
+      differ = names_differ p.maps xs d a w.names;
+      fits = omega (arith, long, lumps, count);
+    }

@@ -1,0 +1,24 @@
+use Rattle.std.proofs.Common.{sym, subst, List}
+use Rattle.std.specs.Prelude.{All}
+use Rattle.lv_lumps.specs.Names.{name_text}
+use Rattle.lv_maptables.specs.Tables.{empty_tables}
+use Rattle.lv_maptables.specs.Projects.{project_of}
+use Rattle.lv_pwad.specs.declared.levels.NamedLevel.{NamedLevel}
+use Rattle.lv_pwad.specs.Levels.{IsLevel}
+use Rattle.lv_pwad.specs.Views.{view, parts_of}
+use Rattle.lv_pwad.specs.Wad.{AreParts}
+use Rattle.lv_pwad.proofs.ProjectLemmas.{one_wad, all_sound, all_buildable}
+use Rattle.lv_pwad.proofs.projects.build_all.Goals as goal
+
+pub wad_of_levels-requires : goal.wad_of_levels-requires
+wad_of_levels-requires c =
+    subst (λ (xs : List NamedLevel). AreParts (parts_of xs)) (sym c.deref.ensures.value) (one_wad (project_of c.args.maps.now) c.in-Ok.levels.items empty_tables c.in-Ok.ensures.well_formed c.in-Ok.ensures.levels)
+
+pub returns-in-Ok-wad_of_levels-clause-sound : goal.returns-in-Ok-wad_of_levels-clause-sound
+returns-in-Ok-wad_of_levels-clause-sound c =
+    let read = subst (λ (xs : List NamedLevel). All (λ (l : NamedLevel). IsLevel c.in-Ok-wad_of_levels.wad.items (name_text l.name) (view l.level)) xs) c.deref.ensures.value c.in-Ok-wad_of_levels.ensures.levels in
+    all_sound c.in-Ok-wad_of_levels.wad.items (project_of c.args.maps.now).maps c.in-Ok.levels.items c.in-Ok.ensures.levels read
+
+pub returns-in-Ok-wad_of_levels-clause-buildable : goal.returns-in-Ok-wad_of_levels-clause-buildable
+returns-in-Ok-wad_of_levels-clause-buildable c =
+    all_buildable (project_of c.args.maps.now).maps c.in-Ok.levels.items c.in-Ok.ensures.levels

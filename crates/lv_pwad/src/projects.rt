@@ -1,0 +1,61 @@
+ghost use Rattle.std.specs.Prelude.{All, IfOk, IfErr, OnOk};
+ghost use Rattle.lv_maptables.specs.Projects.{WellFormedProject, project_of};
+ghost use Rattle.lv_pwad.specs.Projects.{AreLevelsOf, IsLevelOf, IsRefusalOfAll, IsSoundBuildOfAll};
+ghost use Rattle.lv_pwad.specs.Sound.{IsBuildable, IsBuildRefusal};
+
+use crate::build::level_of_map;
+use crate::error::BuildError;
+use crate::levels::{NamedLevel, wad_of_levels};
+use lv_maptables::{Map, Maps};
+use std::alloc::Global;
+
+/// The level of a map, with its name.
+fn named_level(alloc: Global, map: &Map) -> Result<NamedLevel, BuildError>
+    ensures level { IfOk result (λ level. IsLevelOf map.now.tables level) }
+    ensures refused { IfErr result (IsBuildRefusal map.now.tables) }
+{
+    let name = map.name();
+    match level_of_map(alloc, map) {
+        Ok(level) => Ok(NamedLevel { name, level }),
+        Err(error) => Err(error),
+    }
+}
+
+/// The levels of the maps, by number.
+fn levels_of(alloc: Global, maps: &Maps) -> Result<Vec<NamedLevel>, BuildError>
+    ensures levels { IfOk result (λ v. AreLevelsOf (project_of maps.now).maps v.items) }
+    ensures well_formed { OnOk result (WellFormedProject (project_of maps.now)) }
+    ensures refused { IfErr result (IsRefusalOfAll (project_of maps.now).maps) }
+{
+    let mut levels = Vec::new(alloc);
+    for n in 0..maps.len() {
+        if let Some(map) = maps.at(n) {
+            let level = match named_level(alloc, map) {
+                Ok(level) => level,
+                Err(error) => return Err(error),
+            };
+            levels.push(level)?;
+        }
+    }
+    Ok(levels)
+}
+
+/// The PWAD of all maps of a project, by number: each map's level with all eleven lumps under its name.
+///
+/// # Errors
+///
+/// Those of `build_wad` for the first map by number that can't be built; or `OutOfMemory`.
+pub fn build_all(alloc: Global, maps: &Maps) -> Result<Vec<u8>, BuildError>
+    ensures sound { IfOk result (λ wad. IsSoundBuildOfAll (project_of maps.now).maps wad.items) }
+    ensures buildable { OnOk result (All IsBuildable (project_of maps.now).maps) }
+    ensures refused { IfErr result (IsRefusalOfAll (project_of maps.now).maps) }
+{
+    let levels = match levels_of(alloc, maps) {
+        Ok(levels) => levels,
+        Err(error) => return Err(error),
+    };
+    match wad_of_levels(alloc, &levels) {
+        Ok(wad) => Ok(wad),
+        Err(_) => Err(BuildError::OutOfMemory),
+    }
+}

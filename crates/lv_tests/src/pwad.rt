@@ -1,0 +1,269 @@
+//! Drawn maps built into PWADs: the worked examples, what is read of their bytes, and what is wrong with changed ones.
+
+use crate::nodes::{ROOM, SECTOR, SIDE, drawn};
+use lv_blockmap::{BlockmapError, blockmap, touches};
+use lv_lumps::Vertex;
+use lv_maptables::Map;
+use lv_pwad::{BuildError, Fault, ReadError, audit, build_wad, read_level, reject};
+use std::alloc::Global;
+use std::process::Abort;
+use std::test::Fail;
+
+/// The PWAD of the map that the lines leave.
+fn built(rt: &impl Abort, alloc: Global, lines: &[&[u8]]) -> Vec<u8> {
+    let map = drawn(rt, alloc, lines);
+    build_wad(alloc, &map).expect(rt, "a PWAD")
+}
+
+const SINGLE: [&[u8]; 5] = [
+    b"vertex 0 0",
+    b"vertex 256 256",
+    SECTOR,
+    SIDE,
+    b"line 0 1 1 0 0 0 -",
+];
+
+const ROOM_OF_512: &[u8] = b"room 0 0 512 512 0 128 FLOOR4_8 CEIL3_5 STARTAN3 160";
+
+const LARGEST_ROOM: &[u8] = b"room 0 0 16256 16256 0 128 FLOOR4_8 CEIL3_5 STARTAN3 160";
+
+const L: [&[u8]; 14] = [
+    b"vertex 0 0",
+    b"vertex 0 256",
+    b"vertex 128 256",
+    b"vertex 128 128",
+    b"vertex 256 128",
+    b"vertex 256 0",
+    SECTOR,
+    SIDE,
+    b"line 0 1 1 0 0 0 -",
+    b"line 1 2 1 0 0 0 -",
+    b"line 2 3 1 0 0 0 -",
+    b"line 3 4 1 0 0 0 -",
+    b"line 4 5 1 0 0 0 -",
+    b"line 5 0 1 0 0 0 -",
+];
+
+const CUT: [&[u8]; 11] = [
+    b"vertex 0 0",
+    b"vertex 10 3",
+    b"vertex 4 10",
+    b"vertex 4 5",
+    b"vertex 4 -5",
+    b"vertex 4 -10",
+    SECTOR,
+    b"side 0 0 - - - 0",
+    b"line 0 1 4 0 0 0 0",
+    b"line 2 3 1 0 0 0 -",
+    b"line 4 5 1 0 0 0 -",
+];
+
+const SLIVER: [&[u8]; 8] = [
+    b"vertex 10 0",
+    b"vertex 0 0",
+    b"vertex 8 17",
+    b"vertex 9 7",
+    SECTOR,
+    SIDE,
+    b"line 0 1 1 0 0 0 -",
+    b"line 2 3 1 0 0 0 -",
+];
+
+const TWO_ROOMS: [&[u8]; 11] = [
+    ROOM,
+    SECTOR,
+    b"side 0 0 - - - 1",
+    b"side 0 0 - - STARTAN3 1",
+    b"set-side 2 0 0 - - - 0",
+    b"vertex 256 128",
+    b"vertex 256 0",
+    b"set-line 2 2 3 4 0 0 2 4",
+    b"line 2 4 1 0 0 5 -",
+    b"line 4 5 1 0 0 5 -",
+    b"line 5 3 1 0 0 5 -",
+];
+
+#[test]
+fn built_maps_read_back_without_a_fault(rt: HostRuntime) -> Result<(), Fail> {
+    // lines of text; then vertices, segs, subsectors, nodes and bytes
+    for (lines, counts) in [
+        (SINGLE.as_slice(), [2, 1, 1, 0, 319]),
+        ([ROOM].as_slice(), [4, 4, 1, 0, 515]),
+        ([ROOM_OF_512].as_slice(), [4, 4, 1, 0, 577]),
+        ([LARGEST_ROOM].as_slice(), [4, 4, 1, 0, 33295]),
+        (L.as_slice(), [7, 7, 2, 1, 591]),
+        (CUT.as_slice(), [7, 6, 4, 3, 507]),
+        (SLIVER.as_slice(), [4, 2, 1, 0, 335]),
+        (TWO_ROOMS.as_slice(), [6, 8, 2, 1, 769]),
+        ([ROOM, b"split 2 128 64"].as_slice(), [5, 5, 1, 0, 549]),
+    ] {
+        let wad = built(&rt, rt.alloc(), lines);
+        let level = read_level(rt.alloc(), &wad, b"MAP01")?;
+        assert_eq!(rt; level.vertices.len(), counts[0]);
+        assert_eq!(rt; level.segs.len(), counts[1]);
+        assert_eq!(rt; level.subs.len(), counts[2]);
+        assert_eq!(rt; level.nodes.len(), counts[3]);
+        assert_eq!(rt; wad.len(), counts[4]);
+        assert_eq!(rt; audit(rt.alloc(), &level)?, None);
+    }
+    Ok(())
+}
+
+/// The first bytes of a room's PWAD: eleven lumps, the directory at 339.
+const ROOM_HEAD: [u8; 12] = *b"PWAD\x0b\0\0\0\x53\x01\0\0";
+
+/// Where the marker and the lumps of a room stand.
+const ROOM_PLACES: [u8; 22] = [
+    12, 0, 12, 0, 12, 0, 68, 0, 188, 0, 204, 0, 252, 0, 0, 1, 0, 1, 26, 1, 27, 1,
+];
+
+/// The blocks of a room from (0,0) to (128,128): two by two, with four different lists.
+const ROOM_BLOCKS: [u8; 56] = [
+    0, 0, 0, 0, 2, 0, 2, 0, // the grid
+    8, 0, 14, 0, 19, 0, 24, 0, // the offsets
+    0, 0, 0, 0, 1, 0, 2, 0, 3, 0, 0xff, 0xff, //
+    0, 0, 1, 0, 2, 0, 3, 0, 0xff, 0xff, //
+    0, 0, 0, 0, 1, 0, 2, 0, 0xff, 0xff, //
+    0, 0, 1, 0, 2, 0, 0xff, 0xff,
+];
+
+/// The blocks of a line from (0,0) to (256,256): equal lists are written once.
+const SINGLE_BLOCKS: [u8; 36] = [
+    0, 0, 0, 0, 3, 0, 3, 0, // the grid
+    13, 0, 13, 0, 16, 0, 13, 0, 13, 0, 13, 0, 16, 0, 13, 0, 13, 0, // the offsets
+    0, 0, 0, 0, 0xff, 0xff, //
+    0, 0, 0xff, 0xff,
+];
+
+#[test]
+fn a_room_is_laid_out_as_specified(rt: HostRuntime) -> Result<(), Fail> {
+    let wad = built(&rt, rt.alloc(), &[ROOM]);
+    assert!(rt; wad.len() == 515);
+    assert_eq!(rt; &wad[..12], ROOM_HEAD.as_slice());
+    for n in 0..11 {
+        assert_eq!(rt;
+            &wad[339 + 16 * n..341 + 16 * n],
+            &ROOM_PLACES[2 * n..2 * n + 2]
+        );
+    }
+    let room = read_level(rt.alloc(), &wad, b"MAP01")?;
+    assert_eq!(rt; room.reject.as_slice(), [0].as_slice());
+    assert_eq!(rt; room.blockmap.as_slice(), ROOM_BLOCKS.as_slice());
+    let wad = built(&rt, rt.alloc(), &SINGLE);
+    let single = read_level(rt.alloc(), &wad, b"MAP01")?;
+    assert_eq!(rt; single.blockmap.as_slice(), SINGLE_BLOCKS.as_slice());
+    assert_eq!(rt; reject(rt.alloc(), 3)?.as_slice(), [0, 0].as_slice());
+    Ok(())
+}
+
+/// The fault of the level in the bytes, one of them changed.
+fn fault_at(
+    rt: &impl Abort,
+    alloc: Global,
+    wad: &mut [u8],
+    place: usize,
+    byte: u8,
+) -> Option<Fault> {
+    assert!(rt; place < wad.len());
+    let before = wad[place];
+    wad[place] = byte;
+    let level = read_level(alloc, wad, b"MAP01").expect(rt, "a level");
+    let fault = audit(alloc, &level).expect(rt, "an audit");
+    wad[place] = before;
+    fault
+}
+
+#[test]
+fn a_changed_byte_is_the_fault_that_it_makes(rt: HostRuntime) {
+    let mut room = built(&rt, rt.alloc(), &[ROOM]);
+    for (place, byte, fault) in [
+        (12, 4, Fault::LineVertex(0)),
+        (16, 5, Fault::LineSide(0)),
+        (96, 1, Fault::SideSector(0)),
+        (204, 4, Fault::SegVertex(0)),
+        (210, 4, Fault::SegLine(0)),
+        (212, 1, Fault::SegSide(0)),
+        (252, 0, Fault::SubRange(0)),
+        (252, 3, Fault::SubTotal),
+        (287, 0xff, Fault::BlockHeader),
+        (291, 0x1c, Fault::BlockList(0)),
+        (487, 0, Fault::Reject),
+    ] {
+        let found = fault_at(&rt, rt.alloc(), &mut room, place, byte);
+        assert_eq!(rt; found, Some(fault));
+    }
+    let mut l = built(&rt, rt.alloc(), &L);
+    for (place, byte, fault) in [
+        (271, 0, Fault::NodeChild(0)),
+        (270, 1, Fault::SubOnce(0)),
+        (309, 57, Fault::BlockList(0)),
+    ] {
+        let found = fault_at(&rt, rt.alloc(), &mut l, place, byte);
+        assert_eq!(rt; found, Some(fault));
+    }
+    // the root's left child is its right one again
+    let mut cut = built(&rt, rt.alloc(), &CUT);
+    let found = fault_at(&rt, rt.alloc(), &mut cut, 282, 0);
+    assert_eq!(rt; found, Some(Fault::NodeOnce(0)));
+}
+
+/// The refusal of the bytes, one of them changed.
+fn refused_at(
+    rt: &impl Abort,
+    alloc: Global,
+    wad: &mut [u8],
+    place: usize,
+    byte: u8,
+) -> Option<ReadError> {
+    assert!(rt; place < wad.len());
+    let before = wad[place];
+    wad[place] = byte;
+    let refused = read_level(alloc, wad, b"MAP01").err();
+    wad[place] = before;
+    refused
+}
+
+#[test]
+fn bytes_that_hold_no_level_are_refused(rt: HostRuntime) -> Result<(), Fail> {
+    let mut wad = built(&rt, rt.alloc(), &[ROOM]);
+    for (len, error) in [(514, ReadError::DirectoryOutside), (11, ReadError::NotAWad)] {
+        assert!(rt; len <= wad.len());
+        assert_eq!(rt;
+            read_level(rt.alloc(), &wad[..len], b"MAP01").err(),
+            Some(error)
+        );
+    }
+    let other = read_level(rt.alloc(), &wad, b"MAP02").err();
+    assert_eq!(rt; other, Some(ReadError::NoSuchLevel));
+    for (place, byte, refused) in [
+        (0, b'Q', Some(ReadError::NotAWad)),
+        (503, 233, Some(ReadError::LumpOutside)),
+        (503, 232, None),
+        (375, 15, Some(ReadError::LumpLength)),
+    ] {
+        assert_eq!(rt; refused_at(&rt, rt.alloc(), &mut wad, place, byte), refused);
+    }
+    wad.extend_from_slice(b"\0\0\0\0\0\0\0\0BEHAVIOR")?;
+    let hexen = refused_at(&rt, rt.alloc(), &mut wad, 4, 12);
+    assert_eq!(rt; hexen, Some(ReadError::HexenLevel));
+    assert_eq!(rt; ReadError::HexenLevel.code(), 75);
+    Ok(())
+}
+
+#[test]
+fn a_map_without_lines_is_not_built(rt: HostRuntime) {
+    let map = Map::new(rt.alloc());
+    let refused = build_wad(rt.alloc(), &map).err();
+    assert_eq!(rt; refused, Some(BuildError::NothingToBuild));
+    assert_eq!(rt; BuildError::NothingToBuild.code(), 60);
+    let refused = blockmap(rt.alloc(), &map).err();
+    assert_eq!(rt; refused, Some(BlockmapError::NothingToBuild));
+}
+
+#[test]
+fn a_line_touches_the_corners_that_it_runs_through(rt: HostRuntime) {
+    let line = (Vertex { x: 0, y: 0 }, Vertex { x: 256, y: 256 });
+    assert!(rt; touches(line, (128, 0)));
+    assert!(rt; touches(line, (256, 256)));
+    assert!(rt; !touches(line, (256, 0)));
+}
