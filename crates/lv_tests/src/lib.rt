@@ -37,3 +37,5 @@ mod project_stops;
 mod segs;
 #[cfg(test)]
 mod slots;
+#[cfg(test)]
+mod tangles;
