@@ -5,7 +5,7 @@ PREFIX ?= /usr/local
 EXAMPLE ?= examples/two_rooms.txt
 DOC = $(PREFIX)/share/doc/leveled
 
-.PHONY: all demo test install uninstall clean distclean
+.PHONY: all demo test stress install uninstall clean distclean
 
 all: bin/leveled
 
@@ -29,6 +29,10 @@ demo: bin/leveled
 
 test:
 	rt ci
+
+# what takes too long for the gate: trees of maps just at each limit and just above it
+stress:
+	bench/limits
 
 # the program, its manual page, and what a user reads and runs
 install: bin/leveled

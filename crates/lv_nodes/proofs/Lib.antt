@@ -15,8 +15,4 @@ pub mod Distances
 pub mod Numbering
 pub mod NodeLemmas
 pub mod Building
-pub mod ItemReads
-pub mod EdgeLemmas
-pub mod Known
-pub mod Reading
 pub mod RangeLemmas

@@ -20,7 +20,7 @@ use Rattle.std.proofs.lemmas.Option.{slice_get_within}
 use Rattle.lv_segs.specs.declared.edge.Facing.{Facing}
 use Rattle.lv_segs.specs.declared.edge.Facing.TheVariants.{Along, Against}
 use Rattle.lv_segs.proofs.Lists.{All-at}
-use Rattle.lv_nodes.specs.Places.{IsKnown}
+use Rattle.lv_segs.specs.Places.{IsKnown}
 use Rattle.lv_nodes.specs.References.{IsNumber, greatest_number}
 use Rattle.lv_nodes.specs.TreeLists.{IsEndOf}
 use Rattle.lv_nodes.specs.Sound.{AllDiffer}

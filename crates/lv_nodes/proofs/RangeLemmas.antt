@@ -15,7 +15,7 @@ use Rattle.lv_segs.specs.declared.edge.Edge.{Edge}
 use Rattle.lv_segs.specs.Pieces.{edge_at}
 use Rattle.lv_segs.proofs.FirstList.{index_is}
 use Rattle.lv_segs.proofs.Lists.{All-at}
-use Rattle.lv_nodes.specs.Edges.{edge_between, edges_of}
+use Rattle.lv_segs.specs.Edges.{edge_between, edges_of}
 use Rattle.lv_nodes.specs.References.{HasPlaces, FollowsFrom, IsChild, AreTree, children, times_child, subsector}
 use Rattle.lv_nodes.specs.Tiling.{count_list, total}
 use Rattle.lv_nodes.specs.InRange.{sub_bit, SegInRange, Tiles, ChildInRange, TreeInRange, times_sub, times_node, children as all_children}

@@ -3,7 +3,7 @@ use Rattle.std.specs.Prelude.{◌≡◌, ◌<◌, length, All}
 use Rattle.lv_maptables.specs.Tables.{Tables}
 use Rattle.lv_segs.specs.Segs.{RunAlong, HasFields, IsConvexSub}
 use Rattle.lv_segs.specs.Nodes.{IsParting}
-use Rattle.lv_nodes.specs.Edges.{edges_of}
+use Rattle.lv_segs.specs.Edges.{edges_of}
 use Rattle.lv_nodes.specs.InRange.{TreeInRange}
 use Rattle.lv_nodes.specs.Sound.{AddsEnds, IsSmall, IsBuiltOf, HasTooManyVertices, HasTooManySegs, HasTooManySubsectors, IsTooDeep}
 use Rattle.lv_nodes.specs.declared.built.Built.{Built}

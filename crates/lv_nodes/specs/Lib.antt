@@ -2,12 +2,10 @@ pub mod Errors
 pub mod References
 pub mod Tiling
 pub mod TreeLists
-pub mod Places
 pub mod Numbers
 pub mod Sound
 pub mod Corners
 pub mod Growth
 pub mod Refusals
 pub mod InRange
-pub mod Edges
 pub mod Built

@@ -5,16 +5,14 @@ ghost use Rattle.lv_nodes.specs.Sound.{AllDiffer, IsSound, IsBuiltOf, IsSmall};
 ghost use Rattle.lv_nodes.specs.Built.{IsBuilt, IsTreeRefusal};
 ghost use Rattle.lv_nodes.specs.Refusals.{AreTreeLists, IsTreeRefused, IsBuildRefused};
 
-use crate::edges::edges_of;
 use crate::error::TreeError;
 use crate::growth::{Grown, grow};
-use crate::points::{Points, points_of};
 use crate::segs::segs_of;
 use crate::subsectors::subs_of;
 use lv_lumps::{Node, Seg, Sub, Vertex};
 use lv_maptables::{Kind, Map};
 use lv_partition::StraightLines;
-use lv_segs::{Edge, pieces_in};
+use lv_segs::{Edge, Points, edges_of, pieces_in};
 use std::alloc::{AllocError, Global};
 
 /// How many nodes a path may have.
@@ -139,7 +137,7 @@ pub fn build_tree(alloc: Global, map: &Map) -> Result<Built, TreeError>
         Err(_) => return Err(TreeError::OutOfMemory),
         Ok(lines) => lines,
     };
-    let mut points = match points_of(alloc, map) {
+    let mut points = match Points::new(alloc, map) {
         Err(_) => return Err(TreeError::OutOfMemory),
         Ok(points) => points,
     };

@@ -3,10 +3,8 @@
 
 mod built;
 mod corners;
-mod edges;
 mod error;
 mod growth;
-mod points;
 mod segs;
 mod shape;
 mod step;

@@ -6,10 +6,9 @@ ghost use Rattle.lv_nodes.specs.Sound.{AllDiffer};
 ghost use Rattle.lv_nodes.specs.Numbers.{IsNumbered, IsPlaceRefused, HasNumbers, IsSegRefused, AreNumbered, AreSegsRefused};
 
 use crate::error::TreeError;
-use crate::points::Points;
 use crate::shape::shape_of;
 use lv_lumps::{Seg, Vertex};
-use lv_segs::{Edge, Piece};
+use lv_segs::{Edge, Piece, Points, SegsError};
 use std::alloc::Global;
 
 // The number of a place.
@@ -20,7 +19,8 @@ fn number_of(points: &mut Points, place: Vertex) -> Result<u16, TreeError>
 {
     match points.number(place) {
         Ok(number) => Ok(number as u16),
-        Err(error) => Err(error),
+        Err(SegsError::TooManyVertices) => Err(TreeError::TooManyVertices),
+        Err(SegsError::OutOfMemory) => Err(TreeError::OutOfMemory),
     }
 }
 

@@ -6,12 +6,17 @@ ghost use Rattle.lv_segs.specs.Tree.{HasNoChoice};
 ghost use Rattle.lv_partition.specs.Choices.{IsChoice};
 ghost use Rattle.lv_nodes.specs.Growth.{IsStep};
 
-use lv_partition::{Choice, StraightLines, blocks_of, choose_in, choose_in_boxes};
+use lv_partition::{
+    Choice, StraightLines, blocks_of, by_place, choose_in, choose_in_boxes, choose_ordered,
+};
 use lv_segs::{Edge, Piece, boxes_in, divide_in};
 use std::alloc::{AllocError, Global};
 
 /// Up to so many pieces are looked at one by one.
 const SHORT: usize = 16;
+
+/// The boxes of more pieces than these are made in an order by their places.
+const LONG: usize = 256;
 
 /// What comes of a list of pieces: a leaf, or a partition and the two lists of the parts.
 #[derive(Drop)]
@@ -57,6 +62,27 @@ fn part_list(
     Ok(Sides { right, left })
 }
 
+// The best candidate of a list, by boxes of its pieces in an order by their places.
+fn choice_by_place(
+    alloc: Global,
+    lines: &[Edge],
+    list: &[Piece],
+    used: &[bool],
+    straight: &mut StraightLines,
+) -> Result<Option<Choice>, AllocError>
+    requires lines { All IsEdge lines.now }
+    requires pieces { All (IsPiece lines.now) list.now }
+    requires known { length used.now ≡ length lines.now }
+    requires few { length list.now < 2 ^ 31 }
+    ensures { IfOk result (λ choice. MatchOption choice (HasNoChoice lines.now list.now used.now)
+        (λ c. IsChoice lines.now list.now used.now c)) }
+{
+    let ordered = by_place(alloc, lines, list)?;
+    let boxes = boxes_in(alloc, lines, &ordered)?;
+    let blocks = blocks_of(alloc, &boxes)?;
+    Ok(choose_ordered(lines, list, &ordered, &boxes, &blocks, used, straight))
+}
+
 // The best candidate of a list: by boxes where it is long.
 fn choice_of(
     alloc: Global,
@@ -74,6 +100,9 @@ fn choice_of(
 {
     if list.len() <= SHORT {
         return Ok(choose_in(lines, list, used));
+    }
+    if list.len() > LONG {
+        return choice_by_place(alloc, lines, list, used, straight);
     }
     let boxes = boxes_in(alloc, lines, list)?;
     let blocks = blocks_of(alloc, &boxes)?;

@@ -41,3 +41,5 @@ mod pwad;
 mod segs;
 #[cfg(test)]
 mod slots;
+#[cfg(test)]
+mod tangles;

@@ -227,12 +227,12 @@ fn a_sliver_separates_nothing(rt: HostRuntime) -> Result<(), Fail> {
 
 /// A fixed sequence of numbers.
 #[derive(Drop)]
-struct Sequence {
-    state: u64,
+pub(crate) struct Sequence {
+    pub state: u64,
 }
 
 impl Sequence {
-    fn below(&mut self, n: u32) -> u32
+    pub(crate) fn below(&mut self, n: u32) -> u32
         requires { 0 < n }
         ensures { result < n }
     {
@@ -242,22 +242,28 @@ impl Sequence {
     }
 }
 
-/// Draws seven vertices of a grid, side by side.
-fn draw_row(rt: &impl Abort, alloc: Global, map: &mut Map, y: u32) -> Result<(), Fail> {
+/// Draws seven vertices of a grid, side by side and so far apart.
+fn draw_row(rt: &impl Abort, alloc: Global, map: &mut Map, y: u32, apart: u32) -> Result<(), Fail>
+    requires { apart < 100 }
+{
     for x in 0..7u32 {
-        let x = x * 12;
+        let x = x * apart;
         draw(rt, map, format!(in alloc; "vertex {x} {y}")?.as_bytes());
     }
     Ok(())
 }
 
-/// Lines between places of a small grid, so that many cross, overlap or lie on one straight line.
-fn draw_tangle(
+/// Lines between places of a small grid that are so far apart, so that many cross, overlap or lie on
+/// one straight line.
+pub(crate) fn draw_tangle(
     rt: &impl Abort,
     alloc: Global,
     numbers: &mut Sequence,
     lines: u32,
-) -> Result<Map, Fail> {
+    apart: u32,
+) -> Result<Map, Fail>
+    requires { apart < 100 }
+{
     let mut map = drawn(
         rt,
         alloc,
@@ -267,7 +273,7 @@ fn draw_tangle(
         ],
     );
     for y in 0..7u32 {
-        draw_row(rt, alloc, &mut map, y * 12)?;
+        draw_row(rt, alloc, &mut map, y * apart, apart)?;
     }
     for _ in 0..lines {
         let from = numbers.below(49);
@@ -293,7 +299,7 @@ fn chooses_as_a_plain_walk(rt: HostRuntime) -> Result<(), Fail> {
     let mut found = 0u32;
     for list in 0..200 {
         let lines = 5 + list % 26;
-        let map = draw_tangle(&rt, rt.alloc(), &mut numbers, lines)?;
+        let map = draw_tangle(&rt, rt.alloc(), &mut numbers, lines, 12)?;
         let mut used = Vec::new(rt.alloc());
         for _ in 0..lines {
             used.push(numbers.below(4) == 0)?;

@@ -1,6 +1,4 @@
-use Rattle.std.proofs.Common.{◌≡◌, length, ⊎_elim, subst, sym, ap, Err}
-use Rattle.lv_nodes.specs.Numbers.{IsPlaceRefused}
-use Rattle.lv_nodes.specs.declared.error.TreeError.TheVariants.{OutOfMemory, TooManyVertices}
+use Rattle.std.proofs.Common.{◌≡◌, length, ⊎_elim, arith}
 use Rattle.std.proofs.lemmas.Bool.{cases_lt}
 use Rattle.lv_nodes.proofs.Numbering.{known_numbered, new_numbered}
 use Rattle.lv_nodes.proofs.segs.number_of.Goals as goal
@@ -11,13 +9,5 @@ returns-in-Ok-clause-numbered c =
     let new = c.number.new.self in
     ⊎_elim
     (λ k. known_numbered old new c.args.place c.in-Ok.number c.requires.few c.in-Ok.ensures.number k.1)
-    (λ u. new_numbered old new c.args.place c.in-Ok.number (⊎_elim (λ l. l) (λ full. let e = c.in-Ok.ensures.refused full u.0 in cc) (cases_lt (length old) 32767)) c.in-Ok.ensures.number u.0 u.1)
+    (λ u. new_numbered old new c.args.place c.in-Ok.number (⊎_elim (λ l. l) (λ full. let all : length old ≡ 32767 = omega (arith, full, c.requires.few) in let e = c.in-Ok.ensures.refused all u.0 in cc) (cases_lt (length old) 32767)) c.in-Ok.ensures.number u.0 u.1)
     c.in-Ok.ensures.places
-
-pub returns-in-Err-clause-refused : goal.returns-in-Err-clause-refused
-returns-in-Err-clause-refused c =
-    let old = c.args.points.now in
-    ⊎_elim
-    (λ (s : c.in-Err.error ≡ TooManyVertices). subst (IsPlaceRefused old c.args.place) (sym s) (c.in-Err.ensures.full (ap Err s), c.in-Err.ensures.new (ap Err s)))
-    (λ (s : c.in-Err.error ≡ OutOfMemory). subst (IsPlaceRefused old c.args.place) (sym s) tt)
-    c.in-Err.ensures.only
