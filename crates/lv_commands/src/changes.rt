@@ -14,7 +14,7 @@ use crate::split::cut;
 use lv_maptables::{Kind, Map, MapError, Need};
 
 /// How many items a command adds to each table.
-fn need_of(command: &Command) -> Need
+pub fn need_of(command: &Command) -> Need
     ensures { result ≡ need_of command.now }
 {
     let none = Need {
@@ -50,7 +50,7 @@ fn need_of(command: &Command) -> Need
 }
 
 /// By how many bytes so many more items lengthen a body.
-fn growth_of(need: Need) -> u64
+pub fn growth_of(need: Need) -> u64
     ensures { result ≡ growth_of need }
 {
     10 * u64::from(need.things)
@@ -99,7 +99,7 @@ fn drop_item(map: &mut Map, kind: Kind, n: u32) -> Result<(), MapError>
 }
 
 /// The number of the item of an edit that can't have been refused.
-fn edited(n: u16, edit: Result<(), MapError>) -> u32
+pub fn edited(n: u16, edit: Result<(), MapError>) -> u32
     requires { IsOk edit }
     ensures { result ≡ n }
 {
