@@ -145,10 +145,6 @@ refused-by NoSuchMap change l h = h
 refused-by CurrentMap change l h = h
 refused-by OutOfMemory change l h = absurd (omega arith)
 
--- a refusal of another number isn't want of memory
-pub not-memory : (e : CommandError) → code_of e ≤ 19 → e ≡ OutOfMemory → ⊥
-not-memory e low is = let code = ap code_of is in absurd (omega (arith, low, code))
-
 -- ---- The length of the body
 
 -- the map is a part of the project's body

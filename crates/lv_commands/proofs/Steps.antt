@@ -149,3 +149,7 @@ refused-by MapNameTaken change l h = absurd (omega arith)
 refused-by NoSuchMap change l h = absurd (omega arith)
 refused-by CurrentMap change l h = absurd (omega arith)
 refused-by OutOfMemory change l h = absurd (omega arith)
+
+-- a refusal of another number isn't want of memory
+pub not-memory : (e : CommandError) → code_of e ≤ 19 → e ≡ OutOfMemory → ⊥
+not-memory e low is = let code = ap code_of is in absurd (omega (arith, low, code))

@@ -21,20 +21,22 @@ use lv_maptables::{Kind, MapError, Maps};
 
 /// Whether the new body would be longer than `cap`, where nothing else speaks against the command.
 fn is_full(maps: &Maps, command: &ProjectCommand, cap: u32) -> bool
-    ensures { result ≡ nat_lt cap (body_len (project_of maps.now) + growth_of (project_of maps.now) command.now) }
+    ensures { let p = project_of maps.now in result ≡ nat_lt cap (body_len p + growth_of p command.now) }
 {
     u64::from(maps.body_len()) + growth_of(maps, command) > u64::from(cap)
 }
 
-/// Makes every growth that the command needs, and decides whether it may be done. The project's maps stay, and which is
-/// current. Of the codes 3 to 14 and 16 to 19 the least that holds is answered; `cap` is how many bytes the new body may
-/// have, and where 16 to 19 hold there is none. A command that adds nothing to a table never lacks memory.
+/// Makes every growth that the command needs, and decides whether it may be done. The project's maps stay, and which
+/// is current. Of the codes 3 to 14 and 16 to 19 the least that holds is answered; `cap` is how many bytes the new
+/// body may have, and where one of 16 to 19 holds there is none. A command that adds nothing to a table never lacks
+/// memory.
 pub fn ready(maps: &mut Maps, command: &ProjectCommand, cap: u32) -> Result<Ready, CommandError>
     requires range { InRange command.now }
     requires fits { body_len (project_of maps.old) ≤ cap }
     ensures project { project_of maps.new ≡ project_of maps.old }
     ensures same { IfOk result (λ r. r.command ≡ command.now) }
-    ensures accepted { IfOk result (λ _. step (project_of maps.old) command.now cap ≡ Ok (after (project_of maps.old) command.now, number_of (project_of maps.old) command.now)) }
+    ensures accepted { let p = project_of maps.old in
+        IfOk result (λ _. step p command.now cap ≡ Ok (after p command.now, number_of p command.now)) }
     ensures fits { IfOk result (λ _. body_len (after (project_of maps.old) command.now) ≤ cap) }
     ensures ready { IfOk result (λ r. CanCommit maps.new r.command) }
     ensures refused { IfErr result (λ e. RefusesStep e (step (project_of maps.old) command.now cap)) }
@@ -54,7 +56,9 @@ pub fn ready(maps: &mut Maps, command: &ProjectCommand, cap: u32) -> Result<Read
 
 /// Takes an item out of the current map.
 fn drop_item(maps: &mut Maps, kind: Kind, n: u32) -> Result<(), MapError>
-    ensures edit { EndsExactly result (unless (least (drop_faults maps.old.tables kind n)) (without maps.old.tables kind n) tt) maps.old.tables maps.new.tables }
+    ensures edit { EndsExactly result
+        (unless (least (drop_faults maps.old.tables kind n)) (without maps.old.tables kind n) tt)
+        maps.old.tables maps.new.tables }
     ensures others { maps.new.others ≡ maps.old.others }
 {
     match kind {
@@ -124,7 +128,8 @@ pub fn commit(maps: &mut Maps, ready: Ready) -> u32
 pub fn apply(maps: &mut Maps, command: &ProjectCommand, cap: u32) -> Result<u32, CommandError>
     requires range { InRange command.now }
     requires fits { body_len (project_of maps.old) ≤ cap }
-    ensures ends { EndsStep result (step (project_of maps.old) command.now cap) (project_of maps.old) (project_of maps.new) }
+    ensures ends { let p = project_of maps.old in
+        EndsStep result (step p command.now cap) p (project_of maps.new) }
     ensures fits { body_len (project_of maps.new) ≤ cap }
     ensures promised { Covers maps.old.spare (need_of command.now) → IsErrOf result CommandError.OutOfMemory → ⊥ }
 {

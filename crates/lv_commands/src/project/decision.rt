@@ -31,7 +31,8 @@ fn can_change(maps: &Maps, command: &Command) -> Result<(), MapError>
 
 /// Whether nothing speaks against a change of the current map: else the least code that does.
 fn can_edit(maps: &Maps, command: &Command) -> Result<(), MapError>
-    ensures { Tells result (faults (current_map (project_of maps.now)) command.now ++ naming_faults (project_of maps.now) command.now) }
+    ensures { let p = project_of maps.now in
+        Tells result (faults (current_map p) command.now ++ naming_faults p command.now) }
 {
     match can_change(maps, command) {
         Ok(()) => can_be_named(maps, command),
@@ -41,7 +42,8 @@ fn can_edit(maps: &Maps, command: &Command) -> Result<(), MapError>
 
 /// Whether nothing speaks against a command, memory and the body's length aside: else the least code that does.
 pub fn can_do(maps: &Maps, command: &ProjectCommand) -> Result<(), MapError>
-    ensures { Tells result (current_faults (project_of maps.now) command.now ++ map_faults (project_of maps.now) command.now) }
+    ensures { let p = project_of maps.now in
+        Tells result (current_faults p command.now ++ map_faults p command.now) }
 {
     match command {
         ProjectCommand::Edit(edit) => can_edit(maps, edit),

@@ -4,7 +4,8 @@ use Rattle.std.proofs.lemmas.Bool.{ltb-false}
 use Rattle.lv_maptables.specs.Outcomes.{Covers}
 use Rattle.lv_maptables.specs.Projects.{body_len, project_of}
 use Rattle.lv_commands.specs.ProjectStep.{after}
-use Rattle.lv_commands.proofs.ProjectSteps.{can-commit, code-is-low, fullness, not-memory, refused-by, same-project, step-accepts, step-is-full, step-refuses}
+use Rattle.lv_commands.proofs.ProjectSteps.{can-commit, code-is-low, fullness, refused-by, same-project, step-accepts, step-is-full, step-refuses}
+use Rattle.lv_commands.proofs.Steps.{not-memory}
 use Rattle.lv_commands.proofs.project.changes.ready.Goals as goal
 
 pub of_edit-requires : goal.of_edit-requires
