@@ -10,6 +10,7 @@ pub mod Outcomes
 pub mod Padding
 pub mod Parts
 pub mod ProjectOutcomes
+pub mod ProjectSteps
 pub mod ProjectWords
 pub mod Readings
 pub mod RecordWords

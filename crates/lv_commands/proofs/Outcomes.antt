@@ -5,7 +5,7 @@ use Rattle.lv_maptables.specs.Tables.{Tables}
 use Rattle.lv_commands.specs.declared.command.Command.{Command}
 use Rattle.lv_commands.specs.CommandRanges.{InRange}
 use Rattle.lv_commands.specs.Grammar.{fault_of}
-use Rattle.lv_commands.specs.LineSteps.{Accepts, EndsLine, Leads, LeadsTo, RefusesCommand}
+use Rattle.lv_commands.specs.LineSteps.{Accepts, EndsLine, Leads, RefusesCommand}
 use Rattle.lv_commands.specs.Spelling.{spelling}
 use Rattle.lv_commands.specs.Step.{step}
 use Rattle.lv_commands.proofs.CommandWords.{spelling-accepted}

@@ -5,7 +5,7 @@ use Rattle.lv_maptables.specs.Projects.{ProjectMaps}
 use Rattle.lv_commands.specs.declared.project.command.ProjectCommand.{ProjectCommand}
 use Rattle.lv_commands.specs.ProjectCommands.{InRange, spelling}
 use Rattle.lv_commands.specs.ProjectGrammar.{fault_of}
-use Rattle.lv_commands.specs.ProjectLines.{Accepts, EndsLine, Leads, LeadsTo, RefusesCommand}
+use Rattle.lv_commands.specs.ProjectLines.{Accepts, EndsLine, Leads, RefusesCommand}
 use Rattle.lv_commands.specs.ProjectStep.{step}
 use Rattle.lv_commands.proofs.ProjectWords.{spelling-accepted, spelling-one}
 

@@ -6,7 +6,6 @@ use Rattle.std.proofs.lemmas.Bool.{ltb-false}
 use Rattle.std.proofs.lemmas.Bool.Decides.{nat_tests}
 use Rattle.lv_lumps.specs.declared.records.Name8.{Name8}
 use Rattle.lv_lumps.specs.Names.{IsNamed, is_marker, name_of, name_text}
-use Rattle.lv_commands.specs.declared.command.Command.{Command}
 use Rattle.lv_commands.specs.declared.error.CommandError.{CommandError}
 use Rattle.lv_commands.specs.declared.head.Head.{Head}
 use Rattle.lv_commands.specs.declared.head.Head.TheVariants as head

@@ -1,5 +1,5 @@
 -- The step of the model, by what speaks against a command and by how long the new body is.
-use Rattle.std.proofs.Common.{◌≡◌, ℕ, suc, ◌+◌, ◌≤◌, Bool, true, false, cond, List, [], ◌∷◌, ◌++◌, length, take, drop, Option, Some, None, Result, Ok, Err, refl, ◌∙◌, ap, arith, nat_lt, length-append, length-drop}
+use Rattle.std.proofs.Common.{◌≡◌, ℕ, suc, ◌+◌, ◌≤◌, Bool, true, false, cond, List, [], ◌∷◌, ◌++◌, length, take, drop, Option, Some, None, Result, Err, refl, ◌∙◌, ap, arith, nat_lt, length-append, length-drop}
 use Rattle.std.specs.Prelude.{slice_set, remove}
 use Rattle.std.proofs.lemmas.Bool.Decides.{nat_tests}
 use Rattle.std.proofs.lemmas.List.{length-map, length-set, length-take}
@@ -25,7 +25,7 @@ least-none-if true k x y z e f = absurd cc
 least-none-if false k x y z e f = f e
 
 -- where none of the first holds, it is that of the others
-least-none : (fs gs : List (ℕ × Bool)) → least fs ≡ None → least (fs ++ gs) ≡ least gs
+pub least-none : (fs gs : List (ℕ × Bool)) → least fs ≡ None → least (fs ++ gs) ≡ least gs
 least-none [] gs e = refl
 least-none (f ∷ fs) gs e = least-none-if f.1 f.0 (least fs) (least (fs ++ gs)) (least gs) e (λ h. least-none fs gs h)
 
@@ -34,7 +34,7 @@ least-some-if true j k x y e f = e
 least-some-if false j k x y e f = f e
 
 -- where one of the first holds, it is theirs
-least-some : (fs gs : List (ℕ × Bool)) (k : ℕ) → least fs ≡ Some k → least (fs ++ gs) ≡ Some k
+pub least-some : (fs gs : List (ℕ × Bool)) (k : ℕ) → least fs ≡ Some k → least (fs ++ gs) ≡ Some k
 least-some [] gs k e = absurd cc
 least-some (f ∷ fs) gs k e = least-some-if f.1 f.0 k (least fs) (least (fs ++ gs)) e (λ h. least-some fs gs k h)
 
@@ -149,3 +149,7 @@ refused-by MapNameTaken change l h = absurd (omega arith)
 refused-by NoSuchMap change l h = absurd (omega arith)
 refused-by CurrentMap change l h = absurd (omega arith)
 refused-by OutOfMemory change l h = absurd (omega arith)
+
+-- a refusal of another number isn't want of memory
+pub not-memory : (e : CommandError) → code_of e ≤ 19 → e ≡ OutOfMemory → ⊥
+not-memory e low is = let code = ap code_of is in absurd (omega (arith, low, code))

@@ -8,6 +8,7 @@ pub mod ProjectCommands
 pub mod ProjectGrammar
 pub mod ProjectLaws
 pub mod ProjectLines
+pub mod ProjectReadiness
 pub mod ProjectStep
 pub mod Readiness
 pub mod Reading

@@ -1,5 +1,5 @@
-ghost use Rattle.std.specs.Prelude.{◌≡◌, ◌≤◌, IfOk, IfErr, IsOk, Ok};
-ghost use Rattle.lv_maptables.specs.Outcomes.{EndsExactly, least, unless};
+ghost use Rattle.std.specs.Prelude.{◌≡◌, ◌≤◌, IfOk, IfErr, IsErrOf, IsOk, Ok};
+ghost use Rattle.lv_maptables.specs.Outcomes.{Covers, EndsExactly, least, unless};
 ghost use Rattle.lv_maptables.specs.Tables.{body_len};
 ghost use Rattle.lv_commands.specs.CommandRanges.{InRange};
 ghost use Rattle.lv_commands.specs.Readiness.{CanCommit, EndsStep, RefusesStep, growth_of, need_of};
@@ -14,7 +14,7 @@ use crate::split::cut;
 use lv_maptables::{Kind, Map, MapError, Need};
 
 /// How many items a command adds to each table.
-fn need_of(command: &Command) -> Need
+pub fn need_of(command: &Command) -> Need
     ensures { result ≡ need_of command.now }
 {
     let none = Need {
@@ -50,7 +50,7 @@ fn need_of(command: &Command) -> Need
 }
 
 /// By how many bytes so many more items lengthen a body.
-fn growth_of(need: Need) -> u64
+pub fn growth_of(need: Need) -> u64
     ensures { result ≡ growth_of need }
 {
     10 * u64::from(need.things)
@@ -61,7 +61,8 @@ fn growth_of(need: Need) -> u64
 }
 
 /// Makes every growth that the command needs, and decides whether it may be done. The map's lists stay. Of the codes
-/// 3 to 14 the least that holds is answered; `cap` is how many bytes the new body may have.
+/// 3 to 14 the least that holds is answered; `cap` is how many bytes the new body may have. A command that adds nothing
+/// to a table never lacks memory.
 pub fn ready(map: &mut Map, command: &Command, cap: u32) -> Result<Ready, CommandError>
     requires range { InRange command.now }
     requires fits { body_len map.old.tables ≤ cap }
@@ -71,6 +72,7 @@ pub fn ready(map: &mut Map, command: &Command, cap: u32) -> Result<Ready, Comman
     ensures fits { IfOk result (λ _. body_len (after map.old.tables command.now) ≤ cap) }
     ensures ready { IfOk result (λ r. CanCommit map.new r.command) }
     ensures refused { IfErr result (λ e. RefusesStep e (step map.old.tables command.now cap)) }
+    ensures promised { Covers map.old.spare (need_of command.now) → IsErrOf result CommandError.OutOfMemory → ⊥ }
 {
     if let Err(error) = can_do(map, command) {
         return Err(CommandError::of_edit(error));
@@ -99,7 +101,7 @@ fn drop_item(map: &mut Map, kind: Kind, n: u32) -> Result<(), MapError>
 }
 
 /// The number of the item of an edit that can't have been refused.
-fn edited(n: u16, edit: Result<(), MapError>) -> u32
+pub fn edited(n: u16, edit: Result<(), MapError>) -> u32
     requires { IsOk edit }
     ensures { result ≡ n }
 {
@@ -141,6 +143,7 @@ pub fn apply(map: &mut Map, command: &Command, cap: u32) -> Result<u32, CommandE
     requires fits { body_len map.old.tables ≤ cap }
     ensures ends { EndsStep result (step map.old.tables command.now cap) map.old.tables map.new.tables }
     ensures fits { body_len map.new.tables ≤ cap }
+    ensures promised { Covers map.old.spare (need_of command.now) → IsErrOf result CommandError.OutOfMemory → ⊥ }
 {
     let ready = ready(map, command, cap)?;
     Ok(commit(map, ready))

@@ -1,11 +1,17 @@
 //! The commands of a project of maps: those that draw its current map, and those that are about which maps it has.
 
+mod additions;
+mod changes;
 mod command;
+mod decision;
 mod grammar;
 mod laws;
+mod room;
 mod spelling;
+mod split;
 
-pub use command::ProjectCommand;
+pub use changes::{apply, commit, ready};
+pub use command::{ProjectCommand, Ready};
 pub use grammar::parse;
 pub use laws::{accept_each_spelling, end_in_one_way, lead_to_one_project, spell_one_command};
 pub use spelling::print;

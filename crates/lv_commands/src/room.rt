@@ -32,7 +32,7 @@ pub fn corners_of(plan: &RoomPlan) -> [Vertex; 4]
 }
 
 /// The room's sector.
-fn sector_of(plan: &RoomPlan) -> Sector
+pub fn sector_of(plan: &RoomPlan) -> Sector
     ensures { result ≡ room_sector plan.now }
 {
     Sector {
@@ -47,7 +47,7 @@ fn sector_of(plan: &RoomPlan) -> Sector
 }
 
 /// A side of the room, on the inside.
-fn side_of(plan: &RoomPlan, sector: u16) -> Side
+pub fn side_of(plan: &RoomPlan, sector: u16) -> Side
     ensures { result ≡ room_side plan.now sector }
 {
     Side {
@@ -61,7 +61,7 @@ fn side_of(plan: &RoomPlan, sector: u16) -> Side
 }
 
 /// A wall between two corners, with its right side.
-fn wall(v1: u16, v2: u16, right: u16) -> Line
+pub fn wall(v1: u16, v2: u16, right: u16) -> Line
     ensures { result ≡ wall v1 v2 right }
 {
     Line {

@@ -18,3 +18,9 @@ pub enum MapHead {
     Select,
     Drop,
 }
+
+/// A command that nothing speaks against, and for which the current map has memory.
+#[derive(Clone, Copy, Debug, PartialEq, Eq)]
+pub struct Ready {
+    pub command: ProjectCommand,
+}

@@ -1,0 +1,94 @@
+ghost use Rattle.std.specs.Prelude.{◌≡◌, ◌++◌};
+ghost use Rattle.lv_maptables.specs.Outcomes.{Tells};
+ghost use Rattle.lv_maptables.specs.Projects.{current_map, has_map, project_of};
+ghost use Rattle.lv_commands.specs.ProjectStep.{current_faults, map_faults, naming_faults};
+ghost use Rattle.lv_commands.specs.ProjectReadiness.{growth_of, need_of};
+ghost use Rattle.lv_commands.specs.Readiness.{no_need};
+ghost use Rattle.lv_commands.specs.Step.{faults};
+
+use crate::command::Command;
+use crate::project::command::ProjectCommand;
+use crate::{changes, decision};
+use lv_lumps::Name8;
+use lv_maptables::{MapError, Maps, Need};
+
+/// Whether the current map can be named as the command asks.
+fn can_be_named(maps: &Maps, command: &Command) -> Result<(), MapError>
+    ensures { Tells result (naming_faults (project_of maps.now) command.now) }
+{
+    match command {
+        Command::Name(name) => maps.can_set_name(*name),
+        _ => Ok(()),
+    }
+}
+
+/// Whether nothing speaks against a change in the current map: else the least code that does.
+fn can_change(maps: &Maps, command: &Command) -> Result<(), MapError>
+    ensures { Tells result (faults (current_map (project_of maps.now)) command.now) }
+{
+    decision::can_do(maps.current(), command)
+}
+
+/// Whether nothing speaks against a change of the current map: else the least code that does.
+fn can_edit(maps: &Maps, command: &Command) -> Result<(), MapError>
+    ensures { let p = project_of maps.now in
+        Tells result (faults (current_map p) command.now ++ naming_faults p command.now) }
+{
+    match can_change(maps, command) {
+        Ok(()) => can_be_named(maps, command),
+        Err(error) => Err(error),
+    }
+}
+
+/// Whether nothing speaks against a command, memory and the body's length aside: else the least code that does.
+pub fn can_do(maps: &Maps, command: &ProjectCommand) -> Result<(), MapError>
+    ensures { let p = project_of maps.now in
+        Tells result (current_faults p command.now ++ map_faults p command.now) }
+{
+    match command {
+        ProjectCommand::Edit(edit) => can_edit(maps, edit),
+        ProjectCommand::SelectMap(name) => maps.can_select(*name),
+        ProjectCommand::DropMap(name) => maps.can_drop_map(*name),
+    }
+}
+
+/// No item.
+fn no_need() -> Need
+    ensures { result ≡ no_need }
+{
+    Need {
+        vertices: 0,
+        sectors: 0,
+        sides: 0,
+        lines: 0,
+        things: 0,
+    }
+}
+
+/// How many items a command adds to each table of the current map.
+pub fn need_of(command: &ProjectCommand) -> Need
+    ensures { result ≡ need_of command.now }
+{
+    match command {
+        ProjectCommand::Edit(edit) => changes::need_of(edit),
+        ProjectCommand::SelectMap(_) | ProjectCommand::DropMap(_) => no_need(),
+    }
+}
+
+/// Whether a map has the name.
+fn has_map(maps: &Maps, name: Name8) -> bool
+    ensures { result ≡ has_map (project_of maps.now) name }
+{
+    maps.find(name).is_some()
+}
+
+/// By how many bytes a command lengthens a body at most.
+pub fn growth_of(maps: &Maps, command: &ProjectCommand) -> u64
+    ensures { result ≡ growth_of (project_of maps.now) command.now }
+{
+    match command {
+        ProjectCommand::Edit(edit) => changes::growth_of(changes::need_of(edit)),
+        ProjectCommand::SelectMap(name) => if has_map(maps, *name) { 0 } else { 18 },
+        ProjectCommand::DropMap(_) => 0,
+    }
+}
