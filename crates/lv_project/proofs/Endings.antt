@@ -1,5 +1,5 @@
 -- How an `apply` ends, from how its last step ends.
-use Rattle.std.proofs.Common.{◌≡◌, ◌⊎◌, inl, inr, ◌≤◌, ℕ, false, List, length, Option, None, MatchOption, Result, Ok, Err, sym, ◌∙◌, ap, subst, arith}
+use Rattle.std.proofs.Common.{◌≡◌, ◌⊎◌, inl, inr, ◌≤◌, ℕ, false, List, length, Option, None, MatchOption, Result, Ok, Err, OnOk, sym, ◌∙◌, ap, subst, arith}
 use Rattle.std.proofs.lemmas.Bool.{true≢false}
 use Rattle.lv_disk.specs.Stops.{Rose}
 use Rattle.lv_journal.specs.State.{IsAbove}
@@ -15,7 +15,7 @@ use Rattle.lv_commands.specs.declared.error.CommandError.{CommandError}
 use Rattle.lv_commands.specs.declared.error.CommandError.TheVariants as command
 use Rattle.lv_commands.specs.LineSteps.{Accepts, LeadsTo}
 use Rattle.lv_project.specs.States.{State}
-use Rattle.lv_project.specs.Outcomes.{EndsApply, RefusesApply, RefusesCheckpoint}
+use Rattle.lv_project.specs.Outcomes.{EndsApply, RefusesApply, RefusesCheckpoint, TurnsWhereFull}
 use Rattle.lv_commands.specs.LineSteps.{RefusesCommand, RefusesLine}
 use Rattle.lv_project.specs.Refusals.{IsRefusalOf}
 use Rattle.lv_project.specs.declared.error.ProjectError.{ProjectError}
@@ -93,3 +93,8 @@ module _ {D : Type 0} (failures : D → ℕ) (old mid new : State D) (line : Lis
   room_refused NotAProject is above = absurd is
   room_refused NotEmpty is above = absurd is
   room_refused BadGeometry is above = absurd is
+
+-- a checkpoint comes where there was no room, if what follows it keeps the generation
+pub turned_then : {D T : Type 0} (old mid new : State D) (len : ℕ) (r : Result T ProjectError) → TurnsWhereFull old mid len → OnOk r (new.generation ≡ mid.generation) → OnOk r (TurnsWhereFull old new len)
+turned_then old mid new len (Ok t) turned same = (λ above. same ∙ turned.0 above, λ room. same ∙ turned.1 room)
+turned_then old mid new len (Err e) turned same = same

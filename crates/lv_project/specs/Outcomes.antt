@@ -52,3 +52,8 @@ IsFresh room = (len : ℕ) → len ≤ 256 → ¬ IsAbove room len
 abbrev pub EndsRoom : {D : Type 0} → (D → ℕ) → Result Unit ProjectError → State D → State D → ℕ → Type 0
 EndsRoom failures (Ok _) old new len = (new.must_reopen ≡ false) × (¬ IsAbove new.room len)
 EndsRoom failures (Err e) old new len = RefusesCheckpoint failures e old new × IsAbove old.room len
+
+-- the generation rose by one where the journal had no room for so many bytes, and else it is as before
+abbrev pub TurnsWhereFull : {D : Type 0} → State D → State D → ℕ → Type 0
+TurnsWhereFull old new len = (IsAbove old.room len → new.generation ≡ old.generation + 1)
+    × (¬ IsAbove old.room len → new.generation ≡ old.generation)
