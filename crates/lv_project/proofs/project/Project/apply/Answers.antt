@@ -9,7 +9,7 @@ use Rattle.lv_project.specs.Outcomes.{EndsApply, TurnsWhereFull}
 use Rattle.lv_project.specs.Places.{cap_of}
 use Rattle.lv_project.specs.Stands.{IsOutcome, Stands, StandsFor}
 use Rattle.lv_project.proofs.Sound.{both_moments, is_kept, kept_view, no_moment, no_outcome, room_moments}
-use Rattle.lv_project.proofs.Endings.{ends_from, refused_ends, room_refused, turned_then}
+use Rattle.lv_project.proofs.Endings.{ends_from, fault_refused, refused_ends, room_refused, turned_then}
 use Rattle.lv_journal.specs.State.{IsAbove}
 use Rattle.lv_project.specs.declared.error.ProjectError.TheVariants.{GenerationsSpent}
 use Rattle.lv_project.proofs.Spent.{device_or, err_ok, error_same, not_refused}
@@ -122,3 +122,10 @@ pub returns-clause-turned : goal.returns-clause-turned
 returns-clause-turned g c =
     subst (λ (v : _). OnOk c.record.result (TurnsWhereFull v c.record.new.self (length c.args.line.now))) c.self.view_is
     (turned_then (state_of c.self.inside) c.make_room.new.self c.record.new.self (length c.args.line.now) c.record.result c.in-Ok-make_room.ensures.turned c.record.ensures.generation)
+
+pub returns-in-Err-clause-ends : goal.returns-in-Err-clause-ends
+returns-in-Err-clause-ends g c = (
+  refl,
+  (let still = sym (ap (λ (v : _). v.must_reopen) c.self.view_is) ∙ c.if-self.false in
+      fault_refused g.D.Disk.failures c.args.self.now c.args.self.now c.args.line.now c.in-Err.error c.refusal_of.result c.refusal_of.ensures c.in-Err.ensures.fault still still),
+)
