@@ -1,11 +1,12 @@
-# Proves and builds `leveled`; `make demo` runs it on an example, `make test` is the whole gate.
+# Proves and builds `leveled`; `make demo` runs it on an example, `make test` is the whole gate, and
+# `make stress` kills the program in the midst of edits and looks at its edges.
 # Wants the Rattle toolchain (`rt` on the PATH) and nothing else.
 
 PREFIX ?= /usr/local
 EXAMPLE ?= examples/two_rooms.txt
 DOC = $(PREFIX)/share/doc/leveled
 
-.PHONY: all demo test install uninstall clean distclean
+.PHONY: all demo test stress install uninstall clean distclean
 
 all: bin/leveled
 
@@ -26,6 +27,11 @@ demo: bin/leveled
 
 test:
 	rt ci
+
+# what the gate can't look at: kills at any moment, closed and full outputs, files that are no project
+stress: bin/leveled
+	bench/stops bin/leveled
+	sh crates/leveled/edges.sh bin/leveled
 
 # the program, its manual page, and what a user reads and runs
 install: bin/leveled
