@@ -32,6 +32,8 @@ mod partition;
 #[cfg(test)]
 mod project;
 #[cfg(test)]
+mod project_run;
+#[cfg(test)]
 mod project_stops;
 #[cfg(test)]
 mod segs;
