@@ -1,4 +1,5 @@
-# Proves and builds `leveled`; `make demo` runs it on an example, `make test` is the whole gate.
+# Proves and builds `leveled`; `make demo` runs it on an example, `make test` is the whole gate, and
+# `make stress` kills the program in the midst of edits and looks at its edges.
 # Wants the Rattle toolchain (`rt` on the PATH) and nothing else.
 
 PREFIX ?= /usr/local
@@ -30,8 +31,11 @@ demo: bin/leveled
 test:
 	rt ci
 
-# what takes too long for the gate: trees of maps just at each limit and just above it
-stress:
+# what the gate can't look at: kills at any moment, closed and full outputs, files that are no project, and trees of maps just
+# at each limit and just above it
+stress: bin/leveled
+	bench/stops bin/leveled
+	sh crates/leveled/edges.sh bin/leveled
 	bench/limits
 
 # the program, its manual page, and what a user reads and runs

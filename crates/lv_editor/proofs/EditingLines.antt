@@ -48,7 +48,7 @@ module _ {D : Type 0} (moment failures : D → ℕ) (left_since : D → ℕ → 
 
   long_refusal : (e : ProjectError) (old new : State D) (a b : List ℕ) → 256 < length a → 256 < length b → RefusesApply failures e old new a → RefusesApply failures e old new b
   long_refusal Device old new a b long longer told = told
-  long_refusal OutOfMemory old new a b long longer told = told
+  long_refusal OutOfMemory old new a b long longer (ready, still, (next, (n, accepts))) = absurd (long-accepts old.cap old.map.tables next a n long accepts)
   long_refusal Reopen old new a b long longer told = told
   long_refusal GenerationsSpent old new a b long longer (ready, still, last, above, (next, (n, accepts))) = absurd (long-accepts old.cap old.map.tables next a n long accepts)
   long_refusal (Refused e) old new a b long longer (ready, still, told) = (

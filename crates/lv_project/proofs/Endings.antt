@@ -1,5 +1,5 @@
 -- How an `apply` ends, from how its last step ends.
-use Rattle.std.proofs.Common.{◌≡◌, ◌⊎◌, inl, inr, ◌≤◌, ℕ, false, List, length, Option, None, MatchOption, Result, Ok, Err, sym, ◌∙◌, ap, subst, arith}
+use Rattle.std.proofs.Common.{◌≡◌, ◌⊎◌, inl, inr, ◌≤◌, ℕ, false, List, length, Option, None, Some, MatchOption, Result, Ok, Err, IsOk, OnOk, refl, sym, ◌∙◌, ap, subst, arith}
 use Rattle.std.proofs.lemmas.Bool.{true≢false}
 use Rattle.lv_disk.specs.Stops.{Rose}
 use Rattle.lv_journal.specs.State.{IsAbove}
@@ -14,8 +14,10 @@ use Rattle.lv_commands.specs.declared.command.Command.{Command}
 use Rattle.lv_commands.specs.declared.error.CommandError.{CommandError}
 use Rattle.lv_commands.specs.declared.error.CommandError.TheVariants as command
 use Rattle.lv_commands.specs.LineSteps.{Accepts, LeadsTo}
+use Rattle.lv_commands.proofs.Steps.{refused-by}
+use Rattle.lv_project.proofs.LineFaults.{low_fault}
 use Rattle.lv_project.specs.States.{State}
-use Rattle.lv_project.specs.Outcomes.{EndsApply, RefusesApply, RefusesCheckpoint}
+use Rattle.lv_project.specs.Outcomes.{EndsApply, RefusesApply, RefusesCheckpoint, TurnsWhereFull}
 use Rattle.lv_commands.specs.LineSteps.{RefusesCommand, RefusesLine}
 use Rattle.lv_project.specs.Refusals.{IsRefusalOf}
 use Rattle.lv_project.specs.declared.error.ProjectError.{ProjectError}
@@ -31,7 +33,8 @@ module _ {D : Type 0} (failures : D → ℕ) (old mid new : State D) (line : Lis
 
   refuses_from : (e : ProjectError) → RefusesApply failures e mid new line → RefusesApply failures e old new line
   refuses_from Device (a, b, rose) = (ready, b, rose_before (failures old.disk) (failures mid.disk) (failures new.disk) first second rose)
-  refuses_from OutOfMemory (a, b) = (ready, b)
+  refuses_from OutOfMemory (a, b, (next, leads)) =
+      (ready, b, (next, subst (λ (k : ℕ). LeadsTo k old.map.tables line next) cap_is (subst (λ (t : Tables). LeadsTo mid.cap t line next) map_is leads)))
   refuses_from Reopen (a, b) = absurd (true≢false (sym a ∙ still))
   refuses_from GenerationsSpent (a, b, spent, above, leads) = absurd (room above)
   refuses_from (Refused e) (a, b, is) = (ready, b, line_from (commands.code_of e) is)
@@ -46,8 +49,9 @@ module _ {D : Type 0} (failures : D → ℕ) (old mid new : State D) (line : Lis
   ends_from (Err e) (same, refuses) = (same ∙ map_is, refuses_from e refuses)
 
 -- what a refusal of a command becomes
-pub split : (e : CommandError) (r : ProjectError) (change : Result (Tables × ℕ) ℕ) → IsRefusalOf r e → readiness.RefusesStep e change → (r ≡ OutOfMemory) ⊎ ((r ≡ Refused e) × (change ≡ Err (commands.code_of e)))
-split command.OutOfMemory r change is by = inl is
+pub split : (e : CommandError) (r : ProjectError) (change : Result (Tables × ℕ) ℕ) → IsRefusalOf r e → readiness.RefusesStep e change
+    → ((r ≡ OutOfMemory) × IsOk change) ⊎ ((r ≡ Refused e) × (change ≡ Err (commands.code_of e)))
+split command.OutOfMemory r change is by = inl (is, by)
 split command.NotACommand r change is by = inr (is, by)
 split command.OutOfRange r change is by = inr (is, by)
 split command.NoVertex r change is by = inr (is, by)
@@ -68,6 +72,25 @@ split command.MapNameTaken r change is by = inr (is, by)
 split command.NoSuchMap r change is by = inr (is, by)
 split command.CurrentMap r change is by = inr (is, by)
 
+-- a line that is no command is refused as such, and never for want of memory
+pub fault_refused : {D : Type 0} (failures : D → ℕ) (old new : State D) (line : List ℕ) (e : CommandError) (r : ProjectError) → IsRefusalOf r e → fault_of line ≡ Some (commands.code_of e)
+    → old.must_reopen ≡ false → new.must_reopen ≡ false → RefusesApply failures r old new line
+fault_refused failures old new line e r is fault ready still = at (split e r refused is (refused-by e refused (low_fault line (commands.code_of e) fault) refl))
+  where
+    refused : Result (Tables × ℕ) ℕ
+    refused = Err (commands.code_of e)
+
+    at : ((r ≡ OutOfMemory) × IsOk refused) ⊎ ((r ≡ Refused e) × (refused ≡ Err (commands.code_of e))) → RefusesApply failures r old new line
+    at (inl (memory, ok)) = absurd (true≢false (sym ok))
+    at (inr (told, same)) = subst (λ (q : ProjectError). RefusesApply failures q old new line) (sym told)
+        (ready, still, subst (λ (o : Option ℕ). MatchOption o (RefusesCommand old.cap old.map.tables line (commands.code_of e)) (λ f. commands.code_of e ≡ f)) (sym fault) refl)
+
+-- a command that the step accepts
+accepted_leads : (n : ℕ) (m : Tables) (line : List ℕ) (c : Command) → InRange c → line ≡ spelling c → (change : Result (Tables × ℕ) ℕ) → step m c n ≡ change → IsOk change
+    → (next : Tables) × LeadsTo n m line next
+accepted_leads n m line c range line_is (Ok new) stepped ok = (new.0, (new.1, record { command = c; range = range; line_is = line_is; stepped = stepped }))
+accepted_leads n m line c range line_is (Err e) stepped ok = absurd (true≢false (sym ok))
+
 pub refused_ends : {D : Type 0} (failures : D → ℕ) (old new : State D) (line : List ℕ) (c : Command) (e : CommandError) (r : ProjectError) → IsRefusalOf r e → readiness.RefusesStep e (step old.map.tables c old.cap)
     → InRange c → line ≡ spelling c → fault_of line ≡ None → old.must_reopen ≡ false → new.must_reopen ≡ false → RefusesApply failures r old new line
 refused_ends failures old new line c e r is by range line_is whole ready still = at (split e r (step old.map.tables c old.cap) is by)
@@ -75,8 +98,9 @@ refused_ends failures old new line c e r is by range line_is whole ready still =
     line_refused : step old.map.tables c old.cap ≡ Err (commands.code_of e) → RefusesLine old.cap old.map.tables line (commands.code_of e)
     line_refused stepped = subst (λ (o : Option ℕ). MatchOption o (RefusesCommand old.cap old.map.tables line (commands.code_of e)) (λ fault. commands.code_of e ≡ fault)) (sym whole) (record { command = c; range = range; line_is = line_is; stepped = stepped })
 
-    at : (r ≡ OutOfMemory) ⊎ ((r ≡ Refused e) × (step old.map.tables c old.cap ≡ Err (commands.code_of e))) → RefusesApply failures r old new line
-    at (inl memory) = subst (λ (q : ProjectError). RefusesApply failures q old new line) (sym memory) (ready, still)
+    at : ((r ≡ OutOfMemory) × IsOk (step old.map.tables c old.cap)) ⊎ ((r ≡ Refused e) × (step old.map.tables c old.cap ≡ Err (commands.code_of e))) → RefusesApply failures r old new line
+    at (inl (memory, ok)) = subst (λ (q : ProjectError). RefusesApply failures q old new line) (sym memory)
+        (ready, still, accepted_leads old.cap old.map.tables line c range line_is (step old.map.tables c old.cap) refl ok)
     at (inr (refused, stepped)) = subst (λ (q : ProjectError). RefusesApply failures q old new line) (sym refused) (ready, still, line_refused stepped)
 
 -- a line for which no room could be made, of a map that accepts it
@@ -84,7 +108,7 @@ module _ {D : Type 0} (failures : D → ℕ) (old mid new : State D) (line : Lis
     (room_is : mid.room ≡ old.room) (disk_is : mid.disk ≡ old.disk) (leads : (next : Tables) × LeadsTo old.cap old.map.tables line next) where
   pub room_refused : (e : ProjectError) → RefusesCheckpoint failures e mid new → IsAbove mid.room (length line) → RefusesApply failures e old new line
   room_refused Device (a, b, rose) above = (ready, b, subst (λ (d : D). Rose (failures d) (failures new.disk)) disk_is rose)
-  room_refused OutOfMemory (a, same) above = (ready, ap (λ (s : State D). s.must_reopen) same ∙ a)
+  room_refused OutOfMemory (a, same) above = (ready, ap (λ (s : State D). s.must_reopen) same ∙ a, leads)
   room_refused Reopen (a, same) above = absurd (true≢false (sym a ∙ reopen_is ∙ ready))
   room_refused GenerationsSpent (a, same, last) above = (ready, ap (λ (s : State D). s.must_reopen) same ∙ a, sym generation_is ∙ last, subst (λ (r : Option ℕ). IsAbove r (length line)) room_is above, leads)
   room_refused (Refused e) is above = absurd is
@@ -93,3 +117,8 @@ module _ {D : Type 0} (failures : D → ℕ) (old mid new : State D) (line : Lis
   room_refused NotAProject is above = absurd is
   room_refused NotEmpty is above = absurd is
   room_refused BadGeometry is above = absurd is
+
+-- a checkpoint comes where there was no room, if what follows it keeps the generation
+pub turned_then : {D T : Type 0} (old mid new : State D) (len : ℕ) (r : Result T ProjectError) → TurnsWhereFull old mid len → OnOk r (new.generation ≡ mid.generation) → OnOk r (TurnsWhereFull old new len)
+turned_then old mid new len (Ok t) turned same = (λ above. same ∙ turned.0 above, λ room. same ∙ turned.1 room)
+turned_then old mid new len (Err e) turned same = same

@@ -28,7 +28,7 @@ module _ {D : Type 0} (failures : D → ℕ) (old new : State D) (line : List �
   -- a project that must be opened again stays
   no_apply : (e : ProjectError) → old.must_reopen ≡ true → RefusesApply failures e old new line → new ≡ old
   no_apply Device reopen (a, b, rose) = absurd (true≢false (sym reopen ∙ a))
-  no_apply OutOfMemory reopen (a, b) = absurd (true≢false (sym reopen ∙ a))
+  no_apply OutOfMemory reopen (a, b, leads) = absurd (true≢false (sym reopen ∙ a))
   no_apply Reopen reopen (a, same) = same
   no_apply GenerationsSpent reopen (a, b, last, above, leads) = absurd (true≢false (sym reopen ∙ a))
   no_apply (Refused e) reopen (a, b, is) = absurd (true≢false (sym reopen ∙ a))

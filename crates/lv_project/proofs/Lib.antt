@@ -11,3 +11,4 @@ pub mod Spent
 pub mod OneMap
 pub mod Holding
 pub mod Excluding
+pub mod LineFaults

@@ -1,5 +1,5 @@
 -- When no generation is left.
-use Rattle.std.proofs.Common.{◌≡◌, ◌⊎◌, inl, inr, ℕ, Bool, true, false, List, Result, Ok, Err, IfErr, sym, ◌∙◌, ap, subst, arith}
+use Rattle.std.proofs.Common.{◌≡◌, ◌⊎◌, inl, inr, ℕ, Bool, true, false, List, Result, Ok, Err, IfErr, IsOk, sym, ◌∙◌, ap, subst, arith}
 use Rattle.std.proofs.lemmas.Bool.{true≢false}
 use Rattle.lv_maptables.specs.Tables.{Tables}
 use Rattle.lv_commands.specs.CommandRanges.{InRange}
@@ -48,8 +48,8 @@ not_refused {T = T} m n line c e r is by line_is range new (k, a) = at (split e 
     the_err : ProjectError → Result T ProjectError
     the_err x = Err x
 
-    at : (r ≡ OutOfMemory) ⊎ ((r ≡ Refused e) × (step m c n ≡ Err (commands.code_of e))) → (◌≡◌ {A = Result T ProjectError} (Err r) (Err GenerationsSpent)) ⊎ (◌≡◌ {A = Result T ProjectError} (Err r) (Err OutOfMemory))
-    at (inl memory) = inr (ap (λ (x : ProjectError). the_err x) memory)
+    at : ((r ≡ OutOfMemory) × IsOk (step m c n)) ⊎ ((r ≡ Refused e) × (step m c n ≡ Err (commands.code_of e))) → (◌≡◌ {A = Result T ProjectError} (Err r) (Err GenerationsSpent)) ⊎ (◌≡◌ {A = Result T ProjectError} (Err r) (Err OutOfMemory))
+    at (inl (memory, ok)) = inr (ap (λ (x : ProjectError). the_err x) memory)
     at (inr (refused, bad)) =
         let same : c ≡ a.command = spelling-one c a.command range a.range (sym line_is ∙ a.line_is) in
         absurd (err_ok (commands.code_of e) (new, k) (step m c n) bad (ap (λ (d : Command). step m d n) same ∙ a.stepped))

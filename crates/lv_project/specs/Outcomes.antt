@@ -10,11 +10,13 @@ use Rattle.lv_project.specs.States.{State}
 use Rattle.lv_project.specs.declared.error.ProjectError.{ProjectError}
 use Rattle.lv_project.specs.declared.error.ProjectError.TheVariants.{Device, OutOfMemory, Reopen, GenerationsSpent, Refused}
 
--- How an `apply` was refused. Only after `Device` must the project be opened again, and only `Reopen` leaves it so.
+-- How an `apply` was refused. Only after `Device` must the project be opened again, and only `Reopen` leaves it so. Memory is
+-- wanting only for a line that leads on.
 abbrev pub RefusesApply : {D : Type 0} → (D → ℕ) → ProjectError → State D → State D → List ℕ → Type 0
 RefusesApply failures Device old new line =
     (old.must_reopen ≡ false) × (new.must_reopen ≡ true) × Rose (failures old.disk) (failures new.disk)
-RefusesApply failures OutOfMemory old new line = (old.must_reopen ≡ false) × (new.must_reopen ≡ false)
+RefusesApply failures OutOfMemory old new line =
+    (old.must_reopen ≡ false) × (new.must_reopen ≡ false) × ((next : Tables) × LeadsTo old.cap old.map.tables line next)
 RefusesApply failures Reopen old new line = (old.must_reopen ≡ true) × (new ≡ old)
 RefusesApply failures GenerationsSpent old new line =
     (old.must_reopen ≡ false) × (new.must_reopen ≡ false) × (old.generation ≡ 2 ^ 64 - 1) × IsAbove old.room (length line)
@@ -52,3 +54,8 @@ IsFresh room = (len : ℕ) → len ≤ 256 → ¬ IsAbove room len
 abbrev pub EndsRoom : {D : Type 0} → (D → ℕ) → Result Unit ProjectError → State D → State D → ℕ → Type 0
 EndsRoom failures (Ok _) old new len = (new.must_reopen ≡ false) × (¬ IsAbove new.room len)
 EndsRoom failures (Err e) old new len = RefusesCheckpoint failures e old new × IsAbove old.room len
+
+-- the generation rose by one where the journal had no room for so many bytes, and else it is as before
+abbrev pub TurnsWhereFull : {D : Type 0} → State D → State D → ℕ → Type 0
+TurnsWhereFull old new len = (IsAbove old.room len → new.generation ≡ old.generation + 1)
+    × (¬ IsAbove old.room len → new.generation ≡ old.generation)

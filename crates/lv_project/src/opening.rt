@@ -1,5 +1,5 @@
 //! A project as its file is read or made.
-ghost use Rattle.std.specs.Prelude.{◌≡◌, ◌≤◌, ◌<◌, ◌+◌, ◌^◌, ℕ, [], false, true, Ok, length, IfOk, IfErr, IsErrOf, OnOk};
+ghost use Rattle.std.specs.Prelude.{◌≡◌, ◌≤◌, ◌<◌, ◌⊎◌, ◌+◌, ◌^◌, ℕ, [], false, true, Ok, length, IfOk, IfErr, IsErrOf, OnOk};
 ghost use Rattle.lv_disk.specs.Stops.{Each, LeavesOnly};
 ghost use Rattle.lv_journal.specs.Records.{IsJournal};
 ghost use Rattle.lv_journal.specs.State as journal;
@@ -227,6 +227,8 @@ pub fn read_project<D: Disk>(alloc: Global, disk: &mut D) -> Result<Opened, Proj
     ensures fits { IfOk result (λ o. body_len o.map.tables ≤ cap_of o.geometry) }
     ensures refused { IfErr result (IsRefusedRead (D.reads disk.new)) }
     ensures only { OnOk result (Each (D.may_leave disk.new) (D.reads disk.new)) }
+    ensures reads { Each (D.reads disk.new) (D.reads disk.old) }
+    ensures still { Each (D.reads disk.old) (D.reads disk.new) }
     ensures any_moment { LeavesOnly D.moment D.left_since disk.old disk.new (D.may_leave disk.old) }
     ensures count { CountsFaults ProjectError.Device (D.failures disk.old) (D.failures disk.new) result }
 {
@@ -251,6 +253,9 @@ pub fn write_new<D: Disk>(
     ensures journal { IfOk result (λ r. r.2 ≡ journal.opened r.0.first []) }
     ensures places { IfOk result (λ r. IsAllowed geometry.slot geometry.journal × IsLaidOut geometry r.0) }
     ensures refused { IfErr result (RefusesCreate (D.reads disk.old) geometry) }
+    // But for a `Device` it has only read.
+    ensures untouched { IfErr result (λ e. (e ≡ ProjectError.Device)
+        ⊎ OnlyReads D.reads D.may_leave D.moment D.left_since disk.old disk.new) }
     ensures count { CountsFaults ProjectError.Device (D.failures disk.old) (D.failures disk.new) result }
 {
     if !geometry.is_allowed() {

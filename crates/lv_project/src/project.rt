@@ -64,6 +64,7 @@ fn refusal_of(error: CommandError) -> ProjectError
 
 impl<D: Disk> Project<D> {
     ghost use Rattle.lv_disk.specs.Stops.{Rose};
+    ghost use Rattle.lv_disk.specs.Reading.{OnlyReads};
     ghost use Rattle.lv_maptables.specs.Tables.{empty_tables, Tables};
     ghost use Rattle.lv_project.specs.Places.{cap_of};
     ghost use Rattle.lv_project.specs.Opening.{IsRefusedRead, RefusesCreate, StandsOnlyFor};
@@ -73,7 +74,7 @@ impl<D: Disk> Project<D> {
     ghost use Rattle.lv_maptables.specs.Body.{body};
     ghost use Rattle.lv_maptables.specs.WellFormed.{WellFormed};
     ghost use Rattle.lv_project.specs.States.{IsKept};
-    ghost use Rattle.lv_project.specs.Outcomes.{EndsApply, EndsCheckpoint, EndsRoom, IsFresh};
+    ghost use Rattle.lv_project.specs.Outcomes.{EndsApply, EndsCheckpoint, EndsRoom, IsFresh, TurnsWhereFull};
 
     /// The map.
     pub fn map(&self) -> &Map
@@ -111,6 +112,9 @@ impl<D: Disk> Project<D> {
             × (p.must_reopen ≡ false) × (p.cap ≡ cap_of geometry)) }
         ensures kept { IfOk result (λ p. IsKept D.may_leave p) }
         ensures refused { IfErr result (λ r. RefusesCreate (D.reads disk) geometry r.error) }
+        // A refusal but `Device` leaves the file alone, whatever it is.
+        ensures untouched { IfErr result (λ r. (r.error ≡ ProjectError.Device)
+            ⊎ OnlyReads D.reads D.may_leave D.moment D.left_since disk r.disk) }
         ensures count { IfErr result (λ r. r.error ≡ ProjectError.Device → Rose (D.failures disk) (D.failures r.disk)) }
     {
         let mut disk = disk;
@@ -143,6 +147,10 @@ impl<D: Disk> Project<D> {
             (λ p. LeavesOnly D.moment D.left_since disk p.disk (D.may_leave disk))
             (λ r. LeavesOnly D.moment D.left_since disk r.disk (D.may_leave disk)) }
         ensures refused { IfErr result (λ r. IsRefusedRead (D.reads r.disk) r.error) }
+        // What a read gives stays.
+        ensures reads { MatchResult result
+            (λ p. Each (D.reads p.disk) (D.reads disk) × Each (D.reads disk) (D.reads p.disk))
+            (λ r. Each (D.reads r.disk) (D.reads disk) × Each (D.reads disk) (D.reads r.disk)) }
         ensures count { IfErr result (λ r. r.error ≡ ProjectError.Device → Rose (D.failures disk) (D.failures r.disk)) }
     {
         let mut disk = disk;
@@ -247,6 +255,8 @@ impl<D: Disk> Project<D> {
         ensures spent { IsErrOf result ProjectError.GenerationsSpent
             ↔ IsAbove self.old.room len × (self.old.generation ≡ 2 ^ 64 - 1) }
         ensures ends { EndsRoom D.failures result self.old self.new len }
+        ensures untouched { IfErr result (λ e. (e ≡ ProjectError.Device) ⊎ (self.new ≡ self.old)) }
+        ensures turned { OnOk result (TurnsWhereFull self.old self.new len) }
         ensures later { D.failures self.old.disk ≤ D.failures self.new.disk }
         ensures map { self.new.map ≡ self.old.map }
         ensures any_moment { LeavesOnly D.moment D.left_since self.old.disk self.new.disk
@@ -274,6 +284,7 @@ impl<D: Disk> Project<D> {
             ≡ Ok (after self.old.map.tables ready.command, number_of self.old.map.tables ready.command) }
         ensures device { IfErr result (λ e. e ≡ ProjectError.Device) }
         ensures ends { EndsApply D.failures result self.old self.new line.now }
+        ensures generation { OnOk result (self.new.generation ≡ self.old.generation) }
         ensures later { D.failures self.old.disk ≤ D.failures self.new.disk }
         ensures any_moment { LeavesOnly D.moment D.left_since self.old.disk self.new.disk
             (IsOutcome self.old.cap self.old.map.tables line.now) }
@@ -308,6 +319,11 @@ impl<D: Disk> Project<D> {
         ensures refused_moment { IfErr result (λ e. self.old.must_reopen ≡ false → (e ≡ ProjectError.Device)
             ⊎ LeavesOnly D.moment D.left_since self.old.disk self.new.disk
             (StandsFor self.old.cap self.old.map.tables)) }
+        ensures untouched { IfErr result (λ e. (e ≡ ProjectError.Device)
+            ⊎ ((self.new.disk ≡ self.old.disk) × (self.new.generation ≡ self.old.generation))) }
+
+        // A checkpoint comes where the journal has no room, and only there.
+        ensures turned { OnOk result (TurnsWhereFull self.old self.new (length line.now)) }
 
         // Each image now stands for the map, unless the project must be opened again.
         ensures kept { IsKept D.may_leave self.new }

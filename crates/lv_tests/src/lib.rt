@@ -34,6 +34,8 @@ mod partition;
 #[cfg(test)]
 mod project;
 #[cfg(test)]
+mod project_run;
+#[cfg(test)]
 mod project_stops;
 #[cfg(test)]
 mod pwad;

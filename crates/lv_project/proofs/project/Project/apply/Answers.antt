@@ -1,15 +1,15 @@
-use Rattle.std.proofs.Common.{◌≡◌, ◌∙◌, ℕ, false, inl, inr, length, Ok, Err, ap, sym, subst, refl}
+use Rattle.std.proofs.Common.{◌≡◌, ◌∙◌, ℕ, false, inl, inr, length, Ok, Err, OnOk, ap, sym, subst, refl}
 use Rattle.lv_disk.specs.Stops.{LeavesOnly}
 use Rattle.lv_maptables.specs.Tables.{Tables}
 use Rattle.lv_commands.specs.Readiness as readiness
 use Rattle.lv_commands.specs.LineSteps.{Accepts, LeadsTo}
 use Rattle.lv_commands.specs.Step.{after, number_of, step}
 use Rattle.lv_project.specs.Fields.{state_of}
-use Rattle.lv_project.specs.Outcomes.{EndsApply}
+use Rattle.lv_project.specs.Outcomes.{EndsApply, TurnsWhereFull}
 use Rattle.lv_project.specs.Places.{cap_of}
 use Rattle.lv_project.specs.Stands.{IsOutcome, Stands, StandsFor}
 use Rattle.lv_project.proofs.Sound.{both_moments, is_kept, kept_view, no_moment, no_outcome, room_moments}
-use Rattle.lv_project.proofs.Endings.{ends_from, refused_ends, room_refused}
+use Rattle.lv_project.proofs.Endings.{ends_from, fault_refused, refused_ends, room_refused, turned_then}
 use Rattle.lv_journal.specs.State.{IsAbove}
 use Rattle.lv_project.specs.declared.error.ProjectError.TheVariants.{GenerationsSpent}
 use Rattle.lv_project.proofs.Spent.{device_or, err_ok, error_same, not_refused}
@@ -117,3 +117,15 @@ returns-in-Err-make_room-clause-ends g c =
           c.in-Err-make_room.error c.in-Err-make_room.ensures.ends.0 c.in-Err-make_room.ensures.ends.1,
     ))
     (sym (ap (λ (v : _). v.must_reopen) c.self.view_is) ∙ c.if-self.false)
+
+pub returns-clause-turned : goal.returns-clause-turned
+returns-clause-turned g c =
+    subst (λ (v : _). OnOk c.record.result (TurnsWhereFull v c.record.new.self (length c.args.line.now))) c.self.view_is
+    (turned_then (state_of c.self.inside) c.make_room.new.self c.record.new.self (length c.args.line.now) c.record.result c.in-Ok-make_room.ensures.turned c.record.ensures.generation)
+
+pub returns-in-Err-clause-ends : goal.returns-in-Err-clause-ends
+returns-in-Err-clause-ends g c = (
+  refl,
+  (let still = sym (ap (λ (v : _). v.must_reopen) c.self.view_is) ∙ c.if-self.false in
+      fault_refused g.D.Disk.failures c.args.self.now c.args.self.now c.args.line.now c.in-Err.error c.refusal_of.result c.refusal_of.ensures c.in-Err.ensures.fault still still),
+)

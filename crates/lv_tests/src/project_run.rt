@@ -1,0 +1,246 @@
+//! Lines over a project, and the subcommands that take a file.
+
+use crate::project::{SMALL, created, empty_disk, opened, vertices};
+use lv_disk::{Disk, FaultDisk, FileDisk, MemoryDisk};
+use lv_editor::{EditorError, RequestError, answer, perform, request, run};
+use lv_project::Project;
+use std::alloc::Global;
+use std::fs;
+use std::io::{self, Write};
+use std::test::Fail;
+
+/// A writer that takes this many bytes, and then fails.
+#[derive(Drop)]
+struct Narrow {
+    room: usize,
+}
+
+impl Write for Narrow {
+    fn write(&mut self, buf: &[u8]) -> io::Result<usize> {
+        let taken = self.room.min(buf.len());
+        if taken == 0 {
+            return Err(io::Error::from(io::ErrorKind::StorageFull));
+        }
+        self.room -= taken;
+        Ok(taken)
+    }
+
+    fn flush(&mut self) -> io::Result<()> {
+        Ok(())
+    }
+}
+
+/// A new project on a disk of which this call fails. The first 8 are those of `create`, and an append makes 4, of which
+/// the last is its second sync.
+fn failing(alloc: Global, call: u64) -> Result<Project<FaultDisk<MemoryDisk>>, Fail> {
+    Ok(created(alloc, FaultDisk::new(empty_disk(alloc)?, call, 0), SMALL)?)
+}
+
+const LINES: [(&[u8], &[u8]); 5] = [
+    (b"vertex 0 0", b"no 30\n"),
+    (b"vertex 1 0", b"no 32\n"),
+    (b"count", b"no 32\n"),
+    (b"hex VERTEXES", b"no 32\n"),
+    (b"no command", b"no 32\n"),
+];
+
+#[test]
+fn answers_no_line_after_a_fault(rt: HostRuntime) -> Result<(), Fail> {
+    let mut project = failing(rt.alloc(), 12)?;
+    for (line, wanted) in LINES {
+        let mut out = Vec::new(rt.alloc());
+        answer(rt.alloc(), &mut project, line, &mut out)?;
+        assert_eq!(rt; out.as_slice(), wanted, "{line:?}");
+    }
+    assert_eq!(rt; vertices(&project), 0);
+    // Opened again without a stop the map has the vertex.
+    assert_eq!(rt; vertices(&opened(rt.alloc(), project.into_disk())?), 1);
+    Ok(())
+}
+
+/// What a run answers over a project on a disk of which this call fails: each text once.
+const RUNS: [(u64, &[u8], u32); 4] = [
+    (12, b"no 30\nno 32\nno 32\nno 32\n", 0),
+    (13, b"ok 0\nno 30\nno 32\nno 32\n", 1),
+    (17, b"ok 0\nok 1\nvertices 2 sectors 0 sides 0 lines 0 things 0\nno 30\n", 2),
+    (99, b"ok 0\nok 1\nvertices 2 sectors 0 sides 0 lines 0 things 0\nok 2\n", 3),
+];
+
+#[test]
+fn runs_over_a_project(rt: HostRuntime) -> Result<(), Fail> {
+    for (call, wanted, count) in RUNS {
+        let mut project = failing(rt.alloc(), call)?;
+        let mut input = b"vertex 0 0\nvertex 1 0\ncount\nvertex 2 0\n".as_slice();
+        let mut out = Vec::new(rt.alloc());
+        let answered = run(rt.alloc(), &mut project, &mut input, &mut out, 2);
+        assert_eq!(rt; answered, Ok(4), "call {call}");
+        assert_eq!(rt; out.as_slice(), wanted, "call {call}");
+        assert_eq!(rt; vertices(&project), count, "call {call}");
+    }
+    Ok(())
+}
+
+#[test]
+fn keeps_what_it_could_not_tell(rt: HostRuntime) -> Result<(), Fail> {
+    let mut project = failing(rt.alloc(), 99)?;
+    let mut narrow = Narrow { room: 0 };
+    assert_eq!(rt;
+        answer(rt.alloc(), &mut project, b"vertex 0 0", &mut narrow),
+        Err(EditorError::WriterFailed)
+    );
+    assert_eq!(rt; vertices(&project), 1);
+    let mut input = b"vertex 1 0\nvertex 2 0\nvertex 3 0\n".as_slice();
+    let mut narrow = Narrow { room: 7 };
+    assert_eq!(rt;
+        run(rt.alloc(), &mut project, &mut input, &mut narrow, 2),
+        Err(EditorError::WriterFailed)
+    );
+    assert_eq!(rt; vertices(&project), 3, "the third line isn't looked at");
+    assert_eq!(rt; vertices(&opened(rt.alloc(), project.into_disk())?), 3);
+    Ok(())
+}
+
+/// The status of the program with these words over this input, and what it writes as its faults.
+fn status_of<W: Write>(
+    rt: &HostRuntime,
+    words: &[&str],
+    input: &[u8],
+    out: &mut W,
+) -> Result<(u8, Vec<u8>), Fail> {
+    let Ok(asked) = request(rt.alloc(), words) else {
+        return Err(Fail::from("no request"));
+    };
+    let mut reader = input;
+    let mut faults = Vec::new(rt.alloc());
+    let status = perform(rt, &asked, &mut reader, out, &mut faults);
+    Ok((status, faults))
+}
+
+/// A subcommand over one file, its input, its status, its output and its faults.
+type Row = (
+    &'static str,
+    &'static [u8],
+    u8,
+    &'static [u8],
+    &'static [u8],
+);
+
+const FILE_ROWS: [Row; 8] = [
+    ("edit", b"vertex 0 0\n", 1, b"", b"leveled: 30 Device\n"),
+    ("check", b"", 1, b"", b"leveled: 30 Device\n"),
+    ("create", b"", 0, b"created\n", b""),
+    ("create", b"", 1, b"", b"leveled: 43 NotEmpty\n"),
+    ("check", b"", 3, b"no player start\nfindings 1\n", b""),
+    (
+        "edit",
+        b"vertex 0 0\nvertex 128 0\nhex VERTEXES\n",
+        0,
+        b"ok 0\nok 1\n00 00 00 00 80 00 00 00\n",
+        b"",
+    ),
+    ("edit", b"vertex 0 0\n", 0, b"no 10\n", b""),
+    (
+        "check",
+        b"",
+        3,
+        b"vertex 0 unused\nvertex 1 unused\nno player start\nfindings 3\n",
+        b"",
+    ),
+];
+
+#[test]
+fn makes_edits_and_checks_a_file(rt: HostRuntime) -> Result<(), Fail> {
+    let path = "lv_project_run_file";
+    let _ = fs::remove_file(&rt, path);
+    for (name, input, status, wanted, said) in FILE_ROWS {
+        let mut out = Vec::new(rt.alloc());
+        let (found, faults) = status_of(&rt, ["leveled", name, path].as_slice(), input, &mut out)?;
+        assert_eq!(rt; found, status, "{name}");
+        assert_eq!(rt; out.as_slice(), wanted, "{name}");
+        assert_eq!(rt; faults.as_slice(), said, "{name}");
+    }
+    assert_eq!(rt; FileDisk::open(&rt, path, false)?.len(), Ok(589_841));
+    fs::remove_file(&rt, path)?;
+    Ok(())
+}
+
+#[test]
+fn makes_no_file_but_by_create(rt: HostRuntime) -> Result<(), Fail> {
+    let path = "lv_project_run_missing";
+    let _ = fs::remove_file(&rt, path);
+    for name in ["edit", "check"] {
+        let mut out = Vec::new(rt.alloc());
+        let (found, _) = status_of(&rt, ["leveled", name, path].as_slice(), b"", &mut out)?;
+        assert_eq!(rt; found, 1, "{name}");
+        assert!(rt; FileDisk::open(&rt, path, false).is_err(), "{name}");
+    }
+    // Where `created` can't be written the file stands.
+    let words = ["leveled", "create", path];
+    let mut narrow = Narrow { room: 3 };
+    let (found, faults) = status_of(&rt, words.as_slice(), b"", &mut narrow)?;
+    assert_eq!(rt; found, 1);
+    assert_eq!(rt; faults.as_slice(), b"leveled: 38 WriterFailed\n".as_slice());
+    let mut out = Vec::new(rt.alloc());
+    let (found, _) = status_of(&rt, ["leveled", "edit", path].as_slice(), b"count", &mut out)?;
+    assert_eq!(rt; found, 0);
+    fs::remove_file(&rt, path)?;
+    Ok(())
+}
+
+/// Bytes at a place of a file with one vertex, and what is said of it then.
+const DAMAGE: [(u64, &[u8], &[u8]); 4] = [
+    (158, b"!", b"leveled: 40 Damaged at 144\n"),
+    (16, b"\0", b"leveled: 41 Blank\n"),
+    (8, b"\x20", b"leveled: 44 BadGeometry\n"),
+    (0, b"P", b"leveled: 42 NotAProject\n"),
+];
+
+#[test]
+fn says_why_a_file_is_no_project(rt: HostRuntime) -> Result<(), Fail> {
+    let path = "lv_project_run_damaged";
+    let _ = fs::remove_file(&rt, path);
+    let small = ["leveled", "create", path, "--slot", "64", "--journal", "512"];
+    let edit = ["leveled", "edit", path];
+    let mut out = Vec::new(rt.alloc());
+    let _ = status_of(&rt, small.as_slice(), b"", &mut out)?;
+    let _ = status_of(&rt, edit.as_slice(), b"vertex 0 0", &mut out)?;
+    assert_eq!(rt; out.as_slice(), b"created\nok 0\n".as_slice());
+    for (at, bytes, wanted) in DAMAGE {
+        FileDisk::open(&rt, path, false)?.write_at(at, bytes)?;
+        let (status, faults) = status_of(&rt, edit.as_slice(), b"vertex 1 1", &mut out)?;
+        assert_eq!(rt; (status, out.len()), (1, 13), "{at}");
+        assert_eq!(rt; faults.as_slice(), wanted, "{at}");
+    }
+    fs::remove_file(&rt, path)?;
+    Ok(())
+}
+
+/// The lengths of `create`, and the status where they are refused.
+const LENGTHS: [(&str, &str, Option<i32>); 9] = [
+    ("--slot", "32", Some(2)),
+    ("--slot", "33", None),
+    ("--slot", "2007015", None),
+    ("--slot", "2007016", Some(2)),
+    ("--slot", "x", Some(2)),
+    ("--journal", "511", Some(2)),
+    ("--journal", "512", None),
+    ("--journal", "1048576", None),
+    ("--journal", "1048577", Some(2)),
+];
+
+/// The status of a refusal by clap, and None where there is a request.
+fn refused(alloc: Global, words: &[&str]) -> Option<i32> {
+    match request(alloc, words) {
+        Err(RequestError::Words(error)) => Some(error.exit_code()),
+        _ => None,
+    }
+}
+
+#[test]
+fn reads_lengths_within_their_limits(rt: HostRuntime) {
+    for (option, number, wanted) in LENGTHS {
+        let words = ["leveled", "create", "f", option, number];
+        let found = refused(rt.alloc(), words.as_slice());
+        assert_eq!(rt; found, wanted, "{option} {number}");
+    }
+}
