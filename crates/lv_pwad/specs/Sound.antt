@@ -8,7 +8,7 @@ use Rattle.lv_blockmap.specs.Layout.{ListsBlocks}
 use Rattle.lv_blockmap.specs.Lump.{IsBlockmap, IsTooLarge}
 use Rattle.lv_segs.specs.Segs.{RunAlong, HasFields, IsConvexSub}
 use Rattle.lv_segs.specs.Nodes.{IsParting}
-use Rattle.lv_nodes.specs.Edges.{edges_of}
+use Rattle.lv_segs.specs.Edges.{edges_of}
 use Rattle.lv_nodes.specs.Sound.{AddsEnds, HasTooManyVertices, HasTooManySegs, HasTooManySubsectors, IsTooDeep}
 use Rattle.lv_nodes.specs.Built.{IsBuilt}
 use Rattle.lv_nodes.specs.declared.built.Built.{Built}
