@@ -24,6 +24,8 @@ mod journal;
 #[cfg(test)]
 mod lumps;
 #[cfg(test)]
+mod maps;
+#[cfg(test)]
 mod maptables;
 #[cfg(test)]
 mod nodes;
@@ -35,5 +37,7 @@ mod project;
 mod project_stops;
 #[cfg(test)]
 mod segs;
+#[cfg(test)]
+mod several;
 #[cfg(test)]
 mod slots;
