@@ -26,6 +26,8 @@ mod journal;
 #[cfg(test)]
 mod lumps;
 #[cfg(test)]
+mod maps;
+#[cfg(test)]
 mod maptables;
 #[cfg(test)]
 mod nodes;
@@ -41,6 +43,8 @@ mod project_stops;
 mod pwad;
 #[cfg(test)]
 mod segs;
+#[cfg(test)]
+mod several;
 #[cfg(test)]
 mod slots;
 #[cfg(test)]
