@@ -62,8 +62,16 @@ fn answers_no_line_after_a_fault(rt: HostRuntime) -> Result<(), Fail> {
 const RUNS: [(u64, &[u8], u32); 4] = [
     (12, b"no 30\nno 32\nno 32\nno 32\n", 0),
     (13, b"ok 0\nno 30\nno 32\nno 32\n", 1),
-    (17, b"ok 0\nok 1\nvertices 2 sectors 0 sides 0 lines 0 things 0\nno 30\n", 2),
-    (99, b"ok 0\nok 1\nvertices 2 sectors 0 sides 0 lines 0 things 0\nok 2\n", 3),
+    (
+        17,
+        b"ok 0\nok 1\nvertices 2 sectors 0 sides 0 lines 0 things 0\nno 30\n",
+        2,
+    ),
+    (
+        99,
+        b"ok 0\nok 1\nvertices 2 sectors 0 sides 0 lines 0 things 0\nok 2\n",
+        3,
+    ),
 ];
 
 #[test]
@@ -181,7 +189,12 @@ fn makes_no_file_but_by_create(rt: HostRuntime) -> Result<(), Fail> {
     assert_eq!(rt; found, 1);
     assert_eq!(rt; faults.as_slice(), b"leveled: 38 WriterFailed\n".as_slice());
     let mut out = Vec::new(rt.alloc());
-    let (found, _) = status_of(&rt, ["leveled", "edit", path].as_slice(), b"count", &mut out)?;
+    let (found, _) = status_of(
+        &rt,
+        ["leveled", "edit", path].as_slice(),
+        b"count",
+        &mut out,
+    )?;
     assert_eq!(rt; found, 0);
     fs::remove_file(&rt, path)?;
     Ok(())
@@ -199,7 +212,15 @@ const DAMAGE: [(u64, &[u8], &[u8]); 4] = [
 fn says_why_a_file_is_no_project(rt: HostRuntime) -> Result<(), Fail> {
     let path = "lv_project_run_damaged";
     let _ = fs::remove_file(&rt, path);
-    let small = ["leveled", "create", path, "--slot", "64", "--journal", "512"];
+    let small = [
+        "leveled",
+        "create",
+        path,
+        "--slot",
+        "64",
+        "--journal",
+        "512",
+    ];
     let edit = ["leveled", "edit", path];
     let mut out = Vec::new(rt.alloc());
     let _ = status_of(&rt, small.as_slice(), b"", &mut out)?;
