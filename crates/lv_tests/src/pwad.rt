@@ -173,25 +173,9 @@ fn fault_at(
     fault
 }
 
+/// The faults of a level with nodes; `inspection.rt` has those of a room.
 #[test]
 fn a_changed_byte_is_the_fault_that_it_makes(rt: HostRuntime) {
-    let mut room = built(&rt, rt.alloc(), &[ROOM]);
-    for (place, byte, fault) in [
-        (12, 4, Fault::LineVertex(0)),
-        (16, 5, Fault::LineSide(0)),
-        (96, 1, Fault::SideSector(0)),
-        (204, 4, Fault::SegVertex(0)),
-        (210, 4, Fault::SegLine(0)),
-        (212, 1, Fault::SegSide(0)),
-        (252, 0, Fault::SubRange(0)),
-        (252, 3, Fault::SubTotal),
-        (287, 0xff, Fault::BlockHeader),
-        (291, 0x1c, Fault::BlockList(0)),
-        (487, 0, Fault::Reject),
-    ] {
-        let found = fault_at(&rt, rt.alloc(), &mut room, place, byte);
-        assert_eq!(rt; found, Some(fault));
-    }
     let mut l = built(&rt, rt.alloc(), &L);
     for (place, byte, fault) in [
         (271, 0, Fault::NodeChild(0)),
