@@ -9,13 +9,14 @@ ghost use Rattle.lv_editor.specs.Request.{status_in};
 
 use crate::error::{EditorError, WriteError};
 use crate::refusal::Refusal;
-use lv_disk::Disk;
+use lv_disk::{Disk, FileDisk};
 use lv_maptables::Map;
-use lv_project::Project;
+use lv_project::{Project, ProjectError};
 use lv_pwad::{BuildError, Level, build_wad, read_level};
 use std::alloc::Global;
 use std::fs::{Files, OpenFile, OpenOptions};
 use std::io::Write;
+use std::os::unix::fs::FileExt;
 
 /// How many records a build made, and how many bytes its PWAD has.
 #[derive(Clone, Copy, Debug, PartialEq, Eq)]
@@ -125,8 +126,25 @@ fn tell_built<W: Write>(counts: Counts, writer: &mut W) -> Result<u8, Refusal>
     }
 }
 
+/// Whether a project stands in the file at the path, sound or damaged.
+fn is_project<E: Files>(alloc: Global, rt: &E, path: &str) -> bool
+where
+    E::File: FileExt,
+{
+    let Ok(disk) = FileDisk::open(rt, path, false) else {
+        return false;
+    };
+    match Project::open(alloc, disk) {
+        Ok(_) => true,
+        Err(refused) => match refused.error {
+            ProjectError::Device | ProjectError::NotAProject => false,
+            _ => true,
+        },
+    }
+}
+
 /// Builds the map of a disk's project into the file at the path, which is made where there is none, and tells what was
-/// made.
+/// made. A file that holds a project is not written over.
 pub fn build<E: Files, D: Disk + Drop, W: Write>(
     alloc: Global,
     rt: &E,
@@ -134,6 +152,8 @@ pub fn build<E: Files, D: Disk + Drop, W: Write>(
     path: &str,
     writer: &mut W,
 ) -> Result<u8, Refusal>
+where
+    E::File: FileExt,
     ensures small { IfOk result (λ s. s ≤ 3) }
     ensures built { IsBuiltInto (status_in result) (W.contents writer.old) (W.contents writer.new) }
 {
@@ -141,6 +161,9 @@ pub fn build<E: Files, D: Disk + Drop, W: Write>(
         Ok(project) => project,
         Err(refused) => return Err(Refusal::Project(refused.error)),
     };
+    if is_project(alloc, rt, path) {
+        return Err(Refusal::Lines(EditorError::WriterFailed));
+    }
     let opened = OpenOptions::new().write(true).create(true).open(rt, path);
     let Ok(mut file) = opened else {
         return Err(Refusal::Lines(EditorError::WriterFailed));

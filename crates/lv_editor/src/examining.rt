@@ -10,7 +10,7 @@ use std::alloc::Global;
 use std::fs::{self, Files};
 use std::io::{Read, Write};
 
-/// All that the reader gives, in at most `turns` reads of at most 65,536 bytes.
+/// All that the reader gives, in at most `turns` reads of at most 4,096 bytes.
 fn read_whole<R: Read>(alloc: Global, reader: &mut R, turns: u32) -> Result<Vec<u8>, EditorError>
     ensures whole { IfOk result (λ bytes.
         Consumes (R.remaining reader.old) (R.remaining reader.new) bytes.items
@@ -18,7 +18,7 @@ fn read_whole<R: Read>(alloc: Global, reader: &mut R, turns: u32) -> Result<Vec<
     ensures refused { IfErr result EndsReading }
 {
     let mut bytes = Vec::new(alloc);
-    let mut buffer = [0; 65536];
+    let mut buffer = [0; 4096];
     for _ in 0..turns {
         let count = match reader.read(&mut buffer) {
             Ok(count) => count,

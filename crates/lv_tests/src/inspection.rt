@@ -96,7 +96,7 @@ type Call = (
 const ROOM: &[u8] = b"room 0 0 128 128 0 128 FLOOR4_8 CEIL3_5 STARTAN3 160\n";
 
 /// A room is drawn into a project file, built into a PWAD and inspected.
-const CALLS: [Call; 9] = [
+const CALLS: [Call; 10] = [
     (&["leveled", "create", "room.lv"], b"", 0, b"created\n", b""),
     (
         &["leveled", "build", "room.lv", "room.wad"],
@@ -115,6 +115,13 @@ const CALLS: [Call; 9] = [
     ),
     (
         &["leveled", "build", "room.lv", "none/room.wad"],
+        b"",
+        1,
+        b"",
+        b"leveled: 38 WriterFailed\n",
+    ),
+    (
+        &["leveled", "build", "room.lv", "./room.lv"],
         b"",
         1,
         b"",
