@@ -33,6 +33,21 @@ done
 printf 'vertex 0 0\n' | "$program" edit "$place/map" >/dev/full 2>/dev/null; status_is 'edit and a full disk' 1 $?
 said=$(printf 'vertex 0 0\n' | "$program" edit "$place/map"); status_is 'the same line again' 0 $?
 [ "$said" = 'no 10' ] || { echo "the same line again says: $said"; bad=1; }
+
+# A closed stream's number isn't taken by the file of a project, and a build never writes over one.
+cp "$place/map" "$place/kept"
+"$program" edit "$place/map" </dev/null >&- 2>/dev/null
+echo count | "$program" edit "$place/map" >&- 2>/dev/null; status_is 'edit without standard output' 1 $?
+"$program" check "$place/map" >&- 2>/dev/null; status_is 'check without standard output' 1 $?
+"$program" edit "$place/map" <&- >&- 2>&-
+"$program" build "$place/map" "$place/out" <&- >&- 2>&-
+echo 'hex THINGS' | "$program" edit "$place/map" 2>&- >/dev/null
+ln -s map "$place/link"
+for out in map link; do
+    said=$("$program" build "$place/map" "$place/$out" 2>&1); status_is "build over $out" 1 $?
+    [ "$said" = 'leveled: 38 WriterFailed' ] || { echo "build over $out says: $said"; bad=1; }
+done
+cmp -s "$place/map" "$place/kept" || { echo 'a project was written over'; bad=1; }
 rm -r "$place"
 
 exit $bad

@@ -5,6 +5,7 @@ use clap::Error;
 use clap::error::ErrorKind;
 use lv_editor::{RequestError, perform, request};
 use std::env::{self, Env, FillError};
+use std::fs::{self, File};
 use std::io::{self, BufWriter};
 use std::process::ExitCode;
 
@@ -105,8 +106,19 @@ fn answer(rt: &HostRuntime, words: &[&str]) -> u8 {
     }
 }
 
+/// Opens an empty file three times, for reading alone: where a standard stream was closed, it is this from now on, and no file
+/// that is opened later takes its place, into which answers would be written. To be held as long as the program runs.
+fn fill_closed_streams(rt: &HostRuntime) -> [io::Result<File>; 3] {
+    [
+        fs::open(rt, "/dev/null"),
+        fs::open(rt, "/dev/null"),
+        fs::open(rt, "/dev/null"),
+    ]
+}
+
 /// Reads the words, and does what they ask for.
 fn run(rt: &HostRuntime) -> u8 {
+    let _held = fill_closed_streams(rt);
     let read = match env::args(rt) {
         Ok(read) => read,
         Err(error) => return refuse_unread(rt, &error),
