@@ -24,9 +24,11 @@ demo: bin/leveled
 	@awk -v answers=bin/answers -f examples/beside.awk $(EXAMPLE)
 	echo count | bin/leveled edit bin/demo.lv
 	@echo 'That line is of the file, opened again: each command answered ok is in it.'
-	bin/leveled build bin/demo.lv bin/demo.wad
-	name=$$(sed -n 's/^name //p' $(EXAMPLE)); bin/leveled inspect bin/demo.wad $${name:-MAP01}
-	@echo 'bin/demo.wad is a PWAD: chocolate-doom -file bin/demo.wad'
+	@echo bin/leveled build bin/demo.lv bin/demo.wad
+	@if bin/leveled build bin/demo.lv bin/demo.wad; then \
+		name=$$(sed -n 's/^name //p' $(EXAMPLE)); name=$${name:-MAP01}; \
+		echo bin/leveled inspect bin/demo.wad $$name; bin/leveled inspect bin/demo.wad $$name; \
+		echo 'bin/demo.wad is a PWAD: chocolate-doom -file bin/demo.wad'; fi
 
 test:
 	rt ci
