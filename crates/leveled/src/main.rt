@@ -106,8 +106,9 @@ fn answer(rt: &HostRuntime, words: &[&str]) -> u8 {
     }
 }
 
-/// Opens an empty file three times, for reading alone: where a standard stream was closed, it is this from now on, and no file
-/// that is opened later takes its place, into which answers would be written. To be held as long as the program runs.
+/// Opens an empty file three times, for reading alone. Where a standard stream was closed, it is this
+/// from now on, so that no file that is opened later takes its place and is written over by answers.
+/// To be held as long as the program runs.
 fn fill_closed_streams(rt: &HostRuntime) -> [io::Result<File>; 3] {
     [
         fs::open(rt, "/dev/null"),
