@@ -1,28 +1,30 @@
 -- The answer to a line, by what the line is.
-use Rattle.std.proofs.Common.{◌≡◌, ℕ, List, Option, Some, None, Result, Ok, Err, ◌⊎◌, inl, inr, refl, ap, subst}
+use Rattle.std.proofs.Common.{◌≡◌, ℕ, List, Option, Some, None, Result, Ok, Err, ◌⊎◌, inl, inr, refl, sym, ap, subst, arith}
 use Rattle.std.specs.Prelude.{IsOk, MatchOption}
 use Rattle.std.specs.Option.{option_map}
-use Rattle.lv_maptables.specs.Tables.{Tables}
-use Rattle.lv_commands.specs.CommandRanges.{InRange}
+use Rattle.lv_maptables.specs.Outcomes.{Covers}
+use Rattle.lv_maptables.specs.Projects.{ProjectMaps}
+use Rattle.lv_maptables.specs.Tables.{Counts}
+use Rattle.lv_maptables.specs.declared.map.Need.{Need}
 use Rattle.lv_commands.specs.Errors.{code_of}
-use Rattle.lv_commands.specs.Grammar.{fault_of}
-use Rattle.lv_commands.specs.LineSteps.{EndsLine, RefusesCommand}
-use Rattle.lv_commands.specs.Readiness.{EndsStep, RefusesStep}
-use Rattle.lv_commands.specs.Spelling.{spelling}
-use Rattle.lv_commands.specs.Step.{step}
-use Rattle.lv_commands.specs.declared.command.Command.{Command}
+use Rattle.lv_commands.specs.ProjectCommands.{InRange, spelling}
+use Rattle.lv_commands.specs.ProjectGrammar.{fault_of}
+use Rattle.lv_commands.specs.ProjectLines.{EndsLine, RefusesCommand}
+use Rattle.lv_commands.specs.ProjectReadiness.{EndsStep, RefusesStep, need_of}
+use Rattle.lv_commands.specs.ProjectStep.{step}
+use Rattle.lv_commands.specs.Readiness.{no_need}
 use Rattle.lv_commands.specs.declared.error.CommandError.{CommandError}
 use Rattle.lv_commands.specs.declared.error.CommandError.TheVariants.{NotACommand, OutOfRange, NoVertex, NoSector, NoSide, NoLine, NoThing, InUse, SameEnds, PlaceTaken, TwoSidedWithoutLeft, TableFull, LineTooLong, ProjectFull, BadName, TooManyMaps, MapNameTaken, NoSuchMap, CurrentMap, OutOfMemory}
+use Rattle.lv_commands.specs.declared.project.command.ProjectCommand.{ProjectCommand}
 use Rattle.lv_editor.specs.Answers.{AddsItems, ChangesBy, RepliesInMemory, outcome_of}
-use Rattle.lv_maptables.specs.Body.{lump_of}
-use Rattle.lv_checks.specs.Findings.{findings}
-use Rattle.lv_editor.specs.Queries.{IsAnswer, TakesMemory, kind_of, query_of}
-use Rattle.lv_editor.specs.Texts.{count_text, findings_text, hex_text, outcome_text, refused_text}
-use Rattle.lv_editor.specs.declared.query.Query.TheVariants.{Check, Count, Hex}
+use Rattle.lv_editor.specs.Queries.{IsAnswer, TakesMemory, Unanswered, query_of}
+use Rattle.lv_editor.specs.Texts.{outcome_text, refused_text}
+use Rattle.lv_editor.specs.declared.error.EditorError.{EditorError}
+use Rattle.lv_editor.specs.declared.error.EditorError.TheVariants as editing
 use Rattle.lv_editor.specs.declared.query.Query.{Query}
 
 -- a refused command is refused by the step's code, but for want of memory
-by_code : (e : CommandError) (change : Result (Tables × ℕ) ℕ) → RefusesStep e change → (change ≡ Err (code_of e)) ⊎ ((e ≡ OutOfMemory) × IsOk change)
+by_code : (e : CommandError) (change : Result (ProjectMaps × ℕ) ℕ) → RefusesStep e change → (change ≡ Err (code_of e)) ⊎ ((e ≡ OutOfMemory) × IsOk change)
 by_code NotACommand change told = inl told
 by_code OutOfRange change told = inl told
 by_code NoVertex change told = inl told
@@ -44,38 +46,53 @@ by_code NoSuchMap change told = inl told
 by_code CurrentMap change told = inl told
 by_code OutOfMemory change told = inr (refl, told)
 
-some_step : (change : Result (Tables × ℕ) ℕ) → IsOk change → (new : Tables) × (n : ℕ) × (change ≡ Ok (new, n))
+some_step : (change : Result (ProjectMaps × ℕ) ℕ) → IsOk change → (new : ProjectMaps) × (n : ℕ) × (change ≡ Ok (new, n))
 some_step (Ok p) ok = (p.0, p.1, refl)
 some_step (Err code) ok = cc
 
 -- what a line without a fault is refused for
-refused : (cap : ℕ) (old : Tables) (line : List ℕ) (code : ℕ) (fault : Option ℕ) → fault ≡ None → RefusesCommand cap old line code
+refused : (cap : ℕ) (old : ProjectMaps) (line : List ℕ) (code : ℕ) (fault : Option ℕ) → fault ≡ None → RefusesCommand cap old line code
     → MatchOption fault (RefusesCommand cap old line code) (λ f. code ≡ f)
 refused limit old line code None e told = told
 refused limit old line code (Some f) e told = cc
 
 -- a line with a fault is refused with it
-pub faulty : (cap : ℕ) (old : Tables) (line : List ℕ) (code : ℕ) → fault_of line ≡ Some code → ChangesBy cap old line (Err code) old
+pub faulty : (cap : ℕ) (old : ProjectMaps) (line : List ℕ) (code : ℕ) → fault_of line ≡ Some code → ChangesBy cap old line (Err code) old
 faulty limit old line code e = inl (go (fault_of line) e, refl)
   where
     go : (fault : Option ℕ) → fault ≡ Some code → MatchOption fault (RefusesCommand limit old line code) (λ f. code ≡ f)
     go None e = cc
     go (Some f) e = cc
 
+-- what adds nothing takes no memory
+covers-none : (spare : Counts) (need : Need) → need ≡ no_need → Covers spare need
+covers-none spare need none =
+    subst (λ (n : Need). Covers spare n) (sym none)
+    (record { vertices = omega arith; sectors = omega arith; sides = omega arith; lines = omega arith; things = omega arith })
+
 -- a command that was tried
-pub tried : (cap : ℕ) (old new : Tables) (line : List ℕ) (c : Command) (r : Result ℕ CommandError) → InRange c → line ≡ spelling c → fault_of line ≡ None
-    → EndsStep r (step old c cap) old new → ChangesBy cap old line (outcome_of r) new
-tried limit old new line c (Ok n) range is none ends = inl (record { command = c; range = range; line_is = is; stepped = ends })
-tried limit old new line c (Err e) range is none (told, same) =
+pub tried : (cap : ℕ) (old new : ProjectMaps) (line : List ℕ) (c : ProjectCommand) (spare : Counts) (r : Result ℕ CommandError) → InRange c → line ≡ spelling c
+    → fault_of line ≡ None → EndsStep r (step old c cap) old new → (Covers spare (need_of c) → r ≡ Err OutOfMemory → ⊥) → ChangesBy cap old line (outcome_of r) new
+tried limit old new line c spare (Ok n) range is none ends promised = inl (record { command = c; range = range; line_is = is; stepped = ends })
+tried limit old new line c spare (Err e) range is none (told, same) promised =
     elim (by_code e (step old c limit) told) [
       | inl stepped ↦ inl (refused limit old line (code_of e) (fault_of line) none (record { command = c; range = range; line_is = is; stepped = stepped }), same)
       | inr (lacks, ok) ↦
           let some = some_step (step old c limit) ok in
-          inr (ap (λ (x : CommandError). outcome_of (Err x)) lacks, (some.0, (some.1, record { command = c; range = range; line_is = is; stepped = some.2 })), same)
+          inr (
+            ap (λ (x : CommandError). outcome_of (Err x)) lacks,
+            record {
+              new = some.0;
+              number = some.1;
+              accepts = record { command = c; range = range; line_is = is; stepped = some.2 };
+              adds = λ nothing. promised (covers-none spare (need_of c) nothing) (ap Err lacks);
+            },
+            same,
+          )
     ]
 
 -- a line that is no query
-pub replies-command : (cap : ℕ) (old new : Tables) (line : List ℕ) (outcome : Result ℕ ℕ) → None ≡ option_map (λ q. q.1) (query_of line)
+pub replies-command : (cap : ℕ) (old new : ProjectMaps) (line : List ℕ) (outcome : Result ℕ ℕ) → None ≡ option_map (λ q. q.1) (query_of line)
     → ChangesBy cap old line outcome new → RepliesInMemory cap old line (outcome_text outcome) new
 replies-command limit old new line outcome none (inl ends) = inl (go (query_of line) none)
   where
@@ -90,7 +107,7 @@ replies-command limit old new line outcome none (inr (is, adds, same)) = inr ((g
     go (Some q) e = cc
 
 -- a query
-pub replies-query : (cap : ℕ) (m : Tables) (line text : List ℕ) (q : Query) → Some q ≡ option_map (λ q. q.1) (query_of line)
+pub replies-query : (cap : ℕ) (m : ProjectMaps) (line text : List ℕ) (q : Query) → Some q ≡ option_map (λ q. q.1) (query_of line)
     → IsAnswer m q text → RepliesInMemory cap m line text m
 replies-query limit m line text q some told = inl (go (query_of line) some)
   where
@@ -100,7 +117,7 @@ replies-query limit m line text q some told = inl (go (query_of line) some)
     go (Some r) e = let same : q ≡ r.1 = cc in (subst (λ (x : Query). IsAnswer m x text) same told, refl)
 
 -- a query that found no memory
-pub replies-lack : (cap : ℕ) (m : Tables) (line : List ℕ) (q : Query) (code : ℕ) → Some q ≡ option_map (λ q. q.1) (query_of line) → TakesMemory q
+pub replies-lack : (cap : ℕ) (m : ProjectMaps) (line : List ℕ) (q : Query) (code : ℕ) → Some q ≡ option_map (λ q. q.1) (query_of line) → TakesMemory q
     → code ≡ 31 → RepliesInMemory cap m line (refused_text code) m
 replies-lack limit m line q code some takes is = inr ((go (query_of line) some, refl), ap refused_text is)
   where
@@ -108,8 +125,21 @@ replies-lack limit m line q code some takes is = inr ((go (query_of line) some, 
     go None e = cc
     go (Some r) e = let same : q ≡ r.1 = cc in subst (λ (x : Query). TakesMemory x) same takes
 
--- each query has an answer
-pub some_answer : (m : Tables) (q : Query) → (text : List ℕ) × IsAnswer m q text
-some_answer m Check = (findings_text (findings m), refl)
-some_answer m Count = (count_text m, refl)
-some_answer m (Hex lump) = (hex_text (lump_of m (kind_of lump)), refl)
+-- ---- Where no answer was written
+
+-- some text is an answer, or memory was wanting
+pub some_answer : (p : ProjectMaps) (q : Query) (e : EditorError) (u w : Option (List ℕ)) → Unanswered e (λ text. IsAnswer p q text) (TakesMemory q) u w
+    → ((text : List ℕ) × IsAnswer p q text) ⊎ TakesMemory q
+some_answer p q editing.OutOfMemory u w none = inr (none.lacks refl)
+some_answer p q editing.WriterFailed u w none = inl (none.failed refl)
+some_answer p q editing.InputTooLong u w none = absurd none.unwritten
+some_answer p q editing.ReaderFailed u w none = absurd none.unwritten
+
+-- and so some text may be answered to the line
+pub some_reply : (cap : ℕ) (p : ProjectMaps) (line : List ℕ) (q : Query) (e : EditorError) (u w : Option (List ℕ)) → Some q ≡ option_map (λ q. q.1) (query_of line)
+    → Unanswered e (λ text. IsAnswer p q text) (TakesMemory q) u w → (text : List ℕ) × RepliesInMemory cap p line text p
+some_reply limit p line q e u w some none =
+    elim (some_answer p q e u w none) [
+      | inl told ↦ (told.0, replies-query limit p line told.0 q some told.1)
+      | inr takes ↦ (refused_text 31, replies-lack limit p line q 31 some takes refl)
+    ]

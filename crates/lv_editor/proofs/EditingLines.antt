@@ -5,9 +5,9 @@ use Rattle.std.specs.Option.{option_map}
 use Rattle.std.proofs.lemmas.Bool.{ltb-false, ltb-true}
 use Rattle.std.proofs.lemmas.List.{take_all, length-take-le}
 use Rattle.lv_disk.proofs.Moments.{weaker}
-use Rattle.lv_maptables.specs.Tables.{Tables}
-use Rattle.lv_commands.specs.Grammar.{fault_of}
+use Rattle.lv_maptables.specs.Projects.{MapsView, ProjectMaps, project_of}
 use Rattle.lv_commands.specs.Errors as commands
+use Rattle.lv_commands.specs.ProjectGrammar.{fault_of}
 use Rattle.lv_project.specs.Calls.{Applies}
 use Rattle.lv_project.specs.Outcomes.{EndsApply, RefusesApply}
 use Rattle.lv_project.specs.Stands.{IsOutcome}
@@ -15,9 +15,11 @@ use Rattle.lv_project.specs.States.{State}
 use Rattle.lv_project.specs.declared.error.ProjectError.{ProjectError}
 use Rattle.lv_project.specs.declared.error.ProjectError.TheVariants.{Device, OutOfMemory, Reopen, GenerationsSpent, Refused, Damaged, Blank, NotAProject, NotEmpty, BadGeometry}
 use Rattle.lv_editor.specs.Editing.{AnswersQuery, IsTold, MayLack, RepliesInProject, RepliesToQuery, outcome_in}
-use Rattle.lv_editor.specs.Queries.{query_of}
-use Rattle.lv_editor.specs.Texts.{outcome_text}
+use Rattle.lv_editor.specs.Queries.{IsAnswer, TakesMemory, Unanswered, query_of}
+use Rattle.lv_editor.specs.Texts.{outcome_text, refused_text}
+use Rattle.lv_editor.specs.declared.error.EditorError.{EditorError}
 use Rattle.lv_editor.specs.declared.query.Query.{Query}
+use Rattle.lv_editor.proofs.Answering.{some_answer}
 use Rattle.lv_editor.proofs.LongLines.{long-accepts, long-fault, long-query, long-refused, refused-long}
 
 -- what a line is that is no query
@@ -48,14 +50,14 @@ module _ {D : Type 0} (moment failures : D → ℕ) (left_since : D → ℕ → 
 
   long_refusal : (e : ProjectError) (old new : State D) (a b : List ℕ) → 256 < length a → 256 < length b → RefusesApply failures e old new a → RefusesApply failures e old new b
   long_refusal Device old new a b long longer told = told
-  long_refusal OutOfMemory old new a b long longer (ready, still, (next, (n, accepts))) = absurd (long-accepts old.cap old.map.tables next a n long accepts)
+  long_refusal OutOfMemory old new a b long longer (ready, still, (next, (n, accepts))) = absurd (long-accepts old.cap (project_of old.maps) next a n long accepts)
   long_refusal Reopen old new a b long longer told = told
-  long_refusal GenerationsSpent old new a b long longer (ready, still, last, above, (next, (n, accepts))) = absurd (long-accepts old.cap old.map.tables next a n long accepts)
+  long_refusal GenerationsSpent old new a b long longer (ready, still, last, above, (next, (n, accepts))) = absurd (long-accepts old.cap (project_of old.maps) next a n long accepts)
   long_refusal (Refused e) old new a b long longer (ready, still, told) = (
     ready,
     still,
-    refused-long old.cap old.map.tables b (commands.code_of e) (fault_of b) (long-fault b longer)
-        (long-refused old.cap old.map.tables a (commands.code_of e) (fault_of a) (long-fault a long) told),
+    refused-long old.cap (project_of old.maps) b (commands.code_of e) (fault_of b) (long-fault b longer)
+        (long-refused old.cap (project_of old.maps) a (commands.code_of e) (fault_of a) (long-fault a long) told),
   )
   long_refusal (Damaged place) old new a b long longer told = absurd told
   long_refusal Blank old new a b long longer told = absurd told
@@ -64,10 +66,10 @@ module _ {D : Type 0} (moment failures : D → ℕ) (left_since : D → ℕ → 
   long_refusal BadGeometry old new a b long longer told = absurd told
 
   long_ends : (answer : Result ℕ ProjectError) (old new : State D) (a b : List ℕ) → 256 < length a → 256 < length b → EndsApply failures answer old new a → EndsApply failures answer old new b
-  long_ends (Ok n) old new a b long longer (ready, still, accepts) = absurd (long-accepts old.cap old.map.tables new.map.tables a n long accepts)
+  long_ends (Ok n) old new a b long longer (ready, still, accepts) = absurd (long-accepts old.cap (project_of old.maps) (project_of new.maps) a n long accepts)
   long_ends (Err e) old new a b long longer (same, told) = (same, long_refusal e old new a b long longer told)
 
-  long_outcome : (cap : ℕ) (map : Tables) (a b : List ℕ) → 256 < length a → (file : List ℕ) → IsOutcome cap map a file → IsOutcome cap map b file
+  long_outcome : (cap : ℕ) (map : ProjectMaps) (a b : List ℕ) → 256 < length a → (file : List ℕ) → IsOutcome cap map a file → IsOutcome cap map b file
   long_outcome cap map a b long file (inl stands) = inl stands
   long_outcome cap map a b long file (inr (next, (n, accepts), stands)) = absurd (long-accepts cap map next a n long accepts)
 
@@ -78,8 +80,8 @@ module _ {D : Type 0} (moment failures : D → ℕ) (left_since : D → ℕ → 
       ends = long_ends answer old new a b long longer p.ends;
       any_moment =
           λ ready.
-          weaker moment left_since old.disk new.disk (IsOutcome old.cap old.map.tables a) (IsOutcome old.cap old.map.tables b) (p.any_moment ready)
-          (long_outcome old.cap old.map.tables a b long);
+          weaker moment left_since old.disk new.disk (IsOutcome old.cap (project_of old.maps) a) (IsOutcome old.cap (project_of old.maps) b) (p.any_moment ready)
+          (long_outcome old.cap (project_of old.maps) a b long);
       refused_moment = p.refused_moment;
       kept = p.kept;
       same_cap = p.same_cap;
@@ -120,3 +122,18 @@ module _ {D : Type 0} (moment failures : D → ℕ) (left_since : D → ℕ → 
   pub replies_query : (m : State D) (line text : List ℕ) (q : Query) → Some q ≡ option_map (λ q. q.1) (query_of line) → RepliesToQuery m q text → Told m line text m
   replies_query m line text q some (inl told) = inl (some_to (Tried m line text m) (λ x. AnswersQuery m x text × (m ≡ m)) (query_of line) q some (told, refl))
   replies_query m line text q some (inr (lacks, is)) = inr ((some_to ⊥ (λ x. MayLack m x) (query_of line) q some lacks, refl), is)
+
+-- a query that was answered of the project's maps
+pub query_told : {D : Type 0} (m : State D) (maps : MapsView) (q : Query) (text : List ℕ) → maps ≡ m.maps → m.must_reopen ≡ false
+    → IsAnswer (project_of maps) q text → RepliesToQuery m q text
+query_told m maps q text same ready told =
+    inl (inr (ready, subst (λ (v : MapsView). IsAnswer (project_of v) q text) same told))
+
+-- where no answer was written, some text may be answered
+pub query_untold : {D : Type 0} (m : State D) (maps : MapsView) (q : Query) (e : EditorError) (u w : Option (List ℕ)) → maps ≡ m.maps → m.must_reopen ≡ false
+    → Unanswered e (λ text. IsAnswer (project_of maps) q text) (TakesMemory q) u w → (text : List ℕ) × RepliesToQuery m q text
+query_untold m maps q e u w same ready none =
+    elim (some_answer (project_of maps) q e u w none) [
+      | inl told ↦ (told.0, query_told m maps q told.0 same ready told.1)
+      | inr takes ↦ (refused_text 31, inr ((ready, takes), refl))
+    ]

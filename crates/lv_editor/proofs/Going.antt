@@ -23,6 +23,12 @@ Appends-keeps (Some x) None c xs p q = absurd p
 Appends-keeps (Some x) (Some y) None xs p q = absurd q
 Appends-keeps (Some x) (Some y) (Some z) xs p q = q ∙ p
 
+-- one text, and then another that may fail
+pub Appends-then : {U E : Type 0} (r : Result U E) (P : E → Type 0) (a b c : Option (List ℕ)) (xs ys : List ℕ) → Appends a b xs
+    → MatchResult r (λ _. Appends b c ys) P → MatchResult r (λ _. Appends a c (xs ++ ys)) P
+Appends-then (Ok u) P a b c xs ys p q = Appends-append a b c xs ys p q
+Appends-then (Err e) P a b c xs ys p q = q
+
 -- an answer, where nothing else was written before it
 pub Appends-kept : {U E : Type 0} (r : Result U E) (P : E → Type 0) (a b c : Option (List ℕ)) (xs : List ℕ) → Keeps a b
     → MatchResult r (λ _. Appends b c xs) P → MatchResult r (λ _. Appends a c xs) P

@@ -7,5 +7,7 @@ pub mod FromMatches
 pub mod Going
 pub mod HexDigits
 pub mod Inspecting
+pub mod MapLines
 pub mod LongLines
 pub mod RunCalls
+pub mod Telling

@@ -5,11 +5,12 @@ use Rattle.std.specs.List.{list_all}
 use Rattle.std.proofs.Math.Bool.{and-false}
 use Rattle.std.proofs.lemmas.Bool.{leb-true, lt-ltb, ltb-false, ltb-true}
 use Rattle.std.proofs.lemmas.List.{take_all, length-take-le}
-use Rattle.lv_maptables.specs.Tables.{Tables}
-use Rattle.lv_commands.specs.Grammar.{command_fault, fault_of, parts}
-use Rattle.lv_commands.proofs.CommandWords.{spelling-accepted}
+use Rattle.lv_maptables.specs.Projects.{ProjectMaps}
+use Rattle.lv_commands.specs.ProjectGrammar.{command_fault, fault_of}
+use Rattle.lv_commands.specs.ProjectLines.{Accepts, EndsLine, RefusesCommand}
+use Rattle.lv_commands.specs.Words.{parts}
+use Rattle.lv_commands.proofs.ProjectWords.{spelling-accepted}
 use Rattle.lv_editor.specs.Answers.{AddsItems, RepliesInMemory}
-use Rattle.lv_commands.specs.LineSteps.{Accepts, EndsLine, RefusesCommand}
 use Rattle.lv_editor.specs.Queries.{IsAnswer, TakesMemory, query_of, queries}
 use Rattle.lv_editor.specs.Texts.{outcome_text}
 use Rattle.lv_editor.specs.declared.query.Query.{Query}
@@ -41,56 +42,56 @@ pub long-fault : (line : List ℕ) → 256 < length line → fault_of line ≡ S
 long-fault line long = ap (λ t. cond t (Some 1) (command_fault (parts line))) (lt-ltb 256 (length line) long)
 
 -- it is no command's line
-pub long-accepts : (cap : ℕ) (old new : Tables) (line : List ℕ) (n : ℕ) → 256 < length line → Accepts cap old line new n → ⊥
+pub long-accepts : (cap : ℕ) (old new : ProjectMaps) (line : List ℕ) (n : ℕ) → 256 < length line → Accepts cap old line new n → ⊥
 long-accepts limit old new line n long accepts =
     let none : fault_of line ≡ None = ap fault_of accepts.line_is ∙ spelling-accepted accepts.command accepts.range in
     let one : fault_of line ≡ Some 1 = long-fault line long in
     cc
 
-pub long-refused : (cap : ℕ) (old : Tables) (line : List ℕ) (code : ℕ) (fault : Option ℕ) → fault ≡ Some 1
+pub long-refused : (cap : ℕ) (old : ProjectMaps) (line : List ℕ) (code : ℕ) (fault : Option ℕ) → fault ≡ Some 1
     → MatchOption fault (RefusesCommand cap old line code) (λ f. code ≡ f) → code ≡ 1
 long-refused limit old line code None e told = cc
 long-refused limit old line code (Some f) e told = let is : f ≡ 1 = cc in told ∙ is
 
-pub refused-long : (cap : ℕ) (old : Tables) (line : List ℕ) (code : ℕ) (fault : Option ℕ) → fault ≡ Some 1
+pub refused-long : (cap : ℕ) (old : ProjectMaps) (line : List ℕ) (code : ℕ) (fault : Option ℕ) → fault ≡ Some 1
     → code ≡ 1 → MatchOption fault (RefusesCommand cap old line code) (λ f. code ≡ f)
 refused-long limit old line code None e told = cc
 refused-long limit old line code (Some f) e told = let is : f ≡ 1 = cc in told ∙ sym is
 
 -- the outcome of such a line is that it is no command
-long-ends : (cap : ℕ) (old new : Tables) (a b : List ℕ) (outcome : Result ℕ ℕ) → 256 < length a → 256 < length b → EndsLine cap old a outcome new → EndsLine cap old b outcome new
+long-ends : (cap : ℕ) (old new : ProjectMaps) (a b : List ℕ) (outcome : Result ℕ ℕ) → 256 < length a → 256 < length b → EndsLine cap old a outcome new → EndsLine cap old b outcome new
 long-ends limit old new a b (Ok n) long longer ends = absurd (long-accepts limit old new a n long ends)
 long-ends limit old new a b (Err code) long longer (told, same) =
     (refused-long limit old b code (fault_of b) (long-fault b longer) (long-refused limit old a code (fault_of a) (long-fault a long) told), same)
 
 -- the answer to a line that is no query
-of_none : (cap : ℕ) (old new : Tables) (line text : List ℕ) (q : Option (List ℕ × Query)) → q ≡ None
+of_none : (cap : ℕ) (old new : ProjectMaps) (line text : List ℕ) (q : Option (List ℕ × Query)) → q ≡ None
     → MatchOption q ((outcome : Result ℕ ℕ) × EndsLine cap old line outcome new × (text ≡ outcome_text outcome)) (λ q. IsAnswer old q.1 text × (new ≡ old))
     → (outcome : Result ℕ ℕ) × EndsLine cap old line outcome new × (text ≡ outcome_text outcome)
 of_none limit old new line text None e told = told
 of_none limit old new line text (Some q) e told = cc
 
-to_none : (cap : ℕ) (old new : Tables) (line text : List ℕ) (q : Option (List ℕ × Query)) → q ≡ None
+to_none : (cap : ℕ) (old new : ProjectMaps) (line text : List ℕ) (q : Option (List ℕ × Query)) → q ≡ None
     → ((outcome : Result ℕ ℕ) × EndsLine cap old line outcome new × (text ≡ outcome_text outcome))
     → MatchOption q ((outcome : Result ℕ ℕ) × EndsLine cap old line outcome new × (text ≡ outcome_text outcome)) (λ q. IsAnswer old q.1 text × (new ≡ old))
 to_none limit old new line text None e told = told
 to_none limit old new line text (Some q) e told = cc
 
 -- a line that is no query needs memory only where it is accepted
-adds : (cap : ℕ) (old : Tables) (line : List ℕ) (q : Option (List ℕ × Query)) → q ≡ None → MatchOption q (AddsItems cap old line) (λ q. TakesMemory q.1) → AddsItems cap old line
+adds : (cap : ℕ) (old : ProjectMaps) (line : List ℕ) (q : Option (List ℕ × Query)) → q ≡ None → MatchOption q (AddsItems cap old line) (λ q. TakesMemory q.1) → AddsItems cap old line
 adds limit old line None e needs = needs
 adds limit old line (Some q) e needs = cc
 
-long-told : (cap : ℕ) (old new : Tables) (a b text : List ℕ) → 256 < length a → 256 < length b → RepliesInMemory cap old a text new → RepliesInMemory cap old b text new
+long-told : (cap : ℕ) (old new : ProjectMaps) (a b text : List ℕ) → 256 < length a → 256 < length b → RepliesInMemory cap old a text new → RepliesInMemory cap old b text new
 long-told limit old new a b text long longer (inl told) =
     let was = of_none limit old new a text (query_of a) (long-query a long) told in
     inl (to_none limit old new b text (query_of b) (long-query b longer) (was.0, long-ends limit old new a b was.0 long longer was.1, was.2))
 long-told limit old new a b text long longer (inr ((needs, same), is)) =
     let some = adds limit old a (query_of a) (long-query a long) needs in
-    absurd (long-accepts limit old some.0 a some.1.0 long some.1.1)
+    absurd (long-accepts limit old some.new a some.number long some.accepts)
 
 -- a line is answered as its front
-pub long_line : (cap : ℕ) (old new : Tables) (line text : List ℕ) → RepliesInMemory cap old (take 257 line) text new → RepliesInMemory cap old line text new
+pub long_line : (cap : ℕ) (old new : ProjectMaps) (line text : List ℕ) → RepliesInMemory cap old (take 257 line) text new → RepliesInMemory cap old line text new
 long_line limit old new line text told = go (nat_lt 257 (length line)) refl
   where
     go : (t : Bool) → nat_lt 257 (length line) ≡ t → RepliesInMemory limit old line text new

@@ -4,7 +4,7 @@ use Rattle.std.specs.Prelude.{MatchOption}
 use Rattle.std.proofs.lemmas.Bool.{cases_Bool, true≢false}
 use Rattle.lv_disk.specs.Stops.{Each, LeavesOnly}
 use Rattle.lv_disk.proofs.Moments.{started, weaker}
-use Rattle.lv_maptables.specs.Tables.{Tables}
+use Rattle.lv_maptables.specs.Projects.{ProjectMaps, project_of}
 use Rattle.lv_project.specs.Calls.{AllMade, Applies, Call, accepted, acknowledged, begins}
 use Rattle.lv_project.specs.Outcomes.{EndsApply, RefusesApply}
 use Rattle.lv_project.specs.Stands.{IsOutcome}
@@ -99,14 +99,14 @@ module _ {D : Type 0} (moment failures : D → ℕ) (left_since : D → ℕ → 
   module _ (counts_now : (d : D) (t : ℕ) (file : List ℕ) → t ≤ moment d → may_leave d file → left_since d t file) where
     -- each image after a line of a project that needn't be opened again
     abbrev After : State D → List ℕ → Type 0
-    After new line = Each (may_leave new.disk) (IsOutcome new.cap new.map.tables line)
+    After new line = Each (may_leave new.disk) (IsOutcome new.cap (project_of new.maps) line)
 
     images_after : (old new : State D) (line : List ℕ) (answer : Result ℕ ProjectError) → old.must_reopen ≡ false → Applies moment failures left_since may_leave old line answer new
-        → new.map.tables ≡ old.map.tables → After new line
+        → project_of new.maps ≡ project_of old.maps → After new line
     images_after old new line answer ready applies same = λ file left.
         let moments = applies.any_moment ready in
         let is = moments.each file (counts_now new.disk (moment old.disk) file moments.later left) in
-        subst (λ (m : Tables). IsOutcome new.cap m line file) (sym same) (subst (λ (c : ℕ). IsOutcome c old.map.tables line file) (sym applies.same_cap) is)
+        subst (λ (m : ProjectMaps). IsOutcome new.cap m line file) (sym same) (subst (λ (c : ℕ). IsOutcome c (project_of old.maps) line file) (sym applies.same_cap) is)
 
     -- a line that leaves the project to be opened again was answered `no 30`
     at_fault : (e : ProjectError) (old new : State D) (line : List ℕ) → old.must_reopen ≡ false → new.must_reopen ≡ true → RefusesApply failures e old new line → e ≡ Device
@@ -178,9 +178,9 @@ module _ {D : Type 0} (moment failures : D → ℕ) (left_since : D → ℕ → 
       pub run_moments : (old : State D) (calls : List Call) (new : State D) → IsKept may_leave old → old.must_reopen ≡ false → HoldsThroughout moment failures left_since may_leave old calls new
       run_moments old calls new kept ready front back mid split still before behind =
           ⊎_elim
-          (λ well. weaker moment left_since mid.disk new.disk (Holds moment failures left_since may_leave only_now counts_now old.cap old.map.tables (acknowledged front ++ accepted back) (length (acknowledged front)))
-          (HoldsAcknowledged old.cap old.map.tables (record { front = front; back = back }))
-          (moves moment failures left_since may_leave only_now counts_now old.cap old.map.tables back (acknowledged front) mid new well.1 well.0 behind)
+          (λ well. weaker moment left_since mid.disk new.disk (Holds moment failures left_since may_leave only_now counts_now old.cap (project_of old.maps) (acknowledged front ++ accepted back) (length (acknowledged front)))
+          (HoldsAcknowledged old.cap (project_of old.maps) (record { front = front; back = back }))
+          (moves moment failures left_since may_leave only_now counts_now old.cap (project_of old.maps) back (acknowledged front) mid new well.1 well.0 behind)
           (λ file h. (
             h.map,
             record {
@@ -193,23 +193,23 @@ module _ {D : Type 0} (moment failures : D → ℕ) (left_since : D → ℕ → 
             h.stands,
           )))
           (λ bad. absurd (true≢false (sym bad.0 ∙ still)))
-          (fronts moment failures left_since may_leave only_now counts_now old.cap old.map.tables front [] old mid (record { cap_is = refl; leads = refl; kept = kept }) ready before)
+          (fronts moment failures left_since may_leave only_now counts_now old.cap (project_of old.maps) front [] old mid (record { cap_is = refl; leads = refl; kept = kept }) ready before)
 
       -- the moments of one line
-      quiet : (old : State D) (line : List ℕ) → IsKept may_leave old → old.must_reopen ≡ false → LeavesOnly moment left_since old.disk old.disk (IsOutcome old.cap old.map.tables line)
-      quiet old line kept ready = started moment left_since old.disk (IsOutcome old.cap old.map.tables line) (λ file left. inl (old.generation, kept ready file (only_now old.disk file left)))
+      quiet : (old : State D) (line : List ℕ) → IsKept may_leave old → old.must_reopen ≡ false → LeavesOnly moment left_since old.disk old.disk (IsOutcome old.cap (project_of old.maps) line)
+      quiet old line kept ready = started moment left_since old.disk (IsOutcome old.cap (project_of old.maps) line) (λ file left. inl (old.generation, kept ready file (only_now old.disk file left)))
 
       moments_one : (o : Option (List ℕ × Query)) (e : Exchange (State D)) (old : State D) → IsKept may_leave old → old.must_reopen ≡ false → ToldOf o old e
-          → LeavesOnly moment left_since old.disk e.after.disk (IsOutcome old.cap old.map.tables e.line)
+          → LeavesOnly moment left_since old.disk e.after.disk (IsOutcome old.cap (project_of old.maps) e.line)
       moments_one None e old kept ready (inl (answer, applies, is)) = applies.any_moment ready
       moments_one None e old kept ready (inr ((never, same), is)) = absurd never
       moments_one (Some q) e old kept ready (inl (told, same)) =
-          subst (λ (s : State D). LeavesOnly moment left_since old.disk s.disk (IsOutcome old.cap old.map.tables e.line)) (sym same) (quiet old e.line kept ready)
+          subst (λ (s : State D). LeavesOnly moment left_since old.disk s.disk (IsOutcome old.cap (project_of old.maps) e.line)) (sym same) (quiet old e.line kept ready)
       moments_one (Some q) e old kept ready (inr ((lacks, same), is)) =
-          subst (λ (s : State D). LeavesOnly moment left_since old.disk s.disk (IsOutcome old.cap old.map.tables e.line)) (sym same) (quiet old e.line kept ready)
+          subst (λ (s : State D). LeavesOnly moment left_since old.disk s.disk (IsOutcome old.cap (project_of old.maps) e.line)) (sym same) (quiet old e.line kept ready)
 
       pub line_moments : (old new : State D) (line text : List ℕ) → Told old line text new → IsKept may_leave old → old.must_reopen ≡ false
-          → LeavesOnly moment left_since old.disk new.disk (IsOutcome old.cap old.map.tables line)
+          → LeavesOnly moment left_since old.disk new.disk (IsOutcome old.cap (project_of old.maps) line)
       line_moments old new line text told kept ready =
           let e : Exchange (State D) = record { line = line; text = text; after = new } in
           moments_one (query_of line) e old kept ready told

@@ -1,5 +1,6 @@
 -- What is answered to a line over a project, and what becomes of it (docs/COMMANDS.md, "Answers and queries").
 use Rattle.std.specs.Prelude.{◌≡◌, ◌⊎◌, ℕ, true, false, List, MatchOption, Result, Ok, Err}
+use Rattle.lv_maptables.specs.Projects.{project_of}
 use Rattle.lv_project.specs.Calls.{Applies}
 use Rattle.lv_project.specs.Refusals.{code_of}
 use Rattle.lv_project.specs.States.{State}
@@ -14,10 +15,10 @@ abbrev pub outcome_in : Result ℕ ProjectError → Result ℕ ℕ
 outcome_in (Ok n) = Ok n
 outcome_in (Err error) = Err (code_of error)
 
--- what is answered to a query: `no 32` where the project must be opened again, and else an answer of the map as it is
+-- what is answered to a query: `no 32` where the project must be opened again, and else an answer of its maps as they are
 abbrev pub AnswersQuery : {D : Type 0} → State D → Query → List ℕ → Type 0
 AnswersQuery project query text = ((project.must_reopen ≡ true) × (text ≡ refused_text 32))
-    ⊎ ((project.must_reopen ≡ false) × IsAnswer project.map.tables query text)
+    ⊎ ((project.must_reopen ≡ false) × IsAnswer (project_of project.maps) query text)
 
 -- a query has to be put together in memory, of a project that needn't be opened again
 abbrev pub MayLack : {D : Type 0} → State D → Query → Type 0

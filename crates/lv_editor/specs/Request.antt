@@ -10,7 +10,8 @@ use Rattle.clap.specs.declared.builder.command.Command.TheViews.{out-Command}
 use Rattle.clap.specs.declared.builder.value_parser.ValueParser.TheVariants as vp
 use Rattle.clap.specs.Values.{kind_of}
 use Rattle.clap.specs.declared.error.kind.ErrorKind.TheVariants.{OutOfMemory}
-use Rattle.lv_maptables.specs.Tables.{Tables, empty_tables}
+use Rattle.lv_maptables.specs.Projects.{ProjectMaps, empty_project}
+use Rattle.lv_maptables.specs.Tables.{Tables}
 use Rattle.lv_checks.specs.Findings.{findings}
 use Rattle.lv_project.specs.States.{State}
 use Rattle.lv_editor.specs.Answers.{RepliesInMemory}
@@ -161,7 +162,7 @@ IsRefusal words Memory = Unit {0}
 
 -- ---- What was done
 
--- the length of the longest body, in bytes: what a map in memory has room for
+-- the length of the longest body of one map, in bytes: what the maps in memory have room for
 abbrev pub longest_body : ℕ
 longest_body = 2007002
 
@@ -179,11 +180,11 @@ abbrev pub status_in : Result ℕ Refusal → ℕ
 status_in (Ok status) = status
 status_in (Err refusal) = 1
 
--- the lines of the input were answered over the empty map, and the answers written
+-- the lines of the input were answered over the empty project, and the answers written
 abbrev pub IsScratched : ℕ → Option (List ℕ) → Option (List ℕ) → Option (List ℕ) → Option (List ℕ) → Type 0
 IsScratched status reader-old reader-new writer-old writer-new =
-    (result : Result ℕ EditorError) × (last : Tables) × (trace : List (Exchange Tables)) × (status ≡ status_of result)
-    × Ran (RepliesInMemory longest_body) empty_tables last trace turns result reader-old reader-new writer-old writer-new
+    (result : Result ℕ EditorError) × (last : ProjectMaps) × (trace : List (Exchange ProjectMaps)) × (status ≡ status_of result)
+    × Ran (RepliesInMemory longest_body) empty_project last trace turns result reader-old reader-new writer-old writer-new
 
 -- the status after so many findings
 abbrev pub status_after : ℕ → ℕ

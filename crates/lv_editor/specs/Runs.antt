@@ -1,5 +1,5 @@
 -- What a run has read, answered and written (docs/COMMANDS.md, "Lines and turns"). The state that lines move and the
--- answers that a line may have are parameters: a map in memory has its own, and a project file will have its own.
+-- answers that a line may have are parameters: maps in memory have their own, and a project file has its own.
 use Rattle.std.specs.Prelude.{◌≡◌, ◌≤◌, ◌*◌, ◌⊎◌, ℕ, List, [], ◌∷◌, ◌++◌, length, map, flat_map, Result, Ok, Err, Option, MatchResult, OnOk}
 use Rattle.std.specs.Io.KnownBytes.{Consumes, Appends, IsAtEnd, Keeps}
 use Rattle.lv_editor.specs.Lines.{IsBegun, whole_lines, unfinished, lines_of}

@@ -1,7 +1,7 @@
 -- What the disk of a project holds while lines are answered, and at the end of a run.
 use Rattle.std.specs.Prelude.{◌≡◌, ℕ, true, false, List, [], ◌∷◌, ◌++◌, Some, MatchOption, Result}
 use Rattle.lv_disk.specs.Stops.{Each, LeavesOnly}
-use Rattle.lv_maptables.specs.Tables.{Tables}
+use Rattle.lv_maptables.specs.Projects.{ProjectMaps, project_of}
 use Rattle.lv_project.specs.Calls.{AllMade, Call}
 use Rattle.lv_project.specs.Sessions.{KeepsAcknowledged, Session}
 use Rattle.lv_project.specs.Stands.{IsOutcome, StandsFor}
@@ -20,25 +20,25 @@ AreCalls (e ∷ trace) calls = MatchOption (query_of e.line)
     × (e.text ≡ outcome_text (outcome_in answer)) × AreCalls trace rest)
     (λ q. AreCalls trace calls)
 
--- the file stands for a map to which a prefix of the accepted commands leads that holds each acknowledged one
-abbrev pub HoldsAcknowledged : ℕ → Tables → Session → List ℕ → Type 0
-HoldsAcknowledged cap base s file = (map : Tables) × KeepsAcknowledged cap base s map × StandsFor cap map file
+-- the file stands for maps to which a prefix of the accepted commands leads that holds each acknowledged one
+abbrev pub HoldsAcknowledged : ℕ → ProjectMaps → Session → List ℕ → Type 0
+HoldsAcknowledged cap base s file = (maps : ProjectMaps) × KeepsAcknowledged cap base s maps × StandsFor cap maps file
 
--- From each moment between two calls on, of a project that needn't be opened again: each image stands for a map to which a
+-- From each moment between two calls on, of a project that needn't be opened again: each image stands for maps to which a
 -- prefix of the accepted commands leads that holds each one acknowledged up to the moment.
 abbrev pub HoldsThroughout : {D : Type 0} → (D → ℕ) → (D → ℕ) → (D → ℕ → List ℕ → Type 0) → (D → List ℕ → Type 0) → State D
     → List Call → State D → Type 0
 HoldsThroughout {D = D} moment failures left_since may_leave old calls new =
     (front back : List Call) (mid : State D) → calls ≡ front ++ back → mid.must_reopen ≡ false
     → AllMade moment failures left_since may_leave old front mid → AllMade moment failures left_since may_leave mid back new
-    → LeavesOnly moment left_since mid.disk new.disk (HoldsAcknowledged old.cap old.map.tables (record { front = front; back = back }))
+    → LeavesOnly moment left_since mid.disk new.disk (HoldsAcknowledged old.cap (project_of old.maps) (record { front = front; back = back }))
 
 -- each of these lines was answered `no 32`
 abbrev pub AllReopen : {S : Type 0} → List (Exchange S) → Type 0
 AllReopen [] = Unit {0}
 AllReopen (e ∷ trace) = (e.text ≡ refused_text 32) × AllReopen trace
 
--- A line was answered `no 30` and each one behind it `no 32`; each image stands for the map, or for its step by that line.
+-- A line was answered `no 30` and each one behind it `no 32`; each image stands for the maps, or for their step by that line.
 pub record IsInDoubt {D : Type 0} (may_leave : D → List ℕ → Type 0) (trace : List (Exchange (State D))) (new : State D) : Type 0 where
   pub front : List (Exchange (State D))
   pub faulted : Exchange (State D)
@@ -46,7 +46,7 @@ pub record IsInDoubt {D : Type 0} (may_leave : D → List ℕ → Type 0) (trace
   pub split : trace ≡ front ++ faulted ∷ back
   pub answered : faulted.text ≡ refused_text 30
   pub behind : AllReopen back
-  pub images : Each (may_leave new.disk) (IsOutcome new.cap new.map.tables faulted.line)
+  pub images : Each (may_leave new.disk) (IsOutcome new.cap (project_of new.maps) faulted.line)
 
 -- What a run leaves: its lines are calls, each with its promises; a project that must be opened again stays as it is, and
 -- answers `no 32` alone; of another each image stands, at each moment and at the exit.

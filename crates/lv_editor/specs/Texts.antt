@@ -1,6 +1,8 @@
 -- The texts of answers (docs/COMMANDS.md, "Answers and queries").
 use Rattle.std.specs.Prelude.{ℕ, ◌+◌, ◌/◌, ◌%◌, nat_lt, if◌then◌else◌, List, [], ◌∷◌, ◌++◌, length, map, flat_map, Result, Ok, Err, codes, decimal}
 use Rattle.std.specs.List.{join_with_byte}
+use Rattle.lv_lumps.specs.Names.{name_text}
+use Rattle.lv_maptables.specs.Projects.{ProjectMaps}
 use Rattle.lv_maptables.specs.Tables.{Tables}
 use Rattle.lv_checks.specs.declared.finding.Finding.{Finding}
 use Rattle.lv_checks.specs.Texts.{finding_text}
@@ -49,6 +51,23 @@ counts_text vertices sectors sides lines things =
 abbrev pub count_text : Tables → List ℕ
 count_text m =
     counts_text (length m.vertices) (length m.sectors) (length m.sides) (length m.lines) (length m.things)
+
+-- `I NAME`
+abbrev pub map_line : ℕ → Tables → List ℕ
+map_line n m = (decimal n ++ codes " ") ++ (name_text m.name ++ 10 ∷ [])
+
+-- a line for each map, with numbers from n on
+abbrev pub map_lines : ℕ → List Tables → List ℕ
+map_lines n [] = []
+map_lines n (m ∷ ms) = map_line n m ++ map_lines (n + 1) ms
+
+-- `current I`
+abbrev pub current_text : ℕ → List ℕ
+current_text n = codes "current " ++ decimal n ++ 10 ∷ []
+
+-- a line for each map, and the number of the current one
+abbrev pub maps_text : ProjectMaps → List ℕ
+maps_text p = map_lines 0 p.maps ++ current_text p.current
 
 -- a finding as a line
 abbrev pub finding_line : Finding → List ℕ

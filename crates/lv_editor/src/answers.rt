@@ -1,17 +1,21 @@
 ghost use Rattle.std.specs.Prelude.{◌≡◌, MatchResult};
 ghost use Rattle.std.specs.Io.KnownBytes.{Appends};
+ghost use Rattle.lv_checks.specs.Findings.{findings};
 ghost use Rattle.lv_maptables.specs.Body.{lump_of};
+ghost use Rattle.lv_maptables.specs.Projects.{project_of};
 ghost use Rattle.lv_editor.specs.declared.error.EditorError.TheVariants.{WriterFailed};
 ghost use Rattle.lv_editor.specs.Queries.{WritesAnswer, kind_of};
 ghost use Rattle.lv_editor.specs.Runs.{Unwritten};
-ghost use Rattle.lv_editor.specs.Texts.{count_text, counts_text, hex_text};
+ghost use Rattle.lv_editor.specs.Texts.{count_text, counts_text, findings_text, hex_text};
 
+use crate::builds::{write_build, write_built};
 use crate::error::EditorError;
 use crate::findings::write_findings;
 use crate::hex::hex_text;
+use crate::listing::write_maps;
 use crate::lump::Lump;
 use crate::query::Query;
-use lv_maptables::{Kind, Map};
+use lv_maptables::{Kind, Map, Maps};
 use std::alloc::Global;
 use std::io::Write;
 
@@ -77,25 +81,40 @@ fn write_hex<W: Write>(
     }
 }
 
-/// Writes the answer to a query.
+/// Writes what is wrong or unfinished in the map.
+fn write_check<W: Write>(alloc: Global, map: &Map, writer: &mut W) -> Result<(), EditorError>
+    ensures { MatchResult result
+        (λ _. Appends (W.contents writer.old) (W.contents writer.new)
+        (findings_text (findings map.now.tables)))
+        (λ e. Unwritten e (W.contents writer.old) (W.contents writer.new)) }
+{
+    match write_findings(alloc, map, writer) {
+        Ok(_) => Ok(()),
+        Err(error) => Err(error),
+    }
+}
+
+/// Writes the answer to a query, of the maps and the current one.
 ///
 /// # Errors
 ///
 /// `OutOfMemory`, and then nothing is written, or `WriterFailed`.
 pub fn write_answer<W: Write>(
     alloc: Global,
-    map: &Map,
+    maps: &Maps,
     query: Query,
     writer: &mut W,
 ) -> Result<(), EditorError>
-    ensures { WritesAnswer result map.now.tables query (W.contents writer.old) (W.contents writer.new) }
+    ensures { WritesAnswer result (project_of maps.now) query
+        (W.contents writer.old) (W.contents writer.new) }
 {
+    let map = maps.current();
     match query {
-        Query::Check => match write_findings(alloc, map, writer) {
-            Ok(_) => Ok(()),
-            Err(error) => Err(error),
-        },
+        Query::Check => write_check(alloc, map, writer),
         Query::Count => write_count(map, writer),
+        Query::Maps => write_maps(maps, writer),
+        Query::Build => write_build(alloc, maps, writer),
         Query::Hex(lump) => write_hex(alloc, map, lump, writer),
+        Query::HexBuilt(lump) => write_built(alloc, map, lump, writer),
     }
 }

@@ -3,7 +3,7 @@ use thiserror::Error;
 /// What the program is asked to do. A file is a path as it was given.
 #[derive(Debug, Drop)]
 pub enum Request {
-    /// Answer the lines of the input over a map in memory.
+    /// Answer the lines of the input over maps in memory.
     Scratch,
     /// Make a project with slots and journals of these lengths, in bytes.
     Create {
@@ -15,11 +15,11 @@ pub enum Request {
     Edit {
         file: String,
     },
-    /// Say what is wrong or unfinished in the map of a project.
+    /// Say what is wrong or unfinished in the current map of a project.
     Check {
         file: String,
     },
-    /// Build the map of a project into a PWAD.
+    /// Build the maps of a project into a PWAD.
     Build {
         file: String,
         out: String,

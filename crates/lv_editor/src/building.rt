@@ -1,18 +1,21 @@
-ghost use Rattle.std.specs.Prelude.{◌≡◌, ◌≤◌, ◌↔◌, List, ℕ, Err, IfErr, IfOk, MatchResult, length};
+ghost use Rattle.std.specs.Prelude.{◌≡◌, ◌≤◌, ◌+◌, List, ℕ, All, Err, Some, length, IfErr, IfOk, IsOkUnless, MatchResult, OnOk, slice_get};
 ghost use Rattle.std.specs.Io.KnownBytes.{Appends};
-ghost use Rattle.lv_pwad.specs.Levels.{IsLevel};
+ghost use Rattle.lv_maptables.specs.Projects.{project_of};
+ghost use Rattle.lv_maptables.specs.Tables.{Tables};
+ghost use Rattle.lv_pwad.specs.Projects.{IsRefusalOfAll};
+ghost use Rattle.lv_pwad.specs.Sound.{IsBuildable};
 ghost use Rattle.lv_pwad.specs.Views.{view};
 ghost use Rattle.lv_pwad.specs.declared.error.BuildError.TheVariants.{NothingToBuild};
 ghost use Rattle.lv_editor.specs.declared.error.EditorError.TheVariants.{WriterFailed};
-ghost use Rattle.lv_editor.specs.Building.{CountsLevel, IsBuiltInto, IsCounted, IsWritten, RefusesWriting, built_text};
+ghost use Rattle.lv_editor.specs.Building.{CountsLevels, CountsMore, IsBuiltInto, IsCounted, IsWritten, RefusesWriting, built_text, level_of};
 ghost use Rattle.lv_editor.specs.Request.{status_in};
 
 use crate::error::{EditorError, WriteError};
 use crate::refusal::Refusal;
 use lv_disk::{Disk, FileDisk};
-use lv_maptables::Map;
+use lv_maptables::{Map, Maps};
 use lv_project::{Project, ProjectError};
-use lv_pwad::{BuildError, Level, build_wad, read_level};
+use lv_pwad::{BuildError, Level, build_all, read_level};
 use std::alloc::Global;
 use std::fs::{Files, OpenFile, OpenOptions};
 use std::io::Write;
@@ -28,41 +31,128 @@ pub struct Counts {
     pub bytes: u64,
 }
 
-/// How long the lists of a level are, and how many bytes its PWAD has.
-fn counts_of(level: &Level, bytes: usize) -> Counts
-    ensures { CountsLevel (view level.now) bytes result }
+/// The count with so many more. No memory holds so many that they are more than a count may be.
+fn with_more(count: u64, more: usize) -> Result<u64, BuildError>
+    ensures sum { IfOk result (λ sum. sum ≡ count + more) }
+    ensures memory { IsOkUnless result BuildError.OutOfMemory }
 {
-    Counts {
-        vertices: level.vertices.len() as u64,
-        segs: level.segs.len() as u64,
-        subs: level.subs.len() as u64,
-        nodes: level.nodes.len() as u64,
-        bytes: bytes as u64,
+    match count.checked_add(more as u64) {
+        Some(sum) => Ok(sum),
+        None => Err(BuildError::OutOfMemory),
     }
 }
 
-/// Builds the PWAD of a map, writes it, and answers its counts. Nothing is written before the whole PWAD is made.
+/// The counts with those of one level more.
+fn with_level(counts: Counts, level: &Level) -> Result<Counts, BuildError>
+    ensures counted { IfOk result (CountsMore counts (view level.now)) }
+    ensures memory { IsOkUnless result BuildError.OutOfMemory }
+{
+    Ok(Counts {
+        vertices: with_more(counts.vertices, level.vertices.len())?,
+        segs: with_more(counts.segs, level.segs.len())?,
+        subs: with_more(counts.subs, level.subs.len())?,
+        nodes: with_more(counts.nodes, level.nodes.len())?,
+        bytes: counts.bytes,
+    })
+}
+
+/// The counts with those of the level that a PWAD holds under the map's name.
+fn with_level_of(alloc: Global, wad: &[u8], map: &Map, counts: Counts) -> Result<Counts, BuildError>
+    ensures counted { IfOk result (CountsMore counts (level_of wad.now map.now.tables)) }
+    ensures memory { IsOkUnless result BuildError.OutOfMemory }
+{
+    let name = map.name();
+    match read_level(alloc, wad, name.text()) {
+        Ok(level) => with_level(counts, &level),
+        Err(_) => Err(BuildError::OutOfMemory),
+    }
+}
+
+/// The counts with those of the level of the n-th map, if there is such a map.
+fn with_nth(
+    alloc: Global,
+    wad: &[u8],
+    maps: &Maps,
+    n: u32,
+    counts: Counts,
+) -> Result<Counts, BuildError>
+    ensures counted { IfOk result (λ more. (m : Tables) → slice_get (project_of maps.now).maps n ≡ Some m
+        → CountsMore counts (level_of wad.now m) more) }
+    ensures memory { IsOkUnless result BuildError.OutOfMemory }
+{
+    match maps.at(n) {
+        Some(map) => with_level_of(alloc, wad, map, counts),
+        None => Ok(counts),
+    }
+}
+
+/// The counts of the levels that a PWAD holds under the names of the maps, and its length.
+fn counts_of(alloc: Global, wad: &[u8], maps: &Maps) -> Result<Counts, BuildError>
+    ensures counted { IfOk result (CountsLevels (project_of maps.now).maps wad.now) }
+    ensures memory { IsOkUnless result BuildError.OutOfMemory }
+{
+    let mut counts = Counts {
+        vertices: 0,
+        segs: 0,
+        subs: 0,
+        nodes: 0,
+        bytes: wad.len() as u64,
+    };
+    for n in 0..maps.len() {
+        match with_nth(alloc, wad, maps, n, counts) {
+            Ok(more) => counts = more,
+            Err(error) => return Err(error),
+        }
+    }
+    Ok(counts)
+}
+
+/// The PWAD of a project's maps, and its counts.
+#[derive(Drop)]
+pub struct BuiltWad {
+    pub bytes: Vec<u8>,
+    pub counts: Counts,
+}
+
+/// Builds the PWAD of all maps of a project, and counts what it holds.
+pub fn build_counted(alloc: Global, maps: &Maps) -> Result<BuiltWad, BuildError>
+    ensures counted { IfOk result (λ built. IsCounted (project_of maps.now).maps built.bytes.items built.counts) }
+    ensures buildable { OnOk result (All IsBuildable (project_of maps.now).maps) }
+    ensures refused { IfErr result (IsRefusalOfAll (project_of maps.now).maps) }
+    ensures nothing { (m : Tables) → slice_get (project_of maps.now).maps 0 ≡ Some m → length m.lines ≡ 0
+        → result ≡ Err NothingToBuild }
+{
+    let bytes = match build_all(alloc, maps) {
+        Ok(bytes) => bytes,
+        Err(error) => return Err(error),
+    };
+    match counts_of(alloc, &bytes, maps) {
+        Ok(counts) => Ok(BuiltWad { bytes, counts }),
+        Err(_) => Err(BuildError::OutOfMemory),
+    }
+}
+
+/// Builds the PWAD of all maps of a project, writes it, and answers its counts. Nothing is written before the whole
+/// PWAD is made.
 ///
 /// # Errors
 ///
-/// `Build` as `build_wad` refuses, and then nothing is written; or `WriterFailed`.
-pub fn write_wad<W: Write>(alloc: Global, map: &Map, writer: &mut W) -> Result<Counts, WriteError>
-    ensures written { IfOk result (λ counts. IsWritten map.now.tables counts
+/// `Build` as `build_all` refuses, and then nothing is written; or `WriterFailed`.
+pub fn write_wad<W: Write>(alloc: Global, maps: &Maps, writer: &mut W) -> Result<Counts, WriteError>
+    ensures written { IfOk result (λ counts. IsWritten (project_of maps.now).maps counts
         (W.contents writer.old) (W.contents writer.new)) }
-    ensures refused { IfErr result (λ e. RefusesWriting map.now.tables e
+    ensures refused { IfErr result (λ e. RefusesWriting (project_of maps.now).maps e
         (W.contents writer.old) (W.contents writer.new)) }
-    ensures nothing { result ≡ Err (WriteError.Build NothingToBuild) ↔ length map.now.tables.lines ≡ 0 }
+    // With or without memory, where the first map has no line.
+    ensures nothing { (m : Tables) → slice_get (project_of maps.now).maps 0 ≡ Some m → length m.lines ≡ 0
+        → result ≡ Err (WriteError.Build NothingToBuild) }
 {
-    let wad = match build_wad(alloc, map) {
-        Ok(wad) => wad,
+    let built = match build_counted(alloc, maps) {
+        Ok(built) => built,
         Err(error) => return Err(WriteError::Build(error)),
     };
-    let name = map.name();
-    let Ok(level) = read_level(alloc, &wad, name.text()) else {
-        return Err(WriteError::Build(BuildError::OutOfMemory));
-    };
-    match writer.write_all(&wad) {
-        Ok(()) => Ok(counts_of(&level, wad.len())),
+    match writer.write_all(&built.bytes) {
+        Ok(()) => Ok(built.counts),
         Err(_) => Err(WriteError::WriterFailed),
     }
 }
@@ -88,15 +178,16 @@ pub fn write_counts<W: Write>(counts: Counts, writer: &mut W) -> Result<(), Edit
     }
 }
 
-/// Builds a map into a file, whose bytes behind the PWAD are cut off. A map that isn't built leaves the file alone.
+/// Builds the maps of a project into a file, whose bytes behind the PWAD are cut off. Maps that aren't built leave the
+/// file alone.
 fn build_into<F: Write + OpenFile>(
     alloc: Global,
-    map: &Map,
+    maps: &Maps,
     file: &mut F,
 ) -> Result<Counts, Refusal>
-    ensures { IfOk result (λ counts. (wad : List ℕ) × IsCounted map.now.tables wad counts) }
+    ensures { IfOk result (λ counts. (wad : List ℕ) × IsCounted (project_of maps.now).maps wad counts) }
 {
-    let counts = match write_wad(alloc, map, file) {
+    let counts = match write_wad(alloc, maps, file) {
         Ok(counts) => counts,
         Err(error) => return Err(Refusal::Build(error)),
     };
@@ -143,7 +234,7 @@ where
     }
 }
 
-/// Builds the map of a disk's project into the file at the path, which is made where there is none, and tells what was
+/// Builds the maps of a disk's project into the file at the path, which is made where there is none, and tells what was
 /// made. A file that holds a project is not written over.
 pub fn build<E: Files, D: Disk + Drop, W: Write>(
     alloc: Global,
@@ -168,7 +259,7 @@ where
     let Ok(mut file) = opened else {
         return Err(Refusal::Lines(EditorError::WriterFailed));
     };
-    match build_into(alloc, project.map(), &mut file) {
+    match build_into(alloc, project.maps(), &mut file) {
         Ok(counts) => tell_built(counts, writer),
         Err(refusal) => Err(refusal),
     }

@@ -63,7 +63,7 @@ fn create<'a>(alloc: Global) -> Result<Command<'a>, Error>
 fn build<'a>(alloc: Global) -> Result<Command<'a>, Error>
     ensures { IfOk result (λ c. IsCommand c build_app) }
 {
-    Ok(over_file(alloc, "build", "Builds a project's map into a PWAD")?.arg(word(alloc, "out"))?)
+    Ok(over_file(alloc, "build", "Builds a project's maps into a PWAD")?.arg(word(alloc, "out"))?)
 }
 
 /// `inspect`.
@@ -83,10 +83,14 @@ fn with_subcommands<'a>(alloc: Global) -> Result<Command<'a>, Error>
 {
     Ok(
         Command::new(alloc, "leveled")
-            .subcommand(named(alloc, "scratch", "Answers lines over a map in memory"))?
+            .subcommand(named(alloc, "scratch", "Answers lines over maps in memory"))?
             .subcommand(create(alloc)?)?
             .subcommand(over_file(alloc, "edit", "Answers lines over a project file")?)?
-            .subcommand(over_file(alloc, "check", "Says what is wrong in a project's map")?)?
+            .subcommand(over_file(
+                alloc,
+                "check",
+                "Says what is wrong in a project's current map",
+            )?)?
             .subcommand(inspect(alloc)?)?
             .subcommand(build(alloc)?)?,
     )
@@ -167,7 +171,7 @@ fn asked_create(alloc: Global, found: &ArgMatches<'_>) -> Result<Request, Reques
     }
 }
 
-/// The request to build a map.
+/// The request to build the maps of a project.
 fn asked_build(alloc: Global, found: &ArgMatches<'_>) -> Result<Request, RequestError>
     ensures asked { IfOk result (λ r. AsksFor r (codes "build", rows_of (found_of found.now))) }
     ensures refused { IfErr result (RefusesValues (codes "build", rows_of (found_of found.now))) }

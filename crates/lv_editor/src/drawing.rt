@@ -1,5 +1,5 @@
 ghost use Rattle.std.specs.Prelude.{◌≡◌, ◌≤◌, ℕ, List};
-ghost use Rattle.lv_maptables.specs.Tables.{Tables, body_len, empty_tables};
+ghost use Rattle.lv_maptables.specs.Projects.{ProjectMaps, body_len, empty_project, project_of};
 ghost use Rattle.lv_editor.specs.declared.limits.TheConstants.{LONGEST_BODY};
 ghost use Rattle.lv_editor.specs.Answers.{AnswersInMemory, ChangesBy, LacksMemory, RepliesInMemory, outcome_of};
 ghost use Rattle.lv_editor.specs.Queries.{WritesAnswer};
@@ -12,8 +12,9 @@ use crate::outcome::write_outcome;
 use crate::query::{Query, read_query};
 use crate::reading::run_lines;
 use crate::session::Session;
-use lv_commands::{CommandError, apply, parse};
-use lv_maptables::Map;
+use lv_commands::CommandError;
+use lv_commands::project::{apply, parse};
+use lv_maptables::Maps;
 use std::alloc::Global;
 use std::io::{Read, Write};
 use std::marker::Model;
@@ -28,27 +29,27 @@ fn outcome_of(ended: Result<u32, CommandError>) -> Result<u32, u16>
     }
 }
 
-/// A map in memory, which lines ask and change.
+/// The maps of a project in memory, which lines ask and change.
 #[derive(Drop)]
 pub struct Drawing {
-    map: Map,
+    maps: Maps,
 }
 
 impl Model for Drawing {
-    ghost Value = { Tables };
+    ghost Value = { ProjectMaps };
 
-    ghost view = { λ d. d.map.tables };
+    ghost view = { λ d. project_of d.maps };
 
-    ghost invariant = { λ d. body_len d.map.tables ≤ 2007002 };
+    ghost invariant = { λ d. body_len (project_of d.maps) ≤ 2007002 };
 }
 
 impl Drawing {
-    /// The empty map.
+    /// The empty map MAP01 alone.
     pub fn new(alloc: Global) -> Self
-        ensures { result ≡ empty_tables }
+        ensures { result ≡ empty_project }
     {
         Drawing {
-            map: Map::new(alloc),
+            maps: Maps::new(alloc),
         }
     }
 
@@ -60,7 +61,7 @@ impl Drawing {
             Ok(command) => command,
             Err(error) => return Err(error.code()),
         };
-        outcome_of(apply(&mut self.map, &command, LONGEST_BODY))
+        outcome_of(apply(&mut self.maps, &command, LONGEST_BODY))
     }
 
     /// Writes the answer to a query.
@@ -72,7 +73,7 @@ impl Drawing {
     ) -> Result<(), EditorError>
         ensures { WritesAnswer result self.now query (W.contents writer.old) (W.contents writer.new) }
     {
-        write_answer(alloc, &self.map, query, writer)
+        write_answer(alloc, &self.maps, query, writer)
     }
 }
 
@@ -102,8 +103,8 @@ impl Session for Drawing {
 }
 
 /// Answers the lines that the reader gives, in at most `turns` reads of at most 4,096 bytes, over
-/// a map that is empty at first, and says how many lines it answered. The writer is flushed after
-/// each turn.
+/// the maps of a project that is the empty map MAP01 at first, and says how many lines it answered.
+/// The writer is flushed after each turn.
 ///
 /// # Errors
 ///
@@ -118,8 +119,8 @@ pub fn run_in_memory<R: Read, W: Write>(
     writer: &mut W,
     turns: u32,
 ) -> Result<u64, EditorError>
-    ensures { (last : Tables) × (trace : List (Exchange Tables))
-        × Ran (RepliesInMemory LONGEST_BODY) empty_tables last trace turns result
+    ensures { (last : ProjectMaps) × (trace : List (Exchange ProjectMaps))
+        × Ran (RepliesInMemory LONGEST_BODY) empty_project last trace turns result
         (R.remaining reader.old) (R.remaining reader.new)
         (W.contents writer.old) (W.contents writer.new) }
 {

@@ -1,6 +1,7 @@
 ghost use Rattle.std.specs.Prelude.{◌≡◌, ℕ, List, true, false, Result, MatchResult, take};
 ghost use Rattle.std.specs.Io.KnownBytes.{Appends};
 ghost use Rattle.lv_disk.specs.Stops.{Each, LeavesOnly};
+ghost use Rattle.lv_maptables.specs.Projects.{project_of};
 ghost use Rattle.lv_project.specs.Calls.{Applies};
 ghost use Rattle.lv_project.specs.Stands.{IsOutcome};
 ghost use Rattle.lv_project.specs.States.{IsKept, State};
@@ -65,7 +66,7 @@ fn answer_query<D: Disk, W: Write>(
     if project.must_reopen() {
         return write_outcome(Err(ProjectError::Reopen.code()), writer);
     }
-    match write_answer(alloc, project.map(), query, writer) {
+    match write_answer(alloc, project.maps(), query, writer) {
         Ok(()) => Ok(()),
         Err(EditorError::OutOfMemory) => {
             write_outcome(Err(ProjectError::OutOfMemory.code()), writer)
@@ -107,15 +108,15 @@ pub fn answer<D: Disk, W: Write>(
     ensures answered { AnswersLine (RepliesInProject D.moment D.failures D.left_since D.may_leave) result
         project.old project.new line.now (W.contents writer.old) (W.contents writer.new) }
 
-    // A stop at any moment of the call leaves the map, or the one that the line leads to.
+    // A stop at any moment of the call leaves the maps, or those that the line leads to.
     ensures any_moment { project.old.must_reopen ≡ false
         → LeavesOnly D.moment D.left_since project.old.disk project.new.disk
-        (IsOutcome project.old.cap project.old.map.tables line.now) }
+        (IsOutcome project.old.cap (project_of project.old.maps) line.now) }
 
-    // Each image now stands for the map, or, where the project must be opened again, for its step by the line.
+    // Each image now stands for the maps, or, where the project must be opened again, for their step by the line.
     ensures kept { IsKept D.may_leave project.new }
     ensures in_doubt { project.old.must_reopen ≡ false → project.new.must_reopen ≡ true
-        → Each (D.may_leave project.new.disk) (IsOutcome project.new.cap project.new.map.tables line.now) }
+        → Each (D.may_leave project.new.disk) (IsOutcome project.new.cap (project_of project.new.maps) line.now) }
 {
     // What each image stands for as the call begins, which this call tells.
     let _ = project.must_reopen();

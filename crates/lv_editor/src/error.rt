@@ -59,7 +59,7 @@ impl InspectError {
 /// Why no PWAD was written.
 #[derive(Clone, Copy, Debug, PartialEq, Eq, Error)]
 pub enum WriteError {
-    /// The map is not built.
+    /// A map is not built.
     #[error(transparent)]
     Build(#[from] BuildError),
     #[error("the writer failed")]

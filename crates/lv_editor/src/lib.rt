@@ -4,6 +4,7 @@
 mod answers;
 mod asked;
 mod building;
+mod builds;
 mod command_line;
 mod drawing;
 mod editing;
@@ -14,6 +15,7 @@ mod hex;
 mod input_line;
 mod inspection;
 mod limits;
+mod listing;
 mod lump;
 mod outcome;
 mod program;

@@ -1,4 +1,4 @@
-/// The length of the longest body, in bytes, so that no map in memory is refused for its length.
+/// The length of the longest body of one map, in bytes: what the maps in memory have room for.
 pub const LONGEST_BODY: u32 = 2_007_002;
 
 /// How many reads a run of the program makes at most.

@@ -3,7 +3,7 @@ ghost use Rattle.lv_editor.specs.Queries.{kind_of};
 
 use lv_maptables::Kind;
 
-/// A lump of a level, by its name.
+/// A lump of a map as it is drawn, by its name.
 #[derive(Clone, Copy, Debug, PartialEq, Eq)]
 pub enum Lump {
     Things,
@@ -26,4 +26,15 @@ impl Lump {
             Lump::Sectors => Kind::Sector,
         }
     }
+}
+
+/// A lump that a build of a map makes, by its name; `Added` is the vertices behind the drawn ones.
+#[derive(Clone, Copy, Debug, PartialEq, Eq)]
+pub enum BuiltLump {
+    Segs,
+    Ssectors,
+    Nodes,
+    Reject,
+    Blockmap,
+    Added,
 }

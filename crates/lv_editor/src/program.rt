@@ -38,7 +38,7 @@ fn ended(run: Result<u64, EditorError>) -> Result<u8, Refusal>
     }
 }
 
-/// Answers the lines of the input over a map in memory.
+/// Answers the lines of the input over maps in memory.
 fn scratch<R: Read, W: Write>(alloc: Global, reader: &mut R, writer: &mut W) -> Result<u8, Refusal>
     ensures small { IfOk result (λ s. s ≤ 3) }
     ensures answered { IsScratched (status_in result) (R.remaining reader.old) (R.remaining reader.new)
@@ -122,7 +122,7 @@ fn status_for(found: u32) -> u8
     if found == 0 { DONE } else { FOUND }
 }
 
-/// Says what is wrong or unfinished in the map of a disk's project.
+/// Says what is wrong or unfinished in the current map of a disk's project.
 fn check<D: Disk + Drop, W: Write>(alloc: Global, disk: D, writer: &mut W) -> Result<u8, Refusal>
     ensures small { IfOk result (λ s. s ≤ 3) }
     ensures found { IsChecked (status_in result) (W.contents writer.old) (W.contents writer.new) }

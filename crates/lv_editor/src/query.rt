@@ -1,29 +1,52 @@
-ghost use Rattle.std.specs.Prelude.{◌≡◌};
+ghost use Rattle.std.specs.Prelude.{◌≡◌, ◌++◌, find, bytes_eq};
 ghost use Rattle.std.specs.Option.{option_map};
-ghost use Rattle.lv_editor.specs.Queries.{query_of};
+ghost use Rattle.lv_editor.specs.Queries.{built_lines, drawn_lines, query_of};
 
-use crate::lump::Lump;
+use crate::lump::{BuiltLump, Lump};
 
 /// A line that asks and changes nothing.
 #[derive(Clone, Copy, Debug, PartialEq, Eq)]
 pub enum Query {
-    /// What is wrong or unfinished in the map.
+    /// What is wrong or unfinished in the current map.
     Check,
-    /// How many items there are of each kind.
+    /// How many items the current map has of each kind.
     Count,
-    /// The bytes of a lump.
+    /// Which maps there are, and which is the current one.
+    Maps,
+    /// What a build of all maps makes.
+    Build,
+    /// The bytes of a lump of the current map, as it is drawn.
     Hex(Lump),
+    /// The bytes of a lump that a build of the current map makes.
+    HexBuilt(BuiltLump),
 }
 
-/// The query that a line is, byte for byte.
-pub fn read_query(line: &[u8]) -> Option<Query>
-    ensures { result ≡ option_map (λ q. q.1) (query_of line.now) }
+/// The query that a line is which asks for a built lump.
+fn read_built(line: &[u8]) -> Option<Query>
+    ensures { result ≡ option_map (λ q. q.1) (find (λ q. bytes_eq line.now q.0) built_lines) }
 {
-    if line == b"check".as_slice() {
-        Some(Query::Check)
-    } else if line == b"count".as_slice() {
-        Some(Query::Count)
-    } else if line == b"hex THINGS".as_slice() {
+    if line == b"hex SEGS".as_slice() {
+        Some(Query::HexBuilt(BuiltLump::Segs))
+    } else if line == b"hex SSECTORS".as_slice() {
+        Some(Query::HexBuilt(BuiltLump::Ssectors))
+    } else if line == b"hex NODES".as_slice() {
+        Some(Query::HexBuilt(BuiltLump::Nodes))
+    } else if line == b"hex REJECT".as_slice() {
+        Some(Query::HexBuilt(BuiltLump::Reject))
+    } else if line == b"hex BLOCKMAP".as_slice() {
+        Some(Query::HexBuilt(BuiltLump::Blockmap))
+    } else if line == b"hex ADDED".as_slice() {
+        Some(Query::HexBuilt(BuiltLump::Added))
+    } else {
+        None
+    }
+}
+
+/// The query that a line is which asks for a lump.
+fn read_hex(line: &[u8]) -> Option<Query>
+    ensures { result ≡ option_map (λ q. q.1) (find (λ q. bytes_eq line.now q.0) (drawn_lines ++ built_lines)) }
+{
+    if line == b"hex THINGS".as_slice() {
         Some(Query::Hex(Lump::Things))
     } else if line == b"hex LINEDEFS".as_slice() {
         Some(Query::Hex(Lump::Linedefs))
@@ -34,6 +57,23 @@ pub fn read_query(line: &[u8]) -> Option<Query>
     } else if line == b"hex SECTORS".as_slice() {
         Some(Query::Hex(Lump::Sectors))
     } else {
-        None
+        read_built(line)
+    }
+}
+
+/// The query that a line is, byte for byte.
+pub fn read_query(line: &[u8]) -> Option<Query>
+    ensures { result ≡ option_map (λ q. q.1) (query_of line.now) }
+{
+    if line == b"check".as_slice() {
+        Some(Query::Check)
+    } else if line == b"count".as_slice() {
+        Some(Query::Count)
+    } else if line == b"maps".as_slice() {
+        Some(Query::Maps)
+    } else if line == b"build".as_slice() {
+        Some(Query::Build)
+    } else {
+        read_hex(line)
     }
 }

@@ -12,7 +12,7 @@ pub enum Refusal {
     Project(ProjectError),
     /// The level of a WAD.
     Level(InspectError),
-    /// The PWAD of a map.
+    /// The PWAD of the maps.
     Build(WriteError),
 }
 

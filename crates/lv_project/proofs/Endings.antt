@@ -3,22 +3,22 @@ use Rattle.std.proofs.Common.{◌≡◌, ◌⊎◌, inl, inr, ◌≤◌, ℕ, fa
 use Rattle.std.proofs.lemmas.Bool.{true≢false}
 use Rattle.lv_disk.specs.Stops.{Rose}
 use Rattle.lv_journal.specs.State.{IsAbove}
-use Rattle.lv_maptables.specs.Tables.{Tables}
-use Rattle.lv_commands.specs.CommandRanges.{InRange}
-use Rattle.lv_commands.specs.Grammar.{fault_of}
-use Rattle.lv_commands.specs.Spelling.{spelling}
-use Rattle.lv_commands.specs.Step.{step}
+use Rattle.lv_maptables.specs.Projects.{ProjectMaps, project_of}
+use Rattle.lv_commands.specs.ProjectCommands.{InRange}
+use Rattle.lv_commands.specs.ProjectGrammar.{fault_of}
+use Rattle.lv_commands.specs.ProjectCommands.{spelling}
+use Rattle.lv_commands.specs.ProjectStep.{step}
 use Rattle.lv_commands.specs.Errors as commands
-use Rattle.lv_commands.specs.Readiness as readiness
-use Rattle.lv_commands.specs.declared.command.Command.{Command}
+use Rattle.lv_commands.specs.ProjectReadiness as readiness
+use Rattle.lv_commands.specs.declared.project.command.ProjectCommand.{ProjectCommand}
 use Rattle.lv_commands.specs.declared.error.CommandError.{CommandError}
 use Rattle.lv_commands.specs.declared.error.CommandError.TheVariants as command
-use Rattle.lv_commands.specs.LineSteps.{Accepts, LeadsTo}
-use Rattle.lv_commands.proofs.Steps.{refused-by}
+use Rattle.lv_commands.specs.ProjectLines.{Accepts, LeadsTo}
+use Rattle.lv_commands.proofs.ProjectSteps.{refused-by}
 use Rattle.lv_project.proofs.LineFaults.{low_fault}
 use Rattle.lv_project.specs.States.{State}
 use Rattle.lv_project.specs.Outcomes.{EndsApply, RefusesApply, RefusesCheckpoint, TurnsWhereFull}
-use Rattle.lv_commands.specs.LineSteps.{RefusesCommand, RefusesLine}
+use Rattle.lv_commands.specs.ProjectLines.{RefusesCommand, RefusesLine}
 use Rattle.lv_project.specs.Refusals.{IsRefusalOf}
 use Rattle.lv_project.specs.declared.error.ProjectError.{ProjectError}
 use Rattle.lv_project.specs.declared.error.ProjectError.TheVariants.{Device, OutOfMemory, Reopen, GenerationsSpent, Refused, Damaged, Blank, NotAProject, NotEmpty, BadGeometry}
@@ -26,15 +26,15 @@ use Rattle.lv_project.specs.declared.error.ProjectError.TheVariants.{Device, Out
 pub rose_before : (a b n : ℕ) → a ≤ b → b ≤ n → Rose b n → Rose a n
 rose_before a b n low high rose short = grind (arith, low, high, rose, short)
 
-module _ {D : Type 0} (failures : D → ℕ) (old mid new : State D) (line : List ℕ) (map_is : mid.map.tables ≡ old.map.tables) (cap_is : mid.cap ≡ old.cap) (ready : old.must_reopen ≡ false) (still : mid.must_reopen ≡ false)
+module _ {D : Type 0} (failures : D → ℕ) (old mid new : State D) (line : List ℕ) (map_is : (project_of mid.maps) ≡ (project_of old.maps)) (cap_is : mid.cap ≡ old.cap) (ready : old.must_reopen ≡ false) (still : mid.must_reopen ≡ false)
     (first : failures old.disk ≤ failures mid.disk) (second : failures mid.disk ≤ failures new.disk) (room : IsAbove mid.room (length line) → ⊥) where
-  line_from : (code : ℕ) → RefusesLine mid.cap mid.map.tables line code → RefusesLine old.cap old.map.tables line code
-  line_from code is = subst (λ (k : ℕ). RefusesLine k old.map.tables line code) cap_is (subst (λ (t : Tables). RefusesLine mid.cap t line code) map_is is)
+  line_from : (code : ℕ) → RefusesLine mid.cap (project_of mid.maps) line code → RefusesLine old.cap (project_of old.maps) line code
+  line_from code is = subst (λ (k : ℕ). RefusesLine k (project_of old.maps) line code) cap_is (subst (λ (t : ProjectMaps). RefusesLine mid.cap t line code) map_is is)
 
   refuses_from : (e : ProjectError) → RefusesApply failures e mid new line → RefusesApply failures e old new line
   refuses_from Device (a, b, rose) = (ready, b, rose_before (failures old.disk) (failures mid.disk) (failures new.disk) first second rose)
   refuses_from OutOfMemory (a, b, (next, leads)) =
-      (ready, b, (next, subst (λ (k : ℕ). LeadsTo k old.map.tables line next) cap_is (subst (λ (t : Tables). LeadsTo mid.cap t line next) map_is leads)))
+      (ready, b, (next, subst (λ (k : ℕ). LeadsTo k (project_of old.maps) line next) cap_is (subst (λ (t : ProjectMaps). LeadsTo mid.cap t line next) map_is leads)))
   refuses_from Reopen (a, b) = absurd (true≢false (sym a ∙ still))
   refuses_from GenerationsSpent (a, b, spent, above, leads) = absurd (room above)
   refuses_from (Refused e) (a, b, is) = (ready, b, line_from (commands.code_of e) is)
@@ -45,11 +45,11 @@ module _ {D : Type 0} (failures : D → ℕ) (old mid new : State D) (line : Lis
   refuses_from BadGeometry is = absurd is
 
   pub ends_from : (r : Result ℕ ProjectError) → EndsApply failures r mid new line → EndsApply failures r old new line
-  ends_from (Ok n) (a, b, accepts) = (ready, b, subst (λ (k : ℕ). Accepts k old.map.tables line new.map.tables n) cap_is (subst (λ (t : Tables). Accepts mid.cap t line new.map.tables n) map_is accepts))
+  ends_from (Ok n) (a, b, accepts) = (ready, b, subst (λ (k : ℕ). Accepts k (project_of old.maps) line (project_of new.maps) n) cap_is (subst (λ (t : ProjectMaps). Accepts mid.cap t line (project_of new.maps) n) map_is accepts))
   ends_from (Err e) (same, refuses) = (same ∙ map_is, refuses_from e refuses)
 
 -- what a refusal of a command becomes
-pub split : (e : CommandError) (r : ProjectError) (change : Result (Tables × ℕ) ℕ) → IsRefusalOf r e → readiness.RefusesStep e change
+pub split : (e : CommandError) (r : ProjectError) (change : Result (ProjectMaps × ℕ) ℕ) → IsRefusalOf r e → readiness.RefusesStep e change
     → ((r ≡ OutOfMemory) × IsOk change) ⊎ ((r ≡ Refused e) × (change ≡ Err (commands.code_of e)))
 split command.OutOfMemory r change is by = inl (is, by)
 split command.NotACommand r change is by = inr (is, by)
@@ -75,37 +75,37 @@ split command.CurrentMap r change is by = inr (is, by)
 -- a line that is no command is refused as such, and never for want of memory
 pub fault_refused : {D : Type 0} (failures : D → ℕ) (old new : State D) (line : List ℕ) (e : CommandError) (r : ProjectError) → IsRefusalOf r e → fault_of line ≡ Some (commands.code_of e)
     → old.must_reopen ≡ false → new.must_reopen ≡ false → RefusesApply failures r old new line
-fault_refused failures old new line e r is fault ready still = at (split e r refused is (refused-by e refused (low_fault line (commands.code_of e) fault) refl))
+fault_refused failures old new line e r is fault ready still = at (split e r refused is (refused-by e refused (omega (arith, low_fault line (commands.code_of e) fault)) refl))
   where
-    refused : Result (Tables × ℕ) ℕ
+    refused : Result (ProjectMaps × ℕ) ℕ
     refused = Err (commands.code_of e)
 
     at : ((r ≡ OutOfMemory) × IsOk refused) ⊎ ((r ≡ Refused e) × (refused ≡ Err (commands.code_of e))) → RefusesApply failures r old new line
     at (inl (memory, ok)) = absurd (true≢false (sym ok))
     at (inr (told, same)) = subst (λ (q : ProjectError). RefusesApply failures q old new line) (sym told)
-        (ready, still, subst (λ (o : Option ℕ). MatchOption o (RefusesCommand old.cap old.map.tables line (commands.code_of e)) (λ f. commands.code_of e ≡ f)) (sym fault) refl)
+        (ready, still, subst (λ (o : Option ℕ). MatchOption o (RefusesCommand old.cap (project_of old.maps) line (commands.code_of e)) (λ f. commands.code_of e ≡ f)) (sym fault) refl)
 
 -- a command that the step accepts
-accepted_leads : (n : ℕ) (m : Tables) (line : List ℕ) (c : Command) → InRange c → line ≡ spelling c → (change : Result (Tables × ℕ) ℕ) → step m c n ≡ change → IsOk change
-    → (next : Tables) × LeadsTo n m line next
+accepted_leads : (n : ℕ) (m : ProjectMaps) (line : List ℕ) (c : ProjectCommand) → InRange c → line ≡ spelling c → (change : Result (ProjectMaps × ℕ) ℕ) → step m c n ≡ change → IsOk change
+    → (next : ProjectMaps) × LeadsTo n m line next
 accepted_leads n m line c range line_is (Ok new) stepped ok = (new.0, (new.1, record { command = c; range = range; line_is = line_is; stepped = stepped }))
 accepted_leads n m line c range line_is (Err e) stepped ok = absurd (true≢false (sym ok))
 
-pub refused_ends : {D : Type 0} (failures : D → ℕ) (old new : State D) (line : List ℕ) (c : Command) (e : CommandError) (r : ProjectError) → IsRefusalOf r e → readiness.RefusesStep e (step old.map.tables c old.cap)
+pub refused_ends : {D : Type 0} (failures : D → ℕ) (old new : State D) (line : List ℕ) (c : ProjectCommand) (e : CommandError) (r : ProjectError) → IsRefusalOf r e → readiness.RefusesStep e (step (project_of old.maps) c old.cap)
     → InRange c → line ≡ spelling c → fault_of line ≡ None → old.must_reopen ≡ false → new.must_reopen ≡ false → RefusesApply failures r old new line
-refused_ends failures old new line c e r is by range line_is whole ready still = at (split e r (step old.map.tables c old.cap) is by)
+refused_ends failures old new line c e r is by range line_is whole ready still = at (split e r (step (project_of old.maps) c old.cap) is by)
   where
-    line_refused : step old.map.tables c old.cap ≡ Err (commands.code_of e) → RefusesLine old.cap old.map.tables line (commands.code_of e)
-    line_refused stepped = subst (λ (o : Option ℕ). MatchOption o (RefusesCommand old.cap old.map.tables line (commands.code_of e)) (λ fault. commands.code_of e ≡ fault)) (sym whole) (record { command = c; range = range; line_is = line_is; stepped = stepped })
+    line_refused : step (project_of old.maps) c old.cap ≡ Err (commands.code_of e) → RefusesLine old.cap (project_of old.maps) line (commands.code_of e)
+    line_refused stepped = subst (λ (o : Option ℕ). MatchOption o (RefusesCommand old.cap (project_of old.maps) line (commands.code_of e)) (λ fault. commands.code_of e ≡ fault)) (sym whole) (record { command = c; range = range; line_is = line_is; stepped = stepped })
 
-    at : ((r ≡ OutOfMemory) × IsOk (step old.map.tables c old.cap)) ⊎ ((r ≡ Refused e) × (step old.map.tables c old.cap ≡ Err (commands.code_of e))) → RefusesApply failures r old new line
+    at : ((r ≡ OutOfMemory) × IsOk (step (project_of old.maps) c old.cap)) ⊎ ((r ≡ Refused e) × (step (project_of old.maps) c old.cap ≡ Err (commands.code_of e))) → RefusesApply failures r old new line
     at (inl (memory, ok)) = subst (λ (q : ProjectError). RefusesApply failures q old new line) (sym memory)
-        (ready, still, accepted_leads old.cap old.map.tables line c range line_is (step old.map.tables c old.cap) refl ok)
+        (ready, still, accepted_leads old.cap (project_of old.maps) line c range line_is (step (project_of old.maps) c old.cap) refl ok)
     at (inr (refused, stepped)) = subst (λ (q : ProjectError). RefusesApply failures q old new line) (sym refused) (ready, still, line_refused stepped)
 
 -- a line for which no room could be made, of a map that accepts it
 module _ {D : Type 0} (failures : D → ℕ) (old mid new : State D) (line : List ℕ) (ready : old.must_reopen ≡ false) (reopen_is : mid.must_reopen ≡ old.must_reopen) (generation_is : mid.generation ≡ old.generation)
-    (room_is : mid.room ≡ old.room) (disk_is : mid.disk ≡ old.disk) (leads : (next : Tables) × LeadsTo old.cap old.map.tables line next) where
+    (room_is : mid.room ≡ old.room) (disk_is : mid.disk ≡ old.disk) (leads : (next : ProjectMaps) × LeadsTo old.cap (project_of old.maps) line next) where
   pub room_refused : (e : ProjectError) → RefusesCheckpoint failures e mid new → IsAbove mid.room (length line) → RefusesApply failures e old new line
   room_refused Device (a, b, rose) above = (ready, b, subst (λ (d : D). Rose (failures d) (failures new.disk)) disk_is rose)
   room_refused OutOfMemory (a, same) above = (ready, ap (λ (s : State D). s.must_reopen) same ∙ a, leads)

@@ -15,9 +15,8 @@ use Rattle.lv_checkpoint.specs.declared.slots.Slots.{Slots}
 use Rattle.lv_checkpoint.specs.Steps.{IsFirst}
 use Rattle.lv_checkpoint.proofs.Kept.{live_kept}
 use Rattle.lv_disk.proofs.Gates.{closed_kept, closed_now}
-use Rattle.lv_maptables.specs.Tables.{empty_tables}
-use Rattle.lv_maptables.specs.WellFormed.{WellFormed}
-use Rattle.lv_maptables.specs.Body.{body}
+use Rattle.lv_maptables.specs.Projects.{WellFormedProject, empty_project}
+use Rattle.lv_maptables.specs.ProjectBody.{project_body}
 use Rattle.lv_project.specs.Places.{IsAllowed, IsLaidOut, cap_of, header_bytes}
 use Rattle.lv_project.specs.Stands.{HasGeometry, StandsAt}
 use Rattle.lv_project.specs.Damage.{IsLeastGateFault}
@@ -47,12 +46,12 @@ module _ (q : Parts) (file : List ℕ) where
     least = λ other fault. ⊎_elim (λ there. omega (arith, one_place q.journal file other place there bad)) (λ here. absurd (omega (arith, long, here.1))) fault;
   }
 
-module _ (g : Geometry) (p : Places) (allowed : IsAllowed g.slot g.journal) (laid : IsLaidOut g p) (formed : WellFormed empty_tables) where
+module _ (g : Geometry) (p : Places) (allowed : IsAllowed g.slot g.journal) (laid : IsLaidOut g p) (formed : WellFormedProject empty_project) where
   abbrev hdr : List ℕ
   hdr = header_bytes g.slot g.journal
 
-  pub made : (bytes f0 f1 f2 f3 f4 : List ℕ) → bytes ≡ hdr → Written 0 bytes f0 f1 → IsFirst p.a p.b (body empty_tables) f1 f2 → Written p.first.base (0 ∷ []) f2 f3 → Written p.second.base (0 ∷ []) f3 f4
-      → HasGeometry g p f4 × StandsAt (cap_of g) (record { live = p.a; other = p.b; journal = p.first; other_journal = p.second }) empty_tables 1 f4 × IsClosedAt p.b.base f4 × IsJournal p.first [] f4
+  pub made : (bytes f0 f1 f2 f3 f4 : List ℕ) → bytes ≡ hdr → Written 0 bytes f0 f1 → IsFirst p.a p.b (project_body empty_project) f1 f2 → Written p.first.base (0 ∷ []) f2 f3 → Written p.second.base (0 ∷ []) f3 f4
+      → HasGeometry g p f4 × StandsAt (cap_of g) (record { live = p.a; other = p.b; journal = p.first; other_journal = p.second }) empty_project 1 f4 × IsClosedAt p.b.base f4 × IsJournal p.first [] f4
   made bytes f0 f1 f2 f3 f4 is w1 first w3 w4 =
       let size : length hdr ≡ 16 = refl in
       let one : HasAt 0 hdr f1 = subst (λ (l : List ℕ). HasAt 0 l f1) is (w1.has (omega (arith, ap length is, size))) in
@@ -61,14 +60,16 @@ module _ (g : Geometry) (p : Places) (allowed : IsAllowed g.slot g.journal) (lai
       let three : HasAt 0 hdr f3 = has_kept p.first.base 1 0 hdr f2 f3 (inl (omega (arith, size, laid.first_base))) w3.keeps two in
       let four : HasAt 0 hdr f4 = has_kept p.second.base 1 0 hdr f3 f4 (inl (omega (arith, size, laid.second_base))) w4.keeps three in
       let some : 0 < p.b.length = omega (arith, laid.b_length, allowed.slot_low) in
-      let live3 = live_kept p.first.base 1 f2 f3 w3.keeps p.a p.b 1 (body empty_tables) some (inl (omega (arith, laid.a_base, laid.a_length, laid.first_base))) (inl (omega (arith, laid.b_base, laid.b_length, laid.first_base))) first.live in
-      let live4 = live_kept p.second.base 1 f3 f4 w4.keeps p.a p.b 1 (body empty_tables) some (inl (omega (arith, laid.a_base, laid.a_length, laid.second_base))) (inl (omega (arith, laid.b_base, laid.b_length, laid.second_base))) live3 in
+      let live3 = live_kept p.first.base 1 f2 f3 w3.keeps p.a p.b 1 (project_body empty_project) some (inl (omega (arith, laid.a_base, laid.a_length, laid.first_base))) (inl (omega (arith, laid.b_base, laid.b_length, laid.first_base))) first.live in
+      let live4 = live_kept p.second.base 1 f3 f4 w4.keeps p.a p.b 1 (project_body empty_project) some (inl (omega (arith, laid.a_base, laid.a_length, laid.second_base))) (inl (omega (arith, laid.b_base, laid.b_length, laid.second_base))) live3 in
       let shut : IsClosedAt p.first.base f4 = closed_kept p.first.base p.second.base 1 f3 f4 (inl (omega (arith, laid.first_base, laid.second_base, allowed.journal_low))) w4.keeps (closed_now p.first.base f2 f3 w3) in (
         record { allowed = allowed; header = four; laid_out = laid },
         record {
-          base = empty_tables;
+          base = empty_project;
+          bytes = project_body empty_project;
           lines = [];
           well_formed = formed;
+          body = inl refl;
           live = live4;
           journal = journal_none p.first f4 (omega (arith, laid.first_length, allowed.journal_low)) shut;
           other = (closed_now p.second.base f3 f4 w4).within;

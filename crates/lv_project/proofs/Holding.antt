@@ -4,9 +4,9 @@ use Rattle.std.proofs.lemmas.Bool.{cases_Bool, true≢false}
 use Rattle.std.proofs.lemmas.List.{append_assoc, append-nil}
 use Rattle.lv_disk.specs.Stops.{Each, LeavesOnly}
 use Rattle.lv_disk.proofs.Moments.{started, weaker, and_then}
-use Rattle.lv_maptables.specs.Tables.{empty_tables, Tables, MapView}
+use Rattle.lv_maptables.specs.Projects.{empty_project, ProjectMaps, project_of}
 use Rattle.lv_project.specs.Stands.{IsOutcome, StandsFor}
-use Rattle.lv_commands.specs.LineSteps.{Leads, LeadsTo}
+use Rattle.lv_commands.specs.ProjectLines.{Leads, LeadsTo}
 use Rattle.lv_project.specs.States.{State, IsKept}
 use Rattle.lv_project.specs.Outcomes.{RefusesApply, RefusesCheckpoint}
 use Rattle.lv_project.specs.declared.error.ProjectError.{ProjectError}
@@ -94,38 +94,38 @@ module _ {D : Type 0} (moment failures : D → ℕ) (left_since : D → ℕ → 
     | inr still ↦ and_then moment left_since old.disk mid.disk new.disk P first (second still)
   ]
 
-  module _ (limit : ℕ) (base : Tables) where
+  module _ (limit : ℕ) (base : ProjectMaps) where
     -- a prefix of at least so many of the lines leads to a map that the file stands for
     pub record Holds (all : List (List ℕ)) (n : ℕ) (file : List ℕ) : Type 0 where
       pub lines : List (List ℕ)
       pub rest : List (List ℕ)
       pub prefix : all ≡ lines ++ rest
       pub holds : n ≤ length lines
-      pub map : Tables
+      pub map : ProjectMaps
       pub leads : Leads limit base lines map
       pub stands : StandsFor limit map file
 
     -- these lines lead to the project's map
     pub record Known (done : List (List ℕ)) (now : State D) : Type 0 where
       pub cap_is : now.cap ≡ limit
-      pub leads : Leads limit base done now.map.tables
+      pub leads : Leads limit base done (project_of now.maps)
       pub kept : IsKept may_leave now
 
-    here : (done rest all : List (List ℕ)) (now : State D) → Known done now → all ≡ done ++ rest → (file : List ℕ) → StandsFor now.cap now.map.tables file → Holds all (length done) file
+    here : (done rest all : List (List ℕ)) (now : State D) → Known done now → all ≡ done ++ rest → (file : List ℕ) → StandsFor now.cap (project_of now.maps) file → Holds all (length done) file
     here done rest all now known is file stands = record {
       lines = done;
       rest = rest;
       prefix = is;
       holds = omega arith;
-      map = now.map.tables;
+      map = (project_of now.maps);
       leads = known.leads;
-      stands = subst (λ (k : ℕ). StandsFor k now.map.tables file) known.cap_is stands;
+      stands = subst (λ (k : ℕ). StandsFor k (project_of now.maps) file) known.cap_is stands;
     }
 
-    led : (done : List (List ℕ)) (line : List ℕ) (now : State D) (next : Tables) → Known done now → LeadsTo now.cap now.map.tables line next → Leads limit base (done ++ line ∷ []) next
-    led done line now next known leads = leads_push limit base done line now.map.tables next known.leads (subst (λ (k : ℕ). LeadsTo k now.map.tables line next) known.cap_is leads)
+    led : (done : List (List ℕ)) (line : List ℕ) (now : State D) (next : ProjectMaps) → Known done now → LeadsTo now.cap (project_of now.maps) line next → Leads limit base (done ++ line ∷ []) next
+    led done line now next known leads = leads_push limit base done line (project_of now.maps) next known.leads (subst (λ (k : ℕ). LeadsTo k (project_of now.maps) line next) known.cap_is leads)
 
-    outcome : (done : List (List ℕ)) (line : List ℕ) (rest all : List (List ℕ)) (now : State D) → Known done now → all ≡ done ++ line ∷ rest → (file : List ℕ) → IsOutcome now.cap now.map.tables line file → Holds all (length done) file
+    outcome : (done : List (List ℕ)) (line : List ℕ) (rest all : List (List ℕ)) (now : State D) → Known done now → all ≡ done ++ line ∷ rest → (file : List ℕ) → IsOutcome now.cap (project_of now.maps) line file → Holds all (length done) file
     outcome done line rest all now known is file (inl stands) = here done (line ∷ rest) all now known is file stands
     outcome done line rest all now known is file (inr (next, leads, stands)) = record {
       lines = done ++ line ∷ [];
@@ -137,10 +137,10 @@ module _ {D : Type 0} (moment failures : D → ℕ) (left_since : D → ℕ → 
       stands = subst (λ (k : ℕ). StandsFor k next file) known.cap_is stands;
     }
 
-    same_map : (done : List (List ℕ)) (old mid : State D) → Known done old → mid.cap ≡ old.cap → mid.map.tables ≡ old.map.tables → IsKept may_leave mid → Known done mid
+    same_map : (done : List (List ℕ)) (old mid : State D) → Known done old → mid.cap ≡ old.cap → (project_of mid.maps) ≡ (project_of old.maps) → IsKept may_leave mid → Known done mid
     same_map done old mid known cap_is map_is kept = record {
       cap_is = cap_is ∙ known.cap_is;
-      leads = subst (λ (t : Tables). Leads limit base done t) (sym map_is) known.leads;
+      leads = subst (λ (t : ProjectMaps). Leads limit base done t) (sym map_is) known.leads;
       kept = kept;
     }
 
@@ -151,17 +151,17 @@ module _ {D : Type 0} (moment failures : D → ℕ) (left_since : D → ℕ → 
         (started moment left_since old.disk (Holds (done ++ []) (length done)) (λ file left. here done [] (done ++ []) old known refl file (old.generation, known.kept ready file (only_now old.disk file left))))
     moves ((None, answer) ∷ calls) done old new known ready (mid, made, more) =
         go_on old mid new calls (Holds (done ++ accepted calls) (length done)) more
-        (weaker moment left_since old.disk mid.disk (StandsFor old.cap old.map.tables) (Holds (done ++ accepted calls) (length done)) (made.any_moment ready) (here done (accepted calls) (done ++ accepted calls) old known refl))
-        (λ still. moves calls done mid new (same_map done old mid known made.same_cap (ap (λ (m : MapView). m.tables) made.map) made.kept) still more)
+        (weaker moment left_since old.disk mid.disk (StandsFor old.cap (project_of old.maps)) (Holds (done ++ accepted calls) (length done)) (made.any_moment ready) (here done (accepted calls) (done ++ accepted calls) old known refl))
+        (λ still. moves calls done mid new (same_map done old mid known made.same_cap (ap project_of made.maps) made.kept) still more)
     moves ((Some line, Ok n) ∷ calls) done old new known ready (mid, made, more) =
         let all = done ++ line ∷ accepted calls in
         let then_known : Known (done ++ line ∷ []) mid = record {
           cap_is = made.same_cap ∙ known.cap_is;
-          leads = led done line old mid.map.tables known (n, made.ends.2);
+          leads = led done line old (project_of mid.maps) known (n, made.ends.2);
           kept = made.kept;
         } in
         go_on old mid new calls (Holds all (length done)) more
-        (weaker moment left_since old.disk mid.disk (IsOutcome old.cap old.map.tables line) (Holds all (length done)) (made.any_moment ready) (outcome done line (accepted calls) all old known refl))
+        (weaker moment left_since old.disk mid.disk (IsOutcome old.cap (project_of old.maps) line) (Holds all (length done)) (made.any_moment ready) (outcome done line (accepted calls) all old known refl))
         (λ still. weaker moment left_since mid.disk new.disk (Holds ((done ++ line ∷ []) ++ accepted calls) (length (done ++ line ∷ []))) (Holds all (length done))
         (moves calls (done ++ line ∷ []) mid new then_known still more)
         (λ file h. record {
@@ -184,12 +184,12 @@ module _ {D : Type 0} (moment failures : D → ℕ) (left_since : D → ℕ → 
         at : (Known done mid → mid.must_reopen ≡ false → LeavesOnly moment left_since mid.disk new.disk (Holds (done ++ accepted calls) (length done))) → (t : Bool) → begins (Err e) ≡ t
             → LeavesOnly moment left_since old.disk new.disk (Holds (done ++ the_lines t) (length done))
         at behind true is = go_on old mid new calls (Holds (done ++ line ∷ accepted calls) (length done)) more
-            (weaker moment left_since old.disk mid.disk (IsOutcome old.cap old.map.tables line) (Holds (done ++ line ∷ accepted calls) (length done)) (made.any_moment ready)
+            (weaker moment left_since old.disk mid.disk (IsOutcome old.cap (project_of old.maps) line) (Holds (done ++ line ∷ accepted calls) (length done)) (made.any_moment ready)
             (outcome done line (accepted calls) (done ++ line ∷ accepted calls) old known refl))
             (λ still. absurd (true≢false (sym (faulted failures old mid line e is made.ends.1) ∙ still)))
         at behind false is = go_on old mid new calls (Holds (done ++ accepted calls) (length done)) more
             (⊎_elim (λ device. absurd (true≢false (sym (ap (λ (x : ProjectError). begins (Err x)) device) ∙ is)))
-            (λ quiet. weaker moment left_since old.disk mid.disk (StandsFor old.cap old.map.tables) (Holds (done ++ accepted calls) (length done)) quiet (here done (accepted calls) (done ++ accepted calls) old known refl))
+            (λ quiet. weaker moment left_since old.disk mid.disk (StandsFor old.cap (project_of old.maps)) (Holds (done ++ accepted calls) (length done)) quiet (here done (accepted calls) (done ++ accepted calls) old known refl))
             (made.refused_moment ready))
             (λ still. behind stays still)
 
@@ -223,13 +223,13 @@ module _ {D : Type 0} (moment failures : D → ℕ) (left_since : D → ℕ → 
         inl (ap (λ (s : State D). s.must_reopen) same ∙ ready, subst (λ (s : State D). Known (done ++ []) s) (sym same) (subst (λ (l : List (List ℕ)). Known l old) (sym (append-nil done)) known), refl)
     fronts ((None, answer) ∷ calls) done old new known ready (mid, made, more) = elim (cases_Bool mid.must_reopen) [
       | inl reopen ↦ inr (broken done (done ++ accepted calls) calls old mid new reopen more
-          (weaker moment left_since old.disk mid.disk (StandsFor old.cap old.map.tables) (Holds (done ++ accepted calls) (length done)) (made.any_moment ready) (here done (accepted calls) (done ++ accepted calls) old known refl)))
-      | inr still ↦ fronts calls done mid new (same_map done old mid known made.same_cap (ap (λ (m : MapView). m.tables) made.map) made.kept) still more
+          (weaker moment left_since old.disk mid.disk (StandsFor old.cap (project_of old.maps)) (Holds (done ++ accepted calls) (length done)) (made.any_moment ready) (here done (accepted calls) (done ++ accepted calls) old known refl)))
+      | inr still ↦ fronts calls done mid new (same_map done old mid known made.same_cap (ap project_of made.maps) made.kept) still more
     ]
     fronts ((Some line, Ok n) ∷ calls) done old new known ready (mid, made, more) =
         let then_known : Known (done ++ line ∷ []) mid = record {
           cap_is = made.same_cap ∙ known.cap_is;
-          leads = led done line old mid.map.tables known (n, made.ends.2);
+          leads = led done line old (project_of mid.maps) known (n, made.ends.2);
           kept = made.kept;
         } in
         ⊎_elim
@@ -251,12 +251,12 @@ module _ {D : Type 0} (moment failures : D → ℕ) (left_since : D → ℕ → 
 
         at : (Known done mid → mid.must_reopen ≡ false → AfterOf done (accepted calls) (acknowledged calls) new) → (t : Bool) → begins (Err e) ≡ t → AfterOf done (the_lines t) (acknowledged calls) new
         at behind true is = inr (broken done (done ++ line ∷ accepted calls) calls old mid new (faulted failures old mid line e is made.ends.1) more
-            (weaker moment left_since old.disk mid.disk (IsOutcome old.cap old.map.tables line) (Holds (done ++ line ∷ accepted calls) (length done)) (made.any_moment ready)
+            (weaker moment left_since old.disk mid.disk (IsOutcome old.cap (project_of old.maps) line) (Holds (done ++ line ∷ accepted calls) (length done)) (made.any_moment ready)
             (outcome done line (accepted calls) (done ++ line ∷ accepted calls) old known refl)))
         at behind false is = elim (cases_Bool mid.must_reopen) [
           | inl reopen ↦ inr (broken done (done ++ accepted calls) calls old mid new reopen more
               (⊎_elim (λ device. absurd (true≢false (sym (ap (λ (x : ProjectError). begins (Err x)) device) ∙ is)))
-              (λ quiet. weaker moment left_since old.disk mid.disk (StandsFor old.cap old.map.tables) (Holds (done ++ accepted calls) (length done)) quiet (here done (accepted calls) (done ++ accepted calls) old known refl))
+              (λ quiet. weaker moment left_since old.disk mid.disk (StandsFor old.cap (project_of old.maps)) (Holds (done ++ accepted calls) (length done)) quiet (here done (accepted calls) (done ++ accepted calls) old known refl))
               (made.refused_moment ready)))
           | inr still ↦ behind stays still
         ]
@@ -264,16 +264,16 @@ module _ {D : Type 0} (moment failures : D → ℕ) (left_since : D → ℕ → 
   -- ---- a session
 
   -- a file stands for what the session leads to from a map
-  abbrev StandsAfter : ℕ → Tables → Session → List ℕ → Type 0
-  StandsAfter cap base s file = (map : Tables) × KeepsAcknowledged cap base s map × StandsFor cap map file
+  abbrev StandsAfter : ℕ → ProjectMaps → Session → List ℕ → Type 0
+  StandsAfter cap base s file = (map : ProjectMaps) × KeepsAcknowledged cap base s map × StandsFor cap map file
 
   session_moments : (cap : ℕ) (s : Session) (first mid last : State D) → first.cap ≡ cap → first.must_reopen ≡ false → IsKept may_leave first
       → AllMade moment failures left_since may_leave first s.front mid → AllMade moment failures left_since may_leave mid s.back last
-      → LeavesOnly moment left_since mid.disk last.disk (StandsAfter cap first.map.tables s)
+      → LeavesOnly moment left_since mid.disk last.disk (StandsAfter cap (project_of first.maps) s)
   session_moments cap s first mid last cap_is ready kept front back =
       ⊎_elim
-      (λ well. weaker moment left_since mid.disk last.disk (Holds cap first.map.tables (acknowledged s.front ++ accepted s.back) (length (acknowledged s.front))) (StandsAfter cap first.map.tables s)
-      (moves cap first.map.tables s.back (acknowledged s.front) mid last well.1 well.0 back)
+      (λ well. weaker moment left_since mid.disk last.disk (Holds cap (project_of first.maps) (acknowledged s.front ++ accepted s.back) (length (acknowledged s.front))) (StandsAfter cap (project_of first.maps) s)
+      (moves cap (project_of first.maps) s.back (acknowledged s.front) mid last well.1 well.0 back)
       (λ file h. (
         h.map,
         record {
@@ -285,8 +285,8 @@ module _ {D : Type 0} (moment failures : D → ℕ) (left_since : D → ℕ → 
         },
         h.stands,
       )))
-      (λ bad. subst (λ (t : State D). LeavesOnly moment left_since mid.disk t.disk (StandsAfter cap first.map.tables s)) (sym (stuck s.back mid last bad.0 back))
-      (started moment left_since mid.disk (StandsAfter cap first.map.tables s) (λ file left.
+      (λ bad. subst (λ (t : State D). LeavesOnly moment left_since mid.disk t.disk (StandsAfter cap (project_of first.maps) s)) (sym (stuck s.back mid last bad.0 back))
+      (started moment left_since mid.disk (StandsAfter cap (project_of first.maps) s) (λ file left.
       let h = bad.1 file (only_now mid.disk file left) in (
         h.map,
         record {
@@ -298,11 +298,11 @@ module _ {D : Type 0} (moment failures : D → ℕ) (left_since : D → ℕ → 
         },
         h.stands,
       ))))
-      (fronts cap first.map.tables s.front [] first mid (record { cap_is = cap_is; leads = refl; kept = kept }) ready front)
+      (fronts cap (project_of first.maps) s.front [] first mid (record { cap_is = cap_is; leads = refl; kept = kept }) ready front)
 
   -- one session more
-  keep_push : (cap : ℕ) (base : Tables) (done : List Session) (mid : Tables) (s : Session) (map : Tables) → KeepEach cap base done mid → KeepsAcknowledged cap mid s map → KeepEach cap base (done ++ s ∷ []) map
-  keep_push cap base [] mid s map held more = (map, subst (λ (t : Tables). KeepsAcknowledged cap t s map) held more, refl)
+  keep_push : (cap : ℕ) (base : ProjectMaps) (done : List Session) (mid : ProjectMaps) (s : Session) (map : ProjectMaps) → KeepEach cap base done mid → KeepsAcknowledged cap mid s map → KeepEach cap base (done ++ s ∷ []) map
+  keep_push cap base [] mid s map held more = (map, subst (λ (t : ProjectMaps). KeepsAcknowledged cap t s map) held more, refl)
   keep_push cap base (q ∷ done) mid s map (next, first, held) more = (next, first, keep_push cap next done mid s map held more)
 
   -- a state to which the sessions before lead
@@ -310,7 +310,7 @@ module _ {D : Type 0} (moment failures : D → ℕ) (left_since : D → ℕ → 
     pub ready : f.must_reopen ≡ false
     pub kept : IsKept may_leave f
     pub cap_is : f.cap ≡ cap
-    pub held : KeepEach cap empty_tables done f.map.tables
+    pub held : KeepEach cap empty_project done (project_of f.maps)
 
   -- a session that begins so begins at such a state
   abbrev Good : ℕ → List Session → (State D → Type 0) → Type 0
@@ -320,9 +320,9 @@ module _ {D : Type 0} (moment failures : D → ℕ) (left_since : D → ℕ → 
       → LeavesOnly moment left_since mid.disk last.disk (HoldsEach cap (done ++ s ∷ []))
   passes_moments cap done begun good s mid last p =
       let from = good p.first p.begun in
-      weaker moment left_since mid.disk last.disk (StandsAfter cap p.first.map.tables s) (HoldsEach cap (done ++ s ∷ []))
+      weaker moment left_since mid.disk last.disk (StandsAfter cap (project_of p.first.maps) s) (HoldsEach cap (done ++ s ∷ []))
       (session_moments cap s p.first mid last from.cap_is from.ready from.kept p.front p.back)
-      (λ file h. (h.0, keep_push cap empty_tables done p.first.map.tables s h.0 from.held h.1, h.2))
+      (λ file h. (h.0, keep_push cap empty_project done (project_of p.first.maps) s h.0 from.held h.1, h.2))
 
   module _ (reads : D → List ℕ → Type 0) (reads_an_image : (d : D) (file : List ℕ) → reads d file → may_leave d file) where
     -- what the next session opens to
@@ -337,7 +337,7 @@ module _ {D : Type 0} (moment failures : D → ℕ) (left_since : D → ℕ → 
           ready = o.reopen;
           kept = o.kept;
           cap_is = sym same.0;
-          held = subst (λ (t : Tables). KeepEach cap empty_tables done t) same.1 held.1;
+          held = subst (λ (t : ProjectMaps). KeepEach cap empty_project done t) same.1 held.1;
         }
 
     pub all_moments : (cap : ℕ) (done before : List Session) (begun : State D → Type 0) → Good cap done begun → (s : Session) (mid last : State D) → PassInTurn moment failures left_since may_leave reads begun before s mid last

@@ -1,3 +1,4 @@
+pub mod Bodies
 pub mod Placing
 pub mod Turning
 pub mod TurnMoments

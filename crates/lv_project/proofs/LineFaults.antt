@@ -3,7 +3,10 @@ use Rattle.std.proofs.Common.{◌≡◌, ◌≤◌, ℕ, ℤ, Bool, true, false,
 use Rattle.std.specs.Prelude.{IfSome, ◌&&◌, int_le, int_lt, pos}
 use Rattle.lv_lumps.specs.Names.{is_marker}
 use Rattle.lv_commands.specs.CommandRanges.{last_of}
-use Rattle.lv_commands.specs.Grammar.{drop_fault, fault_behind, fault_of, flat_fault, head_fault, head_of, kind_fault, kind_of, command_fault, or_else, parts}
+use Rattle.lv_commands.specs.Grammar.{drop_fault, fault_behind, flat_fault, head_fault, head_of, kind_fault, kind_of, command_fault, or_else, parts}
+use Rattle.lv_commands.specs.ProjectGrammar as of_project
+use Rattle.lv_commands.specs.ProjectGrammar.{fault_by_head, fault_of, map_head_of}
+use Rattle.lv_commands.specs.declared.project.command.MapHead.{MapHead}
 use Rattle.lv_commands.specs.Places.{Place, Number, NumberOrNone, Named, fault_at, first_of, has_form, is_form_fault, item, line_places, place_fault, places_fault, range_fault, room_places, sector_item, sector_places, side_places, thing_places, vertex_places}
 use Rattle.lv_commands.specs.Words.{is_numeral, numeral_value}
 use Rattle.lv_maptables.specs.declared.kind.Kind.{Kind}
@@ -87,8 +90,17 @@ words_low : (ws : List (List ℕ)) → IsLow (command_fault ws)
 words_low [] = one
 words_low (w ∷ ws) = head_low (head_of w) ws
 
+map_head_low : (h : Option MapHead) (w : List ℕ) (ws : List (List ℕ)) → IsLow (fault_by_head h w ws)
+map_head_low (Some h) w ws = places_low (Named is_marker ∷ []) ws
+map_head_low None w ws = words_low (w ∷ ws)
+
+project_words_low : (ws : List (List ℕ)) → IsLow (of_project.command_fault ws)
+project_words_low [] = one
+project_words_low (w ∷ ws) = map_head_low (map_head_of w) w ws
+
 line_low : (line : List ℕ) → IsLow (fault_of line)
-line_low line = either (nat_lt 256 (length line)) (Some 1) (command_fault (parts line)) one (words_low (parts line))
+line_low line =
+    either (nat_lt 256 (length line)) (Some 1) (of_project.command_fault (parts line)) one (project_words_low (parts line))
 
 pub low_fault : (line : List ℕ) (code : ℕ) → fault_of line ≡ Some code → code ≤ 15
 low_fault line code is = subst IsLow is (line_low line)

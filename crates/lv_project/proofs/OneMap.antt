@@ -8,34 +8,34 @@ use Rattle.lv_disk.specs.declared.area.Area.{Area}
 use Rattle.lv_disk.proofs.Bytes.{has_same}
 use Rattle.lv_journal.proofs.OneReading.{one_journal}
 use Rattle.lv_checkpoint.proofs.OneBody.{one_live, one_slot}
-use Rattle.lv_maptables.specs.Tables.{Tables}
-use Rattle.lv_maptables.specs.Body.{body, tables_at}
-use Rattle.lv_maptables.proofs.FramedLemmas.{body_holds}
-use Rattle.lv_commands.specs.Step.{step}
-use Rattle.lv_commands.specs.declared.command.Command.{Command}
-use Rattle.lv_commands.proofs.Complete.{spelling-one}
+use Rattle.lv_maptables.specs.Projects.{ProjectMaps}
+use Rattle.lv_maptables.specs.ProjectBody.{HasBody}
+use Rattle.lv_maptables.proofs.BodyLaws.{one_project}
+use Rattle.lv_commands.specs.ProjectStep.{step}
+use Rattle.lv_commands.specs.declared.project.command.ProjectCommand.{ProjectCommand}
+use Rattle.lv_commands.proofs.ProjectWords.{spelling-one}
 use Rattle.lv_project.specs.Places.{IsLaidOut, cap_of, header_bytes, parts_of}
 use Rattle.lv_project.specs.Stands.{HasGeometry, Stands, StandsAt}
-use Rattle.lv_commands.specs.LineSteps.{Leads, LeadsTo}
+use Rattle.lv_commands.specs.ProjectLines.{Leads, LeadsTo}
 use Rattle.lv_project.specs.declared.geometry.Geometry.{Geometry}
 use Rattle.lv_project.specs.declared.places.Places.{Places}
 use Rattle.lv_project.specs.declared.places.Parts.{Parts}
 
 -- ---- one line, and one list of lines, lead to one map
 
-abbrev map_in : Tables → Result (Tables × ℕ) ℕ → Tables
+abbrev map_in : ProjectMaps → Result (ProjectMaps × ℕ) ℕ → ProjectMaps
 map_in d (Ok y) = y.0
 map_in d (Err e) = d
 
-pub one_step : (cap : ℕ) (old : Tables) (line : List ℕ) (m n : Tables) → LeadsTo cap old line m → LeadsTo cap old line n → m ≡ n
+pub one_step : (cap : ℕ) (old : ProjectMaps) (line : List ℕ) (m n : ProjectMaps) → LeadsTo cap old line m → LeadsTo cap old line n → m ≡ n
 one_step cap old line m n (k, a) (l, b) =
     let same : a.command ≡ b.command = spelling-one a.command b.command a.range b.range (sym a.line_is ∙ b.line_is) in
-    ap (map_in old) (sym a.stepped ∙ ap (λ (c : Command). step old c cap) same ∙ b.stepped)
+    ap (map_in old) (sym a.stepped ∙ ap (λ (c : ProjectCommand). step old c cap) same ∙ b.stepped)
 
-pub one_replay : (cap : ℕ) (old : Tables) (lines : List (List ℕ)) (m n : Tables) → Leads cap old lines m → Leads cap old lines n → m ≡ n
+pub one_replay : (cap : ℕ) (old : ProjectMaps) (lines : List (List ℕ)) (m n : ProjectMaps) → Leads cap old lines m → Leads cap old lines n → m ≡ n
 one_replay cap old [] m n a b = a ∙ sym b
 one_replay cap old (line ∷ lines) m n (x, first, a) (y, second, b) =
-    one_replay cap x lines m n a (subst (λ (z : Tables). Leads cap z lines n) (sym (one_step cap old line x y first second)) b)
+    one_replay cap x lines m n a (subst (λ (z : ProjectMaps). Leads cap z lines n) (sym (one_step cap old line x y first second)) b)
 
 -- ---- one header tells one place of each part
 
@@ -68,13 +68,13 @@ one_layout g p q a b =
 -- ---- one map
 
 module _ (cap : ℕ) (file : List ℕ) where
-  same_parts : (q : Parts) (m n : Tables) (k l : ℕ) → StandsAt cap q m k file → StandsAt cap q n l file → (m ≡ n) × (k ≡ l)
+  same_parts : (q : Parts) (m n : ProjectMaps) (k l : ℕ) → StandsAt cap q m k file → StandsAt cap q n l file → (m ≡ n) × (k ≡ l)
   same_parts q m n k l a b =
-      let live = one_live q.live q.other file k l (body a.base) (body b.base) a.live b.live in
-      let base : a.base ≡ b.base = sym (body_holds a.base a.well_formed).1 ∙ ap tables_at live.1 ∙ (body_holds b.base b.well_formed).1 in
+      let live = one_live q.live q.other file k l a.bytes b.bytes a.live b.live in
+      let base : a.base ≡ b.base = one_project a.base b.base b.bytes a.well_formed b.well_formed (subst (HasBody a.base) live.1 a.body) b.body in
       let lines : a.lines ≡ b.lines = one_journal q.journal file a.lines b.lines a.journal b.journal in (
         one_replay cap a.base a.lines m n a.leads
-            (subst (λ (ls : List (List ℕ)). Leads cap a.base ls n) (sym lines) (subst (λ (t : Tables). Leads cap t b.lines n) (sym base) b.leads)),
+            (subst (λ (ls : List (List ℕ)). Leads cap a.base ls n) (sym lines) (subst (λ (t : ProjectMaps). Leads cap t b.lines n) (sym base) b.leads)),
         live.0,
       )
 
@@ -82,16 +82,16 @@ module _ (cap : ℕ) (file : List ℕ) where
     abbrev picked : Bool → Parts
     picked t = cond t (record { live = p.a; other = p.b; journal = p.first; other_journal = p.second }) (record { live = p.b; other = p.a; journal = p.second; other_journal = p.first })
 
-    either : (t u : Bool) (m n : Tables) (k l : ℕ) → StandsAt cap (picked t) m k file → StandsAt cap (picked u) n l file → (m ≡ n) × (k ≡ l)
+    either : (t u : Bool) (m n : ProjectMaps) (k l : ℕ) → StandsAt cap (picked t) m k file → StandsAt cap (picked u) n l file → (m ≡ n) × (k ≡ l)
     either true true m n k l a b = same_parts (picked true) m n k l a b
     either false false m n k l a b = same_parts (picked false) m n k l a b
-    either true false m n k l a b = absurd (one_slot p.a p.b k l (body a.base) (body b.base) file a.live b.live)
-    either false true m n k l a b = absurd (one_slot p.b p.a k l (body a.base) (body b.base) file a.live b.live)
+    either true false m n k l a b = absurd (one_slot p.a p.b k l a.bytes b.bytes file a.live b.live)
+    either false true m n k l a b = absurd (one_slot p.b p.a k l a.bytes b.bytes file a.live b.live)
 
-    pub one_map_at : (s t : ℕ) (m n : Tables) (k l : ℕ) → StandsAt cap (parts_of p s) m k file → StandsAt cap (parts_of p t) n l file → (m ≡ n) × (k ≡ l)
+    pub one_map_at : (s t : ℕ) (m n : ProjectMaps) (k l : ℕ) → StandsAt cap (parts_of p s) m k file → StandsAt cap (parts_of p t) n l file → (m ≡ n) × (k ≡ l)
     one_map_at s t m n k l a b = either (eqb s 0) (eqb t 0) m n k l a b
 
-pub one_map : (c d : ℕ) (m n : Tables) (k l : ℕ) (file : List ℕ) → Stands c m k file → Stands d n l file → (c ≡ d) × (m ≡ n) × (k ≡ l)
+pub one_map : (c d : ℕ) (m n : ProjectMaps) (k l : ℕ) (file : List ℕ) → Stands c m k file → Stands d n l file → (c ≡ d) × (m ≡ n) × (k ≡ l)
 one_map c d m n k l file a b =
     let g : a.geometry ≡ b.geometry = one_geometry a.geometry b.geometry a.places b.places file a.has b.has in
     let laid : IsLaidOut a.geometry b.places = subst (λ (x : Geometry). IsLaidOut x b.places) (sym g) b.has.laid_out in

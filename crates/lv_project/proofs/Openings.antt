@@ -14,11 +14,11 @@ use Rattle.lv_checkpoint.specs.Handles.{first_of, second_of, slot_of, generation
 use Rattle.lv_checkpoint.specs.declared.slots.Slots.{Slots}
 use Rattle.lv_checkpoint.specs.declared.error.CheckpointError.{CheckpointError}
 use Rattle.lv_checkpoint.specs.declared.error.CheckpointError.TheVariants as slot
-use Rattle.lv_maptables.specs.Tables.{Tables, body_len}
-use Rattle.lv_maptables.specs.Body.{body, NoMapHas, IsMapOf, RefusesBody}
+use Rattle.lv_maptables.specs.Projects.{ProjectMaps, body_len, project_of}
+use Rattle.lv_maptables.specs.ProjectBody.{NoProjectHas, IsProjectOf, RefusesProject}
 use Rattle.lv_maptables.specs.declared.error.MapError.{MapError}
 use Rattle.lv_maptables.specs.declared.error.MapError.TheVariants as map
-use Rattle.lv_maptables.proofs.FramedLemmas.{body_size}
+use Rattle.lv_project.proofs.Bodies.{project_size}
 use Rattle.lv_project.specs.Places.{IsAllowed, IsLaidOut, cap_of, parts_of}
 use Rattle.lv_project.specs.Stands.{HasGeometry, Stands}
 use Rattle.lv_project.specs.Damage.{IsBadPart}
@@ -81,13 +81,13 @@ module _ (reads : List ℕ → Type 0) (g : Geometry) (p : Places) where
   slots_refused slot.SlotFull r is only damaged blank = absurd (full slot.SlotFull refl only)
 
   -- a body that no map has
-  bad_body : (s : Slots) (x : List ℕ) → IsAllowed g.slot g.journal → IsLaidOut g p → first_of s ≡ p.a → second_of s ≡ p.b → slot_of s ≤ 1 → Each reads (HasSlots s x) → NoMapHas x
+  bad_body : (s : Slots) (x : List ℕ) → IsAllowed g.slot g.journal → IsLaidOut g p → first_of s ≡ p.a → second_of s ≡ p.b → slot_of s ≤ 1 → Each reads (HasSlots s x) → NoProjectHas x
       → (place : ℕ) → place ≡ (parts_of p (slot_of s)).live.base → Each reads (IsBadPart g p place)
   bad_body s x allowed laid first second which has none place there file read =
       inr (slot_of s, generation_of s, x, which, live_from s (parts_of p (slot_of s)) x file (tells_parts g p allowed laid s first second) (has file read), inl (none, there))
 
   pub body_refused : (s : Slots) (x : List ℕ) → IsAllowed g.slot g.journal → IsLaidOut g p → first_of s ≡ p.a → second_of s ≡ p.b → slot_of s ≤ 1 → Each reads (HasSlots s x)
-      → (place : ℕ) → place ≡ (parts_of p (slot_of s)).live.base → (e : MapError) (r : ProjectError) → IsOfBody e place r → RefusesBody x e → RefusesSlots reads g p r
+      → (place : ℕ) → place ≡ (parts_of p (slot_of s)).live.base → (e : MapError) (r : ProjectError) → IsOfBody e place r → RefusesProject x e → RefusesSlots reads g p r
   body_refused s x allowed laid first second which has place there map.OutOfMemory r is refuses = subst (RefusesSlots reads g p) (sym is) tt
   body_refused s x allowed laid first second which has place there (map.Damaged at) r is refuses = subst (RefusesSlots reads g p) (sym is) (bad_body s x allowed laid first second which has refuses.1 place there)
   body_refused s x allowed laid first second which has place there map.NoVertex r is refuses = absurd refuses
@@ -107,12 +107,13 @@ module _ (reads : List ℕ → Type 0) (g : Geometry) (p : Places) where
   body_refused s x allowed laid first second which has place there map.CurrentMap r is refuses = absurd refuses
 
   -- the map of the live body
-  pub holds : (s : Slots) (x : List ℕ) (m : Tables) → IsAllowed g.slot g.journal → IsLaidOut g p → first_of s ≡ p.a → second_of s ≡ p.b → Each reads (HasSlots s x) → IsMapOf x m
+  pub holds : (s : Slots) (x : List ℕ) (m : ProjectMaps) → IsAllowed g.slot g.journal → IsLaidOut g p → first_of s ≡ p.a → second_of s ≡ p.b → Each reads (HasSlots s x) → IsProjectOf x m
       → Each reads (HoldsMap (parts_of p (slot_of s)) (generation_of s) m)
   holds s x m allowed laid first second has is file read = record {
+    bytes = x;
     well_formed = is.well_formed;
-    live = subst (λ (y : List ℕ). IsLive (parts_of p (slot_of s)).live (parts_of p (slot_of s)).other (generation_of s) y file) (sym is.encoded)
-        (live_from s (parts_of p (slot_of s)) x file (tells_parts g p allowed laid s first second) (has file read));
+    body = is.encoded;
+    live = live_from s (parts_of p (slot_of s)) x file (tells_parts g p allowed laid s first second) (has file read);
   }
 
   pub of_slots : Each reads (HasGeometry g p) → (e : ProjectError) → RefusesSlots reads g p e → IsRefusedRead reads e
@@ -140,11 +141,11 @@ module _ (reads : List ℕ → Type 0) (g : Geometry) (p : Places) where
   slots_later later still NotEmpty r = absurd r
   slots_later later still BadGeometry r = absurd r
 
-  pub of_lines : Each reads (HasGeometry g p) → (n k : ℕ) (base : Tables) → n ≤ 1 → Each reads (HoldsMap (parts_of p n) k base) → (e : ProjectError) → RefusesLines reads (cap_of g) (parts_of p n) base e → IsRefusedRead reads e
+  pub of_lines : Each reads (HasGeometry g p) → (n k : ℕ) (base : ProjectMaps) → n ≤ 1 → Each reads (HoldsMap (parts_of p n) k base) → (e : ProjectError) → RefusesLines reads (cap_of g) (parts_of p n) base e → IsRefusedRead reads e
   of_lines has n k base which held Device r = r
   of_lines has n k base which held OutOfMemory r = r
   of_lines has n k base which held (Damaged place) r = λ file read.
-      (g, p, has file read, inr (n, k, body base, which, (held file read).live, inr (base, (held file read).well_formed, refl, r file read)))
+      (g, p, has file read, inr (n, k, (held file read).bytes, which, (held file read).live, inr (base, (held file read).well_formed, (held file read).body, r file read)))
   of_lines has n k base which held Blank r = absurd r
   of_lines has n k base which held Reopen r = absurd r
   of_lines has n k base which held GenerationsSpent r = absurd r
@@ -155,7 +156,7 @@ module _ (reads : List ℕ → Type 0) (g : Geometry) (p : Places) where
 
 -- ---- the lines
 
-module _ (reads : List ℕ → Type 0) (cap : ℕ) (q : Parts) (base : Tables) where
+module _ (reads : List ℕ → Type 0) (cap : ℕ) (q : Parts) (base : ProjectMaps) where
   pub of_gates : (e : ProjectError) → RefusesGates reads q e → RefusesLines reads cap q base e
   of_gates Device r = r
   of_gates OutOfMemory r = r
@@ -234,9 +235,9 @@ place_is j n place is = at (nat_lt n (length j.records)) (j.area.base + length (
 
 -- ---- the map fits
 
-pub map_fits : (g : Geometry) (p : Places) (s : Slots) (x : List ℕ) (m : Tables) → IsLaidOut g p → first_of s ≡ p.a → second_of s ≡ p.b → 13 + length x ≤ (live_of s).length → IsMapOf x m → body_len m ≤ cap_of g
+pub map_fits : (g : Geometry) (p : Places) (s : Slots) (x : List ℕ) (m : ProjectMaps) → IsLaidOut g p → first_of s ≡ p.a → second_of s ≡ p.b → 13 + length x ≤ (live_of s).length → IsProjectOf x m → body_len m ≤ cap_of g
 map_fits g p s x m laid first second fits is =
-    let size : length x ≡ body_len m = ap length (sym is.encoded) ∙ body_size m is.well_formed in
+    let size : length x ≡ body_len m = project_size m x is.well_formed is.encoded in
     let len : (live_of s).length ≡ g.slot = at (eqb (slot_of s) 0) in
     omega (arith, size, len, fits)
   where
@@ -259,5 +260,5 @@ result_later {T = T} old new fewer (Err GenerationsSpent) h = absurd h
 result_later {T = T} old new fewer (Err (Refused e)) h = absurd h
 result_later {T = T} old new fewer (Err NotEmpty) h = absurd h
 
-pub stands_opened : (o : Opened) (file : List ℕ) → slot_of o.slots ≤ 1 → IsOpened o file → Stands (cap_of o.geometry) o.map.tables (generation_of o.slots) file
+pub stands_opened : (o : Opened) (file : List ℕ) → slot_of o.slots ≤ 1 → IsOpened o file → Stands (cap_of o.geometry) (project_of o.maps) (generation_of o.slots) file
 stands_opened o file which is = record { geometry = o.geometry; places = o.places; has = is.has; cap_is = refl; slot = slot_of o.slots; which = which; at = is.stands }

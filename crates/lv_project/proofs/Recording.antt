@@ -10,27 +10,29 @@ use Rattle.lv_disk.specs.declared.area.Area.{Area}
 use Rattle.lv_journal.specs.Records.{IsJournal}
 use Rattle.lv_journal.specs.Append.{Appends, MayAppend}
 use Rattle.lv_checkpoint.proofs.Kept.{live_kept}
-use Rattle.lv_maptables.specs.Tables.{Tables}
+use Rattle.lv_maptables.specs.Projects.{ProjectMaps}
 use Rattle.lv_project.specs.Places.{IsInOrder}
 use Rattle.lv_project.specs.Stands.{StandsAt}
-use Rattle.lv_commands.specs.LineSteps.{Leads, LeadsTo}
+use Rattle.lv_commands.specs.ProjectLines.{Leads, LeadsTo}
 use Rattle.lv_project.specs.Turns.{KeepsHeader}
 use Rattle.lv_project.specs.declared.places.Parts.{Parts}
 use Rattle.lv_project.proofs.Placing.{header_kept}
 
-pub leads_push : (cap : ℕ) (old : Tables) (lines : List (List ℕ)) (line : List ℕ) (mid new : Tables) → Leads cap old lines mid → LeadsTo cap mid line new → Leads cap old (lines ++ line ∷ []) new
-leads_push cap old [] line mid new leads more = (new, subst (λ (m : Tables). LeadsTo cap m line new) leads more, refl)
+pub leads_push : (cap : ℕ) (old : ProjectMaps) (lines : List (List ℕ)) (line : List ℕ) (mid new : ProjectMaps) → Leads cap old lines mid → LeadsTo cap mid line new → Leads cap old (lines ++ line ∷ []) new
+leads_push cap old [] line mid new leads more = (new, subst (λ (m : ProjectMaps). LeadsTo cap m line new) leads more, refl)
 leads_push cap old (l ∷ lines) line mid new leads more = (leads.0, leads.1, leads_push cap leads.0 lines line mid new leads.2 more)
 
 module _ (cap g : ℕ) (q : Parts) (order : IsInOrder q) (area : Area) (is : area ≡ q.journal) (line : List ℕ) where
-  stands_with : (map now : Tables) (old new : List ℕ) → KeepsOutside area.base area.length old new → (st : StandsAt cap q map g old)
+  stands_with : (map now : ProjectMaps) (old new : List ℕ) → KeepsOutside area.base area.length old new → (st : StandsAt cap q map g old)
       → (lines : List (List ℕ)) → IsJournal area lines new → Leads cap st.base lines now → StandsAt cap q now g new
   stands_with map now old new keeps st lines journal leads =
       let here : KeepsOutside q.journal.base q.journal.length old new = subst (λ (a : Area). KeepsOutside a.base a.length old new) is keeps in
       record {
         base = st.base;
+        bytes = st.bytes;
         lines = lines;
         well_formed = st.well_formed;
+        body = st.body;
         live = live_kept q.journal.base q.journal.length old new here q.live q.other g _ (omega (arith, order.other_some)) (inl order.live_first) (inl order.other_first) st.live;
         journal = subst (λ (a : Area). IsJournal a lines new) is journal;
         other = omega (arith, st.other, keeps.no_shorter);
@@ -40,11 +42,11 @@ module _ (cap g : ℕ) (q : Parts) (order : IsInOrder q) (area : Area) (is : are
   of_journal : (lines : List (List ℕ)) (file : List ℕ) → IsJournal q.journal lines file → IsJournal area lines file
   of_journal lines file journal = subst (λ (a : Area). IsJournal a lines file) (sym is) journal
 
-  pub appended : (map next : Tables) (old new : List ℕ) → LeadsTo cap map line next → Appends area line old new → StandsAt cap q map g old → StandsAt cap q next g new
+  pub appended : (map next : ProjectMaps) (old new : List ℕ) → LeadsTo cap map line next → Appends area line old new → StandsAt cap q map g old → StandsAt cap q next g new
   appended map next old new leads step st =
       stands_with map next old new step.keeps st (st.lines ++ line ∷ []) (step.journal st.lines (of_journal st.lines old st.journal)) (leads_push cap st.base st.lines line map next st.leads leads)
 
-  pub may_append : (map next : Tables) (old new : List ℕ) → LeadsTo cap map line next → MayAppend area line old new → StandsAt cap q map g old → StandsAt cap q map g new ⊎ StandsAt cap q next g new
+  pub may_append : (map next : ProjectMaps) (old new : List ℕ) → LeadsTo cap map line next → MayAppend area line old new → StandsAt cap q map g old → StandsAt cap q map g new ⊎ StandsAt cap q next g new
   may_append map next old new leads step st =
       ⊎_elim (λ same. inl (stands_with map map old new step.keeps st st.lines same st.leads))
       (λ more. inr (stands_with map next old new step.keeps st (st.lines ++ line ∷ []) more (leads_push cap st.base st.lines line map next st.leads leads)))

@@ -1,5 +1,6 @@
 -- What a change of the live slot, and an append, make of a project that is sound.
-use Rattle.std.proofs.Common.{◌≡◌, inl, inr, ⊎_elim, ◌<◌, ◌≤◌, ◌+◌, ℕ, Bool, true, false, List, [], ◌∷◌, ◌++◌, length, eqb, cond, Option, None, Some, Result, Ok, Err, nat_lt, refl, sym, ◌∙◌, ap, subst, arith}
+use Rattle.std.proofs.Common.{◌≡◌, inl, inr, ⊎_elim, ◌<◌, ◌≤◌, ◌+◌, ℕ, Bool, true, false, List, [], ◌∷◌, ◌++◌, length, eqb, cond, Option, None, Some, Result, Ok, Err, nat_lt, ◌&&◌, refl, sym, ◌∙◌, ap, subst, arith}
+use Rattle.std.specs.Option.{is_none}
 use Rattle.std.proofs.lemmas.Bool.{true≢false}
 use Rattle.std.proofs.lemmas.Bool.Decides.{nat_tests}
 use Rattle.lv_disk.specs.Stops.{From, Follows, Each, LeavesOnly}
@@ -9,15 +10,15 @@ use Rattle.lv_journal.specs.Append.{Appends, MayAppend}
 use Rattle.lv_journal.specs.State as journal
 use Rattle.lv_checkpoint.specs.Handles.{live_of, other_of, other_slot, first_of, second_of, slot_of, generation_of, HasSomeSlots}
 use Rattle.lv_checkpoint.specs.declared.slots.Slots.{Slots}
-use Rattle.lv_maptables.specs.Tables.{Tables, MapView, body_len}
+use Rattle.lv_maptables.specs.Projects.{ProjectMaps, MapsView, WellFormedProject, body_len, project_of}
 use Rattle.lv_maptables.specs.Outcomes.{least, unless}
-use Rattle.lv_maptables.specs.WellFormed.{WellFormed}
-use Rattle.lv_maptables.specs.Body.{body}
-use Rattle.lv_commands.specs.Step.{step, after, faults, number_of}
-use Rattle.lv_commands.specs.declared.command.Command.{Command}
+use Rattle.lv_maptables.specs.ProjectBody.{project_body}
+use Rattle.lv_commands.specs.ProjectStep.{step, after, current_faults, faults, is_full, map_faults, number_of}
+use Rattle.lv_commands.specs.declared.project.command.ProjectCommand.{ProjectCommand}
+use Rattle.lv_commands.proofs.ProjectSteps.{none-of-both}
 use Rattle.lv_project.specs.Places.{IsInOrder, cap_of, parts_of}
 use Rattle.lv_project.specs.Stands.{HasGeometry, Stands, StandsAt, StandsFor, IsOutcome}
-use Rattle.lv_commands.specs.LineSteps.{LeadsTo}
+use Rattle.lv_commands.specs.ProjectLines.{LeadsTo}
 use Rattle.lv_project.specs.States.{State, IsKept}
 use Rattle.lv_project.specs.Turns.{turned, KeepsHeader, MayTurn, Turns}
 use Rattle.lv_project.specs.Fields.{state_of, parts_in, IsFramed, IsReady, IsSound}
@@ -25,7 +26,7 @@ use Rattle.lv_project.specs.declared.places.Places.{Places}
 use Rattle.lv_project.specs.declared.places.Parts.{Parts}
 use Rattle.lv_project.specs.declared.project.Project.TheInside.{Inside}
 use Rattle.lv_project.proofs.Placing.{in_order, tells_parts, behind_slots, geometry_kept, other_length}
-use Rattle.lv_maptables.proofs.FramedLemmas.{body_size}
+use Rattle.lv_project.proofs.Bodies.{project_size}
 use Rattle.lv_project.proofs.Recording.{appended, may_append, append_header, slots_kept}
 use Rattle.lv_disk.specs.Files.{KeepsOutside}
 use Rattle.lv_disk.specs.Areas as areas
@@ -58,31 +59,34 @@ some_none k is = true≢false (ap (λ (o : Option ℕ). is_there o) is)
     is_there None = false
     is_there (Some n) = true
 
--- an accepted step's map fits
-least_last : (fs : List (ℕ × Bool)) (k : ℕ) (b : Bool) → least (fs ++ (k, b) ∷ []) ≡ None → b ≡ false
-least_last [] k true is = absurd (some_none k is)
-least_last [] k false is = refl
-least_last ((code, true) ∷ fs) k b is = absurd (some_none code is)
-least_last ((code, false) ∷ fs) k b is = least_last fs k b is
+-- an accepted step's maps fit
+head_none : (k : ℕ) (b : Bool) (gs : List (ℕ × Bool)) → least ((k, b) ∷ gs) ≡ None → (b ≡ false) × (least gs ≡ None)
+head_none k true gs is = absurd (some_none k is)
+head_none k false gs is = (refl, is)
 
-none_of : (o : Option ℕ) (m : Tables) (n : ℕ) (x : Tables × ℕ) → unless o m n ≡ Ok x → (o ≡ None) × (m ≡ x.0)
-none_of None m n x is = (refl, ap (λ (r : Result (Tables × ℕ) ℕ). map_in m r) is)
+not_long : (o : Option ℕ) (long : Bool) → o ≡ None → (is_none o && long) ≡ false → long ≡ false
+not_long o long none is = (λ i. is_none (sym none i) && long) ∙ is
+
+none_of : (o : Option ℕ) (m : ProjectMaps) (n : ℕ) (x : ProjectMaps × ℕ) → unless o m n ≡ Ok x → (o ≡ None) × (m ≡ x.0)
+none_of None m n x is = (refl, ap (λ (r : Result (ProjectMaps × ℕ) ℕ). map_in m r) is)
   where
-    map_in : Tables → Result (Tables × ℕ) ℕ → Tables
+    map_in : ProjectMaps → Result (ProjectMaps × ℕ) ℕ → ProjectMaps
     map_in d (Ok y) = y.0
     map_in d (Err e) = d
 none_of (Some code) m n x is = absurd (true≢false (sym (ap is_good is)))
   where
-    is_good : Result (Tables × ℕ) ℕ → Bool
+    is_good : Result (ProjectMaps × ℕ) ℕ → Bool
     is_good (Ok y) = true
     is_good (Err e) = false
 
-pub step_fits : (m : Tables) (c : Command) (cap : ℕ) (new : Tables) (n : ℕ) → step m c cap ≡ Ok (new, n) → body_len new ≤ cap
+pub step_fits : (m : ProjectMaps) (c : ProjectCommand) (cap : ℕ) (new : ProjectMaps) (n : ℕ) → step m c cap ≡ Ok (new, n) → body_len new ≤ cap
 step_fits m c cap new n is =
-    let none = none_of (least (faults m c ++ (14, nat_lt cap (body_len (after m c))) ∷ [])) (after m c) (number_of m c) (new, n) is in
-    let short : nat_lt cap (body_len (after m c)) ≡ false = least_last (faults m c) 14 (nat_lt cap (body_len (after m c))) none.0 in
+    let none = none_of (least (faults m c cap)) (after m c) (number_of m c) (new, n) is in
+    let all = none-of-both (current_faults m c) ((14, is_full m c cap) ∷ map_faults m c) none.0 in
+    let last = head_none 14 (is_full m c cap) (map_faults m c) all.1 in
+    let short : nat_lt cap (body_len (after m c)) ≡ false = not_long (least (map_faults m c)) (nat_lt cap (body_len (after m c))) last.1 last.0 in
     let le : body_len (after m c) ≤ cap = grind (arith, nat_tests, short) in
-    subst (λ (t : Tables). body_len t ≤ cap) none.1 le
+    subst (λ (t : ProjectMaps). body_len t ≤ cap) none.1 le
 
 module _ {D : Type 0} (may_leave : D → List ℕ → Type 0) (p : Inside D) (framed : IsFramed p) where
   abbrev cap : ℕ
@@ -107,10 +111,10 @@ module _ {D : Type 0} (may_leave : D → List ℕ → Type 0) (p : Inside D) (fr
   behind = behind_slots p.geometry p.places framed.allowed framed.laid_out p.slots (slot_of p.slots) framed.second
 
   -- a file that stands at the parts stands
-  stands_here : (map : Tables) (file : List ℕ) → HasGeometry p.geometry p.places file → StandsAt cap q map g file → Stands cap map g file
+  stands_here : (map : ProjectMaps) (file : List ℕ) → HasGeometry p.geometry p.places file → StandsAt cap q map g file → Stands cap map g file
   stands_here map file has st = record { geometry = p.geometry; places = p.places; has = has; cap_is = refl; slot = slot_of p.slots; which = framed.which; at = st }
 
-  stands_there : (map : Tables) (file : List ℕ) → HasGeometry p.geometry p.places file → StandsAt cap (turned q) map (g + 1) file → Stands cap map (g + 1) file
+  stands_there : (map : ProjectMaps) (file : List ℕ) → HasGeometry p.geometry p.places file → StandsAt cap (turned q) map (g + 1) file → Stands cap map (g + 1) file
   stands_there map file has st = record {
     geometry = p.geometry;
     places = p.places;
@@ -125,7 +129,7 @@ module _ {D : Type 0} (may_leave : D → List ℕ → Type 0) (p : Inside D) (fr
   kept_header old new keeps has = geometry_kept p.geometry p.places framed.allowed framed.laid_out old new keeps has
 
   pub is_kept : (p.must_reopen ≡ false → IsReady may_leave p) → IsKept may_leave (state_of p)
-  is_kept ready go file left = stands_here p.map.tables file ((ready go).geometry file left) ((ready go).stands file left)
+  is_kept ready go file left = stands_here (project_of p.maps) file ((ready go).geometry file left) ((ready go).stands file left)
 
   -- as a contract sees it
   pub kept_view : (v : State D) → state_of p ≡ v → (p.must_reopen ≡ false → IsReady may_leave p) → IsKept may_leave v
@@ -133,32 +137,32 @@ module _ {D : Type 0} (may_leave : D → List ℕ → Type 0) (p : Inside D) (fr
 
   -- a call that leaves the disk alone
   pub no_moment : (moment : D → ℕ) (left_since : D → ℕ → List ℕ → Type 0) (v : State D) → state_of p ≡ v → (p.must_reopen ≡ false → IsReady may_leave p)
-      → ((file : List ℕ) → left_since v.disk (moment v.disk) file → may_leave v.disk file) → v.must_reopen ≡ false → LeavesOnly moment left_since v.disk v.disk (StandsFor v.cap v.map.tables)
-  no_moment moment left_since v is ready only go = started moment left_since v.disk (StandsFor v.cap v.map.tables) (λ file left. (v.generation, kept_view v is ready go file (only file left)))
+      → ((file : List ℕ) → left_since v.disk (moment v.disk) file → may_leave v.disk file) → v.must_reopen ≡ false → LeavesOnly moment left_since v.disk v.disk (StandsFor v.cap (project_of v.maps))
+  no_moment moment left_since v is ready only go = started moment left_since v.disk (StandsFor v.cap (project_of v.maps)) (λ file left. (v.generation, kept_view v is ready go file (only file left)))
 
   pub no_outcome : (moment : D → ℕ) (left_since : D → ℕ → List ℕ → Type 0) (v : State D) (line : List ℕ) → state_of p ≡ v → (p.must_reopen ≡ false → IsReady may_leave p)
-      → ((file : List ℕ) → left_since v.disk (moment v.disk) file → may_leave v.disk file) → v.must_reopen ≡ false → LeavesOnly moment left_since v.disk v.disk (IsOutcome v.cap v.map.tables line)
-  no_outcome moment left_since v line is ready only go = weaker moment left_since v.disk v.disk (StandsFor v.cap v.map.tables) (IsOutcome v.cap v.map.tables line) (no_moment moment left_since v is ready only go) (λ file st. inl st)
+      → ((file : List ℕ) → left_since v.disk (moment v.disk) file → may_leave v.disk file) → v.must_reopen ≡ false → LeavesOnly moment left_since v.disk v.disk (IsOutcome v.cap (project_of v.maps) line)
+  no_outcome moment left_since v line is ready only go = weaker moment left_since v.disk v.disk (StandsFor v.cap (project_of v.maps)) (IsOutcome v.cap (project_of v.maps) line) (no_moment moment left_since v is ready only go) (λ file st. inl st)
 
   -- the map's body fits the other slot
-  pub body_fits : (bytes : List ℕ) → bytes ≡ body p.map.tables → WellFormed p.map.tables → 13 + length bytes ≤ (other_of p.slots).length
+  pub body_fits : (bytes : List ℕ) → bytes ≡ project_body (project_of p.maps) → WellFormedProject (project_of p.maps) → 13 + length bytes ≤ (other_of p.slots).length
   body_fits bytes is formed =
-      let size : length bytes ≡ body_len p.map.tables = ap length is ∙ body_size p.map.tables formed in
+      let size : length bytes ≡ body_len (project_of p.maps) = project_size (project_of p.maps) bytes formed (inl (sym is)) in
       let len : (other_of p.slots).length ≡ p.geometry.slot = ap (λ (a : Area). a.length) other_is ∙ other_length p.geometry p.places framed.allowed framed.laid_out (slot_of p.slots) in
       omega (arith, size, len, framed.fits, framed.allowed.slot_low)
 
   module _ (ready : IsReady may_leave p) where
     -- during a change of the live slot
-    pub turn_moments : (moment : D → ℕ) (left_since : D → ℕ → List ℕ → Type 0) (new : D) (bytes : List ℕ) → bytes ≡ body p.map.tables → WellFormed p.map.tables
-        → LeavesOnly moment left_since p.disk new (From (may_leave p.disk) (MayTurn cap g q bytes)) → LeavesOnly moment left_since p.disk new (StandsFor cap p.map.tables)
-    turn_moments moment left_since new bytes is formed leaves = weaker moment left_since p.disk new (From (may_leave p.disk) (MayTurn cap g q bytes)) (StandsFor cap p.map.tables) leaves
+    pub turn_moments : (moment : D → ℕ) (left_since : D → ℕ → List ℕ → Type 0) (new : D) (bytes : List ℕ) → bytes ≡ project_body (project_of p.maps) → WellFormedProject (project_of p.maps)
+        → LeavesOnly moment left_since p.disk new (From (may_leave p.disk) (MayTurn cap g q bytes)) → LeavesOnly moment left_since p.disk new (StandsFor cap (project_of p.maps))
+    turn_moments moment left_since new bytes is formed leaves = weaker moment left_since p.disk new (From (may_leave p.disk) (MayTurn cap g q bytes)) (StandsFor cap (project_of p.maps)) leaves
         (λ file from.
         let has = kept_header from.0 file from.2.header (ready.geometry from.0 from.1) in
-        ⊎_elim (λ here. (g, stands_here p.map.tables file has here)) (λ there. (g + 1, stands_there p.map.tables file has there))
-        (from.2.stands p.map.tables formed (sym is) (ready.stands from.0 from.1)))
+        ⊎_elim (λ here. (g, stands_here (project_of p.maps) file has here)) (λ there. (g + 1, stands_there (project_of p.maps) file has there))
+        (from.2.stands (project_of p.maps) formed (sym is) (ready.stands from.0 from.1)))
 
     -- and after it
-    pub sound_turned : (new : D) (s : Slots) (j : journal.State) (bytes : List ℕ) → bytes ≡ body p.map.tables → WellFormed p.map.tables
+    pub sound_turned : (new : D) (s : Slots) (j : journal.State) (bytes : List ℕ) → bytes ≡ project_body (project_of p.maps) → WellFormedProject (project_of p.maps)
         → Follows (Turns cap g q bytes) (may_leave p.disk) (may_leave new) → Each (may_leave new) (HasSomeSlots s)
         → (first_of s ≡ first_of p.slots) × (second_of s ≡ second_of p.slots) → slot_of s ≡ other_slot (slot_of p.slots) → generation_of s ≡ g + 1
         → j ≡ journal.opened q.other_journal [] → journal.IsReadyIn j (may_leave new)
@@ -181,26 +185,26 @@ module _ {D : Type 0} (may_leave : D → List ℕ → Type 0) (p : Inside D) (fr
             geometry = λ file left. let from = turns file left in kept_header from.0 file from.2.header (ready.geometry from.0 from.1);
             stands = λ file left.
                 let from = turns file left in
-                subst (λ (r : Parts). StandsAt cap r p.map.tables (generation_of s) file) (sym parts)
-                (subst (λ (k : ℕ). StandsAt cap (turned q) p.map.tables k file) (sym generation_is) (from.2.stands p.map.tables formed (sym is) (ready.stands from.0 from.1)));
+                subst (λ (r : Parts). StandsAt cap r (project_of p.maps) (generation_of s) file) (sym parts)
+                (subst (λ (k : ℕ). StandsAt cap (turned q) (project_of p.maps) k file) (sym generation_is) (from.2.stands (project_of p.maps) formed (sym is) (ready.stands from.0 from.1)));
             slots = slots;
             ends = ends (ap (λ (k : journal.State). k.must_reopen) journal_is);
           };
         }
 
     -- during an append
-    pub append_moments : (moment : D → ℕ) (left_since : D → ℕ → List ℕ → Type 0) (new : D) (line : List ℕ) (next : Tables) → LeadsTo cap p.map.tables line next
-        → LeavesOnly moment left_since p.disk new (From (may_leave p.disk) (MayAppend p.journal.area line)) → LeavesOnly moment left_since p.disk new (IsOutcome cap p.map.tables line)
-    append_moments moment left_since new line next leads leaves = weaker moment left_since p.disk new (From (may_leave p.disk) (MayAppend p.journal.area line)) (IsOutcome cap p.map.tables line) leaves
+    pub append_moments : (moment : D → ℕ) (left_since : D → ℕ → List ℕ → Type 0) (new : D) (line : List ℕ) (next : ProjectMaps) → LeadsTo cap (project_of p.maps) line next
+        → LeavesOnly moment left_since p.disk new (From (may_leave p.disk) (MayAppend p.journal.area line)) → LeavesOnly moment left_since p.disk new (IsOutcome cap (project_of p.maps) line)
+    append_moments moment left_since new line next leads leaves = weaker moment left_since p.disk new (From (may_leave p.disk) (MayAppend p.journal.area line)) (IsOutcome cap (project_of p.maps) line) leaves
         (λ file from.
         let has = kept_header from.0 file (append_header cap g q order p.journal.area framed.journal line from.0 file from.2.keeps) (ready.geometry from.0 from.1) in
-        ⊎_elim (λ same. inl (g, stands_here p.map.tables file has same)) (λ more. inr (next, leads, (g, stands_here next file has more)))
-        (may_append cap g q order p.journal.area framed.journal line p.map.tables next from.0 file leads from.2 (ready.stands from.0 from.1)))
+        ⊎_elim (λ same. inl (g, stands_here (project_of p.maps) file has same)) (λ more. inr (next, leads, (g, stands_here next file has more)))
+        (may_append cap g q order p.journal.area framed.journal line (project_of p.maps) next from.0 file leads from.2 (ready.stands from.0 from.1)))
 
     -- and after it
-    pub sound_recorded : (new : D) (j : journal.State) (m : MapView) (line : List ℕ) (next : Tables) → LeadsTo cap p.map.tables line next → m.tables ≡ next → body_len next ≤ cap
+    pub sound_recorded : (new : D) (j : journal.State) (m : MapsView) (line : List ℕ) (next : ProjectMaps) → LeadsTo cap (project_of p.maps) line next → project_of m ≡ next → body_len next ≤ cap
         → Follows (Appends p.journal.area line) (may_leave p.disk) (may_leave new) → j ≡ record p.journal { next = p.journal.next + 5 + length line; must_reopen = false } → journal.IsReadyIn j (may_leave new)
-        → IsSound may_leave (record p { disk = new; journal = j; map = m })
+        → IsSound may_leave (record p { disk = new; journal = j; maps = m })
     sound_recorded new j m line next leads map_is short appends journal_is ends =
         let area : j.area ≡ p.journal.area = ap (λ (k : journal.State). k.area) journal_is in
         let go : j.must_reopen ≡ false = ap (λ (k : journal.State). k.must_reopen) journal_is in
@@ -212,7 +216,7 @@ module _ {D : Type 0} (may_leave : D → List ℕ → Type 0) (p : Inside D) (fr
             second = framed.second;
             which = framed.which;
             journal = area ∙ framed.journal;
-            fits = subst (λ (t : Tables). body_len t ≤ cap) (sym map_is) short;
+            fits = subst (λ (t : ProjectMaps). body_len t ≤ cap) (sym map_is) short;
           };
           ready = λ _. record {
             journal = go;
@@ -221,8 +225,8 @@ module _ {D : Type 0} (may_leave : D → List ℕ → Type 0) (p : Inside D) (fr
                 kept_header from.0 file (append_header cap g q order p.journal.area framed.journal line from.0 file from.2.keeps) (ready.geometry from.0 from.1);
             stands = λ file left.
                 let from = appends file left in
-                subst (λ (t : Tables). StandsAt cap q t g file) (sym map_is)
-                (appended cap g q order p.journal.area framed.journal line p.map.tables next from.0 file leads from.2 (ready.stands from.0 from.1));
+                subst (λ (t : ProjectMaps). StandsAt cap q t g file) (sym map_is)
+                (appended cap g q order p.journal.area framed.journal line (project_of p.maps) next from.0 file leads from.2 (ready.stands from.0 from.1));
             slots = λ file left.
                 let from = appends file left in
                 let has = ready.slots from.0 from.1 in (
@@ -239,21 +243,21 @@ module _ {D : Type 0} (may_leave : D → List ℕ → Type 0) (p : Inside D) (fr
 -- a call that leaves the disk alone, as a contract sees it
 module _ {D : Type 0} (moment : D → ℕ) (left_since : D → ℕ → List ℕ → Type 0) (may_leave : D → List ℕ → Type 0) (v : State D) (kept : IsKept may_leave v)
     (only : (file : List ℕ) → left_since v.disk (moment v.disk) file → may_leave v.disk file) where
-  pub still_moment : v.must_reopen ≡ false → LeavesOnly moment left_since v.disk v.disk (StandsFor v.cap v.map.tables)
-  still_moment go = started moment left_since v.disk (StandsFor v.cap v.map.tables) (λ file left. (v.generation, kept go file (only file left)))
+  pub still_moment : v.must_reopen ≡ false → LeavesOnly moment left_since v.disk v.disk (StandsFor v.cap (project_of v.maps))
+  still_moment go = started moment left_since v.disk (StandsFor v.cap (project_of v.maps)) (λ file left. (v.generation, kept go file (only file left)))
 
-  pub still_outcome : (line : List ℕ) → v.must_reopen ≡ false → LeavesOnly moment left_since v.disk v.disk (IsOutcome v.cap v.map.tables line)
-  still_outcome line go = weaker moment left_since v.disk v.disk (StandsFor v.cap v.map.tables) (IsOutcome v.cap v.map.tables line) (still_moment go) (λ file st. inl st)
+  pub still_outcome : (line : List ℕ) → v.must_reopen ≡ false → LeavesOnly moment left_since v.disk v.disk (IsOutcome v.cap (project_of v.maps) line)
+  still_outcome line go = weaker moment left_since v.disk v.disk (StandsFor v.cap (project_of v.maps)) (IsOutcome v.cap (project_of v.maps) line) (still_moment go) (λ file st. inl st)
 
 -- a checkpoint, and then an append
-pub both_moments : {D : Type 0} (moment : D → ℕ) (left_since : D → ℕ → List ℕ → Type 0) (cap : ℕ) (old mid : Tables) (mid_cap : ℕ) (line : List ℕ) (d0 d1 d2 : D) → mid ≡ old → mid_cap ≡ cap
+pub both_moments : {D : Type 0} (moment : D → ℕ) (left_since : D → ℕ → List ℕ → Type 0) (cap : ℕ) (old mid : ProjectMaps) (mid_cap : ℕ) (line : List ℕ) (d0 d1 d2 : D) → mid ≡ old → mid_cap ≡ cap
     → LeavesOnly moment left_since d0 d1 (StandsFor cap old) → LeavesOnly moment left_since d1 d2 (IsOutcome mid_cap mid line) → LeavesOnly moment left_since d0 d2 (IsOutcome cap old line)
 both_moments moment left_since cap old mid mid_cap line d0 d1 d2 map_is cap_is first second =
     and_then moment left_since d0 d1 d2 (IsOutcome cap old line)
     (weaker moment left_since d0 d1 (StandsFor cap old) (IsOutcome cap old line) first (λ file st. inl st))
-    (subst (λ (k : ℕ). LeavesOnly moment left_since d1 d2 (IsOutcome k old line)) cap_is (subst (λ (t : Tables). LeavesOnly moment left_since d1 d2 (IsOutcome mid_cap t line)) map_is second))
+    (subst (λ (k : ℕ). LeavesOnly moment left_since d1 d2 (IsOutcome k old line)) cap_is (subst (λ (t : ProjectMaps). LeavesOnly moment left_since d1 d2 (IsOutcome mid_cap t line)) map_is second))
 
-pub room_moments : {D : Type 0} (moment : D → ℕ) (left_since : D → ℕ → List ℕ → Type 0) (cap : ℕ) (old mid : Tables) (line : List ℕ) (d0 d1 : D) → mid ≡ old
+pub room_moments : {D : Type 0} (moment : D → ℕ) (left_since : D → ℕ → List ℕ → Type 0) (cap : ℕ) (old mid : ProjectMaps) (line : List ℕ) (d0 d1 : D) → mid ≡ old
     → LeavesOnly moment left_since d0 d1 (StandsFor cap mid) → LeavesOnly moment left_since d0 d1 (IsOutcome cap old line)
 room_moments moment left_since cap old mid line d0 d1 map_is first =
-    weaker moment left_since d0 d1 (StandsFor cap mid) (IsOutcome cap old line) first (λ file st. inl (subst (λ (t : Tables). StandsFor cap t file) map_is st))
+    weaker moment left_since d0 d1 (StandsFor cap mid) (IsOutcome cap old line) first (λ file st. inl (subst (λ (t : ProjectMaps). StandsFor cap t file) map_is st))

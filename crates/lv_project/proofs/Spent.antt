@@ -1,16 +1,16 @@
 -- When no generation is left.
 use Rattle.std.proofs.Common.{◌≡◌, ◌⊎◌, inl, inr, ℕ, Bool, true, false, List, Result, Ok, Err, IfErr, IsOk, sym, ◌∙◌, ap, subst, arith}
 use Rattle.std.proofs.lemmas.Bool.{true≢false}
-use Rattle.lv_maptables.specs.Tables.{Tables}
-use Rattle.lv_commands.specs.CommandRanges.{InRange}
-use Rattle.lv_commands.specs.Spelling.{spelling}
-use Rattle.lv_commands.specs.Step.{step}
+use Rattle.lv_maptables.specs.Projects.{ProjectMaps}
+use Rattle.lv_commands.specs.ProjectCommands.{InRange}
+use Rattle.lv_commands.specs.ProjectCommands.{spelling}
+use Rattle.lv_commands.specs.ProjectStep.{step}
 use Rattle.lv_commands.specs.Errors as commands
-use Rattle.lv_commands.specs.Readiness as readiness
-use Rattle.lv_commands.specs.declared.command.Command.{Command}
+use Rattle.lv_commands.specs.ProjectReadiness as readiness
+use Rattle.lv_commands.specs.declared.project.command.ProjectCommand.{ProjectCommand}
 use Rattle.lv_commands.specs.declared.error.CommandError.{CommandError}
-use Rattle.lv_commands.proofs.Complete.{spelling-one}
-use Rattle.lv_commands.specs.LineSteps.{LeadsTo}
+use Rattle.lv_commands.proofs.ProjectWords.{spelling-one}
+use Rattle.lv_commands.specs.ProjectLines.{LeadsTo}
 use Rattle.lv_project.specs.Refusals.{code_of, IsRefusalOf}
 use Rattle.lv_project.specs.declared.error.ProjectError.{ProjectError}
 use Rattle.lv_project.specs.declared.error.ProjectError.TheVariants.{Device, OutOfMemory, GenerationsSpent, Refused}
@@ -41,8 +41,8 @@ only_device {T = T} r device is =
     omega (arith, codes)
 
 -- a line that leads on isn't refused, but for want of memory
-pub not_refused : {T : Type 0} (m : Tables) (n : ℕ) (line : List ℕ) (c : Command) (e : CommandError) (r : ProjectError) → IsRefusalOf r e → readiness.RefusesStep e (step m c n) → line ≡ spelling c → InRange c
-    → (new : Tables) → LeadsTo n m line new → (◌≡◌ {A = Result T ProjectError} (Err r) (Err GenerationsSpent)) ⊎ (◌≡◌ {A = Result T ProjectError} (Err r) (Err OutOfMemory))
+pub not_refused : {T : Type 0} (m : ProjectMaps) (n : ℕ) (line : List ℕ) (c : ProjectCommand) (e : CommandError) (r : ProjectError) → IsRefusalOf r e → readiness.RefusesStep e (step m c n) → line ≡ spelling c → InRange c
+    → (new : ProjectMaps) → LeadsTo n m line new → (◌≡◌ {A = Result T ProjectError} (Err r) (Err GenerationsSpent)) ⊎ (◌≡◌ {A = Result T ProjectError} (Err r) (Err OutOfMemory))
 not_refused {T = T} m n line c e r is by line_is range new (k, a) = at (split e r (step m c n) is by)
   where
     the_err : ProjectError → Result T ProjectError
@@ -52,7 +52,7 @@ not_refused {T = T} m n line c e r is by line_is range new (k, a) = at (split e 
     at (inl (memory, ok)) = inr (ap (λ (x : ProjectError). the_err x) memory)
     at (inr (refused, bad)) =
         let same : c ≡ a.command = spelling-one c a.command range a.range (sym line_is ∙ a.line_is) in
-        absurd (err_ok (commands.code_of e) (new, k) (step m c n) bad (ap (λ (d : Command). step m d n) same ∙ a.stepped))
+        absurd (err_ok (commands.code_of e) (new, k) (step m c n) bad (ap (λ (d : ProjectCommand). step m d n) same ∙ a.stepped))
 
 -- a call that is refused by the device alone
 pub device_or : {T : Type 0} (Q P : Type 0) (r : Result T ProjectError) → IfErr r (λ e. e ≡ Device) → IfErr r (λ e. Q → (e ≡ Device) ⊎ P)

@@ -10,9 +10,8 @@ use Rattle.lv_checkpoint.specs.Bodies.{HasContent, IsLive}
 use Rattle.lv_checkpoint.specs.Handles.{live_of, other_of, generation_of}
 use Rattle.lv_checkpoint.specs.Steps.{IsLiveBy, IsNextBy, KeepsLive, MayFill, Fills, OpensOther, MayOpenOther}
 use Rattle.lv_checkpoint.specs.declared.slots.Slots.{Slots}
-use Rattle.lv_maptables.specs.Tables.{Tables}
-use Rattle.lv_maptables.specs.WellFormed.{WellFormed}
-use Rattle.lv_maptables.specs.Body.{body}
+use Rattle.lv_maptables.specs.Projects.{ProjectMaps, WellFormedProject}
+use Rattle.lv_maptables.specs.ProjectBody.{project_body}
 use Rattle.lv_project.specs.Places.{IsInOrder}
 use Rattle.lv_project.specs.Stands.{StandsAt}
 use Rattle.lv_project.specs.Turns.{turned, KeepsHeader, MayTurn, Turns}
@@ -50,24 +49,26 @@ module _ (s : Slots) (q : Parts) (order : IsInOrder q) (live_is : live_of s ≡ 
   mark_journal old new keeps lines is =
       journal_kept q.journal lines q.other_journal.base 1 old new (⊎_elim (λ below. inl below) (λ above. inr (omega (arith, above, order.other_room))) order.journals) keeps is
 
-  stands_kept : (map : Tables) (old new : List ℕ) → length old ≤ length new → (st : StandsAt cap q map g old)
+  stands_kept : (map : ProjectMaps) (old new : List ℕ) → length old ≤ length new → (st : StandsAt cap q map g old)
       → ((x : List ℕ) → IsLiveBy s x old → IsLiveBy s x new) → ((lines : List (List ℕ)) → IsJournal q.journal lines old → IsJournal q.journal lines new) → StandsAt cap q map g new
   stands_kept map old new longer st live journal = record {
     base = st.base;
+    bytes = st.bytes;
     lines = st.lines;
     well_formed = st.well_formed;
-    live = to_parts (body st.base) new (live (body st.base) (of_parts (body st.base) old st.live));
+    body = st.body;
+    live = to_parts st.bytes new (live st.bytes (of_parts st.bytes old st.live));
     journal = journal st.lines st.journal;
     other = omega (arith, st.other, longer);
     leads = st.leads;
   }
 
   -- the other slot is closed
-  pub close_stands : (map : Tables) (old new : List ℕ) → KeepsLive s old new → StandsAt cap q map g old → StandsAt cap q map g new
+  pub close_stands : (map : ProjectMaps) (old new : List ℕ) → KeepsLive s old new → StandsAt cap q map g old → StandsAt cap q map g new
   close_stands map old new keeps st = stands_kept map old new keeps.keeps.no_shorter st keeps.live (slot_journal old new keeps.keeps)
 
   -- it is filled
-  pub fill_stands : (map : Tables) (old new : List ℕ) → MayFill s q.other_journal old new → StandsAt cap q map g old → StandsAt cap q map g new
+  pub fill_stands : (map : ProjectMaps) (old new : List ℕ) → MayFill s q.other_journal old new → StandsAt cap q map g old → StandsAt cap q map g new
   fill_stands map old new may st =
       stands_kept map old new (omega (arith, may.first.no_shorter, may.second.no_shorter)) st may.live
       (λ lines is. mark_journal may.middle new may.second lines (slot_journal old may.middle may.first lines is))
@@ -76,17 +77,19 @@ module _ (s : Slots) (q : Parts) (order : IsInOrder q) (live_is : live_of s ≡ 
   fill_header old new may bytes short has = mark_header may.middle new may.second bytes short (slot_header old may.middle may.first bytes short has)
 
   -- it is opened: the new live slot has the map, and a journal without records
-  turned_stands : (map : Tables) (old new : List ℕ) → KeepsOutside (other_of s).base (other_of s).length old new → HasAt q.other_journal.base (0 ∷ []) old → WellFormed map → (st : StandsAt cap q map g old)
-      → IsNextBy s (body map) new → StandsAt cap (turned q) map (g + 1) new
+  turned_stands : (map : ProjectMaps) (old new : List ℕ) → KeepsOutside (other_of s).base (other_of s).length old new → HasAt q.other_journal.base (0 ∷ []) old → WellFormedProject map → (st : StandsAt cap q map g old)
+      → IsNextBy s (project_body map) new → StandsAt cap (turned q) map (g + 1) new
   turned_stands map old new keeps begins formed st next =
       let begun : HasAt q.other_journal.base (0 ∷ []) new = has_kept q.other.base q.other.length q.other_journal.base (0 ∷ []) old new (inr order.other_behind) (slot_keeps old new keeps) begins in
       let shut : IsClosedAt q.other_journal.base new = record { within = omega (arith, begun.within); closed = λ is_open. absurd (omega (arith, sym (one_has q.other_journal.base 0 [] new begun) ∙ is_open)) } in
       let journal = slot_journal old new keeps st.lines st.journal in
       record {
         base = map;
+        bytes = project_body map;
         lines = [];
         well_formed = formed;
-        live = next_parts (body map) new next;
+        body = inl refl;
+        live = next_parts (project_body map) new next;
         journal = journal_none q.other_journal new (omega (arith, order.other_room)) shut;
         other = omega (arith, journal.gate.within);
         leads = refl;
@@ -115,25 +118,27 @@ module _ (s : Slots) (q : Parts) (order : IsInOrder q) (live_is : live_of s ≡ 
       stands = λ map formed is st. at map formed is (fill_stands map mid last fills.may (close_stands map old mid closed st));
     }
       where
-        at : (map : Tables) → WellFormed map → body map ≡ bytes → StandsAt cap q map g last → StandsAt cap q map g new ⊎ StandsAt cap (turned q) map (g + 1) new
+        at : (map : ProjectMaps) → WellFormedProject map → project_body map ≡ bytes → StandsAt cap q map g last → StandsAt cap q map g new ⊎ StandsAt cap (turned q) map (g + 1) new
         at map formed is st =
-            let content : HasContent (other_of s) (g + 1) (body map) last = subst (λ (x : List ℕ). HasContent (other_of s) (g + 1) x last) (sym is) fills.content in
+            let content : HasContent (other_of s) (g + 1) (project_body map) last = subst (λ (x : List ℕ). HasContent (other_of s) (g + 1) x last) (sym is) fills.content in
             ⊎_elim
-            (λ (live : IsLiveBy s (body st.base) new). inl (record {
+            (λ (live : IsLiveBy s st.bytes new). inl (record {
               base = st.base;
+              bytes = st.bytes;
               lines = st.lines;
               well_formed = st.well_formed;
-              live = to_parts (body st.base) new live;
+              body = st.body;
+              live = to_parts st.bytes new live;
               journal = slot_journal last new may.keeps st.lines st.journal;
               other = omega (arith, st.other, may.keeps.no_shorter);
               leads = st.leads;
             }))
-            (λ (next : IsNextBy s (body map) new). inr (turned_stands map last new may.keeps fills.begins formed st next))
-            (may.either (body st.base) (body map) (of_parts (body st.base) last st.live) content)
+            (λ (next : IsNextBy s (project_body map) new). inr (turned_stands map last new may.keeps fills.begins formed st next))
+            (may.either st.bytes (project_body map) (of_parts st.bytes last st.live) content)
 
     pub turn_opened : (old mid last new : List ℕ) → KeepsLive s old mid → Fills s bytes q.other_journal mid last → OpensOther s last new → Turns cap g q bytes old new
     turn_opened old mid last new closed fills opens = record {
       header = λ b short has. slot_header last new opens.keeps b short (fill_header mid last fills.may b short (slot_header old mid closed.keeps b short has));
       stands = λ map formed is st. turned_stands map last new opens.keeps fills.begins formed (fill_stands map mid last fills.may (close_stands map old mid closed st))
-          (opens.live (body map) (subst (λ (x : List ℕ). HasContent (other_of s) (g + 1) x last) (sym is) fills.content));
+          (opens.live (project_body map) (subst (λ (x : List ℕ). HasContent (other_of s) (g + 1) x last) (sym is) fills.content));
     }

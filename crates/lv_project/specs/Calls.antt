@@ -1,6 +1,7 @@
 -- The calls of a session, each with its answer.
 use Rattle.std.specs.Prelude.{◌≡◌, ◌⊎◌, ℕ, Bool, true, false, if◌then◌else◌, List, [], ◌∷◌, Option, Some, None, Result, Ok, Err, IfErr}
 use Rattle.lv_disk.specs.Stops.{LeavesOnly}
+use Rattle.lv_maptables.specs.Projects.{project_of}
 use Rattle.lv_project.specs.Stands.{IsOutcome, StandsFor}
 use Rattle.lv_project.specs.States.{State, IsKept}
 use Rattle.lv_project.specs.Outcomes.{EndsApply, EndsCheckpoint}
@@ -34,8 +35,8 @@ accepted ((Some line, answer) ∷ calls) = if begins answer then line ∷ accept
 pub record Applies {D : Type 0} (moment failures : D → ℕ) (left_since : D → ℕ → List ℕ → Type 0) (may_leave : D → List ℕ → Type 0)
     (old : State D) (line : List ℕ) (answer : Result ℕ ProjectError) (new : State D) : Type 0 where
   pub ends : EndsApply failures answer old new line
-  pub any_moment : old.must_reopen ≡ false → LeavesOnly moment left_since old.disk new.disk (IsOutcome old.cap old.map.tables line)
-  pub refused_moment : IfErr answer (λ e. old.must_reopen ≡ false → (e ≡ Device) ⊎ LeavesOnly moment left_since old.disk new.disk (StandsFor old.cap old.map.tables))
+  pub any_moment : old.must_reopen ≡ false → LeavesOnly moment left_since old.disk new.disk (IsOutcome old.cap (project_of old.maps) line)
+  pub refused_moment : IfErr answer (λ e. old.must_reopen ≡ false → (e ≡ Device) ⊎ LeavesOnly moment left_since old.disk new.disk (StandsFor old.cap (project_of old.maps)))
   pub kept : IsKept may_leave new
   pub same_cap : new.cap ≡ old.cap
 
@@ -43,8 +44,8 @@ pub record Applies {D : Type 0} (moment failures : D → ℕ) (left_since : D �
 pub record Checkpoints {D : Type 0} (moment failures : D → ℕ) (left_since : D → ℕ → List ℕ → Type 0) (may_leave : D → List ℕ → Type 0)
     (old : State D) (answer : Result ℕ ProjectError) (new : State D) : Type 0 where
   pub ends : EndsCheckpoint failures answer old new
-  pub map : new.map ≡ old.map
-  pub any_moment : old.must_reopen ≡ false → LeavesOnly moment left_since old.disk new.disk (StandsFor old.cap old.map.tables)
+  pub maps : new.maps ≡ old.maps
+  pub any_moment : old.must_reopen ≡ false → LeavesOnly moment left_since old.disk new.disk (StandsFor old.cap (project_of old.maps))
   pub kept : IsKept may_leave new
   pub same_cap : new.cap ≡ old.cap
 

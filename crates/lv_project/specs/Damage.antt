@@ -5,12 +5,11 @@ use Rattle.lv_journal.specs.Records.{IsJournal, records_bytes}
 use Rattle.lv_journal.specs.Damage as journal
 use Rattle.lv_checkpoint.specs.Bodies.{IsLive}
 use Rattle.lv_checkpoint.specs.Damage as slots
-use Rattle.lv_maptables.specs.Tables.{Tables}
-use Rattle.lv_maptables.specs.WellFormed.{WellFormed}
-use Rattle.lv_maptables.specs.Body.{body, NoMapHas}
+use Rattle.lv_maptables.specs.Projects.{ProjectMaps, WellFormedProject}
+use Rattle.lv_maptables.specs.ProjectBody.{HasBody, NoProjectHas}
 use Rattle.lv_project.specs.Places.{IsAllowed, header_bytes, parts_of, cap_of}
 use Rattle.lv_project.specs.Stands.{HasGeometry}
-use Rattle.lv_commands.specs.LineSteps.{Leads, LeadsTo}
+use Rattle.lv_commands.specs.ProjectLines.{Leads, LeadsTo}
 use Rattle.lv_project.specs.declared.geometry.Geometry.{Geometry}
 use Rattle.lv_project.specs.declared.places.Places.{Places}
 use Rattle.lv_project.specs.declared.places.Parts.{Parts}
@@ -39,21 +38,21 @@ pub record IsLeastGateFault (parts : Parts) (place : ℕ) (file : List ℕ) : Ty
   pub least : (other : ℕ) → IsGateFault parts other file → place ≤ other
 
 -- the gate of the first payload that is no accepted command stands here
-pub record IsBadLine (cap : ℕ) (parts : Parts) (base : Tables) (place : ℕ) (file : List ℕ) : Type 0 where
+pub record IsBadLine (cap : ℕ) (parts : Parts) (base : ProjectMaps) (place : ℕ) (file : List ℕ) : Type 0 where
   pub front : List (List ℕ)
   pub line : List ℕ
   pub back : List (List ℕ)
   pub journal : IsJournal parts.journal (front ++ line ∷ back) file
   pub other : parts.other_journal.base < length file
-  pub map : Tables
+  pub map : ProjectMaps
   pub leads : Leads cap base front map
-  pub refused : (new : Tables) → ¬ LeadsTo cap map line new
+  pub refused : (new : ProjectMaps) → ¬ LeadsTo cap map line new
   pub there : place ≡ parts.journal.base + length (records_bytes front)
 
 -- the live body is no map's; or it is, and a gate of its journal or a payload is at fault
 abbrev pub IsBadChain : ℕ → Parts → List ℕ → ℕ → List ℕ → Type 0
-IsBadChain cap parts bytes place file = (NoMapHas bytes × (place ≡ parts.live.base))
-    ⊎ ((base : Tables) × WellFormed base × (bytes ≡ body base)
+IsBadChain cap parts bytes place file = (NoProjectHas bytes × (place ≡ parts.live.base))
+    ⊎ ((base : ProjectMaps) × WellFormedProject base × HasBody base bytes
     × (IsLeastGateFault parts place file ⊎ IsBadLine cap parts base place file))
 
 -- a slot is damaged; or one is live, and what hangs on it is at fault

@@ -4,7 +4,7 @@ use Rattle.lv_disk.specs.Stops.{Each}
 use Rattle.lv_journal.specs.Records.{EndsAt}
 use Rattle.lv_journal.specs.State.{room_of}
 use Rattle.lv_checkpoint.specs.Handles.{first_of, second_of, slot_of, generation_of, HasSomeSlots}
-use Rattle.lv_maptables.specs.Tables.{body_len}
+use Rattle.lv_maptables.specs.Projects.{body_len, project_of}
 use Rattle.lv_project.specs.Places.{IsAllowed, IsLaidOut, cap_of, parts_of}
 use Rattle.lv_project.specs.Stands.{HasGeometry, StandsAt}
 use Rattle.lv_project.specs.States.{State}
@@ -15,7 +15,7 @@ use Rattle.lv_project.specs.declared.project.Project.TheInside.{Inside}
 abbrev pub state_of : {D : Type 0} → Inside D → State D
 state_of p = record {
   disk = p.disk;
-  map = p.map;
+  maps = p.maps;
   generation = generation_of p.slots;
   must_reopen = p.must_reopen;
   cap = cap_of p.geometry;
@@ -34,13 +34,13 @@ pub record IsFramed {D : Type 0} (p : Inside D) : Type 0 where
   pub second : second_of p.slots ≡ p.places.b
   pub which : slot_of p.slots ≤ 1
   pub journal : p.journal.area ≡ (parts_in p).journal
-  pub fits : body_len p.map.tables ≤ cap_of p.geometry
+  pub fits : body_len (project_of p.maps) ≤ cap_of p.geometry
 
 -- what holds of a project that needn't be opened again: each image of its disk stands for its map
 pub record IsReady {D : Type 0} (may_leave : D → List ℕ → Type 0) (p : Inside D) : Type 0 where
   pub journal : p.journal.must_reopen ≡ false
   pub geometry : Each (may_leave p.disk) (HasGeometry p.geometry p.places)
-  pub stands : Each (may_leave p.disk) (StandsAt (cap_of p.geometry) (parts_in p) p.map.tables (generation_of p.slots))
+  pub stands : Each (may_leave p.disk) (StandsAt (cap_of p.geometry) (parts_in p) (project_of p.maps) (generation_of p.slots))
   pub slots : Each (may_leave p.disk) (HasSomeSlots p.slots)
   pub ends : Each (may_leave p.disk) (EndsAt p.journal.area p.journal.next)
 

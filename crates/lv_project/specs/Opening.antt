@@ -8,14 +8,13 @@ use Rattle.lv_checkpoint.specs.Damage as damage
 use Rattle.lv_checkpoint.specs.Handles.{generation_of, slot_of, HasSomeSlots}
 use Rattle.lv_checkpoint.specs.declared.error.CheckpointError as slots
 use Rattle.lv_checkpoint.specs.declared.error.CheckpointError.TheVariants as slot
-use Rattle.lv_maptables.specs.Tables.{Tables}
-use Rattle.lv_maptables.specs.WellFormed.{WellFormed}
+use Rattle.lv_maptables.specs.Projects.{ProjectMaps, WellFormedProject, project_of}
 use Rattle.lv_maptables.specs.declared.error.MapError.{MapError}
 use Rattle.lv_maptables.specs.declared.error.MapError.TheVariants as map
-use Rattle.lv_maptables.specs.Body.{body}
+use Rattle.lv_maptables.specs.ProjectBody.{HasBody}
 use Rattle.lv_project.specs.Places.{cap_of, parts_of, IsAllowed}
 use Rattle.lv_project.specs.Stands.{HasGeometry, Stands, StandsAt}
-use Rattle.lv_commands.specs.LineSteps.{Leads, LeadsTo}
+use Rattle.lv_commands.specs.ProjectLines.{Leads, LeadsTo}
 use Rattle.lv_project.specs.Damage.{HasBadGeometry, IsBadLine, IsBadPart, IsBlank, IsDamagedAt, IsForeign, IsLeastGateFault}
 use Rattle.lv_project.specs.declared.opening.Opened.{Opened}
 use Rattle.lv_project.specs.declared.geometry.Geometry.{Geometry}
@@ -27,14 +26,16 @@ use Rattle.lv_project.specs.declared.error.ProjectError.TheVariants.{Device, Out
 -- the file stands for what was opened
 pub record IsOpened (o : Opened) (file : List ℕ) : Type 0 where
   pub has : HasGeometry o.geometry o.places file
-  pub stands : StandsAt (cap_of o.geometry) (parts_of o.places (slot_of o.slots)) o.map.tables (generation_of o.slots) file
+  pub stands : StandsAt (cap_of o.geometry) (parts_of o.places (slot_of o.slots)) (project_of o.maps) (generation_of o.slots) file
   pub slots : HasSomeSlots o.slots file
   pub journal : IsJournal (parts_of o.places (slot_of o.slots)).journal o.journal.records file
 
 -- the live slot of the parts holds this map, with this generation
-pub record HoldsMap (parts : Parts) (generation : ℕ) (base : Tables) (file : List ℕ) : Type 0 where
-  pub well_formed : WellFormed base
-  pub live : IsLive parts.live parts.other generation (body base) file
+pub record HoldsMap (parts : Parts) (generation : ℕ) (base : ProjectMaps) (file : List ℕ) : Type 0 where
+  pub bytes : List ℕ
+  pub well_formed : WellFormedProject base
+  pub body : HasBody base bytes
+  pub live : IsLive parts.live parts.other generation bytes file
 
 -- a header is refused because the bytes have none, or one with lengths outside the limits
 abbrev pub RefusesHeader : (List ℕ → Type 0) → ProjectError → Type 0
@@ -51,11 +52,11 @@ RefusesGates reads parts (Damaged place) = Each reads (IsLeastGateFault parts pl
 RefusesGates reads parts _ = ⊥
 
 -- the lines are refused at the first that is no accepted command
-abbrev pub RefusesReplay : ℕ → Tables → journal.State → ProjectError → Type 0
+abbrev pub RefusesReplay : ℕ → ProjectMaps → journal.State → ProjectError → Type 0
 RefusesReplay cap base j OutOfMemory = Unit {0}
 RefusesReplay cap base j (Damaged place) =
     (front : List (List ℕ)) × (line : List ℕ) × (back : List (List ℕ)) × (j.records ≡ front ++ line ∷ back)
-    × (map : Tables) × Leads cap base front map × ((new : Tables) → ¬ LeadsTo cap map line new)
+    × (map : ProjectMaps) × Leads cap base front map × ((new : ProjectMaps) → ¬ LeadsTo cap map line new)
     × (place ≡ j.area.base + length (records_bytes front))
 RefusesReplay cap base j _ = ⊥
 
@@ -68,16 +69,16 @@ RefusesSlots reads g p (Damaged place) = Each reads (IsBadPart g p place)
 RefusesSlots reads g p _ = ⊥
 
 -- the lines behind a map are refused: a gate of the journals or a line is at fault
-abbrev pub RefusesLines : (List ℕ → Type 0) → ℕ → Parts → Tables → ProjectError → Type 0
+abbrev pub RefusesLines : (List ℕ → Type 0) → ℕ → Parts → ProjectMaps → ProjectError → Type 0
 RefusesLines reads cap parts base Device = Unit {0}
 RefusesLines reads cap parts base OutOfMemory = Unit {0}
 RefusesLines reads cap parts base (Damaged place) = Each reads (λ file. IsLeastGateFault parts place file ⊎ IsBadLine cap parts base place file)
 RefusesLines reads cap parts base _ = ⊥
 
 -- the file stands for this map with this generation, and for no other
-pub record StandsOnlyFor (cap : ℕ) (map : Tables) (generation : ℕ) (file : List ℕ) : Type 0 where
+pub record StandsOnlyFor (cap : ℕ) (map : ProjectMaps) (generation : ℕ) (file : List ℕ) : Type 0 where
   pub stands : Stands cap map generation file
-  pub only : (c : ℕ) (other : Tables) (g : ℕ) → Stands c other g file → (c ≡ cap) × (other ≡ map) × (g ≡ generation)
+  pub only : (c : ℕ) (other : ProjectMaps) (g : ℕ) → Stands c other g file → (c ≡ cap) × (other ≡ map) × (g ≡ generation)
 
 -- why no project is made: the geometry is outside the limits, the file isn't empty, or the device failed
 abbrev pub RefusesCreate : (List ℕ → Type 0) → Geometry → ProjectError → Type 0

@@ -2,10 +2,10 @@
 use Rattle.std.specs.Prelude.{◌≡◌, ◌≤◌, ◌+◌, ◌-◌, ◌^◌, ℕ, true, false, List, length, Option, Result, Ok, Err}
 use Rattle.lv_disk.specs.Stops.{Rose}
 use Rattle.lv_journal.specs.State.{IsAbove}
-use Rattle.lv_maptables.specs.Tables.{Tables}
+use Rattle.lv_maptables.specs.Projects.{ProjectMaps, project_of}
 use Rattle.lv_commands.specs.Errors as commands
-use Rattle.lv_commands.specs.LineSteps.{RefusesLine}
-use Rattle.lv_commands.specs.LineSteps.{Accepts, LeadsTo}
+use Rattle.lv_commands.specs.ProjectLines.{RefusesLine}
+use Rattle.lv_commands.specs.ProjectLines.{Accepts, LeadsTo}
 use Rattle.lv_project.specs.States.{State}
 use Rattle.lv_project.specs.declared.error.ProjectError.{ProjectError}
 use Rattle.lv_project.specs.declared.error.ProjectError.TheVariants.{Device, OutOfMemory, Reopen, GenerationsSpent, Refused}
@@ -16,20 +16,20 @@ abbrev pub RefusesApply : {D : Type 0} → (D → ℕ) → ProjectError → Stat
 RefusesApply failures Device old new line =
     (old.must_reopen ≡ false) × (new.must_reopen ≡ true) × Rose (failures old.disk) (failures new.disk)
 RefusesApply failures OutOfMemory old new line =
-    (old.must_reopen ≡ false) × (new.must_reopen ≡ false) × ((next : Tables) × LeadsTo old.cap old.map.tables line next)
+    (old.must_reopen ≡ false) × (new.must_reopen ≡ false) × ((next : ProjectMaps) × LeadsTo old.cap (project_of old.maps) line next)
 RefusesApply failures Reopen old new line = (old.must_reopen ≡ true) × (new ≡ old)
 RefusesApply failures GenerationsSpent old new line =
     (old.must_reopen ≡ false) × (new.must_reopen ≡ false) × (old.generation ≡ 2 ^ 64 - 1) × IsAbove old.room (length line)
-    × ((next : Tables) × LeadsTo old.cap old.map.tables line next)
+    × ((next : ProjectMaps) × LeadsTo old.cap (project_of old.maps) line next)
 RefusesApply failures (Refused e) old new line =
-    (old.must_reopen ≡ false) × (new.must_reopen ≡ false) × RefusesLine old.cap old.map.tables line (commands.code_of e)
+    (old.must_reopen ≡ false) × (new.must_reopen ≡ false) × RefusesLine old.cap (project_of old.maps) line (commands.code_of e)
 RefusesApply failures _ old new line = ⊥
 
 -- how an `apply` ended: with the command's number and its map, or refused with the map as it was
 abbrev pub EndsApply : {D : Type 0} → (D → ℕ) → Result ℕ ProjectError → State D → State D → List ℕ → Type 0
 EndsApply failures (Ok n) old new line =
-    (old.must_reopen ≡ false) × (new.must_reopen ≡ false) × Accepts old.cap old.map.tables line new.map.tables n
-EndsApply failures (Err e) old new line = (new.map.tables ≡ old.map.tables) × RefusesApply failures e old new line
+    (old.must_reopen ≡ false) × (new.must_reopen ≡ false) × Accepts old.cap (project_of old.maps) line (project_of new.maps) n
+EndsApply failures (Err e) old new line = (project_of new.maps ≡ project_of old.maps) × RefusesApply failures e old new line
 
 -- how a `checkpoint` was refused
 abbrev pub RefusesCheckpoint : {D : Type 0} → (D → ℕ) → ProjectError → State D → State D → Type 0

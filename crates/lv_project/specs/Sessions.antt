@@ -1,8 +1,8 @@
 -- Sessions, one behind the other, each after a stop of the one before.
 use Rattle.std.specs.Prelude.{◌≡◌, ◌≤◌, ℕ, false, List, [], ◌∷◌, ◌++◌, length}
 use Rattle.lv_disk.specs.Stops.{Each, LeavesOnly}
-use Rattle.lv_maptables.specs.Tables.{Tables, empty_tables}
-use Rattle.lv_commands.specs.LineSteps.{Leads}
+use Rattle.lv_maptables.specs.Projects.{ProjectMaps, empty_project, project_of}
+use Rattle.lv_commands.specs.ProjectLines.{Leads}
 use Rattle.lv_project.specs.Stands.{StandsFor}
 use Rattle.lv_project.specs.States.{State, IsKept}
 use Rattle.lv_project.specs.Opening.{StandsOnlyFor}
@@ -16,7 +16,7 @@ pub record Session : Type 0 where
 
 -- A prefix of the session's accepted commands leads from the one map to the other, and holds each command that was
 -- acknowledged up to the moment.
-pub record KeepsAcknowledged (cap : ℕ) (base : Tables) (s : Session) (map : Tables) : Type 0 where
+pub record KeepsAcknowledged (cap : ℕ) (base : ProjectMaps) (s : Session) (map : ProjectMaps) : Type 0 where
   pub lines : List (List ℕ)
   pub rest : List (List ℕ)
   pub prefix : accepted (s.front ++ s.back) ≡ lines ++ rest
@@ -24,18 +24,18 @@ pub record KeepsAcknowledged (cap : ℕ) (base : Tables) (s : Session) (map : Ta
   pub leads : Leads cap base lines map
 
 -- the same of sessions in turn, each from the map that the one before led to
-abbrev pub KeepEach : ℕ → Tables → List Session → Tables → Type 0
+abbrev pub KeepEach : ℕ → ProjectMaps → List Session → ProjectMaps → Type 0
 KeepEach cap base [] map = map ≡ base
-KeepEach cap base (s ∷ sessions) map = (mid : Tables) × KeepsAcknowledged cap base s mid × KeepEach cap mid sessions map
+KeepEach cap base (s ∷ sessions) map = (mid : ProjectMaps) × KeepsAcknowledged cap base s mid × KeepEach cap mid sessions map
 
 -- the file stands for a map to which the sessions lead from the empty one
 abbrev pub HoldsEach : ℕ → List Session → List ℕ → Type 0
-HoldsEach cap sessions file = (map : Tables) × KeepEach cap empty_tables sessions map × StandsFor cap map file
+HoldsEach cap sessions file = (map : ProjectMaps) × KeepEach cap empty_project sessions map × StandsFor cap map file
 
 -- what `create` promises of a geometry in which a body may have so many bytes
 pub record Creates {D : Type 0} (may_leave : D → List ℕ → Type 0) (cap : ℕ) (first : State D) : Type 0 where
   pub cap_is : first.cap ≡ cap
-  pub empty : first.map.tables ≡ empty_tables
+  pub empty : (project_of first.maps) ≡ empty_project
   pub generation : first.generation ≡ 1
   pub reopen : first.must_reopen ≡ false
   pub kept : IsKept may_leave first
@@ -43,7 +43,7 @@ pub record Creates {D : Type 0} (may_leave : D → List ℕ → Type 0) (cap : �
 -- what `open` promises, of a disk that tells its bytes
 pub record Opens {D : Type 0} (moment : D → ℕ) (left_since : D → ℕ → List ℕ → Type 0) (may_leave reads : D → List ℕ → Type 0) (before : D) (first : State D) : Type 0 where
   pub reopen : first.must_reopen ≡ false
-  pub opened : Each (reads first.disk) (StandsOnlyFor first.cap first.map.tables first.generation)
+  pub opened : Each (reads first.disk) (StandsOnlyFor first.cap (project_of first.maps) first.generation)
   pub told : (file : List ℕ) × reads first.disk file
   pub kept : IsKept may_leave first
   pub any_moment : LeavesOnly moment left_since before first.disk (may_leave before)

@@ -3,21 +3,22 @@ use Rattle.std.specs.Prelude.{◌≡◌, ◌<◌, ◌≤◌, ◌⊎◌, ℕ, Lis
 use Rattle.lv_disk.specs.Files.{HasAt}
 use Rattle.lv_journal.specs.Records.{IsJournal}
 use Rattle.lv_checkpoint.specs.Bodies.{IsLive}
-use Rattle.lv_maptables.specs.Tables.{Tables}
-use Rattle.lv_maptables.specs.WellFormed.{WellFormed}
-use Rattle.lv_maptables.specs.Body.{body}
-use Rattle.lv_commands.specs.LineSteps.{Leads, LeadsTo}
+use Rattle.lv_maptables.specs.Projects.{ProjectMaps, WellFormedProject}
+use Rattle.lv_maptables.specs.ProjectBody.{HasBody}
+use Rattle.lv_commands.specs.ProjectLines.{Leads, LeadsTo}
 use Rattle.lv_project.specs.Places.{IsAllowed, IsLaidOut, header_bytes, parts_of, cap_of}
 use Rattle.lv_project.specs.declared.geometry.Geometry.{Geometry}
 use Rattle.lv_project.specs.declared.places.Places.{Places}
 use Rattle.lv_project.specs.declared.places.Parts.{Parts}
 
 -- the parts stand for a map: the live body's, after the commands in its journal
-pub record StandsAt (cap : ℕ) (parts : Parts) (map : Tables) (generation : ℕ) (file : List ℕ) : Type 0 where
-  pub base : Tables
+pub record StandsAt (cap : ℕ) (parts : Parts) (map : ProjectMaps) (generation : ℕ) (file : List ℕ) : Type 0 where
+  pub base : ProjectMaps
+  pub bytes : List ℕ
   pub lines : List (List ℕ)
-  pub well_formed : WellFormed base
-  pub live : IsLive parts.live parts.other generation (body base) file
+  pub well_formed : WellFormedProject base
+  pub body : HasBody base bytes
+  pub live : IsLive parts.live parts.other generation bytes file
   pub journal : IsJournal parts.journal lines file
   pub other : parts.other_journal.base < length file
   pub leads : Leads cap base lines map
@@ -30,7 +31,7 @@ pub record HasGeometry (geometry : Geometry) (places : Places) (file : List ℕ)
 
 -- The bytes have the form of a project file whose bodies have at most so many bytes, and stand for this map with this
 -- generation.
-pub record Stands (cap : ℕ) (map : Tables) (generation : ℕ) (file : List ℕ) : Type 0 where
+pub record Stands (cap : ℕ) (map : ProjectMaps) (generation : ℕ) (file : List ℕ) : Type 0 where
   pub geometry : Geometry
   pub places : Places
   pub has : HasGeometry geometry places file
@@ -40,9 +41,9 @@ pub record Stands (cap : ℕ) (map : Tables) (generation : ℕ) (file : List ℕ
   pub at : StandsAt cap (parts_of places slot) map generation file
 
 -- the same with some generation
-abbrev pub StandsFor : ℕ → Tables → List ℕ → Type 0
+abbrev pub StandsFor : ℕ → ProjectMaps → List ℕ → Type 0
 StandsFor cap map file = (generation : ℕ) × Stands cap map generation file
 
 -- the file is an outcome of a line: it stands for the map, or for the one that the line leads to
-abbrev pub IsOutcome : ℕ → Tables → List ℕ → List ℕ → Type 0
-IsOutcome cap map line file = StandsFor cap map file ⊎ ((new : Tables) × LeadsTo cap map line new × StandsFor cap new file)
+abbrev pub IsOutcome : ℕ → ProjectMaps → List ℕ → List ℕ → Type 0
+IsOutcome cap map line file = StandsFor cap map file ⊎ ((new : ProjectMaps) × LeadsTo cap map line new × StandsFor cap new file)

@@ -1,14 +1,14 @@
 -- What a contract sees of a project, and what a project that needn't be opened again promises of its disk.
 use Rattle.std.specs.Prelude.{◌≡◌, ℕ, Bool, false, List, Option}
 use Rattle.lv_disk.specs.Stops.{Each}
-use Rattle.lv_maptables.specs.Tables.{MapView}
+use Rattle.lv_maptables.specs.Projects.{MapsView, project_of}
 use Rattle.lv_project.specs.Stands.{Stands}
 
 -- its disk, its map, the live generation, whether it must be opened again, how long a body may be, and the longest line
 -- that its journal has room for
 pub record State (D : Type 0) : Type 0 where
   pub disk : D
-  pub map : MapView
+  pub maps : MapsView
   pub generation : ℕ
   pub must_reopen : Bool
   pub cap : ℕ
@@ -16,4 +16,4 @@ pub record State (D : Type 0) : Type 0 where
 
 -- where it needn't be opened again, each image of its disk stands for its map with its generation
 abbrev pub IsKept : {D : Type 0} → (D → List ℕ → Type 0) → State D → Type 0
-IsKept may_leave project = project.must_reopen ≡ false → Each (may_leave project.disk) (Stands project.cap project.map.tables project.generation)
+IsKept may_leave project = project.must_reopen ≡ false → Each (may_leave project.disk) (Stands project.cap (project_of project.maps) project.generation)

@@ -1,24 +1,24 @@
 //! Laws on what the bytes of a project file stand for. The functions have no bodies: their contracts are the laws.
 ghost use Rattle.std.specs.Prelude.{◌≡◌, List, ℕ};
-ghost use Rattle.lv_maptables.specs.Tables.{Tables};
+ghost use Rattle.lv_maptables.specs.Projects.{ProjectMaps};
 ghost use Rattle.lv_project.specs.Damage.{HasBadGeometry, IsBlank, IsDamagedAt, IsForeign};
 ghost use Rattle.lv_project.specs.Stands.{Stands};
 
 /// The bytes of a file stand for one map with one generation at most, and tell how long a body may be.
 pub fn stand_for_one_map()
-    ensures { (file : List ℕ) (cap limit : ℕ) (map other : Tables) (g h : ℕ)
+    ensures { (file : List ℕ) (cap limit : ℕ) (map other : ProjectMaps) (g h : ℕ)
         → Stands cap map g file → Stands limit other h file → (cap ≡ limit) × (map ≡ other) × (g ≡ h) }
 {}
 
 /// The bytes of a file stand for a map, or no slot is open, or they are damaged at one place, or the geometry is outside its
 /// limits, or they are no project's: one of these at most.
 pub fn exclude_one_another()
-    ensures stands_blank { (file : List ℕ) (cap : ℕ) (map : Tables) (g : ℕ) → Stands cap map g file → ¬ IsBlank file }
-    ensures stands_damaged { (file : List ℕ) (cap : ℕ) (map : Tables) (g place : ℕ)
+    ensures stands_blank { (file : List ℕ) (cap : ℕ) (map : ProjectMaps) (g : ℕ) → Stands cap map g file → ¬ IsBlank file }
+    ensures stands_damaged { (file : List ℕ) (cap : ℕ) (map : ProjectMaps) (g place : ℕ)
         → Stands cap map g file → ¬ IsDamagedAt place file }
-    ensures stands_bad { (file : List ℕ) (cap : ℕ) (map : Tables) (g : ℕ)
+    ensures stands_bad { (file : List ℕ) (cap : ℕ) (map : ProjectMaps) (g : ℕ)
         → Stands cap map g file → ¬ HasBadGeometry file }
-    ensures stands_foreign { (file : List ℕ) (cap : ℕ) (map : Tables) (g : ℕ)
+    ensures stands_foreign { (file : List ℕ) (cap : ℕ) (map : ProjectMaps) (g : ℕ)
         → Stands cap map g file → ¬ IsForeign file }
     ensures blank_damaged { (file : List ℕ) (place : ℕ) → IsBlank file → ¬ IsDamagedAt place file }
     ensures blank_bad { (file : List ℕ) → IsBlank file → ¬ HasBadGeometry file }

@@ -6,11 +6,10 @@ ghost use Rattle.lv_journal.specs.State as journal;
 ghost use Rattle.lv_checkpoint.specs.Handles.{first_of, generation_of, second_of, slot_of, HasSomeSlots};
 ghost use Rattle.lv_disk.specs.Stops.{CountsFaults};
 ghost use Rattle.lv_disk.specs.Reading.{OnlyReads};
-ghost use Rattle.lv_maptables.specs.Tables.{body_len, empty_tables};
-ghost use Rattle.lv_maptables.specs.WellFormed.{WellFormed};
+ghost use Rattle.lv_maptables.specs.Projects.{body_len, empty_project, project_of};
 ghost use Rattle.lv_project.specs.Places.{cap_of, parts_of, IsAllowed, IsInOrder, IsLaidOut};
 ghost use Rattle.lv_project.specs.Stands.{HasGeometry, StandsAt};
-ghost use Rattle.lv_commands.specs.LineSteps.{Leads, LeadsTo};
+ghost use Rattle.lv_commands.specs.ProjectLines.{Leads, LeadsTo};
 ghost use Rattle.lv_project.specs.Opening.{HoldsMap, IsOfBody, IsOfSlots, IsOpened, IsRefusedRead, RefusesCreate, RefusesGates, RefusesLines, RefusesReplay, RefusesSlots};
 
 use crate::ProjectError;
@@ -18,10 +17,11 @@ use crate::geometry::Geometry;
 use crate::header::{header, read_header};
 use crate::places::{Parts, Places};
 use lv_checkpoint::{CheckpointError, Slots, first};
-use lv_commands::{CommandError, apply, parse};
+use lv_commands::CommandError;
+use lv_commands::project::{apply, parse};
 use lv_disk::Disk;
 use lv_journal::{Journal, JournalError, blank};
-use lv_maptables::{Map, MapError, decode_body, empty_body};
+use lv_maptables::{MapError, Maps};
 use std::alloc::Global;
 
 /// What a file was read as, or made to be.
@@ -31,37 +31,37 @@ pub struct Opened {
     pub places: Places,
     pub slots: Slots,
     pub journal: Journal,
-    pub map: Map,
+    pub maps: Maps,
 }
 
-// Does what a line of the journal says; false where the map accepts no such command.
-fn advance(map: &mut Map, line: &[u8], cap: u32) -> Result<bool, ProjectError>
-    requires { body_len map.old.tables ≤ cap }
-    ensures led { result ≡ Ok true → LeadsTo cap map.old.tables line.now map.new.tables }
-    ensures not_led { result ≡ Ok false → (new : _) → ¬ LeadsTo cap map.old.tables line.now new }
-    ensures fits { body_len map.new.tables ≤ cap }
+// Does what a line of the journal says; false where the maps accept no such command.
+fn advance(maps: &mut Maps, line: &[u8], cap: u32) -> Result<bool, ProjectError>
+    requires { body_len (project_of maps.old) ≤ cap }
+    ensures led { result ≡ Ok true → LeadsTo cap (project_of maps.old) line.now (project_of maps.new) }
+    ensures not_led { result ≡ Ok false → (new : _) → ¬ LeadsTo cap (project_of maps.old) line.now new }
+    ensures fits { body_len (project_of maps.new) ≤ cap }
     ensures memory { IfErr result (λ e. e ≡ ProjectError.OutOfMemory) }
 {
     let Ok(command) = parse(line) else {
         return Ok(false);
     };
-    match apply(map, &command, cap) {
+    match apply(maps, &command, cap) {
         Ok(_) => Ok(true),
         Err(CommandError::OutOfMemory) => Err(ProjectError::OutOfMemory),
         Err(_) => Ok(false),
     }
 }
 
-// The map after the journal's lines. `Damaged` tells the gate of the first that is no accepted command.
-fn replay(map: &mut Map, journal: &Journal, cap: u32) -> Result<(), ProjectError>
-    requires { body_len map.old.tables ≤ cap }
-    ensures led { OnOk result (Leads cap map.old.tables journal.now.records map.new.tables) }
-    ensures refused { IfErr result (RefusesReplay cap map.old.tables journal.now) }
-    ensures fits { body_len map.new.tables ≤ cap }
+// The maps after the journal's lines. `Damaged` tells the gate of the first that is no accepted command.
+fn replay(maps: &mut Maps, journal: &Journal, cap: u32) -> Result<(), ProjectError>
+    requires { body_len (project_of maps.old) ≤ cap }
+    ensures led { OnOk result (Leads cap (project_of maps.old) journal.now.records (project_of maps.new)) }
+    ensures refused { IfErr result (RefusesReplay cap (project_of maps.old) journal.now) }
+    ensures fits { body_len (project_of maps.new) ≤ cap }
 {
     let records = journal.records();
     for n in 0..records.len() {
-        if !advance(map, &records[n], cap)? {
+        if !advance(maps, &records[n], cap)? {
             return match journal.place(n) {
                 Some(place) => Err(ProjectError::Damaged { place }),
                 None => unreachable!(),
@@ -120,21 +120,21 @@ fn refusal_of_body(error: MapError, place: u64) -> ProjectError
     }
 }
 
-// The slots, and the map of the live body.
+// The slots, and the maps of the live body.
 fn read_slots<D: Disk>(
     alloc: Global,
     disk: &mut D,
     geometry: Geometry,
     places: Places,
-) -> Result<(Slots, Map), ProjectError>
+) -> Result<(Slots, Maps), ProjectError>
     requires allowed { IsAllowed geometry.slot geometry.journal }
     requires laid_out { IsLaidOut geometry places }
     requires only { Each (D.may_leave disk.old) (D.reads disk.old) }
     ensures holds { IfOk result (λ r. Each (D.reads disk.old)
-        (HoldsMap (parts_of places (slot_of r.0)) (generation_of r.0) r.1.tables)) }
+        (HoldsMap (parts_of places (slot_of r.0)) (generation_of r.0) (project_of r.1))) }
     ensures slots { IfOk result (λ r. Each (D.reads disk.old) (HasSomeSlots r.0)) }
     ensures areas { IfOk result (λ r. (first_of r.0 ≡ places.a) × (second_of r.0 ≡ places.b) × (slot_of r.0 ≤ 1)) }
-    ensures fits { IfOk result (λ r. body_len r.1.tables ≤ cap_of geometry) }
+    ensures fits { IfOk result (λ r. body_len (project_of r.1) ≤ cap_of geometry) }
     ensures refused { IfErr result (RefusesSlots (D.reads disk.old) geometry places) }
     ensures reads { OnlyReads D.reads D.may_leave D.moment D.left_since disk.old disk.new }
     ensures only { Each (D.may_leave disk.new) (D.reads disk.new) }
@@ -144,28 +144,28 @@ fn read_slots<D: Disk>(
         Ok(live) => live,
         Err(error) => return Err(refusal_of_slots(error)),
     };
-    match decode_body(alloc, &found.body) {
-        Ok(map) => Ok((slots, map)),
+    match Maps::decode_body(alloc, &found.body) {
+        Ok(maps) => Ok((slots, maps)),
         Err(error) => Err(refusal_of_body(error, places.parts(found.slot).live.base)),
     }
 }
 
-// The live journal, and the map after its lines.
+// The live journal, and the maps after its lines.
 fn read_lines<D: Disk>(
     alloc: Global,
     disk: &mut D,
     parts: Parts,
-    map: &mut Map,
+    maps: &mut Maps,
     cap: u32,
 ) -> Result<Journal, ProjectError>
-    requires fits { body_len map.old.tables ≤ cap }
+    requires fits { body_len (project_of maps.old) ≤ cap }
     requires only { Each (D.may_leave disk.old) (D.reads disk.old) }
     ensures opened { IfOk result (λ j. j ≡ journal.opened parts.journal j.records) }
     ensures sound { IfOk result (λ j. Each (D.reads disk.old) (IsJournal parts.journal j.records)) }
     ensures other { OnOk result (Each (D.reads disk.old) (λ file. parts.other_journal.base < length file)) }
-    ensures led { IfOk result (λ j. Leads cap map.old.tables j.records map.new.tables) }
-    ensures fits { body_len map.new.tables ≤ cap }
-    ensures refused { IfErr result (RefusesLines (D.reads disk.old) cap parts map.old.tables) }
+    ensures led { IfOk result (λ j. Leads cap (project_of maps.old) j.records (project_of maps.new)) }
+    ensures fits { body_len (project_of maps.new) ≤ cap }
+    ensures refused { IfErr result (RefusesLines (D.reads disk.old) cap parts (project_of maps.old)) }
     ensures reads { OnlyReads D.reads D.may_leave D.moment D.left_since disk.old disk.new }
     ensures count { CountsFaults ProjectError.Device (D.failures disk.old) (D.failures disk.new) result }
 {
@@ -173,7 +173,7 @@ fn read_lines<D: Disk>(
         Ok(journal) => journal,
         Err(error) => return Err(error),
     };
-    match replay(map, &journal, cap) {
+    match replay(maps, &journal, cap) {
         Ok(()) => Ok(journal),
         Err(error) => Err(error),
     }
@@ -188,7 +188,7 @@ fn read_synced<D: Disk>(alloc: Global, disk: &mut D) -> Result<Opened, ProjectEr
     ensures places { IfOk result (λ o. IsAllowed o.geometry.slot o.geometry.journal × IsLaidOut o.geometry o.places) }
     ensures areas { IfOk result (λ o. (first_of o.slots ≡ o.places.a) × (second_of o.slots ≡ o.places.b)
         × (slot_of o.slots ≤ 1)) }
-    ensures fits { IfOk result (λ o. body_len o.map.tables ≤ cap_of o.geometry) }
+    ensures fits { IfOk result (λ o. body_len (project_of o.maps) ≤ cap_of o.geometry) }
     ensures refused { IfErr result (IsRefusedRead (D.reads disk.old)) }
     ensures reads { OnlyReads D.reads D.may_leave D.moment D.left_since disk.old disk.new }
     ensures count { CountsFaults ProjectError.Device (D.failures disk.old) (D.failures disk.new) result }
@@ -198,19 +198,19 @@ fn read_synced<D: Disk>(alloc: Global, disk: &mut D) -> Result<Opened, ProjectEr
         Err(error) => return Err(error),
     };
     let places = geometry.places();
-    let (slots, map) = match read_slots(alloc, disk, geometry, places) {
+    let (slots, maps) = match read_slots(alloc, disk, geometry, places) {
         Ok(found) => found,
         Err(error) => return Err(error),
     };
-    let mut map = map;
+    let mut maps = maps;
     let parts = places.parts(slots.slot());
-    match read_lines(alloc, disk, parts, &mut map, geometry.cap()) {
+    match read_lines(alloc, disk, parts, &mut maps, geometry.cap()) {
         Ok(journal) => Ok(Opened {
             geometry,
             places,
             slots,
             journal,
-            map,
+            maps,
         }),
         Err(error) => Err(error),
     }
@@ -224,7 +224,7 @@ pub fn read_project<D: Disk>(alloc: Global, disk: &mut D) -> Result<Opened, Proj
     ensures places { IfOk result (λ o. IsAllowed o.geometry.slot o.geometry.journal × IsLaidOut o.geometry o.places) }
     ensures areas { IfOk result (λ o. (first_of o.slots ≡ o.places.a) × (second_of o.slots ≡ o.places.b)
         × (slot_of o.slots ≤ 1)) }
-    ensures fits { IfOk result (λ o. body_len o.map.tables ≤ cap_of o.geometry) }
+    ensures fits { IfOk result (λ o. body_len (project_of o.maps) ≤ cap_of o.geometry) }
     ensures refused { IfErr result (IsRefusedRead (D.reads disk.new)) }
     ensures only { OnOk result (Each (D.may_leave disk.new) (D.reads disk.new)) }
     ensures reads { Each (D.reads disk.new) (D.reads disk.old) }
@@ -243,9 +243,8 @@ pub fn write_new<D: Disk>(
     disk: &mut D,
     geometry: Geometry,
 ) -> Result<(Places, Slots, Journal), ProjectError>
-    requires formed { WellFormed empty_tables }
     ensures made { IfOk result (λ r. Each (D.may_leave disk.new)
-        (λ file. HasGeometry geometry r.0 file × StandsAt (cap_of geometry) (parts_of r.0 0) empty_tables 1 file)) }
+        (λ file. HasGeometry geometry r.0 file × StandsAt (cap_of geometry) (parts_of r.0 0) empty_project 1 file)) }
     ensures slots { IfOk result (λ r. Each (D.may_leave disk.new) (HasSomeSlots r.1)) }
     ensures none { IfOk result (λ r. Each (D.may_leave disk.new) (IsJournal r.0.first [])) }
     ensures handle { IfOk result (λ r. (slot_of r.1 ≡ 0) × (generation_of r.1 ≡ 1) × (first_of r.1 ≡ r.0.a)
@@ -266,7 +265,7 @@ pub fn write_new<D: Disk>(
     }
     let places = geometry.places();
     disk.write_at(0, &header(geometry))?;
-    let slots = first(disk, places.a, places.b, &empty_body())?;
+    let slots = first(disk, places.a, places.b, &Maps::empty_body())?;
     let journal = match blank(disk, places.first) {
         Ok(journal) => journal,
         Err(_) => return Err(ProjectError::Device),

@@ -1,11 +1,11 @@
 ghost use Rattle.std.specs.Prelude.{◌≡◌, ◌≤◌, ◌<◌, ◌⊎◌, ◌↔◌, ◌+◌, ◌-◌, ◌^◌, [], length, false, true, Ok, IfOk, IfErr, IsErrOf, IfSome, MatchResult, OnOk};
 ghost use Rattle.lv_disk.specs.Stops.{Each, LeavesOnly};
 ghost use Rattle.lv_journal.specs.State.{IsAbove};
-ghost use Rattle.lv_maptables.specs.Tables.{body_len};
-ghost use Rattle.lv_commands.specs.Readiness as readiness;
+ghost use Rattle.lv_maptables.specs.Projects.{body_len, project_of};
+ghost use Rattle.lv_commands.specs.ProjectReadiness as readiness;
 ghost use Rattle.lv_project.specs.Refusals.{IsRefusalOf};
-ghost use Rattle.lv_commands.specs.Spelling.{spelling};
-ghost use Rattle.lv_commands.specs.Step.{after, number_of, step};
+ghost use Rattle.lv_commands.specs.ProjectCommands.{spelling};
+ghost use Rattle.lv_commands.specs.ProjectStep.{after, number_of, step};
 
 use crate::ProjectError;
 use crate::change::turn;
@@ -13,14 +13,15 @@ use crate::geometry::Geometry;
 use crate::opening::{read_project, write_new};
 use crate::places::Places;
 use lv_checkpoint::{CheckpointError, Image, Slots};
-use lv_commands::{CommandError, Ready, commit, parse, ready};
+use lv_commands::CommandError;
+use lv_commands::project::{Ready, commit, parse, ready};
 use lv_disk::Disk;
 use lv_journal::{Journal, JournalError};
-use lv_maptables::{Kind, Map};
+use lv_maptables::{Map, Maps};
 use std::alloc::Global;
 use std::marker::Model;
 
-/// A map on a disk. It owns the disk until `into_disk`.
+/// The maps of a project on a disk. It owns the disk until `into_disk`.
 #[derive(Drop)]
 pub struct Project<D: Disk> {
     alloc: Global,
@@ -29,7 +30,7 @@ pub struct Project<D: Disk> {
     places: Places,
     slots: Slots,
     journal: Journal,
-    map: Map,
+    maps: Maps,
     must_reopen: bool,
 }
 
@@ -65,22 +66,28 @@ fn refusal_of(error: CommandError) -> ProjectError
 impl<D: Disk> Project<D> {
     ghost use Rattle.lv_disk.specs.Stops.{Rose};
     ghost use Rattle.lv_disk.specs.Reading.{OnlyReads};
-    ghost use Rattle.lv_maptables.specs.Tables.{empty_tables, Tables};
+    ghost use Rattle.lv_maptables.specs.Projects.{empty_project, ProjectMaps, WellFormedProject};
     ghost use Rattle.lv_project.specs.Places.{cap_of};
     ghost use Rattle.lv_project.specs.Opening.{IsRefusedRead, RefusesCreate, StandsOnlyFor};
     ghost use Rattle.lv_project.specs.Stands.{IsOutcome, StandsFor};
-    ghost use Rattle.lv_commands.specs.LineSteps.{LeadsTo};
+    ghost use Rattle.lv_commands.specs.ProjectLines.{LeadsTo};
     ghost use Rattle.lv_checkpoint.specs.Handles.{body_in, generation_in};
-    ghost use Rattle.lv_maptables.specs.Body.{body};
-    ghost use Rattle.lv_maptables.specs.WellFormed.{WellFormed};
+    ghost use Rattle.lv_maptables.specs.ProjectBody.{project_body};
     ghost use Rattle.lv_project.specs.States.{IsKept};
     ghost use Rattle.lv_project.specs.Outcomes.{EndsApply, EndsCheckpoint, EndsRoom, IsFresh, TurnsWhereFull};
 
-    /// The map.
-    pub fn map(&self) -> &Map
-        ensures { result.now ≡ self.now.map }
+    /// The maps.
+    pub fn maps(&self) -> &Maps
+        ensures { result.now ≡ self.now.maps }
     {
-        &self.map
+        &self.maps
+    }
+
+    /// The current map.
+    pub fn map(&self) -> &Map
+        ensures { result.now.tables ≡ self.now.maps.tables }
+    {
+        self.maps.current()
     }
 
     /// The live generation.
@@ -108,7 +115,7 @@ impl<D: Disk> Project<D> {
 
     /// A project with the empty map on an empty disk. It takes no memory, and syncs once, last.
     pub fn create(alloc: Global, disk: D, geometry: Geometry) -> Result<Project<D>, Refused<D>>
-        ensures made { IfOk result (λ p. (p.map.tables ≡ empty_tables) × (p.generation ≡ 1)
+        ensures made { IfOk result (λ p. ((project_of p.maps) ≡ empty_project) × (p.generation ≡ 1)
             × (p.must_reopen ≡ false) × (p.cap ≡ cap_of geometry)) }
         ensures kept { IfOk result (λ p. IsKept D.may_leave p) }
         ensures refused { IfErr result (λ r. RefusesCreate (D.reads disk) geometry r.error) }
@@ -118,9 +125,7 @@ impl<D: Disk> Project<D> {
         ensures count { IfErr result (λ r. r.error ≡ ProjectError.Device → Rose (D.failures disk) (D.failures r.disk)) }
     {
         let mut disk = disk;
-        let map = Map::new(alloc);
-        // Every map is well-formed, which this call tells.
-        let _ = map.count(Kind::Vertex);
+        let maps = Maps::new(alloc);
         match write_new(&mut disk, geometry) {
             Ok((places, slots, journal)) => Ok(Project {
                 alloc,
@@ -129,7 +134,7 @@ impl<D: Disk> Project<D> {
                 places,
                 slots,
                 journal,
-                map,
+                maps,
                 must_reopen: false,
             }),
             Err(error) => Err(Refused { error, disk }),
@@ -140,7 +145,7 @@ impl<D: Disk> Project<D> {
     pub fn open(alloc: Global, disk: D) -> Result<Project<D>, Refused<D>>
         // The map and the generation are those that the bytes stand for, as the disk reads after its sync.
         ensures opened { IfOk result (λ p. (p.must_reopen ≡ false)
-            × Each (D.reads p.disk) (StandsOnlyFor p.cap p.map.tables p.generation)) }
+            × Each (D.reads p.disk) (StandsOnlyFor p.cap (project_of p.maps) p.generation)) }
         // Each image now stands for the map, and no stop within the call left a new image.
         ensures kept { IfOk result (λ p. IsKept D.may_leave p) }
         ensures any_moment { MatchResult result
@@ -162,7 +167,7 @@ impl<D: Disk> Project<D> {
                 places: opened.places,
                 slots: opened.slots,
                 journal: opened.journal,
-                map: opened.map,
+                maps: opened.maps,
                 must_reopen: false,
             }),
             Err(error) => Err(Refused { error, disk }),
@@ -186,13 +191,13 @@ impl<D: Disk> Project<D> {
         requires ready { self.old.must_reopen ≡ false }
         requires next { generation_in image.now ≡ self.old.generation + 1 }
         requires number { self.old.generation + 1 < 2 ^ 64 }
-        requires body { body_in image.now ≡ body self.old.map.tables }
-        requires well_formed { WellFormed self.old.map.tables }
+        requires body { body_in image.now ≡ project_body (project_of self.old.maps) }
+        requires well_formed { WellFormedProject (project_of self.old.maps) }
         ensures device { IfErr result (λ e. e ≡ ProjectError.Device) }
         ensures ends { EndsCheckpoint D.failures result self.old self.new }
-        ensures map { self.new.map ≡ self.old.map }
+        ensures maps { self.new.maps ≡ self.old.maps }
         ensures any_moment { LeavesOnly D.moment D.left_since self.old.disk self.new.disk
-            (StandsFor self.old.cap self.old.map.tables) }
+            (StandsFor self.old.cap (project_of self.old.maps)) }
         ensures room { OnOk result (IsFresh self.new.room) }
         ensures cap { self.new.cap ≡ self.old.cap }
         ensures later { D.failures self.old.disk ≤ D.failures self.new.disk }
@@ -219,12 +224,12 @@ impl<D: Disk> Project<D> {
         ensures spent { IsErrOf result ProjectError.GenerationsSpent
             ↔ (self.old.must_reopen ≡ false) × (self.old.generation ≡ 2 ^ 64 - 1) }
         ensures ends { EndsCheckpoint D.failures result self.old self.new }
-        ensures map { self.new.map ≡ self.old.map }
+        ensures maps { self.new.maps ≡ self.old.maps }
 
         // A stop at any moment of the call leaves the map.
         ensures any_moment { self.old.must_reopen ≡ false
             → LeavesOnly D.moment D.left_since self.old.disk self.new.disk
-            (StandsFor self.old.cap self.old.map.tables) }
+            (StandsFor self.old.cap (project_of self.old.maps)) }
         ensures room { OnOk result (IsFresh self.new.room) }
         ensures cap { self.new.cap ≡ self.old.cap }
         ensures later { D.failures self.old.disk ≤ D.failures self.new.disk }
@@ -236,9 +241,7 @@ impl<D: Disk> Project<D> {
         if self.slots.generation() == u64::MAX {
             return Err(ProjectError::GenerationsSpent);
         }
-        // Every map is well-formed, which this call tells.
-        let _ = self.map.count(Kind::Vertex);
-        let Ok(body) = self.map.encode_body(self.alloc) else {
+        let Ok(body) = self.maps.encode_body(self.alloc) else {
             return Err(ProjectError::OutOfMemory);
         };
         match self.slots.image(self.alloc, &body) {
@@ -258,9 +261,9 @@ impl<D: Disk> Project<D> {
         ensures untouched { IfErr result (λ e. (e ≡ ProjectError.Device) ⊎ (self.new ≡ self.old)) }
         ensures turned { OnOk result (TurnsWhereFull self.old self.new len) }
         ensures later { D.failures self.old.disk ≤ D.failures self.new.disk }
-        ensures map { self.new.map ≡ self.old.map }
+        ensures maps { self.new.maps ≡ self.old.maps }
         ensures any_moment { LeavesOnly D.moment D.left_since self.old.disk self.new.disk
-            (StandsFor self.old.cap self.old.map.tables) }
+            (StandsFor self.old.cap (project_of self.old.maps)) }
         ensures cap { self.new.cap ≡ self.old.cap }
         ensures kept { IsKept D.may_leave self.new }
     {
@@ -279,20 +282,20 @@ impl<D: Disk> Project<D> {
         requires short { length line.now ≤ 256 }
         requires room { ¬ IsAbove self.old.room (length line.now) }
         requires line { line.now ≡ spelling ready.command }
-        requires ready { readiness.CanCommit self.old.map ready.command }
-        requires accepted { step self.old.map.tables ready.command self.old.cap
-            ≡ Ok (after self.old.map.tables ready.command, number_of self.old.map.tables ready.command) }
+        requires ready { readiness.CanCommit self.old.maps ready.command }
+        requires accepted { step (project_of self.old.maps) ready.command self.old.cap
+            ≡ Ok (after (project_of self.old.maps) ready.command, number_of (project_of self.old.maps) ready.command) }
         ensures device { IfErr result (λ e. e ≡ ProjectError.Device) }
         ensures ends { EndsApply D.failures result self.old self.new line.now }
         ensures generation { OnOk result (self.new.generation ≡ self.old.generation) }
         ensures later { D.failures self.old.disk ≤ D.failures self.new.disk }
         ensures any_moment { LeavesOnly D.moment D.left_since self.old.disk self.new.disk
-            (IsOutcome self.old.cap self.old.map.tables line.now) }
+            (IsOutcome self.old.cap (project_of self.old.maps) line.now) }
         ensures cap { self.new.cap ≡ self.old.cap }
         ensures kept { IsKept D.may_leave self.new }
     {
         match self.journal.append(&mut self.disk, line) {
-            Ok(()) => Ok(commit(&mut self.map, ready)),
+            Ok(()) => Ok(commit(&mut self.maps, ready)),
             Err(JournalError::Device) => {
                 self.must_reopen = true;
                 Err(ProjectError::Device)
@@ -307,18 +310,18 @@ impl<D: Disk> Project<D> {
     pub fn apply(&mut self, line: &[u8]) -> Result<u32, ProjectError>
         // `GenerationsSpent`, or `OutOfMemory` before it, where an accepted line finds neither room nor a generation left.
         ensures spent { self.old.must_reopen ≡ false → IsAbove self.old.room (length line.now)
-            → self.old.generation ≡ 2 ^ 64 - 1 → (new : Tables) → LeadsTo self.old.cap self.old.map.tables line.now new
+            → self.old.generation ≡ 2 ^ 64 - 1 → (new : ProjectMaps) → LeadsTo self.old.cap (project_of self.old.maps) line.now new
             → IsErrOf result ProjectError.GenerationsSpent ⊎ IsErrOf result ProjectError.OutOfMemory }
         ensures ends { EndsApply D.failures result self.old self.new line.now }
 
         // A stop at any moment of the call leaves the map, or the one that the line leads to.
         ensures any_moment { self.old.must_reopen ≡ false → LeavesOnly D.moment D.left_since self.old.disk self.new.disk
-            (IsOutcome self.old.cap self.old.map.tables line.now) }
+            (IsOutcome self.old.cap (project_of self.old.maps) line.now) }
 
         // A refusal but `Device` leaves the map alone.
         ensures refused_moment { IfErr result (λ e. self.old.must_reopen ≡ false → (e ≡ ProjectError.Device)
             ⊎ LeavesOnly D.moment D.left_since self.old.disk self.new.disk
-            (StandsFor self.old.cap self.old.map.tables)) }
+            (StandsFor self.old.cap (project_of self.old.maps))) }
         ensures untouched { IfErr result (λ e. (e ≡ ProjectError.Device)
             ⊎ ((self.new.disk ≡ self.old.disk) × (self.new.generation ≡ self.old.generation))) }
 
@@ -336,7 +339,7 @@ impl<D: Disk> Project<D> {
             Ok(command) => command,
             Err(error) => return Err(refusal_of(error)),
         };
-        let ready = match ready(&mut self.map, &command, self.geometry.cap()) {
+        let ready = match ready(&mut self.maps, &command, self.geometry.cap()) {
             Ok(ready) => ready,
             Err(error) => return Err(refusal_of(error)),
         };

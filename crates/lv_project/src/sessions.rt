@@ -1,7 +1,7 @@
 //! The project's calls over any number of sessions, each begun by `create` or `open` and stopped at any moment.
 ghost use Rattle.std.specs.Prelude.{◌≡◌, ◌++◌, ◌∷◌, [], List, ℕ, Result, IfOk};
 ghost use Rattle.lv_disk.specs.Stops.{Each, LeavesOnly};
-ghost use Rattle.lv_maptables.specs.Tables.{empty_tables};
+ghost use Rattle.lv_maptables.specs.Projects.{empty_project, project_of};
 ghost use Rattle.lv_project.specs.Calls.{Applies, Checkpoints};
 ghost use Rattle.lv_project.specs.Places.{cap_of};
 ghost use Rattle.lv_project.specs.Sessions.{Creates, HoldsEach, KeepEach, Opens, PassInTurn, Session};
@@ -25,7 +25,7 @@ pub fn hold_each_acknowledged<D: Disk>()
         → PassInTurn D.moment D.failures D.left_since D.may_leave D.reads (Creates D.may_leave cap) before s mid last
         → Each (D.may_leave next) (D.left_since last.disk (D.moment mid.disk))
         → Opens D.moment D.left_since D.may_leave D.reads next first
-        → (first.cap ≡ cap) × KeepEach cap empty_tables (before ++ s ∷ []) first.map.tables }
+        → (first.cap ≡ cap) × KeepEach cap empty_project (before ++ s ∷ []) (project_of first.maps) }
 {}
 
 /// `Project::apply`, whose promises are those that the law asks of a call.

@@ -1,6 +1,6 @@
 -- The levels of a project's maps can stand in one WAD.
 use Rattle.std.proofs.Common.{◌≡◌, ◌≢◌, ◌∙◌, refl, sym, ap, subst, ℕ, zero, suc, ◌+◌, ◌*◌, ◌<◌, ◌≤◌, ◌⊎◌, inl, inr, List, [], ◌∷◌, ◌++◌, length, get_or, take, arith, length-append}
-use Rattle.std.specs.Prelude.{All, AllPairs, Option, None, Some, MatchOption, slice_get}
+use Rattle.std.specs.Prelude.{◌↔◌, All, AllPairs, Option, None, Some, MatchOption, Result, Err, slice_get}
 use Rattle.std.proofs.lemmas.List.Elements.{All-head, All-tail, All-nil, All-cons}
 use Rattle.std.proofs.lemmas.Grind.{flat_map-append}
 use Rattle.lv_lumps.specs.Names.{name_of, name_text, is_marker, IsNamed}
@@ -35,6 +35,30 @@ snoc (k ∷ ms) (y ∷ xs) m x a h = (a.0, snoc ms xs m x a.1 h)
 pub levels_more : (ms : List Tables) (n : ℕ) (m : Tables) (xs : List NamedLevel) (x : NamedLevel) → slice_get ms n ≡ Some m → AreLevelsOf (take n ms) xs → IsLevelOf m x → AreLevelsOf (take (n + 1) ms) (xs ++ x ∷ [])
 levels_more ms n m xs x at a h =
     subst (λ (ks : List Tables). AreLevelsOf ks (xs ++ x ∷ [])) (item_more ms (take n ms) n m at refl) (snoc (take n ms) xs m x a h)
+
+-- ---- a first map without a line
+
+abbrev refusal_in : (X : Type 0) → BuildError → Result X BuildError
+refusal_in X e = Err e
+
+-- the error of one call is that of another
+pub err_too : {X Y : Type 0} (a b : BuildError) → refusal_in X a ≡ refusal_in X b → refusal_in Y a ≡ refusal_in Y b
+err_too {X} {Y} a b same = let is : a ≡ b = cc in ap (refusal_in Y) is
+
+pub same_refusal : {X Y : Type 0} {P : Type 0} (a b : BuildError) → (refusal_in X a ≡ refusal_in X b ↔ P) → (refusal_in Y a ≡ refusal_in Y b ↔ P)
+same_refusal {X} {Y} {P} a b h = (λ q. h.0 (err_too {Y} {X} a b q), λ z. err_too {X} {Y} a b (h.1 z))
+
+-- where the first map has no line, no level has been made yet
+abbrev pub NoneYet : List Tables → ℕ → Type 0
+NoneYet ms n = (m : Tables) → slice_get ms 0 ≡ Some m → length m.lines ≡ 0 → n ≡ 0
+
+-- then the map whose level is to be made is that one
+pub first_is : (ms : List Tables) (n : ℕ) (k m : Tables) → NoneYet ms n → slice_get ms n ≡ Some k → slice_get ms 0 ≡ Some m → length m.lines ≡ 0 → length k.lines ≡ 0
+first_is ms n k m none here first empty =
+    let zero_is : n ≡ 0 = none m first empty in
+    let at : slice_get ms 0 ≡ Some k = subst (λ (i : ℕ). slice_get ms i ≡ Some k) zero_is here in
+    let same : m ≡ k = cc in
+    subst (λ (t : Tables). length t.lines ≡ 0) same empty
 
 -- ---- what the levels tell of the maps
 

@@ -1,5 +1,6 @@
-ghost use Rattle.std.specs.Prelude.{All, IfOk, IfErr, OnOk};
+ghost use Rattle.std.specs.Prelude.{◌≡◌, ◌↔◌, All, Err, Some, IfOk, IfErr, OnOk, length, slice_get};
 ghost use Rattle.lv_maptables.specs.Projects.{WellFormedProject, project_of};
+ghost use Rattle.lv_maptables.specs.Tables.{Tables};
 ghost use Rattle.lv_pwad.specs.Projects.{AreLevelsOf, IsLevelOf, IsRefusalOfAll, IsSoundBuildOfAll};
 ghost use Rattle.lv_pwad.specs.Sound.{IsBuildable, IsBuildRefusal};
 
@@ -13,6 +14,7 @@ use std::alloc::Global;
 fn named_level(alloc: Global, map: &Map) -> Result<NamedLevel, BuildError>
     ensures level { IfOk result (λ level. IsLevelOf map.now.tables level) }
     ensures refused { IfErr result (IsBuildRefusal map.now.tables) }
+    ensures nothing { result ≡ Err BuildError.NothingToBuild ↔ length map.now.tables.lines ≡ 0 }
 {
     let name = map.name();
     match level_of_map(alloc, map) {
@@ -26,6 +28,8 @@ fn levels_of(alloc: Global, maps: &Maps) -> Result<Vec<NamedLevel>, BuildError>
     ensures levels { IfOk result (λ v. AreLevelsOf (project_of maps.now).maps v.items) }
     ensures well_formed { OnOk result (WellFormedProject (project_of maps.now)) }
     ensures refused { IfErr result (IsRefusalOfAll (project_of maps.now).maps) }
+    ensures nothing { (m : Tables) → slice_get (project_of maps.now).maps 0 ≡ Some m → length m.lines ≡ 0
+        → result ≡ Err BuildError.NothingToBuild }
 {
     let mut levels = Vec::new(alloc);
     for n in 0..maps.len() {
@@ -49,6 +53,8 @@ pub fn build_all(alloc: Global, maps: &Maps) -> Result<Vec<u8>, BuildError>
     ensures sound { IfOk result (λ wad. IsSoundBuildOfAll (project_of maps.now).maps wad.items) }
     ensures buildable { OnOk result (All IsBuildable (project_of maps.now).maps) }
     ensures refused { IfErr result (IsRefusalOfAll (project_of maps.now).maps) }
+    ensures nothing { (m : Tables) → slice_get (project_of maps.now).maps 0 ≡ Some m → length m.lines ≡ 0
+        → result ≡ Err BuildError.NothingToBuild }
 {
     let levels = match levels_of(alloc, maps) {
         Ok(levels) => levels,

@@ -226,7 +226,7 @@ const MAPS: [(&str, &[u8], &[u8]); 10] = [
         no player start\n\
         findings 3\n\
         no 1\n\
-        no 1\n\
+        no 60\n\
         no 1\n",
     ),
 ];

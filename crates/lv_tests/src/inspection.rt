@@ -190,6 +190,53 @@ fn builds_and_inspects_a_room(rt: HostRuntime) -> Result<(), Fail> {
     Ok(())
 }
 
+/// A room is drawn in each of two maps, and both are built into one PWAD.
+const TWO_MAPS: [Call; 5] = [
+    (&["leveled", "create", "two.lv"], b"", 0, b"created\n", b""),
+    (
+        &["leveled", "edit", "two.lv"],
+        b"room 0 0 128 128 0 128 FLOOR4_8 CEIL3_5 STARTAN3 160\n\
+        map MAP02\n\
+        room 0 0 128 128 0 128 FLOOR4_8 CEIL3_5 STARTAN3 160\n",
+        0,
+        b"ok 0\nok 1\nok 0\n",
+        b"",
+    ),
+    (
+        &["leveled", "build", "two.lv", "two.wad"],
+        b"",
+        0,
+        b"built vertices 8 segs 8 subsectors 2 nodes 0 bytes 1018\n",
+        b"",
+    ),
+    (
+        &["leveled", "inspect", "two.wad", "MAP01"],
+        b"",
+        0,
+        ROOM_TEXT,
+        b"",
+    ),
+    (
+        &["leveled", "inspect", "two.wad", "MAP02"],
+        b"",
+        0,
+        ROOM_TEXT,
+        b"",
+    ),
+];
+
+#[test]
+fn builds_and_inspects_two_maps(rt: HostRuntime) -> Result<(), Fail> {
+    let _ = fs::remove_file(&rt, "two.lv");
+    for (words, input, status, written, said) in TWO_MAPS {
+        let (ended, out, faults) = performed(&rt, words, input)?;
+        assert_eq!(rt; ended, status, "{written:?} {said:?}");
+        assert_eq!(rt; out.as_slice(), written);
+        assert_eq!(rt; faults.as_slice(), said);
+    }
+    Ok(())
+}
+
 /// A refused build leaves what stood in the file, and a shorter one cuts it off.
 #[test]
 fn builds_over_a_file(rt: HostRuntime) -> Result<(), Fail> {

@@ -6,6 +6,8 @@ mod answers;
 #[cfg(test)]
 mod bodies;
 #[cfg(test)]
+mod builds;
+#[cfg(test)]
 mod checkpoint;
 #[cfg(test)]
 mod checks;

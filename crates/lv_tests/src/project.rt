@@ -72,14 +72,14 @@ pub fn bytes_from<D: Disk>(
     Ok(bytes)
 }
 
-/// How many vertices the project's map has.
+/// How many vertices the project's current map has.
 pub fn vertices<D: Disk>(project: &Project<D>) -> u32 {
     project.map().count(Kind::Vertex)
 }
 
 /// What a new file has but zeros: the header, and slot A with its gate, the generation 1, the length 20 and the body.
 const NEW_FILE: &[u8] = b"LVPJ\x01\0\0\0\x40\0\0\0\0\x02\0\0\
-\xa5\x01\0\0\0\0\0\0\0\x14\0\0\0\x01\0MAP01\0\0\0\0\0\0\0\0\0\0\0\0\0";
+\xa5\x01\0\0\0\0\0\0\0\x14\0\0\0\x02\0MAP01\0\0\0\0\0\0\0\0\0\0\0\0\0";
 
 #[test]
 fn makes_an_empty_project(rt: HostRuntime) -> Result<(), Fail> {
@@ -225,6 +225,7 @@ fn tells_where_a_file_is_damaged(rt: HostRuntime) -> Result<(), Fail> {
         (8, b"\x20", ProjectError::BadGeometry),
         (25, b"\x34", AT_SLOT_A),
         (29, b"\x03", AT_SLOT_A),
+        (30, b"\x01", AT_SLOT_A),
         (31, b"\x6d", AT_SLOT_A),
         (145, b"\xff", AT_JOURNAL_A),
         (145, b"\x01\x01", AT_JOURNAL_A),
@@ -287,6 +288,45 @@ fn makes_room_by_a_checkpoint(rt: HostRuntime) -> Result<(), Fail> {
         bytes_from(rt.alloc(), &mut disk, 656, 16)?.as_slice(),
         b"\xa5\x0a\0\0\0name MAP01\0".as_slice()
     );
+    Ok(())
+}
+
+#[test]
+fn holds_two_maps(rt: HostRuntime) -> Result<(), Fail> {
+    let mut project = created(rt.alloc(), empty_disk(rt.alloc())?, SMALL)?;
+    let full = Err(ProjectError::Refused(CommandError::ProjectFull));
+    for (line, answer) in [
+        (b"map MAP02".as_slice(), Ok(1)),
+        (b"map MAP03", full),
+        (b"vertex 0 0", Ok(0)),
+        (b"vertex 1 0", Ok(1)),
+        (b"vertex 2 0", Ok(2)),
+        (b"vertex 3 0", full),
+    ] {
+        assert_eq!(rt; project.apply(line), answer, "{line:?}");
+    }
+    assert_eq!(rt; project.checkpoint(), Ok(2));
+    let project = opened(rt.alloc(), project.into_disk())?;
+    assert_eq!(rt; project.maps().len(), 2);
+    assert_eq!(rt; project.maps().current_number(), 1);
+    assert_eq!(rt; vertices(&project), 3);
+    Ok(())
+}
+
+/// A body of version 1 is one map. The next checkpoint writes version 2, as long as before.
+#[test]
+fn opens_a_file_of_one_map(rt: HostRuntime) -> Result<(), Fail> {
+    let mut disk = disk_after(rt.alloc(), &[b"vertex 0 0"])?;
+    disk.write_at(29, b"\x01")?;
+    let mut project = opened(rt.alloc(), disk)?;
+    assert_eq!(rt; (vertices(&project), project.generation()), (1, 1));
+    assert_eq!(rt; project.checkpoint(), Ok(2));
+    let mut disk = project.into_disk();
+    assert_eq!(rt;
+        bytes_from(rt.alloc(), &mut disk, 89, 6)?.as_slice(),
+        b"\x18\0\0\0\x02\0".as_slice()
+    );
+    assert_eq!(rt; vertices(&opened(rt.alloc(), disk)?), 1);
     Ok(())
 }
 

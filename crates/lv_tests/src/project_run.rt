@@ -36,11 +36,13 @@ fn failing(alloc: Global, call: u64) -> Result<Project<FaultDisk<MemoryDisk>>, F
     Ok(created(alloc, FaultDisk::new(empty_disk(alloc)?, call, 0), SMALL)?)
 }
 
-const LINES: [(&[u8], &[u8]); 5] = [
+const LINES: [(&[u8], &[u8]); 7] = [
     (b"vertex 0 0", b"no 30\n"),
     (b"vertex 1 0", b"no 32\n"),
     (b"count", b"no 32\n"),
     (b"hex VERTEXES", b"no 32\n"),
+    (b"maps", b"no 32\n"),
+    (b"build", b"no 32\n"),
     (b"no command", b"no 32\n"),
 ];
 
@@ -133,7 +135,7 @@ type Row = (
     &'static [u8],
 );
 
-const FILE_ROWS: [Row; 8] = [
+const FILE_ROWS: [Row; 10] = [
     ("edit", b"vertex 0 0\n", 1, b"", b"leveled: 30 Device\n"),
     ("check", b"", 1, b"", b"leveled: 30 Device\n"),
     ("create", b"", 0, b"created\n", b""),
@@ -152,6 +154,20 @@ const FILE_ROWS: [Row; 8] = [
         b"",
         3,
         b"vertex 0 unused\nvertex 1 unused\nno player start\nfindings 3\n",
+        b"",
+    ),
+    (
+        "edit",
+        b"map MAP02\nmaps\n",
+        0,
+        b"ok 1\n0 MAP01\n1 MAP02\ncurrent 1\n",
+        b"",
+    ),
+    (
+        "edit",
+        b"maps\nbuild\ndrop-map MAP01\nmaps\n",
+        0,
+        b"0 MAP01\n1 MAP02\ncurrent 1\nno 60\nok 0\n0 MAP02\ncurrent 0\n",
         b"",
     ),
 ];

@@ -71,6 +71,45 @@ fn opens_again_after_a_fault(rt: HostRuntime) -> Result<(), Fail> {
     Ok(())
 }
 
+/// How many maps there are before a line and after it, where one of the calls of its append fails. The lines before it make
+/// so many calls.
+fn expect_maps(
+    rt: &impl Abort,
+    alloc: Global,
+    before: &[&[u8]],
+    calls: u64,
+    line: &[u8],
+    old: u32,
+    new: u32,
+) -> Result<(), Fail> {
+    for (n, written) in [(0, old), (1, old), (2, old), (3, new), (4, new)] {
+        let (k, part) = FAULTS[n];
+        let mut project = failing(alloc, k.saturating_add(calls), part)?;
+        for earlier in before {
+            project.apply(earlier)?;
+        }
+        assert_eq!(rt;
+            project.apply(line),
+            Err(ProjectError::Device),
+            "{k} {part}"
+        );
+        assert_eq!(rt; project.maps().len(), old, "{k} {part}");
+        let disk = project.into_disk();
+        for (fill, want) in [(Fill::Stable, old), (Fill::Written, written)] {
+            let left = opened(alloc, disk.inner().stop(alloc, fill, true)?)?;
+            assert_eq!(rt; left.maps().len(), want, "{k} {part} {fill:?}");
+        }
+        assert_eq!(rt; opened(alloc, disk)?.maps().len(), written, "{k} {part}");
+    }
+    Ok(())
+}
+
+#[test]
+fn stops_within_a_line_about_maps(rt: HostRuntime) -> Result<(), Fail> {
+    expect_maps(&rt, rt.alloc(), &[], 0, b"map MAP02", 1, 2)?;
+    expect_maps(&rt, rt.alloc(), &[b"map MAP02"], 4, b"drop-map MAP01", 2, 1)
+}
+
 /// A project of one vertex, of which the k-th call fails. The first 12 are those of `create` and of an append.
 fn one_vertex(alloc: Global, k: u64, part: u32) -> Result<Failing, Fail> {
     let mut project = failing(alloc, k, part)?;
@@ -117,9 +156,9 @@ fn expect_bytes(rt: &impl Abort, alloc: Global, turns: u32, rows: &[Row<'_>]) ->
 #[test]
 fn fills_a_slot_and_then_opens_it(rt: HostRuntime) -> Result<(), Fail> {
     let staged = b"\0\x02\0\0\0\0\0\0\0\x18\0\0\0\
-\x01\0MAP01\0\0\0\0\0\0\0\0\0\x01\0\0\0\0\0\0\0";
+\x02\0MAP01\0\0\0\0\0\0\0\0\0\x01\0\0\0\0\0\0\0";
     let open = b"\xa5\x02\0\0\0\0\0\0\0\x18\0\0\0\
-\x01\0MAP01\0\0\0\0\0\0\0\0\0\x01\0\0\0\0\0\0\0";
+\x02\0MAP01\0\0\0\0\0\0\0\0\0\x01\0\0\0\0\0\0\0";
     expect_bytes(
         &rt,
         rt.alloc(),
@@ -141,9 +180,9 @@ fn fills_a_slot_and_then_opens_it(rt: HostRuntime) -> Result<(), Fail> {
 #[test]
 fn closes_an_open_slot_before_it_is_filled(rt: HostRuntime) -> Result<(), Fail> {
     let staged = b"\0\x03\0\0\0\0\0\0\0\x18\0\0\0\
-\x01\0MAP01\0\0\0\0\0\0\0\0\0\x01\0\0\0\0\0\0\0";
+\x02\0MAP01\0\0\0\0\0\0\0\0\0\x01\0\0\0\0\0\0\0";
     let open = b"\xa5\x03\0\0\0\0\0\0\0\x18\0\0\0\
-\x01\0MAP01\0\0\0\0\0\0\0\0\0\x01\0\0\0\0\0\0\0";
+\x02\0MAP01\0\0\0\0\0\0\0\0\0\x01\0\0\0\0\0\0\0";
     expect_bytes(
         &rt,
         rt.alloc(),

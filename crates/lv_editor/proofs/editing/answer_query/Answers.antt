@@ -1,7 +1,7 @@
 use Rattle.std.proofs.Common.{◌≡◌, ◌∙◌, ap, inl, inr, refl, sym}
 use Rattle.lv_editor.specs.Texts.{refused_text}
 use Rattle.lv_editor.specs.declared.error.EditorError.TheVariants.{WriterFailed}
-use Rattle.lv_editor.proofs.Answering.{some_answer}
+use Rattle.lv_editor.proofs.EditingLines.{query_told, query_untold}
 use Rattle.lv_editor.proofs.Going.{Appends-kept}
 use Rattle.lv_editor.proofs.editing.answer_query.Goals as goal
 
@@ -12,17 +12,26 @@ returns-then-must_reopen g c = (
   c.write_outcome.ensures,
 )
 
+pub returns-in-Ok : goal.returns-in-Ok
+returns-in-Ok g c = (
+  c.in-Ok.ensures.0,
+  query_told c.args.project.now c.maps.result.now c.args.query c.in-Ok.ensures.0 c.maps.ensures
+      (sym c.must_reopen.ensures.reopen ∙ c.if-must_reopen.false) c.in-Ok.ensures.1,
+  c.in-Ok.ensures.2,
+)
+
 pub returns-in-Err-OutOfMemory : goal.returns-in-Err-OutOfMemory
 returns-in-Err-OutOfMemory g c =
     let text = refused_text c.code-in-Err-OutOfMemory.result in
     let kept = rw c.in-Err-OutOfMemory.field-0-is at c.in-Err-OutOfMemory.ensures in (
       text,
-      inr ((sym c.must_reopen.ensures.reopen ∙ c.if-must_reopen.false, kept.1 refl), ap refused_text c.code-in-Err-OutOfMemory.ensures),
+      inr ((sym c.must_reopen.ensures.reopen ∙ c.if-must_reopen.false, kept.lacks refl), ap refused_text c.code-in-Err-OutOfMemory.ensures),
       Appends-kept c.write_outcome-in-Err-OutOfMemory.result (λ e. e ≡ WriterFailed) (g.W.Write.contents c.args.writer.now)
-          (g.W.Write.contents c.write_answer.new.writer) _ text kept.0 c.write_outcome-in-Err-OutOfMemory.ensures,
+          (g.W.Write.contents c.write_answer.new.writer) _ text kept.unwritten c.write_outcome-in-Err-OutOfMemory.ensures,
     )
 
 pub returns-in-Err : goal.returns-in-Err
 returns-in-Err g c =
-    let answer = some_answer c.args.project.now.map.tables c.args.query in
-    (answer.0, inl (inr (sym c.must_reopen.ensures.reopen ∙ c.if-must_reopen.false, answer.1)), refl)
+    let reply = query_untold c.args.project.now c.maps.result.now c.args.query _ (g.W.Write.contents c.args.writer.now)
+    (g.W.Write.contents c.write_answer.new.writer) c.maps.ensures (sym c.must_reopen.ensures.reopen ∙ c.if-must_reopen.false) c.in-Err.ensures in
+    (reply.0, reply.1, refl)

@@ -1,5 +1,6 @@
 use Rattle.std.proofs.Common.{◌∙◌, ◌≤◌, ℕ, List, Err, ap, sym, subst}
-use Rattle.lv_maptables.specs.Body.{IsMapOf, RefusesBody}
+use Rattle.lv_maptables.specs.Projects.{project_of}
+use Rattle.lv_maptables.specs.ProjectBody.{IsProjectOf, RefusesProject}
 use Rattle.lv_project.specs.Places.{parts_of}
 use Rattle.lv_project.specs.declared.places.Parts.{Parts}
 use Rattle.lv_project.proofs.Openings.{slots_refused, body_refused, holds, map_fits}
@@ -12,14 +13,14 @@ returns-in-Err-clause-refused g c =
 pub returns-in-Ok-decode_body-clause-holds : goal.returns-in-Ok-decode_body-clause-holds
 returns-in-Ok-decode_body-clause-holds g c =
     let r = c.in-Ok.live in
-    holds (g.D.Disk.reads c.args.disk.now) c.args.geometry c.args.places r.0 r.1.body.items c.in-Ok-decode_body.map.tables c.requires.allowed c.requires.laid_out c.in-Ok.ensures.areas.0 c.in-Ok.ensures.areas.1
-    c.in-Ok.ensures.sound (subst (λ (x : List ℕ). IsMapOf x c.in-Ok-decode_body.map.tables) c.deref.ensures.value c.in-Ok-decode_body.ensures.map)
+    holds (g.D.Disk.reads c.args.disk.now) c.args.geometry c.args.places r.0 r.1.body.items (project_of c.in-Ok-decode_body.maps) c.requires.allowed c.requires.laid_out c.in-Ok.ensures.areas.0 c.in-Ok.ensures.areas.1
+    c.in-Ok.ensures.sound (subst (λ (x : List ℕ). IsProjectOf x (project_of c.in-Ok-decode_body.maps)) c.deref.ensures.value c.in-Ok-decode_body.ensures.project)
 
 pub returns-in-Ok-decode_body-clause-fits : goal.returns-in-Ok-decode_body-clause-fits
 returns-in-Ok-decode_body-clause-fits g c =
     let r = c.in-Ok.live in
-    map_fits c.args.geometry c.args.places r.0 r.1.body.items c.in-Ok-decode_body.map.tables c.requires.laid_out c.in-Ok.ensures.areas.0 c.in-Ok.ensures.areas.1
-    c.in-Ok.ensures.fits (subst (λ (x : List ℕ). IsMapOf x c.in-Ok-decode_body.map.tables) c.deref.ensures.value c.in-Ok-decode_body.ensures.map)
+    map_fits c.args.geometry c.args.places r.0 r.1.body.items (project_of c.in-Ok-decode_body.maps) c.requires.laid_out c.in-Ok.ensures.areas.0 c.in-Ok.ensures.areas.1
+    c.in-Ok.ensures.fits (subst (λ (x : List ℕ). IsProjectOf x (project_of c.in-Ok-decode_body.maps)) c.deref.ensures.value c.in-Ok-decode_body.ensures.project)
 
 pub returns-clause-refused : goal.returns-clause-refused
 returns-clause-refused g c =
@@ -27,4 +28,4 @@ returns-clause-refused g c =
     body_refused (g.D.Disk.reads c.args.disk.now) c.args.geometry c.args.places r.0 r.1.body.items c.requires.allowed c.requires.laid_out c.in-Ok.ensures.areas.0 c.in-Ok.ensures.areas.1
     (subst (λ (n : ℕ). n ≤ 1) (sym c.in-Ok.ensures.tells.0) c.in-Ok.ensures.which) c.in-Ok.ensures.sound c.parts.result.live.base
     (ap (λ (q : Parts). q.live.base) (c.parts.ensures ∙ ap (parts_of c.args.places) (sym c.in-Ok.ensures.tells.0)))
-    c.in-Err-decode_body.error c.refusal_of_body.result c.refusal_of_body.ensures (subst (λ (x : List ℕ). RefusesBody x c.in-Err-decode_body.error) c.deref.ensures.value c.in-Err-decode_body.ensures.refused)
+    c.in-Err-decode_body.error c.refusal_of_body.result c.refusal_of_body.ensures (subst (λ (x : List ℕ). RefusesProject x c.in-Err-decode_body.error) c.deref.ensures.value c.in-Err-decode_body.ensures.refused)

@@ -1,4 +1,5 @@
 use Rattle.std.proofs.Common.{◌≡◌, ◌∙◌, ℕ, ap, subst}
+use Rattle.lv_maptables.specs.Projects.{project_of}
 use Rattle.lv_checkpoint.specs.Handles.{generation_of, slot_of}
 use Rattle.lv_project.specs.Opening.{RefusesLines}
 use Rattle.lv_project.specs.Places.{cap_of, parts_of}
@@ -25,9 +26,9 @@ returns-in-Err-read_lines-clause-refused g c =
     let error = c.in-Err-read_lines.error in
     let parts : c.parts-parts.result ≡ parts_of places (slot_of r.0) = c.parts-parts.ensures ∙ ap (parts_of places) c.slot.ensures in
     of_lines reads geometry places (λ file read. record { allowed = c.in-Ok.ensures.allowed; header = c.in-Ok.ensures.header file read; laid_out = c.places-places.ensures.laid_out })
-    (slot_of r.0) (generation_of r.0) r.1.tables c.in-Ok-read_slots.ensures.areas.2 (λ file read. c.in-Ok-read_slots.ensures.holds file (c.in-Ok.ensures.reads.still file read))
+    (slot_of r.0) (generation_of r.0) (project_of r.1) c.in-Ok-read_slots.ensures.areas.2 (λ file read. c.in-Ok-read_slots.ensures.holds file (c.in-Ok.ensures.reads.still file read))
     error
-    (lines_later reads (cap_of geometry) (parts_of places (slot_of r.0)) r.1.tables later
+    (lines_later reads (cap_of geometry) (parts_of places (slot_of r.0)) (project_of r.1) later
     (λ file read. c.in-Ok-read_slots.ensures.reads.still file (c.in-Ok.ensures.reads.still file read)) error
-    (subst (λ (q : Parts). RefusesLines later (cap_of geometry) q r.1.tables error) parts
-    (subst (λ (n : ℕ). RefusesLines later n c.parts-parts.result r.1.tables error) c.cap.ensures c.in-Err-read_lines.ensures.refused)))
+    (subst (λ (q : Parts). RefusesLines later (cap_of geometry) q (project_of r.1) error) parts
+    (subst (λ (n : ℕ). RefusesLines later n c.parts-parts.result (project_of r.1) error) c.cap.ensures c.in-Err-read_lines.ensures.refused)))

@@ -7,7 +7,8 @@ use Rattle.lv_pwad.specs.declared.levels.NamedLevel.{NamedLevel}
 use Rattle.lv_pwad.specs.Levels.{IsLevel}
 use Rattle.lv_pwad.specs.Views.{view, parts_of}
 use Rattle.lv_pwad.specs.Wad.{AreParts}
-use Rattle.lv_pwad.proofs.ProjectLemmas.{one_wad, all_sound, all_buildable}
+use Rattle.lv_pwad.specs.declared.error.BuildError.TheVariants as build
+use Rattle.lv_pwad.proofs.ProjectLemmas.{err_too, one_wad, all_sound, all_buildable}
 use Rattle.lv_pwad.proofs.projects.build_all.Goals as goal
 
 pub wad_of_levels-requires : goal.wad_of_levels-requires
@@ -22,3 +23,16 @@ returns-in-Ok-wad_of_levels-clause-sound c =
 pub returns-in-Ok-wad_of_levels-clause-buildable : goal.returns-in-Ok-wad_of_levels-clause-buildable
 returns-in-Ok-wad_of_levels-clause-buildable c =
     all_buildable (project_of c.args.maps.now).maps c.in-Ok.levels.items c.in-Ok.ensures.levels
+
+pub returns-in-Err-clause-nothing : goal.returns-in-Err-clause-nothing
+returns-in-Err-clause-nothing c = λ m at empty. err_too c.in-Err.error build.NothingToBuild (c.in-Err.ensures.nothing m at empty)
+
+pub returns-in-Ok-wad_of_levels-clause-nothing : goal.returns-in-Ok-wad_of_levels-clause-nothing
+returns-in-Ok-wad_of_levels-clause-nothing c = λ m at empty.
+    let e = c.in-Ok.ensures.nothing m at empty in
+    cc
+
+pub returns-in-Err-wad_of_levels-clause-nothing : goal.returns-in-Err-wad_of_levels-clause-nothing
+returns-in-Err-wad_of_levels-clause-nothing c = λ m at empty.
+    let e = c.in-Ok.ensures.nothing m at empty in
+    cc

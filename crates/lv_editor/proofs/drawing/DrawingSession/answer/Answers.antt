@@ -2,7 +2,7 @@ use Rattle.std.proofs.Common.{◌≡◌, refl, subst, List, ℕ}
 use Rattle.lv_editor.specs.Answers.{RepliesInMemory}
 use Rattle.lv_editor.specs.Texts.{outcome_text, refused_text}
 use Rattle.lv_editor.specs.declared.error.EditorError.TheVariants.{WriterFailed}
-use Rattle.lv_editor.proofs.Answering.{replies-command, replies-lack, replies-query, some_answer}
+use Rattle.lv_editor.proofs.Answering.{replies-command, replies-lack, replies-query, some_reply}
 use Rattle.lv_editor.proofs.Going.{Appends-kept}
 use Rattle.lv_editor.proofs.LongLines.{long_line}
 use Rattle.lv_editor.proofs.drawing.DrawingSession.answer.Goals as goal
@@ -27,16 +27,16 @@ returns-in-Err-OutOfMemory g c = λ whole is.
     let m = c.args.self.now in
     let text = refused_text c.code.result in
     let kept = rw c.in-Err-OutOfMemory.field-0-is at c.in-Err-OutOfMemory.ensures in
-    let told = replies-lack 2007002 m c.args.line.now c.in-Some.query c.code.result c.in-Some.ensures (kept.1 refl) c.code.ensures in (
+    let told = replies-lack 2007002 m c.args.line.now c.in-Some.query c.code.result c.in-Some.ensures (kept.lacks refl) c.code.ensures in (
       text,
       long_line 2007002 m m whole text (subst (λ (l : List ℕ). RepliesInMemory 2007002 m l text m) is told),
       Appends-kept c.write_outcome-in-Err-OutOfMemory.result (λ e. e ≡ WriterFailed) (g.W.Write.contents c.args.writer.now)
-          (g.W.Write.contents c.answer_query.new.writer) _ text kept.0 c.write_outcome-in-Err-OutOfMemory.ensures,
+          (g.W.Write.contents c.answer_query.new.writer) _ text kept.unwritten c.write_outcome-in-Err-OutOfMemory.ensures,
     )
 
 pub returns-in-Err : goal.returns-in-Err
 returns-in-Err g c = λ whole is.
     let m = c.args.self.now in
-    let answer = some_answer m c.in-Some.query in
-    let told = replies-query 2007002 m c.args.line.now answer.0 c.in-Some.query c.in-Some.ensures answer.1 in
-    (answer.0, long_line 2007002 m m whole answer.0 (subst (λ (l : List ℕ). RepliesInMemory 2007002 m l answer.0 m) is told), refl)
+    let reply = some_reply 2007002 m c.args.line.now c.in-Some.query _ (g.W.Write.contents c.args.writer.now)
+    (g.W.Write.contents c.answer_query.new.writer) c.in-Some.ensures c.in-Err.ensures in
+    (reply.0, long_line 2007002 m m whole reply.0 (subst (λ (l : List ℕ). RepliesInMemory 2007002 m l reply.0 m) is reply.1), refl)

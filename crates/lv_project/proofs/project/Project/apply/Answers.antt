@@ -1,9 +1,9 @@
 use Rattle.std.proofs.Common.{◌≡◌, ◌∙◌, ℕ, false, inl, inr, length, Ok, Err, OnOk, ap, sym, subst, refl}
 use Rattle.lv_disk.specs.Stops.{LeavesOnly}
-use Rattle.lv_maptables.specs.Tables.{Tables}
-use Rattle.lv_commands.specs.Readiness as readiness
-use Rattle.lv_commands.specs.LineSteps.{Accepts, LeadsTo}
-use Rattle.lv_commands.specs.Step.{after, number_of, step}
+use Rattle.lv_maptables.specs.Projects.{ProjectMaps, project_of}
+use Rattle.lv_commands.specs.ProjectReadiness as readiness
+use Rattle.lv_commands.specs.ProjectLines.{Accepts, LeadsTo}
+use Rattle.lv_commands.specs.ProjectStep.{after, number_of, step}
 use Rattle.lv_project.specs.Fields.{state_of}
 use Rattle.lv_project.specs.Outcomes.{EndsApply, TurnsWhereFull}
 use Rattle.lv_project.specs.Places.{cap_of}
@@ -24,38 +24,38 @@ returns-in-Err-clause-kept g c = kept_view g.D.Disk.may_leave c.self.inside c.se
 
 pub returns-in-Err-ready-clause-kept : goal.returns-in-Err-ready-clause-kept
 returns-in-Err-ready-clause-kept g c go file left =
-    subst (λ (t : Tables). Stands (cap_of c.self.inside.geometry) t c.self.inside.slots.generation file) (sym c.ready.ensures.tables)
+    subst (λ (t : ProjectMaps). Stands (cap_of c.self.inside.geometry) t c.self.inside.slots.generation file) (sym c.ready.ensures.project)
     (is_kept g.D.Disk.may_leave c.self.inside c.self.invariant.framed c.self.invariant.ready go file left)
 
 pub returns-in-Err-ready-clause-any_moment : goal.returns-in-Err-ready-clause-any_moment
 returns-in-Err-ready-clause-any_moment g c =
-    subst (λ (v : _). v.must_reopen ≡ false → LeavesOnly g.D.Disk.moment g.D.Disk.left_since v.disk c.self.inside.disk (IsOutcome v.cap v.map.tables c.args.line.now)) c.self.view_is
+    subst (λ (v : _). v.must_reopen ≡ false → LeavesOnly g.D.Disk.moment g.D.Disk.left_since v.disk c.self.inside.disk (IsOutcome v.cap (project_of v.maps) c.args.line.now)) c.self.view_is
     (no_outcome g.D.Disk.may_leave c.self.inside c.self.invariant.framed g.D.Disk.moment g.D.Disk.left_since (state_of c.self.inside) c.args.line.now refl c.self.invariant.ready (λ file left. g.met.D.Disk.only_now c.self.inside.disk file left))
 
 pub returns-in-Err-make_room-clause-any_moment : goal.returns-in-Err-make_room-clause-any_moment
 returns-in-Err-make_room-clause-any_moment g c =
-    subst (λ (v : _). v.must_reopen ≡ false → LeavesOnly g.D.Disk.moment g.D.Disk.left_since v.disk c.make_room.new.self.disk (IsOutcome v.cap v.map.tables c.args.line.now)) c.self.view_is
-    (λ go. room_moments g.D.Disk.moment g.D.Disk.left_since (cap_of c.self.inside.geometry) c.self.inside.map.tables c.ready.new.map.tables c.args.line.now c.self.inside.disk c.make_room.new.self.disk c.ready.ensures.tables c.make_room.ensures.any_moment)
+    subst (λ (v : _). v.must_reopen ≡ false → LeavesOnly g.D.Disk.moment g.D.Disk.left_since v.disk c.make_room.new.self.disk (IsOutcome v.cap (project_of v.maps) c.args.line.now)) c.self.view_is
+    (λ go. room_moments g.D.Disk.moment g.D.Disk.left_since (cap_of c.self.inside.geometry) (project_of c.self.inside.maps) (project_of c.ready.new.maps) c.args.line.now c.self.inside.disk c.make_room.new.self.disk c.ready.ensures.project c.make_room.ensures.any_moment)
 
 pub returns-clause-any_moment : goal.returns-clause-any_moment
 returns-clause-any_moment g c =
-    subst (λ (v : _). v.must_reopen ≡ false → LeavesOnly g.D.Disk.moment g.D.Disk.left_since v.disk c.record.new.self.disk (IsOutcome v.cap v.map.tables c.args.line.now)) c.self.view_is
-    (λ go. both_moments g.D.Disk.moment g.D.Disk.left_since (cap_of c.self.inside.geometry) c.self.inside.map.tables c.make_room.new.self.map.tables c.make_room.new.self.cap c.args.line.now
-    c.self.inside.disk c.make_room.new.self.disk c.record.new.self.disk (ap (λ (m : _). m.tables) c.make_room.ensures.map ∙ c.ready.ensures.tables) c.make_room.ensures.cap
-    (subst (λ (t : Tables). LeavesOnly g.D.Disk.moment g.D.Disk.left_since c.self.inside.disk c.make_room.new.self.disk (StandsFor (cap_of c.self.inside.geometry) t)) c.ready.ensures.tables c.make_room.ensures.any_moment) c.record.ensures.any_moment)
+    subst (λ (v : _). v.must_reopen ≡ false → LeavesOnly g.D.Disk.moment g.D.Disk.left_since v.disk c.record.new.self.disk (IsOutcome v.cap (project_of v.maps) c.args.line.now)) c.self.view_is
+    (λ go. both_moments g.D.Disk.moment g.D.Disk.left_since (cap_of c.self.inside.geometry) (project_of c.self.inside.maps) (project_of c.make_room.new.self.maps) c.make_room.new.self.cap c.args.line.now
+    c.self.inside.disk c.make_room.new.self.disk c.record.new.self.disk (ap project_of c.make_room.ensures.maps ∙ c.ready.ensures.project) c.make_room.ensures.cap
+    (subst (λ (t : ProjectMaps). LeavesOnly g.D.Disk.moment g.D.Disk.left_since c.self.inside.disk c.make_room.new.self.disk (StandsFor (cap_of c.self.inside.geometry) t)) c.ready.ensures.project c.make_room.ensures.any_moment) c.record.ensures.any_moment)
 
 pub returns-clause-ends : goal.returns-clause-ends
 returns-clause-ends g c =
     subst (λ (v : _). v.must_reopen ≡ false → EndsApply g.D.Disk.failures c.record.result v c.record.new.self c.args.line.now) c.self.view_is
-    (λ go. ends_from g.D.Disk.failures (state_of c.self.inside) c.make_room.new.self c.record.new.self c.args.line.now (ap (λ (m : _). m.tables) c.make_room.ensures.map ∙ c.ready.ensures.tables) c.make_room.ensures.cap
+    (λ go. ends_from g.D.Disk.failures (state_of c.self.inside) c.make_room.new.self c.record.new.self c.args.line.now (ap project_of c.make_room.ensures.maps ∙ c.ready.ensures.project) c.make_room.ensures.cap
     go c.in-Ok-make_room.ensures.ends.0 c.make_room.ensures.later c.record.ensures.later c.in-Ok-make_room.ensures.ends.1 c.record.result c.record.ensures.ends)
     (sym (ap (λ (v : _). v.must_reopen) c.self.view_is) ∙ c.if-self.false)
 
 pub returns-in-Err-ready-clause-ends : goal.returns-in-Err-ready-clause-ends
 returns-in-Err-ready-clause-ends g c =
-    let by = subst (λ (v : _). readiness.RefusesStep c.in-Err-ready.error (step v.map.tables c.in-Ok.command v.cap)) c.self.view_is
-    (subst (λ (k : ℕ). readiness.RefusesStep c.in-Err-ready.error (step c.self.inside.map.tables c.in-Ok.command k)) c.cap.ensures c.in-Err-ready.ensures.refused) in (
-      c.ready.ensures.tables ∙ ap (λ (v : _). v.map.tables) c.self.view_is,
+    let by = subst (λ (v : _). readiness.RefusesStep c.in-Err-ready.error (step (project_of v.maps) c.in-Ok.command v.cap)) c.self.view_is
+    (subst (λ (k : ℕ). readiness.RefusesStep c.in-Err-ready.error (step (project_of c.self.inside.maps) c.in-Ok.command k)) c.cap.ensures c.in-Err-ready.ensures.refused) in (
+      c.ready.ensures.project ∙ ap (λ (v : _). (project_of v.maps)) c.self.view_is,
       refused_ends g.D.Disk.failures c.args.self.now _ c.args.line.now c.in-Ok.command c.in-Err-ready.error c.refusal_of-in-Err-ready.result c.refusal_of-in-Err-ready.ensures by
           c.in-Ok.ensures.ok.1 c.in-Ok.ensures.ok.0 c.in-Ok.ensures.fault (sym (ap (λ (v : _). v.must_reopen) c.self.view_is) ∙ c.if-self.false) c.if-self.false,
     )
@@ -66,9 +66,9 @@ returns-in-Err-clause-spent g c go above last new leads =
 
 pub returns-in-Err-ready-clause-spent : goal.returns-in-Err-ready-clause-spent
 returns-in-Err-ready-clause-spent g c go above last new leads =
-    let by = subst (λ (v : _). readiness.RefusesStep c.in-Err-ready.error (step v.map.tables c.in-Ok.command v.cap)) c.self.view_is
-    (subst (λ (k : ℕ). readiness.RefusesStep c.in-Err-ready.error (step c.self.inside.map.tables c.in-Ok.command k)) c.cap.ensures c.in-Err-ready.ensures.refused) in
-    not_refused c.args.self.now.map.tables c.args.self.now.cap c.args.line.now c.in-Ok.command c.in-Err-ready.error c.refusal_of-in-Err-ready.result c.refusal_of-in-Err-ready.ensures by
+    let by = subst (λ (v : _). readiness.RefusesStep c.in-Err-ready.error (step (project_of v.maps) c.in-Ok.command v.cap)) c.self.view_is
+    (subst (λ (k : ℕ). readiness.RefusesStep c.in-Err-ready.error (step (project_of c.self.inside.maps) c.in-Ok.command k)) c.cap.ensures c.in-Err-ready.ensures.refused) in
+    not_refused (project_of c.args.self.now.maps) c.args.self.now.cap c.args.line.now c.in-Ok.command c.in-Err-ready.error c.refusal_of-in-Err-ready.result c.refusal_of-in-Err-ready.ensures by
     c.in-Ok.ensures.ok.0 c.in-Ok.ensures.ok.1 new leads
 
 pub returns-in-Err-make_room-clause-spent : goal.returns-in-Err-make_room-clause-spent
@@ -87,21 +87,21 @@ returns-in-Err-clause-refused_moment g c go =
 
 pub returns-in-Err-ready-clause-refused_moment : goal.returns-in-Err-ready-clause-refused_moment
 returns-in-Err-ready-clause-refused_moment g c go =
-    inr (subst (λ (v : _). v.must_reopen ≡ false → LeavesOnly g.D.Disk.moment g.D.Disk.left_since v.disk c.self.inside.disk (StandsFor v.cap v.map.tables)) c.self.view_is
+    inr (subst (λ (v : _). v.must_reopen ≡ false → LeavesOnly g.D.Disk.moment g.D.Disk.left_since v.disk c.self.inside.disk (StandsFor v.cap (project_of v.maps))) c.self.view_is
     (no_moment g.D.Disk.may_leave c.self.inside c.self.invariant.framed g.D.Disk.moment g.D.Disk.left_since (state_of c.self.inside) refl c.self.invariant.ready (λ file left. g.met.D.Disk.only_now c.self.inside.disk file left)) go)
 
 pub returns-in-Err-make_room-clause-refused_moment : goal.returns-in-Err-make_room-clause-refused_moment
 returns-in-Err-make_room-clause-refused_moment g c go =
-    inr (subst (λ (v : _). LeavesOnly g.D.Disk.moment g.D.Disk.left_since v.disk c.make_room.new.self.disk (StandsFor v.cap v.map.tables)) c.self.view_is
-    (subst (λ (t : Tables). LeavesOnly g.D.Disk.moment g.D.Disk.left_since c.self.inside.disk c.make_room.new.self.disk (StandsFor (cap_of c.self.inside.geometry) t)) c.ready.ensures.tables c.make_room.ensures.any_moment))
+    inr (subst (λ (v : _). LeavesOnly g.D.Disk.moment g.D.Disk.left_since v.disk c.make_room.new.self.disk (StandsFor v.cap (project_of v.maps))) c.self.view_is
+    (subst (λ (t : ProjectMaps). LeavesOnly g.D.Disk.moment g.D.Disk.left_since c.self.inside.disk c.make_room.new.self.disk (StandsFor (cap_of c.self.inside.geometry) t)) c.ready.ensures.project c.make_room.ensures.any_moment))
 
 pub returns-clause-refused_moment : goal.returns-clause-refused_moment
 returns-clause-refused_moment g c =
-    device_or (c.args.self.now.must_reopen ≡ false) (LeavesOnly g.D.Disk.moment g.D.Disk.left_since c.args.self.now.disk c.record.new.self.disk (StandsFor c.args.self.now.cap c.args.self.now.map.tables)) c.record.result c.record.ensures.device
+    device_or (c.args.self.now.must_reopen ≡ false) (LeavesOnly g.D.Disk.moment g.D.Disk.left_since c.args.self.now.disk c.record.new.self.disk (StandsFor c.args.self.now.cap (project_of c.args.self.now.maps))) c.record.result c.record.ensures.device
 
 pub returns-in-Err-make_room-clause-ends : goal.returns-in-Err-make_room-clause-ends
 returns-in-Err-make_room-clause-ends g c =
-    let m = c.self.inside.map.tables in
+    let m = (project_of c.self.inside.maps) in
     let n = cap_of c.self.inside.geometry in
     let accepts : Accepts n m c.args.line.now (after m c.in-Ok.command) (number_of m c.in-Ok.command) = record {
       command = c.in-Ok.command;
@@ -109,11 +109,11 @@ returns-in-Err-make_room-clause-ends g c =
       line_is = c.in-Ok.ensures.ok.0;
       stepped = subst (λ (k : ℕ). step m c.in-Ok.command k ≡ Ok (after m c.in-Ok.command, number_of m c.in-Ok.command)) c.cap.ensures c.in-Ok-ready.ensures.accepted;
     } in
-    let leads : (next : Tables) × LeadsTo n m c.args.line.now next = (after m c.in-Ok.command, (number_of m c.in-Ok.command, accepts)) in
+    let leads : (next : ProjectMaps) × LeadsTo n m c.args.line.now next = (after m c.in-Ok.command, (number_of m c.in-Ok.command, accepts)) in
     subst (λ (v : _). v.must_reopen ≡ false → EndsApply g.D.Disk.failures (Err c.in-Err-make_room.error) v c.make_room.new.self c.args.line.now) c.self.view_is
     (λ go. (
-      ap (λ (w : _). w.tables) c.make_room.ensures.map ∙ c.ready.ensures.tables,
-      room_refused g.D.Disk.failures (state_of c.self.inside) (record (state_of c.self.inside) { map = c.ready.new.map }) c.make_room.new.self c.args.line.now go refl refl refl refl leads
+      ap project_of c.make_room.ensures.maps ∙ c.ready.ensures.project,
+      room_refused g.D.Disk.failures (state_of c.self.inside) (record (state_of c.self.inside) { maps = c.ready.new.maps }) c.make_room.new.self c.args.line.now go refl refl refl refl leads
           c.in-Err-make_room.error c.in-Err-make_room.ensures.ends.0 c.in-Err-make_room.ensures.ends.1,
     ))
     (sym (ap (λ (v : _). v.must_reopen) c.self.view_is) ∙ c.if-self.false)

@@ -1,4 +1,5 @@
 use Rattle.std.proofs.Common.{refl}
+use Rattle.lv_maptables.specs.Projects.{project_of}
 use Rattle.lv_checkpoint.specs.Handles.{generation_of}
 use Rattle.lv_project.specs.Places.{cap_of}
 use Rattle.lv_project.proofs.Openings.{stands_opened}
@@ -13,5 +14,5 @@ returns-in-Ok-clause-opened g c = (
   refl,
   λ file read.
       let stands = stands_opened c.in-Ok.opened file c.in-Ok.ensures.areas.2 (c.in-Ok.ensures.opened file read) in
-      record { stands = stands; only = λ limit other k is. one_map limit (cap_of c.in-Ok.opened.geometry) other c.in-Ok.opened.map.tables k (generation_of c.in-Ok.opened.slots) file is stands },
+      record { stands = stands; only = λ limit other k is. one_map limit (cap_of c.in-Ok.opened.geometry) other (project_of c.in-Ok.opened.maps) k (generation_of c.in-Ok.opened.slots) file is stands },
 )

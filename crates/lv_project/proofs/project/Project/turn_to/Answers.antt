@@ -2,8 +2,8 @@ use Rattle.std.proofs.Common.{◌≡◌, ◌∙◌, [], ap, sym, subst}
 use Rattle.lv_disk.specs.Stops.{Follows, From, LeavesOnly}
 use Rattle.lv_journal.specs.State as journal
 use Rattle.lv_checkpoint.specs.Handles.{body_in, generation_of}
-use Rattle.lv_maptables.specs.Body.{body}
-use Rattle.lv_maptables.specs.WellFormed.{WellFormed}
+use Rattle.lv_maptables.specs.ProjectBody.{project_body}
+use Rattle.lv_maptables.specs.Projects.{WellFormedProject, project_of}
 use Rattle.lv_project.specs.Fields.{parts_in}
 use Rattle.lv_project.specs.Places.{cap_of, parts_of}
 use Rattle.lv_project.specs.Stands.{StandsFor}
@@ -16,16 +16,16 @@ pub turn-requires-clause-fits : goal.turn-requires-clause-fits
 turn-requires-clause-fits g c =
     let p = c.self.inside in
     body_fits g.D.Disk.may_leave p c.self.invariant.framed (body_in c.args.image.now)
-    (subst (λ (v : _). body_in c.args.image.now ≡ body v.map.tables) (sym c.self.view_is) c.requires.body)
-    (subst (λ (v : _). WellFormed v.map.tables) (sym c.self.view_is) c.requires.well_formed)
+    (subst (λ (v : _). body_in c.args.image.now ≡ project_body (project_of v.maps)) (sym c.self.view_is) c.requires.body)
+    (subst (λ (v : _). WellFormedProject (project_of v.maps)) (sym c.self.view_is) c.requires.well_formed)
 
 pub invariant_of-self : goal.invariant_of-self
 invariant_of-self g c =
     let p = c.self.inside in
     let framed = c.self.invariant.framed in
     let ready = c.self.invariant.ready (ap (λ (v : _). v.must_reopen) c.self.view_is ∙ c.requires.ready) in
-    let is : body_in c.args.image.now ≡ body p.map.tables = subst (λ (v : _). body_in c.args.image.now ≡ body v.map.tables) (sym c.self.view_is) c.requires.body in
-    let formed : WellFormed p.map.tables = subst (λ (v : _). WellFormed v.map.tables) (sym c.self.view_is) c.requires.well_formed in
+    let is : body_in c.args.image.now ≡ project_body (project_of p.maps) = subst (λ (v : _). body_in c.args.image.now ≡ project_body (project_of v.maps)) (sym c.self.view_is) c.requires.body in
+    let formed : WellFormedProject (project_of p.maps) = subst (λ (v : _). WellFormedProject (project_of v.maps)) (sym c.self.view_is) c.requires.well_formed in
     let parts : c.parts-parts.result ≡ parts_in p = c.parts-parts.ensures ∙ ap (parts_of p.places) c.slot.ensures in
     sound_turned g.D.Disk.may_leave p framed ready c.turn.new.disk c.in-Ok.slots c.fresh.result (body_in c.args.image.now) is formed
     (subst (λ (q : Parts). Follows (Turns (cap_of p.geometry) (generation_of p.slots) q (body_in c.args.image.now)) (g.D.Disk.may_leave p.disk) (g.D.Disk.may_leave c.turn.new.disk)) parts (c.in-Ok.ensures.turned (cap_of p.geometry)))
@@ -42,10 +42,10 @@ returns-in-Ok-clause-any_moment g c =
     let p = c.self.inside in
     let framed = c.self.invariant.framed in
     let ready = c.self.invariant.ready (ap (λ (v : _). v.must_reopen) c.self.view_is ∙ c.requires.ready) in
-    let is : body_in c.args.image.now ≡ body p.map.tables = subst (λ (v : _). body_in c.args.image.now ≡ body v.map.tables) (sym c.self.view_is) c.requires.body in
-    let formed : WellFormed p.map.tables = subst (λ (v : _). WellFormed v.map.tables) (sym c.self.view_is) c.requires.well_formed in
+    let is : body_in c.args.image.now ≡ project_body (project_of p.maps) = subst (λ (v : _). body_in c.args.image.now ≡ project_body (project_of v.maps)) (sym c.self.view_is) c.requires.body in
+    let formed : WellFormedProject (project_of p.maps) = subst (λ (v : _). WellFormedProject (project_of v.maps)) (sym c.self.view_is) c.requires.well_formed in
     let parts : c.parts-parts.result ≡ parts_in p = c.parts-parts.ensures ∙ ap (parts_of p.places) c.slot.ensures in
-    subst (λ (v : _). LeavesOnly g.D.Disk.moment g.D.Disk.left_since v.disk c.turn.new.disk (StandsFor v.cap v.map.tables)) c.self.view_is
+    subst (λ (v : _). LeavesOnly g.D.Disk.moment g.D.Disk.left_since v.disk c.turn.new.disk (StandsFor v.cap (project_of v.maps))) c.self.view_is
     (turn_moments g.D.Disk.may_leave p framed ready g.D.Disk.moment g.D.Disk.left_since c.turn.new.disk (body_in c.args.image.now) is formed
     (subst (λ (q : Parts). LeavesOnly g.D.Disk.moment g.D.Disk.left_since p.disk c.turn.new.disk (From (g.D.Disk.may_leave p.disk) (MayTurn (cap_of p.geometry) (generation_of p.slots) q (body_in c.args.image.now)))) parts
     (c.turn.ensures.any_moment (cap_of p.geometry))))
@@ -55,10 +55,10 @@ returns-in-Err-clause-any_moment g c =
     let p = c.self.inside in
     let framed = c.self.invariant.framed in
     let ready = c.self.invariant.ready (ap (λ (v : _). v.must_reopen) c.self.view_is ∙ c.requires.ready) in
-    let is : body_in c.args.image.now ≡ body p.map.tables = subst (λ (v : _). body_in c.args.image.now ≡ body v.map.tables) (sym c.self.view_is) c.requires.body in
-    let formed : WellFormed p.map.tables = subst (λ (v : _). WellFormed v.map.tables) (sym c.self.view_is) c.requires.well_formed in
+    let is : body_in c.args.image.now ≡ project_body (project_of p.maps) = subst (λ (v : _). body_in c.args.image.now ≡ project_body (project_of v.maps)) (sym c.self.view_is) c.requires.body in
+    let formed : WellFormedProject (project_of p.maps) = subst (λ (v : _). WellFormedProject (project_of v.maps)) (sym c.self.view_is) c.requires.well_formed in
     let parts : c.parts-parts.result ≡ parts_in p = c.parts-parts.ensures ∙ ap (parts_of p.places) c.slot.ensures in
-    subst (λ (v : _). LeavesOnly g.D.Disk.moment g.D.Disk.left_since v.disk c.turn.new.disk (StandsFor v.cap v.map.tables)) c.self.view_is
+    subst (λ (v : _). LeavesOnly g.D.Disk.moment g.D.Disk.left_since v.disk c.turn.new.disk (StandsFor v.cap (project_of v.maps))) c.self.view_is
     (turn_moments g.D.Disk.may_leave p framed ready g.D.Disk.moment g.D.Disk.left_since c.turn.new.disk (body_in c.args.image.now) is formed
     (subst (λ (q : Parts). LeavesOnly g.D.Disk.moment g.D.Disk.left_since p.disk c.turn.new.disk (From (g.D.Disk.may_leave p.disk) (MayTurn (cap_of p.geometry) (generation_of p.slots) q (body_in c.args.image.now)))) parts
     (c.turn.ensures.any_moment (cap_of p.geometry))))
