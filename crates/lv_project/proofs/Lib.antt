@@ -11,5 +11,6 @@ pub mod Openings
 pub mod Spent
 pub mod OneMap
 pub mod Holding
+pub mod Reopening
 pub mod Excluding
 pub mod LineFaults
