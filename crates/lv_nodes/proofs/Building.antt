@@ -84,6 +84,10 @@ module _ (lines : List Edge) (all : All IsEdge lines) where
   tree_refused NothingToBuild h = h
   tree_refused TooManyVertices h = h
 
+  -- the first list is made of pieces
+  pub first_pieced : All (IsPiece lines) (first_pieces lines)
+  first_pieced = first_are_pieces lines all
+
   -- what the recursion was given
   pub reached_at : (ps : List Piece) (used : List Bool) → ps ≡ first_pieces lines → used ≡ unused lines → IsReached lines used ps
   reached_at ps used e f = subst (λ (u : List Bool). IsReached lines u ps) (sym f) (subst (IsReached lines (unused lines)) (sym e) (start_reached lines all))

@@ -2,6 +2,7 @@ pub mod Counting
 pub mod Places
 pub mod Filling
 pub mod CornerLemmas
+pub mod Boxing
 pub mod Growing
 pub mod SegLaws
 pub mod Children

@@ -16,6 +16,7 @@ use Rattle.lv_nodes.specs.declared.step.Step.TheVariants.{Leaf as StepLeaf, Part
 use Rattle.lv_nodes.specs.References.{subsector, greatest_number}
 use Rattle.lv_nodes.specs.TreeLists.{child_of, IsEndOf, HasNodes}
 use Rattle.lv_nodes.specs.Corners.{IsJoined}
+use Rattle.lv_nodes.specs.Boxed.{IsBoxed}
 
 -- ---- one step
 -- a division of a list: its best candidate, and the parts on its two sides
@@ -28,7 +29,12 @@ pub record IsDivision (lines : List Edge) (ps : List Piece) (used : List Bool) (
 -- what comes of a list
 abbrev pub IsStep : List Edge → List Piece → List Bool → Step → Type 0
 IsStep lines ps used (StepLeaf leaf) = (leaf.items ≡ ps) × HasNoChoice lines ps used
-IsStep lines ps used (StepParts partition right left) = IsDivision lines ps used partition right.items left.items
+IsStep lines ps used (StepParts partition right left) = IsDivision lines ps used partition right.pieces.items left.pieces.items
+
+-- each part of it has its box
+abbrev pub HasBoxes : List Edge → Step → Type 0
+HasBoxes lines (StepLeaf leaf) = Unit {0}
+HasBoxes lines (StepParts partition right left) = IsBoxed lines right × IsBoxed lines left
 
 -- ---- the lists
 -- the pieces, the count of each leaf, and the nodes that were put down

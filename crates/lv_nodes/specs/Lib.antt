@@ -5,6 +5,7 @@ pub mod TreeLists
 pub mod Numbers
 pub mod Sound
 pub mod Corners
+pub mod Boxed
 pub mod Growth
 pub mod Refusals
 pub mod InRange

@@ -5,6 +5,7 @@ ghost use Rattle.lv_nodes.specs.Sound.{AllDiffer, IsSound, IsBuiltOf, IsSmall};
 ghost use Rattle.lv_nodes.specs.Built.{IsBuilt, IsTreeRefusal};
 ghost use Rattle.lv_nodes.specs.Refusals.{AreTreeLists, IsTreeRefused, IsBuildRefused};
 
+use crate::boxed::BoxedPieces;
 use crate::error::TreeError;
 use crate::growth::{Grown, grow};
 use crate::segs::segs_of;
@@ -42,7 +43,11 @@ fn grown_of(alloc: Global, lines: &[Edge]) -> Result<Grown, TreeError>
     ensures lists { IfOk result (λ grown. AreTreeLists lines.now (lists_of grown)) }
     ensures refused { IfErr result (IsTreeRefused lines.now) }
 {
-    let list = match pieces_in(alloc, lines) {
+    let pieces = match pieces_in(alloc, lines) {
+        Err(_) => return Err(TreeError::OutOfMemory),
+        Ok(pieces) => pieces,
+    };
+    let list = match BoxedPieces::of(alloc, lines, pieces) {
         Err(_) => return Err(TreeError::OutOfMemory),
         Ok(list) => list,
     };

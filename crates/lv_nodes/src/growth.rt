@@ -4,8 +4,10 @@ ghost use Rattle.lv_segs.specs.Pieces.{IsPiece};
 ghost use Rattle.lv_segs.specs.Tree.{IsReached};
 ghost use Rattle.lv_segs.specs.Local.{IsLineRay};
 ghost use Rattle.lv_segs.specs.Nodes.{node_ray};
+ghost use Rattle.lv_nodes.specs.Boxed.{IsBoxed};
 ghost use Rattle.lv_nodes.specs.Growth.{lists_of, IsGrown, IsRefused, IsLeafPut, IsLeafRefused, IsNodePut};
 
+use crate::boxed::BoxedPieces;
 use crate::corners::{bounds_of, joined};
 use crate::error::TreeError;
 use crate::step::{Step, step_in};
@@ -113,21 +115,23 @@ fn put_node(
 pub(crate) fn grow(
     alloc: Global,
     lines: &[Edge],
-    list: Vec<Piece>,
+    list: BoxedPieces,
     used: &mut [bool],
     straight: &mut StraightLines,
     room: u32,
     grown: &mut Grown,
 ) -> Result<Child, TreeError>
     requires lines { All IsEdge lines.now }
-    requires reached { IsReached lines.now used.old list.items }
-    requires some { 0 < length list.items }
-    requires few { vec_len list < 2 ^ 31 }
+    requires reached { IsReached lines.now used.old list.pieces.items }
+    requires boxed { IsBoxed lines.now list }
+    requires some { 0 < length list.pieces.items }
+    requires few { vec_len list.pieces < 2 ^ 31 }
     requires fewer { length grown.old.nodes.items ≤ length grown.old.counts.items }
     ensures ok { IfOk result
-        (IsGrown lines.now list.items used.old room (lists_of grown.old) (lists_of grown.new)) }
+        (IsGrown lines.now list.pieces.items used.old room (lists_of grown.old) (lists_of grown.new)) }
     ensures used { IfOk result (λ _. used.new ≡ used.old) }
-    ensures refused { IfErr result (IsRefused lines.now list.items used.old room (lists_of grown.old)) }
+    ensures refused { IfErr result
+        (IsRefused lines.now list.pieces.items used.old room (lists_of grown.old)) }
 {
     let step = match step_in(alloc, lines, list, used, straight) {
         Err(_) => return Err(TreeError::OutOfMemory),

@@ -1,10 +1,12 @@
 //! The node builder: the tree over all sides of a map's lines, with its vertices, segs, subsectors and nodes.
 #![tactic(auto)]
 
+mod boxed;
 mod built;
 mod corners;
 mod error;
 mod growth;
+mod parting;
 mod segs;
 mod shape;
 mod step;

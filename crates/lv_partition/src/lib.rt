@@ -2,7 +2,7 @@
 #![tactic(auto)]
 
 mod block_boxes;
-mod box_side;
+mod box_place;
 mod choice;
 mod choosing;
 mod counts;
@@ -13,6 +13,7 @@ mod strips;
 mod walk;
 
 pub use block_boxes::blocks_of;
+pub use box_place::box_side;
 pub use choice::Choice;
 pub use choosing::{choose_in, choose_in_boxes, choose_ordered};
 pub use map_choice::{choose, separates};

@@ -8,7 +8,7 @@ ghost use Rattle.lv_partition.specs.Counts.{AreCounts};
 ghost use Rattle.lv_partition.specs.Blocks.{AreBlocks};
 
 use crate::block_boxes::BLOCK;
-use crate::box_side::box_side;
+use crate::box_place::box_side;
 use crate::counts::{Counts, count_below};
 use lv_lumps::{Bounds, Ray};
 use lv_segs::{Edge, Piece, Place, divide_in, ray_of};

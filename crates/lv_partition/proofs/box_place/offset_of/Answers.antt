@@ -5,8 +5,8 @@ use Rattle.std.specs.Int.{w16}
 use Rattle.lv_lumps.proofs.Wide.{IsWithin, product_within}
 use Rattle.lv_segs.proofs.Bounds.{ray_dx, ray_dy}
 use Rattle.lv_partition.proofs.Casts.{from_32, from_16, sub_two}
-use Rattle.lv_partition.proofs.box_side.offset_of.Goals as goal
-use Rattle.lv_partition.proofs.box_side.offset_of.Goals.{After-product-upward}
+use Rattle.lv_partition.proofs.box_place.offset_of.Goals as goal
+use Rattle.lv_partition.proofs.box_place.offset_of.Goals.{After-product-upward}
 
 record Facts (across upward a b c d : ℤ) : Type 0 where
   across_is : across ≡ a *ℤ b

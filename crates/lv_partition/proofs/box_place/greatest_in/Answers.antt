@@ -6,8 +6,8 @@ use Rattle.lv_lumps.proofs.Wide.{IsWithin}
 use Rattle.lv_segs.specs.Boxes.{least_times, greatest_times, ray_offset}
 use Rattle.lv_segs.proofs.Bounds.{ray_dx, ray_dy}
 use Rattle.lv_partition.proofs.Casts.{from_32, from_16, sub_three}
-use Rattle.lv_partition.proofs.box_side.greatest_in.Goals as goal
-use Rattle.lv_partition.proofs.box_side.greatest_in.Goals.{After-offset_of-offset}
+use Rattle.lv_partition.proofs.box_place.greatest_in.Goals as goal
+use Rattle.lv_partition.proofs.box_place.greatest_in.Goals.{After-offset_of-offset}
 
 pub greatest_times-across-requires-clause-k_low : goal.greatest_times-across-requires-clause-k_low
 greatest_times-across-requires-clause-k_low c = let w = ray_dy c.args.ray c.requires in let l = w.low in let h = w.high in omega (arith, ints)
