@@ -46,7 +46,7 @@ pub err_too : {X Y : Type 0} (a b : BuildError) → refusal_in X a ≡ refusal_i
 err_too {X} {Y} a b same = let is : a ≡ b = cc in ap (refusal_in Y) is
 
 pub same_refusal : {X Y : Type 0} {P : Type 0} (a b : BuildError) → (refusal_in X a ≡ refusal_in X b ↔ P) → (refusal_in Y a ≡ refusal_in Y b ↔ P)
-same_refusal {X} {Y} {P} a b h = (λ q. h.0 (err_too {Y} {X} a b q), λ z. err_too {X} {Y} a b (h.1 z))
+same_refusal {X} {Y} {P} a b h = (λ q. h.0 (err_too {X = Y} {Y = X} a b q), λ z. err_too {X = X} {Y = Y} a b (h.1 z))
 
 -- where the first map has no line, no level has been made yet
 abbrev pub NoneYet : List Tables → ℕ → Type 0

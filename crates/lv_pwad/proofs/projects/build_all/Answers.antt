@@ -31,8 +31,3 @@ pub returns-in-Ok-wad_of_levels-clause-nothing : goal.returns-in-Ok-wad_of_level
 returns-in-Ok-wad_of_levels-clause-nothing c = λ m at empty.
     let e = c.in-Ok.ensures.nothing m at empty in
     cc
-
-pub returns-in-Err-wad_of_levels-clause-nothing : goal.returns-in-Err-wad_of_levels-clause-nothing
-returns-in-Err-wad_of_levels-clause-nothing c = λ m at empty.
-    let e = c.in-Ok.ensures.nothing m at empty in
-    cc

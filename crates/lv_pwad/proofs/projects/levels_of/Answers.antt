@@ -1,4 +1,4 @@
-use Rattle.std.proofs.Common.{◌≡◌, ◌+◌, refl, sym, subst, List, length, take, ◌<◌, ◌≤◌, arith}
+use Rattle.std.proofs.Common.{◌≡◌, ◌+◌, refl, sym, subst, List, length, take, ◌<◌, ◌≤◌, arith, rules}
 use Rattle.std.specs.Prelude.{slice_get, None}
 use Rattle.std.proofs.lemmas.Option.{slice_get_within}
 use Rattle.lv_maptables.specs.Tables.{Tables}
@@ -12,7 +12,7 @@ use Rattle.lv_pwad.proofs.projects.levels_of.Goals.{in-Some+in-Ok+in_ok-push, in
 use Rattle.lv_pwad.proofs.projects.levels_of.Goals as goal
 
 pub loop-n-init : goal.loop-n-init
-loop-n-init c = record { levels = tt; first = λ m at empty. refl }
+loop-n-init c = record { levels = search rules; first = λ m at empty. refl }
 
 pub loop-n-preserved : goal.loop-n-preserved
 loop-n-preserved c =
