@@ -1,23 +1,19 @@
 -- Each command in range is read back from its line.
-use Rattle.std.proofs.Common.{◌≡◌, ℕ, ◌≤◌, Bool, true, false, cond, List, [], ◌∷◌, length, refl, sym, ◌∙◌, ap, arith, nat_lt, Option, Some, None, Result, Ok, Err, lit≤}
-use Rattle.std.specs.Prelude.{IfOk, MatchResult}
-use Rattle.std.proofs.lemmas.Bool.{ltb-false}
+use Rattle.std.proofs.Common.{◌≡◌, ℕ, ◌≤◌, List, [], ◌∷◌, sym, ◌∙◌, ap, arith, Option, Some, None, lit≤}
 use Rattle.lv_maptables.specs.declared.kind.Kind.{Kind}
 use Rattle.lv_maptables.specs.declared.kind.Kind.TheVariants as kind
 use Rattle.lv_lumps.specs.Names.{name_of}
 use Rattle.lv_commands.specs.declared.command.Command.{Command}
 use Rattle.lv_commands.specs.declared.command.Command.TheVariants.{Name, AddVertex, AddSector, AddSide, AddLine, AddThing, SetVertex, SetSector, SetSide, SetLine, SetThing, Drop, Room, Split}
-use Rattle.lv_commands.specs.declared.error.CommandError.{CommandError}
 use Rattle.lv_commands.specs.declared.head.Head.{Head}
 use Rattle.lv_commands.specs.declared.head.Head.TheVariants as head
 use Rattle.lv_commands.specs.CommandRanges.{InRange, last_of}
-use Rattle.lv_commands.specs.Errors.{code_of}
-use Rattle.lv_commands.specs.Grammar.{command_fault, fault_of, head_of, kind_of}
+use Rattle.lv_commands.specs.Grammar.{head_of, kind_of}
 use Rattle.lv_commands.specs.Spelling.{spelling, words_of}
 use Rattle.lv_commands.specs.Words.{parts}
 use Rattle.lv_commands.proofs.NumbersBack.{natural_of, natural-back}
 use Rattle.lv_commands.proofs.RecordWords.{vertex_of, vertex-back, sector_of, sector-back, side_of, side-back, line_of, line-back, thing_of, thing-back, room_of, room-back}
-use Rattle.lv_commands.proofs.CommandWords.{parts-spelling, spelling-accepted}
+use Rattle.lv_commands.proofs.CommandWords.{parts-spelling}
 
 abbrev first : List (List ℕ) → List ℕ
 first [] = []
@@ -84,17 +80,3 @@ back (Split s) h = λ i. Split (record { line = natural-back s.line (at-most s.l
 pub spelling-one : (c d : Command) → InRange c → InRange d → spelling c ≡ spelling d → c ≡ d
 spelling-one c d h g e =
     sym (back c h) ∙ ap command_of (sym (parts-spelling c h) ∙ ap parts e ∙ parts-spelling d g) ∙ back d g
-
--- what reads a line by the grammar gives the command whose line it is
-pub complete : (line : List ℕ) (r : Result Command CommandError) → IfOk r (λ d. (line ≡ spelling d) × InRange d) → MatchResult r (λ _. fault_of line ≡ None) (λ e. fault_of line ≡ Some (code_of e)) → (c : Command) → InRange c → line ≡ spelling c → r ≡ Ok c
-complete line (Ok d) ok fault c h e = ap Ok (spelling-one d c ok.1 h (sym ok.0 ∙ e))
-complete line (Err f) ok fault c h e = let none = ap fault_of e ∙ spelling-accepted c h in absurd (cc (fault, none))
-
-long-fault : (n : ℕ) (t : Bool) (x : Option ℕ) → nat_lt 256 n ≡ t → cond t (Some 1) x ≡ None → n ≤ 256
-long-fault n true x e f = absurd cc
-long-fault n false x e f = ltb-false 256 n e
-
--- a line that is taken is no longer than 256 bytes
-pub not-long : (line : List ℕ) (r : Result Command CommandError) → MatchResult r (λ _. fault_of line ≡ None) (λ e. fault_of line ≡ Some (code_of e)) → IfOk r (λ _. length line ≤ 256)
-not-long line (Ok d) fault = long-fault (length line) (nat_lt 256 (length line)) (command_fault (parts line)) refl fault
-not-long line (Err f) fault = tt

@@ -6,7 +6,6 @@ pub mod Drawing
 pub mod Lines
 pub mod NumbersBack
 pub mod Numerals
-pub mod Outcomes
 pub mod Padding
 pub mod Parts
 pub mod ProjectOutcomes

@@ -1,22 +1,22 @@
--- The step of the model, by what speaks against a command and by how long the new body is.
-use Rattle.std.proofs.Common.{◌≡◌, ℕ, suc, ◌+◌, ◌≤◌, Bool, true, false, cond, List, [], ◌∷◌, ◌++◌, length, take, drop, Option, Some, None, Result, Err, refl, ◌∙◌, ap, arith, nat_lt, length-append, length-drop}
+-- The least code that speaks against a command of a map, and how long the new body is.
+use Rattle.std.proofs.Common.{◌≡◌, ℕ, suc, ◌+◌, ◌≤◌, Bool, true, false, cond, List, [], ◌∷◌, ◌++◌, length, take, drop, Option, Some, None, refl, ap, arith, nat_lt, length-append, length-drop}
 use Rattle.std.specs.Prelude.{slice_set, remove}
 use Rattle.std.proofs.lemmas.Bool.Decides.{nat_tests}
 use Rattle.std.proofs.lemmas.List.{length-map, length-set, length-take}
 use Rattle.lv_maptables.specs.declared.kind.Kind.{Kind}
 use Rattle.lv_maptables.specs.declared.kind.Kind.TheVariants as kind
 use Rattle.lv_maptables.specs.Tables.{Tables, body_len}
-use Rattle.lv_maptables.specs.Outcomes.{least, unless}
+use Rattle.lv_maptables.specs.Outcomes.{least}
 use Rattle.lv_maptables.specs.Edits.{line_without_vertex, line_without_side, side_without_sector}
 use Rattle.lv_commands.specs.declared.command.Command.{Command}
 use Rattle.lv_commands.specs.declared.command.Command.TheVariants.{Name, AddVertex, AddSector, AddSide, AddLine, AddThing, SetVertex, SetSector, SetSide, SetLine, SetThing, Drop, Room, Split}
 use Rattle.lv_commands.specs.Errors.{code_of}
 use Rattle.lv_commands.specs.declared.error.CommandError.{CommandError}
-use Rattle.lv_commands.specs.declared.error.CommandError.TheVariants.{NotACommand, OutOfRange, NoVertex, NoSector, NoSide, NoLine, NoThing, InUse, SameEnds, PlaceTaken, TwoSidedWithoutLeft, TableFull, LineTooLong, ProjectFull, BadName, TooManyMaps, MapNameTaken, NoSuchMap, CurrentMap, OutOfMemory}
-use Rattle.lv_commands.specs.Readiness.{RefusesStep, growth_of, need_of}
+use Rattle.lv_commands.specs.declared.error.CommandError.TheVariants.{OutOfMemory}
+use Rattle.lv_commands.specs.Readiness.{growth_of, need_of}
 use Rattle.lv_commands.specs.Rooms.{corners, room_sector, room_sides, walls}
 use Rattle.lv_commands.specs.Splits.{cut_off, cut_short, line_at}
-use Rattle.lv_commands.specs.Step.{after, drop_faults, faults, number_of, step, without}
+use Rattle.lv_commands.specs.Step.{after, drop_faults, faults, without}
 
 -- ---- The least code
 
@@ -115,40 +115,7 @@ fullness m (Split s) cap fits =
     let lines = slice_set m.lines s.line (cut_short line vertex) in
     ap (nat_lt cap) (omega (arith, length-append m.vertices (s.at ∷ []), length-append lines (cut_off line vertex ∷ []), length-set m.lines s.line (cut_short line vertex)))
 
--- ---- The step
-
--- the new body would be too long
-pub step_is_full : (m : Tables) (c : Command) (cap : ℕ) → least (faults m c) ≡ None → nat_lt cap (body_len (after m c)) ≡ true → step m c cap ≡ Err 14
-step_is_full m c cap e f =
-    ap (λ o. unless o (after m c) (number_of m c)) (least-none (faults m c) ((14, nat_lt cap (body_len (after m c))) ∷ []) e ∙ ap (λ t. least ((14, t) ∷ [])) f)
-
--- a lesser code speaks against the command
-pub step_refuses : (m : Tables) (c : Command) (cap k : ℕ) → least (faults m c) ≡ Some k → step m c cap ≡ Err k
-step_refuses m c cap k e =
-    ap (λ o. unless o (after m c) (number_of m c)) (least-some (faults m c) ((14, nat_lt cap (body_len (after m c))) ∷ []) k e)
-
--- a refusal by the step's code, which isn't that of memory
-pub refused-by : (e : CommandError) (change : Result (Tables × ℕ) ℕ) → code_of e ≤ 15 → change ≡ Err (code_of e) → RefusesStep e change
-refused-by NotACommand change l h = h
-refused-by OutOfRange change l h = h
-refused-by NoVertex change l h = h
-refused-by NoSector change l h = h
-refused-by NoSide change l h = h
-refused-by NoLine change l h = h
-refused-by NoThing change l h = h
-refused-by InUse change l h = h
-refused-by SameEnds change l h = h
-refused-by PlaceTaken change l h = h
-refused-by TwoSidedWithoutLeft change l h = h
-refused-by TableFull change l h = h
-refused-by LineTooLong change l h = h
-refused-by ProjectFull change l h = h
-refused-by BadName change l h = h
-refused-by TooManyMaps change l h = absurd (omega arith)
-refused-by MapNameTaken change l h = absurd (omega arith)
-refused-by NoSuchMap change l h = absurd (omega arith)
-refused-by CurrentMap change l h = absurd (omega arith)
-refused-by OutOfMemory change l h = absurd (omega arith)
+-- ---- The code
 
 -- a refusal of another number isn't want of memory
 pub not-memory : (e : CommandError) → code_of e ≤ 19 → e ≡ OutOfMemory → ⊥

@@ -1,8 +1,6 @@
 pub mod CommandRanges
 pub mod Errors
 pub mod Grammar
-pub mod Laws
-pub mod LineSteps
 pub mod Places
 pub mod ProjectCommands
 pub mod ProjectGrammar

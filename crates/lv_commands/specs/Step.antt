@@ -1,9 +1,8 @@
--- What a command makes of a map: a new map and a number, or the least of the codes that hold.
-use Rattle.std.specs.Prelude.{ℕ, Bool, nat_lt, List, [], ◌∷◌, ◌++◌, length, Result}
+-- What speaks against a command of a map, the map that it leaves, and its number.
+use Rattle.std.specs.Prelude.{ℕ, Bool, List, [], length}
 use Rattle.lv_maptables.specs.declared.kind.Kind.{Kind}
 use Rattle.lv_maptables.specs.declared.kind.Kind.TheVariants as kind
-use Rattle.lv_maptables.specs.Tables.{Tables, body_len}
-use Rattle.lv_maptables.specs.Outcomes.{least, unless}
+use Rattle.lv_maptables.specs.Tables.{Tables}
 use Rattle.lv_maptables.specs.Faults.{vertex_faults, set_vertex_faults, drop_vertex_faults, sector_faults, set_sector_faults, drop_sector_faults, side_faults, set_side_faults, drop_side_faults, line_faults, set_line_faults, drop_line_faults, thing_faults, set_thing_faults, drop_thing_faults}
 use Rattle.lv_maptables.specs.Edits.{with_name, with_vertex, with_sector, with_side, with_line, with_thing, with_vertex_at, with_sector_at, with_side_at, with_line_at, with_thing_at, without_vertex, without_sector, without_side, without_line, without_thing}
 use Rattle.lv_commands.specs.Rooms.{with_room, room_faults}
@@ -77,7 +76,3 @@ number_of m (SetThing n t) = n
 number_of m (Drop k n) = n
 number_of m (Room r) = length m.sectors
 number_of m (Split s) = length m.lines
-
--- the new map and the number, or the least code; a body may be at most `cap` long
-abbrev pub step : Tables → Command → ℕ → Result (Tables × ℕ) ℕ
-step m c cap = unless (least (faults m c ++ (14, nat_lt cap (body_len (after m c))) ∷ [])) (after m c) (number_of m c)

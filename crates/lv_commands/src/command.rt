@@ -45,9 +45,3 @@ pub enum Command {
     Room(RoomPlan),
     Split(LineSplit),
 }
-
-/// A command that nothing speaks against, and for which the map has memory.
-#[derive(Clone, Copy, Debug, PartialEq, Eq)]
-pub struct Ready {
-    pub command: Command,
-}

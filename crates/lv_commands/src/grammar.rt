@@ -1,9 +1,8 @@
-ghost use Rattle.std.specs.Prelude.{◌≡◌, ◌∷◌, ◌≤◌, None, Some, Ok, IfOk, length};
+ghost use Rattle.std.specs.Prelude.{◌≡◌, ◌∷◌, None, IfOk};
 ghost use Rattle.lv_commands.specs.CommandRanges.{InRange};
 ghost use Rattle.lv_commands.specs.Errors.{TellsFault};
 ghost use Rattle.lv_commands.specs.Grammar.{fault_behind, fault_of};
 ghost use Rattle.lv_commands.specs.Spelling.{head_word, spelling, words_of};
-ghost use Rattle.lv_commands.specs.declared.command.Command.{Command};
 ghost use Rattle.lv_commands.specs.Views.{reading};
 
 use crate::command::{Command, LineSplit};
@@ -62,8 +61,8 @@ fn command(head: Head, places: Places) -> Result<Command, CommandError>
     Ok(command)
 }
 
-/// The command that a line is, or what is wrong with it.
-fn read(line: &[u8]) -> Result<Command, CommandError>
+/// The command of a map that a line is, or what is wrong with it.
+pub fn read(line: &[u8]) -> Result<Command, CommandError>
     ensures ok { IfOk result (λ c. (line.now ≡ spelling c) × InRange c) }
     ensures fault { TellsFault result (fault_of line.now) }
 {
@@ -75,14 +74,4 @@ fn read(line: &[u8]) -> Result<Command, CommandError>
         Some(head) => command(head, Places::new(rest)),
         None => Err(CommandError::NotACommand),
     }
-}
-
-/// The command that a line is. Where it is none the answer is 1, or the leftmost of 2 and 15. Takes no memory.
-pub fn parse(line: &[u8]) -> Result<Command, CommandError>
-    ensures ok { IfOk result (λ c. (line.now ≡ spelling c) × InRange c) }
-    ensures all { (c : Command) → InRange c → line.now ≡ spelling c → result ≡ Ok c }
-    ensures fault { TellsFault result (fault_of line.now) }
-    ensures short { IfOk result (λ _. length line.now ≤ 256) }
-{
-    read(line)
 }

@@ -66,7 +66,7 @@ fn words(alloc: Global, command: &Command) -> Result<Text, AllocError>
     words_behind(text, command)
 }
 
-/// The line that is the command, without an end of line. It is the one line that `parse` takes for it.
+/// The line of a command of a map.
 pub fn print(alloc: Global, command: &Command) -> Result<Vec<u8>, CommandError>
     requires { InRange command.now }
     ensures spelling { IfOk result (λ v. v.items ≡ spelling command.now) }

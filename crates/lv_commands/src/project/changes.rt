@@ -1,4 +1,4 @@
-ghost use Rattle.std.specs.Prelude.{◌≡◌, ◌≤◌, ◌+◌, None, IfOk, IfErr, IsErrOf, Ok, nat_lt};
+ghost use Rattle.std.specs.Prelude.{◌≡◌, ◌≤◌, ◌+◌, None, IfOk, IfErr, IsErrOf, IsOk, Ok, nat_lt};
 ghost use Rattle.lv_maptables.specs.Outcomes.{Covers, EndsExactly, least, unless};
 ghost use Rattle.lv_maptables.specs.Projects.{body_len, project_of};
 ghost use Rattle.lv_commands.specs.CommandRanges as of_one;
@@ -9,7 +9,6 @@ ghost use Rattle.lv_commands.specs.Readiness as of_one_map;
 ghost use Rattle.lv_commands.specs.Step as step_of_one_map;
 ghost use Rattle.lv_commands.specs.Step.{drop_faults, faults, without};
 
-use crate::changes::edited;
 use crate::command::Command;
 use crate::error::CommandError;
 use crate::project::additions::{put_line, put_name, put_sector, put_side, put_thing, put_vertex};
@@ -68,6 +67,15 @@ fn drop_item(maps: &mut Maps, kind: Kind, n: u32) -> Result<(), MapError>
         Kind::Line => maps.drop_line(n),
         Kind::Thing => maps.drop_thing(n),
     }
+}
+
+/// The number of the item of an edit that can't have been refused.
+fn edited(n: u16, edit: Result<(), MapError>) -> u32
+    requires { IsOk edit }
+    ensures { result ≡ n }
+{
+    edit.unwrap();
+    u32::from(n)
 }
 
 /// Makes a change of the current map that nothing speaks against, and answers its number.

@@ -8,7 +8,7 @@ ghost use Rattle.lv_commands.specs.Step.{faults};
 
 use crate::command::Command;
 use crate::project::command::ProjectCommand;
-use crate::{changes, decision};
+use crate::{decision, growth};
 use lv_lumps::Name8;
 use lv_maptables::{MapError, Maps, Need};
 
@@ -70,7 +70,7 @@ pub fn need_of(command: &ProjectCommand) -> Need
     ensures { result ≡ need_of command.now }
 {
     match command {
-        ProjectCommand::Edit(edit) => changes::need_of(edit),
+        ProjectCommand::Edit(edit) => growth::need_of(edit),
         ProjectCommand::SelectMap(_) | ProjectCommand::DropMap(_) => no_need(),
     }
 }
@@ -87,7 +87,7 @@ pub fn growth_of(maps: &Maps, command: &ProjectCommand) -> u64
     ensures { result ≡ growth_of (project_of maps.now) command.now }
 {
     match command {
-        ProjectCommand::Edit(edit) => changes::growth_of(changes::need_of(edit)),
+        ProjectCommand::Edit(edit) => growth::growth_of(growth::need_of(edit)),
         ProjectCommand::SelectMap(name) => if has_map(maps, *name) { 0 } else { 18 },
         ProjectCommand::DropMap(_) => 0,
     }

@@ -65,7 +65,7 @@ fn edit(line: &[u8]) -> Result<ProjectCommand, CommandError>
     ensures ok { IfOk result (λ c. (line.now ≡ spelling c) × InRange c) }
     ensures fault { TellsFault result (of_one_map.fault_of line.now) }
 {
-    match grammar::parse(line) {
+    match grammar::read(line) {
         Ok(command) => Ok(ProjectCommand::Edit(command)),
         Err(error) => Err(error),
     }

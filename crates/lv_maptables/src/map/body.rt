@@ -1,8 +1,6 @@
-ghost use Rattle.std.specs.Prelude.{◌≡◌, ◌++◌, ◌↔◌, IfOk, IfErr, IsOkUnless, IsTrue, OnOk, length, drop};
+ghost use Rattle.std.specs.Prelude.{◌≡◌, ◌++◌, ◌↔◌, IfOk, IfErr, IsOkUnless, IsTrue, drop};
 ghost use Rattle.lv_lumps.specs.Fields.{unsigned};
-ghost use Rattle.lv_maptables.specs.Tables.{empty_tables, body_len};
-ghost use Rattle.lv_maptables.specs.WellFormed.{WellFormed};
-ghost use Rattle.lv_maptables.specs.Body.{lump_of, body, IsMapOf, RefusesBody};
+ghost use Rattle.lv_maptables.specs.Body.{lump_of, IsMapOf, RefusesBody};
 
 use crate::error::MapError;
 use crate::kind::Kind;
@@ -11,14 +9,6 @@ use crate::map::part::first_map;
 use lv_lumps::{encode_lines, encode_sectors, encode_sides, encode_things, encode_vertices};
 use std::alloc::Global;
 
-/// The body of the empty map, whose name is MAP01.
-pub fn empty_body() -> [u8; 20]
-    ensures bytes { result ≡ body empty_tables }
-    ensures well_formed { WellFormed empty_tables }
-{
-    *b"\x01\0MAP01\0\0\0\0\0\0\0\0\0\0\0\0\0"
-}
-
 /// Whether the bytes begin with version 1.
 fn has_version_1(bytes: &[u8]) -> bool
     ensures { IsTrue result ↔ (bytes.now ≡ unsigned 1 ++ drop 2 bytes.now) }
@@ -26,8 +16,8 @@ fn has_version_1(bytes: &[u8]) -> bool
     bytes.len() >= 2 && bytes[0] == 1 && bytes[1] == 0
 }
 
-/// The map whose body the bytes are. `Damaged` with place 0 where no well-formed map has these bytes.
-pub fn decode_body(alloc: Global, bytes: &[u8]) -> Result<Map, MapError>
+/// The map whose body the bytes are, version 1. `Damaged` with place 0 where no well-formed map has these bytes.
+pub(crate) fn decode_body(alloc: Global, bytes: &[u8]) -> Result<Map, MapError>
     ensures map { IfOk result (λ m. IsMapOf bytes.now m.tables) }
     ensures refused { IfErr result (RefusesBody bytes.now) }
 {
@@ -55,25 +45,5 @@ impl Map {
             Kind::Thing => encode_things(alloc, &self.things),
         };
         bytes.map_err(|_| MapError::OutOfMemory)
-    }
-
-    /// The length of the map's body in bytes.
-    pub fn body_len(&self) -> u32
-        ensures { result ≡ body_len self.now.tables }
-    {
-        2 + self.part_len()
-    }
-
-    /// The map's body, version 1.
-    pub fn encode_body(&self, alloc: Global) -> Result<Vec<u8>, MapError>
-        ensures bytes { IfOk result (λ v. v.items ≡ body self.now.tables) }
-        ensures length { IfOk result (λ v. length v.items ≡ body_len self.now.tables) }
-        ensures well_formed { OnOk result (WellFormed self.now.tables) }
-        ensures memory { IsOkUnless result MapError.OutOfMemory }
-    {
-        let mut bytes = Vec::with_capacity(alloc, self.body_len() as usize)?;
-        bytes.extend_from_slice(&[1, 0])?;
-        self.put_part(alloc, &mut bytes)?;
-        Ok(bytes)
     }
 }

@@ -1,0 +1,52 @@
+ghost use Rattle.std.specs.Prelude.{◌≡◌};
+ghost use Rattle.lv_commands.specs.Readiness.{growth_of, need_of};
+
+use crate::command::Command;
+use lv_maptables::Need;
+
+/// How many items a command adds to each table.
+pub fn need_of(command: &Command) -> Need
+    ensures { result ≡ need_of command.now }
+{
+    let none = Need {
+        vertices: 0,
+        sectors: 0,
+        sides: 0,
+        lines: 0,
+        things: 0,
+    };
+    match command {
+        Command::AddVertex(_) => Need {
+            vertices: 1,
+            ..none
+        },
+        Command::AddSector(_) => Need { sectors: 1, ..none },
+        Command::AddSide(_) => Need { sides: 1, ..none },
+        Command::AddLine(_) => Need { lines: 1, ..none },
+        Command::AddThing(_) => Need { things: 1, ..none },
+        Command::Room(_) => Need {
+            vertices: 4,
+            sectors: 1,
+            sides: 4,
+            lines: 4,
+            ..none
+        },
+        Command::Split(_) => Need {
+            vertices: 1,
+            lines: 1,
+            ..none
+        },
+        _ => none,
+    }
+}
+
+/// By how many bytes so many more items lengthen a body.
+pub fn growth_of(need: Need) -> u64
+    ensures { result ≡ growth_of need }
+{
+    10 * u64::from(need.things)
+        + 14 * u64::from(need.lines)
+        + 30 * u64::from(need.sides)
+        + 4 * u64::from(need.vertices)
+        + 26 * u64::from(need.sectors)
+}
