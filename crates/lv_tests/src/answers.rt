@@ -3,7 +3,7 @@
 use crate::editor::run;
 
 /// Lines and their answers, each beside what it is about.
-const MAPS: [(&str, &[u8], &[u8]); 10] = [
+const MAPS: [(&str, &[u8], &[u8]); 13] = [
     (
         "drawn lumps of an empty map",
         b"count\n\
@@ -139,6 +139,106 @@ const MAPS: [(&str, &[u8], &[u8]); 10] = [
         00 00 01 00 01 00 00 00 00 00 00 00 ff ff\n",
     ),
     (
+        "refused lines",
+        b"vertex 0 0\n\
+        vertex 64 0\n\
+        vertex 128 0\n\
+        sector 0 128 FLOOR4_8 CEIL3_5 160 0 0\n\
+        side 0 0 - - STARTAN3 0\n\
+        line 0 3 1 0 0 0 -\n\
+        line 0 3 1 0 0 1 -\n\
+        line 0 1 1 0 0 1 -\n\
+        line 0 1 1 0 0 0 1\n\
+        line 0 1 1 0 0 0 -\n\
+        set-line 1 0 1 1 0 0 0 -\n\
+        hex LINEDEFS\n",
+        b"ok 0\n\
+        ok 1\n\
+        ok 2\n\
+        ok 0\n\
+        ok 0\n\
+        no 3\n\
+        no 3\n\
+        no 5\n\
+        no 5\n\
+        ok 0\n\
+        no 6\n\
+        00 00 01 00 01 00 00 00 00 00 00 00 ff ff\n",
+    ),
+    (
+        "refused edits",
+        b"vertex 0 0\n\
+        vertex 64 0\n\
+        vertex 128 0\n\
+        sector 0 128 FLOOR4_8 CEIL3_5 160 0 0\n\
+        side 0 0 - - STARTAN3 0\n\
+        line 0 1 1 0 0 0 -\n\
+        side 0 0 - - STARTAN3 1\n\
+        set-side 1 0 0 - - STARTAN3 1\n\
+        set-side 1 0 0 - - STARTAN3 0\n\
+        set-sector 1 0 128 FLOOR4_8 CEIL3_5 160 0 0\n\
+        set-thing 0 64 64 90 1 7\n\
+        drop vertex 3\n\
+        drop vertex 1\n\
+        drop sector 0\n\
+        drop side 0\n\
+        drop line 1\n\
+        drop thing 0\n\
+        move-vertex 3 0 1\n\
+        move-vertex 1 0 0\n\
+        move-vertex 1 64 0\n",
+        b"ok 0\n\
+        ok 1\n\
+        ok 2\n\
+        ok 0\n\
+        ok 0\n\
+        ok 0\n\
+        no 4\n\
+        no 4\n\
+        no 5\n\
+        no 4\n\
+        no 7\n\
+        no 3\n\
+        no 8\n\
+        no 8\n\
+        no 8\n\
+        no 6\n\
+        no 7\n\
+        no 3\n\
+        no 10\n\
+        ok 1\n",
+    ),
+    (
+        "drops of a side and a sector",
+        b"vertex 0 0\n\
+        vertex 64 0\n\
+        sector 0 128 FLOOR4_8 CEIL3_5 160 0 0\n\
+        sector 0 128 FLOOR4_8 CEIL3_5 160 0 0\n\
+        side 0 0 - - STARTAN3 0\n\
+        side 0 0 - - STARTAN3 1\n\
+        side 0 0 - - STARTAN3 0\n\
+        line 0 1 4 0 0 2 1\n\
+        drop side 0\n\
+        hex LINEDEFS\n\
+        set-side 1 0 0 - - STARTAN3 1\n\
+        drop sector 0\n\
+        hex SIDEDEFS\n",
+        b"ok 0\n\
+        ok 1\n\
+        ok 0\n\
+        ok 1\n\
+        ok 0\n\
+        ok 1\n\
+        ok 2\n\
+        ok 0\n\
+        ok 0\n\
+        00 00 01 00 04 00 00 00 00 00 01 00 00 00\n\
+        ok 1\n\
+        ok 0\n\
+        00 00 00 00 2d 00 00 00 00 00 00 00 2d 00 00 00 00 00 00 00 53 54 41 52 54 41 4e 33 00 00 \
+        00 00 00 00 2d 00 00 00 00 00 00 00 2d 00 00 00 00 00 00 00 53 54 41 52 54 41 4e 33 00 00\n",
+    ),
+    (
         "long lines",
         b"vertex -16384 0\n\
         vertex 16383 0\n\
@@ -149,7 +249,10 @@ const MAPS: [(&str, &[u8], &[u8]); 10] = [
         side 0 0 - - STARTAN3 0\n\
         line 0 1 1 0 0 0 -\n\
         line 2 3 1 0 0 0 -\n\
-        line 2 4 1 0 0 0 -\n",
+        line 2 4 1 0 0 0 -\n\
+        set-line 0 2 4 1 0 0 0 -\n\
+        drop vertex 4\n\
+        move-vertex 3 11170 11170\n",
         b"ok 0\n\
         ok 1\n\
         ok 2\n\
@@ -159,6 +262,9 @@ const MAPS: [(&str, &[u8], &[u8]); 10] = [
         ok 0\n\
         ok 0\n\
         ok 1\n\
+        no 13\n\
+        no 13\n\
+        ok 4\n\
         no 13\n",
     ),
     (

@@ -1,75 +1,84 @@
-//! A map's body, there and back, and bodies of no map.
+//! The bodies of drawn projects, read back in the versions that have them, and spoilt ones.
 
-use crate::maptables::{LINE, SECTOR, SIDE, THING, drawn};
-use lv_lumps::Vertex;
-use lv_maptables::{Kind, Map, MapError, decode_body, empty_body};
+use crate::drawing::{SECTOR, SIDE, drawn};
+use crate::maps::{TWO_MAPS, is_refused};
+use lv_maptables::Maps;
 use std::test::Fail;
 
 /// The body of a map with one item of each kind but two vertices.
 const BODY: [u8; 108] =
-    *b"\x01\0MAP01\0\0\0\x01\0\x01\0\x01\0\x02\0\x01\0\x40\0\x40\0\x5a\0\x01\0\x07\0\
+    *b"\x02\0MAP01\0\0\0\x01\0\x01\0\x01\0\x02\0\x01\0\x40\0\x40\0\x5a\0\x01\0\x07\0\
 \0\0\x01\0\x01\0\0\0\0\0\0\0\xff\xff\0\0\0\0-\0\0\0\0\0\0\0-\0\0\0\0\0\0\0STARTAN3\0\0\
 \0\0\0\0\x40\0\0\0\0\0\x80\0FLOOR4_8CEIL3_5\0\xa0\0\0\0\0\0";
 
-#[test]
-fn bodies_read_back(rt: HostRuntime) -> Result<(), Fail> {
-    let new = Map::new(rt.alloc());
-    assert_eq!(rt; empty_body(), *b"\x01\0MAP01\0\0\0\0\0\0\0\0\0\0\0\0\0");
-    assert_eq!(rt;
-        new.encode_body(rt.alloc())?.as_slice(),
-        empty_body().as_slice()
-    );
-    assert_eq!(rt;
-        decode_body(rt.alloc(), &empty_body())?.count(Kind::Vertex),
-        0
-    );
+/// The lines that draw it.
+#[rattlefmt::skip]
+const LINES: [&[u8]; 6] = [
+    b"vertex 0 0", b"vertex 64 0", SECTOR, SIDE, b"line 0 1 1 0 0 0 -", b"thing 64 64 90 1 7",
+];
 
-    let mut map = drawn(rt.alloc())?;
-    map.drop_vertex(2)?;
-    map.add_line(LINE)?;
-    map.add_thing(THING)?;
-    assert_eq!(rt; map.encode_body(rt.alloc())?.as_slice(), BODY.as_slice());
-    let read = decode_body(rt.alloc(), &BODY)?;
-    assert_eq!(rt; read.name().text(), b"MAP01".as_slice());
-    assert_eq!(rt; read.thing(0), Some(THING));
-    assert_eq!(rt; read.line(0), Some(LINE));
-    assert_eq!(rt; read.side(0), Some(SIDE));
-    assert_eq!(rt; read.vertex(1), Some(Vertex { x: 64, y: 0 }));
-    assert_eq!(rt; read.sector(0), Some(SECTOR));
+/// Lines, the body of the project that they draw, and a version in which it is read.
+#[rattlefmt::skip]
+const BODIES: [(&[&[u8]], &[u8], u8); 6] = [
+    (&[], b"\x02\0MAP01\0\0\0\0\0\0\0\0\0\0\0\0\0", 1),
+    (&[], b"\x02\0MAP01\0\0\0\0\0\0\0\0\0\0\0\0\0", 2),
+    (&LINES, &BODY, 1),
+    (&LINES, &BODY, 2),
+    (&[b"name E1M1", b"vertex 64 -1"], b"\x02\0E1M1\0\0\0\0\0\0\0\0\0\0\x01\0\0\0\x40\0\xff\xff", 1),
+    (&[b"vertex 64 -1", b"map E1M1", b"thing 64 -1 90 1 7"], TWO_MAPS, 2),
+];
+
+#[test]
+fn bodies_are_written_and_read_back(rt: HostRuntime) -> Result<(), Fail> {
+    for (lines, body, version) in BODIES {
+        let written = drawn(&rt, rt.alloc(), lines).encode_body(rt.alloc())?;
+        assert_eq!(rt; written.as_slice(), body);
+        let mut read = written;
+        if let Some(first) = read.get_mut(0) {
+            *first = version;
+        }
+        let again = Maps::decode_body(rt.alloc(), &read)?.encode_body(rt.alloc())?;
+        assert_eq!(rt; again.as_slice(), body);
+    }
     Ok(())
 }
 
 #[test]
+fn the_body_of_the_new_project_takes_no_memory(rt: HostRuntime) {
+    assert_eq!(rt; Maps::empty_body().as_slice(), BODIES[0].1);
+}
+
+/// Places of a body, bytes and what they spoil.
+const SPOILT: [(usize, u8, &str); 16] = [
+    (2, b'N', "the map's name"),
+    (7, b'X', "what follows the map's name"),
+    (10, 2, "the count of things"),
+    (16, 1, "the count of vertices"),
+    (25, 0x80, "a thing's angle"),
+    (30, 2, "a line's vertex"),
+    (30, 1, "a line's two ends"),
+    (34, 4, "the flags of a line without a left side"),
+    (40, 1, "a line's right side"),
+    (42, 1, "a line's left side"),
+    (48, b' ', "a texture's name"),
+    (72, 1, "a side's sector"),
+    (75, 0x40, "a vertex's coordinate"),
+    (78, 0, "the place of a vertex"),
+    (87, b'x', "a flat's name"),
+    (103, 1, "a sector's light"),
+];
+
+#[test]
 fn damaged_bodies_are_refused(rt: HostRuntime) {
-    // place, byte and what it spoils
-    for (at, byte, what) in [
-        (0, 2, "the version"),
-        (2, b'N', "the map's name"),
-        (7, b'X', "what follows the map's name"),
-        (10, 2, "the count of things"),
-        (16, 1, "the count of vertices"),
-        (25, 0x80, "a thing's angle"),
-        (30, 2, "a line's vertex"),
-        (30, 1, "a line's two ends"),
-        (34, 4, "the flags of a line without a left side"),
-        (40, 1, "a line's right side"),
-        (42, 1, "a line's left side"),
-        (48, b' ', "a texture's name"),
-        (72, 1, "a side's sector"),
-        (75, 0x40, "a vertex's coordinate"),
-        (78, 0, "the place of a vertex"),
-        (87, b'x', "a flat's name"),
-        (103, 1, "a sector's light"),
-    ] {
+    for (at, byte, what) in SPOILT {
         let mut body = BODY;
         if let Some(place) = body.get_mut(at) {
             *place = byte;
         }
-        let answer = decode_body(rt.alloc(), &body).map(|map| map.count(Kind::Thing));
-        assert_eq!(rt; answer, Err(MapError::Damaged(0)), "with {what} spoilt");
+        assert!(rt; is_refused(rt.alloc(), &body), "{what} in version 2");
+        body[0] = 1;
+        assert!(rt; is_refused(rt.alloc(), &body), "{what} in version 1");
     }
-    let short = decode_body(rt.alloc(), &BODY[..107]).map(|map| map.count(Kind::Thing));
-    assert_eq!(rt; short, Err(MapError::Damaged(0)));
-    let header = decode_body(rt.alloc(), &BODY[..19]).map(|map| map.count(Kind::Thing));
-    assert_eq!(rt; header, Err(MapError::Damaged(0)));
+    assert!(rt; is_refused(rt.alloc(), &BODY[..107]));
+    assert!(rt; is_refused(rt.alloc(), &BODY[..19]));
 }

@@ -138,7 +138,7 @@ fn names_have_a_form(rt: HostRuntime) -> Result<(), Fail> {
 
 /// Lines, and what each is told: 0 for a command, else its code.
 #[rattlefmt::skip]
-const LINES: [(&[u8], u16); 72] = [
+const LINES: [(&[u8], u16); 83] = [
     (b"name E1M1", 0),
     (b"name E9M9", 0),
     (b"name MAP01", 0),
@@ -149,6 +149,12 @@ const LINES: [(&[u8], u16); 72] = [
     (b"room 0 0 128 128 0 128 FLOOR4_8 CEIL3_5 STARTAN3 160", 0),
     (b"drop vertex 0", 0),
     (b"split 2 128 64", 0),
+    (b"map E1M9", 0),
+    (b"map E9M9", 0),
+    (b"drop-map MAP32", 0),
+    (b"map MAP00", 15),
+    (b"drop-map map01", 15),
+    (b"drop-map MAP100", 15),
     (b"name MAP00", 15),
     (b"name E0M1", 15),
     (b"name E1M0", 15),
@@ -208,6 +214,11 @@ const LINES: [(&[u8], u16); 72] = [
     (b"name E1M1 E1M1", 1),
     (b"split 0 0", 1),
     (b"move-vertex 0 0", 1),
+    (b"map", 1),
+    (b"map  MAP01", 1),
+    (b"map MAP01 ", 1),
+    (b"map MAP01 MAP02", 1),
+    (b"maps", 1),
     (b"hex VERTEXES", 1),
     (b"check", 1),
     (b"undo", 1),

@@ -46,8 +46,6 @@ mod pwad;
 #[cfg(test)]
 mod segs;
 #[cfg(test)]
-mod several;
-#[cfg(test)]
 mod slots;
 #[cfg(test)]
 mod tangles;

@@ -2,8 +2,8 @@ ghost use Rattle.std.specs.Prelude.{◌≡◌, ◌<◌, length, All};
 ghost use Rattle.lv_segs.specs.Edges.{edges_of};
 ghost use Rattle.lv_segs.specs.Pieces.{IsPiece};
 
-use lv_commands::{apply, parse};
-use lv_maptables::Map;
+use crate::drawing::{L, SECTOR, SIDE, SLIVER, draw, drawn};
+use lv_maptables::{Map, Maps};
 use lv_partition::{
     Choice, StraightLines, blocks_of, by_place, choose, choose_in_boxes, choose_ordered, separates,
 };
@@ -11,26 +11,6 @@ use lv_segs::{Piece, boxes_in, divide, edges_of, pieces_of};
 use std::alloc::Global;
 use std::process::Abort;
 use std::test::Fail;
-
-/// The longest body that a map can have.
-const AMPLE: u32 = 2_007_002;
-
-/// Does a command, which is accepted.
-fn draw(rt: &impl Abort, map: &mut Map, line: &[u8]) {
-    let command = parse(line).expect(rt, "a command");
-    if map.body_len() <= AMPLE {
-        assert!(rt; apply(map, &command, AMPLE).is_ok(), "{line:?}");
-    }
-}
-
-/// The map that the lines draw.
-fn drawn(rt: &impl Abort, alloc: Global, lines: &[&[u8]]) -> Map {
-    let mut map = Map::new(alloc);
-    for line in lines {
-        draw(rt, &mut map, *line);
-    }
-    map
-}
 
 /// The choice among a map's whole sides, by both calls, where these lines are used.
 fn chosen(
@@ -127,101 +107,47 @@ fn walked(map: &Map, pieces: &[Piece], used: &[bool]) -> Option<Choice>
     best
 }
 
-// The L of six lines: the third and the fourth cost the same, eight for the split and one.
+/// Two lines on one straight line that run against each other: each has the other on its left.
+#[rattlefmt::skip]
+const AGAINST: [&[u8]; 8] = [
+    b"vertex 0 0", b"vertex 64 0", b"vertex 128 0", b"vertex 192 0", SECTOR, SIDE,
+    b"line 0 1 1 0 0 0 -", b"line 3 2 1 0 0 0 -",
+];
+
+/// Lines, which of their map's lines are used, and the choice as `at`, `splits`, `right` and `left`. In the L the third
+/// and the fourth line cost the same, eight for the split and one; in the sliver nothing is left on the left.
+#[rattlefmt::skip]
+const CHOICES: [(&[&[u8]], &[bool], Option<[u32; 4]>); 6] = [
+    (&L, &[false, false, false, false, false, false], Some([2, 1, 4, 3])),
+    (&L, &[false, false, true, false, false, false], Some([3, 1, 4, 3])),
+    (&L, &[false, false, true, true, false, false], None),
+    (&AGAINST, &[false, false], Some([0, 0, 1, 1])),
+    (&AGAINST, &[true, false], Some([1, 0, 1, 1])),
+    (&SLIVER, &[false, false], None),
+];
+
+fn numbers(choice: Option<Choice>) -> Option<[u32; 4]> {
+    let choice = choice?;
+    Some([choice.at, choice.splits, choice.right, choice.left])
+}
+
 #[test]
-fn takes_the_first_of_equals(rt: HostRuntime) -> Result<(), Fail> {
-    let map = drawn(
-        &rt,
-        rt.alloc(),
-        &[
-            b"vertex 0 0",
-            b"vertex 0 256",
-            b"vertex 128 256",
-            b"vertex 128 128",
-            b"vertex 256 128",
-            b"vertex 256 0",
-            b"sector 0 128 FLOOR4_8 CEIL3_5 160 0 0",
-            b"side 0 0 - - STARTAN3 0",
-            b"line 0 1 1 0 0 0 -",
-            b"line 1 2 1 0 0 0 -",
-            b"line 2 3 1 0 0 0 -",
-            b"line 3 4 1 0 0 0 -",
-            b"line 4 5 1 0 0 0 -",
-            b"line 5 0 1 0 0 0 -",
-        ],
-    );
-    let wanted = [
-        ([false, false, false, false, false, false], Some(2)),
-        ([false, false, true, false, false, false], Some(3)),
-        ([false, false, true, true, false, false], None),
-    ];
-    for (used, want) in &wanted {
-        let want = want.map(|at| Choice {
-            at,
-            splits: 1,
-            right: 4,
-            left: 3,
-        });
-        let choice = chosen(&rt, rt.alloc(), &map, used)?;
-        assert_eq!(rt; choice, want);
+fn takes_the_first_of_the_cheapest(rt: HostRuntime) -> Result<(), Fail> {
+    for (lines, used, want) in CHOICES {
+        let maps = drawn(&rt, rt.alloc(), lines);
+        let choice = chosen(&rt, rt.alloc(), maps.current(), used)?;
+        assert_eq!(rt; numbers(choice), want, "{used:?}");
     }
     Ok(())
 }
 
-// Two lines on one straight line run against each other: each has the other on its left.
-#[test]
-fn parts_lines_that_run_against_each_other(rt: HostRuntime) -> Result<(), Fail> {
-    let map = drawn(
-        &rt,
-        rt.alloc(),
-        &[
-            b"vertex 0 0",
-            b"vertex 64 0",
-            b"vertex 128 0",
-            b"vertex 192 0",
-            b"sector 0 128 FLOOR4_8 CEIL3_5 160 0 0",
-            b"side 0 0 - - STARTAN3 0",
-            b"line 0 1 1 0 0 0 -",
-            b"line 3 2 1 0 0 0 -",
-        ],
-    );
-    let wanted = [([false, false], Some(0)), ([true, false], Some(1))];
-    for (used, want) in &wanted {
-        let want = want.map(|at| Choice {
-            at,
-            splits: 0,
-            right: 1,
-            left: 1,
-        });
-        let choice = chosen(&rt, rt.alloc(), &map, used)?;
-        assert_eq!(rt; choice, want);
-    }
-    Ok(())
-}
-
-// The crossing rounds to an end of its line, so nothing is left on the left.
 #[test]
 fn a_sliver_separates_nothing(rt: HostRuntime) -> Result<(), Fail> {
-    let map = drawn(
-        &rt,
-        rt.alloc(),
-        &[
-            b"vertex 10 0",
-            b"vertex 0 0",
-            b"vertex 8 17",
-            b"vertex 9 7",
-            b"sector 0 128 FLOOR4_8 CEIL3_5 160 0 0",
-            b"side 0 0 - - STARTAN3 0",
-            b"line 0 1 1 0 0 0 -",
-            b"line 2 3 1 0 0 0 -",
-        ],
-    );
-    let pieces = pieces_of(rt.alloc(), &map)?;
+    let maps = drawn(&rt, rt.alloc(), &SLIVER);
+    let pieces = pieces_of(rt.alloc(), maps.current())?;
     for partition in &pieces {
-        assert!(rt; !separates(&map, partition, &pieces));
+        assert!(rt; !separates(maps.current(), partition, &pieces));
     }
-    let choice = chosen(&rt, rt.alloc(), &map, &[false, false])?;
-    assert_eq!(rt; choice, None);
     Ok(())
 }
 
@@ -243,12 +169,12 @@ impl Sequence {
 }
 
 /// Draws seven vertices of a grid, side by side and so far apart.
-fn draw_row(rt: &impl Abort, alloc: Global, map: &mut Map, y: u32, apart: u32) -> Result<(), Fail>
+fn draw_row(rt: &impl Abort, alloc: Global, maps: &mut Maps, y: u32, apart: u32) -> Result<(), Fail>
     requires { apart < 100 }
 {
     for x in 0..7u32 {
         let x = x * apart;
-        draw(rt, map, format!(in alloc; "vertex {x} {y}")?.as_bytes());
+        draw(rt, maps, format!(in alloc; "vertex {x} {y}")?.as_bytes());
     }
     Ok(())
 }
@@ -261,19 +187,12 @@ pub(crate) fn draw_tangle(
     numbers: &mut Sequence,
     lines: u32,
     apart: u32,
-) -> Result<Map, Fail>
+) -> Result<Maps, Fail>
     requires { apart < 100 }
 {
-    let mut map = drawn(
-        rt,
-        alloc,
-        &[
-            b"sector 0 128 FLOOR4_8 CEIL3_5 160 0 0",
-            b"side 0 0 - - STARTAN3 0",
-        ],
-    );
+    let mut maps = drawn(rt, alloc, &[SECTOR, SIDE]);
     for y in 0..7u32 {
-        draw_row(rt, alloc, &mut map, y * apart, apart)?;
+        draw_row(rt, alloc, &mut maps, y * apart, apart)?;
     }
     for _ in 0..lines {
         let from = numbers.below(49);
@@ -285,11 +204,11 @@ pub(crate) fn draw_tangle(
         };
         draw(
             rt,
-            &mut map,
+            &mut maps,
             format!(in alloc; "line {from} {to} {left}")?.as_bytes(),
         );
     }
-    Ok(map)
+    Ok(maps)
 }
 
 // Lists of 5 to 60 pieces: the choice by both calls is that of a plain walk.
@@ -299,12 +218,12 @@ fn chooses_as_a_plain_walk(rt: HostRuntime) -> Result<(), Fail> {
     let mut found = 0u32;
     for list in 0..200 {
         let lines = 5 + list % 26;
-        let map = draw_tangle(&rt, rt.alloc(), &mut numbers, lines, 12)?;
+        let maps = draw_tangle(&rt, rt.alloc(), &mut numbers, lines, 12)?;
         let mut used = Vec::new(rt.alloc());
         for _ in 0..lines {
             used.push(numbers.below(4) == 0)?;
         }
-        if chosen(&rt, rt.alloc(), &map, &used)?.is_some() {
+        if chosen(&rt, rt.alloc(), maps.current(), &used)?.is_some() {
             found = found.wrapping_add(1);
         }
     }

@@ -1,6 +1,6 @@
 //! Drawn maps built into PWADs: the worked examples, what is read of their bytes, and what is wrong with changed ones.
 
-use crate::nodes::{ROOM, SECTOR, SIDE, drawn};
+use crate::drawing::{ROOM, SECTOR, SIDE, drawn};
 use lv_blockmap::{BlockmapError, blockmap, touches};
 use lv_lumps::Vertex;
 use lv_maptables::Map;
@@ -11,8 +11,8 @@ use std::test::Fail;
 
 /// The PWAD of the map that the lines leave.
 fn built(rt: &impl Abort, alloc: Global, lines: &[&[u8]]) -> Vec<u8> {
-    let map = drawn(rt, alloc, lines);
-    build_wad(alloc, &map).expect(rt, "a PWAD")
+    let maps = drawn(rt, alloc, lines);
+    build_wad(alloc, maps.current()).expect(rt, "a PWAD")
 }
 
 const SINGLE: [&[u8]; 5] = [

@@ -2,74 +2,39 @@ ghost use Rattle.std.specs.Prelude.{◌<◌, length, All};
 ghost use Rattle.lv_segs.specs.Pieces.{IsPiece};
 ghost use Rattle.lv_segs.specs.Edges.{edges_of};
 
-use lv_commands::{apply, parse};
+use crate::drawing::{CUT, L, SECTOR, SLIVER, drawn};
 use lv_lumps::{Bounds, Vertex};
 use lv_maptables::Map;
 use lv_segs::{
     Facing, Frac, Parts, Piece, Place, Points, SegsError, angle16, boxes_in, divide, edges_of,
     offset, pieces_of, point, side_of,
 };
-use std::alloc::Global;
-use std::process::Abort;
 use std::test::Fail;
 
-/// The longest body that a map can have.
-const AMPLE: u32 = 2_007_002;
+/// Vectors and their angles. The diagonals of the greatest ones are exact; beside an axis the last bit decides.
+#[rattlefmt::skip]
+const ANGLES: [([i16; 2], u16); 12] = [
+    ([1, 0], 0), ([1, 1], 8192), ([0, 1], 16384), ([128, 64], 4836), ([-1, 0], 32768), ([0, -1], 49152),
+    ([32767, 32767], 8192), ([-32767, 32767], 24576), ([-32767, -32767], 40960), ([32767, -32767], 57344),
+    ([32767, 1], 0), ([32767, -1], 65535),
+];
 
-/// The map that the lines draw, each of which is accepted.
-fn drawn(rt: &impl Abort, alloc: Global, lines: &[&[u8]]) -> Map {
-    let mut map = Map::new(alloc);
-    for line in lines {
-        let command = parse(*line).expect(rt, "a command");
-        if map.body_len() <= AMPLE {
-            assert!(rt; apply(&mut map, &command, AMPLE).is_ok(), "{line:?}");
-        }
+/// The angle of a vector that isn't zero.
+fn angle(x: i16, y: i16) -> Option<u16> {
+    if x == i16::MIN || y == i16::MIN {
+        return None;
     }
-    map
-}
-
-/// A piece's line, side and fractions.
-type Fields = (u16, Facing, [i128; 4]);
-
-fn fields(piece: Option<Piece>) -> Option<Fields> {
-    let piece = piece?;
-    let fractions = [piece.from.n, piece.from.d, piece.to.n, piece.to.d];
-    Some((piece.line, piece.side, fractions))
-}
-
-/// What the piece `by` of a list makes of the piece `at`: its place, and its parts.
-fn parts(map: &Map, pieces: &[Piece], by: usize, at: usize) -> (Place, Parts)
-    requires pieces { All (IsPiece (edges_of map.now.tables)) pieces.now }
-    requires by { by < length pieces.now }
-    requires at { at < length pieces.now }
-{
-    let partition = pieces[by];
-    let piece = pieces[at];
-    (
-        side_of(map, &partition, &piece),
-        divide(map, &partition, &piece),
-    )
+    if x == 0 && y == 0 {
+        return None;
+    }
+    Some(angle16(i32::from(x), i32::from(y)))
 }
 
 #[test]
 fn angles(rt: HostRuntime) {
-    assert_eq!(rt; angle16(1, 0), 0);
-    assert_eq!(rt; angle16(1, 1), 8192);
-    assert_eq!(rt; angle16(0, 1), 16384);
-    assert_eq!(rt; angle16(128, 64), 4836);
-    assert_eq!(rt; angle16(-1, 0), 32768);
-    assert_eq!(rt; angle16(0, -1), 49152);
-}
-
-// The diagonals of the greatest vectors are exact; beside an axis the last bit decides.
-#[test]
-fn angles_of_long_vectors(rt: HostRuntime) {
-    assert_eq!(rt; angle16(32767, 32767), 8192);
-    assert_eq!(rt; angle16(-32767, 32767), 24576);
-    assert_eq!(rt; angle16(-32767, -32767), 40960);
-    assert_eq!(rt; angle16(32767, -32767), 57344);
-    assert_eq!(rt; angle16(32767, 1), 0);
-    assert_eq!(rt; angle16(32767, -1), 65535);
+    for ([x, y], want) in ANGLES {
+        assert_eq!(rt; angle(x, y), Some(want), "{x} {y}");
+    }
 }
 
 #[test]
@@ -103,183 +68,95 @@ fn offsets(rt: HostRuntime) {
     assert_eq!(rt; offset(west, east), 32767);
 }
 
-// Two lines that cross a two-sided one at 20/50, and cut both its sides there.
-#[test]
-fn cuts_both_sides_at_one_fraction(rt: HostRuntime) -> Result<(), Fail> {
-    let map = drawn(
-        &rt,
-        rt.alloc(),
-        &[
-            b"vertex 0 0",
-            b"vertex 10 3",
-            b"vertex 4 10",
-            b"vertex 4 5",
-            b"vertex 4 -5",
-            b"vertex 4 -10",
-            b"sector 0 128 FLOOR4_8 CEIL3_5 160 0 0",
-            b"side 0 0 - - - 0",
-            b"line 0 1 4 0 0 0 0",
-            b"line 2 3 1 0 0 0 -",
-            b"line 4 5 1 0 0 0 -",
-        ],
-    );
-    let pieces = pieces_of(rt.alloc(), &map)?;
-    assert_eq!(rt; pieces.len(), 4);
-    let order: [(u16, Facing); 4] = [
-        (0, Facing::Along),
-        (0, Facing::Against),
-        (1, Facing::Along),
-        (2, Facing::Along),
-    ];
-    for (piece, want) in pieces.iter().zip(&order) {
-        assert_eq!(rt; (piece.line, piece.side), *want);
-    }
-    let (place, right_side) = parts(&map, &pieces, 2, 0);
-    assert_eq!(rt; place, Place::Across);
-    assert_eq!(rt;
-        fields(right_side.right),
-        Some((0, Facing::Along, [0, 1, 20, 50]))
-    );
-    assert_eq!(rt;
-        fields(right_side.left),
-        Some((0, Facing::Along, [20, 50, 1, 1]))
-    );
-    let (_, left_side) = parts(&map, &pieces, 2, 1);
-    assert_eq!(rt;
-        fields(left_side.right),
-        Some((0, Facing::Against, [0, 1, 20, 50]))
-    );
-    assert_eq!(rt;
-        fields(left_side.left),
-        Some((0, Facing::Against, [20, 50, 1, 1]))
-    );
-    Ok(())
-}
+/// A piece's line and side, and the numerators and denominators of where it begins and ends.
+type Fields = (u16, Facing, [i128; 4]);
 
-// A crossing that rounds to an end of its line: the part between is left out.
-#[test]
-fn leaves_a_sliver_out(rt: HostRuntime) -> Result<(), Fail> {
-    let map = drawn(
-        &rt,
-        rt.alloc(),
-        &[
-            b"vertex 10 0",
-            b"vertex 0 0",
-            b"vertex 8 17",
-            b"vertex 9 7",
-            b"sector 0 128 FLOOR4_8 CEIL3_5 160 0 0",
-            b"side 0 0 - - STARTAN3 0",
-            b"line 0 1 1 0 0 0 -",
-            b"line 2 3 1 0 0 0 -",
-        ],
-    );
-    let pieces = pieces_of(rt.alloc(), &map)?;
-    assert_eq!(rt; pieces.len(), 2);
-    let (place, made) = parts(&map, &pieces, 1, 0);
-    assert_eq!(rt; place, Place::Across);
-    assert_eq!(rt;
-        fields(made.right),
-        Some((0, Facing::Along, [3, 100, 1, 1]))
-    );
-    assert_eq!(rt; fields(made.left), None);
-    Ok(())
-}
+/// Lines, and of the pieces of their map's sides which one is cut, by which, how it lies, and its parts on the right and
+/// on the left.
+type Row = (
+    &'static [&'static [u8]],
+    [usize; 2],
+    Place,
+    [Option<Fields>; 2],
+);
 
-/// The L of six lines.
-const L: [&[u8]; 14] = [
-    b"vertex 0 0",
-    b"vertex 0 256",
-    b"vertex 128 256",
-    b"vertex 128 128",
-    b"vertex 256 128",
-    b"vertex 256 0",
-    b"sector 0 128 FLOOR4_8 CEIL3_5 160 0 0",
-    b"side 0 0 - - STARTAN3 0",
-    b"line 0 1 1 0 0 0 -",
-    b"line 1 2 1 0 0 0 -",
-    b"line 2 3 1 0 0 0 -",
-    b"line 3 4 1 0 0 0 -",
-    b"line 4 5 1 0 0 0 -",
-    b"line 5 0 1 0 0 0 -",
+/// Four lines' ends on one straight line, and three lines: the direction decides.
+#[rattlefmt::skip]
+const COLLINEAR: [&[u8]; 9] = [
+    b"vertex 0 0", b"vertex 64 0", b"vertex 128 0", b"vertex 192 0", SECTOR, b"side 0 0 - - - 0",
+    b"line 0 1 4 0 0 0 0", b"line 2 3 1 0 0 0 -", b"line 3 1 1 0 0 0 -",
 ];
 
-// The third line of the L cuts the last one in the middle: 128 by 128 of 256 by 128.
-#[test]
-fn cuts_the_l_in_the_middle(rt: HostRuntime) -> Result<(), Fail> {
-    let map = drawn(&rt, rt.alloc(), &L);
-    let pieces = pieces_of(rt.alloc(), &map)?;
-    assert_eq!(rt; pieces.len(), 6);
-    let (place, made) = parts(&map, &pieces, 2, 5);
-    assert_eq!(rt; place, Place::Across);
-    assert_eq!(rt;
-        fields(made.right),
-        Some((5, Facing::Along, [16384, 32768, 1, 1]))
-    );
-    assert_eq!(rt;
-        fields(made.left),
-        Some((5, Facing::Along, [0, 1, 16384, 32768]))
-    );
-    Ok(())
+#[rattlefmt::skip]
+const CUTS: [Row; 11] = [
+    (&CUT, [0, 2], Place::Across,
+        [Some((0, Facing::Along, [0, 1, 20, 50])), Some((0, Facing::Along, [20, 50, 1, 1]))]),
+    (&CUT, [1, 2], Place::Across,
+        [Some((0, Facing::Against, [0, 1, 20, 50])), Some((0, Facing::Against, [20, 50, 1, 1]))]),
+    (&SLIVER, [0, 1], Place::Across, [Some((0, Facing::Along, [3, 100, 1, 1])), None]),
+    (&L, [5, 2], Place::Across,
+        [Some((5, Facing::Along, [16384, 32768, 1, 1])), Some((5, Facing::Along, [0, 1, 16384, 32768]))]),
+    (&COLLINEAR, [0, 0], Place::Right, [Some((0, Facing::Along, [0, 1, 1, 1])), None]),
+    (&COLLINEAR, [1, 0], Place::Left, [None, Some((0, Facing::Against, [0, 1, 1, 1]))]),
+    (&COLLINEAR, [2, 0], Place::Right, [Some((1, Facing::Along, [0, 1, 1, 1])), None]),
+    (&COLLINEAR, [3, 0], Place::Left, [None, Some((2, Facing::Along, [0, 1, 1, 1]))]),
+    (&COLLINEAR, [0, 1], Place::Left, [None, Some((0, Facing::Along, [0, 1, 1, 1]))]),
+    (&COLLINEAR, [3, 1], Place::Right, [Some((2, Facing::Along, [0, 1, 1, 1])), None]),
+    (&COLLINEAR, [2, 3], Place::Left, [None, Some((1, Facing::Along, [0, 1, 1, 1]))]),
+];
+
+fn fields(piece: Option<Piece>) -> Option<Fields> {
+    let piece = piece?;
+    let fractions = [piece.from.n, piece.from.d, piece.to.n, piece.to.d];
+    Some((piece.line, piece.side, fractions))
 }
 
-// On one straight line the direction decides.
+/// What the piece `by` of a list makes of the piece `at`: its place, and its parts.
+fn parts(map: &Map, pieces: &[Piece], at: usize, by: usize) -> (Place, Parts)
+    requires pieces { All (IsPiece (edges_of map.now.tables)) pieces.now }
+    requires at { at < length pieces.now }
+    requires by { by < length pieces.now }
+{
+    let partition = pieces[by];
+    let piece = pieces[at];
+    (
+        side_of(map, &partition, &piece),
+        divide(map, &partition, &piece),
+    )
+}
+
 #[test]
-fn parts_collinear_pieces_by_direction(rt: HostRuntime) -> Result<(), Fail> {
-    let map = drawn(
-        &rt,
-        rt.alloc(),
-        &[
-            b"vertex 0 0",
-            b"vertex 64 0",
-            b"vertex 128 0",
-            b"vertex 192 0",
-            b"sector 0 128 FLOOR4_8 CEIL3_5 160 0 0",
-            b"side 0 0 - - - 0",
-            b"line 0 1 4 0 0 0 0",
-            b"line 2 3 1 0 0 0 -",
-            b"line 3 1 1 0 0 0 -",
-        ],
-    );
-    let pieces = pieces_of(rt.alloc(), &map)?;
-    assert_eq!(rt; pieces.len(), 4);
-    let wanted = [
-        (0, 0, Place::Right),
-        (0, 1, Place::Left),
-        (0, 2, Place::Right),
-        (0, 3, Place::Left),
-        (1, 0, Place::Left),
-        (1, 3, Place::Right),
-        (3, 2, Place::Left),
-    ];
-    for (by, at, want) in &wanted {
-        if *by < pieces.len() && *at < pieces.len() {
-            let (place, made) = parts(&map, &pieces, *by, *at);
-            assert_eq!(rt; place, *want);
-            assert_eq!(rt; made.right.is_some(), place == Place::Right);
-            assert_eq!(rt; made.left.is_some(), place == Place::Left);
-        }
+fn pieces_are_cut(rt: HostRuntime) -> Result<(), Fail> {
+    for (lines, [at, by], place, [right, left]) in CUTS {
+        let maps = drawn(&rt, rt.alloc(), lines);
+        let pieces = pieces_of(rt.alloc(), maps.current())?;
+        assert!(rt; at < pieces.len() && by < pieces.len());
+        let (found, parts) = parts(maps.current(), &pieces, at, by);
+        assert_eq!(rt; found, place);
+        assert_eq!(rt; fields(parts.right), right);
+        assert_eq!(rt; fields(parts.left), left);
     }
     Ok(())
 }
 
-// The box of each piece is one step wider than its ends.
+/// The box of each piece of the L: one step wider than its ends.
+const L_BOXES: [[i16; 4]; 6] = [
+    [257, -1, -1, 1],
+    [257, 255, -1, 129],
+    [257, 127, 127, 129],
+    [129, 127, 127, 257],
+    [129, -1, 255, 257],
+    [1, -1, -1, 257],
+];
+
 #[test]
 fn boxes_are_one_step_wider(rt: HostRuntime) -> Result<(), Fail> {
-    let map = drawn(&rt, rt.alloc(), &L);
-    let edges = edges_of(rt.alloc(), &map)?;
-    let pieces = pieces_of(rt.alloc(), &map)?;
+    let maps = drawn(&rt, rt.alloc(), &L);
+    let edges = edges_of(rt.alloc(), maps.current())?;
+    let pieces = pieces_of(rt.alloc(), maps.current())?;
     let boxes = boxes_in(rt.alloc(), &edges, &pieces)?;
-    let wanted = [
-        (257, -1, -1, 1),
-        (257, 255, -1, 129),
-        (257, 127, 127, 129),
-        (129, 127, 127, 257),
-        (129, -1, 255, 257),
-        (1, -1, -1, 257),
-    ];
-    assert_eq!(rt; boxes.len(), wanted.len());
-    for (found, want) in boxes.iter().zip(&wanted) {
-        let (top, bottom, left, right) = *want;
+    assert_eq!(rt; boxes.len(), L_BOXES.len());
+    for (found, [top, bottom, left, right]) in boxes.iter().zip(L_BOXES.iter().copied()) {
         let want = Bounds {
             top,
             bottom,
@@ -302,8 +179,8 @@ fn nth_place(n: u32) -> Vertex {
 // A map's vertices have their own numbers, the new places the next ones, and there are 32,767.
 #[test]
 fn numbers_each_place_once(rt: HostRuntime) -> Result<(), Fail> {
-    let map = drawn(&rt, rt.alloc(), &[b"vertex 0 0", b"vertex 1 0"]);
-    let mut points = Points::new(rt.alloc(), &map)?;
+    let maps = drawn(&rt, rt.alloc(), &[b"vertex 0 0", b"vertex 1 0"]);
+    let mut points = Points::new(rt.alloc(), maps.current())?;
     assert_eq!(rt; points.len(), 2);
     for n in 0..32_767 {
         assert_eq!(rt; points.number(nth_place(n)), Ok(n));

@@ -195,11 +195,12 @@ fn are_children(alloc: Global, tree: &Built) -> Result<bool, Fail> {
 fn trees_of_tangles_are_sound(rt: HostRuntime) -> Result<(), Fail> {
     let mut numbers = Sequence { state: 40 };
     for n in 0..200 {
-        let map = draw_tangle(&rt, rt.alloc(), &mut numbers, 40, 1 + n % 24)?;
-        let tree = build_tree(rt.alloc(), &map).expect(&rt, "a tree");
+        let maps = draw_tangle(&rt, rt.alloc(), &mut numbers, 40, 1 + n % 24)?;
+        let map = maps.current();
+        let tree = build_tree(rt.alloc(), map).expect(&rt, "a tree");
         assert!(rt; are_children(rt.alloc(), &tree)?, "children of {n}");
-        assert!(rt; are_tiled(&map, &tree), "subsectors of {n}");
-        assert!(rt; are_covered(rt.alloc(), &map, &tree)?, "sides of {n}");
+        assert!(rt; are_tiled(map, &tree), "subsectors of {n}");
+        assert!(rt; are_covered(rt.alloc(), map, &tree)?, "sides of {n}");
     }
     Ok(())
 }
