@@ -1,4 +1,5 @@
 pub mod Extremes
+pub mod SquareLemmas
 pub mod TouchLemmas
 pub mod FilingLemmas
 pub mod RowLemmas

@@ -38,7 +38,12 @@ abbrev pub grid_of : List LineEnds → Grid
 grid_of lines =
     let xs = map (λ v. v.x) (all_ends lines) in
     let ys = map (λ v. v.y) (all_ends lines) in
-    record { left = least xs; bottom = least ys; columns = blocks_over (least xs) (greatest xs); rows = blocks_over (least ys) (greatest ys) }
+    record {
+      left = least xs;
+      bottom = least ys;
+      columns = blocks_over (least xs) (greatest xs);
+      rows = blocks_over (least ys) (greatest ys);
+    }
 
 abbrev pub block_count : Grid → ℕ
 block_count g = g.columns * g.rows

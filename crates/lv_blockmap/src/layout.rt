@@ -20,7 +20,8 @@ const LIST_END: u16 = 0xffff;
 /// Where each of these lists begins, counted in words, if they stand one behind another from `first` on.
 fn starts_of(alloc: Global, first: usize, lists: &[&[u16]]) -> Result<Vec<u16>, BlockmapError>
     ensures ok { IfOk result (λ v. v.items ≡ starts first (map (λ l. l.now) lists.now)) }
-    ensures fit { OnOk result (All (λ at. at ≤ greatest_offset) (starts first (map (λ l. l.now) lists.now))) }
+    ensures fit { OnOk result
+        (All (λ at. at ≤ greatest_offset) (starts first (map (λ l. l.now) lists.now))) }
     ensures too_large { IsErrOf result BlockmapError.BlockmapTooLarge
         → ¬ All (λ at. at ≤ greatest_offset) (starts first (map (λ l. l.now) lists.now)) }
     ensures some_line { ¬ IsErrOf result BlockmapError.NothingToBuild }
@@ -89,7 +90,8 @@ fn put_offsets(bytes: &mut Vec<u8>, places: &[usize], starts: &[u16]) -> Result<
 
 /// A list's words: 0, its lines, and the end.
 fn put_list(bytes: &mut Vec<u8>, list: &[u16]) -> Result<(), BlockmapError>
-    ensures ok { OnOk result (bytes.new.items ≡ bytes.old.items ++ word_bytes (list_words list.now)) }
+    ensures ok { OnOk result (bytes.new.items
+        ≡ bytes.old.items ++ word_bytes (list_words list.now)) }
     ensures memory { IsOkUnless result BlockmapError.OutOfMemory }
 {
     put_word(bytes, 0)?;

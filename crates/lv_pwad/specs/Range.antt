@@ -30,7 +30,9 @@ pub record LineInRange (l : Lumps) (x : Line) : Type 0 where
   pub two_sided : is_two_sided x ≡ true → x.left ≢ no_side
 
 abbrev pub line_of_seg : Lumps → Seg → Line
-line_of_seg l s = get_or l.lines s.line (record { v1 = 0; v2 = 0; flags = 0; special = 0; tag = 0; right = 0; left = no_side })
+line_of_seg l s =
+    get_or l.lines s.line
+    (record { v1 = 0; v2 = 0; flags = 0; special = 0; tag = 0; right = 0; left = no_side })
 
 pub record SegInRange (l : Lumps) (s : Seg) : Type 0 where
   pub first : IsIn l.vertices s.first
@@ -76,7 +78,8 @@ pub record InRange (l : Lumps) : Type 0 where
   pub sides : All (λ s. IsIn l.sectors s.sector) l.sides
   pub segs : All (SegInRange l) l.segs
   pub tiles : Tiles 0 l.subs (length l.segs)
-  pub children : (i : ℕ) → i < length l.nodes → (n : Node) → get_or l.nodes i n ≡ n → ChildInRange l i n.right × ChildInRange l i n.left
+  pub children : (i : ℕ) → i < length l.nodes → (n : Node) → get_or l.nodes i n ≡ n
+      → ChildInRange l i n.right × ChildInRange l i n.left
   pub some_sub : 0 < length l.subs
   pub subs_once : (s : ℕ) → s < length l.subs → times_sub l s ≡ 1
   pub nodes_once : (i : ℕ) → i + 1 < length l.nodes → times_node l i ≡ 1

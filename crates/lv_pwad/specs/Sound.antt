@@ -21,7 +21,8 @@ use Rattle.lv_pwad.specs.Range.{InRange}
 use Rattle.lv_pwad.specs.Reject.{reject_size}
 use Rattle.lv_pwad.specs.Words.{words}
 use Rattle.lv_pwad.specs.declared.error.BuildError.{BuildError}
-use Rattle.lv_pwad.specs.declared.error.BuildError.TheVariants.{NothingToBuild, TooManyVertices, TooManySegs, TooManySubsectors, TooDeep, BlockmapTooLarge, OutOfMemory}
+use Rattle.lv_pwad.specs.declared.error.BuildError.TheVariants.{NothingToBuild, TooManyVertices, TooManySegs}
+use Rattle.lv_pwad.specs.declared.error.BuildError.TheVariants.{TooManySubsectors, TooDeep, BlockmapTooLarge, OutOfMemory}
 
 -- the bytes of REJECT: no sector is out of sight of another
 abbrev pub no_rejects : ℕ → List ℕ

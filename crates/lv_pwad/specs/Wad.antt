@@ -23,7 +23,8 @@ pub record Lump : Type 0 where
 -- the entries of lumps that stand one behind another from a place on
 abbrev pub entries_from : ℕ → List Lump → List Entry
 entries_from at [] = []
-entries_from at (l ∷ lumps) = record { at = at; size = length l.bytes; name = l.name } ∷ entries_from (at + length l.bytes) lumps
+entries_from at (l ∷ lumps) =
+    record { at = at; size = length l.bytes; name = l.name } ∷ entries_from (at + length l.bytes) lumps
 
 abbrev pub all_bytes : List Lump → List ℕ
 all_bytes lumps = flat_map (λ l. l.bytes) lumps
@@ -72,7 +73,8 @@ pub record IsPart (p : Part) : Type 0 where
 -- levels of different names that one WAD can hold
 pub record AreParts (parts : List Part) : Type 0 where
   pub each : All IsPart parts
-  pub differ : (i j : ℕ) (p : Part) → i < length parts → j < length parts → i ≢ j → name_text (get_or parts i p).name ≢ name_text (get_or parts j p).name
+  pub differ : (i j : ℕ) (p : Part) → i < length parts → j < length parts → i ≢ j
+      → name_text (get_or parts i p).name ≢ name_text (get_or parts j p).name
   pub fits : wad_size (all_lumps parts) < 4294967296
 
 -- the level is accepted under its name, and its lumps are read

@@ -45,7 +45,8 @@ fn blockmap_refusal(error: BlockmapError) -> BuildError
 
 /// The level of a map, with its tree and the bytes of its blockmap.
 fn level_of(alloc: Global, map: &Map, tree: Built, blockmap: Vec<u8>) -> Result<Level, BuildError>
-    ensures level { IfOk result (λ level. view level ≡ level_over map.now.tables tree blockmap.items) }
+    ensures level { IfOk result (λ level. view level
+        ≡ level_over map.now.tables tree blockmap.items) }
     ensures well_formed { IfOk result (λ level. WellFormed map.now.tables) }
     ensures memory { IsOkUnless result BuildError.OutOfMemory }
 {

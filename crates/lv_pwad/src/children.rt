@@ -38,7 +38,8 @@ fn has_children(level: &Level, number: usize, node: Node) -> bool
 
 /// Where the first node with a child out of range stands.
 fn child_place(level: &Level) -> Option<usize>
-    ensures { result ≡ first_wrong (node_children (view level.now)) (enumerate_from 0 level.now.nodes.items) }
+    ensures { result
+        ≡ first_wrong (node_children (view level.now)) (enumerate_from 0 level.now.nodes.items) }
 {
     for n in 0..level.nodes.len() {
         if !has_children(level, n, level.nodes[n]) {

@@ -8,12 +8,13 @@ ghost use Rattle.lv_pwad.specs.Sound.{IsSoundBuild, IsSoundLevel};
 ghost use Rattle.lv_pwad.specs.Views.{RefusesLevel};
 ghost use Rattle.lv_pwad.specs.declared.error.ReadError.{ReadError};
 
-/// `read_level` of the bytes of a sound build gives a sound level of the map, or lacks memory; `audit` finds no fault in
-/// that level.
+/// `read_level` of the bytes of a sound build gives a sound level of the map, or lacks memory; `audit` finds no fault
+/// in that level.
 pub fn sound_builds_read_back()
     ensures read { (m : Tables) (wad : List ℕ) (level : Lumps)
         → IsSoundBuild m wad → IsLevel wad (name_text m.name) level → IsSoundLevel m level }
     ensures memory { (m : Tables) (wad : List ℕ) (e : ReadError)
         → IsSoundBuild m wad → RefusesLevel wad (name_text m.name) e → e ≡ ReadError.OutOfMemory }
-    ensures no_fault { (m : Tables) (level : Lumps) → IsSoundLevel m level → first_fault level ≡ None }
+    ensures no_fault { (m : Tables) (level : Lumps)
+        → IsSoundLevel m level → first_fault level ≡ None }
 {}

@@ -44,7 +44,8 @@ fn copied(alloc: Global, bytes: &[u8]) -> Result<Vec<u8>, BuildError>
 
 /// Appends the lumps that stand before the tree: things, lines, sides, vertices.
 fn push_drawn(alloc: Global, lumps: &mut Vec<NamedLump>, level: &Level) -> Result<(), BuildError>
-    ensures lumps { OnOk result (views lumps.new.items ≡ views lumps.old.items ++ drawn_lumps (view level.now)) }
+    ensures lumps { OnOk result (views lumps.new.items
+        ≡ views lumps.old.items ++ drawn_lumps (view level.now)) }
     ensures coded { OnOk result (IsDrawnCoded (view level.now)) }
     ensures memory { IsOkUnless result BuildError.OutOfMemory }
 {
@@ -61,7 +62,8 @@ fn push_drawn(alloc: Global, lumps: &mut Vec<NamedLump>, level: &Level) -> Resul
 
 /// Appends the lumps of the tree: segs, subsectors, nodes.
 fn push_tree(alloc: Global, lumps: &mut Vec<NamedLump>, level: &Level) -> Result<(), BuildError>
-    ensures lumps { OnOk result (views lumps.new.items ≡ views lumps.old.items ++ tree_lumps (view level.now)) }
+    ensures lumps { OnOk result (views lumps.new.items
+        ≡ views lumps.old.items ++ tree_lumps (view level.now)) }
     ensures coded { OnOk result (IsTreeCoded (view level.now)) }
     ensures memory { IsOkUnless result BuildError.OutOfMemory }
 {
@@ -73,7 +75,8 @@ fn push_tree(alloc: Global, lumps: &mut Vec<NamedLump>, level: &Level) -> Result
 
 /// Appends the lumps that stand behind the tree: sectors, REJECT, BLOCKMAP.
 fn push_last(alloc: Global, lumps: &mut Vec<NamedLump>, level: &Level) -> Result<(), BuildError>
-    ensures lumps { OnOk result (views lumps.new.items ≡ views lumps.old.items ++ last_lumps (view level.now)) }
+    ensures lumps { OnOk result (views lumps.new.items
+        ≡ views lumps.old.items ++ last_lumps (view level.now)) }
     ensures coded { OnOk result (IsLastCoded (view level.now)) }
     ensures memory { IsOkUnless result BuildError.OutOfMemory }
 {

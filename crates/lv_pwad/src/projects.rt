@@ -28,8 +28,8 @@ fn levels_of(alloc: Global, maps: &Maps) -> Result<Vec<NamedLevel>, BuildError>
     ensures levels { IfOk result (λ v. AreLevelsOf (project_of maps.now).maps v.items) }
     ensures well_formed { OnOk result (WellFormedProject (project_of maps.now)) }
     ensures refused { IfErr result (IsRefusalOfAll (project_of maps.now).maps) }
-    ensures nothing { (m : Tables) → slice_get (project_of maps.now).maps 0 ≡ Some m → length m.lines ≡ 0
-        → result ≡ Err BuildError.NothingToBuild }
+    ensures nothing { (m : Tables) → slice_get (project_of maps.now).maps 0 ≡ Some m
+        → length m.lines ≡ 0 → result ≡ Err BuildError.NothingToBuild }
 {
     let mut levels = Vec::new(alloc);
     for n in 0..maps.len() {
@@ -53,8 +53,8 @@ pub fn build_all(alloc: Global, maps: &Maps) -> Result<Vec<u8>, BuildError>
     ensures sound { IfOk result (λ wad. IsSoundBuildOfAll (project_of maps.now).maps wad.items) }
     ensures buildable { OnOk result (All IsBuildable (project_of maps.now).maps) }
     ensures refused { IfErr result (IsRefusalOfAll (project_of maps.now).maps) }
-    ensures nothing { (m : Tables) → slice_get (project_of maps.now).maps 0 ≡ Some m → length m.lines ≡ 0
-        → result ≡ Err BuildError.NothingToBuild }
+    ensures nothing { (m : Tables) → slice_get (project_of maps.now).maps 0 ≡ Some m
+        → length m.lines ≡ 0 → result ≡ Err BuildError.NothingToBuild }
 {
     let levels = match levels_of(alloc, maps) {
         Ok(levels) => levels,

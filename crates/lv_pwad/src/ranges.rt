@@ -78,7 +78,8 @@ fn line_vertex_place(level: &Level) -> Option<usize>
 
 /// The first line with an end out of range.
 fn line_vertex(level: &Level) -> Option<Fault>
-    ensures { result ≡ option_map LineVertex (first_wrong (line_vertices (view level.now)) level.now.lines.items) }
+    ensures { result
+        ≡ option_map LineVertex (first_wrong (line_vertices (view level.now)) level.now.lines.items) }
 {
     match line_vertex_place(level) {
         Some(n) => Some(Fault::LineVertex(n)),
@@ -95,7 +96,8 @@ fn line_side_place(level: &Level) -> Option<usize>
 
 /// The first line with a side out of range.
 fn line_side(level: &Level) -> Option<Fault>
-    ensures { result ≡ option_map LineSide (first_wrong (line_sides (view level.now)) level.now.lines.items) }
+    ensures { result
+        ≡ option_map LineSide (first_wrong (line_sides (view level.now)) level.now.lines.items) }
 {
     match line_side_place(level) {
         Some(n) => Some(Fault::LineSide(n)),
@@ -105,7 +107,8 @@ fn line_side(level: &Level) -> Option<Fault>
 
 /// Where the first fault of this kind stands.
 fn side_sector_place(level: &Level) -> Option<usize>
-    ensures { result ≡ first_wrong (λ s. is_in (view level.now).sectors s.sector) level.now.sides.items }
+    ensures { result
+        ≡ first_wrong (λ s. is_in (view level.now).sectors s.sector) level.now.sides.items }
 {
     level
         .sides
@@ -115,7 +118,9 @@ fn side_sector_place(level: &Level) -> Option<usize>
 
 /// The first side with its sector out of range.
 fn side_sector(level: &Level) -> Option<Fault>
-    ensures { result ≡ option_map SideSector (first_wrong (λ s. is_in (view level.now).sectors s.sector) level.now.sides.items) }
+    ensures { result
+        ≡ option_map SideSector
+        (first_wrong (λ s. is_in (view level.now).sectors s.sector) level.now.sides.items) }
 {
     match side_sector_place(level) {
         Some(n) => Some(Fault::SideSector(n)),
@@ -132,7 +137,8 @@ fn seg_vertex_place(level: &Level) -> Option<usize>
 
 /// The first seg with an end out of range.
 fn seg_vertex(level: &Level) -> Option<Fault>
-    ensures { result ≡ option_map SegVertex (first_wrong (seg_vertices (view level.now)) level.now.segs.items) }
+    ensures { result
+        ≡ option_map SegVertex (first_wrong (seg_vertices (view level.now)) level.now.segs.items) }
 {
     match seg_vertex_place(level) {
         Some(n) => Some(Fault::SegVertex(n)),
@@ -152,7 +158,9 @@ fn seg_line_place(level: &Level) -> Option<usize>
 
 /// The first seg with its line out of range.
 fn seg_line(level: &Level) -> Option<Fault>
-    ensures { result ≡ option_map SegLine (first_wrong (λ s. is_in (view level.now).lines s.line) level.now.segs.items) }
+    ensures { result
+        ≡ option_map SegLine
+        (first_wrong (λ s. is_in (view level.now).lines s.line) level.now.segs.items) }
 {
     match seg_line_place(level) {
         Some(n) => Some(Fault::SegLine(n)),
@@ -169,7 +177,8 @@ fn seg_side_place(level: &Level) -> Option<usize>
 
 /// The first seg on a side that its line lacks.
 fn seg_side(level: &Level) -> Option<Fault>
-    ensures { result ≡ option_map SegSide (first_wrong (seg_side (view level.now)) level.now.segs.items) }
+    ensures { result
+        ≡ option_map SegSide (first_wrong (seg_side (view level.now)) level.now.segs.items) }
 {
     match seg_side_place(level) {
         Some(n) => Some(Fault::SegSide(n)),

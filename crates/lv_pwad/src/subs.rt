@@ -13,7 +13,8 @@ fn begins_at(sub: Sub, at: usize) -> bool
     sub.count > 0 && sub.first as usize == at && sub.first <= 32767
 }
 
-/// The first subsector that is empty or whose segs don't follow those of the one before; else whether they are all segs.
+/// The first subsector that is empty or whose segs don't follow those of the one before; else whether they are all
+/// segs.
 pub fn sub_fault(level: &Level) -> Option<Fault>
     ensures { result ≡ first_some (sub_faults (view level.now)) }
 {
