@@ -2,6 +2,7 @@
 # What the program does at its edges, where the gate can't look: `sh crates/leveled/edges.sh bin/leveled`.
 # Prints each case that isn't as it should be, and ends with status 1 if there is one.
 program=$1
+place=$(mktemp -d)
 bad=0
 
 # NAME STATUS: the status of the last command
@@ -21,8 +22,22 @@ said=$("$program" scratch "$(printf '\377')" 2>&1); status_is 'a word that is no
 [ "$said" = 'leveled: word 2 is no text' ] || { echo "a word that is no text says: $said"; bad=1; }
 printf 'vertex 0 0\n' | "$program" scratch >/dev/full 2>/dev/null; status_is 'answers on a full disk' 1 $?
 
+# Help and the manual page have the same subcommands, each tells of itself, and help has each line of the page.
+page=$(dirname "$0")/../../docs/leveled.1
+"$program" --help > "$place/help"
+sed -n '/^Commands:/,/^$/s/^  \([a-z]*\) .*/\1/p' "$place/help" | sort > "$place/told"
+sed -n 's/^\.B leveled \([a-z]*\)$/\1/p' "$page" | sort > "$place/written"
+cmp -s "$place/told" "$place/written" || { echo 'help and the manual page have other subcommands'; bad=1; }
+while read -r word; do
+    "$program" "$word" --help | grep -q "^Usage: leveled $word" || { echo "$word --help says nothing of it"; bad=1; }
+done < "$place/told"
+sed -n '/^\.TS/,/^\.TE/p' "$page" | sed -n 's/^\([a-z][a-z, -]*\).*\t.*/\1/p' | tr -d ',' | tr ' ' '\n' |
+    while read -r word; do
+        grep -qw -e "$word" "$place/help" || echo "help lacks $word"
+    done > "$place/lacks"
+[ ! -s "$place/lacks" ] || { cat "$place/lacks"; bad=1; }
+
 # A folder and a missing file are no project; what can't be told is kept.
-place=$(mktemp -d)
 for word in create edit check; do
     said=$("$program" "$word" "$place" </dev/null 2>&1); status_is "$word of a folder" 1 $?
     [ "$said" = 'leveled: 30 Device' ] || { echo "$word of a folder says: $said"; bad=1; }

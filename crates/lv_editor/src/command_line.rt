@@ -3,6 +3,7 @@ ghost use Rattle.clap.specs.Words.{app_of, first_of, found_of, new_app, rows_of,
 ghost use Rattle.lv_editor.specs.Request.{AsksFor, HasNumber, IsArg, IsCommand, IsRefusal, IsSubcommand, LacksNumber, RefusesText, RefusesValues, build_app, create_app, inspect_app, journal_rule, leveled_app, option_rule, slot_rule, with_subcommands, with_word, word_rule};
 
 use crate::asked::{Request, RequestError};
+use crate::help;
 use clap::{Arg, ArgMatches, Command, Error, value_parser};
 use std::alloc::Global;
 
@@ -14,17 +15,22 @@ fn word(alloc: Global, id: &str) -> Arg<'_>
 }
 
 /// A subcommand without arguments.
-fn named<'a>(alloc: Global, name: &'a str, about: &'a str) -> Command<'a>
+fn named<'a>(alloc: Global, name: &'a str, about: &'a str, help: &'a str) -> Command<'a>
     ensures { IsCommand result (new_app name.now) }
 {
-    Command::new(alloc, name).about(about)
+    Command::new(alloc, name).about(about).after_help(help)
 }
 
 /// A subcommand over a file.
-fn over_file<'a>(alloc: Global, name: &'a str, about: &'a str) -> Result<Command<'a>, Error>
+fn over_file<'a>(
+    alloc: Global,
+    name: &'a str,
+    about: &'a str,
+    help: &'a str,
+) -> Result<Command<'a>, Error>
     ensures { IfOk result (λ c. IsCommand c (with_word name.now (codes "file"))) }
 {
-    Ok(named(alloc, name, about).arg(word(alloc, "file"))?)
+    Ok(named(alloc, name, about, help).arg(word(alloc, "file"))?)
 }
 
 /// `--ID N`, with the N that is taken where there is none.
@@ -53,7 +59,7 @@ fn create<'a>(alloc: Global) -> Result<Command<'a>, Error>
     ensures { IfOk result (λ c. IsCommand c create_app) }
 {
     Ok(
-        over_file(alloc, "create", "Makes a project file")?
+        over_file(alloc, "create", "Makes a project file", help::CREATE)?
             .arg(slot(alloc))?
             .arg(journal(alloc))?,
     )
@@ -63,7 +69,10 @@ fn create<'a>(alloc: Global) -> Result<Command<'a>, Error>
 fn build<'a>(alloc: Global) -> Result<Command<'a>, Error>
     ensures { IfOk result (λ c. IsCommand c build_app) }
 {
-    Ok(over_file(alloc, "build", "Builds a project's maps into a PWAD")?.arg(word(alloc, "out"))?)
+    Ok(
+        over_file(alloc, "build", "Builds a project's maps into a PWAD", help::BUILD)?
+            .arg(word(alloc, "out"))?,
+    )
 }
 
 /// `inspect`.
@@ -71,7 +80,7 @@ fn inspect<'a>(alloc: Global) -> Result<Command<'a>, Error>
     ensures { IfOk result (λ c. IsCommand c inspect_app) }
 {
     Ok(
-        named(alloc, "inspect", "Says whether a level of a WAD is sound")
+        named(alloc, "inspect", "Says whether a level of a WAD is sound", help::INSPECT)
             .arg(word(alloc, "wad"))?
             .arg(word(alloc, "name"))?,
     )
@@ -83,13 +92,14 @@ fn with_subcommands<'a>(alloc: Global) -> Result<Command<'a>, Error>
 {
     Ok(
         Command::new(alloc, "leveled")
-            .subcommand(named(alloc, "scratch", "Answers lines over maps in memory"))?
+            .subcommand(named(alloc, "scratch", "Answers lines over maps in memory", help::SCRATCH))?
             .subcommand(create(alloc)?)?
-            .subcommand(over_file(alloc, "edit", "Answers lines over a project file")?)?
+            .subcommand(over_file(alloc, "edit", "Answers lines over a project file", help::EDIT)?)?
             .subcommand(over_file(
                 alloc,
                 "check",
                 "Says what is wrong in a project's current map",
+                help::CHECK,
             )?)?
             .subcommand(inspect(alloc)?)?
             .subcommand(build(alloc)?)?,
@@ -104,6 +114,7 @@ fn leveled<'a>(alloc: Global) -> Result<Command<'a>, Error>
         with_subcommands(alloc)?
             .version("0.1.0")
             .about("Draws Doom maps by command lines")
+            .after_help(help::PROGRAM)
             .subcommand_required(true)
             .disable_help_subcommand(true),
     )

@@ -11,6 +11,7 @@ mod editing;
 mod error;
 mod examining;
 mod findings;
+mod help;
 mod hex;
 mod input_line;
 mod inspection;
