@@ -1,6 +1,7 @@
 pub mod ListLemmas
 pub mod FaultLemmas
 pub mod FormLemmas
+pub mod PlaceLemmas
 pub mod VertexLemmas
 pub mod SectorLemmas
 pub mod SideLemmas

@@ -38,7 +38,7 @@ impl Map {
         ensures memory { IsOkUnless result MapError.OutOfMemory }
     {
         let bytes = match kind {
-            Kind::Vertex => encode_vertices(alloc, &self.vertices),
+            Kind::Vertex => encode_vertices(alloc, self.vertices.as_slice()),
             Kind::Sector => encode_sectors(alloc, &self.sectors),
             Kind::Side => encode_sides(alloc, &self.sides),
             Kind::Line => encode_lines(alloc, &self.lines),

@@ -8,6 +8,7 @@ use crate::error::MapError;
 use crate::form::{are_apart, are_linked, have_sectors};
 use crate::map::Map;
 use crate::map::header::{count_at, name_at};
+use crate::map::vertex_table::VertexTable;
 use crate::ranges::{are_areas, are_places, is_named_with};
 use lv_lumps::{
     ITEM_LIMIT, Line, Name8, SECTOR_LIMIT, Sector, Side, Thing, Vertex, decode_lines,
@@ -107,9 +108,10 @@ impl Draft {
     }
 
     /// The map of well-formed tables.
-    pub(super) fn into_map(self) -> Map
+    pub(super) fn into_map(self, alloc: Global) -> Result<Map, MapError>
         requires { WellFormed self }
-        ensures { result.tables ≡ self }
+        ensures tables { IfOk result (λ m. m.tables ≡ self) }
+        ensures memory { IsOkUnless result MapError.OutOfMemory }
     {
         let Draft {
             name,
@@ -119,13 +121,13 @@ impl Draft {
             lines,
             things,
         } = self;
-        Map {
+        Ok(Map {
             name,
-            vertices,
+            vertices: VertexTable::of(alloc, vertices)?,
             sectors,
             sides,
             lines,
             things,
-        }
+        })
     }
 }

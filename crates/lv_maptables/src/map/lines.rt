@@ -39,7 +39,7 @@ impl Map {
     fn check_references(&self, line: &Line) -> Result<(), MapError>
         ensures { Tells result (reference_faults self.now.tables line.now) }
     {
-        if lacks_vertex(&self.vertices, line) {
+        if lacks_vertex(self.vertices.as_slice(), line) {
             return Err(MapError::NoVertex);
         }
         if lacks_side(&self.sides, line) {
@@ -58,7 +58,7 @@ impl Map {
         if self.lines.len() >= ITEM_LIMIT {
             return Err(MapError::TableFull);
         }
-        if is_too_long(&self.vertices, &line) {
+        if is_too_long(self.vertices.as_slice(), &line) {
             return Err(MapError::LineTooLong);
         }
         Ok(())
@@ -86,7 +86,7 @@ impl Map {
         self.check_references(&line)?;
         self.check_has_line(n)?;
         check_shape(&line)?;
-        if is_too_long(&self.vertices, &line) {
+        if is_too_long(self.vertices.as_slice(), &line) {
             return Err(MapError::LineTooLong);
         }
         Ok(())

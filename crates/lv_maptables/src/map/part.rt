@@ -24,7 +24,8 @@ pub fn first_map(alloc: Global, bytes: &[u8]) -> Result<Map, MapError>
     if !draft.is_well_formed(alloc)? {
         return Err(MapError::Damaged(0));
     }
-    Ok(draft.into_map())
+    let map = draft.into_map(alloc)?;
+    Ok(map)
 }
 
 /// Appends a count of items.

@@ -9,7 +9,6 @@ ghost use Rattle.lv_maptables.specs.Edits.{line_without_vertex, added_vertex, ch
 use crate::error::MapError;
 use crate::lengths::nth_vertex;
 use crate::map::Map;
-use crate::map::growth::append;
 use crate::map::numbers::lowered;
 use lv_lumps::{ITEM_LIMIT, LONGEST_SQUARED, Line, Vertex, squared_distance};
 
@@ -40,23 +39,6 @@ fn is_stretched(vertices: &[Vertex], moved: u32, to: Vertex, line: &Line) -> boo
     let start = vertex_after_move(vertices, moved, to, line.v1);
     let end = vertex_after_move(vertices, moved, to, line.v2);
     uses_vertex(line, moved) && squared_distance(start, end) > LONGEST_SQUARED
-}
-
-/// Whether a vertex has the place.
-fn has_place(vertices: &[Vertex], vertex: Vertex) -> bool
-    ensures { result ≡ is_taken vertices.now vertex }
-{
-    vertices.iter().any(|v| *v == vertex)
-}
-
-/// Whether another vertex than number `n` has the place.
-fn has_place_beside(vertices: &[Vertex], n: u32, vertex: Vertex) -> bool
-    ensures { result ≡ is_taken_beside vertices.now n vertex }
-{
-    vertices
-        .iter()
-        .enumerate()
-        .any(|(k, v)| k != n as usize && *v == vertex)
 }
 
 /// Whether a line begins or ends at the vertex.
@@ -105,14 +87,14 @@ impl Map {
     pub fn has_place(&self, vertex: Vertex) -> bool
         ensures { result ≡ is_taken self.now.tables.vertices vertex }
     {
-        has_place(&self.vertices, vertex)
+        self.vertices.has(vertex)
     }
 
     /// Whether a vertex can be added, memory aside: `PlaceTaken`, `TableFull`.
     pub fn can_add_vertex(&self, vertex: Vertex) -> Result<(), MapError>
         ensures { Tells result (vertex_faults self.now.tables vertex) }
     {
-        if has_place(&self.vertices, vertex) {
+        if self.vertices.has(vertex) {
             return Err(MapError::PlaceTaken);
         }
         if self.vertices.len() >= ITEM_LIMIT {
@@ -131,7 +113,7 @@ impl Map {
     {
         self.can_add_vertex(vertex)?;
         let number = self.vertices.len() as u32;
-        append(&mut self.vertices, vertex)?;
+        self.vertices.push(vertex)?;
         Ok(number)
     }
 
@@ -150,10 +132,10 @@ impl Map {
         ensures { Tells result (set_vertex_faults self.now.tables n vertex) }
     {
         self.check_has_vertex(n)?;
-        if has_place_beside(&self.vertices, n, vertex) {
+        if self.vertices.has_beside(n as usize, vertex) {
             return Err(MapError::PlaceTaken);
         }
-        if has_line_stretched(&self.lines, &self.vertices, n, vertex) {
+        if has_line_stretched(&self.lines, self.vertices.as_slice(), n, vertex) {
             return Err(MapError::LineTooLong);
         }
         Ok(())
@@ -167,7 +149,7 @@ impl Map {
         ensures places { places self.new.tables self.new.spare ≡ places self.old.tables self.old.spare }
     {
         self.can_set_vertex(n, vertex)?;
-        self.vertices[n as usize] = vertex;
+        self.vertices.set(n as usize, vertex);
         Ok(())
     }
 

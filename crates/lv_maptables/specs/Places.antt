@@ -1,0 +1,14 @@
+-- What a contract sees of the places that are taken.
+use Rattle.std.specs.Prelude.{◌≡◌, ℕ, List, length}
+use Rattle.lv_lumps.specs.declared.records.Vertex.{Vertex}
+use Rattle.lv_maptables.specs.Faults.{is_taken}
+
+-- the places, in some order, and for how many there is room
+pub record PlacesView : Type 0 where
+  pub marked : List Vertex
+  pub room : ℕ
+
+-- the places are those of the vertices
+pub record AreMarked (places : PlacesView) (vertices : List Vertex) : Type 0 where
+  pub taken : (v : Vertex) → is_taken places.marked v ≡ is_taken vertices v
+  pub count : length places.marked ≡ length vertices

@@ -1,0 +1,19 @@
+-- What the fields of a `VertexTable` mean, and what they keep.
+use Rattle.std.specs.Prelude.{◌≢◌, ◌-◌, ◌≤◌, length, min, vec_capacity, vec_len, AllPairs}
+use Rattle.lv_maptables.specs.declared.map.vertex_table.VertexTable.TheInside.{Inside}
+use Rattle.lv_maptables.specs.VertexTables.{VerticesView}
+use Rattle.lv_maptables.specs.Places.{AreMarked}
+
+-- a vertex more fits where both the list and the index have room for it
+abbrev pub vertices_of : Inside → VerticesView
+vertices_of a =
+    record {
+      items = a.items.items;
+      spare = min (vec_capacity a.items - vec_len a.items) (a.places.room - length a.items.items);
+    }
+
+-- no two vertices have one place, and the index has the places of them all, and no others
+pub record KeepsPlaces (a : Inside) : Type 0 where
+  pub apart : AllPairs (λ v w. v ≢ w) a.items.items
+  pub marked : AreMarked a.places a.items.items
+  pub within : length a.items.items ≤ a.places.room

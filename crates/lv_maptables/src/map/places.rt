@@ -1,0 +1,130 @@
+ghost use Rattle.std.specs.Prelude.{◌≡◌, ◌≢◌, ◌+◌, ◌<◌, ◌≤◌, ◌&&◌, ◌||◌, ◌^◌, List, not, [], true, false, length, AllPairs, IsOk, IsOkUnless, OnOk};
+ghost use Rattle.lv_lumps.specs.declared.records.Vertex.{Vertex};
+ghost use Rattle.lv_maptables.specs.Faults.{is_place, is_taken};
+ghost use Rattle.lv_maptables.specs.Places.{AreMarked};
+
+use crate::error::MapError;
+use lv_lumps::Vertex;
+use std::alloc::Global;
+use std::collections::HashSet;
+use std::marker::Model;
+
+/// The places that are taken. It has room for a number of places that only `reserve` changes.
+#[derive(Drop)]
+pub(super) struct Places {
+    taken: HashSet<Vertex>,
+    // The set has twice the room, since it may lose some where places go, and is filled again when the rest is gone.
+    room: usize,
+}
+
+impl Model for Places {
+    ghost use Rattle.lv_maptables.specs.Places.{PlacesView};
+
+    ghost Value = { PlacesView };
+
+    ghost use Rattle.lv_maptables.specs.PlacesFields.{places_of, KeepsRoom};
+
+    ghost view = { places_of };
+
+    ghost invariant = { KeepsRoom };
+}
+
+impl Places {
+    /// No place. It takes no memory.
+    pub(super) fn new(alloc: Global) -> Places
+        ensures marked { result.marked ≡ [] }
+        ensures room { result.room ≡ 0 }
+    {
+        Places {
+            taken: HashSet::new(alloc),
+            room: 0,
+        }
+    }
+
+    /// Whether the place is taken.
+    pub(super) fn has(&self, place: Vertex) -> bool
+        ensures { result ≡ is_taken self.now.marked place }
+    {
+        self.taken.contains(&place)
+    }
+
+    /// Makes room for a number of places in all.
+    pub(super) fn reserve(&mut self, total: usize) -> Result<(), MapError>
+        requires { total < 2 ^ 62 }
+        ensures marked { (vs : List Vertex) → AreMarked self.old vs → AreMarked self.new vs }
+        ensures room { self.old.room ≤ self.new.room }
+        ensures ok { OnOk result (total ≤ self.new.room) }
+        ensures promised { total ≤ self.old.room → IsOk result }
+        ensures stays { total ≤ self.old.room → self.new.room ≡ self.old.room }
+        ensures memory { IsOkUnless result MapError.OutOfMemory }
+    {
+        if total <= self.room {
+            return Ok(());
+        }
+        let more = 2 * total - self.taken.len();
+        self.taken.reserve(more)?;
+        self.room = self.taken.capacity() / 2;
+        Ok(())
+    }
+
+    /// Takes a free place.
+    pub(super) fn insert(&mut self, place: Vertex)
+        requires free { is_taken self.old.marked place ≡ false }
+        requires room { length self.old.marked < self.old.room }
+        ensures taken { (v : Vertex) → is_taken self.new.marked v ≡ (is_place v place || is_taken self.old.marked v) }
+        ensures count { length self.new.marked ≡ length self.old.marked + 1 }
+        ensures room { self.new.room ≡ self.old.room }
+    {
+        match self.taken.insert(place) {
+            Ok(_) => {}
+            Err(_) => unreachable!(),
+        }
+    }
+
+    /// Takes the places of the vertices, and no others.
+    pub(super) fn refill(&mut self, vertices: &[Vertex])
+        requires apart { AllPairs (λ v w. v ≢ w) vertices.now }
+        requires room { length vertices.now ≤ self.old.room }
+        ensures marked { AreMarked self.new vertices.now }
+        ensures room { self.new.room ≡ self.old.room }
+    {
+        self.taken.clear();
+        for vertex in vertices {
+            self.insert(*vertex);
+        }
+    }
+
+    /// Gives a place back, so that those of the vertices are left.
+    pub(super) fn remove(&mut self, place: Vertex, vertices: &[Vertex])
+        requires apart { AllPairs (λ v w. v ≢ w) vertices.now }
+        requires taken { is_taken self.old.marked place ≡ true }
+        requires left { (v : Vertex) → is_taken vertices.now v ≡ (not (is_place v place) && is_taken self.old.marked v) }
+        requires count { length vertices.now + 1 ≡ length self.old.marked }
+        ensures marked { AreMarked self.new vertices.now }
+        ensures room { self.new.room ≡ self.old.room }
+    {
+        if self.room < self.taken.capacity() {
+            self.taken.remove(&place);
+        } else {
+            self.refill(vertices);
+        }
+    }
+
+    /// Gives a place back and takes a free one, so that those of the vertices are taken.
+    pub(super) fn replace(&mut self, from: Vertex, to: Vertex, vertices: &[Vertex])
+        requires apart { AllPairs (λ v w. v ≢ w) vertices.now }
+        requires taken { is_taken self.old.marked from ≡ true }
+        requires free { (not (is_place to from) && is_taken self.old.marked to) ≡ false }
+        requires left { (v : Vertex) → is_taken vertices.now v ≡ (is_place v to || (not (is_place v from) && is_taken self.old.marked v)) }
+        requires count { length vertices.now ≡ length self.old.marked }
+        ensures marked { AreMarked self.new vertices.now }
+        ensures room { self.new.room ≡ self.old.room }
+    {
+        if self.room < self.taken.capacity() {
+            self.taken.remove(&from);
+            self.insert(to);
+        } else {
+            self.refill(vertices);
+        }
+    }
+}
