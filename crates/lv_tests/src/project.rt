@@ -85,15 +85,25 @@ const NEW_FILE: &[u8] = b"LVPJ\x01\0\0\0\x40\0\0\0\0\x02\0\0\
 fn makes_an_empty_project(rt: HostRuntime) -> Result<(), Fail> {
     let disk = FaultDisk::new(empty_disk(rt.alloc())?, 9, 0);
     let project = created(rt.alloc(), disk, SMALL)?;
-    assert_eq!(rt; (vertices(&project), project.generation()), (0, 1));
-    assert!(rt; !project.must_reopen());
+    let found = (
+        vertices(&project),
+        project.generation(),
+        project.must_reopen(),
+    );
+    assert_eq!(rt; found, (0, 1, false));
     let mut disk = project.into_disk();
     assert_eq!(rt; disk.len(), Err(DeviceFault), "it made eight calls");
+    Ok(())
+}
+
+#[test]
+fn writes_a_new_file(rt: HostRuntime) -> Result<(), Fail> {
+    let disk = disk_after(rt.alloc(), &[])?;
     for fill in FILLS {
-        let mut left = disk.inner().stop(rt.alloc(), fill, true)?;
+        let mut left = disk.stop(rt.alloc(), fill, true)?;
         assert_eq!(rt; left.len()?, 657, "{fill:?}");
-        let bytes = bytes_from(rt.alloc(), &mut left, 0, 657)?;
-        assert_eq!(rt; &bytes[..49.min(bytes.len())], NEW_FILE, "{fill:?}");
+        let bytes = bytes_from(rt.alloc(), &mut left, 0, 49)?;
+        assert_eq!(rt; bytes.as_slice(), NEW_FILE, "{fill:?}");
         let zeros = bytes_from(rt.alloc(), &mut left, 49, 608)?;
         assert_eq!(rt; zeros.as_slice(), [0; 608].as_slice(), "{fill:?}");
     }
@@ -114,15 +124,18 @@ fn syncs_a_new_file_once_and_last(rt: HostRuntime) -> Result<(), Fail> {
     Ok(())
 }
 
+/// Lengths of a slot and of a journal, and of the file.
+const LENGTHS: [(u32, u32, u64); 5] = [
+    (33, 512, 595),
+    (64, 512, 657),
+    (2_007_015, 512, 4_014_559),
+    (64, 1_048_576, 1_048_721),
+    (262_144, 65_536, 589_841),
+];
+
 #[test]
 fn has_a_file_of_its_lengths(rt: HostRuntime) -> Result<(), Fail> {
-    for (slot, journal, len) in [
-        (33, 512, 595),
-        (64, 512, 657),
-        (2_007_015, 512, 4_014_559),
-        (64, 1_048_576, 1_048_721),
-        (262_144, 65_536, 589_841),
-    ] {
+    for (slot, journal, len) in LENGTHS {
         let disk = MemoryDisk::new(rt.alloc(), 4_100_000, 4096)?;
         let project = created(rt.alloc(), disk, Geometry { slot, journal })?;
         assert_eq!(rt; project.into_disk().len()?, len, "{slot} {journal}");
@@ -130,15 +143,18 @@ fn has_a_file_of_its_lengths(rt: HostRuntime) -> Result<(), Fail> {
     Ok(())
 }
 
+/// Lengths of a slot and of a journal, and why there is no project of them on a disk with four bytes.
+const REFUSED: [(u32, u32, ProjectError); 5] = [
+    (32, 512, ProjectError::BadGeometry),
+    (2_007_016, 512, ProjectError::BadGeometry),
+    (64, 511, ProjectError::BadGeometry),
+    (64, 1_048_577, ProjectError::BadGeometry),
+    (64, 512, ProjectError::NotEmpty),
+];
+
 #[test]
 fn refuses_other_lengths_and_other_files(rt: HostRuntime) -> Result<(), Fail> {
-    for (slot, journal, error) in [
-        (32, 512, ProjectError::BadGeometry),
-        (2_007_016, 512, ProjectError::BadGeometry),
-        (64, 511, ProjectError::BadGeometry),
-        (64, 1_048_577, ProjectError::BadGeometry),
-        (64, 512, ProjectError::NotEmpty),
-    ] {
+    for (slot, journal, error) in REFUSED {
         let mut disk = empty_disk(rt.alloc())?;
         disk.write_at(0, b"LVPJ")?;
         let Err(refused) = Project::create(rt.alloc(), disk, Geometry { slot, journal }) else {
@@ -200,17 +216,16 @@ fn refusal_of<D: Disk + Drop>(alloc: Global, disk: D) -> Option<ProjectError> {
     opened(alloc, disk).err()
 }
 
+/// Where a file is cut, and how it is refused then.
+#[rattlefmt::skip]
+const ENDS: [(usize, ProjectError); 7] = [
+    (15, ProjectError::NotAProject), (16, AT_SLOT_A), (40, AT_SLOT_A), (80, AT_SLOT_B), (144, AT_JOURNAL_A),
+    (159, AT_JOURNAL_A), (656, AT_JOURNAL_B),
+];
+
 #[test]
 fn tells_where_a_file_ends(rt: HostRuntime) -> Result<(), Fail> {
-    for (end, error) in [
-        (15, ProjectError::NotAProject),
-        (16, AT_SLOT_A),
-        (40, AT_SLOT_A),
-        (80, AT_SLOT_B),
-        (144, AT_JOURNAL_A),
-        (159, AT_JOURNAL_A),
-        (656, AT_JOURNAL_B),
-    ] {
+    for (end, error) in ENDS {
         let mut whole = disk_after(rt.alloc(), &[b"vertex 0 0"])?;
         let disk = cut(rt.alloc(), &mut whole, end)?;
         assert_eq!(rt; refusal_of(rt.alloc(), disk), Some(error), "cut to {end}");
@@ -218,20 +233,17 @@ fn tells_where_a_file_ends(rt: HostRuntime) -> Result<(), Fail> {
     Ok(())
 }
 
+/// Places, bytes that are put there, and how the file is refused then.
+#[rattlefmt::skip]
+const DAMAGES: [(u64, &[u8], ProjectError); 10] = [
+    (4, b"\x02", ProjectError::NotAProject), (8, b"\x20", ProjectError::BadGeometry), (25, b"\x34", AT_SLOT_A),
+    (29, b"\x03", AT_SLOT_A), (30, b"\x01", AT_SLOT_A), (31, b"\x6d", AT_SLOT_A), (145, b"\xff", AT_JOURNAL_A),
+    (145, b"\x01\x01", AT_JOURNAL_A), (16, b"\0", ProjectError::Blank), (80, b"\xa5\x01", AT_SLOT_B),
+];
+
 #[test]
 fn tells_where_a_file_is_damaged(rt: HostRuntime) -> Result<(), Fail> {
-    for (place, bytes, error) in [
-        (4, b"\x02".as_slice(), ProjectError::NotAProject),
-        (8, b"\x20", ProjectError::BadGeometry),
-        (25, b"\x34", AT_SLOT_A),
-        (29, b"\x03", AT_SLOT_A),
-        (30, b"\x01", AT_SLOT_A),
-        (31, b"\x6d", AT_SLOT_A),
-        (145, b"\xff", AT_JOURNAL_A),
-        (145, b"\x01\x01", AT_JOURNAL_A),
-        (16, b"\0", ProjectError::Blank),
-        (80, b"\xa5\x01", AT_SLOT_B),
-    ] {
+    for (place, bytes, error) in DAMAGES {
         let mut disk = disk_after(rt.alloc(), &[b"vertex 0 0"])?;
         disk.write_at(place, bytes)?;
         assert_eq!(rt;
@@ -253,28 +265,6 @@ fn opens_beside_an_older_slot(rt: HostRuntime) -> Result<(), Fail> {
 }
 
 #[test]
-fn refuses_a_body_that_is_too_long(rt: HostRuntime) -> Result<(), Fail> {
-    let mut project = created(rt.alloc(), empty_disk(rt.alloc())?, SMALL)?;
-    for (line, answer) in [
-        (b"vertex 0 0", Ok(0)),
-        (b"vertex 1 0", Ok(1)),
-        (b"vertex 2 0", Ok(2)),
-        (b"vertex 3 0", Ok(3)),
-        (b"vertex 4 0", Ok(4)),
-        (b"vertex 5 0", Ok(5)),
-        (b"vertex 6 0", Ok(6)),
-        (
-            b"vertex 7 0",
-            Err(ProjectError::Refused(CommandError::ProjectFull)),
-        ),
-    ] {
-        assert_eq!(rt; project.apply(line), answer);
-    }
-    assert_eq!(rt; vertices(&opened(rt.alloc(), project.into_disk())?), 7);
-    Ok(())
-}
-
-#[test]
 fn makes_room_by_a_checkpoint(rt: HostRuntime) -> Result<(), Fail> {
     let mut project = created(rt.alloc(), empty_disk(rt.alloc())?, SMALL)?;
     for n in 0..34 {
@@ -291,25 +281,40 @@ fn makes_room_by_a_checkpoint(rt: HostRuntime) -> Result<(), Fail> {
     Ok(())
 }
 
+/// A line, and the number or the refusal that it is answered with.
+type Answer = (&'static [u8], Result<u32, ProjectError>);
+
+const FULL: Result<u32, ProjectError> = Err(ProjectError::Refused(CommandError::ProjectFull));
+
+/// A body may have 51 bytes: one map has room for seven vertices, two maps for three, and there is none for three maps.
+#[rattlefmt::skip]
+const ONE_MAP: &[Answer] = &[
+    (b"vertex 0 0", Ok(0)), (b"vertex 1 0", Ok(1)), (b"vertex 2 0", Ok(2)), (b"vertex 3 0", Ok(3)),
+    (b"vertex 4 0", Ok(4)), (b"vertex 5 0", Ok(5)), (b"vertex 6 0", Ok(6)), (b"vertex 7 0", FULL),
+];
+
+#[rattlefmt::skip]
+const TWO_MAPS: &[Answer] = &[
+    (b"map MAP02", Ok(1)), (b"map MAP03", FULL),
+    (b"vertex 0 0", Ok(0)), (b"vertex 1 0", Ok(1)), (b"vertex 2 0", Ok(2)), (b"vertex 3 0", FULL),
+];
+
+/// Lines, how many maps the project then has, which is current, and how many vertices that one has.
+const PROJECTS: [(&[Answer], [u32; 3]); 2] = [(ONE_MAP, [1, 0, 7]), (TWO_MAPS, [2, 1, 3])];
+
 #[test]
-fn holds_two_maps(rt: HostRuntime) -> Result<(), Fail> {
-    let mut project = created(rt.alloc(), empty_disk(rt.alloc())?, SMALL)?;
-    let full = Err(ProjectError::Refused(CommandError::ProjectFull));
-    for (line, answer) in [
-        (b"map MAP02".as_slice(), Ok(1)),
-        (b"map MAP03", full),
-        (b"vertex 0 0", Ok(0)),
-        (b"vertex 1 0", Ok(1)),
-        (b"vertex 2 0", Ok(2)),
-        (b"vertex 3 0", full),
-    ] {
-        assert_eq!(rt; project.apply(line), answer, "{line:?}");
+fn holds_what_fits_a_slot(rt: HostRuntime) -> Result<(), Fail> {
+    for (lines, want) in PROJECTS {
+        let mut project = created(rt.alloc(), empty_disk(rt.alloc())?, SMALL)?;
+        for (line, answer) in lines {
+            assert_eq!(rt; project.apply(*line), *answer, "{line:?}");
+        }
+        assert_eq!(rt; project.checkpoint(), Ok(2));
+        let project = opened(rt.alloc(), project.into_disk())?;
+        let maps = project.maps();
+        let found = [maps.len(), maps.current_number(), vertices(&project)];
+        assert_eq!(rt; found, want);
     }
-    assert_eq!(rt; project.checkpoint(), Ok(2));
-    let project = opened(rt.alloc(), project.into_disk())?;
-    assert_eq!(rt; project.maps().len(), 2);
-    assert_eq!(rt; project.maps().current_number(), 1);
-    assert_eq!(rt; vertices(&project), 3);
     Ok(())
 }
 
@@ -368,21 +373,23 @@ fn spends_its_generations(rt: HostRuntime) -> Result<(), Fail> {
     Ok(())
 }
 
+const CODES: [(ProjectError, u16); 11] = [
+    (ProjectError::Refused(CommandError::NotACommand), 1),
+    (ProjectError::Refused(CommandError::BadName), 15),
+    (ProjectError::Device, 30),
+    (ProjectError::OutOfMemory, 31),
+    (ProjectError::Reopen, 32),
+    (ProjectError::GenerationsSpent, 33),
+    (ProjectError::Damaged { place: 16 }, 40),
+    (ProjectError::Blank, 41),
+    (ProjectError::NotAProject, 42),
+    (ProjectError::NotEmpty, 43),
+    (ProjectError::BadGeometry, 44),
+];
+
 #[test]
 fn numbers_its_refusals(rt: HostRuntime) {
-    for (error, code) in [
-        (ProjectError::Refused(CommandError::NotACommand), 1),
-        (ProjectError::Refused(CommandError::BadName), 15),
-        (ProjectError::Device, 30),
-        (ProjectError::OutOfMemory, 31),
-        (ProjectError::Reopen, 32),
-        (ProjectError::GenerationsSpent, 33),
-        (ProjectError::Damaged { place: 16 }, 40),
-        (ProjectError::Blank, 41),
-        (ProjectError::NotAProject, 42),
-        (ProjectError::NotEmpty, 43),
-        (ProjectError::BadGeometry, 44),
-    ] {
+    for (error, code) in CODES {
         assert_eq!(rt; error.code(), code);
     }
 }

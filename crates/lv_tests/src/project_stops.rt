@@ -13,101 +13,104 @@ fn failing(alloc: Global, k: u64, part: u32) -> Result<Failing, Fail> {
     Ok(created(alloc, FaultDisk::new(empty_disk(alloc)?, k, part), SMALL)?)
 }
 
-/// How the four calls of an append may fail, counted from the first call of `create`.
-const FAULTS: [(u64, u32); 5] = [(9, 15), (10, 0), (11, 0), (11, 1), (12, 0)];
+/// How the four calls of an append may fail, counted from the first call of `create`, and whether the record's gate is
+/// open where all that was written stays.
+const FAULTS: [(u64, u32, bool); 5] = [
+    (9, 15, false),
+    (10, 0, false),
+    (11, 0, false),
+    (11, 1, true),
+    (12, 0, true),
+];
 
 #[test]
 fn wants_to_be_opened_again_after_a_fault(rt: HostRuntime) -> Result<(), Fail> {
-    for (k, part) in FAULTS {
+    for (k, part, _) in FAULTS {
         let mut project = failing(rt.alloc(), k, part)?;
         assert_eq!(rt; project.apply(b"vertex 0 0"), Err(ProjectError::Device));
         assert_eq!(rt; (project.must_reopen(), vertices(&project)), (true, 0));
-        for line in [b"vertex 1 0".as_slice(), b"no command"] {
-            assert_eq!(rt; project.apply(line), Err(ProjectError::Reopen));
-        }
+        assert_eq!(rt; project.apply(b"vertex 1 0"), Err(ProjectError::Reopen));
+        assert_eq!(rt; project.apply(b"no command"), Err(ProjectError::Reopen));
         assert_eq!(rt; project.checkpoint(), Err(ProjectError::Reopen));
     }
     Ok(())
 }
 
-/// The project of a disk, after a stop with each of these fills, has so many vertices.
-fn expect_vertices(
+/// The disk of a project in which one call fails in the last of these lines.
+fn failed(
     rt: &impl Abort,
     alloc: Global,
-    disk: &FaultDisk<MemoryDisk>,
-    rows: &[(Fill, u32)],
-) -> Result<(), Fail> {
-    for (fill, want) in rows {
-        let left = disk.inner().stop(alloc, *fill, true)?;
-        assert_eq!(rt; vertices(&opened(alloc, left)?), *want, "{fill:?}");
+    fault: (u64, u32),
+    before: &[&[u8]],
+    line: &[u8],
+) -> Result<FaultDisk<MemoryDisk>, Fail> {
+    let mut project = failing(alloc, fault.0, fault.1)?;
+    for earlier in before {
+        project.apply(*earlier)?;
     }
+    let refused = project.apply(line);
+    assert_eq!(rt; refused, Err(ProjectError::Device), "{fault:?}");
+    Ok(project.into_disk())
+}
+
+/// A fill, and whether it keeps what was written but not synced.
+const KEEPS: [(Fill, bool); 4] = [
+    (Fill::Stable, false),
+    (Fill::Written, true),
+    (Fill::Byte(0), false),
+    (Fill::Byte(165), true),
+];
+
+/// How many vertices and how many maps the project of a disk has.
+fn counts<D: Disk + Drop>(alloc: Global, disk: D) -> Result<[u32; 2], Fail> {
+    let project = opened(alloc, disk)?;
+    Ok([vertices(&project), project.maps().len()])
+}
+
+/// The lines before one of which a call fails, how many calls they make, that line, and how many vertices and how many
+/// maps there are before it and after it.
+type Line = (
+    &'static [&'static [u8]],
+    u64,
+    &'static [u8],
+    [u32; 2],
+    [u32; 2],
+);
+
+const LINES: [Line; 3] = [
+    (&[], 0, b"vertex 0 0", [0, 1], [1, 1]),
+    (&[], 0, b"map MAP02", [0, 1], [0, 2]),
+    (&[b"map MAP02"], 4, b"drop-map MAP01", [0, 2], [0, 1]),
+];
+
+/// Opens the disk of a fault again, after stops and without one.
+fn expect_counts(
+    rt: &impl Abort,
+    alloc: Global,
+    disk: FaultDisk<MemoryDisk>,
+    old: [u32; 2],
+    new: [u32; 2],
+) -> Result<(), Fail> {
+    for (fill, keeps) in KEEPS {
+        let want = if keeps { new } else { old };
+        let left = disk.inner().stop(alloc, fill, true)?;
+        assert_eq!(rt; counts(alloc, left)?, want, "{fill:?}");
+    }
+    assert_eq!(rt; counts(alloc, disk)?, new);
     Ok(())
 }
 
 #[test]
 fn opens_again_after_a_fault(rt: HostRuntime) -> Result<(), Fail> {
-    for (n, now, stable, written) in [
-        (0, 0, 0, 0),
-        (1, 0, 0, 0),
-        (2, 0, 0, 0),
-        (3, 1, 0, 1),
-        (4, 1, 0, 1),
-    ] {
-        let (k, part) = FAULTS[n];
-        let mut project = failing(rt.alloc(), k, part)?;
-        assert!(rt; project.apply(b"vertex 0 0").is_err(), "{k} {part}");
-        let disk = project.into_disk();
-        let rows = [
-            (Fill::Stable, stable),
-            (Fill::Written, written),
-            (Fill::Byte(0), stable),
-            (Fill::Byte(165), written),
-        ];
-        expect_vertices(&rt, rt.alloc(), &disk, &rows)?;
-        let mut again = opened(rt.alloc(), disk)?;
-        assert_eq!(rt; vertices(&again), now, "{k} {part}");
-        assert_eq!(rt; again.apply(b"vertex 5 5"), Ok(now), "{k} {part}");
+    for (before, calls, line, old, new) in LINES {
+        for (k, part, is_open) in FAULTS {
+            let fault = (k.saturating_add(calls), part);
+            let disk = failed(&rt, rt.alloc(), fault, before, line)?;
+            let left = if is_open { new } else { old };
+            expect_counts(&rt, rt.alloc(), disk, old, left)?;
+        }
     }
     Ok(())
-}
-
-/// How many maps there are before a line and after it, where one of the calls of its append fails. The lines before it make
-/// so many calls.
-fn expect_maps(
-    rt: &impl Abort,
-    alloc: Global,
-    before: &[&[u8]],
-    calls: u64,
-    line: &[u8],
-    old: u32,
-    new: u32,
-) -> Result<(), Fail> {
-    for (n, written) in [(0, old), (1, old), (2, old), (3, new), (4, new)] {
-        let (k, part) = FAULTS[n];
-        let mut project = failing(alloc, k.saturating_add(calls), part)?;
-        for earlier in before {
-            project.apply(earlier)?;
-        }
-        assert_eq!(rt;
-            project.apply(line),
-            Err(ProjectError::Device),
-            "{k} {part}"
-        );
-        assert_eq!(rt; project.maps().len(), old, "{k} {part}");
-        let disk = project.into_disk();
-        for (fill, want) in [(Fill::Stable, old), (Fill::Written, written)] {
-            let left = opened(alloc, disk.inner().stop(alloc, fill, true)?)?;
-            assert_eq!(rt; left.maps().len(), want, "{k} {part} {fill:?}");
-        }
-        assert_eq!(rt; opened(alloc, disk)?.maps().len(), written, "{k} {part}");
-    }
-    Ok(())
-}
-
-#[test]
-fn stops_within_a_line_about_maps(rt: HostRuntime) -> Result<(), Fail> {
-    expect_maps(&rt, rt.alloc(), &[], 0, b"map MAP02", 1, 2)?;
-    expect_maps(&rt, rt.alloc(), &[b"map MAP02"], 4, b"drop-map MAP01", 2, 1)
 }
 
 /// A project of one vertex, of which the k-th call fails. The first 12 are those of `create` and of an append.
@@ -117,88 +120,73 @@ fn one_vertex(alloc: Global, k: u64, part: u32) -> Result<Failing, Fail> {
     Ok(project)
 }
 
+/// The first call that isn't made any more by checkpoints with these generations.
+const CALLS: [(u64, &[u64]); 2] = [(18, &[2]), (25, &[2, 3])];
+
 #[test]
 fn changes_its_slot_by_five_calls_and_by_seven(rt: HostRuntime) -> Result<(), Fail> {
-    for (calls, generations) in [(17, [2].as_slice()), (24, [2, 3].as_slice())] {
-        let mut project = one_vertex(rt.alloc(), calls + 1, 0)?;
+    for (k, generations) in CALLS {
+        let mut project = one_vertex(rt.alloc(), k, 0)?;
         for generation in generations {
             assert_eq!(rt; project.checkpoint(), Ok(*generation));
             assert_eq!(rt; project.generation(), *generation);
         }
         let mut disk = project.into_disk();
-        assert_eq!(rt; disk.len(), Err(DeviceFault), "{calls} calls");
+        assert_eq!(rt; disk.len(), Err(DeviceFault), "call {k}");
     }
     Ok(())
 }
 
-/// Where the k-th call fails with the first `part` bytes of its write put down, these bytes stand at a place.
-type Row<'a> = (u64, u32, u64, &'a [u8]);
+const STAGED_B: &[u8] = b"\0\x02\0\0\0\0\0\0\0\x18\0\0\0\
+\x02\0MAP01\0\0\0\0\0\0\0\0\0\x01\0\0\0\0\0\0\0";
 
-/// What a checkpoint after so many others leaves where one of its calls fails.
-fn expect_bytes(rt: &impl Abort, alloc: Global, turns: u32, rows: &[Row<'_>]) -> Result<(), Fail> {
-    for (k, part, at, want) in rows {
-        let mut project = one_vertex(alloc, *k, *part)?;
-        for _ in 0..turns {
-            project.checkpoint()?;
-        }
-        assert_eq!(rt;
-            project.checkpoint(),
-            Err(ProjectError::Device),
-            "{k} {part}"
-        );
-        let mut disk = project.into_disk();
-        let bytes = bytes_from(alloc, &mut disk, *at, want.len())?;
-        assert_eq!(rt; bytes.as_slice(), *want, "{k} {part} {at}");
+const OPEN_B: &[u8] = b"\xa5\x02\0\0\0\0\0\0\0\x18\0\0\0\
+\x02\0MAP01\0\0\0\0\0\0\0\0\0\x01\0\0\0\0\0\0\0";
+
+const STAGED_A: &[u8] = b"\0\x03\0\0\0\0\0\0\0\x18\0\0\0\
+\x02\0MAP01\0\0\0\0\0\0\0\0\0\x01\0\0\0\0\0\0\0";
+
+const OPEN_A: &[u8] = b"\xa5\x03\0\0\0\0\0\0\0\x18\0\0\0\
+\x02\0MAP01\0\0\0\0\0\0\0\0\0\x01\0\0\0\0\0\0\0";
+
+/// How many checkpoints came before the one of which the k-th call fails with the first `part` bytes of its write put
+/// down, and bytes that then stand at a place. The first one fills slot B and opens it; the second closes slot A first.
+#[rattlefmt::skip]
+const WRITES: [(u32, u64, u32, u64, &[u8]); 18] = [
+    (0, 13, 0, 80, b"\0\0\0"), (0, 13, 36, 80, STAGED_B), (0, 14, 0, 80, STAGED_B), (0, 16, 0, 80, STAGED_B),
+    (0, 16, 1, 80, OPEN_B), (0, 17, 0, 80, OPEN_B), (0, 17, 0, 16, b"\xa5\x01"), (0, 17, 0, 144, b"\xa5\x0a"),
+    (0, 17, 0, 656, b"\0"),
+    (1, 18, 0, 16, b"\xa5\x01"), (1, 18, 1, 16, b"\0\x01"), (1, 20, 0, 16, b"\0\x01"), (1, 20, 36, 16, STAGED_A),
+    (1, 21, 0, 144, b"\xa5\x0a"), (1, 21, 1, 144, b"\0\x0a"), (1, 23, 0, 16, STAGED_A), (1, 23, 1, 16, OPEN_A),
+    (1, 24, 0, 80, b"\xa5\x02"),
+];
+
+/// The disk of a project of one vertex, of which a call of the last of several checkpoints fails.
+fn failed_checkpoint(
+    rt: &impl Abort,
+    alloc: Global,
+    before: u32,
+    k: u64,
+    part: u32,
+) -> Result<FaultDisk<MemoryDisk>, Fail> {
+    let mut project = one_vertex(alloc, k, part)?;
+    for _ in 0..before {
+        project.checkpoint()?;
     }
-    Ok(())
+    let refused = project.checkpoint();
+    assert_eq!(rt; refused, Err(ProjectError::Device), "{k} {part}");
+    assert_eq!(rt; (project.must_reopen(), vertices(&project)), (true, 1));
+    Ok(project.into_disk())
 }
 
 #[test]
 fn fills_a_slot_and_then_opens_it(rt: HostRuntime) -> Result<(), Fail> {
-    let staged = b"\0\x02\0\0\0\0\0\0\0\x18\0\0\0\
-\x02\0MAP01\0\0\0\0\0\0\0\0\0\x01\0\0\0\0\0\0\0";
-    let open = b"\xa5\x02\0\0\0\0\0\0\0\x18\0\0\0\
-\x02\0MAP01\0\0\0\0\0\0\0\0\0\x01\0\0\0\0\0\0\0";
-    expect_bytes(
-        &rt,
-        rt.alloc(),
-        0,
-        &[
-            (13, 0, 80, b"\0\0\0".as_slice()),
-            (13, 36, 80, staged),
-            (14, 0, 80, staged),
-            (16, 0, 80, staged),
-            (16, 1, 80, open),
-            (17, 0, 80, open),
-            (17, 0, 16, b"\xa5\x01"),
-            (17, 0, 144, b"\xa5\x0a"),
-            (17, 0, 656, b"\0"),
-        ],
-    )
-}
-
-#[test]
-fn closes_an_open_slot_before_it_is_filled(rt: HostRuntime) -> Result<(), Fail> {
-    let staged = b"\0\x03\0\0\0\0\0\0\0\x18\0\0\0\
-\x02\0MAP01\0\0\0\0\0\0\0\0\0\x01\0\0\0\0\0\0\0";
-    let open = b"\xa5\x03\0\0\0\0\0\0\0\x18\0\0\0\
-\x02\0MAP01\0\0\0\0\0\0\0\0\0\x01\0\0\0\0\0\0\0";
-    expect_bytes(
-        &rt,
-        rt.alloc(),
-        1,
-        &[
-            (18, 0, 16, b"\xa5\x01".as_slice()),
-            (18, 1, 16, b"\0\x01"),
-            (20, 0, 16, b"\0\x01"),
-            (20, 36, 16, staged),
-            (21, 0, 144, b"\xa5\x0a"),
-            (21, 1, 144, b"\0\x0a"),
-            (23, 0, 16, staged),
-            (23, 1, 16, open),
-            (24, 0, 80, b"\xa5\x02"),
-        ],
-    )
+    for (before, k, part, at, want) in WRITES {
+        let mut disk = failed_checkpoint(&rt, rt.alloc(), before, k, part)?;
+        let bytes = bytes_from(rt.alloc(), &mut disk, at, want.len())?;
+        assert_eq!(rt; bytes.as_slice(), want, "{k} {part} {at}");
+    }
+    Ok(())
 }
 
 /// After a stop with any fill the project has so many vertices, and one of these generations: the first where what
@@ -224,22 +212,22 @@ fn expect_stops(
     Ok(())
 }
 
+/// Where the k-th call fails with the first `part` bytes of its write put down, the generation that is found.
+const STOPS: [(u64, u32, u64); 8] = [
+    (13, 0, 1),
+    (13, 36, 1),
+    (14, 0, 1),
+    (14, 1, 1),
+    (15, 0, 1),
+    (16, 0, 1),
+    (16, 1, 2),
+    (17, 0, 2),
+];
+
 #[test]
 fn stops_within_a_checkpoint(rt: HostRuntime) -> Result<(), Fail> {
-    for (k, part, generation) in [
-        (13, 0, 1),
-        (13, 36, 1),
-        (14, 0, 1),
-        (14, 1, 1),
-        (15, 0, 1),
-        (16, 0, 1),
-        (16, 1, 2),
-        (17, 0, 2),
-    ] {
-        let mut project = one_vertex(rt.alloc(), k, part)?;
-        assert_eq!(rt; project.checkpoint(), Err(ProjectError::Device));
-        assert_eq!(rt; (project.must_reopen(), vertices(&project)), (true, 1));
-        let disk = project.into_disk();
+    for (k, part, generation) in STOPS {
+        let disk = failed_checkpoint(&rt, rt.alloc(), 0, k, part)?;
         expect_stops(&rt, rt.alloc(), &disk, 1, (1, generation))?;
         let again = opened(rt.alloc(), disk)?;
         assert_eq!(rt; (vertices(&again), again.generation()), (1, generation));
@@ -257,9 +245,12 @@ fn two_vertices(alloc: Global, k: u64) -> Result<Project<FaultDisk<FaultDisk<Mem
     Ok(again)
 }
 
+/// The same calls, of a checkpoint after one that failed.
+const AGAIN: [(u64, u64); 5] = [(20, 1), (21, 1), (22, 1), (23, 2), (24, 2)];
+
 #[test]
 fn stops_within_a_checkpoint_after_one_that_failed(rt: HostRuntime) -> Result<(), Fail> {
-    for (k, generation) in [(20, 1), (21, 1), (22, 1), (23, 2), (24, 2)] {
+    for (k, generation) in AGAIN {
         let mut project = two_vertices(rt.alloc(), k)?;
         assert_eq!(rt; vertices(&project), 2, "{k}");
         assert_eq!(rt; project.checkpoint(), Err(ProjectError::Device), "{k}");

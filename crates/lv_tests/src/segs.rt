@@ -71,8 +71,8 @@ fn offsets(rt: HostRuntime) {
 /// A piece's line and side, and the numerators and denominators of where it begins and ends.
 type Fields = (u16, Facing, [i128; 4]);
 
-/// Lines, and of the pieces of their map's sides which one is cut, by which, how it lies, and its parts on the right and
-/// on the left.
+/// Lines, and of the pieces of their map's sides which one is cut, by which, how it lies, and its parts on the right
+/// and on the left.
 type Row = (
     &'static [&'static [u8]],
     [usize; 2],
@@ -80,7 +80,7 @@ type Row = (
     [Option<Fields>; 2],
 );
 
-/// Four lines' ends on one straight line, and three lines: the direction decides.
+/// Four places on one straight line, and three lines: the direction decides.
 #[rattlefmt::skip]
 const COLLINEAR: [&[u8]; 9] = [
     b"vertex 0 0", b"vertex 64 0", b"vertex 128 0", b"vertex 192 0", SECTOR, b"side 0 0 - - - 0",
