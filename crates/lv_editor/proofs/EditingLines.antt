@@ -69,6 +69,9 @@ module _ {D : Type 0} (moment failures : D → ℕ) (left_since : D → ℕ → 
   long_ends (Ok n) old new a b long longer (ready, still, accepts) = absurd (long-accepts old.cap (project_of old.maps) (project_of new.maps) a n long accepts)
   long_ends (Err e) old new a b long longer (same, told) = (same, long_refusal e old new a b long longer told)
 
+  long_memory : (old new : State D) (a : List ℕ) → 256 < length a → EndsApply failures (Err OutOfMemory) old new a → ⊥
+  long_memory old new a long (same, (ready, still, (next, (n, accepts)))) = long-accepts old.cap (project_of old.maps) next a n long accepts
+
   long_outcome : (cap : ℕ) (map : ProjectMaps) (a b : List ℕ) → 256 < length a → (file : List ℕ) → IsOutcome cap map a file → IsOutcome cap map b file
   long_outcome cap map a b long file (inl stands) = inl stands
   long_outcome cap map a b long file (inr (next, (n, accepts), stands)) = absurd (long-accepts cap map next a n long accepts)
@@ -83,6 +86,7 @@ module _ {D : Type 0} (moment failures : D → ℕ) (left_since : D → ℕ → 
           weaker moment left_since old.disk new.disk (IsOutcome old.cap (project_of old.maps) a) (IsOutcome old.cap (project_of old.maps) b) (p.any_moment ready)
           (long_outcome old.cap (project_of old.maps) a b long);
       refused_moment = p.refused_moment;
+      memory = λ lacks. absurd (long_memory old new a long (subst (λ (r : Result ℕ ProjectError). EndsApply failures r old new a) lacks p.ends));
       kept = p.kept;
       same_cap = p.same_cap;
     },

@@ -10,4 +10,5 @@ pub mod Inspecting
 pub mod MapLines
 pub mod LongLines
 pub mod RunCalls
+pub mod DeedCalls
 pub mod Telling

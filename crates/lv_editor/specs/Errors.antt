@@ -1,11 +1,14 @@
 -- The numbers of the editor's refusals, as docs/FORMAT.md lists them ("Numbers of the refusals").
 use Rattle.std.specs.Prelude.{ℕ}
+use Rattle.lv_project.specs.Refusals as projects
 use Rattle.lv_pwad.specs.Errors.{build_code_of, code_of as level_code_of}
 use Rattle.lv_editor.specs.declared.error.EditorError.{EditorError}
 use Rattle.lv_editor.specs.declared.error.EditorError.TheVariants.{OutOfMemory, InputTooLong, ReaderFailed, WriterFailed}
 use Rattle.lv_editor.specs.declared.error.InspectError.{InspectError}
 use Rattle.lv_editor.specs.declared.error.InspectError.TheVariants as inspecting
 use Rattle.lv_editor.specs.declared.error.InspectError.TheVariants.{Level}
+use Rattle.lv_editor.specs.declared.error.RecoveryError.{RecoveryError}
+use Rattle.lv_editor.specs.declared.error.RecoveryError.TheVariants as recovering
 use Rattle.lv_editor.specs.declared.error.WriteError.{WriteError}
 use Rattle.lv_editor.specs.declared.error.WriteError.TheVariants as writing
 use Rattle.lv_editor.specs.declared.error.WriteError.TheVariants.{Build}
@@ -26,3 +29,8 @@ inspect_code_of inspecting.WriterFailed = 38
 abbrev pub write_code_of : WriteError → ℕ
 write_code_of (Build e) = build_code_of e
 write_code_of writing.WriterFailed = 38
+
+-- the number that a refusal to build what a stop left is known by
+abbrev pub recovery_code_of : RecoveryError → ℕ
+recovery_code_of (recovering.Open e) = projects.code_of e
+recovery_code_of (recovering.Build e) = build_code_of e

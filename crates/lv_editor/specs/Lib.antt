@@ -5,6 +5,7 @@ pub mod Errors
 pub mod Inspections
 pub mod Lines
 pub mod Queries
+pub mod Recovery
 pub mod Request
 pub mod Runs
 pub mod Sessions

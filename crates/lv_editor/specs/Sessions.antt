@@ -1,8 +1,9 @@
 -- What the disk of a project holds while lines are answered, and at the end of a run.
-use Rattle.std.specs.Prelude.{◌≡◌, ℕ, true, false, List, [], ◌∷◌, ◌++◌, Some, MatchOption, Result}
+use Rattle.std.specs.Prelude.{◌≡◌, ◌⊎◌, ℕ, true, false, List, [], ◌∷◌, ◌++◌, Some, MatchOption, Result}
+use mathlib.Core.Logic.{inl, inr}
 use Rattle.lv_disk.specs.Stops.{Each, LeavesOnly}
 use Rattle.lv_maptables.specs.Projects.{ProjectMaps, project_of}
-use Rattle.lv_project.specs.Calls.{AllMade, Call}
+use Rattle.lv_project.specs.Calls.{AllMade, Call, Made}
 use Rattle.lv_project.specs.Sessions.{KeepsAcknowledged, Session}
 use Rattle.lv_project.specs.Stands.{IsOutcome, StandsFor}
 use Rattle.lv_project.specs.States.{State, IsKept}
@@ -59,3 +60,22 @@ pub record RunsOver {D : Type 0} (moment failures : D → ℕ) (left_since : D �
   pub kept : IsKept may_leave new
   pub in_doubt : old.must_reopen ≡ false → new.must_reopen ≡ true → IsInDoubt may_leave trace new
   pub reopen : old.must_reopen ≡ true → (new ≡ old) × AllReopen trace
+
+-- what a session does at a time: a call of `apply` or `checkpoint` with its answer, or a run with its lines and their answers
+abbrev pub Deed : Type 0 → Type 0
+Deed D = Call ⊎ List (Exchange (State D))
+
+-- it was done, and these are its calls
+abbrev pub IsDone : {D : Type 0} → (D → ℕ) → (D → ℕ) → (D → ℕ → List ℕ → Type 0) → (D → List ℕ → Type 0) → State D → Deed D
+    → List Call → State D → Type 0
+IsDone moment failures left_since may_leave old (inl call) calls new = Made moment failures left_since may_leave old call new × (calls ≡ call ∷ [])
+IsDone moment failures left_since may_leave old (inr trace) calls new =
+    (run : RunsOver moment failures left_since may_leave old new trace) × (calls ≡ run.calls)
+
+-- all of it was done in turn, and these are the calls
+abbrev pub AllDone : {D : Type 0} → (D → ℕ) → (D → ℕ) → (D → ℕ → List ℕ → Type 0) → (D → List ℕ → Type 0) → State D → List (Deed D)
+    → List Call → State D → Type 0
+AllDone moment failures left_since may_leave old [] calls new = (calls ≡ []) × (new ≡ old)
+AllDone {D = D} moment failures left_since may_leave old (deed ∷ deeds) calls new = (mid : State D) × (its more : List Call)
+    × IsDone moment failures left_since may_leave old deed its mid × AllDone moment failures left_since may_leave mid deeds more new
+    × (calls ≡ its ++ more)

@@ -1,3 +1,4 @@
+use lv_project::ProjectError;
 use lv_pwad::{BuildError, ReadError};
 use thiserror::Error;
 
@@ -77,6 +78,32 @@ impl WriteError {
         match self {
             WriteError::Build(error) => error.code(),
             WriteError::WriterFailed => 38,
+        }
+    }
+}
+
+/// Why what a stop left was not built.
+#[derive(Clone, Copy, Debug, PartialEq, Eq, Error)]
+pub enum RecoveryError {
+    /// The disk gave no project.
+    #[error(transparent)]
+    Open(#[from] ProjectError),
+    /// A map is not built.
+    #[error(transparent)]
+    Build(#[from] BuildError),
+}
+
+impl RecoveryError {
+    ghost use Rattle.std.specs.Prelude.{◌≡◌};
+    ghost use Rattle.lv_editor.specs.Errors.{recovery_code_of};
+
+    /// The number of the refusal.
+    pub fn code(&self) -> u16
+        ensures { result ≡ recovery_code_of self.now }
+    {
+        match self {
+            RecoveryError::Open(error) => error.code(),
+            RecoveryError::Build(error) => error.code(),
         }
     }
 }

@@ -21,6 +21,7 @@ mod outcome;
 mod program;
 mod query;
 mod reading;
+mod recovery;
 mod refusal;
 mod session;
 
@@ -29,7 +30,8 @@ pub use building::{Counts, write_wad};
 pub use command_line::request;
 pub use drawing::run_in_memory;
 pub use editing::{answer, run};
-pub use error::{EditorError, InspectError, WriteError};
+pub use error::{EditorError, InspectError, RecoveryError, WriteError};
 pub use findings::write_findings;
 pub use inspection::inspect;
 pub use program::perform;
+pub use recovery::{build_after_any_stop, sessions_hold_runs};

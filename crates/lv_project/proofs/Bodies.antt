@@ -1,8 +1,6 @@
 -- How long a project's body is, in either version.
-use Rattle.std.proofs.Common.{◌≡◌, ℕ, ◌+◌, List, [], ◌∷◌, length, inl, inr, sym, ◌∙◌, ap, arith}
-use Rattle.std.specs.Prelude.{flat_map, sum_by}
+use Rattle.std.proofs.Common.{◌≡◌, ℕ, List, [], length, inl, inr, sym, ◌∙◌, ap, arith}
 use Rattle.std.proofs.lemmas.List.Sums.{sum_by-cons}
-use Rattle.lv_maptables.specs.Parts.{part}
 use Rattle.lv_maptables.specs.Projects.{ProjectMaps, WellFormedProject, body_len, current_map}
 use Rattle.lv_maptables.specs.ProjectBody.{HasBody, project_body}
 use Rattle.lv_maptables.specs.Tables.{part_len}

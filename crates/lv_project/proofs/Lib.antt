@@ -9,7 +9,9 @@ pub mod Gates
 pub mod Creating
 pub mod Openings
 pub mod Spent
+pub mod Wanting
 pub mod OneMap
 pub mod Holding
+pub mod Reopening
 pub mod Excluding
 pub mod LineFaults

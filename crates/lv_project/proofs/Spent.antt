@@ -23,7 +23,7 @@ is_good (Err e) = false
 pub err_ok : {T E : Type 0} (e : E) (t : T) (r : Result T E) → r ≡ Err e → r ≡ Ok t → ⊥
 err_ok e t r bad good = true≢false (sym (ap is_good good) ∙ ap is_good bad)
 
-abbrev error_in : {T E : Type 0} → E → Result T E → E
+abbrev pub error_in : {T E : Type 0} → E → Result T E → E
 error_in d (Ok t) = d
 error_in d (Err e) = e
 

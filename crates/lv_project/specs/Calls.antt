@@ -1,12 +1,12 @@
 -- The calls of a session, each with its answer.
-use Rattle.std.specs.Prelude.{◌≡◌, ◌⊎◌, ℕ, Bool, true, false, if◌then◌else◌, List, [], ◌∷◌, Option, Some, None, Result, Ok, Err, IfErr}
+use Rattle.std.specs.Prelude.{◌≡◌, ◌⊎◌, ℕ, Bool, true, false, if◌then◌else◌, List, [], ◌∷◌, Option, Some, None, Result, Ok, Err, IfErr, IsErrOf}
 use Rattle.lv_disk.specs.Stops.{LeavesOnly}
 use Rattle.lv_maptables.specs.Projects.{project_of}
 use Rattle.lv_project.specs.Stands.{IsOutcome, StandsFor}
 use Rattle.lv_project.specs.States.{State, IsKept}
-use Rattle.lv_project.specs.Outcomes.{EndsApply, EndsCheckpoint}
+use Rattle.lv_project.specs.Outcomes.{CanLack, EndsApply, EndsCheckpoint}
 use Rattle.lv_project.specs.declared.error.ProjectError.{ProjectError}
-use Rattle.lv_project.specs.declared.error.ProjectError.TheVariants.{Device}
+use Rattle.lv_project.specs.declared.error.ProjectError.TheVariants.{Device, OutOfMemory}
 
 -- `apply` of a line, or `checkpoint`, and what it answered
 abbrev pub Call : Type 0
@@ -37,6 +37,7 @@ pub record Applies {D : Type 0} (moment failures : D → ℕ) (left_since : D �
   pub ends : EndsApply failures answer old new line
   pub any_moment : old.must_reopen ≡ false → LeavesOnly moment left_since old.disk new.disk (IsOutcome old.cap (project_of old.maps) line)
   pub refused_moment : IfErr answer (λ e. old.must_reopen ≡ false → (e ≡ Device) ⊎ LeavesOnly moment left_since old.disk new.disk (StandsFor old.cap (project_of old.maps)))
+  pub memory : IsErrOf answer OutOfMemory → CanLack old.room line
   pub kept : IsKept may_leave new
   pub same_cap : new.cap ≡ old.cap
 

@@ -1,14 +1,29 @@
 -- How the calls of a project end.
-use Rattle.std.specs.Prelude.{◌≡◌, ◌≤◌, ◌+◌, ◌-◌, ◌^◌, ℕ, true, false, List, length, Option, Result, Ok, Err}
+use Rattle.std.specs.Prelude.{◌≡◌, ◌≢◌, ◌≤◌, ◌⊎◌, ◌+◌, ◌-◌, ◌^◌, ℕ, true, false, List, length, Option, Result, Ok, Err}
 use Rattle.lv_disk.specs.Stops.{Rose}
 use Rattle.lv_journal.specs.State.{IsAbove}
 use Rattle.lv_maptables.specs.Projects.{ProjectMaps, project_of}
 use Rattle.lv_commands.specs.Errors as commands
+use Rattle.lv_commands.specs.ProjectCommands.{InRange, spelling}
 use Rattle.lv_commands.specs.ProjectLines.{RefusesLine}
 use Rattle.lv_commands.specs.ProjectLines.{Accepts, LeadsTo}
+use Rattle.lv_commands.specs.ProjectReadiness.{need_of}
+use Rattle.lv_commands.specs.Readiness.{no_need}
+use Rattle.lv_commands.specs.declared.project.command.ProjectCommand.{ProjectCommand}
 use Rattle.lv_project.specs.States.{State}
 use Rattle.lv_project.specs.declared.error.ProjectError.{ProjectError}
 use Rattle.lv_project.specs.declared.error.ProjectError.TheVariants.{Device, OutOfMemory, Reopen, GenerationsSpent, Refused}
+
+-- the line is a command that adds items to the current map
+pub record IsAddition (line : List ℕ) : Type 0 where
+  pub command : ProjectCommand
+  pub range : InRange command
+  pub line_is : line ≡ spelling command
+  pub adds : need_of command ≢ no_need
+
+-- the line can need memory: it adds items, or the journal has no room for it, so that a checkpoint comes first
+abbrev pub CanLack : Option ℕ → List ℕ → Type 0
+CanLack room line = IsAddition line ⊎ IsAbove room (length line)
 
 -- How an `apply` was refused. Only after `Device` must the project be opened again, and only `Reopen` leaves it so. Memory is
 -- wanting only for a line that leads on.

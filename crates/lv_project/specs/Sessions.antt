@@ -5,8 +5,9 @@ use Rattle.lv_maptables.specs.Projects.{ProjectMaps, empty_project, project_of}
 use Rattle.lv_commands.specs.ProjectLines.{Leads}
 use Rattle.lv_project.specs.Stands.{StandsFor}
 use Rattle.lv_project.specs.States.{State, IsKept}
-use Rattle.lv_project.specs.Opening.{StandsOnlyFor}
+use Rattle.lv_project.specs.Opening.{IsRefusedRead, StandsOnlyFor}
 use Rattle.lv_project.specs.Calls.{Call, acknowledged, accepted, AllMade}
+use Rattle.lv_project.specs.declared.error.ProjectError.{ProjectError}
 
 -- A session: its calls up to some moment, and those that went on from it. A stop within a call is one of a session whose
 -- last part has this call alone.
@@ -48,6 +49,13 @@ pub record Opens {D : Type 0} (moment : D → ℕ) (left_since : D → ℕ → L
   pub kept : IsKept may_leave first
   pub any_moment : LeavesOnly moment left_since before first.disk (may_leave before)
 
+-- what `open` promises where it is refused, of a disk that tells its bytes
+pub record RefusesOpen {D : Type 0} (moment : D → ℕ) (left_since : D → ℕ → List ℕ → Type 0) (may_leave reads : D → List ℕ → Type 0)
+    (before after : D) (error : ProjectError) : Type 0 where
+  pub refused : IsRefusedRead (reads after) error
+  pub told : (file : List ℕ) × reads after file
+  pub any_moment : LeavesOnly moment left_since before after (may_leave before)
+
 -- a session that began so: its state at the moment, and after its last call
 pub record Passes {D : Type 0} (moment failures : D → ℕ) (left_since : D → ℕ → List ℕ → Type 0) (may_leave : D → List ℕ → Type 0)
     (begins : State D → Type 0) (s : Session) (mid last : State D) : Type 0 where
@@ -64,3 +72,14 @@ PassInTurn {D = D} moment failures left_since may_leave reads begins (q ∷ qs) 
     (m : State D) × (l : State D) × (next : D) × Passes moment failures left_since may_leave begins q m l
     × Each (may_leave next) (left_since l.disk (moment m.disk))
     × PassInTurn moment failures left_since may_leave reads (Opens moment left_since may_leave reads next) qs s mid last
+
+-- A disk that is left by these sessions: each of its images is one that a stop from the moment in the last one on left.
+pub record IsLeftBy {D : Type 0} (moment failures : D → ℕ) (left_since : D → ℕ → List ℕ → Type 0) (may_leave reads : D → List ℕ → Type 0)
+    (cap : ℕ) (sessions : List Session) (disk : D) : Type 0 where
+  pub before : List Session
+  pub session : Session
+  pub mid : State D
+  pub last : State D
+  pub all : sessions ≡ before ++ session ∷ []
+  pub passed : PassInTurn moment failures left_since may_leave reads (Creates may_leave cap) before session mid last
+  pub images : Each (may_leave disk) (left_since last.disk (moment mid.disk))

@@ -74,7 +74,7 @@ impl<D: Disk> Project<D> {
     ghost use Rattle.lv_checkpoint.specs.Handles.{body_in, generation_in};
     ghost use Rattle.lv_maptables.specs.ProjectBody.{project_body};
     ghost use Rattle.lv_project.specs.States.{IsKept};
-    ghost use Rattle.lv_project.specs.Outcomes.{EndsApply, EndsCheckpoint, EndsRoom, IsFresh, TurnsWhereFull};
+    ghost use Rattle.lv_project.specs.Outcomes.{CanLack, EndsApply, EndsCheckpoint, EndsRoom, IsFresh, TurnsWhereFull};
 
     /// The maps.
     pub fn maps(&self) -> &Maps
@@ -324,6 +324,9 @@ impl<D: Disk> Project<D> {
             (StandsFor self.old.cap (project_of self.old.maps))) }
         ensures untouched { IfErr result (λ e. (e ≡ ProjectError.Device)
             ⊎ ((self.new.disk ≡ self.old.disk) × (self.new.generation ≡ self.old.generation))) }
+
+        // Memory is wanting only for a command that adds items, or where a checkpoint has to come first.
+        ensures memory { IsErrOf result ProjectError.OutOfMemory → CanLack self.old.room line.now }
 
         // A checkpoint comes where the journal has no room, and only there.
         ensures turned { OnOk result (TurnsWhereFull self.old self.new (length line.now)) }

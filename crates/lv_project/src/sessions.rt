@@ -1,11 +1,12 @@
 //! The project's calls over any number of sessions, each begun by `create` or `open` and stopped at any moment.
-ghost use Rattle.std.specs.Prelude.{◌≡◌, ◌++◌, ◌∷◌, [], List, ℕ, Result, IfOk};
-ghost use Rattle.lv_disk.specs.Stops.{Each, LeavesOnly};
+ghost use Rattle.std.specs.Prelude.{◌≡◌, ◌⊎◌, ◌++◌, ◌∷◌, [], List, ℕ, Result, IfOk, MatchResult};
+ghost use Rattle.lv_disk.specs.Stops.{LeavesOnly};
 ghost use Rattle.lv_maptables.specs.Projects.{empty_project, project_of};
 ghost use Rattle.lv_project.specs.Calls.{Applies, Checkpoints};
 ghost use Rattle.lv_project.specs.Places.{cap_of};
-ghost use Rattle.lv_project.specs.Sessions.{Creates, HoldsEach, KeepEach, Opens, PassInTurn, Session};
+ghost use Rattle.lv_project.specs.Sessions.{Creates, HoldsEach, IsLeftBy, KeepEach, Opens, PassInTurn, RefusesOpen, Session};
 ghost use Rattle.lv_project.specs.States.{State};
+ghost use Rattle.lv_project.specs.declared.error.ProjectError.{ProjectError};
 
 use crate::{Geometry, Project, ProjectError, Refused};
 use lv_disk::Disk;
@@ -19,13 +20,20 @@ pub fn hold_each_acknowledged<D: Disk>()
         → PassInTurn D.moment D.failures D.left_since D.may_leave D.reads (Creates D.may_leave cap) before s mid last
         → LeavesOnly D.moment D.left_since mid.disk last.disk (HoldsEach cap (before ++ s ∷ [])) }
 
-    // So does the map that an `open` gives of what a stop left.
-    ensures opened { (cap : ℕ) (before : List Session) (s : Session) (mid : State D) (last : State D)
-        (next : D) (first : State D)
-        → PassInTurn D.moment D.failures D.left_since D.may_leave D.reads (Creates D.may_leave cap) before s mid last
-        → Each (D.may_leave next) (D.left_since last.disk (D.moment mid.disk))
-        → Opens D.moment D.left_since D.may_leave D.reads next first
-        → (first.cap ≡ cap) × KeepEach cap empty_project (before ++ s ∷ []) (project_of first.maps) }
+    // So does the map that an `open` gives of what they left, and so does each image at every moment of that call.
+    ensures opened { (cap : ℕ) (sessions : List Session) (disk : D) (first : State D)
+        → IsLeftBy D.moment D.failures D.left_since D.may_leave D.reads cap sessions disk
+        → Opens D.moment D.left_since D.may_leave D.reads disk first
+        → (first.cap ≡ cap) × KeepEach cap empty_project sessions (project_of first.maps)
+        × LeavesOnly D.moment D.left_since disk first.disk (HoldsEach cap sessions) }
+
+    // An `open` is refused by a fault of the device or for want of memory alone, and the disk is then as good as before.
+    ensures refused { (cap : ℕ) (sessions : List Session) (disk : D) (after : D) (error : ProjectError)
+        → IsLeftBy D.moment D.failures D.left_since D.may_leave D.reads cap sessions disk
+        → RefusesOpen D.moment D.left_since D.may_leave D.reads disk after error
+        → ((error ≡ ProjectError.Device) ⊎ (error ≡ ProjectError.OutOfMemory))
+        × IsLeftBy D.moment D.failures D.left_since D.may_leave D.reads cap sessions after
+        × LeavesOnly D.moment D.left_since disk after (HoldsEach cap sessions) }
 {}
 
 /// `Project::apply`, whose promises are those that the law asks of a call.
@@ -55,8 +63,9 @@ pub fn creates<D: Disk>(
 
 /// `Project::open`, whose project each later session begins with, of a disk that tells its bytes.
 pub fn opens<D: Disk>(alloc: Global, disk: D) -> Result<Project<D>, Refused<D>>
-    ensures { IfOk result (λ p. (file : List ℕ) → D.reads p.disk file
-        → Opens D.moment D.left_since D.may_leave D.reads disk p) }
+    ensures { (file : List ℕ) → D.reads disk file → MatchResult result
+        (λ p. Opens D.moment D.left_since D.may_leave D.reads disk p)
+        (λ r. RefusesOpen D.moment D.left_since D.may_leave D.reads disk r.disk r.error) }
 {
     match Project::open(alloc, disk) {
         Ok(project) => Ok(project),

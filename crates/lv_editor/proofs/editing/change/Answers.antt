@@ -7,6 +7,7 @@ returns g c = (
     ends = c.apply.ensures.ends;
     any_moment = c.apply.ensures.any_moment;
     refused_moment = c.apply.ensures.refused_moment;
+    memory = c.apply.ensures.memory;
     kept = c.apply.ensures.kept;
     same_cap = c.apply.ensures.cap;
   },

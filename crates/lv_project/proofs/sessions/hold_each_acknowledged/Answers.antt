@@ -1,6 +1,7 @@
-use Rattle.std.proofs.Common.{◌++◌, ◌∷◌, []}
+use Rattle.std.proofs.Common.{[]}
 use Rattle.lv_project.specs.Sessions.{Creates}
-use Rattle.lv_project.proofs.Holding.{all_moments, opens_well}
+use Rattle.lv_project.proofs.Holding.{all_moments}
+use Rattle.lv_project.proofs.Reopening.{opened_so, refused_so}
 use Rattle.lv_project.proofs.sessions.hold_each_acknowledged.Goals as goal
 
 pub returns-clause-any_moment : goal.returns-clause-any_moment
@@ -9,7 +10,11 @@ returns-clause-any_moment g c cap before s mid last turns =
     cap [] before (Creates g.D.Disk.may_leave cap) (λ f o. record { ready = o.reopen; kept = o.kept; cap_is = o.cap_is; held = o.empty }) s mid last turns
 
 pub returns-clause-opened : goal.returns-clause-opened
-returns-clause-opened g c cap before s mid last next first turns images opens =
-    let at = opens_well g.D.Disk.moment g.D.Disk.failures g.D.Disk.left_since g.D.Disk.may_leave g.met.D.Disk.only_now g.met.D.Disk.counts_now g.D.Disk.reads g.met.D.Disk.reads_an_image
-    cap (before ++ s ∷ []) mid last next (returns-clause-any_moment g c cap before s mid last turns) images first opens in
-    (at.cap_is, at.held)
+returns-clause-opened g c cap sessions disk first left opens =
+    opened_so g.D.Disk.moment g.D.Disk.failures g.D.Disk.left_since g.D.Disk.may_leave g.met.D.Disk.only_now g.met.D.Disk.counts_now g.D.Disk.reads g.met.D.Disk.reads_an_image
+    cap sessions disk left first opens
+
+pub returns-clause-refused : goal.returns-clause-refused
+returns-clause-refused g c cap sessions disk after error left refused =
+    refused_so g.D.Disk.moment g.D.Disk.failures g.D.Disk.left_since g.D.Disk.may_leave g.met.D.Disk.only_now g.met.D.Disk.counts_now g.D.Disk.reads g.met.D.Disk.reads_an_image
+    cap sessions disk left after error refused

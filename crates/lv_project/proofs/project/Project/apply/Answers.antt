@@ -13,7 +13,24 @@ use Rattle.lv_project.proofs.Endings.{ends_from, fault_refused, refused_ends, ro
 use Rattle.lv_journal.specs.State.{IsAbove}
 use Rattle.lv_project.specs.declared.error.ProjectError.TheVariants.{GenerationsSpent}
 use Rattle.lv_project.proofs.Spent.{device_or, err_ok, error_same, not_refused}
+use Rattle.lv_project.proofs.Wanting.{adds_items, device_alone, no_command}
 use Rattle.lv_project.proofs.project.Project.apply.Goals as goal
+
+pub returns-in-Err-clause-memory : goal.returns-in-Err-clause-memory
+returns-in-Err-clause-memory g c is =
+    absurd (no_command c.args.line.now c.in-Err.error c.refusal_of.result c.refusal_of.ensures c.in-Err.ensures.fault is)
+
+pub returns-in-Err-ready-clause-memory : goal.returns-in-Err-ready-clause-memory
+returns-in-Err-ready-clause-memory g c is =
+    inl (adds_items c.args.line.now c.in-Ok.command c.self.inside.maps.spare c.in-Err-ready.error c.refusal_of-in-Err-ready.result
+    c.in-Ok.ensures.ok.1 c.in-Ok.ensures.ok.0 c.refusal_of-in-Err-ready.ensures c.in-Err-ready.ensures.promised is)
+
+pub returns-in-Err-make_room-clause-memory : goal.returns-in-Err-make_room-clause-memory
+returns-in-Err-make_room-clause-memory g c is =
+    inr (subst (λ (v : _). IsAbove v.room (length c.args.line.now)) c.self.view_is c.in-Err-make_room.ensures.ends.1)
+
+pub returns-clause-memory : goal.returns-clause-memory
+returns-clause-memory g c is = absurd (device_alone c.record.result c.record.ensures.device is)
 
 pub returns-in-Err-clause-any_moment : goal.returns-in-Err-clause-any_moment
 returns-in-Err-clause-any_moment g c =
