@@ -3,7 +3,7 @@
 use crate::editor::run;
 
 /// Lines and their answers, each beside what it is about.
-const BUILDS: [(&str, &[u8], &[u8]); 11] = [
+const BUILDS: [(&str, &[u8], &[u8]); 12] = [
     (
         "an empty map",
         b"build\n\
@@ -196,6 +196,23 @@ const BUILDS: [(&str, &[u8], &[u8]); 11] = [
         built vertices 2 segs 1 subsectors 1 nodes 0 bytes 319\n\
         00 00 00 00 03 00 03 00 0d 00 0d 00 10 00 0d 00 0d 00 0d 00 10 00 0d 00 0d 00 00 00 00 00 ff ff 00 \
         00 ff ff\n",
+    ),
+    (
+        "too large a blockmap",
+        b"vertex -11520 -11520\n\
+        vertex 11520 11520\n\
+        sector 0 128 FLOOR4_8 CEIL3_5 160 0 0\n\
+        side 0 0 - - STARTAN3 0\n\
+        line 0 1 1 0 0 0 -\n\
+        build\n\
+        hex SEGS\n",
+        b"ok 0\n\
+        ok 1\n\
+        ok 0\n\
+        ok 0\n\
+        ok 0\n\
+        no 66\n\
+        no 66\n",
     ),
     (
         "two maps",

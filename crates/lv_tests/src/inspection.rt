@@ -5,8 +5,8 @@ use lv_pwad::ReadError;
 use std::fs;
 use std::test::Fail;
 
-/// The room from (0,0) to (128,128) as MAP01: lines, sides, vertices, segs, one subsector, a sector, REJECT, BLOCKMAP and
-/// the directory.
+/// The room from (0,0) to (128,128) as MAP01: lines, sides, vertices, segs, one subsector, a sector, REJECT, BLOCKMAP
+/// and the directory.
 const ROOM_WAD: [u8; 515] = [
     80, 87, 65, 68, 11, 0, 0, 0, 83, 1, 0, 0, 0, 0, 1, 0, 1, 0, 0, 0, 0, 0, 0, 0, 255, 255, 1, 0,
     2, 0, 1, 0, 0, 0, 0, 0, 1, 0, 255, 255, 2, 0, 3, 0, 1, 0, 0, 0, 0, 0, 2, 0, 255, 255, 3, 0, 0,
@@ -187,6 +187,18 @@ fn builds_and_inspects_a_room(rt: HostRuntime) -> Result<(), Fail> {
     }
     let wad = fs::read(&rt, "room.wad")?;
     assert_eq!(rt; wad.as_slice(), ROOM_WAD.as_slice());
+    Ok(())
+}
+
+/// A fault is told on standard output, and by the status.
+#[test]
+fn tells_a_fault_by_the_status(rt: HostRuntime) -> Result<(), Fail> {
+    fs::write(&rt, "changed.wad", &changed(12, 0x04))?;
+    let (ended, out, faults) =
+        performed(&rt, &["leveled", "inspect", "changed.wad", "MAP01"], b"")?;
+    assert_eq!(rt; ended, 3);
+    assert!(rt; out.ends_with(b"fault LineVertex 0\n"));
+    assert!(rt; faults.is_empty());
     Ok(())
 }
 

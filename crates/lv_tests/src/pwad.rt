@@ -1,10 +1,9 @@
 //! Drawn maps built into PWADs: the worked examples, what is read of their bytes, and what is wrong with changed ones.
 
-use crate::drawing::{ROOM, SECTOR, SIDE, drawn};
+use crate::drawing::{CUT, L, ROOM, SECTOR, SIDE, SLIVER, TWO_ROOMS, drawn};
 use lv_blockmap::{BlockmapError, blockmap, touches};
 use lv_lumps::Vertex;
-use lv_maptables::Map;
-use lv_pwad::{BuildError, Fault, ReadError, audit, build_wad, read_level, reject};
+use lv_pwad::{BuildError, Fault, ReadError, audit, build_all, build_wad, read_level, reject};
 use std::alloc::Global;
 use std::process::Abort;
 use std::test::Fail;
@@ -27,60 +26,22 @@ const ROOM_OF_512: &[u8] = b"room 0 0 512 512 0 128 FLOOR4_8 CEIL3_5 STARTAN3 16
 
 const LARGEST_ROOM: &[u8] = b"room 0 0 16256 16256 0 128 FLOOR4_8 CEIL3_5 STARTAN3 160";
 
-const L: [&[u8]; 14] = [
-    b"vertex 0 0",
-    b"vertex 0 256",
-    b"vertex 128 256",
-    b"vertex 128 128",
-    b"vertex 256 128",
-    b"vertex 256 0",
+/// A line through 181 by 181 blocks that leaves out the first: the second of its two lists begins at word 32,767.
+const FALLING: [&[u8]; 5] = [
+    b"vertex -11520 11520",
+    b"vertex 11520 -11520",
     SECTOR,
     SIDE,
     b"line 0 1 1 0 0 0 -",
-    b"line 1 2 1 0 0 0 -",
-    b"line 2 3 1 0 0 0 -",
-    b"line 3 4 1 0 0 0 -",
-    b"line 4 5 1 0 0 0 -",
-    b"line 5 0 1 0 0 0 -",
 ];
 
-const CUT: [&[u8]; 11] = [
-    b"vertex 0 0",
-    b"vertex 10 3",
-    b"vertex 4 10",
-    b"vertex 4 5",
-    b"vertex 4 -5",
-    b"vertex 4 -10",
-    SECTOR,
-    b"side 0 0 - - - 0",
-    b"line 0 1 4 0 0 0 0",
-    b"line 2 3 1 0 0 0 -",
-    b"line 4 5 1 0 0 0 -",
-];
-
-const SLIVER: [&[u8]; 8] = [
-    b"vertex 10 0",
-    b"vertex 0 0",
-    b"vertex 8 17",
-    b"vertex 9 7",
+/// The same blocks, but the line touches the first: the second list would begin a word later.
+const RISING: [&[u8]; 5] = [
+    b"vertex -11520 -11520",
+    b"vertex 11520 11520",
     SECTOR,
     SIDE,
     b"line 0 1 1 0 0 0 -",
-    b"line 2 3 1 0 0 0 -",
-];
-
-const TWO_ROOMS: [&[u8]; 11] = [
-    ROOM,
-    SECTOR,
-    b"side 0 0 - - - 1",
-    b"side 0 0 - - STARTAN3 1",
-    b"set-side 2 0 0 - - - 0",
-    b"vertex 256 128",
-    b"vertex 256 0",
-    b"set-line 2 2 3 4 0 0 2 4",
-    b"line 2 4 1 0 0 5 -",
-    b"line 4 5 1 0 0 5 -",
-    b"line 5 3 1 0 0 5 -",
 ];
 
 #[test]
@@ -91,6 +52,7 @@ fn built_maps_read_back_without_a_fault(rt: HostRuntime) -> Result<(), Fail> {
         ([ROOM].as_slice(), [4, 4, 1, 0, 515]),
         ([ROOM_OF_512].as_slice(), [4, 4, 1, 0, 577]),
         ([LARGEST_ROOM].as_slice(), [4, 4, 1, 0, 33295]),
+        (FALLING.as_slice(), [2, 1, 1, 0, 65823]),
         (L.as_slice(), [7, 7, 2, 1, 591]),
         (CUT.as_slice(), [7, 6, 4, 3, 507]),
         (SLIVER.as_slice(), [4, 2, 1, 0, 335]),
@@ -207,6 +169,24 @@ fn refused_at(
     refused
 }
 
+/// Heads alone: no entry, one beyond the end, and both numbers as great as can be.
+const HEADS: [([u8; 12], ReadError); 3] = [
+    (*b"PWAD\0\0\0\0\x0c\0\0\0", ReadError::NoSuchLevel),
+    (*b"PWAD\x01\0\0\0\x0c\0\0\0", ReadError::DirectoryOutside),
+    (
+        *b"PWAD\xff\xff\xff\xff\xff\xff\xff\xff",
+        ReadError::DirectoryOutside,
+    ),
+];
+
+#[test]
+fn heads_alone_are_refused(rt: HostRuntime) {
+    for (head, error) in HEADS {
+        let refused = read_level(rt.alloc(), &head, b"MAP01").err();
+        assert_eq!(rt; refused, Some(error));
+    }
+}
+
 #[test]
 fn bytes_that_hold_no_level_are_refused(rt: HostRuntime) -> Result<(), Fail> {
     let mut wad = built(&rt, rt.alloc(), &[ROOM]);
@@ -224,6 +204,7 @@ fn bytes_that_hold_no_level_are_refused(rt: HostRuntime) -> Result<(), Fail> {
         (503, 233, Some(ReadError::LumpOutside)),
         (503, 232, None),
         (375, 15, Some(ReadError::LumpLength)),
+        (379, b'M', Some(ReadError::LumpMissing)),
     ] {
         assert_eq!(rt; refused_at(&rt, rt.alloc(), &mut wad, place, byte), refused);
     }
@@ -235,13 +216,28 @@ fn bytes_that_hold_no_level_are_refused(rt: HostRuntime) -> Result<(), Fail> {
 }
 
 #[test]
-fn a_map_without_lines_is_not_built(rt: HostRuntime) {
-    let map = Map::new(rt.alloc());
-    let refused = build_wad(rt.alloc(), &map).err();
-    assert_eq!(rt; refused, Some(BuildError::NothingToBuild));
-    assert_eq!(rt; BuildError::NothingToBuild.code(), 60);
-    let refused = blockmap(rt.alloc(), &map).err();
-    assert_eq!(rt; refused, Some(BlockmapError::NothingToBuild));
+fn maps_that_cannot_be_built_are_refused(rt: HostRuntime) {
+    // lines of text; then the refusal of the build, its number, and the refusal of the blockmap
+    for (lines, error, code, cause) in [
+        (
+            [b"vertex 0 0".as_slice()].as_slice(),
+            BuildError::NothingToBuild,
+            60,
+            BlockmapError::NothingToBuild,
+        ),
+        (
+            RISING.as_slice(),
+            BuildError::BlockmapTooLarge,
+            66,
+            BlockmapError::BlockmapTooLarge,
+        ),
+    ] {
+        let maps = drawn(&rt, rt.alloc(), lines);
+        assert_eq!(rt; build_wad(rt.alloc(), maps.current()).err(), Some(error));
+        assert_eq!(rt; error.code(), code);
+        assert_eq!(rt; blockmap(rt.alloc(), maps.current()).err(), Some(cause));
+        assert_eq!(rt; cause.code(), code);
+    }
 }
 
 #[test]
@@ -250,4 +246,35 @@ fn a_line_touches_the_corners_that_it_runs_through(rt: HostRuntime) {
     assert!(rt; touches(line, (128, 0)));
     assert!(rt; touches(line, (256, 256)));
     assert!(rt; !touches(line, (256, 0)));
+}
+
+/// A map whose blockmap is too large, and behind it one without a line.
+const TWO_REFUSED: [&[u8]; 6] = [
+    b"vertex -11520 -11520",
+    b"vertex 11520 11520",
+    SECTOR,
+    SIDE,
+    b"line 0 1 1 0 0 0 -",
+    b"map MAP02",
+];
+
+#[test]
+fn all_maps_are_built_or_the_first_refusal_told(rt: HostRuntime) -> Result<(), Fail> {
+    for (lines, error) in [
+        ([ROOM, b"map MAP02"].as_slice(), BuildError::NothingToBuild),
+        (TWO_REFUSED.as_slice(), BuildError::BlockmapTooLarge),
+    ] {
+        let maps = drawn(&rt, rt.alloc(), lines);
+        assert_eq!(rt; build_all(rt.alloc(), &maps).err(), Some(error));
+    }
+    let maps = drawn(&rt, rt.alloc(), &[ROOM, b"map MAP02", ROOM]);
+    let wad = build_all(rt.alloc(), &maps).expect(&rt, "a PWAD");
+    assert_eq!(rt; wad.len(), 1018);
+    for name in [b"MAP01", b"MAP02"] {
+        let level = read_level(rt.alloc(), &wad, name)?;
+        assert_eq!(rt; level.vertices.len(), 4);
+        assert_eq!(rt; level.subs.len(), 1);
+        assert_eq!(rt; audit(rt.alloc(), &level)?, None);
+    }
+    Ok(())
 }

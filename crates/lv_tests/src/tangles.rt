@@ -1,9 +1,10 @@
-//! The trees of maps of forty lines that cross one another, checked by plain code.
+//! The trees and levels of maps of forty lines that cross one another, checked by plain code.
 
 use crate::partition::{Sequence, draw_tangle};
 use lv_lumps::{Seg, Vertex};
 use lv_maptables::{Kind, Map};
 use lv_nodes::{Built, build_tree};
+use lv_pwad::{audit, build_wad, read_level};
 use std::alloc::Global;
 use std::test::Fail;
 
@@ -201,6 +202,19 @@ fn trees_of_tangles_are_sound(rt: HostRuntime) -> Result<(), Fail> {
         assert!(rt; are_children(rt.alloc(), &tree)?, "children of {n}");
         assert!(rt; are_tiled(map, &tree), "subsectors of {n}");
         assert!(rt; are_covered(rt.alloc(), map, &tree)?, "sides of {n}");
+    }
+    Ok(())
+}
+
+// The PWAD of each of these maps is read back, and its audit finds no fault.
+#[test]
+fn levels_of_tangles_read_back_without_a_fault(rt: HostRuntime) -> Result<(), Fail> {
+    let mut numbers = Sequence { state: 40 };
+    for n in 0..200 {
+        let maps = draw_tangle(&rt, rt.alloc(), &mut numbers, 40, 1 + n % 24)?;
+        let wad = build_wad(rt.alloc(), maps.current()).expect(&rt, "a PWAD");
+        let level = read_level(rt.alloc(), &wad, b"MAP01")?;
+        assert_eq!(rt; audit(rt.alloc(), &level)?, None, "{n}");
     }
     Ok(())
 }
