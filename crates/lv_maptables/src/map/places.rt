@@ -13,7 +13,7 @@ use std::marker::Model;
 #[derive(Drop)]
 pub(super) struct Places {
     taken: HashSet<Vertex>,
-    // The set has twice the room, since it may lose some where places go, and is filled again when the rest is gone.
+    // The set has a quarter more: it may lose room where places go, and is filled again when the rest is lost.
     room: usize,
 }
 
@@ -61,9 +61,10 @@ impl Places {
         if total <= self.room {
             return Ok(());
         }
-        let more = 2 * total - self.taken.len();
+        let more = total + total / 4 - self.taken.len();
         self.taken.reserve(more)?;
-        self.room = self.taken.capacity() / 2;
+        let capacity = self.taken.capacity();
+        self.room = capacity - capacity / 5;
         Ok(())
     }
 
