@@ -1,11 +1,11 @@
-ghost use Rattle.std.specs.Prelude.{◌≡◌, pos, neg_ℤ, ◌≤ℤ◌, length, All, true, false};
+ghost use Rattle.std.specs.Prelude.{◌≡◌, pos, neg_ℤ, ◌≤ℤ◌, length, All, true, false, if◌then◌else◌, Some, None};
 ghost use Rattle.lv_lumps.specs.Drawing.{IsDrawable};
 ghost use Rattle.lv_segs.specs.Plane.{IsEdge, dot};
 ghost use Rattle.lv_segs.specs.Fractions.{IsFraction};
-ghost use Rattle.lv_segs.specs.Pieces.{IsPiece};
+ghost use Rattle.lv_segs.specs.Pieces.{IsPiece, same_place};
 ghost use Rattle.lv_segs.specs.Division.{place_of, parts_of, IsDivided, LiesAlong};
 ghost use Rattle.lv_segs.specs.Edges.{edges_of};
-ghost use Rattle.lv_segs.specs.Local.{IsLineRay, HasFractions, place_on, parts_on, kept_on, cut_on};
+ghost use Rattle.lv_segs.specs.Local.{IsLineRay, HasFractions, place_on, parts_on, cut_on};
 
 use crate::edge::Edge;
 use crate::edges::{edge_of, lines_are_drawn};
@@ -14,18 +14,13 @@ use crate::piece::{Parts, Piece, Place};
 use crate::place::{place_by_signs, value_between};
 use crate::points::point;
 use crate::values::{dot_of, ray_of, value_at, zero_of};
-use lv_lumps::Ray;
+use lv_lumps::{Ray, Vertex};
 use lv_maptables::Map;
 
-// A part of a line, left out where its ends round to one place.
-fn kept(edge: Edge, piece: Piece) -> Option<Piece>
-    requires line { IsEdge edge }
-    requires from { IsFraction piece.from }
-    requires to { IsFraction piece.to }
-    ensures { result ≡ kept_on edge piece }
+// A part of a line, left out where its rounded ends are one place.
+fn kept(piece: Piece, first: Vertex, last: Vertex) -> Option<Piece>
+    ensures { result ≡ (if same_place first last then None else Some piece) }
 {
-    let first = point(edge.v1, edge.v2, piece.from);
-    let last = point(edge.v1, edge.v2, piece.to);
     if first == last { None } else { Some(piece) }
 }
 
@@ -36,23 +31,28 @@ fn cut(edge: Edge, piece: &Piece, at: Frac, starts_right: bool) -> Parts
     requires at { IsFraction at }
     ensures { result ≡ cut_on edge piece.now at starts_right }
 {
+    let first = point(edge.v1, edge.v2, piece.from);
+    let middle = point(edge.v1, edge.v2, at);
+    let last = point(edge.v1, edge.v2, piece.to);
     let before = kept(
-        edge,
         Piece {
             line: piece.line,
             side: piece.side,
             from: piece.from,
             to: at,
         },
+        first,
+        middle,
     );
     let after = kept(
-        edge,
         Piece {
             line: piece.line,
             side: piece.side,
             from: at,
             to: piece.to,
         },
+        middle,
+        last,
     );
     if starts_right {
         Parts {

@@ -1,0 +1,55 @@
+use Rattle.std.proofs.Common.{◌≡◌, sym, arith}
+use Rattle.std.proofs.lemmas.Int.{ints}
+use Rattle.std.specs.Prelude.{pos}
+use Rattle.lv_segs.proofs.Rounding.{rounded_start, rounded_end}
+use Rattle.lv_segs.proofs.points.point.Goals as goal
+use Rattle.lv_segs.proofs.points.point.Goals.{Then-at-eq0, Else-at-eq0, Then-at-eq1}
+
+-- a fraction with the denominator 1
+over_one : (c : Then-at-eq1) → c.args.at.d ≡ pos 1
+over_one c =
+    let f = c.requires.fraction in
+    let p = f.positive in
+    let s = f.small in
+    let d = c.if-at-eq1.true in
+    omega (arith, ints)
+
+-- is 0
+zero_of_one : (c : Then-at-eq0) → c.args.at.n ≡ pos 0
+zero_of_one c =
+    let f = c.requires.fraction in
+    let l = f.at_least_zero in
+    let h = f.at_most_one in
+    let s = f.small in
+    let n = c.if-at-eq0.true in
+    omega (arith, ints)
+
+-- or 1
+one_of_one : (c : Else-at-eq0) → c.args.at.n ≡ pos 1
+one_of_one c =
+    let f = c.requires.fraction in
+    let l = f.at_least_zero in
+    let h = f.at_most_one in
+    let d = c.if-at-eq1.true in
+    let n = c.if-at-eq0.false in
+    omega (arith, ints)
+
+pub returns-then-at-eq0-clause-x : goal.returns-then-at-eq0-clause-x
+returns-then-at-eq0-clause-x c =
+    let g = goal.at.returns-then-at-eq0-clause-x c in
+    sym (rounded_start c.args.a.x c.args.b.x c.args.at (zero_of_one g.Then-at-eq0) (over_one g.Then-at-eq1))
+
+pub returns-then-at-eq0-clause-y : goal.returns-then-at-eq0-clause-y
+returns-then-at-eq0-clause-y c =
+    let g = goal.at.returns-then-at-eq0-clause-y c in
+    sym (rounded_start c.args.a.y c.args.b.y c.args.at (zero_of_one g.Then-at-eq0) (over_one g.Then-at-eq1))
+
+pub returns-else-at-eq0-clause-x : goal.returns-else-at-eq0-clause-x
+returns-else-at-eq0-clause-x c =
+    let g = goal.at.returns-else-at-eq0-clause-x c in
+    sym (rounded_end c.args.a.x c.args.b.x c.args.at (one_of_one g.Else-at-eq0) (over_one g.Then-at-eq1))
+
+pub returns-else-at-eq0-clause-y : goal.returns-else-at-eq0-clause-y
+returns-else-at-eq0-clause-y c =
+    let g = goal.at.returns-else-at-eq0-clause-y c in
+    sym (rounded_end c.args.a.y c.args.b.y c.args.at (one_of_one g.Else-at-eq0) (over_one g.Then-at-eq1))
