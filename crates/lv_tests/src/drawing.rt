@@ -147,10 +147,11 @@ fn draws_projects(rt: HostRuntime) {
 #[test]
 fn takes_32_maps(rt: HostRuntime) -> Result<(), Fail> {
     let mut maps = Maps::new(rt.alloc());
-    for n in 1..=32_u32 {
-        let line = format!(in rt.alloc(); "map MAP{n:02}")?;
+    for n in 0..32_u32 {
+        let name = n + 1;
+        let line = format!(in rt.alloc(); "map MAP{name:02}")?;
         let got = answer(&mut maps, line.as_bytes(), 578);
-        assert_eq!(rt; got, Ok(n - 1), "map {n}");
+        assert_eq!(rt; got, Ok(n), "map {name}");
     }
     let further = answer(&mut maps, b"map MAP33", 578);
     assert_eq!(rt; (further, maps.len()), (Err(16), 32));
