@@ -69,10 +69,13 @@ fn create<'a>(alloc: Global) -> Result<Command<'a>, Error>
 fn build<'a>(alloc: Global) -> Result<Command<'a>, Error>
     ensures { IfOk result (λ c. IsCommand c build_app) }
 {
-    Ok(
-        over_file(alloc, "build", "Builds a project's maps into a PWAD", help::BUILD)?
-            .arg(word(alloc, "out"))?,
-    )
+    Ok(over_file(
+        alloc,
+        "build",
+        "Builds a project's maps into a PWAD",
+        help::BUILD,
+    )?
+    .arg(word(alloc, "out"))?)
 }
 
 /// `inspect`.
@@ -80,9 +83,14 @@ fn inspect<'a>(alloc: Global) -> Result<Command<'a>, Error>
     ensures { IfOk result (λ c. IsCommand c inspect_app) }
 {
     Ok(
-        named(alloc, "inspect", "Says whether a level of a WAD is sound", help::INSPECT)
-            .arg(word(alloc, "wad"))?
-            .arg(word(alloc, "name"))?,
+        named(
+            alloc,
+            "inspect",
+            "Says whether a level of a WAD is sound",
+            help::INSPECT,
+        )
+        .arg(word(alloc, "wad"))?
+        .arg(word(alloc, "name"))?,
     )
 }
 
@@ -92,9 +100,19 @@ fn with_subcommands<'a>(alloc: Global) -> Result<Command<'a>, Error>
 {
     Ok(
         Command::new(alloc, "leveled")
-            .subcommand(named(alloc, "scratch", "Answers lines over maps in memory", help::SCRATCH))?
+            .subcommand(named(
+                alloc,
+                "scratch",
+                "Answers lines over maps in memory",
+                help::SCRATCH,
+            ))?
             .subcommand(create(alloc)?)?
-            .subcommand(over_file(alloc, "edit", "Answers lines over a project file", help::EDIT)?)?
+            .subcommand(over_file(
+                alloc,
+                "edit",
+                "Answers lines over a project file",
+                help::EDIT,
+            )?)?
             .subcommand(over_file(
                 alloc,
                 "check",

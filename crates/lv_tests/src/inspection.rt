@@ -194,8 +194,11 @@ fn builds_and_inspects_a_room(rt: HostRuntime) -> Result<(), Fail> {
 #[test]
 fn tells_a_fault_by_the_status(rt: HostRuntime) -> Result<(), Fail> {
     fs::write(&rt, "changed.wad", &changed(12, 0x04))?;
-    let (ended, out, faults) =
-        performed(&rt, &["leveled", "inspect", "changed.wad", "MAP01"], b"")?;
+    let (ended, out, faults) = performed(
+        &rt,
+        &["leveled", "inspect", "changed.wad", "MAP01"],
+        b"",
+    )?;
     assert_eq!(rt; ended, 3);
     assert!(rt; out.ends_with(b"fault LineVertex 0\n"));
     assert!(rt; faults.is_empty());
