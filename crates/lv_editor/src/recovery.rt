@@ -12,9 +12,9 @@ use lv_project::{hold_each_acknowledged, opens};
 use lv_pwad::build_all;
 use std::alloc::Global;
 
-/// A session may hold runs beside calls of `apply` and `checkpoint`: a run is the calls that its lines made, as the contract
-/// of `run` says. So all that a session does is calls in turn, which `hold_each_acknowledged` asks for, and it may be stopped
-/// between any two of them. The function has no body: its contract is the law.
+/// A session may hold runs beside calls of `apply` and `checkpoint`: a run is the calls that its lines made, as the
+/// contract of `run` says. So all that a session does is calls in turn, which `hold_each_acknowledged` asks for, and it
+/// may be stopped between any two of them. The function has no body: its contract is the law.
 pub fn sessions_hold_runs<D: Disk>()
     ensures { (first : State D) (deeds : List (Deed D)) (front : List Call) (back : List Call) (last : State D)
         → AllDone D.moment D.failures D.left_since D.may_leave first deeds (front ++ back) last
@@ -29,8 +29,8 @@ pub fn sessions_hold_runs<D: Disk>()
 ///
 /// # Errors
 ///
-/// `Open` by a fault of the device or for want of memory alone, and `Build` as `build_all` refuses those maps: 30, 31, 60 to
-/// 64 and 66.
+/// `Open` by a fault of the device or for want of memory alone, and `Build` as `build_all` refuses those maps: 30, 31,
+/// 60 to 64 and 66.
 pub fn build_after_any_stop<D: Disk + Drop>(
     alloc: Global,
     disk: D,
