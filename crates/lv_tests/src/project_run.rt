@@ -1,9 +1,10 @@
 //! Lines over a project, and the subcommands that take a file.
 
+use crate::drawing::ROOM;
 use crate::project::{SMALL, created, empty_disk, opened, vertices};
 use lv_disk::{Disk, FaultDisk, FileDisk, MemoryDisk};
-use lv_editor::{EditorError, RequestError, answer, perform, request, run};
-use lv_project::Project;
+use lv_editor::{EditorError, RequestError, answer, build_after_any_stop, perform, request, run};
+use lv_project::{Geometry, Project};
 use std::alloc::Global;
 use std::fs;
 use std::io::{self, Write};
@@ -107,6 +108,23 @@ fn keeps_what_it_could_not_tell(rt: HostRuntime) -> Result<(), Fail> {
     );
     assert_eq!(rt; vertices(&project), 3, "the third line isn't looked at");
     assert_eq!(rt; vertices(&opened(rt.alloc(), project.into_disk())?), 3);
+    Ok(())
+}
+
+#[test]
+fn builds_what_a_disk_holds(rt: HostRuntime) -> Result<(), Fail> {
+    let geometry = Geometry {
+        slot: 300,
+        journal: 512,
+    };
+    let mut project = created(rt.alloc(), empty_disk(rt.alloc())?, geometry)?;
+    project.apply(ROOM)?;
+    let wad = build_after_any_stop(rt.alloc(), project.into_disk())?;
+    assert_eq!(rt; wad.len(), 515);
+    let Err(refused) = build_after_any_stop(rt.alloc(), empty_disk(rt.alloc())?) else {
+        return Err(Fail::from("a blank disk is built"));
+    };
+    assert_eq!(rt; refused.code(), 41);
     Ok(())
 }
 
