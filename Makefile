@@ -33,11 +33,12 @@ demo: bin/leveled
 test:
 	rt ci
 
-# what the gate can't look at: kills at any moment, closed and full outputs, files that are no project, and trees of maps just
-# at each limit and just above it
+# what the gate can't look at: kills at any moment, closed and full outputs, files that are no project, damaged projects and
+# PWADs, and trees of maps just at each limit and just above it
 stress: bin/leveled
-	bench/stops bin/leveled
+	bench/stops bin/leveled 200
 	sh crates/leveled/edges.sh bin/leveled
+	bench/damage bin/leveled
 	bench/limits
 
 # the program, its manual page, and what a user reads and runs
