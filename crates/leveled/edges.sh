@@ -63,6 +63,19 @@ for out in map link; do
     [ "$said" = 'leveled: 38 WriterFailed' ] || { echo "build over $out says: $said"; bad=1; }
 done
 cmp -s "$place/map" "$place/kept" || { echo 'a project was written over'; bad=1; }
+
+# All tables full: the body has 2,007,002 bytes, the most that maps in memory may have, so no map can be added.
+awk 'BEGIN {
+    n = 32767
+    for (i = 0; i < n; i++) print "vertex", i % 250, int(i / 250)
+    for (i = 0; i < 4096; i++) print "sector 0 128 FLOOR4_8 CEIL3_5 160 0 0"
+    for (i = 0; i < n; i++) print "side 0 0 - - STARTAN3 0"
+    for (i = 0; i < n; i++) print "line", i, (i + 1) % n, 1, 0, 0, i, "-"
+    for (i = 0; i < n; i++) print "thing 0 0 0 1 7"
+    print "map MAP02"; print "map MAP01"; print "drop thing 0"; print "drop thing 0"; print "map MAP02"; print "maps"
+}' | "$program" scratch > "$place/full"; status_is 'full tables' 0 $?
+[ "$(tail -n 8 "$place/full" | tr '\n' ' ')" = 'no 14 ok 0 ok 0 ok 0 ok 1 0 MAP01 1 MAP02 current 1 ' ] || { echo 'full tables: other answers'; bad=1; }
+[ "$(grep -c '^ok' "$place/full")" = 135168 ] || { echo 'full tables: a line was refused'; bad=1; }
 rm -r "$place"
 
 exit $bad
