@@ -302,13 +302,18 @@ const TWO_MAPS: &[Answer] = &[
 /// Lines, how many maps the project then has, which is current, and how many vertices that one has.
 const PROJECTS: [(&[Answer], [u32; 3]); 2] = [(ONE_MAP, [1, 0, 7]), (TWO_MAPS, [2, 1, 3])];
 
+/// Applies lines, each with its answer.
+fn answer_all<D: Disk>(rt: &impl Abort, project: &mut Project<D>, lines: &[Answer]) {
+    for (line, answer) in lines {
+        assert_eq!(rt; project.apply(*line), *answer, "{line:?}");
+    }
+}
+
 #[test]
 fn holds_what_fits_a_slot(rt: HostRuntime) -> Result<(), Fail> {
     for (lines, want) in PROJECTS {
         let mut project = created(rt.alloc(), empty_disk(rt.alloc())?, SMALL)?;
-        for (line, answer) in lines {
-            assert_eq!(rt; project.apply(*line), *answer, "{line:?}");
-        }
+        answer_all(&rt, &mut project, lines);
         assert_eq!(rt; project.checkpoint(), Ok(2));
         let project = opened(rt.alloc(), project.into_disk())?;
         let maps = project.maps();

@@ -130,7 +130,8 @@ fn pieces_are_cut(rt: HostRuntime) -> Result<(), Fail> {
     for (lines, [at, by], place, [right, left]) in CUTS {
         let maps = drawn(&rt, rt.alloc(), lines);
         let pieces = pieces_of(rt.alloc(), maps.current())?;
-        assert!(rt; at < pieces.len() && by < pieces.len());
+        assert!(rt; at < pieces.len());
+        assert!(rt; by < pieces.len());
         let (found, parts) = parts(maps.current(), &pieces, at, by);
         assert_eq!(rt; found, place);
         assert_eq!(rt; fields(parts.right), right);
