@@ -122,9 +122,9 @@ fn builds_what_a_disk_holds(rt: HostRuntime) -> Result<(), Fail> {
     let wad = build_after_any_stop(rt.alloc(), project.into_disk())?;
     assert_eq!(rt; wad.len(), 515);
     let Err(refused) = build_after_any_stop(rt.alloc(), empty_disk(rt.alloc())?) else {
-        return Err(Fail::from("a blank disk is built"));
+        return Err(Fail::from("an empty disk is built"));
     };
-    assert_eq!(rt; refused.code(), 41);
+    assert_eq!(rt; refused.code(), 42);
     Ok(())
 }
 
