@@ -21,8 +21,8 @@ pub struct Filled {
 }
 
 impl Slots {
-    /// Closes the other slot, where it is open: one write, one sync. Where it is closed it makes no device call, since a
-    /// gate that is written again may be open after a stop. It takes no memory.
+    /// Closes the other slot, where it is open: one write, one sync. Where it is closed it makes no device
+    /// call, since a gate that is written again may be open after a stop. It takes no memory.
     pub fn close_other<D: Disk>(self, disk: &mut D, image: &Image) -> Result<Closed, DeviceFault>
         requires slots { Each (D.may_leave disk.old) (HasSomeSlots self) }
         requires next { generation_in image.now ≡ generation_of self + 1 }
