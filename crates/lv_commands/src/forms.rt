@@ -40,7 +40,8 @@ fn has_area(plan: &RoomPlan) -> bool
 impl<'a> Places<'a> {
     /// A place.
     pub fn vertex(mut self) -> Result<Vertex, CommandError>
-        ensures ok { IfOk result (λ r. ((reading self.entry).fault ≡ None) × ((reading self.entry).words ≡ vertex_words r) × IsVertex r) }
+        ensures ok { IfOk result (λ r. ((reading self.entry).fault ≡ None)
+            × ((reading self.entry).words ≡ vertex_words r) × IsVertex r) }
         ensures fault { TellsFault result (fault_with (reading self.entry) vertex_places) }
     {
         let x = self.number(LEAST_COORDINATE, GREATEST_COORDINATE);
@@ -51,7 +52,8 @@ impl<'a> Places<'a> {
 
     /// A sector.
     pub fn sector(mut self) -> Result<Sector, CommandError>
-        ensures ok { IfOk result (λ r. ((reading self.entry).fault ≡ None) × ((reading self.entry).words ≡ sector_words r) × IsSector r) }
+        ensures ok { IfOk result (λ r. ((reading self.entry).fault ≡ None)
+            × ((reading self.entry).words ≡ sector_words r) × IsSector r) }
         ensures fault { TellsFault result (fault_with (reading self.entry) sector_places) }
     {
         let floor = self.number(i16::MIN, i16::MAX);
@@ -75,7 +77,8 @@ impl<'a> Places<'a> {
 
     /// A side.
     pub fn side(mut self) -> Result<Side, CommandError>
-        ensures ok { IfOk result (λ r. ((reading self.entry).fault ≡ None) × ((reading self.entry).words ≡ side_words r) × IsSide r) }
+        ensures ok { IfOk result (λ r. ((reading self.entry).fault ≡ None)
+            × ((reading self.entry).words ≡ side_words r) × IsSide r) }
         ensures fault { TellsFault result (fault_with (reading self.entry) side_places) }
     {
         let x_offset = self.number(i16::MIN, i16::MAX);
@@ -97,7 +100,8 @@ impl<'a> Places<'a> {
 
     /// A line.
     pub fn line(mut self) -> Result<Line, CommandError>
-        ensures ok { IfOk result (λ r. ((reading self.entry).fault ≡ None) × ((reading self.entry).words ≡ line_words r) × IsLine r) }
+        ensures ok { IfOk result (λ r. ((reading self.entry).fault ≡ None)
+            × ((reading self.entry).words ≡ line_words r) × IsLine r) }
         ensures fault { TellsFault result (fault_with (reading self.entry) line_places) }
     {
         let v1 = self.item(LAST_ITEM);
@@ -121,7 +125,8 @@ impl<'a> Places<'a> {
 
     /// A thing.
     pub fn thing(mut self) -> Result<Thing, CommandError>
-        ensures ok { IfOk result (λ r. ((reading self.entry).fault ≡ None) × ((reading self.entry).words ≡ thing_words r) × IsThing r) }
+        ensures ok { IfOk result (λ r. ((reading self.entry).fault ≡ None)
+            × ((reading self.entry).words ≡ thing_words r) × IsThing r) }
         ensures fault { TellsFault result (fault_with (reading self.entry) thing_places) }
     {
         let x = self.number(LEAST_COORDINATE, GREATEST_COORDINATE);
@@ -142,7 +147,8 @@ impl<'a> Places<'a> {
     /// The number of a vertex, and what it becomes.
     pub fn numbered_vertex(mut self) -> Result<(u16, Vertex), CommandError>
         requires { (reading self).fault ≡ None }
-        ensures ok { IfOk result (λ r. ((reading self.entry).words ≡ decimal r.0 ∷ vertex_words r.1) × (r.0 ≤ 32766) × IsVertex r.1) }
+        ensures ok { IfOk result (λ r. ((reading self.entry).words ≡ decimal r.0 ∷ vertex_words r.1)
+            × (r.0 ≤ 32766) × IsVertex r.1) }
         ensures fault { TellsFault result (places_fault (item ∷ vertex_places) (reading self.entry).words) }
     {
         let number = self.item(LAST_ITEM);
@@ -155,7 +161,8 @@ impl<'a> Places<'a> {
     /// The number of a sector, and what it becomes.
     pub fn numbered_sector(mut self) -> Result<(u16, Sector), CommandError>
         requires { (reading self).fault ≡ None }
-        ensures ok { IfOk result (λ r. ((reading self.entry).words ≡ decimal r.0 ∷ sector_words r.1) × (r.0 ≤ 4095) × IsSector r.1) }
+        ensures ok { IfOk result (λ r. ((reading self.entry).words ≡ decimal r.0 ∷ sector_words r.1)
+            × (r.0 ≤ 4095) × IsSector r.1) }
         ensures fault { TellsFault result (places_fault (sector_item ∷ sector_places) (reading self.entry).words) }
     {
         let number = self.item(LAST_SECTOR);
@@ -168,7 +175,8 @@ impl<'a> Places<'a> {
     /// The number of a side, and what it becomes.
     pub fn numbered_side(mut self) -> Result<(u16, Side), CommandError>
         requires { (reading self).fault ≡ None }
-        ensures ok { IfOk result (λ r. ((reading self.entry).words ≡ decimal r.0 ∷ side_words r.1) × (r.0 ≤ 32766) × IsSide r.1) }
+        ensures ok { IfOk result (λ r. ((reading self.entry).words ≡ decimal r.0 ∷ side_words r.1)
+            × (r.0 ≤ 32766) × IsSide r.1) }
         ensures fault { TellsFault result (places_fault (item ∷ side_places) (reading self.entry).words) }
     {
         let number = self.item(LAST_ITEM);
@@ -181,7 +189,8 @@ impl<'a> Places<'a> {
     /// The number of a line, and what it becomes.
     pub fn numbered_line(mut self) -> Result<(u16, Line), CommandError>
         requires { (reading self).fault ≡ None }
-        ensures ok { IfOk result (λ r. ((reading self.entry).words ≡ decimal r.0 ∷ line_words r.1) × (r.0 ≤ 32766) × IsLine r.1) }
+        ensures ok { IfOk result (λ r. ((reading self.entry).words ≡ decimal r.0 ∷ line_words r.1)
+            × (r.0 ≤ 32766) × IsLine r.1) }
         ensures fault { TellsFault result (places_fault (item ∷ line_places) (reading self.entry).words) }
     {
         let number = self.item(LAST_ITEM);
@@ -194,7 +203,8 @@ impl<'a> Places<'a> {
     /// The number of a thing, and what it becomes.
     pub fn numbered_thing(mut self) -> Result<(u16, Thing), CommandError>
         requires { (reading self).fault ≡ None }
-        ensures ok { IfOk result (λ r. ((reading self.entry).words ≡ decimal r.0 ∷ thing_words r.1) × (r.0 ≤ 32766) × IsThing r.1) }
+        ensures ok { IfOk result (λ r. ((reading self.entry).words ≡ decimal r.0 ∷ thing_words r.1)
+            × (r.0 ≤ 32766) × IsThing r.1) }
         ensures fault { TellsFault result (places_fault (item ∷ thing_places) (reading self.entry).words) }
     {
         let number = self.item(LAST_ITEM);
@@ -206,7 +216,8 @@ impl<'a> Places<'a> {
 
     /// The places of a room.
     fn room_plan(mut self) -> Result<RoomPlan, CommandError>
-        ensures ok { IfOk result (λ r. ((reading self.entry).fault ≡ None) × ((reading self.entry).words ≡ room_words r) × IsPlan r) }
+        ensures ok { IfOk result (λ r. ((reading self.entry).fault ≡ None)
+            × ((reading self.entry).words ≡ room_words r) × IsPlan r) }
         ensures fault { TellsFault result (fault_with (reading self.entry) room_places) }
     {
         let west = self.number(LEAST_COORDINATE, GREATEST_COORDINATE);
@@ -255,7 +266,8 @@ impl<'a> Places<'a> {
     /// A table and the number of an item of it.
     pub fn kind_and_item(mut self) -> Result<(Kind, u16), CommandError>
         requires { (reading self).fault ≡ None }
-        ensures ok { IfOk result (λ r. ((reading self.entry).words ≡ kind_word r.0 ∷ decimal r.1 ∷ []) × (r.1 ≤ last_of r.0)) }
+        ensures ok { IfOk result (λ r. ((reading self.entry).words ≡ kind_word r.0 ∷ decimal r.1 ∷ [])
+            × (r.1 ≤ last_of r.0)) }
         ensures fault { TellsFault result (drop_fault (reading self.entry).words) }
     {
         let Some(word) = self.next() else {
@@ -274,7 +286,8 @@ impl<'a> Places<'a> {
     /// The name of a map, alone.
     pub fn map_name(mut self) -> Result<Name8, CommandError>
         requires { (reading self).fault ≡ None }
-        ensures ok { IfOk result (λ n. ((reading self.entry).words ≡ name_text n ∷ []) × IsNamed is_marker n) }
+        ensures ok { IfOk result (λ n. ((reading self.entry).words ≡ name_text n ∷ [])
+            × IsNamed is_marker n) }
         ensures fault { TellsFault result (places_fault (Named is_marker ∷ []) (reading self.entry).words) }
     {
         let name = self.marker();

@@ -34,7 +34,8 @@ impl<'a> Places<'a> {
     /// The next word.
     pub fn next(&mut self) -> Option<&'a [u8]>
         ensures fault { (reading self.new).fault ≡ (reading self.old).fault }
-        ensures words { MatchOption result (((reading self.old).words ≡ []) × ((reading self.new).words ≡ [])) (λ w. (reading self.old).words ≡ w.now ∷ (reading self.new).words) }
+        ensures words { MatchOption result (((reading self.old).words ≡ [])
+            × ((reading self.new).words ≡ [])) (λ w. (reading self.old).words ≡ w.now ∷ (reading self.new).words) }
     {
         match self.rest {
             None => None,
@@ -89,7 +90,8 @@ impl<'a> Places<'a> {
 
     /// The number of a left side, or `-`. After a fault it answers that there is none.
     pub fn left(&mut self) -> u16
-        ensures reads { Reads (reading self.old) (reading self.new) (NumberOrNone (pos 0) (pos 32766)) (left_word result) }
+        ensures reads { Reads (reading self.old) (reading self.new)
+            (NumberOrNone (pos 0) (pos 32766)) (left_word result) }
         ensures range { IsTrue (nat_le result 32766 || (result == no_side)) }
     {
         match self.next() {

@@ -67,7 +67,8 @@ pub fn next_part(line: &[u8]) -> (&[u8], Option<&[u8]>)
 
 /// The number that a word stands for, between two bounds.
 pub fn number_in(word: &[u8], low: i16, high: i16) -> Result<i16, CommandError>
-    ensures found { IfOk result (λ n. (numeral_value word.now ≡ n) × (signed_decimal n ≡ word.now) × IsBetween low high n) }
+    ensures found { IfOk result (λ n. (numeral_value word.now ≡ n)
+        × (signed_decimal n ≡ word.now) × IsBetween low high n) }
     ensures fault { TellsFault result (place_fault (Number low high) word.now) }
 {
     if !has_numeral_form(word) {
