@@ -64,7 +64,8 @@ fn count_edge(
 ) -> Result<(), CheckError>
     requires { HasRoom 1 degrees.old }
     ensures { OnOk result
-        (AddsEdges degrees.old degrees.new ((record { sector = sector; from = from; to = to }) ∷ [])) }
+        (AddsEdges degrees.old degrees.new
+            ((record { sector = sector; from = from; to = to }) ∷ [])) }
 {
     leave(degrees, (sector, from))?;
     reach(degrees, (sector, to))

@@ -34,8 +34,9 @@ impl<'a> Places<'a> {
     /// The next word.
     pub fn next(&mut self) -> Option<&'a [u8]>
         ensures fault { (reading self.new).fault ≡ (reading self.old).fault }
-        ensures words { MatchOption result (((reading self.old).words ≡ [])
-            × ((reading self.new).words ≡ [])) (λ w. (reading self.old).words ≡ w.now ∷ (reading self.new).words) }
+        ensures words { MatchOption result
+            (((reading self.old).words ≡ []) × ((reading self.new).words ≡ []))
+            (λ w. (reading self.old).words ≡ w.now ∷ (reading self.new).words) }
     {
         match self.rest {
             None => None,
@@ -49,7 +50,8 @@ impl<'a> Places<'a> {
 
     /// Keeps the fault, if it comes before the one so far.
     fn note(&mut self, error: CommandError)
-        ensures fault { (reading self.new).fault ≡ first_of (reading self.old).fault (Some (code_of error)) }
+        ensures fault {
+            (reading self.new).fault ≡ first_of (reading self.old).fault (Some (code_of error)) }
         ensures words { (reading self.new).words ≡ (reading self.old).words }
     {
         match (self.fault, error) {
@@ -61,7 +63,8 @@ impl<'a> Places<'a> {
     /// A number between two bounds. After a fault it answers some number between them.
     pub fn number(&mut self, low: i16, high: i16) -> i16
         requires { low ≤ℤ high }
-        ensures reads { Reads (reading self.old) (reading self.new) (Number low high) (signed_decimal result) }
+        ensures reads {
+            Reads (reading self.old) (reading self.new) (Number low high) (signed_decimal result) }
         ensures range { IsBetween low high result }
     {
         match self.next() {
@@ -82,7 +85,9 @@ impl<'a> Places<'a> {
     /// The number of an item.
     pub fn item(&mut self, last: u16) -> u16
         requires { last ≤ 32767 }
-        ensures reads { Reads (reading self.old) (reading self.new) (Number (pos 0) (pos last)) (decimal result) }
+        ensures reads {
+            Reads (reading self.old) (reading self.new) (Number (pos 0) (pos last))
+                (decimal result) }
         ensures range { result ≤ last }
     {
         self.number(0, last as i16) as u16
@@ -116,7 +121,8 @@ impl<'a> Places<'a> {
 
     /// The name of a flat or a texture. After a fault it answers some name.
     pub fn name(&mut self) -> Name8
-        ensures reads { Reads (reading self.old) (reading self.new) (Named is_name) (name_text result) }
+        ensures reads {
+            Reads (reading self.old) (reading self.new) (Named is_name) (name_text result) }
         ensures range { IsNamed is_name result }
     {
         match self.next() {
@@ -136,7 +142,8 @@ impl<'a> Places<'a> {
 
     /// The name of a map. After a fault it answers some name.
     pub fn marker(&mut self) -> Name8
-        ensures reads { Reads (reading self.old) (reading self.new) (Named is_marker) (name_text result) }
+        ensures reads {
+            Reads (reading self.old) (reading self.new) (Named is_marker) (name_text result) }
         ensures range { IsNamed is_marker result }
     {
         match self.next() {

@@ -15,6 +15,7 @@ pub fn show_the_disk_model()
         → ⟦<MemoryDisk as Disk>⟧.may_leave disk file ↔ IsImage (medium_of disk) file }
     ensures moment { (disk : Memory) → ⟦<MemoryDisk as Disk>⟧.moment disk ≡ length (calls_of disk) }
     ensures since { (disk : Memory) (t : ℕ) (file : List ℕ)
-        → ⟦<MemoryDisk as Disk>⟧.left_since disk t file ↔ LeftSince (first_of disk) (calls_of disk) t file }
+        → ⟦<MemoryDisk as Disk>⟧.left_since disk t file
+        ↔ LeftSince (first_of disk) (calls_of disk) t file }
     ensures failures { (disk : Memory) → ⟦<MemoryDisk as Disk>⟧.failures disk ≡ failures_of disk }
 {}

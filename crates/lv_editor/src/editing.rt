@@ -35,7 +35,8 @@ fn outcome_in(ended: Result<u32, ProjectError>) -> Result<u32, u16>
 /// Does what a line asks for that is no query, and answers its number or the refusal's code.
 fn change<D: Disk>(project: &mut Project<D>, line: &[u8]) -> Result<u32, u16>
     ensures { (answer : Result ℕ ProjectError)
-        × Applies D.moment D.failures D.left_since D.may_leave project.old line.now answer project.new
+        × Applies D.moment D.failures D.left_since D.may_leave project.old line.now answer
+            project.new
         × (result ≡ outcome_in answer) }
 {
     outcome_in(project.apply(line))
@@ -105,7 +106,8 @@ pub fn answer<D: Disk, W: Write>(
     line: &[u8],
     writer: &mut W,
 ) -> Result<(), EditorError>
-    ensures answered { AnswersLine (RepliesInProject D.moment D.failures D.left_since D.may_leave) result
+    ensures answered {
+        AnswersLine (RepliesInProject D.moment D.failures D.left_since D.may_leave) result
         project.old project.new line.now (W.contents writer.old) (W.contents writer.new) }
 
     // A stop at any moment of the call leaves the maps, or those that the line leads to.
@@ -116,7 +118,8 @@ pub fn answer<D: Disk, W: Write>(
     // Each image now stands for the maps, or, where the project must be opened again, for their step by the line.
     ensures kept { IsKept D.may_leave project.new }
     ensures in_doubt { project.old.must_reopen ≡ false → project.new.must_reopen ≡ true
-        → Each (D.may_leave project.new.disk) (IsOutcome project.new.cap (project_of project.new.maps) line.now) }
+        → Each (D.may_leave project.new.disk)
+            (IsOutcome project.new.cap (project_of project.new.maps) line.now) }
 {
     // What each image stands for as the call begins, which this call tells.
     let _ = project.must_reopen();
@@ -141,7 +144,8 @@ pub fn run<D: Disk, R: Read, W: Write>(
     turns: u32,
 ) -> Result<u64, EditorError>
     ensures { (trace : List (Exchange (State D)))
-        × Ran (RepliesInProject D.moment D.failures D.left_since D.may_leave) project.old project.new trace turns result
+        × Ran (RepliesInProject D.moment D.failures D.left_since D.may_leave)
+        project.old project.new trace turns result
         (R.remaining reader.old) (R.remaining reader.new)
         (W.contents writer.old) (W.contents writer.new)
         × RunsOver D.moment D.failures D.left_since D.may_leave project.old project.new trace }

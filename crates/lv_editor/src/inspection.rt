@@ -102,7 +102,8 @@ fn write_back<W: Write>(
 /// Writes how many records the lumps of a level hold, and how many bytes REJECT and BLOCKMAP have.
 fn write_lengths<W: Write>(level: &Level, writer: &mut W) -> Result<(), InspectError>
     ensures { MatchResult result
-        (λ _. Appends (W.contents writer.old) (W.contents writer.new) (lengths_text (view level.now)))
+        (λ _. Appends (W.contents writer.old) (W.contents writer.new)
+            (lengths_text (view level.now)))
         (λ e. e ≡ WriterFailed) }
 {
     let things = level.things.len();

@@ -28,7 +28,8 @@ fn write_name<W: Write>(name: &[u8], writer: &mut W) -> Result<(), EditorError>
 /// Writes `I NAME`.
 fn write_map<W: Write>(number: u32, map: &Map, writer: &mut W) -> Result<(), EditorError>
     ensures { MatchResult result
-        (λ _. Appends (W.contents writer.old) (W.contents writer.new) (map_line number map.now.tables))
+        (λ _. Appends (W.contents writer.old) (W.contents writer.new)
+            (map_line number map.now.tables))
         (λ e. e ≡ WriterFailed) }
 {
     let name = map.name();
@@ -83,7 +84,8 @@ fn write_current<W: Write>(number: u32, writer: &mut W) -> Result<(), EditorErro
 /// Writes a line for each map, and then which is the current one.
 pub fn write_maps<W: Write>(maps: &Maps, writer: &mut W) -> Result<(), EditorError>
     ensures { MatchResult result
-        (λ _. Appends (W.contents writer.old) (W.contents writer.new) (maps_text (project_of maps.now)))
+        (λ _. Appends (W.contents writer.old) (W.contents writer.new)
+            (maps_text (project_of maps.now)))
         (λ e. e ≡ WriterFailed) }
 {
     let current = maps.current_number();

@@ -125,7 +125,8 @@ pub fn run_lines<S: Session, R: Read, W: Write>(
     writer: &mut W,
     turns: u32,
 ) -> Result<u64, EditorError>
-    ensures { (trace : List (Exchange S)) × Ran (Replies S.answers S.lacks) session.old session.new trace turns result
+    ensures { (trace : List (Exchange S))
+        × Ran (Replies S.answers S.lacks) session.old session.new trace turns result
         (R.remaining reader.old) (R.remaining reader.new)
         (W.contents writer.old) (W.contents writer.new) }
 {

@@ -16,7 +16,7 @@ use std::alloc::Global;
 /// contract of `run` says. So all that a session does is calls in turn, which `hold_each_acknowledged` asks for, and it
 /// may be stopped between any two of them. The function has no body: its contract is the law.
 pub fn sessions_hold_runs<D: Disk>()
-    ensures { (first : State D) (deeds : List (Deed D)) (front : List Call) (back : List Call) (last : State D)
+    ensures { (first : State D) (deeds : List (Deed D)) (front back : List Call) (last : State D)
         → AllDone D.moment D.failures D.left_since D.may_leave first deeds (front ++ back) last
         → (mid : State D) × AllMade D.moment D.failures D.left_since D.may_leave first front mid
         × AllMade D.moment D.failures D.left_since D.may_leave mid back last }

@@ -79,7 +79,8 @@ fn line_vertex_place(level: &Level) -> Option<usize>
 /// The first line with an end out of range.
 fn line_vertex(level: &Level) -> Option<Fault>
     ensures { result
-        ≡ option_map LineVertex (first_wrong (line_vertices (view level.now)) level.now.lines.items) }
+        ≡ option_map LineVertex (first_wrong
+            (line_vertices (view level.now)) level.now.lines.items) }
 {
     match line_vertex_place(level) {
         Some(n) => Some(Fault::LineVertex(n)),
