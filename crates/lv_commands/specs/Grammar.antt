@@ -1,8 +1,10 @@
--- Which lines are commands, by the fault that another line has: 1, 2 or 15.
+-- Which lines are commands, by the fault that another line has: NotACommand, OutOfRange or BadName.
 use Rattle.std.specs.Prelude.{ℕ, ◌&&◌, nat_lt, if◌then◌else◌, List, [], ◌∷◌, length, find, pos, int_lt, Option, Some, None, bytes_eq}
 use Rattle.lv_maptables.specs.declared.kind.Kind.{Kind}
 use Rattle.lv_maptables.specs.declared.kind.Kind.TheVariants as kind
 use Rattle.lv_lumps.specs.Names.{is_marker}
+use Rattle.lv_commands.specs.declared.error.CommandError.TheVariants.{NotACommand, OutOfRange}
+use Rattle.lv_commands.specs.Errors.{code_of}
 use Rattle.lv_commands.specs.CommandRanges.{last_of}
 use Rattle.lv_commands.specs.Places.{Number, Named, places_fault, item, sector_item, vertex_places, sector_places, side_places, line_places, thing_places, room_places}
 use Rattle.lv_commands.specs.Spelling.{head_word, kind_word}
@@ -11,11 +13,11 @@ pub use Rattle.lv_commands.specs.Words.{parts}
 use Rattle.lv_commands.specs.declared.head.Head.{Head}
 use Rattle.lv_commands.specs.declared.head.Head.TheVariants as head
 
--- 2 for a room of no width or no height
+-- OutOfRange for a room of no width or no height
 abbrev pub flat_fault : List (List ℕ) → Option ℕ
 flat_fault (west ∷ south ∷ east ∷ north ∷ ws) =
     if int_lt (numeral_value west) (numeral_value east) && int_lt (numeral_value south) (numeral_value north)
-    then None else Some 2
+    then None else Some (code_of OutOfRange)
 flat_fault _ = None
 
 -- the first, or else the other
@@ -35,14 +37,14 @@ kinds = kind.Vertex ∷ kind.Sector ∷ kind.Side ∷ kind.Line ∷ kind.Thing �
 abbrev pub kind_of : List ℕ → Option Kind
 kind_of w = find (λ k. bytes_eq w (kind_word k)) kinds
 
--- the fault of what stands behind the word of a table: 1 where it is none
+-- the fault of what stands behind the word of a table: NotACommand where it is none
 abbrev pub kind_fault : Option Kind → List (List ℕ) → Option ℕ
-kind_fault None ws = Some 1
+kind_fault None ws = Some (code_of NotACommand)
 kind_fault (Some k) ws = places_fault (Number (pos 0) (pos (last_of k)) ∷ []) ws
 
 -- KIND I
 abbrev pub drop_fault : List (List ℕ) → Option ℕ
-drop_fault [] = Some 1
+drop_fault [] = Some (code_of NotACommand)
 drop_fault (k ∷ ws) = kind_fault (kind_of k) ws
 
 -- the fault of the words behind a first word
@@ -72,16 +74,16 @@ heads =
 abbrev pub head_of : List ℕ → Option Head
 head_of w = find (λ h. bytes_eq w (head_word h)) heads
 
--- the fault behind a first word, if it is one: else 1
+-- the fault behind a first word, if it is one: else NotACommand
 abbrev pub head_fault : Option Head → List (List ℕ) → Option ℕ
-head_fault None ws = Some 1
+head_fault None ws = Some (code_of NotACommand)
 head_fault (Some h) ws = fault_behind h ws
 
 -- the fault of the words of a line, of which the first says what stands behind it
 abbrev pub command_fault : List (List ℕ) → Option ℕ
-command_fault [] = Some 1
+command_fault [] = Some (code_of NotACommand)
 command_fault (w ∷ ws) = head_fault (head_of w) ws
 
 -- the fault of a line, and none exactly where it is a command
 abbrev pub fault_of : List ℕ → Option ℕ
-fault_of line = if nat_lt 256 (length line) then Some 1 else command_fault (parts line)
+fault_of line = if nat_lt 256 (length line) then Some (code_of NotACommand) else command_fault (parts line)

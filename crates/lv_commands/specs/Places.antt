@@ -1,6 +1,8 @@
 -- The places of a command behind its first word: what may stand at each, and the fault of what else does.
 use Rattle.std.specs.Prelude.{ℕ, Bool, false, ◌&&◌, ◌||◌, ◌==◌, if◌then◌else◌, List, [], ◌∷◌, ℤ, pos, negsuc, int_le, Option, Some, None, codes, bytes_eq}
 use Rattle.lv_lumps.specs.Names.{is_name}
+use Rattle.lv_commands.specs.declared.error.CommandError.TheVariants.{NotACommand, OutOfRange, BadName}
+use Rattle.lv_commands.specs.Errors.{code_of}
 use Rattle.lv_commands.specs.Words.{is_numeral, is_word, numeral_value}
 
 -- what may stand at a place of a line: a number from a least one to a greatest one, such a number or `-`, or a name
@@ -15,35 +17,36 @@ has_form (Number low high) w = is_numeral w
 has_form (NumberOrNone low high) w = is_numeral w || bytes_eq w (codes "-")
 has_form (Named test) w = is_word w
 
--- 2 where the number is out of its range
+-- OutOfRange where the number is out of its range
 abbrev pub range_fault : ℤ → ℤ → List ℕ → Option ℕ
-range_fault low high w = if int_le low (numeral_value w) && int_le (numeral_value w) high then None else Some 2
+range_fault low high w =
+    if int_le low (numeral_value w) && int_le (numeral_value w) high then None else Some (code_of OutOfRange)
 
--- what is wrong with a word that has the form of its place: 2 for a number, 15 for a name
+-- what is wrong with a word that has the form of its place: OutOfRange for a number, BadName for a name
 abbrev pub fault_at : Place → List ℕ → Option ℕ
 fault_at (Number low high) w = range_fault low high w
 fault_at (NumberOrNone low high) w = if is_numeral w then range_fault low high w else None
-fault_at (Named test) w = if test w then None else Some 15
+fault_at (Named test) w = if test w then None else Some (code_of BadName)
 
--- the fault of a word at its place: 1 where it hasn't the form
+-- the fault of a word at its place: NotACommand where it hasn't the form
 abbrev pub place_fault : Place → List ℕ → Option ℕ
-place_fault p w = if has_form p w then fault_at p w else Some 1
+place_fault p w = if has_form p w then fault_at p w else Some (code_of NotACommand)
 
--- whether it is 1
+-- whether it is NotACommand
 abbrev pub is_form_fault : Option ℕ → Bool
 is_form_fault None = false
-is_form_fault (Some code) = code == 1
+is_form_fault (Some code) = code == code_of NotACommand
 
--- the fault of two places: the left one, but 1 where the right one is 1
+-- the fault of two places: the left one, but NotACommand where the right one is
 abbrev pub first_of : Option ℕ → Option ℕ → Option ℕ
 first_of None right = right
-first_of (Some code) right = if is_form_fault right then Some 1 else Some code
+first_of (Some code) right = if is_form_fault right then Some (code_of NotACommand) else Some code
 
--- the fault of the words, one at each place: 1 where they aren't as many as the places
+-- the fault of the words, one at each place: NotACommand where they aren't as many as the places
 abbrev pub places_fault : List Place → List (List ℕ) → Option ℕ
 places_fault [] [] = None
-places_fault [] (w ∷ ws) = Some 1
-places_fault (p ∷ ps) [] = Some 1
+places_fault [] (w ∷ ws) = Some (code_of NotACommand)
+places_fault (p ∷ ps) [] = Some (code_of NotACommand)
 places_fault (p ∷ ps) (w ∷ ws) = first_of (place_fault p w) (places_fault ps ws)
 
 -- -16384 to 16383

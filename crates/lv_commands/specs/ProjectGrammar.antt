@@ -1,6 +1,8 @@
--- Which lines are commands of a project, by the fault that another line has: 1, 2 or 15.
+-- Which lines are commands of a project, by the fault that another line has: NotACommand, OutOfRange or BadName.
 use Rattle.std.specs.Prelude.{ℕ, nat_lt, if◌then◌else◌, List, [], ◌∷◌, length, find, Option, Some, None, bytes_eq}
 use Rattle.lv_lumps.specs.Names.{is_marker}
+use Rattle.lv_commands.specs.declared.error.CommandError.TheVariants.{NotACommand}
+use Rattle.lv_commands.specs.Errors.{code_of}
 use Rattle.lv_commands.specs.Grammar as of_one_map
 use Rattle.lv_commands.specs.Places.{Named, places_fault}
 use Rattle.lv_commands.specs.ProjectCommands.{map_word}
@@ -23,9 +25,9 @@ fault_by_head None w ws = of_one_map.command_fault (w ∷ ws)
 
 -- the fault of the words of a line, of which the first says what stands behind it
 abbrev pub command_fault : List (List ℕ) → Option ℕ
-command_fault [] = Some 1
+command_fault [] = Some (code_of NotACommand)
 command_fault (w ∷ ws) = fault_by_head (map_head_of w) w ws
 
 -- the fault of a line, and none exactly where it is a command
 abbrev pub fault_of : List ℕ → Option ℕ
-fault_of line = if nat_lt 256 (length line) then Some 1 else command_fault (parts line)
+fault_of line = if nat_lt 256 (length line) then Some (code_of NotACommand) else command_fault (parts line)

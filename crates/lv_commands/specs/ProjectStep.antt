@@ -1,6 +1,8 @@
 -- What a command makes of a project: a new project and a number, or the least of the codes that hold.
 use Rattle.std.specs.Prelude.{ℕ, Bool, ◌&&◌, nat_lt, List, [], ◌∷◌, ◌++◌, Result}
 use Rattle.std.specs.Option.{is_none}
+use Rattle.lv_commands.specs.declared.error.CommandError.TheVariants.{ProjectFull}
+use Rattle.lv_commands.specs.Errors.{code_of}
 use Rattle.lv_maptables.specs.Outcomes.{least, unless}
 use Rattle.lv_maptables.specs.ProjectEdits.{name_faults, select_faults, drop_map_faults, with_selected, without_map}
 use Rattle.lv_maptables.specs.Projects as project
@@ -11,18 +13,18 @@ use Rattle.lv_commands.specs.declared.command.Command.TheVariants.{Name}
 use Rattle.lv_commands.specs.declared.project.command.ProjectCommand.{ProjectCommand}
 use Rattle.lv_commands.specs.declared.project.command.ProjectCommand.TheVariants.{Edit, SelectMap, DropMap}
 
--- what speaks against it in the current map: 3 to 13
+-- what speaks against it in the current map, from NoVertex to LineTooLong
 abbrev pub current_faults : ProjectMaps → ProjectCommand → List (ℕ × Bool)
 current_faults p (Edit c) = of_one_map.faults (current_map p) c
 current_faults p (SelectMap name) = []
 current_faults p (DropMap name) = []
 
--- another map has the name that the current one is to have: 17
+-- another map has the name that the current one is to have: MapNameTaken
 abbrev pub naming_faults : ProjectMaps → Command → List (ℕ × Bool)
 naming_faults p (Name name) = name_faults p name
 naming_faults p _ = []
 
--- what speaks against it among the maps: 16 to 19
+-- what speaks against it among the maps, from TooManyMaps to CurrentMap
 abbrev pub map_faults : ProjectMaps → ProjectCommand → List (ℕ × Bool)
 map_faults p (Edit c) = naming_faults p c
 map_faults p (SelectMap name) = select_faults p name
@@ -46,7 +48,7 @@ is_full p c cap = is_none (least (map_faults p c)) && nat_lt cap (body_len (afte
 
 -- what speaks against a command, by rising code; a body may be at most `cap` long
 abbrev pub faults : ProjectMaps → ProjectCommand → ℕ → List (ℕ × Bool)
-faults p c cap = current_faults p c ++ (14, is_full p c cap) ∷ map_faults p c
+faults p c cap = current_faults p c ++ (code_of ProjectFull, is_full p c cap) ∷ map_faults p c
 
 -- the new project and the number, or the least code
 abbrev pub step : ProjectMaps → ProjectCommand → ℕ → Result (ProjectMaps × ℕ) ℕ

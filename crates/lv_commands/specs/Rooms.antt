@@ -7,6 +7,8 @@ use Rattle.lv_lumps.specs.declared.records.Side.{Side}
 use Rattle.lv_lumps.specs.declared.records.Vertex.{Vertex}
 use Rattle.lv_lumps.specs.Names.{name_of}
 use Rattle.lv_lumps.specs.Sides.{no_side}
+use Rattle.lv_commands.specs.declared.error.CommandError.TheVariants.{PlaceTaken, TableFull}
+use Rattle.lv_commands.specs.Errors.{code_of}
 use Rattle.lv_maptables.specs.Tables.{Tables, Counts}
 use Rattle.lv_maptables.specs.Faults.{is_taken, lacks_room, lacks_sector_room}
 use Rattle.lv_commands.specs.declared.command.RoomPlan.{RoomPlan}
@@ -76,11 +78,12 @@ with_room m r =
       lines = m.lines ++ walls (length m.vertices) (length m.sides);
     }
 
--- 10 where a corner's place is taken, 12 where a table has no room for what is added
+-- PlaceTaken where a corner's place is, TableFull where a table has no room for what is added
 abbrev pub room_faults : Tables → RoomPlan → List (ℕ × Bool)
 room_faults m r =
-    (10, list_any (is_taken m.vertices) (corners r))
-    ∷ (12, lacks_room m.vertices 4 || lacks_sector_room m.sectors 1 || lacks_room m.sides 4 || lacks_room m.lines 4)
+    (code_of PlaceTaken, list_any (is_taken m.vertices) (corners r))
+    ∷ (code_of TableFull,
+        lacks_room m.vertices 4 || lacks_sector_room m.sectors 1 || lacks_room m.sides 4 || lacks_room m.lines 4)
     ∷ []
 
 -- four items of one kind

@@ -2,6 +2,8 @@
 use Rattle.std.specs.Prelude.{ℕ, Bool, ◌||◌, List, [], ◌∷◌, ◌++◌, length, get_or, slice_set}
 use Rattle.lv_lumps.specs.declared.records.Line.{Line}
 use Rattle.lv_lumps.specs.declared.records.Vertex.{Vertex}
+use Rattle.lv_commands.specs.declared.error.CommandError.TheVariants.{NoLine, PlaceTaken, TableFull, LineTooLong}
+use Rattle.lv_commands.specs.Errors.{code_of}
 use Rattle.lv_maptables.specs.Tables.{Tables}
 use Rattle.lv_maptables.specs.Faults.{is_taken, is_too_long, lacks, lacks_room}
 use Rattle.lv_commands.specs.Rooms.{wall}
@@ -29,14 +31,15 @@ with_split m s =
       lines = slice_set m.lines s.line (cut_short line vertex) ++ cut_off line vertex ∷ [];
     }
 
--- 10 where the place is taken, 12 where a table is full, 13 where a half of the line is too long
+-- PlaceTaken where the place is, TableFull where a table is, LineTooLong where a half of the line is too long
 abbrev pub cut_faults : Tables → Line → Vertex → List (ℕ × Bool)
 cut_faults m line at =
     let vertex = length m.vertices in
     let vertices = m.vertices ++ at ∷ [] in
-    (10, is_taken m.vertices at) ∷ (12, lacks_room m.vertices 1 || lacks_room m.lines 1)
-    ∷ (13, is_too_long vertices (cut_short line vertex) || is_too_long vertices (cut_off line vertex)) ∷ []
+    (code_of PlaceTaken, is_taken m.vertices at)
+    ∷ (code_of TableFull, lacks_room m.vertices 1 || lacks_room m.lines 1)
+    ∷ (code_of LineTooLong, is_too_long vertices (cut_short line vertex) || is_too_long vertices (cut_off line vertex)) ∷ []
 
 -- the same, and before it 6 where there is no such line
 abbrev pub split_faults : Tables → LineSplit → List (ℕ × Bool)
-split_faults m s = (6, lacks m.lines s.line) ∷ cut_faults m (line_at m.lines s.line) s.at
+split_faults m s = (code_of NoLine, lacks m.lines s.line) ∷ cut_faults m (line_at m.lines s.line) s.at

@@ -1,6 +1,8 @@
 -- What selecting, dropping and naming a map make of a project, and what speaks against it, by rising code.
 use Rattle.std.specs.Prelude.{ℕ, ◌+◌, Bool, ◌&&◌, not, nat_lt, if◌then◌else◌, List, [], ◌∷◌, ◌++◌, length, remove, Result, ⊤}
 use Rattle.lv_lumps.specs.declared.records.Name8.{Name8}
+use Rattle.lv_maptables.specs.declared.error.MapError.TheVariants.{TooManyMaps, MapNameTaken, NoSuchMap, CurrentMap}
+use Rattle.lv_maptables.specs.Errors.{code_of}
 use Rattle.lv_maptables.specs.Tables.{empty_tables}
 use Rattle.lv_maptables.specs.Outcomes.{least, unless}
 use Rattle.lv_maptables.specs.Edits.{with_name, lowered}
@@ -10,15 +12,15 @@ use Rattle.lv_maptables.specs.Projects.{ProjectMaps, map_limit, current_map, wit
 
 -- there is no map of the name, and no room for one more
 abbrev pub select_faults : ProjectMaps → Name8 → List (ℕ × Bool)
-select_faults p name = (16, not (has_map p name) && nat_lt map_limit (length p.maps + 1)) ∷ []
+select_faults p name = (code_of TooManyMaps, not (has_map p name) && nat_lt map_limit (length p.maps + 1)) ∷ []
 
 -- there is no map of the name, or it is the current one
 abbrev pub drop_map_faults : ProjectMaps → Name8 → List (ℕ × Bool)
-drop_map_faults p name = (18, not (has_map p name)) ∷ (19, is_named name (current_map p)) ∷ []
+drop_map_faults p name = (code_of NoSuchMap, not (has_map p name)) ∷ (code_of CurrentMap, is_named name (current_map p)) ∷ []
 
 -- another map than the current one has the name
 abbrev pub name_faults : ProjectMaps → Name8 → List (ℕ × Bool)
-name_faults p name = (17, has_map p name && not (is_named name (current_map p))) ∷ []
+name_faults p name = (code_of MapNameTaken, has_map p name && not (is_named name (current_map p))) ∷ []
 
 -- ---- The project afterwards
 
