@@ -40,13 +40,13 @@ pub record IsCommand (c : Command) (a : App) : Type 0 where
   pub app : app_of c ≡ a
   pub local : (out-Command c).has_globals ≡ false
 
--- a word that has to be there
+-- a word that has to be there, with one name in the help
 abbrev pub word_rule : Text → Rule
-word_rule id = record (new_rule id) { required = true }
+word_rule id = record (new_rule id) { required = true; value_names = 1 }
 
 -- `--ID N`, with the N that is taken where there is none
 abbrev pub option_rule : Text → Text → Rule
-option_rule id default = record (new_rule id) { long = Some id; defaults = default ∷ [] }
+option_rule id default = record (new_rule id) { long = Some id; defaults = default ∷ []; value_names = 1 }
 
 -- the same, with N in these limits
 abbrev pub number_rule : Text → ℕ → ℕ → Text → Rule

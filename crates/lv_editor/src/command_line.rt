@@ -7,11 +7,11 @@ use crate::help;
 use clap::{Arg, ArgMatches, Command, Error, value_parser};
 use std::alloc::Global;
 
-/// A word that has to be there.
-fn word(alloc: Global, id: &str) -> Arg<'_>
+/// A word that has to be there, and what help calls it.
+fn word<'a>(alloc: Global, id: &'a str, name: &'a str) -> Arg<'a>
     ensures { IsArg result (word_rule id.now) }
 {
-    Arg::new(alloc, id).required(true)
+    Arg::new(alloc, id).required(true).value_name(name)
 }
 
 /// A subcommand without arguments.
@@ -30,14 +30,17 @@ fn over_file<'a>(
 ) -> Result<Command<'a>, Error>
     ensures { IfOk result (λ c. IsCommand c (with_word name.now (codes "file"))) }
 {
-    Ok(named(alloc, name, about, help).arg(word(alloc, "file"))?)
+    Ok(named(alloc, name, about, help).arg(word(alloc, "file", "FILE"))?)
 }
 
 /// `--ID N`, with the N that is taken where there is none.
 fn option<'a>(alloc: Global, id: &'a str, default: &'a str) -> Arg<'a>
     ensures { IsArg result (option_rule id.now default.now) }
 {
-    Arg::new(alloc, id).long(id).default_value(default)
+    Arg::new(alloc, id)
+        .long(id)
+        .default_value(default)
+        .value_name("N")
 }
 
 /// `--slot N`.
@@ -75,7 +78,7 @@ fn build<'a>(alloc: Global) -> Result<Command<'a>, Error>
         "Builds a project's maps into a PWAD",
         help::BUILD,
     )?
-    .arg(word(alloc, "out"))?)
+    .arg(word(alloc, "out", "OUT"))?)
 }
 
 /// `inspect`.
@@ -89,8 +92,8 @@ fn inspect<'a>(alloc: Global) -> Result<Command<'a>, Error>
             "Says whether a level of a WAD is sound",
             help::INSPECT,
         )
-        .arg(word(alloc, "wad"))?
-        .arg(word(alloc, "name"))?,
+        .arg(word(alloc, "wad", "WAD"))?
+        .arg(word(alloc, "name", "NAME"))?,
     )
 }
 
