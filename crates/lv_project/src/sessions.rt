@@ -1,8 +1,9 @@
 //! The project's calls over any number of sessions, each begun by `create` or `open` and stopped at any moment.
-ghost use Rattle.std.specs.Prelude.{◌≡◌, ◌⊎◌, ◌++◌, ◌∷◌, [], List, ℕ, Result, IfOk, MatchResult};
+ghost use Rattle.std.specs.Prelude.{◌≡◌, ◌⊎◌, ◌++◌, ◌∷◌, [], List, ℕ, Result, IfErr, IfOk, MatchResult};
 ghost use Rattle.lv_disk.specs.Stops.{LeavesOnly};
 ghost use Rattle.lv_maptables.specs.Projects.{empty_project, project_of};
 ghost use Rattle.lv_project.specs.Calls.{Applies, Checkpoints};
+ghost use Rattle.lv_project.specs.Opening.{RefusesCreate};
 ghost use Rattle.lv_project.specs.Places.{cap_of};
 ghost use Rattle.lv_project.specs.Sessions.{Creates, HoldsEach, IsLeftBy, KeepEach, Opens, PassInTurn, RefusesOpen, Session};
 ghost use Rattle.lv_project.specs.States.{State};
@@ -56,13 +57,14 @@ pub fn checkpoints<D: Disk>(project: &mut Project<D>) -> Result<u64, ProjectErro
     project.checkpoint()
 }
 
-/// `Project::create`, whose project the first session begins with.
+/// `Project::create`, whose project the first session begins with; it is refused as that is.
 pub fn creates<D: Disk>(
     alloc: Global,
     disk: D,
     geometry: Geometry,
 ) -> Result<Project<D>, Refused<D>>
-    ensures { IfOk result (Creates D.may_leave (cap_of geometry)) }
+    ensures created { IfOk result (Creates D.may_leave (cap_of geometry)) }
+    ensures refused { IfErr result (λ r. RefusesCreate (D.reads disk) geometry r.error) }
 {
     Project::create(alloc, disk, geometry)
 }
