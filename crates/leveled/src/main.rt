@@ -9,22 +9,22 @@ use std::fs::{self, File};
 use std::io::{self, BufWriter};
 use std::process::ExitCode;
 
-/// The status where what was asked for is done.
+// The status where what was asked for is done.
 const DONE: u8 = 0;
 
-/// The status of a request that was refused.
+// The status of a request that was refused.
 const REFUSED: u8 = 1;
 
-/// The status of words that are no request.
+// The status of words that are no request.
 const NO_REQUEST: u8 = 2;
 
-/// Says that memory is wanting, whatever becomes of standard error.
+// Says that memory is wanting, whatever becomes of standard error.
 fn complain_of_memory(rt: &HostRuntime) {
     let _ = eprintln!(rt; "leveled: 31 Memory");
 }
 
-/// The place of the first word that is no text; that of the program's name is 0. A word of more
-/// than 4,096 bytes ends the search.
+// The place of the first word that is no text; that of the program's name is 0. A word of more
+// than 4,096 bytes ends the search.
 fn place_of_no_text(rt: &HostRuntime) -> Option<usize> {
     let mut bytes = [0; 4096];
     for place in 0..usize::MAX {
@@ -40,7 +40,7 @@ fn place_of_no_text(rt: &HostRuntime) -> Option<usize> {
     None
 }
 
-/// Says why the words can't be read, and answers the status.
+// Says why the words can't be read, and answers the status.
 fn refuse_unread(rt: &HostRuntime, error: &io::Error) -> u8 {
     if error.kind() == io::ErrorKind::OutOfMemory {
         complain_of_memory(rt);
@@ -53,8 +53,8 @@ fn refuse_unread(rt: &HostRuntime, error: &io::Error) -> u8 {
     NO_REQUEST
 }
 
-/// Prints what clap answers to the words, and answers the status. Help and the version are asked
-/// for: they go to standard output.
+// Prints what clap answers to the words, and answers the status. Help and the version are asked
+// for: they go to standard output.
 fn answer_words(rt: &HostRuntime, error: &Error) -> u8 {
     if error.kind() == ErrorKind::OutOfMemory {
         complain_of_memory(rt);
@@ -73,7 +73,7 @@ fn answer_words(rt: &HostRuntime, error: &Error) -> u8 {
     }
 }
 
-/// Says why the words are no request, and answers the status.
+// Says why the words are no request, and answers the status.
 fn refuse(rt: &HostRuntime, error: &RequestError) -> u8 {
     match error {
         RequestError::Words(error) => answer_words(rt, error),
@@ -88,7 +88,7 @@ fn refuse(rt: &HostRuntime, error: &RequestError) -> u8 {
     }
 }
 
-/// Does what the words ask for, and answers the status. `help` alone asks for what `--help` does.
+// Does what the words ask for, and answers the status. `help` alone asks for what `--help` does.
 fn answer(rt: &HostRuntime, words: &[&str]) -> u8 {
     let words = match words {
         [_, "help"] => ["leveled", "--help"].as_slice(),
@@ -106,9 +106,9 @@ fn answer(rt: &HostRuntime, words: &[&str]) -> u8 {
     }
 }
 
-/// Opens an empty file three times, for reading alone. Where a standard stream was closed, it is this
-/// from now on, so that no file that is opened later takes its place and is written over by answers.
-/// To be held as long as the program runs.
+// Opens an empty file three times, for reading alone. Where a standard stream was closed, it is this
+// from now on, so that no file that is opened later takes its place and is written over by answers.
+// To be held as long as the program runs.
 fn fill_closed_streams(rt: &HostRuntime) -> [io::Result<File>; 3] {
     [
         fs::open(rt, "/dev/null"),
@@ -117,7 +117,7 @@ fn fill_closed_streams(rt: &HostRuntime) -> [io::Result<File>; 3] {
     ]
 }
 
-/// Reads the words, and does what they ask for.
+// Reads the words, and does what they ask for.
 fn run(rt: &HostRuntime) -> u8 {
     let _held = fill_closed_streams(rt);
     let read = match env::args(rt) {

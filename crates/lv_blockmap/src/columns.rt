@@ -12,7 +12,7 @@ pub struct Rows {
     pub high: u32,
 }
 
-/// Whether the line touches the column's block in the row.
+// Whether the line touches the column's block in the row.
 fn touches_row(line: LineEnds, left: i32, bottom: i16, row: u32) -> bool
     requires { row < 512 }
     ensures { IsTrue result ↔ TouchesRow line.start line.end left bottom row }
@@ -20,7 +20,7 @@ fn touches_row(line: LineEnds, left: i32, bottom: i16, row: u32) -> bool
     touches((line.start, line.end), (left, side_of_strip(bottom, row)))
 }
 
-/// The first of the rows of a column that the line touches.
+// The first of the rows of a column that the line touches.
 fn first_row(line: LineEnds, left: i32, bottom: i16, rows: u32) -> Option<u32>
     requires { rows ≤ 512 }
     ensures { MatchOption result (NoRowBelow line.start line.end left bottom rows)
@@ -34,7 +34,7 @@ fn first_row(line: LineEnds, left: i32, bottom: i16, rows: u32) -> Option<u32>
     None
 }
 
-/// Some row of a column that the line touches: the row `near`, if it does, else the first.
+// Some row of a column that the line touches: the row `near`, if it does, else the first.
 fn some_row(line: LineEnds, left: i32, bottom: i16, rows: u32, near: u32) -> Option<u32>
     requires { rows ≤ 512 }
     ensures { MatchOption result (NoRowBelow line.start line.end left bottom rows)
@@ -48,7 +48,7 @@ fn some_row(line: LineEnds, left: i32, bottom: i16, rows: u32, near: u32) -> Opt
     first_row(line, left, bottom, rows)
 }
 
-/// The least row that the line touches, which touches `high`.
+// The least row that the line touches, which touches `high`.
 fn least_row(line: LineEnds, left: i32, bottom: i16, high: u32) -> u32
     requires high { high < 512 }
     requires touched { TouchesRow line.start line.end left bottom high }
@@ -66,7 +66,7 @@ fn least_row(line: LineEnds, left: i32, bottom: i16, high: u32) -> u32
     low
 }
 
-/// The greatest of the rows that the line touches, which touches `low`.
+// The greatest of the rows that the line touches, which touches `low`.
 fn greatest_row(line: LineEnds, left: i32, bottom: i16, low: u32, rows: u32) -> u32
     requires rows { rows ≤ 512 }
     requires low { low < rows }

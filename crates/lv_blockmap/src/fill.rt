@@ -9,7 +9,7 @@ use crate::line_ends::LineEnds;
 use crate::lists::{BlockList, file_rows};
 use std::alloc::Global;
 
-/// The row of the end that lies further to the left, if the rows are counted from `bottom`.
+// The row of the end that lies further to the left, if the rows are counted from `bottom`.
 fn first_hint(line: LineEnds, bottom: i16) -> u32 {
     let leftmost = if line.start.x <= line.end.x {
         line.start
@@ -19,8 +19,8 @@ fn first_hint(line: LineEnds, bottom: i16) -> u32 {
     (i32::from(leftmost.y) - i32::from(bottom)).unsigned_abs() / 128
 }
 
-/// Where to look next for a row that the line touches, in the column on the right of one where it touches these: they
-/// share a point of the line, which lies in the greatest row where the line rises to the right, else in the least.
+// Where to look next for a row that the line touches, in the column on the right of one where it touches these: they
+// share a point of the line, which lies in the greatest row where the line rises to the right, else in the least.
 fn next_hint(line: LineEnds, rows: Rows) -> u32 {
     if (line.start.x <= line.end.x) == (line.start.y <= line.end.y) {
         rows.high
@@ -29,7 +29,7 @@ fn next_hint(line: LineEnds, rows: Rows) -> u32 {
     }
 }
 
-/// Puts the line at the end of the lists of the blocks that it touches, column by column.
+// Puts the line at the end of the lists of the blocks that it touches, column by column.
 fn file_line(
     lists: &mut [BlockList],
     grid: Grid,
@@ -55,7 +55,7 @@ fn file_line(
     Ok(())
 }
 
-/// A list without a line for each block.
+// A list without a line for each block.
 fn empty_lists(alloc: Global, count: usize) -> Result<Vec<BlockList>, BlockmapError>
     ensures lists { IfOk result (λ v. v.items ≡ replicate count []) }
     ensures memory { IsOkUnless result BlockmapError.OutOfMemory }

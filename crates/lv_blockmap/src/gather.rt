@@ -14,7 +14,7 @@ pub struct Gathered<'a> {
     pub places: Vec<usize>,
 }
 
-/// Puts the list behind those that are written, if it isn't one of them, and answers its place among them.
+// Puts the list behind those that are written, if it isn't one of them, and answers its place among them.
 fn note<'a>(
     written: &mut IndexSet<&'a [u16]>,
     list: &'a [u16],

@@ -22,7 +22,7 @@ pub fn side_of_strip(from: i16, number: u32) -> i32
     from as i32 + 128 * number as i32
 }
 
-/// The lesser of each coordinate.
+// The lesser of each coordinate.
 fn lesser(a: Vertex, b: Vertex) -> Vertex
     ensures x { result.x ≡ int_min a.x b.x }
     ensures y { result.y ≡ int_min a.y b.y }
@@ -33,7 +33,7 @@ fn lesser(a: Vertex, b: Vertex) -> Vertex
     }
 }
 
-/// The greater of each coordinate.
+// The greater of each coordinate.
 fn greater(a: Vertex, b: Vertex) -> Vertex
     ensures x { result.x ≡ int_max a.x b.x }
     ensures y { result.y ≡ int_max a.y b.y }
@@ -44,7 +44,7 @@ fn greater(a: Vertex, b: Vertex) -> Vertex
     }
 }
 
-/// How many blocks cover the way from `low` to `high`, both with it.
+// How many blocks cover the way from `low` to `high`, both with it.
 fn blocks_over(low: i16, high: i16) -> u32
     requires { low ≤ℤ high }
     ensures count { result ≡ blocks_over low high }

@@ -11,13 +11,13 @@ use crate::grid::Grid;
 use crate::lists::BlockList;
 use std::alloc::Global;
 
-/// The greatest offset that readers of signed and of unsigned words take alike.
+// The greatest offset that readers of signed and of unsigned words take alike.
 const GREATEST_OFFSET: usize = 32767;
 
-/// The word behind a list's last.
+// The word behind a list's last.
 const LIST_END: u16 = 0xffff;
 
-/// Where each of these lists begins, counted in words, if they stand one behind another from `first` on.
+// Where each of these lists begins, counted in words, if they stand one behind another from `first` on.
 fn starts_of(alloc: Global, first: usize, lists: &[&[u16]]) -> Result<Vec<u16>, BlockmapError>
     ensures ok { IfOk result (λ v. v.items ≡ starts first (map (λ l. l.now) lists.now)) }
     ensures fit { OnOk result
@@ -38,7 +38,7 @@ fn starts_of(alloc: Global, first: usize, lists: &[&[u16]]) -> Result<Vec<u16>, 
     Ok(starts)
 }
 
-/// Appends a word, its lower byte first.
+// Appends a word, its lower byte first.
 fn put_word(bytes: &mut Vec<u8>, word: u16) -> Result<(), BlockmapError>
     ensures ok { OnOk result (bytes.new.items ≡ bytes.old.items ++ unsigned word) }
     ensures memory { IsOkUnless result BlockmapError.OutOfMemory }
@@ -47,7 +47,7 @@ fn put_word(bytes: &mut Vec<u8>, word: u16) -> Result<(), BlockmapError>
     Ok(())
 }
 
-/// Appends words.
+// Appends words.
 fn put_words(bytes: &mut Vec<u8>, words: &[u16]) -> Result<(), BlockmapError>
     ensures ok { OnOk result (bytes.new.items ≡ bytes.old.items ++ word_bytes words.now) }
     ensures memory { IsOkUnless result BlockmapError.OutOfMemory }
@@ -58,7 +58,7 @@ fn put_words(bytes: &mut Vec<u8>, words: &[u16]) -> Result<(), BlockmapError>
     Ok(())
 }
 
-/// The origin, and how many columns and rows there are.
+// The origin, and how many columns and rows there are.
 fn put_header(bytes: &mut Vec<u8>, grid: Grid) -> Result<(), BlockmapError>
     requires { IsGrid grid }
     ensures ok { OnOk result (bytes.new.items ≡ bytes.old.items ++ word_bytes (header grid)) }
@@ -75,7 +75,7 @@ fn put_header(bytes: &mut Vec<u8>, grid: Grid) -> Result<(), BlockmapError>
     )
 }
 
-/// The offset of each block: the start of its list, which is told by its place.
+// The offset of each block: the start of its list, which is told by its place.
 fn put_offsets(bytes: &mut Vec<u8>, places: &[usize], starts: &[u16]) -> Result<(), BlockmapError>
     requires { All (λ place. place < length starts.now) places.now }
     ensures ok { OnOk result (bytes.new.items
@@ -88,7 +88,7 @@ fn put_offsets(bytes: &mut Vec<u8>, places: &[usize], starts: &[u16]) -> Result<
     Ok(())
 }
 
-/// A list's words: 0, its lines, and the end.
+// A list's words: 0, its lines, and the end.
 fn put_list(bytes: &mut Vec<u8>, list: &[u16]) -> Result<(), BlockmapError>
     ensures ok { OnOk result (bytes.new.items
         ≡ bytes.old.items ++ word_bytes (list_words list.now)) }
@@ -99,7 +99,7 @@ fn put_list(bytes: &mut Vec<u8>, list: &[u16]) -> Result<(), BlockmapError>
     put_word(bytes, LIST_END)
 }
 
-/// The lists, one behind another.
+// The lists, one behind another.
 fn put_lists(bytes: &mut Vec<u8>, lists: &[&[u16]]) -> Result<(), BlockmapError>
     ensures ok { OnOk result (bytes.new.items
         ≡ bytes.old.items ++ word_bytes (flat_map list_words (map (λ l. l.now) lists.now))) }

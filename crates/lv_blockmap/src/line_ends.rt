@@ -14,7 +14,7 @@ pub struct LineEnds {
     pub end: Vertex,
 }
 
-/// The place of a vertex of the map.
+// The place of a vertex of the map.
 fn place(map: &Map, vertex: u16) -> Vertex
     ensures { result ≡ nth_vertex map.now.tables.vertices vertex }
 {
@@ -22,7 +22,7 @@ fn place(map: &Map, vertex: u16) -> Vertex
         .unwrap_or(Vertex { x: 0, y: 0 })
 }
 
-/// The ends of a line of the map.
+// The ends of a line of the map.
 fn ends_in(map: &Map, line: Line) -> LineEnds
     ensures { result ≡ ends_in map.now.tables.vertices line }
 {

@@ -9,7 +9,7 @@ use crate::line_ends::{LineEnds, ends_of};
 use lv_maptables::Map;
 use std::alloc::Global;
 
-/// The bytes of BLOCKMAP over lines that are told by their ends.
+// The bytes of BLOCKMAP over lines that are told by their ends.
 fn blockmap_over(alloc: Global, lines: &[LineEnds]) -> Result<Vec<u8>, BlockmapError>
     requires { length lines.now ≤ 32767 }
     ensures { MatchResult result (λ v. IsBlockmapOver lines.now v.items)

@@ -12,17 +12,17 @@ use lv_maptables::{Kind, Map};
 use std::alloc::Global;
 use std::collections::BTreeMap;
 
-/// How many edges of a sector leave a vertex, and how many reach it.
+// How many edges of a sector leave a vertex, and how many reach it.
 #[derive(Clone, Copy, Debug, PartialEq, Eq)]
 struct Degrees {
     outgoing: u32,
     incoming: u32,
 }
 
-/// A sector's number, and the number of one of its vertices.
+// A sector's number, and the number of one of its vertices.
 type Corner = (u16, u16);
 
-/// What was counted at the corner.
+// What was counted at the corner.
 fn degrees_at(degrees: &BTreeMap<Corner, Degrees>, corner: Corner) -> Degrees
     ensures { result ≡ degrees_of degrees.now corner }
 {
@@ -33,7 +33,7 @@ fn degrees_at(degrees: &BTreeMap<Corner, Degrees>, corner: Corner) -> Degrees
     degrees.get(&corner).copied().unwrap_or(none)
 }
 
-/// Counts an edge that leaves the corner.
+// Counts an edge that leaves the corner.
 fn leave(degrees: &mut BTreeMap<Corner, Degrees>, corner: Corner) -> Result<(), CheckError>
     requires { (degrees_of degrees.old corner).outgoing < u32.MAX }
     ensures { OnOk result (Leaves degrees.old degrees.new corner) }
@@ -44,7 +44,7 @@ fn leave(degrees: &mut BTreeMap<Corner, Degrees>, corner: Corner) -> Result<(), 
     Ok(())
 }
 
-/// Counts an edge that reaches the corner.
+// Counts an edge that reaches the corner.
 fn reach(degrees: &mut BTreeMap<Corner, Degrees>, corner: Corner) -> Result<(), CheckError>
     requires { (degrees_of degrees.old corner).incoming < u32.MAX }
     ensures { OnOk result (Reaches degrees.old degrees.new corner) }
@@ -55,7 +55,7 @@ fn reach(degrees: &mut BTreeMap<Corner, Degrees>, corner: Corner) -> Result<(), 
     Ok(())
 }
 
-/// Counts an edge of the sector at the vertices between which it runs.
+// Counts an edge of the sector at the vertices between which it runs.
 fn count_edge(
     degrees: &mut BTreeMap<Corner, Degrees>,
     sector: u16,
@@ -71,7 +71,7 @@ fn count_edge(
     reach(degrees, (sector, to))
 }
 
-/// Counts the edges of the line: one on its right and, with a left side, one on its left.
+// Counts the edges of the line: one on its right and, with a left side, one on its left.
 fn count_line(
     degrees: &mut BTreeMap<Corner, Degrees>,
     map: &Map,
@@ -90,7 +90,7 @@ fn count_line(
     Ok(())
 }
 
-/// Counts the edges of all lines.
+// Counts the edges of all lines.
 fn count_edges(alloc: Global, map: &Map) -> Result<BTreeMap<Corner, Degrees>, CheckError>
     ensures tally { IfOk result (λ degrees. IsTally (edges map.now.tables) degrees) }
     ensures well_formed { WellFormed map.now.tables }
@@ -103,7 +103,7 @@ fn count_edges(alloc: Global, map: &Map) -> Result<BTreeMap<Corner, Degrees>, Ch
     Ok(degrees)
 }
 
-/// Adds a finding for each corner whose counts differ.
+// Adds a finding for each corner whose counts differ.
 fn list_open(
     degrees: &BTreeMap<Corner, Degrees>,
     found: &mut Vec<Finding>,

@@ -7,17 +7,17 @@ use crate::finding::Finding;
 use lv_lumps::Thing;
 use lv_maptables::{Kind, Map};
 
-/// The kind of the thing at which the first player starts.
+// The kind of the thing at which the first player starts.
 const PLAYER_START: i16 = 1;
 
-/// Whether the thing is the first player's start.
+// Whether the thing is the first player's start.
 fn is_start(thing: &Thing) -> bool
     ensures { result ≡ is_start thing.now }
 {
     thing.kind == PLAYER_START
 }
 
-/// Whether one of the things is.
+// Whether one of the things is.
 fn has_player_start(map: &Map) -> bool
     ensures { result ≡ list_any is_start map.now.tables.things }
 {

@@ -9,24 +9,24 @@ use crate::finding::{Finding, Texture};
 use lv_lumps::{Line, Name8, Sector, Side};
 use lv_maptables::{Kind, Map};
 
-/// A side's textures, in the order of their findings.
+// A side's textures, in the order of their findings.
 const TEXTURES: [Texture; 3] = [Texture::Upper, Texture::Lower, Texture::Middle];
 
-/// Whether the name stands for no texture.
+// Whether the name stands for no texture.
 fn is_missing(name: &Name8) -> bool
     ensures { result ≡ is_missing name.now }
 {
     name.text() == b"-".as_slice()
 }
 
-/// Whether the sector's ceiling is the sky.
+// Whether the sector's ceiling is the sky.
 fn is_sky(sector: &Sector) -> bool
     ensures { result ≡ is_sky sector.now }
 {
     sector.ceiling_name.text() == b"F_SKY1".as_slice()
 }
 
-/// The side of the number.
+// The side of the number.
 fn side_in(map: &Map, n: u16) -> Side
     requires { n < length map.now.tables.sides }
     ensures value { result ≡ side_in map.now.tables n }
@@ -35,7 +35,7 @@ fn side_in(map: &Map, n: u16) -> Side
     map.side(u32::from(n)).unwrap()
 }
 
-/// The sector that the side faces.
+// The sector that the side faces.
 fn sector_of(map: &Map, side: u16) -> Sector
     requires { side < length map.now.tables.sides }
     ensures { result ≡ sector_of map.now.tables side }
@@ -44,36 +44,36 @@ fn sector_of(map: &Map, side: u16) -> Sector
     map.sector(u32::from(sector)).unwrap()
 }
 
-/// The number of one of the line's sides.
+// The number of one of the line's sides.
 fn own_side(line: &Line, left: bool) -> u16
     ensures { result ≡ own_side line.now left }
 {
     if left { line.left } else { line.right }
 }
 
-/// The number of the side behind that one.
+// The number of the side behind that one.
 fn side_behind(line: &Line, left: bool) -> u16
     ensures { result ≡ side_behind line.now left }
 {
     if left { line.right } else { line.left }
 }
 
-/// Whether the wall over the lower ceiling of `far` shows in `near`: not where both ceilings are
-/// the sky.
+// Whether the wall over the lower ceiling of `far` shows in `near`: not where both ceilings are
+// the sky.
 fn upper_shows(near: &Sector, far: &Sector) -> bool
     ensures { result ≡ upper_shows near.now far.now }
 {
     far.ceiling < near.ceiling && !(is_sky(near) && is_sky(far))
 }
 
-/// Whether the wall under the higher floor of `far` shows in `near`.
+// Whether the wall under the higher floor of `far` shows in `near`.
 fn lower_shows(near: &Sector, far: &Sector) -> bool
     ensures { result ≡ lower_shows near.now far.now }
 {
     near.floor < far.floor
 }
 
-/// Whether the side `own` misses its upper texture before the side `behind`.
+// Whether the side `own` misses its upper texture before the side `behind`.
 fn misses_upper(map: &Map, own: u16, behind: u16) -> bool
     requires own { own < length map.now.tables.sides }
     requires behind { behind < length map.now.tables.sides }
@@ -83,7 +83,7 @@ fn misses_upper(map: &Map, own: u16, behind: u16) -> bool
         && is_missing(&side_in(map, own).upper)
 }
 
-/// Whether the side `own` misses its lower texture before the side `behind`.
+// Whether the side `own` misses its lower texture before the side `behind`.
 fn misses_lower(map: &Map, own: u16, behind: u16) -> bool
     requires own { own < length map.now.tables.sides }
     requires behind { behind < length map.now.tables.sides }
@@ -93,7 +93,7 @@ fn misses_lower(map: &Map, own: u16, behind: u16) -> bool
         && is_missing(&side_in(map, own).lower)
 }
 
-/// Whether one side of the line misses the texture.
+// Whether one side of the line misses the texture.
 fn misses(map: &Map, line: &Line, left: bool, texture: Texture) -> bool
     requires sides { HasSides map.now.tables.sides line.now }
     requires present { left ≡ true → has_left line.now ≡ true }
@@ -108,7 +108,7 @@ fn misses(map: &Map, line: &Line, left: bool, texture: Texture) -> bool
     }
 }
 
-/// Adds a finding for each texture that one side of the line misses.
+// Adds a finding for each texture that one side of the line misses.
 fn list_side(
     map: &Map,
     n: u32,
@@ -133,7 +133,7 @@ fn list_side(
     Ok(())
 }
 
-/// Adds a finding for each texture that the line misses, on its right and then on its left.
+// Adds a finding for each texture that the line misses, on its right and then on its left.
 fn list_line(map: &Map, n: u32, line: &Line, found: &mut Vec<Finding>) -> Result<(), CheckError>
     requires { HasSides map.now.tables.sides line.now }
     ensures { OnOk result

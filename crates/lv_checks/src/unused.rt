@@ -8,7 +8,7 @@ use crate::finding::Finding;
 use lv_maptables::{Kind, Map};
 use std::alloc::Global;
 
-/// Which vertices a line ends at.
+// Which vertices a line ends at.
 fn used_vertices(alloc: Global, map: &Map) -> Result<Vec<bool>, CheckError>
     ensures marks { IfOk result
         (λ used. Marks uses_vertex map.now.tables.vertices map.now.tables.lines used.items) }
@@ -23,7 +23,7 @@ fn used_vertices(alloc: Global, map: &Map) -> Result<Vec<bool>, CheckError>
     Ok(used)
 }
 
-/// Which sides a line has.
+// Which sides a line has.
 fn used_sides(alloc: Global, map: &Map) -> Result<Vec<bool>, CheckError>
     ensures marks { IfOk result
         (λ used. Marks uses_side map.now.tables.sides map.now.tables.lines used.items) }
@@ -40,7 +40,7 @@ fn used_sides(alloc: Global, map: &Map) -> Result<Vec<bool>, CheckError>
     Ok(used)
 }
 
-/// Which sectors a side faces.
+// Which sectors a side faces.
 fn used_sectors(alloc: Global, map: &Map) -> Result<Vec<bool>, CheckError>
     ensures marks { IfOk result
         (λ used. Marks in_sector map.now.tables.sectors map.now.tables.sides used.items) }
@@ -54,7 +54,7 @@ fn used_sectors(alloc: Global, map: &Map) -> Result<Vec<bool>, CheckError>
     Ok(used)
 }
 
-/// The numbers of the items that aren't marked as used.
+// The numbers of the items that aren't marked as used.
 fn unmarked(alloc: Global, used: &[bool]) -> Result<Vec<u32>, CheckError>
     requires { length used.now < 2 ^ 32 }
     ensures { IfOk result (λ numbers. numbers.items ≡ unmarked used.now) }

@@ -14,7 +14,7 @@ use crate::room::corners_of;
 use lv_lumps::{LONGEST_SQUARED, Line, Vertex, squared_distance};
 use lv_maptables::{Kind, Map, MapError};
 
-/// Whether the map has no room for so many more items of a kind.
+// Whether the map has no room for so many more items of a kind.
 fn lacks_room(map: &Map, kind: Kind, more: u32) -> bool
     requires { more ≤ 4 }
     ensures { result ≡ nat_lt (table_limit kind) (count_of map.now.tables kind + more) }
@@ -22,7 +22,7 @@ fn lacks_room(map: &Map, kind: Kind, more: u32) -> bool
     map.count(kind) + more > kind.limit()
 }
 
-/// Whether an item can be taken out.
+// Whether an item can be taken out.
 fn can_drop(map: &Map, kind: Kind, n: u32) -> Result<(), MapError>
     ensures { Tells result (drop_faults map.now.tables kind n) }
 {
@@ -35,14 +35,14 @@ fn can_drop(map: &Map, kind: Kind, n: u32) -> Result<(), MapError>
     }
 }
 
-/// Whether a corner's place is taken.
+// Whether a corner's place is taken.
 fn has_corner_taken(map: &Map, plan: &RoomPlan) -> bool
     ensures { result ≡ list_any (is_taken map.now.tables.vertices) (corners plan.now) }
 {
     corners_of(plan).iter().any(|corner| map.has_place(*corner))
 }
 
-/// Whether a table has no room for what a room adds to it.
+// Whether a table has no room for what a room adds to it.
 fn lacks_room_for_room(map: &Map) -> bool
     ensures {
         result ≡ (lacks_room map.now.tables.vertices 4 || lacks_sector_room map.now.tables.sectors 1
@@ -54,7 +54,7 @@ fn lacks_room_for_room(map: &Map) -> bool
         || lacks_room(map, Kind::Line, 4)
 }
 
-/// Whether a room can be drawn.
+// Whether a room can be drawn.
 fn can_draw(map: &Map, plan: &RoomPlan) -> Result<(), MapError>
     ensures { Tells result (room_faults map.now.tables plan.now) }
 {
@@ -67,14 +67,14 @@ fn can_draw(map: &Map, plan: &RoomPlan) -> Result<(), MapError>
     Ok(())
 }
 
-/// Whether two places are further apart than a line may be long.
+// Whether two places are further apart than a line may be long.
 fn are_too_far(a: Vertex, b: Vertex) -> bool
     ensures { result ≡ nat_lt longest_squared (squared_distance a b) }
 {
     squared_distance(a, b) > LONGEST_SQUARED
 }
 
-/// The vertex of a number.
+// The vertex of a number.
 fn vertex_of(map: &Map, n: u16) -> Vertex
     requires { n < length map.now.tables.vertices }
     ensures { result ≡ nth_vertex map.now.tables.vertices n }
@@ -82,7 +82,7 @@ fn vertex_of(map: &Map, n: u16) -> Vertex
     map.vertex(u32::from(n)).unwrap()
 }
 
-/// Whether a half of a line that is cut in two at a place would be too long.
+// Whether a half of a line that is cut in two at a place would be too long.
 fn has_long_half(map: &Map, line: &Line, at: Vertex) -> bool
     requires { HasEnds map.now.tables.vertices line.now }
     ensures { let vertices = map.now.tables.vertices ++ at ∷ [] in result
@@ -94,7 +94,7 @@ fn has_long_half(map: &Map, line: &Line, at: Vertex) -> bool
     are_too_far(start, at) || are_too_far(at, end)
 }
 
-/// Whether a line can be cut in two at a place, where the table has it: `PlaceTaken`, `TableFull`, `LineTooLong`.
+// Whether a line can be cut in two at a place, where the table has it: `PlaceTaken`, `TableFull`, `LineTooLong`.
 fn can_cut(map: &Map, line: &Line, at: Vertex) -> Result<(), MapError>
     requires { HasEnds map.now.tables.vertices line.now }
     ensures { Tells result (cut_faults map.now.tables line.now at) }
@@ -111,7 +111,7 @@ fn can_cut(map: &Map, line: &Line, at: Vertex) -> Result<(), MapError>
     Ok(())
 }
 
-/// Whether a line can be split.
+// Whether a line can be split.
 fn can_split(map: &Map, split: &LineSplit) -> Result<(), MapError>
     ensures { Tells result (split_faults map.now.tables split.now) }
 {

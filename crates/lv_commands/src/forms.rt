@@ -21,16 +21,16 @@ const LEAST_COORDINATE: i16 = -16384;
 const GREATEST_COORDINATE: i16 = 16383;
 
 const GREATEST_LIGHT: i16 = 255;
-/// In degrees.
+// In degrees.
 const GREATEST_ANGLE: i16 = 359;
-/// The greatest flags, special and tag of a line.
+// The greatest flags, special and tag of a line.
 const GREATEST_FLAGS: u16 = 32767;
-/// The greatest number of a vertex, a side, a line or a thing.
+// The greatest number of a vertex, a side, a line or a thing.
 const LAST_ITEM: u16 = 32766;
 
 const LAST_SECTOR: u16 = 4095;
 
-/// Whether the room has some width and some height.
+// Whether the room has some width and some height.
 fn has_area(plan: &RoomPlan) -> bool
     ensures {
         result ≡ (int_lt plan.now.west plan.now.east && int_lt plan.now.south plan.now.north) }
@@ -221,7 +221,7 @@ impl<'a> Places<'a> {
         }
     }
 
-    /// The places of a room.
+    // The places of a room.
     fn room_plan(mut self) -> Result<RoomPlan, CommandError>
         ensures ok { IfOk result (λ r. ((reading self.entry).fault ≡ None)
             × ((reading self.entry).words ≡ room_words r) × IsPlan r) }

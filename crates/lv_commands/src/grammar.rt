@@ -15,7 +15,7 @@ use crate::words::next_part;
 /// The longest line of input that may be a command, in bytes.
 pub const LONGEST_LINE: usize = 256;
 
-/// The command whose words stand behind the first.
+// The command whose words stand behind the first.
 fn command(head: Head, places: Places) -> Result<Command, CommandError>
     requires { (reading places).fault ≡ None }
     ensures ok {

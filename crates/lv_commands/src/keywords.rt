@@ -6,7 +6,7 @@ ghost use Rattle.lv_commands.specs.Spelling.{head_word, kind_word};
 use crate::head::Head;
 use lv_maptables::Kind;
 
-/// All first words.
+// All first words.
 const HEADS: [Head; 14] = [
     Head::Name,
     Head::Vertex,
@@ -24,7 +24,7 @@ const HEADS: [Head; 14] = [
     Head::Split,
 ];
 
-/// All tables.
+// All tables.
 const KINDS: [Kind; 5] = [
     Kind::Vertex,
     Kind::Sector,
@@ -68,14 +68,14 @@ pub fn kind_text(kind: Kind) -> &'static str
     }
 }
 
-/// Whether the word is this first word.
+// Whether the word is this first word.
 fn is_head(word: &[u8], head: Head) -> bool
     ensures { result ≡ bytes_eq word.now (head_word head) }
 {
     word == head_text(head).as_bytes()
 }
 
-/// Whether the word is that of the table.
+// Whether the word is that of the table.
 fn is_kind(word: &[u8], kind: Kind) -> bool
     ensures { result ≡ bytes_eq word.now (kind_word kind) }
 {

@@ -48,7 +48,7 @@ impl<'a> Places<'a> {
         }
     }
 
-    /// Keeps the fault, if it comes before the one so far.
+    // Keeps the fault, if it comes before the one so far.
     fn note(&mut self, error: CommandError)
         ensures fault {
             (reading self.new).fault ≡ first_of (reading self.old).fault (Some (code_of error)) }

@@ -11,7 +11,7 @@ use crate::keywords::head_text;
 use crate::text::Text;
 use std::alloc::{AllocError, Global};
 
-/// The first word of a command.
+// The first word of a command.
 fn head_for(command: &Command) -> Head
     ensures { result ≡ head_for command.now }
 {
@@ -33,7 +33,7 @@ fn head_for(command: &Command) -> Head
     }
 }
 
-/// The words behind the first.
+// The words behind the first.
 #[tactic(auto, using(crate::proofs::Padding::marker_utf8))]
 fn words_behind(text: Text, command: &Command) -> Result<Text, AllocError>
     requires { InRange command.now }
@@ -57,7 +57,7 @@ fn words_behind(text: Text, command: &Command) -> Result<Text, AllocError>
     }
 }
 
-/// All words of a command.
+// All words of a command.
 fn words(alloc: Global, command: &Command) -> Result<Text, AllocError>
     requires { InRange command.now }
     ensures { IfOk result (λ t. written t ≡ spelling command.now) }

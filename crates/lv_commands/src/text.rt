@@ -37,7 +37,7 @@ impl Text {
         self.line.into_bytes()
     }
 
-    /// One more word.
+    // One more word.
     fn word(mut self, word: &str) -> Result<Self, AllocError>
         ensures { IfOk result (λ t. Adds self t (32 ∷ word.now)) }
     {
@@ -46,7 +46,7 @@ impl Text {
         Ok(self)
     }
 
-    /// A signed number.
+    // A signed number.
     fn number(mut self, n: &i16) -> Result<Self, AllocError>
         ensures { IfOk result (λ t. Adds self t (32 ∷ signed_decimal n.now)) }
     {
@@ -55,7 +55,7 @@ impl Text {
         Ok(self)
     }
 
-    /// The number of an item.
+    // The number of an item.
     fn item(mut self, n: u16) -> Result<Self, AllocError>
         ensures { IfOk result (λ t. Adds self t (32 ∷ decimal n)) }
     {
@@ -63,7 +63,7 @@ impl Text {
         Ok(self)
     }
 
-    /// The number of a left side, and `-` for none.
+    // The number of a left side, and `-` for none.
     fn left(self, n: u16) -> Result<Self, AllocError>
         ensures { IfOk result (λ t. Adds self t (32 ∷ left_word n)) }
     {

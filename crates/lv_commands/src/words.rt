@@ -10,7 +10,7 @@ ghost use Rattle.lv_lumps.specs.Names.{is_digit};
 use crate::error::CommandError;
 use std::str;
 
-/// Whether each byte prints and is no space.
+// Whether each byte prints and is no space.
 fn are_printable(bytes: &[u8]) -> bool
     ensures { result ≡ list_all is_printable bytes.now }
 {
@@ -24,14 +24,14 @@ pub fn has_word_form(bytes: &[u8]) -> bool
     !bytes.is_empty() && are_printable(bytes)
 }
 
-/// Whether each byte is a digit.
+// Whether each byte is a digit.
 fn are_digits(bytes: &[u8]) -> bool
     ensures { result ≡ list_all is_digit bytes.now }
 {
     bytes.iter().all(|b| b'0' <= *b && *b <= b'9')
 }
 
-/// Whether the bytes are a number without a sign.
+// Whether the bytes are a number without a sign.
 fn has_natural_form(word: &[u8]) -> bool
     ensures { result ≡ is_natural word.now }
 {
@@ -42,7 +42,7 @@ fn has_natural_form(word: &[u8]) -> bool
     }
 }
 
-/// Whether the bytes are a number.
+// Whether the bytes are a number.
 fn has_numeral_form(word: &[u8]) -> bool
     ensures { result ≡ is_numeral word.now }
 {

@@ -19,7 +19,7 @@ use lv_maptables::{Kind, Map, Maps};
 use std::alloc::Global;
 use std::io::Write;
 
-/// Writes so many items of each kind.
+// Writes so many items of each kind.
 fn write_counts<W: Write>(
     vertices: u32,
     sectors: u32,
@@ -43,7 +43,7 @@ fn write_counts<W: Write>(
     }
 }
 
-/// Writes how many items there are of each kind.
+// Writes how many items there are of each kind.
 fn write_count<W: Write>(map: &Map, writer: &mut W) -> Result<(), EditorError>
     ensures { MatchResult result
         (λ _. Appends (W.contents writer.old) (W.contents writer.new) (count_text map.now.tables))
@@ -57,7 +57,7 @@ fn write_count<W: Write>(map: &Map, writer: &mut W) -> Result<(), EditorError>
     write_counts(vertices, sectors, sides, lines, things, writer)
 }
 
-/// Writes the bytes of a lump.
+// Writes the bytes of a lump.
 fn write_hex<W: Write>(
     alloc: Global,
     map: &Map,
@@ -81,7 +81,7 @@ fn write_hex<W: Write>(
     }
 }
 
-/// Writes what is wrong or unfinished in the map.
+// Writes what is wrong or unfinished in the map.
 fn write_check<W: Write>(alloc: Global, map: &Map, writer: &mut W) -> Result<(), EditorError>
     ensures { MatchResult result
         (λ _. Appends (W.contents writer.old) (W.contents writer.new)

@@ -31,7 +31,7 @@ pub struct Counts {
     pub bytes: u64,
 }
 
-/// The count with so many more. No memory holds so many that they are more than a count may be.
+// The count with so many more. No memory holds so many that they are more than a count may be.
 fn with_more(count: u64, more: usize) -> Result<u64, BuildError>
     ensures sum { IfOk result (λ sum. sum ≡ count + more) }
     ensures memory { IsOkUnless result BuildError.OutOfMemory }
@@ -42,7 +42,7 @@ fn with_more(count: u64, more: usize) -> Result<u64, BuildError>
     }
 }
 
-/// The counts with those of one level more.
+// The counts with those of one level more.
 fn with_level(counts: Counts, level: &Level) -> Result<Counts, BuildError>
     ensures counted { IfOk result (CountsMore counts (view level.now)) }
     ensures memory { IsOkUnless result BuildError.OutOfMemory }
@@ -56,7 +56,7 @@ fn with_level(counts: Counts, level: &Level) -> Result<Counts, BuildError>
     })
 }
 
-/// The counts with those of the level that a PWAD holds under the map's name.
+// The counts with those of the level that a PWAD holds under the map's name.
 fn with_level_of(alloc: Global, wad: &[u8], map: &Map, counts: Counts) -> Result<Counts, BuildError>
     ensures counted { IfOk result (CountsMore counts (level_of wad.now map.now.tables)) }
     ensures memory { IsOkUnless result BuildError.OutOfMemory }
@@ -68,7 +68,7 @@ fn with_level_of(alloc: Global, wad: &[u8], map: &Map, counts: Counts) -> Result
     }
 }
 
-/// The counts with those of the level of the n-th map, if there is such a map.
+// The counts with those of the level of the n-th map, if there is such a map.
 fn with_nth(
     alloc: Global,
     wad: &[u8],
@@ -87,7 +87,7 @@ fn with_nth(
     }
 }
 
-/// The counts of the levels that a PWAD holds under the names of the maps, and its length.
+// The counts of the levels that a PWAD holds under the names of the maps, and its length.
 fn counts_of(alloc: Global, wad: &[u8], maps: &Maps) -> Result<Counts, BuildError>
     ensures counted { IfOk result (CountsLevels (project_of maps.now).maps wad.now) }
     ensures memory { IsOkUnless result BuildError.OutOfMemory }
@@ -182,8 +182,8 @@ pub fn write_counts<W: Write>(counts: Counts, writer: &mut W) -> Result<(), Edit
     }
 }
 
-/// Builds the maps of a project into a file, whose bytes behind the PWAD are cut off. Maps that aren't built leave the
-/// file alone.
+// Builds the maps of a project into a file, whose bytes behind the PWAD are cut off. Maps that aren't built leave the
+// file alone.
 fn build_into<F: Write + OpenFile>(
     alloc: Global,
     maps: &Maps,
@@ -207,7 +207,7 @@ fn build_into<F: Write + OpenFile>(
     Ok(counts)
 }
 
-/// Tells what a build made, and hands it on.
+// Tells what a build made, and hands it on.
 fn tell_built<W: Write>(counts: Counts, writer: &mut W) -> Result<u8, Refusal>
     ensures told { IfOk result (λ status. (status ≡ 0)
         × Appends (W.contents writer.old) (W.contents writer.new) (built_text counts)) }
@@ -222,7 +222,7 @@ fn tell_built<W: Write>(counts: Counts, writer: &mut W) -> Result<u8, Refusal>
     }
 }
 
-/// Whether a project stands in the file at the path, sound or damaged.
+// Whether a project stands in the file at the path, sound or damaged.
 fn is_project<E: Files>(alloc: Global, rt: &E, path: &str) -> bool
 where
     E::File: FileExt,

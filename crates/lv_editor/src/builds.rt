@@ -20,7 +20,7 @@ use lv_pwad::{BuildError, Level, build_wad, read_level};
 use std::alloc::Global;
 use std::io::Write;
 
-/// Writes why nothing is built, as `no CODE`. Want of memory is handed on, and nothing is written.
+// Writes why nothing is built, as `no CODE`. Want of memory is handed on, and nothing is written.
 fn write_refusal<W: Write>(cause: BuildError, writer: &mut W) -> Result<(), EditorError>
     ensures { WritesRefusal result cause (W.contents writer.old) (W.contents writer.new) }
 {
@@ -45,7 +45,7 @@ pub fn write_build<W: Write>(alloc: Global, maps: &Maps, writer: &mut W) -> Resu
     }
 }
 
-/// The level that a build of the map alone makes.
+// The level that a build of the map alone makes.
 fn build_level(alloc: Global, map: &Map) -> Result<Level, BuildError>
     ensures level { IfOk result (λ level. IsOfBuild map.now.tables (view level)) }
     ensures refused { IfErr result (IsBuildRefusal map.now.tables) }
@@ -61,7 +61,7 @@ fn build_level(alloc: Global, map: &Map) -> Result<Level, BuildError>
     }
 }
 
-/// The vertices behind the first so many.
+// The vertices behind the first so many.
 fn behind(vertices: &[Vertex], count: u32) -> &[Vertex]
     ensures { result.now ≡ drop count vertices.now }
 {
@@ -73,7 +73,7 @@ fn behind(vertices: &[Vertex], count: u32) -> &[Vertex]
     }
 }
 
-/// The bytes of the vertices that a build adds behind the drawn ones.
+// The bytes of the vertices that a build adds behind the drawn ones.
 fn added(alloc: Global, map: &Map, level: &Level) -> Result<Vec<u8>, LumpError>
     ensures { IfOk result (λ v. v.items
         ≡ flat_map vertex_record (drop (length map.now.tables.vertices)
@@ -82,7 +82,7 @@ fn added(alloc: Global, map: &Map, level: &Level) -> Result<Vec<u8>, LumpError>
     encode_vertices(alloc, behind(&level.vertices, map.count(Kind::Vertex)))
 }
 
-/// The bytes, copied.
+// The bytes, copied.
 fn copied(alloc: Global, bytes: &[u8]) -> Result<Vec<u8>, LumpError>
     ensures { IfOk result (λ v. v.items ≡ bytes.now) }
 {
@@ -91,7 +91,7 @@ fn copied(alloc: Global, bytes: &[u8]) -> Result<Vec<u8>, LumpError>
     Ok(copy)
 }
 
-/// The bytes of a lump of the map's level that a build made.
+// The bytes of a lump of the map's level that a build made.
 fn lump_of(alloc: Global, map: &Map, level: &Level, lump: BuiltLump) -> Result<Vec<u8>, LumpError>
     ensures { IfOk result (λ v. v.items ≡ built_lump_of map.now.tables (view level.now) lump) }
 {
@@ -105,7 +105,7 @@ fn lump_of(alloc: Global, map: &Map, level: &Level, lump: BuiltLump) -> Result<V
     }
 }
 
-/// Writes the bytes of a lump of the map's level that a build made.
+// Writes the bytes of a lump of the map's level that a build made.
 fn write_lump<W: Write>(
     alloc: Global,
     map: &Map,

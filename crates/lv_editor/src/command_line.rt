@@ -7,21 +7,21 @@ use crate::help;
 use clap::{Arg, ArgMatches, Command, Error, value_parser};
 use std::alloc::Global;
 
-/// A word that has to be there, and what help calls it.
+// A word that has to be there, and what help calls it.
 fn word<'a>(alloc: Global, id: &'a str, name: &'a str) -> Arg<'a>
     ensures { IsArg result (word_rule id.now) }
 {
     Arg::new(alloc, id).required(true).value_name(name)
 }
 
-/// A subcommand without arguments.
+// A subcommand without arguments.
 fn named<'a>(alloc: Global, name: &'a str, about: &'a str, help: &'a str) -> Command<'a>
     ensures { IsCommand result (new_app name.now) }
 {
     Command::new(alloc, name).about(about).after_help(help)
 }
 
-/// A subcommand over a file.
+// A subcommand over a file.
 fn over_file<'a>(
     alloc: Global,
     name: &'a str,
@@ -33,7 +33,7 @@ fn over_file<'a>(
     Ok(named(alloc, name, about, help).arg(word(alloc, "file", "FILE"))?)
 }
 
-/// `--ID N`, with the N that is taken where there is none.
+// `--ID N`, with the N that is taken where there is none.
 fn option<'a>(alloc: Global, id: &'a str, default: &'a str) -> Arg<'a>
     ensures { IsArg result (option_rule id.now default.now) }
 {
@@ -43,21 +43,21 @@ fn option<'a>(alloc: Global, id: &'a str, default: &'a str) -> Arg<'a>
         .value_name("N")
 }
 
-/// `--slot N`.
+// `--slot N`.
 fn slot<'a>(alloc: Global) -> Arg<'a>
     ensures { IsArg result slot_rule }
 {
     option(alloc, "slot", "262144").value_parser(value_parser!(u32).range(33..=2007015))
 }
 
-/// `--journal N`.
+// `--journal N`.
 fn journal<'a>(alloc: Global) -> Arg<'a>
     ensures { IsArg result journal_rule }
 {
     option(alloc, "journal", "65536").value_parser(value_parser!(u32).range(512..=1048576))
 }
 
-/// `create`.
+// `create`.
 fn create<'a>(alloc: Global) -> Result<Command<'a>, Error>
     ensures { IfOk result (λ c. IsCommand c create_app) }
 {
@@ -68,7 +68,7 @@ fn create<'a>(alloc: Global) -> Result<Command<'a>, Error>
     )
 }
 
-/// `build`.
+// `build`.
 fn build<'a>(alloc: Global) -> Result<Command<'a>, Error>
     ensures { IfOk result (λ c. IsCommand c build_app) }
 {
@@ -81,7 +81,7 @@ fn build<'a>(alloc: Global) -> Result<Command<'a>, Error>
     .arg(word(alloc, "out", "OUT"))?)
 }
 
-/// `inspect`.
+// `inspect`.
 fn inspect<'a>(alloc: Global) -> Result<Command<'a>, Error>
     ensures { IfOk result (λ c. IsCommand c inspect_app) }
 {
@@ -97,7 +97,7 @@ fn inspect<'a>(alloc: Global) -> Result<Command<'a>, Error>
     )
 }
 
-/// The program with its subcommands.
+// The program with its subcommands.
 fn with_subcommands<'a>(alloc: Global) -> Result<Command<'a>, Error>
     ensures { IfOk result (λ c. IsCommand c with_subcommands) }
 {
@@ -127,7 +127,7 @@ fn with_subcommands<'a>(alloc: Global) -> Result<Command<'a>, Error>
     )
 }
 
-/// The program's command line.
+// The program's command line.
 fn leveled<'a>(alloc: Global) -> Result<Command<'a>, Error>
     ensures { IfOk result (λ c. app_of c ≡ leveled_app) }
 {
@@ -141,7 +141,7 @@ fn leveled<'a>(alloc: Global) -> Result<Command<'a>, Error>
     )
 }
 
-/// A text of the request's own.
+// A text of the request's own.
 fn owned(alloc: Global, text: &str) -> Result<String, RequestError>
     ensures same { IfOk result (λ s. string_bytes s ≡ text.now) }
     ensures refused { IfErr result (λ e. e ≡ RequestError.Memory) }
@@ -152,7 +152,7 @@ fn owned(alloc: Global, text: &str) -> Result<String, RequestError>
     }
 }
 
-/// The text of an argument.
+// The text of an argument.
 fn text(alloc: Global, found: &ArgMatches<'_>, id: &str) -> Result<String, RequestError>
     ensures given {
         IfOk result (λ s. first_of id.now (rows_of (found_of found.now)) ≡ Some (string_bytes s)) }
@@ -164,7 +164,7 @@ fn text(alloc: Global, found: &ArgMatches<'_>, id: &str) -> Result<String, Reque
     }
 }
 
-/// The number, where it is within these limits.
+// The number, where it is within these limits.
 fn within(n: u32, low: u32, high: u32) -> Option<u32>
     ensures some { IfSome result (λ m. (m ≡ n) × (low ≤ n) × (n ≤ high)) }
     ensures none { IfNone result (¬ ((low ≤ n) × (n ≤ high))) }
@@ -172,7 +172,7 @@ fn within(n: u32, low: u32, high: u32) -> Option<u32>
     if low <= n && n <= high { Some(n) } else { None }
 }
 
-/// The number of an argument, where it has one within these limits.
+// The number of an argument, where it has one within these limits.
 fn number(found: &ArgMatches<'_>, id: &str, low: u32, high: u32) -> Option<u32>
     ensures some { IfSome result (HasNumber id.now (rows_of (found_of found.now)) low high) }
     ensures none { IfNone result (LacksNumber id.now (rows_of (found_of found.now)) low high) }
@@ -183,7 +183,7 @@ fn number(found: &ArgMatches<'_>, id: &str, low: u32, high: u32) -> Option<u32>
     }
 }
 
-/// The request to make a project.
+// The request to make a project.
 fn asked_create(alloc: Global, found: &ArgMatches<'_>) -> Result<Request, RequestError>
     ensures asked { IfOk result (λ r. AsksFor r (codes "create", rows_of (found_of found.now))) }
     ensures refused { IfErr result (RefusesValues (codes "create", rows_of (found_of found.now))) }
@@ -204,7 +204,7 @@ fn asked_create(alloc: Global, found: &ArgMatches<'_>) -> Result<Request, Reques
     }
 }
 
-/// The request to build the maps of a project.
+// The request to build the maps of a project.
 fn asked_build(alloc: Global, found: &ArgMatches<'_>) -> Result<Request, RequestError>
     ensures asked { IfOk result (λ r. AsksFor r (codes "build", rows_of (found_of found.now))) }
     ensures refused { IfErr result (RefusesValues (codes "build", rows_of (found_of found.now))) }
@@ -219,7 +219,7 @@ fn asked_build(alloc: Global, found: &ArgMatches<'_>) -> Result<Request, Request
     }
 }
 
-/// The request to inspect a level.
+// The request to inspect a level.
 fn asked_inspect(alloc: Global, found: &ArgMatches<'_>) -> Result<Request, RequestError>
     ensures asked { IfOk result (λ r. AsksFor r (codes "inspect", rows_of (found_of found.now))) }
     ensures refused { IfErr result (RefusesValues (codes "inspect", rows_of (found_of found.now))) }
@@ -234,7 +234,7 @@ fn asked_inspect(alloc: Global, found: &ArgMatches<'_>) -> Result<Request, Reque
     }
 }
 
-/// The request for a subcommand with what was found for its arguments.
+// The request for a subcommand with what was found for its arguments.
 fn asked(alloc: Global, name: &str, found: &ArgMatches<'_>) -> Result<Request, RequestError>
     requires { IsSubcommand name.now }
     ensures asked { IfOk result (λ r. AsksFor r (name.now, rows_of (found_of found.now))) }

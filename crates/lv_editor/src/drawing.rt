@@ -19,7 +19,7 @@ use std::alloc::Global;
 use std::io::{Read, Write};
 use std::marker::Model;
 
-/// The outcome of a command: its number, or the refusal's code.
+// The outcome of a command: its number, or the refusal's code.
 fn outcome_of(ended: Result<u32, CommandError>) -> Result<u32, u16>
     ensures { result ≡ outcome_of ended }
 {
@@ -53,7 +53,7 @@ impl Drawing {
         }
     }
 
-    /// Does what a line asks for that is no query, and answers its number or the refusal's code.
+    // Does what a line asks for that is no query, and answers its number or the refusal's code.
     fn change(&mut self, line: &[u8]) -> Result<u32, u16>
         ensures { ChangesBy LONGEST_BODY self.old line.now result self.new }
     {
@@ -64,7 +64,7 @@ impl Drawing {
         outcome_of(apply(&mut self.maps, &command, LONGEST_BODY))
     }
 
-    /// Writes the answer to a query.
+    // Writes the answer to a query.
     fn answer_query<W: Write>(
         &self,
         alloc: Global,

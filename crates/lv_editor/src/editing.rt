@@ -22,7 +22,7 @@ use lv_project::{Project, ProjectError};
 use std::alloc::Global;
 use std::io::{Read, Write};
 
-/// The outcome of a line: its number, or the refusal's code.
+// The outcome of a line: its number, or the refusal's code.
 fn outcome_in(ended: Result<u32, ProjectError>) -> Result<u32, u16>
     ensures { result ≡ outcome_in ended }
 {
@@ -32,7 +32,7 @@ fn outcome_in(ended: Result<u32, ProjectError>) -> Result<u32, u16>
     }
 }
 
-/// Does what a line asks for that is no query, and answers its number or the refusal's code.
+// Does what a line asks for that is no query, and answers its number or the refusal's code.
 fn change<D: Disk>(project: &mut Project<D>, line: &[u8]) -> Result<u32, u16>
     ensures { (answer : Result ℕ ProjectError)
         × Applies D.moment D.failures D.left_since D.may_leave project.old line.now answer
@@ -42,7 +42,7 @@ fn change<D: Disk>(project: &mut Project<D>, line: &[u8]) -> Result<u32, u16>
     outcome_in(project.apply(line))
 }
 
-/// As much of a line as decides what it is.
+// As much of a line as decides what it is.
 fn front(line: &[u8]) -> &[u8]
     ensures { result.now ≡ take 257 line.now }
 {
@@ -53,7 +53,7 @@ fn front(line: &[u8]) -> &[u8]
     }
 }
 
-/// Writes the answer to a query.
+// Writes the answer to a query.
 fn answer_query<D: Disk, W: Write>(
     alloc: Global,
     project: &Project<D>,

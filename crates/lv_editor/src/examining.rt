@@ -10,7 +10,7 @@ use std::alloc::Global;
 use std::fs::{self, Files};
 use std::io::{Read, Write};
 
-/// All that the reader gives, in at most `turns` reads of at most 4,096 bytes.
+// All that the reader gives, in at most `turns` reads of at most 4,096 bytes.
 fn read_whole<R: Read>(alloc: Global, reader: &mut R, turns: u32) -> Result<Vec<u8>, EditorError>
     ensures whole { IfOk result (λ bytes.
         Consumes (R.remaining reader.old) (R.remaining reader.new) bytes.items
@@ -34,14 +34,14 @@ fn read_whole<R: Read>(alloc: Global, reader: &mut R, turns: u32) -> Result<Vec<
     Err(EditorError::InputTooLong)
 }
 
-/// The status that tells whether a level is sound.
+// The status that tells whether a level is sound.
 fn status_for(sound: bool) -> u8
     ensures { result ≡ status_told sound }
 {
     if sound { 0 } else { 3 }
 }
 
-/// Inspects the level of the name in what the reader gives, hands on what is told, and answers the status.
+// Inspects the level of the name in what the reader gives, hands on what is told, and answers the status.
 fn examine_read<R: Read, W: Write>(
     alloc: Global,
     reader: &mut R,

@@ -11,7 +11,7 @@ use lv_maptables::Map;
 use std::alloc::Global;
 use std::io::Write;
 
-/// Writes a finding as a line.
+// Writes a finding as a line.
 fn write_finding<W: Write>(finding: &Finding, writer: &mut W) -> Result<(), EditorError>
     ensures { MatchResult result
         (λ _. Appends (W.contents writer.old) (W.contents writer.new) (finding_line finding.now))
@@ -23,7 +23,7 @@ fn write_finding<W: Write>(finding: &Finding, writer: &mut W) -> Result<(), Edit
     }
 }
 
-/// Writes a line for each finding.
+// Writes a line for each finding.
 fn write_each<W: Write>(found: &[Finding], writer: &mut W) -> Result<(), EditorError>
     ensures { MatchResult result
         (λ _. Appends (W.contents writer.old) (W.contents writer.new)
@@ -39,7 +39,7 @@ fn write_each<W: Write>(found: &[Finding], writer: &mut W) -> Result<(), EditorE
     Ok(())
 }
 
-/// Writes `findings N`.
+// Writes `findings N`.
 fn write_total<W: Write>(count: u32, writer: &mut W) -> Result<(), EditorError>
     ensures { MatchResult result
         (λ _. Appends (W.contents writer.old) (W.contents writer.new) (total_text count))

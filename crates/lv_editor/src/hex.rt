@@ -3,7 +3,7 @@ ghost use Rattle.lv_editor.specs.Texts.{hex_byte, hex_digit, hex_digits, hex_tex
 
 use std::alloc::{AllocError, Global};
 
-/// A digit from 0 to f.
+// A digit from 0 to f.
 fn hex_digit(value: u8) -> u8
     requires { value < 16 }
     ensures { result ≡ hex_digit value }
@@ -15,7 +15,7 @@ fn hex_digit(value: u8) -> u8
     }
 }
 
-/// Adds the two digits of a byte.
+// Adds the two digits of a byte.
 fn push_byte(text: &mut Vec<u8>, b: u8) -> Result<(), AllocError>
     ensures { OnOk result (text.new.items ≡ text.old.items ++ hex_byte b) }
 {
@@ -24,7 +24,7 @@ fn push_byte(text: &mut Vec<u8>, b: u8) -> Result<(), AllocError>
     Ok(())
 }
 
-/// Adds each byte with a space before it.
+// Adds each byte with a space before it.
 fn push_spaced(text: &mut Vec<u8>, bytes: &[u8]) -> Result<(), AllocError>
     ensures { OnOk result (text.new.items ≡ text.old.items ++ flat_map spaced_byte bytes.now) }
 {
@@ -35,7 +35,7 @@ fn push_spaced(text: &mut Vec<u8>, bytes: &[u8]) -> Result<(), AllocError>
     Ok(())
 }
 
-/// Adds the digits of all bytes with a space between, or `-` for none.
+// Adds the digits of all bytes with a space between, or `-` for none.
 fn push_digits(text: &mut Vec<u8>, bytes: &[u8]) -> Result<(), AllocError>
     ensures { OnOk result (text.new.items ≡ text.old.items ++ hex_digits bytes.now) }
 {

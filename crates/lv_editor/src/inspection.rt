@@ -9,7 +9,7 @@ use lv_pwad::{Fault, Level, audit, read_level};
 use std::alloc::Global;
 use std::io::Write;
 
-/// The name of a fault.
+// The name of a fault.
 fn name_of(fault: Fault) -> &'static str
     ensures { result.now ≡ fault_name fault }
 {
@@ -31,7 +31,7 @@ fn name_of(fault: Fault) -> &'static str
     }
 }
 
-/// The number of the item at fault, 0 for a fault of a whole lump.
+// The number of the item at fault, 0 for a fault of a whole lump.
 fn number_of(fault: Fault) -> usize
     ensures { result ≡ fault_number fault }
 {
@@ -51,7 +51,7 @@ fn number_of(fault: Fault) -> usize
     }
 }
 
-/// Writes how many records the first five lumps hold.
+// Writes how many records the first five lumps hold.
 fn write_front<W: Write>(
     things: usize,
     lines: usize,
@@ -75,7 +75,7 @@ fn write_front<W: Write>(
     }
 }
 
-/// Writes how many records the next three lumps hold, how many bytes REJECT and BLOCKMAP have, and ends the line.
+// Writes how many records the next three lumps hold, how many bytes REJECT and BLOCKMAP have, and ends the line.
 fn write_back<W: Write>(
     subs: usize,
     nodes: usize,
@@ -99,7 +99,7 @@ fn write_back<W: Write>(
     }
 }
 
-/// Writes how many records the lumps of a level hold, and how many bytes REJECT and BLOCKMAP have.
+// Writes how many records the lumps of a level hold, and how many bytes REJECT and BLOCKMAP have.
 fn write_lengths<W: Write>(level: &Level, writer: &mut W) -> Result<(), InspectError>
     ensures { MatchResult result
         (λ _. Appends (W.contents writer.old) (W.contents writer.new)
@@ -122,7 +122,7 @@ fn write_lengths<W: Write>(level: &Level, writer: &mut W) -> Result<(), InspectE
     }
 }
 
-/// Writes `fault NAME I`.
+// Writes `fault NAME I`.
 fn write_fault<W: Write>(fault: Fault, writer: &mut W) -> Result<(), InspectError>
     ensures { MatchResult result
         (λ _. Appends (W.contents writer.old) (W.contents writer.new) (fault_text fault))
@@ -136,7 +136,7 @@ fn write_fault<W: Write>(fault: Fault, writer: &mut W) -> Result<(), InspectErro
     }
 }
 
-/// Writes `sound`, or the fault, and answers whether there is none.
+// Writes `sound`, or the fault, and answers whether there is none.
 fn write_verdict<W: Write>(fault: Option<Fault>, writer: &mut W) -> Result<bool, InspectError>
     ensures { MatchResult result
         (λ sound. (sound ≡ is_none fault)
@@ -155,7 +155,7 @@ fn write_verdict<W: Write>(fault: Option<Fault>, writer: &mut W) -> Result<bool,
     }
 }
 
-/// Writes what an audit says of a level, and answers whether it is sound.
+// Writes what an audit says of a level, and answers whether it is sound.
 fn write_level<W: Write>(
     level: &Level,
     fault: Option<Fault>,

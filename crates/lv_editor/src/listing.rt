@@ -9,7 +9,7 @@ use crate::error::EditorError;
 use lv_maptables::{Map, Maps};
 use std::io::Write;
 
-/// Writes a map's name, and ends the line.
+// Writes a map's name, and ends the line.
 fn write_name<W: Write>(name: &[u8], writer: &mut W) -> Result<(), EditorError>
     ensures { MatchResult result
         (λ _. Appends (W.contents writer.old) (W.contents writer.new) (name.now ++ 10 ∷ []))
@@ -25,7 +25,7 @@ fn write_name<W: Write>(name: &[u8], writer: &mut W) -> Result<(), EditorError>
     }
 }
 
-/// Writes `I NAME`.
+// Writes `I NAME`.
 fn write_map<W: Write>(number: u32, map: &Map, writer: &mut W) -> Result<(), EditorError>
     ensures { MatchResult result
         (λ _. Appends (W.contents writer.old) (W.contents writer.new)
@@ -40,7 +40,7 @@ fn write_map<W: Write>(number: u32, map: &Map, writer: &mut W) -> Result<(), Edi
     }
 }
 
-/// Writes `I NAME` for the map of the number, if there is one.
+// Writes `I NAME` for the map of the number, if there is one.
 fn write_nth<W: Write>(maps: &Maps, number: u32, writer: &mut W) -> Result<(), EditorError>
     ensures { MatchResult result
         (λ _. (m : Tables) → slice_get (project_of maps.now).maps number ≡ Some m
@@ -53,7 +53,7 @@ fn write_nth<W: Write>(maps: &Maps, number: u32, writer: &mut W) -> Result<(), E
     }
 }
 
-/// Writes `I NAME` for each map.
+// Writes `I NAME` for each map.
 fn write_each<W: Write>(maps: &Maps, writer: &mut W) -> Result<(), EditorError>
     ensures { MatchResult result
         (λ _. Appends (W.contents writer.old) (W.contents writer.new)
@@ -69,7 +69,7 @@ fn write_each<W: Write>(maps: &Maps, writer: &mut W) -> Result<(), EditorError>
     Ok(())
 }
 
-/// Writes `current I`.
+// Writes `current I`.
 fn write_current<W: Write>(number: u32, writer: &mut W) -> Result<(), EditorError>
     ensures { MatchResult result
         (λ _. Appends (W.contents writer.old) (W.contents writer.new) (current_text number))

@@ -21,13 +21,13 @@ use std::io::{Read, Write};
 use std::os::unix::fs::FileExt;
 use std::rt::Files;
 
-/// The status where what was asked for is done.
+// The status where what was asked for is done.
 const DONE: u8 = 0;
 
-/// The status where a map has findings.
+// The status where a map has findings.
 const FOUND: u8 = 3;
 
-/// The status after a run.
+// The status after a run.
 fn ended(run: Result<u64, EditorError>) -> Result<u8, Refusal>
     ensures status { status_in result ≡ status_of run }
     ensures small { IfOk result (λ s. s ≤ 3) }
@@ -38,7 +38,7 @@ fn ended(run: Result<u64, EditorError>) -> Result<u8, Refusal>
     }
 }
 
-/// Answers the lines of the input over maps in memory.
+// Answers the lines of the input over maps in memory.
 fn scratch<R: Read, W: Write>(alloc: Global, reader: &mut R, writer: &mut W) -> Result<u8, Refusal>
     ensures small { IfOk result (λ s. s ≤ 3) }
     ensures answered {
@@ -48,7 +48,7 @@ fn scratch<R: Read, W: Write>(alloc: Global, reader: &mut R, writer: &mut W) -> 
     ended(run_in_memory(alloc, reader, writer, TURNS))
 }
 
-/// Writes a text and hands it on.
+// Writes a text and hands it on.
 fn say<W: Write>(text: &[u8], writer: &mut W) -> Result<(), Refusal>
     ensures { IfOk result (λ _. Appends (W.contents writer.old) (W.contents writer.new) text.now) }
 {
@@ -62,7 +62,7 @@ fn say<W: Write>(text: &[u8], writer: &mut W) -> Result<(), Refusal>
     }
 }
 
-/// Makes a project on a disk, and says so.
+// Makes a project on a disk, and says so.
 fn create<D: Disk + Drop, W: Write>(
     alloc: Global,
     disk: D,
@@ -81,7 +81,7 @@ fn create<D: Disk + Drop, W: Write>(
     }
 }
 
-/// Answers the lines of the input over the project of a disk.
+// Answers the lines of the input over the project of a disk.
 fn edit<D: Disk + Drop, R: Read, W: Write>(
     alloc: Global,
     disk: D,
@@ -100,7 +100,7 @@ fn edit<D: Disk + Drop, R: Read, W: Write>(
     ended(run(alloc, &mut project, reader, writer, TURNS))
 }
 
-/// Writes the findings of a map and hands them on, and answers how many they are.
+// Writes the findings of a map and hands them on, and answers how many they are.
 fn tell<W: Write>(alloc: Global, map: &Map, writer: &mut W) -> Result<u32, Refusal>
     ensures number { IfOk result (λ n. n ≡ length (findings map.now.tables)) }
     ensures written { IfOk result (λ _. Appends (W.contents writer.old) (W.contents writer.new)
@@ -116,14 +116,14 @@ fn tell<W: Write>(alloc: Global, map: &Map, writer: &mut W) -> Result<u32, Refus
     }
 }
 
-/// The status after so many findings.
+// The status after so many findings.
 fn status_for(found: u32) -> u8
     ensures { result ≡ status_after found }
 {
     if found == 0 { DONE } else { FOUND }
 }
 
-/// Says what is wrong or unfinished in the current map of a disk's project.
+// Says what is wrong or unfinished in the current map of a disk's project.
 fn check<D: Disk + Drop, W: Write>(alloc: Global, disk: D, writer: &mut W) -> Result<u8, Refusal>
     ensures small { IfOk result (λ s. s ≤ 3) }
     ensures found { IsChecked (status_in result) (W.contents writer.old) (W.contents writer.new) }
@@ -138,7 +138,7 @@ fn check<D: Disk + Drop, W: Write>(alloc: Global, disk: D, writer: &mut W) -> Re
     }
 }
 
-/// The file of a request. With `new` one is made where there is none.
+// The file of a request. With `new` one is made where there is none.
 fn file_at<E: Files>(rt: &E, path: &str, new: bool) -> Result<FileDisk<E::File>, Refusal> {
     match FileDisk::open(rt, path, new) {
         Ok(disk) => Ok(disk),
@@ -146,7 +146,7 @@ fn file_at<E: Files>(rt: &E, path: &str, new: bool) -> Result<FileDisk<E::File>,
     }
 }
 
-/// Does what a request asks for, and answers the status where it isn't refused.
+// Does what a request asks for, and answers the status where it isn't refused.
 fn done<E, R, W>(rt: &E, request: &Request, reader: &mut R, writer: &mut W) -> Result<u8, Refusal>
 where
     E: AllocGlobal + Files,

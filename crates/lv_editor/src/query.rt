@@ -21,7 +21,7 @@ pub enum Query {
     HexBuilt(BuiltLump),
 }
 
-/// The query that a line is which asks for a built lump.
+// The query that a line is which asks for a built lump.
 fn read_built(line: &[u8]) -> Option<Query>
     ensures { result ≡ option_map (λ q. q.1) (find (λ q. bytes_eq line.now q.0) built_lines) }
 {
@@ -42,7 +42,7 @@ fn read_built(line: &[u8]) -> Option<Query>
     }
 }
 
-/// The query that a line is which asks for a lump.
+// The query that a line is which asks for a lump.
 fn read_hex(line: &[u8]) -> Option<Query>
     ensures {
         result ≡ option_map (λ q. q.1)

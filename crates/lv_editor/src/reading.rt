@@ -10,7 +10,7 @@ use crate::session::Session;
 use std::alloc::Global;
 use std::io::{Read, Write};
 
-/// Hands on what was written, so that a pipe or a terminal has it.
+// Hands on what was written, so that a pipe or a terminal has it.
 fn flush<W: Write>(writer: &mut W) -> Result<(), EditorError>
     ensures { MatchResult result (λ _. Keeps (W.contents writer.old) (W.contents writer.new))
         (λ e. e ≡ WriterFailed) }
@@ -21,7 +21,7 @@ fn flush<W: Write>(writer: &mut W) -> Result<(), EditorError>
     }
 }
 
-/// Answers a last line without LF, where it isn't empty.
+// Answers a last line without LF, where it isn't empty.
 fn finish<S: Session, W: Write>(
     alloc: Global,
     session: &mut S,
@@ -45,7 +45,7 @@ fn finish<S: Session, W: Write>(
     }
 }
 
-/// Takes one byte: answers the line that it ends, or goes on with the line.
+// Takes one byte: answers the line that it ends, or goes on with the line.
 fn take_byte<S: Session, W: Write>(
     alloc: Global,
     session: &mut S,
@@ -71,7 +71,7 @@ fn take_byte<S: Session, W: Write>(
     }
 }
 
-/// Takes more bytes: answers each line that they end, and keeps what stands behind the last.
+// Takes more bytes: answers each line that they end, and keeps what stands behind the last.
 fn feed<S: Session, W: Write>(
     alloc: Global,
     session: &mut S,
@@ -94,7 +94,7 @@ fn feed<S: Session, W: Write>(
     Ok(answered)
 }
 
-/// Takes the bytes of one turn, and hands on the answers.
+// Takes the bytes of one turn, and hands on the answers.
 fn take_turn<S: Session, W: Write>(
     alloc: Global,
     session: &mut S,

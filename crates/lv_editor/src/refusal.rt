@@ -17,7 +17,7 @@ pub enum Refusal {
 }
 
 impl Refusal {
-    /// The number of the refusal.
+    // The number of the refusal.
     fn code(&self) -> u16 {
         match self {
             Refusal::Lines(error) => error.code(),
@@ -27,7 +27,7 @@ impl Refusal {
         }
     }
 
-    /// The name of the refusal, as the program prints it.
+    // The name of the refusal, as the program prints it.
     fn name(&self) -> &'static str {
         match self {
             Refusal::Lines(error) => name_of(*error),
@@ -38,7 +38,7 @@ impl Refusal {
     }
 }
 
-/// The name of what ended a run.
+// The name of what ended a run.
 fn name_of(error: EditorError) -> &'static str {
     match error {
         EditorError::OutOfMemory => "Memory",
@@ -48,7 +48,7 @@ fn name_of(error: EditorError) -> &'static str {
     }
 }
 
-/// The name of what a project file was refused for.
+// The name of what a project file was refused for.
 fn name_of_project(error: ProjectError) -> &'static str {
     match error {
         ProjectError::Refused(_) => "Refused",
@@ -64,7 +64,7 @@ fn name_of_project(error: ProjectError) -> &'static str {
     }
 }
 
-/// The name of what a level was not inspected for.
+// The name of what a level was not inspected for.
 fn name_of_level(error: InspectError) -> &'static str {
     match error {
         InspectError::Level(ReadError::LumpLength) => "LumpLength",
@@ -79,7 +79,7 @@ fn name_of_level(error: InspectError) -> &'static str {
     }
 }
 
-/// The name of what no PWAD was written for.
+// The name of what no PWAD was written for.
 fn name_of_build(error: WriteError) -> &'static str {
     match error {
         WriteError::Build(BuildError::NothingToBuild) => "NothingToBuild",

@@ -16,7 +16,7 @@ pub fn squared_distance(a: Vertex, b: Vertex) -> u64
     dx * dx + dy * dy
 }
 
-/// How far two coordinates are apart.
+// How far two coordinates are apart.
 fn gap(a: i16, b: i16) -> u64
     ensures value { result ≡ unsigned_abs (b -ℤ a) }
     ensures bound { result ≤ 65535 }

@@ -22,21 +22,21 @@ pub fn is_marker(text: &[u8]) -> bool
     }
 }
 
-/// Whether the text is one to eight bytes long.
+// Whether the text is one to eight bytes long.
 fn has_name_length(text: &[u8]) -> bool
     ensures { result ≡ (nat_le 1 (length text.now) && nat_le (length text.now) 8) }
 {
     1 <= text.len() && text.len() <= 8
 }
 
-/// Whether all bytes may stand in a name.
+// Whether all bytes may stand in a name.
 fn are_name_bytes(text: &[u8]) -> bool
     ensures { result ≡ list_all is_name_byte text.now }
 {
     text.iter().all(|byte| is_name_byte(*byte))
 }
 
-/// Whether the byte may stand in a name.
+// Whether the byte may stand in a name.
 fn is_name_byte(byte: u8) -> bool
     ensures { result ≡ is_name_byte byte }
 {

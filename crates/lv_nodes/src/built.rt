@@ -16,7 +16,7 @@ use lv_partition::StraightLines;
 use lv_segs::{Edge, Points, edges_of, pieces_in};
 use std::alloc::{AllocError, Global};
 
-/// How many nodes a path may have.
+// How many nodes a path may have.
 const DEEPEST: u32 = 1024;
 
 /// A built tree: the drawn vertices with the added ones behind, the segs, the subsectors and the nodes.

@@ -16,7 +16,7 @@ use lv_partition::StraightLines;
 use lv_segs::{Edge, Piece, ray_of};
 use std::alloc::Global;
 
-/// The greatest number of segs or of subsectors.
+// The greatest number of segs or of subsectors.
 const MOST: usize = 32767;
 
 /// What has been put down of a tree: the pieces of its leaves, how many each leaf has, and its nodes.

@@ -16,10 +16,10 @@ use lv_partition::{
 use lv_segs::{Edge, Piece, boxes_in};
 use std::alloc::{AllocError, Global};
 
-/// Up to so many pieces are looked at one by one.
+// Up to so many pieces are looked at one by one.
 const SHORT: usize = 16;
 
-/// The boxes of more pieces than these are made in an order by their places.
+// The boxes of more pieces than these are made in an order by their places.
 const LONG: usize = 256;
 
 /// What comes of a list of pieces: a leaf, or a partition and the two lists of the parts with their boxes.

@@ -12,7 +12,7 @@ use crate::ranges::{drawn_fault, first_of, seg_fault};
 use crate::subs::sub_fault;
 use std::alloc::Global;
 
-/// The first fault of the lists as they stand, for which no memory is needed.
+// The first fault of the lists as they stand, for which no memory is needed.
 fn list_fault(level: &Level) -> Option<Fault>
     ensures { result ≡ first_some (list_faults (view level.now)) }
 {

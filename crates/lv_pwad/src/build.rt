@@ -18,7 +18,7 @@ use lv_maptables::{Kind, Map};
 use lv_nodes::{Built, TreeError, build_tree};
 use std::alloc::Global;
 
-/// The refusal of the tree is that of the build.
+// The refusal of the tree is that of the build.
 fn tree_refusal(error: TreeError) -> BuildError
     ensures { result ≡ of_tree error }
 {
@@ -32,7 +32,7 @@ fn tree_refusal(error: TreeError) -> BuildError
     }
 }
 
-/// The refusal of the blockmap is that of the build, where there is a tree.
+// The refusal of the blockmap is that of the build, where there is a tree.
 fn blockmap_refusal(error: BlockmapError) -> BuildError
     ensures { result ≡ of_blockmap error }
 {
@@ -43,7 +43,7 @@ fn blockmap_refusal(error: BlockmapError) -> BuildError
     }
 }
 
-/// The level of a map, with its tree and the bytes of its blockmap.
+// The level of a map, with its tree and the bytes of its blockmap.
 fn level_of(alloc: Global, map: &Map, tree: Built, blockmap: Vec<u8>) -> Result<Level, BuildError>
     ensures level { IfOk result (λ level. view level
         ≡ level_over map.now.tables tree blockmap.items) }
@@ -65,7 +65,7 @@ fn level_of(alloc: Global, map: &Map, tree: Built, blockmap: Vec<u8>) -> Result<
     })
 }
 
-/// The PWAD of one level, which is read back by its name.
+// The PWAD of one level, which is read back by its name.
 fn wad_of_level(alloc: Global, name: Name8, level: Level) -> Result<Vec<u8>, BuildError>
     requires { AreParts (part_of name (view level) ∷ []) }
     ensures level { IfOk result (λ wad. IsLevel wad.items (name_text name) (view level)) }

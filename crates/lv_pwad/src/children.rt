@@ -15,10 +15,10 @@ use crate::ranges::{first_of, is_among};
 use lv_lumps::Node;
 use std::alloc::Global;
 
-/// From here on a child is a subsector, and what is above is its number.
+// From here on a child is a subsector, and what is above is its number.
 const FIRST_SUB: u16 = 0x8000;
 
-/// Whether the child of a node is a subsector of the level, or a node that is lower.
+// Whether the child of a node is a subsector of the level, or a node that is lower.
 fn is_child(level: &Level, node: usize, child: u16) -> bool
     ensures { result ≡ child_right (view level.now) node child }
 {
@@ -29,14 +29,14 @@ fn is_child(level: &Level, node: usize, child: u16) -> bool
     }
 }
 
-/// Whether both children of a node are in range.
+// Whether both children of a node are in range.
 fn has_children(level: &Level, number: usize, node: Node) -> bool
     ensures { result ≡ node_children (view level.now) (number, node) }
 {
     is_child(level, number, node.right) && is_child(level, number, node.left)
 }
 
-/// Where the first node with a child out of range stands.
+// Where the first node with a child out of range stands.
 fn child_place(level: &Level) -> Option<usize>
     ensures { result
         ≡ first_wrong (node_children (view level.now)) (enumerate_from 0 level.now.nodes.items) }
@@ -65,7 +65,7 @@ pub fn child_fault(level: &Level) -> Option<Fault>
     }
 }
 
-/// The children of all nodes; with no nodes subsector 0.
+// The children of all nodes; with no nodes subsector 0.
 fn children_of(alloc: Global, nodes: &[Node]) -> Result<Vec<u16>, ReadError>
     ensures children { IfOk result (λ v. v.items ≡ children nodes.now) }
     ensures memory { IsOkUnless result ReadError.OutOfMemory }
@@ -82,7 +82,7 @@ fn children_of(alloc: Global, nodes: &[Node]) -> Result<Vec<u16>, ReadError>
     Ok(all)
 }
 
-/// The first of `len` numbers from `base` on that isn't a child exactly once.
+// The first of `len` numbers from `base` on that isn't a child exactly once.
 fn not_once(
     alloc: Global,
     base: u16,
@@ -103,7 +103,7 @@ fn not_once(
     Ok(None)
 }
 
-/// The first subsector that isn't a child exactly once.
+// The first subsector that isn't a child exactly once.
 fn sub_once(alloc: Global, level: &Level, numbers: &[u16]) -> Result<Option<Fault>, ReadError>
     requires { numbers.now ≡ children level.now.nodes.items }
     ensures fault { IfOk result (λ fault. fault ≡ option_map SubOnce
@@ -118,7 +118,7 @@ fn sub_once(alloc: Global, level: &Level, numbers: &[u16]) -> Result<Option<Faul
     }
 }
 
-/// The first node that isn't a child exactly once, where the last is none.
+// The first node that isn't a child exactly once, where the last is none.
 fn node_once(alloc: Global, level: &Level, numbers: &[u16]) -> Result<Option<Fault>, ReadError>
     requires { numbers.now ≡ children level.now.nodes.items }
     ensures fault { IfOk result (λ fault. fault ≡ option_map NodeOnce

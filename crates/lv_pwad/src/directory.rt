@@ -14,7 +14,7 @@ pub struct Entry {
     pub name: Name8,
 }
 
-/// The number of 32 bits at a place, the lower bytes first.
+// The number of 32 bits at a place, the lower bytes first.
 fn long_at(bytes: &[u8], at: usize) -> u32
     requires { at + 4 ≤ length bytes.now }
     ensures { result ≡ long_at at bytes.now }
@@ -22,7 +22,7 @@ fn long_at(bytes: &[u8], at: usize) -> u32
     LittleEndian::read_u32(&bytes[at..])
 }
 
-/// The eight bytes of a name at a place.
+// The eight bytes of a name at a place.
 fn name_at(bytes: &[u8], at: usize) -> Name8
     requires { at + 8 ≤ length bytes.now }
     ensures { result ≡ name_at at bytes.now }
@@ -32,7 +32,7 @@ fn name_at(bytes: &[u8], at: usize) -> Name8
     Name8 { bytes: name }
 }
 
-/// Whether the first four bytes are these.
+// Whether the first four bytes are these.
 fn begins_with(wad: &[u8], letters: &[u8; 4]) -> bool
     requires { 4 ≤ length wad.now }
     ensures { result ≡ same (take 4 wad.now) letters.now }
@@ -58,7 +58,7 @@ pub fn has_directory(wad: &[u8]) -> bool
     long_at(wad, 8) as u64 + 16 * long_at(wad, 4) as u64 <= wad.len() as u64
 }
 
-/// How many lumps the WAD has.
+// How many lumps the WAD has.
 fn lump_count(wad: &[u8]) -> u32
     requires { 12 ≤ length wad.now }
     ensures { result ≡ lump_count wad.now }
@@ -80,7 +80,7 @@ pub fn entry_of(wad: &[u8], k: u32) -> Entry
     }
 }
 
-/// Whether the k-th entry has the name.
+// Whether the k-th entry has the name.
 fn is_named(wad: &[u8], name: &[u8], k: u32) -> bool
     requires directory { HasEntries wad.now }
     requires among { k < lump_count wad.now }
@@ -140,10 +140,10 @@ pub const LUMP_NAMES: [Name8; 10] = [
     },
 ];
 
-/// How many bytes a record of each lump has.
+// How many bytes a record of each lump has.
 const RECORD_SIZES: [u32; 10] = [10, 14, 30, 4, 12, 4, 28, 26, 1, 2];
 
-/// Whether the entries from `from` on have the names.
+// Whether the entries from `from` on have the names.
 fn are_named(wad: &[u8], from: u32, names: &[Name8]) -> bool
     requires directory { HasEntries wad.now }
     requires among { from + length names.now ≤ lump_count wad.now }
@@ -175,7 +175,7 @@ pub fn is_hexen(wad: &[u8], at: u32) -> bool
     at as u64 + 11 < lump_count(wad) as u64 && is_named(wad, b"BEHAVIOR", at + 11)
 }
 
-/// Whether the entry's lump isn't empty and ends beyond the file.
+// Whether the entry's lump isn't empty and ends beyond the file.
 fn is_outside(wad: &[u8], entry: Entry) -> bool
     ensures { result ≡ is_outside wad.now entry }
 {
@@ -196,7 +196,7 @@ pub fn are_inside(wad: &[u8], from: u32, count: u32) -> bool
     true
 }
 
-/// Whether each of the lumps of the entries from `from` on is whole records of its size long.
+// Whether each of the lumps of the entries from `from` on is whole records of its size long.
 fn are_records(wad: &[u8], from: u32, sizes: &[u32]) -> bool
     requires directory { HasEntries wad.now }
     requires among { from + length sizes.now ≤ lump_count wad.now }

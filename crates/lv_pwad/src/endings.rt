@@ -4,10 +4,10 @@ ghost use Rattle.lv_pwad.specs.Endings.{AreEndings, is_line};
 use crate::error::ReadError;
 use std::alloc::Global;
 
-/// The greatest offset of a block's list.
+// The greatest offset of a block's list.
 const PLACES: usize = 32768;
 
-/// Whether words end or name a line here, and end in lines behind it.
+// Whether words end or name a line here, and end in lines behind it.
 fn goes_on(word: u16, lines: usize, behind: bool) -> bool
     ensures { result ≡ ((word == 65535) || (is_line lines word && behind)) }
 {

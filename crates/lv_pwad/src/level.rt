@@ -27,7 +27,7 @@ pub struct Level {
     pub blockmap: Vec<u8>,
 }
 
-/// The bytes of the n-th lump behind a marker, whose lumps stand in the file.
+// The bytes of the n-th lump behind a marker, whose lumps stand in the file.
 fn lump(wad: &[u8], at: u32, n: u32) -> &[u8]
     requires level { IsWhole wad.now at }
     requires among { n < 10 }
@@ -41,7 +41,7 @@ fn lump(wad: &[u8], at: u32, n: u32) -> &[u8]
     &wad[start..start + entry.size as usize]
 }
 
-/// The n-th lump behind a marker, as bytes of its own.
+// The n-th lump behind a marker, as bytes of its own.
 fn copied(alloc: Global, wad: &[u8], at: u32, n: u32) -> Result<Vec<u8>, ReadError>
     requires level { IsWhole wad.now at }
     requires among { n < 10 }
@@ -53,8 +53,8 @@ fn copied(alloc: Global, wad: &[u8], at: u32, n: u32) -> Result<Vec<u8>, ReadErr
     Ok(bytes)
 }
 
-/// The level behind a marker, whose lumps stand in the file and are whole records long, so that only
-/// memory can be lacking.
+// The level behind a marker, whose lumps stand in the file and are whole records long, so that only
+// memory can be lacking.
 fn level_behind(alloc: Global, wad: &[u8], at: u32) -> Result<Level, ReadError>
     requires { IsWhole wad.now at }
     ensures level { IfOk result (λ level. view level ≡ lumps_behind wad.now at) }

@@ -22,7 +22,7 @@ pub struct NamedLevel {
     pub level: Level,
 }
 
-/// Appends a lump.
+// Appends a lump.
 fn push_lump(lumps: &mut Vec<NamedLump>, name: Name8, bytes: Vec<u8>) -> Result<(), BuildError>
     ensures ok { OnOk result (views lumps.new.items
         ≡ views lumps.old.items ++ (record { name = name; bytes = bytes.items } ∷ [])) }
@@ -32,7 +32,7 @@ fn push_lump(lumps: &mut Vec<NamedLump>, name: Name8, bytes: Vec<u8>) -> Result<
     Ok(())
 }
 
-/// The bytes, copied.
+// The bytes, copied.
 fn copied(alloc: Global, bytes: &[u8]) -> Result<Vec<u8>, BuildError>
     ensures bytes { IfOk result (λ v. v.items ≡ bytes.now) }
     ensures memory { IsOkUnless result BuildError.OutOfMemory }
@@ -42,7 +42,7 @@ fn copied(alloc: Global, bytes: &[u8]) -> Result<Vec<u8>, BuildError>
     Ok(copy)
 }
 
-/// Appends the lumps that stand before the tree: things, lines, sides, vertices.
+// Appends the lumps that stand before the tree: things, lines, sides, vertices.
 fn push_drawn(alloc: Global, lumps: &mut Vec<NamedLump>, level: &Level) -> Result<(), BuildError>
     ensures lumps { OnOk result (views lumps.new.items
         ≡ views lumps.old.items ++ drawn_lumps (view level.now)) }
@@ -60,7 +60,7 @@ fn push_drawn(alloc: Global, lumps: &mut Vec<NamedLump>, level: &Level) -> Resul
     Ok(())
 }
 
-/// Appends the lumps of the tree: segs, subsectors, nodes.
+// Appends the lumps of the tree: segs, subsectors, nodes.
 fn push_tree(alloc: Global, lumps: &mut Vec<NamedLump>, level: &Level) -> Result<(), BuildError>
     ensures lumps { OnOk result (views lumps.new.items
         ≡ views lumps.old.items ++ tree_lumps (view level.now)) }
@@ -73,7 +73,7 @@ fn push_tree(alloc: Global, lumps: &mut Vec<NamedLump>, level: &Level) -> Result
     Ok(())
 }
 
-/// Appends the lumps that stand behind the tree: sectors, REJECT, BLOCKMAP.
+// Appends the lumps that stand behind the tree: sectors, REJECT, BLOCKMAP.
 fn push_last(alloc: Global, lumps: &mut Vec<NamedLump>, level: &Level) -> Result<(), BuildError>
     ensures lumps { OnOk result (views lumps.new.items
         ≡ views lumps.old.items ++ last_lumps (view level.now)) }
@@ -86,7 +86,7 @@ fn push_last(alloc: Global, lumps: &mut Vec<NamedLump>, level: &Level) -> Result
     Ok(())
 }
 
-/// Appends the marker and the ten lumps of a level.
+// Appends the marker and the ten lumps of a level.
 fn push_level(
     alloc: Global,
     lumps: &mut Vec<NamedLump>,
@@ -105,7 +105,7 @@ fn push_level(
     Ok(())
 }
 
-/// The lumps of the levels, one level behind another.
+// The lumps of the levels, one level behind another.
 fn lumps_of(alloc: Global, levels: &[NamedLevel]) -> Result<Vec<NamedLump>, BuildError>
     ensures lumps { IfOk result (λ v. views v.items ≡ all_lumps (parts_of levels.now)) }
     ensures coded { IfOk result (λ v. All (λ l. IsCoded (view l.level)) levels.now) }

@@ -10,7 +10,7 @@ use crate::levels::{NamedLevel, wad_of_levels};
 use lv_maptables::{Map, Maps};
 use std::alloc::Global;
 
-/// The level of a map, with its name.
+// The level of a map, with its name.
 fn named_level(alloc: Global, map: &Map) -> Result<NamedLevel, BuildError>
     ensures level { IfOk result (λ level. IsLevelOf map.now.tables level) }
     ensures refused { IfErr result (IsBuildRefusal map.now.tables) }
@@ -23,7 +23,7 @@ fn named_level(alloc: Global, map: &Map) -> Result<NamedLevel, BuildError>
     }
 }
 
-/// The levels of the maps, by number.
+// The levels of the maps, by number.
 fn levels_of(alloc: Global, maps: &Maps) -> Result<Vec<NamedLevel>, BuildError>
     ensures levels { IfOk result (λ v. AreLevelsOf (project_of maps.now).maps v.items) }
     ensures well_formed { OnOk result (WellFormedProject (project_of maps.now)) }

@@ -17,14 +17,14 @@ pub fn is_among(n: u16, count: usize) -> bool
     (n as usize) < count && n <= 32767
 }
 
-/// Whether the line's ends are in range.
+// Whether the line's ends are in range.
 fn has_vertices(level: &Level, line: &Line) -> bool
     ensures { result ≡ line_vertices (view level.now) line.now }
 {
     is_among(line.v1, level.vertices.len()) && is_among(line.v2, level.vertices.len())
 }
 
-/// Whether the line's left side is in range, or missing on a line that isn't two-sided.
+// Whether the line's left side is in range, or missing on a line that isn't two-sided.
 fn has_left(level: &Level, line: &Line) -> bool
     ensures { result ≡ left_side (view level.now) line.now }
 {
@@ -35,21 +35,21 @@ fn has_left(level: &Level, line: &Line) -> bool
     }
 }
 
-/// Whether the line's sides are in range.
+// Whether the line's sides are in range.
 fn has_sides(level: &Level, line: &Line) -> bool
     ensures { result ≡ line_sides (view level.now) line.now }
 {
     is_among(line.right, level.sides.len()) && has_left(level, line)
 }
 
-/// Whether the seg's ends are in range.
+// Whether the seg's ends are in range.
 fn has_ends(level: &Level, seg: &Seg) -> bool
     ensures { result ≡ seg_vertices (view level.now) seg.now }
 {
     is_among(seg.first, level.vertices.len()) && is_among(seg.second, level.vertices.len())
 }
 
-/// Whether the seg's line has a left side.
+// Whether the seg's line has a left side.
 fn line_has_left(level: &Level, seg: &Seg) -> bool
     ensures { result ≡ not ((line_of_seg (view level.now) seg.now).left == no_side) }
 {
@@ -59,14 +59,14 @@ fn line_has_left(level: &Level, seg: &Seg) -> bool
     }
 }
 
-/// Whether the seg's side is one of its line's.
+// Whether the seg's side is one of its line's.
 fn has_side(level: &Level, seg: &Seg) -> bool
     ensures { result ≡ seg_side (view level.now) seg.now }
 {
     seg.side == 0 || seg.side == 1 && line_has_left(level, seg)
 }
 
-/// Where the first fault of this kind stands.
+// Where the first fault of this kind stands.
 fn line_vertex_place(level: &Level) -> Option<usize>
     ensures { result ≡ first_wrong (line_vertices (view level.now)) level.now.lines.items }
 {
@@ -76,7 +76,7 @@ fn line_vertex_place(level: &Level) -> Option<usize>
         .position(|line| !has_vertices(level, line))
 }
 
-/// The first line with an end out of range.
+// The first line with an end out of range.
 fn line_vertex(level: &Level) -> Option<Fault>
     ensures { result
         ≡ option_map LineVertex (first_wrong
@@ -88,14 +88,14 @@ fn line_vertex(level: &Level) -> Option<Fault>
     }
 }
 
-/// Where the first fault of this kind stands.
+// Where the first fault of this kind stands.
 fn line_side_place(level: &Level) -> Option<usize>
     ensures { result ≡ first_wrong (line_sides (view level.now)) level.now.lines.items }
 {
     level.lines.iter().position(|line| !has_sides(level, line))
 }
 
-/// The first line with a side out of range.
+// The first line with a side out of range.
 fn line_side(level: &Level) -> Option<Fault>
     ensures { result
         ≡ option_map LineSide (first_wrong (line_sides (view level.now)) level.now.lines.items) }
@@ -106,7 +106,7 @@ fn line_side(level: &Level) -> Option<Fault>
     }
 }
 
-/// Where the first fault of this kind stands.
+// Where the first fault of this kind stands.
 fn side_sector_place(level: &Level) -> Option<usize>
     ensures { result
         ≡ first_wrong (λ s. is_in (view level.now).sectors s.sector) level.now.sides.items }
@@ -117,7 +117,7 @@ fn side_sector_place(level: &Level) -> Option<usize>
         .position(|side| !is_among(side.sector, level.sectors.len()))
 }
 
-/// The first side with its sector out of range.
+// The first side with its sector out of range.
 fn side_sector(level: &Level) -> Option<Fault>
     ensures { result
         ≡ option_map SideSector
@@ -129,14 +129,14 @@ fn side_sector(level: &Level) -> Option<Fault>
     }
 }
 
-/// Where the first fault of this kind stands.
+// Where the first fault of this kind stands.
 fn seg_vertex_place(level: &Level) -> Option<usize>
     ensures { result ≡ first_wrong (seg_vertices (view level.now)) level.now.segs.items }
 {
     level.segs.iter().position(|seg| !has_ends(level, seg))
 }
 
-/// The first seg with an end out of range.
+// The first seg with an end out of range.
 fn seg_vertex(level: &Level) -> Option<Fault>
     ensures { result
         ≡ option_map SegVertex (first_wrong (seg_vertices (view level.now)) level.now.segs.items) }
@@ -147,7 +147,7 @@ fn seg_vertex(level: &Level) -> Option<Fault>
     }
 }
 
-/// Where the first fault of this kind stands.
+// Where the first fault of this kind stands.
 fn seg_line_place(level: &Level) -> Option<usize>
     ensures { result ≡ first_wrong (λ s. is_in (view level.now).lines s.line) level.now.segs.items }
 {
@@ -157,7 +157,7 @@ fn seg_line_place(level: &Level) -> Option<usize>
         .position(|seg| !is_among(seg.line, level.lines.len()))
 }
 
-/// The first seg with its line out of range.
+// The first seg with its line out of range.
 fn seg_line(level: &Level) -> Option<Fault>
     ensures { result
         ≡ option_map SegLine
@@ -169,14 +169,14 @@ fn seg_line(level: &Level) -> Option<Fault>
     }
 }
 
-/// Where the first fault of this kind stands.
+// Where the first fault of this kind stands.
 fn seg_side_place(level: &Level) -> Option<usize>
     ensures { result ≡ first_wrong (seg_side (view level.now)) level.now.segs.items }
 {
     level.segs.iter().position(|seg| !has_side(level, seg))
 }
 
-/// The first seg on a side that its line lacks.
+// The first seg on a side that its line lacks.
 fn seg_side(level: &Level) -> Option<Fault>
     ensures { result
         ≡ option_map SegSide (first_wrong (seg_side (view level.now)) level.now.segs.items) }

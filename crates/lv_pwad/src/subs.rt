@@ -6,7 +6,7 @@ use crate::fault::Fault;
 use crate::level::Level;
 use lv_lumps::Sub;
 
-/// Whether the subsector has a seg, and its segs begin at this one.
+// Whether the subsector has a seg, and its segs begin at this one.
 fn begins_at(sub: Sub, at: usize) -> bool
     ensures { result ≡ sub_range (at, sub) }
 {

@@ -14,7 +14,7 @@ pub struct NamedLump {
     pub bytes: Vec<u8>,
 }
 
-/// Appends a number of 32 bits, the lower bytes first.
+// Appends a number of 32 bits, the lower bytes first.
 fn put_long(bytes: &mut Vec<u8>, n: u32) -> Result<(), BuildError>
     ensures ok { OnOk result (bytes.new.items ≡ bytes.old.items ++ long n) }
     ensures memory { IsOkUnless result BuildError.OutOfMemory }
@@ -23,7 +23,7 @@ fn put_long(bytes: &mut Vec<u8>, n: u32) -> Result<(), BuildError>
     Ok(())
 }
 
-/// Appends an entry of the directory: offset, size, name.
+// Appends an entry of the directory: offset, size, name.
 fn put_entry(bytes: &mut Vec<u8>, entry: Entry) -> Result<(), BuildError>
     ensures ok { OnOk result (bytes.new.items ≡ bytes.old.items ++ entry_bytes entry) }
     ensures memory { IsOkUnless result BuildError.OutOfMemory }
@@ -34,7 +34,7 @@ fn put_entry(bytes: &mut Vec<u8>, entry: Entry) -> Result<(), BuildError>
     Ok(())
 }
 
-/// Appends the lumps' bytes, and to the directory their entries.
+// Appends the lumps' bytes, and to the directory their entries.
 fn put_lumps(
     body: &mut Vec<u8>,
     directory: &mut Vec<u8>,

@@ -18,7 +18,7 @@ use crate::project::room::draw;
 use crate::project::split::cut;
 use lv_maptables::{Kind, MapError, Maps};
 
-/// Whether the new body would be longer than `cap`, where nothing else speaks against the command.
+// Whether the new body would be longer than `cap`, where nothing else speaks against the command.
 fn is_full(maps: &Maps, command: &ProjectCommand, cap: u32) -> bool
     ensures {
         let p = project_of maps.now in result ≡ nat_lt cap (body_len p + growth_of p command.now) }
@@ -57,7 +57,7 @@ pub fn ready(maps: &mut Maps, command: &ProjectCommand, cap: u32) -> Result<Read
     }
 }
 
-/// Takes an item out of the current map.
+// Takes an item out of the current map.
 fn drop_item(maps: &mut Maps, kind: Kind, n: u32) -> Result<(), MapError>
     ensures edit { EndsExactly result
         (unless (least (drop_faults maps.old.tables kind n)) (without maps.old.tables kind n) tt)
@@ -73,7 +73,7 @@ fn drop_item(maps: &mut Maps, kind: Kind, n: u32) -> Result<(), MapError>
     }
 }
 
-/// The number of the item of an edit that can't have been refused.
+// The number of the item of an edit that can't have been refused.
 fn edited(n: u16, edit: Result<(), MapError>) -> u32
     requires { IsOk edit }
     ensures { result ≡ n }
@@ -82,7 +82,7 @@ fn edited(n: u16, edit: Result<(), MapError>) -> u32
     u32::from(n)
 }
 
-/// Makes a change of the current map that nothing speaks against, and answers its number.
+// Makes a change of the current map that nothing speaks against, and answers its number.
 fn edit(maps: &mut Maps, command: Command) -> u32
     requires range { of_one.InRange command }
     requires accepted { least (faults maps.old.tables command) ≡ None }
@@ -113,7 +113,7 @@ fn edit(maps: &mut Maps, command: Command) -> u32
     }
 }
 
-/// Makes a change of the current map, as the project's step says.
+// Makes a change of the current map, as the project's step says.
 fn commit_edit(maps: &mut Maps, command: Command) -> u32
     requires { CanCommit maps.old (ProjectCommand.Edit command) }
     ensures project {

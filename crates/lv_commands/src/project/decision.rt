@@ -12,7 +12,7 @@ use crate::{decision, growth};
 use lv_lumps::Name8;
 use lv_maptables::{MapError, Maps, Need};
 
-/// Whether the current map can be named as the command asks.
+// Whether the current map can be named as the command asks.
 fn can_be_named(maps: &Maps, command: &Command) -> Result<(), MapError>
     ensures { Tells result (naming_faults (project_of maps.now) command.now) }
 {
@@ -22,14 +22,14 @@ fn can_be_named(maps: &Maps, command: &Command) -> Result<(), MapError>
     }
 }
 
-/// Whether nothing speaks against a change in the current map: else the least code that does.
+// Whether nothing speaks against a change in the current map: else the least code that does.
 fn can_change(maps: &Maps, command: &Command) -> Result<(), MapError>
     ensures { Tells result (faults (current_map (project_of maps.now)) command.now) }
 {
     decision::can_do(maps.current(), command)
 }
 
-/// Whether nothing speaks against a change of the current map: else the least code that does.
+// Whether nothing speaks against a change of the current map: else the least code that does.
 fn can_edit(maps: &Maps, command: &Command) -> Result<(), MapError>
     ensures { let p = project_of maps.now in
         Tells result (faults (current_map p) command.now ++ naming_faults p command.now) }
@@ -52,7 +52,7 @@ pub fn can_do(maps: &Maps, command: &ProjectCommand) -> Result<(), MapError>
     }
 }
 
-/// No item.
+// No item.
 fn no_need() -> Need
     ensures { result ≡ no_need }
 {
@@ -75,7 +75,7 @@ pub fn need_of(command: &ProjectCommand) -> Need
     }
 }
 
-/// Whether a map has the name.
+// Whether a map has the name.
 fn has_map(maps: &Maps, name: Name8) -> bool
     ensures { result ≡ has_map (project_of maps.now) name }
 {

@@ -14,7 +14,7 @@ use crate::places::Places;
 use crate::project::command::{MapHead, ProjectCommand};
 use crate::words::next_part;
 
-/// All first words behind which a map is named.
+// All first words behind which a map is named.
 const MAP_HEADS: [MapHead; 2] = [MapHead::Select, MapHead::Drop];
 
 /// The word that is written for such a first word.
@@ -27,14 +27,14 @@ pub fn map_text(head: MapHead) -> &'static str
     }
 }
 
-/// Whether the word is this first word.
+// Whether the word is this first word.
 fn is_map_head(word: &[u8], head: MapHead) -> bool
     ensures { result ≡ bytes_eq word.now (map_word head) }
 {
     word == map_text(head).as_bytes()
 }
 
-/// Which of these first words the word is.
+// Which of these first words the word is.
 fn map_head_in(word: &[u8]) -> Option<MapHead>
     ensures value { result ≡ map_head_of word.now }
     ensures text { IfSome result (λ h. map_word h ≡ word.now) }
@@ -45,7 +45,7 @@ fn map_head_in(word: &[u8]) -> Option<MapHead>
         .find(|head| is_map_head(word, *head))
 }
 
-/// The command whose words stand behind such a first word.
+// The command whose words stand behind such a first word.
 fn map_command(head: MapHead, places: Places) -> Result<ProjectCommand, CommandError>
     requires { (reading places).fault ≡ None }
     ensures ok {
@@ -62,7 +62,7 @@ fn map_command(head: MapHead, places: Places) -> Result<ProjectCommand, CommandE
     }
 }
 
-/// The command of the current map that a line is.
+// The command of the current map that a line is.
 fn edit(line: &[u8]) -> Result<ProjectCommand, CommandError>
     ensures ok { IfOk result (λ c. (line.now ≡ spelling c) × InRange c) }
     ensures fault { TellsFault result (of_one_map.fault_of line.now) }
@@ -73,7 +73,7 @@ fn edit(line: &[u8]) -> Result<ProjectCommand, CommandError>
     }
 }
 
-/// The command that a line is, or what is wrong with it.
+// The command that a line is, or what is wrong with it.
 fn read(line: &[u8]) -> Result<ProjectCommand, CommandError>
     ensures ok { IfOk result (λ c. (line.now ≡ spelling c) × InRange c) }
     ensures fault { TellsFault result (fault_of line.now) }

@@ -11,7 +11,7 @@ use crate::project::additions::{count, put_line, put_sector, put_side, put_verte
 use crate::room::{corners_of, sector_of, side_of, wall};
 use lv_maptables::{Kind, Maps};
 
-/// Adds the corners.
+// Adds the corners.
 fn put_corners(maps: &mut Maps, plan: &RoomPlan)
     requires range { IsRoom plan.now }
     requires free { list_any (is_taken maps.old.tables.vertices) (corners plan.now) ≡ false }
@@ -28,7 +28,7 @@ fn put_corners(maps: &mut Maps, plan: &RoomPlan)
     put_vertex(maps, south_east);
 }
 
-/// Adds the sides.
+// Adds the sides.
 fn put_sides(maps: &mut Maps, plan: &RoomPlan, sector: u16)
     requires range { IsRoom plan.now }
     requires sector { sector + 1 ≡ length maps.old.tables.sectors }
@@ -46,7 +46,7 @@ fn put_sides(maps: &mut Maps, plan: &RoomPlan, sector: u16)
     put_side(maps, side);
 }
 
-/// Adds the walls between four corners, each with a side.
+// Adds the walls between four corners, each with a side.
 fn put_walls(maps: &mut Maps, plan: &RoomPlan, corner: u16, side: u16)
     requires range { IsRoom plan.now }
     requires corners { drop corner maps.old.tables.vertices ≡ corners plan.now }

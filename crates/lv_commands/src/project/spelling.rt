@@ -12,7 +12,7 @@ use crate::text::Text;
 use lv_lumps::Name8;
 use std::alloc::{AllocError, Global};
 
-/// A first word and a map's name.
+// A first word and a map's name.
 #[tactic(auto, using(crate::proofs::Padding::marker_utf8))]
 fn named(alloc: Global, head: MapHead, name: &Name8) -> Result<Text, AllocError>
     requires { IsNamed is_marker name.now }
@@ -22,7 +22,7 @@ fn named(alloc: Global, head: MapHead, name: &Name8) -> Result<Text, AllocError>
     Text::new(alloc, map_text(head))?.name(name)
 }
 
-/// The line of a command that names a map.
+// The line of a command that names a map.
 fn line(alloc: Global, head: MapHead, name: &Name8) -> Result<Vec<u8>, CommandError>
     requires { IsNamed is_marker name.now }
     ensures spelling {
