@@ -1,6 +1,8 @@
 pub mod ListLemmas
 pub mod FaultLemmas
 pub mod FormLemmas
+pub mod KeyLemmas
+pub mod TableLemmas
 pub mod PlaceLemmas
 pub mod VertexLemmas
 pub mod SectorLemmas

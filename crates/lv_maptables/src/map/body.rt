@@ -38,11 +38,11 @@ impl Map {
         ensures memory { IsOkUnless result MapError.OutOfMemory }
     {
         let bytes = match kind {
-            Kind::Vertex => encode_vertices(alloc, self.vertices.as_slice()),
-            Kind::Sector => encode_sectors(alloc, &self.sectors),
+            Kind::Vertex => encode_vertices(alloc, &self.vertices.to_vec(alloc)?),
+            Kind::Sector => encode_sectors(alloc, &self.sectors.to_vec(alloc)?),
             Kind::Side => encode_sides(alloc, &self.sides),
             Kind::Line => encode_lines(alloc, &self.lines),
-            Kind::Thing => encode_things(alloc, &self.things),
+            Kind::Thing => encode_things(alloc, &self.things.to_vec(alloc)?),
         };
         bytes.map_err(|_| MapError::OutOfMemory)
     }

@@ -8,6 +8,7 @@ use crate::error::MapError;
 use crate::form::{are_apart, are_linked, have_sectors};
 use crate::map::Map;
 use crate::map::header::{count_at, name_at};
+use crate::map::table::Table;
 use crate::map::vertex_table::VertexTable;
 use crate::ranges::{are_areas, are_places, is_named_with};
 use lv_lumps::{
@@ -123,11 +124,11 @@ impl Draft {
         } = self;
         Ok(Map {
             name,
-            vertices: VertexTable::of(alloc, vertices)?,
-            sectors,
+            vertices: VertexTable::of(alloc, &vertices)?,
+            sectors: Table::of(alloc, &sectors)?,
             sides,
             lines,
-            things,
+            things: Table::of(alloc, &things)?,
         })
     }
 }

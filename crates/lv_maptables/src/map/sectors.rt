@@ -7,7 +7,6 @@ ghost use Rattle.lv_maptables.specs.Edits.{side_without_sector, added_sector, ch
 
 use crate::error::MapError;
 use crate::map::Map;
-use crate::map::growth::append;
 use crate::map::numbers::lowered;
 use lv_lumps::{SECTOR_LIMIT, Sector, Side};
 
@@ -72,7 +71,7 @@ impl Map {
     {
         self.can_add_sector()?;
         let number = self.sectors.len() as u32;
-        append(&mut self.sectors, sector)?;
+        self.sectors.push(sector)?;
         Ok(number)
     }
 
@@ -91,7 +90,7 @@ impl Map {
         ensures places { places self.new.tables self.new.spare ≡ places self.old.tables self.old.spare }
     {
         self.can_set_sector(n)?;
-        self.sectors[n as usize] = sector;
+        self.sectors.set(n as usize, sector);
         Ok(())
     }
 

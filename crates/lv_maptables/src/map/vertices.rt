@@ -7,20 +7,20 @@ ghost use Rattle.lv_maptables.specs.Faults.{lacks, is_taken, is_taken_beside, is
 ghost use Rattle.lv_maptables.specs.Edits.{line_without_vertex, added_vertex, changed_vertex, dropped_vertex};
 
 use crate::error::MapError;
-use crate::lengths::nth_vertex;
 use crate::map::Map;
 use crate::map::numbers::lowered;
+use crate::map::vertex_table::VertexTable;
 use lv_lumps::{ITEM_LIMIT, LONGEST_SQUARED, Line, Vertex, squared_distance};
 
 /// The vertex of the number once vertex `moved` stands at another place.
-fn vertex_after_move(vertices: &[Vertex], moved: u32, to: Vertex, n: u16) -> Vertex
-    requires { moved < length vertices.now }
-    ensures { result ≡ nth_vertex (slice_set vertices.now moved to) n }
+fn vertex_after_move(vertices: &VertexTable, moved: u32, to: Vertex, n: u16) -> Vertex
+    requires { moved < length vertices.now.items }
+    ensures { result ≡ nth_vertex (slice_set vertices.now.items moved to) n }
 {
     if u32::from(n) == moved {
         to
     } else {
-        nth_vertex(vertices, n)
+        vertices.nth(n)
     }
 }
 
@@ -32,9 +32,9 @@ fn uses_vertex(line: &Line, n: u32) -> bool
 }
 
 /// Whether the line has the vertex, and would be too long with it at another place.
-fn is_stretched(vertices: &[Vertex], moved: u32, to: Vertex, line: &Line) -> bool
-    requires { moved < length vertices.now }
-    ensures { result ≡ (uses_vertex moved line.now && is_too_long (slice_set vertices.now moved to) line.now) }
+fn is_stretched(vertices: &VertexTable, moved: u32, to: Vertex, line: &Line) -> bool
+    requires { moved < length vertices.now.items }
+    ensures { result ≡ (uses_vertex moved line.now && is_too_long (slice_set vertices.now.items moved to) line.now) }
 {
     let start = vertex_after_move(vertices, moved, to, line.v1);
     let end = vertex_after_move(vertices, moved, to, line.v2);
@@ -49,9 +49,9 @@ fn has_line_at(lines: &[Line], n: u32) -> bool
 }
 
 /// Whether a line would be too long with the vertex at another place.
-fn has_line_stretched(lines: &[Line], vertices: &[Vertex], moved: u32, to: Vertex) -> bool
-    requires { moved < length vertices.now }
-    ensures { result ≡ list_any (λ l. uses_vertex moved l && is_too_long (slice_set vertices.now moved to) l) lines.now }
+fn has_line_stretched(lines: &[Line], vertices: &VertexTable, moved: u32, to: Vertex) -> bool
+    requires { moved < length vertices.now.items }
+    ensures { result ≡ list_any (λ l. uses_vertex moved l && is_too_long (slice_set vertices.now.items moved to) l) lines.now }
 {
     lines
         .iter()
@@ -135,7 +135,7 @@ impl Map {
         if self.vertices.has_beside(n as usize, vertex) {
             return Err(MapError::PlaceTaken);
         }
-        if has_line_stretched(&self.lines, self.vertices.as_slice(), n, vertex) {
+        if has_line_stretched(&self.lines, &self.vertices, n, vertex) {
             return Err(MapError::LineTooLong);
         }
         Ok(())
