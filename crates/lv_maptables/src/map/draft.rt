@@ -8,6 +8,7 @@ use crate::error::MapError;
 use crate::form::{are_apart, are_linked, have_sectors};
 use crate::map::Map;
 use crate::map::header::{count_at, name_at};
+use crate::map::keyed_side::keyed_sides;
 use crate::map::table::Table;
 use crate::map::vertex_table::VertexTable;
 use crate::ranges::{are_areas, are_places, is_named_with};
@@ -122,10 +123,12 @@ impl Draft {
             lines,
             things,
         } = self;
+        let sectors = Table::of(alloc, &sectors)?;
+        let sides = keyed_sides(alloc, &sectors, &sides)?;
         Ok(Map {
             name,
             vertices: VertexTable::of(alloc, &vertices)?,
-            sectors: Table::of(alloc, &sectors)?,
+            sectors,
             sides,
             lines,
             things: Table::of(alloc, &things)?,

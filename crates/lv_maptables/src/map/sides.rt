@@ -7,7 +7,7 @@ ghost use Rattle.lv_maptables.specs.Edits.{lowered_left, line_without_side, adde
 
 use crate::error::MapError;
 use crate::map::Map;
-use crate::map::growth::append;
+use crate::map::keyed_side::keyed_side;
 use crate::map::numbers::lowered;
 use lv_lumps::{ITEM_LIMIT, Line, NO_SIDE, Side};
 
@@ -92,7 +92,8 @@ impl Map {
     {
         self.can_add_side(side)?;
         let number = self.sides.len() as u32;
-        append(&mut self.sides, side)?;
+        let keyed = keyed_side(&self.sectors, &side);
+        self.sides.push(keyed)?;
         Ok(number)
     }
 
@@ -112,7 +113,8 @@ impl Map {
         ensures places { places self.new.tables self.new.spare ≡ places self.old.tables self.old.spare }
     {
         self.can_set_side(n, side)?;
-        self.sides[n as usize] = side;
+        let keyed = keyed_side(&self.sectors, &side);
+        self.sides.set(n as usize, keyed);
         Ok(())
     }
 
