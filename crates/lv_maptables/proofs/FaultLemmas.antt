@@ -1,7 +1,7 @@
 -- What follows where nothing speaks against an edit.
 use Rattle.std.proofs.Common.{◌≡◌, ℕ, ◌<◌, ◌≤◌, ◌+◌, Bool, true, false, List, [], ◌∷◌, length, None, refl, sym, ltb, get_or}
 use Rattle.std.specs.List.{list_any, All}
-use Rattle.std.specs.Prelude.{Option, Some, Result, Ok}
+use Rattle.std.specs.Prelude.{Option, Some, Ok}
 use Rattle.std.proofs.lemmas.Bool.{ltb-false, not-false, ltb-true, both_ways, false_from_ne_true}
 use Rattle.std.proofs.lemmas.List.Folds.{list_any_at}
 use Rattle.lv_maptables.specs.Outcomes.{least, unless}

@@ -1,12 +1,10 @@
 -- Lists of keys that differ, and the values that a function gives for each.
-use Rattle.std.proofs.Common.{◌≡◌, ◌≢◌, ◌∙◌, refl, sym, ap, ℕ, zero, suc, ltb, ◌-◌, ◌+◌, ◌<◌, ◌≤◌, ◌⊎◌, inl, inr, List, [], ◌∷◌, length, get_or, arith}
+use Rattle.std.proofs.Common.{◌≡◌, ◌≢◌, ◌∙◌, refl, sym, ap, ℕ, zero, suc, ◌+◌, ◌<◌, ◌≤◌, ◌⊎◌, inl, inr, List, [], ◌∷◌, length, get_or, arith}
 use Rattle.std.specs.Prelude.{Option, Some, None, IsSome, All, AllPairs, remove, slice_get, filter_map}
 use Rattle.std.specs.List.{cons_option}
-use Rattle.std.proofs.Math.ListN.{set, take, drop}
-use Rattle.std.proofs.lemmas.Bool.{cases_lt, cond-true, cond-false, lt-ltb, le-ltb}
-use Rattle.std.proofs.lemmas.Bool.Decides.{nat_tests}
-use Rattle.lv_maptables.specs.Edits.{lowered}
-use Rattle.std.proofs.lemmas.List.Elements.{All-from_get_or, All-append, All-take, All-drop, All-head, All-tail}
+use Rattle.std.proofs.Math.ListN.{set}
+use Rattle.std.proofs.lemmas.Bool.{cases_lt}
+use Rattle.std.proofs.lemmas.List.Elements.{All-from_get_or, All-head, All-tail}
 use Rattle.std.proofs.lemmas.List.Edits.{get_or-remove_below, get_or-remove_above, length-remove}
 
 -- ---- Values of keys

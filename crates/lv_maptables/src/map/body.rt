@@ -5,6 +5,7 @@ ghost use Rattle.lv_maptables.specs.Body.{lump_of, IsMapOf, RefusesBody};
 use crate::error::MapError;
 use crate::kind::Kind;
 use crate::map::Map;
+use crate::map::keyed_line::numbered_lines;
 use crate::map::keyed_side::numbered_sides;
 use crate::map::part::first_map;
 use lv_lumps::{encode_lines, encode_sectors, encode_sides, encode_things, encode_vertices};
@@ -42,7 +43,10 @@ impl Map {
             Kind::Vertex => encode_vertices(alloc, &self.vertices.to_vec(alloc)?),
             Kind::Sector => encode_sectors(alloc, &self.sectors.to_vec(alloc)?),
             Kind::Side => encode_sides(alloc, &numbered_sides(alloc, &self.sectors, &self.sides)?),
-            Kind::Line => encode_lines(alloc, &self.lines),
+            Kind::Line => encode_lines(
+                alloc,
+                &numbered_lines(alloc, &self.vertices, &self.sides, &self.lines)?,
+            ),
             Kind::Thing => encode_things(alloc, &self.things.to_vec(alloc)?),
         };
         bytes.map_err(|_| MapError::OutOfMemory)

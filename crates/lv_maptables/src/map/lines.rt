@@ -8,7 +8,7 @@ use crate::error::MapError;
 use crate::form::{has_same_ends, lacks_left, lacks_side, lacks_vertex};
 use crate::lengths::is_too_far;
 use crate::map::Map;
-use crate::map::growth::append;
+use crate::map::keyed_line::keyed_line;
 use lv_lumps::{ITEM_LIMIT, Line};
 
 /// Whether the line's own fields go together: `SameEnds`, `TwoSidedWithoutLeft`.
@@ -81,7 +81,8 @@ impl Map {
     {
         self.can_add_line(line)?;
         let number = self.lines.len() as u32;
-        append(&mut self.lines, line)?;
+        let keyed = keyed_line(&self.vertices, &self.sides, &line);
+        self.lines.push(keyed)?;
         Ok(number)
     }
 
@@ -107,7 +108,8 @@ impl Map {
         ensures places { places self.new.tables self.new.spare ≡ places self.old.tables self.old.spare }
     {
         self.can_set_line(n, line)?;
-        self.lines[n as usize] = line;
+        let keyed = keyed_line(&self.vertices, &self.sides, &line);
+        self.lines.set(n as usize, keyed);
         Ok(())
     }
 

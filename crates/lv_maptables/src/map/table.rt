@@ -127,7 +127,8 @@ impl<T: Copy> Table<T> {
 
     /// How many more items take no memory.
     fn spare(&self) -> usize
-        ensures { result ≡ self.now.spare }
+        ensures value { result ≡ self.now.spare }
+        ensures count { length self.now.keys ≡ length self.now.items }
     {
         let places = self.items.capacity() - self.items.len();
         places.min(self.order.capacity() - self.order.len())
@@ -141,6 +142,7 @@ impl<T: Copy> Table<T> {
         ensures ok { OnOk result (more ≤ self.new.spare) }
         ensures promised { more ≤ self.old.spare → IsOk result }
         ensures stays { more ≤ self.old.spare → self.new.spare ≡ self.old.spare }
+        ensures count { length self.old.keys ≡ length self.old.items }
         ensures memory { IsOkUnless result MapError.OutOfMemory }
     {
         if more <= self.spare() {
@@ -160,6 +162,7 @@ impl<T: Copy> Table<T> {
         requires few { length self.old.items ≤ 32767 }
         ensures items { self.new.items ≡ (if is_ok result then self.old.items ++ item ∷ [] else self.old.items) }
         ensures ranks { KeepRanks self.old self.new }
+        ensures count { length self.old.keys ≡ length self.old.items }
         ensures spare { self.old.spare ≤ self.new.spare + (if is_ok result then 1 else 0) }
         ensures succeeds { 0 < self.old.spare → IsOk result }
         ensures stays { 0 < self.old.spare → self.new.spare + 1 ≡ self.old.spare }
@@ -179,6 +182,7 @@ impl<T: Copy> Table<T> {
         requires few { length self.old.items ≤ 32767 }
         ensures items { self.new.items ≡ remove self.old.items n }
         ensures ranks { LowerRanks n self.old self.new }
+        ensures count { length self.old.keys ≡ length self.old.items }
         ensures spare { self.new.spare ≡ self.old.spare + 1 }
     {
         let key = self.order.remove(n);

@@ -1,7 +1,7 @@
-ghost use Rattle.std.specs.Prelude.{◌≡◌, ◌≢◌, ◌+◌, ◌<◌, ◌≤◌, ◌^◌, ◌++◌, ◌∷◌, [], false, length, is_ok, if◌then◌else◌, slice_get, slice_set, remove, AllPairs, IfOk, IsOk, IsOkUnless, OnOk};
+ghost use Rattle.std.specs.Prelude.{◌≡◌, ◌≢◌, ◌+◌, ◌<◌, ◌≤◌, ◌^◌, ◌++◌, ◌∷◌, ◌==◌, [], ℕ, false, length, is_ok, if◌then◌else◌, slice_get, slice_set, remove, AllPairs, IfOk, IsOk, IsOkUnless, MatchOption, OnOk};
 ghost use Rattle.lv_maptables.specs.Faults.{is_taken, is_taken_beside};
 ghost use Rattle.lv_maptables.specs.WellFormed.{nth_vertex};
-ghost use Rattle.lv_maptables.specs.Keys.{KeepRanks, LowerRanks};
+ghost use Rattle.lv_maptables.specs.Keys.{rank_of, KeepRanks, LowerRanks};
 
 use crate::error::MapError;
 use crate::map::places::Places;
@@ -83,6 +83,30 @@ impl VertexTable {
         ensures { result ≡ length self.now.items }
     {
         self.items.len()
+    }
+
+    /// The key of the vertex.
+    pub(super) fn key(&self, n: usize) -> Option<usize>
+        ensures { MatchOption result (length self.now.items ≤ n) (λ _. n < length self.now.items) }
+    {
+        self.items.key(n)
+    }
+
+    /// The key of a vertex that is there.
+    pub(super) fn key_at(&self, n: usize) -> usize
+        requires { n < length self.now.items }
+        ensures rank { rank_of self.now.keys result ≡ n }
+        ensures only { (key : ℕ) → (rank_of self.now.keys key == n) ≡ (key == result) }
+    {
+        self.items.key_at(n)
+    }
+
+    /// The number of the vertex of a key, and how many vertices there are where none has it.
+    pub(super) fn rank(&self, key: usize) -> usize
+        ensures value { result ≡ rank_of self.now.keys key }
+        ensures bound { result ≤ length self.now.items }
+    {
+        self.items.rank(key)
     }
 
     /// Whether a vertex has the place.

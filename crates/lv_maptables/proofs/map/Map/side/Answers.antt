@@ -1,5 +1,5 @@
 -- What holds of each side of the map holds of this one.
-use Rattle.std.proofs.Common.{◌≡◌, ◌∙◌, ◌<◌, sym, ap, length, arith, rules}
+use Rattle.std.proofs.Common.{◌≡◌, ap, length, arith, rules}
 use Rattle.std.specs.Prelude.{Some, slice_get}
 use Rattle.lv_maptables.specs.Ranges.{IsSide}
 use Rattle.lv_maptables.specs.WellFormed.{HasSector}

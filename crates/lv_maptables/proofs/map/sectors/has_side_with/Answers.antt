@@ -1,6 +1,6 @@
 -- The search ends at the first side with the key.
-use Rattle.std.proofs.Common.{◌≡◌, ◌<◌, ◌==◌, true, false, sym, length, arith, rules}
-use Rattle.lv_maptables.proofs.ListLemmas.{none_yet, one_here, none_ever}
+use Rattle.std.proofs.Common.{◌≡◌, ◌==◌, true, false, sym, arith, rules}
+use Rattle.lv_maptables.proofs.ListLemmas.{none_yet, one_here}
 use Rattle.lv_maptables.proofs.map.sectors.has_side_with.Goals as goal
 
 pub returns-then-at-key : goal.returns-then-at-key

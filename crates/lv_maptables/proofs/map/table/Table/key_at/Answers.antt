@@ -1,5 +1,5 @@
 -- The keys differ, so the n-th has the rank n, and no other.
-use Rattle.std.proofs.Common.{◌≡◌, ◌∙◌, ◌<◌, ◌==◌, sym, ap, length, get_or, arith}
+use Rattle.std.proofs.Common.{◌∙◌, ◌<◌, ◌==◌, sym, ap, length, arith}
 use Rattle.std.proofs.lemmas.List.{get_or_default}
 use Rattle.lv_maptables.specs.Keys.{rank_of}
 use Rattle.lv_maptables.proofs.TableLemmas.{count_of_items, rank_at, same_rank}

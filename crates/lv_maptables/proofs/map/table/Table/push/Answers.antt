@@ -30,3 +30,10 @@ returns-clause-ranks g c = λ key held.
     let many = ap (λ v. length v.items) c.self.view_is ∙ ap length c.in_ok-reserve.ensures.items in
     let within : rank_of c.self.inside.order.items key < length c.self.inside.order.items = omega (arith, count, many, seen, held) in
     rw c.push_reserved.ensures.items (rank_push c.self.inside.order.items c.insert_reserved-key.result key within ∙ seen)
+
+pub returns-clause-count : goal.returns-clause-count
+returns-clause-count g c =
+    let count = count_of_items c.self.inside.items c.self.inside.order.items c.self.invariant in
+    let many = ap (λ v. length v.items) c.self.view_is ∙ ap length c.in_ok-reserve.ensures.items in
+    let keys = ap (λ v. length v.keys) c.self.view_is ∙ ap length c.in_ok-reserve.ensures.keys in
+    omega (arith, count, many, keys)

@@ -3,7 +3,7 @@ use Rattle.std.specs.Prelude.{position, Some}
 use Rattle.std.proofs.lemmas.List.Quantifiers.{position-Some}
 use Rattle.std.proofs.lemmas.List.{get_or_default}
 use Rattle.lv_maptables.specs.Keys.{rank_of}
-use Rattle.lv_maptables.proofs.TableLemmas.{count_of_items, rank_at, rank_found, rank_missing}
+use Rattle.lv_maptables.proofs.TableLemmas.{count_of_items, rank_at, rank_missing}
 use Rattle.lv_maptables.proofs.map.table.Table.rank.Goals as goal
 
 pub returns-then-index-key-clause-value : goal.returns-then-index-key-clause-value

@@ -41,3 +41,10 @@ returns-clause-ranks g c = λ key held other.
     let within : rank_of c.self.inside.order.items key < length c.self.inside.order.items = omega (arith, count, many, seen, held) in
     let apart : rank_of c.self.inside.order.items key ≢ c.args.n = λ e. other (omega (arith, seen, e)) in
     rw c.remove-key.ensures.items (rank_remove c.self.inside.order.items c.args.n key n c.self.invariant.differ within apart ∙ ap (lowered c.args.n) seen)
+
+pub returns-clause-count : goal.returns-clause-count
+returns-clause-count g c =
+    let count = count_of_items c.self.inside.items c.self.inside.order.items c.self.invariant in
+    let many = ap (λ v. length v.items) c.self.view_is in
+    let keys = ap (λ v. length v.keys) c.self.view_is in
+    omega (arith, count, many, keys)

@@ -1,5 +1,5 @@
 -- The place of the vertex that is gone is free, and no other.
-use Rattle.std.proofs.Common.{◌≡◌, ◌≢◌, ◌∙◌, ◌<◌, sym, ap, length, get_or, arith}
+use Rattle.std.proofs.Common.{◌≢◌, ◌∙◌, ◌<◌, sym, ap, length, arith}
 use Rattle.std.proofs.lemmas.List.Edits.{length-remove}
 use Rattle.std.proofs.lemmas.List.Quantifiers.{all_pairs_remove}
 use Rattle.std.proofs.lemmas.Option.{get_or_from_slice_get}
