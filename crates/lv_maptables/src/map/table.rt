@@ -12,7 +12,7 @@ pub(super) struct Table<T: Copy> {
     items: Slab<T>,
     order: Vec<usize>,
     // where to look for a key in the order: its rank, unless want of memory kept the list short
-    ranks: Vec<u32>,
+    ranks: Vec<u16>,
 }
 
 impl<T: Copy> Model for Table<T> {
@@ -28,7 +28,7 @@ impl<T: Copy> Model for Table<T> {
 }
 
 // Lowers the ranks behind one that is gone.
-fn lower_ranks(ranks: &mut [u32], gone: u32) {
+fn lower_ranks(ranks: &mut [u16], gone: u16) {
     for rank in ranks.iter_mut() {
         if gone < *rank {
             *rank -= 1;
@@ -37,7 +37,7 @@ fn lower_ranks(ranks: &mut [u32], gone: u32) {
 }
 
 // Notes the rank of a key, where the list is long enough.
-fn note_rank(ranks: &mut [u32], key: usize, rank: u32) {
+fn note_rank(ranks: &mut [u16], key: usize, rank: u16) {
     if key < ranks.len() {
         ranks[key] = rank;
     }
@@ -172,7 +172,7 @@ impl<T: Copy> Table<T> {
         let rank = self.order.len();
         let key = self.items.insert_reserved(item);
         self.order.push_reserved(key);
-        note_rank(&mut self.ranks, key, rank as u32);
+        note_rank(&mut self.ranks, key, rank as u16);
         Ok(())
     }
 
@@ -187,7 +187,7 @@ impl<T: Copy> Table<T> {
     {
         let key = self.order.remove(n);
         self.items.remove(key);
-        lower_ranks(&mut self.ranks, n as u32);
+        lower_ranks(&mut self.ranks, n as u16);
     }
 
     /// Puts an item in place of the n-th, under its key.
