@@ -8,6 +8,9 @@ use crate::error::MapError;
 use crate::form::{are_apart, are_linked, have_sectors};
 use crate::map::Map;
 use crate::map::header::{count_at, name_at};
+use crate::map::keyed_line::keyed_lines;
+use crate::map::keyed_side::keyed_sides;
+use crate::map::table::Table;
 use crate::map::vertex_table::VertexTable;
 use crate::ranges::{are_areas, are_places, is_named_with};
 use lv_lumps::{
@@ -121,13 +124,17 @@ impl Draft {
             lines,
             things,
         } = self;
+        let vertices = VertexTable::of(alloc, &vertices)?;
+        let sectors = Table::of(alloc, &sectors)?;
+        let sides = keyed_sides(alloc, &sectors, &sides)?;
+        let lines = keyed_lines(alloc, &vertices, &sides, &lines)?;
         Ok(Map {
             name,
-            vertices: VertexTable::of(alloc, vertices)?,
+            vertices,
             sectors,
             sides,
             lines,
-            things,
+            things: Table::of(alloc, &things)?,
         })
     }
 }

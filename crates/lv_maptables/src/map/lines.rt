@@ -1,14 +1,14 @@
 ghost use Rattle.std.specs.Prelude.{◌≡◌, [], ◌∷◌, ◌<◌, IsErrOf};
 ghost use Rattle.lv_maptables.specs.Ranges.{IsLine};
 ghost use Rattle.lv_maptables.specs.Outcomes.{EndsEdit, EndsExactly, Tells, Spends, places, one_line, nothing};
-ghost use Rattle.lv_maptables.specs.Faults.{lacks, reference_faults, shape_faults, line_faults, set_line_faults, drop_line_faults};
+ghost use Rattle.lv_maptables.specs.Faults.{is_too_long, lacks, reference_faults, shape_faults, line_faults, set_line_faults, drop_line_faults};
 ghost use Rattle.lv_maptables.specs.Edits.{added_line, changed_line, dropped_line};
 
 use crate::error::MapError;
 use crate::form::{has_same_ends, lacks_left, lacks_side, lacks_vertex};
-use crate::lengths::is_too_long;
+use crate::lengths::is_too_far;
 use crate::map::Map;
-use crate::map::growth::append;
+use crate::map::keyed_line::keyed_line;
 use lv_lumps::{ITEM_LIMIT, Line};
 
 /// Whether the line's own fields go together: `SameEnds`, `TwoSidedWithoutLeft`.
@@ -39,13 +39,20 @@ impl Map {
     fn check_references(&self, line: &Line) -> Result<(), MapError>
         ensures { Tells result (reference_faults self.now.tables line.now) }
     {
-        if lacks_vertex(self.vertices.as_slice(), line) {
+        if lacks_vertex(self.vertices.len(), line) {
             return Err(MapError::NoVertex);
         }
-        if lacks_side(&self.sides, line) {
+        if lacks_side(self.sides.len(), line) {
             return Err(MapError::NoSide);
         }
         Ok(())
+    }
+
+    /// Whether the line's ends are further apart than lines may be long.
+    fn is_too_long(&self, line: &Line) -> bool
+        ensures { result ≡ is_too_long self.now.tables.vertices line.now }
+    {
+        is_too_far(self.vertices.nth(line.v1), self.vertices.nth(line.v2))
     }
 
     /// Whether a line can be added, memory aside: `NoVertex`, `NoSide`, `SameEnds`,
@@ -58,7 +65,7 @@ impl Map {
         if self.lines.len() >= ITEM_LIMIT {
             return Err(MapError::TableFull);
         }
-        if is_too_long(self.vertices.as_slice(), &line) {
+        if self.is_too_long(&line) {
             return Err(MapError::LineTooLong);
         }
         Ok(())
@@ -74,7 +81,8 @@ impl Map {
     {
         self.can_add_line(line)?;
         let number = self.lines.len() as u32;
-        append(&mut self.lines, line)?;
+        let keyed = keyed_line(&self.vertices, &self.sides, &line);
+        self.lines.push(keyed)?;
         Ok(number)
     }
 
@@ -86,7 +94,7 @@ impl Map {
         self.check_references(&line)?;
         self.check_has_line(n)?;
         check_shape(&line)?;
-        if is_too_long(self.vertices.as_slice(), &line) {
+        if self.is_too_long(&line) {
             return Err(MapError::LineTooLong);
         }
         Ok(())
@@ -100,7 +108,8 @@ impl Map {
         ensures places { places self.new.tables self.new.spare ≡ places self.old.tables self.old.spare }
     {
         self.can_set_line(n, line)?;
-        self.lines[n as usize] = line;
+        let keyed = keyed_line(&self.vertices, &self.sides, &line);
+        self.lines.set(n as usize, keyed);
         Ok(())
     }
 

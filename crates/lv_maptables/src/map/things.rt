@@ -6,7 +6,6 @@ ghost use Rattle.lv_maptables.specs.Edits.{added_thing, changed_thing, dropped_t
 
 use crate::error::MapError;
 use crate::map::Map;
-use crate::map::growth::append;
 use lv_lumps::{ITEM_LIMIT, Thing};
 
 impl Map {
@@ -40,7 +39,7 @@ impl Map {
     {
         self.can_add_thing()?;
         let number = self.things.len() as u32;
-        append(&mut self.things, thing)?;
+        self.things.push(thing)?;
         Ok(number)
     }
 
@@ -59,7 +58,7 @@ impl Map {
         ensures places { places self.new.tables self.new.spare ≡ places self.old.tables self.old.spare }
     {
         self.can_set_thing(n)?;
-        self.things[n as usize] = thing;
+        self.things.set(n as usize, thing);
         Ok(())
     }
 
