@@ -11,7 +11,7 @@ use crate::map::part::first_map;
 use lv_lumps::{encode_lines, encode_sectors, encode_sides, encode_things, encode_vertices};
 use std::alloc::Global;
 
-/// Whether the bytes begin with version 1.
+// Whether the bytes begin with version 1.
 fn has_version_1(bytes: &[u8]) -> bool
     ensures { IsTrue result ↔ (bytes.now ≡ unsigned 1 ++ drop 2 bytes.now) }
 {

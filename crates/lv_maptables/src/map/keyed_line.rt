@@ -21,7 +21,7 @@ pub(super) struct KeyedLine {
     pub left: Option<usize>,
 }
 
-/// The key of a line's left side, which may be missing.
+// The key of a line's left side, which may be missing.
 fn left_key(sides: &Table<KeyedSide>, left: u16) -> Option<usize>
     requires { left ≢ no_side → left < length sides.now.items }
     ensures { left_of sides.now.keys result ≡ left }
@@ -32,7 +32,7 @@ fn left_key(sides: &Table<KeyedSide>, left: u16) -> Option<usize>
     Some(sides.key_at(usize::from(left)))
 }
 
-/// The number of a line's left side, which may be missing.
+// The number of a line's left side, which may be missing.
 fn left_number(sides: &Table<KeyedSide>, left: Option<usize>) -> u16
     requires { length sides.now.items ≤ 32767 }
     ensures { result ≡ left_of sides.now.keys left }
@@ -89,7 +89,9 @@ pub(super) fn keyed_lines(
 ) -> Result<Table<KeyedLine>, MapError>
     requires few { length lines.now ≤ 32767 }
     requires found { All (IsFound (length vertices.now.items) (length sides.now.items)) lines.now }
-    ensures lines { IfOk result (λ table. map (line_of vertices.now.keys sides.now.keys) table.items ≡ lines.now) }
+    ensures lines {
+        IfOk result (λ table. map (line_of vertices.now.keys sides.now.keys) table.items
+            ≡ lines.now) }
     ensures memory { IsOkUnless result MapError.OutOfMemory }
 {
     let mut table = Table::new(alloc);
@@ -109,7 +111,9 @@ pub(super) fn numbered_lines(
 ) -> Result<Vec<Line>, MapError>
     requires vertices { length vertices.now.items ≤ 32767 }
     requires sides { length sides.now.items ≤ 32767 }
-    ensures lines { IfOk result (λ list. list.items ≡ map (line_of vertices.now.keys sides.now.keys) lines.now.items) }
+    ensures lines {
+        IfOk result (λ list. list.items
+            ≡ map (line_of vertices.now.keys sides.now.keys) lines.now.items) }
     ensures memory { IsOkUnless result MapError.OutOfMemory }
 {
     let mut list = Vec::new(alloc);

@@ -11,7 +11,7 @@ use crate::map::Map;
 use crate::map::keyed_line::keyed_line;
 use lv_lumps::{ITEM_LIMIT, Line};
 
-/// Whether the line's own fields go together: `SameEnds`, `TwoSidedWithoutLeft`.
+// Whether the line's own fields go together: `SameEnds`, `TwoSidedWithoutLeft`.
 fn check_shape(line: &Line) -> Result<(), MapError>
     ensures { Tells result (shape_faults line.now) }
 {
@@ -25,7 +25,7 @@ fn check_shape(line: &Line) -> Result<(), MapError>
 }
 
 impl Map {
-    /// Whether the map has the line: `NoLine`.
+    // Whether the map has the line: `NoLine`.
     fn check_has_line(&self, n: u32) -> Result<(), MapError>
         ensures { Tells result ((6, lacks self.now.tables.lines n) ∷ []) }
     {
@@ -35,7 +35,7 @@ impl Map {
         Ok(())
     }
 
-    /// Whether the map has what the line names: `NoVertex`, `NoSide`.
+    // Whether the map has what the line names: `NoVertex`, `NoSide`.
     fn check_references(&self, line: &Line) -> Result<(), MapError>
         ensures { Tells result (reference_faults self.now.tables line.now) }
     {
@@ -48,7 +48,7 @@ impl Map {
         Ok(())
     }
 
-    /// Whether the line's ends are further apart than lines may be long.
+    // Whether the line's ends are further apart than lines may be long.
     fn is_too_long(&self, line: &Line) -> bool
         ensures { result ≡ is_too_long self.now.tables.vertices line.now }
     {
@@ -74,10 +74,13 @@ impl Map {
     /// Adds a line, and answers its number.
     pub fn add_line(&mut self, line: Line) -> Result<u32, MapError>
         requires { IsLine line }
-        ensures edit { EndsEdit result (added_line self.old.tables line) self.old.tables self.new.tables }
+        ensures edit {
+            EndsEdit result (added_line self.old.tables line) self.old.tables self.new.tables }
         ensures promised { 0 < self.old.spare.lines → IsErrOf result MapError.OutOfMemory → ⊥ }
         ensures spare { Spends one_line self.old.spare self.new.spare }
-        ensures places { 0 < self.old.spare.lines → places self.new.tables self.new.spare ≡ places self.old.tables self.old.spare }
+        ensures places {
+            0 < self.old.spare.lines
+                → places self.new.tables self.new.spare ≡ places self.old.tables self.old.spare }
     {
         self.can_add_line(line)?;
         let number = self.lines.len() as u32;
@@ -103,9 +106,12 @@ impl Map {
     /// Puts a line in place of that of its number.
     pub fn set_line(&mut self, n: u32, line: Line) -> Result<(), MapError>
         requires { IsLine line }
-        ensures edit { EndsExactly result (changed_line self.old.tables n line) self.old.tables self.new.tables }
+        ensures edit {
+            EndsExactly result (changed_line self.old.tables n line)
+                self.old.tables self.new.tables }
         ensures spare { Spends nothing self.old.spare self.new.spare }
-        ensures places { places self.new.tables self.new.spare ≡ places self.old.tables self.old.spare }
+        ensures places {
+            places self.new.tables self.new.spare ≡ places self.old.tables self.old.spare }
     {
         self.can_set_line(n, line)?;
         let keyed = keyed_line(&self.vertices, &self.sides, &line);
@@ -122,9 +128,11 @@ impl Map {
 
     /// Takes a line out, and lowers each greater number by one.
     pub fn drop_line(&mut self, n: u32) -> Result<(), MapError>
-        ensures edit { EndsExactly result (dropped_line self.old.tables n) self.old.tables self.new.tables }
+        ensures edit {
+            EndsExactly result (dropped_line self.old.tables n) self.old.tables self.new.tables }
         ensures spare { Spends nothing self.old.spare self.new.spare }
-        ensures places { places self.new.tables self.new.spare ≡ places self.old.tables self.old.spare }
+        ensures places {
+            places self.new.tables self.new.spare ≡ places self.old.tables self.old.spare }
     {
         self.can_drop_line(n)?;
         self.lines.remove(n as usize);

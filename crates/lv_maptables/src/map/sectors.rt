@@ -11,7 +11,7 @@ use crate::map::keyed_side::KeyedSide;
 use crate::map::table::Table;
 use lv_lumps::{SECTOR_LIMIT, Sector};
 
-/// Whether a side has the key for its sector.
+// Whether a side has the key for its sector.
 fn has_side_with(sides: &Table<KeyedSide>, key: usize) -> bool
     ensures { result ≡ list_any (λ s. s.sector == key) sides.now.items }
 {
@@ -47,10 +47,13 @@ impl Map {
     /// Adds a sector, and answers its number.
     pub fn add_sector(&mut self, sector: Sector) -> Result<u32, MapError>
         requires { IsSector sector }
-        ensures edit { EndsEdit result (added_sector self.old.tables sector) self.old.tables self.new.tables }
+        ensures edit {
+            EndsEdit result (added_sector self.old.tables sector) self.old.tables self.new.tables }
         ensures promised { 0 < self.old.spare.sectors → IsErrOf result MapError.OutOfMemory → ⊥ }
         ensures spare { Spends one_sector self.old.spare self.new.spare }
-        ensures places { 0 < self.old.spare.sectors → places self.new.tables self.new.spare ≡ places self.old.tables self.old.spare }
+        ensures places {
+            0 < self.old.spare.sectors
+                → places self.new.tables self.new.spare ≡ places self.old.tables self.old.spare }
     {
         self.can_add_sector()?;
         let number = self.sectors.len() as u32;
@@ -68,16 +71,19 @@ impl Map {
     /// Puts a sector in place of that of its number.
     pub fn set_sector(&mut self, n: u32, sector: Sector) -> Result<(), MapError>
         requires { IsSector sector }
-        ensures edit { EndsExactly result (changed_sector self.old.tables n sector) self.old.tables self.new.tables }
+        ensures edit {
+            EndsExactly result (changed_sector self.old.tables n sector)
+                self.old.tables self.new.tables }
         ensures spare { Spends nothing self.old.spare self.new.spare }
-        ensures places { places self.new.tables self.new.spare ≡ places self.old.tables self.old.spare }
+        ensures places {
+            places self.new.tables self.new.spare ≡ places self.old.tables self.old.spare }
     {
         self.can_set_sector(n)?;
         self.sectors.set(n as usize, sector);
         Ok(())
     }
 
-    /// Whether a side belongs to the sector.
+    // Whether a side belongs to the sector.
     fn has_side_in(&self, n: u32) -> bool
         requires { n < length self.now.tables.sectors }
         ensures { result ≡ list_any (in_sector n) self.now.tables.sides }
@@ -98,9 +104,11 @@ impl Map {
 
     /// Takes a sector out, and lowers each greater number by one, in the sides too.
     pub fn drop_sector(&mut self, n: u32) -> Result<(), MapError>
-        ensures edit { EndsExactly result (dropped_sector self.old.tables n) self.old.tables self.new.tables }
+        ensures edit {
+            EndsExactly result (dropped_sector self.old.tables n) self.old.tables self.new.tables }
         ensures spare { Spends nothing self.old.spare self.new.spare }
-        ensures places { places self.new.tables self.new.spare ≡ places self.old.tables self.old.spare }
+        ensures places {
+            places self.new.tables self.new.spare ≡ places self.old.tables self.old.spare }
     {
         self.can_drop_sector(n)?;
         self.sectors.remove(n as usize);

@@ -13,7 +13,7 @@ use crate::map::keyed_side::keyed_side;
 use crate::map::table::Table;
 use lv_lumps::{ITEM_LIMIT, Side};
 
-/// Whether the right or the left side of the line has the key.
+// Whether the right or the left side of the line has the key.
 fn has_key(line: &KeyedLine, key: usize) -> bool
     ensures { result ≡ ((line.now.right == key) || is_left line.now.left key) }
 {
@@ -26,7 +26,7 @@ fn has_key(line: &KeyedLine, key: usize) -> bool
     }
 }
 
-/// Whether the side of the key is a line's right or left one.
+// Whether the side of the key is a line's right or left one.
 fn has_line_with_key(lines: &Table<KeyedLine>, key: usize) -> bool
     ensures { result ≡ list_any (λ l. (l.right == key) || is_left l.left key) lines.now.items }
 {
@@ -39,7 +39,7 @@ fn has_line_with_key(lines: &Table<KeyedLine>, key: usize) -> bool
 }
 
 impl Map {
-    /// Whether the map has the side: `NoSide`.
+    // Whether the map has the side: `NoSide`.
     fn check_has_side(&self, n: u32) -> Result<(), MapError>
         ensures { Tells result ((5, lacks self.now.tables.sides n) ∷ []) }
     {
@@ -63,10 +63,13 @@ impl Map {
     /// Adds a side, and answers its number.
     pub fn add_side(&mut self, side: Side) -> Result<u32, MapError>
         requires { IsSide side }
-        ensures edit { EndsEdit result (added_side self.old.tables side) self.old.tables self.new.tables }
+        ensures edit {
+            EndsEdit result (added_side self.old.tables side) self.old.tables self.new.tables }
         ensures promised { 0 < self.old.spare.sides → IsErrOf result MapError.OutOfMemory → ⊥ }
         ensures spare { Spends one_side self.old.spare self.new.spare }
-        ensures places { 0 < self.old.spare.sides → places self.new.tables self.new.spare ≡ places self.old.tables self.old.spare }
+        ensures places {
+            0 < self.old.spare.sides
+                → places self.new.tables self.new.spare ≡ places self.old.tables self.old.spare }
     {
         self.can_add_side(side)?;
         let number = self.sides.len() as u32;
@@ -86,9 +89,12 @@ impl Map {
     /// Puts a side in place of that of its number.
     pub fn set_side(&mut self, n: u32, side: Side) -> Result<(), MapError>
         requires { IsSide side }
-        ensures edit { EndsExactly result (changed_side self.old.tables n side) self.old.tables self.new.tables }
+        ensures edit {
+            EndsExactly result (changed_side self.old.tables n side)
+                self.old.tables self.new.tables }
         ensures spare { Spends nothing self.old.spare self.new.spare }
-        ensures places { places self.new.tables self.new.spare ≡ places self.old.tables self.old.spare }
+        ensures places {
+            places self.new.tables self.new.spare ≡ places self.old.tables self.old.spare }
     {
         self.can_set_side(n, side)?;
         let keyed = keyed_side(&self.sectors, &side);
@@ -96,7 +102,7 @@ impl Map {
         Ok(())
     }
 
-    /// Whether a line has the side.
+    // Whether a line has the side.
     fn has_line_with(&self, n: u32) -> bool
         requires { n < length self.now.tables.sides }
         ensures { result ≡ list_any (uses_side n) self.now.tables.lines }
@@ -117,9 +123,11 @@ impl Map {
 
     /// Takes a side out, and lowers each greater number by one, in the lines too.
     pub fn drop_side(&mut self, n: u32) -> Result<(), MapError>
-        ensures edit { EndsExactly result (dropped_side self.old.tables n) self.old.tables self.new.tables }
+        ensures edit {
+            EndsExactly result (dropped_side self.old.tables n) self.old.tables self.new.tables }
         ensures spare { Spends nothing self.old.spare self.new.spare }
-        ensures places { places self.new.tables self.new.spare ≡ places self.old.tables self.old.spare }
+        ensures places {
+            places self.new.tables self.new.spare ≡ places self.old.tables self.old.spare }
     {
         self.can_drop_side(n)?;
         self.sides.remove(n as usize);

@@ -16,7 +16,7 @@ use crate::map::table::Table;
 use crate::map::vertex_table::VertexTable;
 use lv_lumps::{ITEM_LIMIT, Vertex};
 
-/// The vertex of the number once vertex `moved` stands at another place.
+// The vertex of the number once vertex `moved` stands at another place.
 fn vertex_after_move(vertices: &VertexTable, moved: u32, to: Vertex, n: u16) -> Vertex
     requires { moved < length vertices.now.items }
     ensures { result ≡ nth_vertex (slice_set vertices.now.items moved to) n }
@@ -28,14 +28,14 @@ fn vertex_after_move(vertices: &VertexTable, moved: u32, to: Vertex, n: u16) -> 
     }
 }
 
-/// Whether the line begins or ends at the vertex of the key.
+// Whether the line begins or ends at the vertex of the key.
 fn has_end(line: &KeyedLine, key: usize) -> bool
     ensures { result ≡ ((line.now.v1 == key) || (line.now.v2 == key)) }
 {
     line.v1 == key || line.v2 == key
 }
 
-/// Whether the line has the vertex, and would be too long with it at another place.
+// Whether the line has the vertex, and would be too long with it at another place.
 fn is_stretched(
     vertices: &VertexTable,
     moved: u32,
@@ -46,7 +46,9 @@ fn is_stretched(
     requires there { moved < length vertices.now.items }
     requires few { length vertices.now.items ≤ 32767 }
     requires key { (k : ℕ) → (rank_of vertices.now.keys k == moved) ≡ (k == key) }
-    ensures { result ≡ stretches vertices.now.keys (slice_set vertices.now.items moved to) moved line.now }
+    ensures {
+        result ≡ stretches vertices.now.keys
+            (slice_set vertices.now.items moved to) moved line.now }
 {
     if !has_end(line, key) {
         return false;
@@ -56,7 +58,7 @@ fn is_stretched(
     is_too_far(start, end)
 }
 
-/// Whether a line begins or ends at the vertex of the key.
+// Whether a line begins or ends at the vertex of the key.
 fn has_line_with_end(lines: &Table<KeyedLine>, key: usize) -> bool
     ensures { result ≡ list_any (λ l. (l.v1 == key) || (l.v2 == key)) lines.now.items }
 {
@@ -68,7 +70,7 @@ fn has_line_with_end(lines: &Table<KeyedLine>, key: usize) -> bool
     false
 }
 
-/// Whether a line would be too long with the vertex at another place.
+// Whether a line would be too long with the vertex at another place.
 fn has_line_stretched(
     lines: &Table<KeyedLine>,
     vertices: &VertexTable,
@@ -77,7 +79,9 @@ fn has_line_stretched(
 ) -> bool
     requires there { moved < length vertices.now.items }
     requires few { length vertices.now.items ≤ 32767 }
-    ensures { result ≡ list_any (stretches vertices.now.keys (slice_set vertices.now.items moved to) moved) lines.now.items }
+    ensures {
+        result ≡ list_any (stretches vertices.now.keys
+            (slice_set vertices.now.items moved to) moved) lines.now.items }
 {
     let key = vertices.key_at(moved as usize);
     for n in 0..lines.len() {
@@ -112,10 +116,13 @@ impl Map {
     /// Adds a vertex, and answers its number.
     pub fn add_vertex(&mut self, vertex: Vertex) -> Result<u32, MapError>
         requires { IsVertex vertex }
-        ensures edit { EndsEdit result (added_vertex self.old.tables vertex) self.old.tables self.new.tables }
+        ensures edit {
+            EndsEdit result (added_vertex self.old.tables vertex) self.old.tables self.new.tables }
         ensures promised { 0 < self.old.spare.vertices → IsErrOf result MapError.OutOfMemory → ⊥ }
         ensures spare { Spends one_vertex self.old.spare self.new.spare }
-        ensures places { 0 < self.old.spare.vertices → places self.new.tables self.new.spare ≡ places self.old.tables self.old.spare }
+        ensures places {
+            0 < self.old.spare.vertices
+                → places self.new.tables self.new.spare ≡ places self.old.tables self.old.spare }
     {
         self.can_add_vertex(vertex)?;
         let number = self.vertices.len() as u32;
@@ -123,7 +130,7 @@ impl Map {
         Ok(number)
     }
 
-    /// Whether the map has the vertex: `NoVertex`.
+    // Whether the map has the vertex: `NoVertex`.
     fn check_has_vertex(&self, n: u32) -> Result<(), MapError>
         ensures { Tells result ((3, lacks self.now.tables.vertices n) ∷ []) }
     {
@@ -133,7 +140,7 @@ impl Map {
         Ok(())
     }
 
-    /// Whether a line begins or ends at the vertex.
+    // Whether a line begins or ends at the vertex.
     fn has_line_at(&self, n: u32) -> bool
         requires { n < length self.now.tables.vertices }
         ensures { result ≡ list_any (uses_vertex n) self.now.tables.lines }
@@ -141,10 +148,12 @@ impl Map {
         has_line_with_end(&self.lines, self.vertices.key_at(n as usize))
     }
 
-    /// Whether a line of the vertex would be too long with it at another place.
+    // Whether a line of the vertex would be too long with it at another place.
     fn stretches_line(&self, n: u32, to: Vertex) -> bool
         requires { n < length self.now.tables.vertices }
-        ensures { result ≡ list_any (λ l. uses_vertex n l && is_too_long (slice_set self.now.tables.vertices n to) l) self.now.tables.lines }
+        ensures {
+            result ≡ list_any (λ l. uses_vertex n l && is_too_long
+                (slice_set self.now.tables.vertices n to) l) self.now.tables.lines }
     {
         has_line_stretched(&self.lines, &self.vertices, n, to)
     }
@@ -166,9 +175,12 @@ impl Map {
     /// Moves a vertex, and with it the ends of its lines.
     pub fn set_vertex(&mut self, n: u32, vertex: Vertex) -> Result<(), MapError>
         requires { IsVertex vertex }
-        ensures edit { EndsExactly result (changed_vertex self.old.tables n vertex) self.old.tables self.new.tables }
+        ensures edit {
+            EndsExactly result (changed_vertex self.old.tables n vertex)
+                self.old.tables self.new.tables }
         ensures spare { Spends nothing self.old.spare self.new.spare }
-        ensures places { places self.new.tables self.new.spare ≡ places self.old.tables self.old.spare }
+        ensures places {
+            places self.new.tables self.new.spare ≡ places self.old.tables self.old.spare }
     {
         self.can_set_vertex(n, vertex)?;
         self.vertices.set(n as usize, vertex);
@@ -188,9 +200,11 @@ impl Map {
 
     /// Takes a vertex out, and lowers each greater number by one, in the lines too.
     pub fn drop_vertex(&mut self, n: u32) -> Result<(), MapError>
-        ensures edit { EndsExactly result (dropped_vertex self.old.tables n) self.old.tables self.new.tables }
+        ensures edit {
+            EndsExactly result (dropped_vertex self.old.tables n) self.old.tables self.new.tables }
         ensures spare { Spends nothing self.old.spare self.new.spare }
-        ensures places { places self.new.tables self.new.spare ≡ places self.old.tables self.old.spare }
+        ensures places {
+            places self.new.tables self.new.spare ≡ places self.old.tables self.old.spare }
     {
         self.can_drop_vertex(n)?;
         self.vertices.remove(n as usize);
