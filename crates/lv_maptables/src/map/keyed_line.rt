@@ -89,9 +89,8 @@ pub(super) fn keyed_lines(
 ) -> Result<Table<KeyedLine>, MapError>
     requires few { length lines.now ≤ 32767 }
     requires found { All (IsFound (length vertices.now.items) (length sides.now.items)) lines.now }
-    ensures lines {
-        IfOk result (λ table. map (line_of vertices.now.keys sides.now.keys) table.items
-            ≡ lines.now) }
+    ensures lines { IfOk result
+        (λ table. map (line_of vertices.now.keys sides.now.keys) table.items ≡ lines.now) }
     ensures memory { IsOkUnless result MapError.OutOfMemory }
 {
     let mut table = Table::new(alloc);
@@ -111,9 +110,8 @@ pub(super) fn numbered_lines(
 ) -> Result<Vec<Line>, MapError>
     requires vertices { length vertices.now.items ≤ 32767 }
     requires sides { length sides.now.items ≤ 32767 }
-    ensures lines {
-        IfOk result (λ list. list.items
-            ≡ map (line_of vertices.now.keys sides.now.keys) lines.now.items) }
+    ensures lines { IfOk result
+        (λ list. list.items ≡ map (line_of vertices.now.keys sides.now.keys) lines.now.items) }
     ensures memory { IsOkUnless result MapError.OutOfMemory }
 {
     let mut list = Vec::new(alloc);

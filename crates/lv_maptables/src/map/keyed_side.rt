@@ -74,8 +74,8 @@ pub(super) fn numbered_sides(
     sides: &Table<KeyedSide>,
 ) -> Result<Vec<Side>, MapError>
     requires { length sectors.now.items ≤ 4096 }
-    ensures sides {
-        IfOk result (λ list. list.items ≡ map (side_of sectors.now.keys) sides.now.items) }
+    ensures sides { IfOk result
+        (λ list. list.items ≡ map (side_of sectors.now.keys) sides.now.items) }
     ensures memory { IsOkUnless result MapError.OutOfMemory }
 {
     let mut list = Vec::new(alloc);

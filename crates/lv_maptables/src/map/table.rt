@@ -30,9 +30,7 @@ impl<T: Copy> Model for Table<T> {
 // Lowers the ranks behind one that is gone.
 fn lower_ranks(ranks: &mut [u16], gone: u16) {
     for rank in ranks.iter_mut() {
-        if gone < *rank {
-            *rank -= 1;
-        }
+        *rank = if gone < *rank { *rank - 1 } else { *rank };
     }
 }
 

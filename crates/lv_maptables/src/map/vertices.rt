@@ -46,9 +46,8 @@ fn is_stretched(
     requires there { moved < length vertices.now.items }
     requires few { length vertices.now.items ≤ 32767 }
     requires key { (k : ℕ) → (rank_of vertices.now.keys k == moved) ≡ (k == key) }
-    ensures {
-        result ≡ stretches vertices.now.keys
-            (slice_set vertices.now.items moved to) moved line.now }
+    ensures { result ≡
+        stretches vertices.now.keys (slice_set vertices.now.items moved to) moved line.now }
 {
     if !has_end(line, key) {
         return false;
@@ -79,9 +78,9 @@ fn has_line_stretched(
 ) -> bool
     requires there { moved < length vertices.now.items }
     requires few { length vertices.now.items ≤ 32767 }
-    ensures {
-        result ≡ list_any (stretches vertices.now.keys
-            (slice_set vertices.now.items moved to) moved) lines.now.items }
+    ensures { result ≡
+        list_any (stretches vertices.now.keys (slice_set vertices.now.items moved to) moved)
+        lines.now.items }
 {
     let key = vertices.key_at(moved as usize);
     for n in 0..lines.len() {
@@ -151,9 +150,9 @@ impl Map {
     // Whether a line of the vertex would be too long with it at another place.
     fn stretches_line(&self, n: u32, to: Vertex) -> bool
         requires { n < length self.now.tables.vertices }
-        ensures {
-            result ≡ list_any (λ l. uses_vertex n l && is_too_long
-                (slice_set self.now.tables.vertices n to) l) self.now.tables.lines }
+        ensures { result ≡
+            list_any (λ l. uses_vertex n l && is_too_long (slice_set self.now.tables.vertices n to) l)
+            self.now.tables.lines }
     {
         has_line_stretched(&self.lines, &self.vertices, n, to)
     }
