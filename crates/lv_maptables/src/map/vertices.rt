@@ -151,7 +151,8 @@ impl Map {
     fn stretches_line(&self, n: u32, to: Vertex) -> bool
         requires { n < length self.now.tables.vertices }
         ensures { result ≡
-            list_any (λ l. uses_vertex n l && is_too_long (slice_set self.now.tables.vertices n to) l)
+            list_any (λ l. uses_vertex n l && is_too_long
+                (slice_set self.now.tables.vertices n to) l)
             self.now.tables.lines }
     {
         has_line_stretched(&self.lines, &self.vertices, n, to)
