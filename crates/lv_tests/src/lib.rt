@@ -48,4 +48,6 @@ mod segs;
 #[cfg(test)]
 mod slots;
 #[cfg(test)]
+mod sweeps;
+#[cfg(test)]
 mod tangles;
