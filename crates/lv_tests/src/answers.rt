@@ -2,8 +2,8 @@
 
 use crate::editor::run;
 
-/// Lines and their answers, each beside what it is about.
-const MAPS: [(&str, &[u8], &[u8]); 13] = [
+// Lines and their answers, each beside what it is about.
+const MAPS: [(&str, &[u8], &[u8]); 14] = [
     (
         "drawn lumps of an empty map",
         b"count\n\
@@ -127,6 +127,8 @@ const MAPS: [(&str, &[u8], &[u8]); 13] = [
         line 1 2 1 0 0 0 -\n\
         drop vertex 1\n\
         drop vertex 0\n\
+        hex LINEDEFS\n\
+        vertex 192 0\n\
         hex LINEDEFS\n",
         b"ok 0\n\
         ok 1\n\
@@ -136,7 +138,24 @@ const MAPS: [(&str, &[u8], &[u8]); 13] = [
         ok 0\n\
         no 8\n\
         ok 0\n\
+        00 00 01 00 01 00 00 00 00 00 00 00 ff ff\n\
+        ok 2\n\
         00 00 01 00 01 00 00 00 00 00 00 00 ff ff\n",
+    ),
+    (
+        "a vertex drawn after a drop",
+        b"vertex 0 0\n\
+        vertex 1 0\n\
+        vertex 2 0\n\
+        drop vertex 0\n\
+        vertex 3 0\n\
+        hex VERTEXES\n",
+        b"ok 0\n\
+        ok 1\n\
+        ok 2\n\
+        ok 0\n\
+        ok 2\n\
+        01 00 00 00 02 00 00 00 03 00 00 00\n",
     ),
     (
         "refused lines",

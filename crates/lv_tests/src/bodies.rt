@@ -5,19 +5,19 @@ use crate::maps::{TWO_MAPS, is_refused};
 use lv_maptables::Maps;
 use std::test::Fail;
 
-/// The body of a map with one item of each kind but two vertices.
+// The body of a map with one item of each kind but two vertices.
 const BODY: [u8; 108] =
     *b"\x02\0MAP01\0\0\0\x01\0\x01\0\x01\0\x02\0\x01\0\x40\0\x40\0\x5a\0\x01\0\x07\0\
 \0\0\x01\0\x01\0\0\0\0\0\0\0\xff\xff\0\0\0\0-\0\0\0\0\0\0\0-\0\0\0\0\0\0\0STARTAN3\0\0\
 \0\0\0\0\x40\0\0\0\0\0\x80\0FLOOR4_8CEIL3_5\0\xa0\0\0\0\0\0";
 
-/// The lines that draw it.
+// The lines that draw it.
 #[rattlefmt::skip]
 const LINES: [&[u8]; 6] = [
     b"vertex 0 0", b"vertex 64 0", SECTOR, SIDE, b"line 0 1 1 0 0 0 -", b"thing 64 64 90 1 7",
 ];
 
-/// Lines, the body of the project that they draw, and a version in which it is read.
+// Lines, the body of the project that they draw, and a version in which it is read.
 #[rattlefmt::skip]
 const BODIES: [(&[&[u8]], &[u8], u8); 6] = [
     (&[], b"\x02\0MAP01\0\0\0\0\0\0\0\0\0\0\0\0\0", 1),
@@ -48,7 +48,7 @@ fn the_body_of_the_new_project_takes_no_memory(rt: HostRuntime) {
     assert_eq!(rt; Maps::empty_body().as_slice(), BODIES[0].1);
 }
 
-/// Places of a body, bytes and what they spoil.
+// Places of a body, bytes and what they spoil.
 const SPOILT: [(usize, u8, &str); 16] = [
     (2, b'N', "the map's name"),
     (7, b'X', "what follows the map's name"),

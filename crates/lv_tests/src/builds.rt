@@ -2,7 +2,7 @@
 
 use crate::editor::run;
 
-/// Lines and their answers, each beside what it is about.
+// Lines and their answers, each beside what it is about.
 const BUILDS: [(&str, &[u8], &[u8]); 12] = [
     (
         "an empty map",

@@ -41,7 +41,7 @@ pub fn opened<D: Disk>(alloc: Global, disk: &mut D) -> Result<(Slots, Found), Ch
     Slots::open(alloc, disk, A, B)
 }
 
-/// The three calls of a change.
+// The three calls of a change.
 fn turned<D: Disk>(
     disk: &mut D,
     slots: Slots,
@@ -104,7 +104,7 @@ pub fn disk_with(
     Ok(disk)
 }
 
-/// What a read of the disk gives: so many bytes from a place on, fewer where the file ends.
+// What a read of the disk gives: so many bytes from a place on, fewer where the file ends.
 fn bytes_from<D: Disk>(alloc: Global, disk: &mut D, at: u64, n: usize) -> Result<Vec<u8>, Fail> {
     let left = disk.len()?.saturating_sub(at);
     let n = n.min(left as usize);
@@ -115,7 +115,7 @@ fn bytes_from<D: Disk>(alloc: Global, disk: &mut D, at: u64, n: usize) -> Result
     Ok(bytes)
 }
 
-/// Changes the live slot to one with this body, and answers which slot is live then, with which generation.
+// Changes the live slot to one with this body, and answers which slot is live then, with which generation.
 fn expect_turned<D: Disk>(
     alloc: Global,
     disk: &mut D,
@@ -165,7 +165,7 @@ fn writes_the_first_slots(rt: HostRuntime) -> Result<(), Fail> {
     Ok(())
 }
 
-/// Changes the live slot by so many device calls, after which this slot and generation are live; the next call fails.
+// Changes the live slot by so many device calls, after which this slot and generation are live; the next call fails.
 fn expect_calls<D: Disk + Drop>(
     rt: &impl Abort,
     alloc: Global,
@@ -197,11 +197,11 @@ fn changes_by_five_calls_and_by_seven(rt: HostRuntime) -> Result<(), Fail> {
     Ok(())
 }
 
-/// Where the k-th call of a change fails with the first `part` bytes of its write put down, so many bytes from a place
-/// on are these.
+// Where the k-th call of a change fails with the first `part` bytes of its write put down, so many bytes from a place
+// on are these.
 type Row<'a> = (u64, u32, u64, &'a [u8]);
 
-/// The change from a live body to `body` is these writes.
+// The change from a live body to `body` is these writes.
 fn expect_writes<'a>(
     rt: &impl Abort,
     alloc: Global,
@@ -288,8 +288,8 @@ fn closes_an_open_slot_first(rt: HostRuntime) -> Result<(), Fail> {
     )
 }
 
-/// What a stop leaves of a change whose k-th device call fails, none where `k` is 0: the old body or the new one is live.
-/// Before it came so many changes.
+// What a stop leaves of a change whose k-th device call fails, none where `k` is 0: the old body or the new one is live.
+// Before it came so many changes.
 fn expect_outcomes(
     rt: &impl Abort,
     alloc: Global,
@@ -328,8 +328,8 @@ fn expect_outcomes(
     expect_either(rt, alloc, &mut disk, turns, done)
 }
 
-/// The old body is live, or the new one with the next generation; where the change was done, the new one. The next change
-/// goes on from there.
+// The old body is live, or the new one with the next generation; where the change was done, the new one. The next change
+// goes on from there.
 fn expect_either<D: Disk>(
     rt: &impl Abort,
     alloc: Global,

@@ -6,7 +6,7 @@ use lv_maptables::Map;
 use std::alloc::Global;
 use std::test::Fail;
 
-/// The findings as text, a line each.
+// The findings as text, a line each.
 fn report(alloc: Global, map: &Map) -> Result<String, Fail> {
     let mut text = String::new(alloc);
     for finding in &check(alloc, map)? {
@@ -15,7 +15,7 @@ fn report(alloc: Global, map: &Map) -> Result<String, Fail> {
     Ok(text)
 }
 
-/// A room with an unused vertex, side and sector, one line taken out, and one wall without a texture.
+// A room with an unused vertex, side and sector, one line taken out, and one wall without a texture.
 #[rattlefmt::skip]
 const UNFINISHED: [&[u8]; 5] = [
     ROOM, b"vertex 512 512", SECTOR, b"set-side 1 0 0 - - - 0", b"drop line 3",
@@ -26,7 +26,7 @@ const OPEN: [&[u8]; 5] = [b"vertex 0 0", b"vertex 64 0", SECTOR, SIDE, b"line 0 
 
 const START: &[u8] = b"thing 64 64 90 1 7";
 
-/// Lines that draw a map, further lines, and its findings.
+// Lines that draw a map, further lines, and its findings.
 #[rattlefmt::skip]
 const REPORTS: [(&[&[u8]], &[&[u8]], &str); 9] = [
     (&[ROOM], &[START], ""),
@@ -60,7 +60,7 @@ fn maps_have_their_findings(rt: HostRuntime) -> Result<(), Fail> {
     Ok(())
 }
 
-/// What is found in the unfinished room.
+// What is found in the unfinished room.
 const FOUND: [Finding; 7] = [
     Finding::VertexUnused(4),
     Finding::SideUnused(3),

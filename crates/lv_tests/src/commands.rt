@@ -4,7 +4,7 @@ use lv_commands::{parse, print};
 use std::alloc::Global;
 use std::test::Fail;
 
-/// 0 for a line that is a command and is printed as it came in, else the code of its refusal. 999: printed otherwise.
+// 0 for a line that is a command and is printed as it came in, else the code of its refusal. 999: printed otherwise.
 fn told(alloc: Global, line: &[u8]) -> u16 {
     match parse(line) {
         Ok(command) => match print(alloc, &command) {
@@ -15,7 +15,7 @@ fn told(alloc: Global, line: &[u8]) -> u16 {
     }
 }
 
-/// Each place of each command that holds a number, marked by a star, with its least and its greatest number.
+// Each place of each command that holds a number, marked by a star, with its least and its greatest number.
 #[rattlefmt::skip]
 const NUMBER_PLACES: [(&str, i16, i16); 64] = [
     ("vertex * 0", -16384, 16383),
@@ -84,7 +84,7 @@ const NUMBER_PLACES: [(&str, i16, i16); 64] = [
     ("split 0 0 *", -16384, 16383),
 ];
 
-/// Each place of each command that holds a number, at its least, its greatest and one beyond.
+// Each place of each command that holds a number, at its least, its greatest and one beyond.
 #[test]
 fn numbers_have_ranges(rt: HostRuntime) -> Result<(), Fail> {
     for (form, least, greatest) in NUMBER_PLACES {
@@ -98,7 +98,7 @@ fn numbers_have_ranges(rt: HostRuntime) -> Result<(), Fail> {
     Ok(())
 }
 
-/// Each place of each command that holds a name, marked by a star.
+// Each place of each command that holds a name, marked by a star.
 #[rattlefmt::skip]
 const NAME_PLACES: [&str; 13] = [
     "sector 0 128 * CEIL3_5 160 0 0",
@@ -116,14 +116,14 @@ const NAME_PLACES: [&str; 13] = [
     "room 0 0 128 128 0 128 FLOOR4_8 CEIL3_5 * 160",
 ];
 
-/// Names, and what a line with them is told: 0 for a command, else its code.
+// Names, and what a line with them is told: 0 for a command, else its code.
 #[rattlefmt::skip]
 const NAMES: [(&str, u16); 16] = [
     ("A", 0), ("-", 0), ("0", 0), ("ABCDEFGH", 0), ("_-[]\\09Z", 0), ("ABCDEFGHI", 15), ("floor4_8", 15), ("A.B", 15),
     ("~", 15), ("@", 15), ("`", 15), ("^", 15), ("\u{7f}", 1), ("\u{e9}", 1), ("", 1), ("A B", 1),
 ];
 
-/// Each place of each command that holds a name.
+// Each place of each command that holds a name.
 #[test]
 fn names_have_a_form(rt: HostRuntime) -> Result<(), Fail> {
     for place in NAME_PLACES {
@@ -136,7 +136,7 @@ fn names_have_a_form(rt: HostRuntime) -> Result<(), Fail> {
     Ok(())
 }
 
-/// Lines, and what each is told: 0 for a command, else its code.
+// Lines, and what each is told: 0 for a command, else its code.
 #[rattlefmt::skip]
 const LINES: [(&[u8], u16); 83] = [
     (b"name E1M1", 0),

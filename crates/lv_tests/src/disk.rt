@@ -14,14 +14,14 @@ pub fn contents<D: Disk>(alloc: Global, disk: &mut D) -> Result<Vec<u8>, Fail> {
     Ok(bytes)
 }
 
-/// Whether a read of the whole disk fails.
+// Whether a read of the whole disk fails.
 fn read_fails<D: Disk>(alloc: Global, disk: &mut D) -> Result<bool, Fail> {
     let n = disk.len()?;
     let mut bytes = vec![in alloc; 0; n as usize]?;
     Ok(disk.read(0, &mut bytes).is_err())
 }
 
-/// Each fill, with the longest and the shortest image of the disk by it.
+// Each fill, with the longest and the shortest image of the disk by it.
 fn expect_stops(
     rt: &impl Abort,
     alloc: Global,
@@ -172,7 +172,7 @@ fn runs_out_of_room_and_of_record(rt: HostRuntime) -> Result<(), Fail> {
     Ok(())
 }
 
-/// Two writes and a sync on a disk of which the `k`-th call fails: which of them failed.
+// Two writes and a sync on a disk of which the `k`-th call fails: which of them failed.
 fn three_calls<D: Disk>(disk: &mut FaultDisk<D>) -> [bool; 3] {
     let first = disk.write_at(0, &[1, 2, 3, 4]).is_err();
     let second = disk.write_at(4, &[5, 6, 7, 8]).is_err();
@@ -233,7 +233,7 @@ fn fails_a_read_and_a_length(rt: HostRuntime) -> Result<(), Fail> {
     Ok(())
 }
 
-/// Which of five calls fail: a length, a read, a write, a sync, and a length again.
+// Which of five calls fail: a length, a read, a write, a sync, and a length again.
 fn five_calls<D: Disk>(disk: &mut D) -> [bool; 5] {
     let length = disk.len().is_err();
     let read = disk.read(0, &mut []).is_err();

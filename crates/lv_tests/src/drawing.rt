@@ -48,7 +48,7 @@ pub const TWO_ROOMS: [&[u8]; 11] = [
     b"line 2 4 1 0 0 5 -", b"line 4 5 1 0 0 5 -", b"line 5 3 1 0 0 5 -",
 ];
 
-/// The number that a line is answered with, or the code; 999 where the body is too long already.
+// The number that a line is answered with, or the code; 999 where the body is too long already.
 fn answer(maps: &mut Maps, line: &[u8], cap: u32) -> Result<u32, u16> {
     match parse(line) {
         Ok(command) => {
@@ -76,10 +76,10 @@ pub fn drawn(rt: &impl Abort, alloc: Global, lines: &[&[u8]]) -> Maps {
     maps
 }
 
-/// A line, and the number or the code that it is answered with.
+// A line, and the number or the code that it is answered with.
 type Answer = (&'static [u8], Result<u32, u16>);
 
-/// Two maps with a room each, and the first of them taken out.
+// Two maps with a room each, and the first of them taken out.
 #[rattlefmt::skip]
 const TWO_MAPS: &[Answer] = &[
     (ROOM, Ok(0)), (b"map MAP02", Ok(1)), (ROOM, Ok(0)), (b"split 0 0 64", Ok(4)), (b"thing 64 64 90 1 7", Ok(0)),
@@ -88,14 +88,14 @@ const TWO_MAPS: &[Answer] = &[
     (b"drop-map MAP01", Ok(0)),
 ];
 
-/// A body has 18 bytes for each map, beside what its items take: here it may have 51.
+// A body has 18 bytes for each map, beside what its items take: here it may have 51.
 #[rattlefmt::skip]
 const TWO_MAPS_FULL: &[Answer] = &[
     (b"map MAP02", Ok(1)), (b"map MAP03", Err(14)), (b"vertex 0 0", Ok(0)), (b"vertex 1 0", Ok(1)),
     (b"vertex 2 0", Ok(2)), (b"vertex 3 0", Err(14)), (b"map MAP01", Ok(0)),
 ];
 
-/// What doesn't lengthen a body is never refused for its length.
+// What doesn't lengthen a body is never refused for its length.
 #[rattlefmt::skip]
 const ONE_MAP_FULL: &[Answer] = &[
     (b"vertex 0 0", Ok(0)), (b"vertex 1 0", Ok(1)), (b"vertex 2 0", Ok(2)), (b"vertex 3 0", Ok(3)),
@@ -103,21 +103,21 @@ const ONE_MAP_FULL: &[Answer] = &[
     (b"vertex 6 0", Err(10)), (b"move-vertex 6 9 9", Ok(6)), (b"drop vertex 6", Ok(6)),
 ];
 
-/// Maps drop beside the current one, and greater numbers fall.
+// Maps drop beside the current one, and greater numbers fall.
 #[rattlefmt::skip]
 const THREE_MAPS: &[Answer] = &[
     (b"map E1M1", Ok(1)), (b"map MAP02", Ok(2)), (b"map E1M1", Ok(1)), (b"drop-map E1M1", Err(19)),
     (b"drop-map MAP02", Ok(2)), (b"drop-map MAP01", Ok(0)), (b"drop-map MAP01", Err(18)), (b"map E1M1", Ok(0)),
 ];
 
-/// A name is one map's alone, and a map may have its own name again.
+// A name is one map's alone, and a map may have its own name again.
 #[rattlefmt::skip]
 const NAMES: &[Answer] = &[
     (b"map MAP02", Ok(1)), (b"name MAP01", Err(17)), (b"name MAP02", Ok(0)), (b"name E1M1", Ok(0)),
     (b"drop-map MAP02", Err(18)), (b"map MAP01", Ok(0)), (b"map E1M1", Ok(1)),
 ];
 
-/// How long a body may be, lines and their answers; then the number of maps, the current one's, and the body's length.
+// How long a body may be, lines and their answers; then the number of maps, the current one's, and the body's length.
 const DRAWINGS: [(u32, &[Answer], [u32; 3]); 5] = [
     (AMPLE, TWO_MAPS, [1, 0, 322]),
     (51, TWO_MAPS_FULL, [2, 0, 50]),
@@ -126,7 +126,7 @@ const DRAWINGS: [(u32, &[Answer], [u32; 3]); 5] = [
     (AMPLE, NAMES, [2, 1, 38]),
 ];
 
-/// Draws lines, each of which is answered as it should be.
+// Draws lines, each of which is answered as it should be.
 fn draw_answered(rt: &impl Abort, maps: &mut Maps, cap: u32, lines: &[Answer]) {
     for (line, want) in lines {
         let got = answer(maps, *line, cap);
@@ -143,7 +143,7 @@ fn draws_projects(rt: HostRuntime) {
     }
 }
 
-/// There are at most 32 maps. Where there are, a further one is refused by 16, however short a body may be.
+// There are at most 32 maps. Where there are, a further one is refused by 16, however short a body may be.
 #[test]
 fn takes_32_maps(rt: HostRuntime) -> Result<(), Fail> {
     let mut maps = Maps::new(rt.alloc());
@@ -158,7 +158,7 @@ fn takes_32_maps(rt: HostRuntime) -> Result<(), Fail> {
     Ok(())
 }
 
-/// Lines, and how often each is accepted before its table is full. A room needs a sector.
+// Lines, and how often each is accepted before its table is full. A room needs a sector.
 const LIMITS: [(&[u8], u32); 5] = [
     (SECTOR, 4096),
     (ROOM, 0),
@@ -167,7 +167,7 @@ const LIMITS: [(&[u8], u32); 5] = [
     (b"thing 64 64 90 1 7", 32767),
 ];
 
-/// Tables but that of vertices are filled, so a body is as long as one with full tables but for those vertices.
+// Tables but that of vertices are filled, so a body is as long as one with full tables but for those vertices.
 #[test]
 fn tables_have_limits(rt: HostRuntime) {
     let mut maps = drawn(&rt, rt.alloc(), &[b"vertex 1 0", b"vertex 2 0"]);
@@ -181,7 +181,7 @@ fn tables_have_limits(rt: HostRuntime) {
     assert_eq!(rt; maps.body_len(), AMPLE - 32765 * 4);
 }
 
-/// The change comes with `commit`, and not before.
+// The change comes with `commit`, and not before.
 #[test]
 fn commits_what_is_ready(rt: HostRuntime) -> Result<(), Fail> {
     let mut maps = Maps::new(rt.alloc());

@@ -12,7 +12,7 @@ const ROW: &[u8] = b"vertex 0 0\nvertex 128 0\nhex VERTEXES\n";
 
 const ROW_ANSWERS: &[u8] = b"ok 0\nok 1\n00 00 00 00 80 00 00 00\n";
 
-/// A reader that gives its bytes one at a time, and then fails or is at its end.
+// A reader that gives its bytes one at a time, and then fails or is at its end.
 #[derive(Drop)]
 struct Drip<'a> {
     left: &'a [u8],
@@ -42,7 +42,7 @@ impl Read for Drip<'_> {
     }
 }
 
-/// A reader that gives an empty line at each read, and counts its reads.
+// A reader that gives an empty line at each read, and counts its reads.
 #[derive(Drop)]
 struct Endless {
     reads: u32,
@@ -59,7 +59,7 @@ impl Read for Endless {
     }
 }
 
-/// A writer whose bytes are seen once it is flushed.
+// A writer whose bytes are seen once it is flushed.
 #[derive(Drop)]
 struct Held {
     held: Vec<u8>,
@@ -79,7 +79,7 @@ impl Write for Held {
     }
 }
 
-/// A writer that takes this many bytes, and then fails and counts how often.
+// A writer that takes this many bytes, and then fails and counts how often.
 #[derive(Drop)]
 struct Narrow {
     room: usize,
@@ -142,7 +142,7 @@ fn answers_lines(rt: HostRuntime) {
     }
 }
 
-/// A line of these many digits behind `vertex 0 `, which is a command or too long for one.
+// A line of these many digits behind `vertex 0 `, which is a command or too long for one.
 fn long_line(alloc: Global, digits: usize) -> Result<Vec<u8>, Fail> {
     let mut line = Vec::from_slice(alloc, b"vertex 0 ")?;
     for _ in 0..digits {
@@ -260,7 +260,7 @@ fn stops_where_the_writer_fails(rt: HostRuntime) {
     assert_eq!(rt; writer.failures, 1);
 }
 
-/// What is seen of the answers of a run that flushes its writer.
+// What is seen of the answers of a run that flushes its writer.
 fn seen<R: Read>(alloc: Global, reader: &mut R, turns: u32) -> (Result<u64, EditorError>, Vec<u8>) {
     let mut writer = Held {
         held: Vec::new(alloc),
@@ -304,7 +304,7 @@ fn numbers_refusals(rt: HostRuntime) {
     }
 }
 
-/// What the program answers to `scratch` over this reader, and what it prints on standard error.
+// What the program answers to `scratch` over this reader, and what it prints on standard error.
 fn scratch<R: Read, W: Write>(
     rt: &HostRuntime,
     reader: &mut R,

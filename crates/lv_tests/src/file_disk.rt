@@ -39,8 +39,8 @@ fn keeps_a_real_file(rt: HostRuntime) -> Result<(), Fail> {
     Ok(())
 }
 
-/// A file of which every other call is interrupted, and the others read or write one byte. Its syncs are counted, and
-/// the second of them fails.
+// A file of which every other call is interrupted, and the others read or write one byte. Its syncs are counted, and
+// the second of them fails.
 #[derive(Drop)]
 struct Flaky<'a> {
     file: File,
@@ -119,7 +119,7 @@ impl Seek for Flaky<'_> {
     }
 }
 
-/// A runtime whose files are flaky.
+// A runtime whose files are flaky.
 #[derive(Drop)]
 struct FlakyFiles<'a> {
     rt: &'a HostRuntime,

@@ -5,8 +5,8 @@ use lv_pwad::ReadError;
 use std::fs;
 use std::test::Fail;
 
-/// The room from (0,0) to (128,128) as MAP01: lines, sides, vertices, segs, one subsector, a sector, REJECT, BLOCKMAP
-/// and the directory.
+// The room from (0,0) to (128,128) as MAP01: lines, sides, vertices, segs, one subsector, a sector, REJECT, BLOCKMAP
+// and the directory.
 const ROOM_WAD: [u8; 515] = [
     80, 87, 65, 68, 11, 0, 0, 0, 83, 1, 0, 0, 0, 0, 1, 0, 1, 0, 0, 0, 0, 0, 0, 0, 255, 255, 1, 0,
     2, 0, 1, 0, 0, 0, 0, 0, 1, 0, 255, 255, 2, 0, 3, 0, 1, 0, 0, 0, 0, 0, 2, 0, 255, 255, 3, 0, 0,
@@ -29,11 +29,11 @@ const ROOM_WAD: [u8; 515] = [
     0, 0, 56, 0, 0, 0, 66, 76, 79, 67, 75, 77, 65, 80,
 ];
 
-/// What is told of the room.
+// What is told of the room.
 const ROOM_TEXT: &[u8] =
     b"things 0 lines 4 sides 4 vertices 4 segs 4 subsectors 1 nodes 0 sectors 1 reject 1 blockmap 56\nsound\n";
 
-/// A changed byte: its place, its new value, and what is told then.
+// A changed byte: its place, its new value, and what is told then.
 const CHANGES: [(usize, u8, &str); 11] = [
     (12, 0x04, "fault LineVertex 0\n"),
     (16, 0x05, "fault LineSide 0\n"),
@@ -48,7 +48,7 @@ const CHANGES: [(usize, u8, &str); 11] = [
     (487, 0x00, "fault Reject 0\n"),
 ];
 
-/// The room with a byte changed.
+// The room with a byte changed.
 fn changed(place: usize, value: u8) -> [u8; 515] {
     let mut wad = ROOM_WAD;
     if let Some(byte) = wad.get_mut(place) {
@@ -84,7 +84,7 @@ fn tells_a_changed_byte(rt: HostRuntime) -> Result<(), Fail> {
     Ok(())
 }
 
-/// A call of the program: its words, its input, its status, what it writes, and what it says of a refusal.
+// A call of the program: its words, its input, its status, what it writes, and what it says of a refusal.
 type Call = (
     &'static [&'static str],
     &'static [u8],
@@ -95,7 +95,7 @@ type Call = (
 
 const ROOM: &[u8] = b"room 0 0 128 128 0 128 FLOOR4_8 CEIL3_5 STARTAN3 160\n";
 
-/// A room is drawn into a project file, built into a PWAD and inspected.
+// A room is drawn into a project file, built into a PWAD and inspected.
 const CALLS: [Call; 10] = [
     (&["leveled", "create", "room.lv"], b"", 0, b"created\n", b""),
     (
@@ -157,10 +157,10 @@ const CALLS: [Call; 10] = [
     ),
 ];
 
-/// What is told of the room as it is built.
+// What is told of the room as it is built.
 const ROOM_BUILT: &[u8] = b"built vertices 4 segs 4 subsectors 1 nodes 0 bytes 515\n";
 
-/// What the program does for these words: the status, the output, and what it says of a refusal.
+// What the program does for these words: the status, the output, and what it says of a refusal.
 fn performed(
     rt: &HostRuntime,
     words: &[&str],
@@ -190,7 +190,7 @@ fn builds_and_inspects_a_room(rt: HostRuntime) -> Result<(), Fail> {
     Ok(())
 }
 
-/// A fault is told on standard output, and by the status.
+// A fault is told on standard output, and by the status.
 #[test]
 fn tells_a_fault_by_the_status(rt: HostRuntime) -> Result<(), Fail> {
     fs::write(&rt, "changed.wad", &changed(12, 0x04))?;
@@ -205,7 +205,7 @@ fn tells_a_fault_by_the_status(rt: HostRuntime) -> Result<(), Fail> {
     Ok(())
 }
 
-/// A room is drawn in each of two maps, and both are built into one PWAD.
+// A room is drawn in each of two maps, and both are built into one PWAD.
 const TWO_MAPS: [Call; 5] = [
     (&["leveled", "create", "two.lv"], b"", 0, b"created\n", b""),
     (
@@ -252,7 +252,7 @@ fn builds_and_inspects_two_maps(rt: HostRuntime) -> Result<(), Fail> {
     Ok(())
 }
 
-/// A refused build leaves what stood in the file, and a shorter one cuts it off.
+// A refused build leaves what stood in the file, and a shorter one cuts it off.
 #[test]
 fn builds_over_a_file(rt: HostRuntime) -> Result<(), Fail> {
     let _ = fs::remove_file(&rt, "old.lv");

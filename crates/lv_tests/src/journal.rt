@@ -12,7 +12,7 @@ const AREA: Area = Area {
     length: 512,
 };
 
-/// A journal, opened on a disk of which all is on the device.
+// A journal, opened on a disk of which all is on the device.
 fn opened<D: Disk>(alloc: Global, disk: &mut D) -> Result<Journal, JournalError>
     ensures ready { IfOk result (λ journal. IsReadyIn journal (D.may_leave disk.new)) }
 {
@@ -20,7 +20,7 @@ fn opened<D: Disk>(alloc: Global, disk: &mut D) -> Result<Journal, JournalError>
     Journal::open(alloc, disk, AREA)
 }
 
-/// The journal of a blank area, with the first gate on the device.
+// The journal of a blank area, with the first gate on the device.
 fn blanked<D: Disk>(disk: &mut D) -> Result<Journal, JournalError>
     ensures ready { IfOk result (λ journal. IsReadyIn journal (D.may_leave disk.new)) }
 {
@@ -29,7 +29,7 @@ fn blanked<D: Disk>(disk: &mut D) -> Result<Journal, JournalError>
     Ok(journal)
 }
 
-/// The same by `fresh`, of an area whose first gate is closed on the device.
+// The same by `fresh`, of an area whose first gate is closed on the device.
 fn refreshed<D: Disk>(disk: &mut D) -> Result<Journal, JournalError>
     ensures ready { IfOk result (λ journal. IsReadyIn journal (D.may_leave disk.new)) }
 {
@@ -38,7 +38,7 @@ fn refreshed<D: Disk>(disk: &mut D) -> Result<Journal, JournalError>
     Ok(Journal::fresh(disk, AREA))
 }
 
-/// A disk with these bytes from the area on.
+// A disk with these bytes from the area on.
 fn disk_with(alloc: Global, bytes: &[u8]) -> Result<MemoryDisk, Fail> {
     let mut disk = MemoryDisk::new(alloc, 1024, 4096)?;
     disk.write_at(143, &[7])?;
@@ -47,7 +47,7 @@ fn disk_with(alloc: Global, bytes: &[u8]) -> Result<MemoryDisk, Fail> {
     Ok(disk)
 }
 
-/// Whether the journal was opened with these payloads.
+// Whether the journal was opened with these payloads.
 fn holds(journal: &Journal, payloads: &[&[u8]]) -> bool {
     let records = journal.records();
     records.len() == payloads.len()
@@ -57,7 +57,7 @@ fn holds(journal: &Journal, payloads: &[&[u8]]) -> bool {
             .all(|(record, payload)| record.as_slice() == *payload)
 }
 
-/// What a read of the disk gives, from a place on.
+// What a read of the disk gives, from a place on.
 fn bytes_from<D: Disk>(alloc: Global, disk: &mut D, at: u64) -> Result<Vec<u8>, Fail> {
     let n = disk.len()?.saturating_sub(at);
     let mut bytes = vec![in alloc; 0; n as usize]?;
@@ -67,8 +67,8 @@ fn bytes_from<D: Disk>(alloc: Global, disk: &mut D, at: u64) -> Result<Vec<u8>, 
     Ok(bytes)
 }
 
-/// What a stop leaves of a journal with one record, `first`, to which `second` is appended where the k-th device call
-/// fails, none where `k` is 0.
+// What a stop leaves of a journal with one record, `first`, to which `second` is appended where the k-th device call
+// fails, none where `k` is 0.
 fn expect_outcomes(rt: &impl Abort, alloc: Global, k: u64, part: u32) -> Result<(), Fail> {
     let mut inner = MemoryDisk::new(alloc, 1024, 4096)?;
     let mut journal = blanked(&mut inner)?;
@@ -108,7 +108,7 @@ fn expect_outcomes(rt: &impl Abort, alloc: Global, k: u64, part: u32) -> Result<
     Ok(())
 }
 
-/// Appends `second`, and tells whether that was done.
+// Appends `second`, and tells whether that was done.
 fn expect_appended<D: Disk>(rt: &impl Abort, journal: &mut Journal, disk: &mut D, k: u64) -> bool
     requires { IsReadyIn journal.old (D.may_leave disk.old) }
 {

@@ -18,7 +18,7 @@ pub const TWO_MAPS: &[u8] = b"\x02\x01\
     MAP01\0\0\0\0\0\0\0\0\0\x01\0\0\0\x40\0\xff\xff\
     E1M1\0\0\0\0\x01\0\0\0\0\0\0\0\0\0\x40\0\xff\xff\x5a\0\x01\0\x07\0";
 
-/// The body of so many empty maps, MAP01 and so on.
+// The body of so many empty maps, MAP01 and so on.
 fn body_of(alloc: Global, count: u8, current: u8) -> Result<Vec<u8>, AllocError> {
     let mut body = Vec::new(alloc);
     body.extend_from_slice(&[2, current])?;
@@ -54,8 +54,8 @@ fn a_project_has_thirty_two_maps(rt: HostRuntime) -> Result<(), Fail> {
     Ok(())
 }
 
-/// Bytes of the body of two empty maps, changed: the current number; the names MAP01 and MAP02 made one, either way; a
-/// count of vertices, of sectors.
+// Bytes of the body of two empty maps, changed: the current number; the names MAP01 and MAP02 made one, either way; a
+// count of vertices, of sectors.
 const CHANGES: [(usize, u8); 5] = [(1, 2), (6, b'2'), (24, b'1'), (16, 1), (18, 1)];
 
 #[test]
@@ -71,8 +71,8 @@ fn a_changed_byte_is_refused(rt: HostRuntime) -> Result<(), Fail> {
     Ok(())
 }
 
-/// No bytes; version 2 alone, and without a map; `01 01`, alone and before a map; version 1 with a byte behind; a
-/// version 3.
+// No bytes; version 2 alone, and without a map; `01 01`, alone and before a map; version 1 with a byte behind; a
+// version 3.
 const NO_BODIES: [&[u8]; 7] = [
     b"",
     b"\x02",

@@ -8,7 +8,7 @@ use std::alloc::Global;
 use std::process::Abort;
 use std::test::Fail;
 
-/// The tree of the map that the lines leave.
+// The tree of the map that the lines leave.
 fn built(rt: &impl Abort, alloc: Global, lines: &[&[u8]]) -> Built {
     let maps = drawn(rt, alloc, lines);
     build_tree(alloc, maps.current()).expect(rt, "a tree")
@@ -22,7 +22,7 @@ fn a_map_without_lines_has_no_tree(rt: HostRuntime) {
     assert_eq!(rt; TreeError::NothingToBuild.code(), 60);
 }
 
-/// The segs of a room from (0,0) to (128,128), as bytes.
+// The segs of a room from (0,0) to (128,128), as bytes.
 const ROOM_SEGS: [u8; 48] = [
     0, 0, 1, 0, 0, 0x40, 0, 0, 0, 0, 0, 0, // west
     1, 0, 2, 0, 0, 0, 1, 0, 0, 0, 0, 0, // north
@@ -30,7 +30,7 @@ const ROOM_SEGS: [u8; 48] = [
     3, 0, 0, 0, 0, 0x80, 3, 0, 0, 0, 0, 0, // south
 ];
 
-/// The one node of the L, as bytes: start and vector, the boxes, the two children.
+// The one node of the L, as bytes: start and vector, the boxes, the two children.
 const L_NODE: [u8; 28] = [
     0x80, 0, 0, 1, 0, 0, 0x80, 0xff, // from (128,256) by (0,-128)
     0, 1, 0, 0, 0, 0, 0x80, 0, // the west
@@ -49,7 +49,7 @@ fn segs_and_nodes_have_their_bytes(rt: HostRuntime) -> Result<(), Fail> {
     Ok(())
 }
 
-/// Lines, how many vertices, segs and nodes their tree has, and its added vertices and its subsectors as bytes.
+// Lines, how many vertices, segs and nodes their tree has, and its added vertices and its subsectors as bytes.
 #[rattlefmt::skip]
 const TREES: [(&[&[u8]], [usize; 3], &[u8], &[u8]); 6] = [
     (&[ROOM], [4, 4, 0], &[], &[4, 0, 0, 0]),
@@ -60,7 +60,7 @@ const TREES: [(&[&[u8]], [usize; 3], &[u8], &[u8]); 6] = [
     (&[ROOM, b"split 2 128 64"], [5, 5, 0], &[], &[5, 0, 0, 0]),
 ];
 
-/// The vertices of a tree behind those of its map, as bytes.
+// The vertices of a tree behind those of its map, as bytes.
 fn added(alloc: Global, tree: &Built, maps: &Maps) -> Result<Vec<u8>, Fail> {
     let first = maps.current().count(Kind::Vertex) as usize;
     match tree.vertices.get(first..) {
@@ -82,7 +82,7 @@ fn trees_are_as_specified(rt: HostRuntime) -> Result<(), Fail> {
     Ok(())
 }
 
-/// Lines, a range of the segs of their tree, and the line, the side and the offset that one of these segs has.
+// Lines, a range of the segs of their tree, and the line, the side and the offset that one of these segs has.
 #[rattlefmt::skip]
 const OFFSETS: [(&[&[u8]], [usize; 2], [u16; 3]); 7] = [
     (&L, [3, 4], [5, 0, 128]),
@@ -90,7 +90,7 @@ const OFFSETS: [(&[&[u8]], [usize; 2], [u16; 3]); 7] = [
     (&TWO_ROOMS, [0, 4], [2, 0, 0]), (&TWO_ROOMS, [4, 8], [2, 1, 0]),
 ];
 
-/// How many of the segs of a range have a line, a side and an offset.
+// How many of the segs of a range have a line, a side and an offset.
 fn count_of(segs: &[Seg], range: [usize; 2], want: [u16; 3]) -> u32 {
     let mut count = 0u32;
     for (n, seg) in segs.iter().enumerate() {
@@ -109,7 +109,7 @@ fn segs_begin_where_their_side_is_cut(rt: HostRuntime) {
     }
 }
 
-/// A row of rooms that are sixteen wide and sixteen apart.
+// A row of rooms that are sixteen wide and sixteen apart.
 fn row_of_rooms(rt: &impl Abort, alloc: Global, count: u16) -> Result<Maps, Fail> {
     let mut maps = Maps::new(alloc);
     for i in 0..count {

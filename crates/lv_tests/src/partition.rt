@@ -12,7 +12,7 @@ use std::alloc::Global;
 use std::process::Abort;
 use std::test::Fail;
 
-/// The choice among a map's whole sides, by both calls, where these lines are used.
+// The choice among a map's whole sides, by both calls, where these lines are used.
 fn chosen(
     rt: &impl Abort,
     alloc: Global,
@@ -35,7 +35,7 @@ fn chosen(
     Ok(choice)
 }
 
-/// The same choice, by boxes of the pieces in an order by their places.
+// The same choice, by boxes of the pieces in an order by their places.
 fn chosen_by_place(
     rt: &impl Abort,
     alloc: Global,
@@ -63,7 +63,7 @@ fn chosen_by_place(
     Ok(choice)
 }
 
-/// A piece's counts, at a place that is not told.
+// A piece's counts, at a place that is not told.
 fn counted(map: &Map, partition: &Piece, pieces: &[Piece]) -> Choice
     requires partition { IsPiece (edges_of map.now.tables) partition.now }
     requires pieces { All (IsPiece (edges_of map.now.tables)) pieces.now }
@@ -85,7 +85,7 @@ fn counted(map: &Map, partition: &Piece, pieces: &[Piece]) -> Choice
     counts
 }
 
-/// The choice by counting each candidate whole.
+// The choice by counting each candidate whole.
 fn walked(map: &Map, pieces: &[Piece], used: &[bool]) -> Option<Choice>
     requires { All (IsPiece (edges_of map.now.tables)) pieces.now }
 {
@@ -107,15 +107,15 @@ fn walked(map: &Map, pieces: &[Piece], used: &[bool]) -> Option<Choice>
     best
 }
 
-/// Two lines on one straight line that run against each other: each has the other on its left.
+// Two lines on one straight line that run against each other: each has the other on its left.
 #[rattlefmt::skip]
 const AGAINST: [&[u8]; 8] = [
     b"vertex 0 0", b"vertex 64 0", b"vertex 128 0", b"vertex 192 0", SECTOR, SIDE,
     b"line 0 1 1 0 0 0 -", b"line 3 2 1 0 0 0 -",
 ];
 
-/// Lines, which of their map's lines are used, and the choice as `at`, `splits`, `right` and `left`. In the L the third
-/// and the fourth line cost the same, eight for the split and one; in the sliver nothing is left on the left.
+// Lines, which of their map's lines are used, and the choice as `at`, `splits`, `right` and `left`. In the L the third
+// and the fourth line cost the same, eight for the split and one; in the sliver nothing is left on the left.
 #[rattlefmt::skip]
 const CHOICES: [(&[&[u8]], &[bool], Option<[u32; 4]>); 6] = [
     (&L, &[false, false, false, false, false, false], Some([2, 1, 4, 3])),
@@ -168,7 +168,7 @@ impl Sequence {
     }
 }
 
-/// Draws seven vertices of a grid, side by side and so far apart.
+// Draws seven vertices of a grid, side by side and so far apart.
 fn draw_row(rt: &impl Abort, alloc: Global, maps: &mut Maps, y: u32, apart: u32) -> Result<(), Fail>
     requires { apart < 100 }
 {

@@ -77,7 +77,7 @@ pub fn vertices<D: Disk>(project: &Project<D>) -> u32 {
     project.map().count(Kind::Vertex)
 }
 
-/// What a new file has but zeros: the header, and slot A with its gate, the generation 1, the length 20 and the body.
+// What a new file has but zeros: the header, and slot A with its gate, the generation 1, the length 20 and the body.
 const NEW_FILE: &[u8] = b"LVPJ\x01\0\0\0\x40\0\0\0\0\x02\0\0\
 \xa5\x01\0\0\0\0\0\0\0\x14\0\0\0\x02\0MAP01\0\0\0\0\0\0\0\0\0\0\0\0\0";
 
@@ -124,7 +124,7 @@ fn syncs_a_new_file_once_and_last(rt: HostRuntime) -> Result<(), Fail> {
     Ok(())
 }
 
-/// Lengths of a slot and of a journal, and of the file.
+// Lengths of a slot and of a journal, and of the file.
 const LENGTHS: [(u32, u32, u64); 5] = [
     (33, 512, 595),
     (64, 512, 657),
@@ -143,7 +143,7 @@ fn has_a_file_of_its_lengths(rt: HostRuntime) -> Result<(), Fail> {
     Ok(())
 }
 
-/// Lengths of a slot and of a journal, and why there is no project of them on a disk with four bytes.
+// Lengths of a slot and of a journal, and why there is no project of them on a disk with four bytes.
 const REFUSED: [(u32, u32, ProjectError); 5] = [
     (32, 512, ProjectError::BadGeometry),
     (2_007_016, 512, ProjectError::BadGeometry),
@@ -193,7 +193,7 @@ fn records_a_line_before_its_answer(rt: HostRuntime) -> Result<(), Fail> {
     Ok(())
 }
 
-/// A copy of the first bytes of a disk's file, all of it on the device.
+// A copy of the first bytes of a disk's file, all of it on the device.
 fn cut(alloc: Global, disk: &mut MemoryDisk, end: usize) -> Result<MemoryDisk, Fail> {
     let bytes = bytes_from(alloc, disk, 0, end)?;
     let mut copy = empty_disk(alloc)?;
@@ -202,7 +202,7 @@ fn cut(alloc: Global, disk: &mut MemoryDisk, end: usize) -> Result<MemoryDisk, F
     Ok(copy)
 }
 
-/// Damage at the places of the slots and the journals.
+// Damage at the places of the slots and the journals.
 const AT_SLOT_A: ProjectError = ProjectError::Damaged { place: 16 };
 
 const AT_SLOT_B: ProjectError = ProjectError::Damaged { place: 80 };
@@ -211,12 +211,12 @@ const AT_JOURNAL_A: ProjectError = ProjectError::Damaged { place: 144 };
 
 const AT_JOURNAL_B: ProjectError = ProjectError::Damaged { place: 656 };
 
-/// How the project of a disk is refused.
+// How the project of a disk is refused.
 fn refusal_of<D: Disk + Drop>(alloc: Global, disk: D) -> Option<ProjectError> {
     opened(alloc, disk).err()
 }
 
-/// Where a file is cut, and how it is refused then.
+// Where a file is cut, and how it is refused then.
 #[rattlefmt::skip]
 const ENDS: [(usize, ProjectError); 7] = [
     (15, ProjectError::NotAProject), (16, AT_SLOT_A), (40, AT_SLOT_A), (80, AT_SLOT_B), (144, AT_JOURNAL_A),
@@ -233,7 +233,7 @@ fn tells_where_a_file_ends(rt: HostRuntime) -> Result<(), Fail> {
     Ok(())
 }
 
-/// Places, bytes that are put there, and how the file is refused then.
+// Places, bytes that are put there, and how the file is refused then.
 #[rattlefmt::skip]
 const DAMAGES: [(u64, &[u8], ProjectError); 10] = [
     (4, b"\x02", ProjectError::NotAProject), (8, b"\x20", ProjectError::BadGeometry), (25, b"\x34", AT_SLOT_A),
@@ -281,12 +281,12 @@ fn makes_room_by_a_checkpoint(rt: HostRuntime) -> Result<(), Fail> {
     Ok(())
 }
 
-/// A line, and the number or the refusal that it is answered with.
+// A line, and the number or the refusal that it is answered with.
 type Answer = (&'static [u8], Result<u32, ProjectError>);
 
 const FULL: Result<u32, ProjectError> = Err(ProjectError::Refused(CommandError::ProjectFull));
 
-/// A body may have 51 bytes: one map has room for seven vertices, two maps for three, and there is none for three maps.
+// A body may have 51 bytes: one map has room for seven vertices, two maps for three, and there is none for three maps.
 #[rattlefmt::skip]
 const ONE_MAP: &[Answer] = &[
     (b"vertex 0 0", Ok(0)), (b"vertex 1 0", Ok(1)), (b"vertex 2 0", Ok(2)), (b"vertex 3 0", Ok(3)),
@@ -299,10 +299,10 @@ const TWO_MAPS: &[Answer] = &[
     (b"vertex 0 0", Ok(0)), (b"vertex 1 0", Ok(1)), (b"vertex 2 0", Ok(2)), (b"vertex 3 0", FULL),
 ];
 
-/// Lines, how many maps the project then has, which is current, and how many vertices that one has.
+// Lines, how many maps the project then has, which is current, and how many vertices that one has.
 const PROJECTS: [(&[Answer], [u32; 3]); 2] = [(ONE_MAP, [1, 0, 7]), (TWO_MAPS, [2, 1, 3])];
 
-/// Applies lines, each with its answer.
+// Applies lines, each with its answer.
 fn answer_all<D: Disk>(rt: &impl Abort, project: &mut Project<D>, lines: &[Answer]) {
     for (line, answer) in lines {
         assert_eq!(rt; project.apply(*line), *answer, "{line:?}");
@@ -323,7 +323,7 @@ fn holds_what_fits_a_slot(rt: HostRuntime) -> Result<(), Fail> {
     Ok(())
 }
 
-/// A body of version 1 is one map. The next checkpoint writes version 2, as long as before.
+// A body of version 1 is one map. The next checkpoint writes version 2, as long as before.
 #[test]
 fn opens_a_file_of_one_map(rt: HostRuntime) -> Result<(), Fail> {
     let mut disk = disk_after(rt.alloc(), &[b"vertex 0 0"])?;
@@ -340,7 +340,7 @@ fn opens_a_file_of_one_map(rt: HostRuntime) -> Result<(), Fail> {
     Ok(())
 }
 
-/// A project whose generation is the last, on a disk of which the next call fails.
+// A project whose generation is the last, on a disk of which the next call fails.
 fn spent(alloc: Global) -> Result<Project<FaultDisk<MemoryDisk>>, Fail> {
     for k in 1..50 {
         let mut disk = disk_after(alloc, &[])?;

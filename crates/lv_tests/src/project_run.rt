@@ -10,7 +10,7 @@ use std::fs;
 use std::io::{self, Write};
 use std::test::Fail;
 
-/// A writer that takes this many bytes, and then fails.
+// A writer that takes this many bytes, and then fails.
 #[derive(Drop)]
 struct Narrow {
     room: usize,
@@ -31,8 +31,8 @@ impl Write for Narrow {
     }
 }
 
-/// A new project on a disk of which this call fails. The first 8 are those of `create`, and an append makes 4, of which
-/// the last is its second sync.
+// A new project on a disk of which this call fails. The first 8 are those of `create`, and an append makes 4, of which
+// the last is its second sync.
 fn failing(alloc: Global, call: u64) -> Result<Project<FaultDisk<MemoryDisk>>, Fail> {
     Ok(created(alloc, FaultDisk::new(empty_disk(alloc)?, call, 0), SMALL)?)
 }
@@ -61,7 +61,7 @@ fn answers_no_line_after_a_fault(rt: HostRuntime) -> Result<(), Fail> {
     Ok(())
 }
 
-/// What a run answers over a project on a disk of which this call fails: each text once.
+// What a run answers over a project on a disk of which this call fails: each text once.
 const RUNS: [(u64, &[u8], u32); 4] = [
     (12, b"no 30\nno 32\nno 32\nno 32\n", 0),
     (13, b"ok 0\nno 30\nno 32\nno 32\n", 1),
@@ -128,7 +128,7 @@ fn builds_what_a_disk_holds(rt: HostRuntime) -> Result<(), Fail> {
     Ok(())
 }
 
-/// The status of the program with these words over this input, and what it writes as its faults.
+// The status of the program with these words over this input, and what it writes as its faults.
 fn status_of<W: Write>(
     rt: &HostRuntime,
     words: &[&str],
@@ -144,7 +144,7 @@ fn status_of<W: Write>(
     Ok((status, faults))
 }
 
-/// A subcommand over one file, its input, its status, its output and its faults.
+// A subcommand over one file, its input, its status, its output and its faults.
 type Row = (
     &'static str,
     &'static [u8],
@@ -234,7 +234,7 @@ fn makes_no_file_but_by_create(rt: HostRuntime) -> Result<(), Fail> {
     Ok(())
 }
 
-/// Bytes at a place of a file with one vertex, and what is said of it then.
+// Bytes at a place of a file with one vertex, and what is said of it then.
 const DAMAGE: [(u64, &[u8], &[u8]); 4] = [
     (158, b"!", b"leveled: 40 Damaged at 144\n"),
     (16, b"\0", b"leveled: 41 Blank\n"),
@@ -270,7 +270,7 @@ fn says_why_a_file_is_no_project(rt: HostRuntime) -> Result<(), Fail> {
     Ok(())
 }
 
-/// The lengths of `create`, and the status where they are refused.
+// The lengths of `create`, and the status where they are refused.
 const LENGTHS: [(&str, &str, Option<i32>); 9] = [
     ("--slot", "32", Some(2)),
     ("--slot", "33", None),
@@ -283,7 +283,7 @@ const LENGTHS: [(&str, &str, Option<i32>); 9] = [
     ("--journal", "1048577", Some(2)),
 ];
 
-/// The status of a refusal by clap, and None where there is a request.
+// The status of a refusal by clap, and None where there is a request.
 fn refused(alloc: Global, words: &[&str]) -> Option<i32> {
     match request(alloc, words) {
         Err(RequestError::Words(error)) => Some(error.exit_code()),

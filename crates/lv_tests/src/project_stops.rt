@@ -5,16 +5,16 @@ use std::alloc::Global;
 use std::process::Abort;
 use std::test::Fail;
 
-/// A new project on a disk whose calls fail by `FaultDisk`, a project's first 8 calls being those of `create`.
+// A new project on a disk whose calls fail by `FaultDisk`, a project's first 8 calls being those of `create`.
 type Failing = Project<FaultDisk<MemoryDisk>>;
 
-/// A new project, of which the k-th call fails, with the first `part` bytes of its write put down.
+// A new project, of which the k-th call fails, with the first `part` bytes of its write put down.
 fn failing(alloc: Global, k: u64, part: u32) -> Result<Failing, Fail> {
     Ok(created(alloc, FaultDisk::new(empty_disk(alloc)?, k, part), SMALL)?)
 }
 
-/// How the four calls of an append may fail, counted from the first call of `create`, and whether the record's gate is
-/// open where all that was written stays.
+// How the four calls of an append may fail, counted from the first call of `create`, and whether the record's gate is
+// open where all that was written stays.
 const FAULTS: [(u64, u32, bool); 5] = [
     (9, 15, false),
     (10, 0, false),
@@ -36,7 +36,7 @@ fn wants_to_be_opened_again_after_a_fault(rt: HostRuntime) -> Result<(), Fail> {
     Ok(())
 }
 
-/// The disk of a project in which one call fails in the last of these lines.
+// The disk of a project in which one call fails in the last of these lines.
 fn failed(
     rt: &impl Abort,
     alloc: Global,
@@ -53,7 +53,7 @@ fn failed(
     Ok(project.into_disk())
 }
 
-/// A fill, and whether it keeps what was written but not synced.
+// A fill, and whether it keeps what was written but not synced.
 const KEEPS: [(Fill, bool); 4] = [
     (Fill::Stable, false),
     (Fill::Written, true),
@@ -61,14 +61,14 @@ const KEEPS: [(Fill, bool); 4] = [
     (Fill::Byte(165), true),
 ];
 
-/// How many vertices and how many maps the project of a disk has.
+// How many vertices and how many maps the project of a disk has.
 fn counts<D: Disk + Drop>(alloc: Global, disk: D) -> Result<[u32; 2], Fail> {
     let project = opened(alloc, disk)?;
     Ok([vertices(&project), project.maps().len()])
 }
 
-/// The lines before one of which a call fails, how many calls they make, that line, and how many vertices and how many
-/// maps there are before it and after it.
+// The lines before one of which a call fails, how many calls they make, that line, and how many vertices and how many
+// maps there are before it and after it.
 type Line = (
     &'static [&'static [u8]],
     u64,
@@ -83,7 +83,7 @@ const LINES: [Line; 3] = [
     (&[b"map MAP02"], 4, b"drop-map MAP01", [0, 2], [0, 1]),
 ];
 
-/// Opens the disk of a fault again, after stops and without one.
+// Opens the disk of a fault again, after stops and without one.
 fn expect_counts(
     rt: &impl Abort,
     alloc: Global,
@@ -113,14 +113,14 @@ fn opens_again_after_a_fault(rt: HostRuntime) -> Result<(), Fail> {
     Ok(())
 }
 
-/// A project of one vertex, of which the k-th call fails. The first 12 are those of `create` and of an append.
+// A project of one vertex, of which the k-th call fails. The first 12 are those of `create` and of an append.
 fn one_vertex(alloc: Global, k: u64, part: u32) -> Result<Failing, Fail> {
     let mut project = failing(alloc, k, part)?;
     project.apply(b"vertex 0 0")?;
     Ok(project)
 }
 
-/// The first call that isn't made any more by checkpoints with these generations.
+// The first call that isn't made any more by checkpoints with these generations.
 const CALLS: [(u64, &[u64]); 2] = [(18, &[2]), (25, &[2, 3])];
 
 #[test]
@@ -149,8 +149,8 @@ const STAGED_A: &[u8] = b"\0\x03\0\0\0\0\0\0\0\x18\0\0\0\
 const OPEN_A: &[u8] = b"\xa5\x03\0\0\0\0\0\0\0\x18\0\0\0\
 \x02\0MAP01\0\0\0\0\0\0\0\0\0\x01\0\0\0\0\0\0\0";
 
-/// How many checkpoints came before the one of which the k-th call fails with the first `part` bytes of its write put
-/// down, and bytes that then stand at a place. The first one fills slot B and opens it; the second closes slot A first.
+// How many checkpoints came before the one of which the k-th call fails with the first `part` bytes of its write put
+// down, and bytes that then stand at a place. The first one fills slot B and opens it; the second closes slot A first.
 #[rattlefmt::skip]
 const WRITES: [(u32, u64, u32, u64, &[u8]); 18] = [
     (0, 13, 0, 80, b"\0\0\0"), (0, 13, 36, 80, STAGED_B), (0, 14, 0, 80, STAGED_B), (0, 16, 0, 80, STAGED_B),
@@ -161,7 +161,7 @@ const WRITES: [(u32, u64, u32, u64, &[u8]); 18] = [
     (1, 24, 0, 80, b"\xa5\x02"),
 ];
 
-/// The disk of a project of one vertex, of which a call of the last of several checkpoints fails.
+// The disk of a project of one vertex, of which a call of the last of several checkpoints fails.
 fn failed_checkpoint(
     rt: &impl Abort,
     alloc: Global,
@@ -189,8 +189,8 @@ fn fills_a_slot_and_then_opens_it(rt: HostRuntime) -> Result<(), Fail> {
     Ok(())
 }
 
-/// After a stop with any fill the project has so many vertices, and one of these generations: the first where what
-/// wasn't synced is as before or zero.
+// After a stop with any fill the project has so many vertices, and one of these generations: the first where what
+// wasn't synced is as before or zero.
 fn expect_stops(
     rt: &impl Abort,
     alloc: Global,
@@ -212,7 +212,7 @@ fn expect_stops(
     Ok(())
 }
 
-/// Where the k-th call fails with the first `part` bytes of its write put down, the generation that is found.
+// Where the k-th call fails with the first `part` bytes of its write put down, the generation that is found.
 const STOPS: [(u64, u32, u64); 8] = [
     (13, 0, 1),
     (13, 36, 1),
@@ -235,8 +235,8 @@ fn stops_within_a_checkpoint(rt: HostRuntime) -> Result<(), Fail> {
     Ok(())
 }
 
-/// A project of two vertices after a checkpoint of which a sync failed, opened again on a disk of which then the k-th
-/// call fails. Opening makes 15 calls, and the append 4.
+// A project of two vertices after a checkpoint of which a sync failed, opened again on a disk of which then the k-th
+// call fails. Opening makes 15 calls, and the append 4.
 fn two_vertices(alloc: Global, k: u64) -> Result<Project<FaultDisk<FaultDisk<MemoryDisk>>>, Fail> {
     let mut project = one_vertex(alloc, 15, 0)?;
     let _failed = project.checkpoint();
@@ -245,7 +245,7 @@ fn two_vertices(alloc: Global, k: u64) -> Result<Project<FaultDisk<FaultDisk<Mem
     Ok(again)
 }
 
-/// The same calls, of a checkpoint after one that failed.
+// The same calls, of a checkpoint after one that failed.
 const AGAIN: [(u64, u64); 5] = [(20, 1), (21, 1), (22, 1), (23, 2), (24, 2)];
 
 #[test]

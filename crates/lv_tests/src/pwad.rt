@@ -8,7 +8,7 @@ use std::alloc::Global;
 use std::process::Abort;
 use std::test::Fail;
 
-/// The PWAD of the map that the lines leave.
+// The PWAD of the map that the lines leave.
 fn built(rt: &impl Abort, alloc: Global, lines: &[&[u8]]) -> Vec<u8> {
     let maps = drawn(rt, alloc, lines);
     build_wad(alloc, maps.current()).expect(rt, "a PWAD")
@@ -26,7 +26,7 @@ const ROOM_OF_512: &[u8] = b"room 0 0 512 512 0 128 FLOOR4_8 CEIL3_5 STARTAN3 16
 
 const LARGEST_ROOM: &[u8] = b"room 0 0 16256 16256 0 128 FLOOR4_8 CEIL3_5 STARTAN3 160";
 
-/// A line through 181 by 181 blocks that leaves out the first: the second of its two lists begins at word 32,767.
+// A line through 181 by 181 blocks that leaves out the first: the second of its two lists begins at word 32,767.
 const FALLING: [&[u8]; 5] = [
     b"vertex -11520 11520",
     b"vertex 11520 -11520",
@@ -35,7 +35,7 @@ const FALLING: [&[u8]; 5] = [
     b"line 0 1 1 0 0 0 -",
 ];
 
-/// The same blocks, but the line touches the first: the second list would begin a word later.
+// The same blocks, but the line touches the first: the second list would begin a word later.
 const RISING: [&[u8]; 5] = [
     b"vertex -11520 -11520",
     b"vertex 11520 11520",
@@ -71,15 +71,15 @@ fn built_maps_read_back_without_a_fault(rt: HostRuntime) -> Result<(), Fail> {
     Ok(())
 }
 
-/// The first bytes of a room's PWAD: eleven lumps, the directory at 339.
+// The first bytes of a room's PWAD: eleven lumps, the directory at 339.
 const ROOM_HEAD: [u8; 12] = *b"PWAD\x0b\0\0\0\x53\x01\0\0";
 
-/// Where the marker and the lumps of a room stand.
+// Where the marker and the lumps of a room stand.
 const ROOM_PLACES: [u8; 22] = [
     12, 0, 12, 0, 12, 0, 68, 0, 188, 0, 204, 0, 252, 0, 0, 1, 0, 1, 26, 1, 27, 1,
 ];
 
-/// The blocks of a room from (0,0) to (128,128): two by two, with four different lists.
+// The blocks of a room from (0,0) to (128,128): two by two, with four different lists.
 const ROOM_BLOCKS: [u8; 56] = [
     0, 0, 0, 0, 2, 0, 2, 0, // the grid
     8, 0, 14, 0, 19, 0, 24, 0, // the offsets
@@ -89,7 +89,7 @@ const ROOM_BLOCKS: [u8; 56] = [
     0, 0, 1, 0, 2, 0, 0xff, 0xff,
 ];
 
-/// The blocks of a line from (0,0) to (256,256): equal lists are written once.
+// The blocks of a line from (0,0) to (256,256): equal lists are written once.
 const SINGLE_BLOCKS: [u8; 36] = [
     0, 0, 0, 0, 3, 0, 3, 0, // the grid
     13, 0, 13, 0, 16, 0, 13, 0, 13, 0, 13, 0, 16, 0, 13, 0, 13, 0, // the offsets
@@ -118,7 +118,7 @@ fn a_room_is_laid_out_as_specified(rt: HostRuntime) -> Result<(), Fail> {
     Ok(())
 }
 
-/// The fault of the level in the bytes, one of them changed.
+// The fault of the level in the bytes, one of them changed.
 fn fault_at(
     rt: &impl Abort,
     alloc: Global,
@@ -135,7 +135,7 @@ fn fault_at(
     fault
 }
 
-/// The faults of a level with nodes; `inspection.rt` has those of a room.
+// The faults of a level with nodes; `inspection.rt` has those of a room.
 #[test]
 fn a_changed_byte_is_the_fault_that_it_makes(rt: HostRuntime) {
     let mut l = built(&rt, rt.alloc(), &L);
@@ -153,7 +153,7 @@ fn a_changed_byte_is_the_fault_that_it_makes(rt: HostRuntime) {
     assert_eq!(rt; found, Some(Fault::NodeOnce(0)));
 }
 
-/// The refusal of the bytes, one of them changed.
+// The refusal of the bytes, one of them changed.
 fn refused_at(
     rt: &impl Abort,
     alloc: Global,
@@ -169,7 +169,7 @@ fn refused_at(
     refused
 }
 
-/// Heads alone: no entry, one beyond the end, and both numbers as great as can be.
+// Heads alone: no entry, one beyond the end, and both numbers as great as can be.
 const HEADS: [([u8; 12], ReadError); 3] = [
     (*b"PWAD\0\0\0\0\x0c\0\0\0", ReadError::NoSuchLevel),
     (*b"PWAD\x01\0\0\0\x0c\0\0\0", ReadError::DirectoryOutside),
@@ -248,7 +248,7 @@ fn a_line_touches_the_corners_that_it_runs_through(rt: HostRuntime) {
     assert!(rt; !touches(line, (256, 0)));
 }
 
-/// A map whose blockmap is too large, and behind it one without a line.
+// A map whose blockmap is too large, and behind it one without a line.
 const TWO_REFUSED: [&[u8]; 6] = [
     b"vertex -11520 -11520",
     b"vertex 11520 11520",

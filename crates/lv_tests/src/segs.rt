@@ -11,7 +11,7 @@ use lv_segs::{
 };
 use std::test::Fail;
 
-/// Vectors and their angles. The diagonals of the greatest ones are exact; beside an axis the last bit decides.
+// Vectors and their angles. The diagonals of the greatest ones are exact; beside an axis the last bit decides.
 #[rattlefmt::skip]
 const ANGLES: [([i16; 2], u16); 12] = [
     ([1, 0], 0), ([1, 1], 8192), ([0, 1], 16384), ([128, 64], 4836), ([-1, 0], 32768), ([0, -1], 49152),
@@ -19,7 +19,7 @@ const ANGLES: [([i16; 2], u16); 12] = [
     ([32767, 1], 0), ([32767, -1], 65535),
 ];
 
-/// The angle of a vector that isn't zero.
+// The angle of a vector that isn't zero.
 fn angle(x: i16, y: i16) -> Option<u16> {
     if x == i16::MIN || y == i16::MIN {
         return None;
@@ -68,11 +68,11 @@ fn offsets(rt: HostRuntime) {
     assert_eq!(rt; offset(west, east), 32767);
 }
 
-/// A piece's line and side, and the numerators and denominators of where it begins and ends.
+// A piece's line and side, and the numerators and denominators of where it begins and ends.
 type Fields = (u16, Facing, [i128; 4]);
 
-/// Lines, and of the pieces of their map's sides which one is cut, by which, how it lies, and its parts on the right
-/// and on the left.
+// Lines, and of the pieces of their map's sides which one is cut, by which, how it lies, and its parts on the right
+// and on the left.
 type Row = (
     &'static [&'static [u8]],
     [usize; 2],
@@ -80,7 +80,7 @@ type Row = (
     [Option<Fields>; 2],
 );
 
-/// Four places on one straight line, and three lines: the direction decides.
+// Four places on one straight line, and three lines: the direction decides.
 #[rattlefmt::skip]
 const COLLINEAR: [&[u8]; 9] = [
     b"vertex 0 0", b"vertex 64 0", b"vertex 128 0", b"vertex 192 0", SECTOR, b"side 0 0 - - - 0",
@@ -111,7 +111,7 @@ fn fields(piece: Option<Piece>) -> Option<Fields> {
     Some((piece.line, piece.side, fractions))
 }
 
-/// What the piece `by` of a list makes of the piece `at`: its place, and its parts.
+// What the piece `by` of a list makes of the piece `at`: its place, and its parts.
 fn parts(map: &Map, pieces: &[Piece], at: usize, by: usize) -> (Place, Parts)
     requires pieces { All (IsPiece (edges_of map.now.tables)) pieces.now }
     requires at { at < length pieces.now }
@@ -140,7 +140,7 @@ fn pieces_are_cut(rt: HostRuntime) -> Result<(), Fail> {
     Ok(())
 }
 
-/// The box of each piece of the L: one step wider than its ends.
+// The box of each piece of the L: one step wider than its ends.
 const L_BOXES: [[i16; 4]; 6] = [
     [257, -1, -1, 1],
     [257, 255, -1, 129],
@@ -169,7 +169,7 @@ fn boxes_are_one_step_wider(rt: HostRuntime) -> Result<(), Fail> {
     Ok(())
 }
 
-/// The n-th of many places, of which no two are one.
+// The n-th of many places, of which no two are one.
 fn nth_place(n: u32) -> Vertex {
     Vertex {
         x: (n % 256) as i16,

@@ -10,17 +10,17 @@ use std::alloc::Global;
 use std::process::Abort;
 use std::test::Fail;
 
-/// A new project on a disk of which the k-th call fails, with the first `part` bytes of its write put down. The first 8
-/// calls are those of `create`.
+// A new project on a disk of which the k-th call fails, with the first `part` bytes of its write put down. The first 8
+// calls are those of `create`.
 fn failing(alloc: Global, k: u64, part: u32) -> Result<Project<FaultDisk<MemoryDisk>>, Fail> {
     let disk = MemoryDisk::new(alloc, 700, 6000)?;
     Ok(created(alloc, FaultDisk::new(disk, k, part), SMALL)?)
 }
 
-/// The longest body of a project with slots of 64 bytes.
+// The longest body of a project with slots of 64 bytes.
 const CAP: u32 = 51;
 
-/// Does a line in memory, if it is a command that is accepted.
+// Does a line in memory, if it is a command that is accepted.
 fn draw(maps: &mut Maps, line: &[u8]) {
     if let Ok(command) = parse(line)
         && maps.body_len() <= CAP
@@ -29,7 +29,7 @@ fn draw(maps: &mut Maps, line: &[u8]) {
     }
 }
 
-/// The body before each of these lines, and behind them all.
+// The body before each of these lines, and behind them all.
 fn bodies(alloc: Global, lines: &[&[u8]]) -> Result<Vec<Vec<u8>>, Fail> {
     let mut maps = Maps::new(alloc);
     let mut bodies = vec![in alloc; maps.encode_body(alloc)?]?;
@@ -40,7 +40,7 @@ fn bodies(alloc: Global, lines: &[&[u8]]) -> Result<Vec<Vec<u8>>, Fail> {
     Ok(bodies)
 }
 
-/// Does these lines up to the one in which a call fails, an empty one being a checkpoint. How many were done.
+// Does these lines up to the one in which a call fails, an empty one being a checkpoint. How many were done.
 fn done<D: Disk>(project: &mut Project<D>, lines: &[&[u8]]) -> usize {
     let mut n = 0_usize;
     for line in lines {
@@ -57,7 +57,7 @@ fn done<D: Disk>(project: &mut Project<D>, lines: &[&[u8]]) -> usize {
     n
 }
 
-/// What a project of a disk may hold: one of two bodies, under this generation or the next one.
+// What a project of a disk may hold: one of two bodies, under this generation or the next one.
 #[derive(Drop)]
 struct Wanted<'a> {
     old: &'a [u8],
@@ -65,7 +65,7 @@ struct Wanted<'a> {
     generation: u64,
 }
 
-/// Opens a disk, which has what is wanted.
+// Opens a disk, which has what is wanted.
 fn expect<D: Disk + Drop>(
     rt: &impl Abort,
     alloc: Global,
@@ -80,7 +80,7 @@ fn expect<D: Disk + Drop>(
     Ok(())
 }
 
-/// Opens a disk after stops of all kinds.
+// Opens a disk after stops of all kinds.
 fn expect_stops(
     rt: &impl Abort,
     alloc: Global,
@@ -95,7 +95,7 @@ fn expect_stops(
     Ok(())
 }
 
-/// Does these lines over a disk of which the k-th call fails, and opens it again. Whether all lines were done.
+// Does these lines over a disk of which the k-th call fails, and opens it again. Whether all lines were done.
 fn fail_once(
     rt: &impl Abort,
     alloc: Global,
@@ -127,7 +127,7 @@ fn fail_once(
     Ok(is_done)
 }
 
-/// Lines, and how many bytes of a failing write are put down: none, one, half of a record or a slot, and all.
+// Lines, and how many bytes of a failing write are put down: none, one, half of a record or a slot, and all.
 type List = (&'static [&'static [u8]], &'static [u32]);
 
 #[rattlefmt::skip]
@@ -141,7 +141,7 @@ const LISTS: [List; 3] = [
         &[0, 1, 7, 30, 99]),
 ];
 
-/// Fails each call of these lines in turn, from the `first` on, with so many bytes of a write put down.
+// Fails each call of these lines in turn, from the `first` on, with so many bytes of a write put down.
 fn sweep(
     rt: &impl Abort,
     alloc: Global,
@@ -168,10 +168,10 @@ fn keeps_each_acknowledged_line(rt: HostRuntime) -> Result<(), Fail> {
     Ok(())
 }
 
-/// The first call that fails, and how many bytes are put down of it where it is a write.
+// The first call that fails, and how many bytes are put down of it where it is a write.
 const FIRSTS: [(u64, u32); 5] = [(9, 0), (125, 1), (125, 7), (125, 16), (125, 99)];
 
-/// 34 records of four calls each fill a journal, and the line behind them takes a checkpoint first.
+// 34 records of four calls each fill a journal, and the line behind them takes a checkpoint first.
 #[test]
 fn keeps_each_line_that_fills_a_journal(rt: HostRuntime) -> Result<(), Fail> {
     let lines = [b"name MAP01".as_slice(); 36];
@@ -181,7 +181,7 @@ fn keeps_each_line_that_fills_a_journal(rt: HostRuntime) -> Result<(), Fail> {
     Ok(())
 }
 
-/// Lines with their answers over a project of 51 bytes.
+// Lines with their answers over a project of 51 bytes.
 #[rattlefmt::skip]
 const ANSWERS: [(&[u8], &[u8]); 8] = [
     (b"vertex 0 0", b"ok 0\n"), (b"count", b"vertices 1 sectors 0 sides 0 lines 0 things 0\n"),
@@ -189,7 +189,7 @@ const ANSWERS: [(&[u8], &[u8]); 8] = [
     (b"drop-map MAP01", b"ok 0\n"), (b"maps", b"0 MAP02\ncurrent 0\n"), (b"vertex 1 1", b"ok 1\n"),
 ];
 
-/// The lines of a run.
+// The lines of a run.
 fn input(alloc: Global) -> Result<Vec<u8>, Fail> {
     let mut text = Vec::new(alloc);
     for (line, _) in ANSWERS {
@@ -199,7 +199,7 @@ fn input(alloc: Global) -> Result<Vec<u8>, Fail> {
     Ok(text)
 }
 
-/// The answers of a run of which the lines from `n` on find a device that has failed.
+// The answers of a run of which the lines from `n` on find a device that has failed.
 fn answers(alloc: Global, n: usize) -> Result<Vec<u8>, Fail> {
     let mut text = Vec::new(alloc);
     let mut at = 0_usize;
@@ -216,7 +216,7 @@ fn answers(alloc: Global, n: usize) -> Result<Vec<u8>, Fail> {
     Ok(text)
 }
 
-/// The line in which the k-th call of a run fails: each of five accepted lines makes four calls.
+// The line in which the k-th call of a run fails: each of five accepted lines makes four calls.
 #[rattlefmt::skip]
 const FAILED: [usize; 24] = [
     0, 0, 0, 0, 2, 2, 2, 2, 3, 3, 3, 3, 5, 5, 5, 5, 7, 7, 7, 7, 8, 8, 8, 8,

@@ -8,12 +8,12 @@ use lv_pwad::{audit, build_wad, read_level};
 use std::alloc::Global;
 use std::test::Fail;
 
-/// How many steps lie between two places.
+// How many steps lie between two places.
 fn steps(from: Vertex, to: Vertex) -> usize {
     usize::from(from.x.abs_diff(to.x)).wrapping_add(usize::from(from.y.abs_diff(to.y)))
 }
 
-/// A side's line: where it begins and ends.
+// A side's line: where it begins and ends.
 #[derive(Clone, Copy, Drop)]
 struct Run {
     start: Vertex,
@@ -21,7 +21,7 @@ struct Run {
 }
 
 impl Run {
-    /// The line of a side; None where the map has no such side.
+    // The line of a side; None where the map has no such side.
     fn of(map: &Map, line: u32, side: u16) -> Option<Run> {
         let line = map.line(line)?;
         let v1 = map.vertex(u32::from(line.v1))?;
@@ -33,7 +33,7 @@ impl Run {
         }
     }
 
-    /// How far a place lies to the right, times the line's length.
+    // How far a place lies to the right, times the line's length.
     fn value(self, place: Vertex) -> i64 {
         let dx = i64::from(self.end.x) - i64::from(self.start.x);
         let dy = i64::from(self.end.y) - i64::from(self.start.y);
@@ -42,13 +42,13 @@ impl Run {
         dy.wrapping_mul(x).wrapping_sub(dx.wrapping_mul(y))
     }
 
-    /// The place lies on the right, to within rounding.
+    // The place lies on the right, to within rounding.
     fn sees(self, place: Vertex) -> bool {
         let about = i64::try_from(steps(self.start, self.end)).unwrap_or(0);
         self.value(place).wrapping_mul(2).wrapping_add(about) >= 0
     }
 
-    /// The two lie on one straight line and run in opposite directions.
+    // The two lie on one straight line and run in opposite directions.
     fn is_against(self, other: Run) -> bool {
         if self.value(other.start) != 0 || self.value(other.end) != 0 {
             return false;
@@ -63,14 +63,14 @@ impl Run {
     }
 }
 
-/// The places of a seg's ends.
+// The places of a seg's ends.
 fn ends(tree: &Built, seg: &Seg) -> Option<Run> {
     let start = tree.vertices.get(usize::from(seg.first)).copied()?;
     let end = tree.vertices.get(usize::from(seg.second)).copied()?;
     Some(Run { start, end })
 }
 
-/// Counts the steps from one to another place, of which there is one at least.
+// Counts the steps from one to another place, of which there is one at least.
 fn count_steps(counts: &mut [u8], from: usize, to: usize) -> bool {
     if from >= to || to > counts.len() {
         return false;
@@ -81,7 +81,7 @@ fn count_steps(counts: &mut [u8], from: usize, to: usize) -> bool {
     true
 }
 
-/// The segs of a side cover each of its steps once.
+// The segs of a side cover each of its steps once.
 fn is_covered(alloc: Global, tree: &Built, run: Run, line: u32, side: u16) -> Result<bool, Fail> {
     let mut counts = vec![in alloc; 0u8; steps(run.start, run.end)]?;
     for seg in &tree.segs {
@@ -99,7 +99,7 @@ fn is_covered(alloc: Global, tree: &Built, run: Run, line: u32, side: u16) -> Re
     Ok(counts.iter().all(|count| *count == 1))
 }
 
-/// Each side of each line is covered.
+// Each side of each line is covered.
 fn are_covered(alloc: Global, map: &Map, tree: &Built) -> Result<bool, Fail> {
     for number in 0..2 * map.count(Kind::Line) {
         let (line, side) = (number / 2, (number % 2) as u16);
@@ -112,7 +112,7 @@ fn are_covered(alloc: Global, map: &Map, tree: &Built) -> Result<bool, Fail> {
     Ok(true)
 }
 
-/// All segs lie on the right of the line of one of them, to within rounding, and none runs against it.
+// All segs lie on the right of the line of one of them, to within rounding, and none runs against it.
 fn are_seen(map: &Map, tree: &Built, from: Run, segs: &[Seg]) -> bool {
     for seg in segs {
         let line = Run::of(map, u32::from(seg.line), seg.side);
@@ -126,7 +126,7 @@ fn are_seen(map: &Map, tree: &Built, from: Run, segs: &[Seg]) -> bool {
     true
 }
 
-/// The segs of a subsector are convex to within rounding.
+// The segs of a subsector are convex to within rounding.
 fn is_convex(map: &Map, tree: &Built, segs: &[Seg]) -> bool {
     for seg in segs {
         match Run::of(map, u32::from(seg.line), seg.side) {
@@ -141,7 +141,7 @@ fn is_convex(map: &Map, tree: &Built, segs: &[Seg]) -> bool {
     true
 }
 
-/// The subsectors follow one another over all segs, and each is convex.
+// The subsectors follow one another over all segs, and each is convex.
 fn are_tiled(map: &Map, tree: &Built) -> bool {
     let mut next = 0usize;
     for sub in &tree.subs {
@@ -157,7 +157,7 @@ fn are_tiled(map: &Map, tree: &Built) -> bool {
     next == tree.segs.len()
 }
 
-/// Counts a child of a node: nodes stand first, then subsectors. A child that is a node is lower.
+// Counts a child of a node: nodes stand first, then subsectors. A child that is a node is lower.
 fn count_child(counts: &mut [u8], nodes: usize, node: usize, child: u16) -> bool {
     let place = if child < 0x8000 {
         usize::from(child)
@@ -171,7 +171,7 @@ fn count_child(counts: &mut [u8], nodes: usize, node: usize, child: u16) -> bool
     true
 }
 
-/// Each subsector, and each node but the last, is a child once.
+// Each subsector, and each node but the last, is a child once.
 fn are_children(alloc: Global, tree: &Built) -> Result<bool, Fail> {
     let nodes = tree.nodes.len();
     if nodes == 0 {
