@@ -1,5 +1,7 @@
-use Rattle.std.proofs.Common.{◌≡◌, ◌∙◌, ℕ, ap, subst}
+use Rattle.std.proofs.Common.{◌≡◌, ◌∙◌, ◌<◌, ℕ, length, ap, subst}
 use Rattle.lv_maptables.specs.Projects.{project_of}
+use Rattle.lv_journal.specs.Records.{IsJournal}
+use Rattle.lv_commands.specs.ProjectLines.{Leads}
 use Rattle.lv_checkpoint.specs.Handles.{generation_of, slot_of}
 use Rattle.lv_project.specs.Opening.{RefusesLines}
 use Rattle.lv_project.specs.Places.{cap_of, parts_of}
@@ -32,3 +34,30 @@ returns-in-Err-read_lines-clause-refused g c =
     (λ file read. c.in-Ok-read_slots.ensures.reads.still file (c.in-Ok.ensures.reads.still file read)) error
     (subst (λ (q : Parts). RefusesLines later (cap_of geometry) q (project_of r.1) error) parts
     (subst (λ (n : ℕ). RefusesLines later n c.parts-parts.result (project_of r.1) error) c.cap.ensures c.in-Err-read_lines.ensures.refused)))
+
+pub returns-in-Ok-read_lines-clause-opened : goal.returns-in-Ok-read_lines-clause-opened
+returns-in-Ok-read_lines-clause-opened g c file read =
+    let places = c.places-places.result in
+    let r = c.in-Ok-read_slots.found in
+    let j = c.in-Ok-read_lines.journal in
+    let parts : c.parts-parts.result ≡ parts_of places (slot_of r.0) = c.parts-parts.ensures ∙ ap (parts_of places) c.slot.ensures in
+    let later = c.in-Ok.ensures.reads.still file read in
+    let last = c.in-Ok-read_slots.ensures.reads.still file later in
+    let holds = c.in-Ok-read_slots.ensures.holds file later in
+    let sound = subst (λ (q : Parts). IsJournal q.journal j.records file) parts (c.in-Ok-read_lines.ensures.sound file last) in
+    record {
+      has = record { allowed = c.in-Ok.ensures.allowed; header = c.in-Ok.ensures.header file read; laid_out = c.places-places.ensures.laid_out };
+      stands = record {
+        base = project_of r.1;
+        bytes = holds.bytes;
+        lines = j.records;
+        well_formed = holds.well_formed;
+        body = holds.body;
+        live = holds.live;
+        journal = sound;
+        other = subst (λ (q : Parts). q.other_journal.base < length file) parts (c.in-Ok-read_lines.ensures.other file last);
+        leads = subst (λ (n : ℕ). Leads n (project_of r.1) j.records (project_of c.read_lines.new.maps)) c.cap.ensures c.in-Ok-read_lines.ensures.led;
+      };
+      slots = c.in-Ok-read_slots.ensures.slots file later;
+      journal = sound;
+    }
