@@ -1,5 +1,5 @@
 # Proves and builds `leveled`; `make demo` runs it on an example, `make test` is the whole gate, and
-# `make stress` kills the program in the midst of edits and looks at its edges.
+# `make stress` kills the program in the midst of edits, looks at its edges, and refuses each allocation in turn.
 # Wants the Rattle toolchain (`rt` on the PATH) and nothing else.
 
 PREFIX ?= /usr/local
@@ -33,13 +33,15 @@ demo: bin/leveled
 test:
 	rt ci
 
-# what the gate can't look at: kills at any moment, closed and full outputs, files that are no project, damaged projects and
-# PWADs, and trees of maps just at each limit and just above it
+# what the gate can't look at: kills at any moment, closed and full outputs, a full disk, files that are no project or can't
+# be read, damaged projects and PWADs, trees of maps just at each limit and just above it, and each allocation refused in turn
 stress: bin/leveled
 	bench/stops bin/leveled 200
 	sh crates/leveled/edges.sh bin/leveled
+	sh bench/faults bin/leveled
 	bench/damage bin/leveled
 	bench/limits
+	bench/memory
 
 # the program, its manual page, and what a user reads and runs
 install: bin/leveled

@@ -112,6 +112,20 @@ fn keeps_what_it_could_not_tell(rt: HostRuntime) -> Result<(), Fail> {
 }
 
 #[test]
+fn looks_at_no_line_behind_a_failed_answer(rt: HostRuntime) -> Result<(), Fail> {
+    let mut project = failing(rt.alloc(), 99)?;
+    let mut input = b"vertex 0 0\nvertex 128 0\nhex VERTEXES\n".as_slice();
+    let mut narrow = Narrow { room: 2 };
+    assert_eq!(rt;
+        run(rt.alloc(), &mut project, &mut input, &mut narrow, 2),
+        Err(EditorError::WriterFailed)
+    );
+    assert_eq!(rt; vertices(&project), 1);
+    assert_eq!(rt; vertices(&opened(rt.alloc(), project.into_disk())?), 1);
+    Ok(())
+}
+
+#[test]
 fn builds_what_a_disk_holds(rt: HostRuntime) -> Result<(), Fail> {
     let geometry = Geometry {
         slot: 300,
