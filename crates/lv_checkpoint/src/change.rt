@@ -85,8 +85,8 @@ impl Filled {
         ensures live { IfOk result (λ s. (live_of s ≡ other_of (filled_of self))
             × (other_of s ≡ live_of (filled_of self))) }
         ensures slot { IfOk result (λ s. slot_of s ≡ other_slot (slot_of (filled_of self))) }
-        ensures generation {
-            IfOk result (λ s. generation_of s ≡ generation_of (filled_of self) + 1) }
+        ensures generation { IfOk result
+            (λ s. generation_of s ≡ generation_of (filled_of self) + 1) }
         ensures other { IfOk result (λ s. finds_open s ≡ true) }
         ensures any_moment { LeavesOnly D.moment D.left_since disk.old disk.new
             (From (D.may_leave disk.old) (MayOpenOther (filled_of self))) }

@@ -53,10 +53,10 @@ pub fn read_body<D: Disk>(
     ensures len { IfOk result (λ body. length body.items ≡ len) }
     ensures told { IfOk result (λ body. Each (D.reads disk.old) (HasAt at body.items)) }
     ensures reads { OnlyReads D.reads D.may_leave D.moment D.left_since disk.old disk.new }
-    ensures count {
-        CountsFaults CheckpointError.Device (D.failures disk.old) (D.failures disk.new) result }
-    ensures no_other {
-        IfErr result (λ e. (e ≡ CheckpointError.Device) ⊎ (e ≡ CheckpointError.OutOfMemory)) }
+    ensures count { CountsFaults CheckpointError.Device (D.failures disk.old)
+        (D.failures disk.new) result }
+    ensures no_other { IfErr result
+        (λ e. (e ≡ CheckpointError.Device) ⊎ (e ≡ CheckpointError.OutOfMemory)) }
 {
     let mut body = vec![in alloc; 0; len as usize]?;
     disk.read(at, &mut body)?;
@@ -77,8 +77,8 @@ pub fn read_head<D: Disk>(
     ensures no_other { IfErr result (λ e.
         (e ≡ CheckpointError.Device) ⊎ (e ≡ CheckpointError.Damaged slot.base)) }
     ensures reads { OnlyReads D.reads D.may_leave D.moment D.left_since disk.old disk.new }
-    ensures count {
-        CountsFaults CheckpointError.Device (D.failures disk.old) (D.failures disk.new) result }
+    ensures count { CountsFaults CheckpointError.Device (D.failures disk.old)
+        (D.failures disk.new) result }
 {
     let place = slot.base;
     if end <= place {

@@ -19,18 +19,18 @@ pub fn stand_for_one_body()
         → IsLive a b g x file → ¬ IsDamagedAt a b p file }
     ensures nor_damaged { (a b : Area) (g p : ℕ) (x file : List ℕ)
         → IsLive b a g x file → ¬ IsDamagedAt a b p file }
-    ensures not_blank {
-        (a b : Area) (g : ℕ) (x file : List ℕ) → IsLive a b g x file → ¬ AreBlank a b file }
-    ensures nor_blank {
-        (a b : Area) (g : ℕ) (x file : List ℕ) → IsLive b a g x file → ¬ AreBlank a b file }
-    ensures nor_both {
-        (a b : Area) (p : ℕ) (file : List ℕ) → AreBlank a b file → ¬ IsDamagedAt a b p file }
+    ensures not_blank { (a b : Area) (g : ℕ) (x file : List ℕ) → IsLive a b g x file
+        → ¬ AreBlank a b file }
+    ensures nor_blank { (a b : Area) (g : ℕ) (x file : List ℕ) → IsLive b a g x file
+        → ¬ AreBlank a b file }
+    ensures nor_both { (a b : Area) (p : ℕ) (file : List ℕ) → AreBlank a b file
+        → ¬ IsDamagedAt a b p file }
 {}
 
 /// What the bytes of two slots stand for depends on these bytes alone.
 pub fn stand_by_themselves()
-    ensures kept {
-        (live other : Area) (generation : ℕ) (body : List ℕ) (at n : ℕ) (old new : List ℕ)
+    ensures kept { (live other : Area) (generation : ℕ) (body : List ℕ) (at n : ℕ)
+        (old new : List ℕ)
         → 0 < other.length → IsApart live at n → IsApart other at n → KeepsOutside at n old new
         → IsLive live other generation body old → IsLive live other generation body new }
 {}

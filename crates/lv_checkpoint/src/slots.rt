@@ -60,7 +60,7 @@ impl Slots {
             → ((file : List ℕ) → Shows a first file → Shows b second file → AreBlank a b file) }
         ensures damaged { IfErr result (λ e. IfDamaged e (λ place. (place ≡ b.base)
             × ((file : List ℕ) → Shows a first file → Shows b second file
-                → AreOneGeneration a b file))) }
+            → AreOneGeneration a b file))) }
         ensures no_other { IfErr result (λ e.
             (e ≡ CheckpointError.Blank) ⊎ (e ≡ CheckpointError.Damaged b.base)) }
     {
@@ -154,25 +154,25 @@ impl Slots {
 
         // The slots and the body are those that the bytes stand for.
         ensures areas { IfOk result (λ r. (first_of r.0 ≡ a) × (second_of r.0 ≡ b)) }
-        ensures tells {
-            IfOk result (λ r. (slot_of r.0 ≡ r.1.slot) × (generation_of r.0 ≡ r.1.generation)) }
+        ensures tells { IfOk result
+            (λ r. (slot_of r.0 ≡ r.1.slot) × (generation_of r.0 ≡ r.1.generation)) }
         ensures which { IfOk result (λ r. r.1.slot ≤ 1) }
         ensures fits { IfOk result (λ r. 13 + length r.1.body.items ≤ (live_of r.0).length) }
         ensures sound { IfOk result (λ r. Each (D.reads disk.old) (HasSlots r.0 r.1.body.items)) }
-        ensures ready {
-            IfOk result (λ r. Each (D.may_leave disk.new) (HasSlots r.0 r.1.body.items)) }
+        ensures ready { IfOk result
+            (λ r. Each (D.may_leave disk.new) (HasSlots r.0 r.1.body.items)) }
 
         ensures damaged { IfErr result (λ e. IfDamaged e (λ place.
             Each (D.reads disk.old) (IsDamagedAt a b place))) }
-        ensures blank {
-            IsErrOf result CheckpointError.Blank → Each (D.reads disk.old) (AreBlank a b) }
+        ensures blank { IsErrOf result CheckpointError.Blank
+            → Each (D.reads disk.old) (AreBlank a b) }
         ensures no_other { IfErr result RefusesOpen }
 
         // It writes nothing.
         ensures reads { OnlyReads D.reads D.may_leave D.moment D.left_since disk.old disk.new }
         ensures only { Each (D.may_leave disk.new) (D.reads disk.new) }
-        ensures count {
-            CountsFaults CheckpointError.Device (D.failures disk.old) (D.failures disk.new) result }
+        ensures count { CountsFaults CheckpointError.Device (D.failures disk.old)
+            (D.failures disk.new) result }
     {
         let end = disk.len()?;
         let first = read_head(disk, a, end)?;

@@ -65,7 +65,7 @@ fn count_edge(
     requires { HasRoom 1 degrees.old }
     ensures { OnOk result
         (AddsEdges degrees.old degrees.new
-            ((record { sector = sector; from = from; to = to }) ∷ [])) }
+        ((record { sector = sector; from = from; to = to }) ∷ [])) }
 {
     leave(degrees, (sector, from))?;
     reach(degrees, (sector, to))

@@ -82,8 +82,10 @@ with_room m r =
 abbrev pub room_faults : Tables → RoomPlan → List (ℕ × Bool)
 room_faults m r =
     (code_of PlaceTaken, list_any (is_taken m.vertices) (corners r))
-    ∷ (code_of TableFull,
-        lacks_room m.vertices 4 || lacks_sector_room m.sectors 1 || lacks_room m.sides 4 || lacks_room m.lines 4)
+    ∷ (
+      code_of TableFull,
+      lacks_room m.vertices 4 || lacks_sector_room m.sectors 1 || lacks_room m.sides 4 || lacks_room m.lines 4,
+    )
     ∷ []
 
 -- four items of one kind

@@ -44,8 +44,7 @@ fn has_corner_taken(map: &Map, plan: &RoomPlan) -> bool
 
 // Whether a table has no room for what a room adds to it.
 fn lacks_room_for_room(map: &Map) -> bool
-    ensures {
-        result ≡ (lacks_room map.now.tables.vertices 4 || lacks_sector_room map.now.tables.sectors 1
+    ensures { result ≡ (lacks_room map.now.tables.vertices 4 || lacks_sector_room map.now.tables.sectors 1
         || lacks_room map.now.tables.sides 4 || lacks_room map.now.tables.lines 4) }
 {
     lacks_room(map, Kind::Vertex, 4)
@@ -87,7 +86,7 @@ fn has_long_half(map: &Map, line: &Line, at: Vertex) -> bool
     requires { HasEnds map.now.tables.vertices line.now }
     ensures { let vertices = map.now.tables.vertices ++ at ∷ [] in result
         ≡ (is_too_long vertices (cut_short line.now (length map.now.tables.vertices))
-            || is_too_long vertices (cut_off line.now (length map.now.tables.vertices))) }
+        || is_too_long vertices (cut_off line.now (length map.now.tables.vertices))) }
 {
     let start = vertex_of(map, line.v1);
     let end = vertex_of(map, line.v2);

@@ -32,8 +32,7 @@ const LAST_SECTOR: u16 = 4095;
 
 // Whether the room has some width and some height.
 fn has_area(plan: &RoomPlan) -> bool
-    ensures {
-        result ≡ (int_lt plan.now.west plan.now.east && int_lt plan.now.south plan.now.north) }
+    ensures { result ≡ (int_lt plan.now.west plan.now.east && int_lt plan.now.south plan.now.north) }
 {
     plan.west < plan.east && plan.south < plan.north
 }
@@ -150,8 +149,8 @@ impl<'a> Places<'a> {
         requires { (reading self).fault ≡ None }
         ensures ok { IfOk result (λ r. ((reading self.entry).words ≡ decimal r.0 ∷ vertex_words r.1)
             × (r.0 ≤ 32766) × IsVertex r.1) }
-        ensures fault {
-            TellsFault result (places_fault (item ∷ vertex_places) (reading self.entry).words) }
+        ensures fault { TellsFault result
+            (places_fault (item ∷ vertex_places) (reading self.entry).words) }
     {
         let number = self.item(LAST_ITEM);
         match self.vertex() {
@@ -165,9 +164,8 @@ impl<'a> Places<'a> {
         requires { (reading self).fault ≡ None }
         ensures ok { IfOk result (λ r. ((reading self.entry).words ≡ decimal r.0 ∷ sector_words r.1)
             × (r.0 ≤ 4095) × IsSector r.1) }
-        ensures fault {
-            TellsFault result
-                (places_fault (sector_item ∷ sector_places) (reading self.entry).words) }
+        ensures fault { TellsFault result
+            (places_fault (sector_item ∷ sector_places) (reading self.entry).words) }
     {
         let number = self.item(LAST_SECTOR);
         match self.sector() {
@@ -181,8 +179,8 @@ impl<'a> Places<'a> {
         requires { (reading self).fault ≡ None }
         ensures ok { IfOk result (λ r. ((reading self.entry).words ≡ decimal r.0 ∷ side_words r.1)
             × (r.0 ≤ 32766) × IsSide r.1) }
-        ensures fault {
-            TellsFault result (places_fault (item ∷ side_places) (reading self.entry).words) }
+        ensures fault { TellsFault result
+            (places_fault (item ∷ side_places) (reading self.entry).words) }
     {
         let number = self.item(LAST_ITEM);
         match self.side() {
@@ -196,8 +194,8 @@ impl<'a> Places<'a> {
         requires { (reading self).fault ≡ None }
         ensures ok { IfOk result (λ r. ((reading self.entry).words ≡ decimal r.0 ∷ line_words r.1)
             × (r.0 ≤ 32766) × IsLine r.1) }
-        ensures fault {
-            TellsFault result (places_fault (item ∷ line_places) (reading self.entry).words) }
+        ensures fault { TellsFault result
+            (places_fault (item ∷ line_places) (reading self.entry).words) }
     {
         let number = self.item(LAST_ITEM);
         match self.line() {
@@ -211,8 +209,8 @@ impl<'a> Places<'a> {
         requires { (reading self).fault ≡ None }
         ensures ok { IfOk result (λ r. ((reading self.entry).words ≡ decimal r.0 ∷ thing_words r.1)
             × (r.0 ≤ 32766) × IsThing r.1) }
-        ensures fault {
-            TellsFault result (places_fault (item ∷ thing_places) (reading self.entry).words) }
+        ensures fault { TellsFault result
+            (places_fault (item ∷ thing_places) (reading self.entry).words) }
     {
         let number = self.item(LAST_ITEM);
         match self.thing() {
@@ -273,8 +271,8 @@ impl<'a> Places<'a> {
     /// A table and the number of an item of it.
     pub fn kind_and_item(mut self) -> Result<(Kind, u16), CommandError>
         requires { (reading self).fault ≡ None }
-        ensures ok {
-            IfOk result (λ r. ((reading self.entry).words ≡ kind_word r.0 ∷ decimal r.1 ∷ [])
+        ensures ok { IfOk result
+            (λ r. ((reading self.entry).words ≡ kind_word r.0 ∷ decimal r.1 ∷ [])
             × (r.1 ≤ last_of r.0)) }
         ensures fault { TellsFault result (drop_fault (reading self.entry).words) }
     {
@@ -296,8 +294,8 @@ impl<'a> Places<'a> {
         requires { (reading self).fault ≡ None }
         ensures ok { IfOk result (λ n. ((reading self.entry).words ≡ name_text n ∷ [])
             × IsNamed is_marker n) }
-        ensures fault {
-            TellsFault result (places_fault (Named is_marker ∷ []) (reading self.entry).words) }
+        ensures fault { TellsFault result
+            (places_fault (Named is_marker ∷ []) (reading self.entry).words) }
     {
         let name = self.marker();
         match self.finish() {

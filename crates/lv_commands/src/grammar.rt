@@ -18,9 +18,8 @@ pub const LONGEST_LINE: usize = 256;
 // The command whose words stand behind the first.
 fn command(head: Head, places: Places) -> Result<Command, CommandError>
     requires { (reading places).fault ≡ None }
-    ensures ok {
-        IfOk result (λ c.
-            (head_word head ∷ (reading places.entry).words ≡ words_of c) × InRange c) }
+    ensures ok { IfOk result (λ c.
+        (head_word head ∷ (reading places.entry).words ≡ words_of c) × InRange c) }
     ensures fault { TellsFault result (fault_behind head (reading places.entry).words) }
 {
     let command = match head {

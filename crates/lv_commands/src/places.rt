@@ -50,8 +50,8 @@ impl<'a> Places<'a> {
 
     // Keeps the fault, if it comes before the one so far.
     fn note(&mut self, error: CommandError)
-        ensures fault {
-            (reading self.new).fault ≡ first_of (reading self.old).fault (Some (code_of error)) }
+        ensures fault { (reading self.new).fault
+            ≡ first_of (reading self.old).fault (Some (code_of error)) }
         ensures words { (reading self.new).words ≡ (reading self.old).words }
     {
         match (self.fault, error) {
@@ -63,8 +63,8 @@ impl<'a> Places<'a> {
     /// A number between two bounds. After a fault it answers some number between them.
     pub fn number(&mut self, low: i16, high: i16) -> i16
         requires { low ≤ℤ high }
-        ensures reads {
-            Reads (reading self.old) (reading self.new) (Number low high) (signed_decimal result) }
+        ensures reads { Reads (reading self.old) (reading self.new) (Number low high)
+            (signed_decimal result) }
         ensures range { IsBetween low high result }
     {
         match self.next() {
@@ -85,9 +85,8 @@ impl<'a> Places<'a> {
     /// The number of an item.
     pub fn item(&mut self, last: u16) -> u16
         requires { last ≤ 32767 }
-        ensures reads {
-            Reads (reading self.old) (reading self.new) (Number (pos 0) (pos last))
-                (decimal result) }
+        ensures reads { Reads (reading self.old) (reading self.new) (Number (pos 0) (pos last))
+            (decimal result) }
         ensures range { result ≤ last }
     {
         self.number(0, last as i16) as u16
@@ -121,8 +120,8 @@ impl<'a> Places<'a> {
 
     /// The name of a flat or a texture. After a fault it answers some name.
     pub fn name(&mut self) -> Name8
-        ensures reads {
-            Reads (reading self.old) (reading self.new) (Named is_name) (name_text result) }
+        ensures reads { Reads (reading self.old) (reading self.new) (Named is_name)
+            (name_text result) }
         ensures range { IsNamed is_name result }
     {
         match self.next() {
@@ -142,8 +141,8 @@ impl<'a> Places<'a> {
 
     /// The name of a map. After a fault it answers some name.
     pub fn marker(&mut self) -> Name8
-        ensures reads {
-            Reads (reading self.old) (reading self.new) (Named is_marker) (name_text result) }
+        ensures reads { Reads (reading self.old) (reading self.new) (Named is_marker)
+            (name_text result) }
         ensures range { IsNamed is_marker result }
     {
         match self.next() {

@@ -84,8 +84,8 @@ impl Text {
 
     /// The words of a place.
     pub fn vertex(self, vertex: &Vertex) -> Result<Self, AllocError>
-        ensures {
-            IfOk result (λ t. Adds self t (32 ∷ join_with_byte 32 (vertex_words vertex.now))) }
+        ensures { IfOk result
+            (λ t. Adds self t (32 ∷ join_with_byte 32 (vertex_words vertex.now))) }
     {
         self.number(&vertex.x)?.number(&vertex.y)
     }
@@ -94,8 +94,8 @@ impl Text {
     #[tactic(auto, using(crate::proofs::Padding::name_utf8))]
     pub fn sector(self, sector: &Sector) -> Result<Self, AllocError>
         requires { IsSector sector.now }
-        ensures {
-            IfOk result (λ t. Adds self t (32 ∷ join_with_byte 32 (sector_words sector.now))) }
+        ensures { IfOk result
+            (λ t. Adds self t (32 ∷ join_with_byte 32 (sector_words sector.now))) }
     {
         self.number(&sector.floor)?
             .number(&sector.ceiling)?
@@ -163,9 +163,8 @@ impl Text {
     }
     /// The number of a vertex, and the words of a place.
     pub fn numbered_vertex(self, n: u16, vertex: &Vertex) -> Result<Self, AllocError>
-        ensures {
-            IfOk result (λ t. Adds self t
-                (32 ∷ join_with_byte 32 (decimal n ∷ vertex_words vertex.now))) }
+        ensures { IfOk result (λ t. Adds self t
+            (32 ∷ join_with_byte 32 (decimal n ∷ vertex_words vertex.now))) }
     {
         self.item(n)?.vertex(vertex)
     }
@@ -173,9 +172,8 @@ impl Text {
     /// The number of a sector, and its words.
     pub fn numbered_sector(self, n: u16, sector: &Sector) -> Result<Self, AllocError>
         requires { IsSector sector.now }
-        ensures {
-            IfOk result (λ t. Adds self t
-                (32 ∷ join_with_byte 32 (decimal n ∷ sector_words sector.now))) }
+        ensures { IfOk result (λ t. Adds self t
+            (32 ∷ join_with_byte 32 (decimal n ∷ sector_words sector.now))) }
     {
         self.item(n)?.sector(sector)
     }
@@ -183,36 +181,32 @@ impl Text {
     /// The number of a side, and its words.
     pub fn numbered_side(self, n: u16, side: &Side) -> Result<Self, AllocError>
         requires { IsSide side.now }
-        ensures {
-            IfOk result (λ t. Adds self t
-                (32 ∷ join_with_byte 32 (decimal n ∷ side_words side.now))) }
+        ensures { IfOk result (λ t. Adds self t
+            (32 ∷ join_with_byte 32 (decimal n ∷ side_words side.now))) }
     {
         self.item(n)?.side(side)
     }
 
     /// The number of a line, and its words.
     pub fn numbered_line(self, n: u16, line: &Line) -> Result<Self, AllocError>
-        ensures {
-            IfOk result (λ t. Adds self t
-                (32 ∷ join_with_byte 32 (decimal n ∷ line_words line.now))) }
+        ensures { IfOk result (λ t. Adds self t
+            (32 ∷ join_with_byte 32 (decimal n ∷ line_words line.now))) }
     {
         self.item(n)?.line(line)
     }
 
     /// The number of a thing, and its words.
     pub fn numbered_thing(self, n: u16, thing: &Thing) -> Result<Self, AllocError>
-        ensures {
-            IfOk result (λ t. Adds self t
-                (32 ∷ join_with_byte 32 (decimal n ∷ thing_words thing.now))) }
+        ensures { IfOk result (λ t. Adds self t
+            (32 ∷ join_with_byte 32 (decimal n ∷ thing_words thing.now))) }
     {
         self.item(n)?.thing(thing)
     }
 
     /// The word of a table, and the number of an item of it.
     pub fn item_of(self, kind: Kind, n: u16) -> Result<Self, AllocError>
-        ensures {
-            IfOk result (λ t. Adds self t
-                (32 ∷ join_with_byte 32 (kind_word kind ∷ decimal n ∷ []))) }
+        ensures { IfOk result (λ t. Adds self t
+            (32 ∷ join_with_byte 32 (kind_word kind ∷ decimal n ∷ []))) }
     {
         self.word(kind_text(kind))?.item(n)
     }

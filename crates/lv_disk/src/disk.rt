@@ -49,16 +49,15 @@ pub trait Disk {
 
     /// Writes the bytes from `at` on. Past the end it makes the gap read as zero; no bytes change nothing anywhere.
     fn write_at(&mut self, at: u64, from: &[u8]) -> Result<(), DeviceFault>
-        ensures written {
-            OnOk result (Follows (Written at from.now) (reads self.old) (reads self.new)) }
-        ensures leads {
-            OnOk result (Leads (Written at from.now) (reads self.old) (reads self.new)) }
-        ensures failed {
-            OnErr result (Follows (Failed at (length from.now)) (reads self.old) (reads self.new)) }
-        ensures leads_failed {
-            OnErr result (Leads (Failed at (length from.now)) (reads self.old) (reads self.new)) }
-        ensures images {
-            Follows (Torn at (length from.now)) (may_leave self.old) (may_leave self.new) }
+        ensures written { OnOk result
+            (Follows (Written at from.now) (reads self.old) (reads self.new)) }
+        ensures leads { OnOk result
+            (Leads (Written at from.now) (reads self.old) (reads self.new)) }
+        ensures failed { OnErr result
+            (Follows (Failed at (length from.now)) (reads self.old) (reads self.new)) }
+        ensures leads_failed { OnErr result (Leads (Failed at (length from.now)) (reads self.old) (reads self.new)) }
+        ensures images { Follows (Torn at (length from.now)) (may_leave self.old)
+            (may_leave self.new) }
         ensures kept { Each (may_leave self.old) (may_leave self.new) }
         ensures time { Elapses (moment self.old) (moment self.new)
             (left_since self.old) (left_since self.new) (may_leave self.new) }
@@ -78,28 +77,26 @@ pub trait Disk {
     ghost reads_an_image: { (disk : Self) (file : List ℕ) → reads disk file → may_leave disk file };
 
     /// This moment is one of those since an earlier one.
-    ghost counts_now: {
-        (disk : Self) (t : ℕ) (file : List ℕ)
+    ghost counts_now: { (disk : Self) (t : ℕ) (file : List ℕ)
         → t ≤ moment disk → may_leave disk file → left_since disk t file };
 
     /// Since this moment there is no other.
-    ghost only_now: {
-        (disk : Self) (file : List ℕ) → left_since disk (moment disk) file → may_leave disk file };
+    ghost only_now: { (disk : Self) (file : List ℕ) → left_since disk (moment disk) file
+        → may_leave disk file };
 }
 
 /// A write, and then a sync.
 pub fn write_through<D: Disk>(disk: &mut D, at: u64, from: &[u8]) -> Result<(), DeviceFault>
-    ensures done {
-        OnOk result (Follows (Written at from.now) (D.may_leave disk.old) (D.may_leave disk.new)) }
+    ensures done { OnOk result
+        (Follows (Written at from.now) (D.may_leave disk.old) (D.may_leave disk.new)) }
     ensures durable { OnOk result (Each (D.may_leave disk.new) (D.reads disk.new)) }
-    ensures written {
-        OnOk result (Follows (Written at from.now) (D.reads disk.old) (D.reads disk.new)) }
-    ensures leads {
-        OnOk result (Leads (Written at from.now) (D.reads disk.old) (D.reads disk.new)) }
-    ensures failed {
-        OnErr result (Follows (Failed at (length from.now)) (D.reads disk.old) (D.reads disk.new)) }
-    ensures leads_failed {
-        OnErr result (Leads (Failed at (length from.now)) (D.reads disk.old) (D.reads disk.new)) }
+    ensures written { OnOk result
+        (Follows (Written at from.now) (D.reads disk.old) (D.reads disk.new)) }
+    ensures leads { OnOk result
+        (Leads (Written at from.now) (D.reads disk.old) (D.reads disk.new)) }
+    ensures failed { OnErr result
+        (Follows (Failed at (length from.now)) (D.reads disk.old) (D.reads disk.new)) }
+    ensures leads_failed { OnErr result (Leads (Failed at (length from.now)) (D.reads disk.old) (D.reads disk.new)) }
     ensures any_moment { LeavesOnly D.moment D.left_since disk.old disk.new
         (From (D.may_leave disk.old) (Torn at (length from.now))) }
     ensures count { Counted (D.failures disk.old) (D.failures disk.new) result }

@@ -88,7 +88,7 @@ impl<D: Disk> FaultDisk<D> {
         ensures kept { Each (D.may_leave (inner_of self.old)) (D.may_leave (inner_of self.new)) }
         ensures time { let old = inner_of self.old in let new = inner_of self.new in
             Elapses (D.moment old) (D.moment new) (D.left_since old) (D.left_since new)
-                (D.may_leave new) }
+            (D.may_leave new) }
         ensures count { Counted (own_failures self.old + D.failures (inner_of self.old))
             (own_failures self.new + D.failures (inner_of self.new)) result }
         ensures left { left_of self.new ≡ 0 }
@@ -125,15 +125,15 @@ impl<D: Disk> Disk for FaultDisk<D> {
     ghost only_now = { λ d file left. D.only_now d.inner file left };
 
     fn len(&mut self) -> Result<u64, DeviceFault>
-        ensures told {
-            IfOk result (λ n. Each (D.reads (inner_of self.old)) (λ file. n ≡ length file)) }
+        ensures told { IfOk result
+            (λ n. Each (D.reads (inner_of self.old)) (λ file. n ≡ length file)) }
         ensures reads { Each (D.reads (inner_of self.new)) (D.reads (inner_of self.old)) }
         ensures still { Each (D.reads (inner_of self.old)) (D.reads (inner_of self.new)) }
         ensures images { Each (D.may_leave (inner_of self.new)) (D.may_leave (inner_of self.old)) }
         ensures kept { Each (D.may_leave (inner_of self.old)) (D.may_leave (inner_of self.new)) }
         ensures time { let old = inner_of self.old in let new = inner_of self.new in
             Elapses (D.moment old) (D.moment new) (D.left_since old) (D.left_since new)
-                (D.may_leave new) }
+            (D.may_leave new) }
         ensures count { Counted (own_failures self.old + D.failures (inner_of self.old))
             (own_failures self.new + D.failures (inner_of self.new)) result }
 
@@ -156,7 +156,7 @@ impl<D: Disk> Disk for FaultDisk<D> {
         ensures kept { Each (D.may_leave (inner_of self.old)) (D.may_leave (inner_of self.new)) }
         ensures time { let old = inner_of self.old in let new = inner_of self.new in
             Elapses (D.moment old) (D.moment new) (D.left_since old) (D.left_since new)
-                (D.may_leave new) }
+            (D.may_leave new) }
         ensures count { Counted (own_failures self.old + D.failures (inner_of self.old))
             (own_failures self.new + D.failures (inner_of self.new)) result }
 
@@ -184,14 +184,14 @@ impl<D: Disk> Disk for FaultDisk<D> {
         ensures kept { Each (D.may_leave (inner_of self.old)) (D.may_leave (inner_of self.new)) }
         ensures time { let old = inner_of self.old in let new = inner_of self.new in
             Elapses (D.moment old) (D.moment new) (D.left_since old) (D.left_since new)
-                (D.may_leave new) }
+            (D.may_leave new) }
         ensures count { Counted (own_failures self.old + D.failures (inner_of self.old))
             (own_failures self.new + D.failures (inner_of self.new)) result }
 
         // Beyond what every disk promises: which call fails, and that the others are those of the disk inside.
         ensures call { IsCounted D.failures self.old self.new result }
-        ensures untouched {
-            left_of self.old ≡ 1 → part_of self.old ≡ 0 → inner_of self.new ≡ inner_of self.old }
+        ensures untouched { left_of self.old ≡ 1 → part_of self.old ≡ 0 → inner_of self.new
+            ≡ inner_of self.old }
         ensures part { left_of self.old ≡ 1 → 0 < part_of self.old
             → PutsDown at (take (part_of self.old) from.now) D.reads D.may_leave D.failures
             (inner_of self.old) (inner_of self.new) }
@@ -203,14 +203,14 @@ impl<D: Disk> Disk for FaultDisk<D> {
     }
 
     fn sync(&mut self) -> Result<(), DeviceFault>
-        ensures durable {
-            OnOk result (Each (D.may_leave (inner_of self.new)) (D.reads (inner_of self.new))) }
+        ensures durable { OnOk result
+            (Each (D.may_leave (inner_of self.new)) (D.reads (inner_of self.new))) }
         ensures reads { Each (D.reads (inner_of self.new)) (D.reads (inner_of self.old)) }
         ensures still { Each (D.reads (inner_of self.old)) (D.reads (inner_of self.new)) }
         ensures images { Each (D.may_leave (inner_of self.new)) (D.may_leave (inner_of self.old)) }
         ensures time { let old = inner_of self.old in let new = inner_of self.new in
             Elapses (D.moment old) (D.moment new) (D.left_since old) (D.left_since new)
-                (D.may_leave new) }
+            (D.may_leave new) }
         ensures count { Counted (own_failures self.old + D.failures (inner_of self.old))
             (own_failures self.new + D.failures (inner_of self.new)) result }
 

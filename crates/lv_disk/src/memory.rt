@@ -49,8 +49,8 @@ impl MemoryDisk {
         ensures image { IsImage (medium_of self.now) (stopped (medium_of self.now) fill longest) }
         ensures begins { IfOk result (Begins (stopped (medium_of self.now) fill longest)
             (room_of self.now) (log_of self.now)) }
-        ensures only {
-            IfOk result (λ d. Each (IsImage (medium_of d)) (λ image. image ≡ (medium_of d).file)) }
+        ensures only { IfOk result
+            (λ d. Each (IsImage (medium_of d)) (λ image. image ≡ (medium_of d).file)) }
     {
         let size = if longest {
             self.file.len()
@@ -124,7 +124,7 @@ impl MemoryDisk {
     fn has_room(&self, at: u64, size: usize) -> bool
         ensures { IsTrue result
             ↔ ((at + size ≤ room_of self.now)
-                × (size_of (calls_of self.now) + 16 + size ≤ log_of self.now)) }
+            × (size_of (calls_of self.now) + 16 + size ≤ log_of self.now)) }
     {
         let room = self.file.most();
         let within = at <= room as u64 && size <= room - at as usize;

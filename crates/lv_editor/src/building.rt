@@ -76,8 +76,8 @@ fn with_nth(
     n: u32,
     counts: Counts,
 ) -> Result<Counts, BuildError>
-    ensures counted {
-        IfOk result (λ more. (m : Tables) → slice_get (project_of maps.now).maps n ≡ Some m
+    ensures counted { IfOk result
+        (λ more. (m : Tables) → slice_get (project_of maps.now).maps n ≡ Some m
         → CountsMore counts (level_of wad.now m) more) }
     ensures memory { IsOkUnless result BuildError.OutOfMemory }
 {
@@ -117,12 +117,12 @@ pub struct BuiltWad {
 
 /// Builds the PWAD of all maps of a project, and counts what it holds.
 pub fn build_counted(alloc: Global, maps: &Maps) -> Result<BuiltWad, BuildError>
-    ensures counted {
-        IfOk result (λ built. IsCounted (project_of maps.now).maps built.bytes.items built.counts) }
+    ensures counted { IfOk result
+        (λ built. IsCounted (project_of maps.now).maps built.bytes.items built.counts) }
     ensures buildable { OnOk result (All IsBuildable (project_of maps.now).maps) }
     ensures refused { IfErr result (IsRefusalOfAll (project_of maps.now).maps) }
-    ensures nothing {
-        (m : Tables) → slice_get (project_of maps.now).maps 0 ≡ Some m → length m.lines ≡ 0
+    ensures nothing { (m : Tables) → slice_get (project_of maps.now).maps 0 ≡ Some m
+        → length m.lines ≡ 0
         → result ≡ Err NothingToBuild }
 {
     let bytes = match build_all(alloc, maps) {
@@ -147,8 +147,8 @@ pub fn write_wad<W: Write>(alloc: Global, maps: &Maps, writer: &mut W) -> Result
     ensures refused { IfErr result (λ e. RefusesWriting (project_of maps.now).maps e
         (W.contents writer.old) (W.contents writer.new)) }
     // With or without memory, where the first map has no line.
-    ensures nothing {
-        (m : Tables) → slice_get (project_of maps.now).maps 0 ≡ Some m → length m.lines ≡ 0
+    ensures nothing { (m : Tables) → slice_get (project_of maps.now).maps 0 ≡ Some m
+        → length m.lines ≡ 0
         → result ≡ Err (WriteError.Build NothingToBuild) }
 {
     let built = match build_counted(alloc, maps) {
@@ -189,8 +189,8 @@ fn build_into<F: Write + OpenFile>(
     maps: &Maps,
     file: &mut F,
 ) -> Result<Counts, Refusal>
-    ensures {
-        IfOk result (λ counts. (wad : List ℕ) × IsCounted (project_of maps.now).maps wad counts) }
+    ensures { IfOk result
+        (λ counts. (wad : List ℕ) × IsCounted (project_of maps.now).maps wad counts) }
 {
     let counts = match write_wad(alloc, maps, file) {
         Ok(counts) => counts,

@@ -77,7 +77,7 @@ fn behind(vertices: &[Vertex], count: u32) -> &[Vertex]
 fn added(alloc: Global, map: &Map, level: &Level) -> Result<Vec<u8>, LumpError>
     ensures { IfOk result (λ v. v.items
         ≡ flat_map vertex_record (drop (length map.now.tables.vertices)
-            (view level.now).vertices)) }
+        (view level.now).vertices)) }
 {
     encode_vertices(alloc, behind(&level.vertices, map.count(Kind::Vertex)))
 }
@@ -141,8 +141,8 @@ pub fn write_built<W: Write>(
     lump: BuiltLump,
     writer: &mut W,
 ) -> Result<(), EditorError>
-    ensures {
-        WritesBuilt result map.now.tables lump (W.contents writer.old) (W.contents writer.new) }
+    ensures { WritesBuilt result map.now.tables lump (W.contents writer.old)
+        (W.contents writer.new) }
 {
     match build_level(alloc, map) {
         Ok(level) => write_lump(alloc, map, &level, lump, writer),

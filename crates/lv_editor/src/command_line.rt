@@ -154,8 +154,8 @@ fn owned(alloc: Global, text: &str) -> Result<String, RequestError>
 
 // The text of an argument.
 fn text(alloc: Global, found: &ArgMatches<'_>, id: &str) -> Result<String, RequestError>
-    ensures given {
-        IfOk result (λ s. first_of id.now (rows_of (found_of found.now)) ≡ Some (string_bytes s)) }
+    ensures given { IfOk result
+        (λ s. first_of id.now (rows_of (found_of found.now)) ≡ Some (string_bytes s)) }
     ensures refused { IfErr result (RefusesText id.now (rows_of (found_of found.now))) }
 {
     match found.get_str(id) {

@@ -71,8 +71,8 @@ impl Drawing {
         query: Query,
         writer: &mut W,
     ) -> Result<(), EditorError>
-        ensures {
-            WritesAnswer result self.now query (W.contents writer.old) (W.contents writer.new) }
+        ensures { WritesAnswer result self.now query (W.contents writer.old)
+            (W.contents writer.new) }
     {
         write_answer(alloc, &self.maps, query, writer)
     }

@@ -36,7 +36,7 @@ fn outcome_in(ended: Result<u32, ProjectError>) -> Result<u32, u16>
 fn change<D: Disk>(project: &mut Project<D>, line: &[u8]) -> Result<u32, u16>
     ensures { (answer : Result ℕ ProjectError)
         × Applies D.moment D.failures D.left_since D.may_leave project.old line.now answer
-            project.new
+        project.new
         × (result ≡ outcome_in answer) }
 {
     outcome_in(project.apply(line))
@@ -106,8 +106,8 @@ pub fn answer<D: Disk, W: Write>(
     line: &[u8],
     writer: &mut W,
 ) -> Result<(), EditorError>
-    ensures answered {
-        AnswersLine (RepliesInProject D.moment D.failures D.left_since D.may_leave) result
+    ensures answered { AnswersLine
+        (RepliesInProject D.moment D.failures D.left_since D.may_leave) result
         project.old project.new line.now (W.contents writer.old) (W.contents writer.new) }
 
     // A stop at any moment of the call leaves the maps, or those that the line leads to.
@@ -119,7 +119,7 @@ pub fn answer<D: Disk, W: Write>(
     ensures kept { IsKept D.may_leave project.new }
     ensures in_doubt { project.old.must_reopen ≡ false → project.new.must_reopen ≡ true
         → Each (D.may_leave project.new.disk)
-            (IsOutcome project.new.cap (project_of project.new.maps) line.now) }
+        (IsOutcome project.new.cap (project_of project.new.maps) line.now) }
 {
     // What each image stands for as the call begins, which this call tells.
     let _ = project.must_reopen();

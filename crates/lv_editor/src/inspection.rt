@@ -103,7 +103,7 @@ fn write_back<W: Write>(
 fn write_lengths<W: Write>(level: &Level, writer: &mut W) -> Result<(), InspectError>
     ensures { MatchResult result
         (λ _. Appends (W.contents writer.old) (W.contents writer.new)
-            (lengths_text (view level.now)))
+        (lengths_text (view level.now)))
         (λ e. e ≡ WriterFailed) }
 {
     let things = level.things.len();

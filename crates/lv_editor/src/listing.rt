@@ -29,7 +29,7 @@ fn write_name<W: Write>(name: &[u8], writer: &mut W) -> Result<(), EditorError>
 fn write_map<W: Write>(number: u32, map: &Map, writer: &mut W) -> Result<(), EditorError>
     ensures { MatchResult result
         (λ _. Appends (W.contents writer.old) (W.contents writer.new)
-            (map_line number map.now.tables))
+        (map_line number map.now.tables))
         (λ e. e ≡ WriterFailed) }
 {
     let name = map.name();
@@ -85,7 +85,7 @@ fn write_current<W: Write>(number: u32, writer: &mut W) -> Result<(), EditorErro
 pub fn write_maps<W: Write>(maps: &Maps, writer: &mut W) -> Result<(), EditorError>
     ensures { MatchResult result
         (λ _. Appends (W.contents writer.old) (W.contents writer.new)
-            (maps_text (project_of maps.now)))
+        (maps_text (project_of maps.now)))
         (λ e. e ≡ WriterFailed) }
 {
     let current = maps.current_number();

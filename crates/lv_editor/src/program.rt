@@ -41,8 +41,8 @@ fn ended(run: Result<u64, EditorError>) -> Result<u8, Refusal>
 // Answers the lines of the input over maps in memory.
 fn scratch<R: Read, W: Write>(alloc: Global, reader: &mut R, writer: &mut W) -> Result<u8, Refusal>
     ensures small { IfOk result (λ s. s ≤ 3) }
-    ensures answered {
-        IsScratched (status_in result) (R.remaining reader.old) (R.remaining reader.new)
+    ensures answered { IsScratched (status_in result) (R.remaining reader.old)
+        (R.remaining reader.new)
         (W.contents writer.old) (W.contents writer.new) }
 {
     ended(run_in_memory(alloc, reader, writer, TURNS))
@@ -153,8 +153,8 @@ where
     E::File: FileExt,
     R: Read,
     W: Write,
-    ensures performed {
-        IsPerformed ⟦<FileDisk<E::File> as Disk>⟧.moment ⟦<FileDisk<E::File> as Disk>⟧.failures
+    ensures performed { IsPerformed ⟦<FileDisk<E::File> as Disk>⟧.moment
+        ⟦<FileDisk<E::File> as Disk>⟧.failures
         ⟦<FileDisk<E::File> as Disk>⟧.left_since ⟦<FileDisk<E::File> as Disk>⟧.may_leave
         request.now (status_in result) (R.remaining reader.old) (R.remaining reader.new)
         (W.contents writer.old) (W.contents writer.new) }
@@ -211,8 +211,8 @@ where
     W: Write,
     F: Write,
     ensures status { result ≤ 3 }
-    ensures performed {
-        IsPerformed ⟦<FileDisk<E::File> as Disk>⟧.moment ⟦<FileDisk<E::File> as Disk>⟧.failures
+    ensures performed { IsPerformed ⟦<FileDisk<E::File> as Disk>⟧.moment
+        ⟦<FileDisk<E::File> as Disk>⟧.failures
         ⟦<FileDisk<E::File> as Disk>⟧.left_since ⟦<FileDisk<E::File> as Disk>⟧.may_leave
         request.now result (R.remaining reader.old) (R.remaining reader.new)
         (W.contents writer.old) (W.contents writer.new) }

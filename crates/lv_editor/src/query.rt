@@ -44,9 +44,8 @@ fn read_built(line: &[u8]) -> Option<Query>
 
 // The query that a line is which asks for a lump.
 fn read_hex(line: &[u8]) -> Option<Query>
-    ensures {
-        result ≡ option_map (λ q. q.1)
-            (find (λ q. bytes_eq line.now q.0) (drawn_lines ++ built_lines)) }
+    ensures { result ≡ option_map (λ q. q.1)
+        (find (λ q. bytes_eq line.now q.0) (drawn_lines ++ built_lines)) }
 {
     if line == b"hex THINGS".as_slice() {
         Some(Query::Hex(Lump::Things))

@@ -51,8 +51,8 @@ impl Journal {
 
         // The records are those that the area's bytes stand for.
         ensures opened { IfOk result (λ journal. journal ≡ opened area journal.records) }
-        ensures sound {
-            IfOk result (λ journal. Each (D.reads disk.old) (IsJournal area journal.records)) }
+        ensures sound { IfOk result
+            (λ journal. Each (D.reads disk.old) (IsJournal area journal.records)) }
         ensures ready { IfOk result (λ journal. IsReadyIn journal (D.may_leave disk.new)) }
 
         ensures damaged { IfErr result (λ e. IfDamaged e (λ place.
@@ -62,8 +62,8 @@ impl Journal {
         // It writes nothing.
         ensures reads { OnlyReads D.reads D.may_leave D.moment D.left_since disk.old disk.new }
         ensures only { Each (D.may_leave disk.new) (D.reads disk.new) }
-        ensures count {
-            CountsFaults JournalError.Device (D.failures disk.old) (D.failures disk.new) result }
+        ensures count { CountsFaults JournalError.Device (D.failures disk.old)
+            (D.failures disk.new) result }
     {
         let records = read_records(alloc, disk, area)?;
         Ok(Journal {
@@ -140,7 +140,7 @@ impl Journal {
         // After an Ok each file that a stop may leave has the record, and the journal takes the next one.
         ensures appended { OnOk result
             (Follows (Appends self.old.area payload.now) (D.may_leave disk.old)
-                (D.may_leave disk.new)) }
+            (D.may_leave disk.new)) }
         ensures durable { OnOk result (Each (D.may_leave disk.new) (D.reads disk.new)) }
         ensures next { OnOk result (self.new
             ≡ record self.old { next = self.old.next + 5 + length payload.now; must_reopen = false }) }
@@ -158,8 +158,8 @@ impl Journal {
         ensures nothing { IfErr result (λ e.
             (e ≡ JournalError.Device) ⊎ ((disk.new ≡ disk.old) × (self.new ≡ self.old))) }
         ensures no_other { IfErr result RefusesAppend }
-        ensures count {
-            CountsFaults JournalError.Device (D.failures disk.old) (D.failures disk.new) result }
+        ensures count { CountsFaults JournalError.Device (D.failures disk.old)
+            (D.failures disk.new) result }
     {
         if self.must_reopen {
             return Err(JournalError::Reopen);
@@ -185,12 +185,11 @@ pub fn blank<D: Disk>(disk: &mut D, area: Area) -> Result<Journal, JournalError>
         (Follows (Written area.base (0 ∷ [])) (D.reads disk.old) (D.reads disk.new)) }
     ensures closed { OnOk result (Each (D.reads disk.new) (IsClosedAt area.base)) }
     ensures none { OnOk result (Each (D.reads disk.new) (IsJournal area [])) }
-    ensures failed {
-        OnErr result (Follows (Failed area.base 1) (D.reads disk.old) (D.reads disk.new)) }
+    ensures failed { OnErr result
+        (Follows (Failed area.base 1) (D.reads disk.old) (D.reads disk.new)) }
     ensures leads { OnOk result
         (Leads (Written area.base (0 ∷ [])) (D.reads disk.old) (D.reads disk.new)) }
-    ensures leads_failed {
-        OnErr result (Leads (Failed area.base 1) (D.reads disk.old) (D.reads disk.new)) }
+    ensures leads_failed { OnErr result (Leads (Failed area.base 1) (D.reads disk.old) (D.reads disk.new)) }
 
     // Each image stays one, so nothing is synced.
     ensures images { Follows (Torn area.base 1) (D.may_leave disk.old) (D.may_leave disk.new) }
@@ -198,8 +197,8 @@ pub fn blank<D: Disk>(disk: &mut D, area: Area) -> Result<Journal, JournalError>
     ensures any_moment { LeavesOnly D.moment D.left_since disk.old disk.new
         (From (D.may_leave disk.old) (Torn area.base 1)) }
     ensures device { IfErr result (λ e. e ≡ JournalError.Device) }
-    ensures count {
-        CountsFaults JournalError.Device (D.failures disk.old) (D.failures disk.new) result }
+    ensures count { CountsFaults JournalError.Device (D.failures disk.old)
+        (D.failures disk.new) result }
 {
     disk.write_at(area.base, &[CLOSED_GATE])?;
     Ok(Journal::empty(area))

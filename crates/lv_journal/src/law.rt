@@ -32,8 +32,8 @@ pub fn stand_by_themselves()
 pub fn begin_in_their_area()
     ensures first { (area : Area) (payloads : List (List ℕ)) (file : List ℕ)
         → IsJournal area payloads file → (0 < area.length) × (area.base < length file) }
-    ensures closed {
-        (area : Area) (file : List ℕ) → IsJournal area [] file → IsClosedAt area.base file }
+    ensures closed { (area : Area) (file : List ℕ) → IsJournal area [] file
+        → IsClosedAt area.base file }
     ensures place { (area : Area) (file : List ℕ) (place : ℕ) → 0 < area.length
         → IsDamagedAt area place file → (area.base ≤ place) × (place < area.base + area.length) }
 {}

@@ -26,10 +26,10 @@ fn read_payload<D: Disk>(
     ensures len { IfOk result (λ payload. length payload.items ≡ len) }
     ensures told { IfOk result (λ payload. Each (D.reads disk.old) (HasAt at payload.items)) }
     ensures reads { OnlyReads D.reads D.may_leave D.moment D.left_since disk.old disk.new }
-    ensures count {
-        CountsFaults JournalError.Device (D.failures disk.old) (D.failures disk.new) result }
-    ensures no_other {
-        IfErr result (λ e. (e ≡ JournalError.Device) ⊎ (e ≡ JournalError.OutOfMemory)) }
+    ensures count { CountsFaults JournalError.Device (D.failures disk.old)
+        (D.failures disk.new) result }
+    ensures no_other { IfErr result
+        (λ e. (e ≡ JournalError.Device) ⊎ (e ≡ JournalError.OutOfMemory)) }
 {
     let mut buffer = [0; LONGEST];
     let payload = &mut buffer[..len];
@@ -45,17 +45,17 @@ fn read_record_len<D: Disk>(
     end: u64,
 ) -> Result<u32, JournalError>
     requires inside { place < end }
-    requires ends {
-        Each (D.reads disk.old) (λ file. end ≡ min (length file) (area.base + area.length)) }
+    requires ends { Each (D.reads disk.old)
+        (λ file. end ≡ min (length file) (area.base + area.length)) }
     requires open { Each (D.reads disk.old) (HasAt place (open_gate ∷ [])) }
-    ensures told {
-        IfOk result (λ len. Each (D.reads disk.old) (HasAt (place + 1) (to_le_bytes w32 len))) }
+    ensures told { IfOk result
+        (λ len. Each (D.reads disk.old) (HasAt (place + 1) (to_le_bytes w32 len))) }
     ensures fits { IfOk result (λ len. (len ≤ 256) × (place + 6 + len ≤ end)) }
     ensures damaged { IfErr result (λ e. IfDamaged e (λ at.
         (at ≡ place) × Each (D.reads disk.old) (IsBadRecord area place))) }
     ensures reads { OnlyReads D.reads D.may_leave D.moment D.left_since disk.old disk.new }
-    ensures count {
-        CountsFaults JournalError.Device (D.failures disk.old) (D.failures disk.new) result }
+    ensures count { CountsFaults JournalError.Device (D.failures disk.old)
+        (D.failures disk.new) result }
     ensures no_other { IfErr result RefusesOpen }
 {
     if end - place < LEAST {
@@ -77,19 +77,18 @@ fn read_open_record<D: Disk>(
     end: u64,
 ) -> Result<Vec<u8>, JournalError>
     requires inside { place < end }
-    requires ends {
-        Each (D.reads disk.old) (λ file. end ≡ min (length file) (area.base + area.length)) }
+    requires ends { Each (D.reads disk.old)
+        (λ file. end ≡ min (length file) (area.base + area.length)) }
     requires open { Each (D.reads disk.old) (HasAt place (open_gate ∷ [])) }
-    ensures found {
-        IfOk result (λ payload. Each (D.reads disk.old)
-            (HasAt place (record_bytes payload.items))) }
+    ensures found { IfOk result (λ payload. Each (D.reads disk.old)
+        (HasAt place (record_bytes payload.items))) }
     ensures fits { IfOk result (λ payload.
         (length payload.items ≤ 256) × (place + 6 + length payload.items ≤ end)) }
     ensures damaged { IfErr result (λ e. IfDamaged e (λ at.
         (at ≡ place) × Each (D.reads disk.old) (IsBadRecord area place))) }
     ensures reads { OnlyReads D.reads D.may_leave D.moment D.left_since disk.old disk.new }
-    ensures count {
-        CountsFaults JournalError.Device (D.failures disk.old) (D.failures disk.new) result }
+    ensures count { CountsFaults JournalError.Device (D.failures disk.old)
+        (D.failures disk.new) result }
     ensures no_other { IfErr result RefusesOpen }
 {
     let len = match read_record_len(disk, area, place, end) {
@@ -109,10 +108,10 @@ fn read_record<D: Disk>(
     end: u64,
 ) -> Result<Option<Vec<u8>>, JournalError>
     requires inside { place < end }
-    requires ends {
-        Each (D.reads disk.old) (λ file. end ≡ min (length file) (area.base + area.length)) }
-    ensures closed {
-        IfOk result (λ found. IfNone found (Each (D.reads disk.old) (IsClosedAt place))) }
+    requires ends { Each (D.reads disk.old)
+        (λ file. end ≡ min (length file) (area.base + area.length)) }
+    ensures closed { IfOk result
+        (λ found. IfNone found (Each (D.reads disk.old) (IsClosedAt place))) }
     ensures found { IfOk result (λ found. IfSome found (λ payload.
         Each (D.reads disk.old) (HasAt place (record_bytes payload.items)))) }
     ensures fits { IfOk result (λ found. IfSome found (λ payload.
@@ -120,8 +119,8 @@ fn read_record<D: Disk>(
     ensures damaged { IfErr result (λ e. IfDamaged e (λ at.
         (at ≡ place) × Each (D.reads disk.old) (IsBadRecord area place))) }
     ensures reads { OnlyReads D.reads D.may_leave D.moment D.left_since disk.old disk.new }
-    ensures count {
-        CountsFaults JournalError.Device (D.failures disk.old) (D.failures disk.new) result }
+    ensures count { CountsFaults JournalError.Device (D.failures disk.old)
+        (D.failures disk.new) result }
     ensures no_other { IfErr result RefusesOpen }
 {
     if read_gate(disk, place)? != OPEN_GATE {
@@ -141,20 +140,18 @@ fn read_up_to<D: Disk>(
     end: u64,
 ) -> Result<Vec<Vec<u8>>, JournalError>
     requires inside { area.base < end }
-    requires ends {
-        Each (D.reads disk.old) (λ file. end ≡ min (length file) (area.base + area.length)) }
+    requires ends { Each (D.reads disk.old)
+        (λ file. end ≡ min (length file) (area.base + area.length)) }
     requires within { end ≤ area.base + area.length }
-    ensures sound {
-        IfOk result (λ records. Each (D.reads disk.old)
-            (IsJournal area (payloads_of records.items))) }
-    ensures room {
-        IfOk result (λ records. length (records_bytes (payloads_of records.items)) < area.length) }
-    ensures damaged {
-        IfErr result (λ e. IfDamaged e
-            (λ place. Each (D.reads disk.old) (IsDamagedAt area place))) }
+    ensures sound { IfOk result (λ records. Each (D.reads disk.old)
+        (IsJournal area (payloads_of records.items))) }
+    ensures room { IfOk result
+        (λ records. length (records_bytes (payloads_of records.items)) < area.length) }
+    ensures damaged { IfErr result (λ e. IfDamaged e
+        (λ place. Each (D.reads disk.old) (IsDamagedAt area place))) }
     ensures reads { OnlyReads D.reads D.may_leave D.moment D.left_since disk.old disk.new }
-    ensures count {
-        CountsFaults JournalError.Device (D.failures disk.old) (D.failures disk.new) result }
+    ensures count { CountsFaults JournalError.Device (D.failures disk.old)
+        (D.failures disk.new) result }
     ensures no_other { IfErr result RefusesOpen }
 {
     let mut records = Vec::new(alloc);
@@ -172,17 +169,15 @@ pub fn read_records<D: Disk>(
     disk: &mut D,
     area: Area,
 ) -> Result<Vec<Vec<u8>>, JournalError>
-    ensures sound {
-        IfOk result (λ records. Each (D.reads disk.old)
-            (IsJournal area (payloads_of records.items))) }
-    ensures room {
-        IfOk result (λ records. length (records_bytes (payloads_of records.items)) < area.length) }
-    ensures damaged {
-        IfErr result (λ e. IfDamaged e
-            (λ place. Each (D.reads disk.old) (IsDamagedAt area place))) }
+    ensures sound { IfOk result (λ records. Each (D.reads disk.old)
+        (IsJournal area (payloads_of records.items))) }
+    ensures room { IfOk result
+        (λ records. length (records_bytes (payloads_of records.items)) < area.length) }
+    ensures damaged { IfErr result (λ e. IfDamaged e
+        (λ place. Each (D.reads disk.old) (IsDamagedAt area place))) }
     ensures reads { OnlyReads D.reads D.may_leave D.moment D.left_since disk.old disk.new }
-    ensures count {
-        CountsFaults JournalError.Device (D.failures disk.old) (D.failures disk.new) result }
+    ensures count { CountsFaults JournalError.Device (D.failures disk.old)
+        (D.failures disk.new) result }
     ensures no_other { IfErr result RefusesOpen }
 {
     let end = disk.len()?.min(area.base + area.length as u64);

@@ -45,8 +45,8 @@ pub fn write_record<D: Disk>(
     ensures appended { OnOk result
         (Follows (Appends area payload.now) (D.may_leave disk.old) (D.may_leave disk.new)) }
     ensures durable { OnOk result (Each (D.may_leave disk.new) (D.reads disk.new)) }
-    ensures ready {
-        OnOk result (Each (D.may_leave disk.new) (EndsAt area (next + 5 + length payload.now))) }
+    ensures ready { OnOk result
+        (Each (D.may_leave disk.new) (EndsAt area (next + 5 + length payload.now))) }
     ensures any_moment { LeavesOnly D.moment D.left_since disk.old disk.new
         (From (D.may_leave disk.old) (MayAppend area payload.now)) }
     ensures count { Counted (D.failures disk.old) (D.failures disk.new) result }

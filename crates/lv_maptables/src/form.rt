@@ -26,9 +26,8 @@ pub fn lacks_vertex(vertices: usize, line: &Line) -> bool
 
 /// Whether a side that the line names isn't among so many sides.
 pub fn lacks_side(sides: usize, line: &Line) -> bool
-    ensures {
-        result ≡ (not (nat_lt line.now.right sides)
-            || (has_left line.now && not (nat_lt line.now.left sides))) }
+    ensures { result ≡ (not (nat_lt line.now.right sides)
+        || (has_left line.now && not (nat_lt line.now.left sides))) }
 {
     usize::from(line.right) >= sides || line.has_left() && usize::from(line.left) >= sides
 }
@@ -77,9 +76,8 @@ fn have_sides(sides: &[Side], lines: &[Line]) -> bool
 
 /// Whether each line goes together with the vertices and the sides that it names.
 pub fn are_linked(vertices: &[Vertex], sides: &[Side], lines: &[Line]) -> bool
-    ensures {
-        IsTrue result ↔ (All (HasEnds vertices.now) lines.now
-            × All (HasSides sides.now) lines.now) }
+    ensures { IsTrue result ↔ (All (HasEnds vertices.now) lines.now
+        × All (HasSides sides.now) lines.now) }
 {
     have_ends(vertices, lines) && have_sides(sides, lines)
 }

@@ -123,9 +123,8 @@ impl Maps {
 
     /// The key of an item of the current map, and none past the items.
     pub fn key(&self, kind: Kind, n: u32) -> Option<usize>
-        ensures {
-            MatchOption result (count_of self.now.tables kind ≤ n)
-                (λ _. n < count_of self.now.tables kind) }
+        ensures { MatchOption result (count_of self.now.tables kind ≤ n)
+            (λ _. n < count_of self.now.tables kind) }
     {
         self.map.key(kind, n)
     }

@@ -70,18 +70,17 @@ fn has_heights(sector: &Sector) -> bool
 
 // Whether the sector's other numbers are in range.
 fn has_sector_numbers(sector: &Sector) -> bool
-    ensures {
-        IsTrue result ↔ (IsBetween (pos 0) (pos 255) sector.now.light × IsCode sector.now.special
-            × IsCode sector.now.tag) }
+    ensures { IsTrue result
+        ↔ (IsBetween (pos 0) (pos 255) sector.now.light × IsCode sector.now.special
+        × IsCode sector.now.tag) }
 {
     is_at_most(sector.light, 255) && is_code(sector.special) && is_code(sector.tag)
 }
 
 // Whether the sector's names are names of flats.
 fn has_flats(sector: &Sector) -> bool
-    ensures {
-        IsTrue result ↔ (IsNamed is_name sector.now.floor_name
-            × IsNamed is_name sector.now.ceiling_name) }
+    ensures { IsTrue result ↔ (IsNamed is_name sector.now.floor_name
+        × IsNamed is_name sector.now.ceiling_name) }
 {
     is_texture(&sector.floor_name) && is_texture(&sector.ceiling_name)
 }
@@ -95,18 +94,16 @@ fn is_sector(sector: &Sector) -> bool
 
 // Whether the side's names are names of textures.
 fn has_textures(side: &Side) -> bool
-    ensures {
-        IsTrue result ↔ (IsNamed is_name side.now.upper × IsNamed is_name side.now.lower
-            × IsNamed is_name side.now.middle) }
+    ensures { IsTrue result ↔ (IsNamed is_name side.now.upper × IsNamed is_name side.now.lower
+        × IsNamed is_name side.now.middle) }
 {
     is_texture(&side.upper) && is_texture(&side.lower) && is_texture(&side.middle)
 }
 
 // Whether the side's numbers are in range.
 fn has_side_numbers(side: &Side) -> bool
-    ensures {
-        IsTrue result ↔ (IsShort side.now.x_offset × IsShort side.now.y_offset
-            × (side.now.sector ≤ 4095)) }
+    ensures { IsTrue result ↔ (IsShort side.now.x_offset × IsShort side.now.y_offset
+        × (side.now.sector ≤ 4095)) }
 {
     is_short(side.x_offset) && is_short(side.y_offset) && side.sector <= 4095
 }
@@ -140,9 +137,8 @@ fn has_thing_place(thing: &Thing) -> bool
 
 // Whether the thing's other numbers are in range.
 fn has_thing_numbers(thing: &Thing) -> bool
-    ensures {
-        IsTrue result ↔ (IsBetween (pos 0) (pos 359) thing.now.angle × IsCode thing.now.kind
-            × IsCode thing.now.options) }
+    ensures { IsTrue result ↔ (IsBetween (pos 0) (pos 359) thing.now.angle × IsCode thing.now.kind
+        × IsCode thing.now.options) }
 {
     is_at_most(thing.angle, 359) && is_code(thing.kind) && is_code(thing.options)
 }

@@ -99,11 +99,10 @@ fn build_over(alloc: Global, lines: &[Edge], points: &mut Points) -> Result<Buil
     requires differ { AllDiffer points.old }
     ensures sound { IfOk result (λ b.
         IsSound lines.now points.old b.vertices.items b.segs.items b.subs.items b.nodes.items) }
-    ensures built {
-        IfOk result (λ b.
-            IsBuiltOf lines.now b.vertices.items b.segs.items b.subs.items b.nodes.items) }
-    ensures small {
-        IfOk result (λ b. IsSmall b.vertices.items b.segs.items b.subs.items b.nodes.items) }
+    ensures built { IfOk result (λ b.
+        IsBuiltOf lines.now b.vertices.items b.segs.items b.subs.items b.nodes.items) }
+    ensures small { IfOk result
+        (λ b. IsSmall b.vertices.items b.segs.items b.subs.items b.nodes.items) }
     ensures refused { IfErr result (IsBuildRefused lines.now points.old) }
 {
     let grown = match grown_of(alloc, lines) {

@@ -129,7 +129,7 @@ pub(crate) fn grow(
     requires fewer { length grown.old.nodes.items ≤ length grown.old.counts.items }
     ensures ok { IfOk result
         (IsGrown lines.now list.pieces.items used.old room (lists_of grown.old)
-            (lists_of grown.new)) }
+        (lists_of grown.new)) }
     ensures used { IfOk result (λ _. used.new ≡ used.old) }
     ensures refused { IfErr result
         (IsRefused lines.now list.pieces.items used.old room (lists_of grown.old)) }

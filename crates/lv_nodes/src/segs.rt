@@ -63,8 +63,8 @@ pub(crate) fn segs_of(
     requires few { length points.old ≤ 32767 }
     requires differ { AllDiffer points.old }
     ensures segs { IfOk result (λ segs. AreSegsOf lines.now points.new pieces.now segs.items) }
-    ensures numbered {
-        IfOk result (λ segs. AreNumbered lines.now points.old points.new pieces.now segs.items) }
+    ensures numbered { IfOk result
+        (λ segs. AreNumbered lines.now points.old points.new pieces.now segs.items) }
     ensures refused { IfErr result (AreSegsRefused lines.now points.old pieces.now) }
 {
     let mut segs = Vec::new(alloc);

@@ -25,8 +25,8 @@ pub(crate) fn shape_of(lines: &[Edge], piece: &Piece) -> Shape
     ensures start { result.start ≡ start_of lines.now piece.now.side piece.now }
     ensures end { result.end ≡ end_of lines.now piece.now.side piece.now }
     ensures side { result.side ≡ side_number piece.now.side }
-    ensures angle {
-        IsAngle (piece_ray lines.now piece.now).dx (piece_ray lines.now piece.now).dy result.angle }
+    ensures angle { IsAngle (piece_ray lines.now piece.now).dx
+        (piece_ray lines.now piece.now).dy result.angle }
     ensures offset { IsOffset (piece_ray lines.now piece.now).start result.start result.offset }
 {
     let edge = lines[piece.line as usize];

@@ -10,8 +10,8 @@ use std::alloc::{AllocError, Global};
 pub(crate) fn subs_of(alloc: Global, counts: &[usize]) -> Result<Vec<Sub>, AllocError>
     requires some { All (λ (n : ℕ). 0 < n) counts.now }
     requires few { total counts.now ≤ 32767 }
-    ensures counts {
-        IfOk result (λ subs. map (λ (sub : SubRecord). sub.count) subs.items ≡ counts.now) }
+    ensures counts { IfOk result
+        (λ subs. map (λ (sub : SubRecord). sub.count) subs.items ≡ counts.now) }
     ensures follow { IfOk result (λ subs. FollowsFrom 0 subs.items) }
 {
     let mut subs = Vec::new(alloc);

@@ -52,13 +52,13 @@ fn lengths_in(bytes: [u8; 16]) -> Option<Geometry>
 
 // The geometry that the file's header tells.
 pub fn read_header<D: Disk>(disk: &mut D) -> Result<Geometry, ProjectError>
-    ensures header {
-        IfOk result (λ g. Each (D.reads disk.old) (HasAt 0 (header_bytes g.slot g.journal))) }
+    ensures header { IfOk result
+        (λ g. Each (D.reads disk.old) (HasAt 0 (header_bytes g.slot g.journal))) }
     ensures allowed { IfOk result (λ g. IsAllowed g.slot g.journal) }
     ensures refused { IfErr result (RefusesHeader (D.reads disk.old)) }
     ensures reads { OnlyReads D.reads D.may_leave D.moment D.left_since disk.old disk.new }
-    ensures count {
-        CountsFaults ProjectError.Device (D.failures disk.old) (D.failures disk.new) result }
+    ensures count { CountsFaults ProjectError.Device (D.failures disk.old)
+        (D.failures disk.new) result }
 {
     if disk.len()? < 16 {
         return Err(ProjectError::NotAProject);

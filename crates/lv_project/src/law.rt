@@ -14,8 +14,7 @@ pub fn stand_for_one_map()
 /// The bytes of a file stand for a map, or no slot is open, or they are damaged at one place, or the geometry is outside its
 /// limits, or they are no project's: one of these at most.
 pub fn exclude_one_another()
-    ensures stands_blank {
-        (file : List ℕ) (cap : ℕ) (map : ProjectMaps) (g : ℕ)
+    ensures stands_blank { (file : List ℕ) (cap : ℕ) (map : ProjectMaps) (g : ℕ)
         → Stands cap map g file → ¬ IsBlank file }
     ensures stands_damaged { (file : List ℕ) (cap : ℕ) (map : ProjectMaps) (g place : ℕ)
         → Stands cap map g file → ¬ IsDamagedAt place file }
@@ -26,11 +25,9 @@ pub fn exclude_one_another()
     ensures blank_damaged { (file : List ℕ) (place : ℕ) → IsBlank file → ¬ IsDamagedAt place file }
     ensures blank_bad { (file : List ℕ) → IsBlank file → ¬ HasBadGeometry file }
     ensures blank_foreign { (file : List ℕ) → IsBlank file → ¬ IsForeign file }
-    ensures damaged_once {
-        (file : List ℕ) (p q : ℕ) → IsDamagedAt p file → IsDamagedAt q file → p ≡ q }
-    ensures damaged_bad {
-        (file : List ℕ) (place : ℕ) → IsDamagedAt place file → ¬ HasBadGeometry file }
-    ensures damaged_foreign {
-        (file : List ℕ) (place : ℕ) → IsDamagedAt place file → ¬ IsForeign file }
+    ensures damaged_once { (file : List ℕ) (p q : ℕ) → IsDamagedAt p file → IsDamagedAt q file → p ≡ q }
+    ensures damaged_bad { (file : List ℕ) (place : ℕ) → IsDamagedAt place file
+        → ¬ HasBadGeometry file }
+    ensures damaged_foreign { (file : List ℕ) (place : ℕ) → IsDamagedAt place file → ¬ IsForeign file }
     ensures bad_foreign { (file : List ℕ) → HasBadGeometry file → ¬ IsForeign file }
 {}

@@ -37,10 +37,10 @@ pub struct Opened {
 // Does what a line of the journal says; false where the maps accept no such command.
 fn advance(maps: &mut Maps, line: &[u8], cap: u32) -> Result<bool, ProjectError>
     requires { body_len (project_of maps.old) ≤ cap }
-    ensures led {
-        result ≡ Ok true → LeadsTo cap (project_of maps.old) line.now (project_of maps.new) }
-    ensures not_led {
-        result ≡ Ok false → (new : _) → ¬ LeadsTo cap (project_of maps.old) line.now new }
+    ensures led { result ≡ Ok true
+        → LeadsTo cap (project_of maps.old) line.now (project_of maps.new) }
+    ensures not_led { result ≡ Ok false → (new : _)
+        → ¬ LeadsTo cap (project_of maps.old) line.now new }
     ensures fits { body_len (project_of maps.new) ≤ cap }
     ensures memory { IfErr result (λ e. e ≡ ProjectError.OutOfMemory) }
 {
@@ -57,8 +57,8 @@ fn advance(maps: &mut Maps, line: &[u8], cap: u32) -> Result<bool, ProjectError>
 // The maps after the journal's lines. `Damaged` tells the gate of the first that is no accepted command.
 fn replay(maps: &mut Maps, journal: &Journal, cap: u32) -> Result<(), ProjectError>
     requires { body_len (project_of maps.old) ≤ cap }
-    ensures led {
-        OnOk result (Leads cap (project_of maps.old) journal.now.records (project_of maps.new)) }
+    ensures led { OnOk result
+        (Leads cap (project_of maps.old) journal.now.records (project_of maps.new)) }
     ensures refused { IfErr result (RefusesReplay cap (project_of maps.old) journal.now) }
     ensures fits { body_len (project_of maps.new) ≤ cap }
 {
@@ -79,12 +79,12 @@ fn open_journal<D: Disk>(alloc: Global, disk: &mut D, parts: Parts) -> Result<Jo
     requires only { Each (D.may_leave disk.old) (D.reads disk.old) }
     ensures opened { IfOk result (λ j. j ≡ journal.opened parts.journal j.records) }
     ensures sound { IfOk result (λ j. Each (D.reads disk.old) (IsJournal parts.journal j.records)) }
-    ensures other {
-        OnOk result (Each (D.reads disk.old) (λ file. parts.other_journal.base < length file)) }
+    ensures other { OnOk result
+        (Each (D.reads disk.old) (λ file. parts.other_journal.base < length file)) }
     ensures refused { IfErr result (RefusesGates (D.reads disk.old) parts) }
     ensures reads { OnlyReads D.reads D.may_leave D.moment D.left_since disk.old disk.new }
-    ensures count {
-        CountsFaults ProjectError.Device (D.failures disk.old) (D.failures disk.new) result }
+    ensures count { CountsFaults ProjectError.Device (D.failures disk.old)
+        (D.failures disk.new) result }
 {
     let end = disk.len()?;
     let other = parts.other_journal.base;
@@ -138,15 +138,14 @@ fn read_slots<D: Disk>(
     ensures holds { IfOk result (λ r. Each (D.reads disk.old)
         (HoldsMap (parts_of places (slot_of r.0)) (generation_of r.0) (project_of r.1))) }
     ensures slots { IfOk result (λ r. Each (D.reads disk.old) (HasSomeSlots r.0)) }
-    ensures areas {
-        IfOk result (λ r. (first_of r.0 ≡ places.a) × (second_of r.0 ≡ places.b)
-            × (slot_of r.0 ≤ 1)) }
+    ensures areas { IfOk result (λ r. (first_of r.0 ≡ places.a) × (second_of r.0 ≡ places.b)
+        × (slot_of r.0 ≤ 1)) }
     ensures fits { IfOk result (λ r. body_len (project_of r.1) ≤ cap_of geometry) }
     ensures refused { IfErr result (RefusesSlots (D.reads disk.old) geometry places) }
     ensures reads { OnlyReads D.reads D.may_leave D.moment D.left_since disk.old disk.new }
     ensures only { Each (D.may_leave disk.new) (D.reads disk.new) }
-    ensures count {
-        CountsFaults ProjectError.Device (D.failures disk.old) (D.failures disk.new) result }
+    ensures count { CountsFaults ProjectError.Device (D.failures disk.old)
+        (D.failures disk.new) result }
 {
     let (slots, found) = match Slots::open(alloc, disk, places.a, places.b) {
         Ok(live) => live,
@@ -170,16 +169,16 @@ fn read_lines<D: Disk>(
     requires only { Each (D.may_leave disk.old) (D.reads disk.old) }
     ensures opened { IfOk result (λ j. j ≡ journal.opened parts.journal j.records) }
     ensures sound { IfOk result (λ j. Each (D.reads disk.old) (IsJournal parts.journal j.records)) }
-    ensures other {
-        OnOk result (Each (D.reads disk.old) (λ file. parts.other_journal.base < length file)) }
-    ensures led {
-        IfOk result (λ j. Leads cap (project_of maps.old) j.records (project_of maps.new)) }
+    ensures other { OnOk result
+        (Each (D.reads disk.old) (λ file. parts.other_journal.base < length file)) }
+    ensures led { IfOk result
+        (λ j. Leads cap (project_of maps.old) j.records (project_of maps.new)) }
     ensures fits { body_len (project_of maps.new) ≤ cap }
-    ensures refused {
-        IfErr result (RefusesLines (D.reads disk.old) cap parts (project_of maps.old)) }
+    ensures refused { IfErr result
+        (RefusesLines (D.reads disk.old) cap parts (project_of maps.old)) }
     ensures reads { OnlyReads D.reads D.may_leave D.moment D.left_since disk.old disk.new }
-    ensures count {
-        CountsFaults ProjectError.Device (D.failures disk.old) (D.failures disk.new) result }
+    ensures count { CountsFaults ProjectError.Device (D.failures disk.old)
+        (D.failures disk.new) result }
 {
     let journal = match open_journal(alloc, disk, parts) {
         Ok(journal) => journal,
@@ -197,17 +196,16 @@ fn read_synced<D: Disk>(alloc: Global, disk: &mut D) -> Result<Opened, ProjectEr
     ensures opened { IfOk result (λ o. Each (D.reads disk.old) (IsOpened o)) }
     ensures journal { IfOk result (λ o. o.journal
         ≡ journal.opened (parts_of o.places (slot_of o.slots)).journal o.journal.records) }
-    ensures places {
-        IfOk result (λ o. IsAllowed o.geometry.slot o.geometry.journal
-            × IsLaidOut o.geometry o.places) }
-    ensures areas {
-        IfOk result (λ o. (first_of o.slots ≡ o.places.a) × (second_of o.slots ≡ o.places.b)
+    ensures places { IfOk result (λ o. IsAllowed o.geometry.slot o.geometry.journal
+        × IsLaidOut o.geometry o.places) }
+    ensures areas { IfOk result
+        (λ o. (first_of o.slots ≡ o.places.a) × (second_of o.slots ≡ o.places.b)
         × (slot_of o.slots ≤ 1)) }
     ensures fits { IfOk result (λ o. body_len (project_of o.maps) ≤ cap_of o.geometry) }
     ensures refused { IfErr result (IsRefusedRead (D.reads disk.old)) }
     ensures reads { OnlyReads D.reads D.may_leave D.moment D.left_since disk.old disk.new }
-    ensures count {
-        CountsFaults ProjectError.Device (D.failures disk.old) (D.failures disk.new) result }
+    ensures count { CountsFaults ProjectError.Device (D.failures disk.old)
+        (D.failures disk.new) result }
 {
     let geometry = match read_header(disk) {
         Ok(geometry) => geometry,
@@ -237,11 +235,10 @@ pub fn read_project<D: Disk>(alloc: Global, disk: &mut D) -> Result<Opened, Proj
     ensures opened { IfOk result (λ o. Each (D.reads disk.new) (IsOpened o)) }
     ensures journal { IfOk result (λ o. o.journal
         ≡ journal.opened (parts_of o.places (slot_of o.slots)).journal o.journal.records) }
-    ensures places {
-        IfOk result (λ o. IsAllowed o.geometry.slot o.geometry.journal
-            × IsLaidOut o.geometry o.places) }
-    ensures areas {
-        IfOk result (λ o. (first_of o.slots ≡ o.places.a) × (second_of o.slots ≡ o.places.b)
+    ensures places { IfOk result (λ o. IsAllowed o.geometry.slot o.geometry.journal
+        × IsLaidOut o.geometry o.places) }
+    ensures areas { IfOk result
+        (λ o. (first_of o.slots ≡ o.places.a) × (second_of o.slots ≡ o.places.b)
         × (slot_of o.slots ≤ 1)) }
     ensures fits { IfOk result (λ o. body_len (project_of o.maps) ≤ cap_of o.geometry) }
     ensures refused { IfErr result (IsRefusedRead (D.reads disk.new)) }
@@ -249,8 +246,8 @@ pub fn read_project<D: Disk>(alloc: Global, disk: &mut D) -> Result<Opened, Proj
     ensures reads { Each (D.reads disk.new) (D.reads disk.old) }
     ensures still { Each (D.reads disk.old) (D.reads disk.new) }
     ensures any_moment { LeavesOnly D.moment D.left_since disk.old disk.new (D.may_leave disk.old) }
-    ensures count {
-        CountsFaults ProjectError.Device (D.failures disk.old) (D.failures disk.new) result }
+    ensures count { CountsFaults ProjectError.Device (D.failures disk.old)
+        (D.failures disk.new) result }
 {
     match disk.sync() {
         Ok(()) => read_synced(alloc, disk),
@@ -265,21 +262,21 @@ pub fn write_new<D: Disk>(
 ) -> Result<(Places, Slots, Journal), ProjectError>
     ensures made { IfOk result (λ r. Each (D.may_leave disk.new)
         (λ file. HasGeometry geometry r.0 file
-            × StandsAt (cap_of geometry) (parts_of r.0 0) empty_project 1 file)) }
+        × StandsAt (cap_of geometry) (parts_of r.0 0) empty_project 1 file)) }
     ensures slots { IfOk result (λ r. Each (D.may_leave disk.new) (HasSomeSlots r.1)) }
     ensures none { IfOk result (λ r. Each (D.may_leave disk.new) (IsJournal r.0.first [])) }
-    ensures handle {
-        IfOk result (λ r. (slot_of r.1 ≡ 0) × (generation_of r.1 ≡ 1) × (first_of r.1 ≡ r.0.a)
+    ensures handle { IfOk result
+        (λ r. (slot_of r.1 ≡ 0) × (generation_of r.1 ≡ 1) × (first_of r.1 ≡ r.0.a)
         × (second_of r.1 ≡ r.0.b)) }
     ensures journal { IfOk result (λ r. r.2 ≡ journal.opened r.0.first []) }
-    ensures places {
-        IfOk result (λ r. IsAllowed geometry.slot geometry.journal × IsLaidOut geometry r.0) }
+    ensures places { IfOk result
+        (λ r. IsAllowed geometry.slot geometry.journal × IsLaidOut geometry r.0) }
     ensures refused { IfErr result (RefusesCreate (D.reads disk.old) geometry) }
     // But for a `Device` it has only read.
     ensures untouched { IfErr result (λ e. (e ≡ ProjectError.Device)
         ⊎ OnlyReads D.reads D.may_leave D.moment D.left_since disk.old disk.new) }
-    ensures count {
-        CountsFaults ProjectError.Device (D.failures disk.old) (D.failures disk.new) result }
+    ensures count { CountsFaults ProjectError.Device (D.failures disk.old)
+        (D.failures disk.new) result }
 {
     if !geometry.is_allowed() {
         return Err(ProjectError::BadGeometry);

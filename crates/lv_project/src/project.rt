@@ -122,9 +122,8 @@ impl<D: Disk> Project<D> {
         // A refusal but `Device` leaves the file alone, whatever it is.
         ensures untouched { IfErr result (λ r. (r.error ≡ ProjectError.Device)
             ⊎ OnlyReads D.reads D.may_leave D.moment D.left_since disk r.disk) }
-        ensures count {
-            IfErr result (λ r. r.error ≡ ProjectError.Device
-                → Rose (D.failures disk) (D.failures r.disk)) }
+        ensures count { IfErr result (λ r. r.error ≡ ProjectError.Device
+            → Rose (D.failures disk) (D.failures r.disk)) }
     {
         let mut disk = disk;
         let maps = Maps::new(alloc);
@@ -158,9 +157,8 @@ impl<D: Disk> Project<D> {
         ensures reads { MatchResult result
             (λ p. Each (D.reads p.disk) (D.reads disk) × Each (D.reads disk) (D.reads p.disk))
             (λ r. Each (D.reads r.disk) (D.reads disk) × Each (D.reads disk) (D.reads r.disk)) }
-        ensures count {
-            IfErr result (λ r. r.error ≡ ProjectError.Device
-                → Rose (D.failures disk) (D.failures r.disk)) }
+        ensures count { IfErr result (λ r. r.error ≡ ProjectError.Device
+            → Rose (D.failures disk) (D.failures r.disk)) }
     {
         let mut disk = disk;
         match read_project(alloc, &mut disk) {
@@ -288,8 +286,10 @@ impl<D: Disk> Project<D> {
         requires line { line.now ≡ spelling ready.command }
         requires ready { readiness.CanCommit self.old.maps ready.command }
         requires accepted { step (project_of self.old.maps) ready.command self.old.cap
-            ≡ Ok (after (project_of self.old.maps) ready.command,
-                number_of (project_of self.old.maps) ready.command) }
+            ≡ Ok (
+              after (project_of self.old.maps) ready.command,
+              number_of (project_of self.old.maps) ready.command,
+            ) }
         ensures device { IfErr result (λ e. e ≡ ProjectError.Device) }
         ensures ends { EndsApply D.failures result self.old self.new line.now }
         ensures generation { OnOk result (self.new.generation ≡ self.old.generation) }
@@ -322,14 +322,12 @@ impl<D: Disk> Project<D> {
         ensures ends { EndsApply D.failures result self.old self.new line.now }
 
         // A stop at any moment of the call leaves the map, or the one that the line leads to.
-        ensures any_moment {
-            self.old.must_reopen ≡ false
+        ensures any_moment { self.old.must_reopen ≡ false
             → LeavesOnly D.moment D.left_since self.old.disk self.new.disk
             (IsOutcome self.old.cap (project_of self.old.maps) line.now) }
 
         // A refusal but `Device` leaves the map alone.
-        ensures refused_moment {
-            IfErr result (λ e. self.old.must_reopen ≡ false → (e ≡ ProjectError.Device)
+        ensures refused_moment { IfErr result (λ e. self.old.must_reopen ≡ false → (e ≡ ProjectError.Device)
             ⊎ LeavesOnly D.moment D.left_since self.old.disk self.new.disk
             (StandsFor self.old.cap (project_of self.old.maps))) }
         ensures untouched { IfErr result (λ e. (e ≡ ProjectError.Device)

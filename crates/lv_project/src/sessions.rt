@@ -17,10 +17,10 @@ use std::alloc::Global;
 /// the map of a prefix of the accepted commands that holds every acknowledged one, and that is what `open` gives. The
 /// function has no body: its contract is the law.
 pub fn hold_each_acknowledged<D: Disk>()
-    ensures any_moment {
-        (cap : ℕ) (before : List Session) (s : Session) (mid : State D) (last : State D)
+    ensures any_moment { (cap : ℕ) (before : List Session) (s : Session) (mid : State D)
+        (last : State D)
         → PassInTurn D.moment D.failures D.left_since D.may_leave D.reads
-            (Creates D.may_leave cap) before s mid last
+        (Creates D.may_leave cap) before s mid last
         → LeavesOnly D.moment D.left_since mid.disk last.disk (HoldsEach cap (before ++ s ∷ [])) }
 
     // So does the map that an `open` gives of what they left, and so does each image at every moment of that call.
@@ -31,8 +31,8 @@ pub fn hold_each_acknowledged<D: Disk>()
         × LeavesOnly D.moment D.left_since disk first.disk (HoldsEach cap sessions) }
 
     // An `open` is refused by a fault of the device or for want of memory alone, and the disk is then as good as before.
-    ensures refused {
-        (cap : ℕ) (sessions : List Session) (disk : D) (after : D) (error : ProjectError)
+    ensures refused { (cap : ℕ) (sessions : List Session) (disk : D) (after : D)
+        (error : ProjectError)
         → IsLeftBy D.moment D.failures D.left_since D.may_leave D.reads cap sessions disk
         → RefusesOpen D.moment D.left_since D.may_leave D.reads disk after error
         → ((error ≡ ProjectError.Device) ⊎ (error ≡ ProjectError.OutOfMemory))
@@ -42,17 +42,15 @@ pub fn hold_each_acknowledged<D: Disk>()
 
 /// `Project::apply`, whose promises are those that the law asks of a call.
 pub fn applies<D: Disk>(project: &mut Project<D>, line: &[u8]) -> Result<u32, ProjectError>
-    ensures {
-        Applies D.moment D.failures D.left_since D.may_leave project.old line.now result
-            project.new }
+    ensures { Applies D.moment D.failures D.left_since D.may_leave project.old line.now result
+        project.new }
 {
     project.apply(line)
 }
 
 /// `Project::checkpoint`, likewise.
 pub fn checkpoints<D: Disk>(project: &mut Project<D>) -> Result<u64, ProjectError>
-    ensures {
-        Checkpoints D.moment D.failures D.left_since D.may_leave project.old result project.new }
+    ensures { Checkpoints D.moment D.failures D.left_since D.may_leave project.old result project.new }
 {
     project.checkpoint()
 }

@@ -108,7 +108,7 @@ fn sub_once(alloc: Global, level: &Level, numbers: &[u16]) -> Result<Option<Faul
     requires { numbers.now ≡ children level.now.nodes.items }
     ensures fault { IfOk result (λ fault. fault ≡ option_map SubOnce
         (first_wrong (λ s. times_sub (view level.now) s == 1)
-            (range_with_len 0 (length level.now.subs.items)))) }
+        (range_with_len 0 (length level.now.subs.items)))) }
     ensures memory { IsOkUnless result ReadError.OutOfMemory }
 {
     match not_once(alloc, FIRST_SUB, 65536, numbers, level.subs.len()) {
@@ -123,7 +123,7 @@ fn node_once(alloc: Global, level: &Level, numbers: &[u16]) -> Result<Option<Fau
     requires { numbers.now ≡ children level.now.nodes.items }
     ensures fault { IfOk result (λ fault. fault ≡ option_map NodeOnce
         (first_wrong (λ i. times_node (view level.now) i == 1)
-            (range_with_len 0 (length level.now.nodes.items - 1)))) }
+        (range_with_len 0 (length level.now.nodes.items - 1)))) }
     ensures memory { IsOkUnless result ReadError.OutOfMemory }
 {
     match not_once(

@@ -80,7 +80,7 @@ fn line_vertex_place(level: &Level) -> Option<usize>
 fn line_vertex(level: &Level) -> Option<Fault>
     ensures { result
         ≡ option_map LineVertex (first_wrong
-            (line_vertices (view level.now)) level.now.lines.items) }
+        (line_vertices (view level.now)) level.now.lines.items) }
 {
     match line_vertex_place(level) {
         Some(n) => Some(Fault::LineVertex(n)),

@@ -42,8 +42,8 @@ pub fn pieces_in(alloc: Global, lines: &[Edge]) -> Result<Vec<Piece>, AllocError
 /// side's where there is one. It is refused by want of memory alone.
 pub fn pieces_of(alloc: Global, map: &Map) -> Result<Vec<Piece>, SegsError>
     ensures pieces { IfOk result (λ pieces. pieces.items ≡ first_pieces (edges_of map.now.tables)) }
-    ensures each {
-        All (IsPiece (edges_of map.now.tables)) (first_pieces (edges_of map.now.tables)) }
+    ensures each { All (IsPiece (edges_of map.now.tables))
+        (first_pieces (edges_of map.now.tables)) }
     ensures memory { IsOkUnless result SegsError.OutOfMemory }
 {
     lines_are_drawn(map);

@@ -20,8 +20,8 @@ use lv_maptables::{Kind, MapError, Maps};
 
 // Whether the new body would be longer than `cap`, where nothing else speaks against the command.
 fn is_full(maps: &Maps, command: &ProjectCommand, cap: u32) -> bool
-    ensures {
-        let p = project_of maps.now in result ≡ nat_lt cap (body_len p + growth_of p command.now) }
+    ensures { let p = project_of maps.now in result
+        ≡ nat_lt cap (body_len p + growth_of p command.now) }
 {
     u64::from(maps.body_len()) + growth_of(maps, command) > u64::from(cap)
 }
@@ -37,13 +37,13 @@ pub fn ready(maps: &mut Maps, command: &ProjectCommand, cap: u32) -> Result<Read
     ensures same { IfOk result (λ r. r.command ≡ command.now) }
     ensures accepted { let p = project_of maps.old in
         IfOk result (λ _. step p command.now cap
-            ≡ Ok (after p command.now, number_of p command.now)) }
+        ≡ Ok (after p command.now, number_of p command.now)) }
     ensures fits { IfOk result (λ _. body_len (after (project_of maps.old) command.now) ≤ cap) }
     ensures ready { IfOk result (λ r. CanCommit maps.new r.command) }
-    ensures refused {
-        IfErr result (λ e. RefusesStep e (step (project_of maps.old) command.now cap)) }
-    ensures promised {
-        Covers maps.old.spare (need_of command.now) → IsErrOf result CommandError.OutOfMemory → ⊥ }
+    ensures refused { IfErr result
+        (λ e. RefusesStep e (step (project_of maps.old) command.now cap)) }
+    ensures promised { Covers maps.old.spare (need_of command.now)
+        → IsErrOf result CommandError.OutOfMemory → ⊥ }
 {
     if let Err(error) = can_do(maps, command) {
         return Err(CommandError::of_edit(error));
@@ -116,8 +116,8 @@ fn edit(maps: &mut Maps, command: Command) -> u32
 // Makes a change of the current map, as the project's step says.
 fn commit_edit(maps: &mut Maps, command: Command) -> u32
     requires { CanCommit maps.old (ProjectCommand.Edit command) }
-    ensures project {
-        project_of maps.new ≡ after (project_of maps.old) (ProjectCommand.Edit command) }
+    ensures project { project_of maps.new
+        ≡ after (project_of maps.old) (ProjectCommand.Edit command) }
     ensures number { result ≡ number_of (project_of maps.old) (ProjectCommand.Edit command) }
 {
     edit(maps, command)
@@ -144,8 +144,8 @@ pub fn apply(maps: &mut Maps, command: &ProjectCommand, cap: u32) -> Result<u32,
     ensures ends { let p = project_of maps.old in
         EndsStep result (step p command.now cap) p (project_of maps.new) }
     ensures fits { body_len (project_of maps.new) ≤ cap }
-    ensures promised {
-        Covers maps.old.spare (need_of command.now) → IsErrOf result CommandError.OutOfMemory → ⊥ }
+    ensures promised { Covers maps.old.spare (need_of command.now)
+        → IsErrOf result CommandError.OutOfMemory → ⊥ }
 {
     let ready = ready(maps, command, cap)?;
     Ok(commit(maps, ready))

@@ -48,10 +48,10 @@ fn map_head_in(word: &[u8]) -> Option<MapHead>
 // The command whose words stand behind such a first word.
 fn map_command(head: MapHead, places: Places) -> Result<ProjectCommand, CommandError>
     requires { (reading places).fault ≡ None }
-    ensures ok {
-        IfOk result (λ c. (map_word head ∷ (reading places.entry).words ≡ words_of c) × InRange c) }
-    ensures fault {
-        TellsFault result (places_fault (Named is_marker ∷ []) (reading places.entry).words) }
+    ensures ok { IfOk result
+        (λ c. (map_word head ∷ (reading places.entry).words ≡ words_of c) × InRange c) }
+    ensures fault { TellsFault result
+        (places_fault (Named is_marker ∷ []) (reading places.entry).words) }
 {
     match places.map_name() {
         Ok(name) => match head {

@@ -16,8 +16,8 @@ use std::alloc::{AllocError, Global};
 #[tactic(auto, using(crate::proofs::Padding::marker_utf8))]
 fn named(alloc: Global, head: MapHead, name: &Name8) -> Result<Text, AllocError>
     requires { IsNamed is_marker name.now }
-    ensures {
-        IfOk result (λ t. written t ≡ join_with_byte 32 (map_word head ∷ name_text name.now ∷ [])) }
+    ensures { IfOk result
+        (λ t. written t ≡ join_with_byte 32 (map_word head ∷ name_text name.now ∷ [])) }
 {
     Text::new(alloc, map_text(head))?.name(name)
 }
@@ -25,8 +25,8 @@ fn named(alloc: Global, head: MapHead, name: &Name8) -> Result<Text, AllocError>
 // The line of a command that names a map.
 fn line(alloc: Global, head: MapHead, name: &Name8) -> Result<Vec<u8>, CommandError>
     requires { IsNamed is_marker name.now }
-    ensures spelling {
-        IfOk result (λ v. v.items ≡ join_with_byte 32 (map_word head ∷ name_text name.now ∷ [])) }
+    ensures spelling { IfOk result
+        (λ v. v.items ≡ join_with_byte 32 (map_word head ∷ name_text name.now ∷ [])) }
     ensures memory { IsOkUnless result CommandError.OutOfMemory }
 {
     Ok(named(alloc, head, name)?.into_bytes())

@@ -67,10 +67,9 @@ impl Draft {
 
     // Whether each table is within its limit.
     fn is_within_limits(&self) -> bool
-        ensures {
-            IsTrue result ↔ ((length self.now.vertices ≤ item_limit)
-                × (length self.now.sectors ≤ sector_limit) × (length self.now.sides ≤ item_limit)
-                × (length self.now.lines ≤ item_limit) × (length self.now.things ≤ item_limit)) }
+        ensures { IsTrue result ↔ ((length self.now.vertices ≤ item_limit)
+            × (length self.now.sectors ≤ sector_limit) × (length self.now.sides ≤ item_limit)
+            × (length self.now.lines ≤ item_limit) × (length self.now.things ≤ item_limit)) }
     {
         self.vertices.len() <= ITEM_LIMIT
             && self.sectors.len() <= SECTOR_LIMIT
@@ -81,12 +80,12 @@ impl Draft {
 
     // Whether the name and each item are in range.
     fn is_in_range(&self) -> bool
-        ensures places {
-            IsTrue result → (All IsVertex self.now.vertices × All IsThing self.now.things) }
-        ensures areas {
-            IsTrue result → (All IsSector self.now.sectors × All IsSide self.now.sides) }
-        ensures lines {
-            IsTrue result → (IsNamed is_marker self.now.name × All IsLine self.now.lines) }
+        ensures places { IsTrue result
+            → (All IsVertex self.now.vertices × All IsThing self.now.things) }
+        ensures areas { IsTrue result
+            → (All IsSector self.now.sectors × All IsSide self.now.sides) }
+        ensures lines { IsTrue result
+            → (IsNamed is_marker self.now.name × All IsLine self.now.lines) }
         ensures all { WellFormed self.now → IsTrue result }
     {
         if !are_places(&self.vertices, &self.things) {
@@ -97,9 +96,8 @@ impl Draft {
 
     // Whether each number names an item, and the lines go together with what they name.
     fn is_linked(&self) -> bool
-        ensures lines {
-            IsTrue result → (All (HasEnds self.now.vertices) self.now.lines
-                × All (HasSides self.now.sides) self.now.lines) }
+        ensures lines { IsTrue result → (All (HasEnds self.now.vertices) self.now.lines
+            × All (HasSides self.now.sides) self.now.lines) }
         ensures sides { IsTrue result → All (HasSector self.now.sectors) self.now.sides }
         ensures all { WellFormed self.now → IsTrue result }
     {

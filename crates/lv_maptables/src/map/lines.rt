@@ -74,13 +74,12 @@ impl Map {
     /// Adds a line, and answers its number.
     pub fn add_line(&mut self, line: Line) -> Result<u32, MapError>
         requires { IsLine line }
-        ensures edit {
-            EndsEdit result (added_line self.old.tables line) self.old.tables self.new.tables }
+        ensures edit { EndsEdit result
+            (added_line self.old.tables line) self.old.tables self.new.tables }
         ensures promised { 0 < self.old.spare.lines → IsErrOf result MapError.OutOfMemory → ⊥ }
         ensures spare { Spends one_line self.old.spare self.new.spare }
-        ensures places {
-            0 < self.old.spare.lines
-                → places self.new.tables self.new.spare ≡ places self.old.tables self.old.spare }
+        ensures places { 0 < self.old.spare.lines
+            → places self.new.tables self.new.spare ≡ places self.old.tables self.old.spare }
     {
         self.can_add_line(line)?;
         let number = self.lines.len() as u32;
@@ -106,12 +105,11 @@ impl Map {
     /// Puts a line in place of that of its number.
     pub fn set_line(&mut self, n: u32, line: Line) -> Result<(), MapError>
         requires { IsLine line }
-        ensures edit {
-            EndsExactly result (changed_line self.old.tables n line)
-                self.old.tables self.new.tables }
+        ensures edit { EndsExactly result (changed_line self.old.tables n line)
+            self.old.tables self.new.tables }
         ensures spare { Spends nothing self.old.spare self.new.spare }
-        ensures places {
-            places self.new.tables self.new.spare ≡ places self.old.tables self.old.spare }
+        ensures places { places self.new.tables self.new.spare
+            ≡ places self.old.tables self.old.spare }
     {
         self.can_set_line(n, line)?;
         let keyed = keyed_line(&self.vertices, &self.sides, &line);
@@ -128,11 +126,11 @@ impl Map {
 
     /// Takes a line out, and lowers each greater number by one.
     pub fn drop_line(&mut self, n: u32) -> Result<(), MapError>
-        ensures edit {
-            EndsExactly result (dropped_line self.old.tables n) self.old.tables self.new.tables }
+        ensures edit { EndsExactly result
+            (dropped_line self.old.tables n) self.old.tables self.new.tables }
         ensures spare { Spends nothing self.old.spare self.new.spare }
-        ensures places {
-            places self.new.tables self.new.spare ≡ places self.old.tables self.old.spare }
+        ensures places { places self.new.tables self.new.spare
+            ≡ places self.old.tables self.old.spare }
     {
         self.can_drop_line(n)?;
         self.lines.remove(n as usize);

@@ -53,8 +53,8 @@ impl Map {
 
     // Appends the name, and the counts of things, lines, sides, vertices and sectors.
     fn put_head(&self, bytes: &mut Vec<u8>) -> Result<(), MapError>
-        ensures bytes {
-            OnOk result (bytes.new.items ≡ bytes.old.items ++ part_head self.now.tables) }
+        ensures bytes { OnOk result
+            (bytes.new.items ≡ bytes.old.items ++ part_head self.now.tables) }
         ensures well_formed { OnOk result (WellFormed self.now.tables) }
         ensures memory { IsOkUnless result MapError.OutOfMemory }
     {

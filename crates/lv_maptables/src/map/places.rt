@@ -73,9 +73,8 @@ impl Places {
     pub(super) fn insert(&mut self, place: Vertex)
         requires free { is_taken self.old.marked place ≡ false }
         requires room { length self.old.marked < self.old.room }
-        ensures taken {
-            (v : Vertex) → is_taken self.new.marked v
-                ≡ (is_place v place || is_taken self.old.marked v) }
+        ensures taken { (v : Vertex) → is_taken self.new.marked v
+            ≡ (is_place v place || is_taken self.old.marked v) }
         ensures count { length self.new.marked ≡ length self.old.marked + 1 }
         ensures room { self.new.room ≡ self.old.room }
     {
@@ -102,9 +101,8 @@ impl Places {
     pub(super) fn remove(&mut self, place: Vertex, vertices: &Table<Vertex>)
         requires apart { AllPairs (λ v w. v ≢ w) vertices.now.items }
         requires taken { is_taken self.old.marked place ≡ true }
-        requires left {
-            (v : Vertex) → is_taken vertices.now.items v
-                ≡ (not (is_place v place) && is_taken self.old.marked v) }
+        requires left { (v : Vertex) → is_taken vertices.now.items v
+            ≡ (not (is_place v place) && is_taken self.old.marked v) }
         requires count { length vertices.now.items + 1 ≡ length self.old.marked }
         ensures marked { AreMarked self.new vertices.now.items }
         ensures room { self.new.room ≡ self.old.room }
@@ -121,9 +119,8 @@ impl Places {
         requires apart { AllPairs (λ v w. v ≢ w) vertices.now.items }
         requires taken { is_taken self.old.marked from ≡ true }
         requires free { (not (is_place to from) && is_taken self.old.marked to) ≡ false }
-        requires left {
-            (v : Vertex) → is_taken vertices.now.items v
-                ≡ (is_place v to || (not (is_place v from) && is_taken self.old.marked v)) }
+        requires left { (v : Vertex) → is_taken vertices.now.items v
+            ≡ (is_place v to || (not (is_place v from) && is_taken self.old.marked v)) }
         requires count { length vertices.now.items ≡ length self.old.marked }
         ensures marked { AreMarked self.new vertices.now.items }
         ensures room { self.new.room ≡ self.old.room }

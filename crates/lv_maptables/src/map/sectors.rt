@@ -47,13 +47,12 @@ impl Map {
     /// Adds a sector, and answers its number.
     pub fn add_sector(&mut self, sector: Sector) -> Result<u32, MapError>
         requires { IsSector sector }
-        ensures edit {
-            EndsEdit result (added_sector self.old.tables sector) self.old.tables self.new.tables }
+        ensures edit { EndsEdit result
+            (added_sector self.old.tables sector) self.old.tables self.new.tables }
         ensures promised { 0 < self.old.spare.sectors → IsErrOf result MapError.OutOfMemory → ⊥ }
         ensures spare { Spends one_sector self.old.spare self.new.spare }
-        ensures places {
-            0 < self.old.spare.sectors
-                → places self.new.tables self.new.spare ≡ places self.old.tables self.old.spare }
+        ensures places { 0 < self.old.spare.sectors
+            → places self.new.tables self.new.spare ≡ places self.old.tables self.old.spare }
     {
         self.can_add_sector()?;
         let number = self.sectors.len() as u32;
@@ -71,12 +70,11 @@ impl Map {
     /// Puts a sector in place of that of its number.
     pub fn set_sector(&mut self, n: u32, sector: Sector) -> Result<(), MapError>
         requires { IsSector sector }
-        ensures edit {
-            EndsExactly result (changed_sector self.old.tables n sector)
-                self.old.tables self.new.tables }
+        ensures edit { EndsExactly result (changed_sector self.old.tables n sector)
+            self.old.tables self.new.tables }
         ensures spare { Spends nothing self.old.spare self.new.spare }
-        ensures places {
-            places self.new.tables self.new.spare ≡ places self.old.tables self.old.spare }
+        ensures places { places self.new.tables self.new.spare
+            ≡ places self.old.tables self.old.spare }
     {
         self.can_set_sector(n)?;
         self.sectors.set(n as usize, sector);
@@ -104,11 +102,11 @@ impl Map {
 
     /// Takes a sector out, and lowers each greater number by one, in the sides too.
     pub fn drop_sector(&mut self, n: u32) -> Result<(), MapError>
-        ensures edit {
-            EndsExactly result (dropped_sector self.old.tables n) self.old.tables self.new.tables }
+        ensures edit { EndsExactly result
+            (dropped_sector self.old.tables n) self.old.tables self.new.tables }
         ensures spare { Spends nothing self.old.spare self.new.spare }
-        ensures places {
-            places self.new.tables self.new.spare ≡ places self.old.tables self.old.spare }
+        ensures places { places self.new.tables self.new.spare
+            ≡ places self.old.tables self.old.spare }
     {
         self.can_drop_sector(n)?;
         self.sectors.remove(n as usize);

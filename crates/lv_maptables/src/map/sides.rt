@@ -63,13 +63,12 @@ impl Map {
     /// Adds a side, and answers its number.
     pub fn add_side(&mut self, side: Side) -> Result<u32, MapError>
         requires { IsSide side }
-        ensures edit {
-            EndsEdit result (added_side self.old.tables side) self.old.tables self.new.tables }
+        ensures edit { EndsEdit result
+            (added_side self.old.tables side) self.old.tables self.new.tables }
         ensures promised { 0 < self.old.spare.sides → IsErrOf result MapError.OutOfMemory → ⊥ }
         ensures spare { Spends one_side self.old.spare self.new.spare }
-        ensures places {
-            0 < self.old.spare.sides
-                → places self.new.tables self.new.spare ≡ places self.old.tables self.old.spare }
+        ensures places { 0 < self.old.spare.sides
+            → places self.new.tables self.new.spare ≡ places self.old.tables self.old.spare }
     {
         self.can_add_side(side)?;
         let number = self.sides.len() as u32;
@@ -89,12 +88,11 @@ impl Map {
     /// Puts a side in place of that of its number.
     pub fn set_side(&mut self, n: u32, side: Side) -> Result<(), MapError>
         requires { IsSide side }
-        ensures edit {
-            EndsExactly result (changed_side self.old.tables n side)
-                self.old.tables self.new.tables }
+        ensures edit { EndsExactly result (changed_side self.old.tables n side)
+            self.old.tables self.new.tables }
         ensures spare { Spends nothing self.old.spare self.new.spare }
-        ensures places {
-            places self.new.tables self.new.spare ≡ places self.old.tables self.old.spare }
+        ensures places { places self.new.tables self.new.spare
+            ≡ places self.old.tables self.old.spare }
     {
         self.can_set_side(n, side)?;
         let keyed = keyed_side(&self.sectors, &side);
@@ -123,11 +121,11 @@ impl Map {
 
     /// Takes a side out, and lowers each greater number by one, in the lines too.
     pub fn drop_side(&mut self, n: u32) -> Result<(), MapError>
-        ensures edit {
-            EndsExactly result (dropped_side self.old.tables n) self.old.tables self.new.tables }
+        ensures edit { EndsExactly result
+            (dropped_side self.old.tables n) self.old.tables self.new.tables }
         ensures spare { Spends nothing self.old.spare self.new.spare }
-        ensures places {
-            places self.new.tables self.new.spare ≡ places self.old.tables self.old.spare }
+        ensures places { places self.new.tables self.new.spare
+            ≡ places self.old.tables self.old.spare }
     {
         self.can_drop_side(n)?;
         self.sides.remove(n as usize);

@@ -158,9 +158,8 @@ impl<T: Copy> Table<T> {
     /// Puts an item at the end, under a key that none has. It takes no memory where there is a spare place.
     pub(super) fn push(&mut self, item: T) -> Result<(), MapError>
         requires few { length self.old.items ≤ 32767 }
-        ensures items {
-            self.new.items
-                ≡ (if is_ok result then self.old.items ++ item ∷ [] else self.old.items) }
+        ensures items { self.new.items
+            ≡ (if is_ok result then self.old.items ++ item ∷ [] else self.old.items) }
         ensures ranks { KeepRanks self.old self.new }
         ensures count { length self.old.keys ≡ length self.old.items }
         ensures spare { self.old.spare ≤ self.new.spare + (if is_ok result then 1 else 0) }

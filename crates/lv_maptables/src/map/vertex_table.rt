@@ -145,9 +145,8 @@ impl VertexTable {
     pub(super) fn push(&mut self, vertex: Vertex) -> Result<(), MapError>
         requires few { length self.old.items ≤ 32767 }
         requires free { is_taken self.old.items vertex ≡ false }
-        ensures items {
-            self.new.items
-                ≡ (if is_ok result then self.old.items ++ vertex ∷ [] else self.old.items) }
+        ensures items { self.new.items
+            ≡ (if is_ok result then self.old.items ++ vertex ∷ [] else self.old.items) }
         ensures ranks { KeepRanks self.old self.new }
         ensures spare { self.old.spare ≤ self.new.spare + (if is_ok result then 1 else 0) }
         ensures succeeds { 0 < self.old.spare → IsOk result }

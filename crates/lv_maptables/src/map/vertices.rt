@@ -115,13 +115,12 @@ impl Map {
     /// Adds a vertex, and answers its number.
     pub fn add_vertex(&mut self, vertex: Vertex) -> Result<u32, MapError>
         requires { IsVertex vertex }
-        ensures edit {
-            EndsEdit result (added_vertex self.old.tables vertex) self.old.tables self.new.tables }
+        ensures edit { EndsEdit result
+            (added_vertex self.old.tables vertex) self.old.tables self.new.tables }
         ensures promised { 0 < self.old.spare.vertices → IsErrOf result MapError.OutOfMemory → ⊥ }
         ensures spare { Spends one_vertex self.old.spare self.new.spare }
-        ensures places {
-            0 < self.old.spare.vertices
-                → places self.new.tables self.new.spare ≡ places self.old.tables self.old.spare }
+        ensures places { 0 < self.old.spare.vertices
+            → places self.new.tables self.new.spare ≡ places self.old.tables self.old.spare }
     {
         self.can_add_vertex(vertex)?;
         let number = self.vertices.len() as u32;
@@ -152,7 +151,7 @@ impl Map {
         requires { n < length self.now.tables.vertices }
         ensures { result ≡
             list_any (λ l. uses_vertex n l && is_too_long
-                (slice_set self.now.tables.vertices n to) l)
+            (slice_set self.now.tables.vertices n to) l)
             self.now.tables.lines }
     {
         has_line_stretched(&self.lines, &self.vertices, n, to)
@@ -175,12 +174,11 @@ impl Map {
     /// Moves a vertex, and with it the ends of its lines.
     pub fn set_vertex(&mut self, n: u32, vertex: Vertex) -> Result<(), MapError>
         requires { IsVertex vertex }
-        ensures edit {
-            EndsExactly result (changed_vertex self.old.tables n vertex)
-                self.old.tables self.new.tables }
+        ensures edit { EndsExactly result (changed_vertex self.old.tables n vertex)
+            self.old.tables self.new.tables }
         ensures spare { Spends nothing self.old.spare self.new.spare }
-        ensures places {
-            places self.new.tables self.new.spare ≡ places self.old.tables self.old.spare }
+        ensures places { places self.new.tables self.new.spare
+            ≡ places self.old.tables self.old.spare }
     {
         self.can_set_vertex(n, vertex)?;
         self.vertices.set(n as usize, vertex);
@@ -200,11 +198,11 @@ impl Map {
 
     /// Takes a vertex out, and lowers each greater number by one, in the lines too.
     pub fn drop_vertex(&mut self, n: u32) -> Result<(), MapError>
-        ensures edit {
-            EndsExactly result (dropped_vertex self.old.tables n) self.old.tables self.new.tables }
+        ensures edit { EndsExactly result
+            (dropped_vertex self.old.tables n) self.old.tables self.new.tables }
         ensures spare { Spends nothing self.old.spare self.new.spare }
-        ensures places {
-            places self.new.tables self.new.spare ≡ places self.old.tables self.old.spare }
+        ensures places { places self.new.tables self.new.spare
+            ≡ places self.old.tables self.old.spare }
     {
         self.can_drop_vertex(n)?;
         self.vertices.remove(n as usize);

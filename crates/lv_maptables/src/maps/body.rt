@@ -110,10 +110,10 @@ impl Maps {
     // Adds the map whose part the bytes begin with behind the others, and makes it current. It answers
     // how long its part is.
     fn read_next(&mut self, alloc: Global, bytes: &[u8]) -> Result<usize, MapError>
-        ensures next {
-            IfOk result (λ n. ReadsNext bytes.now n (project_of self.old) (project_of self.new)) }
-        ensures refused {
-            IfErr result (RefusesFor (NoneFollow (project_of self.old).maps bytes.now)) }
+        ensures next { IfOk result
+            (λ n. ReadsNext bytes.now n (project_of self.old) (project_of self.new)) }
+        ensures refused { IfErr result
+            (RefusesFor (NoneFollow (project_of self.old).maps bytes.now)) }
     {
         let map = first_map(alloc, bytes)?;
         if self.has_map(map.name()) {

@@ -70,9 +70,9 @@ impl Maps {
     /// Gives the current map another name: `MapNameTaken` where another map has it.
     pub fn set_name(&mut self, name: Name8) -> Result<(), MapError>
         requires { IsNamed is_marker name }
-        ensures edit {
-            EndsExactly result (named_map (project_of self.old) name) (project_of self.old)
-                (project_of self.new) }
+        ensures edit { EndsExactly result (named_map (project_of self.old) name)
+            (project_of self.old)
+            (project_of self.new) }
         ensures spare { self.new.spare ≡ self.old.spare }
         ensures others { self.new.others ≡ self.old.others }
     {
@@ -95,9 +95,8 @@ impl Maps {
     /// that name is added last: `TooManyMaps` where there are 32. It takes no memory.
     pub fn select(&mut self, name: Name8) -> Result<u32, MapError>
         requires { IsNamed is_marker name }
-        ensures {
-            EndsExactly result (selected_map (project_of self.old) name) (project_of self.old)
-                (project_of self.new) }
+        ensures { EndsExactly result (selected_map (project_of self.old) name) (project_of self.old)
+            (project_of self.new) }
     {
         self.can_select(name)?;
         let n = self.number_of(name);
@@ -125,9 +124,8 @@ impl Maps {
     /// Takes the map of the name out, and answers the number that it had; greater numbers, the current
     /// one too, fall by one: `NoSuchMap`, `CurrentMap`. It takes no memory.
     pub fn drop_map(&mut self, name: Name8) -> Result<u32, MapError>
-        ensures {
-            EndsExactly result (dropped_map (project_of self.old) name) (project_of self.old)
-                (project_of self.new) }
+        ensures { EndsExactly result (dropped_map (project_of self.old) name) (project_of self.old)
+            (project_of self.new) }
     {
         self.can_drop_map(name)?;
         let n = self.number_of(name);
@@ -176,9 +174,10 @@ impl Maps {
     fn take_out(&mut self, n: usize)
         requires there { n < length (project_of self.old).maps }
         requires other { n ≢ (project_of self.old).current }
-        ensures {
-            project_of self.new ≡ record { maps = remove (project_of self.old).maps n;
-                current = lowered n (project_of self.old).current } }
+        ensures { project_of self.new ≡ record {
+          maps = remove (project_of self.old).maps n;
+          current = lowered n (project_of self.old).current;
+        } }
     {
         if n < self.number {
             self.others.remove(n);
