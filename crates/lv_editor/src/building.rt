@@ -211,6 +211,7 @@ fn build_into<F: Write + OpenFile>(
 fn tell_built<W: Write>(counts: Counts, writer: &mut W) -> Result<u8, Refusal>
     ensures told { IfOk result (λ status. (status ≡ 0)
         × Appends (W.contents writer.old) (W.contents writer.new) (built_text counts)) }
+    ensures small { IfOk result (λ s. s ≤ 3) }
 {
     match write_counts(counts, writer) {
         Ok(()) => {}

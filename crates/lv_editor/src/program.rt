@@ -118,7 +118,8 @@ fn tell<W: Write>(alloc: Global, map: &Map, writer: &mut W) -> Result<u32, Refus
 
 // The status after so many findings.
 fn status_for(found: u32) -> u8
-    ensures { result ≡ status_after found }
+    ensures status { result ≡ status_after found }
+    ensures small { result ≤ 3 }
 {
     if found == 0 { DONE } else { FOUND }
 }

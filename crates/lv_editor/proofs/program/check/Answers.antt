@@ -4,4 +4,7 @@ use Rattle.lv_editor.proofs.program.check.Goals as goal
 
 pub returns-in-Ok-tell-clause-found : goal.returns-in-Ok-tell-clause-found
 returns-in-Ok-tell-clause-found g c =
-    inl (c.map.result.now.tables, c.status_for.ensures ∙ ap status_after c.in-Ok-tell.ensures.number, c.in-Ok-tell.ensures.written)
+    inl (c.map.result.now.tables, c.status_for.ensures.status ∙ ap status_after c.in-Ok-tell.ensures.number, c.in-Ok-tell.ensures.written)
+
+pub returns-in-Ok-tell-clause-small : goal.returns-in-Ok-tell-clause-small
+returns-in-Ok-tell-clause-small g c = c.status_for.ensures.small
