@@ -1,9 +1,10 @@
 -- What follows where nothing speaks against an edit.
-use Rattle.std.proofs.Common.{◌≡◌, ℕ, ◌<◌, ◌≤◌, ◌+◌, Bool, true, false, List, [], ◌∷◌, length, None, refl, ltb, get_or}
+use Rattle.std.proofs.Common.{◌≡◌, ℕ, ◌<◌, ◌≤◌, ◌+◌, Bool, true, false, List, [], ◌∷◌, length, None, refl, sym, ltb, get_or}
 use Rattle.std.specs.List.{list_any, All}
+use Rattle.std.specs.Prelude.{Option, Some, Ok}
 use Rattle.std.proofs.lemmas.Bool.{ltb-false, not-false, ltb-true, both_ways, false_from_ne_true}
 use Rattle.std.proofs.lemmas.List.Folds.{list_any_at}
-use Rattle.lv_maptables.specs.Outcomes.{least}
+use Rattle.lv_maptables.specs.Outcomes.{least, unless}
 use Rattle.lv_maptables.specs.Faults.{lacks, lacks_room, lacks_sector_room}
 
 -- no fault of the list holds
@@ -29,3 +30,8 @@ has_sector_room xs e = ltb-false 4096 (length xs + 1) e
 -- where no element passes a test, none does at its place
 pub none_passes : {X : Type 0} (p : X → Bool) (xs : List X) → list_any p xs ≡ false → All (λ x. p x ≡ false) xs
 none_passes p xs e = λ k d h. false_from_ne_true (p (get_or xs k d)) (λ t. both_ways (list_any p xs) e (list_any_at p xs k d h t))
+
+-- an edit against which nothing speaks gives what was made
+pub done : {S X : Type 0} (o : Option ℕ) (made new : S) (answer given : X) → o ≡ None → new ≡ made → given ≡ answer → unless o made answer ≡ Ok (new, given)
+done {S} {X} None made new answer given none is same = λ i. Ok (sym is i, sym same i)
+done (Some code) made new answer given none is same = absurd (cc)

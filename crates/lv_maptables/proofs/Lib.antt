@@ -1,6 +1,9 @@
 pub mod ListLemmas
 pub mod FaultLemmas
 pub mod FormLemmas
+pub mod KeyLemmas
+pub mod TableLemmas
+pub mod KeyedLemmas
 pub mod PlaceLemmas
 pub mod VertexLemmas
 pub mod SectorLemmas

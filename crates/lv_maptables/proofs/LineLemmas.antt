@@ -23,6 +23,22 @@ ends_of m l references shape short = ends_from m.vertices l references.0 shape.0
 pub sides_of : (m : Tables) (l : Line) → NoneHold (reference_faults m l) → NoneHold (shape_faults l) → HasSides m.sides l
 sides_of m l references shape = sides_from m.sides l references.1.0 shape.1.0
 
+-- what a line names is there where nothing speaks against adding it
+pub new_fits : (m : Tables) (l : Line) → least (line_faults m l) ≡ None → HasEnds m.vertices l × HasSides m.sides l
+new_fits m l fine =
+    let none = none_hold (line_faults m l) fine in
+    let references : NoneHold (reference_faults m l) = (none.0, (none.1.0, tt)) in
+    let shape : NoneHold (shape_faults l) = (none.1.1.0, (none.1.1.1.0, tt)) in
+    (ends_of m l references shape none.1.1.1.1.1.0, sides_of m l references shape)
+
+-- and where nothing speaks against putting it in place of one
+pub changed_fits : (m : Tables) (n : ℕ) (l : Line) → least (set_line_faults m n l) ≡ None → HasEnds m.vertices l × HasSides m.sides l
+changed_fits m n l fine =
+    let none = none_hold (set_line_faults m n l) fine in
+    let references : NoneHold (reference_faults m l) = (none.0, (none.1.0, tt)) in
+    let shape : NoneHold (shape_faults l) = (none.1.1.1.0, (none.1.1.1.1.0, tt)) in
+    (ends_of m l references shape none.1.1.1.1.1.0, sides_of m l references shape)
+
 -- with one more line
 pub with_line-keeps : (m : Tables) (l : Line) → WellFormed m → IsLine l → least (line_faults m l) ≡ None → WellFormed (with_line m l)
 with_line-keeps m l w range fine =

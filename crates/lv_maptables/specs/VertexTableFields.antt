@@ -1,15 +1,17 @@
 -- What the fields of a `VertexTable` mean, and what they keep.
-use Rattle.std.specs.Prelude.{◌≢◌, ◌-◌, ◌≤◌, length, min, vec_capacity, vec_len, AllPairs}
+use Rattle.std.specs.Prelude.{◌≢◌, ◌-◌, ◌≤◌, length, min, AllPairs}
 use Rattle.lv_maptables.specs.declared.map.vertex_table.VertexTable.TheInside.{Inside}
-use Rattle.lv_maptables.specs.VertexTables.{VerticesView}
+use Rattle.lv_lumps.specs.declared.records.Vertex.{Vertex}
+use Rattle.lv_maptables.specs.Keys.{TableView}
 use Rattle.lv_maptables.specs.Places.{AreMarked}
 
--- a vertex more fits where both the list and the index have room for it
-abbrev pub vertices_of : Inside → VerticesView
+-- a vertex more fits where both the table and the index have room for it
+abbrev pub vertices_of : Inside → TableView Vertex
 vertices_of a =
     record {
       items = a.items.items;
-      spare = min (vec_capacity a.items - vec_len a.items) (a.places.room - length a.items.items);
+      keys = a.items.keys;
+      spare = min a.items.spare (a.places.room - length a.items.items);
     }
 
 -- no two vertices have one place, and the index has the places of them all, and no others

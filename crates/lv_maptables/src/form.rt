@@ -1,5 +1,5 @@
-ghost use Rattle.std.specs.Prelude.{◌≡◌, ◌≢◌, ◌==◌, ◌&&◌, ◌||◌, not, ◌↔◌, IsTrue, All, AllPairs, IfOk, IsOkUnless};
-ghost use Rattle.lv_maptables.specs.Faults.{lacks, has_left, is_two_sided};
+ghost use Rattle.std.specs.Prelude.{◌≡◌, ◌≢◌, ◌==◌, ◌&&◌, ◌||◌, not, nat_lt, ◌↔◌, IsTrue, All, AllPairs, IfOk, IsOkUnless};
+ghost use Rattle.lv_maptables.specs.Faults.{has_left, is_two_sided};
 ghost use Rattle.lv_maptables.specs.WellFormed.{HasEnds, HasSides, HasSector};
 
 use crate::error::MapError;
@@ -17,19 +17,19 @@ pub fn are_apart(alloc: Global, vertices: &[Vertex]) -> Result<bool, MapError>
     Ok(places.len() == vertices.len())
 }
 
-/// Whether one of the line's ends isn't among the vertices.
-pub fn lacks_vertex(vertices: &[Vertex], line: &Line) -> bool
-    ensures { result ≡ (lacks vertices.now line.now.v1 || lacks vertices.now line.now.v2) }
+/// Whether one of the line's ends isn't among so many vertices.
+pub fn lacks_vertex(vertices: usize, line: &Line) -> bool
+    ensures { result ≡ (not (nat_lt line.now.v1 vertices) || not (nat_lt line.now.v2 vertices)) }
 {
-    usize::from(line.v1) >= vertices.len() || usize::from(line.v2) >= vertices.len()
+    usize::from(line.v1) >= vertices || usize::from(line.v2) >= vertices
 }
 
-/// Whether a side that the line names isn't among the sides.
-pub fn lacks_side(sides: &[Side], line: &Line) -> bool
-    ensures { result ≡ (lacks sides.now line.now.right || (has_left line.now && lacks sides.now line.now.left)) }
+/// Whether a side that the line names isn't among so many sides.
+pub fn lacks_side(sides: usize, line: &Line) -> bool
+    ensures { result ≡ (not (nat_lt line.now.right sides)
+        || (has_left line.now && not (nat_lt line.now.left sides))) }
 {
-    usize::from(line.right) >= sides.len()
-        || line.has_left() && usize::from(line.left) >= sides.len()
+    usize::from(line.right) >= sides || line.has_left() && usize::from(line.left) >= sides
 }
 
 /// Whether the line begins and ends at one vertex.
@@ -46,28 +46,28 @@ pub fn lacks_left(line: &Line) -> bool
     line.is_two_sided() && !line.has_left()
 }
 
-/// Whether the line's ends are two of the vertices, which aren't too far apart.
+// Whether the line's ends are two of the vertices, which aren't too far apart.
 fn has_ends(vertices: &[Vertex], line: &Line) -> bool
     ensures { IsTrue result ↔ HasEnds vertices.now line.now }
 {
-    !(lacks_vertex(vertices, line) || has_same_ends(line) || is_too_long(vertices, line))
+    !(lacks_vertex(vertices.len(), line) || has_same_ends(line) || is_too_long(vertices, line))
 }
 
-/// Whether the line's sides are among the sides, and it has a left one where its flags say so.
+// Whether the line's sides are among the sides, and it has a left one where its flags say so.
 fn has_sides(sides: &[Side], line: &Line) -> bool
     ensures { IsTrue result ↔ HasSides sides.now line.now }
 {
-    !(lacks_side(sides, line) || lacks_left(line))
+    !(lacks_side(sides.len(), line) || lacks_left(line))
 }
 
-/// Whether each line has its ends among the vertices.
+// Whether each line has its ends among the vertices.
 fn have_ends(vertices: &[Vertex], lines: &[Line]) -> bool
     ensures { IsTrue result ↔ All (HasEnds vertices.now) lines.now }
 {
     lines.iter().all(|line| has_ends(vertices, line))
 }
 
-/// Whether each line has its sides among the sides.
+// Whether each line has its sides among the sides.
 fn have_sides(sides: &[Side], lines: &[Line]) -> bool
     ensures { IsTrue result ↔ All (HasSides sides.now) lines.now }
 {
@@ -76,7 +76,8 @@ fn have_sides(sides: &[Side], lines: &[Line]) -> bool
 
 /// Whether each line goes together with the vertices and the sides that it names.
 pub fn are_linked(vertices: &[Vertex], sides: &[Side], lines: &[Line]) -> bool
-    ensures { IsTrue result ↔ (All (HasEnds vertices.now) lines.now × All (HasSides sides.now) lines.now) }
+    ensures { IsTrue result ↔ (All (HasEnds vertices.now) lines.now
+        × All (HasSides sides.now) lines.now) }
 {
     have_ends(vertices, lines) && have_sides(sides, lines)
 }

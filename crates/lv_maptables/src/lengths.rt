@@ -1,4 +1,5 @@
-ghost use Rattle.std.specs.Prelude.{◌≡◌};
+ghost use Rattle.std.specs.Prelude.{◌≡◌, nat_lt};
+ghost use Rattle.lv_lumps.specs.Drawing.{squared_distance, longest_squared};
 ghost use Rattle.lv_maptables.specs.WellFormed.{nth_vertex};
 ghost use Rattle.lv_maptables.specs.Faults.{is_too_long};
 
@@ -14,11 +15,16 @@ pub fn nth_vertex(vertices: &[Vertex], n: u16) -> Vertex
         .unwrap_or(Vertex { x: 0, y: 0 })
 }
 
+/// Whether two places are further apart than lines may be long.
+pub fn is_too_far(start: Vertex, end: Vertex) -> bool
+    ensures { result ≡ nat_lt longest_squared (squared_distance start end) }
+{
+    squared_distance(start, end) > LONGEST_SQUARED
+}
+
 /// Whether the line's ends are further apart than lines may be long.
 pub fn is_too_long(vertices: &[Vertex], line: &Line) -> bool
     ensures { result ≡ is_too_long vertices.now line.now }
 {
-    let start = nth_vertex(vertices, line.v1);
-    let end = nth_vertex(vertices, line.v2);
-    squared_distance(start, end) > LONGEST_SQUARED
+    is_too_far(nth_vertex(vertices, line.v1), nth_vertex(vertices, line.v2))
 }

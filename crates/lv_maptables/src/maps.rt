@@ -4,10 +4,11 @@ mod names;
 
 ghost use Rattle.std.specs.Prelude.{◌≡◌, ◌≤◌, ◌<◌, length, get_or, slice_get, MatchOption, Some, None, OnOk, IsOkUnless, IsErrOf};
 ghost use Rattle.lv_maptables.specs.Projects.{WellFormedProject, project_of, empty_project, body_len};
-ghost use Rattle.lv_maptables.specs.Tables.{Tables};
+ghost use Rattle.lv_maptables.specs.Tables.{Tables, count_of};
 ghost use Rattle.lv_maptables.specs.Outcomes.{Covers, Spends, nothing};
 
 use crate::error::MapError;
+use crate::kind::Kind;
 use crate::map::{Map, Need};
 use arrayvec::ArrayVec;
 use std::alloc::Global;
@@ -118,6 +119,14 @@ impl Maps {
             len += self.nth(n as usize).part_len();
         }
         len
+    }
+
+    /// The key of an item of the current map, and none past the items.
+    pub fn key(&self, kind: Kind, n: u32) -> Option<usize>
+        ensures { MatchOption result (count_of self.now.tables kind ≤ n)
+            (λ _. n < count_of self.now.tables kind) }
+    {
+        self.map.key(kind, n)
     }
 
     /// Makes room in the current map: after an Ok that many additions of each kind take no memory.

@@ -4,35 +4,35 @@ ghost use Rattle.lv_maptables.specs.Ranges.{IsVertex, IsSector, IsSide, IsLine, 
 
 use lv_lumps::{Line, NO_SIDE, Name8, Sector, Side, Thing, Vertex, is_marker, is_name};
 
-/// Whether nothing but NUL follows the name's text.
+// Whether nothing but NUL follows the name's text.
 fn is_padded(name: &Name8) -> bool
     ensures { IsTrue result ↔ (name.now ≡ name_of (name_text name.now)) }
 {
     Name8::from_text(name.text()) == *name
 }
 
-/// Whether it is the name of a texture or a flat, as a map keeps it.
+// Whether it is the name of a texture or a flat, as a map keeps it.
 fn is_texture(name: &Name8) -> bool
     ensures { IsTrue result ↔ IsNamed is_name name.now }
 {
     is_padded(name) && is_name(name.text())
 }
 
-/// Whether it is the name of a map, as a map keeps it.
+// Whether it is the name of a map, as a map keeps it.
 fn is_map_name(name: &Name8) -> bool
     ensures { IsTrue result ↔ IsNamed is_marker name.now }
 {
     is_padded(name) && is_marker(name.text())
 }
 
-/// Whether the number is a place's x or y.
+// Whether the number is a place's x or y.
 fn is_coordinate(z: i16) -> bool
     ensures { IsTrue result ↔ IsCoordinate z }
 {
     -16384 <= z && z <= 16383
 }
 
-/// Whether the number may be a height or an offset: any may.
+// Whether the number may be a height or an offset: any may.
 fn is_short(z: i16) -> bool
     ensures { IsTrue result ↔ IsShort z }
 {
@@ -40,77 +40,82 @@ fn is_short(z: i16) -> bool
     true
 }
 
-/// Whether the number is a special, a tag, a type or options.
+// Whether the number is a special, a tag, a type or options.
 fn is_code(z: i16) -> bool
     ensures { IsTrue result ↔ IsCode z }
 {
     0 <= z
 }
 
-/// Whether the number is at least 0 and at most the other.
+// Whether the number is at least 0 and at most the other.
 fn is_at_most(z: i16, high: i16) -> bool
     ensures { IsTrue result ↔ IsBetween (pos 0) high z }
 {
     0 <= z && z <= high
 }
 
-/// Whether the vertex is in range.
+// Whether the vertex is in range.
 fn is_vertex(vertex: &Vertex) -> bool
     ensures { IsTrue result ↔ IsVertex vertex.now }
 {
     is_coordinate(vertex.x) && is_coordinate(vertex.y)
 }
 
-/// Whether the sector's heights are in range.
+// Whether the sector's heights are in range.
 fn has_heights(sector: &Sector) -> bool
     ensures { IsTrue result ↔ (IsShort sector.now.floor × IsShort sector.now.ceiling) }
 {
     is_short(sector.floor) && is_short(sector.ceiling)
 }
 
-/// Whether the sector's other numbers are in range.
+// Whether the sector's other numbers are in range.
 fn has_sector_numbers(sector: &Sector) -> bool
-    ensures { IsTrue result ↔ (IsBetween (pos 0) (pos 255) sector.now.light × IsCode sector.now.special × IsCode sector.now.tag) }
+    ensures { IsTrue result
+        ↔ (IsBetween (pos 0) (pos 255) sector.now.light × IsCode sector.now.special
+        × IsCode sector.now.tag) }
 {
     is_at_most(sector.light, 255) && is_code(sector.special) && is_code(sector.tag)
 }
 
-/// Whether the sector's names are names of flats.
+// Whether the sector's names are names of flats.
 fn has_flats(sector: &Sector) -> bool
-    ensures { IsTrue result ↔ (IsNamed is_name sector.now.floor_name × IsNamed is_name sector.now.ceiling_name) }
+    ensures { IsTrue result ↔ (IsNamed is_name sector.now.floor_name
+        × IsNamed is_name sector.now.ceiling_name) }
 {
     is_texture(&sector.floor_name) && is_texture(&sector.ceiling_name)
 }
 
-/// Whether the sector is in range.
+// Whether the sector is in range.
 fn is_sector(sector: &Sector) -> bool
     ensures { IsTrue result ↔ IsSector sector.now }
 {
     has_heights(sector) && has_flats(sector) && has_sector_numbers(sector)
 }
 
-/// Whether the side's names are names of textures.
+// Whether the side's names are names of textures.
 fn has_textures(side: &Side) -> bool
-    ensures { IsTrue result ↔ (IsNamed is_name side.now.upper × IsNamed is_name side.now.lower × IsNamed is_name side.now.middle) }
+    ensures { IsTrue result ↔ (IsNamed is_name side.now.upper × IsNamed is_name side.now.lower
+        × IsNamed is_name side.now.middle) }
 {
     is_texture(&side.upper) && is_texture(&side.lower) && is_texture(&side.middle)
 }
 
-/// Whether the side's numbers are in range.
+// Whether the side's numbers are in range.
 fn has_side_numbers(side: &Side) -> bool
-    ensures { IsTrue result ↔ (IsShort side.now.x_offset × IsShort side.now.y_offset × (side.now.sector ≤ 4095)) }
+    ensures { IsTrue result ↔ (IsShort side.now.x_offset × IsShort side.now.y_offset
+        × (side.now.sector ≤ 4095)) }
 {
     is_short(side.x_offset) && is_short(side.y_offset) && side.sector <= 4095
 }
 
-/// Whether the side is in range.
+// Whether the side is in range.
 fn is_side(side: &Side) -> bool
     ensures { IsTrue result ↔ IsSide side.now }
 {
     has_side_numbers(side) && has_textures(side)
 }
 
-/// Whether the line is in range.
+// Whether the line is in range.
 fn is_line(line: &Line) -> bool
     ensures { IsTrue result ↔ IsLine line.now }
 {
@@ -123,56 +128,57 @@ fn is_line(line: &Line) -> bool
         && (line.left <= 32766 || line.left == NO_SIDE)
 }
 
-/// Whether the thing's place is in range.
+// Whether the thing's place is in range.
 fn has_thing_place(thing: &Thing) -> bool
     ensures { IsTrue result ↔ (IsCoordinate thing.now.x × IsCoordinate thing.now.y) }
 {
     is_coordinate(thing.x) && is_coordinate(thing.y)
 }
 
-/// Whether the thing's other numbers are in range.
+// Whether the thing's other numbers are in range.
 fn has_thing_numbers(thing: &Thing) -> bool
-    ensures { IsTrue result ↔ (IsBetween (pos 0) (pos 359) thing.now.angle × IsCode thing.now.kind × IsCode thing.now.options) }
+    ensures { IsTrue result ↔ (IsBetween (pos 0) (pos 359) thing.now.angle × IsCode thing.now.kind
+        × IsCode thing.now.options) }
 {
     is_at_most(thing.angle, 359) && is_code(thing.kind) && is_code(thing.options)
 }
 
-/// Whether the thing is in range.
+// Whether the thing is in range.
 fn is_thing(thing: &Thing) -> bool
     ensures { IsTrue result ↔ IsThing thing.now }
 {
     has_thing_place(thing) && has_thing_numbers(thing)
 }
 
-/// Whether all vertices are in range.
+// Whether all vertices are in range.
 fn are_vertices(vertices: &[Vertex]) -> bool
     ensures { IsTrue result ↔ All IsVertex vertices.now }
 {
     vertices.iter().all(is_vertex)
 }
 
-/// Whether all sectors are in range.
+// Whether all sectors are in range.
 fn are_sectors(sectors: &[Sector]) -> bool
     ensures { IsTrue result ↔ All IsSector sectors.now }
 {
     sectors.iter().all(is_sector)
 }
 
-/// Whether all sides are in range.
+// Whether all sides are in range.
 fn are_sides(sides: &[Side]) -> bool
     ensures { IsTrue result ↔ All IsSide sides.now }
 {
     sides.iter().all(is_side)
 }
 
-/// Whether all lines are in range.
+// Whether all lines are in range.
 fn are_lines(lines: &[Line]) -> bool
     ensures { IsTrue result ↔ All IsLine lines.now }
 {
     lines.iter().all(is_line)
 }
 
-/// Whether all things are in range.
+// Whether all things are in range.
 fn are_things(things: &[Thing]) -> bool
     ensures { IsTrue result ↔ All IsThing things.now }
 {

@@ -1,5 +1,6 @@
 //! The new map, names and refusals. What edits make of a map is told by lines (`answers.rt`, `drawing.rt`).
 
+use crate::drawing::{draw, drawn};
 use lv_lumps::Vertex;
 use lv_maptables::{Kind, Map, MapError, is_marker, is_name, squared_distance};
 use std::test::Fail;
@@ -22,6 +23,22 @@ fn the_new_map_is_empty(rt: HostRuntime) -> Result<(), Fail> {
     }
     assert_eq!(rt; map.vertex(0), None);
     Ok(())
+}
+
+// The key of an item stays while another one is dropped, though its number falls.
+#[test]
+fn keys_stay_after_a_drop(rt: HostRuntime) {
+    let lines = [
+        b"vertex 0 0".as_slice(),
+        b"vertex 1 0".as_slice(),
+        b"vertex 2 0".as_slice(),
+    ];
+    let mut maps = drawn(&rt, rt.alloc(), lines.as_slice());
+    let before = maps.key(Kind::Vertex, 1);
+    draw(&rt, &mut maps, b"drop vertex 0");
+    assert!(rt; before.is_some());
+    assert_eq!(rt; maps.key(Kind::Vertex, 0), before);
+    assert_eq!(rt; maps.key(Kind::Vertex, 2), None);
 }
 
 // Texts, and whether each is a texture's or a flat's name, and a map's.

@@ -5,11 +5,13 @@ ghost use Rattle.lv_maptables.specs.Body.{lump_of, IsMapOf, RefusesBody};
 use crate::error::MapError;
 use crate::kind::Kind;
 use crate::map::Map;
+use crate::map::keyed_line::numbered_lines;
+use crate::map::keyed_side::numbered_sides;
 use crate::map::part::first_map;
 use lv_lumps::{encode_lines, encode_sectors, encode_sides, encode_things, encode_vertices};
 use std::alloc::Global;
 
-/// Whether the bytes begin with version 1.
+// Whether the bytes begin with version 1.
 fn has_version_1(bytes: &[u8]) -> bool
     ensures { IsTrue result ↔ (bytes.now ≡ unsigned 1 ++ drop 2 bytes.now) }
 {
@@ -38,11 +40,14 @@ impl Map {
         ensures memory { IsOkUnless result MapError.OutOfMemory }
     {
         let bytes = match kind {
-            Kind::Vertex => encode_vertices(alloc, self.vertices.as_slice()),
-            Kind::Sector => encode_sectors(alloc, &self.sectors),
-            Kind::Side => encode_sides(alloc, &self.sides),
-            Kind::Line => encode_lines(alloc, &self.lines),
-            Kind::Thing => encode_things(alloc, &self.things),
+            Kind::Vertex => encode_vertices(alloc, &self.vertices.to_vec(alloc)?),
+            Kind::Sector => encode_sectors(alloc, &self.sectors.to_vec(alloc)?),
+            Kind::Side => encode_sides(alloc, &numbered_sides(alloc, &self.sectors, &self.sides)?),
+            Kind::Line => encode_lines(
+                alloc,
+                &numbered_lines(alloc, &self.vertices, &self.sides, &self.lines)?,
+            ),
+            Kind::Thing => encode_things(alloc, &self.things.to_vec(alloc)?),
         };
         bytes.map_err(|_| MapError::OutOfMemory)
     }

@@ -8,6 +8,9 @@ use crate::error::MapError;
 use crate::form::{are_apart, are_linked, have_sectors};
 use crate::map::Map;
 use crate::map::header::{count_at, name_at};
+use crate::map::keyed_line::keyed_lines;
+use crate::map::keyed_side::keyed_sides;
+use crate::map::table::Table;
 use crate::map::vertex_table::VertexTable;
 use crate::ranges::{are_areas, are_places, is_named_with};
 use lv_lumps::{
@@ -62,9 +65,11 @@ impl Draft {
         })
     }
 
-    /// Whether each table is within its limit.
+    // Whether each table is within its limit.
     fn is_within_limits(&self) -> bool
-        ensures { IsTrue result ↔ ((length self.now.vertices ≤ item_limit) × (length self.now.sectors ≤ sector_limit) × (length self.now.sides ≤ item_limit) × (length self.now.lines ≤ item_limit) × (length self.now.things ≤ item_limit)) }
+        ensures { IsTrue result ↔ ((length self.now.vertices ≤ item_limit)
+            × (length self.now.sectors ≤ sector_limit) × (length self.now.sides ≤ item_limit)
+            × (length self.now.lines ≤ item_limit) × (length self.now.things ≤ item_limit)) }
     {
         self.vertices.len() <= ITEM_LIMIT
             && self.sectors.len() <= SECTOR_LIMIT
@@ -73,11 +78,14 @@ impl Draft {
             && self.things.len() <= ITEM_LIMIT
     }
 
-    /// Whether the name and each item are in range.
+    // Whether the name and each item are in range.
     fn is_in_range(&self) -> bool
-        ensures places { IsTrue result → (All IsVertex self.now.vertices × All IsThing self.now.things) }
-        ensures areas { IsTrue result → (All IsSector self.now.sectors × All IsSide self.now.sides) }
-        ensures lines { IsTrue result → (IsNamed is_marker self.now.name × All IsLine self.now.lines) }
+        ensures places { IsTrue result
+            → (All IsVertex self.now.vertices × All IsThing self.now.things) }
+        ensures areas { IsTrue result
+            → (All IsSector self.now.sectors × All IsSide self.now.sides) }
+        ensures lines { IsTrue result
+            → (IsNamed is_marker self.now.name × All IsLine self.now.lines) }
         ensures all { WellFormed self.now → IsTrue result }
     {
         if !are_places(&self.vertices, &self.things) {
@@ -86,9 +94,10 @@ impl Draft {
         are_areas(&self.sectors, &self.sides) && is_named_with(&self.name, &self.lines)
     }
 
-    /// Whether each number names an item, and the lines go together with what they name.
+    // Whether each number names an item, and the lines go together with what they name.
     fn is_linked(&self) -> bool
-        ensures lines { IsTrue result → (All (HasEnds self.now.vertices) self.now.lines × All (HasSides self.now.sides) self.now.lines) }
+        ensures lines { IsTrue result → (All (HasEnds self.now.vertices) self.now.lines
+            × All (HasSides self.now.sides) self.now.lines) }
         ensures sides { IsTrue result → All (HasSector self.now.sectors) self.now.sides }
         ensures all { WellFormed self.now → IsTrue result }
     {
@@ -121,13 +130,17 @@ impl Draft {
             lines,
             things,
         } = self;
+        let vertices = VertexTable::of(alloc, &vertices)?;
+        let sectors = Table::of(alloc, &sectors)?;
+        let sides = keyed_sides(alloc, &sectors, &sides)?;
+        let lines = keyed_lines(alloc, &vertices, &sides, &lines)?;
         Ok(Map {
             name,
-            vertices: VertexTable::of(alloc, vertices)?,
+            vertices,
             sectors,
             sides,
             lines,
-            things,
+            things: Table::of(alloc, &things)?,
         })
     }
 }

@@ -24,10 +24,12 @@ pub(super) fn name_at(bytes: &[u8], at: usize) -> Name8
     Name8 { bytes: name }
 }
 
-/// The length of a map's part with the counts that its head tells.
+// The length of a map's part with the counts that its head tells.
 fn whole_len(bytes: &[u8]) -> usize
     requires { 18 ≤ length bytes.now }
-    ensures { result ≡ 18 + 10 * unsigned_at 8 bytes.now + 14 * unsigned_at 10 bytes.now + 30 * unsigned_at 12 bytes.now + 4 * unsigned_at 14 bytes.now + 26 * unsigned_at 16 bytes.now }
+    ensures { result ≡ 18 + 10 * unsigned_at 8 bytes.now + 14 * unsigned_at 10 bytes.now
+        + 30 * unsigned_at 12 bytes.now + 4 * unsigned_at 14 bytes.now
+        + 26 * unsigned_at 16 bytes.now }
 {
     18 + 10 * count_at(bytes, 8)
         + 14 * count_at(bytes, 10)

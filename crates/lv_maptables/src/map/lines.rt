@@ -1,17 +1,17 @@
 ghost use Rattle.std.specs.Prelude.{◌≡◌, [], ◌∷◌, ◌<◌, IsErrOf};
 ghost use Rattle.lv_maptables.specs.Ranges.{IsLine};
 ghost use Rattle.lv_maptables.specs.Outcomes.{EndsEdit, EndsExactly, Tells, Spends, places, one_line, nothing};
-ghost use Rattle.lv_maptables.specs.Faults.{lacks, reference_faults, shape_faults, line_faults, set_line_faults, drop_line_faults};
+ghost use Rattle.lv_maptables.specs.Faults.{is_too_long, lacks, reference_faults, shape_faults, line_faults, set_line_faults, drop_line_faults};
 ghost use Rattle.lv_maptables.specs.Edits.{added_line, changed_line, dropped_line};
 
 use crate::error::MapError;
 use crate::form::{has_same_ends, lacks_left, lacks_side, lacks_vertex};
-use crate::lengths::is_too_long;
+use crate::lengths::is_too_far;
 use crate::map::Map;
-use crate::map::growth::append;
+use crate::map::keyed_line::keyed_line;
 use lv_lumps::{ITEM_LIMIT, Line};
 
-/// Whether the line's own fields go together: `SameEnds`, `TwoSidedWithoutLeft`.
+// Whether the line's own fields go together: `SameEnds`, `TwoSidedWithoutLeft`.
 fn check_shape(line: &Line) -> Result<(), MapError>
     ensures { Tells result (shape_faults line.now) }
 {
@@ -25,7 +25,7 @@ fn check_shape(line: &Line) -> Result<(), MapError>
 }
 
 impl Map {
-    /// Whether the map has the line: `NoLine`.
+    // Whether the map has the line: `NoLine`.
     fn check_has_line(&self, n: u32) -> Result<(), MapError>
         ensures { Tells result ((6, lacks self.now.tables.lines n) ∷ []) }
     {
@@ -35,17 +35,24 @@ impl Map {
         Ok(())
     }
 
-    /// Whether the map has what the line names: `NoVertex`, `NoSide`.
+    // Whether the map has what the line names: `NoVertex`, `NoSide`.
     fn check_references(&self, line: &Line) -> Result<(), MapError>
         ensures { Tells result (reference_faults self.now.tables line.now) }
     {
-        if lacks_vertex(self.vertices.as_slice(), line) {
+        if lacks_vertex(self.vertices.len(), line) {
             return Err(MapError::NoVertex);
         }
-        if lacks_side(&self.sides, line) {
+        if lacks_side(self.sides.len(), line) {
             return Err(MapError::NoSide);
         }
         Ok(())
+    }
+
+    // Whether the line's ends are further apart than lines may be long.
+    fn is_too_long(&self, line: &Line) -> bool
+        ensures { result ≡ is_too_long self.now.tables.vertices line.now }
+    {
+        is_too_far(self.vertices.nth(line.v1), self.vertices.nth(line.v2))
     }
 
     /// Whether a line can be added, memory aside: `NoVertex`, `NoSide`, `SameEnds`,
@@ -58,7 +65,7 @@ impl Map {
         if self.lines.len() >= ITEM_LIMIT {
             return Err(MapError::TableFull);
         }
-        if is_too_long(self.vertices.as_slice(), &line) {
+        if self.is_too_long(&line) {
             return Err(MapError::LineTooLong);
         }
         Ok(())
@@ -67,14 +74,17 @@ impl Map {
     /// Adds a line, and answers its number.
     pub fn add_line(&mut self, line: Line) -> Result<u32, MapError>
         requires { IsLine line }
-        ensures edit { EndsEdit result (added_line self.old.tables line) self.old.tables self.new.tables }
+        ensures edit { EndsEdit result
+            (added_line self.old.tables line) self.old.tables self.new.tables }
         ensures promised { 0 < self.old.spare.lines → IsErrOf result MapError.OutOfMemory → ⊥ }
         ensures spare { Spends one_line self.old.spare self.new.spare }
-        ensures places { 0 < self.old.spare.lines → places self.new.tables self.new.spare ≡ places self.old.tables self.old.spare }
+        ensures places { 0 < self.old.spare.lines
+            → places self.new.tables self.new.spare ≡ places self.old.tables self.old.spare }
     {
         self.can_add_line(line)?;
         let number = self.lines.len() as u32;
-        append(&mut self.lines, line)?;
+        let keyed = keyed_line(&self.vertices, &self.sides, &line);
+        self.lines.push(keyed)?;
         Ok(number)
     }
 
@@ -86,7 +96,7 @@ impl Map {
         self.check_references(&line)?;
         self.check_has_line(n)?;
         check_shape(&line)?;
-        if is_too_long(self.vertices.as_slice(), &line) {
+        if self.is_too_long(&line) {
             return Err(MapError::LineTooLong);
         }
         Ok(())
@@ -95,12 +105,15 @@ impl Map {
     /// Puts a line in place of that of its number.
     pub fn set_line(&mut self, n: u32, line: Line) -> Result<(), MapError>
         requires { IsLine line }
-        ensures edit { EndsExactly result (changed_line self.old.tables n line) self.old.tables self.new.tables }
+        ensures edit { EndsExactly result (changed_line self.old.tables n line)
+            self.old.tables self.new.tables }
         ensures spare { Spends nothing self.old.spare self.new.spare }
-        ensures places { places self.new.tables self.new.spare ≡ places self.old.tables self.old.spare }
+        ensures places { places self.new.tables self.new.spare
+            ≡ places self.old.tables self.old.spare }
     {
         self.can_set_line(n, line)?;
-        self.lines[n as usize] = line;
+        let keyed = keyed_line(&self.vertices, &self.sides, &line);
+        self.lines.set(n as usize, keyed);
         Ok(())
     }
 
@@ -113,9 +126,11 @@ impl Map {
 
     /// Takes a line out, and lowers each greater number by one.
     pub fn drop_line(&mut self, n: u32) -> Result<(), MapError>
-        ensures edit { EndsExactly result (dropped_line self.old.tables n) self.old.tables self.new.tables }
+        ensures edit { EndsExactly result
+            (dropped_line self.old.tables n) self.old.tables self.new.tables }
         ensures spare { Spends nothing self.old.spare self.new.spare }
-        ensures places { places self.new.tables self.new.spare ≡ places self.old.tables self.old.spare }
+        ensures places { places self.new.tables self.new.spare
+            ≡ places self.old.tables self.old.spare }
     {
         self.can_drop_line(n)?;
         self.lines.remove(n as usize);

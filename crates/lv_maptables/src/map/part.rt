@@ -28,7 +28,7 @@ pub fn first_map(alloc: Global, bytes: &[u8]) -> Result<Map, MapError>
     Ok(map)
 }
 
-/// Appends a count of items.
+// Appends a count of items.
 fn put_count(bytes: &mut Vec<u8>, count: usize) -> Result<(), MapError>
     requires { count < 2 ^ 16 }
     ensures bytes { OnOk result (bytes.new.items ≡ bytes.old.items ++ unsigned count) }
@@ -51,9 +51,10 @@ impl Map {
             + 26 * self.sectors.len() as u32
     }
 
-    /// Appends the name, and the counts of things, lines, sides, vertices and sectors.
+    // Appends the name, and the counts of things, lines, sides, vertices and sectors.
     fn put_head(&self, bytes: &mut Vec<u8>) -> Result<(), MapError>
-        ensures bytes { OnOk result (bytes.new.items ≡ bytes.old.items ++ part_head self.now.tables) }
+        ensures bytes { OnOk result
+            (bytes.new.items ≡ bytes.old.items ++ part_head self.now.tables) }
         ensures well_formed { OnOk result (WellFormed self.now.tables) }
         ensures memory { IsOkUnless result MapError.OutOfMemory }
     {

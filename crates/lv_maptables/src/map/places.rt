@@ -4,6 +4,7 @@ ghost use Rattle.lv_maptables.specs.Faults.{is_place, is_taken};
 ghost use Rattle.lv_maptables.specs.Places.{AreMarked};
 
 use crate::error::MapError;
+use crate::map::table::Table;
 use lv_lumps::Vertex;
 use std::alloc::Global;
 use std::collections::HashSet;
@@ -72,7 +73,8 @@ impl Places {
     pub(super) fn insert(&mut self, place: Vertex)
         requires free { is_taken self.old.marked place ≡ false }
         requires room { length self.old.marked < self.old.room }
-        ensures taken { (v : Vertex) → is_taken self.new.marked v ≡ (is_place v place || is_taken self.old.marked v) }
+        ensures taken { (v : Vertex) → is_taken self.new.marked v
+            ≡ (is_place v place || is_taken self.old.marked v) }
         ensures count { length self.new.marked ≡ length self.old.marked + 1 }
         ensures room { self.new.room ≡ self.old.room }
     {
@@ -83,25 +85,26 @@ impl Places {
     }
 
     /// Takes the places of the vertices, and no others.
-    pub(super) fn refill(&mut self, vertices: &[Vertex])
-        requires apart { AllPairs (λ v w. v ≢ w) vertices.now }
-        requires room { length vertices.now ≤ self.old.room }
-        ensures marked { AreMarked self.new vertices.now }
+    pub(super) fn refill(&mut self, vertices: &Table<Vertex>)
+        requires apart { AllPairs (λ v w. v ≢ w) vertices.now.items }
+        requires room { length vertices.now.items ≤ self.old.room }
+        ensures marked { AreMarked self.new vertices.now.items }
         ensures room { self.new.room ≡ self.old.room }
     {
         self.taken.clear();
-        for vertex in vertices {
-            self.insert(*vertex);
+        for n in 0..vertices.len() {
+            self.insert(vertices.at(n));
         }
     }
 
     /// Gives a place back, so that those of the vertices are left.
-    pub(super) fn remove(&mut self, place: Vertex, vertices: &[Vertex])
-        requires apart { AllPairs (λ v w. v ≢ w) vertices.now }
+    pub(super) fn remove(&mut self, place: Vertex, vertices: &Table<Vertex>)
+        requires apart { AllPairs (λ v w. v ≢ w) vertices.now.items }
         requires taken { is_taken self.old.marked place ≡ true }
-        requires left { (v : Vertex) → is_taken vertices.now v ≡ (not (is_place v place) && is_taken self.old.marked v) }
-        requires count { length vertices.now + 1 ≡ length self.old.marked }
-        ensures marked { AreMarked self.new vertices.now }
+        requires left { (v : Vertex) → is_taken vertices.now.items v
+            ≡ (not (is_place v place) && is_taken self.old.marked v) }
+        requires count { length vertices.now.items + 1 ≡ length self.old.marked }
+        ensures marked { AreMarked self.new vertices.now.items }
         ensures room { self.new.room ≡ self.old.room }
     {
         if self.room < self.taken.capacity() {
@@ -112,13 +115,14 @@ impl Places {
     }
 
     /// Gives a place back and takes a free one, so that those of the vertices are taken.
-    pub(super) fn replace(&mut self, from: Vertex, to: Vertex, vertices: &[Vertex])
-        requires apart { AllPairs (λ v w. v ≢ w) vertices.now }
+    pub(super) fn replace(&mut self, from: Vertex, to: Vertex, vertices: &Table<Vertex>)
+        requires apart { AllPairs (λ v w. v ≢ w) vertices.now.items }
         requires taken { is_taken self.old.marked from ≡ true }
         requires free { (not (is_place to from) && is_taken self.old.marked to) ≡ false }
-        requires left { (v : Vertex) → is_taken vertices.now v ≡ (is_place v to || (not (is_place v from) && is_taken self.old.marked v)) }
-        requires count { length vertices.now ≡ length self.old.marked }
-        ensures marked { AreMarked self.new vertices.now }
+        requires left { (v : Vertex) → is_taken vertices.now.items v
+            ≡ (is_place v to || (not (is_place v from) && is_taken self.old.marked v)) }
+        requires count { length vertices.now.items ≡ length self.old.marked }
+        ensures marked { AreMarked self.new vertices.now.items }
         ensures room { self.new.room ≡ self.old.room }
     {
         if self.room < self.taken.capacity() {

@@ -1,44 +1,26 @@
-ghost use Rattle.std.specs.Prelude.{◌≡◌, [], ◌∷◌, ◌<◌, map, IsErrOf};
+ghost use Rattle.std.specs.Prelude.{◌≡◌, [], ◌∷◌, ◌<◌, ◌==◌, length, IsErrOf};
 ghost use Rattle.std.specs.List.{list_any};
 ghost use Rattle.lv_maptables.specs.Ranges.{IsSector};
 ghost use Rattle.lv_maptables.specs.Outcomes.{EndsEdit, EndsExactly, Tells, Spends, places, one_sector, nothing};
 ghost use Rattle.lv_maptables.specs.Faults.{lacks, in_sector, sector_faults, set_sector_faults, drop_sector_faults};
-ghost use Rattle.lv_maptables.specs.Edits.{side_without_sector, added_sector, changed_sector, dropped_sector};
+ghost use Rattle.lv_maptables.specs.Edits.{added_sector, changed_sector, dropped_sector};
 
 use crate::error::MapError;
 use crate::map::Map;
-use crate::map::growth::append;
-use crate::map::numbers::lowered;
-use lv_lumps::{SECTOR_LIMIT, Sector, Side};
+use crate::map::keyed_side::KeyedSide;
+use crate::map::table::Table;
+use lv_lumps::{SECTOR_LIMIT, Sector};
 
-/// Whether a side belongs to the sector.
-fn has_side_in(sides: &[Side], n: u32) -> bool
-    ensures { result ≡ list_any (in_sector n) sides.now }
+// Whether a side has the key for its sector.
+fn has_side_with(sides: &Table<KeyedSide>, key: usize) -> bool
+    ensures { result ≡ list_any (λ s. s.sector == key) sides.now.items }
 {
-    sides.iter().any(|side| u32::from(side.sector) == n)
-}
-
-/// The side once a sector to which it doesn't belong has been taken out.
-fn side_without_sector(side: Side, gone: u32) -> Side
-    ensures { result ≡ side_without_sector gone side }
-{
-    Side {
-        x_offset: side.x_offset,
-        y_offset: side.y_offset,
-        upper: side.upper,
-        lower: side.lower,
-        middle: side.middle,
-        sector: lowered(gone, side.sector),
+    for n in 0..sides.len() {
+        if sides.at(n).sector == key {
+            return true;
+        }
     }
-}
-
-/// Lowers the numbers of the sectors behind one that is gone.
-fn lower_sectors(sides: &mut [Side], gone: u32)
-    ensures { sides.new ≡ map (side_without_sector gone) sides.old }
-{
-    for side in sides.iter_mut() {
-        *side = side_without_sector(*side, gone);
-    }
+    false
 }
 
 impl Map {
@@ -65,14 +47,16 @@ impl Map {
     /// Adds a sector, and answers its number.
     pub fn add_sector(&mut self, sector: Sector) -> Result<u32, MapError>
         requires { IsSector sector }
-        ensures edit { EndsEdit result (added_sector self.old.tables sector) self.old.tables self.new.tables }
+        ensures edit { EndsEdit result
+            (added_sector self.old.tables sector) self.old.tables self.new.tables }
         ensures promised { 0 < self.old.spare.sectors → IsErrOf result MapError.OutOfMemory → ⊥ }
         ensures spare { Spends one_sector self.old.spare self.new.spare }
-        ensures places { 0 < self.old.spare.sectors → places self.new.tables self.new.spare ≡ places self.old.tables self.old.spare }
+        ensures places { 0 < self.old.spare.sectors
+            → places self.new.tables self.new.spare ≡ places self.old.tables self.old.spare }
     {
         self.can_add_sector()?;
         let number = self.sectors.len() as u32;
-        append(&mut self.sectors, sector)?;
+        self.sectors.push(sector)?;
         Ok(number)
     }
 
@@ -86,13 +70,23 @@ impl Map {
     /// Puts a sector in place of that of its number.
     pub fn set_sector(&mut self, n: u32, sector: Sector) -> Result<(), MapError>
         requires { IsSector sector }
-        ensures edit { EndsExactly result (changed_sector self.old.tables n sector) self.old.tables self.new.tables }
+        ensures edit { EndsExactly result (changed_sector self.old.tables n sector)
+            self.old.tables self.new.tables }
         ensures spare { Spends nothing self.old.spare self.new.spare }
-        ensures places { places self.new.tables self.new.spare ≡ places self.old.tables self.old.spare }
+        ensures places { places self.new.tables self.new.spare
+            ≡ places self.old.tables self.old.spare }
     {
         self.can_set_sector(n)?;
-        self.sectors[n as usize] = sector;
+        self.sectors.set(n as usize, sector);
         Ok(())
+    }
+
+    // Whether a side belongs to the sector.
+    fn has_side_in(&self, n: u32) -> bool
+        requires { n < length self.now.tables.sectors }
+        ensures { result ≡ list_any (in_sector n) self.now.tables.sides }
+    {
+        has_side_with(&self.sides, self.sectors.key_at(n as usize))
     }
 
     /// Whether a sector can be taken out: `NoSector`, `InUse`.
@@ -100,7 +94,7 @@ impl Map {
         ensures { Tells result (drop_sector_faults self.now.tables n) }
     {
         self.check_has_sector(n)?;
-        if has_side_in(&self.sides, n) {
+        if self.has_side_in(n) {
             return Err(MapError::InUse);
         }
         Ok(())
@@ -108,13 +102,14 @@ impl Map {
 
     /// Takes a sector out, and lowers each greater number by one, in the sides too.
     pub fn drop_sector(&mut self, n: u32) -> Result<(), MapError>
-        ensures edit { EndsExactly result (dropped_sector self.old.tables n) self.old.tables self.new.tables }
+        ensures edit { EndsExactly result
+            (dropped_sector self.old.tables n) self.old.tables self.new.tables }
         ensures spare { Spends nothing self.old.spare self.new.spare }
-        ensures places { places self.new.tables self.new.spare ≡ places self.old.tables self.old.spare }
+        ensures places { places self.new.tables self.new.spare
+            ≡ places self.old.tables self.old.spare }
     {
         self.can_drop_sector(n)?;
         self.sectors.remove(n as usize);
-        lower_sectors(&mut self.sides, n);
         Ok(())
     }
 }

@@ -6,11 +6,10 @@ ghost use Rattle.lv_maptables.specs.Edits.{added_thing, changed_thing, dropped_t
 
 use crate::error::MapError;
 use crate::map::Map;
-use crate::map::growth::append;
 use lv_lumps::{ITEM_LIMIT, Thing};
 
 impl Map {
-    /// Whether the map has the thing: `NoThing`.
+    // Whether the map has the thing: `NoThing`.
     fn check_has_thing(&self, n: u32) -> Result<(), MapError>
         ensures { Tells result ((7, lacks self.now.tables.things n) ∷ []) }
     {
@@ -33,14 +32,16 @@ impl Map {
     /// Adds a thing, and answers its number.
     pub fn add_thing(&mut self, thing: Thing) -> Result<u32, MapError>
         requires { IsThing thing }
-        ensures edit { EndsEdit result (added_thing self.old.tables thing) self.old.tables self.new.tables }
+        ensures edit { EndsEdit result
+            (added_thing self.old.tables thing) self.old.tables self.new.tables }
         ensures promised { 0 < self.old.spare.things → IsErrOf result MapError.OutOfMemory → ⊥ }
         ensures spare { Spends one_thing self.old.spare self.new.spare }
-        ensures places { 0 < self.old.spare.things → places self.new.tables self.new.spare ≡ places self.old.tables self.old.spare }
+        ensures places { 0 < self.old.spare.things
+            → places self.new.tables self.new.spare ≡ places self.old.tables self.old.spare }
     {
         self.can_add_thing()?;
         let number = self.things.len() as u32;
-        append(&mut self.things, thing)?;
+        self.things.push(thing)?;
         Ok(number)
     }
 
@@ -54,12 +55,14 @@ impl Map {
     /// Puts a thing in place of that of its number.
     pub fn set_thing(&mut self, n: u32, thing: Thing) -> Result<(), MapError>
         requires { IsThing thing }
-        ensures edit { EndsExactly result (changed_thing self.old.tables n thing) self.old.tables self.new.tables }
+        ensures edit { EndsExactly result (changed_thing self.old.tables n thing)
+            self.old.tables self.new.tables }
         ensures spare { Spends nothing self.old.spare self.new.spare }
-        ensures places { places self.new.tables self.new.spare ≡ places self.old.tables self.old.spare }
+        ensures places { places self.new.tables self.new.spare
+            ≡ places self.old.tables self.old.spare }
     {
         self.can_set_thing(n)?;
-        self.things[n as usize] = thing;
+        self.things.set(n as usize, thing);
         Ok(())
     }
 
@@ -72,9 +75,11 @@ impl Map {
 
     /// Takes a thing out, and lowers each greater number by one.
     pub fn drop_thing(&mut self, n: u32) -> Result<(), MapError>
-        ensures edit { EndsExactly result (dropped_thing self.old.tables n) self.old.tables self.new.tables }
+        ensures edit { EndsExactly result
+            (dropped_thing self.old.tables n) self.old.tables self.new.tables }
         ensures spare { Spends nothing self.old.spare self.new.spare }
-        ensures places { places self.new.tables self.new.spare ≡ places self.old.tables self.old.spare }
+        ensures places { places self.new.tables self.new.spare
+            ≡ places self.old.tables self.old.spare }
     {
         self.can_drop_thing(n)?;
         self.things.remove(n as usize);

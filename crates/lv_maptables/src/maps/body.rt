@@ -10,17 +10,17 @@ use crate::maps::{MAP_LIMIT, Maps};
 use arrayvec::ArrayVec;
 use std::alloc::Global;
 
-/// The version of a project's body that is written.
+// The version of a project's body that is written.
 const VERSION: u8 = 2;
 
-/// Whether the bytes begin with version 2 and a number.
+// Whether the bytes begin with version 2 and a number.
 fn has_version_2(bytes: &[u8]) -> bool
     ensures { IsTrue result ↔ (bytes.now ≡ 2 ∷ slice_index bytes.now 1 ∷ drop 2 bytes.now) }
 {
     bytes.len() >= 2 && bytes[0] == VERSION
 }
 
-/// The project whose maps' parts the bytes are, its last map current.
+// The project whose maps' parts the bytes are, its last map current.
 fn read_maps(alloc: Global, bytes: &[u8]) -> Result<Maps, MapError>
     ensures maps { IfOk result (λ maps. AreMapsOf bytes.now (project_of maps)) }
     ensures refused { IfErr result (RefusesFor (NoMapsHave bytes.now)) }
@@ -34,7 +34,7 @@ fn read_maps(alloc: Global, bytes: &[u8]) -> Result<Maps, MapError>
     Ok(maps)
 }
 
-/// The project that has the bytes behind version 2 and a current number.
+// The project that has the bytes behind version 2 and a current number.
 fn decode_version_2(alloc: Global, bytes: &[u8]) -> Result<Maps, MapError>
     requires { bytes.now ≡ 2 ∷ slice_index bytes.now 1 ∷ drop 2 bytes.now }
     ensures project { IfOk result (λ maps. IsProjectOf bytes.now (project_of maps)) }
@@ -58,7 +58,7 @@ impl Maps {
         *b"\x02\0MAP01\0\0\0\0\0\0\0\0\0\0\0\0\0"
     }
 
-    /// The version and the current number.
+    // The version and the current number.
     fn head(&self) -> [u8; 2]
         ensures bytes { result ≡ 2 ∷ (project_of self.now).current ∷ [] }
         ensures well_formed { WellFormedProject (project_of self.now) }
@@ -94,7 +94,7 @@ impl Maps {
         Ok(Maps::alone(alloc, map))
     }
 
-    /// The project of one map.
+    // The project of one map.
     fn alone(alloc: Global, map: Map) -> Self
         requires { WellFormed map.tables }
         ensures project { project_of result ≡ alone map.tables }
@@ -107,11 +107,13 @@ impl Maps {
         }
     }
 
-    /// Adds the map whose part the bytes begin with behind the others, and makes it current. It answers
-    /// how long its part is.
+    // Adds the map whose part the bytes begin with behind the others, and makes it current. It answers
+    // how long its part is.
     fn read_next(&mut self, alloc: Global, bytes: &[u8]) -> Result<usize, MapError>
-        ensures next { IfOk result (λ n. ReadsNext bytes.now n (project_of self.old) (project_of self.new)) }
-        ensures refused { IfErr result (RefusesFor (NoneFollow (project_of self.old).maps bytes.now)) }
+        ensures next { IfOk result
+            (λ n. ReadsNext bytes.now n (project_of self.old) (project_of self.new)) }
+        ensures refused { IfErr result
+            (RefusesFor (NoneFollow (project_of self.old).maps bytes.now)) }
     {
         let map = first_map(alloc, bytes)?;
         if self.has_map(map.name()) {

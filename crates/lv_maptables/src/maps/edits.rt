@@ -12,10 +12,12 @@ impl Maps {
     /// Adds a vertex to the current map, and answers its number.
     pub fn add_vertex(&mut self, vertex: Vertex) -> Result<u32, MapError>
         requires { IsVertex vertex }
-        ensures edit { EndsEdit result (added_vertex self.old.tables vertex) self.old.tables self.new.tables }
+        ensures edit { EndsEdit result
+            (added_vertex self.old.tables vertex) self.old.tables self.new.tables }
         ensures promised { 0 < self.old.spare.vertices → IsErrOf result MapError.OutOfMemory → ⊥ }
         ensures spare { Spends one_vertex self.old.spare self.new.spare }
-        ensures places { 0 < self.old.spare.vertices → places self.new.tables self.new.spare ≡ places self.old.tables self.old.spare }
+        ensures places { 0 < self.old.spare.vertices
+            → places self.new.tables self.new.spare ≡ places self.old.tables self.old.spare }
         ensures others { self.new.others ≡ self.old.others }
     {
         self.map.add_vertex(vertex)
@@ -24,9 +26,11 @@ impl Maps {
     /// Moves a vertex of the current map, and with it the ends of its lines.
     pub fn set_vertex(&mut self, n: u32, vertex: Vertex) -> Result<(), MapError>
         requires { IsVertex vertex }
-        ensures edit { EndsExactly result (changed_vertex self.old.tables n vertex) self.old.tables self.new.tables }
+        ensures edit { EndsExactly result (changed_vertex self.old.tables n vertex)
+            self.old.tables self.new.tables }
         ensures spare { Spends nothing self.old.spare self.new.spare }
-        ensures places { places self.new.tables self.new.spare ≡ places self.old.tables self.old.spare }
+        ensures places { places self.new.tables self.new.spare
+            ≡ places self.old.tables self.old.spare }
         ensures others { self.new.others ≡ self.old.others }
     {
         self.map.set_vertex(n, vertex)
@@ -34,9 +38,11 @@ impl Maps {
 
     /// Takes a vertex out, and lowers each greater number by one, in the lines too.
     pub fn drop_vertex(&mut self, n: u32) -> Result<(), MapError>
-        ensures edit { EndsExactly result (dropped_vertex self.old.tables n) self.old.tables self.new.tables }
+        ensures edit { EndsExactly result
+            (dropped_vertex self.old.tables n) self.old.tables self.new.tables }
         ensures spare { Spends nothing self.old.spare self.new.spare }
-        ensures places { places self.new.tables self.new.spare ≡ places self.old.tables self.old.spare }
+        ensures places { places self.new.tables self.new.spare
+            ≡ places self.old.tables self.old.spare }
         ensures others { self.new.others ≡ self.old.others }
     {
         self.map.drop_vertex(n)
@@ -45,10 +51,12 @@ impl Maps {
     /// Adds a sector to the current map, and answers its number.
     pub fn add_sector(&mut self, sector: Sector) -> Result<u32, MapError>
         requires { IsSector sector }
-        ensures edit { EndsEdit result (added_sector self.old.tables sector) self.old.tables self.new.tables }
+        ensures edit { EndsEdit result
+            (added_sector self.old.tables sector) self.old.tables self.new.tables }
         ensures promised { 0 < self.old.spare.sectors → IsErrOf result MapError.OutOfMemory → ⊥ }
         ensures spare { Spends one_sector self.old.spare self.new.spare }
-        ensures places { 0 < self.old.spare.sectors → places self.new.tables self.new.spare ≡ places self.old.tables self.old.spare }
+        ensures places { 0 < self.old.spare.sectors
+            → places self.new.tables self.new.spare ≡ places self.old.tables self.old.spare }
         ensures others { self.new.others ≡ self.old.others }
     {
         self.map.add_sector(sector)
@@ -57,9 +65,11 @@ impl Maps {
     /// Puts a sector in place of that of its number.
     pub fn set_sector(&mut self, n: u32, sector: Sector) -> Result<(), MapError>
         requires { IsSector sector }
-        ensures edit { EndsExactly result (changed_sector self.old.tables n sector) self.old.tables self.new.tables }
+        ensures edit { EndsExactly result (changed_sector self.old.tables n sector)
+            self.old.tables self.new.tables }
         ensures spare { Spends nothing self.old.spare self.new.spare }
-        ensures places { places self.new.tables self.new.spare ≡ places self.old.tables self.old.spare }
+        ensures places { places self.new.tables self.new.spare
+            ≡ places self.old.tables self.old.spare }
         ensures others { self.new.others ≡ self.old.others }
     {
         self.map.set_sector(n, sector)
@@ -67,9 +77,11 @@ impl Maps {
 
     /// Takes a sector out, and lowers each greater number by one, in the sides too.
     pub fn drop_sector(&mut self, n: u32) -> Result<(), MapError>
-        ensures edit { EndsExactly result (dropped_sector self.old.tables n) self.old.tables self.new.tables }
+        ensures edit { EndsExactly result
+            (dropped_sector self.old.tables n) self.old.tables self.new.tables }
         ensures spare { Spends nothing self.old.spare self.new.spare }
-        ensures places { places self.new.tables self.new.spare ≡ places self.old.tables self.old.spare }
+        ensures places { places self.new.tables self.new.spare
+            ≡ places self.old.tables self.old.spare }
         ensures others { self.new.others ≡ self.old.others }
     {
         self.map.drop_sector(n)
@@ -78,10 +90,12 @@ impl Maps {
     /// Adds a side to the current map, and answers its number.
     pub fn add_side(&mut self, side: Side) -> Result<u32, MapError>
         requires { IsSide side }
-        ensures edit { EndsEdit result (added_side self.old.tables side) self.old.tables self.new.tables }
+        ensures edit { EndsEdit result
+            (added_side self.old.tables side) self.old.tables self.new.tables }
         ensures promised { 0 < self.old.spare.sides → IsErrOf result MapError.OutOfMemory → ⊥ }
         ensures spare { Spends one_side self.old.spare self.new.spare }
-        ensures places { 0 < self.old.spare.sides → places self.new.tables self.new.spare ≡ places self.old.tables self.old.spare }
+        ensures places { 0 < self.old.spare.sides
+            → places self.new.tables self.new.spare ≡ places self.old.tables self.old.spare }
         ensures others { self.new.others ≡ self.old.others }
     {
         self.map.add_side(side)
@@ -90,9 +104,11 @@ impl Maps {
     /// Puts a side in place of that of its number.
     pub fn set_side(&mut self, n: u32, side: Side) -> Result<(), MapError>
         requires { IsSide side }
-        ensures edit { EndsExactly result (changed_side self.old.tables n side) self.old.tables self.new.tables }
+        ensures edit { EndsExactly result (changed_side self.old.tables n side)
+            self.old.tables self.new.tables }
         ensures spare { Spends nothing self.old.spare self.new.spare }
-        ensures places { places self.new.tables self.new.spare ≡ places self.old.tables self.old.spare }
+        ensures places { places self.new.tables self.new.spare
+            ≡ places self.old.tables self.old.spare }
         ensures others { self.new.others ≡ self.old.others }
     {
         self.map.set_side(n, side)
@@ -100,9 +116,11 @@ impl Maps {
 
     /// Takes a side out, and lowers each greater number by one, in the lines too.
     pub fn drop_side(&mut self, n: u32) -> Result<(), MapError>
-        ensures edit { EndsExactly result (dropped_side self.old.tables n) self.old.tables self.new.tables }
+        ensures edit { EndsExactly result
+            (dropped_side self.old.tables n) self.old.tables self.new.tables }
         ensures spare { Spends nothing self.old.spare self.new.spare }
-        ensures places { places self.new.tables self.new.spare ≡ places self.old.tables self.old.spare }
+        ensures places { places self.new.tables self.new.spare
+            ≡ places self.old.tables self.old.spare }
         ensures others { self.new.others ≡ self.old.others }
     {
         self.map.drop_side(n)
@@ -111,10 +129,12 @@ impl Maps {
     /// Adds a line to the current map, and answers its number.
     pub fn add_line(&mut self, line: Line) -> Result<u32, MapError>
         requires { IsLine line }
-        ensures edit { EndsEdit result (added_line self.old.tables line) self.old.tables self.new.tables }
+        ensures edit { EndsEdit result
+            (added_line self.old.tables line) self.old.tables self.new.tables }
         ensures promised { 0 < self.old.spare.lines → IsErrOf result MapError.OutOfMemory → ⊥ }
         ensures spare { Spends one_line self.old.spare self.new.spare }
-        ensures places { 0 < self.old.spare.lines → places self.new.tables self.new.spare ≡ places self.old.tables self.old.spare }
+        ensures places { 0 < self.old.spare.lines
+            → places self.new.tables self.new.spare ≡ places self.old.tables self.old.spare }
         ensures others { self.new.others ≡ self.old.others }
     {
         self.map.add_line(line)
@@ -123,9 +143,11 @@ impl Maps {
     /// Puts a line in place of that of its number.
     pub fn set_line(&mut self, n: u32, line: Line) -> Result<(), MapError>
         requires { IsLine line }
-        ensures edit { EndsExactly result (changed_line self.old.tables n line) self.old.tables self.new.tables }
+        ensures edit { EndsExactly result (changed_line self.old.tables n line)
+            self.old.tables self.new.tables }
         ensures spare { Spends nothing self.old.spare self.new.spare }
-        ensures places { places self.new.tables self.new.spare ≡ places self.old.tables self.old.spare }
+        ensures places { places self.new.tables self.new.spare
+            ≡ places self.old.tables self.old.spare }
         ensures others { self.new.others ≡ self.old.others }
     {
         self.map.set_line(n, line)
@@ -133,9 +155,11 @@ impl Maps {
 
     /// Takes a line out, and lowers each greater number by one.
     pub fn drop_line(&mut self, n: u32) -> Result<(), MapError>
-        ensures edit { EndsExactly result (dropped_line self.old.tables n) self.old.tables self.new.tables }
+        ensures edit { EndsExactly result
+            (dropped_line self.old.tables n) self.old.tables self.new.tables }
         ensures spare { Spends nothing self.old.spare self.new.spare }
-        ensures places { places self.new.tables self.new.spare ≡ places self.old.tables self.old.spare }
+        ensures places { places self.new.tables self.new.spare
+            ≡ places self.old.tables self.old.spare }
         ensures others { self.new.others ≡ self.old.others }
     {
         self.map.drop_line(n)
@@ -144,10 +168,12 @@ impl Maps {
     /// Adds a thing to the current map, and answers its number.
     pub fn add_thing(&mut self, thing: Thing) -> Result<u32, MapError>
         requires { IsThing thing }
-        ensures edit { EndsEdit result (added_thing self.old.tables thing) self.old.tables self.new.tables }
+        ensures edit { EndsEdit result
+            (added_thing self.old.tables thing) self.old.tables self.new.tables }
         ensures promised { 0 < self.old.spare.things → IsErrOf result MapError.OutOfMemory → ⊥ }
         ensures spare { Spends one_thing self.old.spare self.new.spare }
-        ensures places { 0 < self.old.spare.things → places self.new.tables self.new.spare ≡ places self.old.tables self.old.spare }
+        ensures places { 0 < self.old.spare.things
+            → places self.new.tables self.new.spare ≡ places self.old.tables self.old.spare }
         ensures others { self.new.others ≡ self.old.others }
     {
         self.map.add_thing(thing)
@@ -156,9 +182,11 @@ impl Maps {
     /// Puts a thing in place of that of its number.
     pub fn set_thing(&mut self, n: u32, thing: Thing) -> Result<(), MapError>
         requires { IsThing thing }
-        ensures edit { EndsExactly result (changed_thing self.old.tables n thing) self.old.tables self.new.tables }
+        ensures edit { EndsExactly result (changed_thing self.old.tables n thing)
+            self.old.tables self.new.tables }
         ensures spare { Spends nothing self.old.spare self.new.spare }
-        ensures places { places self.new.tables self.new.spare ≡ places self.old.tables self.old.spare }
+        ensures places { places self.new.tables self.new.spare
+            ≡ places self.old.tables self.old.spare }
         ensures others { self.new.others ≡ self.old.others }
     {
         self.map.set_thing(n, thing)
@@ -166,9 +194,11 @@ impl Maps {
 
     /// Takes a thing out, and lowers each greater number by one.
     pub fn drop_thing(&mut self, n: u32) -> Result<(), MapError>
-        ensures edit { EndsExactly result (dropped_thing self.old.tables n) self.old.tables self.new.tables }
+        ensures edit { EndsExactly result
+            (dropped_thing self.old.tables n) self.old.tables self.new.tables }
         ensures spare { Spends nothing self.old.spare self.new.spare }
-        ensures places { places self.new.tables self.new.spare ≡ places self.old.tables self.old.spare }
+        ensures places { places self.new.tables self.new.spare
+            ≡ places self.old.tables self.old.spare }
         ensures others { self.new.others ≡ self.old.others }
     {
         self.map.drop_thing(n)

@@ -13,7 +13,7 @@ use crate::maps::{MAP_LIMIT, Maps};
 use lv_lumps::Name8;
 use std::mem;
 
-/// Whether the map has the name.
+// Whether the map has the name.
 fn has_name(map: &Map, name: Name8) -> bool
     ensures { result ≡ is_named name map.now.tables }
 {
@@ -21,7 +21,7 @@ fn has_name(map: &Map, name: Name8) -> bool
 }
 
 impl Maps {
-    /// The number of the map of the name, and how many maps there are where none has it.
+    // The number of the map of the name, and how many maps there are where none has it.
     fn number_of(&self, name: Name8) -> u32
         ensures value { result ≡ number_of (project_of self.now) name }
         ensures limit { result ≤ length (project_of self.now).maps }
@@ -50,7 +50,7 @@ impl Maps {
         self.number_of(name) < self.len()
     }
 
-    /// Whether the current map has the name.
+    // Whether the current map has the name.
     fn is_current(&self, name: Name8) -> bool
         ensures { result ≡ is_named name (current_map (project_of self.now)) }
     {
@@ -70,7 +70,9 @@ impl Maps {
     /// Gives the current map another name: `MapNameTaken` where another map has it.
     pub fn set_name(&mut self, name: Name8) -> Result<(), MapError>
         requires { IsNamed is_marker name }
-        ensures edit { EndsExactly result (named_map (project_of self.old) name) (project_of self.old) (project_of self.new) }
+        ensures edit { EndsExactly result (named_map (project_of self.old) name)
+            (project_of self.old)
+            (project_of self.new) }
         ensures spare { self.new.spare ≡ self.old.spare }
         ensures others { self.new.others ≡ self.old.others }
     {
@@ -93,7 +95,8 @@ impl Maps {
     /// that name is added last: `TooManyMaps` where there are 32. It takes no memory.
     pub fn select(&mut self, name: Name8) -> Result<u32, MapError>
         requires { IsNamed is_marker name }
-        ensures { EndsExactly result (selected_map (project_of self.old) name) (project_of self.old) (project_of self.new) }
+        ensures { EndsExactly result (selected_map (project_of self.old) name) (project_of self.old)
+            (project_of self.new) }
     {
         self.can_select(name)?;
         let n = self.number_of(name);
@@ -121,7 +124,8 @@ impl Maps {
     /// Takes the map of the name out, and answers the number that it had; greater numbers, the current
     /// one too, fall by one: `NoSuchMap`, `CurrentMap`. It takes no memory.
     pub fn drop_map(&mut self, name: Name8) -> Result<u32, MapError>
-        ensures { EndsExactly result (dropped_map (project_of self.old) name) (project_of self.old) (project_of self.new) }
+        ensures { EndsExactly result (dropped_map (project_of self.old) name) (project_of self.old)
+            (project_of self.new) }
     {
         self.can_drop_map(name)?;
         let n = self.number_of(name);
@@ -141,7 +145,7 @@ impl Maps {
         self.number = n;
     }
 
-    /// Adds an empty map of a new name behind the others, and makes it current.
+    // Adds an empty map of a new name behind the others, and makes it current.
     fn add_map(&mut self, name: Name8)
         requires named { IsNamed is_marker name }
         requires new { has_map (project_of self.old) name ≡ false }
@@ -166,11 +170,14 @@ impl Maps {
         self.number = self.others.len();
     }
 
-    /// Takes out a map that isn't the current one.
+    // Takes out a map that isn't the current one.
     fn take_out(&mut self, n: usize)
         requires there { n < length (project_of self.old).maps }
         requires other { n ≢ (project_of self.old).current }
-        ensures { project_of self.new ≡ record { maps = remove (project_of self.old).maps n; current = lowered n (project_of self.old).current } }
+        ensures { project_of self.new ≡ record {
+          maps = remove (project_of self.old).maps n;
+          current = lowered n (project_of self.old).current;
+        } }
     {
         if n < self.number {
             self.others.remove(n);

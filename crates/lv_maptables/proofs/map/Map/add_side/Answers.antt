@@ -1,6 +1,45 @@
--- Nothing speaks against the side, so the map stays well-formed with it.
+-- Nothing speaks against the side, so the map stays well-formed with it. The lines keep their sides.
+use Rattle.std.proofs.Common.{◌≡◌, ◌∙◌, ◌≤◌, refl, ap, length, arith, rules}
+use Rattle.std.proofs.lemmas.List.{length-map}
+use Rattle.lv_maptables.specs.MapFields.{tables_of}
+use Rattle.lv_maptables.specs.Edits.{with_side}
+use Rattle.lv_maptables.specs.Keyed.{side_of}
+use Rattle.lv_maptables.proofs.ListLemmas.{map-push}
+use Rattle.lv_maptables.proofs.FaultLemmas.{done}
+use Rattle.lv_maptables.proofs.KeyedLemmas.{lines_push_side}
 use Rattle.lv_maptables.proofs.SideLemmas.{with_side-keeps}
 use Rattle.lv_maptables.proofs.map.Map.add_side.Goals as goal
 
 pub invariant_of-self-2 : goal.invariant_of-self-2
-invariant_of-self-2 c = rw c.in_ok-append.ensures.items (with_side-keeps _ c.args.side c.self.invariant c.requires (rw (← c.self.view_is) at c.in_ok-can_add_side.ensures))
+invariant_of-self-2 c =
+    let fine = rw (← c.self.view_is) at c.in_ok-can_add_side.ensures in
+    let sides = map-push (side_of c.self.inside.sectors.keys) c.self.inside.sides.items c.keyed_side-keyed.result c.args.side c.keyed_side-keyed.ensures in
+    let many = length-map c.self.inside.sides.items (side_of c.self.inside.sectors.keys) in
+    let few : length c.self.inside.sides.items ≤ 32767 = omega (arith, many, c.self.invariant.side_count) in
+    let lines = lines_push_side c.self.inside.vertices.keys c.self.inside.sides c.push.new.self (tables_of c.self.inside).sides c.self.inside.lines.items c.in_ok-push.ensures.ranks c.in_ok-push.ensures.count few many c.self.invariant.line_sides in
+    rw (c.in_ok-push.ensures.items, sides, lines) (with_side-keeps _ c.args.side c.self.invariant c.requires fine)
+
+pub returns-clause-edit : goal.returns-clause-edit
+returns-clause-edit c =
+    let fine = rw (← c.self.view_is) at c.in_ok-can_add_side.ensures in
+    let sides = map-push (side_of c.self.inside.sectors.keys) c.self.inside.sides.items c.keyed_side-keyed.result c.args.side c.keyed_side-keyed.ensures in
+    let many = length-map c.self.inside.sides.items (side_of c.self.inside.sectors.keys) in
+    let few : length c.self.inside.sides.items ≤ 32767 = omega (arith, many, c.self.invariant.side_count) in
+    let lines = lines_push_side c.self.inside.vertices.keys c.self.inside.sides c.push.new.self (tables_of c.self.inside).sides c.self.inside.lines.items c.in_ok-push.ensures.ranks c.in_ok-push.ensures.count few many c.self.invariant.line_sides in
+    let number = c.len-number.ensures in
+    rw (← c.self.view_is) (done _ (with_side (tables_of c.self.inside) c.args.side) _ _ _ fine (rw (c.in_ok-push.ensures.items, sides, lines) refl) (omega (arith, number, many)))
+
+pub invariant_of-self : goal.invariant_of-self
+invariant_of-self c =
+    let many = length-map c.self.inside.sides.items (side_of c.self.inside.sectors.keys) in
+    let few : length c.self.inside.sides.items ≤ 32767 = omega (arith, many, c.self.invariant.side_count) in
+    let lines = lines_push_side c.self.inside.vertices.keys c.self.inside.sides c.push.new.self (tables_of c.self.inside).sides c.self.inside.lines.items c.in_err-push.ensures.ranks c.in_err-push.ensures.count few many c.self.invariant.line_sides in
+    rw (c.in_err-push.ensures.items, lines) c.self.invariant
+
+pub returns-in_err-push-clause-edit : goal.returns-in_err-push-clause-edit
+returns-in_err-push-clause-edit c =
+    let many = length-map c.self.inside.sides.items (side_of c.self.inside.sectors.keys) in
+    let few : length c.self.inside.sides.items ≤ 32767 = omega (arith, many, c.self.invariant.side_count) in
+    let lines = lines_push_side c.self.inside.vertices.keys c.self.inside.sides c.push.new.self (tables_of c.self.inside).sides c.self.inside.lines.items c.in_err-push.ensures.ranks c.in_err-push.ensures.count few many c.self.invariant.line_sides in
+    let same : tables_of (record c.self.inside { sides = c.push.new.self }) ≡ c.args.self.now.tables = (rw (c.in_err-push.ensures.items, lines) refl) ∙ ap (λ v. v.tables) c.self.view_is in
+    search (rules, same)

@@ -1,6 +1,19 @@
 -- No item names a line, so the map stays well-formed without it.
+use Rattle.std.proofs.Common.{refl}
+use Rattle.lv_maptables.specs.MapFields.{tables_of}
+use Rattle.lv_maptables.specs.Edits.{without_line}
+use Rattle.lv_maptables.specs.Keyed.{line_of}
+use Rattle.lv_maptables.proofs.ListLemmas.{map-remove}
+use Rattle.lv_maptables.proofs.FaultLemmas.{done}
 use Rattle.lv_maptables.proofs.LineLemmas.{without_line-keeps}
 use Rattle.lv_maptables.proofs.map.Map.drop_line.Goals as goal
 
 pub invariant_of-self : goal.invariant_of-self
-invariant_of-self c = rw c.remove.ensures.items (without_line-keeps _ c.args.n c.self.invariant (rw (← c.self.view_is) at c.in_ok-can_drop_line.ensures))
+invariant_of-self c =
+    let fine = rw (← c.self.view_is) at c.in_ok-can_drop_line.ensures in
+    rw (c.remove.ensures.items, map-remove (line_of c.self.inside.vertices.keys c.self.inside.sides.keys) c.self.inside.lines.items c.args.n) (without_line-keeps _ c.args.n c.self.invariant fine)
+
+pub returns-clause-edit : goal.returns-clause-edit
+returns-clause-edit c =
+    let fine = rw (← c.self.view_is) at c.in_ok-can_drop_line.ensures in
+    rw (← c.self.view_is) (done _ (without_line (tables_of c.self.inside) c.args.n) _ tt tt fine (rw (c.remove.ensures.items, map-remove (line_of c.self.inside.vertices.keys c.self.inside.sides.keys) c.self.inside.lines.items c.args.n) refl) refl)

@@ -1,13 +1,20 @@
--- No side names the sector, so each names the sectors that stay by their new numbers.
-use Rattle.std.proofs.Common.{◌≡◌, ◌∙◌, ap, map, length}
-use Rattle.std.proofs.lemmas.List.{with_items_is}
-use Rattle.lv_maptables.specs.Edits.{side_without_sector}
+-- No side belongs to the sector, so each has its sector under its new number.
 use Rattle.lv_maptables.proofs.SectorLemmas.{without_sector-keeps}
+use Rattle.lv_maptables.proofs.KeyedLemmas.{sides_drop_sector, none_in}
+use Rattle.lv_maptables.specs.MapFields.{tables_of}
+use Rattle.std.proofs.Common.{refl}
+use Rattle.lv_maptables.proofs.FaultLemmas.{done}
+use Rattle.lv_maptables.specs.Edits.{without_sector}
 use Rattle.lv_maptables.proofs.map.Map.drop_sector.Goals as goal
 
 pub invariant_of-self : goal.invariant_of-self
 invariant_of-self c =
-    let whole : length c.lower_sectors.new.sides ≡ c.self.inside.sides.len = c.lower_sectors.auto.sides ∙ c.deref_mut.ensures.len in
-    let lowered = c.lower_sectors.ensures ∙ ap (λ xs. map (side_without_sector c.args.n) xs) c.deref_mut.ensures.value in
-    rw (c.remove.ensures.items, with_items_is c.self.inside.sides c.lower_sectors.new.sides whole, lowered)
-    (without_sector-keeps _ c.args.n c.self.invariant (rw (← c.self.view_is) at c.in_ok-can_drop_sector.ensures))
+    let fine = rw (← c.self.view_is) at c.in_ok-can_drop_sector.ensures in
+    let sides = sides_drop_sector c.self.inside.sectors c.remove.new.self c.args.n c.self.inside.sides.items c.remove.ensures.ranks c.self.invariant.side_sectors (none_in (tables_of c.self.inside) c.args.n fine) in
+    rw (c.remove.ensures.items, sides) (without_sector-keeps _ c.args.n c.self.invariant fine)
+
+pub returns-clause-edit : goal.returns-clause-edit
+returns-clause-edit c =
+    let fine = rw (← c.self.view_is) at c.in_ok-can_drop_sector.ensures in
+    let sides = sides_drop_sector c.self.inside.sectors c.remove.new.self c.args.n c.self.inside.sides.items c.remove.ensures.ranks c.self.invariant.side_sectors (none_in (tables_of c.self.inside) c.args.n fine) in
+    rw (← c.self.view_is) (done _ (without_sector (tables_of c.self.inside) c.args.n) _ tt tt fine (rw (c.remove.ensures.items, sides) refl) refl)

@@ -1,13 +1,27 @@
 -- No line names the side, so each names the sides that stay by their new numbers.
-use Rattle.std.proofs.Common.{◌≡◌, ◌∙◌, ap, map, length}
-use Rattle.std.proofs.lemmas.List.{with_items_is}
-use Rattle.lv_maptables.specs.Edits.{line_without_side}
+use Rattle.std.proofs.Common.{◌≤◌, refl, length, arith}
+use Rattle.std.proofs.lemmas.List.{length-map}
+use Rattle.lv_maptables.specs.MapFields.{tables_of}
+use Rattle.lv_maptables.specs.Edits.{without_side}
+use Rattle.lv_maptables.specs.Keyed.{side_of}
+use Rattle.lv_maptables.proofs.ListLemmas.{map-remove}
+use Rattle.lv_maptables.proofs.FaultLemmas.{done}
+use Rattle.lv_maptables.proofs.KeyedLemmas.{lines_drop_side, none_with}
 use Rattle.lv_maptables.proofs.SideLemmas.{without_side-keeps}
 use Rattle.lv_maptables.proofs.map.Map.drop_side.Goals as goal
 
 pub invariant_of-self : goal.invariant_of-self
 invariant_of-self c =
-    let whole : length c.lower_sides.new.lines ≡ c.self.inside.lines.len = c.lower_sides.auto.lines ∙ c.deref_mut.ensures.len in
-    let lowered = c.lower_sides.ensures ∙ ap (λ xs. map (line_without_side c.args.n) xs) c.deref_mut.ensures.value in
-    rw (c.remove.ensures.items, with_items_is c.self.inside.lines c.lower_sides.new.lines whole, lowered)
-    (without_side-keeps _ c.args.n c.self.invariant (rw (← c.self.view_is) at c.in_ok-can_drop_side.ensures))
+    let fine = rw (← c.self.view_is) at c.in_ok-can_drop_side.ensures in
+    let many = length-map c.self.inside.sides.items (side_of c.self.inside.sectors.keys) in
+    let few : length c.self.inside.sides.items ≤ 32767 = omega (arith, many, c.self.invariant.side_count) in
+    let lines = lines_drop_side c.self.inside.vertices.keys c.self.inside.sides c.remove.new.self c.args.n (tables_of c.self.inside).sides c.self.inside.lines.items c.remove.ensures.ranks c.remove.ensures.count few many c.self.invariant.line_sides (none_with (tables_of c.self.inside) c.args.n fine) in
+    rw (c.remove.ensures.items, map-remove (side_of c.self.inside.sectors.keys) c.self.inside.sides.items c.args.n, lines) (without_side-keeps _ c.args.n c.self.invariant fine)
+
+pub returns-clause-edit : goal.returns-clause-edit
+returns-clause-edit c =
+    let fine = rw (← c.self.view_is) at c.in_ok-can_drop_side.ensures in
+    let many = length-map c.self.inside.sides.items (side_of c.self.inside.sectors.keys) in
+    let few : length c.self.inside.sides.items ≤ 32767 = omega (arith, many, c.self.invariant.side_count) in
+    let lines = lines_drop_side c.self.inside.vertices.keys c.self.inside.sides c.remove.new.self c.args.n (tables_of c.self.inside).sides c.self.inside.lines.items c.remove.ensures.ranks c.remove.ensures.count few many c.self.invariant.line_sides (none_with (tables_of c.self.inside) c.args.n fine) in
+    rw (← c.self.view_is) (done _ (without_side (tables_of c.self.inside) c.args.n) _ tt tt fine (rw (c.remove.ensures.items, map-remove (side_of c.self.inside.sectors.keys) c.self.inside.sides.items c.args.n, lines) refl) refl)

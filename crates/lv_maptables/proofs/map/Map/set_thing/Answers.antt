@@ -3,4 +3,4 @@ use Rattle.lv_maptables.proofs.LineLemmas.{with_thing_at-keeps}
 use Rattle.lv_maptables.proofs.map.Map.set_thing.Goals as goal
 
 pub invariant_of-self : goal.invariant_of-self
-invariant_of-self c = with_thing_at-keeps _ c.args.n c.args.thing c.self.invariant c.requires
+invariant_of-self c = rw c.set.ensures.items (with_thing_at-keeps _ c.args.n c.args.thing c.self.invariant c.requires)

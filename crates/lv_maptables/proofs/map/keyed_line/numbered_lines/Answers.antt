@@ -1,0 +1,11 @@
+-- The next line comes behind those before it.
+use Rattle.std.proofs.Common.{◌∙◌, ◌++◌, ◌∷◌, [], ap, arith}
+use Rattle.lv_maptables.specs.Keyed.{line_of}
+use Rattle.lv_maptables.proofs.ListLemmas.{map_next}
+use Rattle.lv_maptables.proofs.map.keyed_line.numbered_lines.Goals as goal
+
+pub loop-n-preserved : goal.loop-n-preserved
+loop-n-preserved c =
+    c.in_ok-push.ensures.items
+    ∙ ap (λ l. c.loop-n.list.items ++ l ∷ []) c.numbered_line.ensures
+    ∙ map_next (line_of c.args.vertices.now.keys c.args.sides.now.keys) c.args.lines.now.items c.loop-n.list.items c.loop-n.n c.at.result (omega arith) c.at.ensures c.loop-n.invariant

@@ -1,0 +1,12 @@
+-- The next item comes behind those before it.
+use Rattle.std.proofs.Common.{◌∙◌, ◌<◌, ◌++◌, ◌∷◌, [], ap, length, arith}
+use Rattle.std.proofs.lemmas.List.{take_more}
+use Rattle.std.proofs.lemmas.Option.{get_or_from_slice_get}
+use Rattle.lv_maptables.proofs.map.table.Table.to_vec.Goals as goal
+
+pub loop-n-preserved : goal.loop-n-preserved
+loop-n-preserved g c =
+    let at : c.loop-n.n < length c.args.self.now.items = omega arith in
+    let here = get_or_from_slice_get c.args.self.now.items c.loop-n.n c.at.result c.at.result c.at.ensures in
+    rw (take_more c.args.self.now.items c.loop-n.n c.at.result at, here)
+    (c.in_ok-push.ensures.items ∙ ap (λ xs. xs ++ c.at.result ∷ []) c.loop-n.invariant)

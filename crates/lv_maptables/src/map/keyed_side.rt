@@ -1,0 +1,86 @@
+ghost use Rattle.std.specs.Prelude.{◌≡◌, ◌<◌, ◌≤◌, All, IfOk, IsOkUnless, length, map};
+ghost use Rattle.lv_maptables.specs.Keyed.{side_of};
+ghost use Rattle.lv_maptables.specs.WellFormed.{HasSector};
+
+use crate::error::MapError;
+use crate::map::table::Table;
+use lv_lumps::{Name8, Sector, Side};
+use std::alloc::Global;
+
+/// A side as the map keeps it, with the key of its sector.
+#[derive(Clone, Copy)]
+pub(super) struct KeyedSide {
+    pub x_offset: i16,
+    pub y_offset: i16,
+    pub upper: Name8,
+    pub lower: Name8,
+    pub middle: Name8,
+    pub sector: usize,
+}
+
+/// The side with the key of its sector.
+pub(super) fn keyed_side(sectors: &Table<Sector>, side: &Side) -> KeyedSide
+    requires { side.now.sector < length sectors.now.items }
+    ensures { side_of sectors.now.keys result ≡ side.now }
+{
+    KeyedSide {
+        x_offset: side.x_offset,
+        y_offset: side.y_offset,
+        upper: side.upper,
+        lower: side.lower,
+        middle: side.middle,
+        sector: sectors.key_at(usize::from(side.sector)),
+    }
+}
+
+/// The side with the number of its sector.
+pub(super) fn numbered_side(sectors: &Table<Sector>, side: &KeyedSide) -> Side
+    requires { length sectors.now.items ≤ 4096 }
+    ensures { result ≡ side_of sectors.now.keys side.now }
+{
+    Side {
+        x_offset: side.x_offset,
+        y_offset: side.y_offset,
+        upper: side.upper,
+        lower: side.lower,
+        middle: side.middle,
+        sector: sectors.rank(side.sector) as u16,
+    }
+}
+
+/// The sides of a list, each with the key of its sector.
+pub(super) fn keyed_sides(
+    alloc: Global,
+    sectors: &Table<Sector>,
+    sides: &[Side],
+) -> Result<Table<KeyedSide>, MapError>
+    requires few { length sides.now ≤ 32767 }
+    requires sectors { All (HasSector sectors.now.items) sides.now }
+    ensures sides { IfOk result (λ table. map (side_of sectors.now.keys) table.items ≡ sides.now) }
+    ensures memory { IsOkUnless result MapError.OutOfMemory }
+{
+    let mut table = Table::new(alloc);
+    table.reserve(sides.len())?;
+    for side in sides {
+        table.push(keyed_side(sectors, side))?;
+    }
+    Ok(table)
+}
+
+/// The list of the sides, each with the number of its sector.
+pub(super) fn numbered_sides(
+    alloc: Global,
+    sectors: &Table<Sector>,
+    sides: &Table<KeyedSide>,
+) -> Result<Vec<Side>, MapError>
+    requires { length sectors.now.items ≤ 4096 }
+    ensures sides { IfOk result
+        (λ list. list.items ≡ map (side_of sectors.now.keys) sides.now.items) }
+    ensures memory { IsOkUnless result MapError.OutOfMemory }
+{
+    let mut list = Vec::new(alloc);
+    for n in 0..sides.len() {
+        list.push(numbered_side(sectors, &sides.at(n)))?;
+    }
+    Ok(list)
+}
