@@ -85,7 +85,7 @@ impl Maps {
         &self.map
     }
 
-    /// The map of a number below `len`.
+    // The map of a number below `len`.
     pub(crate) fn nth(&self, n: usize) -> &Map
         requires { n < length (project_of self.now).maps }
         ensures { (d : Tables) → get_or (project_of self.now).maps n d ≡ result.now.tables }

@@ -20,7 +20,7 @@ use lv_lumps::{
 use std::alloc::Global;
 use std::marker::Model;
 
-/// The name and the tables that bytes hold, well-formed or not.
+// The name and the tables that bytes hold, well-formed or not.
 #[derive(Drop)]
 pub(super) struct Draft {
     name: Name8,
@@ -42,7 +42,7 @@ impl Model for Draft {
 }
 
 impl Draft {
-    /// What framed bytes begin with.
+    // What framed bytes begin with.
     pub(super) fn read(alloc: Global, bytes: &[u8]) -> Result<Draft, MapError>
         requires { IsFramed bytes.now }
         ensures tables { IfOk result (λ d. d ≡ tables_in bytes.now) }
@@ -105,7 +105,7 @@ impl Draft {
             && have_sectors(&self.sectors, &self.sides)
     }
 
-    /// Whether the tables are a map's.
+    // Whether the tables are a map's.
     pub(super) fn is_well_formed(&self, alloc: Global) -> Result<bool, MapError>
         ensures answer { IfOk result (λ fine. IsTrue fine ↔ WellFormed self.now) }
         ensures memory { IsOkUnless result MapError.OutOfMemory }
@@ -116,7 +116,7 @@ impl Draft {
         are_apart(alloc, &self.vertices)
     }
 
-    /// The map of well-formed tables.
+    // The map of well-formed tables.
     pub(super) fn into_map(self, alloc: Global) -> Result<Map, MapError>
         requires { WellFormed self }
         ensures tables { IfOk result (λ m. m.tables ≡ self) }

@@ -5,7 +5,7 @@ ghost use Rattle.lv_maptables.specs.Parts.{IsFramed};
 
 use lv_lumps::Name8;
 
-/// The count at a place of the bytes.
+// The count at a place of the bytes.
 pub(super) fn count_at(bytes: &[u8], at: usize) -> usize
     requires { at + 2 ≤ length bytes.now }
     ensures value { result ≡ unsigned_at at bytes.now }
@@ -14,7 +14,7 @@ pub(super) fn count_at(bytes: &[u8], at: usize) -> usize
     usize::from(u16::from_le_bytes([bytes[at], bytes[at + 1]]))
 }
 
-/// The name at a place of the bytes.
+// The name at a place of the bytes.
 pub(super) fn name_at(bytes: &[u8], at: usize) -> Name8
     requires { at + 8 ≤ length bytes.now }
     ensures { result ≡ name_at at bytes.now }
@@ -38,7 +38,7 @@ fn whole_len(bytes: &[u8]) -> usize
         + 26 * count_at(bytes, 16)
 }
 
-/// Whether the bytes have the head of a map's part, and are at least as long as its counts say.
+// Whether the bytes have the head of a map's part, and are at least as long as its counts say.
 pub(super) fn is_framed(bytes: &[u8]) -> bool
     ensures { IsTrue result ↔ IsFramed bytes.now }
 {

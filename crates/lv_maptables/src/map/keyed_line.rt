@@ -9,7 +9,7 @@ use crate::map::vertex_table::VertexTable;
 use lv_lumps::{Line, NO_SIDE};
 use std::alloc::Global;
 
-/// A line as the map keeps it: what it names, by their keys.
+// A line as the map keeps it: what it names, by their keys.
 #[derive(Clone, Copy)]
 pub(super) struct KeyedLine {
     pub v1: usize,
@@ -43,7 +43,7 @@ fn left_number(sides: &Table<KeyedSide>, left: Option<usize>) -> u16
     }
 }
 
-/// The line with the keys of what it names.
+// The line with the keys of what it names.
 pub(super) fn keyed_line(vertices: &VertexTable, sides: &Table<KeyedSide>, line: &Line) -> KeyedLine
     requires { IsFound (length vertices.now.items) (length sides.now.items) line.now }
     ensures { line_of vertices.now.keys sides.now.keys result ≡ line.now }
@@ -59,7 +59,7 @@ pub(super) fn keyed_line(vertices: &VertexTable, sides: &Table<KeyedSide>, line:
     }
 }
 
-/// The line with the numbers of what it names.
+// The line with the numbers of what it names.
 pub(super) fn numbered_line(
     vertices: &VertexTable,
     sides: &Table<KeyedSide>,
@@ -80,7 +80,7 @@ pub(super) fn numbered_line(
     }
 }
 
-/// The lines of a list, each with the keys of what it names.
+// The lines of a list, each with the keys of what it names.
 pub(super) fn keyed_lines(
     alloc: Global,
     vertices: &VertexTable,
@@ -101,7 +101,7 @@ pub(super) fn keyed_lines(
     Ok(table)
 }
 
-/// The list of the lines, each with the numbers of what it names.
+// The list of the lines, each with the numbers of what it names.
 pub(super) fn numbered_lines(
     alloc: Global,
     vertices: &VertexTable,

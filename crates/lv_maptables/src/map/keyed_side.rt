@@ -7,7 +7,7 @@ use crate::map::table::Table;
 use lv_lumps::{Name8, Sector, Side};
 use std::alloc::Global;
 
-/// A side as the map keeps it, with the key of its sector.
+// A side as the map keeps it, with the key of its sector.
 #[derive(Clone, Copy)]
 pub(super) struct KeyedSide {
     pub x_offset: i16,
@@ -18,7 +18,7 @@ pub(super) struct KeyedSide {
     pub sector: usize,
 }
 
-/// The side with the key of its sector.
+// The side with the key of its sector.
 pub(super) fn keyed_side(sectors: &Table<Sector>, side: &Side) -> KeyedSide
     requires { side.now.sector < length sectors.now.items }
     ensures { side_of sectors.now.keys result ≡ side.now }
@@ -33,7 +33,7 @@ pub(super) fn keyed_side(sectors: &Table<Sector>, side: &Side) -> KeyedSide
     }
 }
 
-/// The side with the number of its sector.
+// The side with the number of its sector.
 pub(super) fn numbered_side(sectors: &Table<Sector>, side: &KeyedSide) -> Side
     requires { length sectors.now.items ≤ 4096 }
     ensures { result ≡ side_of sectors.now.keys side.now }
@@ -48,7 +48,7 @@ pub(super) fn numbered_side(sectors: &Table<Sector>, side: &KeyedSide) -> Side
     }
 }
 
-/// The sides of a list, each with the key of its sector.
+// The sides of a list, each with the key of its sector.
 pub(super) fn keyed_sides(
     alloc: Global,
     sectors: &Table<Sector>,
@@ -67,7 +67,7 @@ pub(super) fn keyed_sides(
     Ok(table)
 }
 
-/// The list of the sides, each with the number of its sector.
+// The list of the sides, each with the number of its sector.
 pub(super) fn numbered_sides(
     alloc: Global,
     sectors: &Table<Sector>,

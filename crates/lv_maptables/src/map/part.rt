@@ -39,7 +39,7 @@ fn put_count(bytes: &mut Vec<u8>, count: usize) -> Result<(), MapError>
 }
 
 impl Map {
-    /// The length of the map's part of a body, in bytes.
+    // The length of the map's part of a body, in bytes.
     pub(crate) fn part_len(&self) -> u32
         ensures value { result ≡ part_len self.now.tables }
         ensures bound { result ≤ 2007000 }
@@ -67,8 +67,8 @@ impl Map {
         Ok(())
     }
 
-    /// Appends the map's part of a body: its head, and the records of its things, lines, sides, vertices
-    /// and sectors.
+    // Appends the map's part of a body: its head, and the records of its things, lines, sides, vertices
+    // and sectors.
     pub(crate) fn put_part(&self, alloc: Global, bytes: &mut Vec<u8>) -> Result<(), MapError>
         ensures bytes { OnOk result (bytes.new.items ≡ bytes.old.items ++ part self.now.tables) }
         ensures well_formed { OnOk result (WellFormed self.now.tables) }

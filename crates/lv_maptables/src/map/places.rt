@@ -10,7 +10,7 @@ use std::alloc::Global;
 use std::collections::HashSet;
 use std::marker::Model;
 
-/// The places that are taken. It has room for a number of places that only `reserve` changes.
+// The places that are taken. It has room for a number of places that only `reserve` changes.
 #[derive(Drop)]
 pub(super) struct Places {
     taken: HashSet<Vertex>,
@@ -31,7 +31,7 @@ impl Model for Places {
 }
 
 impl Places {
-    /// No place. It takes no memory.
+    // No place. It takes no memory.
     pub(super) fn new(alloc: Global) -> Places
         ensures marked { result.marked ≡ [] }
         ensures room { result.room ≡ 0 }
@@ -42,14 +42,14 @@ impl Places {
         }
     }
 
-    /// Whether the place is taken.
+    // Whether the place is taken.
     pub(super) fn has(&self, place: Vertex) -> bool
         ensures { result ≡ is_taken self.now.marked place }
     {
         self.taken.contains(&place)
     }
 
-    /// Makes room for a number of places in all.
+    // Makes room for a number of places in all.
     pub(super) fn reserve(&mut self, total: usize) -> Result<(), MapError>
         requires { total < 2 ^ 62 }
         ensures marked { (vs : List Vertex) → AreMarked self.old vs → AreMarked self.new vs }
@@ -69,7 +69,7 @@ impl Places {
         Ok(())
     }
 
-    /// Takes a free place.
+    // Takes a free place.
     pub(super) fn insert(&mut self, place: Vertex)
         requires free { is_taken self.old.marked place ≡ false }
         requires room { length self.old.marked < self.old.room }
@@ -84,7 +84,7 @@ impl Places {
         }
     }
 
-    /// Takes the places of the vertices, and no others.
+    // Takes the places of the vertices, and no others.
     pub(super) fn refill(&mut self, vertices: &Table<Vertex>)
         requires apart { AllPairs (λ v w. v ≢ w) vertices.now.items }
         requires room { length vertices.now.items ≤ self.old.room }
@@ -97,7 +97,7 @@ impl Places {
         }
     }
 
-    /// Gives a place back, so that those of the vertices are left.
+    // Gives a place back, so that those of the vertices are left.
     pub(super) fn remove(&mut self, place: Vertex, vertices: &Table<Vertex>)
         requires apart { AllPairs (λ v w. v ≢ w) vertices.now.items }
         requires taken { is_taken self.old.marked place ≡ true }
@@ -114,7 +114,7 @@ impl Places {
         }
     }
 
-    /// Gives a place back and takes a free one, so that those of the vertices are taken.
+    // Gives a place back and takes a free one, so that those of the vertices are taken.
     pub(super) fn replace(&mut self, from: Vertex, to: Vertex, vertices: &Table<Vertex>)
         requires apart { AllPairs (λ v w. v ≢ w) vertices.now.items }
         requires taken { is_taken self.old.marked from ≡ true }

@@ -24,7 +24,7 @@ fn has_side_with(sides: &Table<KeyedSide>, key: usize) -> bool
 }
 
 impl Map {
-    /// Whether the map has the sector: `NoSector`.
+    // Whether the map has the sector: `NoSector`.
     pub(super) fn check_has_sector(&self, n: u32) -> Result<(), MapError>
         ensures { Tells result ((4, lacks self.now.tables.sectors n) ∷ []) }
     {

@@ -6,7 +6,7 @@ use slab::Slab;
 use std::alloc::Global;
 use std::marker::Model;
 
-/// Items in the order of their numbers, each under a key that it keeps. An item's number is the rank of its key.
+// Items in the order of their numbers, each under a key that it keeps. An item's number is the rank of its key.
 #[derive(Drop)]
 pub(super) struct Table<T: Copy> {
     items: Slab<T>,
@@ -49,7 +49,7 @@ fn place_in(order: &[usize], key: usize) -> Option<usize>
 }
 
 impl<T: Copy> Table<T> {
-    /// The table without an item. It takes no memory.
+    // The table without an item. It takes no memory.
     pub(super) fn new(alloc: Global) -> Table<T>
         ensures items { result.items ≡ [] }
         ensures keys { result.keys ≡ [] }
@@ -62,14 +62,14 @@ impl<T: Copy> Table<T> {
         }
     }
 
-    /// How many items there are.
+    // How many items there are.
     pub(super) fn len(&self) -> usize
         ensures { result ≡ length self.now.items }
     {
         self.order.len()
     }
 
-    /// The key of the n-th item.
+    // The key of the n-th item.
     pub(super) fn key(&self, n: usize) -> Option<usize>
         ensures { MatchOption result (length self.now.items ≤ n) (λ _. n < length self.now.items) }
     {
@@ -79,7 +79,7 @@ impl<T: Copy> Table<T> {
         Some(self.order[n])
     }
 
-    /// The key of an item that is there.
+    // The key of an item that is there.
     pub(super) fn key_at(&self, n: usize) -> usize
         requires { n < length self.now.items }
         ensures rank { rank_of self.now.keys result ≡ n }
@@ -88,7 +88,7 @@ impl<T: Copy> Table<T> {
         self.order[n]
     }
 
-    /// The n-th item.
+    // The n-th item.
     pub(super) fn get(&self, n: usize) -> Option<T>
         ensures { result ≡ slice_get self.now.items n }
     {
@@ -98,7 +98,7 @@ impl<T: Copy> Table<T> {
         self.items.get(self.order[n]).copied()
     }
 
-    /// An item that is there.
+    // An item that is there.
     pub(super) fn at(&self, n: usize) -> T
         requires { n < length self.now.items }
         ensures { slice_get self.now.items n ≡ Some result }
@@ -106,7 +106,7 @@ impl<T: Copy> Table<T> {
         self.items[self.order[n]]
     }
 
-    /// The number of the item of a key, and how many items there are where none has it.
+    // The number of the item of a key, and how many items there are where none has it.
     pub(super) fn rank(&self, key: usize) -> usize
         ensures value { result ≡ rank_of self.now.keys key }
         ensures bound { result ≤ length self.now.items }
@@ -132,7 +132,7 @@ impl<T: Copy> Table<T> {
         places.min(self.order.capacity() - self.order.len())
     }
 
-    /// Makes room: that many more items take no memory.
+    // Makes room: that many more items take no memory.
     pub(super) fn reserve(&mut self, more: usize) -> Result<(), MapError>
         ensures items { self.new.items ≡ self.old.items }
         ensures keys { self.new.keys ≡ self.old.keys }
@@ -155,7 +155,7 @@ impl<T: Copy> Table<T> {
         Ok(())
     }
 
-    /// Puts an item at the end, under a key that none has. It takes no memory where there is a spare place.
+    // Puts an item at the end, under a key that none has. It takes no memory where there is a spare place.
     pub(super) fn push(&mut self, item: T) -> Result<(), MapError>
         requires few { length self.old.items ≤ 32767 }
         ensures items { self.new.items
@@ -175,7 +175,7 @@ impl<T: Copy> Table<T> {
         Ok(())
     }
 
-    /// Takes the n-th item out. The others keep their keys.
+    // Takes the n-th item out. The others keep their keys.
     pub(super) fn remove(&mut self, n: usize)
         requires there { n < length self.old.items }
         requires few { length self.old.items ≤ 32767 }
@@ -189,7 +189,7 @@ impl<T: Copy> Table<T> {
         lower_ranks(&mut self.ranks, n as u16);
     }
 
-    /// Puts an item in place of the n-th, under its key.
+    // Puts an item in place of the n-th, under its key.
     pub(super) fn set(&mut self, n: usize, item: T)
         requires { n < length self.old.items }
         ensures items { self.new.items ≡ slice_set self.old.items n item }
@@ -200,7 +200,7 @@ impl<T: Copy> Table<T> {
         self.items[key] = item;
     }
 
-    /// The items of a list, each under a key.
+    // The items of a list, each under a key.
     pub(super) fn of(alloc: Global, list: &[T]) -> Result<Table<T>, MapError>
         requires few { length list.now ≤ 32767 }
         ensures items { IfOk result (λ table. table.items ≡ list.now) }
@@ -214,7 +214,7 @@ impl<T: Copy> Table<T> {
         Ok(table)
     }
 
-    /// The list of the items.
+    // The list of the items.
     pub(super) fn to_vec(&self, alloc: Global) -> Result<Vec<T>, MapError>
         ensures items { IfOk result (λ list. list.items ≡ self.now.items) }
         ensures memory { IsOkUnless result MapError.OutOfMemory }

@@ -10,7 +10,7 @@ use lv_lumps::Vertex;
 use std::alloc::Global;
 use std::marker::Model;
 
-/// The vertices of a map, no two of them in one place, and the places that are taken.
+// The vertices of a map, no two of them in one place, and the places that are taken.
 #[derive(Drop)]
 pub(super) struct VertexTable {
     items: Table<Vertex>,
@@ -31,7 +31,7 @@ impl Model for VertexTable {
 }
 
 impl VertexTable {
-    /// No vertex. It takes no memory.
+    // No vertex. It takes no memory.
     pub(super) fn new(alloc: Global) -> VertexTable
         ensures items { result.items ≡ [] }
         ensures spare { result.spare ≡ 0 }
@@ -42,7 +42,7 @@ impl VertexTable {
         }
     }
 
-    /// The vertices of a list.
+    // The vertices of a list.
     pub(super) fn of(alloc: Global, list: &[Vertex]) -> Result<VertexTable, MapError>
         requires apart { AllPairs (λ v w. v ≢ w) list.now }
         requires few { length list.now ≤ 32767 }
@@ -56,7 +56,7 @@ impl VertexTable {
         Ok(VertexTable { items, places })
     }
 
-    /// The list of the vertices.
+    // The list of the vertices.
     pub(super) fn to_vec(&self, alloc: Global) -> Result<Vec<Vertex>, MapError>
         ensures items { IfOk result (λ list. list.items ≡ self.now.items) }
         ensures memory { IsOkUnless result MapError.OutOfMemory }
@@ -64,35 +64,35 @@ impl VertexTable {
         self.items.to_vec(alloc)
     }
 
-    /// The vertex of the number.
+    // The vertex of the number.
     pub(super) fn get(&self, n: usize) -> Option<Vertex>
         ensures { result ≡ slice_get self.now.items n }
     {
         self.items.get(n)
     }
 
-    /// The vertex of the number, and the origin where there is none.
+    // The vertex of the number, and the origin where there is none.
     pub(super) fn nth(&self, n: u16) -> Vertex
         ensures { result ≡ nth_vertex self.now.items n }
     {
         self.get(usize::from(n)).unwrap_or(Vertex { x: 0, y: 0 })
     }
 
-    /// How many vertices there are.
+    // How many vertices there are.
     pub(super) fn len(&self) -> usize
         ensures { result ≡ length self.now.items }
     {
         self.items.len()
     }
 
-    /// The key of the vertex.
+    // The key of the vertex.
     pub(super) fn key(&self, n: usize) -> Option<usize>
         ensures { MatchOption result (length self.now.items ≤ n) (λ _. n < length self.now.items) }
     {
         self.items.key(n)
     }
 
-    /// The key of a vertex that is there.
+    // The key of a vertex that is there.
     pub(super) fn key_at(&self, n: usize) -> usize
         requires { n < length self.now.items }
         ensures rank { rank_of self.now.keys result ≡ n }
@@ -101,7 +101,7 @@ impl VertexTable {
         self.items.key_at(n)
     }
 
-    /// The number of the vertex of a key, and how many vertices there are where none has it.
+    // The number of the vertex of a key, and how many vertices there are where none has it.
     pub(super) fn rank(&self, key: usize) -> usize
         ensures value { result ≡ rank_of self.now.keys key }
         ensures bound { result ≤ length self.now.items }
@@ -109,14 +109,14 @@ impl VertexTable {
         self.items.rank(key)
     }
 
-    /// Whether a vertex has the place.
+    // Whether a vertex has the place.
     pub(super) fn has(&self, place: Vertex) -> bool
         ensures { result ≡ is_taken self.now.items place }
     {
         self.places.has(place)
     }
 
-    /// Whether another vertex than number `n` has the place.
+    // Whether another vertex than number `n` has the place.
     pub(super) fn has_beside(&self, n: usize, place: Vertex) -> bool
         requires { n < length self.now.items }
         ensures { result ≡ is_taken_beside self.now.items n place }
@@ -124,7 +124,7 @@ impl VertexTable {
         self.items.at(n) != place && self.places.has(place)
     }
 
-    /// Makes room for so many more vertices.
+    // Makes room for so many more vertices.
     pub(super) fn reserve(&mut self, more: usize) -> Result<(), MapError>
         requires few { length self.old.items ≤ 32767 }
         requires more { more < 2 ^ 32 }
@@ -141,7 +141,7 @@ impl VertexTable {
         Ok(())
     }
 
-    /// Puts a vertex at the end, at a free place. It takes no memory where there is a spare place.
+    // Puts a vertex at the end, at a free place. It takes no memory where there is a spare place.
     pub(super) fn push(&mut self, vertex: Vertex) -> Result<(), MapError>
         requires few { length self.old.items ≤ 32767 }
         requires free { is_taken self.old.items vertex ≡ false }
@@ -159,7 +159,7 @@ impl VertexTable {
         Ok(())
     }
 
-    /// Moves a vertex to a place that no other has.
+    // Moves a vertex to a place that no other has.
     pub(super) fn set(&mut self, n: usize, place: Vertex)
         requires there { n < length self.old.items }
         requires free { is_taken_beside self.old.items n place ≡ false }
@@ -172,7 +172,7 @@ impl VertexTable {
         self.places.replace(from, place, &self.items);
     }
 
-    /// Takes a vertex out.
+    // Takes a vertex out.
     pub(super) fn remove(&mut self, n: usize)
         requires there { n < length self.old.items }
         requires few { length self.old.items ≤ 32767 }

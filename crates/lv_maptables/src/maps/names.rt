@@ -43,7 +43,7 @@ impl Maps {
         if n < self.len() { Some(n) } else { None }
     }
 
-    /// Whether a map has the name.
+    // Whether a map has the name.
     pub(super) fn has_map(&self, name: Name8) -> bool
         ensures { result ≡ has_map (project_of self.now) name }
     {
@@ -133,7 +133,7 @@ impl Maps {
         Ok(n)
     }
 
-    /// Makes the map of the number current.
+    // Makes the map of the number current.
     pub(super) fn make_current(&mut self, n: usize)
         requires { n < length (project_of self.old).maps }
         ensures { project_of self.new ≡ record (project_of self.old) { current = n } }
@@ -157,7 +157,7 @@ impl Maps {
         self.push(map);
     }
 
-    /// Adds a map of a new name behind the others, and makes it current.
+    // Adds a map of a new name behind the others, and makes it current.
     pub(super) fn push(&mut self, map: Map)
         requires well_formed { WellFormed map.tables }
         requires new { has_map (project_of self.old) map.tables.name ≡ false }
