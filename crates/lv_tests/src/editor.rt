@@ -1,106 +1,17 @@
 //! Lines in and answers out, and the words of the program.
 
+use crate::streams::{Drip, Endless, Held, Narrow};
 use lv_editor::{
     EditorError, Request, RequestError, perform, request, run_in_memory, write_findings,
 };
 use lv_maptables::Map;
 use std::alloc::Global;
-use std::io::{self, Read, Write};
+use std::io::{Read, Write};
 use std::test::Fail;
 
 const ROW: &[u8] = b"vertex 0 0\nvertex 128 0\nhex VERTEXES\n";
 
 const ROW_ANSWERS: &[u8] = b"ok 0\nok 1\n00 00 00 00 80 00 00 00\n";
-
-// A reader that gives its bytes one at a time, and then fails or is at its end.
-#[derive(Drop)]
-struct Drip<'a> {
-    left: &'a [u8],
-    fails: bool,
-}
-
-impl Read for Drip<'_> {
-    fn read(&mut self, buf: &mut [u8]) -> io::Result<usize> {
-        let left = self.left;
-        match left {
-            [] => {
-                if self.fails {
-                    Err(io::Error::from(io::ErrorKind::BrokenPipe))
-                } else {
-                    Ok(0)
-                }
-            }
-            [first, rest @ ..] => {
-                if buf.is_empty() {
-                    return Ok(0);
-                }
-                buf[0] = *first;
-                self.left = rest;
-                Ok(1)
-            }
-        }
-    }
-}
-
-// A reader that gives an empty line at each read, and counts its reads.
-#[derive(Drop)]
-struct Endless {
-    reads: u32,
-}
-
-impl Read for Endless {
-    fn read(&mut self, buf: &mut [u8]) -> io::Result<usize> {
-        self.reads = self.reads.saturating_add(1);
-        if buf.is_empty() {
-            return Ok(0);
-        }
-        buf[0] = b'\n';
-        Ok(1)
-    }
-}
-
-// A writer whose bytes are seen once it is flushed.
-#[derive(Drop)]
-struct Held {
-    held: Vec<u8>,
-    seen: Vec<u8>,
-}
-
-impl Write for Held {
-    fn write(&mut self, buf: &[u8]) -> io::Result<usize> {
-        self.held.extend_from_slice(buf)?;
-        Ok(buf.len())
-    }
-
-    fn flush(&mut self) -> io::Result<()> {
-        self.seen.extend_from_slice(self.held.as_slice())?;
-        self.held.clear();
-        Ok(())
-    }
-}
-
-// A writer that takes this many bytes, and then fails and counts how often.
-#[derive(Drop)]
-struct Narrow {
-    room: usize,
-    failures: u32,
-}
-
-impl Write for Narrow {
-    fn write(&mut self, buf: &[u8]) -> io::Result<usize> {
-        let taken = self.room.min(buf.len());
-        if taken == 0 {
-            self.failures = self.failures.saturating_add(1);
-            return Err(io::Error::from(io::ErrorKind::StorageFull));
-        }
-        self.room -= taken;
-        Ok(taken)
-    }
-
-    fn flush(&mut self) -> io::Result<()> {
-        Ok(())
-    }
-}
 
 /// What a run over these bytes answers, and what it writes.
 pub fn run(alloc: Global, input: &[u8], turns: u32) -> (Result<u64, EditorError>, Vec<u8>) {
@@ -228,7 +139,7 @@ fn stops_where_the_reader_fails(rt: HostRuntime) {
 fn stops_where_the_writer_fails(rt: HostRuntime) {
     for room in 0..35 {
         let mut reader = ROW;
-        let mut writer = Narrow { room, failures: 0 };
+        let mut writer = Narrow::of(room);
         let answered = run_in_memory(rt.alloc(), &mut reader, &mut writer, 2);
         let wanted = if room < 34 {
             Err(EditorError::WriterFailed)
@@ -242,19 +153,13 @@ fn stops_where_the_writer_fails(rt: HostRuntime) {
         left: ROW,
         fails: false,
     };
-    let mut writer = Narrow {
-        room: 2,
-        failures: 0,
-    };
+    let mut writer = Narrow::of(2);
     let answered = run_in_memory(rt.alloc(), &mut reader, &mut writer, 100);
     assert_eq!(rt; answered, Err(EditorError::WriterFailed));
     assert_eq!(rt; reader.left, b"vertex 128 0\nhex VERTEXES\n".as_slice());
 
     // Nor is a line that was read with it.
-    let mut writer = Narrow {
-        room: 2,
-        failures: 0,
-    };
+    let mut writer = Narrow::of(2);
     let answered = run_in_memory(rt.alloc(), &mut ROW, &mut writer, 100);
     assert_eq!(rt; answered, Err(EditorError::WriterFailed));
     assert_eq!(rt; writer.failures, 1);
@@ -349,10 +254,7 @@ fn performs_scratch(rt: HostRuntime) -> Result<(), Fail> {
     assert_eq!(rt; out.as_slice(), ROW_ANSWERS);
 
     let mut row = ROW;
-    let mut narrow = Narrow {
-        room: 2,
-        failures: 0,
-    };
+    let mut narrow = Narrow::of(2);
     let (status, faults) = scratch(&rt, &mut row, &mut narrow)?;
     assert_eq!(rt; status, 1);
     assert_eq!(rt; faults.as_slice(), b"leveled: 38 WriterFailed\n".as_slice());
@@ -394,10 +296,7 @@ fn writes_findings(rt: HostRuntime) {
     assert_eq!(rt; write_findings(rt.alloc(), &map, &mut out), Ok(1));
     assert_eq!(rt; out.as_slice(), b"no player start\nfindings 1\n".as_slice());
 
-    let mut writer = Narrow {
-        room: 20,
-        failures: 0,
-    };
+    let mut writer = Narrow::of(20);
     let written = write_findings(rt.alloc(), &map, &mut writer);
     assert_eq!(rt; written, Err(EditorError::WriterFailed));
 }

@@ -48,6 +48,8 @@ mod segs;
 #[cfg(test)]
 mod slots;
 #[cfg(test)]
+mod streams;
+#[cfg(test)]
 mod sweeps;
 #[cfg(test)]
 mod tangles;

@@ -2,34 +2,13 @@
 
 use crate::drawing::ROOM;
 use crate::project::{SMALL, created, empty_disk, opened, vertices};
+use crate::streams::Narrow;
 use lv_disk::{Disk, FaultDisk, FileDisk, MemoryDisk};
 use lv_editor::{EditorError, RequestError, answer, build_after_any_stop, perform, request, run};
 use lv_project::{Geometry, Project};
 use std::alloc::Global;
 use std::fs;
-use std::io::{self, Write};
 use std::test::Fail;
-
-// A writer that takes this many bytes, and then fails.
-#[derive(Drop)]
-struct Narrow {
-    room: usize,
-}
-
-impl Write for Narrow {
-    fn write(&mut self, buf: &[u8]) -> io::Result<usize> {
-        let taken = self.room.min(buf.len());
-        if taken == 0 {
-            return Err(io::Error::from(io::ErrorKind::StorageFull));
-        }
-        self.room -= taken;
-        Ok(taken)
-    }
-
-    fn flush(&mut self) -> io::Result<()> {
-        Ok(())
-    }
-}
 
 // A new project on a disk of which this call fails. The first 8 are those of `create`, and an append makes 4, of which
 // the last is its second sync.
@@ -94,14 +73,14 @@ fn runs_over_a_project(rt: HostRuntime) -> Result<(), Fail> {
 #[test]
 fn keeps_what_it_could_not_tell(rt: HostRuntime) -> Result<(), Fail> {
     let mut project = failing(rt.alloc(), 99)?;
-    let mut narrow = Narrow { room: 0 };
+    let mut narrow = Narrow::of(0);
     assert_eq!(rt;
         answer(rt.alloc(), &mut project, b"vertex 0 0", &mut narrow),
         Err(EditorError::WriterFailed)
     );
     assert_eq!(rt; vertices(&project), 1);
     let mut input = b"vertex 1 0\nvertex 2 0\nvertex 3 0\n".as_slice();
-    let mut narrow = Narrow { room: 7 };
+    let mut narrow = Narrow::of(7);
     assert_eq!(rt;
         run(rt.alloc(), &mut project, &mut input, &mut narrow, 2),
         Err(EditorError::WriterFailed)
@@ -115,7 +94,7 @@ fn keeps_what_it_could_not_tell(rt: HostRuntime) -> Result<(), Fail> {
 fn looks_at_no_line_behind_a_failed_answer(rt: HostRuntime) -> Result<(), Fail> {
     let mut project = failing(rt.alloc(), 99)?;
     let mut input = b"vertex 0 0\nvertex 128 0\nhex VERTEXES\n".as_slice();
-    let mut narrow = Narrow { room: 2 };
+    let mut narrow = Narrow::of(2);
     assert_eq!(rt;
         run(rt.alloc(), &mut project, &mut input, &mut narrow, 2),
         Err(EditorError::WriterFailed)
@@ -232,7 +211,7 @@ fn makes_no_file_but_by_create(rt: HostRuntime) -> Result<(), Fail> {
     }
     // Where `created` can't be written the file stands.
     let words = ["leveled", "create", path];
-    let mut narrow = Narrow { room: 3 };
+    let mut narrow = Narrow::of(3);
     let (found, faults) = status_of(&rt, words.as_slice(), b"", &mut narrow)?;
     assert_eq!(rt; found, 1);
     assert_eq!(rt; faults.as_slice(), b"leveled: 38 WriterFailed\n".as_slice());
