@@ -8,6 +8,7 @@ use lv_editor::{EditorError, RequestError, answer, build_after_any_stop, perform
 use lv_project::{Geometry, Project};
 use std::alloc::Global;
 use std::fs;
+use std::io::Write;
 use std::test::Fail;
 
 // A new project on a disk of which this call fails. The first 8 are those of `create`, and an append makes 4, of which
