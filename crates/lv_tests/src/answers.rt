@@ -3,7 +3,7 @@
 use crate::editor::run;
 
 // Lines and their answers, each beside what it is about.
-const MAPS: [(&str, &[u8], &[u8]); 14] = [
+const MAPS: &[(&str, &[u8], &[u8])] = &[
     (
         "drawn lumps of an empty map",
         b"count\n\
@@ -358,7 +358,7 @@ const MAPS: [(&str, &[u8], &[u8]); 14] = [
 
 #[test]
 fn answers_maps(rt: HostRuntime) {
-    for (about, lines, answers) in MAPS {
+    for &(about, lines, answers) in MAPS {
         let (answered, out) = run(rt.alloc(), lines, 2);
         assert!(rt; answered.is_ok(), "{about}");
         assert_eq!(rt; out.as_slice(), answers, "{about}");

@@ -19,7 +19,7 @@ const LINES: [&[u8]; 6] = [
 
 // Lines, the body of the project that they draw, and a version in which it is read.
 #[rattlefmt::skip]
-const BODIES: [(&[&[u8]], &[u8], u8); 6] = [
+const BODIES: &[(&[&[u8]], &[u8], u8)] = &[
     (&[], b"\x02\0MAP01\0\0\0\0\0\0\0\0\0\0\0\0\0", 1),
     (&[], b"\x02\0MAP01\0\0\0\0\0\0\0\0\0\0\0\0\0", 2),
     (&LINES, &BODY, 1),
@@ -30,7 +30,7 @@ const BODIES: [(&[&[u8]], &[u8], u8); 6] = [
 
 #[test]
 fn bodies_are_written_and_read_back(rt: HostRuntime) -> Result<(), Fail> {
-    for (lines, body, version) in BODIES {
+    for &(lines, body, version) in BODIES {
         let written = drawn(&rt, rt.alloc(), lines).encode_body(rt.alloc())?;
         assert_eq!(rt; written.as_slice(), body);
         let mut read = written;
@@ -49,7 +49,7 @@ fn the_body_of_the_new_project_takes_no_memory(rt: HostRuntime) {
 }
 
 // Places of a body, bytes and what they spoil.
-const SPOILT: [(usize, u8, &str); 16] = [
+const SPOILT: &[(usize, u8, &str)] = &[
     (2, b'N', "the map's name"),
     (7, b'X', "what follows the map's name"),
     (10, 2, "the count of things"),
@@ -70,7 +70,7 @@ const SPOILT: [(usize, u8, &str); 16] = [
 
 #[test]
 fn damaged_bodies_are_refused(rt: HostRuntime) {
-    for (at, byte, what) in SPOILT {
+    for &(at, byte, what) in SPOILT {
         let mut body = BODY;
         if let Some(place) = body.get_mut(at) {
             *place = byte;

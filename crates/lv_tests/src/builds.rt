@@ -3,7 +3,7 @@
 use crate::editor::run;
 
 // Lines and their answers, each beside what it is about.
-const BUILDS: [(&str, &[u8], &[u8]); 12] = [
+const BUILDS: &[(&str, &[u8], &[u8])] = &[
     (
         "an empty map",
         b"build\n\
@@ -262,7 +262,7 @@ const BUILDS: [(&str, &[u8], &[u8]); 12] = [
 
 #[test]
 fn builds_maps(rt: HostRuntime) {
-    for (about, lines, answers) in BUILDS {
+    for &(about, lines, answers) in BUILDS {
         let (answered, out) = run(rt.alloc(), lines, 2);
         assert!(rt; answered.is_ok(), "{about}");
         assert_eq!(rt; out.as_slice(), answers, "{about}");

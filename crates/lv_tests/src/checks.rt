@@ -28,7 +28,7 @@ const START: &[u8] = b"thing 64 64 90 1 7";
 
 // Lines that draw a map, further lines, and its findings.
 #[rattlefmt::skip]
-const REPORTS: [(&[&[u8]], &[&[u8]], &str); 9] = [
+const REPORTS: &[(&[&[u8]], &[&[u8]], &str)] = &[
     (&[ROOM], &[START], ""),
     (&OPEN, &[], "sector 0 open at vertex 0\nsector 0 open at vertex 1\nno player start\n"),
     (&UNFINISHED, &[], "vertex 4 unused\nside 3 unused\nsector 1 unused\nline 1 right middle missing\n\
@@ -49,7 +49,7 @@ const REPORTS: [(&[&[u8]], &[&[u8]], &str); 9] = [
 
 #[test]
 fn maps_have_their_findings(rt: HostRuntime) -> Result<(), Fail> {
-    for (lines, further, findings) in REPORTS {
+    for &(lines, further, findings) in REPORTS {
         let mut maps = drawn(&rt, rt.alloc(), lines);
         for line in further {
             draw(&rt, &mut maps, *line);

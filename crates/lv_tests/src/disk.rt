@@ -21,6 +21,22 @@ fn read_fails<D: Disk>(alloc: Global, disk: &mut D) -> Result<bool, Fail> {
     Ok(disk.read(0, &mut bytes).is_err())
 }
 
+// A stop leaves these bytes; and since that disk has no other image, each further stop does.
+fn leaves(
+    alloc: Global,
+    disk: &MemoryDisk,
+    fill: Fill,
+    is_longest: bool,
+    want: &[u8],
+) -> Result<bool, Fail> {
+    let mut left = disk.stop(alloc, fill, is_longest)?;
+    let mut again = left.stop(alloc, Fill::Byte(9), !is_longest)?;
+    Ok(
+        contents(alloc, &mut left)?.as_slice() == want
+            && contents(alloc, &mut again)?.as_slice() == want,
+    )
+}
+
 // Each fill, with the longest and the shortest image of the disk by it.
 fn expect_stops(
     rt: &impl Abort,
@@ -30,19 +46,8 @@ fn expect_stops(
 ) -> Result<(), Fail> {
     for (fill, longest, shortest) in images {
         for (is_longest, want) in [(true, *longest), (false, *shortest)] {
-            let mut left = disk.stop(alloc, *fill, is_longest)?;
-            assert_eq!(rt;
-                contents(alloc, &mut left)?.as_slice(),
-                want,
-                "{fill:?} {is_longest}"
-            );
-            // It has no other image, so each further stop leaves the same.
-            let mut again = left.stop(alloc, Fill::Byte(9), !is_longest)?;
-            assert_eq!(rt;
-                contents(alloc, &mut again)?.as_slice(),
-                want,
-                "again {fill:?}"
-            );
+            let holds = leaves(alloc, disk, *fill, is_longest, want)?;
+            assert!(rt; holds, "{fill:?} {is_longest} {want:?}");
         }
     }
     Ok(())
@@ -133,43 +138,61 @@ fn stops_after_a_failed_sync(rt: HostRuntime) -> Result<(), Fail> {
     )
 }
 
-#[test]
-fn runs_out_of_room_and_of_record(rt: HostRuntime) -> Result<(), Fail> {
-    let mut disk = MemoryDisk::new(rt.alloc(), 4, 67)?;
+// A disk with room for four bytes, which has them, and a record of which 20 bytes are taken.
+fn full_disk(alloc: Global) -> Result<MemoryDisk, Fail> {
+    let mut disk = MemoryDisk::new(alloc, 4, 67)?;
     disk.write_at(0, &[1, 2, 3, 4])?;
-    for (at, bytes) in [
-        (4, [9].as_slice()),
-        (3, &[9, 9]),
-        (5, &[]),
-        (u64::MAX, &[9]),
-    ] {
+    Ok(disk)
+}
+
+// Places and bytes for which a disk of four bytes has no room.
+const BEYOND: &[(u64, &[u8])] = &[(4, &[9]), (3, &[9, 9]), (5, &[]), (u64::MAX, &[9])];
+
+#[test]
+fn runs_out_of_room(rt: HostRuntime) -> Result<(), Fail> {
+    let mut disk = full_disk(rt.alloc())?;
+    for &(at, bytes) in BEYOND {
         assert_eq!(rt; disk.write_at(at, bytes), Err(DeviceFault), "room at {at}");
     }
-    assert_eq!(rt;
-        contents(rt.alloc(), &mut disk)?.as_slice(),
-        [1, 2, 3, 4].as_slice()
-    );
-    // 20 bytes of the record are taken, and a sync takes 16 more.
+    assert!(rt; contents(rt.alloc(), &mut disk)?.as_slice() == [1, 2, 3, 4].as_slice());
+    Ok(())
+}
+
+#[test]
+fn runs_out_of_record(rt: HostRuntime) -> Result<(), Fail> {
+    let mut disk = full_disk(rt.alloc())?;
+    // A sync takes 16 bytes of the record.
     disk.sync()?;
     assert_eq!(rt; disk.write_at(0, &[9; 16]), Err(DeviceFault));
     // No bytes change nothing, and take a place all the same.
     disk.write_at(4, &[])?;
     assert_eq!(rt; disk.write_at(0, &[]), Err(DeviceFault));
     assert_eq!(rt; disk.sync(), Err(DeviceFault));
-    assert_eq!(rt;
-        contents(rt.alloc(), &mut disk)?.as_slice(),
-        [1, 2, 3, 4].as_slice()
-    );
-    // The record of what a stop leaves is empty, and as long.
+    assert!(rt; contents(rt.alloc(), &mut disk)?.as_slice() == [1, 2, 3, 4].as_slice());
+    Ok(())
+}
+
+// The record of what a stop leaves is empty, and as long.
+#[test]
+fn stops_with_an_empty_record(rt: HostRuntime) -> Result<(), Fail> {
+    let mut disk = full_disk(rt.alloc())?;
+    disk.sync()?;
     let mut left = disk.stop(rt.alloc(), Fill::Stable, false)?;
     left.write_at(0, &[5])?;
     left.sync()?;
     assert_eq!(rt; left.write_at(4, &[5]), Err(DeviceFault));
-    assert_eq!(rt;
-        contents(rt.alloc(), &mut left)?.as_slice(),
-        [5, 2, 3, 4].as_slice()
-    );
+    assert!(rt; contents(rt.alloc(), &mut left)?.as_slice() == [5, 2, 3, 4].as_slice());
     Ok(())
+}
+
+// What a stop leaves of a disk, by a fill, as long or as short as it may be.
+fn left_of(
+    alloc: Global,
+    disk: &MemoryDisk,
+    fill: Fill,
+    is_longest: bool,
+) -> Result<Vec<u8>, Fail> {
+    contents(alloc, &mut disk.stop(alloc, fill, is_longest)?)
 }
 
 // Two writes and a sync on a disk of which the `k`-th call fails: which of them failed.
@@ -179,39 +202,35 @@ fn three_calls<D: Disk>(disk: &mut FaultDisk<D>) -> [bool; 3] {
     [first, second, disk.sync().is_err()]
 }
 
+// The call that fails, how many bytes of it are done, and what is then written of eight bytes.
+const PARTS: &[(u64, u32, &[u8])] = &[
+    (0, 0, &[1, 2, 3, 4, 5, 6, 7, 8]),
+    (1, 0, &[0, 0, 0, 0, 5, 6, 7, 8]),
+    (1, 1, &[1, 0, 0, 0, 5, 6, 7, 8]),
+    (1, 2, &[1, 2, 0, 0, 5, 6, 7, 8]),
+    (1, 4, &[1, 2, 3, 4, 5, 6, 7, 8]),
+    (2, 0, &[1, 2, 3, 4]),
+    (2, 1, &[1, 2, 3, 4, 5]),
+    (2, 2, &[1, 2, 3, 4, 5, 6]),
+    (2, 9, &[1, 2, 3, 4, 5, 6, 7, 8]),
+    (3, 0, &[1, 2, 3, 4, 5, 6, 7, 8]),
+    (3, 4, &[1, 2, 3, 4, 5, 6, 7, 8]),
+    (4, 4, &[1, 2, 3, 4, 5, 6, 7, 8]),
+];
+
 #[test]
 fn fails_the_kth_call(rt: HostRuntime) -> Result<(), Fail> {
-    let whole = [1, 2, 3, 4, 5, 6, 7, 8];
-    for (k, part, read) in [
-        (0, 0, whole.as_slice()),
-        (1, 0, &[0, 0, 0, 0, 5, 6, 7, 8]),
-        (1, 1, &[1, 0, 0, 0, 5, 6, 7, 8]),
-        (1, 2, &[1, 2, 0, 0, 5, 6, 7, 8]),
-        (1, 4, &whole),
-        (2, 0, &[1, 2, 3, 4]),
-        (2, 1, &[1, 2, 3, 4, 5]),
-        (2, 2, &[1, 2, 3, 4, 5, 6]),
-        (2, 9, &whole),
-        (3, 0, &whole),
-        (3, 4, &whole),
-        (4, 4, &whole),
-    ] {
+    for &(k, part, read) in PARTS {
         let inner = MemoryDisk::new(rt.alloc(), 16, 400)?;
         let mut disk = FaultDisk::new(inner, k, part);
         let failed = three_calls(&mut disk);
         assert_eq!(rt; failed, [k == 1, k == 2, k == 3], "k {k} part {part}");
-        let mut left = disk.inner().stop(rt.alloc(), Fill::Written, true)?;
-        assert_eq!(rt;
-            contents(rt.alloc(), &mut left)?.as_slice(),
-            read,
-            "k {k} part {part}"
-        );
+        let written = left_of(rt.alloc(), disk.inner(), Fill::Written, true)?;
         // Where the sync failed nothing is sure to be on the disk.
-        let mut least = disk.inner().stop(rt.alloc(), Fill::Stable, false)?;
         let synced = if k == 3 { [].as_slice() } else { read };
-        assert_eq!(rt;
-            contents(rt.alloc(), &mut least)?.as_slice(),
-            synced,
+        let stable = left_of(rt.alloc(), disk.inner(), Fill::Stable, false)?;
+        assert!(rt;
+            written.as_slice() == read && stable.as_slice() == synced,
             "k {k} part {part}"
         );
     }

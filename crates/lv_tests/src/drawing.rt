@@ -118,7 +118,7 @@ const NAMES: &[Answer] = &[
 ];
 
 // How long a body may be, lines and their answers; then the number of maps, the current one's, and the body's length.
-const DRAWINGS: [(u32, &[Answer], [u32; 3]); 5] = [
+const DRAWINGS: &[(u32, &[Answer], [u32; 3])] = &[
     (AMPLE, TWO_MAPS, [1, 0, 322]),
     (51, TWO_MAPS_FULL, [2, 0, 50]),
     (51, ONE_MAP_FULL, [1, 0, 44]),
@@ -136,7 +136,7 @@ fn draw_answered(rt: &impl Abort, maps: &mut Maps, cap: u32, lines: &[Answer]) {
 
 #[test]
 fn draws_projects(rt: HostRuntime) {
-    for (cap, lines, want) in DRAWINGS {
+    for &(cap, lines, want) in DRAWINGS {
         let mut maps = Maps::new(rt.alloc());
         draw_answered(&rt, &mut maps, cap, lines);
         assert_eq!(rt; [maps.len(), maps.current_number(), maps.body_len()], want);
@@ -145,21 +145,20 @@ fn draws_projects(rt: HostRuntime) {
 
 // There are at most 32 maps. Where there are, a further one is refused by 16, however short a body may be.
 #[test]
-fn takes_32_maps(rt: HostRuntime) -> Result<(), Fail> {
+fn takes_32_maps(rt: HostRuntime) {
     let mut maps = Maps::new(rt.alloc());
-    for n in 0..32_u32 {
-        let name = n + 1;
-        let line = format!(in rt.alloc(); "map MAP{name:02}")?;
-        let got = answer(&mut maps, line.as_bytes(), 578);
-        assert_eq!(rt; got, Ok(n), "map {name}");
+    let mut line = *b"map MAP00";
+    for n in 0..32_u8 {
+        line[7] = b'0' + (n + 1) / 10;
+        line[8] = b'0' + (n + 1) % 10;
+        assert_eq!(rt; answer(&mut maps, &line, 578), Ok(u32::from(n)));
     }
     let further = answer(&mut maps, b"map MAP33", 578);
     assert_eq!(rt; (further, maps.len()), (Err(16), 32));
-    Ok(())
 }
 
 // Lines, and how often each is accepted before its table is full. A room needs a sector.
-const LIMITS: [(&[u8], u32); 5] = [
+const LIMITS: &[(&[u8], u32)] = &[
     (SECTOR, 4096),
     (ROOM, 0),
     (SIDE, 32767),
@@ -171,7 +170,7 @@ const LIMITS: [(&[u8], u32); 5] = [
 #[test]
 fn tables_have_limits(rt: HostRuntime) {
     let mut maps = drawn(&rt, rt.alloc(), &[b"vertex 1 0", b"vertex 2 0"]);
-    for (line, count) in LIMITS {
+    for &(line, count) in LIMITS {
         for _ in 0..count {
             draw(&rt, &mut maps, line);
         }

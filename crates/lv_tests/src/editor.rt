@@ -90,45 +90,44 @@ fn refuses_long_lines(rt: HostRuntime) -> Result<(), Fail> {
     Ok(())
 }
 
+// A run of this input takes more turns than it may.
+fn is_too_long<R: Read>(alloc: Global, reader: &mut R, turns: u32, wanted: &[u8]) -> bool {
+    let mut out = Vec::new(alloc);
+    let answered = run_in_memory(alloc, reader, &mut out, turns);
+    answered == Err(EditorError::InputTooLong) && out.as_slice() == wanted
+}
+
 #[test]
 fn counts_turns(rt: HostRuntime) {
-    let (answered, out) = run(rt.alloc(), ROW, 1);
-    assert_eq!(rt; answered, Err(EditorError::InputTooLong));
-    assert_eq!(rt; out.as_slice(), ROW_ANSWERS);
-    let (answered, out) = run(rt.alloc(), ROW, 0);
-    assert_eq!(rt; answered, Err(EditorError::InputTooLong));
-    assert_eq!(rt; out.as_slice(), b"".as_slice());
-
-    // 37 bytes one at a time, and the read that gives the end.
-    for (turns, wanted) in [(38, Ok(3)), (37, Err(EditorError::InputTooLong))] {
-        let mut reader = Drip {
-            left: ROW,
-            fails: false,
-        };
-        let mut out = Vec::new(rt.alloc());
-        let answered = run_in_memory(rt.alloc(), &mut reader, &mut out, turns);
-        assert_eq!(rt; answered, wanted, "{turns} turns");
-        assert_eq!(rt; out.as_slice(), ROW_ANSWERS, "{turns} turns");
-    }
-
+    let (mut one, mut none) = (ROW, ROW);
+    assert!(rt; is_too_long(rt.alloc(), &mut one, 1, ROW_ANSWERS));
+    assert!(rt; is_too_long(rt.alloc(), &mut none, 0, b""));
     // There are no more reads than turns.
     let mut endless = Endless { reads: 0 };
-    let mut out = Vec::new(rt.alloc());
-    let answered = run_in_memory(rt.alloc(), &mut endless, &mut out, 5);
-    assert_eq!(rt; answered, Err(EditorError::InputTooLong));
-    assert_eq!(rt; endless.reads, 5);
-    assert_eq!(rt;
-        out.as_slice(),
-        b"no 1\nno 1\nno 1\nno 1\nno 1\n".as_slice()
+    assert!(rt;
+        is_too_long(
+            rt.alloc(),
+            &mut endless,
+            5,
+            b"no 1\nno 1\nno 1\nno 1\nno 1\n"
+        )
     );
+    assert_eq!(rt; endless.reads, 5);
+}
+
+// 37 bytes one at a time, and the read that gives the end.
+#[test]
+fn takes_a_turn_for_each_read(rt: HostRuntime) {
+    assert!(rt; is_too_long(rt.alloc(), &mut Drip::of(ROW, false), 37, ROW_ANSWERS));
+    let mut out = Vec::new(rt.alloc());
+    let answered = run_in_memory(rt.alloc(), &mut Drip::of(ROW, false), &mut out, 38);
+    assert_eq!(rt; answered, Ok(3));
+    assert!(rt; out.as_slice() == ROW_ANSWERS);
 }
 
 #[test]
 fn stops_where_the_reader_fails(rt: HostRuntime) {
-    let mut reader = Drip {
-        left: b"vertex 0 0\nvert",
-        fails: true,
-    };
+    let mut reader = Drip::of(b"vertex 0 0\nvert", true);
     let mut out = Vec::new(rt.alloc());
     let answered = run_in_memory(rt.alloc(), &mut reader, &mut out, 100);
     assert_eq!(rt; answered, Err(EditorError::ReaderFailed));
@@ -148,17 +147,21 @@ fn stops_where_the_writer_fails(rt: HostRuntime) {
         };
         assert_eq!(rt; answered, wanted, "{room} bytes");
     }
-    // No further line is looked at: the second byte of the first answer is the last that is taken.
-    let mut reader = Drip {
-        left: ROW,
-        fails: false,
-    };
+}
+
+// No further line is looked at: the second byte of the first answer is the last that is taken.
+#[test]
+fn reads_no_line_after_one_that_was_not_told(rt: HostRuntime) {
+    let mut reader = Drip::of(ROW, false);
     let mut writer = Narrow::of(2);
     let answered = run_in_memory(rt.alloc(), &mut reader, &mut writer, 100);
     assert_eq!(rt; answered, Err(EditorError::WriterFailed));
     assert_eq!(rt; reader.left, b"vertex 128 0\nhex VERTEXES\n".as_slice());
+}
 
-    // Nor is a line that was read with it.
+// Nor is a line that was read with it looked at.
+#[test]
+fn answers_no_line_after_one_that_was_not_told(rt: HostRuntime) {
     let mut writer = Narrow::of(2);
     let answered = run_in_memory(rt.alloc(), &mut ROW, &mut writer, 100);
     assert_eq!(rt; answered, Err(EditorError::WriterFailed));
@@ -182,10 +185,7 @@ fn hands_on_the_answers_of_a_turn(rt: HostRuntime) {
     assert_eq!(rt; answered, Err(EditorError::InputTooLong));
     assert_eq!(rt; out.as_slice(), ROW_ANSWERS);
 
-    let mut broken = Drip {
-        left: b"vertex 0 0\nvert",
-        fails: true,
-    };
+    let mut broken = Drip::of(b"vertex 0 0\nvert", true);
     let (answered, out) = seen(rt.alloc(), &mut broken, 100);
     assert_eq!(rt; answered, Err(EditorError::ReaderFailed));
     assert_eq!(rt; out.as_slice(), b"ok 0\n".as_slice());
@@ -229,35 +229,39 @@ fn performs_scratch(rt: HostRuntime) -> Result<(), Fail> {
     let mut row = ROW;
     let mut out = Vec::new(rt.alloc());
     let (status, faults) = scratch(&rt, &mut row, &mut out)?;
-    assert_eq!(rt; status, 0);
-    assert_eq!(rt; out.as_slice(), ROW_ANSWERS);
-    assert_eq!(rt; faults.as_slice(), b"".as_slice());
+    assert_eq!(rt; (status, faults.is_empty()), (0, true));
+    assert!(rt; out.as_slice() == ROW_ANSWERS);
+    Ok(())
+}
 
+// A byte a turn takes many turns.
+#[test]
+fn performs_scratch_byte_by_byte(rt: HostRuntime) -> Result<(), Fail> {
+    let mut slow = Drip::of(ROW, false);
     let mut out = Vec::new(rt.alloc());
-    let mut broken = Drip {
-        left: b"vertex 0 0\nvert",
-        fails: true,
-    };
-    let (status, faults) = scratch(&rt, &mut broken, &mut out)?;
-    assert_eq!(rt; status, 1);
-    assert_eq!(rt; out.as_slice(), b"ok 0\n".as_slice());
-    assert_eq!(rt; faults.as_slice(), b"leveled: 37 ReaderFailed\n".as_slice());
-
-    // A byte a turn takes many turns.
-    let mut out = Vec::new(rt.alloc());
-    let mut slow = Drip {
-        left: ROW,
-        fails: false,
-    };
     let (status, _) = scratch(&rt, &mut slow, &mut out)?;
     assert_eq!(rt; status, 0);
-    assert_eq!(rt; out.as_slice(), ROW_ANSWERS);
+    assert!(rt; out.as_slice() == ROW_ANSWERS);
+    Ok(())
+}
 
-    let mut row = ROW;
-    let mut narrow = Narrow::of(2);
-    let (status, faults) = scratch(&rt, &mut row, &mut narrow)?;
+#[test]
+fn tells_of_a_reader_that_fails(rt: HostRuntime) -> Result<(), Fail> {
+    let mut broken = Drip::of(b"vertex 0 0\nvert", true);
+    let mut out = Vec::new(rt.alloc());
+    let (status, faults) = scratch(&rt, &mut broken, &mut out)?;
     assert_eq!(rt; status, 1);
-    assert_eq!(rt; faults.as_slice(), b"leveled: 38 WriterFailed\n".as_slice());
+    assert!(rt; out.as_slice() == b"ok 0\n");
+    assert!(rt; faults.as_slice() == b"leveled: 37 ReaderFailed\n");
+    Ok(())
+}
+
+#[test]
+fn tells_of_a_writer_that_fails(rt: HostRuntime) -> Result<(), Fail> {
+    let mut row = ROW;
+    let (status, faults) = scratch(&rt, &mut row, &mut Narrow::of(2))?;
+    assert_eq!(rt; status, 1);
+    assert!(rt; faults.as_slice() == b"leveled: 38 WriterFailed\n");
     Ok(())
 }
 

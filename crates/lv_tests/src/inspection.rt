@@ -34,7 +34,7 @@ const ROOM_TEXT: &[u8] =
     b"things 0 lines 4 sides 4 vertices 4 segs 4 subsectors 1 nodes 0 sectors 1 reject 1 blockmap 56\nsound\n";
 
 // A changed byte: its place, its new value, and what is told then.
-const CHANGES: [(usize, u8, &str); 11] = [
+const CHANGES: &[(usize, u8, &str)] = &[
     (12, 0x04, "fault LineVertex 0\n"),
     (16, 0x05, "fault LineSide 0\n"),
     (96, 0x01, "fault SideSector 0\n"),
@@ -74,7 +74,7 @@ fn tells_of_a_level(rt: HostRuntime) -> Result<(), Fail> {
 
 #[test]
 fn tells_a_changed_byte(rt: HostRuntime) -> Result<(), Fail> {
-    for (place, value, told) in CHANGES {
+    for &(place, value, told) in CHANGES {
         let wad = changed(place, value);
         let mut out = Vec::new(rt.alloc());
         let sound = inspect(rt.alloc(), &wad, b"MAP01", &mut out).expect(&rt, "a level");
@@ -96,7 +96,7 @@ type Call = (
 const ROOM: &[u8] = b"room 0 0 128 128 0 128 FLOOR4_8 CEIL3_5 STARTAN3 160\n";
 
 // A room is drawn into a project file, built into a PWAD and inspected.
-const CALLS: [Call; 10] = [
+const CALLS: &[Call] = &[
     (&["leveled", "create", "room.lv"], b"", 0, b"created\n", b""),
     (
         &["leveled", "build", "room.lv", "room.wad"],
@@ -179,7 +179,7 @@ fn performed(
 #[test]
 fn builds_and_inspects_a_room(rt: HostRuntime) -> Result<(), Fail> {
     let _ = fs::remove_file(&rt, "room.lv");
-    for (words, input, status, written, said) in CALLS {
+    for &(words, input, status, written, said) in CALLS {
         let (ended, out, faults) = performed(&rt, words, input)?;
         assert_eq!(rt; ended, status, "{written:?} {said:?}");
         assert_eq!(rt; out.as_slice(), written);
@@ -206,7 +206,7 @@ fn tells_a_fault_by_the_status(rt: HostRuntime) -> Result<(), Fail> {
 }
 
 // A room is drawn in each of two maps, and both are built into one PWAD.
-const TWO_MAPS: [Call; 5] = [
+const TWO_MAPS: &[Call] = &[
     (&["leveled", "create", "two.lv"], b"", 0, b"created\n", b""),
     (
         &["leveled", "edit", "two.lv"],
@@ -243,7 +243,7 @@ const TWO_MAPS: [Call; 5] = [
 #[test]
 fn builds_and_inspects_two_maps(rt: HostRuntime) -> Result<(), Fail> {
     let _ = fs::remove_file(&rt, "two.lv");
-    for (words, input, status, written, said) in TWO_MAPS {
+    for &(words, input, status, written, said) in TWO_MAPS {
         let (ended, out, faults) = performed(&rt, words, input)?;
         assert_eq!(rt; ended, status, "{written:?} {said:?}");
         assert_eq!(rt; out.as_slice(), written);

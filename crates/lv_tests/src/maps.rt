@@ -56,11 +56,11 @@ fn a_project_has_thirty_two_maps(rt: HostRuntime) -> Result<(), Fail> {
 
 // Bytes of the body of two empty maps, changed: the current number; the names MAP01 and MAP02 made one, either way; a
 // count of vertices, of sectors.
-const CHANGES: [(usize, u8); 5] = [(1, 2), (6, b'2'), (24, b'1'), (16, 1), (18, 1)];
+const CHANGES: &[(usize, u8)] = &[(1, 2), (6, b'2'), (24, b'1'), (16, 1), (18, 1)];
 
 #[test]
 fn a_changed_byte_is_refused(rt: HostRuntime) -> Result<(), Fail> {
-    for (place, byte) in CHANGES {
+    for &(place, byte) in CHANGES {
         let mut body = body_of(rt.alloc(), 2, 1)?;
         assert!(rt; !is_refused(rt.alloc(), &body));
         if let Some(changed) = body.get_mut(place) {
@@ -73,7 +73,7 @@ fn a_changed_byte_is_refused(rt: HostRuntime) -> Result<(), Fail> {
 
 // No bytes; version 2 alone, and without a map; `01 01`, alone and before a map; version 1 with a byte behind; a
 // version 3.
-const NO_BODIES: [&[u8]; 7] = [
+const NO_BODIES: &[&[u8]] = &[
     b"",
     b"\x02",
     b"\x02\0",
@@ -85,7 +85,7 @@ const NO_BODIES: [&[u8]; 7] = [
 
 #[test]
 fn bytes_of_no_project_are_refused(rt: HostRuntime) -> Result<(), Fail> {
-    for body in NO_BODIES {
+    for &body in NO_BODIES {
         assert!(rt; is_refused(rt.alloc(), body));
     }
     assert!(rt; is_refused(rt.alloc(), &body_of(rt.alloc(), 33, 0)?));

@@ -5,7 +5,7 @@ use lv_lumps::Vertex;
 use lv_maptables::{Kind, Map, MapError, is_marker, is_name, squared_distance};
 use std::test::Fail;
 
-const KINDS: [Kind; 5] = [
+const KINDS: &[Kind] = &[
     Kind::Vertex,
     Kind::Sector,
     Kind::Side,
@@ -17,7 +17,7 @@ const KINDS: [Kind; 5] = [
 fn the_new_map_is_empty(rt: HostRuntime) -> Result<(), Fail> {
     let map = Map::new(rt.alloc());
     assert_eq!(rt; map.name().text(), b"MAP01".as_slice());
-    for kind in KINDS {
+    for &kind in KINDS {
         assert_eq!(rt; map.count(kind), 0);
         assert_eq!(rt; map.lump(rt.alloc(), kind)?.len(), 0);
     }
@@ -42,7 +42,7 @@ fn keys_stay_after_a_drop(rt: HostRuntime) {
 }
 
 // Texts, and whether each is a texture's or a flat's name, and a map's.
-const NAMES: [(&[u8], bool, bool); 17] = [
+const NAMES: &[(&[u8], bool, bool)] = &[
     (b"-", true, false),
     (b"FLOOR4_8", true, false),
     (b"A[B]C\\_9", true, false),
@@ -64,13 +64,13 @@ const NAMES: [(&[u8], bool, bool); 17] = [
 
 #[test]
 fn names_have_their_bytes(rt: HostRuntime) {
-    for (text, name, marker) in NAMES {
+    for &(text, name, marker) in NAMES {
         assert_eq!(rt; is_name(text), name, "at {text:?}");
         assert_eq!(rt; is_marker(text), marker, "at {text:?}");
     }
 }
 
-const REFUSALS: [(MapError, u16); 17] = [
+const REFUSALS: &[(MapError, u16)] = &[
     (MapError::NoVertex, 3),
     (MapError::NoSector, 4),
     (MapError::NoSide, 5),
@@ -92,7 +92,7 @@ const REFUSALS: [(MapError, u16); 17] = [
 
 #[test]
 fn refusals_have_their_numbers(rt: HostRuntime) {
-    for (refusal, code) in REFUSALS {
+    for &(refusal, code) in REFUSALS {
         assert_eq!(rt; refusal.code(), code);
     }
 }

@@ -51,7 +51,7 @@ fn segs_and_nodes_have_their_bytes(rt: HostRuntime) -> Result<(), Fail> {
 
 // Lines, how many vertices, segs and nodes their tree has, and its added vertices and its subsectors as bytes.
 #[rattlefmt::skip]
-const TREES: [(&[&[u8]], [usize; 3], &[u8], &[u8]); 6] = [
+const TREES: &[(&[&[u8]], [usize; 3], &[u8], &[u8])] = &[
     (&[ROOM], [4, 4, 0], &[], &[4, 0, 0, 0]),
     (&L, [7, 7, 1], &[128, 0, 0, 0], &[4, 0, 0, 0, 3, 0, 4, 0]),
     (&CUT, [7, 6, 3], &[4, 0, 1, 0], &[2, 0, 0, 0, 1, 0, 2, 0, 2, 0, 3, 0, 1, 0, 5, 0]),
@@ -71,7 +71,7 @@ fn added(alloc: Global, tree: &Built, maps: &Maps) -> Result<Vec<u8>, Fail> {
 
 #[test]
 fn trees_are_as_specified(rt: HostRuntime) -> Result<(), Fail> {
-    for (lines, counts, vertices, subs) in TREES {
+    for &(lines, counts, vertices, subs) in TREES {
         let maps = drawn(&rt, rt.alloc(), lines);
         let tree = built(&rt, rt.alloc(), lines);
         let found = [tree.vertices.len(), tree.segs.len(), tree.nodes.len()];
@@ -84,7 +84,7 @@ fn trees_are_as_specified(rt: HostRuntime) -> Result<(), Fail> {
 
 // Lines, a range of the segs of their tree, and the line, the side and the offset that one of these segs has.
 #[rattlefmt::skip]
-const OFFSETS: [(&[&[u8]], [usize; 2], [u16; 3]); 7] = [
+const OFFSETS: &[(&[&[u8]], [usize; 2], [u16; 3])] = &[
     (&L, [3, 4], [5, 0, 128]),
     (&CUT, [0, 6], [0, 0, 0]), (&CUT, [0, 6], [0, 0, 4]), (&CUT, [0, 6], [0, 1, 0]), (&CUT, [0, 6], [0, 1, 6]),
     (&TWO_ROOMS, [0, 4], [2, 0, 0]), (&TWO_ROOMS, [4, 8], [2, 1, 0]),
@@ -103,7 +103,7 @@ fn count_of(segs: &[Seg], range: [usize; 2], want: [u16; 3]) -> u32 {
 
 #[test]
 fn segs_begin_where_their_side_is_cut(rt: HostRuntime) {
-    for (lines, range, want) in OFFSETS {
+    for &(lines, range, want) in OFFSETS {
         let tree = built(&rt, rt.alloc(), lines);
         assert_eq!(rt; count_of(&tree.segs, range, want), 1, "{want:?}");
     }

@@ -117,7 +117,7 @@ const AGAINST: [&[u8]; 8] = [
 // Lines, which of their map's lines are used, and the choice as `at`, `splits`, `right` and `left`. In the L the third
 // and the fourth line cost the same, eight for the split and one; in the sliver nothing is left on the left.
 #[rattlefmt::skip]
-const CHOICES: [(&[&[u8]], &[bool], Option<[u32; 4]>); 6] = [
+const CHOICES: &[(&[&[u8]], &[bool], Option<[u32; 4]>)] = &[
     (&L, &[false, false, false, false, false, false], Some([2, 1, 4, 3])),
     (&L, &[false, false, true, false, false, false], Some([3, 1, 4, 3])),
     (&L, &[false, false, true, true, false, false], None),
@@ -133,7 +133,7 @@ fn numbers(choice: Option<Choice>) -> Option<[u32; 4]> {
 
 #[test]
 fn takes_the_first_of_the_cheapest(rt: HostRuntime) -> Result<(), Fail> {
-    for (lines, used, want) in CHOICES {
+    for &(lines, used, want) in CHOICES {
         let maps = drawn(&rt, rt.alloc(), lines);
         let choice = chosen(&rt, rt.alloc(), maps.current(), used)?;
         assert_eq!(rt; numbers(choice), want, "{used:?}");

@@ -13,7 +13,7 @@ pub const SMALL: Geometry = Geometry {
 };
 
 /// What a stop may leave, by its fill.
-pub const FILLS: [Fill; 6] = [
+pub const FILLS: &[Fill] = &[
     Fill::Stable,
     Fill::Written,
     Fill::Byte(0),
@@ -99,7 +99,7 @@ fn makes_an_empty_project(rt: HostRuntime) -> Result<(), Fail> {
 #[test]
 fn writes_a_new_file(rt: HostRuntime) -> Result<(), Fail> {
     let disk = disk_after(rt.alloc(), &[])?;
-    for fill in FILLS {
+    for &fill in FILLS {
         let mut left = disk.stop(rt.alloc(), fill, true)?;
         assert_eq!(rt; left.len()?, 657, "{fill:?}");
         let bytes = bytes_from(rt.alloc(), &mut left, 0, 49)?;
@@ -125,7 +125,7 @@ fn syncs_a_new_file_once_and_last(rt: HostRuntime) -> Result<(), Fail> {
 }
 
 // Lengths of a slot and of a journal, and of the file.
-const LENGTHS: [(u32, u32, u64); 5] = [
+const LENGTHS: &[(u32, u32, u64)] = &[
     (33, 512, 595),
     (64, 512, 657),
     (2_007_015, 512, 4_014_559),
@@ -135,7 +135,7 @@ const LENGTHS: [(u32, u32, u64); 5] = [
 
 #[test]
 fn has_a_file_of_its_lengths(rt: HostRuntime) -> Result<(), Fail> {
-    for (slot, journal, len) in LENGTHS {
+    for &(slot, journal, len) in LENGTHS {
         let disk = MemoryDisk::new(rt.alloc(), 4_100_000, 4096)?;
         let project = created(rt.alloc(), disk, Geometry { slot, journal })?;
         assert_eq!(rt; project.into_disk().len()?, len, "{slot} {journal}");
@@ -144,7 +144,7 @@ fn has_a_file_of_its_lengths(rt: HostRuntime) -> Result<(), Fail> {
 }
 
 // Lengths of a slot and of a journal, and why there is no project of them on a disk with four bytes.
-const REFUSED: [(u32, u32, ProjectError); 5] = [
+const REFUSED: &[(u32, u32, ProjectError)] = &[
     (32, 512, ProjectError::BadGeometry),
     (2_007_016, 512, ProjectError::BadGeometry),
     (64, 511, ProjectError::BadGeometry),
@@ -154,7 +154,7 @@ const REFUSED: [(u32, u32, ProjectError); 5] = [
 
 #[test]
 fn refuses_other_lengths_and_other_files(rt: HostRuntime) -> Result<(), Fail> {
-    for (slot, journal, error) in REFUSED {
+    for &(slot, journal, error) in REFUSED {
         let mut disk = empty_disk(rt.alloc())?;
         disk.write_at(0, b"LVPJ")?;
         let Err(refused) = Project::create(rt.alloc(), disk, Geometry { slot, journal }) else {
@@ -174,7 +174,7 @@ fn records_a_line_before_its_answer(rt: HostRuntime) -> Result<(), Fail> {
         bytes_from(rt.alloc(), &mut disk, 144, 16)?.as_slice(),
         b"\xa5\x0a\0\0\0vertex 0 0\0".as_slice()
     );
-    for fill in FILLS {
+    for &fill in FILLS {
         let left = disk.stop(rt.alloc(), fill, true)?;
         assert_eq!(rt; vertices(&opened(rt.alloc(), left)?), 1, "{fill:?}");
     }
@@ -218,14 +218,14 @@ fn refusal_of<D: Disk + Drop>(alloc: Global, disk: D) -> Option<ProjectError> {
 
 // Where a file is cut, and how it is refused then.
 #[rattlefmt::skip]
-const ENDS: [(usize, ProjectError); 7] = [
+const ENDS: &[(usize, ProjectError)] = &[
     (15, ProjectError::NotAProject), (16, AT_SLOT_A), (40, AT_SLOT_A), (80, AT_SLOT_B), (144, AT_JOURNAL_A),
     (159, AT_JOURNAL_A), (656, AT_JOURNAL_B),
 ];
 
 #[test]
 fn tells_where_a_file_ends(rt: HostRuntime) -> Result<(), Fail> {
-    for (end, error) in ENDS {
+    for &(end, error) in ENDS {
         let mut whole = disk_after(rt.alloc(), &[b"vertex 0 0"])?;
         let disk = cut(rt.alloc(), &mut whole, end)?;
         assert_eq!(rt; refusal_of(rt.alloc(), disk), Some(error), "cut to {end}");
@@ -235,7 +235,7 @@ fn tells_where_a_file_ends(rt: HostRuntime) -> Result<(), Fail> {
 
 // Places, bytes that are put there, and how the file is refused then.
 #[rattlefmt::skip]
-const DAMAGES: [(u64, &[u8], ProjectError); 10] = [
+const DAMAGES: &[(u64, &[u8], ProjectError)] = &[
     (4, b"\x02", ProjectError::NotAProject), (8, b"\x20", ProjectError::BadGeometry), (25, b"\x34", AT_SLOT_A),
     (29, b"\x03", AT_SLOT_A), (30, b"\x01", AT_SLOT_A), (31, b"\x6d", AT_SLOT_A), (145, b"\xff", AT_JOURNAL_A),
     (145, b"\x01\x01", AT_JOURNAL_A), (16, b"\0", ProjectError::Blank), (80, b"\xa5\x01", AT_SLOT_B),
@@ -243,7 +243,7 @@ const DAMAGES: [(u64, &[u8], ProjectError); 10] = [
 
 #[test]
 fn tells_where_a_file_is_damaged(rt: HostRuntime) -> Result<(), Fail> {
-    for (place, bytes, error) in DAMAGES {
+    for &(place, bytes, error) in DAMAGES {
         let mut disk = disk_after(rt.alloc(), &[b"vertex 0 0"])?;
         disk.write_at(place, bytes)?;
         assert_eq!(rt;
@@ -300,7 +300,7 @@ const TWO_MAPS: &[Answer] = &[
 ];
 
 // Lines, how many maps the project then has, which is current, and how many vertices that one has.
-const PROJECTS: [(&[Answer], [u32; 3]); 2] = [(ONE_MAP, [1, 0, 7]), (TWO_MAPS, [2, 1, 3])];
+const PROJECTS: &[(&[Answer], [u32; 3])] = &[(ONE_MAP, [1, 0, 7]), (TWO_MAPS, [2, 1, 3])];
 
 // Applies lines, each with its answer.
 fn answer_all<D: Disk>(rt: &impl Abort, project: &mut Project<D>, lines: &[Answer]) {
@@ -311,7 +311,7 @@ fn answer_all<D: Disk>(rt: &impl Abort, project: &mut Project<D>, lines: &[Answe
 
 #[test]
 fn holds_what_fits_a_slot(rt: HostRuntime) -> Result<(), Fail> {
-    for (lines, want) in PROJECTS {
+    for &(lines, want) in PROJECTS {
         let mut project = created(rt.alloc(), empty_disk(rt.alloc())?, SMALL)?;
         answer_all(&rt, &mut project, lines);
         assert_eq!(rt; project.checkpoint(), Ok(2));
@@ -378,7 +378,7 @@ fn spends_its_generations(rt: HostRuntime) -> Result<(), Fail> {
     Ok(())
 }
 
-const CODES: [(ProjectError, u16); 11] = [
+const CODES: &[(ProjectError, u16)] = &[
     (ProjectError::Refused(CommandError::NotACommand), 1),
     (ProjectError::Refused(CommandError::BadName), 15),
     (ProjectError::Device, 30),
@@ -394,7 +394,7 @@ const CODES: [(ProjectError, u16); 11] = [
 
 #[test]
 fn numbers_its_refusals(rt: HostRuntime) {
-    for (error, code) in CODES {
+    for &(error, code) in CODES {
         assert_eq!(rt; error.code(), code);
     }
 }

@@ -15,7 +15,7 @@ fn failing(alloc: Global, k: u64, part: u32) -> Result<Failing, Fail> {
 
 // How the four calls of an append may fail, counted from the first call of `create`, and whether the record's gate is
 // open where all that was written stays.
-const FAULTS: [(u64, u32, bool); 5] = [
+const FAULTS: &[(u64, u32, bool)] = &[
     (9, 15, false),
     (10, 0, false),
     (11, 0, false),
@@ -25,7 +25,7 @@ const FAULTS: [(u64, u32, bool); 5] = [
 
 #[test]
 fn wants_to_be_opened_again_after_a_fault(rt: HostRuntime) -> Result<(), Fail> {
-    for (k, part, _) in FAULTS {
+    for &(k, part, _) in FAULTS {
         let mut project = failing(rt.alloc(), k, part)?;
         assert_eq!(rt; project.apply(b"vertex 0 0"), Err(ProjectError::Device));
         assert_eq!(rt; (project.must_reopen(), vertices(&project)), (true, 0));
@@ -54,7 +54,7 @@ fn failed(
 }
 
 // A fill, and whether it keeps what was written but not synced.
-const KEEPS: [(Fill, bool); 4] = [
+const KEEPS: &[(Fill, bool)] = &[
     (Fill::Stable, false),
     (Fill::Written, true),
     (Fill::Byte(0), false),
@@ -77,7 +77,7 @@ type Line = (
     [u32; 2],
 );
 
-const LINES: [Line; 3] = [
+const LINES: &[Line] = &[
     (&[], 0, b"vertex 0 0", [0, 1], [1, 1]),
     (&[], 0, b"map MAP02", [0, 1], [0, 2]),
     (&[b"map MAP02"], 4, b"drop-map MAP01", [0, 2], [0, 1]),
@@ -91,7 +91,7 @@ fn expect_counts(
     old: [u32; 2],
     new: [u32; 2],
 ) -> Result<(), Fail> {
-    for (fill, keeps) in KEEPS {
+    for &(fill, keeps) in KEEPS {
         let want = if keeps { new } else { old };
         let left = disk.inner().stop(alloc, fill, true)?;
         assert_eq!(rt; counts(alloc, left)?, want, "{fill:?}");
@@ -102,8 +102,8 @@ fn expect_counts(
 
 #[test]
 fn opens_again_after_a_fault(rt: HostRuntime) -> Result<(), Fail> {
-    for (before, calls, line, old, new) in LINES {
-        for (k, part, is_open) in FAULTS {
+    for &(before, calls, line, old, new) in LINES {
+        for &(k, part, is_open) in FAULTS {
             let fault = (k.saturating_add(calls), part);
             let disk = failed(&rt, rt.alloc(), fault, before, line)?;
             let left = if is_open { new } else { old };
@@ -121,11 +121,11 @@ fn one_vertex(alloc: Global, k: u64, part: u32) -> Result<Failing, Fail> {
 }
 
 // The first call that isn't made any more by checkpoints with these generations.
-const CALLS: [(u64, &[u64]); 2] = [(18, &[2]), (25, &[2, 3])];
+const CALLS: &[(u64, &[u64])] = &[(18, &[2]), (25, &[2, 3])];
 
 #[test]
 fn changes_its_slot_by_five_calls_and_by_seven(rt: HostRuntime) -> Result<(), Fail> {
-    for (k, generations) in CALLS {
+    for &(k, generations) in CALLS {
         let mut project = one_vertex(rt.alloc(), k, 0)?;
         for generation in generations {
             assert_eq!(rt; project.checkpoint(), Ok(*generation));
@@ -152,7 +152,7 @@ const OPEN_A: &[u8] = b"\xa5\x03\0\0\0\0\0\0\0\x18\0\0\0\
 // How many checkpoints came before the one of which the k-th call fails with the first `part` bytes of its write put
 // down, and bytes that then stand at a place. The first one fills slot B and opens it; the second closes slot A first.
 #[rattlefmt::skip]
-const WRITES: [(u32, u64, u32, u64, &[u8]); 18] = [
+const WRITES: &[(u32, u64, u32, u64, &[u8])] = &[
     (0, 13, 0, 80, b"\0\0\0"), (0, 13, 36, 80, STAGED_B), (0, 14, 0, 80, STAGED_B), (0, 16, 0, 80, STAGED_B),
     (0, 16, 1, 80, OPEN_B), (0, 17, 0, 80, OPEN_B), (0, 17, 0, 16, b"\xa5\x01"), (0, 17, 0, 144, b"\xa5\x0a"),
     (0, 17, 0, 656, b"\0"),
@@ -181,7 +181,7 @@ fn failed_checkpoint(
 
 #[test]
 fn fills_a_slot_and_then_opens_it(rt: HostRuntime) -> Result<(), Fail> {
-    for (before, k, part, at, want) in WRITES {
+    for &(before, k, part, at, want) in WRITES {
         let mut disk = failed_checkpoint(&rt, rt.alloc(), before, k, part)?;
         let bytes = bytes_from(rt.alloc(), &mut disk, at, want.len())?;
         assert_eq!(rt; bytes.as_slice(), want, "{k} {part} {at}");
@@ -198,7 +198,7 @@ fn expect_stops(
     vertex_count: u32,
     generations: (u64, u64),
 ) -> Result<(), Fail> {
-    for fill in FILLS {
+    for &fill in FILLS {
         let want = match fill {
             Fill::Stable | Fill::Byte(0) => generations.0,
             _ => generations.1,
@@ -213,7 +213,7 @@ fn expect_stops(
 }
 
 // Where the k-th call fails with the first `part` bytes of its write put down, the generation that is found.
-const STOPS: [(u64, u32, u64); 8] = [
+const STOPS: &[(u64, u32, u64)] = &[
     (13, 0, 1),
     (13, 36, 1),
     (14, 0, 1),
@@ -226,7 +226,7 @@ const STOPS: [(u64, u32, u64); 8] = [
 
 #[test]
 fn stops_within_a_checkpoint(rt: HostRuntime) -> Result<(), Fail> {
-    for (k, part, generation) in STOPS {
+    for &(k, part, generation) in STOPS {
         let disk = failed_checkpoint(&rt, rt.alloc(), 0, k, part)?;
         expect_stops(&rt, rt.alloc(), &disk, 1, (1, generation))?;
         let again = opened(rt.alloc(), disk)?;
@@ -246,11 +246,11 @@ fn two_vertices(alloc: Global, k: u64) -> Result<Project<FaultDisk<FaultDisk<Mem
 }
 
 // The same calls, of a checkpoint after one that failed.
-const AGAIN: [(u64, u64); 5] = [(20, 1), (21, 1), (22, 1), (23, 2), (24, 2)];
+const AGAIN: &[(u64, u64)] = &[(20, 1), (21, 1), (22, 1), (23, 2), (24, 2)];
 
 #[test]
 fn stops_within_a_checkpoint_after_one_that_failed(rt: HostRuntime) -> Result<(), Fail> {
-    for (k, generation) in AGAIN {
+    for &(k, generation) in AGAIN {
         let mut project = two_vertices(rt.alloc(), k)?;
         assert_eq!(rt; vertices(&project), 2, "{k}");
         assert_eq!(rt; project.checkpoint(), Err(ProjectError::Device), "{k}");

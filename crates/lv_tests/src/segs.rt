@@ -13,7 +13,7 @@ use std::test::Fail;
 
 // Vectors and their angles. The diagonals of the greatest ones are exact; beside an axis the last bit decides.
 #[rattlefmt::skip]
-const ANGLES: [([i16; 2], u16); 12] = [
+const ANGLES: &[([i16; 2], u16)] = &[
     ([1, 0], 0), ([1, 1], 8192), ([0, 1], 16384), ([128, 64], 4836), ([-1, 0], 32768), ([0, -1], 49152),
     ([32767, 32767], 8192), ([-32767, 32767], 24576), ([-32767, -32767], 40960), ([32767, -32767], 57344),
     ([32767, 1], 0), ([32767, -1], 65535),
@@ -32,7 +32,7 @@ fn angle(x: i16, y: i16) -> Option<u16> {
 
 #[test]
 fn angles(rt: HostRuntime) {
-    for ([x, y], want) in ANGLES {
+    for &([x, y], want) in ANGLES {
         assert_eq!(rt; angle(x, y), Some(want), "{x} {y}");
     }
 }
@@ -88,7 +88,7 @@ const COLLINEAR: [&[u8]; 9] = [
 ];
 
 #[rattlefmt::skip]
-const CUTS: [Row; 11] = [
+const CUTS: &[Row] = &[
     (&CUT, [0, 2], Place::Across,
         [Some((0, Facing::Along, [0, 1, 20, 50])), Some((0, Facing::Along, [20, 50, 1, 1]))]),
     (&CUT, [1, 2], Place::Across,
@@ -127,7 +127,7 @@ fn parts(map: &Map, pieces: &[Piece], at: usize, by: usize) -> (Place, Parts)
 
 #[test]
 fn pieces_are_cut(rt: HostRuntime) -> Result<(), Fail> {
-    for (lines, [at, by], place, [right, left]) in CUTS {
+    for &(lines, [at, by], place, [right, left]) in CUTS {
         let maps = drawn(&rt, rt.alloc(), lines);
         let pieces = pieces_of(rt.alloc(), maps.current())?;
         assert!(rt; at < pieces.len());

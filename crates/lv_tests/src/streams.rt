@@ -9,6 +9,12 @@ pub struct Drip<'a> {
     pub fails: bool,
 }
 
+impl<'a> Drip<'a> {
+    pub fn of(left: &'a [u8], fails: bool) -> Drip<'a> {
+        Drip { left, fails }
+    }
+}
+
 impl Read for Drip<'_> {
     fn read(&mut self, buf: &mut [u8]) -> io::Result<usize> {
         let left = self.left;

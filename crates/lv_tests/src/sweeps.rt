@@ -87,7 +87,7 @@ fn expect_stops(
     disk: &MemoryDisk,
     wanted: &Wanted<'_>,
 ) -> Result<(), Fail> {
-    for fill in FILLS {
+    for &fill in FILLS {
         for longest in [false, true] {
             expect(rt, alloc, disk.stop(alloc, fill, longest)?, wanted)?;
         }
@@ -131,7 +131,7 @@ fn fail_once(
 type List = (&'static [&'static [u8]], &'static [u32]);
 
 #[rattlefmt::skip]
-const LISTS: [List; 3] = [
+const LISTS: &[List] = &[
     (&[b"vertex 0 0", b"map MAP02", b"vertex 1 1", b"drop-map MAP02", b"drop-map MAP01", b"name E1M1"],
         &[0, 1, 7, 9, 99]),
     (&[b"vertex 0 0", b"", b"", b"map MAP02", b"", b"drop-map MAP01", b"vertex 1 1", b""],
@@ -160,7 +160,7 @@ fn sweep(
 
 #[test]
 fn keeps_each_acknowledged_line(rt: HostRuntime) -> Result<(), Fail> {
-    for (lines, parts) in LISTS {
+    for &(lines, parts) in LISTS {
         for part in parts {
             sweep(&rt, rt.alloc(), lines, 9, *part)?;
         }
@@ -169,13 +169,13 @@ fn keeps_each_acknowledged_line(rt: HostRuntime) -> Result<(), Fail> {
 }
 
 // The first call that fails, and how many bytes are put down of it where it is a write.
-const FIRSTS: [(u64, u32); 5] = [(9, 0), (125, 1), (125, 7), (125, 16), (125, 99)];
+const FIRSTS: &[(u64, u32)] = &[(9, 0), (125, 1), (125, 7), (125, 16), (125, 99)];
 
 // 34 records of four calls each fill a journal, and the line behind them takes a checkpoint first.
 #[test]
 fn keeps_each_line_that_fills_a_journal(rt: HostRuntime) -> Result<(), Fail> {
     let lines = [b"name MAP01".as_slice(); 36];
-    for (first, part) in FIRSTS {
+    for &(first, part) in FIRSTS {
         sweep(&rt, rt.alloc(), lines.as_slice(), first, part)?;
     }
     Ok(())
@@ -183,7 +183,7 @@ fn keeps_each_line_that_fills_a_journal(rt: HostRuntime) -> Result<(), Fail> {
 
 // Lines with their answers over a project of 51 bytes.
 #[rattlefmt::skip]
-const ANSWERS: [(&[u8], &[u8]); 8] = [
+const ANSWERS: &[(&[u8], &[u8])] = &[
     (b"vertex 0 0", b"ok 0\n"), (b"count", b"vertices 1 sectors 0 sides 0 lines 0 things 0\n"),
     (b"map MAP02", b"ok 1\n"), (b"vertex 0 0", b"ok 0\n"), (b"drop-map MAP02", b"no 19\n"),
     (b"drop-map MAP01", b"ok 0\n"), (b"maps", b"0 MAP02\ncurrent 0\n"), (b"vertex 1 1", b"ok 1\n"),
@@ -192,7 +192,7 @@ const ANSWERS: [(&[u8], &[u8]); 8] = [
 // The lines of a run.
 fn input(alloc: Global) -> Result<Vec<u8>, Fail> {
     let mut text = Vec::new(alloc);
-    for (line, _) in ANSWERS {
+    for &(line, _) in ANSWERS {
         text.extend_from_slice(line)?;
         text.push(b'\n')?;
     }
@@ -203,7 +203,7 @@ fn input(alloc: Global) -> Result<Vec<u8>, Fail> {
 fn answers(alloc: Global, n: usize) -> Result<Vec<u8>, Fail> {
     let mut text = Vec::new(alloc);
     let mut at = 0_usize;
-    for (_, answer) in ANSWERS {
+    for &(_, answer) in ANSWERS {
         if at < n {
             text.extend_from_slice(answer)?;
         } else if at == n {
@@ -218,7 +218,7 @@ fn answers(alloc: Global, n: usize) -> Result<Vec<u8>, Fail> {
 
 // The line in which the k-th call of a run fails: each of five accepted lines makes four calls.
 #[rattlefmt::skip]
-const FAILED: [usize; 24] = [
+const FAILED: &[usize] = &[
     0, 0, 0, 0, 2, 2, 2, 2, 3, 3, 3, 3, 5, 5, 5, 5, 7, 7, 7, 7, 8, 8, 8, 8,
 ];
 
@@ -227,7 +227,7 @@ fn answers_one_line_by_30(rt: HostRuntime) -> Result<(), Fail> {
     let lines = input(rt.alloc())?;
     for part in [0, 1, 99] {
         let mut k = 9_u64;
-        for n in FAILED {
+        for &n in FAILED {
             let mut project = failing(rt.alloc(), k, part)?;
             let mut out = Vec::new(rt.alloc());
             let answered = run(rt.alloc(), &mut project, &mut lines.as_slice(), &mut out, 2);

@@ -4,7 +4,7 @@ use crate::partition::{Sequence, draw_tangle};
 use lv_lumps::{Seg, Vertex};
 use lv_maptables::{Kind, Map};
 use lv_nodes::{Built, build_tree};
-use lv_pwad::{audit, build_wad, read_level};
+use lv_pwad::{Fault, audit, build_wad, read_level};
 use std::alloc::Global;
 use std::test::Fail;
 
@@ -190,31 +190,41 @@ fn are_children(alloc: Global, tree: &Built) -> Result<bool, Fail> {
     Ok(once.wrapping_add(1) == counts.len() && counts.get(nodes.wrapping_sub(1)) == Some(&0))
 }
 
-// The references lie in their lists, each step is covered once, and each subsector is convex. In a
-// narrow grid many crossings round to an end of their line.
+// The tree of a map: what its contract says is left here, since the tests look for themselves.
+fn tree_of(alloc: Global, map: &Map) -> Result<Built, Fail> {
+    Ok(build_tree(alloc, map)?)
+}
+
+// The tree's references lie in their lists, each step is covered once, and each subsector is convex.
+fn is_sound(alloc: Global, map: &Map, tree: &Built) -> Result<bool, Fail> {
+    Ok(are_children(alloc, tree)? && are_tiled(map, tree) && are_covered(alloc, map, tree)?)
+}
+
+// In a narrow grid many crossings round to an end of their line.
 #[test]
 fn trees_of_tangles_are_sound(rt: HostRuntime) -> Result<(), Fail> {
     let mut numbers = Sequence { state: 40 };
     for n in 0..200 {
         let maps = draw_tangle(&rt, rt.alloc(), &mut numbers, 40, 1 + n % 24)?;
-        let map = maps.current();
-        let tree = build_tree(rt.alloc(), map).expect(&rt, "a tree");
-        assert!(rt; are_children(rt.alloc(), &tree)?, "children of {n}");
-        assert!(rt; are_tiled(map, &tree), "subsectors of {n}");
-        assert!(rt; are_covered(rt.alloc(), map, &tree)?, "sides of {n}");
+        let tree = tree_of(rt.alloc(), maps.current())?;
+        assert!(rt; is_sound(rt.alloc(), maps.current(), &tree)?, "{n}");
     }
     Ok(())
 }
 
-// The PWAD of each of these maps is read back, and its audit finds no fault.
+// What the audit finds in the map's PWAD, read back.
+fn fault_of(alloc: Global, map: &Map) -> Result<Option<Fault>, Fail> {
+    let wad = build_wad(alloc, map)?;
+    let level = read_level(alloc, &wad, b"MAP01")?;
+    Ok(audit(alloc, &level)?)
+}
+
 #[test]
 fn levels_of_tangles_read_back_without_a_fault(rt: HostRuntime) -> Result<(), Fail> {
     let mut numbers = Sequence { state: 40 };
     for n in 0..200 {
         let maps = draw_tangle(&rt, rt.alloc(), &mut numbers, 40, 1 + n % 24)?;
-        let wad = build_wad(rt.alloc(), maps.current()).expect(&rt, "a PWAD");
-        let level = read_level(rt.alloc(), &wad, b"MAP01")?;
-        assert_eq!(rt; audit(rt.alloc(), &level)?, None, "{n}");
+        assert_eq!(rt; fault_of(rt.alloc(), maps.current())?, None, "{n}");
     }
     Ok(())
 }
