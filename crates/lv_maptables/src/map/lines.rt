@@ -1,4 +1,5 @@
 ghost use Rattle.std.specs.Prelude.{◌≡◌, [], ◌∷◌, ◌<◌, IsErrOf};
+ghost use Rattle.lv_maptables.specs.Errors.{code_of};
 ghost use Rattle.lv_maptables.specs.Ranges.{IsLine};
 ghost use Rattle.lv_maptables.specs.Outcomes.{EndsEdit, EndsExactly, Tells, Spends, places, one_line, nothing};
 ghost use Rattle.lv_maptables.specs.Faults.{is_too_long, lacks, reference_faults, shape_faults, line_faults, set_line_faults, drop_line_faults};
@@ -27,7 +28,7 @@ fn check_shape(line: &Line) -> Result<(), MapError>
 impl Map {
     // Whether the map has the line: `NoLine`.
     fn check_has_line(&self, n: u32) -> Result<(), MapError>
-        ensures { Tells result ((6, lacks self.now.tables.lines n) ∷ []) }
+        ensures { Tells result ((code_of MapError.NoLine, lacks self.now.tables.lines n) ∷ []) }
     {
         if n as usize >= self.lines.len() {
             return Err(MapError::NoLine);

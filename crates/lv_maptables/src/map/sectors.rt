@@ -1,5 +1,6 @@
 ghost use Rattle.std.specs.Prelude.{◌≡◌, [], ◌∷◌, ◌<◌, ◌==◌, length, IsErrOf};
 ghost use Rattle.std.specs.List.{list_any};
+ghost use Rattle.lv_maptables.specs.Errors.{code_of};
 ghost use Rattle.lv_maptables.specs.Ranges.{IsSector};
 ghost use Rattle.lv_maptables.specs.Outcomes.{EndsEdit, EndsExactly, Tells, Spends, places, one_sector, nothing};
 ghost use Rattle.lv_maptables.specs.Faults.{lacks, in_sector, sector_faults, set_sector_faults, drop_sector_faults};
@@ -26,7 +27,7 @@ fn has_side_with(sides: &Table<KeyedSide>, key: usize) -> bool
 impl Map {
     // Whether the map has the sector: `NoSector`.
     pub(super) fn check_has_sector(&self, n: u32) -> Result<(), MapError>
-        ensures { Tells result ((4, lacks self.now.tables.sectors n) ∷ []) }
+        ensures { Tells result ((code_of MapError.NoSector, lacks self.now.tables.sectors n) ∷ []) }
     {
         if n as usize >= self.sectors.len() {
             return Err(MapError::NoSector);

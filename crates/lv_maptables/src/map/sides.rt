@@ -1,5 +1,6 @@
 ghost use Rattle.std.specs.Prelude.{◌≡◌, [], ◌∷◌, ◌<◌, ◌==◌, ◌||◌, length, IsErrOf};
 ghost use Rattle.std.specs.List.{list_any};
+ghost use Rattle.lv_maptables.specs.Errors.{code_of};
 ghost use Rattle.lv_maptables.specs.Ranges.{IsSide};
 ghost use Rattle.lv_maptables.specs.Outcomes.{EndsEdit, EndsExactly, Tells, Spends, places, one_side, nothing};
 ghost use Rattle.lv_maptables.specs.Faults.{lacks, uses_side, side_faults, set_side_faults, drop_side_faults};
@@ -41,7 +42,7 @@ fn has_line_with_key(lines: &Table<KeyedLine>, key: usize) -> bool
 impl Map {
     // Whether the map has the side: `NoSide`.
     fn check_has_side(&self, n: u32) -> Result<(), MapError>
-        ensures { Tells result ((5, lacks self.now.tables.sides n) ∷ []) }
+        ensures { Tells result ((code_of MapError.NoSide, lacks self.now.tables.sides n) ∷ []) }
     {
         if n as usize >= self.sides.len() {
             return Err(MapError::NoSide);

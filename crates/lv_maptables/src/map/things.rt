@@ -1,4 +1,5 @@
 ghost use Rattle.std.specs.Prelude.{◌≡◌, [], ◌∷◌, ◌<◌, IsErrOf};
+ghost use Rattle.lv_maptables.specs.Errors.{code_of};
 ghost use Rattle.lv_maptables.specs.Ranges.{IsThing};
 ghost use Rattle.lv_maptables.specs.Outcomes.{EndsEdit, EndsExactly, Tells, Spends, places, one_thing, nothing};
 ghost use Rattle.lv_maptables.specs.Faults.{lacks, thing_faults, set_thing_faults, drop_thing_faults};
@@ -11,7 +12,7 @@ use lv_lumps::{ITEM_LIMIT, Thing};
 impl Map {
     // Whether the map has the thing: `NoThing`.
     fn check_has_thing(&self, n: u32) -> Result<(), MapError>
-        ensures { Tells result ((7, lacks self.now.tables.things n) ∷ []) }
+        ensures { Tells result ((code_of MapError.NoThing, lacks self.now.tables.things n) ∷ []) }
     {
         if n as usize >= self.things.len() {
             return Err(MapError::NoThing);

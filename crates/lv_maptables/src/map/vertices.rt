@@ -1,5 +1,6 @@
 ghost use Rattle.std.specs.Prelude.{◌≡◌, [], ◌∷◌, ◌<◌, ◌≤◌, ◌==◌, ◌&&◌, ◌||◌, ℕ, length, slice_set, IsErrOf};
 ghost use Rattle.std.specs.List.{list_any};
+ghost use Rattle.lv_maptables.specs.Errors.{code_of};
 ghost use Rattle.lv_maptables.specs.Ranges.{IsVertex};
 ghost use Rattle.lv_maptables.specs.WellFormed.{nth_vertex};
 ghost use Rattle.lv_maptables.specs.Outcomes.{EndsEdit, EndsExactly, Tells, Spends, places, one_vertex, nothing};
@@ -130,7 +131,7 @@ impl Map {
 
     // Whether the map has the vertex: `NoVertex`.
     fn check_has_vertex(&self, n: u32) -> Result<(), MapError>
-        ensures { Tells result ((3, lacks self.now.tables.vertices n) ∷ []) }
+        ensures { Tells result ((code_of MapError.NoVertex, lacks self.now.tables.vertices n) ∷ []) }
     {
         if n as usize >= self.vertices.len() {
             return Err(MapError::NoVertex);
