@@ -350,7 +350,7 @@ fn expect_either<D: Disk>(
         (1 - found.slot.min(1), found.generation + 1)
     );
     let last = opened(alloc, disk)?.1;
-    assert!(rt; last.body.as_slice() == b"the next");
+    assert!(rt; last.body.as_slice() == b"the next".as_slice());
     Ok(())
 }
 

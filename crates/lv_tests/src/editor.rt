@@ -251,8 +251,8 @@ fn tells_of_a_reader_that_fails(rt: HostRuntime) -> Result<(), Fail> {
     let mut out = Vec::new(rt.alloc());
     let (status, faults) = scratch(&rt, &mut broken, &mut out)?;
     assert_eq!(rt; status, 1);
-    assert!(rt; out.as_slice() == b"ok 0\n");
-    assert!(rt; faults.as_slice() == b"leveled: 37 ReaderFailed\n");
+    assert!(rt; out.as_slice() == b"ok 0\n".as_slice());
+    assert!(rt; faults.as_slice() == b"leveled: 37 ReaderFailed\n".as_slice());
     Ok(())
 }
 
@@ -261,7 +261,7 @@ fn tells_of_a_writer_that_fails(rt: HostRuntime) -> Result<(), Fail> {
     let mut row = ROW;
     let (status, faults) = scratch(&rt, &mut row, &mut Narrow::of(2))?;
     assert_eq!(rt; status, 1);
-    assert!(rt; faults.as_slice() == b"leveled: 38 WriterFailed\n");
+    assert!(rt; faults.as_slice() == b"leveled: 38 WriterFailed\n".as_slice());
     Ok(())
 }
 
