@@ -3,6 +3,8 @@
 use crate::drawing::{SECTOR, SIDE, drawn};
 use crate::maps::{TWO_MAPS, is_refused};
 use lv_maptables::Maps;
+use std::alloc::Global;
+use std::process::Abort;
 use std::test::Fail;
 
 // The body of a map with one item of each kind but two vertices.
@@ -28,17 +30,25 @@ const BODIES: &[(&[&[u8]], &[u8], u8)] = &[
     (&[b"vertex 64 -1", b"map E1M1", b"thing 64 -1 90 1 7"], TWO_MAPS, 2),
 ];
 
+// The body of the project that lines draw.
+fn written(rt: &impl Abort, alloc: Global, lines: &[&[u8]]) -> Result<Vec<u8>, Fail> {
+    Ok(drawn(rt, alloc, lines).encode_body(alloc)?)
+}
+
+// The body of the project that is read of a body.
+fn written_again(alloc: Global, body: &[u8]) -> Result<Vec<u8>, Fail> {
+    Ok(Maps::decode_body(alloc, body)?.encode_body(alloc)?)
+}
+
 #[test]
 fn bodies_are_written_and_read_back(rt: HostRuntime) -> Result<(), Fail> {
     for &(lines, body, version) in BODIES {
-        let written = drawn(&rt, rt.alloc(), lines).encode_body(rt.alloc())?;
-        assert_eq!(rt; written.as_slice(), body);
-        let mut read = written;
+        let mut read = written(&rt, rt.alloc(), lines)?;
+        assert_eq!(rt; read.as_slice(), body);
         if let Some(first) = read.get_mut(0) {
             *first = version;
         }
-        let again = Maps::decode_body(rt.alloc(), &read)?.encode_body(rt.alloc())?;
-        assert_eq!(rt; again.as_slice(), body);
+        assert_eq!(rt; written_again(rt.alloc(), &read)?.as_slice(), body);
     }
     Ok(())
 }

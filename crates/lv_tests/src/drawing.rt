@@ -184,11 +184,15 @@ fn tables_have_limits(rt: HostRuntime) {
 #[test]
 fn commits_what_is_ready(rt: HostRuntime) -> Result<(), Fail> {
     let mut maps = Maps::new(rt.alloc());
+    expect_commit(&rt, &mut maps)
+}
+
+fn expect_commit(rt: &impl Abort, maps: &mut Maps) -> Result<(), Fail> {
     let command = parse(b"vertex 3 4")?;
     assert!(rt; maps.body_len() <= AMPLE);
-    let change = ready(&mut maps, &command, AMPLE)?;
+    let change = ready(maps, &command, AMPLE)?;
     assert_eq!(rt; maps.current().count(Kind::Vertex), 0);
-    assert_eq!(rt; commit(&mut maps, change), 0);
+    assert_eq!(rt; commit(maps, change), 0);
     assert_eq!(rt; maps.current().vertex(0), Some(Vertex { x: 3, y: 4 }));
     assert_eq!(rt; CommandError::OutOfMemory.code(), 31);
     Ok(())

@@ -44,13 +44,19 @@ fn the_new_project_has_the_empty_map(rt: HostRuntime) {
     assert_eq!(rt; maps.find(E1M1), None);
 }
 
+// How many maps are read of a body, which is current and how long their body is; and that body.
+fn read_again(alloc: Global, body: &[u8]) -> Result<([u32; 3], Vec<u8>), MapError> {
+    let maps = Maps::decode_body(alloc, body)?;
+    let found = [maps.len(), maps.current_number(), maps.body_len()];
+    Ok((found, maps.encode_body(alloc)?))
+}
+
 #[test]
 fn a_project_has_thirty_two_maps(rt: HostRuntime) -> Result<(), Fail> {
     let body = body_of(rt.alloc(), 32, 31)?;
-    let maps = Maps::decode_body(rt.alloc(), &body)?;
-    let found = [maps.len(), maps.current_number(), maps.body_len()];
+    let (found, again) = read_again(rt.alloc(), &body)?;
     assert_eq!(rt; found, [32, 31, 578]);
-    assert_eq!(rt; maps.encode_body(rt.alloc())?.as_slice(), body.as_slice());
+    assert_eq!(rt; again.as_slice(), body.as_slice());
     Ok(())
 }
 

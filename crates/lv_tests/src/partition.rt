@@ -194,6 +194,18 @@ pub(crate) fn draw_tangle(
     for y in 0..7u32 {
         draw_row(rt, alloc, &mut maps, y * apart, apart)?;
     }
+    draw_lines(rt, alloc, &mut maps, numbers, lines)?;
+    Ok(maps)
+}
+
+// Draws so many lines between 49 vertices, every other one of them two-sided.
+fn draw_lines(
+    rt: &impl Abort,
+    alloc: Global,
+    maps: &mut Maps,
+    numbers: &mut Sequence,
+    lines: u32,
+) -> Result<(), Fail> {
     for _ in 0..lines {
         let from = numbers.below(49);
         let to = (from + 1 + numbers.below(48)) % 49;
@@ -204,11 +216,32 @@ pub(crate) fn draw_tangle(
         };
         draw(
             rt,
-            &mut maps,
+            maps,
             format!(in alloc; "line {from} {to} {left}")?.as_bytes(),
         );
     }
-    Ok(maps)
+    Ok(())
+}
+
+// Which of so many lines are used: one of four.
+fn used_of(alloc: Global, numbers: &mut Sequence, lines: u32) -> Result<Vec<bool>, Fail> {
+    let mut used = Vec::new(alloc);
+    for _ in 0..lines {
+        used.push(numbers.below(4) == 0)?;
+    }
+    Ok(used)
+}
+
+// A choice is made of the pieces of the next map.
+fn next_has_choice(
+    rt: &impl Abort,
+    alloc: Global,
+    numbers: &mut Sequence,
+    lines: u32,
+) -> Result<bool, Fail> {
+    let maps = draw_tangle(rt, alloc, numbers, lines, 12)?;
+    let used = used_of(alloc, numbers, lines)?;
+    Ok(chosen(rt, alloc, maps.current(), &used)?.is_some())
 }
 
 // Lists of 5 to 60 pieces: the choice by both calls is that of a plain walk.
@@ -217,13 +250,7 @@ fn chooses_as_a_plain_walk(rt: HostRuntime) -> Result<(), Fail> {
     let mut numbers = Sequence { state: 1 };
     let mut found = 0u32;
     for list in 0..200 {
-        let lines = 5 + list % 26;
-        let maps = draw_tangle(&rt, rt.alloc(), &mut numbers, lines, 12)?;
-        let mut used = Vec::new(rt.alloc());
-        for _ in 0..lines {
-            used.push(numbers.below(4) == 0)?;
-        }
-        if chosen(&rt, rt.alloc(), maps.current(), &used)?.is_some() {
+        if next_has_choice(&rt, rt.alloc(), &mut numbers, 5 + list % 26)? {
             found = found.wrapping_add(1);
         }
     }

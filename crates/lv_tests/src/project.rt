@@ -77,6 +77,12 @@ pub fn vertices<D: Disk>(project: &Project<D>) -> u32 {
     project.map().count(Kind::Vertex)
 }
 
+/// The vertices of the current map of a disk's project, and its generation.
+pub fn found<D: Disk + Drop>(alloc: Global, disk: D) -> Result<(u32, u64), ProjectError> {
+    let project = opened(alloc, disk)?;
+    Ok((vertices(&project), project.generation()))
+}
+
 // What a new file has but zeros: the header, and slot A with its gate, the generation 1, the length 20 and the body.
 const NEW_FILE: &[u8] = b"LVPJ\x01\0\0\0\x40\0\0\0\0\x02\0\0\
 \xa5\x01\0\0\0\0\0\0\0\x14\0\0\0\x02\0MAP01\0\0\0\0\0\0\0\0\0\0\0\0\0";
@@ -176,14 +182,14 @@ fn records_a_line_before_its_answer(rt: HostRuntime) -> Result<(), Fail> {
     );
     for &fill in FILLS {
         let left = disk.stop(rt.alloc(), fill, true)?;
-        assert_eq!(rt; vertices(&opened(rt.alloc(), left)?), 1, "{fill:?}");
+        assert_eq!(rt; found(rt.alloc(), left)?, (1, 1), "{fill:?}");
     }
     // Behind a closed gate nothing counts.
     for byte in [0, 165, 10] {
         let mut disk = disk_after(rt.alloc(), &[b"vertex 0 0"])?;
         disk.write_at(145, &[byte; 15])?;
         disk.write_at(144, &[0])?;
-        assert_eq!(rt; vertices(&opened(rt.alloc(), disk)?), 0, "{byte}");
+        assert_eq!(rt; found(rt.alloc(), disk)?, (0, 1), "{byte}");
     }
     disk.write_at(158, b"!")?;
     assert_eq!(rt;
@@ -259,21 +265,31 @@ fn tells_where_a_file_is_damaged(rt: HostRuntime) -> Result<(), Fail> {
 fn opens_beside_an_older_slot(rt: HostRuntime) -> Result<(), Fail> {
     let mut disk = disk_after(rt.alloc(), &[b"vertex 0 0"])?;
     disk.write_at(80, &[165])?;
-    let project = opened(rt.alloc(), disk)?;
-    assert_eq!(rt; (vertices(&project), project.generation()), (1, 1));
+    assert_eq!(rt; found(rt.alloc(), disk)?, (1, 1));
     Ok(())
+}
+
+// Fills the journal, by 34 records; the generation stays.
+fn fill_journal<D: Disk>(rt: &impl Abort, project: &mut Project<D>) {
+    let generation = project.generation();
+    for n in 0..34 {
+        assert_eq!(rt; project.apply(b"name MAP01"), Ok(0), "record {n}");
+        assert_eq!(rt; project.generation(), generation, "record {n}");
+    }
+}
+
+// The disk of a new project after a line for which its journal has no room.
+fn disk_with_room_made(rt: &impl Abort, alloc: Global) -> Result<MemoryDisk, Fail> {
+    let mut project = created(alloc, empty_disk(alloc)?, SMALL)?;
+    fill_journal(rt, &mut project);
+    let answered = project.apply(b"name MAP01");
+    assert_eq!(rt; (answered, project.generation()), (Ok(0), 2));
+    Ok(project.into_disk())
 }
 
 #[test]
 fn makes_room_by_a_checkpoint(rt: HostRuntime) -> Result<(), Fail> {
-    let mut project = created(rt.alloc(), empty_disk(rt.alloc())?, SMALL)?;
-    for n in 0..34 {
-        assert_eq!(rt; project.apply(b"name MAP01"), Ok(0), "record {n}");
-        assert_eq!(rt; project.generation(), 1, "record {n}");
-    }
-    assert_eq!(rt; project.apply(b"name MAP01"), Ok(0));
-    assert_eq!(rt; project.generation(), 2);
-    let mut disk = project.into_disk();
+    let mut disk = disk_with_room_made(&rt, rt.alloc())?;
     assert_eq!(rt;
         bytes_from(rt.alloc(), &mut disk, 656, 16)?.as_slice(),
         b"\xa5\x0a\0\0\0name MAP01\0".as_slice()
@@ -302,23 +318,33 @@ const TWO_MAPS: &[Answer] = &[
 // Lines, how many maps the project then has, which is current, and how many vertices that one has.
 const PROJECTS: &[(&[Answer], [u32; 3])] = &[(ONE_MAP, [1, 0, 7]), (TWO_MAPS, [2, 1, 3])];
 
-// Applies lines, each with its answer.
+// Applies lines, each with its answer, and then takes a checkpoint.
 fn answer_all<D: Disk>(rt: &impl Abort, project: &mut Project<D>, lines: &[Answer]) {
     for (line, answer) in lines {
         assert_eq!(rt; project.apply(*line), *answer, "{line:?}");
     }
+    assert_eq!(rt; project.checkpoint(), Ok(2));
+}
+
+// The disk of a new project after these lines and a checkpoint.
+fn disk_of_answered(rt: &impl Abort, alloc: Global, lines: &[Answer]) -> Result<MemoryDisk, Fail> {
+    let mut project = created(alloc, empty_disk(alloc)?, SMALL)?;
+    answer_all(rt, &mut project, lines);
+    Ok(project.into_disk())
+}
+
+// How many maps the project of a disk has, which is current, and how many vertices that one has.
+fn maps_of<D: Disk + Drop>(alloc: Global, disk: D) -> Result<[u32; 3], ProjectError> {
+    let project = opened(alloc, disk)?;
+    let maps = project.maps();
+    Ok([maps.len(), maps.current_number(), vertices(&project)])
 }
 
 #[test]
 fn holds_what_fits_a_slot(rt: HostRuntime) -> Result<(), Fail> {
     for &(lines, want) in PROJECTS {
-        let mut project = created(rt.alloc(), empty_disk(rt.alloc())?, SMALL)?;
-        answer_all(&rt, &mut project, lines);
-        assert_eq!(rt; project.checkpoint(), Ok(2));
-        let project = opened(rt.alloc(), project.into_disk())?;
-        let maps = project.maps();
-        let found = [maps.len(), maps.current_number(), vertices(&project)];
-        assert_eq!(rt; found, want);
+        let disk = disk_of_answered(&rt, rt.alloc(), lines)?;
+        assert_eq!(rt; maps_of(rt.alloc(), disk)?, want);
     }
     Ok(())
 }
@@ -328,16 +354,24 @@ fn holds_what_fits_a_slot(rt: HostRuntime) -> Result<(), Fail> {
 fn opens_a_file_of_one_map(rt: HostRuntime) -> Result<(), Fail> {
     let mut disk = disk_after(rt.alloc(), &[b"vertex 0 0"])?;
     disk.write_at(29, b"\x01")?;
-    let mut project = opened(rt.alloc(), disk)?;
-    assert_eq!(rt; (vertices(&project), project.generation()), (1, 1));
-    assert_eq!(rt; project.checkpoint(), Ok(2));
-    let mut disk = project.into_disk();
+    let mut disk = disk_after_checkpoint(&rt, rt.alloc(), disk)?;
     assert_eq!(rt;
         bytes_from(rt.alloc(), &mut disk, 89, 6)?.as_slice(),
         b"\x18\0\0\0\x02\0".as_slice()
     );
-    assert_eq!(rt; vertices(&opened(rt.alloc(), disk)?), 1);
+    assert_eq!(rt; found(rt.alloc(), disk)?, (1, 2));
     Ok(())
+}
+
+// Opens the project of a disk, which has one vertex, and takes its first checkpoint.
+fn disk_after_checkpoint(
+    rt: &impl Abort,
+    alloc: Global,
+    disk: MemoryDisk,
+) -> Result<MemoryDisk, Fail> {
+    let mut project = opened(alloc, disk)?;
+    assert_eq!(rt; (vertices(&project), project.checkpoint()), (1, Ok(2)));
+    Ok(project.into_disk())
 }
 
 // A project whose generation is the last, on a disk of which the next call fails.
@@ -352,29 +386,31 @@ fn spent(alloc: Global) -> Result<Project<FaultDisk<MemoryDisk>>, Fail> {
     Err(ProjectError::Device.into())
 }
 
+// The disk of a project whose generation is the last, after a checkpoint that was refused.
+fn spent_disk(rt: &impl Abort, alloc: Global) -> Result<FaultDisk<MemoryDisk>, Fail> {
+    let mut project = spent(alloc)?;
+    let refused = project.checkpoint();
+    let found = (refused, project.generation());
+    assert_eq!(rt; found, (Err(ProjectError::GenerationsSpent), u64::MAX));
+    Ok(project.into_disk())
+}
+
+// Fills the journal of such a disk's project; the line for which there is no room is refused.
+fn fill_spent<D: Disk + Drop>(rt: &impl Abort, alloc: Global, disk: D) -> Result<D, Fail> {
+    let mut project = opened(alloc, disk)?;
+    fill_journal(rt, &mut project);
+    let refused = project.apply(b"name MAP01");
+    let found = (refused, project.must_reopen());
+    assert_eq!(rt; found, (Err(ProjectError::GenerationsSpent), false));
+    Ok(project.into_disk())
+}
+
 #[test]
 fn spends_its_generations(rt: HostRuntime) -> Result<(), Fail> {
-    let mut project = spent(rt.alloc())?;
-    assert_eq!(rt; project.generation(), u64::MAX);
-    assert_eq!(rt; project.checkpoint(), Err(ProjectError::GenerationsSpent));
-    let mut disk = project.into_disk();
+    let mut disk = spent_disk(&rt, rt.alloc())?;
     assert_eq!(rt; disk.len(), Err(DeviceFault), "no call was made");
-    let mut project = opened(rt.alloc(), disk)?;
-    for n in 0..34 {
-        assert_eq!(rt; project.apply(b"name MAP02"), Ok(0), "record {n}");
-    }
-    assert_eq!(rt;
-        project.apply(b"name MAP01"),
-        Err(ProjectError::GenerationsSpent)
-    );
-    assert_eq!(rt;
-        (project.must_reopen(), project.generation()),
-        (false, u64::MAX)
-    );
-    assert_eq!(rt;
-        opened(rt.alloc(), project.into_disk())?.generation(),
-        u64::MAX
-    );
+    let disk = fill_spent(&rt, rt.alloc(), disk)?;
+    assert_eq!(rt; found(rt.alloc(), disk)?, (0, u64::MAX));
     Ok(())
 }
 

@@ -1,7 +1,7 @@
 //! Lines over a project, and the subcommands that take a file.
 
 use crate::drawing::ROOM;
-use crate::project::{SMALL, created, empty_disk, opened, vertices};
+use crate::project::{SMALL, created, empty_disk, found, vertices};
 use crate::streams::Narrow;
 use lv_disk::{Disk, FaultDisk, FileDisk, MemoryDisk};
 use lv_editor::{EditorError, RequestError, answer, build_after_any_stop, perform, request, run};
@@ -9,6 +9,7 @@ use lv_project::{Geometry, Project};
 use std::alloc::Global;
 use std::fs;
 use std::io::Write;
+use std::process::Abort;
 use std::test::Fail;
 
 // A new project on a disk of which this call fails. The first 8 are those of `create`, and an append makes 4, of which
@@ -27,17 +28,27 @@ const LINES: &[(&[u8], &[u8])] = &[
     (b"no command", b"no 32\n"),
 ];
 
+// Each line is answered as it should be.
+fn answer_all<D: Disk>(
+    rt: &impl Abort,
+    alloc: Global,
+    project: &mut Project<D>,
+) -> Result<(), Fail> {
+    for &(line, wanted) in LINES {
+        let mut out = Vec::new(alloc);
+        answer(alloc, project, line, &mut out)?;
+        assert_eq!(rt; out.as_slice(), wanted, "{line:?}");
+    }
+    assert_eq!(rt; vertices(project), 0);
+    Ok(())
+}
+
 #[test]
 fn answers_no_line_after_a_fault(rt: HostRuntime) -> Result<(), Fail> {
     let mut project = failing(rt.alloc(), 12)?;
-    for &(line, wanted) in LINES {
-        let mut out = Vec::new(rt.alloc());
-        answer(rt.alloc(), &mut project, line, &mut out)?;
-        assert_eq!(rt; out.as_slice(), wanted, "{line:?}");
-    }
-    assert_eq!(rt; vertices(&project), 0);
+    answer_all(&rt, rt.alloc(), &mut project)?;
     // Opened again without a stop the map has the vertex.
-    assert_eq!(rt; vertices(&opened(rt.alloc(), project.into_disk())?), 1);
+    assert_eq!(rt; found(rt.alloc(), project.into_disk())?, (1, 1));
     Ok(())
 }
 
@@ -57,16 +68,28 @@ const RUNS: &[(u64, &[u8], u32)] = &[
     ),
 ];
 
+// What a run answers over such a disk, and the vertices of its project.
+fn run_over(
+    alloc: Global,
+    call: u64,
+    out: &mut Vec<u8>,
+) -> Result<(Result<u64, EditorError>, u32), Fail> {
+    let mut project = failing(alloc, call)?;
+    let mut input = b"vertex 0 0\nvertex 1 0\ncount\nvertex 2 0\n".as_slice();
+    let answered = run(alloc, &mut project, &mut input, out, 2);
+    Ok((answered, vertices(&project)))
+}
+
 #[test]
 fn runs_over_a_project(rt: HostRuntime) -> Result<(), Fail> {
     for &(call, wanted, count) in RUNS {
-        let mut project = failing(rt.alloc(), call)?;
-        let mut input = b"vertex 0 0\nvertex 1 0\ncount\nvertex 2 0\n".as_slice();
         let mut out = Vec::new(rt.alloc());
-        let answered = run(rt.alloc(), &mut project, &mut input, &mut out, 2);
-        assert_eq!(rt; answered, Ok(4), "call {call}");
+        assert_eq!(rt;
+            run_over(rt.alloc(), call, &mut out)?,
+            (Ok(4), count),
+            "call {call}"
+        );
         assert_eq!(rt; out.as_slice(), wanted, "call {call}");
-        assert_eq!(rt; vertices(&project), count, "call {call}");
     }
     Ok(())
 }
@@ -89,7 +112,7 @@ fn kept_after(alloc: Global, input: &[u8], room: usize) -> Result<[u32; 2], Fail
         _ => return Err(Fail::from("the run didn't end by the writer")),
     }
     let kept = vertices(&project);
-    Ok([kept, vertices(&opened(alloc, project.into_disk())?)])
+    Ok([kept, found(alloc, project.into_disk())?.0])
 }
 
 // The line whose answer the writer didn't take is kept, and the one after it isn't looked at.
@@ -102,15 +125,20 @@ fn looks_at_no_line_behind_a_failed_answer(rt: HostRuntime) -> Result<(), Fail> 
     Ok(())
 }
 
-#[test]
-fn builds_what_a_disk_holds(rt: HostRuntime) -> Result<(), Fail> {
+// The disk of a project of one room.
+fn disk_of_room(alloc: Global) -> Result<MemoryDisk, Fail> {
     let geometry = Geometry {
         slot: 300,
         journal: 512,
     };
-    let mut project = created(rt.alloc(), empty_disk(rt.alloc())?, geometry)?;
+    let mut project = created(alloc, empty_disk(alloc)?, geometry)?;
     project.apply(ROOM)?;
-    let wad = build_after_any_stop(rt.alloc(), project.into_disk())?;
+    Ok(project.into_disk())
+}
+
+#[test]
+fn builds_what_a_disk_holds(rt: HostRuntime) -> Result<(), Fail> {
+    let wad = build_after_any_stop(rt.alloc(), disk_of_room(rt.alloc())?)?;
     assert_eq!(rt; wad.len(), 515);
     let Err(refused) = build_after_any_stop(rt.alloc(), empty_disk(rt.alloc())?) else {
         return Err(Fail::from("an empty disk is built"));

@@ -1,4 +1,4 @@
-use crate::project::{FILLS, SMALL, bytes_from, created, empty_disk, opened, vertices};
+use crate::project::{FILLS, SMALL, bytes_from, created, empty_disk, found, opened, vertices};
 use lv_disk::{DeviceFault, Disk, FaultDisk, Fill, MemoryDisk};
 use lv_project::{Project, ProjectError};
 use std::alloc::Global;
@@ -23,16 +23,35 @@ const FAULTS: &[(u64, u32, bool)] = &[
     (12, 0, true),
 ];
 
+// The first line of a project finds a fault, and nothing is accepted from then on.
+fn expect_closed<D: Disk>(rt: &impl Abort, project: &mut Project<D>) {
+    assert_eq!(rt; project.apply(b"vertex 0 0"), Err(ProjectError::Device));
+    assert_eq!(rt; (project.must_reopen(), vertices(project)), (true, 0));
+    assert_eq!(rt; project.apply(b"vertex 1 0"), Err(ProjectError::Reopen));
+    assert_eq!(rt; project.apply(b"no command"), Err(ProjectError::Reopen));
+    assert_eq!(rt; project.checkpoint(), Err(ProjectError::Reopen));
+}
+
 #[test]
 fn wants_to_be_opened_again_after_a_fault(rt: HostRuntime) -> Result<(), Fail> {
     for &(k, part, _) in FAULTS {
         let mut project = failing(rt.alloc(), k, part)?;
-        assert_eq!(rt; project.apply(b"vertex 0 0"), Err(ProjectError::Device));
-        assert_eq!(rt; (project.must_reopen(), vertices(&project)), (true, 0));
-        assert_eq!(rt; project.apply(b"vertex 1 0"), Err(ProjectError::Reopen));
-        assert_eq!(rt; project.apply(b"no command"), Err(ProjectError::Reopen));
-        assert_eq!(rt; project.checkpoint(), Err(ProjectError::Reopen));
+        expect_closed(&rt, &mut project);
     }
+    Ok(())
+}
+
+// Applies lines, and one more, in which a call fails.
+fn fail_in<D: Disk>(
+    rt: &impl Abort,
+    project: &mut Project<D>,
+    before: &[&[u8]],
+    line: &[u8],
+) -> Result<(), Fail> {
+    for earlier in before {
+        project.apply(*earlier)?;
+    }
+    assert_eq!(rt; project.apply(line), Err(ProjectError::Device));
     Ok(())
 }
 
@@ -45,11 +64,7 @@ fn failed(
     line: &[u8],
 ) -> Result<FaultDisk<MemoryDisk>, Fail> {
     let mut project = failing(alloc, fault.0, fault.1)?;
-    for earlier in before {
-        project.apply(*earlier)?;
-    }
-    let refused = project.apply(line);
-    assert_eq!(rt; refused, Err(ProjectError::Device), "{fault:?}");
+    fail_in(rt, &mut project, before, line)?;
     Ok(project.into_disk())
 }
 
@@ -123,16 +138,20 @@ fn one_vertex(alloc: Global, k: u64, part: u32) -> Result<Failing, Fail> {
 // The first call that isn't made any more by checkpoints with these generations.
 const CALLS: &[(u64, &[u64])] = &[(18, &[2]), (25, &[2, 3])];
 
+// Takes checkpoints, which have these generations.
+fn take<D: Disk>(rt: &impl Abort, project: &mut Project<D>, generations: &[u64]) {
+    for generation in generations {
+        assert_eq!(rt; project.checkpoint(), Ok(*generation));
+        assert_eq!(rt; project.generation(), *generation);
+    }
+}
+
 #[test]
 fn changes_its_slot_by_five_calls_and_by_seven(rt: HostRuntime) -> Result<(), Fail> {
     for &(k, generations) in CALLS {
         let mut project = one_vertex(rt.alloc(), k, 0)?;
-        for generation in generations {
-            assert_eq!(rt; project.checkpoint(), Ok(*generation));
-            assert_eq!(rt; project.generation(), *generation);
-        }
-        let mut disk = project.into_disk();
-        assert_eq!(rt; disk.len(), Err(DeviceFault), "call {k}");
+        take(&rt, &mut project, generations);
+        assert_eq!(rt; project.into_disk().len(), Err(DeviceFault), "call {k}");
     }
     Ok(())
 }
@@ -161,6 +180,20 @@ const WRITES: &[(u32, u64, u32, u64, &[u8])] = &[
     (1, 24, 0, 80, b"\xa5\x02"),
 ];
 
+// Takes so many checkpoints, and one more, in which a call fails.
+fn fail_to_take<D: Disk>(
+    rt: &impl Abort,
+    project: &mut Project<D>,
+    before: u32,
+) -> Result<(), Fail> {
+    for _ in 0..before {
+        project.checkpoint()?;
+    }
+    assert_eq!(rt; project.checkpoint(), Err(ProjectError::Device));
+    assert_eq!(rt; (project.must_reopen(), vertices(project)), (true, 1));
+    Ok(())
+}
+
 // The disk of a project of one vertex, of which a call of the last of several checkpoints fails.
 fn failed_checkpoint(
     rt: &impl Abort,
@@ -170,12 +203,7 @@ fn failed_checkpoint(
     part: u32,
 ) -> Result<FaultDisk<MemoryDisk>, Fail> {
     let mut project = one_vertex(alloc, k, part)?;
-    for _ in 0..before {
-        project.checkpoint()?;
-    }
-    let refused = project.checkpoint();
-    assert_eq!(rt; refused, Err(ProjectError::Device), "{k} {part}");
-    assert_eq!(rt; (project.must_reopen(), vertices(&project)), (true, 1));
+    fail_to_take(rt, &mut project, before)?;
     Ok(project.into_disk())
 }
 
@@ -204,9 +232,8 @@ fn expect_stops(
             _ => generations.1,
         };
         for longest in [false, true] {
-            let left = opened(alloc, disk.inner().stop(alloc, fill, longest)?)?;
-            assert_eq!(rt; vertices(&left), vertex_count, "{fill:?}");
-            assert_eq!(rt; left.generation(), want, "{fill:?}");
+            let left = found(alloc, disk.inner().stop(alloc, fill, longest)?)?;
+            assert_eq!(rt; left, (vertex_count, want), "{fill:?}");
         }
     }
     Ok(())
@@ -229,20 +256,35 @@ fn stops_within_a_checkpoint(rt: HostRuntime) -> Result<(), Fail> {
     for &(k, part, generation) in STOPS {
         let disk = failed_checkpoint(&rt, rt.alloc(), 0, k, part)?;
         expect_stops(&rt, rt.alloc(), &disk, 1, (1, generation))?;
-        let again = opened(rt.alloc(), disk)?;
-        assert_eq!(rt; (vertices(&again), again.generation()), (1, generation));
+        assert_eq!(rt; found(rt.alloc(), disk)?, (1, generation));
     }
     Ok(())
 }
 
-// A project of two vertices after a checkpoint of which a sync failed, opened again on a disk of which then the k-th
-// call fails. Opening makes 15 calls, and the append 4.
-fn two_vertices(alloc: Global, k: u64) -> Result<Project<FaultDisk<FaultDisk<MemoryDisk>>>, Fail> {
+// The disk of a project of one vertex after a checkpoint of which a sync failed.
+fn unsynced_disk(alloc: Global) -> Result<FaultDisk<MemoryDisk>, Fail> {
     let mut project = one_vertex(alloc, 15, 0)?;
     let _failed = project.checkpoint();
-    let mut again = opened(alloc, FaultDisk::new(project.into_disk(), k, 1))?;
-    again.apply(b"vertex 1 1")?;
-    Ok(again)
+    Ok(project.into_disk())
+}
+
+// That disk, of which then the k-th call fails, after a second vertex and one more checkpoint. Opening makes 15 calls,
+// and the append 4.
+fn failed_again(
+    rt: &impl Abort,
+    alloc: Global,
+    k: u64,
+) -> Result<FaultDisk<FaultDisk<MemoryDisk>>, Fail> {
+    let disk = unsynced_disk(alloc)?;
+    let mut project = opened(alloc, FaultDisk::new(disk, k, 1))?;
+    project.apply(b"vertex 1 1")?;
+    let refused = project.checkpoint();
+    assert_eq!(rt;
+        (refused, vertices(&project)),
+        (Err(ProjectError::Device), 2),
+        "{k}"
+    );
+    Ok(project.into_disk())
 }
 
 // The same calls, of a checkpoint after one that failed.
@@ -251,13 +293,9 @@ const AGAIN: &[(u64, u64)] = &[(20, 1), (21, 1), (22, 1), (23, 2), (24, 2)];
 #[test]
 fn stops_within_a_checkpoint_after_one_that_failed(rt: HostRuntime) -> Result<(), Fail> {
     for &(k, generation) in AGAIN {
-        let mut project = two_vertices(rt.alloc(), k)?;
-        assert_eq!(rt; vertices(&project), 2, "{k}");
-        assert_eq!(rt; project.checkpoint(), Err(ProjectError::Device), "{k}");
-        let disk = project.into_disk();
+        let disk = failed_again(&rt, rt.alloc(), k)?;
         expect_stops(&rt, rt.alloc(), disk.inner(), 2, (1, generation))?;
-        let again = opened(rt.alloc(), disk)?;
-        assert_eq!(rt; (vertices(&again), again.generation()), (2, generation));
+        assert_eq!(rt; found(rt.alloc(), disk)?, (2, generation));
     }
     Ok(())
 }

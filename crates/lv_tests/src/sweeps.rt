@@ -29,14 +29,26 @@ fn draw(maps: &mut Maps, line: &[u8]) {
     }
 }
 
-// The body before each of these lines, and behind them all.
-fn bodies(alloc: Global, lines: &[&[u8]]) -> Result<Vec<Vec<u8>>, Fail> {
-    let mut maps = Maps::new(alloc);
-    let mut bodies = vec![in alloc; maps.encode_body(alloc)?]?;
+// Puts down the body before each of these lines, and after them all.
+fn put_bodies(
+    alloc: Global,
+    maps: &mut Maps,
+    lines: &[&[u8]],
+    bodies: &mut Vec<Vec<u8>>,
+) -> Result<(), Fail> {
+    bodies.push(maps.encode_body(alloc)?)?;
     for line in lines {
-        draw(&mut maps, *line);
+        draw(maps, *line);
         bodies.push(maps.encode_body(alloc)?)?;
     }
+    Ok(())
+}
+
+// The body before each of these lines, and after them all.
+fn bodies(alloc: Global, lines: &[&[u8]]) -> Result<Vec<Vec<u8>>, Fail> {
+    let mut maps = Maps::new(alloc);
+    let mut bodies = Vec::new(alloc);
+    put_bodies(alloc, &mut maps, lines, &mut bodies)?;
     Ok(bodies)
 }
 
@@ -65,6 +77,12 @@ struct Wanted<'a> {
     generation: u64,
 }
 
+// The body and the generation of the project of a disk.
+fn body_of<D: Disk + Drop>(alloc: Global, disk: D) -> Result<(Vec<u8>, u64), Fail> {
+    let project = opened(alloc, disk)?;
+    Ok((project.maps().encode_body(alloc)?, project.generation()))
+}
+
 // Opens a disk, which has what is wanted.
 fn expect<D: Disk + Drop>(
     rt: &impl Abort,
@@ -72,11 +90,10 @@ fn expect<D: Disk + Drop>(
     disk: D,
     wanted: &Wanted<'_>,
 ) -> Result<(), Fail> {
-    let project = opened(alloc, disk)?;
-    let body = project.maps().encode_body(alloc)?;
+    let (body, generation) = body_of(alloc, disk)?;
     assert!(rt; body.as_slice() == wanted.old || body.as_slice() == wanted.new);
-    let further = project.generation().saturating_sub(wanted.generation);
-    assert!(rt; project.generation() >= wanted.generation && further <= 1);
+    let further = generation.saturating_sub(wanted.generation);
+    assert!(rt; generation >= wanted.generation && further <= 1);
     Ok(())
 }
 
@@ -95,6 +112,30 @@ fn expect_stops(
     Ok(())
 }
 
+// What is left of lines over a disk that may fail: how many were done, whether all were, and what the project had then.
+#[derive(Drop)]
+struct Ended {
+    n: usize,
+    is_done: bool,
+    generation: u64,
+    body: Vec<u8>,
+    disk: FaultDisk<MemoryDisk>,
+}
+
+// Does these lines over a disk of which the k-th call fails.
+fn fail_within(alloc: Global, lines: &[&[u8]], fault: (u64, u32)) -> Result<Ended, Fail> {
+    let mut project = failing(alloc, fault.0, fault.1)?;
+    let n = done(&mut project, lines);
+    let body = project.maps().encode_body(alloc)?;
+    Ok(Ended {
+        n,
+        is_done: !project.must_reopen(),
+        generation: project.generation(),
+        body,
+        disk: project.into_disk(),
+    })
+}
+
 // Does these lines over a disk of which the k-th call fails, and opens it again. Whether all lines were done.
 fn fail_once(
     rt: &impl Abort,
@@ -103,22 +144,23 @@ fn fail_once(
     bodies: &[Vec<u8>],
     fault: (u64, u32),
 ) -> Result<bool, Fail> {
-    let mut project = failing(alloc, fault.0, fault.1)?;
-    let n = done(&mut project, lines);
-    let generation = project.generation();
-    let found = project.maps().encode_body(alloc)?;
+    let Ended {
+        n,
+        is_done,
+        generation,
+        body,
+        disk,
+    } = fail_within(alloc, lines, fault)?;
     let (Some(old), Some(last)) = (bodies.get(n), bodies.last()) else {
         return Err(Fail::from("more lines than bodies"));
     };
     let new = bodies.get(n.saturating_add(1)).unwrap_or(last);
-    assert!(rt; found == *old, "{fault:?}");
+    assert!(rt; body == *old, "{fault:?}");
     let wanted = Wanted {
         old,
         new,
         generation,
     };
-    let is_done = !project.must_reopen();
-    let disk = project.into_disk();
     expect_stops(rt, alloc, disk.inner(), &wanted)?;
     // Where no call has failed yet, one would as the disk is opened.
     if !is_done {
@@ -222,18 +264,25 @@ const FAILED: &[usize] = &[
     0, 0, 0, 0, 2, 2, 2, 2, 3, 3, 3, 3, 5, 5, 5, 5, 7, 7, 7, 7, 8, 8, 8, 8,
 ];
 
+// What a run over a disk writes of which the k-th call fails.
+fn told(alloc: Global, lines: &[u8], k: u64, part: u32) -> Result<Vec<u8>, Fail> {
+    let mut project = failing(alloc, k, part)?;
+    let mut out = Vec::new(alloc);
+    let mut reader = lines;
+    match run(alloc, &mut project, &mut reader, &mut out, 2) {
+        Ok(8) => Ok(out),
+        _ => Err(Fail::from("the run didn't answer eight lines")),
+    }
+}
+
 #[test]
 fn answers_one_line_by_30(rt: HostRuntime) -> Result<(), Fail> {
     let lines = input(rt.alloc())?;
     for part in [0, 1, 99] {
         let mut k = 9_u64;
         for &n in FAILED {
-            let mut project = failing(rt.alloc(), k, part)?;
-            let mut out = Vec::new(rt.alloc());
-            let answered = run(rt.alloc(), &mut project, &mut lines.as_slice(), &mut out, 2);
-            assert_eq!(rt; answered, Ok(8), "{k}");
-            let wanted = answers(rt.alloc(), n)?;
-            assert_eq!(rt; out.as_slice(), wanted.as_slice(), "{k} {part}");
+            let out = told(rt.alloc(), &lines, k, part)?;
+            assert!(rt; out == answers(rt.alloc(), n)?, "{k} {part}");
             k = k.saturating_add(1);
         }
     }

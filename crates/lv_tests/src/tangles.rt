@@ -6,6 +6,7 @@ use lv_maptables::{Kind, Map};
 use lv_nodes::{Built, build_tree};
 use lv_pwad::{Fault, audit, build_wad, read_level};
 use std::alloc::Global;
+use std::process::Abort;
 use std::test::Fail;
 
 // How many steps lie between two places.
@@ -190,14 +191,26 @@ fn are_children(alloc: Global, tree: &Built) -> Result<bool, Fail> {
     Ok(once.wrapping_add(1) == counts.len() && counts.get(nodes.wrapping_sub(1)) == Some(&0))
 }
 
-// The tree of a map: what its contract says is left here, since the tests look for themselves.
-fn tree_of(alloc: Global, map: &Map) -> Result<Built, Fail> {
-    Ok(build_tree(alloc, map)?)
-}
-
 // The tree's references lie in their lists, each step is covered once, and each subsector is convex.
 fn is_sound(alloc: Global, map: &Map, tree: &Built) -> Result<bool, Fail> {
     Ok(are_children(alloc, tree)? && are_tiled(map, tree) && are_covered(alloc, map, tree)?)
+}
+
+// A map's tree is sound.
+fn is_built(alloc: Global, map: &Map) -> Result<bool, Fail> {
+    let tree = build_tree(alloc, map)?;
+    is_sound(alloc, map, &tree)
+}
+
+// The tree of the n-th map is sound.
+fn next_is_built(
+    rt: &impl Abort,
+    alloc: Global,
+    numbers: &mut Sequence,
+    n: u32,
+) -> Result<bool, Fail> {
+    let maps = draw_tangle(rt, alloc, numbers, 40, 1 + n % 24)?;
+    is_built(alloc, maps.current())
 }
 
 // In a narrow grid many crossings round to an end of their line.
@@ -205,9 +218,7 @@ fn is_sound(alloc: Global, map: &Map, tree: &Built) -> Result<bool, Fail> {
 fn trees_of_tangles_are_sound(rt: HostRuntime) -> Result<(), Fail> {
     let mut numbers = Sequence { state: 40 };
     for n in 0..200 {
-        let maps = draw_tangle(&rt, rt.alloc(), &mut numbers, 40, 1 + n % 24)?;
-        let tree = tree_of(rt.alloc(), maps.current())?;
-        assert!(rt; is_sound(rt.alloc(), maps.current(), &tree)?, "{n}");
+        assert!(rt; next_is_built(&rt, rt.alloc(), &mut numbers, n)?, "{n}");
     }
     Ok(())
 }
@@ -219,12 +230,23 @@ fn fault_of(alloc: Global, map: &Map) -> Result<Option<Fault>, Fail> {
     Ok(audit(alloc, &level)?)
 }
 
+// What the audit finds in the PWAD of the n-th map.
+fn fault_of_next(
+    rt: &impl Abort,
+    alloc: Global,
+    numbers: &mut Sequence,
+    n: u32,
+) -> Result<Option<Fault>, Fail> {
+    let maps = draw_tangle(rt, alloc, numbers, 40, 1 + n % 24)?;
+    fault_of(alloc, maps.current())
+}
+
 #[test]
 fn levels_of_tangles_read_back_without_a_fault(rt: HostRuntime) -> Result<(), Fail> {
     let mut numbers = Sequence { state: 40 };
     for n in 0..200 {
-        let maps = draw_tangle(&rt, rt.alloc(), &mut numbers, 40, 1 + n % 24)?;
-        assert_eq!(rt; fault_of(rt.alloc(), maps.current())?, None, "{n}");
+        let fault = fault_of_next(&rt, rt.alloc(), &mut numbers, n)?;
+        assert_eq!(rt; fault, None, "{n}");
     }
     Ok(())
 }
