@@ -4,6 +4,7 @@ use crate::drawing::{ROOM, SECTOR, SIDE, TWO_ROOMS, draw, drawn};
 use lv_checks::{Finding, Texture, check};
 use lv_maptables::Map;
 use std::alloc::Global;
+use std::process::Abort;
 use std::test::Fail;
 
 // The findings as text, a line each.
@@ -50,14 +51,24 @@ const REPORTS: &[(&[&[u8]], &[&[u8]], &str)] = &[
 #[test]
 fn maps_have_their_findings(rt: HostRuntime) -> Result<(), Fail> {
     for &(lines, further, findings) in REPORTS {
-        let mut maps = drawn(&rt, rt.alloc(), lines);
-        for line in further {
-            draw(&rt, &mut maps, *line);
-        }
-        let found = report(rt.alloc(), maps.current())?;
+        let found = report_of(&rt, rt.alloc(), lines, further)?;
         assert_eq!(rt; found.as_str(), findings);
     }
     Ok(())
+}
+
+// What is found in the map that lines and further ones draw.
+fn report_of(
+    rt: &impl Abort,
+    alloc: Global,
+    lines: &[&[u8]],
+    further: &[&[u8]],
+) -> Result<String, Fail> {
+    let mut maps = drawn(rt, alloc, lines);
+    for line in further {
+        draw(rt, &mut maps, *line);
+    }
+    report(alloc, maps.current())
 }
 
 // What is found in the unfinished room.

@@ -189,8 +189,8 @@ fn finds_damage_at_its_gate(rt: HostRuntime) -> Result<(), Fail> {
     ] {
         let mut disk = disk_with(rt.alloc(), bytes)?;
         assert_eq!(rt;
-            opened(rt.alloc(), &mut disk).map(|_| ()),
-            Err(JournalError::Damaged { place }),
+            opened(rt.alloc(), &mut disk).err(),
+            Some(JournalError::Damaged { place }),
             "{bytes:?}"
         );
     }
@@ -299,17 +299,14 @@ fn answers_a_device_that_fails(rt: HostRuntime) -> Result<(), Fail> {
         let disk = disk_with(rt.alloc(), b"\xa5\x01\0\0\0a\0")?;
         let mut disk = FaultDisk::new(disk, k, 0);
         assert_eq!(rt;
-            opened(rt.alloc(), &mut disk).map(|_| ()),
-            Err(JournalError::Device),
+            opened(rt.alloc(), &mut disk).err(),
+            Some(JournalError::Device),
             "call {k}"
         );
         assert!(rt; holds(&opened(rt.alloc(), &mut disk)?, &[b"a"]), "call {k}");
     }
     let mut disk = FaultDisk::new(MemoryDisk::new(rt.alloc(), 1024, 4096)?, 1, 0);
-    assert_eq!(rt;
-        blank(&mut disk, AREA).map(|_| ()),
-        Err(JournalError::Device)
-    );
+    assert_eq!(rt; blank(&mut disk, AREA).err(), Some(JournalError::Device));
     Ok(())
 }
 

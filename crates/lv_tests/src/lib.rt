@@ -38,6 +38,8 @@ mod partition;
 #[cfg(test)]
 mod project;
 #[cfg(test)]
+mod project_room;
+#[cfg(test)]
 mod project_run;
 #[cfg(test)]
 mod project_stops;

@@ -64,8 +64,8 @@ fn finds_damage_at_its_slot(rt: HostRuntime) -> Result<(), Fail> {
     ] {
         let mut disk = disk_with(rt.alloc(), &a, &b, end)?;
         assert_eq!(rt;
-            opened(rt.alloc(), &mut disk).map(|_| ()),
-            Err(error),
+            opened(rt.alloc(), &mut disk).err(),
+            Some(error),
             "{a:?} {b:?} {end}"
         );
     }
@@ -84,18 +84,14 @@ fn spends_its_generations(rt: HostRuntime) -> Result<(), Fail> {
         (52, CheckpointError::SlotFull),
     ] {
         let body = vec![in rt.alloc(); 0; len]?;
-        assert_eq!(rt;
-            slots.image(rt.alloc(), &body).map(|_| ()),
-            Err(error),
-            "{len}"
-        );
+        assert_eq!(rt; slots.image(rt.alloc(), &body).err(), Some(error), "{len}");
     }
     let mut disk = disk_with_old(rt.alloc())?;
     let (slots, _) = opened(rt.alloc(), &mut disk)?;
     slots.image(rt.alloc(), &[0; 51])?;
     assert_eq!(rt;
-        slots.image(rt.alloc(), &[0; 52]).map(|_| ()),
-        Err(CheckpointError::SlotFull)
+        slots.image(rt.alloc(), &[0; 52]).err(),
+        Some(CheckpointError::SlotFull)
     );
     Ok(())
 }
@@ -107,8 +103,8 @@ fn answers_a_device_that_fails(rt: HostRuntime) -> Result<(), Fail> {
         let disk = disk_with(rt.alloc(), &(165, 1, 24, OLD), &(165, 2, 24, NEW), 200)?;
         let mut disk = FaultDisk::new(disk, k, 0);
         assert_eq!(rt;
-            opened(rt.alloc(), &mut disk).map(|_| ()),
-            Err(CheckpointError::Device),
+            opened(rt.alloc(), &mut disk).err(),
+            Some(CheckpointError::Device),
             "call {k}"
         );
         assert_eq!(rt; opened(rt.alloc(), &mut disk)?.1.generation, 2, "call {k}");
