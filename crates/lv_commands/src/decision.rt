@@ -44,7 +44,8 @@ fn has_corner_taken(map: &Map, plan: &RoomPlan) -> bool
 
 // Whether a table has no room for what a room adds to it.
 fn lacks_room_for_room(map: &Map) -> bool
-    ensures { result ≡ (lacks_room map.now.tables.vertices 4 || lacks_sector_room map.now.tables.sectors 1
+    ensures { result ≡ (lacks_room map.now.tables.vertices 4
+        || lacks_sector_room map.now.tables.sectors 1
         || lacks_room map.now.tables.sides 4 || lacks_room map.now.tables.lines 4) }
 {
     lacks_room(map, Kind::Vertex, 4)

@@ -32,7 +32,8 @@ const LAST_SECTOR: u16 = 4095;
 
 // Whether the room has some width and some height.
 fn has_area(plan: &RoomPlan) -> bool
-    ensures { result ≡ (int_lt plan.now.west plan.now.east && int_lt plan.now.south plan.now.north) }
+    ensures { result ≡ (int_lt plan.now.west plan.now.east
+        && int_lt plan.now.south plan.now.north) }
 {
     plan.west < plan.east && plan.south < plan.north
 }

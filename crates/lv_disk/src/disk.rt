@@ -55,7 +55,8 @@ pub trait Disk {
             (Leads (Written at from.now) (reads self.old) (reads self.new)) }
         ensures failed { OnErr result
             (Follows (Failed at (length from.now)) (reads self.old) (reads self.new)) }
-        ensures leads_failed { OnErr result (Leads (Failed at (length from.now)) (reads self.old) (reads self.new)) }
+        ensures leads_failed { OnErr result
+            (Leads (Failed at (length from.now)) (reads self.old) (reads self.new)) }
         ensures images { Follows (Torn at (length from.now)) (may_leave self.old)
             (may_leave self.new) }
         ensures kept { Each (may_leave self.old) (may_leave self.new) }
@@ -96,7 +97,8 @@ pub fn write_through<D: Disk>(disk: &mut D, at: u64, from: &[u8]) -> Result<(), 
         (Leads (Written at from.now) (D.reads disk.old) (D.reads disk.new)) }
     ensures failed { OnErr result
         (Follows (Failed at (length from.now)) (D.reads disk.old) (D.reads disk.new)) }
-    ensures leads_failed { OnErr result (Leads (Failed at (length from.now)) (D.reads disk.old) (D.reads disk.new)) }
+    ensures leads_failed { OnErr result
+        (Leads (Failed at (length from.now)) (D.reads disk.old) (D.reads disk.new)) }
     ensures any_moment { LeavesOnly D.moment D.left_since disk.old disk.new
         (From (D.may_leave disk.old) (Torn at (length from.now))) }
     ensures count { Counted (D.failures disk.old) (D.failures disk.new) result }

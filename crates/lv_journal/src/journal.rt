@@ -143,7 +143,10 @@ impl Journal {
             (D.may_leave disk.new)) }
         ensures durable { OnOk result (Each (D.may_leave disk.new) (D.reads disk.new)) }
         ensures next { OnOk result (self.new
-            ≡ record self.old { next = self.old.next + 5 + length payload.now; must_reopen = false }) }
+            ≡ record self.old {
+              next = self.old.next + 5 + length payload.now;
+              must_reopen = false;
+            }) }
         ensures ready { IsReadyIn self.new (D.may_leave disk.new) }
 
         // A stop at any moment of the call leaves the records from before it, with the new one or without.
@@ -189,7 +192,8 @@ pub fn blank<D: Disk>(disk: &mut D, area: Area) -> Result<Journal, JournalError>
         (Follows (Failed area.base 1) (D.reads disk.old) (D.reads disk.new)) }
     ensures leads { OnOk result
         (Leads (Written area.base (0 ∷ [])) (D.reads disk.old) (D.reads disk.new)) }
-    ensures leads_failed { OnErr result (Leads (Failed area.base 1) (D.reads disk.old) (D.reads disk.new)) }
+    ensures leads_failed { OnErr result
+        (Leads (Failed area.base 1) (D.reads disk.old) (D.reads disk.new)) }
 
     // Each image stays one, so nothing is synced.
     ensures images { Follows (Torn area.base 1) (D.may_leave disk.old) (D.may_leave disk.new) }

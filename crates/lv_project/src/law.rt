@@ -25,9 +25,11 @@ pub fn exclude_one_another()
     ensures blank_damaged { (file : List ℕ) (place : ℕ) → IsBlank file → ¬ IsDamagedAt place file }
     ensures blank_bad { (file : List ℕ) → IsBlank file → ¬ HasBadGeometry file }
     ensures blank_foreign { (file : List ℕ) → IsBlank file → ¬ IsForeign file }
-    ensures damaged_once { (file : List ℕ) (p q : ℕ) → IsDamagedAt p file → IsDamagedAt q file → p ≡ q }
+    ensures damaged_once { (file : List ℕ) (p q : ℕ)
+        → IsDamagedAt p file → IsDamagedAt q file → p ≡ q }
     ensures damaged_bad { (file : List ℕ) (place : ℕ) → IsDamagedAt place file
         → ¬ HasBadGeometry file }
-    ensures damaged_foreign { (file : List ℕ) (place : ℕ) → IsDamagedAt place file → ¬ IsForeign file }
+    ensures damaged_foreign { (file : List ℕ) (place : ℕ)
+        → IsDamagedAt place file → ¬ IsForeign file }
     ensures bad_foreign { (file : List ℕ) → HasBadGeometry file → ¬ IsForeign file }
 {}

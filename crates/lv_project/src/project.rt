@@ -327,7 +327,8 @@ impl<D: Disk> Project<D> {
             (IsOutcome self.old.cap (project_of self.old.maps) line.now) }
 
         // A refusal but `Device` leaves the map alone.
-        ensures refused_moment { IfErr result (λ e. self.old.must_reopen ≡ false → (e ≡ ProjectError.Device)
+        ensures refused_moment { IfErr result (λ e. self.old.must_reopen ≡ false
+            → (e ≡ ProjectError.Device)
             ⊎ LeavesOnly D.moment D.left_since self.old.disk self.new.disk
             (StandsFor self.old.cap (project_of self.old.maps))) }
         ensures untouched { IfErr result (λ e. (e ≡ ProjectError.Device)

@@ -50,7 +50,8 @@ pub fn applies<D: Disk>(project: &mut Project<D>, line: &[u8]) -> Result<u32, Pr
 
 /// `Project::checkpoint`, likewise.
 pub fn checkpoints<D: Disk>(project: &mut Project<D>) -> Result<u64, ProjectError>
-    ensures { Checkpoints D.moment D.failures D.left_since D.may_leave project.old result project.new }
+    ensures { Checkpoints D.moment D.failures D.left_since D.may_leave
+        project.old result project.new }
 {
     project.checkpoint()
 }

@@ -131,7 +131,8 @@ impl Map {
 
     // Whether the map has the vertex: `NoVertex`.
     fn check_has_vertex(&self, n: u32) -> Result<(), MapError>
-        ensures { Tells result ((code_of MapError.NoVertex, lacks self.now.tables.vertices n) ∷ []) }
+        ensures { Tells result
+            ((code_of MapError.NoVertex, lacks self.now.tables.vertices n) ∷ []) }
     {
         if n as usize >= self.vertices.len() {
             return Err(MapError::NoVertex);
