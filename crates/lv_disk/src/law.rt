@@ -6,8 +6,9 @@ ghost use Rattle.lv_disk.specs.declared.memory.MemoryDisk.{MemoryDisk as Memory}
 
 use crate::{Disk, MemoryDisk};
 
-/// A disk in memory tells of itself what the disk model says: it reads as its file, a stop now may leave just the images
-/// of what it holds, one since some moment just those after as many calls or more, and it counts its own failures.
+/// A disk in memory tells of itself what the disk model says: it reads as its file, a stop now may leave just the
+/// images of what it holds, one since some moment just those after as many calls or more, and it counts its own
+/// failures.
 pub fn show_the_disk_model()
     ensures reads { (disk : Memory) (file : List ℕ)
         → ⟦<MemoryDisk as Disk>⟧.reads disk file ↔ (file ≡ (medium_of disk).file) }

@@ -126,8 +126,8 @@ pub fn answer<D: Disk, W: Write>(
     project.answer(alloc, front(line), writer)
 }
 
-/// Answers the lines that the reader gives over a project, in at most `turns` reads of at most 4,096 bytes, and says how
-/// many lines it answered. The writer is flushed after each turn.
+/// Answers the lines that the reader gives over a project, in at most `turns` reads of at most 4,096 bytes, and says
+/// how many lines it answered. The writer is flushed after each turn.
 ///
 /// After a line that was answered `no 30` each is answered `no 32`, queries too, until the file is opened again.
 ///

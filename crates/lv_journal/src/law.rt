@@ -17,8 +17,8 @@ pub fn stand_for_one_list()
         → IsJournal area ps file → ¬ IsDamagedAt area p file }
 {}
 
-/// What an area's bytes stand for depends on these bytes alone: a change outside the area leaves it, and where the first
-/// gate is closed they stand for no payload.
+/// What an area's bytes stand for depends on these bytes alone: a change outside the area leaves it, and where the
+/// first gate is closed they stand for no payload.
 pub fn stand_by_themselves()
     ensures kept { (area : Area) (payloads : List (List ℕ)) (at n : ℕ) (old new : List ℕ)
         → IsApart area at n → KeepsOutside at n old new

@@ -11,8 +11,8 @@ pub fn stand_for_one_map()
         × (g ≡ h) }
 {}
 
-/// The bytes of a file stand for a map, or no slot is open, or they are damaged at one place, or the geometry is outside its
-/// limits, or they are no project's: one of these at most.
+/// The bytes of a file stand for a map, or no slot is open, or they are damaged at one place, or the geometry is
+/// outside its limits, or they are no project's: one of these at most.
 pub fn exclude_one_another()
     ensures stands_blank { (file : List ℕ) (cap : ℕ) (map : ProjectMaps) (g : ℕ)
         → Stands cap map g file → ¬ IsBlank file }

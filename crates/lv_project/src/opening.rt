@@ -74,7 +74,8 @@ fn replay(maps: &mut Maps, journal: &Journal, cap: u32) -> Result<(), ProjectErr
     Ok(())
 }
 
-// The live journal. `Damaged` tells the least place of a gate at fault, be it the other journal's first that isn't there.
+// The live journal. `Damaged` tells the least place of a gate at fault, be it the other journal's first that isn't
+// there.
 fn open_journal<D: Disk>(alloc: Global, disk: &mut D, parts: Parts) -> Result<Journal, ProjectError>
     requires only { Each (D.may_leave disk.old) (D.reads disk.old) }
     ensures opened { IfOk result (λ j. j ≡ journal.opened parts.journal j.records) }

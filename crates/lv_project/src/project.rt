@@ -313,7 +313,8 @@ impl<D: Disk> Project<D> {
     ///
     /// After a `Device` the map is as before, and each call is answered `Reopen` until the file is opened again.
     pub fn apply(&mut self, line: &[u8]) -> Result<u32, ProjectError>
-        // `GenerationsSpent`, or `OutOfMemory` before it, where an accepted line finds neither room nor a generation left.
+        // `GenerationsSpent`, or `OutOfMemory` before it, where an accepted line finds neither room nor a generation
+        // left.
         ensures spent { self.old.must_reopen ≡ false → IsAbove self.old.room (length line.now)
             → self.old.generation ≡ 2 ^ 64 - 1 → (new : ProjectMaps)
             → LeadsTo self.old.cap (project_of self.old.maps) line.now new

@@ -13,9 +13,9 @@ use crate::{Geometry, Project, ProjectError, Refused};
 use lv_disk::Disk;
 use std::alloc::Global;
 
-/// After any list of commands, over any number of sessions, stopped before or within any disk write: each image stands for
-/// the map of a prefix of the accepted commands that holds every acknowledged one, and that is what `open` gives. The
-/// function has no body: its contract is the law.
+/// After any list of commands, over any number of sessions, stopped before or within any disk write: each image
+/// stands for the map of a prefix of the accepted commands that holds every acknowledged one, and that is what `open`
+/// gives. The function has no body: its contract is the law.
 pub fn hold_each_acknowledged<D: Disk>()
     ensures any_moment { (cap : ℕ) (before : List Session) (s : Session) (mid : State D)
         (last : State D)
@@ -30,7 +30,8 @@ pub fn hold_each_acknowledged<D: Disk>()
         → (first.cap ≡ cap) × KeepEach cap empty_project sessions (project_of first.maps)
         × LeavesOnly D.moment D.left_since disk first.disk (HoldsEach cap sessions) }
 
-    // An `open` is refused by a fault of the device or for want of memory alone, and the disk is then as good as before.
+    // An `open` is refused by a fault of the device or for want of memory alone, and the disk is then as good as
+    // before.
     ensures refused { (cap : ℕ) (sessions : List Session) (disk : D) (after : D)
         (error : ProjectError)
         → IsLeftBy D.moment D.failures D.left_since D.may_leave D.reads cap sessions disk

@@ -1,4 +1,5 @@
-//! Exact geometry of a map's lines: points, offsets and angles, and the laws of the pieces into which a tree divides them.
+//! Exact geometry of a map's lines: points, offsets and angles, and the laws of the pieces into which a tree divides
+//! them.
 #![tactic(auto)]
 
 mod angle;

@@ -62,8 +62,8 @@ fn turned<D: Disk>(
     filled.open_other(disk)
 }
 
-/// A file of two slots and the first bytes of two journals, all of it on the device: slot A is live with `OLD`, and both
-/// journals begin with a 7.
+/// A file of two slots and the first bytes of two journals, all of it on the device: slot A is live with `OLD`, and
+/// both journals begin with a 7.
 pub fn disk_with_old(alloc: Global) -> Result<MemoryDisk, Fail> {
     let mut disk = MemoryDisk::new(alloc, 1024, 4096)?;
     first(&mut disk, A, B, OLD)?;
@@ -288,8 +288,8 @@ fn closes_an_open_slot_first(rt: HostRuntime) -> Result<(), Fail> {
     )
 }
 
-// What a stop leaves of a change whose k-th device call fails, none where `k` is 0: the old body or the new one is live.
-// Before it came so many changes.
+// What a stop leaves of a change whose k-th device call fails, none where `k` is 0: the old body or the new one is
+// live. Before it came so many changes.
 fn expect_outcomes(
     rt: &impl Abort,
     alloc: Global,
@@ -328,8 +328,8 @@ fn expect_outcomes(
     expect_either(rt, alloc, &mut disk, turns, done)
 }
 
-// The old body is live, or the new one with the next generation; where the change was done, the new one. The next change
-// goes on from there.
+// The old body is live, or the new one with the next generation; where the change was done, the new one. The next
+// change goes on from there.
 fn expect_either<D: Disk>(
     rt: &impl Abort,
     alloc: Global,

@@ -263,7 +263,8 @@ fn five_calls<D: Disk>(disk: &mut D) -> [bool; 5] {
 
 #[test]
 fn makes_one_inner_call_for_each(rt: HostRuntime) -> Result<(), Fail> {
-    // The call that fails, the bytes that it puts down, the call of the disk inside that fails, and the calls that then do.
+    // The call that fails, the bytes that it puts down, the call of the disk inside that fails, and the calls that
+    // then do.
     for (k, part, inside, failed) in [
         (0, 0, 1, [true, false, false, false, false]),
         (0, 0, 2, [false, true, false, false, false]),

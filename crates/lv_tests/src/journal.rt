@@ -275,7 +275,8 @@ fn makes_four_device_calls(rt: HostRuntime) -> Result<(), Fail> {
 
 #[test]
 fn opens_by_its_reads_alone(rt: HostRuntime) -> Result<(), Fail> {
-    // The length, for the one record its gate, its length and its payload, and the last gate, behind the test's own sync.
+    // The length, for the one record its gate, its length and its payload, and the last gate, behind the test's own
+    // sync.
     let disk = disk_with(rt.alloc(), b"\xa5\x01\0\0\0a\0")?;
     let mut disk = FaultDisk::new(disk, 7, 0);
     assert!(rt; holds(&opened(rt.alloc(), &mut disk)?, &[b"a"]));
