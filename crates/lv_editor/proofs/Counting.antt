@@ -1,6 +1,6 @@
 -- From the levels that a PWAD holds to the counts that are told.
-use Rattle.std.proofs.Common.{◌≡◌, ◌∙◌, ◌+◌, ◌<◌, ℕ, List, Option, Some, None, Result, Ok, Err, IfOk, length, get_or, take, refl, sym, ap, subst, inl, inr}
-use Rattle.std.specs.Prelude.{slice_get, sum_by}
+use Rattle.std.proofs.Common.{◌≡◌, ◌∙◌, ◌+◌, ◌<◌, ℕ, List, Option, Some, None, Result, Ok, Err, IfOk, length, get_or, take, refl, sym, ap, subst}
+use Rattle.std.specs.Prelude.{MatchResult, slice_get, sum_by}
 use Rattle.std.specs.Io.KnownBytes.{Appends}
 use Rattle.std.proofs.lemmas.List.Sums.{sum_by_more}
 use Rattle.std.proofs.lemmas.Option.{slice_get-get_or}
@@ -9,10 +9,12 @@ use Rattle.lv_maptables.specs.Projects.{MapsView, project_of}
 use Rattle.lv_maptables.specs.Tables.{Tables, empty_tables}
 use Rattle.lv_pwad.specs.Levels.{IsLevel, Lumps, lumps_behind, marker_at}
 use Rattle.lv_pwad.specs.declared.error.BuildError.{BuildError}
-use Rattle.lv_editor.specs.Building.{CountsLevels, CountsMore, IsBuiltInto, IsCounted, built_text, level_of}
-use Rattle.lv_editor.specs.Request.{status_in}
+use Rattle.lv_editor.specs.Building.{CountsLevels, CountsMore, IsCounted, built_text, level_of}
+use Rattle.lv_editor.specs.Deeds.{IsBuiltInto, NotBuilt}
 use Rattle.lv_editor.specs.declared.building.Counts.{Counts}
+use Rattle.lv_editor.specs.declared.error.EditorError.TheVariants.{WriterFailed}
 use Rattle.lv_editor.specs.declared.refusal.Refusal.{Refusal}
+use Rattle.lv_editor.specs.declared.refusal.Refusal.TheVariants.{Lines}
 
 -- one level alone stands under a name
 pub level_named : (m : Tables) (wad name : List ℕ) (l : Lumps) → name ≡ name_text m.name → IsLevel wad name l → l ≡ level_of wad m
@@ -48,6 +50,6 @@ counts_more ms n wad old new within before each =
     }
 
 pub built_told : (r : Result ℕ Refusal) (maps : MapsView) (wad : List ℕ) (c : Counts) (u w : Option (List ℕ)) → IsCounted (project_of maps).maps wad c
-    → IfOk r (λ status. (status ≡ 0) × Appends u w (built_text c)) → IsBuiltInto (status_in r) u w
-built_told (Ok status) maps wad c u w is (done, told) = inl (maps, wad, c, done, is, told)
-built_told (Err e) maps wad c u w is told = inr refl
+    → MatchResult r (λ status. (status ≡ 0) × Appends u w (built_text c)) (λ refusal. refusal ≡ Lines WriterFailed) → IsBuiltInto r u w
+built_told (Ok status) maps wad c u w is (done, told) = (maps, wad, c, done, is, told)
+built_told (Err refusal) maps wad c u w is same = subst (λ (why : Refusal). NotBuilt why u w) (sym same) refl

@@ -1,5 +1,5 @@
 -- From what was read, audited and written of a level to what an inspection tells.
-use Rattle.std.proofs.Common.{◌≡◌, ◌++◌, ℕ, Bool, true, List, Option, Some, None, Result, Ok, Err, MatchResult, IfOk, is_none, length, refl, subst, inl, ◌∙◌, ap, append_assoc}
+use Rattle.std.proofs.Common.{◌≡◌, ◌++◌, ℕ, Bool, true, List, Option, Some, None, Result, Ok, Err, MatchResult, IfOk, is_none, length, refl, subst, ◌∙◌, ap, append_assoc}
 use Rattle.std.specs.Prelude.{◌↔◌}
 use Rattle.std.specs.Io.KnownBytes.{Appends, Keeps}
 use Rattle.lv_pwad.specs.Audit.{first_fault}
@@ -7,7 +7,7 @@ use Rattle.lv_pwad.specs.Levels.{IsLevel, Lumps}
 use Rattle.lv_pwad.specs.Range.{InRange}
 use Rattle.lv_pwad.specs.declared.fault.Fault.{Fault}
 use Rattle.lv_editor.specs.Inspections.{IsInspected, back_text, front_text, lengths_text, verdict_text}
-use Rattle.lv_editor.specs.Request.{IsExamined, status_told}
+use Rattle.lv_editor.specs.Deeds.{IsExamined, status_told}
 use Rattle.lv_editor.specs.declared.error.InspectError.{InspectError}
 use Rattle.lv_editor.specs.declared.error.InspectError.TheVariants.{WriterFailed}
 
@@ -69,16 +69,15 @@ kept_on (Some u) (Some w) None text written kept = absurd kept
 kept_on (Some u) (Some w) (Some x) text written kept = kept ∙ written
 
 pub examined : (wad name : List ℕ) (sound : Bool) (status : ℕ) (u w x : Option (List ℕ)) → status ≡ status_told sound
-    → IsInspected wad name sound u w → Keeps w x → IsExamined name status u x
-examined wad name sound status u w x is done kept =
-    inl (
-      wad,
-      sound,
-      is,
-      record {
-        level = done.level;
-        read = done.read;
-        written = kept_on u w x _ done.written kept;
-        is = done.is;
-      },
-    )
+    → IsInspected wad name sound u w → Keeps w x → IsExamined name (Ok status) u x
+examined wad name sound status u w x is done kept = (
+  wad,
+  sound,
+  is,
+  record {
+    level = done.level;
+    read = done.read;
+    written = kept_on u w x _ done.written kept;
+    is = done.is;
+  },
+)

@@ -1,8 +1,7 @@
 -- What a build writes and tells (docs/COMMANDS.md, "The program"): a PWAD, and how long the lists of its levels are.
-use Rattle.std.specs.Prelude.{◌≡◌, ◌⊎◌, ◌+◌, ◌++◌, ℕ, List, [], ◌∷◌, All, length, sum_by, Option, codes, decimal}
+use Rattle.std.specs.Prelude.{◌≡◌, ◌+◌, ◌++◌, ℕ, List, [], ◌∷◌, All, length, sum_by, Option, codes, decimal}
 use Rattle.std.specs.Io.KnownBytes.{Appends, Keeps}
 use Rattle.lv_lumps.specs.Names.{name_text}
-use Rattle.lv_maptables.specs.Projects.{MapsView, project_of}
 use Rattle.lv_maptables.specs.Tables.{Tables}
 use Rattle.lv_pwad.specs.Levels.{Lumps, lumps_behind, marker_at}
 use Rattle.lv_pwad.specs.Projects.{IsRefusalOfAll, IsSoundBuildOfAll}
@@ -50,9 +49,3 @@ abbrev pub built_text : Counts → List ℕ
 built_text c =
     codes "built vertices " ++ decimal c.vertices ++ codes " segs " ++ decimal c.segs ++ codes " subsectors "
     ++ decimal c.subs ++ codes " nodes " ++ decimal c.nodes ++ codes " bytes " ++ decimal c.bytes ++ 10 ∷ []
-
--- the counts of a sound build of some project's maps were told, or it was refused
-abbrev pub IsBuiltInto : ℕ → Option (List ℕ) → Option (List ℕ) → Type 0
-IsBuiltInto status writer-old writer-new =
-    ((maps : MapsView) × (wad : List ℕ) × (c : Counts) × (status ≡ 0) × IsCounted (project_of maps).maps wad c
-    × Appends writer-old writer-new (built_text c)) ⊎ (status ≡ 1)

@@ -1,5 +1,6 @@
 pub mod Answers
 pub mod Building
+pub mod Deeds
 pub mod Editing
 pub mod Errors
 pub mod Inspections

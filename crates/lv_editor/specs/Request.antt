@@ -1,7 +1,6 @@
 -- What the words of the program ask for (docs/COMMANDS.md, "The program"): the command line is clap's, in clap's words.
-use Rattle.std.specs.Prelude.{◌≡◌, ◌≤◌, ◌⊎◌, ℕ, Bool, pos, Option, Some, None, Result, Ok, Err, List, [], ◌∷◌, ◌++◌, codes, string_bytes, true, false, IsSomeAnd, length, nat_eq, if◌then◌else◌}
+use Rattle.std.specs.Prelude.{◌≡◌, ◌≤◌, ◌⊎◌, ℕ, pos, Some, None, List, [], ◌∷◌, codes, string_bytes, true, false, IsSomeAnd}
 use Rattle.std.specs.Str.Parse.{IsNumeral, digits_value, without_leading_plus}
-use Rattle.std.specs.Io.KnownBytes.{Appends, Keeps}
 use Rattle.clap.specs.Words.{App, HasKind, Rule, app_of, fault_of, first_of, Row, Text, new_app, new_rule, one_of, rule_of, subcommand_of, takes, with_rule, with_subcommand}
 use Rattle.clap.specs.Simple.{on_top}
 use Rattle.clap.specs.declared.builder.arg.Arg.{Arg}
@@ -10,22 +9,9 @@ use Rattle.clap.specs.declared.builder.command.Command.TheViews.{out-Command}
 use Rattle.clap.specs.declared.builder.value_parser.ValueParser.TheVariants as vp
 use Rattle.clap.specs.Values.{kind_of}
 use Rattle.clap.specs.declared.error.kind.ErrorKind.TheVariants.{OutOfMemory}
-use Rattle.lv_maptables.specs.Projects.{ProjectMaps, empty_project}
-use Rattle.lv_maptables.specs.Tables.{Tables}
-use Rattle.lv_checks.specs.Findings.{findings}
-use Rattle.lv_project.specs.States.{State}
-use Rattle.lv_editor.specs.Answers.{RepliesInMemory}
-use Rattle.lv_editor.specs.Building.{IsBuiltInto}
-use Rattle.lv_editor.specs.Editing.{RepliesInProject}
-use Rattle.lv_editor.specs.Inspections.{IsInspected}
-use Rattle.lv_editor.specs.Runs.{Exchange, Ran}
-use Rattle.lv_editor.specs.Sessions.{RunsOver}
-use Rattle.lv_editor.specs.Texts.{findings_text}
-use Rattle.lv_editor.specs.declared.error.EditorError.{EditorError}
 use Rattle.lv_editor.specs.declared.asked.Request.{Request}
 use Rattle.lv_editor.specs.declared.asked.RequestError.{RequestError}
 use Rattle.lv_editor.specs.declared.asked.RequestError.TheVariants.{Words, Number, Memory}
-use Rattle.lv_editor.specs.declared.refusal.Refusal.{Refusal}
 use Rattle.lv_editor.specs.declared.asked.Request.TheVariants.{Scratch, Create, Edit, Check, Inspect, Build}
 
 -- ---- The command line
@@ -159,79 +145,3 @@ IsRefusal words (Words error) =
     HasKind (fault_of leveled_app words) error × (takes leveled_app words ≡ true → kind_of error ≡ OutOfMemory)
 IsRefusal words Number = IsSomeAnd (subcommand_of leveled_app words) LacksValue
 IsRefusal words Memory = Unit {0}
-
--- ---- What was done
-
--- the length of the longest body of one map, in bytes: what the maps in memory have room for
-abbrev pub longest_body : ℕ
-longest_body = 2007002
-
--- how many reads a run of the program makes at most
-abbrev pub turns : ℕ
-turns = 1048576
-
--- the status of a run: 0 where all lines were answered, 1 where it was refused
-abbrev pub status_of : Result ℕ EditorError → ℕ
-status_of (Ok n) = 0
-status_of (Err e) = 1
-
--- the status where it is done, and 1 where it is refused
-abbrev pub status_in : Result ℕ Refusal → ℕ
-status_in (Ok status) = status
-status_in (Err refusal) = 1
-
--- the lines of the input were answered over the empty project, and the answers written
-abbrev pub IsScratched : ℕ → Option (List ℕ) → Option (List ℕ) → Option (List ℕ) → Option (List ℕ) → Type 0
-IsScratched status reader-old reader-new writer-old writer-new =
-    (result : Result ℕ EditorError) × (last : ProjectMaps) × (trace : List (Exchange ProjectMaps)) × (status ≡ status_of result)
-    × Ran (RepliesInMemory longest_body) empty_project last trace turns result reader-old reader-new writer-old writer-new
-
--- the status after so many findings
-abbrev pub status_after : ℕ → ℕ
-status_after found = if nat_eq found 0 then 0 else 3
-
--- the status that tells whether a level is sound
-abbrev pub status_told : Bool → ℕ
-status_told sound = if sound then 0 else 3
-
--- `created` was written, or it was refused
-abbrev pub IsCreated : ℕ → Option (List ℕ) → Option (List ℕ) → Type 0
-IsCreated status writer-old writer-new = ((status ≡ 0) × Appends writer-old writer-new (codes "created" ++ 10 ∷ [])) ⊎ (status ≡ 1)
-
--- no project was opened and nothing written, or the lines of the input were answered over one, and the answers written
-abbrev pub IsEdited : {D : Type 0} → (D → ℕ) → (D → ℕ) → (D → ℕ → List ℕ → Type 0) → (D → List ℕ → Type 0) → ℕ
-    → Option (List ℕ) → Option (List ℕ) → Option (List ℕ) → Option (List ℕ) → Type 0
-IsEdited {D = D} moment failures left_since may_leave status reader-old reader-new writer-old writer-new =
-    ((status ≡ 1) × Keeps reader-old reader-new × Keeps writer-old writer-new)
-    ⊎ ((result : Result ℕ EditorError) × (first : State D) × (last : State D) × (trace : List (Exchange (State D)))
-    × (first.must_reopen ≡ false) × (status ≡ status_of result)
-    × Ran (RepliesInProject moment failures left_since may_leave) first last trace turns result reader-old reader-new writer-old writer-new
-    × RunsOver moment failures left_since may_leave first last trace)
-
--- the findings of a map were written, and the status tells whether there are any; or it was refused
-abbrev pub IsChecked : ℕ → Option (List ℕ) → Option (List ℕ) → Type 0
-IsChecked status writer-old writer-new =
-    ((m : Tables) × (status ≡ status_after (length (findings m))) × Appends writer-old writer-new (findings_text (findings m)))
-    ⊎ (status ≡ 1)
-
--- the level of the name in what was read of a WAD was inspected, and the status tells whether it is sound; or it was refused
-abbrev pub IsExamined : List ℕ → ℕ → Option (List ℕ) → Option (List ℕ) → Type 0
-IsExamined name status writer-old writer-new =
-    ((wad : List ℕ) × (sound : Bool) × (status ≡ status_told sound) × IsInspected wad name sound writer-old writer-new)
-    ⊎ (status ≡ 1)
-
--- what was done for a request with this status
-abbrev pub IsPerformed : {D : Type 0} → (D → ℕ) → (D → ℕ) → (D → ℕ → List ℕ → Type 0) → (D → List ℕ → Type 0) → Request → ℕ
-    → Option (List ℕ) → Option (List ℕ) → Option (List ℕ) → Option (List ℕ) → Type 0
-IsPerformed moment failures left_since may_leave Scratch status reader-old reader-new writer-old writer-new =
-    IsScratched status reader-old reader-new writer-old writer-new
-IsPerformed moment failures left_since may_leave (Create file slot journal) status reader-old reader-new writer-old writer-new =
-    IsCreated status writer-old writer-new
-IsPerformed moment failures left_since may_leave (Edit file) status reader-old reader-new writer-old writer-new =
-    IsEdited moment failures left_since may_leave status reader-old reader-new writer-old writer-new
-IsPerformed moment failures left_since may_leave (Check file) status reader-old reader-new writer-old writer-new =
-    IsChecked status writer-old writer-new
-IsPerformed moment failures left_since may_leave (Inspect wad name) status reader-old reader-new writer-old writer-new =
-    IsExamined (string_bytes name) status writer-old writer-new
-IsPerformed moment failures left_since may_leave (Build file out) status reader-old reader-new writer-old writer-new =
-    IsBuiltInto status writer-old writer-new

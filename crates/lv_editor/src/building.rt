@@ -7,8 +7,8 @@ ghost use Rattle.lv_pwad.specs.Sound.{IsBuildable};
 ghost use Rattle.lv_pwad.specs.Views.{view};
 ghost use Rattle.lv_pwad.specs.declared.error.BuildError.TheVariants.{NothingToBuild};
 ghost use Rattle.lv_editor.specs.declared.error.EditorError.TheVariants.{WriterFailed};
-ghost use Rattle.lv_editor.specs.Building.{CountsLevels, CountsMore, IsBuiltInto, IsCounted, IsWritten, RefusesWriting, built_text, level_of};
-ghost use Rattle.lv_editor.specs.Request.{status_in};
+ghost use Rattle.lv_editor.specs.Building.{CountsLevels, CountsMore, IsCounted, IsWritten, RefusesWriting, built_text, level_of};
+ghost use Rattle.lv_editor.specs.Deeds.{IsBuiltInto, RefusesFile};
 
 use crate::error::{EditorError, WriteError};
 use crate::refusal::Refusal;
@@ -189,8 +189,9 @@ fn build_into<F: Write + OpenFile>(
     maps: &Maps,
     file: &mut F,
 ) -> Result<Counts, Refusal>
-    ensures { IfOk result
+    ensures written { IfOk result
         (λ counts. (wad : List ℕ) × IsCounted (project_of maps.now).maps wad counts) }
+    ensures refused { IfErr result (RefusesFile (project_of maps.now).maps) }
 {
     let counts = match write_wad(alloc, maps, file) {
         Ok(counts) => counts,
@@ -209,8 +210,9 @@ fn build_into<F: Write + OpenFile>(
 
 // Tells what a build made, and hands it on.
 fn tell_built<W: Write>(counts: Counts, writer: &mut W) -> Result<u8, Refusal>
-    ensures told { IfOk result (λ status. (status ≡ 0)
-        × Appends (W.contents writer.old) (W.contents writer.new) (built_text counts)) }
+    ensures told { MatchResult result (λ status. (status ≡ 0)
+        × Appends (W.contents writer.old) (W.contents writer.new) (built_text counts))
+        (λ refusal. refusal ≡ Refusal.Lines WriterFailed) }
     ensures small { IfOk result (λ s. s ≤ 3) }
 {
     match write_counts(counts, writer) {
@@ -252,7 +254,7 @@ pub fn build<E: Files, D: Disk + Drop, W: Write>(
 where
     E::File: FileExt,
     ensures small { IfOk result (λ s. s ≤ 3) }
-    ensures built { IsBuiltInto (status_in result) (W.contents writer.old) (W.contents writer.new) }
+    ensures built { IsBuiltInto result (W.contents writer.old) (W.contents writer.new) }
 {
     let project = match Project::open(alloc, disk) {
         Ok(project) => project,

@@ -1,7 +1,7 @@
 ghost use Rattle.std.specs.Prelude.{◌≡◌, ◌≤◌, IfErr, IfOk, MatchResult};
 ghost use Rattle.std.specs.Io.KnownBytes.{Appends, Consumes, IsAtEnd, Keeps};
 ghost use Rattle.lv_editor.specs.Inspections.{EndsReading};
-ghost use Rattle.lv_editor.specs.Request.{IsExamined, status_in, status_told};
+ghost use Rattle.lv_editor.specs.Deeds.{IsExamined, status_told};
 
 use crate::error::EditorError;
 use crate::inspection::inspect;
@@ -50,7 +50,7 @@ fn examine_read<R: Read, W: Write>(
     writer: &mut W,
 ) -> Result<u8, Refusal>
     ensures small { IfOk result (λ s. s ≤ 3) }
-    ensures examined { IsExamined name.now (status_in result)
+    ensures examined { IsExamined name.now result
         (W.contents writer.old) (W.contents writer.new) }
 {
     let wad = match read_whole(alloc, reader, turns) {
@@ -77,7 +77,7 @@ pub fn examine<E: Files, W: Write>(
     writer: &mut W,
 ) -> Result<u8, Refusal>
     ensures small { IfOk result (λ s. s ≤ 3) }
-    ensures examined { IsExamined name.now (status_in result)
+    ensures examined { IsExamined name.now result
         (W.contents writer.old) (W.contents writer.new) }
 {
     match fs::open(rt, path) {

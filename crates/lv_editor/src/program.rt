@@ -1,8 +1,10 @@
-ghost use Rattle.std.specs.Prelude.{◌≡◌, ◌≤◌, IfOk, length};
+ghost use Rattle.std.specs.Prelude.{◌≡◌, ◌≤◌, ℕ, IfErr, IfOk, Result, length};
 ghost use Rattle.std.specs.Io.KnownBytes.{Appends, Keeps};
 ghost use Rattle.lv_checks.specs.Findings.{findings};
 ghost use Rattle.lv_editor.specs.Texts.{findings_text};
-ghost use Rattle.lv_editor.specs.Request.{IsChecked, IsCreated, IsEdited, IsPerformed, IsScratched, status_after, status_in, status_of};
+ghost use Rattle.lv_editor.specs.Deeds.{IsChecked, IsCreated, IsEdited, IsPerformed, IsScratched, NotChecked, ended, status_after, status_in};
+ghost use Rattle.lv_editor.specs.declared.error.EditorError.TheVariants.{WriterFailed};
+ghost use Rattle.lv_editor.specs.declared.refusal.Refusal.{Refusal};
 
 use crate::asked::Request;
 use crate::building::build;
@@ -29,7 +31,7 @@ const FOUND: u8 = 3;
 
 // The status after a run.
 fn ended(run: Result<u64, EditorError>) -> Result<u8, Refusal>
-    ensures status { status_in result ≡ status_of run }
+    ensures ended { result ≡ ended run }
     ensures small { IfOk result (λ s. s ≤ 3) }
 {
     match run {
@@ -41,8 +43,7 @@ fn ended(run: Result<u64, EditorError>) -> Result<u8, Refusal>
 // Answers the lines of the input over maps in memory.
 fn scratch<R: Read, W: Write>(alloc: Global, reader: &mut R, writer: &mut W) -> Result<u8, Refusal>
     ensures small { IfOk result (λ s. s ≤ 3) }
-    ensures answered { IsScratched (status_in result) (R.remaining reader.old)
-        (R.remaining reader.new)
+    ensures answered { IsScratched result (R.remaining reader.old) (R.remaining reader.new)
         (W.contents writer.old) (W.contents writer.new) }
 {
     ended(run_in_memory(alloc, reader, writer, TURNS))
@@ -50,7 +51,9 @@ fn scratch<R: Read, W: Write>(alloc: Global, reader: &mut R, writer: &mut W) -> 
 
 // Writes a text and hands it on.
 fn say<W: Write>(text: &[u8], writer: &mut W) -> Result<(), Refusal>
-    ensures { IfOk result (λ _. Appends (W.contents writer.old) (W.contents writer.new) text.now) }
+    ensures said { IfOk result (λ _.
+        Appends (W.contents writer.old) (W.contents writer.new) text.now) }
+    ensures failed { IfErr result (λ r. r ≡ Refusal.Lines WriterFailed) }
 {
     let written = match writer.write_all(text) {
         Ok(()) => writer.flush(),
@@ -70,7 +73,8 @@ fn create<D: Disk + Drop, W: Write>(
     writer: &mut W,
 ) -> Result<u8, Refusal>
     ensures small { IfOk result (λ s. s ≤ 3) }
-    ensures created { IsCreated (status_in result) (W.contents writer.old) (W.contents writer.new) }
+    ensures created { IsCreated geometry.slot geometry.journal result
+        (W.contents writer.old) (W.contents writer.new) }
 {
     match Project::create(alloc, disk, geometry) {
         Ok(_) => match say(b"created\n", writer) {
@@ -89,7 +93,7 @@ fn edit<D: Disk + Drop, R: Read, W: Write>(
     writer: &mut W,
 ) -> Result<u8, Refusal>
     ensures small { IfOk result (λ s. s ≤ 3) }
-    ensures answered { IsEdited D.moment D.failures D.left_since D.may_leave (status_in result)
+    ensures answered { IsEdited D.moment D.failures D.left_since D.may_leave result
         (R.remaining reader.old) (R.remaining reader.new)
         (W.contents writer.old) (W.contents writer.new) }
 {
@@ -105,6 +109,8 @@ fn tell<W: Write>(alloc: Global, map: &Map, writer: &mut W) -> Result<u32, Refus
     ensures number { IfOk result (λ n. n ≡ length (findings map.now.tables)) }
     ensures written { IfOk result (λ _. Appends (W.contents writer.old) (W.contents writer.new)
         (findings_text (findings map.now.tables))) }
+    ensures refused { IfErr result (λ r.
+        NotChecked r (W.contents writer.old) (W.contents writer.new)) }
 {
     let found = match write_findings(alloc, map, writer) {
         Ok(found) => found,
@@ -127,7 +133,7 @@ fn status_for(found: u32) -> u8
 // Says what is wrong or unfinished in the current map of a disk's project.
 fn check<D: Disk + Drop, W: Write>(alloc: Global, disk: D, writer: &mut W) -> Result<u8, Refusal>
     ensures small { IfOk result (λ s. s ≤ 3) }
-    ensures found { IsChecked (status_in result) (W.contents writer.old) (W.contents writer.new) }
+    ensures found { IsChecked result (W.contents writer.old) (W.contents writer.new) }
 {
     let project = match Project::open(alloc, disk) {
         Ok(project) => project,
@@ -140,7 +146,9 @@ fn check<D: Disk + Drop, W: Write>(alloc: Global, disk: D, writer: &mut W) -> Re
 }
 
 // The file of a request. With `new` one is made where there is none.
-fn file_at<E: Files>(rt: &E, path: &str, new: bool) -> Result<FileDisk<E::File>, Refusal> {
+fn file_at<E: Files>(rt: &E, path: &str, new: bool) -> Result<FileDisk<E::File>, Refusal>
+    ensures { IfErr result (λ r. r ≡ Refusal.Project ProjectError.Device) }
+{
     match FileDisk::open(rt, path, new) {
         Ok(disk) => Ok(disk),
         Err(_) => Err(Refusal::Project(ProjectError::Device)),
@@ -157,7 +165,7 @@ where
     ensures performed { IsPerformed ⟦<FileDisk<E::File> as Disk>⟧.moment
         ⟦<FileDisk<E::File> as Disk>⟧.failures
         ⟦<FileDisk<E::File> as Disk>⟧.left_since ⟦<FileDisk<E::File> as Disk>⟧.may_leave
-        request.now (status_in result) (R.remaining reader.old) (R.remaining reader.new)
+        request.now result (R.remaining reader.old) (R.remaining reader.new)
         (W.contents writer.old) (W.contents writer.new) }
     ensures small { IfOk result (λ s. s ≤ 3) }
 {
@@ -212,10 +220,11 @@ where
     W: Write,
     F: Write,
     ensures status { result ≤ 3 }
-    ensures performed { IsPerformed ⟦<FileDisk<E::File> as Disk>⟧.moment
+    ensures performed { (how : Result ℕ Refusal) × (result ≡ status_in how)
+        × IsPerformed ⟦<FileDisk<E::File> as Disk>⟧.moment
         ⟦<FileDisk<E::File> as Disk>⟧.failures
         ⟦<FileDisk<E::File> as Disk>⟧.left_since ⟦<FileDisk<E::File> as Disk>⟧.may_leave
-        request.now result (R.remaining reader.old) (R.remaining reader.new)
+        request.now how (R.remaining reader.old) (R.remaining reader.new)
         (W.contents writer.old) (W.contents writer.new) }
     ensures quiet { ¬ (result ≡ 1) → Keeps (F.contents faults.old) (F.contents faults.new) }
 {

@@ -3,8 +3,8 @@ use Rattle.lv_editor.proofs.building.build.Goals as goal
 
 pub returns-in-Ok-build_into-clause-built : goal.returns-in-Ok-build_into-clause-built
 returns-in-Ok-build_into-clause-built g c =
-    built_told c.tell_built.result c.maps.result.now c.in-Ok-build_into.ensures.0 c.in-Ok-build_into.counts (g.W.Write.contents c.args.writer.now)
-    (g.W.Write.contents c.tell_built.new.writer) c.in-Ok-build_into.ensures.1 c.tell_built.ensures.told
+    built_told c.tell_built.result c.maps.result.now c.in-Ok-build_into.ensures.written.0 c.in-Ok-build_into.counts (g.W.Write.contents c.args.writer.now)
+    (g.W.Write.contents c.tell_built.new.writer) c.in-Ok-build_into.ensures.written.1 c.tell_built.ensures.told
 
 pub returns-in-Ok-build_into-clause-small : goal.returns-in-Ok-build_into-clause-small
 returns-in-Ok-build_into-clause-small g c = c.tell_built.ensures.small

@@ -1,9 +1,12 @@
 use Rattle.std.proofs.Common.{List, ℕ, subst}
-use Rattle.lv_editor.specs.Request.{IsExamined, status_in}
+use Rattle.std.proofs.KnownBytes.{Keeps-refl}
+use Rattle.lv_editor.specs.Deeds.{IsExamined}
 use Rattle.lv_editor.proofs.program.done.Goals as goal
 
 pub returns-in-Inspect-clause-performed : goal.returns-in-Inspect-clause-performed
 returns-in-Inspect-clause-performed g c =
-    rw c.in-Inspect.is
-    (subst (λ (name : List ℕ). IsExamined name (status_in c.examine.result) (g.W.Write.contents c.args.writer.now) (g.W.Write.contents c.examine.new.writer))
-    c.as_str-in-Inspect-2.ensures.value c.examine.ensures.examined)
+    rw c.in-Inspect.is (
+      subst (λ (name : List ℕ). IsExamined name c.examine.result (g.W.Write.contents c.args.writer.now) (g.W.Write.contents c.examine.new.writer))
+          c.as_str-in-Inspect-2.ensures.value c.examine.ensures.examined,
+      Keeps-refl (g.R.Read.remaining c.args.reader.now),
+    )
