@@ -1,5 +1,5 @@
 -- What a write leaves of a gate.
-use Rattle.std.proofs.Common.{◌≡◌, ◌<◌, ℕ, List, [], ◌∷◌, length, sym, ◌∙◌, arith}
+use Rattle.std.proofs.Common.{ℕ, List, [], ◌∷◌, sym, ◌∙◌, arith}
 use Rattle.lv_disk.specs.Files.{HasAt, Outside, KeepsOutside, Written}
 use Rattle.lv_disk.specs.Gates.{IsClosedAt}
 use Rattle.lv_disk.proofs.Bytes.{one_has}

@@ -2,7 +2,7 @@
 use Rattle.std.proofs.Common.{◌≤◌, ℕ, List, length, arith}
 use Rattle.std.proofs.lemmas.List.{get_or_past}
 use Rattle.lv_disk.specs.Files.{Failed, Torn, Written}
-use Rattle.lv_disk.specs.Stops.{Follows, Leads, Elapses}
+use Rattle.lv_disk.specs.Stops.{Follows, Leads}
 use Rattle.lv_disk.proofs.Bytes.{keeps_wider, torn_itself, written_torn}
 
 pub torn_wider : (at m n : ℕ) (old new : List ℕ) → m ≤ n → Torn at m old new → Torn at n old new

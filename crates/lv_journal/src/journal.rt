@@ -19,13 +19,24 @@ use std::alloc::Global;
 use std::marker::Model;
 
 /// The records of an area of a disk.
-#[derive(Drop)]
 pub struct Journal {
     area: Area,
     // Where in the area the next gate stands.
     next: u32,
     must_reopen: bool,
     records: Option<Vec<Vec<u8>>>,
+}
+
+// A call of its own, so that who owns a journal lets its records go by one step.
+impl Drop for Journal {
+    fn drop(self) {
+        let Journal {
+            area: _,
+            next: _,
+            must_reopen: _,
+            records: _records,
+        } = self;
+    }
 }
 
 impl Model for Journal {

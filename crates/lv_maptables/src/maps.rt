@@ -20,11 +20,21 @@ pub const MAP_LIMIT: usize = 32;
 
 /// The maps of a project: 1 to 32 maps with different names. A map's number is its place among them, and
 /// one of them is current: edits are of that map.
-#[derive(Drop)]
 pub struct Maps {
     map: Map,
     number: usize,
     others: ArrayVec<Map, MAP_LIMIT, Global>,
+}
+
+// A call of its own, so that who owns maps lets 32 places go by one step.
+impl Drop for Maps {
+    fn drop(self) {
+        let Maps {
+            map: _map,
+            number: _,
+            others: _others,
+        } = self;
+    }
 }
 
 impl Model for Maps {

@@ -22,7 +22,6 @@ use std::alloc::Global;
 use std::marker::Model;
 
 /// The maps of a project on a disk. It owns the disk until `into_disk`.
-#[derive(Drop)]
 pub struct Project<D: Disk> {
     alloc: Global,
     disk: D,
@@ -32,6 +31,22 @@ pub struct Project<D: Disk> {
     journal: Journal,
     maps: Maps,
     must_reopen: bool,
+}
+
+// A call of its own, so that who owns a project lets its parts go by one step.
+impl<D: Disk + Drop> Drop for Project<D> {
+    fn drop(self) {
+        let Project {
+            alloc: _,
+            disk: _disk,
+            geometry: _,
+            places: _,
+            slots: _slots,
+            journal: _journal,
+            maps: _maps,
+            must_reopen: _,
+        } = self;
+    }
 }
 
 /// Why a disk gave no project, and the disk.
@@ -110,7 +125,17 @@ impl<D: Disk> Project<D> {
         ensures disk { result ≡ self.disk }
         ensures kept { IsKept D.may_leave self }
     {
-        self.disk
+        let Project {
+            alloc: _,
+            disk: owned,
+            geometry: _,
+            places: _,
+            slots: _slots,
+            journal: _journal,
+            maps: _maps,
+            must_reopen: _,
+        } = self;
+        owned
     }
 
     /// A project with the empty map on an empty disk. It takes no memory, and syncs once, last.
