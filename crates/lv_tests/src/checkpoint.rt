@@ -2,6 +2,7 @@ ghost use Rattle.std.specs.Prelude.{◌≡◌, ◌≤◌, ◌<◌, ◌+◌, ◌^
 ghost use Rattle.lv_disk.specs.Stops.{Each};
 ghost use Rattle.lv_checkpoint.specs.Handles.{body_in, generation_in, generation_of, other_of, second_of, HasSomeSlots};
 
+use crate::expect::{holds, same};
 use lv_checkpoint::{CheckpointError, Found, Image, Slots, first};
 use lv_disk::{Area, DeviceFault, Disk, FaultDisk, Fill, MemoryDisk};
 use std::alloc::Global;
@@ -135,31 +136,33 @@ fn expect_turned<D: Disk>(
 fn writes_the_first_slots(rt: HostRuntime) -> Result<(), Fail> {
     let mut disk = FaultDisk::new(MemoryDisk::new(rt.alloc(), 1024, 4096)?, 4, 0);
     let slots = first(&mut disk, A, B, OLD)?;
-    assert_eq!(rt; slots.slot(), 0);
-    assert_eq!(rt; slots.generation(), 1);
+    same(&rt, &slots.slot(), &0);
+    same(&rt, &slots.generation(), &1);
     // Three calls, and no sync.
-    assert_eq!(rt; disk.len(), Err(DeviceFault));
+    same(&rt, &disk.len(), &Err(DeviceFault));
     let mut synced = disk.inner().stop(rt.alloc(), Fill::Stable, false)?;
-    assert_eq!(rt; synced.len()?, 0);
-    assert_eq!(rt; disk.len()?, 81);
-    assert_eq!(rt;
-        bytes_from(rt.alloc(), &mut disk, 16, 37)?.as_slice(),
-        b"\xa5\x01\0\0\0\0\0\0\0\x18\0\0\0the old body of 24 bytes".as_slice()
+    same(&rt, &synced.len()?, &0);
+    same(&rt, &disk.len()?, &81);
+    same(
+        &rt,
+        &bytes_from(rt.alloc(), &mut disk, 16, 37)?.as_slice(),
+        &b"\xa5\x01\0\0\0\0\0\0\0\x18\0\0\0the old body of 24 bytes".as_slice(),
     );
-    assert_eq!(rt;
-        bytes_from(rt.alloc(), &mut disk, 80, 1)?.as_slice(),
-        [0].as_slice()
+    same(
+        &rt,
+        &bytes_from(rt.alloc(), &mut disk, 80, 1)?.as_slice(),
+        &[0].as_slice(),
     );
     let (slots, found) = opened(rt.alloc(), &mut disk)?;
-    assert_eq!(rt; (slots.slot(), slots.generation()), (0, 1));
-    assert_eq!(rt; (found.slot, found.generation), (0, 1));
-    assert_eq!(rt; found.body.as_slice(), OLD);
+    same(&rt, &(slots.slot(), slots.generation()), &(0, 1));
+    same(&rt, &(found.slot, found.generation), &(0, 1));
+    same(&rt, &found.body.as_slice(), &OLD);
     for k in 1..4 {
         let mut disk = FaultDisk::new(MemoryDisk::new(rt.alloc(), 1024, 4096)?, k, 0);
-        assert_eq!(rt;
-            first(&mut disk, A, B, OLD).err(),
-            Some(DeviceFault),
-            "call {k}"
+        same(
+            &rt,
+            &(k, first(&mut disk, A, B, OLD).err()),
+            &(k, Some(DeviceFault)),
         );
     }
     Ok(())
@@ -311,7 +314,7 @@ fn expect_outcomes(
         if turns == 0 { JOURNAL_B } else { JOURNAL_A },
     )
     .is_ok();
-    assert_eq!(rt; done, k == 0, "{turns} {k} {part}");
+    same(rt, &(turns, k, part, done), &(turns, k, part, k == 0));
     for fill in [
         Fill::Stable,
         Fill::Written,
@@ -339,18 +342,19 @@ fn expect_either<D: Disk>(
 ) -> Result<(), Fail> {
     let (slots, found) = opened(alloc, disk)?;
     let is_new = found.body.as_slice() == NEW;
-    assert!(rt; is_new || (!done && found.body.as_slice() == OLD));
+    holds(rt, is_new || (!done && found.body.as_slice() == OLD));
     let generation = u64::from(turns) + if is_new { 2 } else { 1 };
     let live = (found.generation, slots.generation(), slots.slot() == 0);
     assert_eq!(rt; live, (generation, generation, generation % 2 == 1));
     let image = slots.image(alloc, b"the next")?;
     let next = turned(disk, slots, &image, JOURNAL_A)?;
-    assert_eq!(rt;
-        (next.slot(), next.generation()),
-        (1 - found.slot.min(1), found.generation + 1)
+    same(
+        rt,
+        &(next.slot(), next.generation()),
+        &(1 - found.slot.min(1), found.generation + 1),
     );
     let last = opened(alloc, disk)?.1;
-    assert!(rt; last.body.as_slice() == b"the next".as_slice());
+    holds(rt, last.body.as_slice() == b"the next".as_slice());
     Ok(())
 }
 

@@ -1,5 +1,6 @@
 //! Lines that are commands, and lines that are none.
 
+use crate::expect::same;
 use lv_commands::{parse, print};
 use std::alloc::Global;
 use std::test::Fail;
@@ -92,7 +93,8 @@ fn numbers_have_ranges(rt: HostRuntime) -> Result<(), Fail> {
         let (least, greatest) = (i32::from(least), i32::from(greatest));
         for (value, code) in [(least, 0), (greatest, 0), (least - 1, 2), (greatest + 1, 2)] {
             let line = format!(in rt.alloc(); "{front}{value}{behind}")?;
-            assert_eq!(rt; told(rt.alloc(), line.as_bytes()), code, "{line}");
+            let answer = told(rt.alloc(), line.as_bytes());
+            same(&rt, &(line.as_str(), answer), &(line.as_str(), code));
         }
     }
     Ok(())
@@ -227,7 +229,7 @@ const LINES: &[(&[u8], u16)] = &[
 #[test]
 fn lines_are_told_apart(rt: HostRuntime) {
     for &(line, code) in LINES {
-        assert_eq!(rt; told(rt.alloc(), line), code, "{line:?}");
+        same(&rt, &(line, told(rt.alloc(), line)), &(line, code));
     }
 }
 

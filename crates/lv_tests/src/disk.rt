@@ -1,3 +1,4 @@
+use crate::expect::{holds, same};
 use lv_disk::{
     Area, CLOSED_GATE, DeviceFault, Disk, FaultDisk, FileDisk, Fill, MemoryDisk, OPEN_GATE,
     OutOfMemory, write_through,
@@ -163,12 +164,15 @@ fn runs_out_of_record(rt: HostRuntime) -> Result<(), Fail> {
     let mut disk = full_disk(rt.alloc())?;
     // A sync takes 16 bytes of the record.
     disk.sync()?;
-    assert_eq!(rt; disk.write_at(0, &[9; 16]), Err(DeviceFault));
+    same(&rt, &disk.write_at(0, &[9; 16]), &Err(DeviceFault));
     // No bytes change nothing, and take a place all the same.
     disk.write_at(4, &[])?;
-    assert_eq!(rt; disk.write_at(0, &[]), Err(DeviceFault));
-    assert_eq!(rt; disk.sync(), Err(DeviceFault));
-    assert!(rt; contents(rt.alloc(), &mut disk)?.as_slice() == [1, 2, 3, 4].as_slice());
+    same(&rt, &disk.write_at(0, &[]), &Err(DeviceFault));
+    same(&rt, &disk.sync(), &Err(DeviceFault));
+    holds(
+        &rt,
+        contents(rt.alloc(), &mut disk)?.as_slice() == [1, 2, 3, 4].as_slice(),
+    );
     Ok(())
 }
 

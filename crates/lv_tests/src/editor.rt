@@ -1,5 +1,6 @@
 //! Lines in and answers out, and the words of the program.
 
+use crate::expect::same;
 use crate::streams::{Drip, Endless, Held, Narrow};
 use lv_editor::{
     EditorError, Request, RequestError, perform, request, run_in_memory, write_findings,
@@ -48,8 +49,8 @@ fn answers_lines(rt: HostRuntime) {
     ];
     for (input, count, wanted) in rows {
         let (answered, out) = run(rt.alloc(), input, 2);
-        assert_eq!(rt; answered, Ok(count), "{input:?}");
-        assert_eq!(rt; out.as_slice(), wanted, "{input:?}");
+        same(&rt, &(input, answered), &(input, Ok(count)));
+        same(&rt, &(input, out.as_slice()), &(input, wanted));
     }
 }
 
@@ -75,17 +76,18 @@ fn refuses_long_lines(rt: HostRuntime) -> Result<(), Fail> {
     for (digits, wanted) in rows {
         let line = long_line(rt.alloc(), digits)?;
         let (answered, out) = run(rt.alloc(), line.as_slice(), 4);
-        assert_eq!(rt; answered, Ok(1), "{digits} digits");
-        assert_eq!(rt; out.as_slice(), wanted, "{digits} digits");
+        same(&rt, &(digits, answered), &(digits, Ok(1)));
+        same(&rt, &(digits, out.as_slice()), &(digits, wanted));
     }
     // What stands behind a long line is answered as ever.
     let mut lines = long_line(rt.alloc(), 4090)?;
     lines.extend_from_slice(ROW)?;
     let (answered, out) = run(rt.alloc(), lines.as_slice(), 3);
-    assert_eq!(rt; answered, Ok(4));
-    assert_eq!(rt;
-        out.as_slice(),
-        b"no 1\nok 0\nok 1\n00 00 00 00 80 00 00 00\n".as_slice()
+    same(&rt, &answered, &Ok(4));
+    same(
+        &rt,
+        &out.as_slice(),
+        &b"no 1\nok 0\nok 1\n00 00 00 00 80 00 00 00\n".as_slice(),
     );
     Ok(())
 }
@@ -145,7 +147,7 @@ fn stops_where_the_writer_fails(rt: HostRuntime) {
         } else {
             Ok(3)
         };
-        assert_eq!(rt; answered, wanted, "{room} bytes");
+        same(&rt, &(room, answered), &(room, wanted));
     }
 }
 
@@ -182,18 +184,18 @@ fn seen<R: Read>(alloc: Global, reader: &mut R, turns: u32) -> (Result<u64, Edit
 #[test]
 fn hands_on_the_answers_of_a_turn(rt: HostRuntime) {
     let (answered, out) = seen(rt.alloc(), &mut ROW, 1);
-    assert_eq!(rt; answered, Err(EditorError::InputTooLong));
-    assert_eq!(rt; out.as_slice(), ROW_ANSWERS);
+    same(&rt, &answered, &Err(EditorError::InputTooLong));
+    same(&rt, &out.as_slice(), &ROW_ANSWERS);
 
     let mut broken = Drip::of(b"vertex 0 0\nvert", true);
     let (answered, out) = seen(rt.alloc(), &mut broken, 100);
-    assert_eq!(rt; answered, Err(EditorError::ReaderFailed));
-    assert_eq!(rt; out.as_slice(), b"ok 0\n".as_slice());
+    same(&rt, &answered, &Err(EditorError::ReaderFailed));
+    same(&rt, &out.as_slice(), &b"ok 0\n".as_slice());
 
     let mut unended: &[u8] = b"vertex 0 0\nvertex 1 0";
     let (answered, out) = seen(rt.alloc(), &mut unended, 2);
-    assert_eq!(rt; answered, Ok(2));
-    assert_eq!(rt; out.as_slice(), b"ok 0\nok 1\n".as_slice());
+    same(&rt, &answered, &Ok(2));
+    same(&rt, &out.as_slice(), &b"ok 0\nok 1\n".as_slice());
 }
 
 #[test]

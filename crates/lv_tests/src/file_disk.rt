@@ -1,6 +1,7 @@
 //! Real files as disks, and files that are interrupted or fail.
 
 use crate::disk::contents;
+use crate::expect::{holds, same};
 use lv_disk::{DeviceFault, Disk, FileDisk};
 use std::alloc::Allocator;
 use std::cell::Cell;
@@ -15,27 +16,30 @@ use std::{fs, io};
 fn keeps_a_real_file(rt: HostRuntime) -> Result<(), Fail> {
     let path = "lv_disk_real_file";
     let _ = fs::remove_file(&rt, path);
-    assert!(rt; FileDisk::open(&rt, path, false).is_err(), "there is none");
+    holds(&rt, FileDisk::open(&rt, path, false).is_err());
     let mut disk = FileDisk::open(&rt, path, true)?;
-    assert_eq!(rt; disk.len(), Ok(0));
+    same(&rt, &disk.len(), &Ok(0));
     disk.write_at(2, &[1, 2, 3])?;
     disk.write_at(9, &[])?;
     disk.sync()?;
     for new in [true, false] {
         let mut again = FileDisk::open(&rt, path, new)?;
         let read = contents(rt.alloc(), &mut again)?;
-        assert_eq!(rt; read.as_slice(), [0, 0, 1, 2, 3].as_slice(), "new {new}");
-        let mut beyond = [0; 2];
-        assert_eq!(rt;
-            again.read(4, &mut beyond),
-            Err(DeviceFault),
-            "it meets the end early"
+        same(
+            &rt,
+            &(new, read.as_slice()),
+            &(new, [0, 0, 1, 2, 3].as_slice()),
         );
-        assert_eq!(rt; again.write_at(u64::MAX, &[1]), Err(DeviceFault));
+        let mut beyond = [0; 2];
+        same(&rt, &again.read(4, &mut beyond), &Err(DeviceFault));
+        same(&rt, &again.write_at(u64::MAX, &[1]), &Err(DeviceFault));
     }
     fs::remove_file(&rt, path)?;
-    assert!(rt; FileDisk::open(&rt, ".", true).is_err(), "a folder");
-    assert!(rt; FileDisk::open(&rt, "lv_disk_no_folder/a", true).is_err());
+    holds(&rt, FileDisk::open(&rt, ".", true).is_err());
+    holds(
+        &rt,
+        FileDisk::open(&rt, "lv_disk_no_folder/a", true).is_err(),
+    );
     Ok(())
 }
 
@@ -194,13 +198,9 @@ fn goes_on_after_interrupted_and_short_calls(rt: HostRuntime) -> Result<(), Fail
     disk.write_at(1, &[1, 2, 3])?;
     disk.sync()?;
     let read = contents(rt.alloc(), &mut disk)?;
-    assert_eq!(rt; read.as_slice(), [0, 1, 2, 3].as_slice());
+    same(&rt, &read.as_slice(), &[0, 1, 2, 3].as_slice());
     let mut beyond = [0; 3];
-    assert_eq!(rt;
-        disk.read(2, &mut beyond),
-        Err(DeviceFault),
-        "it meets the end early"
-    );
+    same(&rt, &disk.read(2, &mut beyond), &Err(DeviceFault));
     fs::remove_file(&rt, path)?;
     Ok(())
 }
@@ -216,12 +216,12 @@ fn syncs_its_file(rt: HostRuntime) -> Result<(), Fail> {
     };
     let mut disk = FileDisk::open(&files, path, true)?;
     disk.write_at(0, &[1])?;
-    assert_eq!(rt; syncs.get(), 0);
+    same(&rt, &syncs.get(), &0);
     disk.sync()?;
-    assert_eq!(rt; syncs.get(), 1);
-    assert_eq!(rt; disk.sync(), Err(DeviceFault), "the second one fails");
+    same(&rt, &syncs.get(), &1);
+    same(&rt, &disk.sync(), &Err(DeviceFault));
     disk.sync()?;
-    assert_eq!(rt; syncs.get(), 3);
+    same(&rt, &syncs.get(), &3);
     fs::remove_file(&rt, path)?;
     Ok(())
 }

@@ -1,5 +1,6 @@
 //! The inspection of a level: a worked room as a WAD, and the same with one byte changed.
 
+use crate::expect::same;
 use lv_editor::{InspectError, inspect, perform, request};
 use lv_pwad::ReadError;
 use std::fs;
@@ -181,12 +182,12 @@ fn builds_and_inspects_a_room(rt: HostRuntime) -> Result<(), Fail> {
     let _ = fs::remove_file(&rt, "room.lv");
     for &(words, input, status, written, said) in CALLS {
         let (ended, out, faults) = performed(&rt, words, input)?;
-        assert_eq!(rt; ended, status, "{written:?} {said:?}");
-        assert_eq!(rt; out.as_slice(), written);
-        assert_eq!(rt; faults.as_slice(), said);
+        same(&rt, &(written, said, ended), &(written, said, status));
+        same(&rt, &out.as_slice(), &written);
+        same(&rt, &faults.as_slice(), &said);
     }
     let wad = fs::read(&rt, "room.wad")?;
-    assert_eq!(rt; wad.as_slice(), ROOM_WAD.as_slice());
+    same(&rt, &wad.as_slice(), &ROOM_WAD.as_slice());
     Ok(())
 }
 
@@ -259,9 +260,17 @@ fn builds_over_a_file(rt: HostRuntime) -> Result<(), Fail> {
     fs::write(&rt, "old.wad", &[7; 600])?;
     performed(&rt, &["leveled", "create", "old.lv"], b"")?;
     performed(&rt, &["leveled", "build", "old.lv", "old.wad"], b"")?;
-    assert_eq!(rt; fs::read(&rt, "old.wad")?.as_slice(), [7; 600].as_slice());
+    same(
+        &rt,
+        &fs::read(&rt, "old.wad")?.as_slice(),
+        &[7; 600].as_slice(),
+    );
     performed(&rt, &["leveled", "edit", "old.lv"], ROOM)?;
     performed(&rt, &["leveled", "build", "old.lv", "old.wad"], b"")?;
-    assert_eq!(rt; fs::read(&rt, "old.wad")?.as_slice(), ROOM_WAD.as_slice());
+    same(
+        &rt,
+        &fs::read(&rt, "old.wad")?.as_slice(),
+        &ROOM_WAD.as_slice(),
+    );
     Ok(())
 }

@@ -1,6 +1,7 @@
 ghost use Rattle.std.specs.Prelude.{◌≡◌, IfOk, IfErr};
 ghost use Rattle.lv_journal.specs.State.{IsReadyIn};
 
+use crate::expect::same;
 use lv_disk::{Area, Disk, FaultDisk, Fill, MemoryDisk};
 use lv_journal::{Journal, JournalError, blank};
 use std::alloc::Global;
@@ -203,25 +204,28 @@ fn fills_the_area(rt: HostRuntime) -> Result<(), Fail> {
     refreshed(&mut disk)?;
     for n in 0..34 {
         let mut journal = opened(rt.alloc(), &mut disk)?;
-        assert_eq!(rt; journal.records().len(), n);
+        same(&rt, &journal.records().len(), &n);
         journal.append(&mut disk, b"name MAP01")?;
     }
     let mut journal = opened(rt.alloc(), &mut disk)?;
-    assert_eq!(rt; journal.records().len(), 34);
-    assert_eq!(rt; journal.place(33), Some(639));
-    assert_eq!(rt; journal.place(34), None);
-    assert_eq!(rt; journal.room(), None);
-    assert_eq!(rt;
-        journal.append(&mut disk, b"name MAP01"),
-        Err(JournalError::JournalFull)
+    same(&rt, &journal.records().len(), &34);
+    same(&rt, &journal.place(33), &Some(639));
+    same(&rt, &journal.place(34), &None);
+    same(&rt, &journal.room(), &None);
+    same(
+        &rt,
+        &journal.append(&mut disk, b"name MAP01"),
+        &Err(JournalError::JournalFull),
     );
-    assert_eq!(rt;
-        journal.append(&mut disk, b""),
-        Err(JournalError::JournalFull)
+    same(
+        &rt,
+        &journal.append(&mut disk, b""),
+        &Err(JournalError::JournalFull),
     );
-    assert_eq!(rt;
-        bytes_from(rt.alloc(), &mut disk, 639)?.as_slice(),
-        b"\xa5\x0a\0\0\0name MAP01\0".as_slice()
+    same(
+        &rt,
+        &bytes_from(rt.alloc(), &mut disk, 639)?.as_slice(),
+        &b"\xa5\x0a\0\0\0name MAP01\0".as_slice(),
     );
     Ok(())
 }

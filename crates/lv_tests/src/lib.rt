@@ -20,6 +20,8 @@ mod drawing;
 #[cfg(test)]
 mod editor;
 #[cfg(test)]
+mod expect;
+#[cfg(test)]
 mod file_disk;
 #[cfg(test)]
 mod inspection;

@@ -1,6 +1,7 @@
 //! The trees of drawn maps: the worked examples, and a row of rooms.
 
 use crate::drawing::{CUT, L, ROOM, SLIVER, TWO_ROOMS, draw, drawn};
+use crate::expect::same;
 use lv_lumps::{Seg, encode_nodes, encode_segs, encode_subs, encode_vertices};
 use lv_maptables::{Kind, Maps};
 use lv_nodes::{Built, TreeError, build_tree};
@@ -75,9 +76,9 @@ fn trees_are_as_specified(rt: HostRuntime) -> Result<(), Fail> {
         let maps = drawn(&rt, rt.alloc(), lines);
         let tree = built(&rt, rt.alloc(), lines);
         let found = [tree.vertices.len(), tree.segs.len(), tree.nodes.len()];
-        assert_eq!(rt; found, counts);
-        assert_eq!(rt; added(rt.alloc(), &tree, &maps)?.as_slice(), vertices);
-        assert_eq!(rt; encode_subs(rt.alloc(), &tree.subs)?.as_slice(), subs);
+        same(&rt, &found, &counts);
+        same(&rt, &added(rt.alloc(), &tree, &maps)?.as_slice(), &vertices);
+        same(&rt, &encode_subs(rt.alloc(), &tree.subs)?.as_slice(), &subs);
     }
     Ok(())
 }

@@ -3,6 +3,7 @@ ghost use Rattle.lv_segs.specs.Edges.{edges_of};
 ghost use Rattle.lv_segs.specs.Pieces.{IsPiece};
 
 use crate::drawing::{L, SECTOR, SIDE, SLIVER, draw, drawn};
+use crate::expect::{holds, same};
 use lv_maptables::{Map, Maps};
 use lv_partition::{
     Choice, StraightLines, blocks_of, by_place, choose, choose_in_boxes, choose_ordered, separates,
@@ -21,17 +22,17 @@ fn chosen(
 ) -> Result<Option<Choice>, Fail> {
     let pieces = pieces_of(alloc, map)?;
     let edges = edges_of(alloc, map)?;
-    assert_eq!(rt; used.len(), edges.len());
-    assert!(rt; pieces.len() <= 60);
+    holds(rt, used.len() == edges.len());
+    holds(rt, pieces.len() <= 60);
     let boxes = boxes_in(alloc, &edges, &pieces)?;
-    assert!(rt; boxes.len() <= 60);
+    holds(rt, boxes.len() <= 60);
     let blocks = blocks_of(alloc, &boxes)?;
     let mut straight = StraightLines::new(alloc, &edges)?;
     let choice = choose(map, &pieces, used);
     let by_boxes = choose_in_boxes(&edges, &pieces, &boxes, &blocks, used, &mut straight);
-    assert_eq!(rt; choice, by_boxes);
-    assert_eq!(rt; choice, chosen_by_place(rt, alloc, map, used)?);
-    assert_eq!(rt; choice, walked(map, &pieces, used));
+    same(rt, &choice, &by_boxes);
+    same(rt, &choice, &chosen_by_place(rt, alloc, map, used)?);
+    same(rt, &choice, &walked(map, &pieces, used));
     Ok(choice)
 }
 
@@ -44,11 +45,11 @@ fn chosen_by_place(
 ) -> Result<Option<Choice>, Fail> {
     let pieces = pieces_of(alloc, map)?;
     let edges = edges_of(alloc, map)?;
-    assert_eq!(rt; used.len(), edges.len());
-    assert!(rt; pieces.len() <= 60);
+    holds(rt, used.len() == edges.len());
+    holds(rt, pieces.len() <= 60);
     let ordered = by_place(alloc, &edges, &pieces)?;
     let boxes = boxes_in(alloc, &edges, &ordered)?;
-    assert!(rt; boxes.len() <= 60);
+    holds(rt, boxes.len() <= 60);
     let blocks = blocks_of(alloc, &boxes)?;
     let mut straight = StraightLines::new(alloc, &edges)?;
     let choice = choose_ordered(
@@ -254,6 +255,6 @@ fn chooses_as_a_plain_walk(rt: HostRuntime) -> Result<(), Fail> {
             found = found.wrapping_add(1);
         }
     }
-    assert!(rt; found > 150, "{found}");
+    holds(&rt, found > 150);
     Ok(())
 }

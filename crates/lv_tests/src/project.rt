@@ -1,5 +1,6 @@
 //! A project: its file, and how another file is refused.
 
+use crate::expect::same;
 use lv_commands::CommandError;
 use lv_disk::{DeviceFault, Disk, FaultDisk, Fill, MemoryDisk};
 use lv_maptables::Kind;
@@ -108,11 +109,11 @@ fn writes_a_new_file(rt: HostRuntime) -> Result<(), Fail> {
     let disk = disk_after(rt.alloc(), &[])?;
     for &fill in FILLS {
         let mut left = disk.stop(rt.alloc(), fill, true)?;
-        assert_eq!(rt; left.len()?, 657, "{fill:?}");
+        same(&rt, &(fill, left.len()?), &(fill, 657));
         let bytes = bytes_from(rt.alloc(), &mut left, 0, 49)?;
-        assert_eq!(rt; bytes.as_slice(), NEW_FILE, "{fill:?}");
+        same(&rt, &(fill, bytes.as_slice()), &(fill, NEW_FILE));
         let zeros = bytes_from(rt.alloc(), &mut left, 49, 608)?;
-        assert_eq!(rt; zeros.as_slice(), [0; 608].as_slice(), "{fill:?}");
+        same(&rt, &(fill, zeros.as_slice()), &(fill, [0; 608].as_slice()));
     }
     Ok(())
 }
@@ -177,25 +178,27 @@ fn refuses_other_lengths_and_other_files(rt: HostRuntime) -> Result<(), Fail> {
 #[test]
 fn records_a_line_before_its_answer(rt: HostRuntime) -> Result<(), Fail> {
     let mut disk = disk_after(rt.alloc(), &[b"vertex 0 0"])?;
-    assert_eq!(rt;
-        bytes_from(rt.alloc(), &mut disk, 144, 16)?.as_slice(),
-        b"\xa5\x0a\0\0\0vertex 0 0\0".as_slice()
+    same(
+        &rt,
+        &bytes_from(rt.alloc(), &mut disk, 144, 16)?.as_slice(),
+        &b"\xa5\x0a\0\0\0vertex 0 0\0".as_slice(),
     );
     for &fill in FILLS {
         let left = disk.stop(rt.alloc(), fill, true)?;
-        assert_eq!(rt; found(rt.alloc(), left)?, (1, 1), "{fill:?}");
+        same(&rt, &(fill, found(rt.alloc(), left)?), &(fill, (1, 1)));
     }
     // Behind a closed gate nothing counts.
     for byte in [0, 165, 10] {
         let mut disk = disk_after(rt.alloc(), &[b"vertex 0 0"])?;
         disk.write_at(145, &[byte; 15])?;
         disk.write_at(144, &[0])?;
-        assert_eq!(rt; found(rt.alloc(), disk)?, (0, 1), "{byte}");
+        same(&rt, &(byte, found(rt.alloc(), disk)?), &(byte, (0, 1)));
     }
     disk.write_at(158, b"!")?;
-    assert_eq!(rt;
-        opened(rt.alloc(), disk).err(),
-        Some(ProjectError::Damaged { place: 144 })
+    same(
+        &rt,
+        &opened(rt.alloc(), disk).err(),
+        &Some(ProjectError::Damaged { place: 144 }),
     );
     Ok(())
 }

@@ -1,5 +1,6 @@
 //! Room in a slot and in a journal, and the last generation.
 
+use crate::expect::same;
 use crate::project::{SMALL, bytes_from, created, disk_after, empty_disk, found, opened, vertices};
 use lv_commands::CommandError;
 use lv_disk::{DeviceFault, Disk, FaultDisk, MemoryDisk};
@@ -147,8 +148,8 @@ fn fill_spent<D: Disk + Drop>(rt: &impl Abort, alloc: Global, disk: D) -> Result
 #[test]
 fn spends_its_generations(rt: HostRuntime) -> Result<(), Fail> {
     let mut disk = spent_disk(&rt, rt.alloc())?;
-    assert_eq!(rt; disk.len(), Err(DeviceFault), "no call was made");
+    same(&rt, &disk.len(), &Err(DeviceFault));
     let disk = fill_spent(&rt, rt.alloc(), disk)?;
-    assert_eq!(rt; found(rt.alloc(), disk)?, (0, u64::MAX));
+    same(&rt, &found(rt.alloc(), disk)?, &(0, u64::MAX));
     Ok(())
 }

@@ -1,6 +1,7 @@
 //! Lines over a project, and the subcommands that take a file.
 
 use crate::drawing::ROOM;
+use crate::expect::{holds, same};
 use crate::project::{SMALL, created, empty_disk, found, vertices};
 use crate::streams::Narrow;
 use lv_disk::{Disk, FaultDisk, FileDisk, MemoryDisk};
@@ -37,9 +38,9 @@ fn answer_all<D: Disk>(
     for &(line, wanted) in LINES {
         let mut out = Vec::new(alloc);
         answer(alloc, project, line, &mut out)?;
-        assert_eq!(rt; out.as_slice(), wanted, "{line:?}");
+        same(rt, &(line, out.as_slice()), &(line, wanted));
     }
-    assert_eq!(rt; vertices(project), 0);
+    same(rt, &vertices(project), &0);
     Ok(())
 }
 
@@ -216,10 +217,10 @@ fn makes_edits_and_checks_a_file(rt: HostRuntime) -> Result<(), Fail> {
     for &(name, input, status, wanted, said) in FILE_ROWS {
         let mut out = Vec::new(rt.alloc());
         let (found, faults) = status_of(&rt, ["leveled", name, path].as_slice(), input, &mut out)?;
-        let same = found == status && out.as_slice() == wanted && faults.as_slice() == said;
-        assert!(rt; same, "{name} {input:?}");
+        let is_told = found == status && out.as_slice() == wanted && faults.as_slice() == said;
+        same(&rt, &(name, input, is_told), &(name, input, true));
     }
-    assert_eq!(rt; FileDisk::open(&rt, path, false)?.len(), Ok(589_841));
+    same(&rt, &FileDisk::open(&rt, path, false)?.len(), &Ok(589_841));
     fs::remove_file(&rt, path)?;
     Ok(())
 }
@@ -231,15 +232,19 @@ fn makes_no_file_but_by_create(rt: HostRuntime) -> Result<(), Fail> {
     for name in ["edit", "check"] {
         let mut out = Vec::new(rt.alloc());
         let (found, _) = status_of(&rt, ["leveled", name, path].as_slice(), b"", &mut out)?;
-        assert_eq!(rt; found, 1, "{name}");
-        assert!(rt; FileDisk::open(&rt, path, false).is_err(), "{name}");
+        same(&rt, &(name, found), &(name, 1));
+        holds(&rt, FileDisk::open(&rt, path, false).is_err());
     }
     // Where `created` can't be written the file stands.
     let words = ["leveled", "create", path];
     let mut narrow = Narrow::of(3);
     let (found, faults) = status_of(&rt, words.as_slice(), b"", &mut narrow)?;
-    assert_eq!(rt; found, 1);
-    assert_eq!(rt; faults.as_slice(), b"leveled: 38 WriterFailed\n".as_slice());
+    same(&rt, &found, &1);
+    same(
+        &rt,
+        &faults.as_slice(),
+        &b"leveled: 38 WriterFailed\n".as_slice(),
+    );
     let mut out = Vec::new(rt.alloc());
     let (found, _) = status_of(
         &rt,
@@ -247,7 +252,7 @@ fn makes_no_file_but_by_create(rt: HostRuntime) -> Result<(), Fail> {
         b"count",
         &mut out,
     )?;
-    assert_eq!(rt; found, 0);
+    same(&rt, &found, &0);
     fs::remove_file(&rt, path)?;
     Ok(())
 }
@@ -277,12 +282,12 @@ fn says_why_a_file_is_no_project(rt: HostRuntime) -> Result<(), Fail> {
     let mut out = Vec::new(rt.alloc());
     let _ = status_of(&rt, small.as_slice(), b"", &mut out)?;
     let _ = status_of(&rt, edit.as_slice(), b"vertex 0 0", &mut out)?;
-    assert_eq!(rt; out.as_slice(), b"created\nok 0\n".as_slice());
+    same(&rt, &out.as_slice(), &b"created\nok 0\n".as_slice());
     for &(at, bytes, wanted) in DAMAGE {
         FileDisk::open(&rt, path, false)?.write_at(at, bytes)?;
         let (status, faults) = status_of(&rt, edit.as_slice(), b"vertex 1 1", &mut out)?;
-        assert_eq!(rt; (status, out.len()), (1, 13), "{at}");
-        assert_eq!(rt; faults.as_slice(), wanted, "{at}");
+        same(&rt, &(at, (status, out.len())), &(at, (1, 13)));
+        same(&rt, &(at, faults.as_slice()), &(at, wanted));
     }
     fs::remove_file(&rt, path)?;
     Ok(())

@@ -1,6 +1,7 @@
 //! Drawn maps built into PWADs: the worked examples, what is read of their bytes, and what is wrong with changed ones.
 
 use crate::drawing::{CUT, L, ROOM, SECTOR, SIDE, SLIVER, TWO_ROOMS, drawn};
+use crate::expect::{holds, same};
 use lv_blockmap::{BlockmapError, blockmap, touches};
 use lv_lumps::Vertex;
 use lv_pwad::{BuildError, Fault, ReadError, audit, build_all, build_wad, read_level, reject};
@@ -110,21 +111,22 @@ const SINGLE_BLOCKS: [u8; 36] = [
 #[test]
 fn a_room_is_laid_out_as_specified(rt: HostRuntime) -> Result<(), Fail> {
     let wad = built(&rt, rt.alloc(), &[ROOM]);
-    assert!(rt; wad.len() == 515);
-    assert_eq!(rt; &wad[..12], ROOM_HEAD.as_slice());
+    holds(&rt, wad.len() == 515);
+    same(&rt, &&wad[..12], &ROOM_HEAD.as_slice());
     for n in 0..11 {
-        assert_eq!(rt;
-            &wad[339 + 16 * n..341 + 16 * n],
-            &ROOM_PLACES[2 * n..2 * n + 2]
+        same(
+            &rt,
+            &&wad[339 + 16 * n..341 + 16 * n],
+            &&ROOM_PLACES[2 * n..2 * n + 2],
         );
     }
     let room = read_level(rt.alloc(), &wad, b"MAP01")?;
-    assert_eq!(rt; room.reject.as_slice(), [0].as_slice());
-    assert_eq!(rt; room.blockmap.as_slice(), ROOM_BLOCKS.as_slice());
+    same(&rt, &room.reject.as_slice(), &[0].as_slice());
+    same(&rt, &room.blockmap.as_slice(), &ROOM_BLOCKS.as_slice());
     let wad = built(&rt, rt.alloc(), &SINGLE);
     let single = read_level(rt.alloc(), &wad, b"MAP01")?;
-    assert_eq!(rt; single.blockmap.as_slice(), SINGLE_BLOCKS.as_slice());
-    assert_eq!(rt; reject(rt.alloc(), 3)?.as_slice(), [0, 0].as_slice());
+    same(&rt, &single.blockmap.as_slice(), &SINGLE_BLOCKS.as_slice());
+    same(&rt, &reject(rt.alloc(), 3)?.as_slice(), &[0, 0].as_slice());
     Ok(())
 }
 

@@ -3,6 +3,7 @@ ghost use Rattle.lv_segs.specs.Pieces.{IsPiece};
 ghost use Rattle.lv_segs.specs.Edges.{edges_of};
 
 use crate::drawing::{CUT, L, SECTOR, SLIVER, drawn};
+use crate::expect::same;
 use lv_lumps::{Bounds, Vertex};
 use lv_maptables::Map;
 use lv_segs::{
@@ -156,7 +157,7 @@ fn boxes_are_one_step_wider(rt: HostRuntime) -> Result<(), Fail> {
     let edges = edges_of(rt.alloc(), maps.current())?;
     let pieces = pieces_of(rt.alloc(), maps.current())?;
     let boxes = boxes_in(rt.alloc(), &edges, &pieces)?;
-    assert_eq!(rt; boxes.len(), L_BOXES.len());
+    same(&rt, &boxes.len(), &L_BOXES.len());
     for (found, [top, bottom, left, right]) in boxes.iter().zip(L_BOXES.iter().copied()) {
         let want = Bounds {
             top,
@@ -164,7 +165,7 @@ fn boxes_are_one_step_wider(rt: HostRuntime) -> Result<(), Fail> {
             left,
             right,
         };
-        assert_eq!(rt; *found, want);
+        same(&rt, found, &want);
     }
     Ok(())
 }

@@ -1,6 +1,7 @@
 //! Two slots as they are opened: the live one, damage at its place, and generations that are spent.
 
 use crate::checkpoint::{NEW, OLD, Slot, disk_with, disk_with_old, opened};
+use crate::expect::same;
 use lv_checkpoint::CheckpointError;
 use lv_disk::FaultDisk;
 use std::test::Fail;
@@ -63,10 +64,10 @@ fn finds_damage_at_its_slot(rt: HostRuntime) -> Result<(), Fail> {
         ((0, 4, 24, OLD), closed, 81, CheckpointError::Blank),
     ] {
         let mut disk = disk_with(rt.alloc(), &a, &b, end)?;
-        assert_eq!(rt;
-            opened(rt.alloc(), &mut disk).err(),
-            Some(error),
-            "{a:?} {b:?} {end}"
+        same(
+            &rt,
+            &(a, b, end, opened(rt.alloc(), &mut disk).err()),
+            &(a, b, end, Some(error)),
         );
     }
     Ok(())
@@ -76,22 +77,27 @@ fn finds_damage_at_its_slot(rt: HostRuntime) -> Result<(), Fail> {
 fn spends_its_generations(rt: HostRuntime) -> Result<(), Fail> {
     let mut disk = disk_with(rt.alloc(), &(165, u64::MAX, 1, b"a"), &(0, 0, 0, b""), 200)?;
     let (slots, found) = opened(rt.alloc(), &mut disk)?;
-    assert_eq!(rt; found.generation, u64::MAX);
-    assert_eq!(rt; found.body.as_slice(), b"a".as_slice());
+    same(&rt, &found.generation, &u64::MAX);
+    same(&rt, &found.body.as_slice(), &b"a".as_slice());
     for (len, error) in [
         (0, CheckpointError::GenerationsSpent),
         (51, CheckpointError::GenerationsSpent),
         (52, CheckpointError::SlotFull),
     ] {
         let body = vec![in rt.alloc(); 0; len]?;
-        assert_eq!(rt; slots.image(rt.alloc(), &body).err(), Some(error), "{len}");
+        same(
+            &rt,
+            &(len, slots.image(rt.alloc(), &body).err()),
+            &(len, Some(error)),
+        );
     }
     let mut disk = disk_with_old(rt.alloc())?;
     let (slots, _) = opened(rt.alloc(), &mut disk)?;
     slots.image(rt.alloc(), &[0; 51])?;
-    assert_eq!(rt;
-        slots.image(rt.alloc(), &[0; 52]).err(),
-        Some(CheckpointError::SlotFull)
+    same(
+        &rt,
+        &slots.image(rt.alloc(), &[0; 52]).err(),
+        &Some(CheckpointError::SlotFull),
     );
     Ok(())
 }
@@ -102,12 +108,16 @@ fn answers_a_device_that_fails(rt: HostRuntime) -> Result<(), Fail> {
     for k in 1..10 {
         let disk = disk_with(rt.alloc(), &(165, 1, 24, OLD), &(165, 2, 24, NEW), 200)?;
         let mut disk = FaultDisk::new(disk, k, 0);
-        assert_eq!(rt;
-            opened(rt.alloc(), &mut disk).err(),
-            Some(CheckpointError::Device),
-            "call {k}"
+        same(
+            &rt,
+            &(k, opened(rt.alloc(), &mut disk).err()),
+            &(k, Some(CheckpointError::Device)),
         );
-        assert_eq!(rt; opened(rt.alloc(), &mut disk)?.1.generation, 2, "call {k}");
+        same(
+            &rt,
+            &(k, opened(rt.alloc(), &mut disk)?.1.generation),
+            &(k, 2),
+        );
     }
     Ok(())
 }
