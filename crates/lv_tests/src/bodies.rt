@@ -1,6 +1,7 @@
 //! The bodies of drawn projects, read back in the versions that have them, and spoilt ones.
 
 use crate::drawing::{SECTOR, SIDE, drawn};
+use crate::expect::same;
 use crate::maps::{TWO_MAPS, is_refused};
 use lv_maptables::Maps;
 use std::alloc::Global;
@@ -44,11 +45,11 @@ fn written_again(alloc: Global, body: &[u8]) -> Result<Vec<u8>, Fail> {
 fn bodies_are_written_and_read_back(rt: HostRuntime) -> Result<(), Fail> {
     for &(lines, body, version) in BODIES {
         let mut read = written(&rt, rt.alloc(), lines)?;
-        assert_eq!(rt; read.as_slice(), body);
+        same(&rt, &read.as_slice(), &body);
         if let Some(first) = read.get_mut(0) {
             *first = version;
         }
-        assert_eq!(rt; written_again(rt.alloc(), &read)?.as_slice(), body);
+        same(&rt, &written_again(rt.alloc(), &read)?.as_slice(), &body);
     }
     Ok(())
 }

@@ -186,8 +186,8 @@ fn expect_calls<D: Disk + Drop>(
     let image = slots.image(alloc, NEW)?;
     let mut disk = FaultDisk::new(disk, calls + 1, 0);
     let slots = turned(&mut disk, slots, &image, journal)?;
-    assert_eq!(rt; disk.len(), Err(DeviceFault));
-    assert_eq!(rt; (slots.slot(), slots.generation()), live);
+    same(rt, &disk.len(), &Err(DeviceFault));
+    same(rt, &(slots.slot(), slots.generation()), &live);
     Ok(disk)
 }
 
@@ -223,15 +223,20 @@ fn expect_writes<'a>(
         let (slots, _) = opened(alloc, &mut disk)?;
         let image = slots.image(alloc, NEW)?;
         let mut disk = FaultDisk::new(disk, *k, *part);
-        assert_eq!(rt;
-            turned(&mut disk, slots, &image, journal).err(),
-            Some(DeviceFault),
-            "{k} {part}"
+        same(
+            rt,
+            &(k, part, turned(&mut disk, slots, &image, journal).err()),
+            &(k, part, Some(DeviceFault)),
         );
-        assert_eq!(rt;
-            bytes_from(alloc, &mut disk, *at, want.len())?.as_slice(),
-            *want,
-            "{k} {part} {at}"
+        same(
+            rt,
+            &(
+                k,
+                part,
+                at,
+                bytes_from(alloc, &mut disk, *at, want.len())?.as_slice(),
+            ),
+            &(k, part, at, *want),
         );
     }
     Ok(())

@@ -98,9 +98,10 @@ fn stops_after_a_write_past_the_end(rt: HostRuntime) -> Result<(), Fail> {
     let mut disk = MemoryDisk::new(rt.alloc(), 16, 400)?;
     write_through(&mut disk, 0, &[1, 2])?;
     disk.write_at(4, &[5, 6])?;
-    assert_eq!(rt;
-        contents(rt.alloc(), &mut disk)?.as_slice(),
-        [1, 2, 0, 0, 5, 6].as_slice()
+    same(
+        &rt,
+        &contents(rt.alloc(), &mut disk)?.as_slice(),
+        &[1, 2, 0, 0, 5, 6].as_slice(),
     );
     expect_stops(
         &rt,
@@ -121,10 +122,11 @@ fn stops_after_a_failed_sync(rt: HostRuntime) -> Result<(), Fail> {
     let mut disk = MemoryDisk::new(rt.alloc(), 16, 50)?;
     write_through(&mut disk, 0, &[1])?;
     disk.write_at(1, &[2])?;
-    assert_eq!(rt; disk.sync(), Err(DeviceFault));
-    assert_eq!(rt;
-        contents(rt.alloc(), &mut disk)?.as_slice(),
-        [1, 2].as_slice()
+    same(&rt, &disk.sync(), &Err(DeviceFault));
+    same(
+        &rt,
+        &contents(rt.alloc(), &mut disk)?.as_slice(),
+        &[1, 2].as_slice(),
     );
     expect_stops(
         &rt,
@@ -153,9 +155,16 @@ const BEYOND: &[(u64, &[u8])] = &[(4, &[9]), (3, &[9, 9]), (5, &[]), (u64::MAX, 
 fn runs_out_of_room(rt: HostRuntime) -> Result<(), Fail> {
     let mut disk = full_disk(rt.alloc())?;
     for &(at, bytes) in BEYOND {
-        assert_eq!(rt; disk.write_at(at, bytes), Err(DeviceFault), "room at {at}");
+        same(
+            &rt,
+            &(at, disk.write_at(at, bytes)),
+            &(at, Err(DeviceFault)),
+        );
     }
-    assert!(rt; contents(rt.alloc(), &mut disk)?.as_slice() == [1, 2, 3, 4].as_slice());
+    holds(
+        &rt,
+        contents(rt.alloc(), &mut disk)?.as_slice() == [1, 2, 3, 4].as_slice(),
+    );
     Ok(())
 }
 
@@ -184,8 +193,11 @@ fn stops_with_an_empty_record(rt: HostRuntime) -> Result<(), Fail> {
     let mut left = disk.stop(rt.alloc(), Fill::Stable, false)?;
     left.write_at(0, &[5])?;
     left.sync()?;
-    assert_eq!(rt; left.write_at(4, &[5]), Err(DeviceFault));
-    assert!(rt; contents(rt.alloc(), &mut left)?.as_slice() == [5, 2, 3, 4].as_slice());
+    same(&rt, &left.write_at(4, &[5]), &Err(DeviceFault));
+    holds(
+        &rt,
+        contents(rt.alloc(), &mut left)?.as_slice() == [5, 2, 3, 4].as_slice(),
+    );
     Ok(())
 }
 
@@ -228,14 +240,23 @@ fn fails_the_kth_call(rt: HostRuntime) -> Result<(), Fail> {
         let inner = MemoryDisk::new(rt.alloc(), 16, 400)?;
         let mut disk = FaultDisk::new(inner, k, part);
         let failed = three_calls(&mut disk);
-        assert_eq!(rt; failed, [k == 1, k == 2, k == 3], "k {k} part {part}");
+        same(
+            &rt,
+            &(k, part, failed),
+            &(k, part, [k == 1, k == 2, k == 3]),
+        );
         let written = left_of(rt.alloc(), disk.inner(), Fill::Written, true)?;
         // Where the sync failed nothing is sure to be on the disk.
         let synced = if k == 3 { [].as_slice() } else { read };
         let stable = left_of(rt.alloc(), disk.inner(), Fill::Stable, false)?;
-        assert!(rt;
-            written.as_slice() == read && stable.as_slice() == synced,
-            "k {k} part {part}"
+        same(
+            &rt,
+            &(
+                k,
+                part,
+                written.as_slice() == read && stable.as_slice() == synced,
+            ),
+            &(k, part, true),
         );
     }
     Ok(())
@@ -246,12 +267,13 @@ fn fails_a_read_and_a_length(rt: HostRuntime) -> Result<(), Fail> {
     let mut inner = MemoryDisk::new(rt.alloc(), 16, 400)?;
     write_through(&mut inner, 0, &[1, 2])?;
     let mut disk = FaultDisk::new(inner, 1, 0);
-    assert_eq!(rt; disk.len(), Err(DeviceFault));
+    same(&rt, &disk.len(), &Err(DeviceFault));
     let mut disk = FaultDisk::new(disk, 2, 0);
-    assert!(rt; read_fails(rt.alloc(), &mut disk)?);
-    assert_eq!(rt;
-        contents(rt.alloc(), &mut disk)?.as_slice(),
-        [1, 2].as_slice()
+    holds(&rt, read_fails(rt.alloc(), &mut disk)?);
+    same(
+        &rt,
+        &contents(rt.alloc(), &mut disk)?.as_slice(),
+        &[1, 2].as_slice(),
     );
     Ok(())
 }
@@ -285,7 +307,11 @@ fn makes_one_inner_call_for_each(rt: HostRuntime) -> Result<(), Fail> {
     ] {
         let inner = MemoryDisk::new(rt.alloc(), 16, 400)?;
         let mut disk = FaultDisk::new(FaultDisk::new(inner, inside, 0), k, part);
-        assert_eq!(rt; five_calls(&mut disk), failed, "{k} {part} {inside}");
+        same(
+            &rt,
+            &(k, part, inside, five_calls(&mut disk)),
+            &(k, part, inside, failed),
+        );
     }
     Ok(())
 }

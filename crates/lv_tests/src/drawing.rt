@@ -1,5 +1,6 @@
 //! Projects that lines of input draw, and what else commands make of them.
 
+use crate::expect::{holds, same};
 use lv_commands::{CommandError, apply, commit, parse, ready};
 use lv_lumps::Vertex;
 use lv_maptables::{Kind, Maps};
@@ -189,11 +190,11 @@ fn commits_what_is_ready(rt: HostRuntime) -> Result<(), Fail> {
 
 fn expect_commit(rt: &impl Abort, maps: &mut Maps) -> Result<(), Fail> {
     let command = parse(b"vertex 3 4")?;
-    assert!(rt; maps.body_len() <= AMPLE);
+    holds(rt, maps.body_len() <= AMPLE);
     let change = ready(maps, &command, AMPLE)?;
-    assert_eq!(rt; maps.current().count(Kind::Vertex), 0);
-    assert_eq!(rt; commit(maps, change), 0);
-    assert_eq!(rt; maps.current().vertex(0), Some(Vertex { x: 3, y: 4 }));
-    assert_eq!(rt; CommandError::OutOfMemory.code(), 31);
+    same(rt, &maps.current().count(Kind::Vertex), &0);
+    same(rt, &commit(maps, change), &0);
+    same(rt, &maps.current().vertex(0), &Some(Vertex { x: 3, y: 4 }));
+    same(rt, &CommandError::OutOfMemory.code(), &31);
     Ok(())
 }

@@ -1,6 +1,6 @@
 //! Lines in and answers out, and the words of the program.
 
-use crate::expect::same;
+use crate::expect::{holds, same};
 use crate::streams::{Drip, Endless, Held, Narrow};
 use lv_editor::{
     EditorError, Request, RequestError, perform, request, run_in_memory, write_findings,
@@ -271,7 +271,7 @@ fn tells_of_a_writer_that_fails(rt: HostRuntime) -> Result<(), Fail> {
 fn reads_words(rt: HostRuntime) -> Result<(), Fail> {
     let words = ["leveled", "scratch"];
     let asked = request(rt.alloc(), words.as_slice());
-    assert!(rt; matches!(asked, Ok(Request::Scratch)));
+    holds(&rt, matches!(asked, Ok(Request::Scratch)));
 
     // The words, the status of what clap answers, and a part of its text.
     let rows: [(&[&str], i32, &str); 6] = [
@@ -286,8 +286,8 @@ fn reads_words(rt: HostRuntime) -> Result<(), Fail> {
         match request(rt.alloc(), words) {
             Err(RequestError::Words(error)) => {
                 let text = error.to_string(rt.alloc())?;
-                assert_eq!(rt; error.exit_code(), status, "{words:?}");
-                assert!(rt; text.as_str().contains(part), "{words:?}");
+                same(&rt, &(words, error.exit_code()), &(words, status));
+                same(&rt, &(words, text.as_str().contains(part)), &(words, true));
             }
             _ => return Err(Fail::from("not refused by clap")),
         }

@@ -1,6 +1,6 @@
 //! The inspection of a level: a worked room as a WAD, and the same with one byte changed.
 
-use crate::expect::same;
+use crate::expect::{holds, same};
 use lv_editor::{InspectError, inspect, perform, request};
 use lv_pwad::ReadError;
 use std::fs;
@@ -62,14 +62,14 @@ fn changed(place: usize, value: u8) -> [u8; 515] {
 fn tells_of_a_level(rt: HostRuntime) -> Result<(), Fail> {
     let mut out = Vec::new(rt.alloc());
     let sound = inspect(rt.alloc(), &ROOM_WAD, b"MAP01", &mut out).expect(&rt, "a level");
-    assert!(rt; sound);
-    assert_eq!(rt; out.as_slice(), ROOM_TEXT);
+    holds(&rt, sound);
+    same(&rt, &out.as_slice(), &ROOM_TEXT);
     let refused = inspect(rt.alloc(), &ROOM_WAD, b"MAP02", &mut out).err();
     let error = InspectError::Level(ReadError::NoSuchLevel);
-    assert_eq!(rt; refused, Some(error));
-    assert_eq!(rt; error.code(), 72);
-    assert_eq!(rt; InspectError::WriterFailed.code(), 38);
-    assert_eq!(rt; out.as_slice(), ROOM_TEXT);
+    same(&rt, &refused, &Some(error));
+    same(&rt, &error.code(), &72);
+    same(&rt, &InspectError::WriterFailed.code(), &38);
+    same(&rt, &out.as_slice(), &ROOM_TEXT);
     Ok(())
 }
 
@@ -246,9 +246,9 @@ fn builds_and_inspects_two_maps(rt: HostRuntime) -> Result<(), Fail> {
     let _ = fs::remove_file(&rt, "two.lv");
     for &(words, input, status, written, said) in TWO_MAPS {
         let (ended, out, faults) = performed(&rt, words, input)?;
-        assert_eq!(rt; ended, status, "{written:?} {said:?}");
-        assert_eq!(rt; out.as_slice(), written);
-        assert_eq!(rt; faults.as_slice(), said);
+        same(&rt, &(written, said, ended), &(written, said, status));
+        same(&rt, &out.as_slice(), &written);
+        same(&rt, &faults.as_slice(), &said);
     }
     Ok(())
 }

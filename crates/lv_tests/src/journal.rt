@@ -89,23 +89,42 @@ fn expect_outcomes(rt: &impl Abort, alloc: Global, k: u64, part: u32) -> Result<
             let mut left = disk.inner().stop(alloc, fill, longest)?;
             let mut again = opened(alloc, &mut left)?;
             let both = holds(&again, &[b"first", b"second"]);
-            assert!(rt;
-                both || (!done && holds(&again, &[b"first"])),
-                "{k} {part} {fill:?} {longest}"
+            same(
+                rt,
+                &(
+                    k,
+                    part,
+                    fill,
+                    longest,
+                    both || (!done && holds(&again, &[b"first"])),
+                ),
+                &(k, part, fill, longest, true),
             );
             // It goes on from there.
             again.append(&mut left, b"third")?;
             let last = opened(alloc, &mut left)?;
-            assert!(rt;
-                holds(&last, &[b"first", b"second", b"third"]) == both,
-                "{k} {part} {fill:?} {longest}"
+            same(
+                rt,
+                &(
+                    k,
+                    part,
+                    fill,
+                    longest,
+                    holds(&last, &[b"first", b"second", b"third"]) == both,
+                ),
+                &(k, part, fill, longest, true),
             );
-            assert_eq!(rt; last.records().len(), if both { 3 } else { 2 });
+            let count = if both { 3 } else { 2 };
+            same(rt, &last.records().len(), &count);
         }
     }
     let again = opened(alloc, &mut disk)?;
     let both = holds(&again, &[b"first", b"second"]);
-    assert!(rt; both || (!done && holds(&again, &[b"first"])), "{k} {part}");
+    same(
+        rt,
+        &(k, part, both || (!done && holds(&again, &[b"first"]))),
+        &(k, part, true),
+    );
     Ok(())
 }
 
@@ -115,20 +134,20 @@ fn expect_appended<D: Disk>(rt: &impl Abort, journal: &mut Journal, disk: &mut D
 {
     let appended = journal.append(disk, b"second");
     if k == 0 {
-        assert_eq!(rt; appended, Ok(()));
+        same(rt, &appended, &Ok(()));
         return true;
     }
-    assert_eq!(rt; appended, Err(JournalError::Device), "call {k}");
+    same(rt, &(k, appended), &(k, Err(JournalError::Device)));
     // It is to be opened again, whatever it is asked, and asks nothing of the disk.
-    assert_eq!(rt;
-        journal.append(disk, b"third"),
-        Err(JournalError::Reopen),
-        "call {k}"
+    same(
+        rt,
+        &(k, journal.append(disk, b"third")),
+        &(k, Err(JournalError::Reopen)),
     );
-    assert_eq!(rt;
-        journal.append(disk, &[0; 256]),
-        Err(JournalError::Reopen),
-        "call {k}"
+    same(
+        rt,
+        &(k, journal.append(disk, &[0; 256])),
+        &(k, Err(JournalError::Reopen)),
     );
     false
 }
@@ -137,19 +156,23 @@ fn expect_appended<D: Disk>(rt: &impl Abort, journal: &mut Journal, disk: &mut D
 fn appends_behind_a_closed_gate(rt: HostRuntime) -> Result<(), Fail> {
     let mut disk = MemoryDisk::new(rt.alloc(), 1024, 4096)?;
     let mut journal = blanked(&mut disk)?;
-    assert_eq!(rt; journal.room(), Some(506));
-    assert_eq!(rt; journal.place(0), None);
+    same(&rt, &journal.room(), &Some(506));
+    same(&rt, &journal.place(0), &None);
     journal.append(&mut disk, b"vertex 0 0")?;
-    assert_eq!(rt; journal.room(), Some(491));
+    same(&rt, &journal.room(), &Some(491));
     let bytes = bytes_from(rt.alloc(), &mut disk, 144)?;
-    assert_eq!(rt; bytes.as_slice(), b"\xa5\x0a\0\0\0vertex 0 0\0".as_slice());
+    same(
+        &rt,
+        &bytes.as_slice(),
+        &b"\xa5\x0a\0\0\0vertex 0 0\0".as_slice(),
+    );
     // The payloads of a journal are those that it was opened with.
-    assert!(rt; holds(&journal, &[]));
+    same(&rt, &holds(&journal, &[]), &true);
     let again = opened(rt.alloc(), &mut disk)?;
-    assert!(rt; holds(&again, &[b"vertex 0 0"]));
-    assert_eq!(rt; again.place(0), Some(144));
-    assert_eq!(rt; again.place(1), None);
-    assert_eq!(rt; again.room(), Some(491));
+    same(&rt, &holds(&again, &[b"vertex 0 0"]), &true);
+    same(&rt, &again.place(0), &Some(144));
+    same(&rt, &again.place(1), &None);
+    same(&rt, &again.room(), &Some(491));
     Ok(())
 }
 
@@ -254,14 +277,15 @@ fn writes_the_record_and_then_its_gate(rt: HostRuntime) -> Result<(), Fail> {
         let mut disk = MemoryDisk::new(rt.alloc(), 1024, 4096)?;
         let mut journal = blanked(&mut disk)?;
         let mut disk = FaultDisk::new(disk, k, part);
-        assert_eq!(rt;
-            journal.append(&mut disk, b"vertex 0 0"),
-            Err(JournalError::Device)
+        same(
+            &rt,
+            &journal.append(&mut disk, b"vertex 0 0"),
+            &Err(JournalError::Device),
         );
-        assert_eq!(rt;
-            bytes_from(rt.alloc(), &mut disk, 144)?.as_slice(),
-            want,
-            "{k} {part}"
+        same(
+            &rt,
+            &(k, part, bytes_from(rt.alloc(), &mut disk, 144)?.as_slice()),
+            &(k, part, want),
         );
     }
     Ok(())
@@ -303,15 +327,23 @@ fn answers_a_device_that_fails(rt: HostRuntime) -> Result<(), Fail> {
     for k in 1..7 {
         let disk = disk_with(rt.alloc(), b"\xa5\x01\0\0\0a\0")?;
         let mut disk = FaultDisk::new(disk, k, 0);
-        assert_eq!(rt;
-            opened(rt.alloc(), &mut disk).err(),
-            Some(JournalError::Device),
-            "call {k}"
+        same(
+            &rt,
+            &(k, opened(rt.alloc(), &mut disk).err()),
+            &(k, Some(JournalError::Device)),
         );
-        assert!(rt; holds(&opened(rt.alloc(), &mut disk)?, &[b"a"]), "call {k}");
+        same(
+            &rt,
+            &(k, holds(&opened(rt.alloc(), &mut disk)?, &[b"a"])),
+            &(k, true),
+        );
     }
     let mut disk = FaultDisk::new(MemoryDisk::new(rt.alloc(), 1024, 4096)?, 1, 0);
-    assert_eq!(rt; blank(&mut disk, AREA).err(), Some(JournalError::Device));
+    same(
+        &rt,
+        &blank(&mut disk, AREA).err(),
+        &Some(JournalError::Device),
+    );
     Ok(())
 }
 
@@ -319,14 +351,19 @@ fn answers_a_device_that_fails(rt: HostRuntime) -> Result<(), Fail> {
 fn blanks_a_journal(rt: HostRuntime) -> Result<(), Fail> {
     let mut disk = disk_with(rt.alloc(), b"\xa5\x01\0\0\0a\0")?;
     let mut journal = refreshed(&mut disk)?;
-    assert_eq!(rt; journal.room(), Some(506));
+    same(&rt, &journal.room(), &Some(506));
     let mut left = disk.stop(rt.alloc(), Fill::Stable, false)?;
-    assert_eq!(rt;
-        bytes_from(rt.alloc(), &mut left, 143)?.as_slice(),
-        b"\x07\0\x01\0\0\0a\0".as_slice()
+    same(
+        &rt,
+        &bytes_from(rt.alloc(), &mut left, 143)?.as_slice(),
+        &b"\x07\0\x01\0\0\0a\0".as_slice(),
     );
     journal.append(&mut disk, b"bc")?;
-    assert!(rt; holds(&opened(rt.alloc(), &mut disk)?, &[b"bc"]));
+    same(
+        &rt,
+        &holds(&opened(rt.alloc(), &mut disk)?, &[b"bc"]),
+        &true,
+    );
     Ok(())
 }
 

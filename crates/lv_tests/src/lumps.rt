@@ -1,3 +1,4 @@
+use crate::expect::{holds, same};
 use lv_lumps::{
     Bounds, Line, LumpError, Name8, Node, Point, Ray, Sector, Seg, Side, Sub, Thing, Vertex,
     decode_lines, decode_nodes, decode_sectors, decode_segs, decode_sides, decode_subs,
@@ -73,8 +74,8 @@ fn vertices_and_things_have_their_bytes(rt: HostRuntime) {
             [0x00, 0xc0, 0xff, 0x3f],
         ),
     ] {
-        assert_eq!(rt; vertex_bytes(&vertex), bytes, "at {vertex:?}");
-        assert_eq!(rt; vertex_of(&bytes), vertex);
+        same(&rt, &(vertex, vertex_bytes(&vertex)), &(vertex, bytes));
+        same(&rt, &vertex_of(&bytes), &vertex);
     }
 
     let thing = Thing {
@@ -85,8 +86,8 @@ fn vertices_and_things_have_their_bytes(rt: HostRuntime) {
         options: 7,
     };
     let bytes = [0x40, 0x00, 0x40, 0x00, 0x5a, 0x00, 0x01, 0x00, 0x07, 0x00];
-    assert_eq!(rt; thing_bytes(&thing), bytes);
-    assert_eq!(rt; thing_of(&bytes), thing);
+    same(&rt, &thing_bytes(&thing), &bytes);
+    same(&rt, &thing_of(&bytes), &thing);
 }
 
 #[test]
@@ -104,9 +105,9 @@ fn sectors_and_lines_have_their_bytes(rt: HostRuntime) {
         0x00, 0x00, 0x80, 0x00, 0x46, 0x4c, 0x4f, 0x4f, 0x52, 0x34, 0x5f, 0x38, 0x43, 0x45, 0x49,
         0x4c, 0x33, 0x5f, 0x35, 0x00, 0xa0, 0x00, 0x00, 0x00, 0x00, 0x00,
     ];
-    assert_eq!(rt; sector_bytes(&sector), bytes);
-    assert_eq!(rt; sector_of(&bytes), sector);
-    assert_eq!(rt; sector.ceiling_name.text(), b"CEIL3_5".as_slice());
+    same(&rt, &sector_bytes(&sector), &bytes);
+    same(&rt, &sector_of(&bytes), &sector);
+    same(&rt, &sector.ceiling_name.text(), &b"CEIL3_5".as_slice());
 
     let line = Line {
         v1: 0,
@@ -120,8 +121,8 @@ fn sectors_and_lines_have_their_bytes(rt: HostRuntime) {
     let bytes = [
         0x00, 0x00, 0x01, 0x00, 0x01, 0x00, 0x00, 0x00, 0x00, 0x00, 0x00, 0x00, 0xff, 0xff,
     ];
-    assert_eq!(rt; line_bytes(&line), bytes);
-    assert_eq!(rt; line_of(&bytes), line);
+    same(&rt, &line_bytes(&line), &bytes);
+    same(&rt, &line_of(&bytes), &line);
 }
 
 #[test]
@@ -132,34 +133,40 @@ fn built_lists_go_both_ways(rt: HostRuntime) -> Result<(), Fail> {
         seg(2, 3, 0xc000, 2),
         seg(3, 0, 0x8000, 3),
     ];
-    assert_eq!(rt;
-        encode_segs(rt.alloc(), &segs)?.as_slice(),
-        ROOM_SEGS.as_slice()
+    same(
+        &rt,
+        &encode_segs(rt.alloc(), &segs)?.as_slice(),
+        &ROOM_SEGS.as_slice(),
     );
-    assert_eq!(rt;
-        decode_segs(rt.alloc(), &ROOM_SEGS)?.as_slice(),
-        segs.as_slice()
+    same(
+        &rt,
+        &decode_segs(rt.alloc(), &ROOM_SEGS)?.as_slice(),
+        &segs.as_slice(),
     );
 
     let nodes = [l_node()];
-    assert_eq!(rt;
-        encode_nodes(rt.alloc(), &nodes)?.as_slice(),
-        L_NODES.as_slice()
+    same(
+        &rt,
+        &encode_nodes(rt.alloc(), &nodes)?.as_slice(),
+        &L_NODES.as_slice(),
     );
-    assert_eq!(rt;
-        decode_nodes(rt.alloc(), &L_NODES)?.as_slice(),
-        nodes.as_slice()
+    same(
+        &rt,
+        &decode_nodes(rt.alloc(), &L_NODES)?.as_slice(),
+        &nodes.as_slice(),
     );
 
     let subs = [Sub { count: 4, first: 0 }, Sub { count: 3, first: 4 }];
     let bytes = [0x04, 0x00, 0x00, 0x00, 0x03, 0x00, 0x04, 0x00];
-    assert_eq!(rt;
-        encode_subs(rt.alloc(), &subs)?.as_slice(),
-        bytes.as_slice()
+    same(
+        &rt,
+        &encode_subs(rt.alloc(), &subs)?.as_slice(),
+        &bytes.as_slice(),
     );
-    assert_eq!(rt;
-        decode_subs(rt.alloc(), &bytes)?.as_slice(),
-        subs.as_slice()
+    same(
+        &rt,
+        &decode_subs(rt.alloc(), &bytes)?.as_slice(),
+        &subs.as_slice(),
     );
     Ok(())
 }
@@ -168,13 +175,15 @@ fn built_lists_go_both_ways(rt: HostRuntime) -> Result<(), Fail> {
 fn vertex_lists_go_both_ways(rt: HostRuntime) -> Result<(), Fail> {
     let vertices = [Vertex { x: 0, y: 0 }, Vertex { x: 128, y: 0 }];
     let bytes = [0x00, 0x00, 0x00, 0x00, 0x80, 0x00, 0x00, 0x00];
-    assert_eq!(rt;
-        encode_vertices(rt.alloc(), &vertices)?.as_slice(),
-        bytes.as_slice()
+    same(
+        &rt,
+        &encode_vertices(rt.alloc(), &vertices)?.as_slice(),
+        &bytes.as_slice(),
     );
-    assert_eq!(rt;
-        decode_vertices(rt.alloc(), &bytes)?.as_slice(),
-        vertices.as_slice()
+    same(
+        &rt,
+        &decode_vertices(rt.alloc(), &bytes)?.as_slice(),
+        &vertices.as_slice(),
     );
     Ok(())
 }
@@ -217,13 +226,15 @@ fn side_lists_go_both_ways(rt: HostRuntime) -> Result<(), Fail> {
         sector: 0,
     }];
     let bytes = *b"\0\0\0\0-\0\0\0\0\0\0\0-\0\0\0\0\0\0\0STARTAN3\0\0";
-    assert_eq!(rt;
-        encode_sides(rt.alloc(), &sides)?.as_slice(),
-        bytes.as_slice()
+    same(
+        &rt,
+        &encode_sides(rt.alloc(), &sides)?.as_slice(),
+        &bytes.as_slice(),
     );
-    assert_eq!(rt;
-        decode_sides(rt.alloc(), &bytes)?.as_slice(),
-        sides.as_slice()
+    same(
+        &rt,
+        &decode_sides(rt.alloc(), &bytes)?.as_slice(),
+        &sides.as_slice(),
     );
     Ok(())
 }
@@ -232,10 +243,11 @@ fn side_lists_go_both_ways(rt: HostRuntime) -> Result<(), Fail> {
 fn sector_lists_go_both_ways(rt: HostRuntime) -> Result<(), Fail> {
     let sectors = [sector_of(b"\0\0\x80\0FLOOR4_8CEIL3_5\0\xa0\0\0\0\0\0")];
     let bytes = encode_sectors(rt.alloc(), &sectors)?;
-    assert_eq!(rt; bytes.len(), 26);
-    assert_eq!(rt;
-        decode_sectors(rt.alloc(), &bytes)?.as_slice(),
-        sectors.as_slice()
+    same(&rt, &bytes.len(), &26);
+    same(
+        &rt,
+        &decode_sectors(rt.alloc(), &bytes)?.as_slice(),
+        &sectors.as_slice(),
     );
     Ok(())
 }
@@ -257,11 +269,11 @@ fn the_right_is_the_inside_of_a_room(rt: HostRuntime) {
         (40_000, 40_000, true, false, 5_120_000),
     ] {
         let point = Point { x, y };
-        assert_eq!(rt; west.has_on_right(point), right, "at {point:?}");
-        assert_eq!(rt; west.has_on_left(point), left, "at {point:?}");
-        assert_eq!(rt; west.side_value(point), value, "at {point:?}");
+        same(&rt, &(point, west.has_on_right(point)), &(point, right));
+        same(&rt, &(point, west.has_on_left(point)), &(point, left));
+        same(&rt, &(point, west.side_value(point)), &(point, value));
     }
-    assert!(rt; west.has_on_right(Point::from(Vertex { x: 128, y: 0 })));
-    assert_eq!(rt; difference(i32::MIN, i32::MAX), 4_294_967_295);
-    assert_eq!(rt; product(-3, 4), -12);
+    holds(&rt, west.has_on_right(Point::from(Vertex { x: 128, y: 0 })));
+    same(&rt, &difference(i32::MIN, i32::MAX), &4_294_967_295);
+    same(&rt, &product(-3, 4), &(-12));
 }

@@ -1,6 +1,7 @@
 //! The new map, names and refusals. What edits make of a map is told by lines (`answers.rt`, `drawing.rt`).
 
 use crate::drawing::{draw, drawn};
+use crate::expect::same;
 use lv_lumps::Vertex;
 use lv_maptables::{Kind, Map, MapError, is_marker, is_name, squared_distance};
 use std::test::Fail;
@@ -16,12 +17,12 @@ const KINDS: &[Kind] = &[
 #[test]
 fn the_new_map_is_empty(rt: HostRuntime) -> Result<(), Fail> {
     let map = Map::new(rt.alloc());
-    assert_eq!(rt; map.name().text(), b"MAP01".as_slice());
+    same(&rt, &map.name().text(), &b"MAP01".as_slice());
     for &kind in KINDS {
-        assert_eq!(rt; map.count(kind), 0);
-        assert_eq!(rt; map.lump(rt.alloc(), kind)?.len(), 0);
+        same(&rt, &map.count(kind), &0);
+        same(&rt, &map.lump(rt.alloc(), kind)?.len(), &0);
     }
-    assert_eq!(rt; map.vertex(0), None);
+    same(&rt, &map.vertex(0), &None);
     Ok(())
 }
 

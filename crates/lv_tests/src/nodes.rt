@@ -43,10 +43,10 @@ const L_NODE: [u8; 28] = [
 fn segs_and_nodes_have_their_bytes(rt: HostRuntime) -> Result<(), Fail> {
     let room = built(&rt, rt.alloc(), &[ROOM]);
     let segs = encode_segs(rt.alloc(), &room.segs)?;
-    assert_eq!(rt; segs.as_slice(), ROOM_SEGS.as_slice());
+    same(&rt, &segs.as_slice(), &ROOM_SEGS.as_slice());
     let l = built(&rt, rt.alloc(), &L);
     let nodes = encode_nodes(rt.alloc(), &l.nodes)?;
-    assert_eq!(rt; nodes.as_slice(), L_NODE.as_slice());
+    same(&rt, &nodes.as_slice(), &L_NODE.as_slice());
     Ok(())
 }
 

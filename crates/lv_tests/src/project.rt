@@ -98,9 +98,9 @@ fn makes_an_empty_project(rt: HostRuntime) -> Result<(), Fail> {
         project.generation(),
         project.must_reopen(),
     );
-    assert_eq!(rt; found, (0, 1, false));
+    same(&rt, &found, &(0, 1, false));
     let mut disk = project.into_disk();
-    assert_eq!(rt; disk.len(), Err(DeviceFault), "it made eight calls");
+    same(&rt, &disk.len(), &Err(DeviceFault));
     Ok(())
 }
 
@@ -125,9 +125,9 @@ fn syncs_a_new_file_once_and_last(rt: HostRuntime) -> Result<(), Fail> {
         let Err(refused) = Project::create(rt.alloc(), disk, SMALL) else {
             return Err(ProjectError::Device.into());
         };
-        assert_eq!(rt; refused.error, ProjectError::Device, "call {k}");
+        same(&rt, &(k, refused.error), &(k, ProjectError::Device));
         let mut left = refused.disk.inner().stop(rt.alloc(), Fill::Written, false)?;
-        assert_eq!(rt; left.len()?, 0, "call {k}");
+        same(&rt, &(k, left.len()?), &(k, 0));
     }
     Ok(())
 }
@@ -146,7 +146,11 @@ fn has_a_file_of_its_lengths(rt: HostRuntime) -> Result<(), Fail> {
     for &(slot, journal, len) in LENGTHS {
         let disk = MemoryDisk::new(rt.alloc(), 4_100_000, 4096)?;
         let project = created(rt.alloc(), disk, Geometry { slot, journal })?;
-        assert_eq!(rt; project.into_disk().len()?, len, "{slot} {journal}");
+        same(
+            &rt,
+            &(slot, journal, project.into_disk().len()?),
+            &(slot, journal, len),
+        );
     }
     Ok(())
 }
@@ -168,9 +172,13 @@ fn refuses_other_lengths_and_other_files(rt: HostRuntime) -> Result<(), Fail> {
         let Err(refused) = Project::create(rt.alloc(), disk, Geometry { slot, journal }) else {
             return Err(ProjectError::NotEmpty.into());
         };
-        assert_eq!(rt; refused.error, error, "{slot} {journal}");
+        same(
+            &rt,
+            &(slot, journal, refused.error),
+            &(slot, journal, error),
+        );
         let mut disk = refused.disk;
-        assert_eq!(rt; disk.len()?, 4, "{slot} {journal}");
+        same(&rt, &(slot, journal, disk.len()?), &(slot, journal, 4));
     }
     Ok(())
 }

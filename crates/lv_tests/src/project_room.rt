@@ -13,8 +13,8 @@ use std::test::Fail;
 fn fill_journal<D: Disk>(rt: &impl Abort, project: &mut Project<D>) {
     let generation = project.generation();
     for n in 0..34 {
-        assert_eq!(rt; project.apply(b"name MAP01"), Ok(0), "record {n}");
-        assert_eq!(rt; project.generation(), generation, "record {n}");
+        same(rt, &(n, project.apply(b"name MAP01")), &(n, Ok(0)));
+        same(rt, &(n, project.generation()), &(n, generation));
     }
 }
 
@@ -95,11 +95,12 @@ fn opens_a_file_of_one_map(rt: HostRuntime) -> Result<(), Fail> {
     let mut disk = disk_after(rt.alloc(), &[b"vertex 0 0"])?;
     disk.write_at(29, b"\x01")?;
     let mut disk = disk_after_checkpoint(&rt, rt.alloc(), disk)?;
-    assert_eq!(rt;
-        bytes_from(rt.alloc(), &mut disk, 89, 6)?.as_slice(),
-        b"\x18\0\0\0\x02\0".as_slice()
+    same(
+        &rt,
+        &bytes_from(rt.alloc(), &mut disk, 89, 6)?.as_slice(),
+        &b"\x18\0\0\0\x02\0".as_slice(),
     );
-    assert_eq!(rt; found(rt.alloc(), disk)?, (1, 2));
+    same(&rt, &found(rt.alloc(), disk)?, &(1, 2));
     Ok(())
 }
 

@@ -85,12 +85,12 @@ fn run_over(
 fn runs_over_a_project(rt: HostRuntime) -> Result<(), Fail> {
     for &(call, wanted, count) in RUNS {
         let mut out = Vec::new(rt.alloc());
-        assert_eq!(rt;
-            run_over(rt.alloc(), call, &mut out)?,
-            (Ok(4), count),
-            "call {call}"
+        same(
+            &rt,
+            &(call, run_over(rt.alloc(), call, &mut out)?),
+            &(call, (Ok(4), count)),
         );
-        assert_eq!(rt; out.as_slice(), wanted, "call {call}");
+        same(&rt, &(call, out.as_slice()), &(call, wanted));
     }
     Ok(())
 }
@@ -140,11 +140,11 @@ fn disk_of_room(alloc: Global) -> Result<MemoryDisk, Fail> {
 #[test]
 fn builds_what_a_disk_holds(rt: HostRuntime) -> Result<(), Fail> {
     let wad = build_after_any_stop(rt.alloc(), disk_of_room(rt.alloc())?)?;
-    assert_eq!(rt; wad.len(), 515);
+    same(&rt, &wad.len(), &515);
     let Err(refused) = build_after_any_stop(rt.alloc(), empty_disk(rt.alloc())?) else {
         return Err(Fail::from("an empty disk is built"));
     };
-    assert_eq!(rt; refused.code(), 42);
+    same(&rt, &refused.code(), &42);
     Ok(())
 }
 

@@ -1,3 +1,4 @@
+use crate::expect::same;
 use crate::project::{FILLS, SMALL, bytes_from, created, empty_disk, found, opened, vertices};
 use lv_disk::{DeviceFault, Disk, FaultDisk, Fill, MemoryDisk};
 use lv_project::{Project, ProjectError};
@@ -25,11 +26,23 @@ const FAULTS: &[(u64, u32, bool)] = &[
 
 // The first line of a project finds a fault, and nothing is accepted from then on.
 fn expect_closed<D: Disk>(rt: &impl Abort, project: &mut Project<D>) {
-    assert_eq!(rt; project.apply(b"vertex 0 0"), Err(ProjectError::Device));
-    assert_eq!(rt; (project.must_reopen(), vertices(project)), (true, 0));
-    assert_eq!(rt; project.apply(b"vertex 1 0"), Err(ProjectError::Reopen));
-    assert_eq!(rt; project.apply(b"no command"), Err(ProjectError::Reopen));
-    assert_eq!(rt; project.checkpoint(), Err(ProjectError::Reopen));
+    same(
+        rt,
+        &project.apply(b"vertex 0 0"),
+        &Err(ProjectError::Device),
+    );
+    same(rt, &(project.must_reopen(), vertices(project)), &(true, 0));
+    same(
+        rt,
+        &project.apply(b"vertex 1 0"),
+        &Err(ProjectError::Reopen),
+    );
+    same(
+        rt,
+        &project.apply(b"no command"),
+        &Err(ProjectError::Reopen),
+    );
+    same(rt, &project.checkpoint(), &Err(ProjectError::Reopen));
 }
 
 #[test]
@@ -109,9 +122,9 @@ fn expect_counts(
     for &(fill, keeps) in KEEPS {
         let want = if keeps { new } else { old };
         let left = disk.inner().stop(alloc, fill, true)?;
-        assert_eq!(rt; counts(alloc, left)?, want, "{fill:?}");
+        same(rt, &(fill, counts(alloc, left)?), &(fill, want));
     }
-    assert_eq!(rt; counts(alloc, disk)?, new);
+    same(rt, &counts(alloc, disk)?, &new);
     Ok(())
 }
 
@@ -212,7 +225,7 @@ fn fills_a_slot_and_then_opens_it(rt: HostRuntime) -> Result<(), Fail> {
     for &(before, k, part, at, want) in WRITES {
         let mut disk = failed_checkpoint(&rt, rt.alloc(), before, k, part)?;
         let bytes = bytes_from(rt.alloc(), &mut disk, at, want.len())?;
-        assert_eq!(rt; bytes.as_slice(), want, "{k} {part} {at}");
+        same(&rt, &(k, part, at, bytes.as_slice()), &(k, part, at, want));
     }
     Ok(())
 }
@@ -233,7 +246,7 @@ fn expect_stops(
         };
         for longest in [false, true] {
             let left = found(alloc, disk.inner().stop(alloc, fill, longest)?)?;
-            assert_eq!(rt; left, (vertex_count, want), "{fill:?}");
+            same(rt, &(fill, left), &(fill, (vertex_count, want)));
         }
     }
     Ok(())

@@ -203,14 +203,15 @@ fn heads_alone_are_refused(rt: HostRuntime) {
 fn bytes_that_hold_no_level_are_refused(rt: HostRuntime) -> Result<(), Fail> {
     let mut wad = built(&rt, rt.alloc(), &[ROOM]);
     for (len, error) in [(514, ReadError::DirectoryOutside), (11, ReadError::NotAWad)] {
-        assert!(rt; len <= wad.len());
-        assert_eq!(rt;
-            read_level(rt.alloc(), &wad[..len], b"MAP01").err(),
-            Some(error)
+        holds(&rt, len <= wad.len());
+        same(
+            &rt,
+            &read_level(rt.alloc(), &wad[..len], b"MAP01").err(),
+            &Some(error),
         );
     }
     let other = read_level(rt.alloc(), &wad, b"MAP02").err();
-    assert_eq!(rt; other, Some(ReadError::NoSuchLevel));
+    same(&rt, &other, &Some(ReadError::NoSuchLevel));
     for (place, byte, refused) in [
         (0, b'Q', Some(ReadError::NotAWad)),
         (503, 233, Some(ReadError::LumpOutside)),
@@ -218,12 +219,16 @@ fn bytes_that_hold_no_level_are_refused(rt: HostRuntime) -> Result<(), Fail> {
         (375, 15, Some(ReadError::LumpLength)),
         (379, b'M', Some(ReadError::LumpMissing)),
     ] {
-        assert_eq!(rt; refused_at(&rt, rt.alloc(), &mut wad, place, byte), refused);
+        same(
+            &rt,
+            &refused_at(&rt, rt.alloc(), &mut wad, place, byte),
+            &refused,
+        );
     }
     wad.extend_from_slice(b"\0\0\0\0\0\0\0\0BEHAVIOR")?;
     let hexen = refused_at(&rt, rt.alloc(), &mut wad, 4, 12);
-    assert_eq!(rt; hexen, Some(ReadError::HexenLevel));
-    assert_eq!(rt; ReadError::HexenLevel.code(), 75);
+    same(&rt, &hexen, &Some(ReadError::HexenLevel));
+    same(&rt, &ReadError::HexenLevel.code(), &75);
     Ok(())
 }
 
@@ -245,10 +250,18 @@ fn maps_that_cannot_be_built_are_refused(rt: HostRuntime) {
         ),
     ] {
         let maps = drawn(&rt, rt.alloc(), lines);
-        assert_eq!(rt; build_wad(rt.alloc(), maps.current()).err(), Some(error));
-        assert_eq!(rt; error.code(), code);
-        assert_eq!(rt; blockmap(rt.alloc(), maps.current()).err(), Some(cause));
-        assert_eq!(rt; cause.code(), code);
+        same(
+            &rt,
+            &build_wad(rt.alloc(), maps.current()).err(),
+            &Some(error),
+        );
+        same(&rt, &error.code(), &code);
+        same(
+            &rt,
+            &blockmap(rt.alloc(), maps.current()).err(),
+            &Some(cause),
+        );
+        same(&rt, &cause.code(), &code);
     }
 }
 

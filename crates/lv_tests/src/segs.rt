@@ -3,7 +3,7 @@ ghost use Rattle.lv_segs.specs.Pieces.{IsPiece};
 ghost use Rattle.lv_segs.specs.Edges.{edges_of};
 
 use crate::drawing::{CUT, L, SECTOR, SLIVER, drawn};
-use crate::expect::same;
+use crate::expect::{holds, same};
 use lv_lumps::{Bounds, Vertex};
 use lv_maptables::Map;
 use lv_segs::{
@@ -131,12 +131,12 @@ fn pieces_are_cut(rt: HostRuntime) -> Result<(), Fail> {
     for &(lines, [at, by], place, [right, left]) in CUTS {
         let maps = drawn(&rt, rt.alloc(), lines);
         let pieces = pieces_of(rt.alloc(), maps.current())?;
-        assert!(rt; at < pieces.len());
-        assert!(rt; by < pieces.len());
+        holds(&rt, at < pieces.len());
+        holds(&rt, by < pieces.len());
         let (found, parts) = parts(maps.current(), &pieces, at, by);
-        assert_eq!(rt; found, place);
-        assert_eq!(rt; fields(parts.right), right);
-        assert_eq!(rt; fields(parts.left), left);
+        same(&rt, &found, &place);
+        same(&rt, &fields(parts.right), &right);
+        same(&rt, &fields(parts.left), &left);
     }
     Ok(())
 }
@@ -183,18 +183,18 @@ fn nth_place(n: u32) -> Vertex {
 fn numbers_each_place_once(rt: HostRuntime) -> Result<(), Fail> {
     let maps = drawn(&rt, rt.alloc(), &[b"vertex 0 0", b"vertex 1 0"]);
     let mut points = Points::new(rt.alloc(), maps.current())?;
-    assert_eq!(rt; points.len(), 2);
+    same(&rt, &points.len(), &2);
     for n in 0..32_767 {
-        assert_eq!(rt; points.number(nth_place(n)), Ok(n));
+        same(&rt, &points.number(nth_place(n)), &Ok(n));
     }
     let next = points.number(nth_place(32_767));
-    assert_eq!(rt; next, Err(SegsError::TooManyVertices));
-    assert_eq!(rt; SegsError::TooManyVertices.code(), 61);
-    assert_eq!(rt; points.len(), 32_767);
+    same(&rt, &next, &Err(SegsError::TooManyVertices));
+    same(&rt, &SegsError::TooManyVertices.code(), &61);
+    same(&rt, &points.len(), &32_767);
     for n in 0..32_767 {
-        assert_eq!(rt; points.at(n), Some(nth_place(n)));
-        assert_eq!(rt; points.number(nth_place(n)), Ok(n));
+        same(&rt, &points.at(n), &Some(nth_place(n)));
+        same(&rt, &points.number(nth_place(n)), &Ok(n));
     }
-    assert_eq!(rt; points.at(32_767), None);
+    same(&rt, &points.at(32_767), &None);
     Ok(())
 }

@@ -23,9 +23,13 @@ fn opens_the_greater_generation(rt: HostRuntime) -> Result<(), Fail> {
     for (a, b, end, slot, generation, body) in &rows {
         let mut disk = disk_with(rt.alloc(), a, b, *end)?;
         let (slots, found) = opened(rt.alloc(), &mut disk)?;
-        assert_eq!(rt; (found.slot, found.generation), (*slot, *generation));
-        assert_eq!(rt; (slots.slot(), slots.generation()), (*slot, *generation));
-        assert_eq!(rt; found.body.as_slice(), *body);
+        same(&rt, &(found.slot, found.generation), &(*slot, *generation));
+        same(
+            &rt,
+            &(slots.slot(), slots.generation()),
+            &(*slot, *generation),
+        );
+        same(&rt, &found.body.as_slice(), &(*body));
     }
     Ok(())
 }

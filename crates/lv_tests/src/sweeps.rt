@@ -1,5 +1,6 @@
 //! Lists of lines over disks of which one call after the other fails, opened again without a stop and after stops.
 
+use crate::expect::same;
 use crate::project::{FILLS, SMALL, created, opened};
 use lv_commands::{apply, parse};
 use lv_disk::{Disk, FaultDisk, MemoryDisk};
@@ -155,7 +156,7 @@ fn fail_once(
         return Err(Fail::from("more lines than bodies"));
     };
     let new = bodies.get(n.saturating_add(1)).unwrap_or(last);
-    assert!(rt; body == *old, "{fault:?}");
+    same(rt, &(fault, body == *old), &(fault, true));
     let wanted = Wanted {
         old,
         new,
