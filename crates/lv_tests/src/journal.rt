@@ -1,43 +1,12 @@
-ghost use Rattle.std.specs.Prelude.{◌≡◌, IfOk, IfErr};
 ghost use Rattle.lv_journal.specs.State.{IsReadyIn};
 
 use crate::expect::same;
-use lv_disk::{Area, Disk, FaultDisk, Fill, MemoryDisk};
+use crate::ready::{AREA, blanked, opened, refreshed};
+use lv_disk::{Disk, FaultDisk, Fill, MemoryDisk};
 use lv_journal::{Journal, JournalError, blank};
 use std::alloc::Global;
 use std::process::Abort;
 use std::test::Fail;
-
-const AREA: Area = Area {
-    base: 144,
-    length: 512,
-};
-
-// A journal, opened on a disk of which all is on the device.
-fn opened<D: Disk>(alloc: Global, disk: &mut D) -> Result<Journal, JournalError>
-    ensures ready { IfOk result (λ journal. IsReadyIn journal (D.may_leave disk.new)) }
-{
-    disk.sync()?;
-    Journal::open(alloc, disk, AREA)
-}
-
-// The journal of a blank area, with the first gate on the device.
-fn blanked<D: Disk>(disk: &mut D) -> Result<Journal, JournalError>
-    ensures ready { IfOk result (λ journal. IsReadyIn journal (D.may_leave disk.new)) }
-{
-    let journal = blank(disk, AREA)?;
-    disk.sync()?;
-    Ok(journal)
-}
-
-// The same by `fresh`, of an area whose first gate is closed on the device.
-fn refreshed<D: Disk>(disk: &mut D) -> Result<Journal, JournalError>
-    ensures ready { IfOk result (λ journal. IsReadyIn journal (D.may_leave disk.new)) }
-{
-    blank(disk, AREA)?;
-    disk.sync()?;
-    Ok(Journal::fresh(disk, AREA))
-}
 
 // A disk with these bytes from the area on.
 fn disk_with(alloc: Global, bytes: &[u8]) -> Result<MemoryDisk, Fail> {
@@ -68,6 +37,28 @@ fn bytes_from<D: Disk>(alloc: Global, disk: &mut D, at: u64) -> Result<Vec<u8>, 
     Ok(bytes)
 }
 
+// What a stop left of a journal with `first`, and with `second` where that was `done`: both, or `first` alone where the
+// second wasn't acknowledged. It goes on from there.
+fn expect_left<D: Disk>(
+    rt: &impl Abort,
+    alloc: Global,
+    left: &mut D,
+    done: bool,
+    stop: &(u64, u32, Fill, bool),
+) -> Result<(), Fail> {
+    let mut journal = opened(alloc, left)?;
+    let both = holds(&journal, &[b"first", b"second"]);
+    let one = holds(&journal, &[b"first"]);
+    same(rt, &(stop, both || (!done && one)), &(stop, true));
+    journal.append(left, b"third")?;
+    let last = opened(alloc, left)?;
+    let all = holds(&last, &[b"first", b"second", b"third"]);
+    same(rt, &(stop, all), &(stop, both));
+    let count = if both { 3 } else { 2 };
+    same(rt, &last.records().len(), &count);
+    Ok(())
+}
+
 // What a stop leaves of a journal with one record, `first`, to which `second` is appended where the k-th device call
 // fails, none where `k` is 0.
 fn expect_outcomes(rt: &impl Abort, alloc: Global, k: u64, part: u32) -> Result<(), Fail> {
@@ -87,44 +78,13 @@ fn expect_outcomes(rt: &impl Abort, alloc: Global, k: u64, part: u32) -> Result<
     ] {
         for longest in [false, true] {
             let mut left = disk.inner().stop(alloc, fill, longest)?;
-            let mut again = opened(alloc, &mut left)?;
-            let both = holds(&again, &[b"first", b"second"]);
-            same(
-                rt,
-                &(
-                    k,
-                    part,
-                    fill,
-                    longest,
-                    both || (!done && holds(&again, &[b"first"])),
-                ),
-                &(k, part, fill, longest, true),
-            );
-            // It goes on from there.
-            again.append(&mut left, b"third")?;
-            let last = opened(alloc, &mut left)?;
-            same(
-                rt,
-                &(
-                    k,
-                    part,
-                    fill,
-                    longest,
-                    holds(&last, &[b"first", b"second", b"third"]) == both,
-                ),
-                &(k, part, fill, longest, true),
-            );
-            let count = if both { 3 } else { 2 };
-            same(rt, &last.records().len(), &count);
+            expect_left(rt, alloc, &mut left, done, &(k, part, fill, longest))?;
         }
     }
     let again = opened(alloc, &mut disk)?;
     let both = holds(&again, &[b"first", b"second"]);
-    same(
-        rt,
-        &(k, part, both || (!done && holds(&again, &[b"first"]))),
-        &(k, part, true),
-    );
+    let one = holds(&again, &[b"first"]);
+    same(rt, &(k, part, both || (!done && one)), &(k, part, true));
     Ok(())
 }
 

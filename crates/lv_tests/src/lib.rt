@@ -47,6 +47,7 @@ mod project_run;
 mod project_stops;
 #[cfg(test)]
 mod pwad;
+mod ready;
 #[cfg(test)]
 mod segs;
 #[cfg(test)]

@@ -126,7 +126,7 @@ fn sectors_and_lines_have_their_bytes(rt: HostRuntime) {
 }
 
 #[test]
-fn built_lists_go_both_ways(rt: HostRuntime) -> Result<(), Fail> {
+fn seg_lists_go_both_ways(rt: HostRuntime) -> Result<(), Fail> {
     let segs = [
         seg(0, 1, 0x4000, 0),
         seg(1, 2, 0, 1),
@@ -143,7 +143,11 @@ fn built_lists_go_both_ways(rt: HostRuntime) -> Result<(), Fail> {
         &decode_segs(rt.alloc(), &ROOM_SEGS)?.as_slice(),
         &segs.as_slice(),
     );
+    Ok(())
+}
 
+#[test]
+fn node_lists_go_both_ways(rt: HostRuntime) -> Result<(), Fail> {
     let nodes = [l_node()];
     same(
         &rt,
@@ -155,7 +159,11 @@ fn built_lists_go_both_ways(rt: HostRuntime) -> Result<(), Fail> {
         &decode_nodes(rt.alloc(), &L_NODES)?.as_slice(),
         &nodes.as_slice(),
     );
+    Ok(())
+}
 
+#[test]
+fn subsector_lists_go_both_ways(rt: HostRuntime) -> Result<(), Fail> {
     let subs = [Sub { count: 4, first: 0 }, Sub { count: 3, first: 4 }];
     let bytes = [0x04, 0x00, 0x00, 0x00, 0x03, 0x00, 0x04, 0x00];
     same(
