@@ -1,41 +1,33 @@
-# Proves and builds `leveled`; `make demo` runs it on an example, `make test` is the whole gate, and
-# `make stress` kills the program in the midst of edits, looks at its edges, and refuses each allocation in turn.
-# Wants the Rattle toolchain (`rt` on the PATH) and nothing else.
+# `make demo` and `make test` run the program and its tests, unproved, in minutes. `make` proves the program and builds it;
+# `make prove` is the gate. All want the Rattle toolchain (`rt` on the PATH) and nothing else.
 
 PREFIX ?= /usr/local
 EXAMPLE ?= examples/two_rooms.txt
 DOC = $(PREFIX)/share/doc/leveled
 
-.PHONY: all demo test stress install uninstall clean distclean
+.PHONY: all demo test prove stress install uninstall package package-test clean distclean
 
-all: bin/leveled
+# proves the crates side by side; bin/leveled is made only once it and all that it stands on are proved
+all:
+	scripts/prove
 
-# the program is built only once it and all that it stands on are proved
-bin/leveled: FORCE
-	cd crates/leveled && rt run -- --version
-	mkdir -p bin
-	cp crates/leveled/out/leveled bin/leveled
+# an example drawn, checked, built and inspected, each command beside its answer; unproved where bin/leveled isn't made yet
+demo:
+	scripts/demo $(EXAMPLE)
 
-# each command beside its answer, drawn into a project file that is then opened again, built and inspected
-demo: bin/leveled
-	@rm -f bin/demo.lv
-	bin/leveled create bin/demo.lv
-	@bin/leveled edit bin/demo.lv < $(EXAMPLE) > bin/answers
-	@awk -v answers=bin/answers -f examples/beside.awk $(EXAMPLE)
-	echo count | bin/leveled edit bin/demo.lv
-	@echo 'That line is of the file, opened again: each command answered ok is in it.'
-	@echo bin/leveled build bin/demo.lv bin/demo.wad
-	@if bin/leveled build bin/demo.lv bin/demo.wad; then \
-		name=$$(sed -n 's/^name //p' $(EXAMPLE)); name=$${name:-MAP01}; \
-		echo bin/leveled inspect bin/demo.wad $$name; bin/leveled inspect bin/demo.wad $$name; \
-		echo 'bin/demo.wad is a PWAD: chocolate-doom -file bin/demo.wad'; fi
-
+# every test and each program's stored run, unproved, with every access and sum checked as it runs
 test:
+	scripts/kit
+	scripts/house
+	scripts/test
+
+# the gate: every proof from nothing, the wrong bodies, the tests proved and run, the programs as two compilers build them
+prove:
 	rt ci
 
 # what the gate can't look at: kills at any moment, closed and full outputs, a full disk, files that are no project or can't
 # be read, damaged projects and PWADs, trees of maps just at each limit and just above it, and each allocation refused in turn
-stress: bin/leveled
+stress: all
 	bench/stops bin/leveled 200
 	sh crates/leveled/edges.sh bin/leveled
 	sh bench/faults bin/leveled
@@ -43,8 +35,9 @@ stress: bin/leveled
 	bench/limits
 	bench/memory
 
-# the program, its manual page, and what a user reads and runs
-install: bin/leveled
+# the program, its manual page, and what a user reads and runs; nothing is proved or built here
+install:
+	@test -x bin/leveled || { echo 'There is no bin/leveled: make comes first.' >&2; exit 1; }
 	install -d $(DESTDIR)$(PREFIX)/bin $(DESTDIR)$(PREFIX)/share/man/man1 $(DESTDIR)$(DOC)/examples
 	install -m 755 bin/leveled $(DESTDIR)$(PREFIX)/bin/leveled
 	install -m 644 docs/leveled.1 $(DESTDIR)$(PREFIX)/share/man/man1/leveled.1
@@ -55,11 +48,17 @@ uninstall:
 	rm -f $(DESTDIR)$(PREFIX)/bin/leveled $(DESTDIR)$(PREFIX)/share/man/man1/leveled.1
 	rm -rf $(DESTDIR)$(DOC)
 
-# the results of the proofs stay, so that the next build is quick
+# a Debian package and a plain archive of bin/leveled, in bin/
+package:
+	scripts/package
+
+# installs both into clean folders, runs them there and removes them
+package-test:
+	scripts/package-test
+
+# what was proved stays kept, so that the next build is quick
 clean:
 	rm -rf bin
 
 distclean: clean
 	rm -rf crates/*/out
-
-FORCE:
