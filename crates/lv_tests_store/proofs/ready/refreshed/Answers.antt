@@ -1,4 +1,4 @@
-use Rattle.lv_tests.proofs.ready.refreshed.Goals as goal
+use Rattle.lv_tests_store.proofs.ready.refreshed.Goals as goal
 
 pub fresh-requires-clause-closed : goal.fresh-requires-clause-closed
 fresh-requires-clause-closed g c file left =

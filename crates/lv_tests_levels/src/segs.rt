@@ -1,3 +1,5 @@
+//! Angles, points, offsets, pieces that are cut, their boxes, and numbered places.
+
 ghost use Rattle.std.specs.Prelude.{◌<◌, length, All};
 ghost use Rattle.lv_segs.specs.Pieces.{IsPiece};
 ghost use Rattle.lv_segs.specs.Edges.{edges_of};

@@ -1,7 +1,8 @@
 //! Room in a slot and in a journal, and the last generation.
 
 use crate::expect::same;
-use crate::project::{SMALL, bytes_from, created, disk_after, empty_disk, found, opened, vertices};
+use crate::project::{bytes_from, disk_after};
+use crate::small::{SMALL, created, empty_disk, found, opened, vertices};
 use lv_commands::CommandError;
 use lv_disk::{DeviceFault, Disk, FaultDisk, MemoryDisk};
 use lv_project::{Project, ProjectError};

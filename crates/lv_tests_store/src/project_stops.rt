@@ -1,5 +1,8 @@
+//! Calls that fail within a project's lines and checkpoints, and what is found when it is opened again.
+
 use crate::expect::same;
-use crate::project::{FILLS, SMALL, bytes_from, created, empty_disk, found, opened, vertices};
+use crate::project::bytes_from;
+use crate::small::{FILLS, SMALL, created, empty_disk, found, opened, vertices};
 use lv_disk::{DeviceFault, Disk, FaultDisk, Fill, MemoryDisk};
 use lv_project::{Project, ProjectError};
 use std::alloc::Global;

@@ -1,3 +1,5 @@
+//! Records and their bytes, lists both ways, and the sides of a line.
+
 use crate::expect::{holds, same};
 use lv_lumps::{
     Bounds, Line, LumpError, Name8, Node, Point, Ray, Sector, Seg, Side, Sub, Thing, Vertex,

@@ -1,12 +1,11 @@
 //! Lines over a project, and the subcommands that take a file.
 
-use crate::drawing::ROOM;
 use crate::expect::{holds, same};
-use crate::project::{SMALL, created, empty_disk, found, vertices};
 use crate::streams::Narrow;
 use lv_disk::{Disk, FaultDisk, FileDisk, MemoryDisk};
 use lv_editor::{EditorError, RequestError, answer, build_after_any_stop, perform, request, run};
 use lv_project::{Geometry, Project};
+use lv_tests_store::small::{SMALL, created, empty_disk, found, vertices};
 use std::alloc::Global;
 use std::fs;
 use std::io::Write;
@@ -133,7 +132,7 @@ fn disk_of_room(alloc: Global) -> Result<MemoryDisk, Fail> {
         journal: 512,
     };
     let mut project = created(alloc, empty_disk(alloc)?, geometry)?;
-    project.apply(ROOM)?;
+    project.apply(b"room 0 0 128 128 0 128 FLOOR4_8 CEIL3_5 STARTAN3 160")?;
     Ok(project.into_disk())
 }
 

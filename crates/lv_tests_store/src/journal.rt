@@ -1,3 +1,5 @@
+//! A journal's bytes, what it is opened with, and what stops and failing calls leave of it.
+
 ghost use Rattle.lv_journal.specs.State.{IsReadyIn};
 
 use crate::expect::same;

@@ -1,81 +1,12 @@
-//! Projects that lines of input draw, and what else commands make of them.
+//! Lines over drawn projects, each with its answer: several maps, and tables at their limits.
 
+use crate::drawing::{AMPLE, ROOM, SECTOR, SIDE, answer, drawn};
 use crate::expect::{holds, same};
-use lv_commands::{CommandError, apply, commit, parse, ready};
+use lv_commands::{CommandError, commit, parse, ready};
 use lv_lumps::Vertex;
 use lv_maptables::{Kind, Maps};
-use std::alloc::Global;
 use std::process::Abort;
 use std::test::Fail;
-
-/// The longest body that a project of one map can have.
-pub const AMPLE: u32 = 2_007_002;
-
-pub const ROOM: &[u8] = b"room 0 0 128 128 0 128 FLOOR4_8 CEIL3_5 STARTAN3 160";
-
-pub const SECTOR: &[u8] = b"sector 0 128 FLOOR4_8 CEIL3_5 160 0 0";
-
-pub const SIDE: &[u8] = b"side 0 0 - - STARTAN3 0";
-
-/// Six lines round an L. The third and the fourth of them cut it, and cost the same.
-#[rattlefmt::skip]
-pub const L: [&[u8]; 14] = [
-    b"vertex 0 0", b"vertex 0 256", b"vertex 128 256", b"vertex 128 128", b"vertex 256 128", b"vertex 256 0",
-    SECTOR, SIDE,
-    b"line 0 1 1 0 0 0 -", b"line 1 2 1 0 0 0 -", b"line 2 3 1 0 0 0 -", b"line 3 4 1 0 0 0 -",
-    b"line 4 5 1 0 0 0 -", b"line 5 0 1 0 0 0 -",
-];
-
-/// Two lines that cut both sides of a third between whole places, at 20/50.
-#[rattlefmt::skip]
-pub const CUT: [&[u8]; 11] = [
-    b"vertex 0 0", b"vertex 10 3", b"vertex 4 10", b"vertex 4 5", b"vertex 4 -5", b"vertex 4 -10",
-    SECTOR, b"side 0 0 - - - 0",
-    b"line 0 1 4 0 0 0 0", b"line 2 3 1 0 0 0 -", b"line 4 5 1 0 0 0 -",
-];
-
-/// A line that crosses another one so near to its end that the crossing rounds to that end.
-#[rattlefmt::skip]
-pub const SLIVER: [&[u8]; 8] = [
-    b"vertex 10 0", b"vertex 0 0", b"vertex 8 17", b"vertex 9 7", SECTOR, SIDE,
-    b"line 0 1 1 0 0 0 -", b"line 2 3 1 0 0 0 -",
-];
-
-/// Two rooms with a two-sided line between them.
-#[rattlefmt::skip]
-pub const TWO_ROOMS: [&[u8]; 11] = [
-    ROOM, SECTOR, b"side 0 0 - - - 1", b"side 0 0 - - STARTAN3 1", b"set-side 2 0 0 - - - 0",
-    b"vertex 256 128", b"vertex 256 0", b"set-line 2 2 3 4 0 0 2 4",
-    b"line 2 4 1 0 0 5 -", b"line 4 5 1 0 0 5 -", b"line 5 3 1 0 0 5 -",
-];
-
-// The number that a line is answered with, or the code; 999 where the body is too long already.
-fn answer(maps: &mut Maps, line: &[u8], cap: u32) -> Result<u32, u16> {
-    match parse(line) {
-        Ok(command) => {
-            if maps.body_len() > cap {
-                return Err(999);
-            }
-            apply(maps, &command, cap).map_err(|error| error.code())
-        }
-        Err(error) => Err(error.code()),
-    }
-}
-
-/// Draws a line, which is accepted.
-pub fn draw(rt: &impl Abort, maps: &mut Maps, line: &[u8]) {
-    let answered = answer(maps, line, AMPLE);
-    assert!(rt; answered.is_ok(), "{line:?}");
-}
-
-/// The project that the lines draw, each of which is accepted.
-pub fn drawn(rt: &impl Abort, alloc: Global, lines: &[&[u8]]) -> Maps {
-    let mut maps = Maps::new(alloc);
-    for line in lines {
-        draw(rt, &mut maps, *line);
-    }
-    maps
-}
 
 // A line, and the number or the code that it is answered with.
 type Answer = (&'static [u8], Result<u32, u16>);

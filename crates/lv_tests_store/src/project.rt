@@ -1,53 +1,12 @@
 //! A project: its file, and how another file is refused.
 
 use crate::expect::same;
+use crate::small::{FILLS, SMALL, created, empty_disk, found, opened, vertices};
 use lv_commands::CommandError;
 use lv_disk::{DeviceFault, Disk, FaultDisk, Fill, MemoryDisk};
-use lv_maptables::Kind;
 use lv_project::{Geometry, Project, ProjectError};
 use std::alloc::Global;
 use std::test::Fail;
-
-/// Slots at 16 and 80, journals at 144 and 656, and a new file of 657 bytes.
-pub const SMALL: Geometry = Geometry {
-    slot: 64,
-    journal: 512,
-};
-
-/// What a stop may leave, by its fill.
-pub const FILLS: &[Fill] = &[
-    Fill::Stable,
-    Fill::Written,
-    Fill::Byte(0),
-    Fill::Byte(165),
-    Fill::Upto(1),
-    Fill::Upto(7),
-];
-
-/// A new project on this disk.
-pub fn created<D: Disk + Drop>(
-    alloc: Global,
-    disk: D,
-    geometry: Geometry,
-) -> Result<Project<D>, ProjectError> {
-    match Project::create(alloc, disk, geometry) {
-        Ok(project) => Ok(project),
-        Err(refused) => Err(refused.error),
-    }
-}
-
-/// The project of this disk.
-pub fn opened<D: Disk + Drop>(alloc: Global, disk: D) -> Result<Project<D>, ProjectError> {
-    match Project::open(alloc, disk) {
-        Ok(project) => Ok(project),
-        Err(refused) => Err(refused.error),
-    }
-}
-
-/// A disk with room for a small project.
-pub fn empty_disk(alloc: Global) -> Result<MemoryDisk, Fail> {
-    Ok(MemoryDisk::new(alloc, 2048, 65536)?)
-}
 
 /// A disk with a small project in which these lines were accepted.
 pub fn disk_after(alloc: Global, lines: &[&[u8]]) -> Result<MemoryDisk, Fail> {
@@ -72,17 +31,6 @@ pub fn bytes_from<D: Disk>(
         disk.read(at, &mut bytes)?;
     }
     Ok(bytes)
-}
-
-/// How many vertices the project's current map has.
-pub fn vertices<D: Disk>(project: &Project<D>) -> u32 {
-    project.map().count(Kind::Vertex)
-}
-
-/// The vertices of the current map of a disk's project, and its generation.
-pub fn found<D: Disk + Drop>(alloc: Global, disk: D) -> Result<(u32, u64), ProjectError> {
-    let project = opened(alloc, disk)?;
-    Ok((vertices(&project), project.generation()))
 }
 
 // What a new file has but zeros: the header, and slot A with its gate, the generation 1, the length 20 and the body.

@@ -1,12 +1,12 @@
 //! Lists of lines over disks of which one call after the other fails, opened again without a stop and after stops.
 
 use crate::expect::same;
-use crate::project::{FILLS, SMALL, created, opened};
 use lv_commands::{apply, parse};
 use lv_disk::{Disk, FaultDisk, MemoryDisk};
 use lv_editor::run;
 use lv_maptables::Maps;
 use lv_project::Project;
+use lv_tests_store::small::{FILLS, SMALL, created, opened};
 use std::alloc::Global;
 use std::process::Abort;
 use std::test::Fail;

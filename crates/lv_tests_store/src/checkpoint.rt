@@ -1,3 +1,5 @@
+//! The change from one slot to the other: its writes in their order, and what a stop within it leaves.
+
 ghost use Rattle.std.specs.Prelude.{◌≡◌, ◌≤◌, ◌<◌, ◌+◌, ◌^◌, length, IfOk};
 ghost use Rattle.lv_disk.specs.Stops.{Each};
 ghost use Rattle.lv_checkpoint.specs.Handles.{body_in, generation_in, generation_of, other_of, second_of, HasSomeSlots};

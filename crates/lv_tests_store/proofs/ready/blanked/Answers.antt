@@ -2,7 +2,7 @@ use Rattle.std.proofs.Common.{[], sym, ap, subst}
 use Rattle.lv_disk.specs.declared.area.Area.{Area}
 use Rattle.lv_journal.specs.Records.{IsJournal}
 use Rattle.lv_journal.specs.State.{State}
-use Rattle.lv_tests.proofs.ready.blanked.Goals as goal
+use Rattle.lv_tests_store.proofs.ready.blanked.Goals as goal
 
 pub returns : goal.returns
 returns g c = record {
