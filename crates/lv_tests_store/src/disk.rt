@@ -2,8 +2,8 @@
 
 use crate::expect::same;
 use lv_disk::{
-    Area, CLOSED_GATE, DeviceFault, Disk, FaultDisk, Fill, MemoryDisk, OPEN_GATE,
-    OutOfMemory, write_through,
+    Area, CLOSED_GATE, DeviceFault, Disk, FaultDisk, Fill, MemoryDisk, OPEN_GATE, OutOfMemory,
+    write_through,
 };
 use std::alloc::Global;
 use std::process::Abort;
@@ -44,12 +44,7 @@ fn leaves(
 type Image = (Fill, &'static [u8], &'static [u8]);
 
 // Each fill leaves its two images.
-fn expect_stops(
-    rt: &impl Abort,
-    alloc: Global,
-    disk: &MemoryDisk,
-    row: &Row,
-) -> Result<(), Fail> {
+fn expect_stops(rt: &impl Abort, alloc: Global, disk: &MemoryDisk, row: &Row) -> Result<(), Fail> {
     for &(fill, longest, shortest) in row.images {
         let is_longest = leaves(alloc, disk, fill, true, longest)?;
         let is_shortest = leaves(alloc, disk, fill, false, shortest)?;
@@ -283,7 +278,11 @@ fn fails_the_kth_call(rt: HostRuntime) -> Result<(), Fail> {
     for &(k, part, read) in PARTS {
         let mut disk = failing(rt.alloc(), k, part)?;
         let failed = three_calls(&mut disk);
-        same(&rt, &(k, part, failed), &(k, part, [k == 1, k == 2, k == 3]));
+        same(
+            &rt,
+            &(k, part, failed),
+            &(k, part, [k == 1, k == 2, k == 3]),
+        );
         expect_part(&rt, rt.alloc(), disk.inner(), (k, part), read)?;
     }
     Ok(())

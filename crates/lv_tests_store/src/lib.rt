@@ -12,6 +12,8 @@ mod file_disk;
 #[cfg(test)]
 mod journal;
 #[cfg(test)]
+mod journal_stops;
+#[cfg(test)]
 mod project;
 #[cfg(test)]
 mod project_room;
