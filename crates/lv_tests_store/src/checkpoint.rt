@@ -4,7 +4,7 @@ ghost use Rattle.std.specs.Prelude.{◌≡◌, ◌≤◌, ◌<◌, ◌+◌, ◌^
 ghost use Rattle.lv_disk.specs.Stops.{Each};
 ghost use Rattle.lv_checkpoint.specs.Handles.{body_in, generation_in, generation_of, other_of, second_of, HasSomeSlots};
 
-use crate::expect::{holds, same};
+use crate::expect::same;
 use lv_checkpoint::{CheckpointError, Found, Image, Slots, first};
 use lv_disk::{Area, DeviceFault, Disk, FaultDisk, Fill, MemoryDisk};
 use std::alloc::Global;
@@ -118,13 +118,13 @@ fn bytes_from<D: Disk>(alloc: Global, disk: &mut D, at: u64, n: usize) -> Result
     Ok(bytes)
 }
 
-// Changes the live slot to one with this body, and answers which slot is live then, with which generation.
-fn expect_turned<D: Disk>(
+// Changes the live slot to one with this body: which slot is live then, with which generation.
+fn turn<D: Disk>(
     alloc: Global,
     disk: &mut D,
     body: &[u8],
     journal: Area,
-) -> Result<(u8, u64), Fail>
+) -> Result<(u8, u64), CheckpointError>
     requires behind { 144 ≤ journal.base }
     requires some { 0 < journal.length }
 {
@@ -134,209 +134,160 @@ fn expect_turned<D: Disk>(
     Ok((slots.slot(), slots.generation()))
 }
 
+/// Which slot of a disk is live, with which generation, as both results tell it; none where it has another body.
+pub fn live<D: Disk>(
+    alloc: Global,
+    disk: &mut D,
+    body: &[u8],
+) -> Result<Option<(u8, u64)>, CheckpointError> {
+    let (slots, found) = opened(alloc, disk)?;
+    let told = (found.slot, found.generation);
+    let is_same = (slots.slot(), slots.generation()) == told && found.body.as_slice() == body;
+    Ok(if is_same { Some(told) } else { None })
+}
+
+// A disk whose calls may fail.
+type Failing = FaultDisk<MemoryDisk>;
+
+fn failing(alloc: Global, k: u64, part: u32) -> Result<Failing, Fail> {
+    Ok(FaultDisk::new(MemoryDisk::new(alloc, 1024, 4096)?, k, part))
+}
+
+// The first slots are written by three calls, and no sync: slot 0 is live with the generation 1.
+fn expect_first(rt: &impl Abort, disk: &mut Failing) -> Result<(), Fail> {
+    let slots = first(disk, A, B, OLD)?;
+    let found = (slots.slot(), slots.generation(), disk.len());
+    same(rt, &found, &(0, 1, Err(DeviceFault)));
+    Ok(())
+}
+
+// Nothing of the first slots is on the device, and all of it is on the disk.
+fn expect_first_bytes(rt: &impl Abort, alloc: Global, disk: &mut Failing) -> Result<(), Fail> {
+    let synced = disk.inner().stop(alloc, Fill::Stable, false)?.len()?;
+    same(rt, &(synced, disk.len()?), &(0, 81));
+    let bytes = bytes_from(alloc, disk, 16, 37)?;
+    same(rt, &bytes.as_slice(), &FIRST);
+    let gate = bytes_from(alloc, disk, 80, 1)?;
+    same(rt, &gate.as_slice(), &[0].as_slice());
+    Ok(())
+}
+
+const FIRST: &[u8] = b"\xa5\x01\0\0\0\0\0\0\0\x18\0\0\0the old body of 24 bytes";
+
 #[test]
 fn writes_the_first_slots(rt: HostRuntime) -> Result<(), Fail> {
-    let mut disk = FaultDisk::new(MemoryDisk::new(rt.alloc(), 1024, 4096)?, 4, 0);
-    let slots = first(&mut disk, A, B, OLD)?;
-    same(&rt, &slots.slot(), &0);
-    same(&rt, &slots.generation(), &1);
-    // Three calls, and no sync.
-    same(&rt, &disk.len(), &Err(DeviceFault));
-    let mut synced = disk.inner().stop(rt.alloc(), Fill::Stable, false)?;
-    same(&rt, &synced.len()?, &0);
-    same(&rt, &disk.len()?, &81);
-    same(
-        &rt,
-        &bytes_from(rt.alloc(), &mut disk, 16, 37)?.as_slice(),
-        &b"\xa5\x01\0\0\0\0\0\0\0\x18\0\0\0the old body of 24 bytes".as_slice(),
-    );
-    same(
-        &rt,
-        &bytes_from(rt.alloc(), &mut disk, 80, 1)?.as_slice(),
-        &[0].as_slice(),
-    );
-    let (slots, found) = opened(rt.alloc(), &mut disk)?;
-    same(&rt, &(slots.slot(), slots.generation()), &(0, 1));
-    same(&rt, &(found.slot, found.generation), &(0, 1));
-    same(&rt, &found.body.as_slice(), &OLD);
+    let mut disk = failing(rt.alloc(), 4, 0)?;
+    expect_first(&rt, &mut disk)?;
+    expect_first_bytes(&rt, rt.alloc(), &mut disk)?;
+    let found = live(rt.alloc(), &mut disk, OLD)?;
+    assert_eq!(rt; found, Some((0, 1)));
+    Ok(())
+}
+
+#[test]
+fn answers_a_device_that_fails_at_first(rt: HostRuntime) -> Result<(), Fail> {
     for k in 1..4 {
-        let mut disk = FaultDisk::new(MemoryDisk::new(rt.alloc(), 1024, 4096)?, k, 0);
-        same(
-            &rt,
-            &(k, first(&mut disk, A, B, OLD).err()),
-            &(k, Some(DeviceFault)),
-        );
+        let mut disk = failing(rt.alloc(), k, 0)?;
+        let refused = first(&mut disk, A, B, OLD).err();
+        same(&rt, &(k, refused), &(k, Some(DeviceFault)));
     }
     Ok(())
 }
 
-// Changes the live slot by so many device calls, after which this slot and generation are live; the next call fails.
-fn expect_calls<D: Disk + Drop>(
-    rt: &impl Abort,
-    alloc: Global,
-    disk: D,
-    calls: u64,
-    journal: Area,
-    live: (u8, u64),
-) -> Result<FaultDisk<D>, Fail>
-    requires behind { 144 ≤ journal.base }
-    requires some { 0 < journal.length }
-    requires calls { calls < 100 }
+// The journal that begins behind the n-th change.
+fn journal_of(n: u32) -> Area
+    ensures behind { 144 ≤ result.base }
+    ensures some { 0 < result.length }
 {
-    let mut disk = disk;
-    let (slots, _) = opened(alloc, &mut disk)?;
-    let image = slots.image(alloc, NEW)?;
-    let mut disk = FaultDisk::new(disk, calls + 1, 0);
-    let slots = turned(&mut disk, slots, &image, journal)?;
-    same(rt, &disk.len(), &Err(DeviceFault));
-    same(rt, &(slots.slot(), slots.generation()), &live);
+    if n % 2 == 0 { JOURNAL_B } else { JOURNAL_A }
+}
+
+// A disk with the old body, after so many changes to a body.
+fn disk_after(alloc: Global, turns: u32, body: &[u8]) -> Result<MemoryDisk, Fail> {
+    let mut disk = disk_with_old(alloc)?;
+    for n in 0..turns {
+        turn(alloc, &mut disk, body, journal_of(n))?;
+    }
     Ok(disk)
 }
 
-#[test]
-fn changes_by_five_calls_and_by_seven(rt: HostRuntime) -> Result<(), Fail> {
-    let disk = disk_with_old(rt.alloc())?;
-    let disk = expect_calls(&rt, rt.alloc(), disk, 5, JOURNAL_B, (1, 2))?;
-    let disk = expect_calls(&rt, rt.alloc(), disk, 7, JOURNAL_A, (0, 3))?;
-    expect_calls(&rt, rt.alloc(), disk, 7, JOURNAL_B, (1, 4))?;
-    Ok(())
+// A disk that is changed to the new body after so many changes while the k-th call fails, none where `k` is 0, with the
+// first `part` bytes of its write put down; and which slot is then live with which generation, if no call failed.
+fn changed(
+    alloc: Global,
+    disk: MemoryDisk,
+    turns: u32,
+    call: (u64, u32),
+) -> Result<(Failing, Option<(u8, u64)>), Fail> {
+    let mut disk = disk;
+    let (slots, _) = opened(alloc, &mut disk)?;
+    let image = slots.image(alloc, NEW)?;
+    let mut disk = FaultDisk::new(disk, call.0, call.1);
+    let next = turned(&mut disk, slots, &image, journal_of(turns));
+    Ok((
+        disk,
+        next.ok().map(|slots| (slots.slot(), slots.generation())),
+    ))
 }
 
-// Where the k-th call of a change fails with the first `part` bytes of its write put down, so many bytes from a place
-// on are these.
-type Row<'a> = (u64, u32, u64, &'a [u8]);
+// How many changes came before one, the first call that it doesn't make, and what is live then.
+const CALLS: &[(u32, u64, (u8, u64))] = &[(0, 6, (1, 2)), (1, 8, (0, 3)), (2, 8, (1, 4))];
 
-// The change from a live body to `body` is these writes.
-fn expect_writes<'a>(
-    rt: &impl Abort,
-    alloc: Global,
-    turns: usize,
-    journal: Area,
-    rows: &[Row<'a>],
-) -> Result<(), Fail>
-    requires behind { 144 ≤ journal.base }
-    requires some { 0 < journal.length }
-{
-    for (k, part, at, want) in rows {
-        let mut disk = disk_with_old(alloc)?;
-        for _ in 0..turns {
-            expect_turned(alloc, &mut disk, NEW, JOURNAL_B)?;
-        }
-        let (slots, _) = opened(alloc, &mut disk)?;
-        let image = slots.image(alloc, NEW)?;
-        let mut disk = FaultDisk::new(disk, *k, *part);
-        same(
-            rt,
-            &(k, part, turned(&mut disk, slots, &image, journal).err()),
-            &(k, part, Some(DeviceFault)),
-        );
-        same(
-            rt,
-            &(
-                k,
-                part,
-                at,
-                bytes_from(alloc, &mut disk, *at, want.len())?.as_slice(),
-            ),
-            &(k, part, at, *want),
-        );
+#[test]
+fn changes_by_five_calls_and_by_seven(rt: HostRuntime) -> Result<(), Fail> {
+    for &(turns, k, want) in CALLS {
+        let disk = disk_after(rt.alloc(), turns, NEW)?;
+        let (mut disk, next) = changed(rt.alloc(), disk, turns, (k, 0))?;
+        let found = (turns, next, disk.len());
+        same(&rt, &found, &(turns, Some(want), Err(DeviceFault)));
     }
     Ok(())
 }
+
+const STAGED_B: &[u8] = b"\0\x02\0\0\0\0\0\0\0\x18\0\0\0the new body of 24 bytes";
+
+const OPENED_B: &[u8] = b"\xa5\x02\0\0\0\0\0\0\0\x18\0\0\0the new body of 24 bytes";
+
+const CLOSED_A: &[u8] = b"\0\x01\0\0\0\0\0\0\0\x18\0\0\0the old body of 24 bytes";
+
+const STAGED_A: &[u8] = b"\0\x03\0\0\0\0\0\0\0\x18\0\0\0the new body of 24 bytes";
+
+const OPENED_A: &[u8] = b"\xa5\x03\0\0\0\0\0\0\0\x18\0\0\0the new body of 24 bytes";
+
+// How many changes came before one of which the k-th call fails with the first `part` bytes of its write put down, and
+// bytes that then stand at a place. The first writes the content and then its gate; the second closes an open slot first.
+#[rattlefmt::skip]
+const WRITES: &[(u32, u64, u32, u64, &[u8])] = &[
+    (0, 1, 0, 80, b"\0\0\0"), (0, 1, 1, 80, b"\0\x02\0"), (0, 1, 36, 80, STAGED_B), (0, 2, 0, 80, STAGED_B),
+    (0, 2, 0, 656, b"\x07"), (0, 2, 1, 656, b"\0"), (0, 3, 0, 656, b"\0"), (0, 4, 0, 80, STAGED_B),
+    (0, 4, 1, 80, OPENED_B), (0, 5, 0, 80, OPENED_B), (0, 5, 0, 16, b"\xa5\x01"), (0, 5, 0, 144, b"\x07"),
+    (1, 1, 0, 16, b"\xa5\x01"), (1, 1, 1, 16, CLOSED_A), (1, 2, 0, 16, CLOSED_A), (1, 3, 0, 16, CLOSED_A),
+    (1, 3, 36, 16, STAGED_A), (1, 4, 0, 16, STAGED_A), (1, 4, 0, 144, b"\x07"), (1, 4, 1, 144, b"\0"),
+    (1, 5, 0, 144, b"\0"), (1, 6, 0, 16, STAGED_A), (1, 6, 1, 16, OPENED_A), (1, 7, 0, 16, OPENED_A),
+    (1, 7, 0, 80, b"\xa5\x02"),
+];
 
 #[test]
 fn writes_the_content_and_then_its_gate(rt: HostRuntime) -> Result<(), Fail> {
-    let staged = b"\0\x02\0\0\0\0\0\0\0\x18\0\0\0the new body of 24 bytes";
-    let opened = b"\xa5\x02\0\0\0\0\0\0\0\x18\0\0\0the new body of 24 bytes";
-    expect_writes(
-        &rt,
-        rt.alloc(),
-        0,
-        JOURNAL_B,
-        &[
-            (1, 0, 80, b"\0\0\0".as_slice()),
-            (1, 1, 80, b"\0\x02\0"),
-            (1, 36, 80, staged),
-            (2, 0, 80, staged),
-            (2, 0, 656, b"\x07"),
-            (2, 1, 656, b"\0"),
-            (3, 0, 656, b"\0"),
-            (4, 0, 80, staged),
-            (4, 1, 80, opened),
-            (5, 0, 80, opened),
-            (5, 0, 16, b"\xa5\x01"),
-            (5, 0, 144, b"\x07"),
-        ],
-    )
+    for &(turns, k, part, at, want) in WRITES {
+        let disk = disk_after(rt.alloc(), turns, NEW)?;
+        let (mut disk, next) = changed(rt.alloc(), disk, turns, (k, part))?;
+        let bytes = bytes_from(rt.alloc(), &mut disk, at, want.len())?;
+        let row = (turns, k, part, at);
+        same(&rt, &(row, next, bytes.as_slice()), &(row, None, want));
+    }
+    Ok(())
 }
 
-#[test]
-fn closes_an_open_slot_first(rt: HostRuntime) -> Result<(), Fail> {
-    let closed = b"\0\x01\0\0\0\0\0\0\0\x18\0\0\0the old body of 24 bytes";
-    let staged = b"\0\x03\0\0\0\0\0\0\0\x18\0\0\0the new body of 24 bytes";
-    let opened = b"\xa5\x03\0\0\0\0\0\0\0\x18\0\0\0the new body of 24 bytes";
-    expect_writes(
-        &rt,
-        rt.alloc(),
-        1,
-        JOURNAL_A,
-        &[
-            (1, 0, 16, b"\xa5\x01".as_slice()),
-            (1, 1, 16, closed),
-            (2, 0, 16, closed),
-            (3, 0, 16, closed),
-            (3, 36, 16, staged),
-            (4, 0, 16, staged),
-            (4, 0, 144, b"\x07"),
-            (4, 1, 144, b"\0"),
-            (5, 0, 144, b"\0"),
-            (6, 0, 16, staged),
-            (6, 1, 16, opened),
-            (7, 0, 16, opened),
-            (7, 0, 80, b"\xa5\x02"),
-        ],
-    )
-}
-
-// What a stop leaves of a change whose k-th device call fails, none where `k` is 0: the old body or the new one is
-// live. Before it came so many changes.
-fn expect_outcomes(
-    rt: &impl Abort,
-    alloc: Global,
-    turns: u32,
-    k: u64,
-    part: u32,
-) -> Result<(), Fail> {
-    let mut inner = disk_with_old(alloc)?;
-    for _ in 0..turns {
-        expect_turned(alloc, &mut inner, OLD, JOURNAL_B)?;
-    }
-    let (slots, _) = opened(alloc, &mut inner)?;
-    let image = slots.image(alloc, NEW)?;
-    let mut disk = FaultDisk::new(inner, k, part);
-    let done = turned(
-        &mut disk,
-        slots,
-        &image,
-        if turns == 0 { JOURNAL_B } else { JOURNAL_A },
-    )
-    .is_ok();
-    same(rt, &(turns, k, part, done), &(turns, k, part, k == 0));
-    for fill in [
-        Fill::Stable,
-        Fill::Written,
-        Fill::Byte(0),
-        Fill::Byte(165),
-        Fill::Upto(1),
-        Fill::Upto(20),
-    ] {
-        for longest in [false, true] {
-            let mut left = disk.inner().stop(alloc, fill, longest)?;
-            expect_either(rt, alloc, &mut left, turns, done)?;
-        }
-    }
-    expect_either(rt, alloc, &mut disk, turns, done)
-}
+// What a stop may leave, by its fill.
+const FILLS: &[Fill] = &[
+    Fill::Stable,
+    Fill::Written,
+    Fill::Byte(0),
+    Fill::Byte(165),
+    Fill::Upto(1),
+    Fill::Upto(20),
+];
 
 // The old body is live, or the new one with the next generation; where the change was done, the new one. The next
 // change goes on from there.
@@ -347,30 +298,77 @@ fn expect_either<D: Disk>(
     turns: u32,
     done: bool,
 ) -> Result<(), Fail> {
-    let (slots, found) = opened(alloc, disk)?;
-    let is_new = found.body.as_slice() == NEW;
-    holds(rt, is_new || (!done && found.body.as_slice() == OLD));
-    let generation = u64::from(turns) + if is_new { 2 } else { 1 };
-    let live = (found.generation, slots.generation(), slots.slot() == 0);
-    assert_eq!(rt; live, (generation, generation, generation % 2 == 1));
-    let image = slots.image(alloc, b"the next")?;
-    let next = turned(disk, slots, &image, JOURNAL_A)?;
+    let new = live(alloc, disk, NEW)?;
+    let old = live(alloc, disk, OLD)?;
+    let found = if done || new.is_some() { new } else { old };
+    let generation = u64::from(turns) + if new.is_some() { 2 } else { 1 };
+    let (slot, other) = if generation % 2 == 1 { (0, 1) } else { (1, 0) };
     same(
         rt,
-        &(next.slot(), next.generation()),
-        &(1 - found.slot.min(1), found.generation + 1),
+        &(turns, done, found),
+        &(turns, done, Some((slot, generation))),
     );
-    let last = opened(alloc, disk)?.1;
-    holds(rt, last.body.as_slice() == b"the next".as_slice());
+    let next = turn(alloc, disk, b"the next", JOURNAL_A)?;
+    let again = live(alloc, disk, b"the next")?;
+    same(rt, &next, &(other, generation + 1));
+    same(rt, &again, &Some(next));
     Ok(())
 }
 
+// The same after a stop, with the longest and the shortest image.
+fn expect_stop(
+    rt: &impl Abort,
+    alloc: Global,
+    disk: &MemoryDisk,
+    stop: (Fill, bool),
+    turns: u32,
+    done: bool,
+) -> Result<(), Fail> {
+    let mut left = disk.stop(alloc, stop.0, stop.1)?;
+    expect_either(rt, alloc, &mut left, turns, done)
+}
+
+// What stops by each fill leave, and what is there without one.
+fn expect_stops(
+    rt: &impl Abort,
+    alloc: Global,
+    disk: &mut Failing,
+    turns: u32,
+    done: bool,
+) -> Result<(), Fail> {
+    for &fill in FILLS {
+        expect_stop(rt, alloc, disk.inner(), (fill, false), turns, done)?;
+        expect_stop(rt, alloc, disk.inner(), (fill, true), turns, done)?;
+    }
+    expect_either(rt, alloc, disk, turns, done)
+}
+
+// What is left of a change whose k-th device call fails, none where `k` is 0: the old body or the new one is live.
+// Before it came so many changes.
+fn expect_outcomes(
+    rt: &impl Abort,
+    alloc: Global,
+    turns: u32,
+    call: (u64, u32),
+) -> Result<(), Fail> {
+    let disk = disk_after(alloc, turns, OLD)?;
+    let (mut disk, next) = changed(alloc, disk, turns, call)?;
+    let done = next.is_some();
+    same(rt, &(turns, call, done), &(turns, call, call.0 == 0));
+    expect_stops(rt, alloc, &mut disk, turns, done)
+}
+
+const PARTS: &[u32] = &[0, 1, 12, 20, 36];
+
+// How many changes come before one, and how many calls are tried, of which the first is none.
+const TRIED: &[(u32, u64)] = &[(0, 6), (1, 8)];
+
 #[test]
 fn stops_at_every_call(rt: HostRuntime) -> Result<(), Fail> {
-    for (turns, calls) in [(0, 6), (1, 8)] {
+    for &(turns, calls) in TRIED {
         for k in 0..calls {
-            for part in [0, 1, 12, 20, 36] {
-                expect_outcomes(&rt, rt.alloc(), turns, k, part)?;
+            for &part in PARTS {
+                expect_outcomes(&rt, rt.alloc(), turns, (k, part))?;
             }
         }
     }
