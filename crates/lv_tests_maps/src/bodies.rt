@@ -5,7 +5,6 @@ use crate::expect::same;
 use crate::maps::{TWO_MAPS, is_refused};
 use lv_maptables::Maps;
 use std::alloc::Global;
-use std::process::Abort;
 use std::test::Fail;
 
 // The body of a map with one item of each kind but two vertices.
@@ -32,19 +31,21 @@ const BODIES: &[(&[&[u8]], &[u8], u8)] = &[
 ];
 
 // The body of the project that lines draw.
-fn written(rt: &impl Abort, alloc: Global, lines: &[&[u8]]) -> Result<Vec<u8>, Fail> {
-    Ok(drawn(rt, alloc, lines).encode_body(alloc)?)
+fn written(alloc: Global, lines: &[&[u8]]) -> Result<Vec<u8>, Fail> {
+    let maps = drawn(alloc, lines)?;
+    Ok(maps.encode_body(alloc)?)
 }
 
 // The body of the project that is read of a body.
 fn written_again(alloc: Global, body: &[u8]) -> Result<Vec<u8>, Fail> {
-    Ok(Maps::decode_body(alloc, body)?.encode_body(alloc)?)
+    let maps = Maps::decode_body(alloc, body)?;
+    Ok(maps.encode_body(alloc)?)
 }
 
 #[test]
 fn bodies_are_written_and_read_back(rt: HostRuntime) -> Result<(), Fail> {
     for &(lines, body, version) in BODIES {
-        let mut read = written(&rt, rt.alloc(), lines)?;
+        let mut read = written(rt.alloc(), lines)?;
         same(&rt, &read.as_slice(), &body);
         if let Some(first) = read.get_mut(0) {
             *first = version;
@@ -79,17 +80,24 @@ const SPOILT: &[(usize, u8, &str)] = &[
     (103, 1, "a sector's light"),
 ];
 
+// The body with a byte spoilt, in this version.
+fn spoilt(at: usize, byte: u8, version: u8) -> [u8; 108] {
+    let mut body = BODY;
+    if let Some(place) = body.get_mut(at) {
+        *place = byte;
+    }
+    body[0] = version;
+    body
+}
+
 #[test]
 fn damaged_bodies_are_refused(rt: HostRuntime) {
     for &(at, byte, what) in SPOILT {
-        let mut body = BODY;
-        if let Some(place) = body.get_mut(at) {
-            *place = byte;
-        }
-        assert!(rt; is_refused(rt.alloc(), &body), "{what} in version 2");
-        body[0] = 1;
-        assert!(rt; is_refused(rt.alloc(), &body), "{what} in version 1");
+        let second = is_refused(rt.alloc(), &spoilt(at, byte, 2));
+        let first = is_refused(rt.alloc(), &spoilt(at, byte, 1));
+        same(&rt, &(what, second, first), &(what, true, true));
     }
-    assert!(rt; is_refused(rt.alloc(), &BODY[..107]));
-    assert!(rt; is_refused(rt.alloc(), &BODY[..19]));
+    let short = is_refused(rt.alloc(), &BODY[..107]);
+    let shorter = is_refused(rt.alloc(), &BODY[..19]);
+    assert_eq!(rt; (short, shorter), (true, true));
 }

@@ -1,10 +1,10 @@
 //! The findings of drawn maps.
 
 use crate::drawing::{ROOM, SECTOR, SIDE, TWO_ROOMS, draw, drawn};
+use crate::expect::same;
 use lv_checks::{Finding, Texture, check};
 use lv_maptables::Map;
 use std::alloc::Global;
-use std::process::Abort;
 use std::test::Fail;
 
 // The findings as text, a line each.
@@ -48,27 +48,20 @@ const REPORTS: &[(&[&[u8]], &[&[u8]], &str)] = &[
         "line 2 right middle missing\nline 2 left middle missing\n"),
 ];
 
+// What is found in the map that lines and further ones draw.
+fn report_of(alloc: Global, lines: &[&[u8]], further: &[&[u8]]) -> Result<String, Fail> {
+    let mut maps = drawn(alloc, lines)?;
+    draw(&mut maps, further)?;
+    report(alloc, maps.current())
+}
+
 #[test]
 fn maps_have_their_findings(rt: HostRuntime) -> Result<(), Fail> {
     for &(lines, further, findings) in REPORTS {
-        let found = report_of(&rt, rt.alloc(), lines, further)?;
-        assert_eq!(rt; found.as_str(), findings);
+        let found = report_of(rt.alloc(), lines, further)?;
+        same(&rt, &found.as_str(), &findings);
     }
     Ok(())
-}
-
-// What is found in the map that lines and further ones draw.
-fn report_of(
-    rt: &impl Abort,
-    alloc: Global,
-    lines: &[&[u8]],
-    further: &[&[u8]],
-) -> Result<String, Fail> {
-    let mut maps = drawn(rt, alloc, lines);
-    for line in further {
-        draw(rt, &mut maps, *line);
-    }
-    report(alloc, maps.current())
 }
 
 // What is found in the unfinished room.
@@ -94,7 +87,7 @@ const FOUND: [Finding; 7] = [
 
 #[test]
 fn each_kind_is_found_in_its_place(rt: HostRuntime) -> Result<(), Fail> {
-    let maps = drawn(&rt, rt.alloc(), &UNFINISHED);
+    let maps = drawn(rt.alloc(), &UNFINISHED)?;
     let found = check(rt.alloc(), maps.current())?;
     assert_eq!(rt; found.as_slice(), FOUND.as_slice());
     Ok(())

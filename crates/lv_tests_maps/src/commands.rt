@@ -2,7 +2,8 @@
 
 use crate::expect::same;
 use lv_commands::{parse, print};
-use std::alloc::Global;
+use std::alloc::{AllocError, Global};
+use std::process::Abort;
 use std::test::Fail;
 
 // 0 for a line that is a command and is printed as it came in, else the code of its refusal. 999: printed otherwise.
@@ -85,17 +86,49 @@ const NUMBER_PLACES: &[(&str, i16, i16)] = &[
     ("split 0 0 *", -16384, 16383),
 ];
 
+// A form with this in the place of its star.
+fn filled(alloc: Global, form: &str, value: &str) -> Result<String, AllocError> {
+    match form.split_once('*') {
+        Some((front, behind)) => format!(in alloc; "{front}{value}{behind}"),
+        None => String::from_str(alloc, form),
+    }
+}
+
+// A form is told this by what stands in the place of its star.
+fn expect_told(
+    rt: &impl Abort,
+    alloc: Global,
+    form: &str,
+    value: &str,
+    code: u16,
+) -> Result<(), AllocError> {
+    let line = filled(alloc, form, value)?;
+    let answer = told(alloc, line.as_bytes());
+    same(rt, &(line.as_str(), answer), &(line.as_str(), code));
+    Ok(())
+}
+
+// The same by a number.
+fn expect_number(
+    rt: &impl Abort,
+    alloc: Global,
+    form: &str,
+    value: i32,
+    code: u16,
+) -> Result<(), AllocError> {
+    let text = format!(in alloc; "{value}")?;
+    expect_told(rt, alloc, form, text.as_str(), code)
+}
+
 // Each place of each command that holds a number, at its least, its greatest and one beyond.
 #[test]
 fn numbers_have_ranges(rt: HostRuntime) -> Result<(), Fail> {
     for &(form, least, greatest) in NUMBER_PLACES {
-        let (front, behind) = form.split_once('*').ok_or("no place")?;
         let (least, greatest) = (i32::from(least), i32::from(greatest));
-        for (value, code) in [(least, 0), (greatest, 0), (least - 1, 2), (greatest + 1, 2)] {
-            let line = format!(in rt.alloc(); "{front}{value}{behind}")?;
-            let answer = told(rt.alloc(), line.as_bytes());
-            same(&rt, &(line.as_str(), answer), &(line.as_str(), code));
-        }
+        expect_number(&rt, rt.alloc(), form, least, 0)?;
+        expect_number(&rt, rt.alloc(), form, greatest, 0)?;
+        expect_number(&rt, rt.alloc(), form, least - 1, 2)?;
+        expect_number(&rt, rt.alloc(), form, greatest + 1, 2)?;
     }
     Ok(())
 }
@@ -128,12 +161,9 @@ const NAMES: &[(&str, u16)] = &[
 // Each place of each command that holds a name.
 #[test]
 fn names_have_a_form(rt: HostRuntime) -> Result<(), Fail> {
-    for &place in NAME_PLACES {
-        let (front, behind) = place.split_once('*').ok_or("no place")?;
+    for &form in NAME_PLACES {
         for &(name, code) in NAMES {
-            let line = format!(in rt.alloc(); "{front}{name}{behind}")?;
-            let answer = told(rt.alloc(), line.as_bytes());
-            same(&rt, &(line.as_str(), answer), &(line.as_str(), code));
+            expect_told(&rt, rt.alloc(), form, name, code)?;
         }
     }
     Ok(())
@@ -225,6 +255,15 @@ const LINES: &[(&[u8], u16)] = &[
     (b"hex VERTEXES", 1),
     (b"check", 1),
     (b"undo", 1),
+    // A numeral may have any length that fits a line, of 256 bytes.
+    (b"vertex 1 \
+        1111111111111111111111111111111111111111111111111111111111111111111111111111111111111111111111111111\
+        1111111111111111111111111111111111111111111111111111111111111111111111111111111111111111111111111111\
+        11111111111111111111111111111111111111111111111", 2),
+    (b"vertex 1 \
+        1111111111111111111111111111111111111111111111111111111111111111111111111111111111111111111111111111\
+        1111111111111111111111111111111111111111111111111111111111111111111111111111111111111111111111111111\
+        111111111111111111111111111111111111111111111111", 1),
 ];
 
 #[test]
@@ -232,17 +271,4 @@ fn lines_are_told_apart(rt: HostRuntime) {
     for &(line, code) in LINES {
         same(&rt, &(line, told(rt.alloc(), line)), &(line, code));
     }
-}
-
-// A numeral may have any length that fits a line.
-#[test]
-fn numerals_may_be_long(rt: HostRuntime) -> Result<(), Fail> {
-    let mut long = b"vertex 1 ".to_vec(rt.alloc())?;
-    for _ in 0..247 {
-        long.push(b'1')?;
-    }
-    same(&rt, &told(rt.alloc(), long.as_slice()), &2);
-    long.push(b'1')?;
-    same(&rt, &told(rt.alloc(), long.as_slice()), &1);
-    Ok(())
 }

@@ -60,9 +60,8 @@ const DRAWINGS: &[(u32, &[Answer], [u32; 3])] = &[
 
 // Draws lines, each of which is answered as it should be.
 fn draw_answered(rt: &impl Abort, maps: &mut Maps, cap: u32, lines: &[Answer]) {
-    for (line, want) in lines {
-        let got = answer(maps, *line, cap);
-        assert_eq!(rt; got, *want, "{line:?}");
+    for &(line, want) in lines {
+        same(rt, &(line, answer(maps, line, cap)), &(line, want));
     }
 }
 
@@ -71,19 +70,26 @@ fn draws_projects(rt: HostRuntime) {
     for &(cap, lines, want) in DRAWINGS {
         let mut maps = Maps::new(rt.alloc());
         draw_answered(&rt, &mut maps, cap, lines);
-        assert_eq!(rt; [maps.len(), maps.current_number(), maps.body_len()], want);
+        let found = [maps.len(), maps.current_number(), maps.body_len()];
+        same(&rt, &(lines, found), &(lines, want));
     }
+}
+
+// The line for the n-th of a hundred maps.
+fn line_of_map(n: u8) -> [u8; 9] {
+    let mut line = *b"map MAP00";
+    line[7] = b'0' + n / 10 % 10;
+    line[8] = b'0' + n % 10;
+    line
 }
 
 // There are at most 32 maps. Where there are, a further one is refused by 16, however short a body may be.
 #[test]
 fn takes_32_maps(rt: HostRuntime) {
     let mut maps = Maps::new(rt.alloc());
-    let mut line = *b"map MAP00";
     for n in 0..32_u8 {
-        line[7] = b'0' + (n + 1) / 10;
-        line[8] = b'0' + (n + 1) % 10;
-        assert_eq!(rt; answer(&mut maps, &line, 578), Ok(u32::from(n)));
+        let answered = answer(&mut maps, &line_of_map(n + 1), 578);
+        same(&rt, &answered, &Ok(u32::from(n)));
     }
     let further = answer(&mut maps, b"map MAP33", 578);
     assert_eq!(rt; (further, maps.len()), (Err(16), 32));
@@ -98,18 +104,27 @@ const LIMITS: &[(&[u8], u32)] = &[
     (b"thing 64 64 90 1 7", 32767),
 ];
 
+// Draws a line so often, and once more, when its table is full.
+fn fill(rt: &impl Abort, maps: &mut Maps, line: &[u8], count: u32) {
+    let mut accepted = 0_u32;
+    for _ in 0..count {
+        if answer(maps, line, AMPLE).is_ok() {
+            accepted = accepted.saturating_add(1);
+        }
+    }
+    let further = answer(maps, line, AMPLE);
+    same(rt, &(line, accepted, further), &(line, count, Err(12)));
+}
+
 // Tables but that of vertices are filled, so a body is as long as one with full tables but for those vertices.
 #[test]
-fn tables_have_limits(rt: HostRuntime) {
-    let mut maps = drawn(&rt, rt.alloc(), &[b"vertex 1 0", b"vertex 2 0"]);
+fn tables_have_limits(rt: HostRuntime) -> Result<(), Fail> {
+    let mut maps = drawn(rt.alloc(), &[b"vertex 1 0", b"vertex 2 0"])?;
     for &(line, count) in LIMITS {
-        for _ in 0..count {
-            draw(&rt, &mut maps, line);
-        }
-        let further = answer(&mut maps, line, AMPLE);
-        assert_eq!(rt; further, Err(12), "{line:?}");
+        fill(&rt, &mut maps, line, count);
     }
     assert_eq!(rt; maps.body_len(), AMPLE - 32765 * 4);
+    Ok(())
 }
 
 // The change comes with `commit`, and not before.

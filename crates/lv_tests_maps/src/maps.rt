@@ -1,5 +1,6 @@
 //! The maps of a project, and the bytes of their body.
 
+use crate::expect::same;
 use lv_lumps::Name8;
 use lv_maptables::{MapError, Maps};
 use std::alloc::{AllocError, Global};
@@ -38,10 +39,9 @@ pub fn is_refused(alloc: Global, body: &[u8]) -> bool {
 #[test]
 fn the_new_project_has_the_empty_map(rt: HostRuntime) {
     let maps = Maps::new(rt.alloc());
-    assert_eq!(rt; maps.current().name(), MAP01);
+    let found = [maps.find(MAP01), maps.find(E1M1)];
+    assert_eq!(rt; (maps.current().name(), found), (MAP01, [Some(0), None]));
     assert!(rt; maps.at(1).is_none());
-    assert_eq!(rt; maps.find(MAP01), Some(0));
-    assert_eq!(rt; maps.find(E1M1), None);
 }
 
 // How many maps are read of a body, which is current and how long their body is; and that body.
@@ -55,8 +55,7 @@ fn read_again(alloc: Global, body: &[u8]) -> Result<([u32; 3], Vec<u8>), MapErro
 fn a_project_has_thirty_two_maps(rt: HostRuntime) -> Result<(), Fail> {
     let body = body_of(rt.alloc(), 32, 31)?;
     let (found, again) = read_again(rt.alloc(), &body)?;
-    assert_eq!(rt; found, [32, 31, 578]);
-    assert_eq!(rt; again.as_slice(), body.as_slice());
+    assert_eq!(rt; (found, again.as_slice()), ([32, 31, 578], body.as_slice()));
     Ok(())
 }
 
@@ -64,15 +63,21 @@ fn a_project_has_thirty_two_maps(rt: HostRuntime) -> Result<(), Fail> {
 // count of vertices, of sectors.
 const CHANGES: &[(usize, u8)] = &[(1, 2), (6, b'2'), (24, b'1'), (16, 1), (18, 1)];
 
+// Whether the body of two empty maps is refused, and whether it is with a byte changed.
+fn are_refused(alloc: Global, place: usize, byte: u8) -> Result<[bool; 2], AllocError> {
+    let mut body = body_of(alloc, 2, 1)?;
+    let before = is_refused(alloc, &body);
+    if let Some(changed) = body.get_mut(place) {
+        *changed = byte;
+    }
+    Ok([before, is_refused(alloc, &body)])
+}
+
 #[test]
 fn a_changed_byte_is_refused(rt: HostRuntime) -> Result<(), Fail> {
     for &(place, byte) in CHANGES {
-        let mut body = body_of(rt.alloc(), 2, 1)?;
-        assert!(rt; !is_refused(rt.alloc(), &body));
-        if let Some(changed) = body.get_mut(place) {
-            *changed = byte;
-        }
-        assert!(rt; is_refused(rt.alloc(), &body));
+        let found = are_refused(rt.alloc(), place, byte)?;
+        same(&rt, &(place, byte, found), &(place, byte, [false, true]));
     }
     Ok(())
 }
@@ -92,21 +97,35 @@ const NO_BODIES: &[&[u8]] = &[
 #[test]
 fn bytes_of_no_project_are_refused(rt: HostRuntime) -> Result<(), Fail> {
     for &body in NO_BODIES {
-        assert!(rt; is_refused(rt.alloc(), body));
+        same(&rt, &(body, is_refused(rt.alloc(), body)), &(body, true));
     }
-    assert!(rt; is_refused(rt.alloc(), &body_of(rt.alloc(), 33, 0)?));
+    let long = body_of(rt.alloc(), 33, 0)?;
+    assert!(rt; is_refused(rt.alloc(), &long));
     Ok(())
+}
+
+// How many of these many longer bodies are refused, each a byte longer than the one before.
+fn refused_longer(alloc: Global, body: &mut Vec<u8>, count: u32) -> Result<u32, AllocError> {
+    let mut refused = 0_u32;
+    for _ in 0..count {
+        body.push(0)?;
+        if is_refused(alloc, body) {
+            refused = refused.saturating_add(1);
+        }
+    }
+    Ok(refused)
 }
 
 #[test]
 fn a_body_ends_with_its_last_map(rt: HostRuntime) -> Result<(), Fail> {
     for len in 21..TWO_MAPS.len() {
-        assert!(rt; is_refused(rt.alloc(), &TWO_MAPS[..len]));
+        same(
+            &rt,
+            &(len, is_refused(rt.alloc(), &TWO_MAPS[..len])),
+            &(len, true),
+        );
     }
     let mut body = body_of(rt.alloc(), 1, 0)?;
-    for _ in 0..17 {
-        body.push(0)?;
-        assert!(rt; is_refused(rt.alloc(), &body));
-    }
+    assert_eq!(rt; refused_longer(rt.alloc(), &mut body, 17)?, 17);
     Ok(())
 }

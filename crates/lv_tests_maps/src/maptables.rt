@@ -1,4 +1,4 @@
-//! The new map, names and refusals. What edits make of a map is told by lines (`answers.rt`, `drawing.rt`).
+//! The new map, names and refusals. What edits make of a map is told by lines (`lines.rt`, `lv_tests_runs`).
 
 use crate::drawing::{draw, drawn};
 use crate::expect::same;
@@ -28,18 +28,13 @@ fn the_new_map_is_empty(rt: HostRuntime) -> Result<(), Fail> {
 
 // The key of an item stays while another one is dropped, though its number falls.
 #[test]
-fn keys_stay_after_a_drop(rt: HostRuntime) {
-    let lines = [
-        b"vertex 0 0".as_slice(),
-        b"vertex 1 0".as_slice(),
-        b"vertex 2 0".as_slice(),
-    ];
-    let mut maps = drawn(&rt, rt.alloc(), lines.as_slice());
+fn keys_stay_after_a_drop(rt: HostRuntime) -> Result<(), Fail> {
+    let mut maps = drawn(rt.alloc(), &[b"vertex 0 0", b"vertex 1 0", b"vertex 2 0"])?;
     let before = maps.key(Kind::Vertex, 1);
-    draw(&rt, &mut maps, b"drop vertex 0");
-    assert!(rt; before.is_some());
-    assert_eq!(rt; maps.key(Kind::Vertex, 0), before);
-    assert_eq!(rt; maps.key(Kind::Vertex, 2), None);
+    draw(&mut maps, &[b"drop vertex 0"])?;
+    let after = [maps.key(Kind::Vertex, 0), maps.key(Kind::Vertex, 2)];
+    assert_eq!(rt; (before.is_some(), after), (true, [before, None]));
+    Ok(())
 }
 
 // Texts, and whether each is a texture's or a flat's name, and a map's.
@@ -66,8 +61,8 @@ const NAMES: &[(&[u8], bool, bool)] = &[
 #[test]
 fn names_have_their_bytes(rt: HostRuntime) {
     for &(text, name, marker) in NAMES {
-        assert_eq!(rt; is_name(text), name, "at {text:?}");
-        assert_eq!(rt; is_marker(text), marker, "at {text:?}");
+        let found = (text, is_name(text), is_marker(text));
+        same(&rt, &found, &(text, name, marker));
     }
 }
 
@@ -94,7 +89,7 @@ const REFUSALS: &[(MapError, u16)] = &[
 #[test]
 fn refusals_have_their_numbers(rt: HostRuntime) {
     for &(refusal, code) in REFUSALS {
-        assert_eq!(rt; refusal.code(), code);
+        same(&rt, &(refusal, refusal.code()), &(refusal, code));
     }
 }
 
