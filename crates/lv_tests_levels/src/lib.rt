@@ -12,4 +12,6 @@ mod pwad;
 #[cfg(test)]
 mod segs;
 #[cfg(test)]
+mod tangle;
+#[cfg(test)]
 mod tangles;

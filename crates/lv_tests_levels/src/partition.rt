@@ -4,13 +4,14 @@ ghost use Rattle.std.specs.Prelude.{◌≡◌, ◌<◌, length, All};
 ghost use Rattle.lv_segs.specs.Edges.{edges_of};
 ghost use Rattle.lv_segs.specs.Pieces.{IsPiece};
 
-use crate::drawing::{L, SECTOR, SIDE, SLIVER, draw, drawn};
 use crate::expect::{holds, same};
-use lv_maptables::{Map, Maps};
+use crate::tangle::{Sequence, draw_tangle};
+use lv_maptables::Map;
 use lv_partition::{
     Choice, StraightLines, blocks_of, by_place, choose, choose_in_boxes, choose_ordered, separates,
 };
 use lv_segs::{Piece, boxes_in, divide, edges_of, pieces_of};
+use lv_tests_maps::drawing::{L, SECTOR, SIDE, SLIVER, drawn};
 use std::alloc::Global;
 use std::process::Abort;
 use std::test::Fail;
@@ -137,92 +138,30 @@ fn numbers(choice: Option<Choice>) -> Option<[u32; 4]> {
 #[test]
 fn takes_the_first_of_the_cheapest(rt: HostRuntime) -> Result<(), Fail> {
     for &(lines, used, want) in CHOICES {
-        let maps = drawn(&rt, rt.alloc(), lines);
+        let maps = drawn(rt.alloc(), lines)?;
         let choice = chosen(&rt, rt.alloc(), maps.current(), used)?;
-        assert_eq!(rt; numbers(choice), want, "{used:?}");
+        same(&rt, &(used, numbers(choice)), &(used, want));
     }
     Ok(())
+}
+
+// How many of a map's pieces separate the others.
+fn separating(alloc: Global, map: &Map) -> Result<u32, Fail> {
+    let mut count = 0_u32;
+    let pieces = pieces_of(alloc, map)?;
+    for partition in &pieces {
+        if separates(map, partition, &pieces) {
+            count = count.saturating_add(1);
+        }
+    }
+    Ok(count)
 }
 
 #[test]
 fn a_sliver_separates_nothing(rt: HostRuntime) -> Result<(), Fail> {
-    let maps = drawn(&rt, rt.alloc(), &SLIVER);
-    let pieces = pieces_of(rt.alloc(), maps.current())?;
-    for partition in &pieces {
-        assert!(rt; !separates(maps.current(), partition, &pieces));
-    }
-    Ok(())
-}
-
-/// A fixed sequence of numbers.
-#[derive(Drop)]
-pub(crate) struct Sequence {
-    pub state: u64,
-}
-
-impl Sequence {
-    pub(crate) fn below(&mut self, n: u32) -> u32
-        requires { 0 < n }
-        ensures { result < n }
-    {
-        let next = self.state.wrapping_mul(6_364_136_223_846_793_005);
-        self.state = next.wrapping_add(1_442_695_040_888_963_407);
-        ((self.state >> 33) % u64::from(n)) as u32
-    }
-}
-
-// Draws seven vertices of a grid, side by side and so far apart.
-fn draw_row(rt: &impl Abort, alloc: Global, maps: &mut Maps, y: u32, apart: u32) -> Result<(), Fail>
-    requires { apart < 100 }
-{
-    for x in 0..7u32 {
-        let x = x * apart;
-        draw(rt, maps, format!(in alloc; "vertex {x} {y}")?.as_bytes());
-    }
-    Ok(())
-}
-
-/// Lines between places of a small grid that are so far apart, so that many cross, overlap or lie on
-/// one straight line.
-pub(crate) fn draw_tangle(
-    rt: &impl Abort,
-    alloc: Global,
-    numbers: &mut Sequence,
-    lines: u32,
-    apart: u32,
-) -> Result<Maps, Fail>
-    requires { apart < 100 }
-{
-    let mut maps = drawn(rt, alloc, &[SECTOR, SIDE]);
-    for y in 0..7u32 {
-        draw_row(rt, alloc, &mut maps, y * apart, apart)?;
-    }
-    draw_lines(rt, alloc, &mut maps, numbers, lines)?;
-    Ok(maps)
-}
-
-// Draws so many lines between 49 vertices, every other one of them two-sided.
-fn draw_lines(
-    rt: &impl Abort,
-    alloc: Global,
-    maps: &mut Maps,
-    numbers: &mut Sequence,
-    lines: u32,
-) -> Result<(), Fail> {
-    for _ in 0..lines {
-        let from = numbers.below(49);
-        let to = (from + 1 + numbers.below(48)) % 49;
-        let left = if numbers.below(2) == 0 {
-            "4 0 0 0 0"
-        } else {
-            "1 0 0 0 -"
-        };
-        draw(
-            rt,
-            maps,
-            format!(in alloc; "line {from} {to} {left}")?.as_bytes(),
-        );
-    }
+    let maps = drawn(rt.alloc(), &SLIVER)?;
+    let count = separating(rt.alloc(), maps.current())?;
+    assert_eq!(rt; count, 0);
     Ok(())
 }
 
@@ -242,7 +181,7 @@ fn next_has_choice(
     numbers: &mut Sequence,
     lines: u32,
 ) -> Result<bool, Fail> {
-    let maps = draw_tangle(rt, alloc, numbers, lines, 12)?;
+    let maps = draw_tangle(alloc, numbers, lines, 12)?;
     let used = used_of(alloc, numbers, lines)?;
     Ok(chosen(rt, alloc, maps.current(), &used)?.is_some())
 }

@@ -1,18 +1,20 @@
 //! Drawn maps built into PWADs: the worked examples, what is read of their bytes, and what is wrong with changed ones.
 
-use crate::drawing::{CUT, L, ROOM, SECTOR, SIDE, SLIVER, TWO_ROOMS, drawn};
 use crate::expect::{holds, same};
 use lv_blockmap::{BlockmapError, blockmap, touches};
 use lv_lumps::Vertex;
-use lv_pwad::{BuildError, Fault, ReadError, audit, build_all, build_wad, read_level, reject};
+use lv_pwad::{
+    BuildError, Fault, Level, ReadError, audit, build_all, build_wad, read_level, reject,
+};
+use lv_tests_maps::drawing::{CUT, L, ROOM, SECTOR, SIDE, SLIVER, TWO_ROOMS, drawn};
 use std::alloc::Global;
 use std::process::Abort;
 use std::test::Fail;
 
 // The PWAD of the map that the lines leave.
-fn built(rt: &impl Abort, alloc: Global, lines: &[&[u8]]) -> Vec<u8> {
-    let maps = drawn(rt, alloc, lines);
-    build_wad(alloc, maps.current()).expect(rt, "a PWAD")
+fn built(alloc: Global, lines: &[&[u8]]) -> Result<Vec<u8>, Fail> {
+    let maps = drawn(alloc, lines)?;
+    Ok(build_wad(alloc, maps.current())?)
 }
 
 const SINGLE: [&[u8]; 5] = [
@@ -76,8 +78,9 @@ fn read_back(alloc: Global, wad: &[u8], name: &[u8]) -> Result<([usize; 5], Opti
 #[test]
 fn built_maps_read_back_without_a_fault(rt: HostRuntime) -> Result<(), Fail> {
     for &(lines, counts) in BUILT {
-        let wad = built(&rt, rt.alloc(), lines);
-        assert_eq!(rt; read_back(rt.alloc(), &wad, b"MAP01")?, (counts, None));
+        let wad = built(rt.alloc(), lines)?;
+        let found = read_back(rt.alloc(), &wad, b"MAP01")?;
+        same(&rt, &found, &(counts, None));
     }
     Ok(())
 }
@@ -108,77 +111,105 @@ const SINGLE_BLOCKS: [u8; 36] = [
     0, 0, 0xff, 0xff,
 ];
 
-#[test]
-fn a_room_is_laid_out_as_specified(rt: HostRuntime) -> Result<(), Fail> {
-    let wad = built(&rt, rt.alloc(), &[ROOM]);
-    holds(&rt, wad.len() == 515);
-    same(&rt, &&wad[..12], &ROOM_HEAD.as_slice());
-    for n in 0..11 {
-        same(
-            &rt,
-            &&wad[339 + 16 * n..341 + 16 * n],
-            &&ROOM_PLACES[2 * n..2 * n + 2],
-        );
+// The head of a room's PWAD, and where its marker and its lumps stand.
+fn places_of(rt: &impl Abort, wad: &[u8]) -> ([u8; 12], [u8; 22]) {
+    holds(rt, wad.len() == 515);
+    let mut head = [0; 12];
+    for n in 0..12 {
+        head[n] = wad[n];
     }
-    let room = read_level(rt.alloc(), &wad, b"MAP01")?;
-    same(&rt, &room.reject.as_slice(), &[0].as_slice());
-    same(&rt, &room.blockmap.as_slice(), &ROOM_BLOCKS.as_slice());
-    let wad = built(&rt, rt.alloc(), &SINGLE);
-    let single = read_level(rt.alloc(), &wad, b"MAP01")?;
-    same(&rt, &single.blockmap.as_slice(), &SINGLE_BLOCKS.as_slice());
-    same(&rt, &reject(rt.alloc(), 3)?.as_slice(), &[0, 0].as_slice());
+    let mut places = [0; 22];
+    for n in 0..11 {
+        places[2 * n] = wad[339 + 16 * n];
+        places[2 * n + 1] = wad[340 + 16 * n];
+    }
+    (head, places)
+}
+
+// The REJECT and the BLOCKMAP of the level in a PWAD.
+fn reject_and_blocks(alloc: Global, wad: &[u8]) -> Result<(Vec<u8>, Vec<u8>), Fail> {
+    let Level {
+        reject,
+        blockmap,
+        ..
+    } = read_level(alloc, wad, b"MAP01")?;
+    Ok((reject, blockmap))
+}
+
+// The REJECT and the BLOCKMAP of what lines leave.
+fn expect_tables(
+    rt: &impl Abort,
+    alloc: Global,
+    wad: &[u8],
+    want: (&[u8], &[u8]),
+) -> Result<(), Fail> {
+    let (reject, blocks) = reject_and_blocks(alloc, wad)?;
+    same(rt, &(reject.as_slice(), blocks.as_slice()), &want);
     Ok(())
 }
 
-// The fault of the level in the bytes, one of them changed.
-fn fault_at(
-    rt: &impl Abort,
-    alloc: Global,
-    wad: &mut [u8],
-    place: usize,
-    byte: u8,
-) -> Option<Fault> {
-    assert!(rt; place < wad.len());
-    let before = wad[place];
-    wad[place] = byte;
-    let level = read_level(alloc, wad, b"MAP01").expect(rt, "a level");
-    let fault = audit(alloc, &level).expect(rt, "an audit");
-    wad[place] = before;
-    fault
-}
-
-// The faults of a level with nodes; `inspection.rt` has those of a room.
 #[test]
-fn a_changed_byte_is_the_fault_that_it_makes(rt: HostRuntime) {
-    let mut l = built(&rt, rt.alloc(), &L);
-    for (place, byte, fault) in [
-        (271, 0, Fault::NodeChild(0)),
-        (270, 1, Fault::SubOnce(0)),
-        (309, 57, Fault::BlockList(0)),
-    ] {
-        let found = fault_at(&rt, rt.alloc(), &mut l, place, byte);
-        assert_eq!(rt; found, Some(fault));
-    }
-    // the root's left child is its right one again
-    let mut cut = built(&rt, rt.alloc(), &CUT);
-    let found = fault_at(&rt, rt.alloc(), &mut cut, 282, 0);
-    assert_eq!(rt; found, Some(Fault::NodeOnce(0)));
+fn a_room_is_laid_out_as_specified(rt: HostRuntime) -> Result<(), Fail> {
+    let wad = built(rt.alloc(), &[ROOM])?;
+    same(&rt, &places_of(&rt, &wad), &(ROOM_HEAD, ROOM_PLACES));
+    expect_tables(&rt, rt.alloc(), &wad, (&[0], &ROOM_BLOCKS))
 }
 
-// The refusal of the bytes, one of them changed.
-fn refused_at(
+#[test]
+fn a_line_is_laid_out_as_specified(rt: HostRuntime) -> Result<(), Fail> {
+    let wad = built(rt.alloc(), &SINGLE)?;
+    expect_tables(&rt, rt.alloc(), &wad, (&[0], &SINGLE_BLOCKS))
+}
+
+#[test]
+fn three_sectors_have_two_bytes_of_reject(rt: HostRuntime) -> Result<(), Fail> {
+    let bytes = reject(rt.alloc(), 3)?;
+    assert_eq!(rt; bytes.as_slice(), [0, 0].as_slice());
+    Ok(())
+}
+
+// The bytes, one of them changed, hold a level with this fault, or are refused so.
+fn changed_at(
     rt: &impl Abort,
     alloc: Global,
     wad: &mut [u8],
     place: usize,
     byte: u8,
-) -> Option<ReadError> {
-    assert!(rt; place < wad.len());
+) -> Result<Option<Fault>, ReadError> {
+    holds(rt, place < wad.len());
     let before = wad[place];
     wad[place] = byte;
-    let refused = read_level(alloc, wad, b"MAP01").err();
+    let found = fault_of(rt, alloc, wad);
     wad[place] = before;
-    refused
+    found
+}
+
+// What the audit finds in the level that the bytes hold, or why they hold none.
+fn fault_of(rt: &impl Abort, alloc: Global, wad: &[u8]) -> Result<Option<Fault>, ReadError> {
+    match read_level(alloc, wad, b"MAP01") {
+        Ok(level) => Ok(audit(alloc, &level).expect(rt, "an audit")),
+        Err(error) => Err(error),
+    }
+}
+
+// Lines, and of their PWAD a place, a byte that is put there, and the fault that it makes. The last makes the root's
+// left child its right one again. `inspection.rt` of `lv_tests_runs` has the faults of a room.
+#[rattlefmt::skip]
+const FAULTS: &[(&[&[u8]], usize, u8, Fault)] = &[
+    (&L, 271, 0, Fault::NodeChild(0)),
+    (&L, 270, 1, Fault::SubOnce(0)),
+    (&L, 309, 57, Fault::BlockList(0)),
+    (&CUT, 282, 0, Fault::NodeOnce(0)),
+];
+
+#[test]
+fn a_changed_byte_is_the_fault_that_it_makes(rt: HostRuntime) -> Result<(), Fail> {
+    for &(lines, place, byte, fault) in FAULTS {
+        let mut wad = built(rt.alloc(), lines)?;
+        let found = changed_at(&rt, rt.alloc(), &mut wad, place, byte);
+        same(&rt, &(place, byte, found), &(place, byte, Ok(Some(fault))));
+    }
+    Ok(())
 }
 
 // Heads alone: no entry, one beyond the end, and both numbers as great as can be.
@@ -191,86 +222,96 @@ const HEADS: &[([u8; 12], ReadError)] = &[
     ),
 ];
 
-#[test]
-fn heads_alone_are_refused(rt: HostRuntime) {
-    for &(head, error) in HEADS {
-        let refused = read_level(rt.alloc(), &head, b"MAP01").err();
-        assert_eq!(rt; refused, Some(error));
-    }
+// How the bytes are refused, asked for a level of this name.
+fn refusal_of(alloc: Global, wad: &[u8], name: &[u8]) -> Option<ReadError> {
+    read_level(alloc, wad, name).err()
 }
 
 #[test]
+fn heads_alone_are_refused(rt: HostRuntime) {
+    for &(head, error) in HEADS {
+        let refused = refusal_of(rt.alloc(), &head, b"MAP01");
+        same(&rt, &(head, refused), &(head, Some(error)));
+    }
+}
+
+// Where a room's PWAD is cut, the name that is asked for, and how it is refused.
+#[rattlefmt::skip]
+const CUTS: &[(usize, &[u8], ReadError)] = &[
+    (514, b"MAP01", ReadError::DirectoryOutside),
+    (11, b"MAP01", ReadError::NotAWad),
+    (515, b"MAP02", ReadError::NoSuchLevel),
+];
+
+#[test]
 fn bytes_that_hold_no_level_are_refused(rt: HostRuntime) -> Result<(), Fail> {
-    let mut wad = built(&rt, rt.alloc(), &[ROOM]);
-    for (len, error) in [(514, ReadError::DirectoryOutside), (11, ReadError::NotAWad)] {
+    let wad = built(rt.alloc(), &[ROOM])?;
+    for &(len, name, error) in CUTS {
         holds(&rt, len <= wad.len());
-        same(
-            &rt,
-            &read_level(rt.alloc(), &wad[..len], b"MAP01").err(),
-            &Some(error),
-        );
+        let refused = refusal_of(rt.alloc(), &wad[..len], name);
+        same(&rt, &(len, refused), &(len, Some(error)));
     }
-    let other = read_level(rt.alloc(), &wad, b"MAP02").err();
-    same(&rt, &other, &Some(ReadError::NoSuchLevel));
-    for (place, byte, refused) in [
-        (0, b'Q', Some(ReadError::NotAWad)),
-        (503, 233, Some(ReadError::LumpOutside)),
-        (503, 232, None),
-        (375, 15, Some(ReadError::LumpLength)),
-        (379, b'M', Some(ReadError::LumpMissing)),
-    ] {
-        same(
-            &rt,
-            &refused_at(&rt, rt.alloc(), &mut wad, place, byte),
-            &refused,
-        );
+    Ok(())
+}
+
+// Places of a room's PWAD, a byte that is put there, and how it is refused.
+#[rattlefmt::skip]
+const CHANGES: &[(usize, u8, Option<ReadError>)] = &[
+    (0, b'Q', Some(ReadError::NotAWad)),
+    (503, 233, Some(ReadError::LumpOutside)),
+    (503, 232, None),
+    (375, 15, Some(ReadError::LumpLength)),
+    (379, b'M', Some(ReadError::LumpMissing)),
+];
+
+#[test]
+fn changed_bytes_are_refused(rt: HostRuntime) -> Result<(), Fail> {
+    let mut wad = built(rt.alloc(), &[ROOM])?;
+    for &(place, byte, want) in CHANGES {
+        let refused = changed_at(&rt, rt.alloc(), &mut wad, place, byte).err();
+        same(&rt, &(place, byte, refused), &(place, byte, want));
     }
-    wad.extend_from_slice(b"\0\0\0\0\0\0\0\0BEHAVIOR")?;
-    let hexen = refused_at(&rt, rt.alloc(), &mut wad, 4, 12);
-    same(&rt, &hexen, &Some(ReadError::HexenLevel));
-    same(&rt, &ReadError::HexenLevel.code(), &75);
     Ok(())
 }
 
 #[test]
-fn maps_that_cannot_be_built_are_refused(rt: HostRuntime) {
-    // lines of text; then the refusal of the build, its number, and the refusal of the blockmap
-    for (lines, error, code, cause) in [
-        (
-            [b"vertex 0 0".as_slice()].as_slice(),
-            BuildError::NothingToBuild,
-            60,
-            BlockmapError::NothingToBuild,
-        ),
-        (
-            RISING.as_slice(),
-            BuildError::BlockmapTooLarge,
-            66,
-            BlockmapError::BlockmapTooLarge,
-        ),
-    ] {
-        let maps = drawn(&rt, rt.alloc(), lines);
-        same(
-            &rt,
-            &build_wad(rt.alloc(), maps.current()).err(),
-            &Some(error),
-        );
-        same(&rt, &error.code(), &code);
-        same(
-            &rt,
-            &blockmap(rt.alloc(), maps.current()).err(),
-            &Some(cause),
-        );
-        same(&rt, &cause.code(), &code);
+fn levels_with_scripts_are_refused(rt: HostRuntime) -> Result<(), Fail> {
+    let mut wad = built(rt.alloc(), &[ROOM])?;
+    wad.extend_from_slice(b"\0\0\0\0\0\0\0\0BEHAVIOR")?;
+    let refused = changed_at(&rt, rt.alloc(), &mut wad, 4, 12).err();
+    let hexen = ReadError::HexenLevel;
+    assert_eq!(rt; (refused, hexen.code()), (Some(hexen), 75));
+    Ok(())
+}
+
+// Lines; then the refusal of the build, its number, and the refusal of the blockmap.
+#[rattlefmt::skip]
+const UNBUILT: &[(&[&[u8]], BuildError, u16, BlockmapError)] = &[
+    (&[b"vertex 0 0"], BuildError::NothingToBuild, 60, BlockmapError::NothingToBuild),
+    (&RISING, BuildError::BlockmapTooLarge, 66, BlockmapError::BlockmapTooLarge),
+];
+
+#[test]
+fn maps_that_cannot_be_built_are_refused(rt: HostRuntime) -> Result<(), Fail> {
+    for &(lines, error, code, cause) in UNBUILT {
+        let maps = drawn(rt.alloc(), lines)?;
+        let found = build_wad(rt.alloc(), maps.current()).err();
+        same(&rt, &(found, error.code()), &(Some(error), code));
+        let found = blockmap(rt.alloc(), maps.current()).err();
+        same(&rt, &(found, cause.code()), &(Some(cause), code));
     }
+    Ok(())
 }
 
 #[test]
 fn a_line_touches_the_corners_that_it_runs_through(rt: HostRuntime) {
     let line = (Vertex { x: 0, y: 0 }, Vertex { x: 256, y: 256 });
-    assert!(rt; touches(line, (128, 0)));
-    assert!(rt; touches(line, (256, 256)));
-    assert!(rt; !touches(line, (256, 0)));
+    let found = [
+        touches(line, (128, 0)),
+        touches(line, (256, 256)),
+        touches(line, (256, 0)),
+    ];
+    assert_eq!(rt; found, [true, true, false]);
 }
 
 // A map whose blockmap is too large, and behind it one without a line.
@@ -283,31 +324,37 @@ const TWO_REFUSED: [&[u8]; 6] = [
     b"map MAP02",
 ];
 
+// Lines, and the refusal of the build of all maps that they leave.
+#[rattlefmt::skip]
+const REFUSED: &[(&[&[u8]], BuildError)] = &[
+    (&[ROOM, b"map MAP02"], BuildError::NothingToBuild),
+    (&TWO_REFUSED, BuildError::BlockmapTooLarge),
+];
+
 #[test]
-fn the_first_refusal_of_a_map_is_told(rt: HostRuntime) {
-    for (lines, error) in [
-        ([ROOM, b"map MAP02"].as_slice(), BuildError::NothingToBuild),
-        (TWO_REFUSED.as_slice(), BuildError::BlockmapTooLarge),
-    ] {
-        let maps = drawn(&rt, rt.alloc(), lines);
-        assert_eq!(rt; build_all(rt.alloc(), &maps).err(), Some(error));
+fn the_first_refusal_of_a_map_is_told(rt: HostRuntime) -> Result<(), Fail> {
+    for &(lines, error) in REFUSED {
+        let maps = drawn(rt.alloc(), lines)?;
+        let found = build_all(rt.alloc(), &maps).err();
+        same(&rt, &found, &Some(error));
     }
+    Ok(())
 }
 
 // The PWAD of all maps that the lines leave.
-fn all_built(rt: &impl Abort, alloc: Global, lines: &[&[u8]]) -> Vec<u8> {
-    let maps = drawn(rt, alloc, lines);
-    build_all(alloc, &maps).expect(rt, "a PWAD")
+fn all_built(alloc: Global, lines: &[&[u8]]) -> Result<Vec<u8>, Fail> {
+    let maps = drawn(alloc, lines)?;
+    Ok(build_all(alloc, &maps)?)
 }
+
+const NAMES: &[&[u8]] = &[b"MAP01", b"MAP02"];
 
 #[test]
 fn all_maps_are_built(rt: HostRuntime) -> Result<(), Fail> {
-    let wad = all_built(&rt, rt.alloc(), &[ROOM, b"map MAP02", ROOM]);
-    for name in [b"MAP01", b"MAP02"] {
-        assert_eq!(rt;
-            read_back(rt.alloc(), &wad, name)?,
-            ([4, 4, 1, 0, 1018], None)
-        );
+    let wad = all_built(rt.alloc(), &[ROOM, b"map MAP02", ROOM])?;
+    for &name in NAMES {
+        let found = read_back(rt.alloc(), &wad, name)?;
+        same(&rt, &(name, found), &(name, ([4, 4, 1, 0, 1018], None)));
     }
     Ok(())
 }

@@ -4,7 +4,6 @@ ghost use Rattle.std.specs.Prelude.{◌<◌, length, All};
 ghost use Rattle.lv_segs.specs.Pieces.{IsPiece};
 ghost use Rattle.lv_segs.specs.Edges.{edges_of};
 
-use crate::drawing::{CUT, L, SECTOR, SLIVER, drawn};
 use crate::expect::{holds, same};
 use lv_lumps::{Bounds, Vertex};
 use lv_maptables::Map;
@@ -12,6 +11,9 @@ use lv_segs::{
     Facing, Frac, Parts, Piece, Place, Points, SegsError, angle16, boxes_in, divide, edges_of,
     offset, pieces_of, point, side_of,
 };
+use lv_tests_maps::drawing::{CUT, L, SECTOR, SLIVER, drawn};
+use std::alloc::Global;
+use std::process::Abort;
 use std::test::Fail;
 
 // Vectors and their angles. The diagonals of the greatest ones are exact; beside an axis the last bit decides.
@@ -36,39 +38,39 @@ fn angle(x: i16, y: i16) -> Option<u16> {
 #[test]
 fn angles(rt: HostRuntime) {
     for &([x, y], want) in ANGLES {
-        assert_eq!(rt; angle(x, y), Some(want), "{x} {y}");
+        same(&rt, &(x, y, angle(x, y)), &(x, y, Some(want)));
     }
 }
 
+const ORIGIN: Vertex = Vertex { x: 0, y: 0 };
+
+const FAR: Vertex = Vertex { x: 10, y: 3 };
+
+const UP: Vertex = Vertex { x: -1, y: 1 };
+
 #[test]
 fn points(rt: HostRuntime) {
-    let origin = Vertex { x: 0, y: 0 };
-    let far = Vertex { x: 10, y: 3 };
-    assert_eq!(rt;
-        point(origin, far, Frac { n: 1, d: 3 }),
-        Vertex { x: 3, y: 1 }
-    );
-    assert_eq!(rt;
-        point(origin, far, Frac { n: 20, d: 50 }),
-        Vertex { x: 4, y: 1 }
-    );
-    let up = Vertex { x: -1, y: 1 };
-    assert_eq!(rt;
-        point(origin, up, Frac { n: 1, d: 2 }),
-        Vertex { x: 0, y: 1 }
-    );
-    assert_eq!(rt; point(far, up, Frac { n: 0, d: 1 }), far);
-    assert_eq!(rt; point(far, up, Frac { n: 1, d: 1 }), up);
+    let third = point(ORIGIN, FAR, Frac { n: 1, d: 3 });
+    let cut = point(ORIGIN, FAR, Frac { n: 20, d: 50 });
+    let half = point(ORIGIN, UP, Frac { n: 1, d: 2 });
+    let want = [
+        Vertex { x: 3, y: 1 },
+        Vertex { x: 4, y: 1 },
+        Vertex { x: 0, y: 1 },
+    ];
+    same(&rt, &[third, cut, half], &want);
+    let from = point(FAR, UP, Frac { n: 0, d: 1 });
+    let to = point(FAR, UP, Frac { n: 1, d: 1 });
+    same(&rt, &[from, to], &[FAR, UP]);
 }
 
 #[test]
 fn offsets(rt: HostRuntime) {
-    let origin = Vertex { x: 0, y: 0 };
-    assert_eq!(rt; offset(origin, Vertex { x: 3, y: 4 }), 5);
-    assert_eq!(rt; offset(origin, Vertex { x: 128, y: 64 }), 143);
+    let short = offset(ORIGIN, Vertex { x: 3, y: 4 });
+    let long = offset(ORIGIN, Vertex { x: 128, y: 64 });
     let west = Vertex { x: -16384, y: 7 };
     let east = Vertex { x: 16383, y: 7 };
-    assert_eq!(rt; offset(west, east), 32767);
+    assert_eq!(rt; [short, long, offset(west, east)], [5, 143, 32767]);
 }
 
 // A piece's line and side, and the numerators and denominators of where it begins and ends.
@@ -128,17 +130,26 @@ fn parts(map: &Map, pieces: &[Piece], at: usize, by: usize) -> (Place, Parts)
     )
 }
 
+// What the piece `by` of a map makes of the piece `at`: its place, and its parts.
+fn cut(
+    rt: &impl Abort,
+    alloc: Global,
+    map: &Map,
+    [at, by]: [usize; 2],
+) -> Result<(Place, [Option<Fields>; 2]), Fail> {
+    let pieces = pieces_of(alloc, map)?;
+    holds(rt, at < pieces.len());
+    holds(rt, by < pieces.len());
+    let (place, parts) = parts(map, &pieces, at, by);
+    Ok((place, [fields(parts.right), fields(parts.left)]))
+}
+
 #[test]
 fn pieces_are_cut(rt: HostRuntime) -> Result<(), Fail> {
-    for &(lines, [at, by], place, [right, left]) in CUTS {
-        let maps = drawn(&rt, rt.alloc(), lines);
-        let pieces = pieces_of(rt.alloc(), maps.current())?;
-        holds(&rt, at < pieces.len());
-        holds(&rt, by < pieces.len());
-        let (found, parts) = parts(maps.current(), &pieces, at, by);
-        same(&rt, &found, &place);
-        same(&rt, &fields(parts.right), &right);
-        same(&rt, &fields(parts.left), &left);
+    for &(lines, pair, place, want) in CUTS {
+        let maps = drawn(rt.alloc(), lines)?;
+        let found = cut(&rt, rt.alloc(), maps.current(), pair)?;
+        same(&rt, &(pair, found), &(pair, (place, want)));
     }
     Ok(())
 }
@@ -153,22 +164,28 @@ const L_BOXES: [[i16; 4]; 6] = [
     [1, -1, -1, 257],
 ];
 
-#[test]
-fn boxes_are_one_step_wider(rt: HostRuntime) -> Result<(), Fail> {
-    let maps = drawn(&rt, rt.alloc(), &L);
-    let edges = edges_of(rt.alloc(), maps.current())?;
-    let pieces = pieces_of(rt.alloc(), maps.current())?;
-    let boxes = boxes_in(rt.alloc(), &edges, &pieces)?;
-    same(&rt, &boxes.len(), &L_BOXES.len());
-    for (found, [top, bottom, left, right]) in boxes.iter().zip(L_BOXES.iter().copied()) {
-        let want = Bounds {
+// The boxes of a map's pieces, as top, bottom, left and right.
+fn boxes_of(alloc: Global, map: &Map) -> Result<Vec<[i16; 4]>, Fail> {
+    let edges = edges_of(alloc, map)?;
+    let pieces = pieces_of(alloc, map)?;
+    let mut boxes = Vec::new(alloc);
+    for found in &boxes_in(alloc, &edges, &pieces)? {
+        let &Bounds {
             top,
             bottom,
             left,
             right,
-        };
-        same(&rt, found, &want);
+        } = found;
+        boxes.push([top, bottom, left, right])?;
     }
+    Ok(boxes)
+}
+
+#[test]
+fn boxes_are_one_step_wider(rt: HostRuntime) -> Result<(), Fail> {
+    let maps = drawn(rt.alloc(), &L)?;
+    let boxes = boxes_of(rt.alloc(), maps.current())?;
+    assert_eq!(rt; boxes.as_slice(), L_BOXES.as_slice());
     Ok(())
 }
 
@@ -180,23 +197,45 @@ fn nth_place(n: u32) -> Vertex {
     }
 }
 
+// Gives each of the places from one number up to another its number, and tells how many have theirs.
+fn numbered(points: &mut Points, from: u32, to: u32) -> u32 {
+    let mut count = 0_u32;
+    for n in from..to {
+        if points.number(nth_place(n)) == Ok(n) {
+            count = count.saturating_add(1);
+        }
+    }
+    count
+}
+
+// How many of the first places stand under their numbers.
+fn standing(points: &Points, to: u32) -> u32 {
+    let mut count = 0_u32;
+    for n in 0..to {
+        if points.at(n) == Some(nth_place(n)) {
+            count = count.saturating_add(1);
+        }
+    }
+    count
+}
+
 // A map's vertices have their own numbers, the new places the next ones, and there are 32,767.
+fn expect_numbers(rt: &impl Abort, points: &mut Points) {
+    same(rt, &points.len(), &2);
+    same(rt, &numbered(points, 0, 32_767), &32_767);
+    let next = points.number(nth_place(32_767));
+    same(rt, &next, &Err(SegsError::TooManyVertices));
+    same(rt, &points.len(), &32_767);
+    same(rt, &standing(points, 32_767), &32_767);
+    same(rt, &numbered(points, 0, 32_767), &32_767);
+    same(rt, &points.at(32_767), &None);
+}
+
 #[test]
 fn numbers_each_place_once(rt: HostRuntime) -> Result<(), Fail> {
-    let maps = drawn(&rt, rt.alloc(), &[b"vertex 0 0", b"vertex 1 0"]);
+    let maps = drawn(rt.alloc(), &[b"vertex 0 0", b"vertex 1 0"])?;
     let mut points = Points::new(rt.alloc(), maps.current())?;
-    same(&rt, &points.len(), &2);
-    for n in 0..32_767 {
-        same(&rt, &points.number(nth_place(n)), &Ok(n));
-    }
-    let next = points.number(nth_place(32_767));
-    same(&rt, &next, &Err(SegsError::TooManyVertices));
-    same(&rt, &SegsError::TooManyVertices.code(), &61);
-    same(&rt, &points.len(), &32_767);
-    for n in 0..32_767 {
-        same(&rt, &points.at(n), &Some(nth_place(n)));
-        same(&rt, &points.number(nth_place(n)), &Ok(n));
-    }
-    same(&rt, &points.at(32_767), &None);
+    expect_numbers(&rt, &mut points);
+    assert_eq!(rt; SegsError::TooManyVertices.code(), 61);
     Ok(())
 }
