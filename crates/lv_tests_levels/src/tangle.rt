@@ -81,3 +81,14 @@ fn draw_lines(
     }
     Ok(())
 }
+
+/// Passes over the numbers of so many maps of so many lines.
+pub fn skip_tangles(numbers: &mut Sequence, maps: u32, lines: u32) {
+    for _ in 0..maps {
+        for _ in 0..lines {
+            numbers.below(49);
+            numbers.below(48);
+            numbers.below(2);
+        }
+    }
+}

@@ -1,11 +1,13 @@
 //! The trees and levels of maps of forty lines that cross one another, checked by plain code.
 
-use crate::tangle::{Sequence, draw_tangle};
+use crate::expect::same;
+use crate::tangle::{Sequence, draw_tangle, skip_tangles};
 use lv_lumps::{Seg, Vertex};
 use lv_maptables::{Kind, Map};
 use lv_nodes::{Built, build_tree};
 use lv_pwad::{Fault, audit, build_wad, read_level};
 use std::alloc::Global;
+use std::fs;
 use std::process::Abort;
 use std::test::Fail;
 
@@ -202,25 +204,49 @@ fn is_built(alloc: Global, map: &Map) -> Result<bool, Fail> {
     is_sound(alloc, map, &tree)
 }
 
+// How many lines each map has.
+const LINES: u32 = 40;
+
+// How many maps of a hundred are tried: all, or as many as a file `tangles` says in the folder that the test runs in.
+fn maps_to_try(rt: &HostRuntime) -> u32 {
+    match fs::read_to_string(rt, "tangles") {
+        Ok(text) => text.as_str().trim().parse().unwrap_or(100).min(100),
+        Err(_) => 100,
+    }
+}
+
+// The numbers behind so many maps.
+fn numbers_behind(maps: u32) -> Sequence {
+    let mut numbers = Sequence { state: 40 };
+    skip_tangles(&mut numbers, maps, LINES);
+    numbers
+}
+
 // The tree of the n-th map is sound.
-fn next_is_built(
-    rt: &impl Abort,
-    alloc: Global,
-    numbers: &mut Sequence,
-    n: u32,
-) -> Result<bool, Fail> {
-    let maps = draw_tangle(alloc, numbers, 40, 1 + n % 24)?;
+fn next_is_built(alloc: Global, numbers: &mut Sequence, n: u32) -> Result<bool, Fail> {
+    let maps = draw_tangle(alloc, numbers, LINES, 1 + n % 24)?;
     is_built(alloc, maps.current())
+}
+
+// The trees of so many maps, from one on, are sound.
+fn expect_trees(rt: &impl Abort, alloc: Global, first: u32, count: u32) -> Result<(), Fail> {
+    let mut numbers = numbers_behind(first);
+    for n in first..first.saturating_add(count) {
+        let is_sound = next_is_built(alloc, &mut numbers, n)?;
+        same(rt, &(n, is_sound), &(n, true));
+    }
+    Ok(())
 }
 
 // In a narrow grid many crossings round to an end of their line.
 #[test]
-fn trees_of_tangles_are_sound(rt: HostRuntime) -> Result<(), Fail> {
-    let mut numbers = Sequence { state: 40 };
-    for n in 0..4 {
-        assert!(rt; next_is_built(&rt, rt.alloc(), &mut numbers, n)?, "{n}");
-    }
-    Ok(())
+fn trees_of_a_hundred_tangles_are_sound(rt: HostRuntime) -> Result<(), Fail> {
+    expect_trees(&rt, rt.alloc(), 0, maps_to_try(&rt))
+}
+
+#[test]
+fn trees_of_another_hundred_are_sound(rt: HostRuntime) -> Result<(), Fail> {
+    expect_trees(&rt, rt.alloc(), 100, maps_to_try(&rt))
 }
 
 // What the audit finds in the map's PWAD, read back.
@@ -231,22 +257,27 @@ fn fault_of(alloc: Global, map: &Map) -> Result<Option<Fault>, Fail> {
 }
 
 // What the audit finds in the PWAD of the n-th map.
-fn fault_of_next(
-    rt: &impl Abort,
-    alloc: Global,
-    numbers: &mut Sequence,
-    n: u32,
-) -> Result<Option<Fault>, Fail> {
-    let maps = draw_tangle(alloc, numbers, 40, 1 + n % 24)?;
+fn fault_of_next(alloc: Global, numbers: &mut Sequence, n: u32) -> Result<Option<Fault>, Fail> {
+    let maps = draw_tangle(alloc, numbers, LINES, 1 + n % 24)?;
     fault_of(alloc, maps.current())
 }
 
-#[test]
-fn levels_of_tangles_read_back_without_a_fault(rt: HostRuntime) -> Result<(), Fail> {
-    let mut numbers = Sequence { state: 40 };
-    for n in 0..4 {
-        let fault = fault_of_next(&rt, rt.alloc(), &mut numbers, n)?;
-        assert_eq!(rt; fault, None, "{n}");
+// The levels of so many maps, from one on, read back without a fault.
+fn expect_levels(rt: &impl Abort, alloc: Global, first: u32, count: u32) -> Result<(), Fail> {
+    let mut numbers = numbers_behind(first);
+    for n in first..first.saturating_add(count) {
+        let fault = fault_of_next(alloc, &mut numbers, n)?;
+        same(rt, &(n, fault), &(n, None));
     }
     Ok(())
+}
+
+#[test]
+fn levels_of_a_hundred_tangles_have_no_fault(rt: HostRuntime) -> Result<(), Fail> {
+    expect_levels(&rt, rt.alloc(), 0, maps_to_try(&rt))
+}
+
+#[test]
+fn levels_of_another_hundred_have_no_fault(rt: HostRuntime) -> Result<(), Fail> {
+    expect_levels(&rt, rt.alloc(), 100, maps_to_try(&rt))
 }
