@@ -1,6 +1,7 @@
 //! Lines over a map in memory, and their answers.
 
 use crate::editor::run;
+use crate::expect::same;
 
 // Lines and their answers, each beside what it is about.
 const MAPS: &[(&str, &[u8], &[u8])] = &[
@@ -360,7 +361,7 @@ const MAPS: &[(&str, &[u8], &[u8])] = &[
 fn answers_maps(rt: HostRuntime) {
     for &(about, lines, answers) in MAPS {
         let (answered, out) = run(rt.alloc(), lines, 2);
-        assert!(rt; answered.is_ok(), "{about}");
-        assert_eq!(rt; out.as_slice(), answers, "{about}");
+        let found = (about, answered.is_ok(), out.as_slice());
+        same(&rt, &found, &(about, true, answers));
     }
 }

@@ -1,6 +1,7 @@
 //! What is built of drawn maps, by the queries `build` and `hex`, and the maps that there are.
 
 use crate::editor::run;
+use crate::expect::same;
 
 // Lines and their answers, each beside what it is about.
 const BUILDS: &[(&str, &[u8], &[u8])] = &[
@@ -264,7 +265,7 @@ const BUILDS: &[(&str, &[u8], &[u8])] = &[
 fn builds_maps(rt: HostRuntime) {
     for &(about, lines, answers) in BUILDS {
         let (answered, out) = run(rt.alloc(), lines, 2);
-        assert!(rt; answered.is_ok(), "{about}");
-        assert_eq!(rt; out.as_slice(), answers, "{about}");
+        let found = (about, answered.is_ok(), out.as_slice());
+        same(&rt, &found, &(about, true, answers));
     }
 }

@@ -1,6 +1,6 @@
 //! Lines in and answers out, and the words of the program.
 
-use crate::expect::{holds, same};
+use crate::expect::same;
 use crate::streams::{Drip, Endless, Held, Narrow};
 use lv_editor::{
     EditorError, Request, RequestError, perform, request, run_in_memory, write_findings,
@@ -8,6 +8,7 @@ use lv_editor::{
 use lv_maptables::Map;
 use std::alloc::Global;
 use std::io::{Read, Write};
+use std::process::Abort;
 use std::test::Fail;
 
 const ROW: &[u8] = b"vertex 0 0\nvertex 128 0\nhex VERTEXES\n";
@@ -22,35 +23,32 @@ pub fn run(alloc: Global, input: &[u8], turns: u32) -> (Result<u64, EditorError>
     (answered, out)
 }
 
+// Input, how many lines it has, and their answers.
+#[rattlefmt::skip]
+const LINES: &[(&[u8], u64, &[u8])] = &[
+    (b"", 0, b""),
+    (ROW, 3, ROW_ANSWERS),
+    (b"hex VERTEXES", 1, b"-\n"),
+    (b"vertex -16384 16383\nhex VERTEXES\nvertex 16384 0\nvertex -16384 16383\nhex VERTEXES\n", 5,
+        b"ok 0\n00 c0 ff 3f\nno 2\nno 10\n00 c0 ff 3f\n"),
+    (b"vertex 00 0\nvertex -0 0\nvertex  1 1\n\nvertex 1\n", 5, b"no 1\nno 1\nno 1\nno 1\nno 1\n"),
+    (b"hex\nhex  VERTEXES\nhex VERTEXES \nhex vertexes\n hex VERTEXES\n", 5, b"no 1\nno 1\nno 1\nno 1\nno 1\n"),
+    (b"vertex 0 0\r\nvertex 0 0\n", 2, b"no 1\nok 0\n"),
+    (b"vertex 1 2\nvertex 3 4", 2, b"ok 0\nok 1\n"),
+    (b"\n\n\n", 3, b"no 1\nno 1\nno 1\n"),
+];
+
+// A run over this input answers so many lines by this.
+fn expect_run(rt: &impl Abort, alloc: Global, input: &[u8], turns: u32, want: (u64, &[u8])) {
+    let (answered, out) = run(alloc, input, turns);
+    let found = (input, answered, out.as_slice());
+    same(rt, &found, &(input, Ok(want.0), want.1));
+}
+
 #[test]
 fn answers_lines(rt: HostRuntime) {
-    let rows: [(&[u8], u64, &[u8]); 9] = [
-        (b"", 0, b""),
-        (ROW, 3, ROW_ANSWERS),
-        (b"hex VERTEXES", 1, b"-\n"),
-        (
-            b"vertex -16384 16383\nhex VERTEXES\nvertex 16384 0\nvertex -16384 16383\nhex VERTEXES\n",
-            5,
-            b"ok 0\n00 c0 ff 3f\nno 2\nno 10\n00 c0 ff 3f\n",
-        ),
-        (
-            b"vertex 00 0\nvertex -0 0\nvertex  1 1\n\nvertex 1\n",
-            5,
-            b"no 1\nno 1\nno 1\nno 1\nno 1\n",
-        ),
-        (
-            b"hex\nhex  VERTEXES\nhex VERTEXES \nhex vertexes\n hex VERTEXES\n",
-            5,
-            b"no 1\nno 1\nno 1\nno 1\nno 1\n",
-        ),
-        (b"vertex 0 0\r\nvertex 0 0\n", 2, b"no 1\nok 0\n"),
-        (b"vertex 1 2\nvertex 3 4", 2, b"ok 0\nok 1\n"),
-        (b"\n\n\n", 3, b"no 1\nno 1\nno 1\n"),
-    ];
-    for (input, count, wanted) in rows {
-        let (answered, out) = run(rt.alloc(), input, 2);
-        same(&rt, &(input, answered), &(input, Ok(count)));
-        same(&rt, &(input, out.as_slice()), &(input, wanted));
+    for &(input, count, wanted) in LINES {
+        expect_run(&rt, rt.alloc(), input, 2, (count, wanted));
     }
 }
 
@@ -64,31 +62,31 @@ fn long_line(alloc: Global, digits: usize) -> Result<Vec<u8>, Fail> {
     Ok(line)
 }
 
+// How many digits a line has, and its answer. A line of 256 bytes has a number out of its range; a longer one is no
+// command, however long.
+const DIGITS: &[(usize, &[u8])] = &[
+    (247, b"no 2\n"),
+    (248, b"no 1\n"),
+    (249, b"no 1\n"),
+    (9000, b"no 1\n"),
+];
+
 #[test]
 fn refuses_long_lines(rt: HostRuntime) -> Result<(), Fail> {
-    // A line of 256 bytes has a number out of its range; a longer one is no command, however long.
-    let rows: [(usize, &[u8]); 4] = [
-        (247, b"no 2\n"),
-        (248, b"no 1\n"),
-        (249, b"no 1\n"),
-        (9000, b"no 1\n"),
-    ];
-    for (digits, wanted) in rows {
+    for &(digits, wanted) in DIGITS {
         let line = long_line(rt.alloc(), digits)?;
-        let (answered, out) = run(rt.alloc(), line.as_slice(), 4);
-        same(&rt, &(digits, answered), &(digits, Ok(1)));
-        same(&rt, &(digits, out.as_slice()), &(digits, wanted));
+        expect_run(&rt, rt.alloc(), &line, 4, (1, wanted));
     }
-    // What stands behind a long line is answered as ever.
+    Ok(())
+}
+
+// What stands behind a long line is answered as ever.
+#[test]
+fn answers_lines_behind_a_long_one(rt: HostRuntime) -> Result<(), Fail> {
     let mut lines = long_line(rt.alloc(), 4090)?;
     lines.extend_from_slice(ROW)?;
-    let (answered, out) = run(rt.alloc(), lines.as_slice(), 3);
-    same(&rt, &answered, &Ok(4));
-    same(
-        &rt,
-        &out.as_slice(),
-        &b"no 1\nok 0\nok 1\n00 00 00 00 80 00 00 00\n".as_slice(),
-    );
+    let wanted = b"no 1\nok 0\nok 1\n00 00 00 00 80 00 00 00\n";
+    expect_run(&rt, rt.alloc(), &lines, 3, (4, wanted));
     Ok(())
 }
 
@@ -136,19 +134,18 @@ fn stops_where_the_reader_fails(rt: HostRuntime) {
     assert_eq!(rt; out.as_slice(), b"ok 0\n".as_slice());
 }
 
+// How a run ends whose writer has so much room.
+fn answered_in(alloc: Global, room: usize) -> Result<u64, EditorError> {
+    run_in_memory(alloc, &mut ROW, &mut Narrow::of(room), 2)
+}
+
 #[test]
 fn stops_where_the_writer_fails(rt: HostRuntime) {
-    for room in 0..35 {
-        let mut reader = ROW;
-        let mut writer = Narrow::of(room);
-        let answered = run_in_memory(rt.alloc(), &mut reader, &mut writer, 2);
-        let wanted = if room < 34 {
-            Err(EditorError::WriterFailed)
-        } else {
-            Ok(3)
-        };
-        same(&rt, &(room, answered), &(room, wanted));
+    let failed = Err(EditorError::WriterFailed);
+    for room in 0..34 {
+        same(&rt, &(room, answered_in(rt.alloc(), room)), &(room, failed));
     }
+    same(&rt, &answered_in(rt.alloc(), 34), &Ok(3));
 }
 
 // No further line is looked at: the second byte of the first answer is the last that is taken.
@@ -181,116 +178,134 @@ fn seen<R: Read>(alloc: Global, reader: &mut R, turns: u32) -> (Result<u64, Edit
     (answered, seen)
 }
 
+// What is seen of the answers of such a run, and how it ends.
+fn expect_seen<R: Read>(
+    rt: &impl Abort,
+    alloc: Global,
+    reader: &mut R,
+    turns: u32,
+    want: (Result<u64, EditorError>, &[u8]),
+) {
+    let (answered, out) = seen(alloc, reader, turns);
+    same(rt, &(answered, out.as_slice()), &want);
+}
+
 #[test]
 fn hands_on_the_answers_of_a_turn(rt: HostRuntime) {
-    let (answered, out) = seen(rt.alloc(), &mut ROW, 1);
-    same(&rt, &answered, &Err(EditorError::InputTooLong));
-    same(&rt, &out.as_slice(), &ROW_ANSWERS);
-
+    let too_long = (Err(EditorError::InputTooLong), ROW_ANSWERS);
+    expect_seen(&rt, rt.alloc(), &mut ROW, 1, too_long);
     let mut broken = Drip::of(b"vertex 0 0\nvert", true);
-    let (answered, out) = seen(rt.alloc(), &mut broken, 100);
-    same(&rt, &answered, &Err(EditorError::ReaderFailed));
-    same(&rt, &out.as_slice(), &b"ok 0\n".as_slice());
-
+    let failed = (Err(EditorError::ReaderFailed), b"ok 0\n".as_slice());
+    expect_seen(&rt, rt.alloc(), &mut broken, 100, failed);
     let mut unended: &[u8] = b"vertex 0 0\nvertex 1 0";
-    let (answered, out) = seen(rt.alloc(), &mut unended, 2);
-    same(&rt, &answered, &Ok(2));
-    same(&rt, &out.as_slice(), &b"ok 0\nok 1\n".as_slice());
+    let ended = (Ok(2), b"ok 0\nok 1\n".as_slice());
+    expect_seen(&rt, rt.alloc(), &mut unended, 2, ended);
 }
+
+const CODES: &[(EditorError, u16)] = &[
+    (EditorError::OutOfMemory, 31),
+    (EditorError::InputTooLong, 36),
+    (EditorError::ReaderFailed, 37),
+    (EditorError::WriterFailed, 38),
+];
 
 #[test]
 fn numbers_refusals(rt: HostRuntime) {
-    let rows = [
-        (EditorError::OutOfMemory, 31),
-        (EditorError::InputTooLong, 36),
-        (EditorError::ReaderFailed, 37),
-        (EditorError::WriterFailed, 38),
-    ];
-    for (error, code) in rows {
-        assert_eq!(rt; error.code(), code);
+    for &(error, code) in CODES {
+        same(&rt, &(error, error.code()), &(error, code));
     }
 }
 
-// What the program answers to `scratch` over this reader, and what it prints on standard error.
+// The status of the program with `scratch` over this reader, where it prints this on standard error.
 fn scratch<R: Read, W: Write>(
     rt: &HostRuntime,
     reader: &mut R,
     writer: &mut W,
-) -> Result<(u8, Vec<u8>), Fail> {
-    let words = ["leveled", "scratch"];
-    let Ok(asked) = request(rt.alloc(), words.as_slice()) else {
-        return Err(Fail::from("no request"));
-    };
+    said: &[u8],
+) -> Result<u8, Fail> {
     let mut faults = Vec::new(rt.alloc());
-    let status = perform(rt, &asked, reader, writer, &mut faults);
-    Ok((status, faults))
+    let status = match request(rt.alloc(), &["leveled", "scratch"]) {
+        Ok(asked) => perform(rt, &asked, reader, writer, &mut faults),
+        Err(_) => return Err(Fail::from("no request")),
+    };
+    if faults.as_slice() == said {
+        Ok(status)
+    } else {
+        Err(Fail::from("other faults"))
+    }
+}
+
+// The status of such a run, and what it writes.
+fn written<R: Read>(rt: &HostRuntime, reader: &mut R, said: &[u8]) -> Result<(u8, Vec<u8>), Fail> {
+    let mut out = Vec::new(rt.alloc());
+    let status = scratch(rt, reader, &mut out, said)?;
+    Ok((status, out))
 }
 
 #[test]
 fn performs_scratch(rt: HostRuntime) -> Result<(), Fail> {
-    let mut row = ROW;
-    let mut out = Vec::new(rt.alloc());
-    let (status, faults) = scratch(&rt, &mut row, &mut out)?;
-    assert_eq!(rt; (status, faults.is_empty()), (0, true));
-    assert!(rt; out.as_slice() == ROW_ANSWERS);
+    let (status, out) = written(&rt, &mut ROW, b"")?;
+    assert_eq!(rt; (status, out.as_slice()), (0, ROW_ANSWERS));
     Ok(())
 }
 
 // A byte a turn takes many turns.
 #[test]
 fn performs_scratch_byte_by_byte(rt: HostRuntime) -> Result<(), Fail> {
-    let mut slow = Drip::of(ROW, false);
-    let mut out = Vec::new(rt.alloc());
-    let (status, _) = scratch(&rt, &mut slow, &mut out)?;
-    assert_eq!(rt; status, 0);
-    assert!(rt; out.as_slice() == ROW_ANSWERS);
+    let (status, out) = written(&rt, &mut Drip::of(ROW, false), b"")?;
+    assert_eq!(rt; (status, out.as_slice()), (0, ROW_ANSWERS));
     Ok(())
 }
 
 #[test]
 fn tells_of_a_reader_that_fails(rt: HostRuntime) -> Result<(), Fail> {
     let mut broken = Drip::of(b"vertex 0 0\nvert", true);
-    let mut out = Vec::new(rt.alloc());
-    let (status, faults) = scratch(&rt, &mut broken, &mut out)?;
-    assert_eq!(rt; status, 1);
-    assert!(rt; out.as_slice() == b"ok 0\n".as_slice());
-    assert!(rt; faults.as_slice() == b"leveled: 37 ReaderFailed\n".as_slice());
+    let (status, out) = written(&rt, &mut broken, b"leveled: 37 ReaderFailed\n")?;
+    assert_eq!(rt; (status, out.as_slice()), (1, b"ok 0\n".as_slice()));
     Ok(())
 }
 
 #[test]
 fn tells_of_a_writer_that_fails(rt: HostRuntime) -> Result<(), Fail> {
-    let mut row = ROW;
-    let (status, faults) = scratch(&rt, &mut row, &mut Narrow::of(2))?;
+    let said = b"leveled: 38 WriterFailed\n";
+    let status = scratch(&rt, &mut ROW, &mut Narrow::of(2), said)?;
     assert_eq!(rt; status, 1);
-    assert!(rt; faults.as_slice() == b"leveled: 38 WriterFailed\n".as_slice());
     Ok(())
 }
 
 #[test]
-fn reads_words(rt: HostRuntime) -> Result<(), Fail> {
-    let words = ["leveled", "scratch"];
-    let asked = request(rt.alloc(), words.as_slice());
-    holds(&rt, matches!(asked, Ok(Request::Scratch)));
+fn reads_a_request(rt: HostRuntime) {
+    let asked = request(rt.alloc(), &["leveled", "scratch"]);
+    assert!(rt; matches!(asked, Ok(Request::Scratch)));
+}
 
-    // The words, the status of what clap answers, and a part of its text.
-    let rows: [(&[&str], i32, &str); 6] = [
-        (&["leveled"], 2, "requires a subcommand"),
-        (&["leveled", "help"], 2, "unrecognized subcommand 'help'"),
-        (&["leveled", "scratch", "x"], 2, "unexpected argument 'x'"),
-        (&["leveled", "--slot"], 2, "unexpected argument '--slot'"),
-        (&["leveled", "--help"], 0, "Usage: leveled <COMMAND>"),
-        (&["leveled", "--version"], 0, "leveled 0.1.0"),
-    ];
-    for (words, status, part) in rows {
-        match request(rt.alloc(), words) {
-            Err(RequestError::Words(error)) => {
-                let text = error.to_string(rt.alloc())?;
-                same(&rt, &(words, error.exit_code()), &(words, status));
-                same(&rt, &(words, text.as_str().contains(part)), &(words, true));
-            }
-            _ => return Err(Fail::from("not refused by clap")),
+// Words, the status of what clap answers, and a part of its text.
+#[rattlefmt::skip]
+const WORDS: &[(&[&str], i32, &str)] = &[
+    (&["leveled"], 2, "requires a subcommand"),
+    (&["leveled", "help"], 2, "unrecognized subcommand 'help'"),
+    (&["leveled", "scratch", "x"], 2, "unexpected argument 'x'"),
+    (&["leveled", "--slot"], 2, "unexpected argument '--slot'"),
+    (&["leveled", "--help"], 0, "Usage: leveled <COMMAND>"),
+    (&["leveled", "--version"], 0, "leveled 0.1.0"),
+];
+
+// The status of what clap answers to these words, and whether this is a part of its text.
+fn answered_by_clap(alloc: Global, words: &[&str], part: &str) -> Result<(i32, bool), Fail> {
+    match request(alloc, words) {
+        Err(RequestError::Words(error)) => {
+            let text = error.to_string(alloc)?;
+            Ok((error.exit_code(), text.as_str().contains(part)))
         }
+        _ => Err(Fail::from("not refused by clap")),
+    }
+}
+
+#[test]
+fn reads_words(rt: HostRuntime) -> Result<(), Fail> {
+    for &(words, status, part) in WORDS {
+        let found = answered_by_clap(rt.alloc(), words, part)?;
+        same(&rt, &(words, found), &(words, (status, true)));
     }
     Ok(())
 }

@@ -1,14 +1,15 @@
 //! The inspection of a level: a worked room as a WAD, and the same with one byte changed.
 
-use crate::expect::{holds, same};
+use crate::expect::same;
 use lv_editor::{InspectError, inspect, perform, request};
 use lv_pwad::ReadError;
+use std::alloc::{AllocError, Global};
 use std::fs;
 use std::test::Fail;
 
 // The room from (0,0) to (128,128) as MAP01: lines, sides, vertices, segs, one subsector, a sector, REJECT, BLOCKMAP
 // and the directory.
-const ROOM_WAD: [u8; 515] = [
+const ROOM_WAD: &[u8] = &[
     80, 87, 65, 68, 11, 0, 0, 0, 83, 1, 0, 0, 0, 0, 1, 0, 1, 0, 0, 0, 0, 0, 0, 0, 255, 255, 1, 0,
     2, 0, 1, 0, 0, 0, 0, 0, 1, 0, 255, 255, 2, 0, 3, 0, 1, 0, 0, 0, 0, 0, 2, 0, 255, 255, 3, 0, 0,
     0, 1, 0, 0, 0, 0, 0, 3, 0, 255, 255, 0, 0, 0, 0, 45, 0, 0, 0, 0, 0, 0, 0, 45, 0, 0, 0, 0, 0, 0,
@@ -50,37 +51,50 @@ const CHANGES: &[(usize, u8, &str)] = &[
 ];
 
 // The room with a byte changed.
-fn changed(place: usize, value: u8) -> [u8; 515] {
-    let mut wad = ROOM_WAD;
+fn changed(alloc: Global, place: usize, value: u8) -> Result<Vec<u8>, AllocError> {
+    let mut wad = Vec::from_slice(alloc, ROOM_WAD)?;
     if let Some(byte) = wad.get_mut(place) {
         *byte = value;
     }
-    wad
+    Ok(wad)
+}
+
+// Whether the level of these bytes is sound, and what is told of it.
+fn told(alloc: Global, wad: &[u8]) -> Result<(bool, Vec<u8>), Fail> {
+    let mut out = Vec::new(alloc);
+    let sound = inspect(alloc, wad, b"MAP01", &mut out)?;
+    Ok((sound, out))
 }
 
 #[test]
 fn tells_of_a_level(rt: HostRuntime) -> Result<(), Fail> {
-    let mut out = Vec::new(rt.alloc());
-    let sound = inspect(rt.alloc(), &ROOM_WAD, b"MAP01", &mut out).expect(&rt, "a level");
-    holds(&rt, sound);
-    same(&rt, &out.as_slice(), &ROOM_TEXT);
-    let refused = inspect(rt.alloc(), &ROOM_WAD, b"MAP02", &mut out).err();
-    let error = InspectError::Level(ReadError::NoSuchLevel);
-    same(&rt, &refused, &Some(error));
-    same(&rt, &error.code(), &72);
-    same(&rt, &InspectError::WriterFailed.code(), &38);
-    same(&rt, &out.as_slice(), &ROOM_TEXT);
+    let (sound, out) = told(rt.alloc(), ROOM_WAD)?;
+    assert_eq!(rt; (sound, out.as_slice()), (true, ROOM_TEXT));
     Ok(())
+}
+
+// Of a level that isn't there nothing is told.
+#[test]
+fn tells_nothing_of_no_level(rt: HostRuntime) {
+    let mut out = Vec::new(rt.alloc());
+    let refused = inspect(rt.alloc(), ROOM_WAD, b"MAP02", &mut out).err();
+    let error = InspectError::Level(ReadError::NoSuchLevel);
+    let codes = [error.code(), InspectError::WriterFailed.code()];
+    assert_eq!(rt; (refused, codes, out.len()), (Some(error), [72, 38], 0));
+}
+
+// Whether the room with a byte changed is sound, and this is told of it at the end.
+fn told_changed(alloc: Global, place: usize, value: u8, end: &str) -> Result<[bool; 2], Fail> {
+    let wad = changed(alloc, place, value)?;
+    let (sound, out) = told(alloc, &wad)?;
+    Ok([sound, out.ends_with(end.as_bytes())])
 }
 
 #[test]
 fn tells_a_changed_byte(rt: HostRuntime) -> Result<(), Fail> {
-    for &(place, value, told) in CHANGES {
-        let wad = changed(place, value);
-        let mut out = Vec::new(rt.alloc());
-        let sound = inspect(rt.alloc(), &wad, b"MAP01", &mut out).expect(&rt, "a level");
-        assert!(rt; !sound, "at {place}");
-        assert!(rt; out.ends_with(told.as_bytes()), "at {place}");
+    for &(place, value, end) in CHANGES {
+        let found = told_changed(rt.alloc(), place, value, end)?;
+        same(&rt, &(place, value, found), &(place, value, [false, true]));
     }
     Ok(())
 }
@@ -177,32 +191,43 @@ fn performed(
     Ok((status, out, faults))
 }
 
+// The status of a call, and whether it writes and says what it should.
+fn outcome(rt: &HostRuntime, call: &Call) -> Result<(u8, [bool; 2]), Fail> {
+    let (ended, out, faults) = performed(rt, call.0, call.1)?;
+    let is_told = [out.as_slice() == call.3, faults.as_slice() == call.4];
+    Ok((ended, is_told))
+}
+
+// Whether a file has these bytes.
+fn has_bytes(rt: &HostRuntime, path: &str, bytes: &[u8]) -> Result<bool, Fail> {
+    let read = fs::read(rt, path)?;
+    Ok(read.as_slice() == bytes)
+}
+
 #[test]
 fn builds_and_inspects_a_room(rt: HostRuntime) -> Result<(), Fail> {
     let _ = fs::remove_file(&rt, "room.lv");
-    for &(words, input, status, written, said) in CALLS {
-        let (ended, out, faults) = performed(&rt, words, input)?;
-        same(&rt, &(written, said, ended), &(written, said, status));
-        same(&rt, &out.as_slice(), &written);
-        same(&rt, &faults.as_slice(), &said);
+    for call in CALLS {
+        let found = outcome(&rt, call)?;
+        same(&rt, &(call, found), &(call, (call.2, [true, true])));
     }
-    let wad = fs::read(&rt, "room.wad")?;
-    same(&rt, &wad.as_slice(), &ROOM_WAD.as_slice());
+    let is_room = has_bytes(&rt, "room.wad", ROOM_WAD)?;
+    assert!(rt; is_room);
     Ok(())
 }
 
 // A fault is told on standard output, and by the status.
 #[test]
 fn tells_a_fault_by_the_status(rt: HostRuntime) -> Result<(), Fail> {
-    fs::write(&rt, "changed.wad", &changed(12, 0x04))?;
+    let wad = changed(rt.alloc(), 12, 0x04)?;
+    fs::write(&rt, "changed.wad", &wad)?;
     let (ended, out, faults) = performed(
         &rt,
         &["leveled", "inspect", "changed.wad", "MAP01"],
         b"",
     )?;
-    assert_eq!(rt; ended, 3);
-    assert!(rt; out.ends_with(b"fault LineVertex 0\n"));
-    assert!(rt; faults.is_empty());
+    let end = out.ends_with(b"fault LineVertex 0\n");
+    assert_eq!(rt; (ended, end, faults.is_empty()), (3, true, true));
     Ok(())
 }
 
@@ -244,33 +269,38 @@ const TWO_MAPS: &[Call] = &[
 #[test]
 fn builds_and_inspects_two_maps(rt: HostRuntime) -> Result<(), Fail> {
     let _ = fs::remove_file(&rt, "two.lv");
-    for &(words, input, status, written, said) in TWO_MAPS {
-        let (ended, out, faults) = performed(&rt, words, input)?;
-        same(&rt, &(written, said, ended), &(written, said, status));
-        same(&rt, &out.as_slice(), &written);
-        same(&rt, &faults.as_slice(), &said);
+    for call in TWO_MAPS {
+        let found = outcome(&rt, call)?;
+        same(&rt, &(call, found), &(call, (call.2, [true, true])));
     }
     Ok(())
 }
+
+// Makes calls, whatever comes of them.
+fn perform_all(rt: &HostRuntime, calls: &[(&[&str], &[u8])]) -> Result<(), Fail> {
+    for &(words, input) in calls {
+        performed(rt, words, input)?;
+    }
+    Ok(())
+}
+
+const BUILD_OLD: &[&str] = &["leveled", "build", "old.lv", "old.wad"];
 
 // A refused build leaves what stood in the file, and a shorter one cuts it off.
 #[test]
 fn builds_over_a_file(rt: HostRuntime) -> Result<(), Fail> {
     let _ = fs::remove_file(&rt, "old.lv");
     fs::write(&rt, "old.wad", &[7; 600])?;
-    performed(&rt, &["leveled", "create", "old.lv"], b"")?;
-    performed(&rt, &["leveled", "build", "old.lv", "old.wad"], b"")?;
-    same(
+    perform_all(
         &rt,
-        &fs::read(&rt, "old.wad")?.as_slice(),
-        &[7; 600].as_slice(),
-    );
-    performed(&rt, &["leveled", "edit", "old.lv"], ROOM)?;
-    performed(&rt, &["leveled", "build", "old.lv", "old.wad"], b"")?;
-    same(
+        &[(&["leveled", "create", "old.lv"], b""), (BUILD_OLD, b"")],
+    )?;
+    let is_old = has_bytes(&rt, "old.wad", &[7; 600])?;
+    perform_all(
         &rt,
-        &fs::read(&rt, "old.wad")?.as_slice(),
-        &ROOM_WAD.as_slice(),
-    );
+        &[(&["leveled", "edit", "old.lv"], ROOM), (BUILD_OLD, b"")],
+    )?;
+    let is_room = has_bytes(&rt, "old.wad", ROOM_WAD)?;
+    assert_eq!(rt; (is_old, is_room), (true, true));
     Ok(())
 }

@@ -1,6 +1,6 @@
 //! Lines over a project, and the subcommands that take a file.
 
-use crate::expect::{holds, same};
+use crate::expect::same;
 use crate::streams::Narrow;
 use lv_disk::{Disk, FaultDisk, FileDisk, MemoryDisk};
 use lv_editor::{EditorError, RequestError, answer, build_after_any_stop, perform, request, run};
@@ -28,15 +28,25 @@ const LINES: &[(&[u8], &[u8])] = &[
     (b"no command", b"no 32\n"),
 ];
 
+// What a line over a project is answered.
+fn answered<D: Disk>(
+    alloc: Global,
+    project: &mut Project<D>,
+    line: &[u8],
+) -> Result<Vec<u8>, EditorError> {
+    let mut out = Vec::new(alloc);
+    answer(alloc, project, line, &mut out)?;
+    Ok(out)
+}
+
 // Each line is answered as it should be.
 fn answer_all<D: Disk>(
     rt: &impl Abort,
     alloc: Global,
     project: &mut Project<D>,
-) -> Result<(), Fail> {
+) -> Result<(), EditorError> {
     for &(line, wanted) in LINES {
-        let mut out = Vec::new(alloc);
-        answer(alloc, project, line, &mut out)?;
+        let out = answered(alloc, project, line)?;
         same(rt, &(line, out.as_slice()), &(line, wanted));
     }
     same(rt, &vertices(project), &0);
@@ -69,27 +79,20 @@ const RUNS: &[(u64, &[u8], u32)] = &[
 ];
 
 // What a run answers over such a disk, and the vertices of its project.
-fn run_over(
-    alloc: Global,
-    call: u64,
-    out: &mut Vec<u8>,
-) -> Result<(Result<u64, EditorError>, u32), Fail> {
+fn run_over(alloc: Global, call: u64) -> Result<(Result<u64, EditorError>, u32, Vec<u8>), Fail> {
     let mut project = failing(alloc, call)?;
     let mut input = b"vertex 0 0\nvertex 1 0\ncount\nvertex 2 0\n".as_slice();
-    let answered = run(alloc, &mut project, &mut input, out, 2);
-    Ok((answered, vertices(&project)))
+    let mut out = Vec::new(alloc);
+    let answered = run(alloc, &mut project, &mut input, &mut out, 2);
+    Ok((answered, vertices(&project), out))
 }
 
 #[test]
 fn runs_over_a_project(rt: HostRuntime) -> Result<(), Fail> {
     for &(call, wanted, count) in RUNS {
-        let mut out = Vec::new(rt.alloc());
-        same(
-            &rt,
-            &(call, run_over(rt.alloc(), call, &mut out)?),
-            &(call, (Ok(4), count)),
-        );
-        same(&rt, &(call, out.as_slice()), &(call, wanted));
+        let (answered, found, out) = run_over(rt.alloc(), call)?;
+        let told = (call, answered, found, out.as_slice());
+        same(&rt, &told, &(call, Ok(4), count, wanted));
     }
     Ok(())
 }
@@ -98,8 +101,10 @@ fn runs_over_a_project(rt: HostRuntime) -> Result<(), Fail> {
 fn keeps_what_it_could_not_tell(rt: HostRuntime) -> Result<(), Fail> {
     let mut project = failing(rt.alloc(), 99)?;
     let told = answer(rt.alloc(), &mut project, b"vertex 0 0", &mut Narrow::of(0));
-    assert_eq!(rt; told, Err(EditorError::WriterFailed));
-    assert_eq!(rt; vertices(&project), 1);
+    assert_eq!(rt;
+        (told, vertices(&project)),
+        (Err(EditorError::WriterFailed), 1)
+    );
     Ok(())
 }
 
@@ -115,13 +120,18 @@ fn kept_after(alloc: Global, input: &[u8], room: usize) -> Result<[u32; 2], Fail
     Ok([kept, found(alloc, project.into_disk())?.0])
 }
 
-// The line whose answer the writer didn't take is kept, and the one after it isn't looked at.
+// Input, the room of the writer, and how many lines are kept: the one whose answer it didn't take is the last.
+const KEPT: &[(&[u8], usize, u32)] = &[
+    (b"vertex 1 0\nvertex 2 0\nvertex 3 0\n", 7, 2),
+    (b"vertex 0 0\nvertex 128 0\nhex VERTEXES\n", 2, 1),
+];
+
 #[test]
 fn looks_at_no_line_behind_a_failed_answer(rt: HostRuntime) -> Result<(), Fail> {
-    let kept = kept_after(rt.alloc(), b"vertex 1 0\nvertex 2 0\nvertex 3 0\n", 7)?;
-    assert_eq!(rt; kept, [2, 2]);
-    let kept = kept_after(rt.alloc(), b"vertex 0 0\nvertex 128 0\nhex VERTEXES\n", 2)?;
-    assert_eq!(rt; kept, [1, 1]);
+    for &(input, room, count) in KEPT {
+        let kept = kept_after(rt.alloc(), input, room)?;
+        same(&rt, &(input, kept), &(input, [count, count]));
+    }
     Ok(())
 }
 
@@ -136,14 +146,17 @@ fn disk_of_room(alloc: Global) -> Result<MemoryDisk, Fail> {
     Ok(project.into_disk())
 }
 
+// How many bytes are built of the project of a room, and how an empty disk is refused.
+fn built(alloc: Global) -> Result<(usize, Option<u16>), Fail> {
+    let wad = build_after_any_stop(alloc, disk_of_room(alloc)?)?;
+    let refused = build_after_any_stop(alloc, empty_disk(alloc)?).err();
+    Ok((wad.len(), refused.map(|error| error.code())))
+}
+
 #[test]
 fn builds_what_a_disk_holds(rt: HostRuntime) -> Result<(), Fail> {
-    let wad = build_after_any_stop(rt.alloc(), disk_of_room(rt.alloc())?)?;
-    same(&rt, &wad.len(), &515);
-    let Err(refused) = build_after_any_stop(rt.alloc(), empty_disk(rt.alloc())?) else {
-        return Err(Fail::from("an empty disk is built"));
-    };
-    same(&rt, &refused.code(), &42);
+    let found = built(rt.alloc())?;
+    assert_eq!(rt; found, (515, Some(42)));
     Ok(())
 }
 
@@ -209,48 +222,60 @@ const FILE_ROWS: &[Row] = &[
     ),
 ];
 
+// The status of a subcommand over a file, and what it writes and says.
+type Ended = (u8, Vec<u8>, Vec<u8>);
+
+fn over_file(rt: &HostRuntime, name: &str, path: &str, input: &[u8]) -> Result<Ended, Fail> {
+    let mut out = Vec::new(rt.alloc());
+    let (status, faults) = status_of(rt, &["leveled", name, path], input, &mut out)?;
+    Ok((status, out, faults))
+}
+
+// How long a file is, as a disk.
+fn length_of(rt: &HostRuntime, path: &str) -> Result<u64, Fail> {
+    let mut disk = FileDisk::open(rt, path, false)?;
+    Ok(disk.len()?)
+}
+
 #[test]
 fn makes_edits_and_checks_a_file(rt: HostRuntime) -> Result<(), Fail> {
     let path = "lv_project_run_file";
     let _ = fs::remove_file(&rt, path);
     for &(name, input, status, wanted, said) in FILE_ROWS {
-        let mut out = Vec::new(rt.alloc());
-        let (found, faults) = status_of(&rt, ["leveled", name, path].as_slice(), input, &mut out)?;
-        let is_told = found == status && out.as_slice() == wanted && faults.as_slice() == said;
-        same(&rt, &(name, input, is_told), &(name, input, true));
+        let (found, out, faults) = over_file(&rt, name, path, input)?;
+        let told = (name, input, found, out.as_slice(), faults.as_slice());
+        same(&rt, &told, &(name, input, status, wanted, said));
     }
-    same(&rt, &FileDisk::open(&rt, path, false)?.len(), &Ok(589_841));
+    let length = length_of(&rt, path)?;
+    assert_eq!(rt; length, 589_841);
     fs::remove_file(&rt, path)?;
     Ok(())
 }
+
+const NO_CREATE: &[&str] = &["edit", "check"];
 
 #[test]
 fn makes_no_file_but_by_create(rt: HostRuntime) -> Result<(), Fail> {
     let path = "lv_project_run_missing";
     let _ = fs::remove_file(&rt, path);
-    for name in ["edit", "check"] {
-        let mut out = Vec::new(rt.alloc());
-        let (found, _) = status_of(&rt, ["leveled", name, path].as_slice(), b"", &mut out)?;
-        same(&rt, &(name, found), &(name, 1));
-        holds(&rt, FileDisk::open(&rt, path, false).is_err());
+    for &name in NO_CREATE {
+        let (found, _, _) = over_file(&rt, name, path, b"")?;
+        let is_none = FileDisk::open(&rt, path, false).is_err();
+        same(&rt, &(name, found, is_none), &(name, 1, true));
     }
-    // Where `created` can't be written the file stands.
+    Ok(())
+}
+
+// Where `created` can't be written the file stands.
+#[test]
+fn makes_a_file_that_it_could_not_tell_of(rt: HostRuntime) -> Result<(), Fail> {
+    let path = "lv_project_run_untold";
+    let _ = fs::remove_file(&rt, path);
     let words = ["leveled", "create", path];
-    let mut narrow = Narrow::of(3);
-    let (found, faults) = status_of(&rt, words.as_slice(), b"", &mut narrow)?;
-    same(&rt, &found, &1);
-    same(
-        &rt,
-        &faults.as_slice(),
-        &b"leveled: 38 WriterFailed\n".as_slice(),
-    );
-    let mut out = Vec::new(rt.alloc());
-    let (found, _) = status_of(
-        &rt,
-        ["leveled", "edit", path].as_slice(),
-        b"count",
-        &mut out,
-    )?;
+    let (found, faults) = status_of(&rt, &words, b"", &mut Narrow::of(3))?;
+    let said = b"leveled: 38 WriterFailed\n".as_slice();
+    same(&rt, &(found, faults.as_slice()), &(1, said));
+    let (found, _, _) = over_file(&rt, "edit", path, b"count")?;
     same(&rt, &found, &0);
     fs::remove_file(&rt, path)?;
     Ok(())
@@ -264,10 +289,8 @@ const DAMAGE: &[(u64, &[u8], &[u8])] = &[
     (0, b"P", b"leveled: 42 NotAProject\n"),
 ];
 
-#[test]
-fn says_why_a_file_is_no_project(rt: HostRuntime) -> Result<(), Fail> {
-    let path = "lv_project_run_damaged";
-    let _ = fs::remove_file(&rt, path);
+// Makes the file of a small project of one vertex; what is answered.
+fn make_small(rt: &HostRuntime, path: &str) -> Result<Vec<u8>, Fail> {
     let small = [
         "leveled",
         "create",
@@ -277,16 +300,35 @@ fn says_why_a_file_is_no_project(rt: HostRuntime) -> Result<(), Fail> {
         "--journal",
         "512",
     ];
-    let edit = ["leveled", "edit", path];
     let mut out = Vec::new(rt.alloc());
-    let _ = status_of(&rt, small.as_slice(), b"", &mut out)?;
-    let _ = status_of(&rt, edit.as_slice(), b"vertex 0 0", &mut out)?;
-    same(&rt, &out.as_slice(), &b"created\nok 0\n".as_slice());
+    let _ = status_of(rt, &small, b"", &mut out)?;
+    let _ = status_of(rt, &["leveled", "edit", path], b"vertex 0 0", &mut out)?;
+    Ok(out)
+}
+
+// The status of an edit of a file with these bytes at a place, whether it writes nothing, and what it says.
+fn edit_damaged(
+    rt: &HostRuntime,
+    path: &str,
+    at: u64,
+    bytes: &[u8],
+) -> Result<(u8, bool, Vec<u8>), Fail> {
+    let mut disk = FileDisk::open(rt, path, false)?;
+    disk.write_at(at, bytes)?;
+    let (status, out, faults) = over_file(rt, "edit", path, b"vertex 1 1")?;
+    Ok((status, out.is_empty(), faults))
+}
+
+#[test]
+fn says_why_a_file_is_no_project(rt: HostRuntime) -> Result<(), Fail> {
+    let path = "lv_project_run_damaged";
+    let _ = fs::remove_file(&rt, path);
+    let made = make_small(&rt, path)?;
+    same(&rt, &made.as_slice(), &b"created\nok 0\n".as_slice());
     for &(at, bytes, wanted) in DAMAGE {
-        FileDisk::open(&rt, path, false)?.write_at(at, bytes)?;
-        let (status, faults) = status_of(&rt, edit.as_slice(), b"vertex 1 1", &mut out)?;
-        same(&rt, &(at, (status, out.len())), &(at, (1, 13)));
-        same(&rt, &(at, faults.as_slice()), &(at, wanted));
+        let (status, is_silent, faults) = edit_damaged(&rt, path, at, bytes)?;
+        let found = (at, status, is_silent, faults.as_slice());
+        same(&rt, &found, &(at, 1, true, wanted));
     }
     fs::remove_file(&rt, path)?;
     Ok(())
@@ -316,8 +358,7 @@ fn refused(alloc: Global, words: &[&str]) -> Option<i32> {
 #[test]
 fn reads_lengths_within_their_limits(rt: HostRuntime) {
     for &(option, number, wanted) in LENGTHS {
-        let words = ["leveled", "create", "f", option, number];
-        let found = refused(rt.alloc(), words.as_slice());
-        assert_eq!(rt; found, wanted, "{option} {number}");
+        let found = refused(rt.alloc(), &["leveled", "create", "f", option, number]);
+        same(&rt, &(option, number, found), &(option, number, wanted));
     }
 }

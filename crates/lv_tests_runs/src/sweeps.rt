@@ -106,35 +106,66 @@ fn expect_stops(
     wanted: &Wanted<'_>,
 ) -> Result<(), Fail> {
     for &fill in FILLS {
-        for longest in [false, true] {
-            expect(rt, alloc, disk.stop(alloc, fill, longest)?, wanted)?;
-        }
+        expect(rt, alloc, disk.stop(alloc, fill, false)?, wanted)?;
+        expect(rt, alloc, disk.stop(alloc, fill, true)?, wanted)?;
     }
     Ok(())
 }
 
-// What is left of lines over a disk that may fail: how many were done, whether all were, and what the project had then.
+// What is left of lines over a disk that may fail: how many were done, whether all were, whether the project then had
+// the body that is wanted, its generation, and its disk.
 #[derive(Drop)]
 struct Ended {
     n: usize,
     is_done: bool,
+    is_old: bool,
     generation: u64,
-    body: Vec<u8>,
     disk: FaultDisk<MemoryDisk>,
 }
 
 // Does these lines over a disk of which the k-th call fails.
-fn fail_within(alloc: Global, lines: &[&[u8]], fault: (u64, u32)) -> Result<Ended, Fail> {
+fn fail_within(
+    alloc: Global,
+    lines: &[&[u8]],
+    bodies: &[Vec<u8>],
+    fault: (u64, u32),
+) -> Result<Ended, Fail> {
     let mut project = failing(alloc, fault.0, fault.1)?;
     let n = done(&mut project, lines);
     let body = project.maps().encode_body(alloc)?;
     Ok(Ended {
         n,
         is_done: !project.must_reopen(),
+        is_old: bodies.get(n).is_some_and(|old| *old == body),
         generation: project.generation(),
-        body,
         disk: project.into_disk(),
     })
+}
+
+// What the project of the disk may hold then, of the bodies before and after each line.
+fn wanted_of<'a>(bodies: &'a [Vec<u8>], ended: &Ended) -> Option<Wanted<'a>> {
+    let old = bodies.get(ended.n)?;
+    let new = bodies.get(ended.n.saturating_add(1)).unwrap_or(old);
+    Some(Wanted {
+        old,
+        new,
+        generation: ended.generation,
+    })
+}
+
+// Opens the disk again after stops and, where a call has failed, without one; else one would fail as it is opened.
+fn expect_ended(
+    rt: &impl Abort,
+    alloc: Global,
+    ended: Ended,
+    wanted: &Wanted<'_>,
+) -> Result<bool, Fail> {
+    expect_stops(rt, alloc, ended.disk.inner(), wanted)?;
+    let Ended { is_done, disk, .. } = ended;
+    if !is_done {
+        expect(rt, alloc, disk, wanted)?;
+    }
+    Ok(is_done)
 }
 
 // Does these lines over a disk of which the k-th call fails, and opens it again. Whether all lines were done.
@@ -145,29 +176,12 @@ fn fail_once(
     bodies: &[Vec<u8>],
     fault: (u64, u32),
 ) -> Result<bool, Fail> {
-    let Ended {
-        n,
-        is_done,
-        generation,
-        body,
-        disk,
-    } = fail_within(alloc, lines, fault)?;
-    let (Some(old), Some(last)) = (bodies.get(n), bodies.last()) else {
-        return Err(Fail::from("more lines than bodies"));
-    };
-    let new = bodies.get(n.saturating_add(1)).unwrap_or(last);
-    same(rt, &(fault, body == *old), &(fault, true));
-    let wanted = Wanted {
-        old,
-        new,
-        generation,
-    };
-    expect_stops(rt, alloc, disk.inner(), &wanted)?;
-    // Where no call has failed yet, one would as the disk is opened.
-    if !is_done {
-        expect(rt, alloc, disk, &wanted)?;
+    let ended = fail_within(alloc, lines, bodies, fault)?;
+    same(rt, &(fault, ended.is_old), &(fault, true));
+    match wanted_of(bodies, &ended) {
+        Some(wanted) => expect_ended(rt, alloc, ended, &wanted),
+        None => Err(Fail::from("more lines than bodies")),
     }
-    Ok(is_done)
 }
 
 // Lines, and how many bytes of a failing write are put down: none, one, half of a record or a slot, and all.
@@ -276,16 +290,29 @@ fn told(alloc: Global, lines: &[u8], k: u64, part: u32) -> Result<Vec<u8>, Fail>
     }
 }
 
+// What is told of a call that fails, with so many bytes of a write put down, is the answers of that line's failure.
+fn is_told(alloc: Global, lines: &[u8], n: usize, fault: (u64, u32)) -> Result<bool, Fail> {
+    let out = told(alloc, lines, fault.0, fault.1)?;
+    let wanted = answers(alloc, n)?;
+    Ok(out == wanted)
+}
+
+// Each call fails in turn.
+fn expect_answers(rt: &impl Abort, alloc: Global, lines: &[u8], part: u32) -> Result<(), Fail> {
+    let mut k = 9_u64;
+    for &n in FAILED {
+        let found = is_told(alloc, lines, n, (k, part))?;
+        same(rt, &(k, part, found), &(k, part, true));
+        k = k.saturating_add(1);
+    }
+    Ok(())
+}
+
 #[test]
 fn answers_one_line_by_30(rt: HostRuntime) -> Result<(), Fail> {
     let lines = input(rt.alloc())?;
-    for part in [0, 1, 99] {
-        let mut k = 9_u64;
-        for &n in FAILED {
-            let out = told(rt.alloc(), &lines, k, part)?;
-            assert!(rt; out == answers(rt.alloc(), n)?, "{k} {part}");
-            k = k.saturating_add(1);
-        }
+    for &part in &[0, 1, 99] {
+        expect_answers(&rt, rt.alloc(), &lines, part)?;
     }
     Ok(())
 }
