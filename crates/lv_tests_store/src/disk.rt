@@ -17,14 +17,19 @@ pub fn contents<D: Disk>(alloc: Global, disk: &mut D) -> Result<Vec<u8>, Fail> {
     Ok(bytes)
 }
 
-// Whether a read of the whole disk fails.
-fn read_fails<D: Disk>(alloc: Global, disk: &mut D) -> Result<bool, Fail> {
-    let n = disk.len()?;
-    let mut bytes = vec![in alloc; 0; n as usize]?;
-    Ok(disk.read(0, &mut bytes).is_err())
+// Whether a stop leaves these bytes.
+fn leaves_once(
+    alloc: Global,
+    disk: &MemoryDisk,
+    fill: Fill,
+    is_longest: bool,
+    want: &[u8],
+) -> Result<bool, Fail> {
+    let bytes = left_of(alloc, disk, fill, is_longest)?;
+    Ok(bytes.as_slice() == want)
 }
 
-// A stop leaves these bytes; and since that disk has no other image, each further stop does.
+// The same; and since that disk has no other image, each further stop leaves them too.
 fn leaves(
     alloc: Global,
     disk: &MemoryDisk,
@@ -32,12 +37,9 @@ fn leaves(
     is_longest: bool,
     want: &[u8],
 ) -> Result<bool, Fail> {
-    let mut left = disk.stop(alloc, fill, is_longest)?;
-    let mut again = left.stop(alloc, Fill::Byte(9), !is_longest)?;
-    Ok(
-        contents(alloc, &mut left)?.as_slice() == want
-            && contents(alloc, &mut again)?.as_slice() == want,
-    )
+    let left = disk.stop(alloc, fill, is_longest)?;
+    let again = leaves_once(alloc, &left, Fill::Byte(9), !is_longest, want)?;
+    Ok(again && leaves_once(alloc, disk, fill, is_longest, want)?)
 }
 
 // A fill, with the longest and the shortest image of a disk by it.
@@ -288,23 +290,31 @@ fn fails_the_kth_call(rt: HostRuntime) -> Result<(), Fail> {
     Ok(())
 }
 
-// A disk with two bytes, of which the first call and then the second one fails.
-fn failing_twice(alloc: Global) -> Result<FaultDisk<FaultDisk<MemoryDisk>>, Fail> {
+// A disk with two bytes, of which the k-th call fails.
+fn with_two_bytes(alloc: Global, k: u64) -> Result<FaultDisk<MemoryDisk>, Fail> {
     let mut inner = MemoryDisk::new(alloc, 16, 400)?;
     write_through(&mut inner, 0, &[1, 2])?;
-    let mut disk = FaultDisk::new(inner, 1, 0);
-    if disk.len().is_ok() {
-        return Err(Fail::from("a length was told"));
+    Ok(FaultDisk::new(inner, k, 0))
+}
+
+// Whether the length of a disk of two bytes fails, and whether a read of it does.
+fn failed_reads<D: Disk>(disk: &mut D) -> [bool; 2] {
+    match disk.len() {
+        Ok(2) => [false, disk.read(0, &mut [0; 2]).is_err()],
+        Ok(_) => [false, false],
+        Err(DeviceFault) => [true, false],
     }
-    Ok(FaultDisk::new(disk, 2, 0))
 }
 
 #[test]
 fn fails_a_read_and_a_length(rt: HostRuntime) -> Result<(), Fail> {
-    let mut disk = failing_twice(rt.alloc())?;
-    let fails = read_fails(rt.alloc(), &mut disk)?;
-    let read = contents(rt.alloc(), &mut disk)?;
-    same(&rt, &(fails, read.as_slice()), &(true, [1, 2].as_slice()));
+    for k in 1..3 {
+        let mut disk = with_two_bytes(rt.alloc(), k)?;
+        let failed = failed_reads(&mut disk);
+        let read = contents(rt.alloc(), &mut disk)?;
+        let found = (k, failed, read.as_slice());
+        same(&rt, &found, &(k, [k == 1, k == 2], [1, 2].as_slice()));
+    }
     Ok(())
 }
 

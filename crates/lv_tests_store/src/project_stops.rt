@@ -29,22 +29,11 @@ const FAULTS: &[(u64, u32, bool)] = &[
 
 // The first line of a project finds a fault, and nothing is accepted from then on.
 fn expect_closed<D: Disk>(rt: &impl Abort, project: &mut Project<D>) {
-    same(
-        rt,
-        &project.apply(b"vertex 0 0"),
-        &Err(ProjectError::Device),
-    );
+    let failed = project.apply(b"vertex 0 0");
+    same(rt, &failed, &Err(ProjectError::Device));
     same(rt, &(project.must_reopen(), vertices(project)), &(true, 0));
-    same(
-        rt,
-        &project.apply(b"vertex 1 0"),
-        &Err(ProjectError::Reopen),
-    );
-    same(
-        rt,
-        &project.apply(b"no command"),
-        &Err(ProjectError::Reopen),
-    );
+    let further = [project.apply(b"vertex 1 0"), project.apply(b"no command")];
+    same(rt, &further, &[Err(ProjectError::Reopen); 2]);
     same(rt, &project.checkpoint(), &Err(ProjectError::Reopen));
 }
 
@@ -157,17 +146,28 @@ const CALLS: &[(u64, &[u64])] = &[(18, &[2]), (25, &[2, 3])];
 // Takes checkpoints, which have these generations.
 fn take<D: Disk>(rt: &impl Abort, project: &mut Project<D>, generations: &[u64]) {
     for generation in generations {
-        assert_eq!(rt; project.checkpoint(), Ok(*generation));
-        assert_eq!(rt; project.generation(), *generation);
+        let found = (project.checkpoint(), project.generation());
+        same(rt, &found, &(Ok(*generation), *generation));
     }
+}
+
+// The disk of a project of one vertex after checkpoints with these generations.
+fn disk_of_taken(
+    rt: &impl Abort,
+    alloc: Global,
+    k: u64,
+    generations: &[u64],
+) -> Result<FaultDisk<MemoryDisk>, Fail> {
+    let mut project = one_vertex(alloc, k, 0)?;
+    take(rt, &mut project, generations);
+    Ok(project.into_disk())
 }
 
 #[test]
 fn changes_its_slot_by_five_calls_and_by_seven(rt: HostRuntime) -> Result<(), Fail> {
     for &(k, generations) in CALLS {
-        let mut project = one_vertex(rt.alloc(), k, 0)?;
-        take(&rt, &mut project, generations);
-        assert_eq!(rt; project.into_disk().len(), Err(DeviceFault), "call {k}");
+        let mut disk = disk_of_taken(&rt, rt.alloc(), k, generations)?;
+        same(&rt, &(k, disk.len()), &(k, Err(DeviceFault)));
     }
     Ok(())
 }
@@ -205,8 +205,9 @@ fn fail_to_take<D: Disk>(
     for _ in 0..before {
         project.checkpoint()?;
     }
-    assert_eq!(rt; project.checkpoint(), Err(ProjectError::Device));
-    assert_eq!(rt; (project.must_reopen(), vertices(project)), (true, 1));
+    let found = (project.checkpoint(), project.must_reopen());
+    same(rt, &found, &(Err(ProjectError::Device), true));
+    same(rt, &vertices(project), &1);
     Ok(())
 }
 
@@ -247,10 +248,13 @@ fn expect_stops(
             Fill::Stable | Fill::Byte(0) => generations.0,
             _ => generations.1,
         };
-        for longest in [false, true] {
-            let left = found(alloc, disk.inner().stop(alloc, fill, longest)?)?;
-            same(rt, &(fill, left), &(fill, (vertex_count, want)));
-        }
+        let short = found(alloc, disk.inner().stop(alloc, fill, false)?)?;
+        let long = found(alloc, disk.inner().stop(alloc, fill, true)?)?;
+        same(
+            rt,
+            &(fill, [short, long]),
+            &(fill, [(vertex_count, want); 2]),
+        );
     }
     Ok(())
 }
