@@ -19,92 +19,97 @@ fn told(alloc: Global, line: &[u8]) -> u16 {
 
 // Each place of each command that holds a number, marked by a star, with its least and its greatest number.
 #[rattlefmt::skip]
-const NUMBER_PLACES: &[(&str, i16, i16)] = &[
-    ("vertex * 0", -16384, 16383),
-    ("vertex 0 *", -16384, 16383),
-    ("sector * 128 FLOOR4_8 CEIL3_5 160 0 0", -32768, 32767),
-    ("sector 0 * FLOOR4_8 CEIL3_5 160 0 0", -32768, 32767),
-    ("sector 0 128 FLOOR4_8 CEIL3_5 * 0 0", 0, 255),
-    ("sector 0 128 FLOOR4_8 CEIL3_5 160 * 0", 0, 32767),
-    ("sector 0 128 FLOOR4_8 CEIL3_5 160 0 *", 0, 32767),
-    ("side * 0 - - STARTAN3 0", -32768, 32767),
-    ("side 0 * - - STARTAN3 0", -32768, 32767),
-    ("side 0 0 - - STARTAN3 *", 0, 4095),
-    ("line * 1 1 0 0 0 -", 0, 32766),
-    ("line 0 * 1 0 0 0 -", 0, 32766),
-    ("line 0 1 * 0 0 0 -", 0, 32767),
-    ("line 0 1 1 * 0 0 -", 0, 32767),
-    ("line 0 1 1 0 * 0 -", 0, 32767),
-    ("line 0 1 1 0 0 * -", 0, 32766),
-    ("line 0 1 1 0 0 0 *", 0, 32766),
-    ("thing * 64 90 1 7", -16384, 16383),
-    ("thing 64 * 90 1 7", -16384, 16383),
-    ("thing 64 64 * 1 7", 0, 359),
-    ("thing 64 64 90 * 7", 0, 32767),
-    ("thing 64 64 90 1 *", 0, 32767),
-    ("move-vertex * 0 0", 0, 32766),
-    ("move-vertex 0 * 0", -16384, 16383),
-    ("move-vertex 0 0 *", -16384, 16383),
-    ("set-sector * 0 128 FLOOR4_8 CEIL3_5 160 0 0", 0, 4095),
-    ("set-sector 0 * 128 FLOOR4_8 CEIL3_5 160 0 0", -32768, 32767),
-    ("set-sector 0 0 * FLOOR4_8 CEIL3_5 160 0 0", -32768, 32767),
-    ("set-sector 0 0 128 FLOOR4_8 CEIL3_5 * 0 0", 0, 255),
-    ("set-sector 0 0 128 FLOOR4_8 CEIL3_5 160 * 0", 0, 32767),
-    ("set-sector 0 0 128 FLOOR4_8 CEIL3_5 160 0 *", 0, 32767),
-    ("set-side * 0 0 - - STARTAN3 0", 0, 32766),
-    ("set-side 0 * 0 - - STARTAN3 0", -32768, 32767),
-    ("set-side 0 0 * - - STARTAN3 0", -32768, 32767),
-    ("set-side 0 0 0 - - STARTAN3 *", 0, 4095),
-    ("set-line * 0 1 1 0 0 0 -", 0, 32766),
-    ("set-line 0 * 1 1 0 0 0 -", 0, 32766),
-    ("set-line 0 0 * 1 0 0 0 -", 0, 32766),
-    ("set-line 0 0 1 * 0 0 0 -", 0, 32767),
-    ("set-line 0 0 1 1 * 0 0 -", 0, 32767),
-    ("set-line 0 0 1 1 0 * 0 -", 0, 32767),
-    ("set-line 0 0 1 1 0 0 * -", 0, 32766),
-    ("set-line 0 0 1 1 0 0 0 *", 0, 32766),
-    ("set-thing * 64 64 90 1 7", 0, 32766),
-    ("set-thing 0 * 64 90 1 7", -16384, 16383),
-    ("set-thing 0 64 * 90 1 7", -16384, 16383),
-    ("set-thing 0 64 64 * 1 7", 0, 359),
-    ("set-thing 0 64 64 90 * 7", 0, 32767),
-    ("set-thing 0 64 64 90 1 *", 0, 32767),
-    ("drop vertex *", 0, 32766),
-    ("drop side *", 0, 32766),
-    ("drop line *", 0, 32766),
-    ("drop thing *", 0, 32766),
-    ("drop sector *", 0, 4095),
-    ("room * 0 16383 128 0 128 FLOOR4_8 CEIL3_5 STARTAN3 160", -16384, 16382),
-    ("room 0 * 128 16383 0 128 FLOOR4_8 CEIL3_5 STARTAN3 160", -16384, 16382),
-    ("room -16384 0 * 128 0 128 FLOOR4_8 CEIL3_5 STARTAN3 160", -16383, 16383),
-    ("room 0 -16384 128 * 0 128 FLOOR4_8 CEIL3_5 STARTAN3 160", -16383, 16383),
-    ("room 0 0 128 128 * 128 FLOOR4_8 CEIL3_5 STARTAN3 160", -32768, 32767),
-    ("room 0 0 128 128 0 * FLOOR4_8 CEIL3_5 STARTAN3 160", -32768, 32767),
-    ("room 0 0 128 128 0 128 FLOOR4_8 CEIL3_5 STARTAN3 *", 0, 255),
-    ("split * 0 0", 0, 32766),
-    ("split 0 * 0", -16384, 16383),
-    ("split 0 0 *", -16384, 16383),
+const NUMBER_PLACES: &[(&[u8], i16, i16)] = &[
+    (b"vertex * 0", -16384, 16383),
+    (b"vertex 0 *", -16384, 16383),
+    (b"sector * 128 FLOOR4_8 CEIL3_5 160 0 0", -32768, 32767),
+    (b"sector 0 * FLOOR4_8 CEIL3_5 160 0 0", -32768, 32767),
+    (b"sector 0 128 FLOOR4_8 CEIL3_5 * 0 0", 0, 255),
+    (b"sector 0 128 FLOOR4_8 CEIL3_5 160 * 0", 0, 32767),
+    (b"sector 0 128 FLOOR4_8 CEIL3_5 160 0 *", 0, 32767),
+    (b"side * 0 - - STARTAN3 0", -32768, 32767),
+    (b"side 0 * - - STARTAN3 0", -32768, 32767),
+    (b"side 0 0 - - STARTAN3 *", 0, 4095),
+    (b"line * 1 1 0 0 0 -", 0, 32766),
+    (b"line 0 * 1 0 0 0 -", 0, 32766),
+    (b"line 0 1 * 0 0 0 -", 0, 32767),
+    (b"line 0 1 1 * 0 0 -", 0, 32767),
+    (b"line 0 1 1 0 * 0 -", 0, 32767),
+    (b"line 0 1 1 0 0 * -", 0, 32766),
+    (b"line 0 1 1 0 0 0 *", 0, 32766),
+    (b"thing * 64 90 1 7", -16384, 16383),
+    (b"thing 64 * 90 1 7", -16384, 16383),
+    (b"thing 64 64 * 1 7", 0, 359),
+    (b"thing 64 64 90 * 7", 0, 32767),
+    (b"thing 64 64 90 1 *", 0, 32767),
+    (b"move-vertex * 0 0", 0, 32766),
+    (b"move-vertex 0 * 0", -16384, 16383),
+    (b"move-vertex 0 0 *", -16384, 16383),
+    (b"set-sector * 0 128 FLOOR4_8 CEIL3_5 160 0 0", 0, 4095),
+    (b"set-sector 0 * 128 FLOOR4_8 CEIL3_5 160 0 0", -32768, 32767),
+    (b"set-sector 0 0 * FLOOR4_8 CEIL3_5 160 0 0", -32768, 32767),
+    (b"set-sector 0 0 128 FLOOR4_8 CEIL3_5 * 0 0", 0, 255),
+    (b"set-sector 0 0 128 FLOOR4_8 CEIL3_5 160 * 0", 0, 32767),
+    (b"set-sector 0 0 128 FLOOR4_8 CEIL3_5 160 0 *", 0, 32767),
+    (b"set-side * 0 0 - - STARTAN3 0", 0, 32766),
+    (b"set-side 0 * 0 - - STARTAN3 0", -32768, 32767),
+    (b"set-side 0 0 * - - STARTAN3 0", -32768, 32767),
+    (b"set-side 0 0 0 - - STARTAN3 *", 0, 4095),
+    (b"set-line * 0 1 1 0 0 0 -", 0, 32766),
+    (b"set-line 0 * 1 1 0 0 0 -", 0, 32766),
+    (b"set-line 0 0 * 1 0 0 0 -", 0, 32766),
+    (b"set-line 0 0 1 * 0 0 0 -", 0, 32767),
+    (b"set-line 0 0 1 1 * 0 0 -", 0, 32767),
+    (b"set-line 0 0 1 1 0 * 0 -", 0, 32767),
+    (b"set-line 0 0 1 1 0 0 * -", 0, 32766),
+    (b"set-line 0 0 1 1 0 0 0 *", 0, 32766),
+    (b"set-thing * 64 64 90 1 7", 0, 32766),
+    (b"set-thing 0 * 64 90 1 7", -16384, 16383),
+    (b"set-thing 0 64 * 90 1 7", -16384, 16383),
+    (b"set-thing 0 64 64 * 1 7", 0, 359),
+    (b"set-thing 0 64 64 90 * 7", 0, 32767),
+    (b"set-thing 0 64 64 90 1 *", 0, 32767),
+    (b"drop vertex *", 0, 32766),
+    (b"drop side *", 0, 32766),
+    (b"drop line *", 0, 32766),
+    (b"drop thing *", 0, 32766),
+    (b"drop sector *", 0, 4095),
+    (b"room * 0 16383 128 0 128 FLOOR4_8 CEIL3_5 STARTAN3 160", -16384, 16382),
+    (b"room 0 * 128 16383 0 128 FLOOR4_8 CEIL3_5 STARTAN3 160", -16384, 16382),
+    (b"room -16384 0 * 128 0 128 FLOOR4_8 CEIL3_5 STARTAN3 160", -16383, 16383),
+    (b"room 0 -16384 128 * 0 128 FLOOR4_8 CEIL3_5 STARTAN3 160", -16383, 16383),
+    (b"room 0 0 128 128 * 128 FLOOR4_8 CEIL3_5 STARTAN3 160", -32768, 32767),
+    (b"room 0 0 128 128 0 * FLOOR4_8 CEIL3_5 STARTAN3 160", -32768, 32767),
+    (b"room 0 0 128 128 0 128 FLOOR4_8 CEIL3_5 STARTAN3 *", 0, 255),
+    (b"split * 0 0", 0, 32766),
+    (b"split 0 * 0", -16384, 16383),
+    (b"split 0 0 *", -16384, 16383),
 ];
 
 // A form with this in the place of its star.
-fn filled(alloc: Global, form: &str, value: &str) -> Result<String, AllocError> {
-    match form.split_once('*') {
-        Some((front, behind)) => format!(in alloc; "{front}{value}{behind}"),
-        None => String::from_str(alloc, form),
+fn filled(alloc: Global, form: &[u8], value: &[u8]) -> Result<Vec<u8>, AllocError> {
+    let mut line = Vec::new(alloc);
+    for &byte in form {
+        if byte == b'*' {
+            line.extend_from_slice(value)?;
+        } else {
+            line.push(byte)?;
+        }
     }
+    Ok(line)
 }
 
 // A form is told this by what stands in the place of its star.
 fn expect_told(
     rt: &impl Abort,
     alloc: Global,
-    form: &str,
-    value: &str,
+    form: &[u8],
+    value: &[u8],
     code: u16,
 ) -> Result<(), AllocError> {
     let line = filled(alloc, form, value)?;
-    let answer = told(alloc, line.as_bytes());
-    same(rt, &(line.as_str(), answer), &(line.as_str(), code));
+    let answer = told(alloc, &line);
+    same(rt, &(line.as_slice(), answer), &(line.as_slice(), code));
     Ok(())
 }
 
@@ -112,12 +117,12 @@ fn expect_told(
 fn expect_number(
     rt: &impl Abort,
     alloc: Global,
-    form: &str,
+    form: &[u8],
     value: i32,
     code: u16,
 ) -> Result<(), AllocError> {
     let text = format!(in alloc; "{value}")?;
-    expect_told(rt, alloc, form, text.as_str(), code)
+    expect_told(rt, alloc, form, text.as_bytes(), code)
 }
 
 // Each place of each command that holds a number, at its least, its greatest and one beyond.
@@ -135,27 +140,27 @@ fn numbers_have_ranges(rt: HostRuntime) -> Result<(), Fail> {
 
 // Each place of each command that holds a name, marked by a star.
 #[rattlefmt::skip]
-const NAME_PLACES: &[&str] = &[
-    "sector 0 128 * CEIL3_5 160 0 0",
-    "sector 0 128 FLOOR4_8 * 160 0 0",
-    "side 0 0 * - STARTAN3 0",
-    "side 0 0 - * STARTAN3 0",
-    "side 0 0 - - * 0",
-    "set-sector 0 0 128 * CEIL3_5 160 0 0",
-    "set-sector 0 0 128 FLOOR4_8 * 160 0 0",
-    "set-side 0 0 0 * - STARTAN3 0",
-    "set-side 0 0 0 - * STARTAN3 0",
-    "set-side 0 0 0 - - * 0",
-    "room 0 0 128 128 0 128 * CEIL3_5 STARTAN3 160",
-    "room 0 0 128 128 0 128 FLOOR4_8 * STARTAN3 160",
-    "room 0 0 128 128 0 128 FLOOR4_8 CEIL3_5 * 160",
+const NAME_PLACES: &[&[u8]] = &[
+    b"sector 0 128 * CEIL3_5 160 0 0",
+    b"sector 0 128 FLOOR4_8 * 160 0 0",
+    b"side 0 0 * - STARTAN3 0",
+    b"side 0 0 - * STARTAN3 0",
+    b"side 0 0 - - * 0",
+    b"set-sector 0 0 128 * CEIL3_5 160 0 0",
+    b"set-sector 0 0 128 FLOOR4_8 * 160 0 0",
+    b"set-side 0 0 0 * - STARTAN3 0",
+    b"set-side 0 0 0 - * STARTAN3 0",
+    b"set-side 0 0 0 - - * 0",
+    b"room 0 0 128 128 0 128 * CEIL3_5 STARTAN3 160",
+    b"room 0 0 128 128 0 128 FLOOR4_8 * STARTAN3 160",
+    b"room 0 0 128 128 0 128 FLOOR4_8 CEIL3_5 * 160",
 ];
 
 // Names, and what a line with them is told: 0 for a command, else its code.
 #[rattlefmt::skip]
-const NAMES: &[(&str, u16)] = &[
-    ("A", 0), ("-", 0), ("0", 0), ("ABCDEFGH", 0), ("_-[]\\09Z", 0), ("ABCDEFGHI", 15), ("floor4_8", 15), ("A.B", 15),
-    ("~", 15), ("@", 15), ("`", 15), ("^", 15), ("\u{7f}", 1), ("\u{e9}", 1), ("", 1), ("A B", 1),
+const NAMES: &[(&[u8], u16)] = &[
+    (b"A", 0), (b"-", 0), (b"0", 0), (b"ABCDEFGH", 0), (b"_-[]\\09Z", 0), (b"ABCDEFGHI", 15), (b"floor4_8", 15),
+    (b"A.B", 15), (b"~", 15), (b"@", 15), (b"`", 15), (b"^", 15), (b"\x7f", 1), (b"\xc3\xa9", 1), (b"", 1), (b"A B", 1),
 ];
 
 // Each place of each command that holds a name.
@@ -255,15 +260,6 @@ const LINES: &[(&[u8], u16)] = &[
     (b"hex VERTEXES", 1),
     (b"check", 1),
     (b"undo", 1),
-    // A numeral may have any length that fits a line, of 256 bytes.
-    (b"vertex 1 \
-        1111111111111111111111111111111111111111111111111111111111111111111111111111111111111111111111111111\
-        1111111111111111111111111111111111111111111111111111111111111111111111111111111111111111111111111111\
-        11111111111111111111111111111111111111111111111", 2),
-    (b"vertex 1 \
-        1111111111111111111111111111111111111111111111111111111111111111111111111111111111111111111111111111\
-        1111111111111111111111111111111111111111111111111111111111111111111111111111111111111111111111111111\
-        111111111111111111111111111111111111111111111111", 1),
 ];
 
 #[test]
@@ -271,4 +267,22 @@ fn lines_are_told_apart(rt: HostRuntime) {
     for &(line, code) in LINES {
         same(&rt, &(line, told(rt.alloc(), line)), &(line, code));
     }
+}
+
+// What a line is told whose second number has so many digits.
+fn told_of_digits(alloc: Global, digits: usize) -> Result<u16, AllocError> {
+    let mut line = Vec::from_slice(alloc, b"vertex 1 ")?;
+    for _ in 0..digits {
+        line.push(b'1')?;
+    }
+    Ok(told(alloc, line.as_slice()))
+}
+
+// A numeral may have any length that fits a line, of 256 bytes.
+#[test]
+fn numerals_may_be_long(rt: HostRuntime) -> Result<(), Fail> {
+    let longest = told_of_digits(rt.alloc(), 247)?;
+    let longer = told_of_digits(rt.alloc(), 248)?;
+    assert_eq!(rt; [longest, longer], [2, 1]);
+    Ok(())
 }
