@@ -1,0 +1,17 @@
+//! The tests of pieces, partitions, trees and levels: worked examples, and maps whose lines cross one another.
+#![tactic(auto)]
+
+#[cfg(test)]
+mod expect;
+#[cfg(test)]
+mod nodes;
+#[cfg(test)]
+mod partition;
+#[cfg(test)]
+mod pwad;
+#[cfg(test)]
+mod segs;
+#[cfg(test)]
+mod tangle;
+#[cfg(test)]
+mod tangles;

@@ -1,0 +1,165 @@
+//! The trees of drawn maps: the worked examples, and a row of rooms.
+
+use crate::expect::same;
+use lv_lumps::{Seg, encode_nodes, encode_segs, encode_subs, encode_vertices};
+use lv_maptables::{Kind, Maps};
+use lv_nodes::{Built, TreeError, build_tree};
+use lv_tests_maps::drawing::{CUT, L, ROOM, SLIVER, TWO_ROOMS, draw, drawn};
+use std::alloc::Global;
+use std::process::Abort;
+use std::test::Fail;
+
+// The tree of the map that the lines leave.
+fn built(alloc: Global, lines: &[&[u8]]) -> Result<Built, Fail> {
+    let maps = drawn(alloc, lines)?;
+    Ok(build_tree(alloc, maps.current())?)
+}
+
+#[test]
+fn a_map_without_lines_has_no_tree(rt: HostRuntime) -> Result<(), Fail> {
+    let maps = drawn(rt.alloc(), &[b"vertex 0 0"])?;
+    let error = build_tree(rt.alloc(), maps.current()).err();
+    let nothing = TreeError::NothingToBuild;
+    assert_eq!(rt; (error, nothing.code()), (Some(nothing), 60));
+    Ok(())
+}
+
+// The segs of a room from (0,0) to (128,128), as bytes.
+const ROOM_SEGS: [u8; 48] = [
+    0, 0, 1, 0, 0, 0x40, 0, 0, 0, 0, 0, 0, // west
+    1, 0, 2, 0, 0, 0, 1, 0, 0, 0, 0, 0, // north
+    2, 0, 3, 0, 0, 0xc0, 2, 0, 0, 0, 0, 0, // east
+    3, 0, 0, 0, 0, 0x80, 3, 0, 0, 0, 0, 0, // south
+];
+
+// The one node of the L, as bytes: start and vector, the boxes, the two children.
+const L_NODE: [u8; 28] = [
+    0x80, 0, 0, 1, 0, 0, 0x80, 0xff, // from (128,256) by (0,-128)
+    0, 1, 0, 0, 0, 0, 0x80, 0, // the west
+    0x80, 0, 0, 0, 0x80, 0, 0, 1, // the east
+    0, 0x80, 1, 0x80,
+];
+
+// The segs and the nodes of the tree that lines leave, as bytes.
+fn bytes_of(alloc: Global, lines: &[&[u8]]) -> Result<(Vec<u8>, Vec<u8>), Fail> {
+    let tree = built(alloc, lines)?;
+    let segs = encode_segs(alloc, &tree.segs)?;
+    Ok((segs, encode_nodes(alloc, &tree.nodes)?))
+}
+
+#[test]
+fn segs_and_nodes_have_their_bytes(rt: HostRuntime) -> Result<(), Fail> {
+    let (segs, _) = bytes_of(rt.alloc(), &[ROOM])?;
+    same(&rt, &segs.as_slice(), &ROOM_SEGS.as_slice());
+    let (_, nodes) = bytes_of(rt.alloc(), &L)?;
+    same(&rt, &nodes.as_slice(), &L_NODE.as_slice());
+    Ok(())
+}
+
+// Lines, how many vertices, segs and nodes their tree has, and its added vertices and its subsectors as bytes.
+type Row = (
+    &'static [&'static [u8]],
+    [usize; 3],
+    &'static [u8],
+    &'static [u8],
+);
+
+#[rattlefmt::skip]
+const TREES: &[Row] = &[
+    (&[ROOM], [4, 4, 0], &[], &[4, 0, 0, 0]),
+    (&L, [7, 7, 1], &[128, 0, 0, 0], &[4, 0, 0, 0, 3, 0, 4, 0]),
+    (&CUT, [7, 6, 3], &[4, 0, 1, 0], &[2, 0, 0, 0, 1, 0, 2, 0, 2, 0, 3, 0, 1, 0, 5, 0]),
+    (&SLIVER, [4, 2, 0], &[], &[2, 0, 0, 0]),
+    (&TWO_ROOMS, [6, 8, 1], &[], &[4, 0, 0, 0, 4, 0, 4, 0]),
+    (&[ROOM, b"split 2 128 64"], [5, 5, 0], &[], &[5, 0, 0, 0]),
+];
+
+// How many vertices, segs and nodes a tree has.
+fn counts(tree: &Built) -> [usize; 3] {
+    [tree.vertices.len(), tree.segs.len(), tree.nodes.len()]
+}
+
+// The vertices of a tree behind so many of its map, as bytes.
+fn added(alloc: Global, tree: &Built, first: usize) -> Result<Vec<u8>, Fail> {
+    match tree.vertices.get(first..) {
+        Some(vertices) => Ok(encode_vertices(alloc, vertices)?),
+        None => Err(Fail::from("fewer vertices than the map")),
+    }
+}
+
+// A tree has these counts, and its added vertices and its subsectors these bytes.
+fn expect_tree(
+    rt: &impl Abort,
+    alloc: Global,
+    tree: &Built,
+    first: usize,
+    row: &Row,
+) -> Result<(), Fail> {
+    let vertices = added(alloc, tree, first)?;
+    let subs = encode_subs(alloc, &tree.subs)?;
+    let found = (counts(tree), vertices.as_slice(), subs.as_slice());
+    same(rt, &found, &(row.1, row.2, row.3));
+    Ok(())
+}
+
+#[test]
+fn trees_are_as_specified(rt: HostRuntime) -> Result<(), Fail> {
+    for row in TREES {
+        let maps = drawn(rt.alloc(), row.0)?;
+        let first = maps.current().count(Kind::Vertex) as usize;
+        let tree = build_tree(rt.alloc(), maps.current())?;
+        expect_tree(&rt, rt.alloc(), &tree, first, row)?;
+    }
+    Ok(())
+}
+
+// Lines, a range of the segs of their tree, and the line, the side and the offset that one of these segs has.
+#[rattlefmt::skip]
+const OFFSETS: &[(&[&[u8]], [usize; 2], [u16; 3])] = &[
+    (&L, [3, 4], [5, 0, 128]),
+    (&CUT, [0, 6], [0, 0, 0]), (&CUT, [0, 6], [0, 0, 4]), (&CUT, [0, 6], [0, 1, 0]), (&CUT, [0, 6], [0, 1, 6]),
+    (&TWO_ROOMS, [0, 4], [2, 0, 0]), (&TWO_ROOMS, [4, 8], [2, 1, 0]),
+];
+
+// How many of the segs of a range have a line, a side and an offset.
+fn count_of(segs: &[Seg], range: [usize; 2], want: [u16; 3]) -> u32 {
+    let mut count = 0u32;
+    for (n, seg) in segs.iter().enumerate() {
+        if range[0] <= n && n < range[1] && [seg.line, seg.side, seg.offset] == want {
+            count = count.saturating_add(1);
+        }
+    }
+    count
+}
+
+#[test]
+fn segs_begin_where_their_side_is_cut(rt: HostRuntime) -> Result<(), Fail> {
+    for &(lines, range, want) in OFFSETS {
+        let tree = built(rt.alloc(), lines)?;
+        let count = count_of(&tree.segs, range, want);
+        same(&rt, &(range, want, count), &(range, want, 1));
+    }
+    Ok(())
+}
+
+// Draws a row of rooms that are sixteen wide and sixteen apart.
+fn draw_rooms(alloc: Global, maps: &mut Maps, count: u16) -> Result<(), Fail> {
+    for i in 0..count {
+        let left = 32 * u32::from(i);
+        let right = left + 16;
+        let line = format!(in alloc;
+            "room {left} 0 {right} 16 0 128 FLOOR4_8 CEIL3_5 STARTAN3 160"
+        )?;
+        draw(maps, &[line.as_bytes()])?;
+    }
+    Ok(())
+}
+
+#[test]
+fn a_row_of_rooms_has_a_subsector_each(rt: HostRuntime) -> Result<(), Fail> {
+    let mut maps = Maps::new(rt.alloc());
+    draw_rooms(rt.alloc(), &mut maps, 257)?;
+    let tree = build_tree(rt.alloc(), maps.current())?;
+    assert_eq!(rt; (counts(&tree), tree.subs.len()), ([1028, 1028, 256], 257));
+    Ok(())
+}

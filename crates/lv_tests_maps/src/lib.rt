@@ -1,0 +1,20 @@
+//! The tests of lumps, maps, commands and findings: worked examples, and what lines draw.
+#![tactic(auto)]
+
+#[cfg(test)]
+mod bodies;
+#[cfg(test)]
+mod checks;
+#[cfg(test)]
+mod commands;
+pub mod drawing;
+#[cfg(test)]
+mod expect;
+#[cfg(test)]
+mod lines;
+#[cfg(test)]
+mod lumps;
+#[cfg(test)]
+mod maps;
+#[cfg(test)]
+mod maptables;

@@ -1,0 +1,104 @@
+//! The new map, names and refusals. What edits make of a map is told by lines (`lines.rt`, `lv_tests_runs`).
+
+use crate::drawing::{draw, drawn};
+use crate::expect::same;
+use lv_lumps::Vertex;
+use lv_maptables::{Kind, Map, MapError, is_marker, is_name, squared_distance};
+use std::test::Fail;
+
+const KINDS: &[Kind] = &[
+    Kind::Vertex,
+    Kind::Sector,
+    Kind::Side,
+    Kind::Line,
+    Kind::Thing,
+];
+
+#[test]
+fn the_new_map_is_empty(rt: HostRuntime) -> Result<(), Fail> {
+    let map = Map::new(rt.alloc());
+    same(&rt, &map.name().text(), &b"MAP01".as_slice());
+    for &kind in KINDS {
+        same(&rt, &map.count(kind), &0);
+        same(&rt, &map.lump(rt.alloc(), kind)?.len(), &0);
+    }
+    same(&rt, &map.vertex(0), &None);
+    Ok(())
+}
+
+// The key of an item stays while another one is dropped, though its number falls.
+#[test]
+fn keys_stay_after_a_drop(rt: HostRuntime) -> Result<(), Fail> {
+    let mut maps = drawn(rt.alloc(), &[b"vertex 0 0", b"vertex 1 0", b"vertex 2 0"])?;
+    let before = maps.key(Kind::Vertex, 1);
+    draw(&mut maps, &[b"drop vertex 0"])?;
+    let after = [maps.key(Kind::Vertex, 0), maps.key(Kind::Vertex, 2)];
+    assert_eq!(rt; (before.is_some(), after), (true, [before, None]));
+    Ok(())
+}
+
+// Texts, and whether each is a texture's or a flat's name, and a map's.
+const NAMES: &[(&[u8], bool, bool)] = &[
+    (b"-", true, false),
+    (b"FLOOR4_8", true, false),
+    (b"A[B]C\\_9", true, false),
+    (b"", false, false),
+    (b"floor4_8", false, false),
+    (b"FLOOR4_8X", false, false),
+    (b"A B", false, false),
+    (b"MAP01", true, true),
+    (b"MAP99", true, true),
+    (b"E1M1", true, true),
+    (b"E9M9", true, true),
+    (b"MAP00", true, false),
+    (b"MAP1", true, false),
+    (b"MAP001", true, false),
+    (b"E0M1", true, false),
+    (b"E1M0", true, false),
+    (b"map01", false, false),
+];
+
+#[test]
+fn names_have_their_bytes(rt: HostRuntime) {
+    for &(text, name, marker) in NAMES {
+        let found = (text, is_name(text), is_marker(text));
+        same(&rt, &found, &(text, name, marker));
+    }
+}
+
+const REFUSALS: &[(MapError, u16)] = &[
+    (MapError::NoVertex, 3),
+    (MapError::NoSector, 4),
+    (MapError::NoSide, 5),
+    (MapError::NoLine, 6),
+    (MapError::NoThing, 7),
+    (MapError::InUse, 8),
+    (MapError::SameEnds, 9),
+    (MapError::PlaceTaken, 10),
+    (MapError::TwoSidedWithoutLeft, 11),
+    (MapError::TableFull, 12),
+    (MapError::LineTooLong, 13),
+    (MapError::TooManyMaps, 16),
+    (MapError::MapNameTaken, 17),
+    (MapError::NoSuchMap, 18),
+    (MapError::CurrentMap, 19),
+    (MapError::OutOfMemory, 31),
+    (MapError::Damaged(0), 40),
+];
+
+#[test]
+fn refusals_have_their_numbers(rt: HostRuntime) {
+    for &(refusal, code) in REFUSALS {
+        same(&rt, &(refusal, refusal.code()), &(refusal, code));
+    }
+}
+
+#[test]
+fn distances_are_squared(rt: HostRuntime) {
+    let from = Vertex {
+        x: -12000,
+        y: -12000,
+    };
+    let to = Vertex { x: 11169, y: 11169 };
+    assert_eq!(rt; squared_distance(from, to), 1_073_605_122);
+}

@@ -1,0 +1,306 @@
+//! The inspection of a level: a worked room as a WAD, and the same with one byte changed.
+
+use crate::expect::same;
+use lv_editor::{InspectError, inspect, perform, request};
+use lv_pwad::ReadError;
+use std::alloc::{AllocError, Global};
+use std::fs;
+use std::test::Fail;
+
+// The room from (0,0) to (128,128) as MAP01: lines, sides, vertices, segs, one subsector, a sector, REJECT, BLOCKMAP
+// and the directory.
+const ROOM_WAD: &[u8] = &[
+    80, 87, 65, 68, 11, 0, 0, 0, 83, 1, 0, 0, 0, 0, 1, 0, 1, 0, 0, 0, 0, 0, 0, 0, 255, 255, 1, 0,
+    2, 0, 1, 0, 0, 0, 0, 0, 1, 0, 255, 255, 2, 0, 3, 0, 1, 0, 0, 0, 0, 0, 2, 0, 255, 255, 3, 0, 0,
+    0, 1, 0, 0, 0, 0, 0, 3, 0, 255, 255, 0, 0, 0, 0, 45, 0, 0, 0, 0, 0, 0, 0, 45, 0, 0, 0, 0, 0, 0,
+    0, 83, 84, 65, 82, 84, 65, 78, 51, 0, 0, 0, 0, 0, 0, 45, 0, 0, 0, 0, 0, 0, 0, 45, 0, 0, 0, 0,
+    0, 0, 0, 83, 84, 65, 82, 84, 65, 78, 51, 0, 0, 0, 0, 0, 0, 45, 0, 0, 0, 0, 0, 0, 0, 45, 0, 0,
+    0, 0, 0, 0, 0, 83, 84, 65, 82, 84, 65, 78, 51, 0, 0, 0, 0, 0, 0, 45, 0, 0, 0, 0, 0, 0, 0, 45,
+    0, 0, 0, 0, 0, 0, 0, 83, 84, 65, 82, 84, 65, 78, 51, 0, 0, 0, 0, 0, 0, 0, 0, 128, 0, 128, 0,
+    128, 0, 128, 0, 0, 0, 0, 0, 1, 0, 0, 64, 0, 0, 0, 0, 0, 0, 1, 0, 2, 0, 0, 0, 1, 0, 0, 0, 0, 0,
+    2, 0, 3, 0, 0, 192, 2, 0, 0, 0, 0, 0, 3, 0, 0, 0, 0, 128, 3, 0, 0, 0, 0, 0, 4, 0, 0, 0, 0, 0,
+    128, 0, 70, 76, 79, 79, 82, 52, 95, 56, 67, 69, 73, 76, 51, 95, 53, 0, 160, 0, 0, 0, 0, 0, 0,
+    0, 0, 0, 0, 2, 0, 2, 0, 8, 0, 14, 0, 19, 0, 24, 0, 0, 0, 0, 0, 1, 0, 2, 0, 3, 0, 255, 255, 0,
+    0, 1, 0, 2, 0, 3, 0, 255, 255, 0, 0, 0, 0, 1, 0, 2, 0, 255, 255, 0, 0, 1, 0, 2, 0, 255, 255,
+    12, 0, 0, 0, 0, 0, 0, 0, 77, 65, 80, 48, 49, 0, 0, 0, 12, 0, 0, 0, 0, 0, 0, 0, 84, 72, 73, 78,
+    71, 83, 0, 0, 12, 0, 0, 0, 56, 0, 0, 0, 76, 73, 78, 69, 68, 69, 70, 83, 68, 0, 0, 0, 120, 0, 0,
+    0, 83, 73, 68, 69, 68, 69, 70, 83, 188, 0, 0, 0, 16, 0, 0, 0, 86, 69, 82, 84, 69, 88, 69, 83,
+    204, 0, 0, 0, 48, 0, 0, 0, 83, 69, 71, 83, 0, 0, 0, 0, 252, 0, 0, 0, 4, 0, 0, 0, 83, 83, 69,
+    67, 84, 79, 82, 83, 0, 1, 0, 0, 0, 0, 0, 0, 78, 79, 68, 69, 83, 0, 0, 0, 0, 1, 0, 0, 26, 0, 0,
+    0, 83, 69, 67, 84, 79, 82, 83, 0, 26, 1, 0, 0, 1, 0, 0, 0, 82, 69, 74, 69, 67, 84, 0, 0, 27, 1,
+    0, 0, 56, 0, 0, 0, 66, 76, 79, 67, 75, 77, 65, 80,
+];
+
+// What is told of the room.
+const ROOM_TEXT: &[u8] =
+    b"things 0 lines 4 sides 4 vertices 4 segs 4 subsectors 1 nodes 0 sectors 1 reject 1 blockmap 56\nsound\n";
+
+// A changed byte: its place, its new value, and what is told then.
+const CHANGES: &[(usize, u8, &str)] = &[
+    (12, 0x04, "fault LineVertex 0\n"),
+    (16, 0x05, "fault LineSide 0\n"),
+    (96, 0x01, "fault SideSector 0\n"),
+    (204, 0x04, "fault SegVertex 0\n"),
+    (210, 0x04, "fault SegLine 0\n"),
+    (212, 0x01, "fault SegSide 0\n"),
+    (252, 0x00, "fault SubRange 0\n"),
+    (252, 0x03, "fault SubTotal 0\n"),
+    (287, 0xff, "fault BlockHeader 0\n"),
+    (291, 0x1c, "fault BlockList 0\n"),
+    (487, 0x00, "fault Reject 0\n"),
+];
+
+// The room with a byte changed.
+fn changed(alloc: Global, place: usize, value: u8) -> Result<Vec<u8>, AllocError> {
+    let mut wad = Vec::from_slice(alloc, ROOM_WAD)?;
+    if let Some(byte) = wad.get_mut(place) {
+        *byte = value;
+    }
+    Ok(wad)
+}
+
+// Whether the level of these bytes is sound, and what is told of it.
+fn told(alloc: Global, wad: &[u8]) -> Result<(bool, Vec<u8>), Fail> {
+    let mut out = Vec::new(alloc);
+    let sound = inspect(alloc, wad, b"MAP01", &mut out)?;
+    Ok((sound, out))
+}
+
+#[test]
+fn tells_of_a_level(rt: HostRuntime) -> Result<(), Fail> {
+    let (sound, out) = told(rt.alloc(), ROOM_WAD)?;
+    assert_eq!(rt; (sound, out.as_slice()), (true, ROOM_TEXT));
+    Ok(())
+}
+
+// Of a level that isn't there nothing is told.
+#[test]
+fn tells_nothing_of_no_level(rt: HostRuntime) {
+    let mut out = Vec::new(rt.alloc());
+    let refused = inspect(rt.alloc(), ROOM_WAD, b"MAP02", &mut out).err();
+    let error = InspectError::Level(ReadError::NoSuchLevel);
+    let codes = [error.code(), InspectError::WriterFailed.code()];
+    assert_eq!(rt; (refused, codes, out.len()), (Some(error), [72, 38], 0));
+}
+
+// Whether the room with a byte changed is sound, and this is told of it at the end.
+fn told_changed(alloc: Global, place: usize, value: u8, end: &str) -> Result<[bool; 2], Fail> {
+    let wad = changed(alloc, place, value)?;
+    let (sound, out) = told(alloc, &wad)?;
+    Ok([sound, out.ends_with(end.as_bytes())])
+}
+
+#[test]
+fn tells_a_changed_byte(rt: HostRuntime) -> Result<(), Fail> {
+    for &(place, value, end) in CHANGES {
+        let found = told_changed(rt.alloc(), place, value, end)?;
+        same(&rt, &(place, value, found), &(place, value, [false, true]));
+    }
+    Ok(())
+}
+
+// A call of the program: its words, its input, its status, what it writes, and what it says of a refusal.
+type Call = (
+    &'static [&'static str],
+    &'static [u8],
+    u8,
+    &'static [u8],
+    &'static [u8],
+);
+
+const ROOM: &[u8] = b"room 0 0 128 128 0 128 FLOOR4_8 CEIL3_5 STARTAN3 160\n";
+
+// A room is drawn into a project file, built into a PWAD and inspected.
+const CALLS: &[Call] = &[
+    (&["leveled", "create", "room.lv"], b"", 0, b"created\n", b""),
+    (
+        &["leveled", "build", "room.lv", "room.wad"],
+        b"",
+        1,
+        b"",
+        b"leveled: 60 NothingToBuild\n",
+    ),
+    (&["leveled", "edit", "room.lv"], ROOM, 0, b"ok 0\n", b""),
+    (
+        &["leveled", "build", "none.lv", "room.wad"],
+        b"",
+        1,
+        b"",
+        b"leveled: 30 Device\n",
+    ),
+    (
+        &["leveled", "build", "room.lv", "none/room.wad"],
+        b"",
+        1,
+        b"",
+        b"leveled: 38 WriterFailed\n",
+    ),
+    (
+        &["leveled", "build", "room.lv", "./room.lv"],
+        b"",
+        1,
+        b"",
+        b"leveled: 38 WriterFailed\n",
+    ),
+    (
+        &["leveled", "build", "room.lv", "room.wad"],
+        b"",
+        0,
+        ROOM_BUILT,
+        b"",
+    ),
+    (
+        &["leveled", "inspect", "room.wad", "MAP01"],
+        b"",
+        0,
+        ROOM_TEXT,
+        b"",
+    ),
+    (
+        &["leveled", "inspect", "room.wad", "MAP02"],
+        b"",
+        1,
+        b"",
+        b"leveled: 72 NoSuchLevel\n",
+    ),
+    (
+        &["leveled", "inspect", "none.wad", "MAP01"],
+        b"",
+        1,
+        b"",
+        b"leveled: 37 ReaderFailed\n",
+    ),
+];
+
+// What is told of the room as it is built.
+const ROOM_BUILT: &[u8] = b"built vertices 4 segs 4 subsectors 1 nodes 0 bytes 515\n";
+
+// What the program does for these words: the status, the output, and what it says of a refusal.
+fn performed(
+    rt: &HostRuntime,
+    words: &[&str],
+    input: &[u8],
+) -> Result<(u8, Vec<u8>, Vec<u8>), Fail> {
+    let Ok(request) = request(rt.alloc(), words) else {
+        return Err(Fail::from("no request"));
+    };
+    let mut out = Vec::new(rt.alloc());
+    let mut faults = Vec::new(rt.alloc());
+    let mut left = input;
+    let status = perform(rt, &request, &mut left, &mut out, &mut faults);
+    Ok((status, out, faults))
+}
+
+// The status of a call, and whether it writes and says what it should.
+fn outcome(rt: &HostRuntime, call: &Call) -> Result<(u8, [bool; 2]), Fail> {
+    let (ended, out, faults) = performed(rt, call.0, call.1)?;
+    let is_told = [out.as_slice() == call.3, faults.as_slice() == call.4];
+    Ok((ended, is_told))
+}
+
+// Whether a file has these bytes.
+fn has_bytes(rt: &HostRuntime, path: &str, bytes: &[u8]) -> Result<bool, Fail> {
+    let read = fs::read(rt, path)?;
+    Ok(read.as_slice() == bytes)
+}
+
+#[test]
+fn builds_and_inspects_a_room(rt: HostRuntime) -> Result<(), Fail> {
+    let _ = fs::remove_file(&rt, "room.lv");
+    for call in CALLS {
+        let found = outcome(&rt, call)?;
+        same(&rt, &(call, found), &(call, (call.2, [true, true])));
+    }
+    let is_room = has_bytes(&rt, "room.wad", ROOM_WAD)?;
+    assert!(rt; is_room);
+    Ok(())
+}
+
+// A fault is told on standard output, and by the status.
+#[test]
+fn tells_a_fault_by_the_status(rt: HostRuntime) -> Result<(), Fail> {
+    let wad = changed(rt.alloc(), 12, 0x04)?;
+    fs::write(&rt, "changed.wad", &wad)?;
+    let (ended, out, faults) = performed(
+        &rt,
+        &["leveled", "inspect", "changed.wad", "MAP01"],
+        b"",
+    )?;
+    let end = out.ends_with(b"fault LineVertex 0\n");
+    assert_eq!(rt; (ended, end, faults.is_empty()), (3, true, true));
+    Ok(())
+}
+
+// A room is drawn in each of two maps, and both are built into one PWAD.
+const TWO_MAPS: &[Call] = &[
+    (&["leveled", "create", "two.lv"], b"", 0, b"created\n", b""),
+    (
+        &["leveled", "edit", "two.lv"],
+        b"room 0 0 128 128 0 128 FLOOR4_8 CEIL3_5 STARTAN3 160\n\
+        map MAP02\n\
+        room 0 0 128 128 0 128 FLOOR4_8 CEIL3_5 STARTAN3 160\n",
+        0,
+        b"ok 0\nok 1\nok 0\n",
+        b"",
+    ),
+    (
+        &["leveled", "build", "two.lv", "two.wad"],
+        b"",
+        0,
+        b"built vertices 8 segs 8 subsectors 2 nodes 0 bytes 1018\n",
+        b"",
+    ),
+    (
+        &["leveled", "inspect", "two.wad", "MAP01"],
+        b"",
+        0,
+        ROOM_TEXT,
+        b"",
+    ),
+    (
+        &["leveled", "inspect", "two.wad", "MAP02"],
+        b"",
+        0,
+        ROOM_TEXT,
+        b"",
+    ),
+];
+
+#[test]
+fn builds_and_inspects_two_maps(rt: HostRuntime) -> Result<(), Fail> {
+    let _ = fs::remove_file(&rt, "two.lv");
+    for call in TWO_MAPS {
+        let found = outcome(&rt, call)?;
+        same(&rt, &(call, found), &(call, (call.2, [true, true])));
+    }
+    Ok(())
+}
+
+// Makes calls, whatever comes of them.
+fn perform_all(rt: &HostRuntime, calls: &[(&[&str], &[u8])]) -> Result<(), Fail> {
+    for &(words, input) in calls {
+        performed(rt, words, input)?;
+    }
+    Ok(())
+}
+
+const BUILD_OLD: &[&str] = &["leveled", "build", "old.lv", "old.wad"];
+
+// A refused build leaves what stood in the file, and a shorter one cuts it off.
+#[test]
+fn builds_over_a_file(rt: HostRuntime) -> Result<(), Fail> {
+    let _ = fs::remove_file(&rt, "old.lv");
+    fs::write(&rt, "old.wad", &[7; 600])?;
+    perform_all(
+        &rt,
+        &[(&["leveled", "create", "old.lv"], b""), (BUILD_OLD, b"")],
+    )?;
+    let is_old = has_bytes(&rt, "old.wad", &[7; 600])?;
+    perform_all(
+        &rt,
+        &[(&["leveled", "edit", "old.lv"], ROOM), (BUILD_OLD, b"")],
+    )?;
+    let is_room = has_bytes(&rt, "old.wad", ROOM_WAD)?;
+    assert_eq!(rt; (is_old, is_room), (true, true));
+    Ok(())
+}

@@ -1,0 +1,19 @@
+//! The tests of runs and of the program: lines in and answers out, in memory, over projects and over files.
+#![tactic(auto)]
+
+#[cfg(test)]
+mod answers;
+#[cfg(test)]
+mod builds;
+#[cfg(test)]
+mod editor;
+#[cfg(test)]
+mod expect;
+#[cfg(test)]
+mod inspection;
+#[cfg(test)]
+mod project_run;
+#[cfg(test)]
+mod streams;
+#[cfg(test)]
+mod sweeps;

@@ -1,0 +1,25 @@
+//! The tests of disks, journals, slots and project files: worked examples, and devices that fail.
+#![tactic(auto)]
+
+#[cfg(test)]
+mod checkpoint;
+#[cfg(test)]
+mod disk;
+#[cfg(test)]
+mod expect;
+#[cfg(test)]
+mod file_disk;
+#[cfg(test)]
+mod journal;
+#[cfg(test)]
+mod journal_stops;
+#[cfg(test)]
+mod project;
+#[cfg(test)]
+mod project_room;
+#[cfg(test)]
+mod project_stops;
+mod ready;
+#[cfg(test)]
+mod slots;
+pub mod small;
