@@ -5,7 +5,7 @@ use crate::CheckpointError;
 use std::alloc::Global;
 
 /// A generation, the length of a body and the body, as bytes.
-#[derive(Debug, Drop)]
+#[derive(Drop)]
 pub struct Image {
     generation: u64,
     bytes: Vec<u8>,

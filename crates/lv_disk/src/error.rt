@@ -18,7 +18,7 @@ impl DeviceFault {
 }
 
 /// No memory for a disk in memory.
-#[derive(Clone, Copy, Debug, PartialEq, Eq, Error)]
+#[derive(Clone, Copy, Debug, Error)]
 #[error("out of memory")]
 pub struct OutOfMemory;
 
