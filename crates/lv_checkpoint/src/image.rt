@@ -1,3 +1,4 @@
+//! The body of a slot as it is to be written.
 ghost use Rattle.std.specs.Prelude.{◌≡◌, ◌<◌, ◌^◌, drop, length};
 ghost use Rattle.lv_checkpoint.specs.Bodies.{content_bytes};
 

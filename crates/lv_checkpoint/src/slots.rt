@@ -1,3 +1,4 @@
+//! Two slots of a file, of which one is live.
 ghost use Rattle.std.specs.Prelude.{◌≤◌, ◌<◌, ◌+◌};
 
 use crate::CheckpointError;

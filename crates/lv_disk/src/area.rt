@@ -1,3 +1,4 @@
+//! A part of a disk.
 ghost use Rattle.std.specs.Prelude.{◌+◌, ◌<◌, ◌^◌};
 
 /// A part of a disk: `length` bytes from `base` on.

@@ -1,3 +1,4 @@
+//! A call in the record of a disk in memory.
 ghost use Rattle.std.specs.Prelude.{◌≡◌};
 
 // A good call, as a record of calls keeps it.

@@ -1,3 +1,4 @@
+//! Why a disk fails, and why there is none.
 ghost use Rattle.std.specs.Prelude.{◌≡◌};
 
 use std::alloc::{AllocError, AllocFailed};

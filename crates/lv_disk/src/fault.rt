@@ -68,7 +68,8 @@ impl<D: Disk> FaultDisk<D> {
         if self.countdown.part == 0 {
             return self.countdown.fail();
         }
-        self.inner.write_at(at, first_bytes(from, self.countdown.part))?;
+        self.inner
+            .write_at(at, first_bytes(from, self.countdown.part))?;
         self.countdown.fail()
     }
 }

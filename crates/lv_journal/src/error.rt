@@ -18,7 +18,6 @@ pub enum JournalError {
     Damaged { place: u64 },
 }
 
-// One call writes each fixed text, so that the proof has one call to follow.
 impl fmt::Display for JournalError {
     fn fmt<W: fmt::Write>(&self, f: &mut fmt::Formatter<W>) -> fmt::Result {
         let text = match self {

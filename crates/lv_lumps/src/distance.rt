@@ -1,3 +1,4 @@
+//! How far two places are apart.
 ghost use Rattle.std.specs.Prelude.{◌≡◌, ◌≤◌, pos, unsigned_abs, ◌+ℤ◌, ◌-ℤ◌, ◌*ℤ◌, ◌*◌};
 ghost use Rattle.lv_lumps.specs.Drawing.{squared_distance};
 

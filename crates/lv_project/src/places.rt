@@ -1,3 +1,4 @@
+//! Where the parts of a project's file lie.
 ghost use Rattle.std.specs.Prelude.{◌≡◌, ◌≤◌, ◌↔◌, IsTrue};
 ghost use Rattle.lv_project.specs.Places.{IsAllowed, IsLaidOut, cap_of, parts_of};
 
