@@ -9,13 +9,13 @@ use crate::slots::Slots;
 use lv_disk::{Area, CLOSED_GATE, DeviceFault, Disk, OPEN_GATE, write_through};
 
 /// Slots of which the other one is closed on the disk.
-#[derive(Clone, Copy, Debug)]
+#[derive(Clone, Copy)]
 pub struct Closed {
     slots: Slots,
 }
 
 /// Slots of which the other one is filled, behind a closed gate.
-#[derive(Clone, Copy, Debug)]
+#[derive(Clone, Copy)]
 pub struct Filled {
     slots: Slots,
 }

@@ -17,7 +17,7 @@ use std::alloc::Global;
 pub const BEFORE_BODY: u64 = 13;
 
 /// The generation of an open slot, and the length of its body.
-#[derive(Clone, Copy, Debug)]
+#[derive(Clone, Copy)]
 pub struct Head {
     pub generation: u64,
     pub len: u32,

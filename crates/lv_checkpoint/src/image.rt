@@ -1,3 +1,4 @@
+//! The body of a slot as it is to be written.
 ghost use Rattle.std.specs.Prelude.{◌≡◌, ◌<◌, ◌^◌, drop, length};
 ghost use Rattle.lv_checkpoint.specs.Bodies.{content_bytes};
 
@@ -5,7 +6,7 @@ use crate::CheckpointError;
 use std::alloc::Global;
 
 /// A generation, the length of a body and the body, as bytes.
-#[derive(Debug, Drop)]
+#[derive(Drop)]
 pub struct Image {
     generation: u64,
     bytes: Vec<u8>,

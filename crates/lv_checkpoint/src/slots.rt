@@ -1,3 +1,4 @@
+//! Two slots of a file, of which one is live.
 ghost use Rattle.std.specs.Prelude.{◌≤◌, ◌<◌, ◌+◌};
 
 use crate::CheckpointError;
@@ -8,7 +9,7 @@ use std::alloc::Global;
 
 /// Two slots of a file, as a handle tells of them: which is live, with which generation, and whether the other one is
 /// open too. It holds no disk.
-#[derive(Clone, Copy, Debug)]
+#[derive(Clone, Copy)]
 pub struct Slots {
     a: Area,
     b: Area,
@@ -22,7 +23,7 @@ pub struct Slots {
 }
 
 /// The live body as `Slots::open` found it. Slot 0 is the first, 1 the second.
-#[derive(Debug, Drop)]
+#[derive(Drop)]
 pub struct Found {
     pub slot: u8,
     pub generation: u64,

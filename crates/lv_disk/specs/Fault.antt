@@ -11,15 +11,15 @@ inner_of disk = disk.inner
 
 -- how many calls are left up to the one that fails, 0 where none is
 abbrev pub left_of : {D : Type 0} → FaultDisk D → ℕ
-left_of disk = disk.left
+left_of disk = disk.countdown.left
 
 -- how many bytes of a failing write are put down
 abbrev pub part_of : {D : Type 0} → FaultDisk D → ℕ
-part_of disk = disk.part
+part_of disk = disk.countdown.part
 
 -- 1 where the call has failed, and not by a fault of the disk inside
 abbrev pub own_failures : {D : Type 0} → FaultDisk D → ℕ
-own_failures disk = one_if disk.failed
+own_failures disk = one_if disk.countdown.failed
 
 -- The call that is next fails. Any other call passes on what the disk inside answers.
 pub record IsCounted {D T E : Type 0} (failures : D → ℕ) (old new : FaultDisk D) (result : Result T E) : Type 0 where

@@ -1,7 +1,8 @@
+//! A call in the record of a disk in memory.
 ghost use Rattle.std.specs.Prelude.{◌≡◌};
 
 // A good call, as a record of calls keeps it.
-#[derive(Clone, Copy, Debug)]
+#[derive(Clone, Copy)]
 pub enum Entry {
     Write { at: usize, size: usize },
     Sync,

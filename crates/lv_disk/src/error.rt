@@ -1,3 +1,4 @@
+//! Why a disk fails, and why there is none.
 ghost use Rattle.std.specs.Prelude.{◌≡◌};
 
 use std::alloc::{AllocError, AllocFailed};
@@ -18,7 +19,7 @@ impl DeviceFault {
 }
 
 /// No memory for a disk in memory.
-#[derive(Clone, Copy, Debug, PartialEq, Eq, Error)]
+#[derive(Clone, Copy, Debug, Error)]
 #[error("out of memory")]
 pub struct OutOfMemory;
 

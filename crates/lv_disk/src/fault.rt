@@ -1,21 +1,16 @@
 //! A disk of which one call fails.
-ghost use Rattle.std.specs.Prelude.{◌≡◌, ◌≢◌, ◌<◌, ◌≤◌, ◌+◌, ◌-◌, length, take, IfOk, IsErr, OnErr, OnOk, false, true};
-ghost use Rattle.lv_disk.specs.FaultCount.{one_if};
+ghost use Rattle.std.specs.Prelude.{◌≡◌, ◌<◌, ◌≤◌, ◌+◌, length, take, IfOk, IsErr, OnErr, OnOk, false};
 ghost use Rattle.lv_disk.specs.Files.{Failed, HasAt, Torn, Written};
 ghost use Rattle.lv_disk.specs.Stops.{Counted, Each, Elapses, Follows, Leads};
 
+use crate::countdown::Countdown;
 use crate::{DeviceFault, Disk};
 
 /// Any disk, of which one call fails.
 #[derive(Drop)]
 pub struct FaultDisk<D> {
     inner: D,
-    // How many calls are left up to the one that fails, 0 where none is.
-    left: u64,
-    part: u32,
-    // Whether that call has failed, and not by a fault of the disk inside.
-    failed: bool,
-    ghost once: { 0 < left → failed ≡ false },
+    countdown: Countdown,
 }
 
 impl<D> FaultDisk<D> {
@@ -28,12 +23,12 @@ impl<D> FaultDisk<D> {
         ensures part { part_of result ≡ part }
         ensures failures { own_failures result ≡ 0 }
     {
-        FaultDisk {
-            inner,
+        let countdown = Countdown {
             left: k,
             part,
             failed: false,
-        }
+        };
+        FaultDisk { inner, countdown }
     }
 
     /// Lends the disk inside.
@@ -41,33 +36,6 @@ impl<D> FaultDisk<D> {
         ensures { result.now ≡ inner_of self.now }
     {
         &self.inner
-    }
-
-    // Counts a call, and tells whether it is the one that fails.
-    fn is_next(&mut self) -> bool
-        ensures inner { self.new.inner ≡ self.old.inner }
-        ensures left { self.new.left ≡ self.old.left - 1 }
-        ensures part { self.new.part ≡ self.old.part }
-        ensures failed { self.new.failed ≡ self.old.failed }
-        ensures next { result ≡ true → (self.old.left ≡ 1) × (self.old.failed ≡ false) }
-        ensures other { result ≡ false → self.old.left ≢ 1 }
-    {
-        let is_next = self.left == 1;
-        self.left = self.left.saturating_sub(1);
-        is_next
-    }
-
-    // The call fails here.
-    fn fail<T>(&mut self) -> Result<T, DeviceFault>
-        requires { self.old.left ≡ 0 }
-        ensures err { IsErr result }
-        ensures inner { self.new.inner ≡ self.old.inner }
-        ensures left { self.new.left ≡ self.old.left }
-        ensures part { self.new.part ≡ self.old.part }
-        ensures failed { self.new.failed ≡ true }
-    {
-        self.failed = true;
-        Err(DeviceFault)
     }
 }
 
@@ -77,7 +45,7 @@ impl<D: Disk> FaultDisk<D> {
     // A write that fails: puts its first bytes down.
     fn put_down(&mut self, at: u64, from: &[u8]) -> Result<(), DeviceFault>
         requires last { left_of self.old ≡ 0 }
-        requires first { self.old.failed ≡ false }
+        requires first { self.old.countdown.failed ≡ false }
         ensures err { IsErr result }
         ensures failed { Follows (Failed at (length from.now))
             (D.reads (inner_of self.old)) (D.reads (inner_of self.new)) }
@@ -97,11 +65,12 @@ impl<D: Disk> FaultDisk<D> {
         ensures part { 0 < part_of self.old → PutsDown at (take (part_of self.old) from.now)
             D.reads D.may_leave D.failures (inner_of self.old) (inner_of self.new) }
     {
-        if self.part == 0 {
-            return self.fail();
+        if self.countdown.part == 0 {
+            return self.countdown.fail();
         }
-        self.inner.write_at(at, first_bytes(from, self.part))?;
-        self.fail()
+        self.inner
+            .write_at(at, first_bytes(from, self.countdown.part))?;
+        self.countdown.fail()
     }
 }
 
@@ -141,8 +110,8 @@ impl<D: Disk> Disk for FaultDisk<D> {
         ensures call { IsCounted D.failures self.old self.new result }
         ensures untouched { left_of self.old ≡ 1 → inner_of self.new ≡ inner_of self.old }
     {
-        if self.is_next() {
-            return self.fail();
+        if self.countdown.is_next() {
+            return self.countdown.fail();
         }
         self.inner.len()
     }
@@ -164,8 +133,8 @@ impl<D: Disk> Disk for FaultDisk<D> {
         ensures call { IsCounted D.failures self.old self.new result }
         ensures untouched { left_of self.old ≡ 1 → inner_of self.new ≡ inner_of self.old }
     {
-        if self.is_next() {
-            return self.fail();
+        if self.countdown.is_next() {
+            return self.countdown.fail();
         }
         self.inner.read(at, into)
     }
@@ -196,7 +165,7 @@ impl<D: Disk> Disk for FaultDisk<D> {
             → PutsDown at (take (part_of self.old) from.now) D.reads D.may_leave D.failures
             (inner_of self.old) (inner_of self.new) }
     {
-        if self.is_next() {
+        if self.countdown.is_next() {
             return self.put_down(at, from);
         }
         self.inner.write_at(at, from)
@@ -218,8 +187,8 @@ impl<D: Disk> Disk for FaultDisk<D> {
         ensures call { IsCounted D.failures self.old self.new result }
         ensures untouched { left_of self.old ≡ 1 → inner_of self.new ≡ inner_of self.old }
     {
-        if self.is_next() {
-            return self.fail();
+        if self.countdown.is_next() {
+            return self.countdown.fail();
         }
         self.inner.sync()
     }

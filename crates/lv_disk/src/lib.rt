@@ -3,6 +3,7 @@
 
 mod area;
 mod calls;
+mod countdown;
 mod disk;
 mod entry;
 mod error;

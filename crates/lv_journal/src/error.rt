@@ -1,24 +1,34 @@
+//! Why a journal refuses, and the number that each refusal is answered by.
 ghost use Rattle.std.specs.Prelude.{◌≡◌};
 ghost use Rattle.lv_journal.specs.declared.error.JournalError.TheVariants.{Device, OutOfMemory};
 
 use lv_disk::DeviceFault;
 use std::alloc::{AllocError, AllocFailed};
+use std::fmt;
 use thiserror::Error;
 
 /// Why a journal could not be read or written.
 #[derive(Clone, Copy, Debug, PartialEq, Eq, Error)]
 pub enum JournalError {
-    #[error("the device failed")]
     Device,
-    #[error("out of memory")]
     OutOfMemory,
-    #[error("the journal must be opened again")]
     Reopen,
-    #[error("the journal is full")]
     JournalFull,
     /// The place in the file of the gate whose record can't be read.
-    #[error("damaged at {place}")]
     Damaged { place: u64 },
+}
+
+impl fmt::Display for JournalError {
+    fn fmt<W: fmt::Write>(&self, f: &mut fmt::Formatter<W>) -> fmt::Result {
+        let text = match self {
+            JournalError::Device => "the device failed",
+            JournalError::OutOfMemory => "out of memory",
+            JournalError::Reopen => "the journal must be opened again",
+            JournalError::JournalFull => "the journal is full",
+            JournalError::Damaged { place } => return write!(f, "damaged at {place}"),
+        };
+        f.write_str(text)
+    }
 }
 
 impl From<DeviceFault> for JournalError {

@@ -1,4 +1,5 @@
-ghost use Rattle.std.specs.Prelude.{◌≡◌, ◌≤◌, pos, unsigned_abs, ◌+ℤ◌, ◌-ℤ◌, ◌*ℤ◌};
+//! How far two places are apart.
+ghost use Rattle.std.specs.Prelude.{◌≡◌, ◌≤◌, pos, unsigned_abs, ◌+ℤ◌, ◌-ℤ◌, ◌*ℤ◌, ◌*◌};
 ghost use Rattle.lv_lumps.specs.Drawing.{squared_distance};
 
 use crate::records::Vertex;
@@ -11,9 +12,16 @@ pub fn squared_distance(a: Vertex, b: Vertex) -> u64
     ensures value { result ≡ squared_distance a b }
     ensures products { pos result ≡ (b.x -ℤ a.x) *ℤ (b.x -ℤ a.x) +ℤ (b.y -ℤ a.y) *ℤ (b.y -ℤ a.y) }
 {
-    let dx = gap(a.x, b.x);
-    let dy = gap(a.y, b.y);
-    dx * dx + dy * dy
+    square_of(gap(a.x, b.x)) + square_of(gap(a.y, b.y))
+}
+
+// The square of a gap.
+fn square_of(gap: u64) -> u64
+    requires { gap ≤ 65535 }
+    ensures value { result ≡ gap * gap }
+    ensures bound { result ≤ 4294836225 }
+{
+    gap * gap
 }
 
 // How far two coordinates are apart.

@@ -1,3 +1,4 @@
+//! Where the parts of a project's file lie.
 ghost use Rattle.std.specs.Prelude.{◌≡◌, ◌≤◌, ◌↔◌, IsTrue};
 ghost use Rattle.lv_project.specs.Places.{IsAllowed, IsLaidOut, cap_of, parts_of};
 
@@ -5,7 +6,7 @@ use crate::geometry::Geometry;
 use lv_disk::Area;
 
 /// The two slots of a file, and behind them their journals.
-#[derive(Clone, Copy, Debug)]
+#[derive(Clone, Copy)]
 pub struct Places {
     pub a: Area,
     pub b: Area,
@@ -14,7 +15,7 @@ pub struct Places {
 }
 
 /// The live slot and the other one, each with its journal.
-#[derive(Clone, Copy, Debug)]
+#[derive(Clone, Copy)]
 pub struct Parts {
     pub live: Area,
     pub other: Area,

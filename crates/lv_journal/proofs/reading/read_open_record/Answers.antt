@@ -3,6 +3,7 @@ use Rattle.std.specs.Int.{to_le_bytes, w32}
 use Rattle.lv_disk.specs.Files.{HasAt}
 use Rattle.lv_disk.proofs.Bytes.{has_both}
 use Rattle.lv_disk.proofs.Outcomes.{if_ok_both}
+use Rattle.lv_disk.proofs.ReadingCalls.{both_runs}
 use Rattle.lv_journal.specs.Records.{record_bytes}
 use Rattle.lv_journal.proofs.reading.read_open_record.Goals as goal
 
@@ -21,3 +22,7 @@ returns-clause-found g c =
     let after = c.in-Ok.ensures.reads.still file is in
     whole c.args.place c.in-Ok.len payload.items file is_long (c.requires.open file is) (c.in-Ok.ensures.told file is) (told file after))
     c.read_payload.ensures.len c.read_payload.ensures.told
+
+pub returns-clause-reads : goal.returns-clause-reads
+returns-clause-reads g c =
+    both_runs g.D.Disk.reads g.D.Disk.may_leave g.D.Disk.moment g.D.Disk.left_since g.met.D.Disk.only_now c.args.disk.now c.read_record_len.new.disk c.read_payload.new.disk c.read_record_len.ensures.reads c.read_payload.ensures.reads

@@ -28,21 +28,21 @@ returns-in_err-write_at-clause-part g c = λ some.
     })
 
 pub returns-clause-failed : goal.returns-clause-failed
-returns-clause-failed g c = rw c.fail-2.ensures.inner
-    (follows_by (Written c.args.at c.first_bytes.result.now) (Failed c.args.at (length c.args.from.now))
-    (λ old new. written_failed c.args.at _ _ old new c.first_bytes.ensures.short) _ _ c.in_ok-write_at.ensures.written)
+returns-clause-failed g c =
+    follows_by (Written c.args.at c.first_bytes.result.now) (Failed c.args.at (length c.args.from.now))
+    (λ old new. written_failed c.args.at _ _ old new c.first_bytes.ensures.short) _ _ c.in_ok-write_at.ensures.written
 
 pub returns-clause-leads : goal.returns-clause-leads
-returns-clause-leads g c = rw c.fail-2.ensures.inner
-    (leads_by (Written c.args.at c.first_bytes.result.now) (Failed c.args.at (length c.args.from.now))
-    (λ old new. written_failed c.args.at _ _ old new c.first_bytes.ensures.short) _ _ c.in_ok-write_at.ensures.leads)
+returns-clause-leads g c =
+    leads_by (Written c.args.at c.first_bytes.result.now) (Failed c.args.at (length c.args.from.now))
+    (λ old new. written_failed c.args.at _ _ old new c.first_bytes.ensures.short) _ _ c.in_ok-write_at.ensures.leads
 
 pub returns-clause-images : goal.returns-clause-images
-returns-clause-images g c = rw c.fail-2.ensures.inner
-    (follows_by (Torn c.args.at (length c.first_bytes.result.now)) (Torn c.args.at (length c.args.from.now))
-    (λ old new. torn_wider c.args.at _ _ old new c.first_bytes.ensures.short) _ _ c.write_at.ensures.images)
+returns-clause-images g c =
+    follows_by (Torn c.args.at (length c.first_bytes.result.now)) (Torn c.args.at (length c.args.from.now))
+    (λ old new. torn_wider c.args.at _ _ old new c.first_bytes.ensures.short) _ _ c.write_at.ensures.images
 
 pub returns-clause-part : goal.returns-clause-part
-returns-clause-part g c = λ some. rw c.fail-2.ensures.inner
-    (subst (λ (bytes : List ℕ). PutsDown c.args.at bytes g.D.Disk.reads g.D.Disk.may_leave g.D.Disk.failures c.args.self.now.inner c.write_at.new.self) c.first_bytes.ensures.first
-    (record { down = inl c.in_ok-write_at.ensures.written; images = c.write_at.ensures.images }))
+returns-clause-part g c = λ some.
+    subst (λ (bytes : List ℕ). PutsDown c.args.at bytes g.D.Disk.reads g.D.Disk.may_leave g.D.Disk.failures c.args.self.now.inner c.write_at.new.self) c.first_bytes.ensures.first
+    (record { down = inl c.in_ok-write_at.ensures.written; images = c.write_at.ensures.images })
