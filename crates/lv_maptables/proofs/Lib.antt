@@ -1,5 +1,6 @@
 pub mod ListLemmas
 pub mod FaultLemmas
+pub mod TellsLemmas
 pub mod FormLemmas
 pub mod KeyLemmas
 pub mod TableLemmas

@@ -1,3 +1,4 @@
+//! The ranges of the fields of a map's items.
 ghost use Rattle.std.specs.Prelude.{◌≡◌, ◌↔◌, ◌≤◌, IsTrue, All, pos};
 ghost use Rattle.lv_maptables.specs.Ranges.{IsBetween, IsCoordinate, IsShort, IsCode, is_name, is_marker, IsNamed, name_of, name_text};
 ghost use Rattle.lv_maptables.specs.Ranges.{IsVertex, IsSector, IsSide, IsLine, IsThing};
@@ -150,58 +151,23 @@ fn is_thing(thing: &Thing) -> bool
     has_thing_place(thing) && has_thing_numbers(thing)
 }
 
-// Whether all vertices are in range.
-fn are_vertices(vertices: &[Vertex]) -> bool
-    ensures { IsTrue result ↔ All IsVertex vertices.now }
-{
-    vertices.iter().all(is_vertex)
-}
-
-// Whether all sectors are in range.
-fn are_sectors(sectors: &[Sector]) -> bool
-    ensures { IsTrue result ↔ All IsSector sectors.now }
-{
-    sectors.iter().all(is_sector)
-}
-
-// Whether all sides are in range.
-fn are_sides(sides: &[Side]) -> bool
-    ensures { IsTrue result ↔ All IsSide sides.now }
-{
-    sides.iter().all(is_side)
-}
-
-// Whether all lines are in range.
-fn are_lines(lines: &[Line]) -> bool
-    ensures { IsTrue result ↔ All IsLine lines.now }
-{
-    lines.iter().all(is_line)
-}
-
-// Whether all things are in range.
-fn are_things(things: &[Thing]) -> bool
-    ensures { IsTrue result ↔ All IsThing things.now }
-{
-    things.iter().all(is_thing)
-}
-
 /// Whether all vertices and things are in range.
 pub fn are_places(vertices: &[Vertex], things: &[Thing]) -> bool
     ensures { IsTrue result ↔ (All IsVertex vertices.now × All IsThing things.now) }
 {
-    are_vertices(vertices) && are_things(things)
+    vertices.iter().all(is_vertex) && things.iter().all(is_thing)
 }
 
 /// Whether all sectors and sides are in range.
 pub fn are_areas(sectors: &[Sector], sides: &[Side]) -> bool
     ensures { IsTrue result ↔ (All IsSector sectors.now × All IsSide sides.now) }
 {
-    are_sectors(sectors) && are_sides(sides)
+    sectors.iter().all(is_sector) && sides.iter().all(is_side)
 }
 
 /// Whether the name is a map's, and all lines are in range.
 pub fn is_named_with(name: &Name8, lines: &[Line]) -> bool
     ensures { IsTrue result ↔ (IsNamed is_marker name.now × All IsLine lines.now) }
 {
-    is_map_name(name) && are_lines(lines)
+    is_map_name(name) && lines.iter().all(is_line)
 }

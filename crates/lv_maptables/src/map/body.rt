@@ -1,8 +1,9 @@
+//! A map's body of version 1, and its lumps.
 ghost use Rattle.std.specs.Prelude.{◌≡◌, ◌++◌, ◌↔◌, IfOk, IfErr, IsOkUnless, IsTrue, drop};
 ghost use Rattle.lv_lumps.specs.Fields.{unsigned};
 ghost use Rattle.lv_maptables.specs.Body.{lump_of, IsMapOf, RefusesBody};
 
-use crate::error::MapError;
+use crate::error::{MapError, lacks_memory};
 use crate::kind::Kind;
 use crate::map::Map;
 use crate::map::keyed_line::numbered_lines;
@@ -49,6 +50,6 @@ impl Map {
             ),
             Kind::Thing => encode_things(alloc, &self.things.to_vec(alloc)?),
         };
-        bytes.map_err(|_| MapError::OutOfMemory)
+        bytes.map_err(lacks_memory)
     }
 }

@@ -1,10 +1,11 @@
+//! What bytes hold, before it is known to be a map.
 ghost use Rattle.std.specs.Prelude.{◌≡◌, ◌≤◌, ◌↔◌, IfOk, IsOkUnless, IsTrue, All, length};
 ghost use Rattle.lv_lumps.specs.Limits.{item_limit, sector_limit};
 ghost use Rattle.lv_maptables.specs.Ranges.{IsNamed, is_marker, IsVertex, IsSector, IsSide, IsLine, IsThing};
 ghost use Rattle.lv_maptables.specs.WellFormed.{WellFormed, HasEnds, HasSides, HasSector};
 ghost use Rattle.lv_maptables.specs.Parts.{IsFramed, tables_in};
 
-use crate::error::MapError;
+use crate::error::{MapError, lacks_memory};
 use crate::form::{are_apart, are_linked, have_sectors};
 use crate::map::Map;
 use crate::map::header::{count_at, name_at};
@@ -21,7 +22,6 @@ use std::alloc::Global;
 use std::marker::Model;
 
 // The name and the tables that bytes hold, well-formed or not.
-#[derive(Drop)]
 pub(super) struct Draft {
     name: Name8,
     vertices: Vec<Vertex>,
@@ -29,6 +29,20 @@ pub(super) struct Draft {
     sides: Vec<Side>,
     lines: Vec<Line>,
     things: Vec<Thing>,
+}
+
+// A call of its own, so that who owns a draft lets its lists go by one step.
+impl Drop for Draft {
+    fn drop(self) {
+        let Draft {
+            name: _,
+            vertices: _vertices,
+            sectors: _sectors,
+            sides: _sides,
+            lines: _lines,
+            things: _things,
+        } = self;
+    }
 }
 
 impl Model for Draft {
@@ -57,11 +71,11 @@ impl Draft {
         // Each part is whole records long, so only memory can be lacking.
         Ok(Draft {
             name: name_at(bytes, 0),
-            vertices: decode_vertices(alloc, vertices).map_err(|_| MapError::OutOfMemory)?,
-            sectors: decode_sectors(alloc, sectors).map_err(|_| MapError::OutOfMemory)?,
-            sides: decode_sides(alloc, sides).map_err(|_| MapError::OutOfMemory)?,
-            lines: decode_lines(alloc, lines).map_err(|_| MapError::OutOfMemory)?,
-            things: decode_things(alloc, things).map_err(|_| MapError::OutOfMemory)?,
+            vertices: decode_vertices(alloc, vertices).map_err(lacks_memory)?,
+            sectors: decode_sectors(alloc, sectors).map_err(lacks_memory)?,
+            sides: decode_sides(alloc, sides).map_err(lacks_memory)?,
+            lines: decode_lines(alloc, lines).map_err(lacks_memory)?,
+            things: decode_things(alloc, things).map_err(lacks_memory)?,
         })
     }
 
@@ -117,30 +131,23 @@ impl Draft {
     }
 
     // The map of well-formed tables.
-    pub(super) fn into_map(self, alloc: Global) -> Result<Map, MapError>
-        requires { WellFormed self }
-        ensures tables { IfOk result (λ m. m.tables ≡ self) }
+    pub(super) fn to_map(&self, alloc: Global) -> Result<Map, MapError>
+        requires { WellFormed self.now }
+        ensures tables { IfOk result (λ m. m.tables ≡ self.now) }
         ensures memory { IsOkUnless result MapError.OutOfMemory }
     {
-        let Draft {
-            name,
+        let vertices = VertexTable::of(alloc, &self.vertices)?;
+        let sectors = Table::of(alloc, &self.sectors)?;
+        let sides = keyed_sides(alloc, &sectors, &self.sides)?;
+        let lines = keyed_lines(alloc, &vertices, &sides, &self.lines)?;
+        let things = Table::of(alloc, &self.things)?;
+        Ok(Map {
+            name: self.name,
             vertices,
             sectors,
             sides,
             lines,
             things,
-        } = self;
-        let vertices = VertexTable::of(alloc, &vertices)?;
-        let sectors = Table::of(alloc, &sectors)?;
-        let sides = keyed_sides(alloc, &sectors, &sides)?;
-        let lines = keyed_lines(alloc, &vertices, &sides, &lines)?;
-        Ok(Map {
-            name,
-            vertices,
-            sectors,
-            sides,
-            lines,
-            things: Table::of(alloc, &things)?,
         })
     }
 }

@@ -1,8 +1,10 @@
+//! A map's part of a project's body: reading it, and appending it.
 ghost use Rattle.std.specs.Prelude.{◌≡◌, IfOk, IfErr, IsOkUnless, ◌^◌, ◌<◌, ◌≤◌, ◌++◌, OnOk};
 ghost use Rattle.lv_lumps.specs.Fields.{unsigned};
 ghost use Rattle.lv_maptables.specs.Tables.{part_len};
 ghost use Rattle.lv_maptables.specs.WellFormed.{WellFormed};
 ghost use Rattle.lv_maptables.specs.Parts.{part, part_head, BeginsWith, RefusesPart};
+ghost use Rattle.lv_maptables.specs.Body.{lump_of};
 
 use crate::error::MapError;
 use crate::kind::Kind;
@@ -24,12 +26,12 @@ pub fn first_map(alloc: Global, bytes: &[u8]) -> Result<Map, MapError>
     if !draft.is_well_formed(alloc)? {
         return Err(MapError::Damaged(0));
     }
-    let map = draft.into_map(alloc)?;
+    let map = draft.to_map(alloc)?;
     Ok(map)
 }
 
 // Appends a count of items.
-fn put_count(bytes: &mut Vec<u8>, count: usize) -> Result<(), MapError>
+fn put_count(bytes: &mut Vec<u8>, count: u32) -> Result<(), MapError>
     requires { count < 2 ^ 16 }
     ensures bytes { OnOk result (bytes.new.items ≡ bytes.old.items ++ unsigned count) }
     ensures memory { IsOkUnless result MapError.OutOfMemory }
@@ -44,11 +46,11 @@ impl Map {
         ensures value { result ≡ part_len self.now.tables }
         ensures bound { result ≤ 2007000 }
     {
-        18 + 10 * self.things.len() as u32
-            + 14 * self.lines.len() as u32
-            + 30 * self.sides.len() as u32
-            + 4 * self.vertices.len() as u32
-            + 26 * self.sectors.len() as u32
+        18 + 10 * self.count(Kind::Thing)
+            + 14 * self.count(Kind::Line)
+            + 30 * self.count(Kind::Side)
+            + 4 * self.count(Kind::Vertex)
+            + 26 * self.count(Kind::Sector)
     }
 
     // Appends the name, and the counts of things, lines, sides, vertices and sectors.
@@ -58,12 +60,21 @@ impl Map {
         ensures well_formed { OnOk result (WellFormed self.now.tables) }
         ensures memory { IsOkUnless result MapError.OutOfMemory }
     {
-        bytes.extend_from_slice(&self.name.bytes)?;
-        put_count(bytes, self.things.len())?;
-        put_count(bytes, self.lines.len())?;
-        put_count(bytes, self.sides.len())?;
-        put_count(bytes, self.vertices.len())?;
-        put_count(bytes, self.sectors.len())?;
+        bytes.extend_from_slice(&self.name().bytes)?;
+        put_count(bytes, self.count(Kind::Thing))?;
+        put_count(bytes, self.count(Kind::Line))?;
+        put_count(bytes, self.count(Kind::Side))?;
+        put_count(bytes, self.count(Kind::Vertex))?;
+        put_count(bytes, self.count(Kind::Sector))
+    }
+
+    // Appends the records of the kind's table.
+    fn put_lump(&self, alloc: Global, kind: Kind, bytes: &mut Vec<u8>) -> Result<(), MapError>
+        ensures bytes { OnOk result
+            (bytes.new.items ≡ bytes.old.items ++ lump_of self.now.tables kind) }
+        ensures memory { IsOkUnless result MapError.OutOfMemory }
+    {
+        bytes.extend_from_slice(&self.lump(alloc, kind)?)?;
         Ok(())
     }
 
@@ -75,11 +86,11 @@ impl Map {
         ensures memory { IsOkUnless result MapError.OutOfMemory }
     {
         self.put_head(bytes)?;
-        bytes.extend_from_slice(&self.lump(alloc, Kind::Thing)?)?;
-        bytes.extend_from_slice(&self.lump(alloc, Kind::Line)?)?;
-        bytes.extend_from_slice(&self.lump(alloc, Kind::Side)?)?;
-        bytes.extend_from_slice(&self.lump(alloc, Kind::Vertex)?)?;
-        bytes.extend_from_slice(&self.lump(alloc, Kind::Sector)?)?;
+        self.put_lump(alloc, Kind::Thing, bytes)?;
+        self.put_lump(alloc, Kind::Line, bytes)?;
+        self.put_lump(alloc, Kind::Side, bytes)?;
+        self.put_lump(alloc, Kind::Vertex, bytes)?;
+        self.put_lump(alloc, Kind::Sector, bytes)?;
         Ok(())
     }
 }

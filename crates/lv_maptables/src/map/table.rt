@@ -1,3 +1,4 @@
+//! A table: items in the order of their numbers, each under a key that it keeps.
 ghost use Rattle.std.specs.Prelude.{◌≡◌, ◌+◌, ◌<◌, ◌≤◌, ◌++◌, ◌∷◌, ◌==◌, [], ℕ, Some, position, length, is_ok, if◌then◌else◌, slice_get, slice_set, remove, OnOk, IfOk, IsOk, IsOkUnless, MatchOption};
 ghost use Rattle.lv_maptables.specs.Keys.{rank_of, KeepRanks, LowerRanks};
 
@@ -7,12 +8,22 @@ use std::alloc::Global;
 use std::marker::Model;
 
 // Items in the order of their numbers, each under a key that it keeps. An item's number is the rank of its key.
-#[derive(Drop)]
 pub(super) struct Table<T: Copy> {
     items: Slab<T>,
     order: Vec<usize>,
     // where to look for a key in the order: its rank, unless want of memory kept the list short
     ranks: Vec<u16>,
+}
+
+// A call of its own, so that who owns a table lets its lists go by one step.
+impl<T: Copy> Drop for Table<T> {
+    fn drop(self) {
+        let Table {
+            items: _items,
+            order: _order,
+            ranks: _ranks,
+        } = self;
+    }
 }
 
 impl<T: Copy> Model for Table<T> {
@@ -39,6 +50,16 @@ fn note_rank(ranks: &mut [u16], key: usize, rank: u16) {
     if key < ranks.len() {
         ranks[key] = rank;
     }
+}
+
+// Makes the list of ranks as long as there are places.
+fn widen(ranks: &mut Vec<u16>, places: usize) -> Result<(), MapError>
+    ensures { IsOkUnless result MapError.OutOfMemory }
+{
+    if ranks.len() < places {
+        ranks.resize(places, 0)?;
+    }
+    Ok(())
 }
 
 // Where a key stands in the order.
@@ -148,10 +169,7 @@ impl<T: Copy> Table<T> {
         }
         self.items.reserve(more)?;
         self.order.reserve(more)?;
-        let places = self.items.capacity();
-        if self.ranks.len() < places {
-            self.ranks.resize(places, 0)?;
-        }
+        widen(&mut self.ranks, self.items.capacity())?;
         Ok(())
     }
 

@@ -1,3 +1,4 @@
+//! The table of vertices, with the set of the places that are taken.
 ghost use Rattle.std.specs.Prelude.{◌≡◌, ◌≢◌, ◌+◌, ◌<◌, ◌≤◌, ◌^◌, ◌++◌, ◌∷◌, ◌==◌, [], ℕ, false, length, is_ok, if◌then◌else◌, slice_get, slice_set, remove, AllPairs, IfOk, IsOk, IsOkUnless, MatchOption, OnOk};
 ghost use Rattle.lv_maptables.specs.Faults.{is_taken, is_taken_beside};
 ghost use Rattle.lv_maptables.specs.WellFormed.{nth_vertex};
@@ -11,10 +12,19 @@ use std::alloc::Global;
 use std::marker::Model;
 
 // The vertices of a map, no two of them in one place, and the places that are taken.
-#[derive(Drop)]
 pub(super) struct VertexTable {
     items: Table<Vertex>,
     places: Places,
+}
+
+// A call of its own, so that who owns the vertices lets them and their places go by one step.
+impl Drop for VertexTable {
+    fn drop(self) {
+        let VertexTable {
+            items: _items,
+            places: _places,
+        } = self;
+    }
 }
 
 impl Model for VertexTable {

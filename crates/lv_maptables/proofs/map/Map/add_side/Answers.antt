@@ -5,9 +5,10 @@ use Rattle.lv_maptables.specs.MapFields.{tables_of}
 use Rattle.lv_maptables.specs.Edits.{with_side}
 use Rattle.lv_maptables.specs.Keyed.{side_of}
 use Rattle.lv_maptables.proofs.ListLemmas.{map-push}
-use Rattle.lv_maptables.proofs.FaultLemmas.{done}
+use Rattle.lv_maptables.proofs.FaultLemmas.{done, none_hold, not_lacking}
 use Rattle.lv_maptables.proofs.KeyedLemmas.{lines_push_side}
 use Rattle.lv_maptables.proofs.SideLemmas.{with_side-keeps}
+use Rattle.lv_maptables.specs.Faults.{side_faults}
 use Rattle.lv_maptables.proofs.map.Map.add_side.Goals as goal
 
 pub invariant_of-self-2 : goal.invariant_of-self-2
@@ -43,3 +44,12 @@ returns-in_err-push-clause-edit c =
     let lines = lines_push_side c.self.inside.vertices.keys c.self.inside.sides c.push.new.self (tables_of c.self.inside).sides c.self.inside.lines.items c.in_err-push.ensures.ranks c.in_err-push.ensures.count few many c.self.invariant.line_sides in
     let same : tables_of (record c.self.inside { sides = c.push.new.self }) ≡ c.args.self.now.tables = (rw (c.in_err-push.ensures.items, lines) refl) ∙ ap (λ v. v.tables) c.self.view_is in
     search (rules, same)
+
+pub keyed_side-keyed-requires : goal.keyed_side-keyed-requires
+keyed_side-keyed-requires c =
+    let m = tables_of c.self.inside in
+    let fine = rw (← c.self.view_is) at c.in_ok-can_add_side.ensures in
+    not_lacking m.sectors c.args.side.sector (none_hold (side_faults m c.args.side) fine).0
+
+pub push-requires : goal.push-requires
+push-requires c = omega (arith, length-map c.self.inside.sides.items (side_of c.self.inside.sectors.keys), c.self.invariant.side_count)

@@ -1,11 +1,12 @@
 -- What holds of each line of the map holds of this one.
-use Rattle.std.proofs.Common.{◌≡◌, rules}
+use Rattle.std.proofs.Common.{◌≡◌, rules, arith}
 use Rattle.std.specs.Prelude.{Some, slice_get}
 use Rattle.lv_maptables.specs.Ranges.{IsLine}
 use Rattle.lv_maptables.specs.WellFormed.{HasEnds, HasSides}
-use Rattle.lv_maptables.specs.Keyed.{line_of}
+use Rattle.lv_maptables.specs.Keyed.{line_of, side_of}
 use Rattle.lv_maptables.specs.MapFields.{tables_of}
 use Rattle.lv_maptables.proofs.ListLemmas.{given_holds}
+use Rattle.std.proofs.lemmas.List.{length-map}
 use Rattle.lv_maptables.proofs.map.Map.line.Goals as goal
 
 pub returns-clause-range : goal.returns-clause-range
@@ -25,3 +26,10 @@ returns-clause-sides c =
     let there : slice_get c.self.inside.lines.items c.args.n ≡ Some c.in_ok-line.line = search rules in
     rw (← c.self.view_is, c.numbered_line.ensures)
     (given_holds (HasSides (tables_of c.self.inside).sides) (line_of c.self.inside.vertices.keys c.self.inside.sides.keys) c.self.inside.lines.items c.args.n c.in_ok-line.line there c.self.invariant.line_sides)
+
+pub numbered_line-requires : goal.numbered_line-requires
+numbered_line-requires c =
+    record {
+      vertices = c.self.invariant.vertex_count;
+      sides = omega (arith, length-map c.self.inside.sides.items (side_of c.self.inside.sectors.keys), c.self.invariant.side_count);
+    }

@@ -1,13 +1,14 @@
 -- Nothing speaks against the line, so the map stays well-formed with it.
-use Rattle.std.proofs.Common.{refl}
+use Rattle.std.proofs.Common.{refl, arith}
 use Rattle.std.proofs.lemmas.List.{length-map}
 use Rattle.lv_maptables.specs.MapFields.{tables_of}
 use Rattle.lv_maptables.specs.Edits.{with_line_at}
 use Rattle.lv_maptables.specs.Keyed.{line_of, side_of}
 use Rattle.lv_maptables.proofs.ListLemmas.{map-set_at}
-use Rattle.lv_maptables.proofs.FaultLemmas.{done}
+use Rattle.lv_maptables.proofs.FaultLemmas.{done, none_hold, not_lacking}
 use Rattle.lv_maptables.proofs.KeyedLemmas.{found_from}
 use Rattle.lv_maptables.proofs.LineLemmas.{changed_fits, with_line_at-keeps}
+use Rattle.lv_maptables.specs.Faults.{set_line_faults}
 use Rattle.lv_maptables.proofs.map.Map.set_line.Goals as goal
 
 pub keyed_line-keyed-requires : goal.keyed_line-keyed-requires
@@ -27,3 +28,10 @@ returns-clause-edit c =
     let fine = rw (← c.self.view_is) at c.in_ok-can_set_line.ensures in
     let lines = map-set_at (line_of c.self.inside.vertices.keys c.self.inside.sides.keys) c.self.inside.lines.items c.args.n c.keyed_line-keyed.result c.args.line c.keyed_line-keyed.ensures in
     rw (← c.self.view_is) (done _ (with_line_at (tables_of c.self.inside) c.args.n c.args.line) _ tt tt fine (rw (c.set.ensures.items, lines) refl) refl)
+
+pub set-requires : goal.set-requires
+set-requires c =
+    let m = tables_of c.self.inside in
+    let fine = rw (← c.self.view_is) at c.in_ok-can_set_line.ensures in
+    let there = not_lacking m.lines c.args.n (none_hold (set_line_faults m c.args.n c.args.line) fine).1.1.0 in
+    omega (arith, there, length-map c.self.inside.lines.items (line_of c.self.inside.vertices.keys c.self.inside.sides.keys))

@@ -24,3 +24,6 @@ returns-clause-map c =
     let framed = c.is_framed.ensures.0 c.if-not-is_framed.false in
     let fine : WellFormed (tables_in c.args.bytes.now) = rw held at (c.in_ok-is_well_formed.ensures.answer.0 c.if-not-branch.false) in
     rw (c.in_ok-map.ensures.tables, held) (map_of c.args.bytes.now (λ k. search (rules, c.type_inv.bytes k)) framed fine)
+
+pub to_map-requires : goal.to_map-requires
+to_map-requires c = c.in_ok-is_well_formed.ensures.answer.0 c.if-not-branch.false

@@ -18,3 +18,12 @@ returns-clause-length c =
     let p = project_of c.args.self.now in
     let all : take c.loop-n.n p.maps ≡ p.maps = take_all c.loop-n.n p.maps (omega (arith, c.len-n-end.ensures.value)) in
     omega (arith, ap length (c.loop-n.invariant ∙ ap (λ ms. 2 ∷ p.current ∷ flat_map part ms) all), parts_size p.maps c.head.ensures.well_formed.maps)
+
+pub returns-clause-bytes : goal.returns-clause-bytes
+returns-clause-bytes c =
+    let p = project_of c.args.self.now in
+    let all : take c.loop-n.n p.maps ≡ p.maps = take_all c.loop-n.n p.maps (omega (arith, c.len-n-end.ensures.value)) in
+    c.loop-n.invariant ∙ ap (λ ms. 2 ∷ p.current ∷ flat_map part ms) all
+
+pub returns-clause-well_formed : goal.returns-clause-well_formed
+returns-clause-well_formed c = c.head.ensures.well_formed

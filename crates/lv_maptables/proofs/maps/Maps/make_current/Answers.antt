@@ -32,3 +32,16 @@ returns c =
     let all = chosen a.others.items items' a.number c.args.n a.map x c.self.invariant.number (omega (arith, count, within)) (c.remove.ensures.items ∙ ap (λ (l : List MapView). remove l c.args.n) whole) (rw whole at c.remove.ensures.value) in
     let is : project_of (maps_view (record { map = x; number = c.args.n; others = c.remove.new.self })) ≡ record { maps = (project_of (maps_view a)).maps; current = c.args.n } = λ i. record { maps = all.0 i; current = all.1 i } in
     subst (λ (v : MapsView). project_of (maps_view (record { map = x; number = c.args.n; others = c.remove.new.self })) ≡ record { maps = (project_of v).maps; current = c.args.n }) c.self.view_is is
+
+pub insert-requires : goal.insert-requires
+insert-requires c =
+    let a = c.self.inside in
+    let count = maps_count a.others.items a.number a.map c.self.invariant.number in
+    (omega arith, (c.self.invariant.number, omega (arith, count, c.self.invariant.project.count)))
+
+pub remove-requires : goal.remove-requires
+remove-requires c =
+    let a = c.self.inside in
+    let count = maps_count a.others.items a.number a.map c.self.invariant.number in
+    let within : c.args.n < length (project_of (maps_view a)).maps = subst (λ (v : MapsView). c.args.n < length (project_of v).maps) (sym c.self.view_is) c.requires in
+    omega (arith, count, within, c.insert.ensures.len)

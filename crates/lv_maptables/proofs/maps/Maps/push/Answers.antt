@@ -6,7 +6,7 @@ use Rattle.lv_maptables.specs.WellFormed.{WellFormed}
 use Rattle.lv_maptables.specs.Projects.{MapsView, project_of, tables_of_each, has_map, map_limit}
 use Rattle.lv_maptables.specs.ProjectBody.{with_last}
 use Rattle.lv_maptables.specs.MapsFields.{maps_view}
-use Rattle.lv_maptables.proofs.ProjectLemmas.{added, added_keeps}
+use Rattle.lv_maptables.proofs.ProjectLemmas.{added, added_keeps, maps_count}
 use Rattle.lv_maptables.proofs.maps.Maps.push.Goals as goal
 
 pub invariant_of-self : goal.invariant_of-self
@@ -48,3 +48,10 @@ returns-clause-well_formed c =
     (ap (λ (m : MapView). m.tables.name) made) (subst (λ (m : MapView). WellFormed m.tables) (sym made) c.requires.well_formed)
     (subst (λ (v : MapsView). has_map (project_of v) c.args.map.tables.name ≡ false) (sym c.self.view_is) c.requires.new)
     (subst (λ (v : MapsView). length (project_of v).maps < map_limit) (sym c.self.view_is) c.requires.room) c.self.invariant.project
+
+pub insert-requires : goal.insert-requires
+insert-requires c =
+    let a = c.self.inside in
+    let count = maps_count a.others.items a.number a.map c.self.invariant.number in
+    let room : length (project_of (maps_view a)).maps < map_limit = subst (λ (v : MapsView). length (project_of v).maps < map_limit) (sym c.self.view_is) c.requires.room in
+    (omega arith, (c.self.invariant.number, omega (arith, count, room)))

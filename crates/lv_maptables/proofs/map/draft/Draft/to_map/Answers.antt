@@ -5,7 +5,7 @@ use Rattle.lv_maptables.specs.WellFormed.{WellFormed}
 use Rattle.lv_maptables.specs.DraftFields.{drafted}
 use Rattle.lv_maptables.specs.Keyed.{side_of}
 use Rattle.lv_maptables.proofs.KeyedLemmas.{found_from}
-use Rattle.lv_maptables.proofs.map.draft.Draft.into_map.Goals as goal
+use Rattle.lv_maptables.proofs.map.draft.Draft.to_map.Goals as goal
 
 pub keyed_lines-requires-clause-found : goal.keyed_lines-requires-clause-found
 keyed_lines-requires-clause-found c = λ k d h.
