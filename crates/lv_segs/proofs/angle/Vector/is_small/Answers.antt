@@ -11,8 +11,7 @@ returns-then-is_small c =
     let fx : FitsSigned w128 c.args.self.x = search rules in
     let fy : FitsSigned w128 c.args.self.y = search rules in
     let x = to_z-of_z w128 c.args.self.x fx in
-    let y = to_z-of_z w128 c.args.self.y fy in
-    (
+    let y = to_z-of_z w128 c.args.self.y fy in (
       λ t. (subst IsSmall x (c.is_small.ensures.0 c.if-is_small.true), subst IsSmall y (c.is_small-then-is_small.ensures.0 t)),
       λ s. c.is_small-then-is_small.ensures.1 (subst IsSmall (sym y) s.1),
     )
