@@ -1,6 +1,7 @@
 -- The best candidate so far, with one more piece looked at.
 use Rattle.std.proofs.Common.{◌≡◌, refl, sym, ap, ◌∙◌, subst, ℕ, zero, suc, ◌+◌, ◌*◌, ◌-◌, ◌^◌, ◌<◌, ◌≤◌, ◌⊎◌, inl, inr, ⊎_elim, Bool, true, false, cond, List, [], ◌∷◌, length, get_or, Option, Some, None, arith, slice_get, All}
 use Rattle.std.proofs.lemmas.Bool.{cases_lt}
+use Rattle.std.proofs.lemmas.Option.{slice_get_within}
 use Rattle.std.proofs.lemmas.List.Sums.{count_by-le-length}
 use Rattle.std.specs.Prelude.{count_by, nat_eq, nat_le, ◌||◌, MatchOption}
 use Rattle.std.proofs.lemmas.Bool.Decides.{nat_tests}
@@ -133,3 +134,15 @@ earlier_found lines ps used n p k d each known h w free along =
     let at = stands_at ps k d (omega arith) in
     let within = (All-at (IsPiece lines) ps k (get_or ps k d) each at).line_in in
     record { place = k; piece = get_or ps k d; before = h; stands = at; free = stands_at used (get_or ps k d).line false (omega arith) ∙ ap Some free; along = along }
+
+-- ---- reads by number
+pub line_known : (lines : List Edge) (used : List Bool) (p : Piece) → IsPiece lines p → length used ≡ length lines → p.line < length used
+line_known lines used p h e = let l = h.line_in in omega arith
+
+pub before_within : (ps : List Piece) (i n : ℕ) (p : Piece) → i < n → slice_get ps n ≡ Some p → i < length ps
+before_within ps i n p h e = let w = slice_get_within ps n p e in omega arith
+
+-- a piece of a used line is no candidate
+pub used_stays : (lines : List Edge) (ps : List Piece) (used : List Bool) (n : ℕ) (p : Piece) → slice_get ps n ≡ Some p → (best : Option Choice) → length ps < 2 ^ 32 → p.line < length used → get_or used p.line false ≡ true → SoFar lines ps used n best → SoFar lines ps used (n + 1) best
+used_stays lines ps used n p stands best few within flag so_far =
+    stays lines ps used n p stands best few so_far (λ h. let e = stands_at used p.line false within ∙ ap Some flag in let f = h.0 in cc)

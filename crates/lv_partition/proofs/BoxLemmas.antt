@@ -2,7 +2,7 @@
 use Rattle.std.proofs.Common.{◌≡◌, sym, ap, ◌∙◌, subst, ℕ, zero, suc, ◌+◌, ◌*◌, ◌-◌, ◌<◌, ◌≤◌, ⊎_elim, min, List, [], ◌∷◌, ◌++◌, length, take, drop, get_or, Some, arith, All, slice_get}
 use Rattle.std.proofs.lemmas.Bool.{cases_lt}
 use Rattle.std.proofs.lemmas.List.{take_all, length-drop, length-map, take-map, drop-map}
-use Rattle.std.proofs.lemmas.List.Elements.{All-nil, All-cons, All-head, All-tail}
+use Rattle.std.proofs.lemmas.List.Elements.{All-nil, All-cons, All-head, All-tail, All-get_or}
 use Rattle.std.specs.Prelude.{pos}
 use Rattle.lv_lumps.specs.declared.records.Bounds.{Bounds}
 use Rattle.lv_lumps.specs.declared.records.Vertex.{Vertex}
@@ -13,7 +13,9 @@ use Rattle.lv_segs.specs.declared.frac.Frac.{Frac}
 use Rattle.lv_segs.specs.declared.piece.Piece.{Piece}
 use Rattle.lv_segs.specs.Boxes.{IsWellIn, HoldsPiece, box_of, boxes_of}
 use Rattle.lv_segs.proofs.Steps.{box_holds}
+use Rattle.lv_segs.specs.Pieces.{IsPiece}
 use Rattle.lv_partition.specs.Blocks.{AreBlocks, IsWithinBox}
+use Rattle.lv_partition.proofs.Best.{before_within}
 
 -- ---- a box within a box
 within_within : (a b c : Bounds) → IsWithinBox a b → IsWithinBox b c → IsWithinBox a c
@@ -101,6 +103,17 @@ no_box = record { top = pos 0; bottom = pos 0; left = pos 0; right = pos 0 }
 
 abbrev pub no_piece : Piece
 no_piece = let zero : Frac = record { n = pos 0; d = pos 0 } in record { line = 0; side = Along; from = zero; to = zero }
+
+-- a piece in front of another is one of the list
+pub piece_before : (lines : List Edge) (ps : List Piece) (i n : ℕ) (p : Piece) → i < n → slice_get ps n ≡ Some p → All (IsPiece lines) ps → IsPiece lines (get_or ps i no_piece)
+piece_before lines ps i n p h e all = All-get_or (IsPiece lines) ps i no_piece (before_within ps i n p h e) all
+
+-- a block begins in the list
+pub block_begins : (lines : List Edge) (ps : List Piece) (boxes blocks : List Bounds) (k : ℕ) → boxes ≡ boxes_of lines ps → AreBlocks boxes blocks → k < length blocks → 16 * k ≤ length ps
+block_begins lines ps boxes blocks k e a h =
+    let b = a.each_needed in
+    let l = ap length e ∙ length-map ps (box_of lines) in
+    omega arith
 
 module _ (lines : List Edge) where
   -- each piece lies in its own box

@@ -1,14 +1,18 @@
 -- What the blocks that lie whole on one side of a partition say of its cost.
-use Rattle.std.proofs.Common.{◌≡◌, refl, ap, ◌∙◌, subst, ℕ, zero, suc, ◌+◌, ◌*◌, ◌-◌, ◌≤◌, max, List, [], ◌∷◌, ◌++◌, length, take, drop, arith, All}
+use Rattle.std.proofs.Common.{◌≡◌, refl, ap, ◌∙◌, subst, ℕ, zero, suc, ◌+◌, ◌*◌, ◌-◌, ◌^◌, ◌<◌, ◌≤◌, max, List, [], ◌∷◌, ◌++◌, length, take, drop, arith, All}
+use Rattle.std.proofs.lemmas.List.{length-take, length-map, take_all}
 use Rattle.std.specs.Prelude.{pos, ◌<ℤ◌}
 use Rattle.lv_lumps.specs.declared.records.Bounds.{Bounds}
 use Rattle.lv_segs.specs.declared.edge.Edge.{Edge}
 use Rattle.lv_segs.specs.declared.piece.Piece.{Piece}
 use Rattle.lv_segs.specs.Pieces.{ray_of, IsPiece}
 use Rattle.lv_segs.specs.Tree.{cost}
-use Rattle.lv_segs.specs.Boxes.{least_value, greatest_value, HoldsPiece}
+use Rattle.lv_segs.specs.Boxes.{least_value, greatest_value, HoldsPiece, box_of, boxes_of}
 use Rattle.lv_segs.proofs.Stops.{rights, lefts, splits, rights_append, lefts_append, rights_near, lefts_near}
 use Rattle.lv_segs.proofs.BlockCounts.{block_right, block_left}
+use Rattle.lv_partition.specs.Blocks.{AreBlocks}
+use mir.Syntax.{w64}
+use mir.Val.{Fits}
 
 -- r of a list's pieces lie whole on the right, and l on the left
 pub record HasWhole (lines : List Edge) (p : Piece) (ps : List Piece) (r l : ℕ) : Type 0 where
@@ -83,3 +87,16 @@ module _ (lines : List Edge) (p : Piece) where
       let b = h.left in
       let w = h.within in
       record { right = omega arith; left = omega arith; within = omega arith }
+
+-- ---- the numbers of the code
+pub most_fits : (ps : List Piece) (n r l m : ℕ) → r + l ≤ length (take n ps) → length ps < 2 ^ 32 → m ≡ max r l → Fits w64 (2 * m)
+most_fits ps n r l m w f e = let t = length-take n ps in record { fits = omega arith }
+
+-- behind the last block all pieces are seen
+pub reached : (lines : List Edge) (p : Piece) (ps : List Piece) (blocks : List Bounds) (k r l m s limit : ℕ) → AreBlocks (boxes_of lines ps) blocks → length blocks ≤ k → HasWhole lines p (take (16 * k) ps) r l → m ≡ max r l → s ≡ 2 * m - length ps → limit ≤ s → limit ≤ cost lines p ps
+reached lines p ps blocks k r l m s limit a over w e f h =
+    let b = a.enough in
+    let n = length-map ps (box_of lines) in
+    let all = take_all (16 * k) ps (omega arith) in
+    let c = cost_of_whole lines p ps r l (subst (λ (qs : List Piece). HasWhole lines p qs r l) all w) in
+    omega arith

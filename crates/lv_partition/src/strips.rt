@@ -1,3 +1,4 @@
+//! An order of pieces by their places, in strips.
 ghost use Rattle.std.specs.Prelude.{IfOk, All};
 ghost use Rattle.std.specs.List.Sorted.{IsPermutation};
 ghost use Rattle.lv_segs.specs.Pieces.{IsPiece};
@@ -21,12 +22,13 @@ struct Strips {
 }
 
 impl Middle {
+    // No sum of two coordinates comes near to wrapping.
     fn of(edge: Edge) -> Middle {
-        let x = i32::from(edge.v1.x) + i32::from(edge.v2.x);
-        let y = i32::from(edge.v1.y) + i32::from(edge.v2.y);
+        let x = i32::from(edge.v1.x).wrapping_add(i32::from(edge.v2.x));
+        let y = i32::from(edge.v1.y).wrapping_add(i32::from(edge.v2.y));
         Middle {
-            x: (x + 65_536).unsigned_abs() / 2,
-            y: (y + 65_536).unsigned_abs() / 2,
+            x: x.wrapping_add(65_536).unsigned_abs() / 2,
+            y: y.wrapping_add(65_536).unsigned_abs() / 2,
         }
     }
 }

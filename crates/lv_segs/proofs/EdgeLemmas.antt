@@ -3,13 +3,17 @@ use Rattle.std.proofs.Common.{◌≡◌, ◌≢◌, refl, sym, ap, ◌∙◌, �
 use Rattle.std.specs.Prelude.{ℤ, pos, negsuc, ◌+ℤ◌, ◌-ℤ◌, ◌*ℤ◌, ◌<ℤ◌, unsigned_abs, AllPairs}
 use Rattle.std.proofs.lemmas.Int.{ints}
 use Rattle.std.proofs.lemmas.Bool.{cases_lt}
+use Rattle.std.proofs.lemmas.List.{length-map}
 use Rattle.std.proofs.lemmas.List.Elements.{All-map, All-get_or, All-nil, All-cons, All-head, All-tail}
 use Rattle.lv_lumps.specs.declared.records.Line.{Line}
 use Rattle.lv_lumps.specs.declared.records.Vertex.{Vertex}
 use Rattle.lv_lumps.specs.Drawing.{IsDrawable, squared_distance}
 use Rattle.lv_maptables.specs.Tables.{Tables}
 use Rattle.lv_maptables.specs.WellFormed.{WellFormed, HasEnds, nth_vertex}
+use Rattle.lv_segs.specs.declared.edge.Edge.{Edge}
+use Rattle.lv_segs.specs.declared.piece.Piece.{Piece}
 use Rattle.lv_segs.specs.Plane.{IsEdge}
+use Rattle.lv_segs.specs.Pieces.{IsPiece, edge_of, no_edge}
 use Rattle.lv_segs.specs.Edges.{edge_between, edges_of}
 use Rattle.lv_segs.proofs.Lengths.{square_not_negative}
 use Rattle.lv_lumps.proofs.Signs.{linear}
@@ -86,3 +90,10 @@ edges_are m h = All-map IsEdge (edge_between m.vertices) m.lines (each m.lines h
     each (l ∷ ls) a =
         All-cons (λ (l : Line). IsEdge (edge_between m.vertices l)) l ls (edge_is m h l (All-head (HasEnds m.vertices) l ls a))
         (each ls (All-tail (HasEnds m.vertices) l ls a))
+
+-- ---- the line of a piece
+pub edge_drawn : (lines : List Edge) (p : Piece) → All IsEdge lines → IsPiece lines p → IsEdge (edge_of lines p)
+edge_drawn lines p all h = All-get_or IsEdge lines p.line no_edge h.line_in all
+
+pub line_in_map : (m : Tables) (p : Piece) → IsPiece (edges_of m) p → p.line < length m.lines
+line_in_map m p h = let l = h.line_in in let e = length-map m.lines (edge_between m.vertices) in omega arith

@@ -1,5 +1,6 @@
 -- What reading an item of a list by its number gives, and the items before it.
-use Rattle.std.proofs.Common.{◌≡◌, ◌≢◌, ℕ, zero, suc, ◌<◌, List, [], ◌∷◌, ◌++◌, length, map, take, Option, Some, IfSome, refl, sym, ap, ◌∙◌, subst, arith}
+use Rattle.std.proofs.Common.{◌≡◌, ◌≢◌, ℕ, zero, suc, ◌+◌, ◌<◌, ◌≤◌, List, [], ◌∷◌, ◌++◌, length, map, take, drop, get_or, append_assoc, Option, Some, IfSome, refl, sym, ap, ◌∙◌, subst, arith}
+use Rattle.std.proofs.lemmas.List.{append-nil, at_drop_more, at_drop_all}
 use Rattle.std.specs.Prelude.{AllPairs}
 use Rattle.std.specs.Bool.{⊤}
 use Rattle.std.specs.List.{slice_get}
@@ -37,6 +38,13 @@ is_before (y ∷ xs) (suc n) (suc k) x e = let h = is_before xs n k x e in let l
 pub one_place : {A : Type 0} (xs : List A) → AllPairs (λ x y. x ≢ y) xs → (i j : ℕ) (x : A) → i < j → slice_get xs i ≡ Some x → slice_get xs j ≡ Some x → ⊥
 one_place xs all i j x l a b =
     all i j x l (slice_get_within xs j x b) (get_or_from_slice_get xs i x x a ∙ sym (get_or_from_slice_get xs j x x b))
+
+-- what is made of the first items, and of the others, is made of all
+pub map_more : {A B : Type 0} (f : A → B) (xs : List A) (ys : List B) (n : ℕ) (d : A) → n < length xs → ys ++ map f (drop n xs) ≡ map f xs → (ys ++ f (get_or xs n d) ∷ []) ++ map f (drop (n + 1) xs) ≡ map f xs
+map_more f xs ys n d h e = append_assoc ys (f (get_or xs n d) ∷ []) (map f (drop (n + 1) xs)) ∙ ap (λ zs. ys ++ zs) (sym (at_drop_more (map f) xs n d h)) ∙ e
+
+pub map_all : {A B : Type 0} (f : A → B) (xs : List A) (ys : List B) (n : ℕ) → length xs ≤ n → ys ++ map f (drop n xs) ≡ map f xs → ys ≡ map f xs
+map_all f xs ys n h e = sym (append-nil ys) ∙ ap (λ zs. ys ++ zs) (sym (at_drop_all (map f) xs n h)) ∙ e
 
 pub mapped_at : {A B : Type 0} (f : A → B) (xs : List A) (n : ℕ) (x : A) → slice_get xs n ≡ Some x → slice_get (map f xs) n ≡ Some (f x)
 mapped_at f [] n x e = cc

@@ -23,3 +23,5 @@ pub mod EdgeLemmas
 pub mod ItemReads
 pub mod Known
 pub mod Shifts
+pub mod Shares
+pub mod Coordinates

@@ -1,5 +1,5 @@
 -- What a ray makes of a piece of a line: the same as `parts_of`, by the ray and the line alone.
-use Rattle.std.specs.Prelude.{Bool, true, false, if◌then◌else◌, pos, ◌≤ℤ◌, int_lt, Option, Some, None}
+use Rattle.std.specs.Prelude.{Bool, true, false, if◌then◌else◌, ℤ, pos, neg_ℤ, ◌≤ℤ◌, int_lt, Option, Some, None}
 use Rattle.lv_lumps.specs.declared.plane.Ray.{Ray}
 use Rattle.lv_segs.specs.declared.edge.Edge.{Edge}
 use Rattle.lv_segs.specs.declared.frac.Frac.{Frac}
@@ -16,6 +16,16 @@ use Rattle.lv_segs.specs.Division.{place_by}
 pub record IsLineRay (r : Ray) : Type 0 where
   pub start : IsDrawable r.start
   pub short : dot r r ≤ℤ pos 1073676289
+
+-- the size of a side value: that of a place that can be drawn, by the ray of a line
+pub record IsSideValue (z : ℤ) : Type 0 where
+  pub low : neg_ℤ (pos 2147483648) ≤ℤ z
+  pub high : z ≤ℤ pos 2147483648
+
+-- a share of a fraction's denominator
+pub record IsShare (z : ℤ) : Type 0 where
+  pub low : pos 0 ≤ℤ z
+  pub high : z ≤ℤ pos 1073676289
 
 -- a piece's fractions are fractions, and rise
 pub record HasFractions (p : Piece) : Type 0 where

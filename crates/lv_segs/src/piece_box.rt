@@ -1,3 +1,4 @@
+//! The boxes of pieces.
 ghost use Rattle.std.specs.Prelude.{◌≡◌, pos, neg_ℤ, ◌≤ℤ◌, ◌+ℤ◌, ◌-ℤ◌, All, IfOk};
 ghost use Rattle.std.specs.Int.{int_min, int_max};
 ghost use Rattle.lv_lumps.specs.Drawing.{IsDrawable};
@@ -14,10 +15,8 @@ use std::alloc::{AllocError, Global};
 
 // One step above the greater of two coordinates.
 fn above(a: i16, b: i16) -> i16
-    requires a_low { neg_ℤ (pos 16384) ≤ℤ a }
-    requires a_high { a ≤ℤ pos 16383 }
-    requires b_low { neg_ℤ (pos 16384) ≤ℤ b }
-    requires b_high { b ≤ℤ pos 16383 }
+    requires a { a ≤ℤ pos 16383 }
+    requires b { b ≤ℤ pos 16383 }
     ensures { result ≡ int_max a b +ℤ pos 1 }
 {
     let greater = a.max(b);
@@ -26,10 +25,8 @@ fn above(a: i16, b: i16) -> i16
 
 // One step below the lesser of two coordinates.
 fn below(a: i16, b: i16) -> i16
-    requires a_low { neg_ℤ (pos 16384) ≤ℤ a }
-    requires a_high { a ≤ℤ pos 16383 }
-    requires b_low { neg_ℤ (pos 16384) ≤ℤ b }
-    requires b_high { b ≤ℤ pos 16383 }
+    requires a { neg_ℤ (pos 16384) ≤ℤ a }
+    requires b { neg_ℤ (pos 16384) ≤ℤ b }
     ensures { result ≡ int_min a b -ℤ pos 1 }
 {
     let lesser = a.min(b);

@@ -1,8 +1,9 @@
-ghost use Rattle.std.specs.Prelude.{◌≡◌, pos, neg_ℤ, ◌≤ℤ◌, ◌-ℤ◌};
+//! Values by the ray of a line: the side value of a place, where it is 0 on a way, and the inner product.
+ghost use Rattle.std.specs.Prelude.{◌≡◌, pos, neg_ℤ, ◌≤ℤ◌, ◌*ℤ◌};
 ghost use Rattle.lv_lumps.specs.Drawing.{IsDrawable};
 ghost use Rattle.lv_segs.specs.Plane.{vertex_value, ray, IsEdge, dot};
 ghost use Rattle.lv_segs.specs.Fractions.{zero_between};
-ghost use Rattle.lv_segs.specs.Local.{IsLineRay};
+ghost use Rattle.lv_segs.specs.Local.{IsLineRay, IsSideValue};
 
 use crate::edge::{Edge, Facing};
 use crate::frac::Frac;
@@ -33,10 +34,8 @@ pub fn value_at(ray: Ray, place: Vertex) -> i64
 
 // Where a value that goes evenly from one number to another is 0.
 pub(crate) fn zero_of(first: i64, last: i64) -> Frac
-    requires first_low { neg_ℤ (pos 2147483648) ≤ℤ first }
-    requires first_high { first ≤ℤ pos 2147483648 }
-    requires last_low { neg_ℤ (pos 2147483648) ≤ℤ last }
-    requires last_high { last ≤ℤ pos 2147483648 }
+    requires first { IsSideValue first }
+    requires last { IsSideValue last }
     ensures { result ≡ zero_between first last }
 {
     if first < last {
@@ -52,13 +51,20 @@ pub(crate) fn zero_of(first: i64, last: i64) -> Frac
     }
 }
 
+// The product of two numbers of vectors.
+fn times(a: i32, b: i32) -> i64
+    ensures { result ≡ a *ℤ b }
+{
+    product(a as i64, b as i64)
+}
+
 // The inner product of the vectors of two lines.
 pub(crate) fn dot_of(ray: Ray, other: Ray) -> i64
     requires ray { IsLineRay ray }
     requires other { IsLineRay other }
     ensures { result ≡ dot ray other }
 {
-    let across = product(ray.dx as i64, other.dx as i64);
-    let upward = product(ray.dy as i64, other.dy as i64);
+    let across = times(ray.dx, other.dx);
+    let upward = times(ray.dy, other.dy);
     across + upward
 }

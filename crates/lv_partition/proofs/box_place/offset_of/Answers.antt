@@ -1,56 +1,34 @@
-use Rattle.std.proofs.Common.{◌≡◌, ◌∙◌, ap, sym, subst, rules, arith}
-use Rattle.std.proofs.lemmas.Int.{ints}
-use Rattle.std.specs.Prelude.{ℤ, pos, neg_ℤ, ◌-ℤ◌, ◌*ℤ◌, ◌≤ℤ◌, FitsSigned}
-use Rattle.std.specs.Int.{w16}
-use Rattle.lv_lumps.proofs.Wide.{IsWithin, product_within}
-use Rattle.lv_segs.proofs.Bounds.{ray_dx, ray_dy}
-use Rattle.lv_partition.proofs.Casts.{from_32, from_16, sub_two}
+use Rattle.std.proofs.Common.{◌≡◌, ◌∙◌, ap, rules}
+use Rattle.std.proofs.lemmas.Int.{to_z-of_z}
+use Rattle.std.specs.Prelude.{ℤ, ◌-ℤ◌, ◌*ℤ◌, FitsSigned}
+use Rattle.std.specs.Int.{w16, w32}
+use Rattle.lv_partition.proofs.Casts.{Difference, sub_two}
 use Rattle.lv_partition.proofs.box_place.offset_of.Goals as goal
-use Rattle.lv_partition.proofs.box_place.offset_of.Goals.{After-product-upward}
+use Rattle.lv_partition.proofs.box_place.offset_of.Goals.{After-times-upward}
 
-record Facts (across upward a b c d : ℤ) : Type 0 where
-  across_is : across ≡ a *ℤ b
-  upward_is : upward ≡ c *ℤ d
-  across_in : IsWithin (pos 536854528) across
-  upward_in : IsWithin (pos 536854528) upward
-
-coordinate : (z : ℤ) → neg_ℤ (pos 16384) ≤ℤ z → z ≤ℤ pos 16383 → IsWithin (pos 16384) z
-coordinate z l h = record { low = l; high = omega (arith, ints) }
-
-facts : (c : After-product-upward) → Facts c.product-across.result c.product-upward.result c.args.ray.dy c.args.ray.start.x c.args.ray.dx c.args.ray.start.y
-facts c =
-    let r = c.args.ray in
-    let wy = ray_dy r c.requires in
-    let wx = ray_dx r c.requires in
-    let s = c.requires.start in
-    let fx : FitsSigned w16 r.start.x = search rules in
-    let fy : FitsSigned w16 r.start.y = search rules in
-    let a : c.product-across.result ≡ r.dy *ℤ r.start.x = simp (from_32 r.dy wy, from_16 r.start.x fx) at c.product-across.ensures in
-    let b : c.product-upward.result ≡ r.dx *ℤ r.start.y = simp (from_32 r.dx wx, from_16 r.start.y fy) at c.product-upward.ensures in
-    record {
-      across_is = a;
-      upward_is = b;
-      across_in = subst (IsWithin (pos 536854528)) (sym a) (product_within r.dy r.start.x (pos 32767) (pos 16384) (omega (arith, ints)) (omega (arith, ints)) wy (coordinate r.start.x s.x_low s.x_high));
-      upward_in = subst (IsWithin (pos 536854528)) (sym b) (product_within r.dx r.start.y (pos 32767) (pos 16384) (omega (arith, ints)) (omega (arith, ints)) wx (coordinate r.start.y s.y_low s.y_high));
-    }
+difference : (c : After-times-upward) → Difference c.times-across.result c.times-upward.result
+difference c =
+    let a = c.times-across.ensures in
+    let b = c.times-upward.ensures in
+    sub_two c.times-across.result c.times-upward.result (record { low = a.low; high = a.high }) (record { low = b.low; high = b.high })
 
 pub overflow_sub-result : goal.overflow_sub-result
-overflow_sub-result c = let f = facts (goal.at.overflow_sub-result c).After-product-upward in (sub_two c.product-across.result c.product-upward.result f.across_in f.upward_in).1
+overflow_sub-result c = (difference (goal.at.overflow_sub-result c).After-times-upward).fits
 
 pub returns-clause-value : goal.returns-clause-value
 returns-clause-value c =
-    let f = facts (goal.at.returns-clause-value c).After-product-upward in
-    (sub_two c.product-across.result c.product-upward.result f.across_in f.upward_in).0
-    ∙ ap (λ (x : ℤ). x -ℤ c.product-upward.result) f.across_is ∙ ap (λ (x : ℤ). c.args.ray.dy *ℤ c.args.ray.start.x -ℤ x) f.upward_is
+    let r = c.args.ray in
+    let fx : FitsSigned w32 r.dx = search rules in
+    let fy : FitsSigned w32 r.dy = search rules in
+    let sx : FitsSigned w16 r.start.x = search rules in
+    let sy : FitsSigned w16 r.start.y = search rules in
+    let a : c.times-across.result ≡ r.dy *ℤ r.start.x = simp (to_z-of_z w32 r.dy fy, to_z-of_z w16 r.start.x sx) at c.times-across.ensures.value in
+    let b : c.times-upward.result ≡ r.dx *ℤ r.start.y = simp (to_z-of_z w32 r.dx fx, to_z-of_z w16 r.start.y sy) at c.times-upward.ensures.value in
+    (difference (goal.at.returns-clause-value c).After-times-upward).is
+    ∙ ap (λ (x : ℤ). x -ℤ c.times-upward.result) a ∙ ap (λ (x : ℤ). r.dy *ℤ r.start.x -ℤ x) b
 
 pub returns-clause-low : goal.returns-clause-low
-returns-clause-low c =
-    let f = facts (goal.at.returns-clause-low c).After-product-upward in
-    let s = sub_two c.product-across.result c.product-upward.result f.across_in f.upward_in in
-    rw s.0 s.2.low
+returns-clause-low c = let d = difference (goal.at.returns-clause-low c).After-times-upward in rw d.is d.within.low
 
 pub returns-clause-high : goal.returns-clause-high
-returns-clause-high c =
-    let f = facts (goal.at.returns-clause-high c).After-product-upward in
-    let s = sub_two c.product-across.result c.product-upward.result f.across_in f.upward_in in
-    rw s.0 s.2.high
+returns-clause-high c = let d = difference (goal.at.returns-clause-high c).After-times-upward in rw d.is d.within.high

@@ -1,4 +1,4 @@
-use Rattle.std.proofs.Common.{◌<◌, ◌≤◌, ◌+◌, ◌∙◌, ap, sym, subst, length, ℕ, Some, false, arith}
+use Rattle.std.proofs.Common.{◌≤◌, ◌+◌, ◌∙◌, ap, sym, subst, ℕ, Some, false, arith}
 use Rattle.std.proofs.lemmas.Option.{slice_get_within}
 use Rattle.std.proofs.lemmas.List.Sorted.{length_permutation, All-permutation}
 use Rattle.std.specs.Prelude.{MatchOption}
@@ -6,7 +6,7 @@ use Rattle.lv_segs.specs.Pieces.{IsPiece}
 use Rattle.lv_segs.specs.Tree.{cost}
 use Rattle.lv_partition.specs.Counts.{AreCounts}
 use Rattle.lv_partition.specs.SoFar.{SoFar}
-use Rattle.lv_partition.proofs.Best.{stands_at, skips, taken}
+use Rattle.lv_partition.proofs.Best.{stands_at, skips, taken, line_known}
 use Rattle.lv_partition.proofs.Reordered.{reordered}
 use Rattle.lv_partition.proofs.choosing.consider_ordered.Goals as goal
 
@@ -28,7 +28,7 @@ returns c =
     let lines = c.args.lines.now in
     let p = c.args.piece.now in
     let ps = c.args.pieces.now in
-    let within : p.line < length c.args.used.now = let l = c.requires.piece.line_in in let k = c.requires.known in omega arith in
+    let within = line_known lines c.args.used.now p c.requires.piece c.requires.known in
     let free = stands_at c.args.used.now p.line false within ∙ ap Some c.if-used-piece.false in
     let o = c.count_by_boxes-counted.result in
     let e = reordered lines p ps c.args.ordered.now c.requires.ordered c.limit_of-limit.result o c.count_by_boxes-counted.ensures in

@@ -1,11 +1,15 @@
-use Rattle.std.proofs.Common.{◌≡◌, ◌+◌, ◌*◌, ◌-◌, ◌<◌, ◌≤◌, sym, subst, length, take, drop, min, get_or, arith, ℕ, List}
+use Rattle.std.proofs.Common.{◌≡◌, ◌+◌, ◌*◌, ◌-◌, ◌^◌, ◌<◌, ◌≤◌, sym, subst, length, take, drop, min, get_or, arith, ℕ, List}
 use Rattle.std.proofs.lemmas.List.{length-drop}
+use Rattle.std.proofs.lemmas.List.Elements.{All-take, All-drop}
+use mir.Syntax.{w64}
+use mir.Val.{Fits}
 use Rattle.lv_segs.specs.declared.piece.Piece.{Piece}
 use Rattle.lv_lumps.specs.declared.records.Bounds.{Bounds}
 use Rattle.lv_segs.specs.declared.edge.Edge.{Edge}
+use Rattle.lv_segs.specs.Pieces.{IsPiece}
 use Rattle.lv_segs.specs.Boxes.{HoldsPiece, boxes_of}
 use Rattle.lv_partition.specs.Blocks.{AreBlocks}
-use Rattle.lv_partition.proofs.BoxLemmas.{no_box, boxes_length, part_boxes, block_holds}
+use Rattle.lv_partition.proofs.BoxLemmas.{no_box, block_begins, part_boxes, block_holds}
 use Rattle.lv_segs.proofs.Stops.{Counted, cost_at_least}
 use Rattle.lv_partition.proofs.Best.{stands_at}
 use Rattle.lv_partition.proofs.BlockSteps.{part_length, shorter_front, AtMost, counts_at_most, block_taken}
@@ -18,7 +22,28 @@ record Ends (from m n : ℕ) : Type 0 where
   end : m ≡ min (from + 16) n
 
 ends : (lines : List Edge) (ps : List Piece) (boxes blocks : List Bounds) (k m : ℕ) → boxes ≡ boxes_of lines ps → AreBlocks boxes blocks → k < length blocks → m ≡ min (16 * k + 16) (length ps) → Ends (16 * k) m (length ps)
-ends lines ps boxes blocks k m e a h f = let b = a.each_needed in let l = boxes_length lines ps boxes e in record { within = omega arith; end = f }
+ends lines ps boxes blocks k m e a h f = record { within = block_begins lines ps boxes blocks k e a h; end = f }
+
+-- it doesn't end in front of its beginning, and has a place in memory
+rises : (from m n : ℕ) → Ends from m n → from ≤ m
+rises from m n e = let w = e.within in let f = e.end in omega arith
+
+fits : (from m n : ℕ) → Ends from m n → n < 2 ^ 32 → Fits w64 (from * 80)
+fits from m n e f = let w = e.within in record { fits = omega arith }
+
+pub offset_bounds-pieces-from : goal.offset_bounds-pieces-from
+offset_bounds-pieces-from c = fits (16 * c.loop-k.k) c.min-end.result (length c.args.pieces.now) (ends c.args.lines.now c.args.pieces.now c.args.boxes.now c.args.blocks.now c.loop-k.k c.min-end.result c.requires.boxes c.requires.blocks c.loop-k-test.true c.min-end.ensures) c.requires.few
+
+pub slice_bounds-block-count : goal.slice_bounds-block-count
+slice_bounds-block-count c = rises (16 * c.loop-k.k) c.min-end.result (length c.args.pieces.now) (ends c.args.lines.now c.args.pieces.now c.args.boxes.now c.args.blocks.now c.loop-k.k c.min-end.result c.requires.boxes c.requires.blocks c.loop-k-test.true c.min-end.ensures)
+
+pub slice_bounds-count_block-count : goal.slice_bounds-count_block-count
+slice_bounds-count_block-count c = rises (16 * c.loop-k.k) c.min-end.result (length c.args.pieces.now) (ends c.args.lines.now c.args.pieces.now c.args.boxes.now c.args.blocks.now c.loop-k.k c.min-end.result c.requires.boxes c.requires.blocks c.loop-k-test.true c.min-end.ensures)
+
+pub count_block-more-requires-clause-pieces : goal.count_block-more-requires-clause-pieces
+count_block-more-requires-clause-pieces c =
+    let from = 16 * c.loop-k.k in
+    All-take (IsPiece c.args.lines.now) (c.min-end.result - from) (drop from c.args.pieces.now) (All-drop (IsPiece c.args.lines.now) from c.args.pieces.now c.requires.pieces)
 
 pub count_block-more-requires-clause-boxes : goal.count_block-more-requires-clause-boxes
 count_block-more-requires-clause-boxes c = subst (λ (bs : List Bounds). take (c.min-end.result - 16 * c.loop-k.k) (drop (16 * c.loop-k.k) bs) ≡ boxes_of c.args.lines.now (take (c.min-end.result - 16 * c.loop-k.k) (drop (16 * c.loop-k.k) c.args.pieces.now))) (sym c.requires.boxes) (part_boxes c.args.lines.now c.args.pieces.now (c.min-end.result - 16 * c.loop-k.k) (16 * c.loop-k.k))
@@ -50,6 +75,16 @@ plus-counts-requires-clause-left c =
     let e = (ends c.args.lines.now c.args.pieces.now c.args.boxes.now c.args.blocks.now c.loop-k.k c.min-end.result c.requires.boxes c.requires.blocks c.loop-k-test.true c.min-end.ensures).within in
     let n = c.min-end.ensures in
     let i = c.loop-k.invariant.left in
+    let f = c.requires.few in
+    omega arith
+
+pub plus-counts-requires-clause-splits : goal.plus-counts-requires-clause-splits
+plus-counts-requires-clause-splits c =
+    let a = (goal.at.plus-counts-requires-clause-splits c).After-count_block-more in
+    let m = (most a).splits in
+    let e = (ends c.args.lines.now c.args.pieces.now c.args.boxes.now c.args.blocks.now c.loop-k.k c.min-end.result c.requires.boxes c.requires.blocks c.loop-k-test.true c.min-end.ensures).within in
+    let n = c.min-end.ensures in
+    let i = c.loop-k.invariant.splits in
     let f = c.requires.few in
     omega arith
 

@@ -34,6 +34,14 @@ plus-counts-requires-clause-left c =
     let t = c.loop-n-test.true in
     omega arith
 
+pub plus-counts-requires-clause-splits : goal.plus-counts-requires-clause-splits
+plus-counts-requires-clause-splits c =
+    let m = (one (goal.at.plus-counts-requires-clause-splits c).After-count_piece-more).splits in
+    let i = c.loop-n.invariant.splits in
+    let f = c.requires.few in
+    let t = c.loop-n-test.true in
+    omega arith
+
 step : (c : After-plus-counts) → Stepped c.args.lines.now c.args.partition.now c.args.pieces.now c.loop-n.n c.plus-counts.result
 step c =
     let i = c.loop-n.invariant in

@@ -8,8 +8,21 @@ use Rattle.lv_segs.specs.Plane.{vertex_value}
 use Rattle.lv_segs.specs.Fractions.{between, exact_value, crossing, zero_between, IsFraction}
 use Rattle.lv_segs.specs.Local.{place_on, cut_on, parts_at}
 use Rattle.lv_segs.proofs.LocalLemmas.{crossing_fraction}
+use Rattle.lv_segs.proofs.Shares.{side_value_back}
 use Rattle.lv_segs.proofs.dividing.divide_on.Goals as goal
 use Rattle.lv_segs.proofs.dividing.divide_on.Goals.{After-zero_of-at}
+
+pub value_between-from-requires-clause-first : goal.value_between-from-requires-clause-first
+value_between-from-requires-clause-first c = let v = c.value_at-first.ensures in side_value_back c.value_at-first.result v.low v.high
+
+pub value_between-from-requires-clause-last : goal.value_between-from-requires-clause-last
+value_between-from-requires-clause-last c = let v = c.value_at-last.ensures in side_value_back c.value_at-last.result v.low v.high
+
+pub zero_of-at-requires-clause-first : goal.zero_of-at-requires-clause-first
+zero_of-at-requires-clause-first c = let v = c.value_at-first.ensures in side_value_back c.value_at-first.result v.low v.high
+
+pub zero_of-at-requires-clause-last : goal.zero_of-at-requires-clause-last
+zero_of-at-requires-clause-last c = let v = c.value_at-last.ensures in side_value_back c.value_at-last.result v.low v.high
 
 record Facts (c : After-zero_of-at) : Type 0 where
   place : place_on c.args.ray c.args.edge c.args.piece.now ≡ Across

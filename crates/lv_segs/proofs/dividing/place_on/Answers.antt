@@ -5,7 +5,20 @@ use Rattle.std.specs.Int.{w64}
 use Rattle.lv_segs.specs.Plane.{ray, dot, vertex_value}
 use Rattle.lv_segs.specs.Fractions.{between, exact_value}
 use Rattle.lv_segs.specs.Division.{place_by}
+use Rattle.lv_segs.proofs.Shares.{side_value_back}
 use Rattle.lv_segs.proofs.dividing.place_on.Goals as goal
+
+pub value_between-from-requires-clause-first : goal.value_between-from-requires-clause-first
+value_between-from-requires-clause-first c = let v = c.value_at-first.ensures in side_value_back c.value_at-first.result v.low v.high
+
+pub value_between-from-requires-clause-last : goal.value_between-from-requires-clause-last
+value_between-from-requires-clause-last c = let v = c.value_at-last.ensures in side_value_back c.value_at-last.result v.low v.high
+
+pub value_between-to-requires-clause-first : goal.value_between-to-requires-clause-first
+value_between-to-requires-clause-first c = let v = c.value_at-first.ensures in side_value_back c.value_at-first.result v.low v.high
+
+pub value_between-to-requires-clause-last : goal.value_between-to-requires-clause-last
+value_between-to-requires-clause-last c = let v = c.value_at-last.ensures in side_value_back c.value_at-last.result v.low v.high
 
 pub returns : goal.returns
 returns c =

@@ -1,26 +1,23 @@
 use Rattle.std.proofs.Common.{◌≡◌, ap, ◌∙◌, arith}
 use Rattle.std.proofs.lemmas.Int.{ints, to_z-of_z, int_max_is}
-use Rattle.std.specs.Prelude.{ℤ, pos, neg_ℤ, ◌+ℤ◌, ◌≤ℤ◌, FitsSigned}
+use Rattle.std.specs.Prelude.{ℤ, pos, ◌+ℤ◌, ◌≤ℤ◌, FitsSigned}
 use Rattle.std.specs.Int.{w16, int_max}
 use mir.Val.{to_z, of_z}
 use Rattle.lv_segs.proofs.piece_box.above.Goals as goal
 use Rattle.lv_segs.proofs.piece_box.above.Goals.{After-max-greater}
 
 -- the greater one, which is in range
-greater_is : (c : After-max-greater) → (to_z w16 (of_z w16 c.max-greater.result) ≡ int_max c.args.a c.args.b) × (neg_ℤ (pos 16384) ≤ℤ int_max c.args.a c.args.b) × (int_max c.args.a c.args.b ≤ℤ pos 16383)
+greater_is : (c : After-max-greater) → (to_z w16 (of_z w16 c.max-greater.result) ≡ int_max c.args.a c.args.b) × FitsSigned w16 (int_max c.args.a c.args.b) × (int_max c.args.a c.args.b ≤ℤ pos 16383)
 greater_is c =
-    let al = c.requires.a_low in
-    let ah = c.requires.a_high in
-    let bl = c.requires.b_low in
-    let bh = c.requires.b_high in
-    let fa : FitsSigned w16 c.args.a = omega (arith, ints) in
-    let fb : FitsSigned w16 c.args.b = omega (arith, ints) in
+    let ra = c.requires.a in
+    let rb = c.requires.b in
+    let fa = c.ranges.a in
+    let fb = c.ranges.b in
     let e = rw (to_z-of_z w16 c.args.a fa, to_z-of_z w16 c.args.b fb) at c.max-greater.ensures.value in
     let is = int_max_is c.args.a c.args.b in
-    let low : neg_ℤ (pos 16384) ≤ℤ int_max c.args.a c.args.b = omega (arith, ints) in
-    let high : int_max c.args.a c.args.b ≤ℤ pos 16383 = omega (arith, ints) in
+    let limit : int_max c.args.a c.args.b ≤ℤ pos 16383 = omega (arith, ints) in
     let f : FitsSigned w16 (int_max c.args.a c.args.b) = omega (arith, ints) in
-    (ap (λ (z : ℤ). to_z w16 (of_z w16 z)) e ∙ to_z-of_z w16 (int_max c.args.a c.args.b) f, low, high)
+    (ap (λ (z : ℤ). to_z w16 (of_z w16 z)) e ∙ to_z-of_z w16 (int_max c.args.a c.args.b) f, f, limit)
 
 pub overflow_add-result : goal.overflow_add-result
 overflow_add-result c = let g = greater_is (goal.at.overflow_add-result c).After-max-greater in let e = g.0 in let l = g.1 in let h = g.2 in omega (arith, ints)

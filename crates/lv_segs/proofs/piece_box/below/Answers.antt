@@ -7,20 +7,17 @@ use Rattle.lv_segs.proofs.piece_box.below.Goals as goal
 use Rattle.lv_segs.proofs.piece_box.below.Goals.{After-min-lesser}
 
 -- the lesser one, which is in range
-lesser_is : (c : After-min-lesser) → (to_z w16 (of_z w16 c.min-lesser.result) ≡ int_min c.args.a c.args.b) × (neg_ℤ (pos 16384) ≤ℤ int_min c.args.a c.args.b) × (int_min c.args.a c.args.b ≤ℤ pos 16383)
+lesser_is : (c : After-min-lesser) → (to_z w16 (of_z w16 c.min-lesser.result) ≡ int_min c.args.a c.args.b) × FitsSigned w16 (int_min c.args.a c.args.b) × (neg_ℤ (pos 16384) ≤ℤ int_min c.args.a c.args.b)
 lesser_is c =
-    let al = c.requires.a_low in
-    let ah = c.requires.a_high in
-    let bl = c.requires.b_low in
-    let bh = c.requires.b_high in
-    let fa : FitsSigned w16 c.args.a = omega (arith, ints) in
-    let fb : FitsSigned w16 c.args.b = omega (arith, ints) in
+    let ra = c.requires.a in
+    let rb = c.requires.b in
+    let fa = c.ranges.a in
+    let fb = c.ranges.b in
     let e = rw (to_z-of_z w16 c.args.a fa, to_z-of_z w16 c.args.b fb) at c.min-lesser.ensures.value in
     let is = int_min_is c.args.a c.args.b in
-    let low : neg_ℤ (pos 16384) ≤ℤ int_min c.args.a c.args.b = omega (arith, ints) in
-    let high : int_min c.args.a c.args.b ≤ℤ pos 16383 = omega (arith, ints) in
+    let limit : neg_ℤ (pos 16384) ≤ℤ int_min c.args.a c.args.b = omega (arith, ints) in
     let f : FitsSigned w16 (int_min c.args.a c.args.b) = omega (arith, ints) in
-    (ap (λ (z : ℤ). to_z w16 (of_z w16 z)) e ∙ to_z-of_z w16 (int_min c.args.a c.args.b) f, low, high)
+    (ap (λ (z : ℤ). to_z w16 (of_z w16 z)) e ∙ to_z-of_z w16 (int_min c.args.a c.args.b) f, f, limit)
 
 pub overflow_sub-result : goal.overflow_sub-result
 overflow_sub-result c = let g = lesser_is (goal.at.overflow_sub-result c).After-min-lesser in let e = g.0 in let l = g.1 in let h = g.2 in omega (arith, ints)

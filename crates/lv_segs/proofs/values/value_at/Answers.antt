@@ -1,10 +1,9 @@
-use Rattle.std.proofs.Common.{◌≡◌, ◌∙◌, ap, rules, arith}
-use Rattle.std.proofs.lemmas.Int.{ints}
-use Rattle.std.specs.Prelude.{FitsSigned}
-use Rattle.std.specs.Int.{w64}
+use Rattle.std.proofs.Common.{◌≡◌, sym, ap, ◌∙◌, subst}
 use Rattle.lv_lumps.specs.Plane.{side_value}
 use Rattle.lv_segs.specs.Plane.{vertex_value}
+use Rattle.lv_segs.specs.Local.{IsSideValue}
 use Rattle.lv_segs.proofs.Bounds.{ray_step, value_within}
+use Rattle.lv_segs.proofs.Shares.{side_back}
 use Rattle.lv_segs.proofs.values.value_at.Goals as goal
 use Rattle.lv_segs.proofs.values.value_at.Goals.{After-side_value}
 
@@ -12,24 +11,18 @@ pub side_value-requires : goal.side_value-requires
 side_value-requires c = ray_step c.args.ray c.requires.ray
 
 value_is : (c : After-side_value) → c.side_value.result ≡ vertex_value c.args.ray c.args.place
-value_is c =
-    let f : FitsSigned w64 c.side_value.result = search rules in
-    let e = c.side_value.ensures.value in
-    let p = c.from.ensures in
-    e ∙ ap (side_value c.args.ray) p
+value_is c = c.side_value.ensures.value ∙ ap (side_value c.args.ray) c.from.ensures
+
+is_side : (c : After-side_value) → IsSideValue c.side_value.result
+is_side c =
+    let w = value_within c.args.ray c.args.place c.requires.ray c.requires.place in
+    subst IsSideValue (sym (value_is c)) (record { low = w.low; high = w.high })
+
+pub returns-clause-value : goal.returns-clause-value
+returns-clause-value c = let a = (goal.at.returns-clause-value c).After-side_value in side_back c.side_value.result (is_side a) ∙ value_is a
 
 pub returns-clause-low : goal.returns-clause-low
-returns-clause-low c =
-    let a = (goal.at.returns-clause-low c).After-side_value in
-    let f : FitsSigned w64 c.side_value.result = search rules in
-    let v = value_is a in
-    let w = (value_within c.args.ray c.args.place c.requires.ray c.requires.place).low in
-    omega (arith, ints)
+returns-clause-low c = let s = is_side (goal.at.returns-clause-low c).After-side_value in rw (side_back c.side_value.result s) s.low
 
 pub returns-clause-high : goal.returns-clause-high
-returns-clause-high c =
-    let a = (goal.at.returns-clause-high c).After-side_value in
-    let f : FitsSigned w64 c.side_value.result = search rules in
-    let v = value_is a in
-    let w = (value_within c.args.ray c.args.place c.requires.ray c.requires.place).high in
-    omega (arith, ints)
+returns-clause-high c = let s = is_side (goal.at.returns-clause-high c).After-side_value in rw (side_back c.side_value.result s) s.high

@@ -34,3 +34,15 @@ loop-shift-preserved c =
       in_range = omega arith;
       least = below_more (λ k. IsSmall (int_shr c.args.self.x k) → IsSmall (int_shr c.args.self.y k) → ⊥) c.loop-shift.shift c.loop-shift.invariant.least (not_there c);
     }
+
+pub returns : goal.returns
+returns c =
+    let small = c.is_small.ensures.0 c.loop-shift-test.false in
+    record {
+      shift = c.loop-shift.shift;
+      x_is = c.shifted-2.ensures.x;
+      y_is = c.shifted-2.ensures.y;
+      x_small = subst IsSmall (c.shifted.ensures.x ∙ sym c.shifted-2.ensures.x) small.0;
+      y_small = subst IsSmall (c.shifted.ensures.y ∙ sym c.shifted-2.ensures.y) small.1;
+      least = c.loop-shift.invariant.least;
+    }
