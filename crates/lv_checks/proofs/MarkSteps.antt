@@ -1,9 +1,9 @@
 -- Marks of the items that are used, as one user more is read.
-use Rattle.std.proofs.Common.{◌≡◌, ℕ, zero, suc, not, ◌+◌, ◌<◌, Bool, true, false, eqb, cond, ◌||◌, List, [], ◌∷◌, ◌++◌, length, get_or, set, take, filter, zero-add, Some, refl, sym, ap, ◌∙◌, ⊎_elim, arith}
+use Rattle.std.proofs.Common.{◌≡◌, ℕ, zero, suc, not, ◌+◌, ◌<◌, Bool, true, false, eqb, cond, ◌||◌, List, [], ◌∷◌, ◌++◌, length, get_or, set, take, map, filter, zero-add, append_assoc, Some, refl, sym, ap, ◌∙◌, ⊎_elim, arith}
 use Rattle.std.specs.List.{list_any, slice_get, range_with_len}
 use Rattle.std.proofs.lemmas.List.FromFn.{filter_of_map_range_with_len_more}
 use Rattle.std.proofs.lemmas.Bool.{cases_eq, eq-eqb, ne_eqb}
-use Rattle.std.proofs.lemmas.List.{map-id, length-set, get_or-set_same, get_or-set_other}
+use Rattle.std.proofs.lemmas.List.{map-append, map-id, length-set, get_or-set_same, get_or-set_other}
 use Rattle.std.proofs.lemmas.List.Folds.{list_any_more}
 use Rattle.std.proofs.lemmas.Option.{slice_get_within, get_or_from_slice_get}
 use Rattle.lv_checks.specs.Unused.{unused}
@@ -61,6 +61,17 @@ module _ {X Y : Type 0} (uses : ℕ → Y → Bool) (items : List X) (users : Li
 -- the numbers up to n that pass a test
 pub filter_range_more : (p : ℕ → Bool) (n : ℕ) → filter p (range_with_len 0 (n + 1)) ≡ filter p (range_with_len 0 n) ++ cond (p n) (n ∷ []) []
 filter_range_more p n = sym (ap (filter p) (map-id _)) ∙ filter_of_map_range_with_len_more p (λ x. x) 0 n n (zero-add n) ∙ ap (λ l. filter p l ++ cond (p n) (n ∷ []) []) (map-id _)
+
+-- one item more without a mark, or with one
+pub marked_more : {Y : Type 0} (f : ℕ → Y) (p : ℕ → Bool) (n : ℕ) (init found : List Y) → found ≡ init ++ map f (filter p (range_with_len 0 n))
+    → (b : Bool) → p n ≡ b → found ++ map f (cond b (n ∷ []) []) ≡ init ++ map f (filter p (range_with_len 0 (n + 1)))
+marked_more f p n init found so_far b is =
+    ap (λ l. l ++ map f (cond b (n ∷ []) [])) so_far
+    ∙ append_assoc init (map f (filter p (range_with_len 0 n))) (map f (cond b (n ∷ []) []))
+    ∙ ap (λ l. init ++ l)
+    (sym
+    (ap (map f) (filter_range_more p n ∙ ap (λ t. filter p (range_with_len 0 n) ++ cond t (n ∷ []) []) is)
+    ∙ map-append f (filter p (range_with_len 0 n)) (cond b (n ∷ []) [])))
 
 filter-agree_on : (p q : ℕ → Bool) (a n : ℕ) → ((k : ℕ) → k < a + n → p k ≡ q k) → filter p (range_with_len a n) ≡ filter q (range_with_len a n)
 filter-agree_on p q a zero h = refl

@@ -4,10 +4,12 @@ use Rattle.std.specs.List.{list_any, range_with_len}
 use Rattle.std.specs.declared.cmp.Ordering.{Ordering}
 use Rattle.std.specs.Ordering.{nat_cmp, ordering_then}
 use Rattle.std.specs.BTreeMap.{BTreeMap, get}
+use Rattle.lv_maptables.specs.declared.kind.Kind.{Kind}
+use Rattle.lv_maptables.specs.declared.kind.Kind.TheVariants as kind
 use Rattle.lv_checks.specs.Corners.{Edge, leaves, reaches}
 use Rattle.lv_checks.specs.declared.corners.Degrees.{Degrees}
 use Rattle.lv_checks.specs.declared.finding.Finding.{Finding}
-use Rattle.lv_checks.specs.declared.finding.Finding.TheVariants.{SectorOpen}
+use Rattle.lv_checks.specs.declared.finding.Finding.TheVariants.{VertexUnused, SideUnused, SectorUnused, SectorOpen}
 
 -- corners in order: by sector, then by vertex
 abbrev pub corner_cmp : ℕ × ℕ → ℕ × ℕ → Ordering
@@ -74,3 +76,9 @@ pub record Marks {X Y : Type 0} (uses : ℕ → Y → Bool) (items : List X) (us
 -- the numbers of the items without a mark
 abbrev pub unmarked : List Bool → List ℕ
 unmarked marks = filter (λ n. not (get_or marks n false)) (range_with_len 0 (length marks))
+
+-- the finding that an item of a table is unused: of a vertex, of a side, and else of a sector
+abbrev pub unused_item : Kind → ℕ → Finding
+unused_item kind.Vertex n = VertexUnused n
+unused_item kind.Side n = SideUnused n
+unused_item _ n = SectorUnused n

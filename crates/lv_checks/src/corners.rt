@@ -1,3 +1,4 @@
+//! Where the sectors of a map aren't closed.
 ghost use Rattle.std.specs.Prelude.{◌≡◌, ◌<◌, [], ◌∷◌, ◌++◌, IfOk, OnOk};
 ghost use Rattle.std.specs.BTreeMap.{IsOrdered};
 ghost use Rattle.lv_maptables.specs.WellFormed.{WellFormed, HasSides};
@@ -13,7 +14,7 @@ use std::alloc::Global;
 use std::collections::BTreeMap;
 
 // How many edges of a sector leave a vertex, and how many reach it.
-#[derive(Clone, Copy, Debug, PartialEq, Eq)]
+#[derive(Clone, Copy)]
 struct Degrees {
     outgoing: u32,
     incoming: u32,

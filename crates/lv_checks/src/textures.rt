@@ -1,7 +1,8 @@
+//! The textures that the sides of a map miss.
 ghost use Rattle.std.specs.Prelude.{◌≡◌, ◌<◌, ◌++◌, ◌&&◌, not, length, true, OnOk, int_lt};
 ghost use Rattle.lv_lumps.specs.Sides.{has_left, is_two_sided};
 ghost use Rattle.lv_maptables.specs.WellFormed.{WellFormed, HasSides, HasSector};
-ghost use Rattle.lv_checks.specs.Textures.{is_missing, is_sky, upper_shows, lower_shows, side_in, sector_of, own_side, side_behind, misses_upper, misses_lower, misses, side_misses, line_misses};
+ghost use Rattle.lv_checks.specs.Textures.{is_missing, is_sky, upper_shows, side_in, sector_of, own_side, side_behind, misses_upper, misses_lower, misses, side_misses, line_misses};
 ghost use Rattle.lv_checks.specs.Findings.{missing_textures};
 
 use crate::error::CheckError;
@@ -66,13 +67,6 @@ fn upper_shows(near: &Sector, far: &Sector) -> bool
     far.ceiling < near.ceiling && !(is_sky(near) && is_sky(far))
 }
 
-// Whether the wall under the higher floor of `far` shows in `near`.
-fn lower_shows(near: &Sector, far: &Sector) -> bool
-    ensures { result ≡ lower_shows near.now far.now }
-{
-    near.floor < far.floor
-}
-
 // Whether the side `own` misses its upper texture before the side `behind`.
 fn misses_upper(map: &Map, own: u16, behind: u16) -> bool
     requires own { own < length map.now.tables.sides }
@@ -83,14 +77,13 @@ fn misses_upper(map: &Map, own: u16, behind: u16) -> bool
         && is_missing(&side_in(map, own).upper)
 }
 
-// Whether the side `own` misses its lower texture before the side `behind`.
+// Whether the side `own` misses its lower texture before the side `behind`, whose higher floor's wall shows.
 fn misses_lower(map: &Map, own: u16, behind: u16) -> bool
     requires own { own < length map.now.tables.sides }
     requires behind { behind < length map.now.tables.sides }
     ensures { result ≡ misses_lower map.now.tables own behind }
 {
-    lower_shows(&sector_of(map, own), &sector_of(map, behind))
-        && is_missing(&side_in(map, own).lower)
+    sector_of(map, own).floor < sector_of(map, behind).floor && is_missing(&side_in(map, own).lower)
 }
 
 // Whether one side of the line misses the texture.

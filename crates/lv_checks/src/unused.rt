@@ -1,7 +1,8 @@
-ghost use Rattle.std.specs.Prelude.{◌≡◌, ◌++◌, ◌<◌, ◌≤◌, ◌^◌, vec_len, length, IfOk, OnOk};
+//! The items of a map that nothing uses.
+ghost use Rattle.std.specs.Prelude.{◌≡◌, ◌++◌, ◌<◌, ◌≤◌, ◌^◌, vec_len, length, map, IfOk, OnOk};
 ghost use Rattle.lv_maptables.specs.Faults.{uses_vertex, uses_side, in_sector};
 ghost use Rattle.lv_checks.specs.Unused.{unused_vertices, unused_sides, unused_sectors};
-ghost use Rattle.lv_checks.specs.Tallies.{Marks, unmarked};
+ghost use Rattle.lv_checks.specs.Tallies.{Marks, unmarked, unused_item};
 
 use crate::error::CheckError;
 use crate::finding::Finding;
@@ -54,18 +55,29 @@ fn used_sectors(alloc: Global, map: &Map) -> Result<Vec<bool>, CheckError>
     Ok(used)
 }
 
-// The numbers of the items that aren't marked as used.
-fn unmarked(alloc: Global, used: &[bool]) -> Result<Vec<u32>, CheckError>
-    requires { length used.now < 2 ^ 32 }
-    ensures { IfOk result (λ numbers. numbers.items ≡ unmarked used.now) }
+// The finding that nothing uses an item of one of the three tables whose items need a use.
+fn unused_item(kind: Kind, n: u32) -> Finding
+    ensures { result ≡ unused_item kind n }
 {
-    let mut numbers = Vec::new(alloc);
+    match kind {
+        Kind::Vertex => Finding::VertexUnused(n),
+        Kind::Side => Finding::SideUnused(n),
+        _ => Finding::SectorUnused(n),
+    }
+}
+
+// Adds a finding for each item of a table that isn't marked as used.
+fn list_unmarked(kind: Kind, used: &[bool], found: &mut Vec<Finding>) -> Result<(), CheckError>
+    requires { length used.now < 2 ^ 32 }
+    ensures { OnOk result
+        (found.new.items ≡ found.old.items ++ map (unused_item kind) (unmarked used.now)) }
+{
     for (n, is_used) in used.iter().enumerate() {
         if !*is_used {
-            numbers.push(n as u32)?;
+            found.push(unused_item(kind, n as u32))?;
         }
     }
-    Ok(numbers)
+    Ok(())
 }
 
 /// Adds a finding for each vertex that no line has.
@@ -77,10 +89,7 @@ pub(crate) fn list_unused_vertices(
     ensures { OnOk result (found.new.items ≡ found.old.items ++ unused_vertices map.now.tables) }
 {
     let used = used_vertices(alloc, map)?;
-    let numbers = unmarked(alloc, &used)?;
-    for n in &numbers {
-        found.push(Finding::VertexUnused(*n))?;
-    }
+    list_unmarked(Kind::Vertex, &used, found)?;
     Ok(())
 }
 
@@ -93,10 +102,7 @@ pub(crate) fn list_unused_sides(
     ensures { OnOk result (found.new.items ≡ found.old.items ++ unused_sides map.now.tables) }
 {
     let used = used_sides(alloc, map)?;
-    let numbers = unmarked(alloc, &used)?;
-    for n in &numbers {
-        found.push(Finding::SideUnused(*n))?;
-    }
+    list_unmarked(Kind::Side, &used, found)?;
     Ok(())
 }
 
@@ -109,9 +115,6 @@ pub(crate) fn list_unused_sectors(
     ensures { OnOk result (found.new.items ≡ found.old.items ++ unused_sectors map.now.tables) }
 {
     let used = used_sectors(alloc, map)?;
-    let numbers = unmarked(alloc, &used)?;
-    for n in &numbers {
-        found.push(Finding::SectorUnused(*n))?;
-    }
+    list_unmarked(Kind::Sector, &used, found)?;
     Ok(())
 }

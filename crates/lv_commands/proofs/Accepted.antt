@@ -1,13 +1,11 @@
 -- The line of a command whose numbers and names are in range has no fault.
-use Rattle.std.proofs.Common.{◌≡◌, ℕ, suc, ◌≤◌, ◌<◌, Bool, true, false, cond, ◌&&◌, List, [], ◌∷◌, length, get_or, refl, ◌∙◌, ap, arith, nat_eq, nat_lt, ℤ, pos, negsuc, FitsSigned, Option, Some, None, lit≤}
+use Rattle.std.proofs.Common.{◌≡◌, ℕ, suc, ◌≤◌, ◌<◌, Bool, true, false, cond, ◌&&◌, List, [], ◌∷◌, length, get_or, refl, sym, ◌∙◌, ap, arith, nat_eq, nat_lt, ℤ, pos, negsuc, FitsSigned, Option, Some, None, lit≤}
 use Rattle.std.specs.Prelude.{◌||◌, ◌≤ℤ◌, IsTrue, bytes_eq, codes, decimal, int_le, nat_le, not}
 use Rattle.std.specs.Int.{w16}
 use Rattle.std.specs.Fmt.{signed_decimal}
 use Rattle.std.specs.List.{list_all}
-use Rattle.std.specs.Char.{is_ascii_digit}
 use Rattle.std.specs.Str.{all_ascii_digits}
-use Rattle.std.proofs.lemmas.Bool.{leb-true, lt-ltb}
-use Rattle.std.proofs.lemmas.Bool.Decides.{nat_tests}
+use Rattle.std.proofs.lemmas.Bool.{le-leb, leb-true, lt-ltb, ne_eqb}
 use Rattle.std.proofs.lemmas.Fmt.{first_decimal}
 use Rattle.std.proofs.lemmas.Int.{ints}
 use Rattle.lv_lumps.specs.declared.records.Name8.{Name8}
@@ -17,24 +15,21 @@ use Rattle.lv_lumps.specs.Sides.{no_side}
 use Rattle.lv_commands.specs.Spelling.{left_word}
 use Rattle.lv_commands.specs.Words.{is_natural, is_numeral, is_printable, is_word}
 use Rattle.lv_commands.specs.Places.{Place, Number, NumberOrNone, Named, first_of, place_fault, places_fault}
-use Rattle.lv_commands.proofs.Numerals.{IsPlain, both, between, decimal-plain, value-back}
-use Rattle.lv_commands.proofs.Padding.{marker-bytes}
+use Rattle.lv_commands.proofs.Numerals.{IsPlain, both, between, decimal-plain, digits-same, value-back}
+use Rattle.lv_commands.proofs.Padding.{marker-bytes, name-range}
 use Rattle.lv_commands.proofs.Readings.{number-alone}
 use Rattle.lv_commands.proofs.Wordings.{all-of, both-back}
 
 -- ---- Numerals
 
-plain-digit : (b : ℕ) → is_ascii_digit b ≡ true → is_digit b ≡ true
-plain-digit b e = grind (arith, nat_tests)
-
 plain-digits : (w : List ℕ) → all_ascii_digits w ≡ true → list_all is_digit w ≡ true
-plain-digits [] e = refl
-plain-digits (b ∷ bs) e =
-    let h = both (is_ascii_digit b) (all_ascii_digits bs) e in
-    both-back (is_digit b) (list_all is_digit bs) (plain-digit b h.0) (plain-digits bs h.1)
+plain-digits w e = sym (digits-same w) ∙ e
 
 nonzero : (b : ℕ) → is_digit b ≡ true → (b ≡ 48 → ⊥) → is_nonzero_digit b ≡ true
-nonzero b e ne = grind (arith, nat_tests)
+nonzero b e ne =
+    let h = both (nat_le 48 b) (nat_le b 57) e in
+    let least = leb-true 48 b h.0 in
+    both-back (nat_le 49 b) (nat_le b 57) (le-leb 49 b (omega (arith, least, ne))) h.1
 
 natural-form : (w : List ℕ) → IsPlain w → is_natural w ≡ true
 natural-form [] p = let h = p.some in absurd (omega arith)
@@ -43,16 +38,18 @@ natural-form (b ∷ c ∷ bs) p =
     let h = both (is_digit b) (list_all is_digit (c ∷ bs)) (plain-digits (b ∷ c ∷ bs) p.digits) in
     both-back (is_nonzero_digit b) (list_all is_digit (c ∷ bs)) (nonzero b h.0 (λ z. let l = p.front z in absurd (omega arith))) h.1
 
+no-minus : (b : ℕ) → 48 ≤ b → nat_eq b 45 ≡ false
+no-minus b low = ne_eqb b 45 (λ is. omega (arith, low, is))
+
 unsigned-form : (w : List ℕ) → IsPlain w → is_numeral w ≡ true
 unsigned-form [] p = let h = p.some in absurd (omega arith)
 unsigned-form (b ∷ bs) p =
-    let l : 48 ≤ b = p.low in
-    let other : nat_eq b 45 ≡ false = grind (arith, nat_tests) in
+    let other = no-minus b p.low in
     ap (λ t. cond t (is_natural bs && not (bytes_eq bs (codes "0"))) (is_natural (b ∷ bs))) other ∙ natural-form (b ∷ bs) p
 
 not-zero : (w : List ℕ) → 48 < get_or w 0 0 → bytes_eq w (codes "0") ≡ false
 not-zero [] h = refl
-not-zero (b ∷ bs) h = let other : nat_eq b 48 ≡ false = grind (arith, nat_tests) in ap (λ t. t && bytes_eq bs []) other
+not-zero (b ∷ bs) h = let other = ne_eqb b 48 (λ is. omega (arith, h, is)) in ap (λ t. t && bytes_eq bs []) other
 
 minus-form : (w : List ℕ) → IsPlain w → 48 < get_or w 0 0 → is_numeral (45 ∷ w) ≡ true
 minus-form w p h = both-back (is_natural w) (not (bytes_eq w (codes "0"))) (natural-form w p) (ap not (not-zero w h))
@@ -108,9 +105,7 @@ item-ok n last h l = number-ok (pos 0) (pos last) (pos n) (record { sfits = omeg
 pub no-dash : (w : List ℕ) → IsPlain w → bytes_eq w (codes "-") ≡ false
 no-dash [] p = refl
 no-dash (b ∷ bs) p =
-    let l : 48 ≤ b = p.low in
-    let other : nat_eq b 45 ≡ false = grind (arith, nat_tests) in
-    ap (λ t. t && bytes_eq bs []) other
+    ap (λ t. t && bytes_eq bs []) (no-minus b p.low)
 
 low-left : (a b : Bool) → a ≡ false → (b || a) ≡ true → b ≡ true
 low-left a true e f = refl
@@ -127,7 +122,9 @@ pub left-ok : (n : ℕ) → IsTrue (nat_le n 32766 || nat_eq n no_side) → Fits
 left-ok n h = record { none = left-if n (nat_eq n no_side) refl h }
 
 name-prints : (b : ℕ) → is_name_byte b ≡ true → is_printable b ≡ true
-name-prints b e = grind (arith, nat_tests)
+name-prints b e =
+    let range = name-range b e in
+    both-back (nat_le 33 b) (nat_le b 126) (le-leb 33 b (omega (arith, range.0))) (le-leb b 126 (omega (arith, range.1)))
 
 named : (test : List ℕ → Bool) (w : List ℕ) → is_word w ≡ true → test w ≡ true → Fits (Named test) w
 named test w e f = record { none = (λ i. cond {A = Option ℕ} (e i) (cond (test w) None (Some 15)) (Some 1)) ∙ (λ i. cond {A = Option ℕ} (f i) None (Some 15)) }

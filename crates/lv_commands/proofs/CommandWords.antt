@@ -1,7 +1,7 @@
 -- The words of each command in range are accepted.
 use Rattle.std.proofs.Common.{◌≡◌, ℕ, ◌≤◌, true, false, cond, ◌&&◌, length, refl, ◌∙◌, arith, nat_lt, ℤ, Option, Some, None, lit≤}
 use Rattle.std.specs.Prelude.{◌<ℤ◌, decimal, int_lt}
-use Rattle.std.proofs.lemmas.Bool.Decides.{nat_tests}
+use Rattle.std.proofs.lemmas.Bool.{le-ltb}
 use Rattle.std.proofs.lemmas.Int.{ints}
 use Rattle.lv_maptables.specs.declared.kind.Kind.{Kind}
 use Rattle.lv_maptables.specs.declared.kind.Kind.TheVariants as kind
@@ -130,7 +130,7 @@ parts-spelling (Room r) h = parts-join _ _ (texts (Room r) h)
 parts-spelling (Split s) h = parts-join _ _ (texts (Split s) h)
 
 short-enough : (n : ℕ) → n ≤ 256 → nat_lt 256 n ≡ false
-short-enough n h = grind (arith, nat_tests)
+short-enough n h = le-ltb 256 n h
 
 -- the line of a command in range has no fault
 pub spelling-accepted : (c : Command) → InRange c → fault_of (spelling c) ≡ None

@@ -1,8 +1,7 @@
 -- Cutting a line in two: nothing speaks against its halves.
 use Rattle.std.proofs.Common.{◌≡◌, ◌≢◌, ℕ, ◌+◌, ◌<◌, ◌≤◌, ◌⊎◌, inl, inr, Bool, true, false, cond, ◌&&◌, not, Result, Ok, Err, List, [], ◌∷◌, ◌++◌, length, None, Some, Option, refl, sym, subst, ◌∙◌, ap, arith, length-append, get_or, nat_eq, nat_lt}
 use Rattle.std.specs.Prelude.{◌||◌, IfSome, slice_get}
-use Rattle.std.proofs.lemmas.Bool.{both_ways, eq-eqb, eqb-true, false_from_ne_true, or_parts}
-use Rattle.std.proofs.lemmas.Bool.Decides.{nat_tests}
+use Rattle.std.proofs.lemmas.Bool.{both_ways, eq-eqb, eqb-true, false_from_ne_true, le-ltb, or_parts}
 use Rattle.std.proofs.lemmas.List.{length-set}
 use Rattle.std.proofs.lemmas.Option.{get_or_from_slice_get, slice_get_cases, slice_get_within}
 use Rattle.lv_lumps.specs.declared.records.Line.{Line}
@@ -130,7 +129,7 @@ with-line m s n l e at =
     sym (ap (λ (t : Bool). cond t (Some 6) (least (cut_faults m (line_at m.lines s.line) s.at))) there ∙ ap (λ (x : Line). least (cut_faults m x s.at)) is)
 
 lacks-past : {X : Type 0} (xs : List X) (n : ℕ) → length xs ≤ n → lacks xs n ≡ true
-lacks-past xs n h = grind (arith, nat_tests)
+lacks-past xs n h = ap not (le-ltb n (length xs) h)
 
 lacks-none : {X : Type 0} (xs : List X) (n : ℕ) → slice_get xs n ≡ None → lacks xs n ≡ true
 lacks-none {X = X} xs n e = at (slice_get_cases xs n).1

@@ -1,9 +1,8 @@
 -- Drawing a room: nothing speaks against its walls.
-use Rattle.std.proofs.Common.{◌≡◌, ◌≢◌, ℕ, ◌+◌, ◌*◌, ◌<◌, ◌≤◌, Bool, true, false, List, [], ◌∷◌, ◌++◌, length, drop, None, refl, sym, subst, ◌∙◌, ap, arith, append_assoc, length-append, length-drop, ℤ, pos, negsuc, nat_lt, nat_eq}
+use Rattle.std.proofs.Common.{◌≡◌, ◌≢◌, ℕ, ◌+◌, ◌*◌, ◌<◌, ◌≤◌, Bool, true, false, List, [], ◌∷◌, ◌++◌, length, drop, None, refl, sym, subst, ◌∙◌, ap, arith, append_assoc, length-append, length-drop, ℤ, pos, negsuc, nat_lt, nat_eq, not}
 use Rattle.std.specs.Prelude.{◌||◌, ◌-ℤ◌, unsigned_abs}
 use Rattle.std.proofs.Math.Nat.{mul-le-mul_left, mul-le-mul_right}
-use Rattle.std.proofs.lemmas.Bool.{false_from_ne_true}
-use Rattle.std.proofs.lemmas.Bool.Decides.{nat_tests}
+use Rattle.std.proofs.lemmas.Bool.{eqb-true, false_from_ne_true, le-ltb, lt-ltb}
 use Rattle.std.proofs.lemmas.Int.{ints}
 use Rattle.std.proofs.lemmas.List.{get_or-drop}
 use Rattle.lv_lumps.specs.declared.records.Line.{Line}
@@ -29,7 +28,7 @@ or-both true b e f = absurd cc
 or-both false b e f = f
 
 pub lacks-not : {X : Type 0} (xs : List X) (n : ℕ) → n < length xs → lacks xs n ≡ false
-lacks-not xs n h = grind (arith, nat_tests)
+lacks-not xs n h = ap not (lt-ltb n (length xs) h)
 
 within : (a b : ℤ) → IsCoordinate a → IsCoordinate b → unsigned_abs (b -ℤ a) ≤ 32767
 within (pos a) (pos b) f g = let h = f.at_most in let i = g.at_most in omega (arith, ints, h, i)
@@ -45,7 +44,7 @@ square : (n : ℕ) → n ≤ 32767 → n * n ≤ 1073676289
 square n h = let a = mul-le-mul_left n h in let b = mul-le-mul_right 32767 h in omega (arith, a, b)
 
 not-longer : (n : ℕ) → n ≤ longest_squared → nat_lt longest_squared n ≡ false
-not-longer n h = grind (arith, nat_tests)
+not-longer n h = le-ltb longest_squared n h
 
 -- two places at one height, or one above the other
 pub beside : (a b y : ℤ) → IsCoordinate a → IsCoordinate b → squared_distance (record { x = a; y = y }) (record { x = b; y = y }) ≤ longest_squared
@@ -70,10 +69,10 @@ wall_free m n ls l v1 v2 right e is s h =
     let far = s.short in
     let ends : (lacks n.vertices v1 || lacks n.vertices v2) ≡ false = ap (λ t. lacks t.vertices v1 || lacks t.vertices v2) e ∙ or-both (lacks m.vertices v1) (lacks m.vertices v2) (lacks-not m.vertices v1 from) (lacks-not m.vertices v2 to) in
     let sides : (lacks n.sides right || false) ≡ false = ap (λ t. lacks t.sides right || false) e ∙ or-both (lacks m.sides right) false (lacks-not m.sides right side) refl in
-    let differ : nat_eq v1 v2 ≡ false = false_from_ne_true (nat_eq v1 v2) (λ t. s.differ (grind (arith, nat_tests))) in
+    let differ : nat_eq v1 v2 ≡ false = false_from_ne_true (nat_eq v1 v2) (λ t. s.differ (eqb-true v1 v2 t)) in
     let long = length-append m.lines ls in
     let count : length n.lines ≡ length m.lines + length ls = ap (λ t. length t.lines) e ∙ long in
-    let room : lacks_room n.lines 1 ≡ false = grind (arith, nat_tests) in
+    let room : lacks_room n.lines 1 ≡ false = le-ltb 32767 (length n.lines + 1) (omega (arith, count, h)) in
     let short : nat_lt longest_squared (squared_distance (nth_vertex n.vertices v1) (nth_vertex n.vertices v2)) ≡ false = ap (λ t. nat_lt longest_squared (squared_distance (nth_vertex t.vertices v1) (nth_vertex t.vertices v2))) e ∙ not-longer (squared_distance (nth_vertex m.vertices v1) (nth_vertex m.vertices v2)) far in
     ap (λ k. least (line_faults n k)) is
     ∙ (λ i. least ((3, ends i) ∷ (5, sides i) ∷ (9, differ i) ∷ (11, false) ∷ (12, room i) ∷ (13, short i) ∷ []))

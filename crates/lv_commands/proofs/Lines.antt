@@ -3,7 +3,7 @@ use Rattle.std.proofs.Common.{◌≡◌, ℕ, Bool, true, false, cond, List, [],
 use Rattle.std.specs.Prelude.{IfOk}
 use Rattle.lv_commands.specs.declared.command.Command.{Command}
 use Rattle.std.specs.List.{join_with_byte}
-use Rattle.std.proofs.lemmas.Bool.Decides.{nat_tests}
+use Rattle.std.proofs.lemmas.Bool.{eqb-true}
 use Rattle.lv_commands.specs.Words.{parts, onto_first}
 use Rattle.lv_commands.specs.Spelling.{words_of, spelling}
 use Rattle.lv_commands.specs.CommandRanges.{InRange}
@@ -20,8 +20,7 @@ join-first b (w ∷ ws) e h = ap (λ x. x ∷ join_with_byte 32 (w ∷ ws)) (sym
 
 join-if : (b : ℕ) (bs : List ℕ) (t : Bool) → nat_eq b 32 ≡ t → join_with_byte 32 (parts bs) ≡ bs → join_with_byte 32 (cond t ([] ∷ parts bs) (onto_first b (parts bs))) ≡ b ∷ bs
 join-if b bs true s e =
-    let is : b ≡ 32 = grind (arith, nat_tests) in
-    join-first b (parts bs) is (parts-some bs) ∙ ap (λ xs. b ∷ xs) e
+    join-first b (parts bs) (eqb-true b 32 s) (parts-some bs) ∙ ap (λ xs. b ∷ xs) e
 join-if b bs false s e = join-onto b (parts bs) ∙ ap (λ xs. b ∷ xs) e
 
 pub join-parts : (line : List ℕ) → join_with_byte 32 (parts line) ≡ line

@@ -1,14 +1,13 @@
 -- A word that is a numeral, as `parse` reads it.
-use Rattle.std.proofs.Common.{◌≡◌, ℕ, suc, zero, ◌≤◌, ◌<◌, ◌^◌, Bool, true, false, cond, ◌&&◌, List, [], ◌∷◌, length, get_or, refl, sym, ◌∙◌, ap, arith, ℤ, pos, negsuc, nat_eq, FitsSigned, Option, Some, None, subst}
-use Rattle.std.specs.Prelude.{decimal, neg_ℤ, int_le, not, bytes_eq, codes}
+use Rattle.std.proofs.Common.{◌≡◌, ℕ, suc, zero, ◌≤◌, ◌<◌, ◌^◌, Bool, true, false, cond, ◌&&◌, List, [], ◌∷◌, length, get_or, refl, sym, ◌∙◌, ap, arith, ℤ, pos, negsuc, nat_eq, FitsSigned, Option, Some, None, subst, drop, lit<}
+use Rattle.std.specs.Prelude.{decimal, neg_ℤ, int_le, nat_le, not, bytes_eq, codes}
 use Rattle.std.specs.Int.{w16}
 use Rattle.std.specs.Fmt.{signed_decimal, digits}
 use Rattle.std.specs.List.{list_all}
-use Rattle.std.specs.Char.{is_ascii_digit}
 use Rattle.std.specs.Str.{all_ascii_digits, IsAscii, IsUtf8}
 use Rattle.std.specs.Str.Parse.{digits_value, IsNumeral, without_leading_sign}
 use Rattle.std.proofs.lemmas.Grind.{common_steps}
-use Rattle.std.proofs.lemmas.Bool.Decides.{nat_tests}
+use Rattle.std.proofs.lemmas.Bool.{and_from, eqb-true, le-leb, leb-true, ne_eqb}
 use Rattle.std.proofs.lemmas.Str.{IsUtf8-from_ascii}
 use Rattle.std.proofs.lemmas.Str.Parse.{IsNumeralModel, numerals_by_value, tells_all_ascii_digits}
 use Rattle.std.proofs.lemmas.Fmt.{decimal-digits_value, digits_decimal, digits_value-decimal, decimal_nonempty, first_decimal}
@@ -31,35 +30,61 @@ pub both : (a b : Bool) → (a && b) ≡ true → (a ≡ true) × (b ≡ true)
 both true b e = (refl, e)
 both false b e = absurd cc
 
-all-digits : (w : List ℕ) → list_all is_digit w ≡ true → all_ascii_digits w ≡ true
-all-digits [] e = refl
-all-digits (b ∷ bs) e = let h = both (is_digit b) (list_all is_digit bs) e in let r = all-digits bs h.1 in let d = h.0 in grind (arith, nat_tests)
+-- a digit is what `parse` takes for one
+pub digits-same : (w : List ℕ) → all_ascii_digits w ≡ list_all is_digit w
+digits-same [] = refl
+digits-same (b ∷ bs) = ap (λ t. is_digit b && t) (digits-same bs)
+
+pub digit-range : (b : ℕ) → is_digit b ≡ true → (48 ≤ b) × (b ≤ 57)
+digit-range b e = let h = both (nat_le 48 b) (nat_le b 57) e in (leb-true 48 b h.0, leb-true b 57 h.1)
 
 one-plain : (b : ℕ) → is_digit b ≡ true → IsPlain (b ∷ [])
-one-plain b e = record { digits = grind (arith, nat_tests); some = omega arith; front = λ h. refl; low = grind (arith, nat_tests); high = grind (arith, nat_tests) }
+one-plain b e =
+    let range = digit-range b e in
+    record { digits = and_from (is_digit b) true e refl; some = omega arith; front = λ h. refl; low = range.0; high = range.1 }
 
 more-plain : (b : ℕ) (bs : List ℕ) → is_nonzero_digit b ≡ true → all_ascii_digits bs ≡ true → IsPlain (b ∷ bs)
-more-plain b bs e r = record { digits = grind (arith, nat_tests); some = omega arith; front = λ (h : b ≡ 48). absurd (grind (arith, nat_tests)); low = grind (arith, nat_tests); high = grind (arith, nat_tests) }
+more-plain b bs e r =
+    let h = both (nat_le 49 b) (nat_le b 57) e in
+    let least = leb-true 49 b h.0 in
+    let low : 48 ≤ b = omega (arith, least) in
+    record {
+      digits = and_from (is_digit b) (all_ascii_digits bs) (and_from (nat_le 48 b) (nat_le b 57) (le-leb 48 b low) h.1) r;
+      some = omega arith;
+      front = λ (is : b ≡ 48). absurd (omega (arith, least, is));
+      low = low;
+      high = leb-true b 57 h.1;
+    }
 
 plain : (w : List ℕ) → is_natural w ≡ true → IsPlain w
 plain [] e = absurd cc
 plain (b ∷ []) e = one-plain b e
-plain (b ∷ c ∷ bs) e = more-plain b (c ∷ bs) (both _ _ e).0 (all-digits (c ∷ bs) (both _ _ e).1)
+plain (b ∷ c ∷ bs) e = more-plain b (c ∷ bs) (both _ _ e).0 (digits-same (c ∷ bs) ∙ (both _ _ e).1)
 
 -- a natural is what is written of its value
 natural-written : (w : List ℕ) → IsPlain w → digits_value 10 w < 2 ^ 64 → decimal (digits_value 10 w) ≡ w
 natural-written w p small = decimal-digits_value own w p.digits p.some p.front small
 
+-- a byte other than a digit isn't in front
+not-in_front : (w : List ℕ) → IsPlain w → (b : ℕ) → b < 48 → nat_eq (get_or w 0 0) b ≡ false
+not-in_front w p b h = let low = p.low in ne_eqb (get_or w 0 0) b (λ is. omega (arith, low, is))
+
 natural-sign : (w : List ℕ) → IsPlain w → without_leading_sign w ≡ w
-natural-sign w p = let l = p.low in let h = p.high in grind (arith, nat_tests)
+natural-sign w p =
+    let minus = not-in_front w p 45 (lit< tt) in
+    let plus = not-in_front w p 43 (lit< tt) in
+    λ i. cond (minus i) (drop 1 w) (drop (cond (plus i) 1 0) w)
 
 natural-value : (w : List ℕ) → IsPlain w → numeral_value w ≡ pos (digits_value 10 w)
-natural-value w p = let l = p.low in let h = p.high in let e = natural-sign w p in grind (arith, nat_tests)
+natural-value w p =
+    let minus = not-in_front w p 45 (lit< tt) in
+    let same = natural-sign w p in
+    λ i. cond (minus i) (neg_ℤ (pos (digits_value 10 (without_leading_sign w)))) (pos (digits_value 10 (same i)))
 
 numeral-if : {P : Type 0} (b : ℕ) (bs : List ℕ) (t : Bool) → nat_eq b 45 ≡ t → cond t (is_natural bs && not (bytes_eq bs (codes "0"))) (is_natural (b ∷ bs)) ≡ true → (IsPlain (b ∷ bs) → P) → ((ds : List ℕ) → b ∷ bs ≡ 45 ∷ ds → IsPlain ds → (ds ≡ codes "0" → ⊥) → P) → P
 numeral-if b bs true s e f g =
     let h = both (is_natural bs) (not (bytes_eq bs (codes "0"))) e in
-    let is : b ≡ 45 = grind (arith, nat_tests) in
+    let is = eqb-true b 45 s in
     g bs (ap (λ x. x ∷ bs) is) (plain bs h.0) (λ z. let k = ap (λ x. not (bytes_eq x (codes "0"))) z in cc (h.1, k))
 numeral-if b bs false s e f g = f (plain (b ∷ bs) e)
 
@@ -104,8 +129,8 @@ numeral-parses w e =
 
 digits-ascii : (w : List ℕ) → all_ascii_digits w ≡ true → IsAscii w
 digits-ascii [] e i = grind (arith, common_steps)
-digits-ascii (b ∷ bs) e zero = let h = (both (is_ascii_digit b) (all_ascii_digits bs) e).0 in grind (arith, nat_tests)
-digits-ascii (b ∷ bs) e (suc i) = digits-ascii bs (both (is_ascii_digit b) (all_ascii_digits bs) e).1 i
+digits-ascii (b ∷ bs) e zero = let range = digit-range b (both (is_digit b) (all_ascii_digits bs) e).0 in omega (arith, range.1)
+digits-ascii (b ∷ bs) e (suc i) = digits-ascii bs (both (is_digit b) (all_ascii_digits bs) e).1 i
 
 minus-ascii : (w : List ℕ) → IsAscii w → IsAscii (45 ∷ w)
 minus-ascii w h zero = omega arith
@@ -117,12 +142,12 @@ numeral-utf8 w e =
     (λ ds is p some. subst IsAscii (sym is) (minus-ascii ds (digits-ascii ds p.digits))))
 
 pub between : (low v high : ℤ) → FitsSigned w16 low → FitsSigned w16 high → int_le low v ≡ true → int_le v high ≡ true → FitsSigned w16 v
-between (pos a) (pos n) (pos b) f g p q = let h = g.sfits in record { sfits = grind (arith, nat_tests) }
+between (pos a) (pos n) (pos b) f g p q = let h = g.sfits in record { sfits = omega (arith, h, leb-true n b q) }
 between (pos a) (pos n) (negsuc b) f g p q = absurd cc
 between (pos a) (negsuc n) high f g p q = absurd cc
-between (negsuc a) (pos n) (pos b) f g p q = let h = g.sfits in record { sfits = grind (arith, nat_tests) }
+between (negsuc a) (pos n) (pos b) f g p q = let h = g.sfits in record { sfits = omega (arith, h, leb-true n b q) }
 between (negsuc a) (pos n) (negsuc b) f g p q = absurd cc
-between (negsuc a) (negsuc n) high f g p q = let h = f.sfits in record { sfits = grind (arith, nat_tests) }
+between (negsuc a) (negsuc n) high f g p q = let h = f.sfits in record { sfits = omega (arith, h, leb-true n a p) }
 
 faulted : (n a b : Bool) → n ≡ true → (a ≡ true → b ≡ true → ⊥) → ◌≡◌ {A = Option ℕ} (cond n (cond (a && b) None (Some 2)) (Some 1)) (Some 2)
 faulted true true true e f = absurd (f refl refl)
@@ -137,7 +162,7 @@ fault-out w low high e f g beyond =
 
 first-digit : (w : List ℕ) → all_ascii_digits w ≡ true → 0 < length w → (48 ≤ get_or w 0 0) × (get_or w 0 0 ≤ 57)
 first-digit [] e h = absurd (omega arith)
-first-digit (b ∷ bs) e h = let d = (both (is_ascii_digit b) (all_ascii_digits bs) e).0 in (grind (arith, nat_tests), grind (arith, nat_tests))
+first-digit (b ∷ bs) e h = digit-range b (both (is_digit b) (all_ascii_digits bs) e).0
 
 decimal-front : (n : ℕ) → n < 2 ^ 64 → get_or (decimal n) 0 0 ≡ 48 → length (decimal n) ≡ 1
 decimal-front zero h e = ap length zero-written

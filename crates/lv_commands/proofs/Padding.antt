@@ -1,13 +1,12 @@
 -- A name filled up with NUL, and its text.
 use Rattle.std.proofs.Common.{◌≡◌, ℕ, Bool, true, false, cond, List, [], ◌∷◌, ◌++◌, length, refl, ◌∙◌, ap, arith, zero, suc, ◌-◌, nat_eq, nat_le, ◌≤◌, ◌&&◌, sym, subst, lit≤}
-use Rattle.std.specs.Prelude.{take_while, replicate, not}
+use Rattle.std.specs.Prelude.{◌||◌, take_while, replicate, not}
 use Rattle.std.specs.List.{list_all}
 use Rattle.std.specs.Str.{IsAscii, IsUtf8}
 use Rattle.std.proofs.lemmas.Grind.{common_steps}
 use Rattle.std.proofs.lemmas.Str.{IsUtf8-from_ascii}
 use Rattle.std.proofs.lemmas.List.Sums.{take_while-cons}
-use Rattle.std.proofs.lemmas.Bool.{leb-true}
-use Rattle.std.proofs.lemmas.Bool.Decides.{nat_tests}
+use Rattle.std.proofs.lemmas.Bool.{both_ways, eqb-true, le-leb, leb-true, ne_eqb, or_left, or_right}
 use Rattle.lv_lumps.specs.declared.records.Name8.{Name8}
 use Rattle.lv_lumps.specs.Names.{IsNamed, is_digit, is_marker, is_name, is_name_byte, is_nonzero_digit, name_of, name_text}
 use Rattle.lv_commands.proofs.Numerals.{both}
@@ -15,8 +14,12 @@ use Rattle.lv_commands.proofs.Numerals.{both}
 abbrev pub is_set : ℕ → Bool
 is_set b = not (nat_eq b 0)
 
+-- a byte that passes a test isn't one that doesn't
+pub apart : (test : ℕ → Bool) (other b : ℕ) → test other ≡ false → test b ≡ true → nat_eq b other ≡ false
+apart test other b fails e = ne_eqb b other (λ is. both_ways (test b) (ap test is ∙ fails) e)
+
 set : (b : ℕ) → is_name_byte b ≡ true → is_set b ≡ true
-set b e = grind (arith, nat_tests)
+set b e = ap not (apart is_name_byte 0 b refl e)
 
 front : (b : ℕ) (t : Bool) (xs ys : List ℕ) → t ≡ true → xs ≡ ys → cond t (b ∷ xs) [] ≡ b ∷ ys
 front b true xs ys e f = ap (λ z. b ∷ z) f
@@ -42,17 +45,69 @@ all-set [] e = refl
 all-set (b ∷ bs) e =
     let h = both (is_name_byte b) (list_all is_name_byte bs) e in and (is_set b) (list_all is_set bs) (set b h.0) (all-set bs h.1)
 
-marker-set : (w : List ℕ) → is_marker w ≡ true → list_all is_set w ≡ true
-marker-set [] e = absurd cc
-marker-set (a ∷ []) e = absurd cc
-marker-set (a ∷ b ∷ []) e = absurd cc
-marker-set (a ∷ b ∷ c ∷ []) e = absurd cc
-marker-set (a ∷ b ∷ c ∷ d ∷ []) e = grind (arith, nat_tests)
-marker-set (a ∷ b ∷ c ∷ d ∷ f ∷ []) e = grind (arith, nat_tests)
-marker-set (a ∷ b ∷ c ∷ d ∷ f ∷ g ∷ ws) e = absurd cc
+-- the two ends of the bytes that a name may have
+within : (low high b : ℕ) → (nat_le low b && nat_le b high) ≡ true → 45 ≤ low → high ≤ 95 → (45 ≤ b) × (b ≤ 95)
+within low high b e l h =
+    let r = both (nat_le low b) (nat_le b high) e in
+    let least = leb-true low b r.0 in
+    let most = leb-true b high r.1 in
+    (omega arith, omega arith)
+
+exactly : (k b : ℕ) → nat_eq b k ≡ true → 45 ≤ k → k ≤ 95 → (45 ≤ b) × (b ≤ 95)
+exactly k b e l h = let is = eqb-true b k e in (omega arith, omega arith)
+
+either : {P : Type 0} (x y : Bool) → (x || y) ≡ true → (x ≡ true → P) → (y ≡ true → P) → P
+either true y e f g = f refl
+either false y e f g = g e
+
+pub name-range : (b : ℕ) → is_name_byte b ≡ true → (45 ≤ b) × (b ≤ 95)
+name-range b e =
+    either _ _ e (λ e.
+    either _ _ e (λ e.
+    either _ _ e (λ e.
+    either _ _ e (λ e.
+    either _ _ e (λ e.
+    either _ _ e (λ h. within 65 90 b h (lit≤ tt) (lit≤ tt)) (λ h. within 48 57 b h (lit≤ tt) (lit≤ tt)))
+    (λ h. exactly 95 b h (lit≤ tt) (lit≤ tt)))
+    (λ h. exactly 45 b h (lit≤ tt) (lit≤ tt)))
+    (λ h. exactly 91 b h (lit≤ tt) (lit≤ tt)))
+    (λ h. exactly 93 b h (lit≤ tt) (lit≤ tt)))
+    (λ h. exactly 92 b h (lit≤ tt) (lit≤ tt))
+
+letter : (k b : ℕ) → is_name_byte k ≡ true → nat_eq b k ≡ true → is_name_byte b ≡ true
+letter k b is e = ap is_name_byte (eqb-true b k e) ∙ is
+
+digit : (b : ℕ) → is_digit b ≡ true → is_name_byte b ≡ true
+digit b e = or_left _ _ (or_left _ _ (or_left _ _ (or_left _ _ (or_left _ _ (or_right _ _ e)))))
+
+nonzero-digit : (b : ℕ) → is_nonzero_digit b ≡ true → is_name_byte b ≡ true
+nonzero-digit b e =
+    let h = both (nat_le 49 b) (nat_le b 57) e in
+    let least = leb-true 49 b h.0 in
+    digit b (and (nat_le 48 b) (nat_le b 57) (le-leb 48 b (omega (arith, least))) h.1)
+
+-- a map's name is of bytes that a name may have
+pub marker-bytes : (w : List ℕ) → is_marker w ≡ true → list_all is_name_byte w ≡ true
+marker-bytes [] e = absurd cc
+marker-bytes (a ∷ []) e = absurd cc
+marker-bytes (a ∷ b ∷ []) e = absurd cc
+marker-bytes (a ∷ b ∷ c ∷ []) e = absurd cc
+marker-bytes (a ∷ b ∷ c ∷ d ∷ []) e =
+    let h = both _ _ e in
+    let i = both _ _ h.0 in
+    let j = both _ _ i.0 in
+    and _ _ (letter 69 a refl j.0) (and _ _ (nonzero-digit b j.1) (and _ _ (letter 77 c refl i.1) (and _ _ (nonzero-digit d h.1) refl)))
+marker-bytes (a ∷ b ∷ c ∷ d ∷ f ∷ []) e =
+    let h = both _ _ e in
+    let i = both _ _ h.0 in
+    let j = both _ _ i.0 in
+    let k = both _ _ j.0 in
+    let l = both _ _ k.0 in
+    and _ _ (letter 77 a refl l.0) (and _ _ (letter 65 b refl l.1) (and _ _ (letter 80 c refl k.1) (and _ _ (digit d j.1) (and _ _ (digit f i.1) refl))))
+marker-bytes (a ∷ b ∷ c ∷ d ∷ f ∷ g ∷ ws) e = absurd cc
 
 marker-text : (w : List ℕ) → is_marker w ≡ true → name_text (name_of w) ≡ w
-marker-text w e = trim w (8 - length w) (marker-set w e)
+marker-text w e = trim w (8 - length w) (all-set w (marker-bytes w e))
 
 name-text : (w : List ℕ) → list_all is_name_byte w ≡ true → name_text (name_of w) ≡ w
 name-text w e = trim w (8 - length w) (all-set w e)
@@ -86,49 +141,11 @@ marker-short (a ∷ b ∷ c ∷ d ∷ f ∷ g ∷ ws) e = absurd cc
 
 name-ascii : (w : List ℕ) → list_all is_name_byte w ≡ true → IsAscii w
 name-ascii [] e i = grind (arith, common_steps)
-name-ascii (b ∷ bs) e zero = let h = (both (is_name_byte b) (list_all is_name_byte bs) e).0 in grind (arith, nat_tests)
+name-ascii (b ∷ bs) e zero = let range = name-range b (both (is_name_byte b) (list_all is_name_byte bs) e).0 in omega (arith, range.1)
 name-ascii (b ∷ bs) e (suc i) = name-ascii bs (both (is_name_byte b) (list_all is_name_byte bs) e).1 i
 
 pub name_utf8 : (n : Name8) → IsNamed is_name n → IsUtf8 (name_text n)
 name_utf8 n h = IsUtf8-from_ascii (name_text n) (name-ascii (name_text n) (both (nat_le 1 (length (name_text n)) && nat_le (length (name_text n)) 8) (list_all is_name_byte (name_text n)) h.named).1)
-
-letter-e : (b : ℕ) → nat_eq b 69 ≡ true → is_name_byte b ≡ true
-letter-e b e = grind (arith, nat_tests)
-
-letter-m : (b : ℕ) → nat_eq b 77 ≡ true → is_name_byte b ≡ true
-letter-m b e = grind (arith, nat_tests)
-
-letter-a : (b : ℕ) → nat_eq b 65 ≡ true → is_name_byte b ≡ true
-letter-a b e = grind (arith, nat_tests)
-
-letter-p : (b : ℕ) → nat_eq b 80 ≡ true → is_name_byte b ≡ true
-letter-p b e = grind (arith, nat_tests)
-
-digit : (b : ℕ) → is_digit b ≡ true → is_name_byte b ≡ true
-digit b e = grind (arith, nat_tests)
-
-nonzero-digit : (b : ℕ) → is_nonzero_digit b ≡ true → is_name_byte b ≡ true
-nonzero-digit b e = grind (arith, nat_tests)
-
--- a map's name is of bytes that a name may have
-pub marker-bytes : (w : List ℕ) → is_marker w ≡ true → list_all is_name_byte w ≡ true
-marker-bytes [] e = absurd cc
-marker-bytes (a ∷ []) e = absurd cc
-marker-bytes (a ∷ b ∷ []) e = absurd cc
-marker-bytes (a ∷ b ∷ c ∷ []) e = absurd cc
-marker-bytes (a ∷ b ∷ c ∷ d ∷ []) e =
-    let h = both _ _ e in
-    let i = both _ _ h.0 in
-    let j = both _ _ i.0 in
-    and _ _ (letter-e a j.0) (and _ _ (nonzero-digit b j.1) (and _ _ (letter-m c i.1) (and _ _ (nonzero-digit d h.1) refl)))
-marker-bytes (a ∷ b ∷ c ∷ d ∷ f ∷ []) e =
-    let h = both _ _ e in
-    let i = both _ _ h.0 in
-    let j = both _ _ i.0 in
-    let k = both _ _ j.0 in
-    let l = both _ _ k.0 in
-    and _ _ (letter-m a l.0) (and _ _ (letter-a b l.1) (and _ _ (letter-p c k.1) (and _ _ (digit d j.1) (and _ _ (digit f i.1) refl))))
-marker-bytes (a ∷ b ∷ c ∷ d ∷ f ∷ g ∷ ws) e = absurd cc
 
 pub marker_utf8 : (n : Name8) → IsNamed is_marker n → IsUtf8 (name_text n)
 marker_utf8 n h = IsUtf8-from_ascii (name_text n) (name-ascii (name_text n) (marker-bytes (name_text n) h.named))

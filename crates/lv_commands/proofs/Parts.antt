@@ -1,14 +1,14 @@
 -- The parts of a line, found from its front.
 use Rattle.std.proofs.Common.{◌≡◌, ℕ, zero, suc, ◌+◌, ◌-◌, ◌<◌, Bool, true, false, cond, List, [], ◌∷◌, length, get_or, take, drop, refl, ◌∙◌, ap, arith, add-one, nat_eq}
 use Rattle.std.proofs.lemmas.List.{take_rest}
-use Rattle.std.proofs.lemmas.Bool.Decides.{nat_tests}
+use Rattle.std.proofs.lemmas.Bool.{ne_eqb}
 use Rattle.lv_commands.specs.Words.{parts, onto_first}
 
 parts-space : (b : ℕ) (bs : List ℕ) → b ≡ 32 → parts (b ∷ bs) ≡ [] ∷ parts bs
-parts-space b bs e = grind (arith, nat_tests)
+parts-space b bs e = ap (λ x. parts (x ∷ bs)) e
 
 pub parts-other : (b : ℕ) (bs : List ℕ) → (b ≡ 32 → ⊥) → parts (b ∷ bs) ≡ onto_first b (parts bs)
-parts-other b bs ne = grind (arith, nat_tests)
+parts-other b bs ne = ap (λ t. cond t ([] ∷ parts bs) (onto_first b (parts bs))) (ne_eqb b 32 ne)
 
 -- the first space stands at i
 parts-suc : (bs : List ℕ) (i : ℕ) → ((k : ℕ) → k < i → get_or bs k 0 ≡ 32 → ⊥) → i < length bs → get_or bs i 0 ≡ 32 → parts bs ≡ take i bs ∷ parts (drop (suc i) bs)

@@ -3,8 +3,7 @@ use Rattle.std.proofs.Common.{◌≡◌, ℕ, suc, ◌+◌, ◌-◌, ◌≤◌, 
 use Rattle.std.specs.Prelude.{sum_by, ⊤}
 use Rattle.std.specs.List.{remove}
 use Rattle.std.specs.Option.{is_none}
-use Rattle.std.proofs.lemmas.Bool.{cases_lt}
-use Rattle.std.proofs.lemmas.Bool.Decides.{nat_tests}
+use Rattle.std.proofs.lemmas.Bool.{cases_lt, le-ltb, lt-ltb}
 use Rattle.std.proofs.lemmas.List.Sums.{sum_by-append, sum_by-cons, sum_by-remove}
 use Rattle.lv_lumps.specs.declared.records.Name8.{Name8}
 use Rattle.lv_maptables.specs.Edits.{with_name}
@@ -153,7 +152,10 @@ part-within before behind m =
     omega (arith, sum_by-append part_len before (m ∷ behind), sum_by-cons part_len m behind)
 
 shifted : (k a o : ℕ) → nat_lt (k + o) (a + o) ≡ nat_lt k a
-shifted k a o = grind (arith, nat_tests)
+shifted k a o = elim (cases_lt k a) [
+  | inl below ↦ lt-ltb (k + o) (a + o) (omega (arith, below)) ∙ sym (lt-ltb k a below)
+  | inr above ↦ le-ltb (k + o) (a + o) (omega (arith, above)) ∙ sym (le-ltb k a above)
+]
 
 with-others : (cap k o a b x y : ℕ) → cap ≡ k + o → x ≡ a + o → y ≡ b + o → nat_lt k a ≡ nat_lt k b → nat_lt cap x ≡ nat_lt cap y
 with-others cap k o a b x y e f g h = (λ i. nat_lt (e i) (f i)) ∙ shifted k a o ∙ h ∙ sym (shifted k b o) ∙ (λ i. nat_lt (sym e i) (sym g i))
@@ -192,7 +194,7 @@ fewer ms n = elim (cases_lt n (length ms)) [
 ]
 
 both-fit : (a b cap : ℕ) → a ≤ cap → b ≤ cap → nat_lt cap a ≡ nat_lt cap b
-both-fit a b cap h i = grind (arith, nat_tests)
+both-fit a b cap h i = le-ltb cap a h ∙ sym (le-ltb cap b i)
 
 -- the new body is too long exactly where the old one and what is added are
 pub fullness : (v : MapsView) (c : ProjectCommand) (cap : ℕ) → body_len (project_of v) ≤ cap

@@ -2,8 +2,7 @@
 use Rattle.std.proofs.Common.{◌≡◌, ℕ, ◌≤◌, Bool, true, false, cond, List, [], ◌∷◌, length, refl, sym, ◌∙◌, ap, arith, nat_lt, Option, Some, None, Result, Ok, Err, lit≤}
 use Rattle.std.specs.Prelude.{IfOk, MatchResult}
 use Rattle.std.specs.List.{join_with_byte}
-use Rattle.std.proofs.lemmas.Bool.{ltb-false}
-use Rattle.std.proofs.lemmas.Bool.Decides.{nat_tests}
+use Rattle.std.proofs.lemmas.Bool.{le-ltb, ltb-false}
 use Rattle.lv_lumps.specs.declared.records.Name8.{Name8}
 use Rattle.lv_lumps.specs.Names.{IsNamed, is_marker, name_of, name_text}
 use Rattle.lv_commands.specs.declared.error.CommandError.{CommandError}
@@ -73,7 +72,7 @@ as-one-map line w ws words none =
     (ap command_fault words ∙ (λ i. fault_by_head (none i) w ws) ∙ ap of_one_map.command_fault (sym words))
 
 short-enough : (n : ℕ) → n ≤ 256 → nat_lt 256 n ≡ false
-short-enough n h = grind (arith, nat_tests)
+short-enough n h = le-ltb 256 n h
 
 -- the fault of a line that names a map
 pub as-named : (line w : List ℕ) (ws : List (List ℕ)) (h : MapHead) → length line ≤ 256 → parts line ≡ w ∷ ws → map_head_of w ≡ Some h → fault_of line ≡ places_fault (Named is_marker ∷ []) ws

@@ -1,7 +1,6 @@
 -- Reading place by place, and the fault of all places.
 use Rattle.std.proofs.Common.{◌≡◌, ℕ, Bool, true, false, List, [], ◌∷◌, refl, sym, ◌∙◌, ap, arith, Option, Some, None, nat_eq, cond, length, ◌<◌}
 use Rattle.std.specs.Prelude.{◌||◌, ℤ, bytes_eq, codes}
-use Rattle.std.proofs.lemmas.Bool.Decides.{nat_tests}
 use Rattle.lv_commands.specs.Places.{Place, Number, NumberOrNone, fault_at, place_fault, places_fault, first_of}
 use Rattle.lv_commands.specs.Words.{is_numeral}
 use Rattle.lv_commands.specs.Reading.{Reading, Reads, IsDone, fault_with}
@@ -33,11 +32,19 @@ pub first-some : (x : Option ℕ) (k : ℕ) → first_of x (Some k) ≡ None →
 first-some None k e = absurd cc
 first-some (Some j) k e = if-some (nat_eq k 1) 1 j e
 
+on-left : (t : Bool) (i k : ℕ) → first_of (cond t (Some 1) (Some i)) (Some k) ≡ cond (nat_eq k 1) (Some 1) (cond t (Some 1) (Some i))
+on-left true i k = refl
+on-left false i k = refl
+
+on-right : (t : Bool) (i j : ℕ) → first_of (Some i) (cond t (Some 1) (Some j)) ≡ cond t (Some 1) (cond (nat_eq j 1) (Some 1) (Some i))
+on-right true i j = refl
+on-right false i j = refl
+
 pub first-assoc : (a b c : Option ℕ) → first_of (first_of a b) c ≡ first_of a (first_of b c)
 first-assoc None b c = refl
 first-assoc (Some i) None c = refl
 first-assoc (Some i) (Some j) None = first-end (first_of (Some i) (Some j))
-first-assoc (Some i) (Some j) (Some k) = grind (arith, nat_tests)
+first-assoc (Some i) (Some j) (Some k) = on-left (nat_eq j 1) i k ∙ sym (on-right (nat_eq k 1) i j)
 
 -- the word has a fault
 pub reads-fault : (old new : Reading) (p : Place) (written w : List ℕ) (code : ℕ) → old.words ≡ w ∷ new.words → new.fault ≡ first_of old.fault (Some code) → place_fault p w ≡ Some code → Reads old new p written

@@ -1,7 +1,7 @@
 -- The least code that speaks against a command of a map, and how long the new body is.
-use Rattle.std.proofs.Common.{◌≡◌, ℕ, suc, ◌+◌, ◌≤◌, Bool, true, false, cond, List, [], ◌∷◌, ◌++◌, length, take, drop, Option, Some, None, refl, ap, arith, nat_lt, length-append, length-drop}
+use Rattle.std.proofs.Common.{◌≡◌, ℕ, suc, ◌+◌, ◌≤◌, Bool, true, false, cond, List, [], ◌∷◌, ◌++◌, length, take, drop, Option, Some, None, refl, sym, ap, ◌∙◌, arith, nat_lt, length-append, length-drop}
 use Rattle.std.specs.Prelude.{slice_set, remove}
-use Rattle.std.proofs.lemmas.Bool.Decides.{nat_tests}
+use Rattle.std.proofs.lemmas.Bool.{le-ltb}
 use Rattle.std.proofs.lemmas.List.{length-map, length-set, length-take}
 use Rattle.lv_maptables.specs.declared.kind.Kind.{Kind}
 use Rattle.lv_maptables.specs.declared.kind.Kind.TheVariants as kind
@@ -84,7 +84,7 @@ shorter-remove : {X : Type 0} (xs : List X) (n : ℕ) → length (remove xs n) �
 shorter-remove xs n = let a = length-append (take n xs) (drop (suc n) xs) in let b = length-take n xs in let c = length-drop (suc n) xs in omega (arith, a, b, c)
 
 both-fit : (a b cap : ℕ) → a ≤ cap → b ≤ cap → nat_lt cap a ≡ nat_lt cap b
-both-fit a b cap h i = grind (arith, nat_tests)
+both-fit a b cap h i = le-ltb cap a h ∙ sym (le-ltb cap b i)
 
 without-shorter : (m : Tables) (k : Kind) (n : ℕ) → body_len (without m k n) ≤ body_len m
 without-shorter m kind.Vertex n = let a = shorter-remove m.vertices n in let b = length-map m.lines (line_without_vertex n) in omega (arith, a, b)

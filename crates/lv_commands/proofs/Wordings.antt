@@ -6,8 +6,7 @@ use Rattle.std.specs.Fmt.{signed_decimal}
 use Rattle.std.specs.List.{list_all, join_with_byte}
 use Rattle.std.specs.Char.{is_ascii_digit}
 use Rattle.std.specs.Str.{all_ascii_digits}
-use Rattle.std.proofs.lemmas.Bool.Decides.{nat_tests}
-use Rattle.std.proofs.lemmas.Bool.{leb-true}
+use Rattle.std.proofs.lemmas.Bool.{both_ways, leb-true}
 use Rattle.std.proofs.lemmas.Fmt.{length-decimal-le}
 use Rattle.lv_lumps.specs.declared.records.Name8.{Name8}
 use Rattle.lv_maptables.specs.declared.kind.Kind.{Kind}
@@ -16,7 +15,7 @@ use Rattle.lv_lumps.specs.Names.{IsNamed, is_marker, is_name, is_name_byte, name
 use Rattle.lv_commands.specs.Spelling.{kind_word}
 use Rattle.lv_commands.specs.Words.{onto_first, parts}
 use Rattle.lv_commands.proofs.Numerals.{both, decimal-digits}
-use Rattle.lv_commands.proofs.Padding.{marker-bytes}
+use Rattle.lv_commands.proofs.Padding.{apart, marker-bytes}
 use Rattle.lv_commands.proofs.Parts.{parts-other}
 
 -- a byte that is no space
@@ -35,7 +34,7 @@ AreTexts (w ∷ ws) = IsText w × AreTexts ws
 -- ---- The line of the words
 
 no-space : (b : ℕ) → is_inside b ≡ true → b ≡ 32 → ⊥
-no-space b e is = absurd (grind (arith, nat_tests))
+no-space b e is = both_ways (is_inside b) (ap is_inside is) e
 
 parts-word : (w rest : List ℕ) → list_all is_inside w ≡ true → parts (w ++ (32 ∷ rest)) ≡ w ∷ parts rest
 parts-word [] rest e = refl
@@ -71,10 +70,10 @@ both-back true b e f = f
 both-back false b e f = absurd cc
 
 digit-inside : (b : ℕ) → is_ascii_digit b ≡ true → is_inside b ≡ true
-digit-inside b e = grind (arith, nat_tests)
+digit-inside b e = ap not (apart is_ascii_digit 32 b refl e)
 
 name-inside : (b : ℕ) → is_name_byte b ≡ true → is_inside b ≡ true
-name-inside b e = grind (arith, nat_tests)
+name-inside b e = ap not (apart is_name_byte 32 b refl e)
 
 pub all-of : (p q : ℕ → Bool) → ((b : ℕ) → p b ≡ true → q b ≡ true) → (w : List ℕ) → list_all p w ≡ true → list_all q w ≡ true
 all-of p q f [] e = refl

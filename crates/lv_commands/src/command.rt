@@ -1,9 +1,10 @@
+//! The commands of a map.
 use lv_lumps::{Line, Name8, Sector, Side, Thing, Vertex};
 use lv_maptables::Kind;
 
 /// A sector between two corners, with a side and a line along each edge and the inside on the right. Coordinates and
 /// heights are map units.
-#[derive(Clone, Copy, Debug, PartialEq, Eq)]
+#[derive(Clone, Copy)]
 pub struct RoomPlan {
     pub west: i16,
     pub south: i16,
@@ -18,14 +19,14 @@ pub struct RoomPlan {
 }
 
 /// A line, and the place at which it is cut in two. The place needn't be on the line.
-#[derive(Clone, Copy, Debug, PartialEq, Eq)]
+#[derive(Clone, Copy)]
 pub struct LineSplit {
     pub line: u16,
     pub at: Vertex,
 }
 
 /// A change of a map, as a line of input asks for it.
-#[derive(Clone, Copy, Debug, PartialEq, Eq)]
+#[derive(Clone, Copy)]
 pub enum Command {
     /// The map's name.
     Name(Name8),

@@ -1,53 +1,44 @@
+//! Why a line is no command, or a command is refused.
 ghost use Rattle.std.specs.Prelude.{◌≡◌};
 ghost use Rattle.lv_commands.specs.declared.error.CommandError.TheVariants.{OutOfMemory};
 
 use lv_maptables::MapError;
 use std::alloc::AllocError;
+use std::fmt;
 use thiserror::Error;
 
 /// Why a line is no command, or a command is refused. Where several hold of a command, the least is answered.
 #[derive(Clone, Copy, Debug, PartialEq, Eq, Error)]
 pub enum CommandError {
-    #[error("not a command")]
     NotACommand,
-    #[error("a number is out of its range")]
     OutOfRange,
-    #[error("{text}", text = MapError::NoVertex)]
     NoVertex,
-    #[error("{text}", text = MapError::NoSector)]
     NoSector,
-    #[error("{text}", text = MapError::NoSide)]
     NoSide,
-    #[error("{text}", text = MapError::NoLine)]
     NoLine,
-    #[error("{text}", text = MapError::NoThing)]
     NoThing,
-    #[error("{text}", text = MapError::InUse)]
     InUse,
-    #[error("{text}", text = MapError::SameEnds)]
     SameEnds,
-    #[error("{text}", text = MapError::PlaceTaken)]
     PlaceTaken,
-    #[error("{text}", text = MapError::TwoSidedWithoutLeft)]
     TwoSidedWithoutLeft,
-    #[error("{text}", text = MapError::TableFull)]
     TableFull,
-    #[error("{text}", text = MapError::LineTooLong)]
     LineTooLong,
-    #[error("the project is full")]
     ProjectFull,
-    #[error("a bad name")]
     BadName,
-    #[error("{text}", text = MapError::TooManyMaps)]
     TooManyMaps,
-    #[error("{text}", text = MapError::MapNameTaken)]
     MapNameTaken,
-    #[error("{text}", text = MapError::NoSuchMap)]
     NoSuchMap,
-    #[error("{text}", text = MapError::CurrentMap)]
     CurrentMap,
-    #[error("{text}", text = MapError::OutOfMemory)]
     OutOfMemory,
+}
+
+impl fmt::Display for CommandError {
+    fn fmt<W: fmt::Write>(&self, f: &mut fmt::Formatter<W>) -> fmt::Result {
+        match self.as_map_error() {
+            Some(error) => fmt::Display::fmt(&error, f),
+            None => f.write_str(self.own_text()),
+        }
+    }
 }
 
 impl From<AllocError> for CommandError {
@@ -114,6 +105,39 @@ impl CommandError {
             MapError::CurrentMap => CommandError::CurrentMap,
             MapError::OutOfMemory => CommandError::OutOfMemory,
             MapError::Damaged(_) => unreachable!(),
+        }
+    }
+
+    // The map's refusal that it passes on, if it is one.
+    fn as_map_error(&self) -> Option<MapError> {
+        match self {
+            CommandError::NoVertex => Some(MapError::NoVertex),
+            CommandError::NoSector => Some(MapError::NoSector),
+            CommandError::NoSide => Some(MapError::NoSide),
+            CommandError::NoLine => Some(MapError::NoLine),
+            CommandError::NoThing => Some(MapError::NoThing),
+            CommandError::InUse => Some(MapError::InUse),
+            CommandError::SameEnds => Some(MapError::SameEnds),
+            CommandError::PlaceTaken => Some(MapError::PlaceTaken),
+            CommandError::TwoSidedWithoutLeft => Some(MapError::TwoSidedWithoutLeft),
+            CommandError::TableFull => Some(MapError::TableFull),
+            CommandError::LineTooLong => Some(MapError::LineTooLong),
+            CommandError::TooManyMaps => Some(MapError::TooManyMaps),
+            CommandError::MapNameTaken => Some(MapError::MapNameTaken),
+            CommandError::NoSuchMap => Some(MapError::NoSuchMap),
+            CommandError::CurrentMap => Some(MapError::CurrentMap),
+            CommandError::OutOfMemory => Some(MapError::OutOfMemory),
+            _ => None,
+        }
+    }
+
+    // The text of one that isn't a map's.
+    fn own_text(&self) -> &'static str {
+        match self {
+            CommandError::NotACommand => "not a command",
+            CommandError::OutOfRange => "a number is out of its range",
+            CommandError::ProjectFull => "the project is full",
+            _ => "a bad name",
         }
     }
 }

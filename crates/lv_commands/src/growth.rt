@@ -1,42 +1,57 @@
+//! What a command adds to the tables of a map, and by how much that lengthens a body.
 ghost use Rattle.std.specs.Prelude.{◌≡◌};
 ghost use Rattle.lv_commands.specs.Readiness.{growth_of, need_of};
 
 use crate::command::Command;
 use lv_maptables::Need;
 
+/// No item.
+pub const NO_NEED: Need = Need {
+    vertices: 0,
+    sectors: 0,
+    sides: 0,
+    lines: 0,
+    things: 0,
+};
+
 /// How many items a command adds to each table.
 pub fn need_of(command: &Command) -> Need
     ensures { result ≡ need_of command.now }
 {
-    let none = Need {
-        vertices: 0,
-        sectors: 0,
-        sides: 0,
-        lines: 0,
-        things: 0,
-    };
     match command {
         Command::AddVertex(_) => Need {
             vertices: 1,
-            ..none
+            ..NO_NEED
         },
-        Command::AddSector(_) => Need { sectors: 1, ..none },
-        Command::AddSide(_) => Need { sides: 1, ..none },
-        Command::AddLine(_) => Need { lines: 1, ..none },
-        Command::AddThing(_) => Need { things: 1, ..none },
+        Command::AddSector(_) => Need {
+            sectors: 1,
+            ..NO_NEED
+        },
+        Command::AddSide(_) => Need {
+            sides: 1,
+            ..NO_NEED
+        },
+        Command::AddLine(_) => Need {
+            lines: 1,
+            ..NO_NEED
+        },
+        Command::AddThing(_) => Need {
+            things: 1,
+            ..NO_NEED
+        },
         Command::Room(_) => Need {
             vertices: 4,
             sectors: 1,
             sides: 4,
             lines: 4,
-            ..none
+            ..NO_NEED
         },
         Command::Split(_) => Need {
             vertices: 1,
             lines: 1,
-            ..none
+            ..NO_NEED
         },
-        _ => none,
+        _ => NO_NEED,
     }
 }
 

@@ -1,5 +1,6 @@
+//! The first words of the commands of a map.
 /// The first word of a command, which says what stands behind it.
-#[derive(Clone, Copy, Debug, PartialEq, Eq)]
+#[derive(Clone, Copy)]
 pub enum Head {
     Name,
     Vertex,

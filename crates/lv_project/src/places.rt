@@ -1,4 +1,4 @@
-//! Where the parts of a project's file lie.
+//! Where the parts of a project file stand.
 ghost use Rattle.std.specs.Prelude.{◌≡◌, ◌≤◌, ◌↔◌, IsTrue};
 ghost use Rattle.lv_project.specs.Places.{IsAllowed, IsLaidOut, cap_of, parts_of};
 
@@ -28,7 +28,7 @@ impl Geometry {
     pub fn is_allowed(self) -> bool
         ensures { IsTrue result ↔ IsAllowed self.slot self.journal }
     {
-        has_slot(self.slot) && has_journal(self.journal)
+        is_within(self.slot, 33, 2_007_015) && is_within(self.journal, 512, 1_048_576)
     }
 
     // Where the parts of a file stand.
@@ -68,16 +68,11 @@ impl Geometry {
     }
 }
 
-fn has_slot(slot: u32) -> bool
-    ensures { IsTrue result ↔ (33 ≤ slot) × (slot ≤ 2007015) }
+// Whether a length is within two limits.
+fn is_within(length: u32, low: u32, high: u32) -> bool
+    ensures { IsTrue result ↔ (low ≤ length) × (length ≤ high) }
 {
-    slot >= 33 && slot <= 2_007_015
-}
-
-fn has_journal(journal: u32) -> bool
-    ensures { IsTrue result ↔ (512 ≤ journal) × (journal ≤ 1048576) }
-{
-    journal >= 512 && journal <= 1_048_576
+    low <= length && length <= high
 }
 
 impl Places {

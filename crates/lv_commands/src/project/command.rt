@@ -1,8 +1,9 @@
+//! The commands of a project.
 use crate::command::Command;
 use lv_lumps::Name8;
 
 /// A change of a project, as a line of input asks for it.
-#[derive(Clone, Copy, Debug, PartialEq, Eq)]
+#[derive(Clone, Copy)]
 pub enum ProjectCommand {
     /// A change of the current map.
     Edit(Command),
@@ -20,7 +21,7 @@ pub enum MapHead {
 }
 
 /// A command that nothing speaks against, and for which the current map has memory.
-#[derive(Clone, Copy, Debug, PartialEq, Eq)]
+#[derive(Clone, Copy)]
 pub struct Ready {
     pub command: ProjectCommand,
 }

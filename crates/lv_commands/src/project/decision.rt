@@ -1,9 +1,9 @@
+//! What speaks against a command of a project, and what it needs.
 ghost use Rattle.std.specs.Prelude.{◌≡◌, ◌++◌};
 ghost use Rattle.lv_maptables.specs.Outcomes.{Tells};
 ghost use Rattle.lv_maptables.specs.Projects.{current_map, has_map, project_of};
 ghost use Rattle.lv_commands.specs.ProjectStep.{current_faults, map_faults, naming_faults};
 ghost use Rattle.lv_commands.specs.ProjectReadiness.{growth_of, need_of};
-ghost use Rattle.lv_commands.specs.Readiness.{no_need};
 ghost use Rattle.lv_commands.specs.Step.{faults};
 
 use crate::command::Command;
@@ -52,26 +52,13 @@ pub fn can_do(maps: &Maps, command: &ProjectCommand) -> Result<(), MapError>
     }
 }
 
-// No item.
-fn no_need() -> Need
-    ensures { result ≡ no_need }
-{
-    Need {
-        vertices: 0,
-        sectors: 0,
-        sides: 0,
-        lines: 0,
-        things: 0,
-    }
-}
-
 /// How many items a command adds to each table of the current map.
 pub fn need_of(command: &ProjectCommand) -> Need
     ensures { result ≡ need_of command.now }
 {
     match command {
         ProjectCommand::Edit(edit) => growth::need_of(edit),
-        ProjectCommand::SelectMap(_) | ProjectCommand::DropMap(_) => no_need(),
+        ProjectCommand::SelectMap(_) | ProjectCommand::DropMap(_) => growth::NO_NEED,
     }
 }
 

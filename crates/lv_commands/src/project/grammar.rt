@@ -1,4 +1,5 @@
-ghost use Rattle.std.specs.Prelude.{◌≡◌, [], ◌∷◌, ◌≤◌, None, Some, Ok, IfOk, IfSome, bytes_eq, length};
+//! Which lines are commands of a project.
+ghost use Rattle.std.specs.Prelude.{◌≡◌, [], ◌∷◌, ◌≤◌, None, Some, Ok, IfOk, IfSome, length};
 ghost use Rattle.lv_lumps.specs.Names.{is_marker};
 ghost use Rattle.lv_commands.specs.Errors.{TellsFault};
 ghost use Rattle.lv_commands.specs.Grammar as of_one_map;
@@ -14,9 +15,6 @@ use crate::places::Places;
 use crate::project::command::{MapHead, ProjectCommand};
 use crate::words::next_part;
 
-// All first words behind which a map is named.
-const MAP_HEADS: [MapHead; 2] = [MapHead::Select, MapHead::Drop];
-
 /// The word that is written for such a first word.
 pub fn map_text(head: MapHead) -> &'static str
     ensures { result.now ≡ map_word head }
@@ -27,22 +25,18 @@ pub fn map_text(head: MapHead) -> &'static str
     }
 }
 
-// Whether the word is this first word.
-fn is_map_head(word: &[u8], head: MapHead) -> bool
-    ensures { result ≡ bytes_eq word.now (map_word head) }
-{
-    word == map_text(head).as_bytes()
-}
-
 // Which of these first words the word is.
 fn map_head_in(word: &[u8]) -> Option<MapHead>
     ensures value { result ≡ map_head_of word.now }
     ensures text { IfSome result (λ h. map_word h ≡ word.now) }
 {
-    MAP_HEADS
-        .iter()
-        .copied()
-        .find(|head| is_map_head(word, *head))
+    if word == map_text(MapHead::Select).as_bytes() {
+        Some(MapHead::Select)
+    } else if word == map_text(MapHead::Drop).as_bytes() {
+        Some(MapHead::Drop)
+    } else {
+        None
+    }
 }
 
 // The command whose words stand behind such a first word.

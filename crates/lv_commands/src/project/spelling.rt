@@ -1,8 +1,8 @@
+//! The line of each command of a project.
 ghost use Rattle.std.specs.Prelude.{◌≡◌, [], ◌∷◌, IfOk, IsOkUnless};
 ghost use Rattle.std.specs.List.{join_with_byte};
 ghost use Rattle.lv_lumps.specs.Names.{IsNamed, is_marker, name_text};
 ghost use Rattle.lv_commands.specs.ProjectCommands.{InRange, map_word, spelling};
-ghost use Rattle.lv_commands.specs.Views.{written};
 
 use crate::error::CommandError;
 use crate::project::command::{MapHead, ProjectCommand};
@@ -10,26 +10,18 @@ use crate::project::grammar::map_text;
 use crate::spelling;
 use crate::text::Text;
 use lv_lumps::Name8;
-use std::alloc::{AllocError, Global};
-
-// A first word and a map's name.
-#[tactic(auto, using(crate::proofs::Padding::marker_utf8))]
-fn named(alloc: Global, head: MapHead, name: &Name8) -> Result<Text, AllocError>
-    requires { IsNamed is_marker name.now }
-    ensures { IfOk result
-        (λ t. written t ≡ join_with_byte 32 (map_word head ∷ name_text name.now ∷ [])) }
-{
-    Text::new(alloc, map_text(head))?.name(name)
-}
+use std::alloc::Global;
 
 // The line of a command that names a map.
+#[tactic(auto, using(crate::proofs::Padding::marker_utf8))]
 fn line(alloc: Global, head: MapHead, name: &Name8) -> Result<Vec<u8>, CommandError>
     requires { IsNamed is_marker name.now }
     ensures spelling { IfOk result
         (λ v. v.items ≡ join_with_byte 32 (map_word head ∷ name_text name.now ∷ [])) }
     ensures memory { IsOkUnless result CommandError.OutOfMemory }
 {
-    Ok(named(alloc, head, name)?.into_bytes())
+    let text = Text::new(alloc, map_text(head))?;
+    Ok(text.name(name)?.into_bytes())
 }
 
 /// The line that is the command, without an end of line. It is the one line that `parse` takes for it.

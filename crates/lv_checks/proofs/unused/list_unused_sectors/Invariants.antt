@@ -1,6 +1,0 @@
-use Rattle.std.proofs.Common.{◌≡◌, ◌++◌, map, take}
-use Rattle.lv_checks.specs.declared.finding.Finding.TheVariants.{SectorUnused}
-use Rattle.lv_checks.proofs.unused.list_unused_sectors.Given as goal
-
-abbrev pub invariant-loop-n : goal.invariant-loop-n
-invariant-loop-n l = l.found.items ≡ l.initial.found.items ++ map (λ n. SectorUnused n) (take l.n-index l.n-items)
