@@ -255,8 +255,8 @@ const STAGED_A: &[u8] = b"\0\x03\0\0\0\0\0\0\0\x18\0\0\0the new body of 24 bytes
 const OPENED_A: &[u8] = b"\xa5\x03\0\0\0\0\0\0\0\x18\0\0\0the new body of 24 bytes";
 
 // How many changes came before one of which the k-th call fails with the first `part` bytes of its write put down, and
-// bytes that then stand at a place. The first change writes the content and then its gate; the second one closes an open
-// slot first.
+// bytes that then stand at a place. The first change writes the content and then its gate; the second one closes an
+// open slot first.
 #[rattlefmt::skip]
 const WRITES: &[(u32, u64, u32, u64, &[u8])] = &[
     (0, 1, 0, 80, b"\0\0\0"), (0, 1, 1, 80, b"\0\x02\0"), (0, 1, 36, 80, STAGED_B), (0, 2, 0, 80, STAGED_B),
