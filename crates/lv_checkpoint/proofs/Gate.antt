@@ -7,7 +7,7 @@ use Rattle.lv_disk.specs.Stops.{From, Follows, LeavesOnly}
 use Rattle.lv_disk.proofs.Moments.{weaker}
 use Rattle.lv_disk.specs.declared.area.Area.{Area}
 use Rattle.lv_disk.proofs.Gates.{closed_now}
-use Rattle.lv_disk.proofs.Bytes.{keeps_wider, has_one, one_has}
+use Rattle.lv_disk.proofs.Bytes.{keeps_wider, has_one}
 use Rattle.lv_disk.specs.Areas.{IsApart}
 use Rattle.lv_checkpoint.specs.Bodies.{HasContent, IsOpen, IsOpenWith, IsOlder, IsLive}
 use Rattle.lv_checkpoint.specs.Handles.{live_of, other_of, generation_of, second_of, finds_open, HasSomeSlots}

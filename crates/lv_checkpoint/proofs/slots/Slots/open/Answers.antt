@@ -1,6 +1,5 @@
-use Rattle.std.proofs.Common.{◌+◌, inl, inr, subst}
+use Rattle.std.proofs.Common.{◌+◌, ℕ, inl, inr, subst}
 use Rattle.lv_disk.specs.Files.{HasAt}
-use Rattle.lv_disk.specs.declared.area.Area.{Area}
 use Rattle.lv_disk.proofs.ReadingCalls.{both_runs, one_call}
 use Rattle.lv_checkpoint.proofs.Finding.{has_slots, not_bad}
 use Rattle.lv_checkpoint.proofs.slots.Slots.open.Goals as goal
@@ -93,7 +92,7 @@ returns-clause-sound g c = λ file reads.
     let at_body = c.in-Ok.ensures.reads.still file at_second in
     let heads = c.in-Ok-choose.ensures.heads file (c.in_ok-first.ensures.shows file at_first) (c.in-Ok.ensures.shows file at_second) in
     has_slots _ _ _ file c.in_ok-body.ensures.len heads
-    (subst (λ (a : Area). HasAt (a.base + 13) c.in_ok-body.body.items file) c.live.ensures (c.in_ok-body.ensures.told file at_body))
+    (subst (λ (k : ℕ). HasAt (k + 13) c.in_ok-body.body.items file) (cc) (c.in_ok-body.ensures.told file at_body))
 
 pub returns-clause-ready : goal.returns-clause-ready
 returns-clause-ready g c = λ file left.
