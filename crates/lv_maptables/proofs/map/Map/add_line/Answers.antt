@@ -31,3 +31,6 @@ returns-clause-edit c =
 pub push-requires : goal.push-requires
 push-requires c =
     omega (arith, length-map c.self.inside.lines.items (line_of c.self.inside.vertices.keys c.self.inside.sides.keys), c.self.invariant.line_count)
+
+pub overflow_cast-number : goal.overflow_cast-number
+overflow_cast-number c = omega (arith, c.len-number.ensures, length-map c.self.inside.lines.items (line_of c.self.inside.vertices.keys c.self.inside.sides.keys), c.self.invariant.line_count)

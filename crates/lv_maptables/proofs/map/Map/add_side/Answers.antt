@@ -53,3 +53,6 @@ keyed_side-keyed-requires c =
 
 pub push-requires : goal.push-requires
 push-requires c = omega (arith, length-map c.self.inside.sides.items (side_of c.self.inside.sectors.keys), c.self.invariant.side_count)
+
+pub overflow_cast-number : goal.overflow_cast-number
+overflow_cast-number c = omega (arith, c.len-number.ensures, length-map c.self.inside.sides.items (side_of c.self.inside.sectors.keys), c.self.invariant.side_count)

@@ -1,5 +1,5 @@
 -- Each test tells the least of its faults, and they stand one behind the other.
-use Rattle.std.proofs.Common.{◌≡◌, ℕ, Bool, List, [], ◌∷◌, ◌++◌, ◌∙◌}
+use Rattle.std.proofs.Common.{ℕ, Bool, List, [], ◌∷◌, ◌++◌, ◌∙◌}
 use Rattle.lv_maptables.specs.declared.error.MapError.TheVariants.{TableFull, LineTooLong}
 use Rattle.lv_maptables.specs.Errors.{code_of}
 use Rattle.lv_maptables.specs.Faults.{lacks_room, is_too_long, reference_faults, shape_faults, line_faults}

@@ -1,5 +1,5 @@
 -- Each test tells the least of its faults, and they stand one behind the other.
-use Rattle.std.proofs.Common.{◌≡◌, ℕ, Bool, List, [], ◌∷◌, ◌++◌, ◌∙◌, sym}
+use Rattle.std.proofs.Common.{ℕ, Bool, List, [], ◌∷◌, ◌++◌, ◌∙◌, sym}
 use Rattle.lv_maptables.specs.declared.error.MapError.TheVariants.{NoLine, LineTooLong}
 use Rattle.lv_maptables.specs.Errors.{code_of}
 use Rattle.lv_maptables.specs.Faults.{lacks, is_too_long, reference_faults, shape_faults, set_line_faults}

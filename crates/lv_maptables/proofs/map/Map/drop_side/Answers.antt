@@ -5,9 +5,10 @@ use Rattle.lv_maptables.specs.MapFields.{tables_of}
 use Rattle.lv_maptables.specs.Edits.{without_side}
 use Rattle.lv_maptables.specs.Keyed.{side_of}
 use Rattle.lv_maptables.proofs.ListLemmas.{map-remove}
-use Rattle.lv_maptables.proofs.FaultLemmas.{done}
+use Rattle.lv_maptables.proofs.FaultLemmas.{done, none_hold, not_lacking}
 use Rattle.lv_maptables.proofs.KeyedLemmas.{lines_drop_side, none_with}
 use Rattle.lv_maptables.proofs.SideLemmas.{without_side-keeps}
+use Rattle.lv_maptables.specs.Faults.{drop_side_faults}
 use Rattle.lv_maptables.proofs.map.Map.drop_side.Goals as goal
 
 pub invariant_of-self : goal.invariant_of-self
@@ -25,3 +26,13 @@ returns-clause-edit c =
     let few : length c.self.inside.sides.items ≤ 32767 = omega (arith, many, c.self.invariant.side_count) in
     let lines = lines_drop_side c.self.inside.vertices.keys c.self.inside.sides c.remove.new.self c.args.n (tables_of c.self.inside).sides c.self.inside.lines.items c.remove.ensures.ranks c.remove.ensures.count few many c.self.invariant.line_sides (none_with (tables_of c.self.inside) c.args.n fine) in
     rw (← c.self.view_is) (done _ (without_side (tables_of c.self.inside) c.args.n) _ tt tt fine (rw (c.remove.ensures.items, map-remove (side_of c.self.inside.sectors.keys) c.self.inside.sides.items c.args.n, lines) refl) refl)
+
+pub remove-requires-clause-few : goal.remove-requires-clause-few
+remove-requires-clause-few c = omega (arith, length-map c.self.inside.sides.items (side_of c.self.inside.sectors.keys), c.self.invariant.side_count)
+
+pub remove-requires-clause-there : goal.remove-requires-clause-there
+remove-requires-clause-there c =
+    let m = tables_of c.self.inside in
+    let fine = rw (← c.self.view_is) at c.in_ok-can_drop_side.ensures in
+    let there = not_lacking m.sides c.args.n (none_hold (drop_side_faults m c.args.n) fine).0 in
+    omega (arith, there, length-map c.self.inside.sides.items (side_of c.self.inside.sectors.keys))

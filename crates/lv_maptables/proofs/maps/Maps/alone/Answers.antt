@@ -1,0 +1,23 @@
+-- One well-formed map is a project.
+use Rattle.std.proofs.Common.{[], arith}
+use Rattle.std.proofs.lemmas.List.Elements.{All-push}
+use Rattle.lv_maptables.specs.Tables.{Tables}
+use Rattle.lv_maptables.specs.WellFormed.{WellFormed}
+use Rattle.lv_maptables.specs.Projects.{WellFormedProject}
+use Rattle.lv_maptables.specs.ProjectBody.{alone}
+use Rattle.lv_maptables.proofs.maps.Maps.alone.Goals as goal
+
+one_fine : (m : Tables) → WellFormed m → WellFormedProject (alone m)
+one_fine m w =
+    record {
+      count = omega arith;
+      current = omega arith;
+      maps = All-push WellFormed [] m (λ k d h. absurd (omega arith)) w;
+      names = λ i j d before within. absurd (omega arith);
+    }
+
+pub invariant_of-result : goal.invariant_of-result
+invariant_of-result c = record { number = omega arith; project = rw c.new_in.ensures (one_fine c.args.map.tables c.requires) }
+
+pub returns-clause-well_formed : goal.returns-clause-well_formed
+returns-clause-well_formed c = rw c.new_in.ensures (one_fine c.args.map.tables c.requires)
