@@ -3,8 +3,12 @@ use Rattle.std.proofs.lemmas.Int.{to_z-of_z}
 use Rattle.std.specs.Prelude.{FitsSigned, ◌/◌}
 use Rattle.std.specs.Int.{w16, w32}
 use Rattle.lv_blockmap.proofs.FillLemmas.{row_among, column_files, column_skipped, all_columns}
+use Rattle.lv_blockmap.proofs.RowLemmas.{rows_rise}
 use Rattle.lv_blockmap.proofs.fill.file_line.Goals as goal
 use Rattle.lv_blockmap.proofs.fill.file_line.Goals.{in-Some+in_ok-file_rows-in-Some, in-None}
+
+pub file_rows-requires-clause-order : goal.file_rows-requires-clause-order
+file_rows-requires-clause-order c = rows_rise _ _ _ _ _ _ _ c.in-Some.ensures
 
 pub loop-column-preserved : goal.loop-column-preserved
 loop-column-preserved c =
