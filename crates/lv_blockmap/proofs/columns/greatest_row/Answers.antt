@@ -1,4 +1,4 @@
-use Rattle.std.proofs.Common.{arith}
+use Rattle.std.proofs.Common.{refl, arith}
 use Rattle.std.proofs.lemmas.Int.{to_z-of_z}
 use Rattle.std.specs.Int.{w16, w32}
 use Rattle.lv_blockmap.proofs.RowLemmas.{none_above}
@@ -23,3 +23,9 @@ pub returns-after-loop-row-clause-touched : goal.returns-after-loop-row-clause-t
 returns-after-loop-row-clause-touched c =
     let i = simp (to_z-of_z w32 c.args.left c.ranges.left, to_z-of_z w16 c.args.bottom c.ranges.bottom) at c.loop-row.invariant in
     i.3
+
+pub loop-row-preserved : goal.loop-row-preserved
+loop-row-preserved c =
+    let at = c.loop-row.invariant.0 in
+    let low = c.loop-row.invariant.1 in
+    (refl, omega (arith, at, low), c.loop-row-test.true, c.touches_row.ensures.0 c.if-not-touches_row.false)
