@@ -1,14 +1,30 @@
 -- The least and the greatest coordinates of the ends of lines, line by line.
 use Rattle.std.proofs.Common.{◌≡◌, sym, ap, ◌∙◌, ℕ, ◌+◌, ◌<◌, ◌≤◌, List, [], ◌∷◌, ◌++◌, length, map, take, get_or, arith}
-use Rattle.std.proofs.lemmas.Int.{ints, clamps}
-use Rattle.std.specs.Prelude.{ℤ, pos, fold, ◌≤ℤ◌}
-use Rattle.std.specs.Int.{int_min, int_max}
+use Rattle.std.proofs.lemmas.Int.{ints, clamps, to_z-of_z, int_min_is, int_max_is}
+use Rattle.std.specs.Prelude.{ℤ, pos, fold, ◌≤ℤ◌, FitsSigned}
+use Rattle.std.specs.Int.{w16, int_min, int_max}
+use mir.Val.{to_z, of_z}
 use Rattle.std.proofs.lemmas.Grind.{flat_map-append, fold-append}
 use Rattle.std.proofs.lemmas.List.{take_more, take_all, map-append}
 use Rattle.lv_lumps.specs.declared.records.Vertex.{Vertex}
 use Rattle.lv_blockmap.specs.declared.line_ends.LineEnds.{LineEnds}
 use Rattle.lv_blockmap.specs.declared.grid.Grid.{Grid}
 use Rattle.lv_blockmap.specs.Blocks.{all_ends, least, greatest, blocks_over, grid_of}
+
+-- the lesser and the greater of two coordinates went to bits and came back
+pub lesser_back : (a b m : ℤ) → FitsSigned w16 a → FitsSigned w16 b → m ≡ int_min (to_z w16 (of_z w16 a)) (to_z w16 (of_z w16 b)) → to_z w16 (of_z w16 m) ≡ int_min a b
+lesser_back a b m f g e =
+    let s = rw (to_z-of_z w16 a f, to_z-of_z w16 b g) at e in
+    let is = int_min_is a b in
+    let h : FitsSigned w16 (int_min a b) = omega (arith, ints) in
+    ap (λ (z : ℤ). to_z w16 (of_z w16 z)) s ∙ to_z-of_z w16 (int_min a b) h
+
+pub greater_back : (a b m : ℤ) → FitsSigned w16 a → FitsSigned w16 b → m ≡ int_max (to_z w16 (of_z w16 a)) (to_z w16 (of_z w16 b)) → to_z w16 (of_z w16 m) ≡ int_max a b
+greater_back a b m f g e =
+    let s = rw (to_z-of_z w16 a f, to_z-of_z w16 b g) at e in
+    let is = int_max_is a b in
+    let h : FitsSigned w16 (int_max a b) = omega (arith, ints) in
+    ap (λ (z : ℤ). to_z w16 (of_z w16 z)) s ∙ to_z-of_z w16 (int_max a b) h
 
 -- a coordinate folded over the ends of the first n lines
 abbrev pub folded : (ℤ → ℤ → ℤ) → (Vertex → ℤ) → ℤ → List LineEnds → ℕ → ℤ

@@ -131,3 +131,7 @@ found_rows a b left bottom rows low high i t none l h u last =
 pub none_below : (a b : Vertex) (left bottom : ℤ) (low : ℕ) → TouchesRow a b left bottom low → (TouchesRow a b left bottom (low - 1) → ⊥) → NoRowBelow a b left bottom low
 none_below a b left bottom low t here r h u =
     here (between_rows a b left (bottom +ℤ pos (128 * r)) (bottom +ℤ pos (128 * (low - 1))) (bottom +ℤ pos (128 * low)) (omega (arith, ints)) (omega (arith, ints)) u t)
+
+-- the least row isn't above the greatest
+pub rows_rise : (a b : Vertex) (left bottom : ℤ) (rows low high : ℕ) → IsRowRange a b left bottom rows low high → low ≤ high
+rows_rise a b left bottom rows low high r = (r.within high r.among r.greatest).0

@@ -1,7 +1,7 @@
 -- The touch theorem: the test by box and corners says where a line touches a block.
-use Rattle.std.proofs.Common.{◌≡◌, refl, ◌⊎◌, inl, inr, [], ◌∷◌, arith}
+use Rattle.std.proofs.Common.{◌≡◌, refl, inl, inr, [], ◌∷◌, arith}
 use Rattle.std.proofs.lemmas.Int.{ints}
-use Rattle.std.specs.Prelude.{ℤ, pos, ◌+ℤ◌, ◌-ℤ◌, ◌*ℤ◌, neg_ℤ, ◌≤ℤ◌, ◌<ℤ◌}
+use Rattle.std.specs.Prelude.{ℤ, pos, ◌+ℤ◌, ◌-ℤ◌, ◌*ℤ◌, ◌≤ℤ◌, ◌<ℤ◌}
 use Rattle.lv_lumps.specs.declared.records.Vertex.{Vertex}
 use Rattle.std.specs.Prelude.{All, ◌↔◌, Bool, true, false, not}
 use Rattle.std.proofs.lemmas.List.Elements.{All-nil, All-cons, All-head, All-tail}

@@ -1,3 +1,4 @@
+//! The rows of a column of blocks that a line touches.
 ghost use Rattle.std.specs.Prelude.{◌↔◌, ◌≤◌, ◌<◌, ◌+◌, IsTrue, MatchOption};
 ghost use Rattle.lv_blockmap.specs.Rows.{TouchesRow, NoRowBelow, NoRowFrom, IsRowRange};
 
@@ -6,7 +7,7 @@ use crate::line_ends::LineEnds;
 use crate::touch::{spans_meet, touches};
 
 /// Rows of a column, from `low` to `high`.
-#[derive(Clone, Copy, Debug, PartialEq, Eq)]
+#[derive(Clone, Copy)]
 pub struct Rows {
     pub low: u32,
     pub high: u32,

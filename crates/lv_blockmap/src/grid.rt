@@ -1,3 +1,4 @@
+//! The grid of blocks over a map's lines.
 ghost use Rattle.std.specs.Prelude.{◌≡◌, ◌*◌, ◌<◌, ◌≤◌, ◌+ℤ◌, ◌≤ℤ◌, pos, length, FitsSigned};
 ghost use Rattle.std.specs.Int.{w16, int_min, int_max};
 ghost use Rattle.lv_blockmap.specs.Blocks.{IsGrid, blocks_over, grid_of};
@@ -6,7 +7,7 @@ use crate::line_ends::LineEnds;
 use lv_lumps::Vertex;
 
 /// The blocks over a map's lines: the lower left corner, and how many columns and rows there are.
-#[derive(Clone, Copy, Debug, PartialEq, Eq)]
+#[derive(Clone, Copy)]
 pub struct Grid {
     pub left: i16,
     pub bottom: i16,

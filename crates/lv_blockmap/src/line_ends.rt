@@ -1,3 +1,4 @@
+//! The lines of a map by the places of their ends.
 ghost use Rattle.std.specs.Prelude.{◌≡◌, ◌≤◌, length, IfOk, IsOkUnless};
 ghost use Rattle.lv_maptables.specs.WellFormed.{nth_vertex};
 ghost use Rattle.lv_blockmap.specs.Blocks.{ends_in, ends_of};
@@ -8,7 +9,7 @@ use lv_maptables::{Kind, Map};
 use std::alloc::Global;
 
 /// A line by the places of its ends.
-#[derive(Clone, Copy, Debug, PartialEq, Eq)]
+#[derive(Clone, Copy)]
 pub struct LineEnds {
     pub start: Vertex,
     pub end: Vertex,

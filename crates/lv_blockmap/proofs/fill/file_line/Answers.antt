@@ -1,10 +1,26 @@
-use Rattle.std.proofs.Common.{rules, ◌<◌, ℕ, length}
+use Rattle.std.proofs.Common.{rules, ◌≡◌, ◌∙◌, ◌+◌, ◌*◌, ◌<◌, ◌≤◌, ℕ, length, arith}
 use Rattle.std.proofs.lemmas.Int.{to_z-of_z}
+use Rattle.std.proofs.lemmas.Nat.{mul-le}
+use Rattle.std.proofs.Math.Nat.{mul_comm}
 use Rattle.std.specs.Prelude.{FitsSigned, ◌/◌}
 use Rattle.std.specs.Int.{w16, w32}
 use Rattle.lv_blockmap.proofs.FillLemmas.{row_among, column_files, column_skipped, all_columns}
+use Rattle.lv_blockmap.proofs.RowLemmas.{rows_rise}
 use Rattle.lv_blockmap.proofs.fill.file_line.Goals as goal
 use Rattle.lv_blockmap.proofs.fill.file_line.Goals.{in-Some+in_ok-file_rows-in-Some, in-None}
+
+-- the blocks of a column up to a row are blocks of the grid
+held : (columns rows high n : ℕ) → high < rows → n ≡ columns * rows → (high + 1) * columns ≤ n
+held columns rows high n h e =
+    let m = mul-le (high + 1) columns rows columns (omega arith) (omega arith) in
+    let k = mul_comm columns rows in
+    omega arith
+
+pub file_rows-requires-clause-all : goal.file_rows-requires-clause-all
+file_rows-requires-clause-all c = held c.args.grid.columns c.args.grid.rows c.in-Some.rows.high (length c.loop-column.lists) c.in-Some.ensures.among (c.loop-column.auto.lists ∙ c.requires.all)
+
+pub file_rows-requires-clause-order : goal.file_rows-requires-clause-order
+file_rows-requires-clause-order c = rows_rise _ _ _ _ _ _ _ c.in-Some.ensures
 
 pub loop-column-preserved : goal.loop-column-preserved
 loop-column-preserved c =
