@@ -1,3 +1,4 @@
+//! The line of a command of a map, as it is written.
 use crate::command::RoomPlan;
 use crate::keywords::kind_text;
 use crate::names::text_of;
