@@ -9,6 +9,7 @@ use Rattle.std.proofs.lemmas.List.Elements.{recursion_from_All}
 use Rattle.std.proofs.lemmas.List.Sums.{sum_by-append, sum_by-cons, count_by-le-length}
 use Rattle.std.proofs.lemmas.Option.{slice_get_within, get_or_from_slice_get}
 use Rattle.lv_lumps.specs.declared.records.Line.{Line}
+use Rattle.lv_lumps.specs.declared.records.Side.{Side}
 use Rattle.lv_maptables.specs.Tables.{Tables}
 use Rattle.lv_lumps.specs.Sides.{has_left}
 use Rattle.lv_maptables.specs.WellFormed.{WellFormed, HasEnds, HasSides}
@@ -29,6 +30,37 @@ edges_more m n l is =
 
 count_by-append : {X : Type 0} (p : X → Bool) (xs ys : List X) → count_by p (xs ++ ys) ≡ count_by p xs + count_by p ys
 count_by-append p xs ys = sum_by-append (λ x. cond (p x) 1 0) xs ys
+
+-- some edges, and then others
+pub adds_both : (old mid new : BTreeMap (ℕ × ℕ) Degrees) (es fs : List Edge) → AddsEdges old mid es → AddsEdges mid new fs → AddsEdges old new (es ++ fs)
+adds_both old mid new es fs a b =
+    record {
+      outgoing = λ q. omega (arith, a.outgoing q, b.outgoing q, count_by-append (leaves q.0 q.1) es fs);
+      incoming = λ q. omega (arith, a.incoming q, b.incoming q, count_by-append (reaches q.0 q.1) es fs);
+    }
+
+-- where there is room for two edges, there is for one behind the first
+pub room_after : (old new : BTreeMap (ℕ × ℕ) Degrees) (e : Edge) → HasRoom 2 old → AddsEdges old new (e ∷ []) → HasRoom 1 new
+room_after old new e h a =
+    record {
+      outgoing = λ q. omega (arith, h.outgoing q, a.outgoing q, count_by-le-length (leaves q.0 q.1) (e ∷ []));
+      incoming = λ q. omega (arith, h.incoming q, a.incoming q, count_by-le-length (reaches q.0 q.1) (e ∷ []));
+    }
+
+-- the side of a number that was read
+pub side_was : (m : Tables) (n k : ℕ) (s : Side) → slice_get m.sides n ≡ Some s → n ≡ k → side_in m k ≡ s
+side_was m n k s read same = ap (side_in m) (sym same) ∙ get_or_from_slice_get m.sides n s some_side read
+
+-- the edges of a line with these sides
+pub edges_of_one : (m : Tables) (l : Line) (right : Side) → side_in m l.right ≡ right → has_left l ≡ false
+    → edges_of m l ≡ (record { sector = right.sector; from = l.v1; to = l.v2 }) ∷ []
+edges_of_one m l right is none =
+    λ i. (record { sector = (is i).sector; from = l.v1; to = l.v2 }) ∷ cond (none i) ((record { sector = (side_in m l.left).sector; from = l.v2; to = l.v1 }) ∷ []) []
+
+pub edges_of_two : (m : Tables) (l : Line) (right left : Side) → side_in m l.right ≡ right → side_in m l.left ≡ left → has_left l ≡ true
+    → edges_of m l ≡ (record { sector = right.sector; from = l.v1; to = l.v2 }) ∷ (record { sector = left.sector; from = l.v2; to = l.v1 }) ∷ []
+edges_of_two m l right left is at some =
+    λ i. (record { sector = (is i).sector; from = l.v1; to = l.v2 }) ∷ cond (some i) ((record { sector = (at i).sector; from = l.v2; to = l.v1 }) ∷ []) []
 
 -- one line more is counted
 pub tally_more : (m : Tables) (n : ℕ) (l : Line) → slice_get m.lines n ≡ Some l → (old new : BTreeMap (ℕ × ℕ) Degrees)

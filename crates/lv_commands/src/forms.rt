@@ -1,20 +1,21 @@
+//! What stands behind the first word of a command of a map.
 ghost use Rattle.std.specs.Prelude.{◌≡◌, ◌&&◌, int_lt, [], ◌∷◌, ◌≤◌, Some, None, IfOk, decimal};
 ghost use Rattle.lv_lumps.specs.Names.{IsNamed, is_marker, name_text};
 ghost use Rattle.lv_maptables.specs.Ranges.{IsLine, IsSector, IsSide, IsThing, IsVertex};
-ghost use Rattle.lv_commands.specs.CommandRanges.{IsPlan, IsRoom, last_of};
+ghost use Rattle.lv_commands.specs.CommandRanges.{InRange, IsPlan};
 ghost use Rattle.lv_commands.specs.Errors.{TellsFault};
 ghost use Rattle.lv_commands.specs.Grammar.{drop_fault, room_fault};
 ghost use Rattle.lv_commands.specs.Places.{Named, item, line_places, places_fault, room_places, sector_item, sector_places, side_places, thing_places, vertex_places};
 ghost use Rattle.lv_commands.specs.Reading.{fault_with};
-ghost use Rattle.lv_commands.specs.Spelling.{kind_word, line_words, room_words, sector_words, side_words, thing_words, vertex_words};
+ghost use Rattle.lv_commands.specs.Spelling.{head_word, line_words, room_words, sector_words, side_words, thing_words, vertex_words, words_of};
 ghost use Rattle.lv_commands.specs.Views.{reading};
+ghost use Rattle.lv_commands.specs.declared.head.Head.TheVariants as head;
 
-use crate::command::RoomPlan;
+use crate::command::{Command, RoomPlan};
 use crate::error::CommandError;
 use crate::keywords::{kind_in, last_number};
 use crate::places::Places;
 use lv_lumps::{Line, Name8, Sector, Side, Thing, Vertex};
-use lv_maptables::Kind;
 
 const LEAST_COORDINATE: i16 = -16384;
 
@@ -161,61 +162,61 @@ impl<'a> Places<'a> {
     }
 
     /// The number of a sector, and what it becomes.
-    pub fn numbered_sector(mut self) -> Result<(u16, Sector), CommandError>
+    pub fn set_sector(mut self) -> Result<Command, CommandError>
         requires { (reading self).fault ≡ None }
-        ensures ok { IfOk result (λ r. ((reading self.entry).words ≡ decimal r.0 ∷ sector_words r.1)
-            × (r.0 ≤ 4095) × IsSector r.1) }
+        ensures ok { IfOk result (λ c.
+            (head_word head.SetSector ∷ (reading self.entry).words ≡ words_of c) × InRange c) }
         ensures fault { TellsFault result
             (places_fault (sector_item ∷ sector_places) (reading self.entry).words) }
     {
         let number = self.item(LAST_SECTOR);
         match self.sector() {
-            Ok(sector) => Ok((number, sector)),
+            Ok(sector) => Ok(Command::SetSector(number, sector)),
             Err(error) => Err(error),
         }
     }
 
     /// The number of a side, and what it becomes.
-    pub fn numbered_side(mut self) -> Result<(u16, Side), CommandError>
+    pub fn set_side(mut self) -> Result<Command, CommandError>
         requires { (reading self).fault ≡ None }
-        ensures ok { IfOk result (λ r. ((reading self.entry).words ≡ decimal r.0 ∷ side_words r.1)
-            × (r.0 ≤ 32766) × IsSide r.1) }
+        ensures ok { IfOk result (λ c.
+            (head_word head.SetSide ∷ (reading self.entry).words ≡ words_of c) × InRange c) }
         ensures fault { TellsFault result
             (places_fault (item ∷ side_places) (reading self.entry).words) }
     {
         let number = self.item(LAST_ITEM);
         match self.side() {
-            Ok(side) => Ok((number, side)),
+            Ok(side) => Ok(Command::SetSide(number, side)),
             Err(error) => Err(error),
         }
     }
 
     /// The number of a line, and what it becomes.
-    pub fn numbered_line(mut self) -> Result<(u16, Line), CommandError>
+    pub fn set_line(mut self) -> Result<Command, CommandError>
         requires { (reading self).fault ≡ None }
-        ensures ok { IfOk result (λ r. ((reading self.entry).words ≡ decimal r.0 ∷ line_words r.1)
-            × (r.0 ≤ 32766) × IsLine r.1) }
+        ensures ok { IfOk result (λ c.
+            (head_word head.SetLine ∷ (reading self.entry).words ≡ words_of c) × InRange c) }
         ensures fault { TellsFault result
             (places_fault (item ∷ line_places) (reading self.entry).words) }
     {
         let number = self.item(LAST_ITEM);
         match self.line() {
-            Ok(line) => Ok((number, line)),
+            Ok(line) => Ok(Command::SetLine(number, line)),
             Err(error) => Err(error),
         }
     }
 
     /// The number of a thing, and what it becomes.
-    pub fn numbered_thing(mut self) -> Result<(u16, Thing), CommandError>
+    pub fn set_thing(mut self) -> Result<Command, CommandError>
         requires { (reading self).fault ≡ None }
-        ensures ok { IfOk result (λ r. ((reading self.entry).words ≡ decimal r.0 ∷ thing_words r.1)
-            × (r.0 ≤ 32766) × IsThing r.1) }
+        ensures ok { IfOk result (λ c.
+            (head_word head.SetThing ∷ (reading self.entry).words ≡ words_of c) × InRange c) }
         ensures fault { TellsFault result
             (places_fault (item ∷ thing_places) (reading self.entry).words) }
     {
         let number = self.item(LAST_ITEM);
         match self.thing() {
-            Ok(thing) => Ok((number, thing)),
+            Ok(thing) => Ok(Command::SetThing(number, thing)),
             Err(error) => Err(error),
         }
     }
@@ -252,15 +253,16 @@ impl<'a> Places<'a> {
     }
 
     /// A room that isn't flat.
-    pub fn room(self) -> Result<RoomPlan, CommandError>
+    pub fn room(self) -> Result<Command, CommandError>
         requires { (reading self).fault ≡ None }
-        ensures ok { IfOk result (λ r. ((reading self.entry).words ≡ room_words r) × IsRoom r) }
+        ensures ok { IfOk result (λ c.
+            (head_word head.Room ∷ (reading self.entry).words ≡ words_of c) × InRange c) }
         ensures fault { TellsFault result (room_fault (reading self.entry).words) }
     {
         match self.room_plan() {
             Ok(plan) => {
                 if has_area(&plan) {
-                    Ok(plan)
+                    Ok(Command::Room(plan))
                 } else {
                     Err(CommandError::OutOfRange)
                 }
@@ -269,12 +271,11 @@ impl<'a> Places<'a> {
         }
     }
 
-    /// A table and the number of an item of it.
-    pub fn kind_and_item(mut self) -> Result<(Kind, u16), CommandError>
+    /// A table and the number of an item of it, which is taken out.
+    pub fn drop_item(mut self) -> Result<Command, CommandError>
         requires { (reading self).fault ≡ None }
-        ensures ok { IfOk result
-            (λ r. ((reading self.entry).words ≡ kind_word r.0 ∷ decimal r.1 ∷ [])
-            × (r.1 ≤ last_of r.0)) }
+        ensures ok { IfOk result (λ c.
+            (head_word head.Drop ∷ (reading self.entry).words ≡ words_of c) × InRange c) }
         ensures fault { TellsFault result (drop_fault (reading self.entry).words) }
     {
         let Some(word) = self.next() else {
@@ -285,7 +286,7 @@ impl<'a> Places<'a> {
         };
         let number = self.item(last_number(kind));
         match self.finish() {
-            Ok(()) => Ok((kind, number)),
+            Ok(()) => Ok(Command::Drop(kind, number)),
             Err(error) => Err(error),
         }
     }

@@ -1,3 +1,4 @@
+//! Which lines are commands of a map.
 ghost use Rattle.std.specs.Prelude.{◌≡◌, ◌∷◌, None, IfOk};
 ghost use Rattle.lv_commands.specs.CommandRanges.{InRange};
 ghost use Rattle.lv_commands.specs.Errors.{TellsFault};
@@ -22,44 +23,28 @@ fn command(head: Head, places: Places) -> Result<Command, CommandError>
         (head_word head ∷ (reading places.entry).words ≡ words_of c) × InRange c) }
     ensures fault { TellsFault result (fault_behind head (reading places.entry).words) }
 {
-    let command = match head {
-        Head::Name => Command::Name(places.map_name()?),
-        Head::Vertex => Command::AddVertex(places.vertex()?),
-        Head::Sector => Command::AddSector(places.sector()?),
-        Head::Side => Command::AddSide(places.side()?),
-        Head::Line => Command::AddLine(places.line()?),
-        Head::Thing => Command::AddThing(places.thing()?),
+    match head {
+        Head::Name => Ok(Command::Name(places.map_name()?)),
+        Head::Vertex => Ok(Command::AddVertex(places.vertex()?)),
+        Head::Sector => Ok(Command::AddSector(places.sector()?)),
+        Head::Side => Ok(Command::AddSide(places.side()?)),
+        Head::Line => Ok(Command::AddLine(places.line()?)),
+        Head::Thing => Ok(Command::AddThing(places.thing()?)),
         Head::MoveVertex => {
             let (n, vertex) = places.numbered_vertex()?;
-            Command::SetVertex(n, vertex)
+            Ok(Command::SetVertex(n, vertex))
         }
-        Head::SetSector => {
-            let (n, sector) = places.numbered_sector()?;
-            Command::SetSector(n, sector)
-        }
-        Head::SetSide => {
-            let (n, side) = places.numbered_side()?;
-            Command::SetSide(n, side)
-        }
-        Head::SetLine => {
-            let (n, line) = places.numbered_line()?;
-            Command::SetLine(n, line)
-        }
-        Head::SetThing => {
-            let (n, thing) = places.numbered_thing()?;
-            Command::SetThing(n, thing)
-        }
-        Head::Drop => {
-            let (kind, n) = places.kind_and_item()?;
-            Command::Drop(kind, n)
-        }
-        Head::Room => Command::Room(places.room()?),
+        Head::SetSector => places.set_sector(),
+        Head::SetSide => places.set_side(),
+        Head::SetLine => places.set_line(),
+        Head::SetThing => places.set_thing(),
+        Head::Drop => places.drop_item(),
+        Head::Room => places.room(),
         Head::Split => {
             let (line, at) = places.numbered_vertex()?;
-            Command::Split(LineSplit { line, at })
+            Ok(Command::Split(LineSplit { line, at }))
         }
-    };
-    Ok(command)
+    }
 }
 
 /// The command of a map that a line is, or what is wrong with it.

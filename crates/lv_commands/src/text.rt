@@ -1,3 +1,4 @@
+//! The line of a command of a map, as it is written.
 use crate::command::RoomPlan;
 use crate::keywords::kind_text;
 use crate::names::text_of;
@@ -91,7 +92,6 @@ impl Text {
     }
 
     /// The words of a sector.
-    #[tactic(auto, using(crate::proofs::Padding::name_utf8))]
     pub fn sector(self, sector: &Sector) -> Result<Self, AllocError>
         requires { IsSector sector.now }
         ensures { IfOk result
@@ -107,7 +107,6 @@ impl Text {
     }
 
     /// The words of a side.
-    #[tactic(auto, using(crate::proofs::Padding::name_utf8))]
     pub fn side(self, side: &Side) -> Result<Self, AllocError>
         requires { IsSide side.now }
         ensures { IfOk result (λ t. Adds self t (32 ∷ join_with_byte 32 (side_words side.now))) }
@@ -145,7 +144,6 @@ impl Text {
     }
 
     /// The words of a room.
-    #[tactic(auto, using(crate::proofs::Padding::name_utf8))]
     pub fn room(self, plan: &RoomPlan) -> Result<Self, AllocError>
         requires { IsPlan plan.now }
         ensures { IfOk result (λ t. Adds self t (32 ∷ join_with_byte 32 (room_words plan.now))) }

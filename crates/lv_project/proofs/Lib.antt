@@ -6,6 +6,7 @@ pub mod Recording
 pub mod Sound
 pub mod Endings
 pub mod Gates
+pub mod Counts
 pub mod Creating
 pub mod Openings
 pub mod Spent

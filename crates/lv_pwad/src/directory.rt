@@ -1,3 +1,4 @@
+//! The directory of a WAD: its entries, and where a level's stand.
 ghost use Rattle.std.specs.Prelude.{◌≡◌, ◌+◌, ◌*◌, ◌≤◌, ◌<◌, length, take, All, IfSome};
 ghost use Rattle.lv_pwad.specs.Levels.{HasEntries, are_inside, are_named, are_whole, entry, has_directory, has_lumps};
 ghost use Rattle.lv_pwad.specs.Levels.{is_hexen, is_named, is_outside, is_wad, long_at, lump_count, marker, record_sizes, same};
@@ -7,7 +8,7 @@ use byteorder::{ByteOrder, LittleEndian};
 use lv_lumps::Name8;
 
 /// An entry of the directory: where its lump stands, how many bytes it has, and its name.
-#[derive(Clone, Copy, Debug, PartialEq, Eq)]
+#[derive(Clone, Copy)]
 pub struct Entry {
     pub at: u32,
     pub size: u32,

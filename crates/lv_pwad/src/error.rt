@@ -1,3 +1,4 @@
+//! Why bytes hold no level, and why a map is not built.
 ghost use Rattle.std.specs.Prelude.{◌≡◌};
 ghost use Rattle.lv_pwad.specs.Errors.{build_code_of, code_of};
 ghost use Rattle.lv_pwad.specs.declared.error.BuildError.TheVariants as build;
@@ -5,27 +6,37 @@ ghost use Rattle.lv_pwad.specs.declared.error.ReadError.TheVariants.{OutOfMemory
 
 use lv_lumps::LumpError;
 use std::alloc::{AllocError, AllocFailed};
+use std::fmt;
 use thiserror::Error;
 
 /// Why bytes hold no level of a name.
 #[derive(Clone, Copy, Debug, PartialEq, Eq, Error)]
 pub enum ReadError {
-    #[error("a lump is no whole number of records")]
     LumpLength,
-    #[error("the file is no WAD")]
     NotAWad,
-    #[error("the directory ends beyond the file")]
     DirectoryOutside,
-    #[error("the WAD has no level of this name")]
     NoSuchLevel,
-    #[error("a lump of the level is missing, or stands in another place")]
     LumpMissing,
-    #[error("a lump of the level ends beyond the file")]
     LumpOutside,
-    #[error("the level is one of Hexen")]
     HexenLevel,
-    #[error("out of memory")]
     OutOfMemory,
+}
+
+// One call writes each fixed text, so that the proof has one call to follow.
+impl fmt::Display for ReadError {
+    fn fmt<W: fmt::Write>(&self, f: &mut fmt::Formatter<W>) -> fmt::Result {
+        let text = match self {
+            ReadError::LumpLength => "a lump is no whole number of records",
+            ReadError::NotAWad => "the file is no WAD",
+            ReadError::DirectoryOutside => "the directory ends beyond the file",
+            ReadError::NoSuchLevel => "the WAD has no level of this name",
+            ReadError::LumpMissing => "a lump of the level is missing, or stands in another place",
+            ReadError::LumpOutside => "a lump of the level ends beyond the file",
+            ReadError::HexenLevel => "the level is one of Hexen",
+            ReadError::OutOfMemory => "out of memory",
+        };
+        f.write_str(text)
+    }
 }
 
 impl ReadError {
@@ -65,20 +76,29 @@ impl<T: Drop> From<AllocFailed<T>> for ReadError {
 /// Why a map is not built.
 #[derive(Clone, Copy, Debug, PartialEq, Eq, Error)]
 pub enum BuildError {
-    #[error("there is no line to build from")]
     NothingToBuild,
-    #[error("the tree needs more than 32767 vertices")]
     TooManyVertices,
-    #[error("the tree has more than 32767 segs")]
     TooManySegs,
-    #[error("the tree has more than 32767 subsectors")]
     TooManySubsectors,
-    #[error("a path of the tree has more than 1024 nodes")]
     TooDeep,
-    #[error("a list of the blockmap would begin beyond word 32767")]
     BlockmapTooLarge,
-    #[error("out of memory")]
     OutOfMemory,
+}
+
+// One call writes each fixed text, so that the proof has one call to follow.
+impl fmt::Display for BuildError {
+    fn fmt<W: fmt::Write>(&self, f: &mut fmt::Formatter<W>) -> fmt::Result {
+        let text = match self {
+            BuildError::NothingToBuild => "there is no line to build from",
+            BuildError::TooManyVertices => "the tree needs more than 32767 vertices",
+            BuildError::TooManySegs => "the tree has more than 32767 segs",
+            BuildError::TooManySubsectors => "the tree has more than 32767 subsectors",
+            BuildError::TooDeep => "a path of the tree has more than 1024 nodes",
+            BuildError::BlockmapTooLarge => "a list of the blockmap would begin beyond word 32767",
+            BuildError::OutOfMemory => "out of memory",
+        };
+        f.write_str(text)
+    }
 }
 
 impl BuildError {

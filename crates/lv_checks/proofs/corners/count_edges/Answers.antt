@@ -1,6 +1,10 @@
 use Rattle.std.proofs.Common.{sym, ◌∙◌, arith}
 use Rattle.lv_checks.proofs.EdgeCounts.{tally_more, tally_room}
+use Rattle.lv_checks.proofs.ItemReads.{is_there}
 use Rattle.lv_checks.proofs.corners.count_edges.Goals as goal
+
+pub unwrap-line-requires : goal.unwrap-line-requires
+unwrap-line-requires c = is_there c.args.map.now.tables.lines c.loop-n.n _ c.line.ensures.item (omega arith)
 
 pub count_line-requires-clause-room : goal.count_line-requires-clause-room
 count_line-requires-clause-room c =

@@ -1,9 +1,12 @@
 use Rattle.std.proofs.Common.{eqb, sym, ap, ◌∙◌, arith}
 use Rattle.lv_maptables.specs.Faults.{in_sector}
 use Rattle.lv_maptables.specs.WellFormed.{HasSector}
-use Rattle.lv_checks.proofs.ItemReads.{at_some}
+use Rattle.lv_checks.proofs.ItemReads.{at_some, is_there}
 use Rattle.lv_checks.proofs.MarkSteps.{marks_one}
 use Rattle.lv_checks.proofs.unused.used_sectors.Goals as goal
+
+pub unwrap-side-requires : goal.unwrap-side-requires
+unwrap-side-requires c = is_there c.args.map.now.tables.sides c.loop-n.n _ c.side.ensures.item (omega arith)
 
 pub loop-n-preserved : goal.loop-n-preserved
 loop-n-preserved c =

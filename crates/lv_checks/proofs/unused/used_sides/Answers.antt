@@ -2,11 +2,14 @@ use Rattle.std.proofs.Common.{◌≡◌, ◌≢◌, false, true, eqb, ◌&&◌, 
 use Rattle.lv_lumps.specs.Sides.{has_left, no_side}
 use Rattle.lv_maptables.specs.Faults.{uses_side}
 use Rattle.lv_maptables.specs.WellFormed.{HasSides}
-use Rattle.lv_checks.proofs.ItemReads.{at_some}
+use Rattle.lv_checks.proofs.ItemReads.{at_some, is_there}
 use Rattle.lv_checks.proofs.MarkSteps.{or_false, marks_one, marks_two}
 use Rattle.lv_checks.proofs.SideLemmas.{has_left-true}
 use Rattle.lv_checks.proofs.unused.used_sides.Goals as goal
 use Rattle.lv_checks.proofs.unused.used_sides.Goals.{then-has_left, else-has_left}
+
+pub unwrap-line-requires : goal.unwrap-line-requires
+unwrap-line-requires c = is_there c.args.map.now.tables.lines c.loop-n.n _ c.line.ensures.item (omega arith)
 
 pub loop-n-preserved : goal.loop-n-preserved
 loop-n-preserved c =

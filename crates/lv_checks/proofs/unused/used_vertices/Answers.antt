@@ -1,9 +1,12 @@
 use Rattle.std.proofs.Common.{eqb, ◌||◌, sym, ◌∙◌, arith}
 use Rattle.lv_maptables.specs.Faults.{uses_vertex}
 use Rattle.lv_maptables.specs.WellFormed.{HasEnds}
-use Rattle.lv_checks.proofs.ItemReads.{at_some}
+use Rattle.lv_checks.proofs.ItemReads.{at_some, is_there}
 use Rattle.lv_checks.proofs.MarkSteps.{marks_two}
 use Rattle.lv_checks.proofs.unused.used_vertices.Goals as goal
+
+pub unwrap-line-requires : goal.unwrap-line-requires
+unwrap-line-requires c = is_there c.args.map.now.tables.lines c.loop-n.n _ c.line.ensures.item (omega arith)
 
 pub loop-n-preserved : goal.loop-n-preserved
 loop-n-preserved c =

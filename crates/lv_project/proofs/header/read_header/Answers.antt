@@ -1,7 +1,8 @@
-use Rattle.std.proofs.Common.{rules, ℕ, List, subst}
+use Rattle.std.proofs.Common.{rules, ℕ, List, subst, ◌∙◌, refl}
 use Rattle.lv_disk.specs.Files.{HasAt}
 use Rattle.lv_disk.proofs.Bytes.{has_same}
 use Rattle.lv_project.specs.Places.{header_bytes}
+use Rattle.lv_project.proofs.Counts.{apart, none_failed, other_refusal}
 use Rattle.lv_project.proofs.header.read_header.Goals as goal
 
 pub returns-in-None-clause-refused : goal.returns-in-None-clause-refused
@@ -19,3 +20,14 @@ returns-in-Some-2-clause-refused g c file read =
       subst (λ (bytes : List ℕ). HasAt 0 bytes file) c.in-Some-2.ensures.some (c.in_ok-read.ensures.told file (c.in_ok-len.ensures.still file read)),
       search rules,
     )
+
+pub returns-in-Some-clause-count : goal.returns-in-Some-clause-count
+returns-in-Some-clause-count g c = none_failed _ _ _ _ (c.in_ok-read.ensures.count.done ∙ c.in_ok-len.ensures.count.done)
+
+pub returns-in-Some-2-clause-count : goal.returns-in-Some-2-clause-count
+returns-in-Some-2-clause-count g c =
+    other_refusal _ _ _ _ (apart _ refl) (c.in_ok-read.ensures.count.done ∙ c.in_ok-len.ensures.count.done)
+
+pub returns-in-None-clause-count : goal.returns-in-None-clause-count
+returns-in-None-clause-count g c =
+    other_refusal _ _ _ _ (apart _ refl) (c.in_ok-read.ensures.count.done ∙ c.in_ok-len.ensures.count.done)

@@ -1,4 +1,5 @@
-use Rattle.std.proofs.Common.{arith}
+use Rattle.std.proofs.Common.{arith, ◌∙◌, refl, ap}
+use Rattle.lv_project.proofs.Counts.{apart, is_journals, journal_apart, none_failed, other_refusal, part_failed, refused_well, went_well}
 use Rattle.lv_project.proofs.Gates.{missing, both, alone}
 use Rattle.lv_project.proofs.opening.open_journal.Goals as goal
 
@@ -15,3 +16,30 @@ pub returns-in-Err-Damaged-2-clause-refused : goal.returns-in-Err-Damaged-2-clau
 returns-in-Err-Damaged-2-clause-refused g c file reads =
     alone c.args.parts file c.in-Err-Damaged.place (c.in-Err-Damaged.ensures.damaged c.in-Err-Damaged.place c.in-Err-Damaged.field-0-is file (c.in_ok-end.ensures.still file reads))
     (omega (arith, c.if-end-other-2.false, c.in_ok-end.ensures.told file reads))
+
+pub returns-in-Ok-clause-count : goal.returns-in-Ok-clause-count
+returns-in-Ok-clause-count g c =
+    other_refusal _ _ _ _ (apart _ refl) (went_well _ _ _ _ c.in-Ok.ensures.count ∙ c.in_ok-end.ensures.count.done)
+
+pub returns-in-Ok-2-clause-count : goal.returns-in-Ok-2-clause-count
+returns-in-Ok-2-clause-count g c =
+    none_failed _ _ _ _ (went_well _ _ _ _ c.in-Ok-2.ensures.count ∙ c.in_ok-end.ensures.count.done)
+
+pub returns-in-Err-Damaged-clause-count : goal.returns-in-Err-Damaged-clause-count
+returns-in-Err-Damaged-clause-count g c =
+    other_refusal _ _ _ _ (apart _ refl)
+    (refused_well _ _ _ _ (journal_apart _ (ap is_journals c.in-Err-Damaged.field-0-is)) c.in-Err-Damaged.ensures.count ∙ c.in_ok-end.ensures.count.done)
+
+pub returns-in-Err-Damaged-2-clause-count : goal.returns-in-Err-Damaged-2-clause-count
+returns-in-Err-Damaged-2-clause-count g c =
+    other_refusal _ _ _ _ (apart _ refl)
+    (refused_well _ _ _ _ (journal_apart _ (ap is_journals c.in-Err-Damaged.field-0-is)) c.in-Err-Damaged.ensures.count ∙ c.in_ok-end.ensures.count.done)
+
+pub returns-in-Err-OutOfMemory-clause-count : goal.returns-in-Err-OutOfMemory-clause-count
+returns-in-Err-OutOfMemory-clause-count g c =
+    other_refusal _ _ _ _ (apart _ refl)
+    (refused_well _ _ _ _ (journal_apart _ (ap is_journals c.in-Err-OutOfMemory.field-0-is)) c.in-Err-OutOfMemory.ensures.count ∙ c.in_ok-end.ensures.count.done)
+
+pub returns-in-Err-Device-clause-count : goal.returns-in-Err-Device-clause-count
+returns-in-Err-Device-clause-count g c =
+    part_failed _ _ _ _ c.in_ok-end.ensures.count.done _ _ c.in-Err-Device.field-0-is c.in-Err-Device.ensures.count

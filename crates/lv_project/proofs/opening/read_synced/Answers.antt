@@ -1,11 +1,13 @@
 use Rattle.std.proofs.Common.{◌≡◌, ◌∙◌, ◌<◌, ℕ, length, ap, subst}
 use Rattle.lv_maptables.specs.Projects.{project_of}
+use Rattle.lv_disk.proofs.ReadingCalls.{both_runs}
 use Rattle.lv_journal.specs.Records.{IsJournal}
 use Rattle.lv_commands.specs.ProjectLines.{Leads}
 use Rattle.lv_checkpoint.specs.Handles.{generation_of, slot_of}
 use Rattle.lv_project.specs.Opening.{RefusesLines}
 use Rattle.lv_project.specs.Places.{cap_of, parts_of}
 use Rattle.lv_project.specs.declared.places.Parts.{Parts}
+use Rattle.lv_project.proofs.Counts.{none_failed, passed_on, went_well}
 use Rattle.lv_project.proofs.Openings.{lines_later, of_lines, of_slots, slots_later}
 use Rattle.lv_project.proofs.opening.read_synced.Goals as goal
 
@@ -61,3 +63,30 @@ returns-in-Ok-read_lines-clause-opened g c file read =
       slots = c.in-Ok-read_slots.ensures.slots file later;
       journal = sound;
     }
+
+pub returns-in-Ok-read_lines-clause-count : goal.returns-in-Ok-read_lines-clause-count
+returns-in-Ok-read_lines-clause-count g c =
+    none_failed _ _ _ _
+    (went_well _ _ _ _ c.in-Ok-read_lines.ensures.count ∙ went_well _ _ _ _ c.in-Ok-read_slots.ensures.count
+    ∙ went_well _ _ _ _ c.in-Ok.ensures.count)
+
+pub returns-in-Err-read_lines-clause-count : goal.returns-in-Err-read_lines-clause-count
+returns-in-Err-read_lines-clause-count g c =
+    passed_on _ _ _ _ (went_well _ _ _ _ c.in-Ok-read_slots.ensures.count ∙ went_well _ _ _ _ c.in-Ok.ensures.count) _
+    c.in-Err-read_lines.ensures.count
+
+pub returns-in-Err-read_slots-clause-count : goal.returns-in-Err-read_slots-clause-count
+returns-in-Err-read_slots-clause-count g c =
+    passed_on _ _ _ _ (went_well _ _ _ _ c.in-Ok.ensures.count) _ c.in-Err-read_slots.ensures.count
+
+pub returns-in-Ok-read_lines-clause-reads : goal.returns-in-Ok-read_lines-clause-reads
+returns-in-Ok-read_lines-clause-reads g c =
+    both_runs g.D.Disk.reads g.D.Disk.may_leave g.D.Disk.moment g.D.Disk.left_since g.met.D.Disk.only_now _ _ _ c.in-Ok.ensures.reads
+    (both_runs g.D.Disk.reads g.D.Disk.may_leave g.D.Disk.moment g.D.Disk.left_since g.met.D.Disk.only_now _ _ _ c.in-Ok-read_slots.ensures.reads
+    c.in-Ok-read_lines.ensures.reads)
+
+pub returns-in-Err-read_lines-clause-reads : goal.returns-in-Err-read_lines-clause-reads
+returns-in-Err-read_lines-clause-reads g c =
+    both_runs g.D.Disk.reads g.D.Disk.may_leave g.D.Disk.moment g.D.Disk.left_since g.met.D.Disk.only_now _ _ _ c.in-Ok.ensures.reads
+    (both_runs g.D.Disk.reads g.D.Disk.may_leave g.D.Disk.moment g.D.Disk.left_since g.met.D.Disk.only_now _ _ _ c.in-Ok-read_slots.ensures.reads
+    c.in-Err-read_lines.ensures.reads)

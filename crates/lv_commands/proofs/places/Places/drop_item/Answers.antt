@@ -5,7 +5,7 @@ use Rattle.lv_commands.specs.Reading.{fault_with}
 use Rattle.lv_commands.specs.Views.{reading}
 use Rattle.lv_commands.proofs.Readings.{fresh, done}
 use Rattle.lv_commands.proofs.Rooms.{drop-is}
-use Rattle.lv_commands.proofs.places.Places.kind_and_item.Goals as goal
+use Rattle.lv_commands.proofs.places.Places.drop_item.Goals as goal
 
 pub returns-in-Ok-clause-fault : goal.returns-in-Ok-clause-fault
 returns-in-Ok-clause-fault c =

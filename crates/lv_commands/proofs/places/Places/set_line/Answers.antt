@@ -2,7 +2,7 @@ use Rattle.std.proofs.Common.{◌∙◌, sym, ◌∷◌}
 use Rattle.lv_commands.specs.Places.{item, line_places}
 use Rattle.lv_commands.specs.Views.{reading}
 use Rattle.lv_commands.proofs.Readings.{fresh}
-use Rattle.lv_commands.proofs.places.Places.numbered_line.Goals as goal
+use Rattle.lv_commands.proofs.places.Places.set_line.Goals as goal
 
 pub returns-in-Ok-clause-fault : goal.returns-in-Ok-clause-fault
 returns-in-Ok-clause-fault c =
