@@ -1,7 +1,8 @@
+//! What the words of the program ask for, or why they ask for nothing.
 use thiserror::Error;
 
 /// What the program is asked to do. A file is a path as it was given.
-#[derive(Debug, Drop)]
+#[derive(Drop)]
 pub enum Request {
     /// Answer the lines of the input over maps in memory.
     Scratch,

@@ -1,3 +1,4 @@
+//! What a build of all maps makes: its PWAD, its counts, and the file that it goes into.
 ghost use Rattle.std.specs.Prelude.{◌≡◌, ◌≤◌, ◌+◌, List, ℕ, All, Err, Some, length, IfErr, IfOk, IsOkUnless, MatchResult, OnOk, slice_get};
 ghost use Rattle.std.specs.Io.KnownBytes.{Appends};
 ghost use Rattle.lv_maptables.specs.Projects.{project_of};
@@ -22,7 +23,7 @@ use std::io::Write;
 use std::os::unix::fs::FileExt;
 
 /// How many records a build made, and how many bytes its PWAD has.
-#[derive(Clone, Copy, Debug, PartialEq, Eq)]
+#[derive(Clone, Copy)]
 pub struct Counts {
     pub vertices: u64,
     pub segs: u64,

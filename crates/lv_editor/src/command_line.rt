@@ -1,11 +1,12 @@
+//! The words of the program: the command line that clap reads, and what the words ask for.
 ghost use Rattle.std.specs.Prelude.{◌≡◌, ◌≤◌, IfOk, IfErr, IfSome, IfNone, IsSomeAnd, Some, codes, map, string_bytes};
-ghost use Rattle.clap.specs.Words.{app_of, first_of, found_of, new_app, rows_of, subcommand_of};
+ghost use Rattle.clap.specs.Words.{App, app_of, first_of, found_of, new_app, rows_of, subcommand_of, with_subcommand};
 ghost use Rattle.lv_editor.specs.Request.{AsksFor, HasNumber, IsArg, IsCommand, IsRefusal, IsSubcommand, LacksNumber, RefusesText, RefusesValues, build_app, create_app, inspect_app, journal_rule, leveled_app, option_rule, slot_rule, with_subcommands, with_word, word_rule};
 
 use crate::asked::{Request, RequestError};
 use crate::help;
-use clap::{Arg, ArgMatches, Command, Error, value_parser};
-use std::alloc::Global;
+use clap::{Arg, ArgMatches, Command, value_parser};
+use std::alloc::{AllocError, Global};
 
 // A word that has to be there, and what help calls it.
 fn word<'a>(alloc: Global, id: &'a str, name: &'a str) -> Arg<'a>
@@ -27,10 +28,10 @@ fn over_file<'a>(
     name: &'a str,
     about: &'a str,
     help: &'a str,
-) -> Result<Command<'a>, Error>
+) -> Result<Command<'a>, AllocError>
     ensures { IfOk result (λ c. IsCommand c (with_word name.now (codes "file"))) }
 {
-    Ok(named(alloc, name, about, help).arg(word(alloc, "file", "FILE"))?)
+    named(alloc, name, about, help).arg(word(alloc, "file", "FILE"))
 }
 
 // `--ID N`, with the N that is taken where there is none.
@@ -58,87 +59,106 @@ fn journal<'a>(alloc: Global) -> Arg<'a>
 }
 
 // `create`.
-fn create<'a>(alloc: Global) -> Result<Command<'a>, Error>
+fn create<'a>(alloc: Global) -> Result<Command<'a>, AllocError>
     ensures { IfOk result (λ c. IsCommand c create_app) }
 {
-    Ok(
-        over_file(alloc, "create", "Makes a project file", help::CREATE)?
-            .arg(slot(alloc))?
-            .arg(journal(alloc))?,
-    )
+    over_file(alloc, "create", "Makes a project file", help::CREATE)?
+        .arg(slot(alloc))?
+        .arg(journal(alloc))
 }
 
 // `build`.
-fn build<'a>(alloc: Global) -> Result<Command<'a>, Error>
+fn build<'a>(alloc: Global) -> Result<Command<'a>, AllocError>
     ensures { IfOk result (λ c. IsCommand c build_app) }
 {
-    Ok(over_file(
-        alloc,
-        "build",
-        "Builds a project's maps into a PWAD",
-        help::BUILD,
-    )?
-    .arg(word(alloc, "out", "OUT"))?)
+    let about = "Builds a project's maps into a PWAD";
+    over_file(alloc, "build", about, help::BUILD)?.arg(word(alloc, "out", "OUT"))
 }
 
 // `inspect`.
-fn inspect<'a>(alloc: Global) -> Result<Command<'a>, Error>
+fn inspect<'a>(alloc: Global) -> Result<Command<'a>, AllocError>
     ensures { IfOk result (λ c. IsCommand c inspect_app) }
 {
-    Ok(
-        named(
-            alloc,
-            "inspect",
-            "Says whether a level of a WAD is sound",
-            help::INSPECT,
-        )
+    let about = "Says whether a level of a WAD is sound";
+    named(alloc, "inspect", about, help::INSPECT)
         .arg(word(alloc, "wad", "WAD"))?
-        .arg(word(alloc, "name", "NAME"))?,
-    )
+        .arg(word(alloc, "name", "NAME"))
+}
+
+// The program with one subcommand more, where memory was found for both.
+fn with<'a>(
+    program: Result<Command<'a>, AllocError>,
+    subcommand: Result<Command<'a>, AllocError>,
+) -> Result<Command<'a>, AllocError>
+    ensures { (a s : App) → IfOk program.entry (λ c. IsCommand c a)
+        → IfOk subcommand.entry (λ c. IsCommand c s)
+        → IfOk result (λ c. IsCommand c (with_subcommand a s.top)) }
+{
+    match program {
+        Ok(program) => match subcommand {
+            Ok(subcommand) => program.subcommand(subcommand),
+            Err(error) => {
+                // By a call: what a command is let go by is long where it is written out.
+                drop(program);
+                Err(error)
+            }
+        },
+        Err(error) => {
+            drop(subcommand);
+            Err(error)
+        }
+    }
 }
 
 // The program with its subcommands.
-fn with_subcommands<'a>(alloc: Global) -> Result<Command<'a>, Error>
+fn with_subcommands<'a>(alloc: Global) -> Result<Command<'a>, AllocError>
     ensures { IfOk result (λ c. IsCommand c with_subcommands) }
 {
-    Ok(
-        Command::new(alloc, "leveled")
-            .subcommand(named(
-                alloc,
-                "scratch",
-                "Answers lines over maps in memory",
-                help::SCRATCH,
-            ))?
-            .subcommand(create(alloc)?)?
-            .subcommand(over_file(
-                alloc,
-                "edit",
-                "Answers lines over a project file",
-                help::EDIT,
-            )?)?
-            .subcommand(over_file(
-                alloc,
-                "check",
-                "Says what is wrong in a project's current map",
-                help::CHECK,
-            )?)?
-            .subcommand(inspect(alloc)?)?
-            .subcommand(build(alloc)?)?,
-    )
+    let program = named(
+        alloc,
+        "leveled",
+        "Draws Doom maps by command lines",
+        help::PROGRAM,
+    );
+    let scratch = named(
+        alloc,
+        "scratch",
+        "Answers lines over maps in memory",
+        help::SCRATCH,
+    );
+    let edit = over_file(
+        alloc,
+        "edit",
+        "Answers lines over a project file",
+        help::EDIT,
+    );
+    let check = over_file(
+        alloc,
+        "check",
+        "Says what is wrong in a project's current map",
+        help::CHECK,
+    );
+    let program = program.subcommand(scratch);
+    let program = with(program, create(alloc));
+    let program = with(program, edit);
+    let program = with(program, check);
+    let program = with(program, inspect(alloc));
+    with(program, build(alloc))
 }
 
 // The program's command line.
-fn leveled<'a>(alloc: Global) -> Result<Command<'a>, Error>
+fn leveled<'a>(alloc: Global) -> Result<Command<'a>, AllocError>
     ensures { IfOk result (λ c. app_of c ≡ leveled_app) }
 {
-    Ok(
-        with_subcommands(alloc)?
-            .version("0.1.0")
-            .about("Draws Doom maps by command lines")
-            .after_help(help::PROGRAM)
-            .subcommand_required(true)
-            .disable_help_subcommand(true),
-    )
+    match with_subcommands(alloc) {
+        Ok(program) => Ok(
+            program
+                .version("0.1.0")
+                .subcommand_required(true)
+                .disable_help_subcommand(true),
+        ),
+        Err(error) => Err(error),
+    }
 }
 
 // A text of the request's own.

@@ -1,3 +1,4 @@
+//! Inspecting a level of a file.
 ghost use Rattle.std.specs.Prelude.{◌≡◌, ◌≤◌, IfErr, IfOk, MatchResult};
 ghost use Rattle.std.specs.Io.KnownBytes.{Appends, Consumes, IsAtEnd, Keeps};
 ghost use Rattle.lv_editor.specs.Inspections.{EndsReading};
@@ -27,8 +28,9 @@ fn read_whole<R: Read>(alloc: Global, reader: &mut R, turns: u32) -> Result<Vec<
         if count == 0 {
             return Ok(bytes);
         }
-        if bytes.extend_from_slice(&buffer[..count]).is_err() {
-            return Err(EditorError::OutOfMemory);
+        match bytes.extend_from_slice(&buffer[..count]) {
+            Ok(()) => {}
+            Err(_) => return Err(EditorError::OutOfMemory),
         }
     }
     Err(EditorError::InputTooLong)

@@ -1,10 +1,11 @@
+//! The lumps that a line may ask for, as they are drawn and as a build makes them.
 ghost use Rattle.std.specs.Prelude.{◌≡◌};
 ghost use Rattle.lv_editor.specs.Queries.{kind_of};
 
 use lv_maptables::Kind;
 
 /// A lump of a map as it is drawn, by its name.
-#[derive(Clone, Copy, Debug, PartialEq, Eq)]
+#[derive(Clone, Copy)]
 pub enum Lump {
     Things,
     Linedefs,
@@ -29,7 +30,7 @@ impl Lump {
 }
 
 /// A lump that a build of a map makes, by its name; `Added` is the vertices behind the drawn ones.
-#[derive(Clone, Copy, Debug, PartialEq, Eq)]
+#[derive(Clone, Copy)]
 pub enum BuiltLump {
     Segs,
     Ssectors,

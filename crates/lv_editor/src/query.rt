@@ -1,3 +1,4 @@
+//! The lines that ask and change nothing.
 ghost use Rattle.std.specs.Prelude.{◌≡◌, ◌++◌, find, bytes_eq};
 ghost use Rattle.std.specs.Option.{option_map};
 ghost use Rattle.lv_editor.specs.Queries.{built_lines, drawn_lines, query_of};
@@ -5,7 +6,7 @@ ghost use Rattle.lv_editor.specs.Queries.{built_lines, drawn_lines, query_of};
 use crate::lump::{BuiltLump, Lump};
 
 /// A line that asks and changes nothing.
-#[derive(Clone, Copy, Debug, PartialEq, Eq)]
+#[derive(Clone, Copy)]
 pub enum Query {
     /// What is wrong or unfinished in the current map.
     Check,

@@ -1,10 +1,11 @@
+//! Why a request was refused, and the line that says so.
 use crate::error::{EditorError, InspectError, WriteError};
 use lv_project::ProjectError;
 use lv_pwad::{BuildError, ReadError};
 use std::io::Write;
 
 /// Why a request was refused.
-#[derive(Clone, Copy, Debug, PartialEq, Eq)]
+#[derive(Clone, Copy)]
 pub enum Refusal {
     /// The lines of the input, or the output.
     Lines(EditorError),
