@@ -1,3 +1,4 @@
+//! Why a blockmap is refused, and the number of each refusal.
 ghost use Rattle.std.specs.Prelude.{◌≡◌};
 ghost use Rattle.lv_blockmap.specs.Errors.{code_of};
 ghost use Rattle.lv_blockmap.specs.declared.error.BlockmapError.TheVariants.{OutOfMemory};

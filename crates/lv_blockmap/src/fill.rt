@@ -1,3 +1,4 @@
+//! The list of each block: every line is filed in the blocks that it touches. Hints of where to look cost time alone.
 ghost use Rattle.std.specs.Prelude.{◌≡◌, ◌≤◌, [], length, replicate, IfOk, OnOk, IsOkUnless};
 ghost use Rattle.lv_blockmap.specs.Blocks.{IsGrid, TouchesBlock, AreBlockLists, block_count};
 ghost use Rattle.lv_blockmap.specs.Filing.{Files};

@@ -1,3 +1,4 @@
+//! Equal lists of blocks gathered, so that each is written once.
 ghost use Rattle.std.specs.Prelude.{◌≡◌, map, OnOk, IfOk, IsOkUnless};
 ghost use Rattle.std.specs.List.{position_or_len};
 ghost use Rattle.lv_blockmap.specs.Layout.{noted, once, place_in, same};

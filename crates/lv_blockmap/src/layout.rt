@@ -1,3 +1,4 @@
+//! The words of BLOCKMAP: header, offsets, lists.
 ghost use Rattle.std.specs.Prelude.{◌≡◌, ◌≤◌, ◌<◌, ◌++◌, All, flat_map, length, map, slice_index};
 ghost use Rattle.std.specs.Prelude.{IfOk, OnOk, IsOkUnless, IsErrOf};
 ghost use Rattle.lv_lumps.specs.Fields.{unsigned};

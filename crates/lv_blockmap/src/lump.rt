@@ -1,3 +1,4 @@
+//! The call of the crate: the lump BLOCKMAP of a map.
 ghost use Rattle.std.specs.Prelude.{◌≤◌, length, MatchResult};
 ghost use Rattle.lv_blockmap.specs.Lump.{IsBlockmap, IsBlockmapOver, RefusesBlockmap, RefusesBlockmapOver};
 

@@ -1,3 +1,4 @@
+//! Why a map can't be checked, and the number of the refusal.
 ghost use Rattle.std.specs.Prelude.{◌≡◌};
 ghost use Rattle.lv_checks.specs.declared.error.CheckError.TheVariants.{OutOfMemory};
 

@@ -1,3 +1,4 @@
+//! A finding, and its line of text.
 use std::fmt;
 
 /// Which of a side's three textures.

@@ -1,3 +1,4 @@
+//! The call of the crate: all findings of a map, in their order.
 ghost use Rattle.std.specs.Prelude.{◌≡◌, IfOk, IsOkUnless};
 ghost use Rattle.lv_checks.specs.Findings.{findings};
 

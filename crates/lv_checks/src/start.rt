@@ -1,3 +1,4 @@
+//! Whether the first player has a start.
 ghost use Rattle.std.specs.Prelude.{◌≡◌, ◌++◌, OnOk};
 ghost use Rattle.std.specs.List.{list_any};
 ghost use Rattle.lv_checks.specs.Findings.{is_start, missing_start};

@@ -1,3 +1,4 @@
+//! Whether anything speaks against a command of one map, memory aside: the least refusal that holds.
 ghost use Rattle.std.specs.Prelude.{◌≡◌, ◌+◌, ◌≤◌, ◌<◌, ◌||◌, nat_lt, length, [], ◌∷◌, ◌++◌};
 ghost use Rattle.std.specs.List.{list_any};
 ghost use Rattle.lv_maptables.specs.Faults.{is_taken, lacks_room, lacks_sector_room, is_too_long};

@@ -1,3 +1,4 @@
+//! The spelling of first words and of tables.
 ghost use Rattle.std.specs.Prelude.{◌≡◌, ◌≤◌, IfSome, bytes_eq};
 ghost use Rattle.lv_commands.specs.CommandRanges.{last_of};
 ghost use Rattle.lv_commands.specs.Grammar.{head_of, kind_of};

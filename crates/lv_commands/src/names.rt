@@ -1,3 +1,4 @@
+//! Words that are names: of textures, flats and maps.
 ghost use Rattle.std.specs.Prelude.{◌≡◌, IfOk, None, Some};
 ghost use Rattle.std.specs.Str.{IsUtf8};
 ghost use Rattle.lv_commands.specs.Errors.{TellsFault};

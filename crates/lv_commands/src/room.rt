@@ -1,3 +1,4 @@
+//! What a room is made of: corners, sector, sides, walls.
 ghost use Rattle.std.specs.Prelude.{◌≡◌};
 ghost use Rattle.lv_commands.specs.Rooms.{corners, room_sector, room_side, wall};
 

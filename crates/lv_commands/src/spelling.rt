@@ -1,3 +1,4 @@
+//! From a command of one map to its line.
 ghost use Rattle.std.specs.Prelude.{◌≡◌, ◌∷◌, IfOk, IsOkUnless};
 ghost use Rattle.std.specs.List.{join_with_byte};
 ghost use Rattle.lv_commands.specs.CommandRanges.{InRange};

@@ -1,3 +1,4 @@
+//! The record of a memory disk's good calls, from which the images of past moments are known.
 ghost use Rattle.std.specs.Prelude.{◌≡◌, ◌≤◌, ◌<◌, ◌+◌, ◌*◌, ◌/◌, ◌^◌, ◌↔◌, [], ◌∷◌, ◌++◌, length, take, IfOk, IsTrue};
 ghost use Rattle.std.specs.List.{list_any};
 ghost use Rattle.lv_disk.specs.Entries.{has_place, total};

@@ -1,3 +1,4 @@
+//! A real file as a disk. That it keeps the facts of `Disk` is assumed; its failures are counted exactly.
 ghost use Rattle.std.specs.Prelude.{◌≡◌, ◌≤◌, ◌+◌, IfOk, IfErr, OnOk, is_ok};
 ghost use Rattle.lv_disk.specs.Stops.{Counted};
 

@@ -1,3 +1,4 @@
+//! What a stop leaves of unsynced bytes: the images that `MemoryDisk::stop` can give.
 /// What a stop leaves of the unsynced bytes: those written since the last good sync, and those past the length of then.
 #[derive(Clone, Copy, Debug, PartialEq, Eq)]
 pub enum Fill {

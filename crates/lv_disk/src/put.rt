@@ -1,3 +1,4 @@
+//! Writing bytes over others.
 ghost use Rattle.std.specs.Prelude.{◌≡◌, ◌≤◌, ◌+◌, ◌++◌, length, take, drop};
 
 // Puts bytes over those that stand there.

@@ -1,3 +1,4 @@
+//! The text that answers each query.
 ghost use Rattle.std.specs.Prelude.{◌≡◌, MatchResult};
 ghost use Rattle.std.specs.Io.KnownBytes.{Appends};
 ghost use Rattle.lv_checks.specs.Findings.{findings};

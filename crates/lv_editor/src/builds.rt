@@ -1,3 +1,4 @@
+//! The queries that build: `build`, and `hex` of a lump that only a build has.
 ghost use Rattle.std.specs.Prelude.{◌≡◌, drop, flat_map, length, IfErr, IfOk, MatchResult};
 ghost use Rattle.std.specs.Io.KnownBytes.{Appends};
 ghost use Rattle.lv_lumps.specs.Records.{vertex_record};

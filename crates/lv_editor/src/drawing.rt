@@ -1,3 +1,4 @@
+//! A run over maps in memory: the session of `scratch`.
 ghost use Rattle.std.specs.Prelude.{◌≡◌, ◌≤◌, ℕ, List};
 ghost use Rattle.lv_maptables.specs.Projects.{ProjectMaps, body_len, empty_project, project_of};
 ghost use Rattle.lv_editor.specs.declared.limits.TheConstants.{LONGEST_BODY};

@@ -1,3 +1,4 @@
+//! A run over a project file: the session of `edit`, where a command is on the disk before it is answered.
 ghost use Rattle.std.specs.Prelude.{◌≡◌, ℕ, List, true, false, Result, MatchResult, take};
 ghost use Rattle.std.specs.Io.KnownBytes.{Appends};
 ghost use Rattle.lv_disk.specs.Stops.{Each, LeavesOnly};

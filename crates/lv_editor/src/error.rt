@@ -1,3 +1,4 @@
+//! Why a run, an inspection, a build or a recovery ended, and the number of each refusal.
 use lv_project::ProjectError;
 use lv_pwad::{BuildError, ReadError};
 use thiserror::Error;

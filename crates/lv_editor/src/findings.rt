@@ -1,3 +1,4 @@
+//! The findings of a map written as lines.
 ghost use Rattle.std.specs.Prelude.{◌≡◌, IfErr, IfOk, MatchResult, flat_map, length};
 ghost use Rattle.std.specs.Io.KnownBytes.{Appends};
 ghost use Rattle.lv_checks.specs.Findings.{findings};

@@ -1,3 +1,4 @@
+//! Bytes as text, two digits each.
 ghost use Rattle.std.specs.Prelude.{◌≡◌, ◌<◌, ◌++◌, flat_map, IfOk, OnOk};
 ghost use Rattle.lv_editor.specs.Texts.{hex_byte, hex_digit, hex_digits, hex_text, spaced_byte};
 

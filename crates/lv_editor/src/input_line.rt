@@ -1,3 +1,4 @@
+//! The line of input that is being read, of which no more is kept than a command may have.
 ghost use Rattle.std.specs.Prelude.{◌≡◌, ◌≤◌, ℕ, List, [], ◌∷◌, ◌++◌, take};
 
 use std::marker::Model;

@@ -1,3 +1,4 @@
+//! What `inspect` tells of a level: its lengths, then `sound` or the first fault.
 ghost use Rattle.std.specs.Prelude.{◌≡◌, ◌++◌, IfErr, IfOk, MatchResult, is_none};
 ghost use Rattle.std.specs.Io.KnownBytes.{Appends};
 ghost use Rattle.lv_pwad.specs.Views.{view};

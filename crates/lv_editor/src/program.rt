@@ -1,3 +1,4 @@
+//! `perform`: does what a request asks for and answers the program's status.
 ghost use Rattle.std.specs.Prelude.{◌≡◌, ◌≤◌, ℕ, IfErr, IfOk, Result, length};
 ghost use Rattle.std.specs.Io.KnownBytes.{Appends, Keeps};
 ghost use Rattle.lv_checks.specs.Findings.{findings};

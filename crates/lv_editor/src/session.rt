@@ -1,3 +1,4 @@
+//! What a run answers line by line: the one trait that maps in memory and project files share.
 ghost use Rattle.std.specs.Prelude.{◌≡◌, ℕ, List, take};
 ghost use Rattle.lv_editor.specs.Runs.{AnswersLine, Replies};
 

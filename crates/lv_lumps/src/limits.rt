@@ -1,3 +1,4 @@
+//! How many items a map may have.
 /// How many vertices, sides, lines or things a map may have.
 pub const ITEM_LIMIT: usize = 32767;
 

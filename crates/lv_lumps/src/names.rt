@@ -1,3 +1,4 @@
+//! The forms of names: of textures and flats, and of maps.
 ghost use Rattle.std.specs.Prelude.{◌≡◌, ◌&&◌, nat_le, length};
 ghost use Rattle.std.specs.List.{list_all};
 ghost use Rattle.lv_lumps.specs.Names.{is_name, is_marker, is_name_byte};

@@ -1,3 +1,4 @@
+//! The rules of a well-formed map, over plain lists.
 ghost use Rattle.std.specs.Prelude.{◌≡◌, ◌≢◌, ◌==◌, ◌&&◌, ◌||◌, not, nat_lt, ◌↔◌, IsTrue, All, AllPairs, IfOk, IsOkUnless};
 ghost use Rattle.lv_maptables.specs.Faults.{has_left, is_two_sided};
 ghost use Rattle.lv_maptables.specs.WellFormed.{HasEnds, HasSides, HasSector};

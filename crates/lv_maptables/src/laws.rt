@@ -1,3 +1,4 @@
+//! Laws on maps and bodies, each the contract of a call without a body.
 ghost use Rattle.std.specs.Prelude.{ℕ};
 ghost use Rattle.lv_lumps.specs.declared.records.Line.{Line};
 ghost use Rattle.lv_lumps.specs.declared.records.Side.{Side};

@@ -1,3 +1,4 @@
+//! Whether a line is too long.
 ghost use Rattle.std.specs.Prelude.{◌≡◌, nat_lt};
 ghost use Rattle.lv_lumps.specs.Drawing.{squared_distance, longest_squared};
 ghost use Rattle.lv_maptables.specs.WellFormed.{nth_vertex};

@@ -1,3 +1,4 @@
+//! The maps of a project, one of them current.
 mod body;
 mod edits;
 mod names;

@@ -1,3 +1,4 @@
+//! The call of the crate: the tree of a map's lines.
 ghost use Rattle.std.specs.Prelude.{◌≡◌, ◌<◌, ◌≤◌, length, All, ◌↔◌, Err, IfOk, IfErr, replicate, false};
 ghost use Rattle.lv_segs.specs.Plane.{IsEdge};
 ghost use Rattle.lv_nodes.specs.Growth.{lists_of};

@@ -1,3 +1,4 @@
+//! Least boxes of places.
 ghost use Rattle.std.specs.Prelude.{◌≡◌, ◌<◌, ◌≤ℤ◌, ◌⊎◌, length, All};
 ghost use Rattle.lv_segs.specs.Plane.{IsEdge};
 ghost use Rattle.lv_segs.specs.Pieces.{IsPiece};

@@ -1,3 +1,4 @@
+//! Why no tree is built, and the number of each refusal.
 ghost use Rattle.std.specs.Prelude.{◌≡◌};
 ghost use Rattle.lv_nodes.specs.declared.error.TreeError.TheVariants.{OutOfMemory};
 

@@ -1,3 +1,4 @@
+//! A list parted by a partition into the parts on its two sides.
 ghost use Rattle.std.specs.Prelude.{◌≡◌, ◌++◌, ◌∷◌, [], ◌&&◌, All, false, is_some, option_to_list, IfOk, IfSome, OnOk};
 ghost use Rattle.lv_segs.specs.Plane.{IsEdge};
 ghost use Rattle.lv_segs.specs.Local.{IsLineRay};

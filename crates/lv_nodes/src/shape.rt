@@ -1,3 +1,4 @@
+//! What a seg takes from its piece alone: ends, side, angle, offset.
 ghost use Rattle.std.specs.Prelude.{◌≡◌, ◌<◌, All};
 ghost use Rattle.lv_segs.specs.Plane.{IsEdge};
 ghost use Rattle.lv_segs.specs.Pieces.{IsPiece, ray_of as piece_ray};

@@ -1,3 +1,4 @@
+//! Subsectors from the counts of the leaves.
 ghost use Rattle.std.specs.Prelude.{◌≡◌, ◌<◌, ◌≤◌, ℕ, map, All, IfOk};
 ghost use Rattle.lv_lumps.specs.declared.records.Sub.{Sub as SubRecord};
 ghost use Rattle.lv_nodes.specs.References.{FollowsFrom};

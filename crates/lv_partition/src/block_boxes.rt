@@ -1,3 +1,4 @@
+//! Boxes round blocks of sixteen pieces.
 ghost use Rattle.std.specs.Prelude.{◌≡◌, ◌^◌, ◌<◌, ◌≤◌, length, All, IfOk};
 ghost use Rattle.lv_partition.specs.Blocks.{IsWithinBox, AreBlocks};
 

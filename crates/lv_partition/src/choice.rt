@@ -1,3 +1,4 @@
+//! A candidate, and the best one so far.
 ghost use Rattle.std.specs.Prelude.{◌≡◌, ◌<◌, ◌^◌};
 ghost use Rattle.lv_partition.specs.SoFar.{limit_by, taken_in};
 

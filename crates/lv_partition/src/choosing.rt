@@ -1,3 +1,4 @@
+//! The choice by boxes, in the list's order or in one by places.
 ghost use Rattle.std.specs.Prelude.{◌≡◌, ◌+◌, ◌≤◌, ◌<◌, ◌^◌, length, All, MatchOption, Some, slice_get, false};
 ghost use Rattle.std.specs.List.Sorted.{IsPermutation};
 ghost use Rattle.lv_segs.specs.Plane.{IsEdge};

@@ -1,3 +1,4 @@
+//! The choice over a map, walked plainly: the definition's own program, which the faster ones must equal.
 ghost use Rattle.std.specs.Prelude.{◌≡◌, ◌+◌, ◌≤◌, ◌<◌, ◌^◌, length, All, IsTrue, ◌↔◌, MatchOption, Some, slice_get, false};
 ghost use Rattle.lv_segs.specs.Edges.{edges_of};
 ghost use Rattle.lv_segs.specs.Pieces.{IsPiece};

@@ -1,3 +1,4 @@
+//! Whether a partition separates a list.
 ghost use Rattle.std.specs.Prelude.{◌≡◌, length, All, IsTrue, ◌↔◌};
 ghost use Rattle.lv_segs.specs.Plane.{IsEdge};
 ghost use Rattle.lv_segs.specs.Pieces.{IsPiece};

@@ -1,3 +1,4 @@
+//! The counts of a list by boxes and blocks.
 ghost use Rattle.std.specs.Prelude.{◌≡◌, ℕ, ◌≤◌, ◌<◌, ◌^◌, [], ◌∷◌, length, All, MatchOption, true};
 ghost use Rattle.lv_segs.specs.Plane.{IsEdge};
 ghost use Rattle.lv_segs.specs.Pieces.{IsPiece, ray_of};

@@ -1,3 +1,4 @@
+//! A project on a disk: each accepted command is there before it is answered.
 ghost use Rattle.std.specs.Prelude.{◌≡◌, ◌≤◌, ◌<◌, ◌⊎◌, ◌↔◌, ◌+◌, ◌-◌, ◌^◌, [], length, false, true, Ok, IfOk, IfErr, IsErrOf, IfSome, MatchResult, OnOk};
 ghost use Rattle.lv_disk.specs.Stops.{Each, LeavesOnly};
 ghost use Rattle.lv_journal.specs.State.{IsAbove};

@@ -1,3 +1,4 @@
+//! The audit of a level: its first fault.
 ghost use Rattle.std.specs.Prelude.{◌≡◌, ◌↔◌, None, IfOk, IsOkUnless};
 ghost use Rattle.lv_pwad.specs.Audit.{first_fault, first_some, list_faults};
 ghost use Rattle.lv_pwad.specs.Range.{InRange};

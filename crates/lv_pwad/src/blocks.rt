@@ -1,3 +1,4 @@
+//! The audit of REJECT and BLOCKMAP.
 ghost use Rattle.std.specs.Prelude.{◌≡◌, ◌≤◌, ◌+◌, false, get_or, length, IfOk, IsOkUnless};
 ghost use Rattle.lv_pwad.specs.Audit.{block_faults, first_some, first_wrong, lump_faults, size_faults};
 ghost use Rattle.lv_pwad.specs.Range.{blocks_in};

@@ -1,3 +1,4 @@
+//! A map's level and its PWAD.
 ghost use Rattle.std.specs.Prelude.{◌≡◌, ◌↔◌, [], ◌∷◌, length, Err, IfOk, IfErr, OnOk, IsOkUnless};
 ghost use Rattle.lv_lumps.specs.Names.{name_text};
 ghost use Rattle.lv_maptables.specs.WellFormed.{WellFormed};

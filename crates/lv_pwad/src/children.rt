@@ -1,3 +1,4 @@
+//! The audit of nodes and subsectors as children.
 ghost use Rattle.std.specs.Prelude.{◌≡◌, ◌-◌, ◌==◌, length, IfOk, IsOkUnless};
 ghost use Rattle.std.specs.Option.{option_map};
 ghost use Rattle.std.specs.List.{enumerate_from, range_with_len};

@@ -1,3 +1,4 @@
+//! The lists of a map, copied out.
 ghost use Rattle.std.specs.Prelude.{◌≡◌, IfOk, IsOkUnless};
 
 use crate::error::BuildError;

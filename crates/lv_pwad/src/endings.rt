@@ -1,3 +1,4 @@
+//! Where lists of a blockmap come to an end, found in one walk.
 ghost use Rattle.std.specs.Prelude.{◌≡◌, ◌≤◌, ◌<◌, ◌+◌, ◌||◌, ◌&&◌, ◌==◌, IfOk, IsOkUnless, length, min};
 ghost use Rattle.lv_pwad.specs.Endings.{AreEndings, is_line};
 

@@ -1,3 +1,4 @@
+//! A level read from a WAD's bytes.
 ghost use Rattle.std.specs.Prelude.{◌≡◌, ◌+◌, ◌<◌, IfOk, IsOkUnless, MatchResult};
 ghost use Rattle.lv_pwad.specs.Levels.{IsLevel, IsWhole, lump, lumps_behind};
 ghost use Rattle.lv_pwad.specs.Views.{RefusesLevel, view};

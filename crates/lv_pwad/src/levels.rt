@@ -1,3 +1,4 @@
+//! Levels as lumps, and a PWAD of them.
 ghost use Rattle.std.specs.Prelude.{◌≡◌, ◌++◌, [], ◌∷◌, All, OnOk, IfOk, IsOkUnless};
 ghost use Rattle.lv_lumps.specs.Names.{name_text};
 ghost use Rattle.lv_pwad.specs.Levels.{IsLevel};

@@ -1,3 +1,4 @@
+//! The PWAD of all maps of a project.
 ghost use Rattle.std.specs.Prelude.{◌≡◌, ◌↔◌, All, Err, Some, IfOk, IfErr, OnOk, length, slice_get};
 ghost use Rattle.lv_maptables.specs.Projects.{WellFormedProject, project_of};
 ghost use Rattle.lv_maptables.specs.Tables.{Tables};

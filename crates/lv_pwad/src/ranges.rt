@@ -1,3 +1,4 @@
+//! The audit of lines, sides and segs: each reference in range.
 ghost use Rattle.std.specs.Prelude.{◌≡◌, ◌∷◌, [], ◌&&◌, ◌==◌, not, nat_lt, nat_le};
 ghost use Rattle.std.specs.Option.{option_map};
 ghost use Rattle.lv_pwad.specs.Views.{view};

@@ -1,3 +1,4 @@
+//! The audit of subsectors: they tile the segs.
 ghost use Rattle.std.specs.Prelude.{◌≡◌};
 ghost use Rattle.lv_pwad.specs.Audit.{first_some, sub_faults, sub_range};
 ghost use Rattle.lv_pwad.specs.Views.{view};

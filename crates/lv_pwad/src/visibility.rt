@@ -1,3 +1,4 @@
+//! REJECT.
 ghost use Rattle.std.specs.Prelude.{◌≡◌, replicate, IfOk, IsOkUnless};
 ghost use Rattle.lv_pwad.specs.Reject.{reject_size};
 

@@ -1,3 +1,4 @@
+//! Lumps written as a PWAD: header, lumps, directory.
 ghost use Rattle.std.specs.Prelude.{◌≡◌, ◌++◌, ◌+◌, ◌<◌, ◌^◌, length, flat_map, OnOk, IfOk, IsOkUnless};
 ghost use Rattle.lv_pwad.specs.Wad.{all_bytes, entries_from, entry_bytes, long, wad_bytes, wad_size};
 ghost use Rattle.lv_pwad.specs.Views.{views};

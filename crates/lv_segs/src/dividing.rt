@@ -1,3 +1,4 @@
+//! What a partition makes of a piece.
 ghost use Rattle.std.specs.Prelude.{◌≡◌, pos, neg_ℤ, ◌≤ℤ◌, length, All, true, false, if◌then◌else◌, Some, None};
 ghost use Rattle.lv_lumps.specs.Drawing.{IsDrawable};
 ghost use Rattle.lv_segs.specs.Plane.{IsEdge, dot};

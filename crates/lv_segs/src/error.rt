@@ -1,3 +1,4 @@
+//! Why pieces or points can't be made, and the number of each refusal.
 ghost use Rattle.std.specs.Prelude.{◌≡◌};
 ghost use Rattle.lv_segs.specs.declared.error.SegsError.TheVariants.{OutOfMemory};
 

@@ -1,3 +1,4 @@
+//! The first list of pieces of a map.
 ghost use Rattle.std.specs.Prelude.{◌≡◌, ◌≤◌, length, All, IfOk, IsOkUnless};
 ghost use Rattle.lv_segs.specs.Pieces.{IsPiece};
 ghost use Rattle.lv_segs.specs.Edges.{edges_of};

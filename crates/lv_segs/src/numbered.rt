@@ -1,3 +1,4 @@
+//! The numbered vertices of a build.
 use crate::error::SegsError;
 use indexmap::IndexSet;
 use lv_lumps::{ITEM_LIMIT, Vertex};

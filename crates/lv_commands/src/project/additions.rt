@@ -1,3 +1,4 @@
+//! Edits of the current map that can't be refused, since they were decided on before.
 ghost use Rattle.std.specs.Prelude.{◌≡◌, ◌<◌, ◌≤◌, None, IfSome, length, slice_get};
 ghost use Rattle.lv_maptables.specs.Edits.{with_line, with_line_at, with_name, with_sector, with_side, with_thing, with_vertex};
 ghost use Rattle.lv_maptables.specs.Faults.{line_faults, sector_faults, set_line_faults, side_faults, thing_faults, vertex_faults};

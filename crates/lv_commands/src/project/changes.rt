@@ -1,3 +1,4 @@
+//! The calls that change a project: decide and make every growth (`ready`), then change (`commit`); `apply` does both.
 ghost use Rattle.std.specs.Prelude.{◌≡◌, ◌≤◌, ◌+◌, None, IfOk, IfErr, IsErrOf, IsOk, Ok, nat_lt};
 ghost use Rattle.lv_maptables.specs.Outcomes.{Covers, EndsExactly, least, unless};
 ghost use Rattle.lv_maptables.specs.Projects.{body_len, project_of};

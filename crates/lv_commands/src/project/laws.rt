@@ -1,3 +1,4 @@
+//! Laws on lines and commands, each the contract of a call without a body.
 ghost use Rattle.lv_commands.specs.ProjectLaws.{LinesEndInOneWay, LinesLeadToOneProject, LinesSpellOneCommand, SpellingsAreAccepted};
 
 /// One line spells one command at most.

@@ -1,3 +1,4 @@
+//! Drawing a room: its corners, sector, sides and walls.
 ghost use Rattle.std.specs.Prelude.{◌≡◌, ◌+◌, ◌≤◌, None, false, length, drop};
 ghost use Rattle.std.specs.List.{list_any};
 ghost use Rattle.lv_maptables.specs.Faults.{is_taken};

@@ -1,3 +1,4 @@
+//! Cutting a line in two.
 ghost use Rattle.std.specs.Prelude.{◌≡◌, None, length};
 ghost use Rattle.lv_maptables.specs.Outcomes.{Covers, least};
 ghost use Rattle.lv_maptables.specs.Ranges.{IsVertex};

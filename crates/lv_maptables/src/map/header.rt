@@ -1,3 +1,4 @@
+//! The head of a map's part of a body: name and counts.
 ghost use Rattle.std.specs.Prelude.{◌≡◌, ◌+◌, ◌*◌, ◌≤◌, ◌<◌, ◌↔◌, IsTrue, length};
 ghost use Rattle.lv_lumps.specs.Fields.{unsigned_at};
 ghost use Rattle.lv_lumps.specs.Records.{name_at};

@@ -1,3 +1,4 @@
+//! Lines as a map keeps them, by keys, and as they are shown, by numbers.
 ghost use Rattle.std.specs.Prelude.{◌≡◌, ◌≢◌, ◌<◌, ◌≤◌, All, IfOk, IsOkUnless, length, map};
 ghost use Rattle.lv_maptables.specs.Keyed.{left_of, line_of, IsFound};
 ghost use Rattle.lv_maptables.specs.Tables.{no_side};

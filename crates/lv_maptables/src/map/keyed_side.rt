@@ -1,3 +1,4 @@
+//! Sides as a map keeps them, by keys, and as they are shown, by numbers.
 ghost use Rattle.std.specs.Prelude.{◌≡◌, ◌<◌, ◌≤◌, All, IfOk, IsOkUnless, length, map};
 ghost use Rattle.lv_maptables.specs.Keyed.{side_of};
 ghost use Rattle.lv_maptables.specs.WellFormed.{HasSector};

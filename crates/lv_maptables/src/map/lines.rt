@@ -1,3 +1,4 @@
+//! The edits of a map's lines.
 ghost use Rattle.std.specs.Prelude.{◌≡◌, [], ◌∷◌, ◌<◌, IsErrOf};
 ghost use Rattle.lv_maptables.specs.Errors.{code_of};
 ghost use Rattle.lv_maptables.specs.Ranges.{IsLine};

@@ -1,3 +1,4 @@
+//! The set of taken places, whose memory only `reserve` changes.
 ghost use Rattle.std.specs.Prelude.{◌≡◌, ◌≢◌, ◌+◌, ◌<◌, ◌≤◌, ◌&&◌, ◌||◌, ◌^◌, List, not, [], true, false, length, AllPairs, IsOk, IsOkUnless, OnOk};
 ghost use Rattle.lv_lumps.specs.declared.records.Vertex.{Vertex};
 ghost use Rattle.lv_maptables.specs.Faults.{is_place, is_taken};

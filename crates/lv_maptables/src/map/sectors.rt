@@ -1,3 +1,4 @@
+//! The edits of a map's sectors.
 ghost use Rattle.std.specs.Prelude.{◌≡◌, [], ◌∷◌, ◌<◌, ◌==◌, length, IsErrOf};
 ghost use Rattle.std.specs.List.{list_any};
 ghost use Rattle.lv_maptables.specs.Errors.{code_of};

@@ -1,3 +1,4 @@
+//! A project's body, both ways, in both versions.
 ghost use Rattle.std.specs.Prelude.{◌≡◌, ◌<◌, ◌↔◌, ◌∷◌, [], ◌++◌, false, IfOk, IfErr, IsOkUnless, IsTrue, OnOk, length, drop, slice_index};
 ghost use Rattle.lv_maptables.specs.WellFormed.{WellFormed};
 ghost use Rattle.lv_maptables.specs.Parts.{RefusesFor};

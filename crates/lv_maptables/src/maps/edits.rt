@@ -1,3 +1,4 @@
+//! The edits of the current map.
 ghost use Rattle.std.specs.Prelude.{◌≡◌, ◌<◌, IsErrOf};
 ghost use Rattle.lv_maptables.specs.Ranges.{IsVertex, IsSector, IsSide, IsLine, IsThing};
 ghost use Rattle.lv_maptables.specs.Outcomes.{EndsEdit, EndsExactly, Spends, places, one_vertex, one_sector, one_side, one_line, one_thing, nothing};

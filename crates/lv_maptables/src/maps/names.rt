@@ -1,3 +1,4 @@
+//! The commands that name maps: rename, select, drop.
 ghost use Rattle.std.specs.Prelude.{◌≡◌, ◌≢◌, ◌≤◌, ◌<◌, false, length, position, remove};
 ghost use Rattle.lv_maptables.specs.Ranges.{IsNamed, is_marker};
 ghost use Rattle.lv_maptables.specs.Outcomes.{EndsExactly, Tells};
