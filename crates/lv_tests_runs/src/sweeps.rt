@@ -272,7 +272,9 @@ fn keeps_each_line_that_fills_a_slot(rt: HostRuntime) -> Result<(), Fail> {
 }
 
 // 34 records of four calls each fill a journal, and the line behind them takes a checkpoint first.
-const FILLING: &[&[u8]] = &[b"name MAP01"; 36];
+const FILLING: &[&[u8]] = &[NAMED; 36];
+
+const NAMED: &[u8] = b"name MAP01";
 
 #[test]
 fn keeps_each_line_that_fills_a_journal(rt: HostRuntime) -> Result<(), Fail> {
