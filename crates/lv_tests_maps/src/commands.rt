@@ -1,4 +1,5 @@
-//! Lines that are commands, and lines that are none.
+//! Lines that are commands, and lines that are none. The rows of a table stand in few texts, a row a line: each text of
+//! a table lengthens the proof.
 
 use crate::expect::same;
 use lv_commands::{parse, print};
@@ -17,255 +18,315 @@ fn told(alloc: Global, line: &[u8]) -> u16 {
     }
 }
 
-// Each place of each command that holds a number, marked by a star, with its least and its greatest number.
-#[rattlefmt::skip]
-const NUMBER_PLACES: &[(&[u8], i16, i16)] = &[
-    (b"vertex * 0", -16384, 16383),
-    (b"vertex 0 *", -16384, 16383),
-    (b"sector * 128 FLOOR4_8 CEIL3_5 160 0 0", -32768, 32767),
-    (b"sector 0 * FLOOR4_8 CEIL3_5 160 0 0", -32768, 32767),
-    (b"sector 0 128 FLOOR4_8 CEIL3_5 * 0 0", 0, 255),
-    (b"sector 0 128 FLOOR4_8 CEIL3_5 160 * 0", 0, 32767),
-    (b"sector 0 128 FLOOR4_8 CEIL3_5 160 0 *", 0, 32767),
-    (b"side * 0 - - STARTAN3 0", -32768, 32767),
-    (b"side 0 * - - STARTAN3 0", -32768, 32767),
-    (b"side 0 0 - - STARTAN3 *", 0, 4095),
-    (b"line * 1 1 0 0 0 -", 0, 32766),
-    (b"line 0 * 1 0 0 0 -", 0, 32766),
-    (b"line 0 1 * 0 0 0 -", 0, 32767),
-    (b"line 0 1 1 * 0 0 -", 0, 32767),
-    (b"line 0 1 1 0 * 0 -", 0, 32767),
-    (b"line 0 1 1 0 0 * -", 0, 32766),
-    (b"line 0 1 1 0 0 0 *", 0, 32766),
-    (b"thing * 64 90 1 7", -16384, 16383),
-    (b"thing 64 * 90 1 7", -16384, 16383),
-    (b"thing 64 64 * 1 7", 0, 359),
-    (b"thing 64 64 90 * 7", 0, 32767),
-    (b"thing 64 64 90 1 *", 0, 32767),
-    (b"move-vertex * 0 0", 0, 32766),
-    (b"move-vertex 0 * 0", -16384, 16383),
-    (b"move-vertex 0 0 *", -16384, 16383),
-    (b"set-sector * 0 128 FLOOR4_8 CEIL3_5 160 0 0", 0, 4095),
-    (b"set-sector 0 * 128 FLOOR4_8 CEIL3_5 160 0 0", -32768, 32767),
-    (b"set-sector 0 0 * FLOOR4_8 CEIL3_5 160 0 0", -32768, 32767),
-    (b"set-sector 0 0 128 FLOOR4_8 CEIL3_5 * 0 0", 0, 255),
-    (b"set-sector 0 0 128 FLOOR4_8 CEIL3_5 160 * 0", 0, 32767),
-    (b"set-sector 0 0 128 FLOOR4_8 CEIL3_5 160 0 *", 0, 32767),
-    (b"set-side * 0 0 - - STARTAN3 0", 0, 32766),
-    (b"set-side 0 * 0 - - STARTAN3 0", -32768, 32767),
-    (b"set-side 0 0 * - - STARTAN3 0", -32768, 32767),
-    (b"set-side 0 0 0 - - STARTAN3 *", 0, 4095),
-    (b"set-line * 0 1 1 0 0 0 -", 0, 32766),
-    (b"set-line 0 * 1 1 0 0 0 -", 0, 32766),
-    (b"set-line 0 0 * 1 0 0 0 -", 0, 32766),
-    (b"set-line 0 0 1 * 0 0 0 -", 0, 32767),
-    (b"set-line 0 0 1 1 * 0 0 -", 0, 32767),
-    (b"set-line 0 0 1 1 0 * 0 -", 0, 32767),
-    (b"set-line 0 0 1 1 0 0 * -", 0, 32766),
-    (b"set-line 0 0 1 1 0 0 0 *", 0, 32766),
-    (b"set-thing * 64 64 90 1 7", 0, 32766),
-    (b"set-thing 0 * 64 90 1 7", -16384, 16383),
-    (b"set-thing 0 64 * 90 1 7", -16384, 16383),
-    (b"set-thing 0 64 64 * 1 7", 0, 359),
-    (b"set-thing 0 64 64 90 * 7", 0, 32767),
-    (b"set-thing 0 64 64 90 1 *", 0, 32767),
-    (b"drop vertex *", 0, 32766),
-    (b"drop side *", 0, 32766),
-    (b"drop line *", 0, 32766),
-    (b"drop thing *", 0, 32766),
-    (b"drop sector *", 0, 4095),
-    (b"room * 0 16383 128 0 128 FLOOR4_8 CEIL3_5 STARTAN3 160", -16384, 16382),
-    (b"room 0 * 128 16383 0 128 FLOOR4_8 CEIL3_5 STARTAN3 160", -16384, 16382),
-    (b"room -16384 0 * 128 0 128 FLOOR4_8 CEIL3_5 STARTAN3 160", -16383, 16383),
-    (b"room 0 -16384 128 * 0 128 FLOOR4_8 CEIL3_5 STARTAN3 160", -16383, 16383),
-    (b"room 0 0 128 128 * 128 FLOOR4_8 CEIL3_5 STARTAN3 160", -32768, 32767),
-    (b"room 0 0 128 128 0 * FLOOR4_8 CEIL3_5 STARTAN3 160", -32768, 32767),
-    (b"room 0 0 128 128 0 128 FLOOR4_8 CEIL3_5 STARTAN3 *", 0, 255),
-    (b"split * 0 0", 0, 32766),
-    (b"split 0 * 0", -16384, 16383),
-    (b"split 0 0 *", -16384, 16383),
+// The least and the greatest number of a range, and each place of each command that holds such a number, marked by a
+// star.
+const RANGES: &[(i16, i16, &str)] = &[
+    (
+        -16384,
+        16383,
+        "vertex * 0\n\
+        vertex 0 *\n\
+        thing * 64 90 1 7\n\
+        thing 64 * 90 1 7\n\
+        move-vertex 0 * 0\n\
+        move-vertex 0 0 *\n\
+        set-thing 0 * 64 90 1 7\n\
+        set-thing 0 64 * 90 1 7\n\
+        split 0 * 0\n\
+        split 0 0 *",
+    ),
+    (
+        -32768,
+        32767,
+        "sector * 128 FLOOR4_8 CEIL3_5 160 0 0\n\
+        sector 0 * FLOOR4_8 CEIL3_5 160 0 0\n\
+        side * 0 - - STARTAN3 0\n\
+        side 0 * - - STARTAN3 0\n\
+        set-sector 0 * 128 FLOOR4_8 CEIL3_5 160 0 0\n\
+        set-sector 0 0 * FLOOR4_8 CEIL3_5 160 0 0\n\
+        set-side 0 * 0 - - STARTAN3 0\n\
+        set-side 0 0 * - - STARTAN3 0\n\
+        room 0 0 128 128 * 128 FLOOR4_8 CEIL3_5 STARTAN3 160\n\
+        room 0 0 128 128 0 * FLOOR4_8 CEIL3_5 STARTAN3 160",
+    ),
+    (
+        0,
+        255,
+        "sector 0 128 FLOOR4_8 CEIL3_5 * 0 0\n\
+        set-sector 0 0 128 FLOOR4_8 CEIL3_5 * 0 0\n\
+        room 0 0 128 128 0 128 FLOOR4_8 CEIL3_5 STARTAN3 *",
+    ),
+    (
+        0,
+        32767,
+        "sector 0 128 FLOOR4_8 CEIL3_5 160 * 0\n\
+        sector 0 128 FLOOR4_8 CEIL3_5 160 0 *\n\
+        line 0 1 * 0 0 0 -\n\
+        line 0 1 1 * 0 0 -\n\
+        line 0 1 1 0 * 0 -\n\
+        thing 64 64 90 * 7\n\
+        thing 64 64 90 1 *\n\
+        set-sector 0 0 128 FLOOR4_8 CEIL3_5 160 * 0\n\
+        set-sector 0 0 128 FLOOR4_8 CEIL3_5 160 0 *\n\
+        set-line 0 0 1 * 0 0 0 -\n\
+        set-line 0 0 1 1 * 0 0 -\n\
+        set-line 0 0 1 1 0 * 0 -\n\
+        set-thing 0 64 64 90 * 7\n\
+        set-thing 0 64 64 90 1 *",
+    ),
+    (
+        0,
+        4095,
+        "side 0 0 - - STARTAN3 *\n\
+        set-sector * 0 128 FLOOR4_8 CEIL3_5 160 0 0\n\
+        set-side 0 0 0 - - STARTAN3 *\n\
+        drop sector *",
+    ),
+    (
+        0,
+        32766,
+        "line * 1 1 0 0 0 -\n\
+        line 0 * 1 0 0 0 -\n\
+        line 0 1 1 0 0 * -\n\
+        line 0 1 1 0 0 0 *\n\
+        move-vertex * 0 0\n\
+        set-side * 0 0 - - STARTAN3 0\n\
+        set-line * 0 1 1 0 0 0 -\n\
+        set-line 0 * 1 1 0 0 0 -\n\
+        set-line 0 0 * 1 0 0 0 -\n\
+        set-line 0 0 1 1 0 0 * -\n\
+        set-line 0 0 1 1 0 0 0 *\n\
+        set-thing * 64 64 90 1 7\n\
+        drop vertex *\n\
+        drop side *\n\
+        drop line *\n\
+        drop thing *\n\
+        split * 0 0",
+    ),
+    (
+        0,
+        359,
+        "thing 64 64 * 1 7\n\
+        set-thing 0 64 64 * 1 7",
+    ),
+    (
+        -16384,
+        16382,
+        "room * 0 16383 128 0 128 FLOOR4_8 CEIL3_5 STARTAN3 160\n\
+        room 0 * 128 16383 0 128 FLOOR4_8 CEIL3_5 STARTAN3 160",
+    ),
+    (
+        -16383,
+        16383,
+        "room -16384 0 * 128 0 128 FLOOR4_8 CEIL3_5 STARTAN3 160\n\
+        room 0 -16384 128 * 0 128 FLOOR4_8 CEIL3_5 STARTAN3 160",
+    ),
 ];
 
 // A form with this in the place of its star.
-fn filled(alloc: Global, form: &[u8], value: &[u8]) -> Result<Vec<u8>, AllocError> {
-    let mut line = Vec::new(alloc);
-    for &byte in form {
-        if byte == b'*' {
-            line.extend_from_slice(value)?;
-        } else {
-            line.push(byte)?;
-        }
+fn filled(alloc: Global, form: &str, value: &str) -> Result<String, AllocError> {
+    match form.split_once('*') {
+        Some((front, behind)) => format!(in alloc; "{front}{value}{behind}"),
+        None => String::from_str(alloc, form),
     }
-    Ok(line)
 }
 
 // A form is told this by what stands in the place of its star.
 fn expect_told(
     rt: &impl Abort,
     alloc: Global,
-    form: &[u8],
-    value: &[u8],
+    form: &str,
+    value: &str,
     code: u16,
 ) -> Result<(), AllocError> {
     let line = filled(alloc, form, value)?;
-    let answer = told(alloc, &line);
-    same(rt, &(line.as_slice(), answer), &(line.as_slice(), code));
+    let answer = told(alloc, line.as_bytes());
+    same(rt, &(line.as_str(), answer), &(line.as_str(), code));
     Ok(())
 }
 
-// The same by a number.
+// The forms of a text are told this by a number.
 fn expect_number(
     rt: &impl Abort,
     alloc: Global,
-    form: &[u8],
+    forms: &str,
     value: i32,
     code: u16,
 ) -> Result<(), AllocError> {
     let text = format!(in alloc; "{value}")?;
-    expect_told(rt, alloc, form, text.as_bytes(), code)
+    for form in forms.split('\n') {
+        expect_told(rt, alloc, form, text.as_str(), code)?;
+    }
+    Ok(())
 }
 
 // Each place of each command that holds a number, at its least, its greatest and one beyond.
 #[test]
 fn numbers_have_ranges(rt: HostRuntime) -> Result<(), Fail> {
-    for &(form, least, greatest) in NUMBER_PLACES {
+    for &(least, greatest, forms) in RANGES {
         let (least, greatest) = (i32::from(least), i32::from(greatest));
-        expect_number(&rt, rt.alloc(), form, least, 0)?;
-        expect_number(&rt, rt.alloc(), form, greatest, 0)?;
-        expect_number(&rt, rt.alloc(), form, least - 1, 2)?;
-        expect_number(&rt, rt.alloc(), form, greatest + 1, 2)?;
+        expect_number(&rt, rt.alloc(), forms, least, 0)?;
+        expect_number(&rt, rt.alloc(), forms, greatest, 0)?;
+        expect_number(&rt, rt.alloc(), forms, least - 1, 2)?;
+        expect_number(&rt, rt.alloc(), forms, greatest + 1, 2)?;
     }
     Ok(())
 }
 
 // Each place of each command that holds a name, marked by a star.
+const NAME_PLACES: &str = "sector 0 128 * CEIL3_5 160 0 0\n\
+    sector 0 128 FLOOR4_8 * 160 0 0\n\
+    side 0 0 * - STARTAN3 0\n\
+    side 0 0 - * STARTAN3 0\n\
+    side 0 0 - - * 0\n\
+    set-sector 0 0 128 * CEIL3_5 160 0 0\n\
+    set-sector 0 0 128 FLOOR4_8 * 160 0 0\n\
+    set-side 0 0 0 * - STARTAN3 0\n\
+    set-side 0 0 0 - * STARTAN3 0\n\
+    set-side 0 0 0 - - * 0\n\
+    room 0 0 128 128 0 128 * CEIL3_5 STARTAN3 160\n\
+    room 0 0 128 128 0 128 FLOOR4_8 * STARTAN3 160\n\
+    room 0 0 128 128 0 128 FLOOR4_8 CEIL3_5 * 160";
+
+// Names, and what a line with one of them is told: 0 for a command, else its code.
 #[rattlefmt::skip]
-const NAME_PLACES: &[&[u8]] = &[
-    b"sector 0 128 * CEIL3_5 160 0 0",
-    b"sector 0 128 FLOOR4_8 * 160 0 0",
-    b"side 0 0 * - STARTAN3 0",
-    b"side 0 0 - * STARTAN3 0",
-    b"side 0 0 - - * 0",
-    b"set-sector 0 0 128 * CEIL3_5 160 0 0",
-    b"set-sector 0 0 128 FLOOR4_8 * 160 0 0",
-    b"set-side 0 0 0 * - STARTAN3 0",
-    b"set-side 0 0 0 - * STARTAN3 0",
-    b"set-side 0 0 0 - - * 0",
-    b"room 0 0 128 128 0 128 * CEIL3_5 STARTAN3 160",
-    b"room 0 0 128 128 0 128 FLOOR4_8 * STARTAN3 160",
-    b"room 0 0 128 128 0 128 FLOOR4_8 CEIL3_5 * 160",
+const NAMES: &[(u16, &str)] = &[
+    (0, "A\n-\n0\nABCDEFGH\n_-[]\\09Z"),
+    (15, "ABCDEFGHI\nfloor4_8\nA.B\n~\n@\n`\n^"),
+    (1, "\u{7f}\n\u{e9}\n\nA B"),
 ];
 
-// Names, and what a line with them is told: 0 for a command, else its code.
-#[rattlefmt::skip]
-const NAMES: &[(&[u8], u16)] = &[
-    (b"A", 0), (b"-", 0), (b"0", 0), (b"ABCDEFGH", 0), (b"_-[]\\09Z", 0), (b"ABCDEFGHI", 15), (b"floor4_8", 15),
-    (b"A.B", 15), (b"~", 15), (b"@", 15), (b"`", 15), (b"^", 15), (b"\x7f", 1), (b"\xc3\xa9", 1), (b"", 1), (b"A B", 1),
-];
+// A form is told this by each of the names of a text.
+fn expect_names(
+    rt: &impl Abort,
+    alloc: Global,
+    form: &str,
+    names: &str,
+    code: u16,
+) -> Result<(), AllocError> {
+    for name in names.split('\n') {
+        expect_told(rt, alloc, form, name, code)?;
+    }
+    Ok(())
+}
 
 // Each place of each command that holds a name.
 #[test]
 fn names_have_a_form(rt: HostRuntime) -> Result<(), Fail> {
-    for &form in NAME_PLACES {
-        for &(name, code) in NAMES {
-            expect_told(&rt, rt.alloc(), form, name, code)?;
+    for form in NAME_PLACES.split('\n') {
+        for &(code, names) in NAMES {
+            expect_names(&rt, rt.alloc(), form, names, code)?;
         }
     }
     Ok(())
 }
 
 // Lines, and what each is told: 0 for a command, else its code.
-#[rattlefmt::skip]
-const LINES: &[(&[u8], u16)] = &[
-    (b"name E1M1", 0),
-    (b"name E9M9", 0),
-    (b"name MAP01", 0),
-    (b"name MAP10", 0),
-    (b"name MAP99", 0),
-    (b"line 0 1 1 0 0 0 -", 0),
-    (b"set-line 0 0 1 1 0 0 0 -", 0),
-    (b"room 0 0 128 128 0 128 FLOOR4_8 CEIL3_5 STARTAN3 160", 0),
-    (b"drop vertex 0", 0),
-    (b"split 2 128 64", 0),
-    (b"map E1M9", 0),
-    (b"map E9M9", 0),
-    (b"drop-map MAP32", 0),
-    (b"map MAP00", 15),
-    (b"drop-map map01", 15),
-    (b"drop-map MAP100", 15),
-    (b"name MAP00", 15),
-    (b"name E0M1", 15),
-    (b"name E1M0", 15),
-    (b"name E1M10", 15),
-    (b"name MAP1", 15),
-    (b"name MAP100", 15),
-    (b"name map01", 15),
-    (b"name E1M", 15),
-    (b"name M1E1", 15),
-    (b"name -", 15),
-    (b"name MAPAB", 15),
-    (b"sector 0 128 floor4_8 CEIL3_5 160 0 0", 15),
-    (b"sector 0 128 floor4_8 CEIL3_5 999 0 0", 15),
-    (b"room 0 0 0 128 0 128 floor CEIL3_5 STARTAN3 160", 15),
-    (b"vertex 16384 0", 2),
-    (b"sector 40000 128 FLOOR4_8 CEIL3_5 160 0 0", 2),
-    (b"sector 40000 128 floor4_8 CEIL3_5 160 0 0", 2),
-    (b"sector 0 99999 floor4_8 CEIL3_5 999 0 0", 2),
-    (b"line 0 1 1 0 0 0 -5", 2),
-    (b"drop sector 4096", 2),
-    (b"room 0 0 0 128 0 128 FLOOR4_8 CEIL3_5 STARTAN3 160", 2),
-    (b"room 0 0 128 0 0 128 FLOOR4_8 CEIL3_5 STARTAN3 160", 2),
-    (b"room 128 0 0 128 0 128 FLOOR4_8 CEIL3_5 STARTAN3 160", 2),
-    (b"room 0 128 128 0 0 128 FLOOR4_8 CEIL3_5 STARTAN3 160", 2),
-    (b"vertex 99999999999999999999999999 0", 2),
-    (b"vertex -99999999999999999999999999 0", 2),
-    (b"", 1),
-    (b"vertex", 1),
-    (b"vertex 1", 1),
-    (b"vertex 1 1 1", 1),
-    (b"vertex 00 0", 1),
-    (b"vertex -0 0", 1),
-    (b"vertex 01 0", 1),
-    (b"vertex -01 0", 1),
-    (b"vertex +1 0", 1),
-    (b"vertex 1x 0", 1),
-    (b"vertex - 0", 1),
-    (b"vertex  1 1", 1),
-    (b" vertex 1 1", 1),
-    (b"vertex 1 1 ", 1),
-    (b"vertex 1 1\r", 1),
-    (b"vertex\t1 1", 1),
-    (b"Vertex 1 1", 1),
-    (b"vertices 1 1", 1),
-    (b"vertex 99999 x", 1),
-    (b"sector 40000 128 floor4_8 CEIL3_5 160 0", 1),
-    (b"room 0 0 0 128 0 128 FLOOR4_8 CEIL3_5 STARTAN3 x", 1),
-    (b"drop", 1),
-    (b"drop vertex", 1),
-    (b"drop map 0", 1),
-    (b"drop vertex 0 0", 1),
-    (b"drop map 99999", 1),
-    (b"line 0 1 1 0 0 0 --", 1),
-    (b"line 0 1 1 0 0 - -", 1),
-    (b"line 0 1 1 0 0 0", 1),
-    (b"name", 1),
-    (b"name E1M1 E1M1", 1),
-    (b"split 0 0", 1),
-    (b"move-vertex 0 0", 1),
-    (b"map", 1),
-    (b"map  MAP01", 1),
-    (b"map MAP01 ", 1),
-    (b"map MAP01 MAP02", 1),
-    (b"maps", 1),
-    (b"hex VERTEXES", 1),
-    (b"check", 1),
-    (b"undo", 1),
+const LINES: &[(u16, &str)] = &[
+    (
+        0,
+        "name E1M1\n\
+        name E9M9\n\
+        name MAP01\n\
+        name MAP10\n\
+        name MAP99\n\
+        line 0 1 1 0 0 0 -\n\
+        set-line 0 0 1 1 0 0 0 -\n\
+        room 0 0 128 128 0 128 FLOOR4_8 CEIL3_5 STARTAN3 160\n\
+        drop vertex 0\n\
+        split 2 128 64\n\
+        map E1M9\n\
+        map E9M9\n\
+        drop-map MAP32",
+    ),
+    (
+        15,
+        "map MAP00\n\
+        drop-map map01\n\
+        drop-map MAP100\n\
+        name MAP00\n\
+        name E0M1\n\
+        name E1M0\n\
+        name E1M10\n\
+        name MAP1\n\
+        name MAP100\n\
+        name map01\n\
+        name E1M\n\
+        name M1E1\n\
+        name -\n\
+        name MAPAB\n\
+        sector 0 128 floor4_8 CEIL3_5 160 0 0\n\
+        sector 0 128 floor4_8 CEIL3_5 999 0 0\n\
+        room 0 0 0 128 0 128 floor CEIL3_5 STARTAN3 160",
+    ),
+    (
+        2,
+        "vertex 16384 0\n\
+        sector 40000 128 FLOOR4_8 CEIL3_5 160 0 0\n\
+        sector 40000 128 floor4_8 CEIL3_5 160 0 0\n\
+        sector 0 99999 floor4_8 CEIL3_5 999 0 0\n\
+        line 0 1 1 0 0 0 -5\n\
+        drop sector 4096\n\
+        room 0 0 0 128 0 128 FLOOR4_8 CEIL3_5 STARTAN3 160\n\
+        room 0 0 128 0 0 128 FLOOR4_8 CEIL3_5 STARTAN3 160\n\
+        room 128 0 0 128 0 128 FLOOR4_8 CEIL3_5 STARTAN3 160\n\
+        room 0 128 128 0 0 128 FLOOR4_8 CEIL3_5 STARTAN3 160\n\
+        vertex 99999999999999999999999999 0\n\
+        vertex -99999999999999999999999999 0",
+    ),
+    (
+        1,
+        "vertex\n\
+        vertex 1\n\
+        vertex 1 1 1\n\
+        vertex 00 0\n\
+        vertex -0 0\n\
+        vertex 01 0\n\
+        vertex -01 0\n\
+        vertex +1 0\n\
+        vertex 1x 0\n\
+        vertex - 0\n\
+        vertex  1 1\n\
+        \u{20}vertex 1 1\n\
+        vertex 1 1 \n\
+        vertex 1 1\r\n\
+        vertex\t1 1\n\
+        Vertex 1 1\n\
+        vertices 1 1\n\
+        vertex 99999 x\n\
+        sector 40000 128 floor4_8 CEIL3_5 160 0\n\
+        room 0 0 0 128 0 128 FLOOR4_8 CEIL3_5 STARTAN3 x\n\
+        drop\n\
+        drop vertex\n\
+        drop map 0\n\
+        drop vertex 0 0\n\
+        drop map 99999\n\
+        line 0 1 1 0 0 0 --\n\
+        line 0 1 1 0 0 - -\n\
+        line 0 1 1 0 0 0\n\
+        name\n\
+        name E1M1 E1M1\n\
+        split 0 0\n\
+        move-vertex 0 0\n\
+        map\n\
+        map  MAP01\n\
+        map MAP01 \n\
+        map MAP01 MAP02\n\
+        maps\n\
+        hex VERTEXES\n\
+        check\n\
+        undo\n\
+        ",
+    ),
 ];
 
 #[test]
 fn lines_are_told_apart(rt: HostRuntime) {
-    for &(line, code) in LINES {
-        same(&rt, &(line, told(rt.alloc(), line)), &(line, code));
+    for &(code, lines) in LINES {
+        for line in lines.split('\n') {
+            let found = told(rt.alloc(), line.as_bytes());
+            same(&rt, &(line, found), &(line, code));
+        }
     }
 }
 

@@ -6,7 +6,7 @@ use lv_editor::{
     EditorError, Request, RequestError, perform, request, run_in_memory, write_findings,
 };
 use lv_maptables::Map;
-use std::alloc::{AllocError, Global};
+use std::alloc::Global;
 use std::io::{Read, Write};
 use std::process::Abort;
 use std::test::Fail;
@@ -15,8 +15,8 @@ const ROW: &[u8] = b"vertex 0 0\nvertex 128 0\nhex VERTEXES\n";
 
 const ROW_ANSWERS: &[u8] = b"ok 0\nok 1\n00 00 00 00 80 00 00 00\n";
 
-// What a run over these bytes answers, and what it writes.
-fn run(alloc: Global, input: &[u8], turns: u32) -> (Result<u64, EditorError>, Vec<u8>) {
+/// What a run over these bytes answers, and what it writes.
+pub fn run(alloc: Global, input: &[u8], turns: u32) -> (Result<u64, EditorError>, Vec<u8>) {
     let mut reader = input;
     let mut out = Vec::new(alloc);
     let answered = run_in_memory(alloc, &mut reader, &mut out, turns);
@@ -43,51 +43,6 @@ fn expect_run(rt: &impl Abort, alloc: Global, input: &[u8], turns: u32, want: (u
     let (answered, out) = run(alloc, input, turns);
     let found = (input, answered, out.as_slice());
     same(rt, &found, &(input, Ok(want.0), want.1));
-}
-
-/// A line, and its answer in parts.
-pub type Told = (&'static [u8], &'static [&'static [u8]]);
-
-// The lines as the input of a run.
-fn lines_of(alloc: Global, rows: &[Told]) -> Result<Vec<u8>, AllocError> {
-    let mut lines = Vec::new(alloc);
-    for &(line, _) in rows {
-        lines.extend_from_slice(line)?;
-        lines.push(b'\n')?;
-    }
-    Ok(lines)
-}
-
-// The parts of an answer behind other ones.
-fn put_parts(answers: &mut Vec<u8>, parts: &[&[u8]]) -> Result<(), AllocError> {
-    for part in parts {
-        answers.extend_from_slice(*part)?;
-    }
-    Ok(())
-}
-
-// The answers as the output of a run.
-fn answers_of(alloc: Global, rows: &[Told]) -> Result<Vec<u8>, AllocError> {
-    let mut answers = Vec::new(alloc);
-    for &(_, parts) in rows {
-        put_parts(&mut answers, parts)?;
-    }
-    Ok(answers)
-}
-
-/// A run over these lines answers them so.
-pub fn expect_told(
-    rt: &impl Abort,
-    alloc: Global,
-    about: &str,
-    rows: &[Told],
-) -> Result<(), AllocError> {
-    let lines = lines_of(alloc, rows)?;
-    let answers = answers_of(alloc, rows)?;
-    let (answered, out) = run(alloc, &lines, 2);
-    let found = (about, answered.is_ok(), out.as_slice());
-    same(rt, &found, &(about, true, answers.as_slice()));
-    Ok(())
 }
 
 #[test]

@@ -187,16 +187,48 @@ fn fail_once(
 // Lines, and how many bytes of a failing write are put down: none, one, half of a record or a slot, and all.
 type List = (&'static [&'static [u8]], &'static [u32]);
 
-#[rattlefmt::skip]
-const LISTS: &[List] = &[
-    (&[b"vertex 0 0", b"map MAP02", b"vertex 1 1", b"drop-map MAP02", b"drop-map MAP01", b"name E1M1"],
-        &[0, 1, 7, 9, 99]),
-    (&[b"vertex 0 0", b"", b"", b"map MAP02", b"", b"drop-map MAP01", b"vertex 1 1", b""],
-        &[0, 1, 7, 9, 18, 27, 99]),
-    (&[b"vertex 0 0", b"vertex 1 0", b"vertex 2 0", b"vertex 3 0", b"vertex 4 0", b"vertex 5 0", b"vertex 6 0",
-        b"vertex 7 0", b"map MAP02", b"", b"vertex 0 0"],
-        &[0, 1, 7, 30, 99]),
-];
+const MAPS: List = (
+    &[
+        b"vertex 0 0",
+        b"map MAP02",
+        b"vertex 1 1",
+        b"drop-map MAP02",
+        b"drop-map MAP01",
+        b"name E1M1",
+    ],
+    &[0, 1, 7, 9, 99],
+);
+
+const CHECKPOINTS: List = (
+    &[
+        b"vertex 0 0",
+        b"",
+        b"",
+        b"map MAP02",
+        b"",
+        b"drop-map MAP01",
+        b"vertex 1 1",
+        b"",
+    ],
+    &[0, 1, 7, 9, 18, 27, 99],
+);
+
+const FULL: List = (
+    &[
+        b"vertex 0 0",
+        b"vertex 1 0",
+        b"vertex 2 0",
+        b"vertex 3 0",
+        b"vertex 4 0",
+        b"vertex 5 0",
+        b"vertex 6 0",
+        b"vertex 7 0",
+        b"map MAP02",
+        b"",
+        b"vertex 0 0",
+    ],
+    &[0, 1, 7, 30, 99],
+);
 
 // Fails each call of these lines in turn, from the `first` on, with so many bytes of a write put down.
 fn sweep(
@@ -215,25 +247,47 @@ fn sweep(
     Err(Fail::from("too many calls"))
 }
 
-#[test]
-fn keeps_each_acknowledged_line(rt: HostRuntime) -> Result<(), Fail> {
-    for &(lines, parts) in LISTS {
-        for part in parts {
-            sweep(&rt, rt.alloc(), lines, 9, *part)?;
-        }
+// The same with each of these many bytes.
+fn sweep_list(rt: &impl Abort, alloc: Global, list: List) -> Result<(), Fail> {
+    let (lines, parts) = list;
+    for &part in parts {
+        sweep(rt, alloc, lines, 9, part)?;
     }
     Ok(())
 }
 
-// The first call that fails, and how many bytes are put down of it where it is a write.
-const FIRSTS: &[(u64, u32)] = &[(9, 0), (125, 1), (125, 7), (125, 16), (125, 99)];
+#[test]
+fn keeps_each_acknowledged_line(rt: HostRuntime) -> Result<(), Fail> {
+    sweep_list(&rt, rt.alloc(), MAPS)
+}
+
+#[test]
+fn keeps_each_line_between_checkpoints(rt: HostRuntime) -> Result<(), Fail> {
+    sweep_list(&rt, rt.alloc(), CHECKPOINTS)
+}
+
+#[test]
+fn keeps_each_line_that_fills_a_slot(rt: HostRuntime) -> Result<(), Fail> {
+    sweep_list(&rt, rt.alloc(), FULL)
+}
 
 // 34 records of four calls each fill a journal, and the line behind them takes a checkpoint first.
+const FILLING: &[&[u8]] = &[NAMED; 36];
+
+const NAMED: &[u8] = b"name MAP01";
+
 #[test]
 fn keeps_each_line_that_fills_a_journal(rt: HostRuntime) -> Result<(), Fail> {
-    let lines = [b"name MAP01".as_slice(); 36];
-    for &(first, part) in FIRSTS {
-        sweep(&rt, rt.alloc(), lines.as_slice(), first, part)?;
+    sweep(&rt, rt.alloc(), FILLING, 9, 0)
+}
+
+// How many bytes are put down of a write that fails in the last line but one.
+const LAST_PARTS: &[u32] = &[1, 7, 16, 99];
+
+#[test]
+fn keeps_the_line_that_has_no_room(rt: HostRuntime) -> Result<(), Fail> {
+    for &part in LAST_PARTS {
+        sweep(&rt, rt.alloc(), FILLING, 125, part)?;
     }
     Ok(())
 }
