@@ -2,6 +2,7 @@
 use Rattle.std.proofs.Common.{◌≡◌, ◌∙◌, ◌+◌, ◌<◌, ℕ, List, Option, Some, None, Result, Ok, Err, IfOk, length, get_or, take, refl, sym, ap, subst}
 use Rattle.std.specs.Prelude.{MatchResult, slice_get, sum_by}
 use Rattle.std.specs.Io.KnownBytes.{Appends}
+use Rattle.std.proofs.KnownBytes.{Keeps-refl}
 use Rattle.std.proofs.lemmas.List.Sums.{sum_by_more}
 use Rattle.std.proofs.lemmas.Option.{slice_get-get_or}
 use Rattle.lv_lumps.specs.Names.{name_text}
@@ -10,11 +11,11 @@ use Rattle.lv_maptables.specs.Tables.{Tables, empty_tables}
 use Rattle.lv_pwad.specs.Levels.{IsLevel, Lumps, lumps_behind, marker_at}
 use Rattle.lv_pwad.specs.declared.error.BuildError.{BuildError}
 use Rattle.lv_editor.specs.Building.{CountsLevels, CountsMore, IsCounted, built_text, level_of}
-use Rattle.lv_editor.specs.Deeds.{IsBuiltInto, NotBuilt}
+use Rattle.lv_editor.specs.Deeds.{IsBuiltInto, NotBuilt, RefusesFile}
 use Rattle.lv_editor.specs.declared.building.Counts.{Counts}
 use Rattle.lv_editor.specs.declared.error.EditorError.TheVariants.{WriterFailed}
 use Rattle.lv_editor.specs.declared.refusal.Refusal.{Refusal}
-use Rattle.lv_editor.specs.declared.refusal.Refusal.TheVariants.{Lines}
+use Rattle.lv_editor.specs.declared.refusal.Refusal.TheVariants.{Build, Level, Lines, Project}
 
 -- one level alone stands under a name
 pub level_named : (m : Tables) (wad name : List ℕ) (l : Lumps) → name ≡ name_text m.name → IsLevel wad name l → l ≡ level_of wad m
@@ -53,3 +54,10 @@ pub built_told : (r : Result ℕ Refusal) (maps : MapsView) (wad : List ℕ) (c 
     → MatchResult r (λ status. (status ≡ 0) × Appends u w (built_text c)) (λ refusal. refusal ≡ Lines WriterFailed) → IsBuiltInto r u w
 built_told (Ok status) maps wad c u w is (done, told) = (maps, wad, c, done, is, told)
 built_told (Err refusal) maps wad c u w is same = subst (λ (why : Refusal). NotBuilt why u w) (sym same) refl
+
+-- no PWAD of these maps was made in the file, and nothing told
+pub file_refused : (maps : MapsView) (r : Refusal) (u : Option (List ℕ)) → RefusesFile (project_of maps).maps r → NotBuilt r u u
+file_refused maps (Build e) u is = ((maps, is), Keeps-refl u)
+file_refused maps (Lines e) u is = absurd is
+file_refused maps (Project e) u is = absurd is
+file_refused maps (Level e) u is = absurd is

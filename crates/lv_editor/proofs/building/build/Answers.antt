@@ -1,4 +1,4 @@
-use Rattle.lv_editor.proofs.Counting.{built_told}
+use Rattle.lv_editor.proofs.Counting.{built_told, file_refused}
 use Rattle.lv_editor.proofs.building.build.Goals as goal
 
 pub returns-in-Ok-build_into-clause-built : goal.returns-in-Ok-build_into-clause-built
@@ -8,3 +8,7 @@ returns-in-Ok-build_into-clause-built g c =
 
 pub returns-in-Ok-build_into-clause-small : goal.returns-in-Ok-build_into-clause-small
 returns-in-Ok-build_into-clause-small g c = c.tell_built.ensures.small
+
+pub returns-clause-built : goal.returns-clause-built
+returns-clause-built g c =
+    file_refused c.maps.result.now c.in-Err-build_into.refusal (g.W.Write.contents c.args.writer.now) c.in-Err-build_into.ensures.refused
