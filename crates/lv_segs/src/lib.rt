@@ -20,7 +20,7 @@ mod values;
 
 pub use angle::angle16;
 pub use distance::offset;
-pub use dividing::{divide, divide_in, divide_on, lies_along, place_on, side_in, side_of};
+pub use dividing::{divide, divide_in, divide_on, lies_along, place_on, side_of};
 pub use edge::{Edge, Facing};
 pub use edges::{edges_of, lines_are_drawn};
 pub use error::SegsError;
