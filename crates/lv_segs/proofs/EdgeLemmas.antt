@@ -95,5 +95,6 @@ edges_are m h = All-map IsEdge (edge_between m.vertices) m.lines (each m.lines h
 pub edge_drawn : (lines : List Edge) (p : Piece) → All IsEdge lines → IsPiece lines p → IsEdge (edge_of lines p)
 edge_drawn lines p all h = All-get_or IsEdge lines p.line no_edge h.line_in all
 
-pub line_in_map : (m : Tables) (p : Piece) → IsPiece (edges_of m) p → p.line < length m.lines
-line_in_map m p h = let l = h.line_in in let e = length-map m.lines (edge_between m.vertices) in omega arith
+-- a map has as many edges as lines
+pub as_many : (m : Tables) → length (edges_of m) ≡ length m.lines
+as_many m = length-map m.lines (edge_between m.vertices)

@@ -1,5 +1,5 @@
 //! What a partition makes of a piece.
-ghost use Rattle.std.specs.Prelude.{◌≡◌, pos, neg_ℤ, ◌≤ℤ◌, length, All, true, false, if◌then◌else◌, Some, None};
+ghost use Rattle.std.specs.Prelude.{◌≡◌, ◌<◌, pos, neg_ℤ, ◌≤ℤ◌, length, All, true, false, if◌then◌else◌, Some, None};
 ghost use Rattle.lv_lumps.specs.Drawing.{IsDrawable};
 ghost use Rattle.lv_segs.specs.Plane.{IsEdge, dot};
 ghost use Rattle.lv_segs.specs.Fractions.{IsFraction};
@@ -72,7 +72,8 @@ fn cut(edge: Edge, piece: &Piece, at: Frac, starts_right: bool) -> Parts
 pub fn place_on(ray: Ray, edge: Edge, piece: &Piece) -> Place
     requires ray { IsLineRay ray }
     requires line { IsEdge edge }
-    requires fractions { HasFractions piece.now }
+    requires from { IsFraction piece.now.from }
+    requires to { IsFraction piece.now.to }
     ensures { result ≡ place_on ray edge piece.now }
 {
     let first = value_at(ray, edge.v1);
@@ -111,19 +112,6 @@ pub fn divide_on(ray: Ray, edge: Edge, piece: &Piece) -> Parts
     }
 }
 
-/// On which side of a partition a piece lies, over the lines of a map.
-pub fn side_in(lines: &[Edge], partition: &Piece, piece: &Piece) -> Place
-    requires lines { All IsEdge lines.now }
-    requires partition { IsPiece lines.now partition.now }
-    requires piece { IsPiece lines.now piece.now }
-    ensures { result ≡ place_of lines.now partition.now piece.now }
-{
-    let along = lines[partition.line as usize];
-    let edge = lines[piece.line as usize];
-    let ray = ray_of(along, partition.side);
-    place_on(ray, edge, piece)
-}
-
 /// What a partition makes of a piece, over the lines of a map.
 pub fn divide_in(lines: &[Edge], partition: &Piece, piece: &Piece) -> Parts
     requires lines { All IsEdge lines.now }
@@ -155,10 +143,13 @@ pub fn lies_along(lines: &[Edge], first: &Piece, second: &Piece) -> bool
 }
 
 /// On which side of a partition a piece of a map lies, by the exact signs of its ends: `Across` where
-/// the partition crosses it, whether both parts will be kept or not. It takes no memory.
+/// the partition crosses it, whether both parts will be kept or not. It takes no memory. Both lines
+/// are the map's and the piece's ends are fractions; nothing else is asked of the two.
 pub fn side_of(map: &Map, partition: &Piece, piece: &Piece) -> Place
-    requires partition { IsPiece (edges_of map.now.tables) partition.now }
-    requires piece { IsPiece (edges_of map.now.tables) piece.now }
+    requires partition { partition.now.line < length (edges_of map.now.tables) }
+    requires line { piece.now.line < length (edges_of map.now.tables) }
+    requires from { IsFraction piece.now.from }
+    requires to { IsFraction piece.now.to }
     ensures { result ≡ place_of (edges_of map.now.tables) partition.now piece.now }
 {
     let along = edge_of(map, partition.line);

@@ -42,7 +42,7 @@ pub fn lines_are_drawn(map: &Map)
 
 // The line of a number with the places of its ends.
 pub(crate) fn edge_of(map: &Map, line: u16) -> Edge
-    requires { line < length map.now.tables.lines }
+    requires { line < length (edges_of map.now.tables) }
     ensures value { result ≡ edge_at (edges_of map.now.tables) line }
     ensures drawn { IsEdge result }
 {

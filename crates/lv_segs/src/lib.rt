@@ -11,6 +11,7 @@ mod error;
 mod first;
 mod frac;
 mod laws;
+mod line_angles;
 mod numbered;
 mod piece;
 mod piece_box;
@@ -18,9 +19,9 @@ mod place;
 mod points;
 mod values;
 
-pub use angle::angle16;
+pub use angle::{angle16, reversed_angle};
 pub use distance::offset;
-pub use dividing::{divide, divide_in, divide_on, lies_along, place_on, side_in, side_of};
+pub use dividing::{divide, divide_in, divide_on, lies_along, place_on, side_of};
 pub use edge::{Edge, Facing};
 pub use edges::{edges_of, lines_are_drawn};
 pub use error::SegsError;
@@ -31,6 +32,7 @@ pub use laws::{
     parts_keep_their_piece, pieces_cover_a_step, points_rise, points_round_to_nearest,
     trees_keep_their_list,
 };
+pub use line_angles::angles_in;
 pub use numbered::Points;
 pub use piece::{Parts, Piece, Place};
 pub use piece_box::{box_on, boxes_in};

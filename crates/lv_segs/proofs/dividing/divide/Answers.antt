@@ -9,15 +9,8 @@ use Rattle.lv_segs.specs.Edges.{edges_of}
 use Rattle.lv_segs.proofs.LocalLemmas.{parts_on_is}
 use Rattle.lv_segs.proofs.Trees.{may_divide}
 use Rattle.lv_segs.proofs.Division.{divided}
-use Rattle.lv_segs.proofs.EdgeLemmas.{line_in_map}
 use Rattle.lv_segs.proofs.dividing.divide.Goals as goal
 use Rattle.lv_segs.proofs.dividing.divide.Goals.{After-divide_on}
-
-pub edge_of-along-requires : goal.edge_of-along-requires
-edge_of-along-requires c = line_in_map c.args.map.now.tables c.args.partition.now c.requires.partition
-
-pub edge_of-edge-requires : goal.edge_of-edge-requires
-edge_of-edge-requires c = line_in_map c.args.map.now.tables c.args.piece.now c.requires.piece
 
 -- the parts by the ray and the line are those by the list
 exact : (c : After-divide_on) → c.divide_on.result ≡ parts_of (edges_of c.args.map.now.tables) c.args.partition.now c.args.piece.now

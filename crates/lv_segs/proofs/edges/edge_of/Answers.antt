@@ -5,12 +5,13 @@ use Rattle.lv_segs.specs.Pieces.{no_edge}
 use Rattle.lv_segs.specs.Edges.{edge_between, edges_of}
 use Rattle.lv_segs.proofs.FirstList.{index_is}
 use Rattle.lv_segs.proofs.Lists.{All-at}
+use Rattle.lv_segs.proofs.EdgeLemmas.{as_many}
 use Rattle.lv_segs.proofs.ItemReads.{is_there, at_some, mapped_at}
 use Rattle.lv_segs.proofs.edges.edge_of.Goals as goal
 use Rattle.lv_segs.proofs.edges.edge_of.Goals.{After-edge_between}
 
 pub unwrap-line-requires : goal.unwrap-line-requires
-unwrap-line-requires c = let e = c.from.ensures in let h = c.requires in is_there c.args.map.now.tables.lines c.from.result c.line.result c.line.ensures.item (omega arith)
+unwrap-line-requires c = let e = c.from.ensures in let h = c.requires in let m = as_many c.args.map.now.tables in is_there c.args.map.now.tables.lines c.from.result c.line.result c.line.ensures.item (omega arith)
 
 pub edge_between-requires : goal.edge_between-requires
 edge_between-requires c = at_some (HasEnds c.args.map.now.tables.vertices) c.unwrap-line.result c.unwrap-line.ensures c.line.ensures.ends

@@ -1,0 +1,33 @@
+//! The angles of lines, found once for the segs of both sides. How they are kept may change; a line's
+//! angle is that of its own direction.
+ghost use Rattle.std.specs.Prelude.{All, IfOk};
+ghost use Rattle.lv_segs.specs.declared.edge.Facing.TheVariants.{Along};
+ghost use Rattle.lv_segs.specs.Plane.{ray, IsEdge};
+ghost use Rattle.lv_segs.specs.LineAngles.{IsRayAngle, AreAngles};
+
+use crate::angle::angle16;
+use crate::edge::{Edge, Facing};
+use crate::values::ray_of;
+use std::alloc::{AllocError, Global};
+
+// The angle of a line in its own direction.
+fn line_angle(edge: Edge) -> u16
+    requires { IsEdge edge }
+    ensures { IsRayAngle (ray edge Along) result }
+{
+    let ray = ray_of(edge, Facing::Along);
+    angle16(ray.dx, ray.dy)
+}
+
+/// The angle of each line in its own direction, by number. The segs of its left side run at the
+/// `reversed_angle`.
+pub fn angles_in(alloc: Global, lines: &[Edge]) -> Result<Vec<u16>, AllocError>
+    requires { All IsEdge lines.now }
+    ensures { IfOk result (λ angles. AreAngles lines.now angles.items) }
+{
+    let mut angles = Vec::new(alloc);
+    for edge in lines {
+        angles.push(line_angle(*edge))?;
+    }
+    Ok(angles)
+}
