@@ -1,12 +1,8 @@
 -- A line is its words with a space between each two.
-use Rattle.std.proofs.Common.{◌≡◌, ℕ, Bool, true, false, cond, List, [], ◌∷◌, refl, sym, ◌∙◌, ap, arith, rules, nat_eq, length, ◌<◌, Result, Ok, Err}
-use Rattle.std.specs.Prelude.{IfOk}
-use Rattle.lv_commands.specs.declared.command.Command.{Command}
+use Rattle.std.proofs.Common.{◌≡◌, ℕ, Bool, true, false, cond, List, [], ◌∷◌, refl, sym, ◌∙◌, ap, arith, nat_eq, length, ◌<◌}
 use Rattle.std.specs.List.{join_with_byte}
 use Rattle.std.proofs.lemmas.Bool.{eqb-true}
 use Rattle.lv_commands.specs.Words.{parts, onto_first}
-use Rattle.lv_commands.specs.Spelling.{words_of, spelling}
-use Rattle.lv_commands.specs.CommandRanges.{InRange}
 use Rattle.lv_commands.proofs.Parts.{parts-some}
 
 join-onto : (b : ℕ) (ws : List (List ℕ)) → join_with_byte 32 (onto_first b ws) ≡ b ∷ join_with_byte 32 ws
@@ -26,7 +22,3 @@ join-if b bs false s e = join-onto b (parts bs) ∙ ap (λ xs. b ∷ xs) e
 pub join-parts : (line : List ℕ) → join_with_byte 32 (parts line) ≡ line
 join-parts [] = refl
 join-parts (b ∷ bs) = join-if b bs (nat_eq b 32) refl (join-parts bs)
-
-pub spelled : {E : Type 0} (line : List ℕ) (ws : List (List ℕ)) (r : Result Command E) → parts line ≡ ws → IfOk r (λ c. (ws ≡ words_of c) × InRange c) → IfOk r (λ c. (line ≡ spelling c) × InRange c)
-spelled line ws (Ok c) e h = (sym (join-parts line) ∙ ap (join_with_byte 32) (e ∙ h.0), h.1)
-spelled line ws (Err x) e h = search rules

@@ -152,8 +152,3 @@ not-long line (Err f) fault = tt
 pub spelled : (line : List ℕ) (ws : List (List ℕ)) (r : Result ProjectCommand CommandError) → parts line ≡ ws → IfOk r (λ c. (ws ≡ words_of c) × InRange c) → IfOk r (λ c. (line ≡ spelling c) × InRange c)
 spelled line ws (Ok c) e h = (sym (join-parts line) ∙ ap (join_with_byte 32) (e ∙ h.0), h.1)
 spelled line ws (Err x) e h = tt
-
--- the fault of the words is that of the line
-pub told : (line : List ℕ) (fault : Option ℕ) (r : Result ProjectCommand CommandError) → fault_of line ≡ fault → MatchResult r (λ _. fault ≡ None) (λ e. fault ≡ Some (code_of e)) → MatchResult r (λ _. fault_of line ≡ None) (λ e. fault_of line ≡ Some (code_of e))
-told line fault (Ok c) e h = e ∙ h
-told line fault (Err x) e h = e ∙ h

@@ -1,30 +1,32 @@
 -- The numbers of the refusals.
 use Rattle.std.specs.Prelude.{◌≡◌, ℕ, Option, Some, None, Result, MatchResult}
+use Rattle.lv_maptables.specs.Errors as of_map
+use Rattle.lv_maptables.specs.declared.error.MapError.TheVariants as map_error
 use Rattle.lv_commands.specs.declared.error.CommandError.{CommandError}
 use Rattle.lv_commands.specs.declared.error.CommandError.TheVariants.{NotACommand, OutOfRange, NoVertex, NoSector, NoSide, NoLine, NoThing, InUse, SameEnds, PlaceTaken, TwoSidedWithoutLeft, TableFull, LineTooLong, ProjectFull, BadName, TooManyMaps, MapNameTaken, NoSuchMap, CurrentMap, OutOfMemory}
 
--- the number of a refusal
+-- the number of a refusal: a map's has the number that it has there
 abbrev pub code_of : CommandError → ℕ
 code_of NotACommand = 1
 code_of OutOfRange = 2
-code_of NoVertex = 3
-code_of NoSector = 4
-code_of NoSide = 5
-code_of NoLine = 6
-code_of NoThing = 7
-code_of InUse = 8
-code_of SameEnds = 9
-code_of PlaceTaken = 10
-code_of TwoSidedWithoutLeft = 11
-code_of TableFull = 12
-code_of LineTooLong = 13
+code_of NoVertex = of_map.code_of map_error.NoVertex
+code_of NoSector = of_map.code_of map_error.NoSector
+code_of NoSide = of_map.code_of map_error.NoSide
+code_of NoLine = of_map.code_of map_error.NoLine
+code_of NoThing = of_map.code_of map_error.NoThing
+code_of InUse = of_map.code_of map_error.InUse
+code_of SameEnds = of_map.code_of map_error.SameEnds
+code_of PlaceTaken = of_map.code_of map_error.PlaceTaken
+code_of TwoSidedWithoutLeft = of_map.code_of map_error.TwoSidedWithoutLeft
+code_of TableFull = of_map.code_of map_error.TableFull
+code_of LineTooLong = of_map.code_of map_error.LineTooLong
 code_of ProjectFull = 14
 code_of BadName = 15
-code_of TooManyMaps = 16
-code_of MapNameTaken = 17
-code_of NoSuchMap = 18
-code_of CurrentMap = 19
-code_of OutOfMemory = 31
+code_of TooManyMaps = of_map.code_of map_error.TooManyMaps
+code_of MapNameTaken = of_map.code_of map_error.MapNameTaken
+code_of NoSuchMap = of_map.code_of map_error.NoSuchMap
+code_of CurrentMap = of_map.code_of map_error.CurrentMap
+code_of OutOfMemory = of_map.code_of map_error.OutOfMemory
 
 -- the number of a refusal, if there is one
 abbrev pub code_in : Option CommandError → Option ℕ

@@ -43,8 +43,8 @@ fn has_corner_taken(map: &Map, plan: &RoomPlan) -> bool
     corners_of(plan).iter().any(|corner| map.has_place(*corner))
 }
 
-// Whether a table has no room for what a room adds to it.
-fn lacks_room_for_room(map: &Map) -> bool
+// Whether a table is too full for what a room adds to it.
+fn is_too_full_to_draw(map: &Map) -> bool
     ensures { result ≡ (lacks_room map.now.tables.vertices 4
         || lacks_sector_room map.now.tables.sectors 1
         || lacks_room map.now.tables.sides 4 || lacks_room map.now.tables.lines 4) }
@@ -62,7 +62,7 @@ fn can_draw(map: &Map, plan: &RoomPlan) -> Result<(), MapError>
     if has_corner_taken(map, plan) {
         return Err(MapError::PlaceTaken);
     }
-    if lacks_room_for_room(map) {
+    if is_too_full_to_draw(map) {
         return Err(MapError::TableFull);
     }
     Ok(())

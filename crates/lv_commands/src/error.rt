@@ -34,9 +34,9 @@ pub enum CommandError {
 
 impl fmt::Display for CommandError {
     fn fmt<W: fmt::Write>(&self, f: &mut fmt::Formatter<W>) -> fmt::Result {
-        match self.as_map_error() {
-            Some(error) => fmt::Display::fmt(&error, f),
-            None => f.write_str(self.own_text()),
+        match self.source() {
+            Ok(error) => fmt::Display::fmt(&error, f),
+            Err((_, text)) => f.write_str(text),
         }
     }
 }
@@ -50,7 +50,7 @@ impl From<AllocError> for CommandError {
 }
 
 impl CommandError {
-    ghost use Rattle.std.specs.Prelude.{◌≡◌, ◌≤◌};
+    ghost use Rattle.std.specs.Prelude.{◌≡◌, ◌≤◌, MatchResult};
     ghost use Rattle.lv_maptables.specs.Errors as map_error;
     ghost use Rattle.lv_commands.specs.Errors.{code_of};
 
@@ -58,27 +58,9 @@ impl CommandError {
     pub fn code(&self) -> u16
         ensures { result ≡ code_of self.now }
     {
-        match self {
-            CommandError::NotACommand => 1,
-            CommandError::OutOfRange => 2,
-            CommandError::NoVertex => 3,
-            CommandError::NoSector => 4,
-            CommandError::NoSide => 5,
-            CommandError::NoLine => 6,
-            CommandError::NoThing => 7,
-            CommandError::InUse => 8,
-            CommandError::SameEnds => 9,
-            CommandError::PlaceTaken => 10,
-            CommandError::TwoSidedWithoutLeft => 11,
-            CommandError::TableFull => 12,
-            CommandError::LineTooLong => 13,
-            CommandError::ProjectFull => 14,
-            CommandError::BadName => 15,
-            CommandError::TooManyMaps => 16,
-            CommandError::MapNameTaken => 17,
-            CommandError::NoSuchMap => 18,
-            CommandError::CurrentMap => 19,
-            CommandError::OutOfMemory => 31,
+        match self.source() {
+            Ok(error) => error.code(),
+            Err((code, _)) => code,
         }
     }
 
@@ -108,36 +90,32 @@ impl CommandError {
         }
     }
 
-    // The map's refusal that it passes on, if it is one.
-    fn as_map_error(&self) -> Option<MapError> {
+    // The map's refusal that it passes on; else the number and the text of its own.
+    fn source(&self) -> Result<MapError, (u16, &'static str)>
+        ensures { MatchResult result (λ error. code_of self.now ≡ map_error.code_of error)
+            (λ own. code_of self.now ≡ own.0) }
+    {
         match self {
-            CommandError::NoVertex => Some(MapError::NoVertex),
-            CommandError::NoSector => Some(MapError::NoSector),
-            CommandError::NoSide => Some(MapError::NoSide),
-            CommandError::NoLine => Some(MapError::NoLine),
-            CommandError::NoThing => Some(MapError::NoThing),
-            CommandError::InUse => Some(MapError::InUse),
-            CommandError::SameEnds => Some(MapError::SameEnds),
-            CommandError::PlaceTaken => Some(MapError::PlaceTaken),
-            CommandError::TwoSidedWithoutLeft => Some(MapError::TwoSidedWithoutLeft),
-            CommandError::TableFull => Some(MapError::TableFull),
-            CommandError::LineTooLong => Some(MapError::LineTooLong),
-            CommandError::TooManyMaps => Some(MapError::TooManyMaps),
-            CommandError::MapNameTaken => Some(MapError::MapNameTaken),
-            CommandError::NoSuchMap => Some(MapError::NoSuchMap),
-            CommandError::CurrentMap => Some(MapError::CurrentMap),
-            CommandError::OutOfMemory => Some(MapError::OutOfMemory),
-            _ => None,
-        }
-    }
-
-    // The text of one that isn't a map's.
-    fn own_text(&self) -> &'static str {
-        match self {
-            CommandError::NotACommand => "not a command",
-            CommandError::OutOfRange => "a number is out of its range",
-            CommandError::ProjectFull => "the project is full",
-            _ => "a bad name",
+            CommandError::NotACommand => Err((1, "not a command")),
+            CommandError::OutOfRange => Err((2, "a number is out of its range")),
+            CommandError::NoVertex => Ok(MapError::NoVertex),
+            CommandError::NoSector => Ok(MapError::NoSector),
+            CommandError::NoSide => Ok(MapError::NoSide),
+            CommandError::NoLine => Ok(MapError::NoLine),
+            CommandError::NoThing => Ok(MapError::NoThing),
+            CommandError::InUse => Ok(MapError::InUse),
+            CommandError::SameEnds => Ok(MapError::SameEnds),
+            CommandError::PlaceTaken => Ok(MapError::PlaceTaken),
+            CommandError::TwoSidedWithoutLeft => Ok(MapError::TwoSidedWithoutLeft),
+            CommandError::TableFull => Ok(MapError::TableFull),
+            CommandError::LineTooLong => Ok(MapError::LineTooLong),
+            CommandError::ProjectFull => Err((14, "the project is full")),
+            CommandError::BadName => Err((15, "a bad name")),
+            CommandError::TooManyMaps => Ok(MapError::TooManyMaps),
+            CommandError::MapNameTaken => Ok(MapError::MapNameTaken),
+            CommandError::NoSuchMap => Ok(MapError::NoSuchMap),
+            CommandError::CurrentMap => Ok(MapError::CurrentMap),
+            CommandError::OutOfMemory => Ok(MapError::OutOfMemory),
         }
     }
 }

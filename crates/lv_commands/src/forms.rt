@@ -13,8 +13,8 @@ ghost use Rattle.lv_commands.specs.declared.head.Head.TheVariants as head;
 
 use crate::command::{Command, RoomPlan};
 use crate::error::CommandError;
-use crate::keywords::{kind_in, last_number};
-use crate::places::Places;
+use crate::keywords::{LAST_ITEM, LAST_SECTOR, kind_in, last_number};
+use crate::unread::UnreadWords;
 use lv_lumps::{Line, Name8, Sector, Side, Thing, Vertex};
 
 const LEAST_COORDINATE: i16 = -16384;
@@ -26,11 +26,6 @@ const GREATEST_LIGHT: i16 = 255;
 const GREATEST_ANGLE: i16 = 359;
 // The greatest flags, special and tag of a line.
 const GREATEST_FLAGS: u16 = 32767;
-// The greatest number of a vertex, a side, a line or a thing.
-const LAST_ITEM: u16 = 32766;
-
-const LAST_SECTOR: u16 = 4095;
-
 // Whether the room has some width and some height.
 fn has_area(plan: &RoomPlan) -> bool
     ensures { result ≡ (int_lt plan.now.west plan.now.east
@@ -39,7 +34,7 @@ fn has_area(plan: &RoomPlan) -> bool
     plan.west < plan.east && plan.south < plan.north
 }
 
-impl<'a> Places<'a> {
+impl<'a> UnreadWords<'a> {
     /// A place.
     pub fn vertex(mut self) -> Result<Vertex, CommandError>
         ensures ok { IfOk result (λ r. ((reading self.entry).fault ≡ None)
@@ -221,7 +216,7 @@ impl<'a> Places<'a> {
         }
     }
 
-    // The places of a room.
+    // The words of a room.
     fn room_plan(mut self) -> Result<RoomPlan, CommandError>
         ensures ok { IfOk result (λ r. ((reading self.entry).fault ≡ None)
             × ((reading self.entry).words ≡ room_words r) × IsPlan r) }

@@ -1,4 +1,4 @@
-//! The spelling of first words and of tables.
+//! The spelling of first words and of tables, and the greatest number of an item of each.
 ghost use Rattle.std.specs.Prelude.{◌≡◌, ◌≤◌, IfSome, bytes_eq};
 ghost use Rattle.lv_commands.specs.CommandRanges.{last_of};
 ghost use Rattle.lv_commands.specs.Grammar.{head_of, kind_of};
@@ -6,6 +6,12 @@ ghost use Rattle.lv_commands.specs.Spelling.{head_word, kind_word};
 
 use crate::head::Head;
 use lv_maptables::Kind;
+
+/// The greatest number of a vertex, a side, a line or a thing.
+pub const LAST_ITEM: u16 = 32766;
+
+/// The greatest number of a sector.
+pub const LAST_SECTOR: u16 = 4095;
 
 // All first words.
 const HEADS: [Head; 14] = [
@@ -105,7 +111,7 @@ pub fn last_number(kind: Kind) -> u16
     ensures range { result ≤ 32767 }
 {
     match kind {
-        Kind::Sector => 4095,
-        _ => 32766,
+        Kind::Sector => LAST_SECTOR,
+        _ => LAST_ITEM,
     }
 }

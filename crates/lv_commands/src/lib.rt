@@ -11,11 +11,11 @@ mod growth;
 mod head;
 mod keywords;
 mod names;
-mod places;
-pub mod project;
+mod project;
 mod room;
 mod spelling;
 mod text;
+mod unread;
 mod words;
 
 pub use command::{Command, LineSplit, RoomPlan};

@@ -3,20 +3,18 @@ use Rattle.std.proofs.Common.{◌≡◌, ◌≢◌, ℕ, ◌+◌, ◌<◌, ◌�
 use Rattle.std.specs.Prelude.{flat_map, sum_by}
 use Rattle.std.specs.List.{All, AllPairs}
 use Rattle.std.proofs.lemmas.Bool.{ltb-true}
-use Rattle.std.proofs.lemmas.Slice.Eq.{bytes_eq-Decides}
 use Rattle.std.proofs.lemmas.Grind.{flat_map-append}
 use Rattle.std.proofs.lemmas.List.{append-nil, append_cancel_left, take_more}
 use Rattle.std.proofs.lemmas.List.Sums.{passes_at_first, sum_by-cons}
 use Rattle.std.proofs.lemmas.List.Elements.{All-head, All-tail}
 use Rattle.std.proofs.Math.ListN.{get_or-append}
-use Rattle.lv_lumps.specs.declared.records.Name8.{Name8}
 use Rattle.lv_maptables.specs.Tables.{Tables, empty_tables, part_len}
 use Rattle.lv_maptables.specs.WellFormed.{WellFormed}
 use Rattle.lv_maptables.specs.Parts.{part, NoPartBegins, BeginsWith}
 use Rattle.lv_maptables.specs.Projects.{ProjectMaps, WellFormedProject, is_named, has_map, number_of, map_limit}
 use Rattle.lv_maptables.specs.ProjectBody.{NoMapsHave, NoneFollow, ReadsNext, with_last}
 use Rattle.lv_maptables.proofs.FramedLemmas.{part_size, one_part}
-use Rattle.lv_maptables.proofs.ProjectLemmas.{get_middle}
+use Rattle.lv_maptables.proofs.ProjectLemmas.{get_middle, same_name}
 
 -- they are as long as the sum of their lengths
 pub parts_size : (maps : List Tables) → All WellFormed maps → length (flat_map part maps) ≡ sum_by part_len maps
@@ -75,9 +73,6 @@ one_list (m ∷ ms) (n ∷ ns) wm wn e =
 
 length_middle : (before behind : List Tables) (m : Tables) → length before < length (before ++ m ∷ behind)
 length_middle before behind m = omega (arith, length-append before (m ∷ behind))
-
-same_name : (name : Name8) (m : Tables) → is_named name m ≡ true → m.name ≡ name
-same_name name m e = λ i. record { bytes = (bytes_eq-Decides m.name.bytes name.bytes).0 e i }
 
 -- the map behind others is well-formed
 behind_well_formed : (p : ProjectMaps) (maps more : List Tables) (m : Tables) → WellFormedProject p → p.maps ≡ maps ++ m ∷ more → WellFormed m

@@ -22,7 +22,7 @@ use Rattle.lv_maptables.proofs.ListLemmas.{all_pairs_set, get_or-lowered, lowere
 abbrev pub same : Vertex → Vertex → Bool
 same v w = int_eq v.x w.x && int_eq v.y w.y
 
-same_equiv : IsEquivalence same
+pub same_equiv : IsEquivalence same
 same_equiv = and_equiv (on_equiv (λ (v : Vertex). v.x) int_eq_equiv) (on_equiv (λ (v : Vertex). v.y) int_eq_equiv)
 
 pub same_decides : (v w : Vertex) → Decides (same v w) (v ≡ w)

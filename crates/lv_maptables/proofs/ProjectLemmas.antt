@@ -200,7 +200,7 @@ taken_above (y ∷ ys) (suc i) (suc n) x above at = ap (λ zs. y ∷ zs) (taken_
 
 -- ---- Maps by their names
 
-same_name : (name : Name8) (m : Tables) → is_named name m ≡ true → m.name ≡ name
+pub same_name : (name : Name8) (m : Tables) → is_named name m ≡ true → m.name ≡ name
 same_name name m e = λ i. record { bytes = (bytes_eq-Decides m.name.bytes name.bytes).0 e i }
 
 told_name : (name : Name8) (m : Tables) → m.name ≡ name → is_named name m ≡ true

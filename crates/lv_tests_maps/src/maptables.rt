@@ -1,9 +1,10 @@
 //! The new map, names and refusals. What edits make of a map is told by lines (`lines.rt`, `lv_tests_runs`).
 
-use crate::drawing::{draw, drawn};
+use crate::drawing::{SECTOR, SIDE, draw, drawn};
 use crate::expect::same;
 use lv_lumps::Vertex;
-use lv_maptables::{Kind, Map, MapError, is_marker, is_name, squared_distance};
+use lv_maptables::{Kind, Map, MapError, Maps, is_marker, is_name, squared_distance};
+use std::alloc::Global;
 use std::test::Fail;
 
 const KINDS: &[Kind] = &[
@@ -26,14 +27,47 @@ fn the_new_map_is_empty(rt: HostRuntime) -> Result<(), Fail> {
     Ok(())
 }
 
+const LINE: &[u8] = b"line 0 1 1 0 0 0 -";
+
+const THING: &[u8] = b"thing 0 0 90 1 7";
+
+// A table, lines that draw three items of it, and the line that drops the first of them.
+#[rattlefmt::skip]
+const THREE_OF_EACH: &[(Kind, &[&[u8]], &[u8])] = &[
+    (Kind::Vertex, &[b"vertex 0 0", b"vertex 1 0", b"vertex 2 0"], b"drop vertex 0"),
+    (Kind::Sector, &[SECTOR, SECTOR, SECTOR], b"drop sector 0"),
+    (Kind::Side, &[SECTOR, SIDE, SIDE, SIDE], b"drop side 0"),
+    (Kind::Line, &[b"vertex 0 0", b"vertex 1 0", SECTOR, SIDE, LINE, LINE, LINE], b"drop line 0"),
+    (Kind::Thing, &[THING, THING, THING], b"drop thing 0"),
+];
+
+// The keys of the first three items of a table.
+fn keys(maps: &Maps, kind: Kind) -> [Option<usize>; 3] {
+    [maps.key(kind, 0), maps.key(kind, 1), maps.key(kind, 2)]
+}
+
+// The keys before an item is dropped, and after it.
+fn keys_over_a_drop(
+    alloc: Global,
+    kind: Kind,
+    lines: &[&[u8]],
+    drop: &[u8],
+) -> Result<[[Option<usize>; 3]; 2], (usize, u16)> {
+    let mut maps = drawn(alloc, lines)?;
+    let before = keys(&maps, kind);
+    draw(&mut maps, &[drop])?;
+    Ok([before, keys(&maps, kind)])
+}
+
 // The key of an item stays while another one is dropped, though its number falls.
 #[test]
 fn keys_stay_after_a_drop(rt: HostRuntime) -> Result<(), Fail> {
-    let mut maps = drawn(rt.alloc(), &[b"vertex 0 0", b"vertex 1 0", b"vertex 2 0"])?;
-    let before = maps.key(Kind::Vertex, 1);
-    draw(&mut maps, &[b"drop vertex 0"])?;
-    let after = [maps.key(Kind::Vertex, 0), maps.key(Kind::Vertex, 2)];
-    assert_eq!(rt; (before.is_some(), after), (true, [before, None]));
+    for &(kind, lines, drop) in THREE_OF_EACH {
+        let [before, after] = keys_over_a_drop(rt.alloc(), kind, lines, drop)?;
+        let [_, second, third] = before;
+        let found = (kind, second.is_some(), second == third, after);
+        same(&rt, &found, &(kind, true, false, [second, third, None]));
+    }
     Ok(())
 }
 

@@ -1,5 +1,5 @@
 //! Which lines are commands of a project.
-ghost use Rattle.std.specs.Prelude.{◌≡◌, [], ◌∷◌, ◌≤◌, None, Some, Ok, IfOk, IfSome, length};
+ghost use Rattle.std.specs.Prelude.{◌≡◌, [], ◌∷◌, ◌≤◌, None, Some, Ok, IfOk, IfSome, length, option_copied};
 ghost use Rattle.lv_lumps.specs.Names.{is_marker};
 ghost use Rattle.lv_commands.specs.Errors.{TellsFault};
 ghost use Rattle.lv_commands.specs.Grammar as of_one_map;
@@ -8,12 +8,16 @@ ghost use Rattle.lv_commands.specs.ProjectCommands.{InRange, map_word, spelling,
 ghost use Rattle.lv_commands.specs.ProjectGrammar.{fault_of, map_head_of};
 ghost use Rattle.lv_commands.specs.declared.project.command.ProjectCommand.{ProjectCommand};
 ghost use Rattle.lv_commands.specs.Views.{reading};
+ghost use Rattle.lv_commands.specs.Words.{parts_behind};
 
 use crate::error::CommandError;
 use crate::grammar;
-use crate::places::Places;
 use crate::project::command::{MapHead, ProjectCommand};
+use crate::unread::UnreadWords;
 use crate::words::next_part;
+
+// The longest line of input that may be a command, in bytes.
+const LONGEST_LINE: usize = 256;
 
 /// The word that is written for such a first word.
 pub fn map_text(head: MapHead) -> &'static str
@@ -40,14 +44,14 @@ fn map_head_in(word: &[u8]) -> Option<MapHead>
 }
 
 // The command whose words stand behind such a first word.
-fn map_command(head: MapHead, places: Places) -> Result<ProjectCommand, CommandError>
-    requires { (reading places).fault ≡ None }
+fn map_command(head: MapHead, words: UnreadWords) -> Result<ProjectCommand, CommandError>
+    requires { (reading words).fault ≡ None }
     ensures ok { IfOk result
-        (λ c. (map_word head ∷ (reading places.entry).words ≡ words_of c) × InRange c) }
+        (λ c. (map_word head ∷ (reading words.entry).words ≡ words_of c) × InRange c) }
     ensures fault { TellsFault result
-        (places_fault (Named is_marker ∷ []) (reading places.entry).words) }
+        (places_fault (Named is_marker ∷ []) (reading words.entry).words) }
 {
-    match places.map_name() {
+    match words.map_name() {
         Ok(name) => match head {
             MapHead::Select => Ok(ProjectCommand::SelectMap(name)),
             MapHead::Drop => Ok(ProjectCommand::DropMap(name)),
@@ -56,12 +60,14 @@ fn map_command(head: MapHead, places: Places) -> Result<ProjectCommand, CommandE
     }
 }
 
-// The command of the current map that a line is.
-fn edit(line: &[u8]) -> Result<ProjectCommand, CommandError>
-    ensures ok { IfOk result (λ c. (line.now ≡ spelling c) × InRange c) }
-    ensures fault { TellsFault result (of_one_map.fault_of line.now) }
+// The command of the current map that a first word and what stands behind it are.
+fn edit(word: &[u8], rest: Option<&[u8]>) -> Result<ProjectCommand, CommandError>
+    ensures ok { IfOk result
+        (λ c. (word.now ∷ parts_behind (option_copied rest.entry) ≡ words_of c) × InRange c) }
+    ensures fault { TellsFault result
+        (of_one_map.command_fault (word.now ∷ parts_behind (option_copied rest.entry))) }
 {
-    match grammar::read(line) {
+    match grammar::read(word, rest) {
         Ok(command) => Ok(ProjectCommand::Edit(command)),
         Err(error) => Err(error),
     }
@@ -72,13 +78,13 @@ fn read(line: &[u8]) -> Result<ProjectCommand, CommandError>
     ensures ok { IfOk result (λ c. (line.now ≡ spelling c) × InRange c) }
     ensures fault { TellsFault result (fault_of line.now) }
 {
-    if line.len() > grammar::LONGEST_LINE {
+    if line.len() > LONGEST_LINE {
         return Err(CommandError::NotACommand);
     }
     let (word, rest) = next_part(line);
     match map_head_in(word) {
-        Some(head) => map_command(head, Places::new(rest)),
-        None => edit(line),
+        Some(head) => map_command(head, UnreadWords::new(rest)),
+        None => edit(word, rest),
     }
 }
 

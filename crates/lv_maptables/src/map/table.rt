@@ -11,7 +11,7 @@ use std::marker::Model;
 pub(super) struct Table<T: Copy> {
     items: Slab<T>,
     order: Vec<usize>,
-    // where to look for a key in the order: its rank, unless want of memory kept the list short
+    // where to look for a key in the order: its rank. As long as there are places for items
     ranks: Vec<u16>,
 }
 
@@ -52,12 +52,13 @@ fn note_rank(ranks: &mut [u16], key: usize, rank: u16) {
     }
 }
 
-// Makes the list of ranks as long as there are places.
+// Makes the list of ranks long enough for so many places, and then as long as its memory allows.
 fn widen(ranks: &mut Vec<u16>, places: usize) -> Result<(), MapError>
     ensures { IsOkUnless result MapError.OutOfMemory }
 {
     if ranks.len() < places {
-        ranks.resize(places, 0)?;
+        ranks.reserve(places - ranks.len())?;
+        ranks.resize(ranks.capacity(), 0)?;
     }
     Ok(())
 }
@@ -167,9 +168,12 @@ impl<T: Copy> Table<T> {
         if more <= self.spare() {
             return Ok(());
         }
-        self.items.reserve(more)?;
-        self.order.reserve(more)?;
-        widen(&mut self.ranks, self.items.capacity())?;
+        let len = self.order.len();
+        // the ranks first: where the rest is refused, each key still has one
+        widen(&mut self.ranks, len.saturating_add(more))?;
+        let places = more.max(self.ranks.len().saturating_sub(len));
+        self.items.reserve_exact(places)?;
+        self.order.reserve_exact(places)?;
         Ok(())
     }
 

@@ -105,7 +105,7 @@ impl Map {
     pub fn can_add_vertex(&self, vertex: Vertex) -> Result<(), MapError>
         ensures { Tells result (vertex_faults self.now.tables vertex) }
     {
-        if self.vertices.has(vertex) {
+        if self.has_place(vertex) {
             return Err(MapError::PlaceTaken);
         }
         if self.vertices.len() >= ITEM_LIMIT {
