@@ -1,11 +1,12 @@
 //! The project's calls over any number of sessions, each begun by `create` or `open` and stopped at any moment.
-ghost use Rattle.std.specs.Prelude.{◌≡◌, ◌⊎◌, ◌++◌, ◌∷◌, [], List, ℕ, Result, IfErr, IfOk, MatchResult};
-ghost use Rattle.lv_disk.specs.Stops.{LeavesOnly};
+ghost use Rattle.std.specs.Prelude.{◌≡◌, ◌⊎◌, ◌++◌, ◌∷◌, [], List, ℕ, Result, IfErr, IfOk, MatchResult, OnOk, length};
+ghost use Rattle.lv_disk.specs.Stops.{Each, LeavesOnly};
 ghost use Rattle.lv_maptables.specs.Projects.{empty_project, project_of};
 ghost use Rattle.lv_project.specs.Calls.{Applies, Checkpoints};
 ghost use Rattle.lv_project.specs.Opening.{RefusesCreate};
-ghost use Rattle.lv_project.specs.Places.{cap_of};
+ghost use Rattle.lv_project.specs.Places.{cap_of, IsAllowed};
 ghost use Rattle.lv_project.specs.Sessions.{Creates, HoldsEach, IsLeftBy, KeepEach, Opens, PassInTurn, RefusesOpen, Session};
+ghost use Rattle.lv_project.specs.Stands.{TellsLengths};
 ghost use Rattle.lv_project.specs.States.{State};
 ghost use Rattle.lv_project.specs.declared.error.ProjectError.{ProjectError};
 
@@ -64,6 +65,9 @@ pub fn creates<D: Disk>(
     geometry: Geometry,
 ) -> Result<Project<D>, Refused<D>>
     ensures created { IfOk result (Creates D.may_leave (cap_of geometry)) }
+    ensures lengths { IfOk result (λ p. Each (D.may_leave p.disk) (TellsLengths geometry)) }
+    ensures allowed { OnOk result (IsAllowed geometry.slot geometry.journal) }
+    ensures empty { OnOk result (Each (D.reads disk) (λ file. length file ≡ 0)) }
     ensures refused { IfErr result (λ r. RefusesCreate (D.reads disk) geometry r.error) }
 {
     Project::create(alloc, disk, geometry)
