@@ -40,6 +40,19 @@ pub fn hold_each_acknowledged<D: Disk>()
         → ((error ≡ ProjectError.Device) ⊎ (error ≡ ProjectError.OutOfMemory))
         × IsLeftBy D.moment D.failures D.left_since D.may_leave D.reads cap sessions after
         × LeavesOnly D.moment D.left_since disk after (HoldsEach cap sessions) }
+
+    // A stop within an `open`, be it one that is then refused or not, leaves a disk that these sessions left.
+    ensures stopped { (cap : ℕ) (sessions : List Session) (disk next : D) (first : State D)
+        → IsLeftBy D.moment D.failures D.left_since D.may_leave D.reads cap sessions disk
+        → Opens D.moment D.left_since D.may_leave D.reads disk first
+        → Each (D.may_leave next) (D.left_since first.disk (D.moment disk))
+        → IsLeftBy D.moment D.failures D.left_since D.may_leave D.reads cap sessions next }
+    ensures stopped_refused { (cap : ℕ) (sessions : List Session) (disk after next : D)
+        (error : ProjectError)
+        → IsLeftBy D.moment D.failures D.left_since D.may_leave D.reads cap sessions disk
+        → RefusesOpen D.moment D.left_since D.may_leave D.reads disk after error
+        → Each (D.may_leave next) (D.left_since after (D.moment disk))
+        → IsLeftBy D.moment D.failures D.left_since D.may_leave D.reads cap sessions next }
 {}
 
 /// `Project::apply`, whose promises are those that the law asks of a call.
