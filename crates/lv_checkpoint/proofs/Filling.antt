@@ -6,7 +6,7 @@ use Rattle.lv_disk.specs.Stops.{Each, Elapses, From, Follows, LeavesOnly}
 use Rattle.lv_disk.proofs.Moments.{started, goes_on, weaker, and_then}
 use Rattle.lv_disk.specs.declared.area.Area.{Area}
 use Rattle.lv_disk.proofs.Gates.{closed_kept}
-use Rattle.lv_disk.proofs.Bytes.{keeps_itself, keeps_wider, has_left, has_right}
+use Rattle.lv_disk.proofs.Bytes.{torn_itself, written_torn, keeps_wider, has_left, has_right}
 use Rattle.lv_checkpoint.specs.Bodies.{head_bytes, content_bytes, HasContent}
 use Rattle.lv_checkpoint.specs.Handles.{live_of, other_of, generation_of, second_of}
 use Rattle.lv_checkpoint.specs.Steps.{IsLiveBy, MayFill, Fills, HasClosed, HasFilled}
@@ -49,16 +49,19 @@ module _ (s : Slots) (journal : Area) (body : List ℕ) (fits : 13 + length body
   inside : (old mid : List ℕ) → KeepsOutside (at + 1) (length content) old mid → KeepsOutside at (other_of s).length old mid
   inside old mid keeps = keeps_wider (at + 1) (length content) at (other_of s).length old mid (omega arith) (omega (arith, size, fits)) keeps
 
-  pub may_both : (old mid new : List ℕ) → IsClosedAt at old → KeepsOutside (at + 1) (length content) old mid → KeepsOutside journal.base 1 mid new → MayFill s journal old new
-  may_both old mid new shut first second = record {
-    middle = mid;
-    first = inside old mid first;
-    second = second;
-    live = λ live_body is. live_marked mid new second live_body (live_staged old mid shut first live_body is);
-  }
+  pub may_both : (old mid new : List ℕ) → IsClosedAt at old → Torn (at + 1) (length content) old mid → Torn journal.base 1 mid new → MayFill s journal old new
+  may_both old mid new shut first second =
+      let ends = (are_apart s).before journal.base behind in
+      record {
+        middle = mid;
+        first = inside old mid first.keeps;
+        second = second.keeps;
+        no_longer = omega (arith, second.no_longer, first.no_longer, size, fits, ends.1);
+        live = λ live_body is. live_marked mid new second.keeps live_body (live_staged old mid shut first.keeps live_body is);
+      }
 
-  pub may_first : (old mid : List ℕ) → IsClosedAt at old → KeepsOutside (at + 1) (length content) old mid → MayFill s journal old mid
-  may_first old mid shut first = may_both old mid mid shut first (keeps_itself journal.base 1 mid)
+  pub may_first : (old mid : List ℕ) → IsClosedAt at old → Torn (at + 1) (length content) old mid → MayFill s journal old mid
+  may_first old mid shut first = may_both old mid mid shut first (torn_itself journal.base 1 mid)
 
   pub fills : (old mid new : List ℕ) → IsClosedAt at old → Written (at + 1) content old mid → Written journal.base (0 ∷ []) mid new → Fills s body journal old new
   fills old mid new shut first second =
@@ -77,7 +80,7 @@ module _ (s : Slots) (journal : Area) (body : List ℕ) (fits : 13 + length body
         stands = stands;
       } in
       record {
-        may = may_both old mid new shut first.keeps second.keeps;
+        may = may_both old mid new shut (written_torn (at + 1) content old mid first) (written_torn journal.base (0 ∷ []) mid new second);
         closed = closed_kept at journal.base 1 mid new (inl (omega (arith, ends.1, (are_apart s).other_some))) second.keeps (closed_kept at (at + 1) (length content) old mid (inl (omega arith)) first.keeps shut);
         content = content_kept journal.base 1 mid new second.keeps (other_of s) (generation_of s + 1) body (inl ends.1) staged;
         begins = second.has (omega arith);
@@ -90,14 +93,14 @@ module _ (s : Slots) (journal : Area) (body : List ℕ) (fits : 13 + length body
     abbrev May : List ℕ → Type 0
     May = From (may_leave d0) (MayFill s journal)
 
-    staged_from : (old mid : List ℕ) → Torn place (length bytes) old mid → KeepsOutside (at + 1) (length content) old mid
+    staged_from : (old mid : List ℕ) → Torn place (length bytes) old mid → Torn (at + 1) (length content) old mid
     staged_from old mid torn =
-        subst (λ (k : ℕ). KeepsOutside k (length content) old mid) there (subst (λ (l : List ℕ). KeepsOutside place (length l) old mid) is torn.keeps)
+        subst (λ (k : ℕ). Torn k (length content) old mid) there (subst (λ (l : List ℕ). Torn place (length l) old mid) is torn)
 
     pub first_moments : LeavesOnly moment left_since d0 d1 May
     first_moments =
         goes_on moment left_since d0 d0 d1 May (may_leave d1)
-        (started moment left_since d0 May (λ file left. let now = only_now file left in (file, now, may_first file file (shut file now) (keeps_itself (at + 1) (length content) file))))
+        (started moment left_since d0 May (λ file left. let now = only_now file left in (file, now, may_first file file (shut file now) (torn_itself (at + 1) (length content) file))))
         time
         (λ file left. let was = torn file left in (was.0, was.1, may_first was.0 file (shut was.0 was.1) (staged_from was.0 file was.2)))
 
@@ -107,7 +110,7 @@ module _ (s : Slots) (journal : Area) (body : List ℕ) (fits : 13 + length body
         (weaker moment left_since d1 d2 (From (may_leave d1) (Torn journal.base 1)) May second
         (λ file left.
         let was = torn left.0 left.1 in
-        (was.0, was.1, may_both was.0 left.0 file (shut was.0 was.1) (staged_from was.0 left.0 was.2) left.2.keeps)))
+        (was.0, was.1, may_both was.0 left.0 file (shut was.0 was.1) (staged_from was.0 left.0 was.2) left.2)))
 
     pub filled : ((file : List ℕ) → reads d0 file → may_leave d0 file) → Follows (Written place bytes) (reads d0) (reads d1)
         → Follows (Written journal.base (0 ∷ [])) (reads d1) (reads d2) → Each (may_leave d2) (reads d2) → Follows (Fills s body journal) (may_leave d0) (may_leave d2)

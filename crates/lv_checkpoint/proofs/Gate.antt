@@ -7,11 +7,11 @@ use Rattle.lv_disk.specs.Stops.{From, Follows, LeavesOnly}
 use Rattle.lv_disk.proofs.Moments.{weaker}
 use Rattle.lv_disk.specs.declared.area.Area.{Area}
 use Rattle.lv_disk.proofs.Gates.{closed_now}
-use Rattle.lv_disk.proofs.Bytes.{keeps_wider, has_one}
+use Rattle.lv_disk.proofs.Bytes.{keeps_wider, has_one, written_torn}
 use Rattle.lv_disk.specs.Areas.{IsApart}
 use Rattle.lv_checkpoint.specs.Bodies.{HasContent, IsOpen, IsOpenWith, IsOlder, IsLive}
 use Rattle.lv_checkpoint.specs.Handles.{live_of, other_of, generation_of, second_of, finds_open, HasSomeSlots}
-use Rattle.lv_checkpoint.specs.Steps.{IsLiveBy, IsNextBy, IsSomeLive, IsFilled, KeepsLive, ClosesOther, OpensOther, MayOpenOther}
+use Rattle.lv_checkpoint.specs.Steps.{IsNextBy, IsSomeLive, IsFilled, KeepsLive, ClosesOther, OpensOther, MayOpenOther}
 use Rattle.lv_checkpoint.specs.declared.slots.Slots.{Slots}
 use Rattle.lv_checkpoint.proofs.Kept.{open_with, head_kept, content_kept, open_kept}
 
@@ -90,24 +90,27 @@ module _ (s : Slots) where
   inside old new keeps = keeps_wider at 1 at (other_of s).length old new (omega arith) (omega (arith, (are_apart s).other_some)) keeps
 
   -- the gate of an older slot is written
-  pub keeps_live : (old new : List ℕ) → IsOlder (other_of s) (generation_of s) old → KeepsOutside at 1 old new → KeepsLive s old new
-  keeps_live old new older keeps = record {
-    keeps = inside old new keeps;
-    live = λ body is. torn_older (live_of s) (other_of s) (generation_of s) gate_apart old new keeps body is older;
+  pub keeps_live : (old new : List ℕ) → IsOlder (other_of s) (generation_of s) old → Torn at 1 old new → KeepsLive s old new
+  keeps_live old new older torn = record {
+    keeps = inside old new torn.keeps;
+    no_longer = omega (arith, torn.no_longer, older.2.head.within);
+    live = λ body is. torn_older (live_of s) (other_of s) (generation_of s) gate_apart old new torn.keeps body is older;
   }
 
   pub closes : (old new : List ℕ) → IsOlder (other_of s) (generation_of s) old → Written at (0 ∷ []) old new → ClosesOther s old new
-  closes old new older written = record { keeps = keeps_live old new older written.keeps; closed = closed_now at old new written }
+  closes old new older written = record { keeps = keeps_live old new older (written_torn at (0 ∷ []) old new written); closed = closed_now at old new written }
 
-  pub may_open : (old new : List ℕ) → Torn at 1 old new → MayOpenOther s old new
-  may_open old new torn = record {
+  pub may_open : (old new : List ℕ) → IsFilled s old → Torn at 1 old new → MayOpenOther s old new
+  may_open old new filled torn = record {
     keeps = inside old new torn.keeps;
+    no_longer = omega (arith, torn.no_longer, filled.1.head.within);
     either = λ live_body body is filled. torn_filled (live_of s) (other_of s) (generation_of s) gate_apart old new torn.keeps live_body body is filled;
   }
 
-  pub opens : (old new : List ℕ) → ((body : List ℕ) × IsLiveBy s body old) → Written at (165 ∷ []) old new → OpensOther s old new
-  opens old new live written = record {
+  pub opens : (old new : List ℕ) → IsSomeLive s old → IsFilled s old → Written at (165 ∷ []) old new → OpensOther s old new
+  opens old new live filled written = record {
     keeps = inside old new written.keeps;
+    no_longer = omega (arith, written.long (omega arith), filled.1.head.within);
     live = λ body filled. now_open (live_of s) (other_of s) (generation_of s) gate_apart old new written.keeps live.0 body live.1 filled (written.has (omega arith));
   }
 
@@ -116,7 +119,7 @@ pub turned_slots : (s t : Slots) (other : Area) (old new : List ℕ) → other �
     → IsSomeLive s old → IsFilled s old → Written other.base (165 ∷ []) old new → HasSomeSlots t new
 turned_slots s t other old new is live_is other_is generation_is open_is live filled written =
     let here : Written (other_of s).base (165 ∷ []) old new = subst (λ (a : Area). Written a.base (165 ∷ []) old new) is written in
-    let next : IsNextBy s filled.0 new = (opens s old new live here).live filled.0 filled.1 in
+    let next : IsNextBy s filled.0 new = (opens s old new live filled here).live filled.0 filled.1 in
     let kept : IsOpenWith (live_of s) (generation_of s) (length live.0) new = open_with (live_of s) (generation_of s) live.0 new
     (open_kept (other_of s).base 1 old new here.keeps (live_of s) (generation_of s) live.0 (apart_from s (other_of s).base 1 (omega arith) (omega (arith, (are_apart s).other_some))) live.1.is_open) in (
       filled.0,
@@ -131,19 +134,19 @@ turned_slots s t other old new is live_is other_is generation_is open_is live fi
 module _ {D : Type 0} (moment : D → ℕ) (left_since : D → ℕ → List ℕ → Type 0) (may_leave : D → List ℕ → Type 0) (s : Slots) (d0 d1 : D) (other : Area) (is : other ≡ other_of s) where
   pub close_moments : ((file : List ℕ) → may_leave d0 file → IsOlder (other_of s) (generation_of s) file) → LeavesOnly moment left_since d0 d1 (From (may_leave d0) (Torn other.base 1)) → LeavesOnly moment left_since d0 d1 (From (may_leave d0) (KeepsLive s))
   close_moments older leaves = weaker moment left_since d0 d1 (From (may_leave d0) (Torn other.base 1)) (From (may_leave d0) (KeepsLive s)) leaves
-      (λ file left. (left.0, left.1, keeps_live s left.0 file (older left.0 left.1) (subst (λ (a : Area). KeepsOutside a.base 1 left.0 file) is left.2.keeps)))
+      (λ file left. (left.0, left.1, keeps_live s left.0 file (older left.0 left.1) (subst (λ (a : Area). Torn a.base 1 left.0 file) is left.2)))
 
   pub close_done : ((file : List ℕ) → may_leave d0 file → IsOlder (other_of s) (generation_of s) file) → Follows (Written other.base (0 ∷ [])) (may_leave d0) (may_leave d1) → Follows (ClosesOther s) (may_leave d0) (may_leave d1)
   close_done older written file left =
       let was = written file left in
       (was.0, was.1, closes s was.0 file (older was.0 was.1) (subst (λ (a : Area). Written a.base (0 ∷ []) was.0 file) is was.2))
 
-  pub open_moments : LeavesOnly moment left_since d0 d1 (From (may_leave d0) (Torn other.base 1)) → LeavesOnly moment left_since d0 d1 (From (may_leave d0) (MayOpenOther s))
-  open_moments leaves = weaker moment left_since d0 d1 (From (may_leave d0) (Torn other.base 1)) (From (may_leave d0) (MayOpenOther s)) leaves
-      (λ file left. (left.0, left.1, may_open s left.0 file (subst (λ (a : Area). Torn a.base 1 left.0 file) is left.2)))
+  pub open_moments : ((file : List ℕ) → may_leave d0 file → IsFilled s file) → LeavesOnly moment left_since d0 d1 (From (may_leave d0) (Torn other.base 1)) → LeavesOnly moment left_since d0 d1 (From (may_leave d0) (MayOpenOther s))
+  open_moments filled leaves = weaker moment left_since d0 d1 (From (may_leave d0) (Torn other.base 1)) (From (may_leave d0) (MayOpenOther s)) leaves
+      (λ file left. (left.0, left.1, may_open s left.0 file (filled left.0 left.1) (subst (λ (a : Area). Torn a.base 1 left.0 file) is left.2)))
 
-  pub open_done : ((file : List ℕ) → may_leave d0 file → (body : List ℕ) × IsLiveBy s body file)
+  pub open_done : ((file : List ℕ) → may_leave d0 file → IsSomeLive s file × IsFilled s file)
       → Follows (Written other.base (165 ∷ [])) (may_leave d0) (may_leave d1) → Follows (OpensOther s) (may_leave d0) (may_leave d1)
-  open_done live written file left =
+  open_done ready written file left =
       let was = written file left in
-      (was.0, was.1, opens s was.0 file (live was.0 was.1) (subst (λ (a : Area). Written a.base (165 ∷ []) was.0 file) is was.2))
+      (was.0, was.1, opens s was.0 file (ready was.0 was.1).0 (ready was.0 was.1).1 (subst (λ (a : Area). Written a.base (165 ∷ []) was.0 file) is was.2))

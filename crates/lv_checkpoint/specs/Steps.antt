@@ -1,5 +1,5 @@
 -- What the calls that change the live slot make of a file.
-use Rattle.std.specs.Prelude.{◌⊎◌, ◌+◌, ℕ, List, [], ◌∷◌}
+use Rattle.std.specs.Prelude.{◌≤◌, ◌⊎◌, ◌+◌, ℕ, max, List, [], ◌∷◌, length}
 use Rattle.lv_disk.specs.Files.{HasAt, KeepsOutside}
 use Rattle.lv_disk.specs.Gates.{IsClosedAt}
 use Rattle.lv_disk.specs.declared.area.Area.{Area}
@@ -33,9 +33,10 @@ pub record HasFilled (slots : Slots) (file : List ℕ) : Type 0 where
   pub closed : HasClosed slots file
   pub filled : IsFilled slots file
 
--- the live body stays, and all bytes outside the other slot
+-- the live body stays, and all bytes outside the other slot, and the file gets no longer
 pub record KeepsLive (slots : Slots) (old new : List ℕ) : Type 0 where
   pub keeps : KeepsOutside (other_of slots).base (other_of slots).length old new
+  pub no_longer : length new ≤ length old
   pub live : (body : List ℕ) → IsLiveBy slots body old → IsLiveBy slots body new
 
 -- and the other slot is closed
@@ -43,11 +44,13 @@ pub record ClosesOther (slots : Slots) (old new : List ℕ) : Type 0 where
   pub keeps : KeepsLive slots old new
   pub closed : IsClosedAt (other_of slots).base new
 
--- the live body stays, and all bytes outside the other slot, but for the first byte of the other journal
+-- The live body stays, and all bytes outside the other slot, but for the first byte of the other journal; the file ends
+-- no later than it did or than that byte.
 pub record MayFill (slots : Slots) (journal : Area) (old new : List ℕ) : Type 0 where
   pub middle : List ℕ
   pub first : KeepsOutside (other_of slots).base (other_of slots).length old middle
   pub second : KeepsOutside journal.base 1 middle new
+  pub no_longer : length new ≤ max (length old) (journal.base + 1)
   pub live : (body : List ℕ) → IsLiveBy slots body old → IsLiveBy slots body new
 
 -- and the other slot has the content behind a closed gate, and the other journal begins with a closed one
@@ -57,15 +60,17 @@ pub record Fills (slots : Slots) (body : List ℕ) (journal : Area) (old new : L
   pub content : HasContent (other_of slots) (generation_of slots + 1) body new
   pub begins : HasAt journal.base (0 ∷ []) new
 
--- the content behind the other slot's gate is the live body, and all bytes outside that slot stay
+-- the content behind the other slot's gate is the live body, all bytes outside that slot stay, and the file gets no longer
 pub record OpensOther (slots : Slots) (old new : List ℕ) : Type 0 where
   pub keeps : KeepsOutside (other_of slots).base (other_of slots).length old new
+  pub no_longer : length new ≤ length old
   pub live : (body : List ℕ)
       → HasContent (other_of slots) (generation_of slots + 1) body old → IsNextBy slots body new
 
--- the live body is the one from before, or that content, and all bytes outside that slot stay
+-- the live body is the one from before, or that content, all bytes outside that slot stay, and the file gets no longer
 pub record MayOpenOther (slots : Slots) (old new : List ℕ) : Type 0 where
   pub keeps : KeepsOutside (other_of slots).base (other_of slots).length old new
+  pub no_longer : length new ≤ length old
   pub either : (live_body body : List ℕ) → IsLiveBy slots live_body old
       → HasContent (other_of slots) (generation_of slots + 1) body old
       → IsLiveBy slots live_body new ⊎ IsNextBy slots body new

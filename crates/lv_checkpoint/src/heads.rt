@@ -4,12 +4,14 @@ ghost use Rattle.std.specs.Int.{to_le_bytes, w64};
 ghost use Rattle.lv_disk.specs.Files.{HasAt};
 ghost use Rattle.lv_disk.specs.Stops.{Counted, CountsFaults, Each};
 ghost use Rattle.lv_disk.specs.Gates.{IsClosedAt};
+ghost use Rattle.lv_checkpoint.specs.Bodies.{head_bytes};
 ghost use Rattle.lv_checkpoint.specs.Damage.{IsBadSlot};
 ghost use Rattle.lv_checkpoint.specs.Heads.{HasRoom, Shows};
 ghost use Rattle.lv_checkpoint.specs.Refusals.{IfDamaged, RefusesOpen};
 ghost use Rattle.lv_disk.specs.Reading.{OnlyReads};
 
 use crate::CheckpointError;
+use byteorder::{ByteOrder, LittleEndian};
 use lv_disk::{Area, DeviceFault, Disk, OPEN_GATE, read_gate, read_length};
 use std::alloc::Global;
 
@@ -23,11 +25,21 @@ pub struct Head {
     pub len: u32,
 }
 
+/// The generation and the length of a body as they stand behind a gate.
+pub fn head_of(generation: u64, len: u32) -> [u8; 12]
+    ensures { result ≡ head_bytes generation len }
+{
+    let mut bytes = [0; 12];
+    LittleEndian::write_u64(&mut bytes, generation);
+    LittleEndian::write_u32(&mut bytes[8..], len);
+    bytes
+}
+
 // The number with these bytes, the lowest first.
 fn generation_of(bytes: [u8; 8]) -> u64
     ensures { to_le_bytes w64 result ≡ bytes }
 {
-    u64::from_le_bytes(bytes)
+    LittleEndian::read_u64(&bytes)
 }
 
 // The generation in the eight bytes from a place on.

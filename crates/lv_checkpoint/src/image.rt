@@ -3,6 +3,7 @@ ghost use Rattle.std.specs.Prelude.{◌≡◌, ◌<◌, ◌^◌, drop, length};
 ghost use Rattle.lv_checkpoint.specs.Bodies.{content_bytes};
 
 use crate::CheckpointError;
+use crate::heads::head_of;
 use std::alloc::Global;
 
 /// A generation, the length of a body and the body, as bytes.
@@ -27,8 +28,7 @@ impl Image {
         ensures memory { IsOkUnless result CheckpointError.OutOfMemory }
     {
         let mut bytes = Vec::with_capacity(alloc, 12 + body.len())?;
-        bytes.extend_from_slice(&generation.to_le_bytes())?;
-        bytes.extend_from_slice(&(body.len() as u32).to_le_bytes())?;
+        bytes.extend_from_slice(&head_of(generation, body.len() as u32))?;
         bytes.extend_from_slice(body)?;
         Ok(Image { generation, bytes })
     }

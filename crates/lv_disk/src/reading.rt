@@ -6,6 +6,7 @@ ghost use Rattle.lv_disk.specs.Reading.{OnlyReads};
 ghost use Rattle.lv_disk.specs.Stops.{Counted, Each};
 
 use crate::{DeviceFault, Disk};
+use byteorder::{ByteOrder, LittleEndian};
 
 /// Reads the gate at a place, which is open where it is `OPEN_GATE`.
 pub fn read_gate<D: Disk>(disk: &mut D, at: u64) -> Result<u8, DeviceFault>
@@ -35,5 +36,5 @@ pub fn read_length<D: Disk>(disk: &mut D, at: u64) -> Result<u32, DeviceFault>
 fn length_of(bytes: [u8; 4]) -> u32
     ensures { to_le_bytes w32 result ≡ bytes }
 {
-    u32::from_le_bytes(bytes)
+    LittleEndian::read_u32(&bytes)
 }

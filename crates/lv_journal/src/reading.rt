@@ -91,10 +91,7 @@ fn read_open_record<D: Disk>(
         (D.failures disk.new) result }
     ensures no_other { IfErr result RefusesOpen }
 {
-    let len = match read_record_len(disk, area, place, end) {
-        Ok(len) => len,
-        Err(error) => return Err(error),
-    };
+    let len = read_record_len(disk, area, place, end)?;
     read_payload(alloc, disk, place + HEAD, len as usize)
 }
 
@@ -126,10 +123,8 @@ fn read_record<D: Disk>(
     if read_gate(disk, place)? != OPEN_GATE {
         return Ok(None);
     }
-    match read_open_record(alloc, disk, area, place, end) {
-        Ok(payload) => Ok(Some(payload)),
-        Err(error) => Err(error),
-    }
+    let payload = read_open_record(alloc, disk, area, place, end)?;
+    Ok(Some(payload))
 }
 
 // The payloads that the area's bytes stand for. The file or the area ends at `end`.

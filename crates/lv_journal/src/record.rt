@@ -5,6 +5,7 @@ ghost use Rattle.lv_disk.specs.Stops.{From, Follows, Each, LeavesOnly, Counted};
 ghost use Rattle.lv_journal.specs.Records.{records_bytes, payloads_of, EndsAt};
 ghost use Rattle.lv_journal.specs.Append.{Appends, MayAppend};
 
+use byteorder::{ByteOrder, LittleEndian};
 use lv_disk::{Area, CLOSED_GATE, DeviceFault, Disk, OPEN_GATE, write_through};
 
 /// What stands before a payload: the gate and the length.
@@ -27,7 +28,7 @@ fn put_block(block: &mut [u8], payload: &[u8])
         ≡ to_le_bytes w32 (length payload.now) ++ payload.now ++ 0 ∷ [] }
 {
     let n = payload.len();
-    block[..4].copy_from_slice(&(n as u32).to_le_bytes());
+    LittleEndian::write_u32(block, n as u32);
     block[4..4 + n].copy_from_slice(payload);
     block[4 + n] = CLOSED_GATE;
 }

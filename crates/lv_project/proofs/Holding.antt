@@ -11,6 +11,7 @@ use Rattle.lv_project.specs.States.{State, IsKept}
 use Rattle.lv_project.specs.Outcomes.{RefusesApply, RefusesCheckpoint}
 use Rattle.lv_project.specs.declared.error.ProjectError.{ProjectError}
 use Rattle.lv_project.specs.declared.error.ProjectError.TheVariants.{Device, OutOfMemory, Reopen, GenerationsSpent, Refused, Damaged, Blank, NotAProject, NotEmpty, BadGeometry}
+use Rattle.lv_project.proofs.Fronts.{begins_with}
 use Rattle.lv_project.proofs.Recording.{leads_push}
 use Rattle.lv_project.specs.Sessions.{HoldsEach, KeepEach, KeepsAcknowledged, Opens, Passes, PassInTurn, Session}
 use Rattle.lv_project.specs.Calls.{Call, acknowledged, accepted, begins, AllMade}
@@ -85,6 +86,26 @@ module _ {D : Type 0} (moment failures : D → ℕ) (left_since : D → ℕ → 
   unacknowledged ((None, Ok n) ∷ calls) old new reopen (mid, made, more) = absurd (true≢false (sym reopen ∙ made.ends.0))
   unacknowledged ((None, Err e) ∷ calls) old new reopen (mid, made, more) =
       unacknowledged calls mid new (ap (λ (s : State D). s.must_reopen) (no_checkpoint failures old mid [] e reopen made.ends) ∙ reopen) more
+
+  -- the accepted lines begin with the acknowledged ones, since behind a line that was begun and refused there are none
+  acknowledged_first : (calls : List Call) (old new : State D) → AllMade moment failures left_since may_leave old calls new
+      → (more : List (List ℕ)) × (accepted calls ≡ acknowledged calls ++ more)
+  acknowledged_first [] old new same = ([], refl)
+  acknowledged_first ((None, answer) ∷ calls) old new (mid, made, more) = acknowledged_first calls mid new more
+  acknowledged_first ((Some line, Ok n) ∷ calls) old new (mid, made, more) =
+      let rest = acknowledged_first calls mid new more in
+      (rest.0, ap (λ (l : List (List ℕ)). line ∷ l) rest.1)
+  acknowledged_first ((Some line, Err e) ∷ calls) old new (mid, made, more) = at (acknowledged_first calls mid new more) (begins (Err e)) refl
+    where
+      the_lines : Bool → List (List ℕ)
+      the_lines t = cond t (line ∷ accepted calls) (accepted calls)
+
+      at : (further : List (List ℕ)) × (accepted calls ≡ acknowledged calls ++ further) → (t : Bool) → begins (Err e) ≡ t
+          → (further : List (List ℕ)) × (the_lines t ≡ acknowledged calls ++ further)
+      at behind true is =
+          let none : acknowledged calls ≡ [] = unacknowledged calls mid new (faulted failures old mid line e is made.ends.1) more in
+          (line ∷ accepted calls, ap (λ (l : List (List ℕ)). l ++ line ∷ accepted calls) (sym none))
+      at behind false is = behind
 
   -- the calls behind the first
   go_on : (old mid new : State D) (calls : List Call) (P : List ℕ → Type 0) → AllMade moment failures left_since may_leave mid calls new → LeavesOnly moment left_since old.disk mid.disk P
@@ -280,20 +301,21 @@ module _ {D : Type 0} (moment failures : D → ℕ) (left_since : D → ℕ → 
           lines = h.lines;
           rest = h.rest;
           prefix = accepted_append s.front s.back ∙ ap (λ (l : List (List ℕ)). l ++ accepted s.back) well.2 ∙ h.prefix;
-          holds = h.holds;
+          holds = begins_with h.lines h.rest (acknowledged s.front) (accepted s.back) (sym h.prefix) h.holds;
           leads = h.leads;
         },
         h.stands,
       )))
       (λ bad. subst (λ (t : State D). LeavesOnly moment left_since mid.disk t.disk (StandsAfter cap (project_of first.maps) s)) (sym (stuck s.back mid last bad.0 back))
       (started moment left_since mid.disk (StandsAfter cap (project_of first.maps) s) (λ file left.
-      let h = bad.1 file (only_now mid.disk file left) in (
+      let h = bad.1 file (only_now mid.disk file left) in
+      let first_ones = acknowledged_first s.front first mid front in (
         h.map,
         record {
           lines = h.lines;
           rest = h.rest ++ accepted s.back;
           prefix = accepted_append s.front s.back ∙ ap (λ (l : List (List ℕ)). l ++ accepted s.back) h.prefix ∙ append_assoc h.lines h.rest (accepted s.back);
-          holds = h.holds;
+          holds = begins_with h.lines h.rest (acknowledged s.front) first_ones.0 (sym h.prefix ∙ first_ones.1) h.holds;
           leads = h.leads;
         },
         h.stands,

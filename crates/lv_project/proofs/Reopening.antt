@@ -49,6 +49,19 @@ module _ {D : Type 0} (moment failures : D → ℕ) (left_since : D → ℕ → 
       cap sessions left.mid left.last disk moments left.images first o in
       (at.cap_is, at.held, weaker moment left_since disk first.disk (may_leave disk) (HoldsEach cap sessions) o.any_moment images_hold)
 
+  -- what a stop leaves within a call that leaves no new image
+  pub stopped_so : (after next : D) → LeavesOnly moment left_since disk after (may_leave disk)
+      → Each (may_leave next) (left_since after (moment disk)) → IsLeftBy moment failures left_since may_leave reads cap sessions next
+  stopped_so after next leaves images = record {
+    before = left.before;
+    session = left.session;
+    mid = left.mid;
+    last = left.last;
+    all = left.all;
+    passed = left.passed;
+    images = λ file image. left.images file (leaves.each file (images file image));
+  }
+
   pub refused_so : (after : D) (e : ProjectError) → RefusesOpen moment left_since may_leave reads disk after e
       → ((e ≡ Device) ⊎ (e ≡ OutOfMemory)) × IsLeftBy moment failures left_since may_leave reads cap sessions after
       × LeavesOnly moment left_since disk after (HoldsEach cap sessions)
@@ -58,14 +71,6 @@ module _ {D : Type 0} (moment failures : D → ℕ) (left_since : D → ℕ → 
       let file = o.told.0 in
       let held = images_hold file (was file (reads_an_image after file o.told.1)) in (
         fault_or_memory (reads after) file o.told.1 cap held.0 held.2.0 held.2.1 e o.refused,
-        record {
-          before = left.before;
-          session = left.session;
-          mid = left.mid;
-          last = left.last;
-          all = left.all;
-          passed = left.passed;
-          images = λ file image. left.images file (was file image);
-        },
+        stopped_so after after o.any_moment (λ file image. counts_now after (moment disk) file o.any_moment.later image),
         weaker moment left_since disk after (may_leave disk) (HoldsEach cap sessions) o.any_moment images_hold,
       )

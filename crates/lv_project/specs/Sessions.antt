@@ -1,5 +1,5 @@
 -- Sessions, one behind the other, each after a stop of the one before.
-use Rattle.std.specs.Prelude.{◌≡◌, ◌≤◌, ℕ, false, List, [], ◌∷◌, ◌++◌, length}
+use Rattle.std.specs.Prelude.{◌≡◌, ℕ, false, List, [], ◌∷◌, ◌++◌}
 use Rattle.lv_disk.specs.Stops.{Each, LeavesOnly}
 use Rattle.lv_maptables.specs.Projects.{ProjectMaps, empty_project, project_of}
 use Rattle.lv_commands.specs.ProjectLines.{Leads}
@@ -15,13 +15,13 @@ pub record Session : Type 0 where
   pub front : List Call
   pub back : List Call
 
--- A prefix of the session's accepted commands leads from the one map to the other, and holds each command that was
+-- A prefix of the session's accepted commands leads from the one map to the other, and begins with the commands that were
 -- acknowledged up to the moment.
 pub record KeepsAcknowledged (cap : ℕ) (base : ProjectMaps) (s : Session) (map : ProjectMaps) : Type 0 where
   pub lines : List (List ℕ)
   pub rest : List (List ℕ)
   pub prefix : accepted (s.front ++ s.back) ≡ lines ++ rest
-  pub holds : length (acknowledged s.front) ≤ length lines
+  pub holds : (more : List (List ℕ)) × (lines ≡ acknowledged s.front ++ more)
   pub leads : Leads cap base lines map
 
 -- the same of sessions in turn, each from the map that the one before led to

@@ -23,10 +23,14 @@ pub record StandsAt (cap : ℕ) (parts : Parts) (map : ProjectMaps) (generation 
   pub other : parts.other_journal.base < length file
   pub leads : Leads cap base lines map
 
+-- the file's header tells these lengths of a slot and of a journal
+abbrev pub TellsLengths : Geometry → List ℕ → Type 0
+TellsLengths geometry file = HasAt 0 (header_bytes geometry.slot geometry.journal) file
+
 -- the file begins with the header of this geometry, whose parts stand there
 pub record HasGeometry (geometry : Geometry) (places : Places) (file : List ℕ) : Type 0 where
   pub allowed : IsAllowed geometry.slot geometry.journal
-  pub header : HasAt 0 (header_bytes geometry.slot geometry.journal) file
+  pub header : TellsLengths geometry file
   pub laid_out : IsLaidOut geometry places
 
 -- The bytes have the form of a project file whose bodies have at most so many bytes, and stand for this map with this

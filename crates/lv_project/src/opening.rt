@@ -272,6 +272,7 @@ pub fn write_new<D: Disk>(
     ensures journal { IfOk result (λ r. r.2 ≡ journal.opened r.0.first []) }
     ensures places { IfOk result
         (λ r. IsAllowed geometry.slot geometry.journal × IsLaidOut geometry r.0) }
+    ensures empty { OnOk result (Each (D.reads disk.old) (λ file. length file ≡ 0)) }
     ensures refused { IfErr result (RefusesCreate (D.reads disk.old) geometry) }
     // But for a `Device` it has only read.
     ensures untouched { IfErr result (λ e. (e ≡ ProjectError.Device)

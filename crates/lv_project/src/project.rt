@@ -83,9 +83,9 @@ impl<D: Disk> Project<D> {
     ghost use Rattle.lv_disk.specs.Stops.{Rose};
     ghost use Rattle.lv_disk.specs.Reading.{OnlyReads};
     ghost use Rattle.lv_maptables.specs.Projects.{empty_project, ProjectMaps, WellFormedProject};
-    ghost use Rattle.lv_project.specs.Places.{cap_of};
+    ghost use Rattle.lv_project.specs.Places.{cap_of, IsAllowed};
     ghost use Rattle.lv_project.specs.Opening.{IsRefusedRead, RefusesCreate, StandsOnlyFor};
-    ghost use Rattle.lv_project.specs.Stands.{IsOutcome, StandsFor};
+    ghost use Rattle.lv_project.specs.Stands.{IsOutcome, StandsFor, TellsLengths};
     ghost use Rattle.lv_commands.specs.ProjectLines.{LeadsTo};
     ghost use Rattle.lv_checkpoint.specs.Handles.{body_in, generation_in};
     ghost use Rattle.lv_maptables.specs.ProjectBody.{project_body};
@@ -144,6 +144,10 @@ impl<D: Disk> Project<D> {
         ensures made { IfOk result (λ p. ((project_of p.maps) ≡ empty_project) × (p.generation ≡ 1)
             × (p.must_reopen ≡ false) × (p.cap ≡ cap_of geometry)) }
         ensures kept { IfOk result (λ p. IsKept D.may_leave p) }
+        // It has these very lengths, which are allowed, and it writes over no file.
+        ensures lengths { IfOk result (λ p. Each (D.may_leave p.disk) (TellsLengths geometry)) }
+        ensures allowed { OnOk result (IsAllowed geometry.slot geometry.journal) }
+        ensures empty { OnOk result (Each (D.reads disk) (λ file. length file ≡ 0)) }
         ensures refused { IfErr result (λ r. RefusesCreate (D.reads disk) geometry r.error) }
         // A refusal but `Device` leaves the file alone, whatever it is.
         ensures untouched { IfErr result (λ r. (r.error ≡ ProjectError.Device)

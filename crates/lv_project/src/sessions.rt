@@ -1,11 +1,12 @@
 //! The project's calls over any number of sessions, each begun by `create` or `open` and stopped at any moment.
-ghost use Rattle.std.specs.Prelude.{◌≡◌, ◌⊎◌, ◌++◌, ◌∷◌, [], List, ℕ, Result, IfErr, IfOk, MatchResult};
-ghost use Rattle.lv_disk.specs.Stops.{LeavesOnly};
+ghost use Rattle.std.specs.Prelude.{◌≡◌, ◌⊎◌, ◌++◌, ◌∷◌, [], List, ℕ, Result, IfErr, IfOk, MatchResult, OnOk, length};
+ghost use Rattle.lv_disk.specs.Stops.{Each, LeavesOnly};
 ghost use Rattle.lv_maptables.specs.Projects.{empty_project, project_of};
 ghost use Rattle.lv_project.specs.Calls.{Applies, Checkpoints};
 ghost use Rattle.lv_project.specs.Opening.{RefusesCreate};
-ghost use Rattle.lv_project.specs.Places.{cap_of};
+ghost use Rattle.lv_project.specs.Places.{cap_of, IsAllowed};
 ghost use Rattle.lv_project.specs.Sessions.{Creates, HoldsEach, IsLeftBy, KeepEach, Opens, PassInTurn, RefusesOpen, Session};
+ghost use Rattle.lv_project.specs.Stands.{TellsLengths};
 ghost use Rattle.lv_project.specs.States.{State};
 ghost use Rattle.lv_project.specs.declared.error.ProjectError.{ProjectError};
 
@@ -39,6 +40,19 @@ pub fn hold_each_acknowledged<D: Disk>()
         → ((error ≡ ProjectError.Device) ⊎ (error ≡ ProjectError.OutOfMemory))
         × IsLeftBy D.moment D.failures D.left_since D.may_leave D.reads cap sessions after
         × LeavesOnly D.moment D.left_since disk after (HoldsEach cap sessions) }
+
+    // A stop within an `open`, be it one that is then refused or not, leaves a disk that these sessions left.
+    ensures stopped { (cap : ℕ) (sessions : List Session) (disk next : D) (first : State D)
+        → IsLeftBy D.moment D.failures D.left_since D.may_leave D.reads cap sessions disk
+        → Opens D.moment D.left_since D.may_leave D.reads disk first
+        → Each (D.may_leave next) (D.left_since first.disk (D.moment disk))
+        → IsLeftBy D.moment D.failures D.left_since D.may_leave D.reads cap sessions next }
+    ensures stopped_refused { (cap : ℕ) (sessions : List Session) (disk after next : D)
+        (error : ProjectError)
+        → IsLeftBy D.moment D.failures D.left_since D.may_leave D.reads cap sessions disk
+        → RefusesOpen D.moment D.left_since D.may_leave D.reads disk after error
+        → Each (D.may_leave next) (D.left_since after (D.moment disk))
+        → IsLeftBy D.moment D.failures D.left_since D.may_leave D.reads cap sessions next }
 {}
 
 /// `Project::apply`, whose promises are those that the law asks of a call.
@@ -64,6 +78,9 @@ pub fn creates<D: Disk>(
     geometry: Geometry,
 ) -> Result<Project<D>, Refused<D>>
     ensures created { IfOk result (Creates D.may_leave (cap_of geometry)) }
+    ensures lengths { IfOk result (λ p. Each (D.may_leave p.disk) (TellsLengths geometry)) }
+    ensures allowed { OnOk result (IsAllowed geometry.slot geometry.journal) }
+    ensures empty { OnOk result (Each (D.reads disk) (λ file. length file ≡ 0)) }
     ensures refused { IfErr result (λ r. RefusesCreate (D.reads disk) geometry r.error) }
 {
     Project::create(alloc, disk, geometry)

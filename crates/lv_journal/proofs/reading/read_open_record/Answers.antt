@@ -19,8 +19,8 @@ whole place n payload file is_long has_gate has_len has_payload =
 pub returns-clause-found : goal.returns-clause-found
 returns-clause-found g c =
     if_ok_both c.read_payload.result (λ payload is_long told file is.
-    let after = c.in-Ok.ensures.reads.still file is in
-    whole c.args.place c.in-Ok.len payload.items file is_long (c.requires.open file is) (c.in-Ok.ensures.told file is) (told file after))
+    let after = c.in_ok-len.ensures.reads.still file is in
+    whole c.args.place c.in_ok-len.len payload.items file is_long (c.requires.open file is) (c.in_ok-len.ensures.told file is) (told file after))
     c.read_payload.ensures.len c.read_payload.ensures.told
 
 pub returns-clause-reads : goal.returns-clause-reads

@@ -20,6 +20,6 @@ block_is old head payload four long short =
 
 pub returns : goal.returns
 returns c =
-    let head : c.copy_from_slice.new.self ≡ to_le_bytes w32 (length c.args.payload.now) = c.copy_from_slice.ensures.after ∙ c.to_le_bytes.ensures in
-    let body : c.copy_from_slice-2.new.self ≡ c.args.payload.now = c.copy_from_slice-2.ensures.after in
+    let head = c.write_u32.ensures in
+    let body : c.copy_from_slice.new.self ≡ c.args.payload.now = c.copy_from_slice.ensures.after in
     simp (head, body) (block_is c.args.block.now (to_le_bytes w32 (length c.args.payload.now)) c.args.payload.now refl (omega (arith, c.requires.room)) c.requires.short)

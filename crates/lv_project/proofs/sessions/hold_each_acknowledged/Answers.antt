@@ -1,7 +1,7 @@
 use Rattle.std.proofs.Common.{[]}
 use Rattle.lv_project.specs.Sessions.{Creates}
 use Rattle.lv_project.proofs.Holding.{all_moments}
-use Rattle.lv_project.proofs.Reopening.{opened_so, refused_so}
+use Rattle.lv_project.proofs.Reopening.{opened_so, refused_so, stopped_so}
 use Rattle.lv_project.proofs.sessions.hold_each_acknowledged.Goals as goal
 
 pub returns-clause-any_moment : goal.returns-clause-any_moment
@@ -18,3 +18,13 @@ pub returns-clause-refused : goal.returns-clause-refused
 returns-clause-refused g c cap sessions disk after error left refused =
     refused_so g.D.Disk.moment g.D.Disk.failures g.D.Disk.left_since g.D.Disk.may_leave g.met.D.Disk.only_now g.met.D.Disk.counts_now g.D.Disk.reads g.met.D.Disk.reads_an_image
     cap sessions disk left after error refused
+
+pub returns-clause-stopped : goal.returns-clause-stopped
+returns-clause-stopped g c cap sessions disk next first left opens images =
+    stopped_so g.D.Disk.moment g.D.Disk.failures g.D.Disk.left_since g.D.Disk.may_leave g.met.D.Disk.only_now g.met.D.Disk.counts_now g.D.Disk.reads g.met.D.Disk.reads_an_image
+    cap sessions disk left first.disk next opens.any_moment images
+
+pub returns-clause-stopped_refused : goal.returns-clause-stopped_refused
+returns-clause-stopped_refused g c cap sessions disk after next error left refused images =
+    stopped_so g.D.Disk.moment g.D.Disk.failures g.D.Disk.left_since g.D.Disk.may_leave g.met.D.Disk.only_now g.met.D.Disk.counts_now g.D.Disk.reads g.met.D.Disk.reads_an_image
+    cap sessions disk left after next refused.any_moment images
