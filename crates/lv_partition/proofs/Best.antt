@@ -10,10 +10,10 @@ use Rattle.lv_segs.specs.declared.piece.Piece.{Piece}
 use Rattle.lv_segs.specs.Division.{right_parts, left_parts, LiesAlong}
 use Rattle.lv_segs.specs.Plane.{IsEdge}
 use Rattle.lv_segs.specs.Pieces.{IsPiece}
-use Rattle.lv_segs.specs.Tree.{is_split, cost, IsCandidate}
+use Rattle.lv_segs.specs.Tree.{is_split, cost, IsCandidate, HasNoChoice}
 use Rattle.lv_segs.proofs.Lists.{All-at}
 use Rattle.lv_segs.proofs.Straight.{OnOneLine, same_cost, candidate_too}
-use Rattle.lv_partition.specs.Choices.{HasEarlier}
+use Rattle.lv_partition.specs.Choices.{IsChoice, HasEarlier}
 use Rattle.lv_segs.proofs.Stops.{rights, lefts, splits, rights_near, lefts_near}
 use Rattle.lv_partition.specs.declared.choice.Choice.{Choice}
 use Rattle.lv_partition.specs.declared.counts.Counts.{Counts}
@@ -134,6 +134,22 @@ earlier_found lines ps used n p k d each known h w free along =
     let at = stands_at ps k d (omega arith) in
     let within = (All-at (IsPiece lines) ps k (get_or ps k d) each at).line_in in
     record { place = k; piece = get_or ps k d; before = h; stands = at; free = stands_at used (get_or ps k d).line false (omega arith) ∙ ap Some free; along = along }
+
+-- what is known once all pieces are looked at
+pub finished : (lines : List Edge) (ps : List Piece) (used : List Bool) (n : ℕ) (best : Option Choice) → length ps ≤ n → SoFar lines ps used n best → MatchOption best (HasNoChoice lines ps used) (λ c. IsChoice lines ps used c)
+finished lines ps used n None h none = λ i p at can. none i p (let w = slice_get_within ps i p at in omega arith) at can
+finished lines ps used n (Some c) h b = record {
+  piece = b.piece;
+  best = record {
+    stands = b.stands;
+    candidate = b.candidate;
+    least = λ j q at can. b.least j q (let w = slice_get_within ps j q at in omega arith) at can;
+    first = b.first;
+  };
+  splits = b.splits;
+  right = b.right;
+  left = b.left;
+}
 
 -- ---- reads by number
 pub line_known : (lines : List Edge) (used : List Bool) (p : Piece) → IsPiece lines p → length used ≡ length lines → p.line < length used

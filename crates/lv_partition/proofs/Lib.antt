@@ -5,3 +5,4 @@ pub mod BlockSteps
 pub mod BoxLemmas
 pub mod Reaching
 pub mod Reordered
+pub mod EndLemmas

@@ -1,5 +1,5 @@
-//! The choice by boxes, in the list's order or in one by places.
-ghost use Rattle.std.specs.Prelude.{◌≡◌, ◌+◌, ◌≤◌, ◌<◌, ◌^◌, length, All, MatchOption, Some, slice_get, false};
+//! The choice by boxes and rounded ends, in the list's order or in one by places.
+ghost use Rattle.std.specs.Prelude.{◌≡◌, ◌+◌, ◌≤◌, ◌<◌, ◌^◌, length, All, MatchOption, Some, slice_get, take, false};
 ghost use Rattle.std.specs.List.Sorted.{IsPermutation};
 ghost use Rattle.lv_segs.specs.Plane.{IsEdge};
 ghost use Rattle.lv_segs.specs.Pieces.{IsPiece};
@@ -9,9 +9,11 @@ ghost use Rattle.lv_partition.specs.Blocks.{AreBlocks};
 ghost use Rattle.lv_partition.specs.Counts.{AreCounts};
 ghost use Rattle.lv_partition.specs.Choices.{IsChoice};
 ghost use Rattle.lv_partition.specs.SoFar.{SoFar};
+ghost use Rattle.lv_partition.specs.Sights.{all_ends};
 
 use crate::choice::{Choice, limit_of, take_in};
 use crate::counts::count_below;
+use crate::ends::note_ends;
 use crate::straight::StraightLines;
 use crate::walk::count_by_boxes;
 use lv_lumps::Bounds;
@@ -59,12 +61,11 @@ pub fn choose_in(lines: &[Edge], pieces: &[Piece], used: &[bool]) -> Option<Choi
     best
 }
 
-// The same as `consider`, by boxes, and with no count for a piece on an earlier one's straight line.
+// The same as `consider`, by boxes and rounded ends, and with no count for a piece on an earlier one's straight line.
 fn consider_ordered(
     lines: &[Edge],
     pieces: &[Piece],
     ordered: &[Piece],
-    boxes: &[Bounds],
     blocks: &[Bounds],
     used: &[bool],
     at: usize,
@@ -75,14 +76,15 @@ fn consider_ordered(
     requires lines { All IsEdge lines.now }
     requires pieces { All (IsPiece lines.now) pieces.now }
     requires ordered { IsPermutation pieces.now ordered.now }
-    requires boxes { boxes.now ≡ boxes_of lines.now ordered.now }
-    requires blocks { AreBlocks boxes.now blocks.now }
+    requires blocks { AreBlocks (boxes_of lines.now ordered.now) blocks.now }
     requires known { length used.now ≡ length lines.now }
     requires few { length pieces.now < 2 ^ 32 }
     requires piece { IsPiece lines.now piece.now }
     requires stands { slice_get pieces.now at ≡ Some piece.now }
+    requires noted { take (length ordered.now) straight.old.ends.items ≡ all_ends lines.now ordered.now }
     requires so_far { SoFar lines.now pieces.now used.now at best }
-    ensures { SoFar lines.now pieces.now used.now (at + 1) result }
+    ensures so_far { SoFar lines.now pieces.now used.now (at + 1) result }
+    ensures kept { straight.new.ends ≡ straight.old.ends }
 {
     if used[piece.line as usize] {
         return best;
@@ -91,7 +93,8 @@ fn consider_ordered(
         return best;
     }
     let limit = limit_of(best);
-    let counted = count_by_boxes(lines, piece, ordered, boxes, blocks, limit);
+    let ends = &straight.ends[..ordered.len()];
+    let counted = count_by_boxes(lines, piece, ordered, ends, blocks, limit);
     take_in(at, best, limit, counted)
 }
 
@@ -117,10 +120,14 @@ pub fn choose_ordered(
     ensures { MatchOption result (HasNoChoice lines.now pieces.now used.now)
         (λ c. IsChoice lines.now pieces.now used.now c) }
 {
+    if straight.ends.len() < ordered.len() {
+        return choose_in(lines, pieces, used);
+    }
+    note_ends(lines, ordered, &mut straight.ends);
     let mut best = None;
     for (at, piece) in pieces.iter().enumerate() {
         best = consider_ordered(
-            lines, pieces, ordered, boxes, blocks, used, at, piece, best, straight,
+            lines, pieces, ordered, blocks, used, at, piece, best, straight,
         );
     }
     best

@@ -25,6 +25,27 @@ impl Counts {
         left: 0,
     };
 
+    // Those of a piece that goes to the right whole.
+    pub(crate) const ON_RIGHT: Counts = Counts {
+        splits: 0,
+        right: 1,
+        left: 0,
+    };
+
+    // Those of a piece that goes to the left whole.
+    pub(crate) const ON_LEFT: Counts = Counts {
+        splits: 0,
+        right: 0,
+        left: 1,
+    };
+
+    // Those of a piece of which a part is kept on each side.
+    pub(crate) const SPLIT: Counts = Counts {
+        splits: 1,
+        right: 1,
+        left: 1,
+    };
+
     // Those of one piece, by the parts that are kept of it.
     pub(crate) fn of_parts(parts: &Parts) -> Counts
         ensures right { result.right ≡ (if is_some parts.now.right then 1 else 0) }

@@ -1,19 +1,24 @@
-//! Hints of which pieces lie on one straight line. They are tested before use, so wrong ones cost time alone.
+//! Hints of which pieces lie on one straight line, and room for what a choice notes. Hints are tested before use, and
+//! notes are made anew by each choice, so what was left here costs time alone.
 ghost use Rattle.std.specs.Prelude.{◌≡◌, ◌<◌, ◌^◌, length, All, Some, slice_get, true};
 ghost use Rattle.lv_segs.specs.Plane.{IsEdge};
 ghost use Rattle.lv_segs.specs.Pieces.{IsPiece};
 
+use crate::ends::Ends;
 use indexmap::IndexSet;
+use lv_lumps::Vertex;
 use lv_segs::{Edge, Facing, Piece, lies_along, ray_of};
 use std::alloc::{AllocError, Global};
 
 /// Hints that save counts: a number for the straight line of each line, and under each number the
 /// place where a piece on that straight line was met last. What they say is tested before it is
-/// used, so a choice is right whatever stands here, and old or wrong hints cost time alone.
+/// used, so a choice is right whatever stands here, and old or wrong hints cost time alone. Beside
+/// them there is room for the rounded ends of as many pieces as the lines have sides.
 #[derive(Drop)]
 pub struct StraightLines {
     numbers: Vec<u16>,
     met: Vec<u32>,
+    pub(crate) ends: Vec<Ends>,
 }
 
 // A straight line by its direction in least whole numbers, east or else north, and by how far it is
@@ -57,6 +62,21 @@ fn common_measure(mut a: u32, mut b: u32) -> u32 {
     a
 }
 
+// Room for the ends of two pieces a line.
+fn room_for_ends(alloc: Global, lines: usize) -> Result<Vec<Ends>, AllocError> {
+    let origin = Vertex { x: 0, y: 0 };
+    let none = Ends {
+        first: origin,
+        last: origin,
+    };
+    let mut ends = Vec::new(alloc);
+    for _ in 0..lines {
+        ends.push(none)?;
+        ends.push(none)?;
+    }
+    Ok(ends)
+}
+
 impl StraightLines {
     ghost use Rattle.lv_partition.specs.Choices.{HasEarlier};
 
@@ -74,7 +94,8 @@ impl StraightLines {
             }
             numbers.push(u16::try_from(number).unwrap_or(u16::MAX))?;
         }
-        Ok(StraightLines { numbers, met })
+        let ends = room_for_ends(alloc, lines.len())?;
+        Ok(StraightLines { numbers, met, ends })
     }
 
     // An earlier piece of an unused line lies on the straight line of this one. It is looked for at
@@ -93,7 +114,8 @@ impl StraightLines {
         requires few { length pieces.now < 2 ^ 32 }
         requires piece { IsPiece lines.now piece.now }
         requires stands { slice_get pieces.now at ≡ Some piece.now }
-        ensures { result ≡ true → HasEarlier lines.now pieces.now used.now at piece.now }
+        ensures earlier { result ≡ true → HasEarlier lines.now pieces.now used.now at piece.now }
+        ensures kept { self.new.ends ≡ self.old.ends }
     {
         let line = piece.line as usize;
         if line >= self.numbers.len() {

@@ -1,5 +1,10 @@
+use Rattle.std.proofs.Common.{◌≡◌, length, take}
 use Rattle.lv_partition.specs.SoFar.{SoFar}
+use Rattle.lv_partition.specs.Sights.{all_ends}
 use Rattle.lv_partition.proofs.choosing.choose_ordered.Given as goal
 
 abbrev pub invariant-loop-at : goal.invariant-loop-at
-invariant-loop-at l = SoFar l.lines l.pieces l.used l.at l.best
+invariant-loop-at l = record {
+  so_far : SoFar l.lines l.pieces l.used l.at l.best;
+  noted : take (length l.ordered) l.straight.ends.items ≡ all_ends l.lines l.ordered;
+}

@@ -6,7 +6,7 @@ use Rattle.lv_segs.specs.Pieces.{IsPiece}
 use Rattle.lv_segs.specs.Tree.{cost}
 use Rattle.lv_partition.specs.Counts.{AreCounts}
 use Rattle.lv_partition.specs.SoFar.{SoFar}
-use Rattle.lv_partition.proofs.Best.{stands_at, skips, taken, line_known}
+use Rattle.lv_partition.proofs.Best.{stands_at, skips, taken, line_known, used_stays}
 use Rattle.lv_partition.proofs.Reordered.{reordered}
 use Rattle.lv_partition.proofs.choosing.consider_ordered.Goals as goal
 
@@ -19,12 +19,12 @@ count_by_boxes-counted-requires-clause-pieces c = All-permutation (IsPiece c.arg
 pub count_by_boxes-counted-requires-clause-few : goal.count_by_boxes-counted-requires-clause-few
 count_by_boxes-counted-requires-clause-few c = let l = length_permutation c.args.pieces.now c.args.ordered.now c.requires.ordered in let f = c.requires.few in omega arith
 
-pub returns-then-has_earlier : goal.returns-then-has_earlier
-returns-then-has_earlier c =
-    skips c.args.lines.now c.args.pieces.now c.args.used.now c.args.at c.args.piece.now c.requires.stands c.requires.lines c.requires.pieces c.args.best c.requires.few c.requires.so_far (c.has_earlier.ensures c.if-has_earlier.true)
+pub returns-then-has_earlier-clause-so_far : goal.returns-then-has_earlier-clause-so_far
+returns-then-has_earlier-clause-so_far c =
+    skips c.args.lines.now c.args.pieces.now c.args.used.now c.args.at c.args.piece.now c.requires.stands c.requires.lines c.requires.pieces c.args.best c.requires.few c.requires.so_far (c.has_earlier.ensures.earlier c.if-has_earlier.true)
 
-pub returns : goal.returns
-returns c =
+pub returns-clause-so_far : goal.returns-clause-so_far
+returns-clause-so_far c =
     let lines = c.args.lines.now in
     let p = c.args.piece.now in
     let ps = c.args.pieces.now in
@@ -35,3 +35,13 @@ returns c =
     let m = subst (λ (limit : ℕ). MatchOption o (limit ≤ cost lines p ps) (λ k. AreCounts lines p ps k)) c.limit_of-limit.ensures e in
     subst (SoFar lines ps c.args.used.now (c.args.at + 1)) (sym c.take_in.ensures)
     (taken lines ps c.args.used.now c.args.at p c.requires.stands c.args.best o c.requires.few c.requires.so_far free m)
+
+pub returns-then-used-piece-clause-so_far : goal.returns-then-used-piece-clause-so_far
+returns-then-used-piece-clause-so_far c =
+    let lines = c.args.lines.now in
+    let used = c.args.used.now in
+    let p = c.args.piece.now in
+    used_stays lines c.args.pieces.now used c.args.at p c.requires.stands c.args.best c.requires.few (line_known lines used p c.requires.piece c.requires.known) c.if-used-piece.true c.requires.so_far
+
+pub count_by_boxes-counted-requires-clause-ends : goal.count_by_boxes-counted-requires-clause-ends
+count_by_boxes-counted-requires-clause-ends c = rw (c.deref.ensures.value, c.has_earlier.ensures.kept) c.requires.noted

@@ -1,4 +1,4 @@
-use Rattle.std.proofs.Common.{◌≡◌, refl, ◌+◌, ◌*◌, length, take, drop, get_or, subst, arith, All}
+use Rattle.std.proofs.Common.{◌≡◌, refl, ◌∙◌, ◌+◌, ◌*◌, length, take, drop, get_or, subst, arith, All}
 use Rattle.std.proofs.lemmas.Bool.{leb-true}
 use Rattle.std.proofs.lemmas.List.{length-take, length-drop}
 use Rattle.std.proofs.lemmas.List.Elements.{All-take, All-drop}
@@ -28,10 +28,10 @@ loop-k-preserved c =
     let holds = block_holds lines ps c.args.blocks.now k bounds c.requires.blocks (stands_at c.args.blocks.now k no_box c.loop-k-test.true) in
     let more = more_whole lines p ps k c.loop-k.right c.loop-k.left in
     let same = same_whole lines p (take (16 * (k + 1)) ps) in
-    elim c.match-box_side.branch [
-      | in-Right w ↦ let h = subst (λ (r : Ray). pos 0 <ℤ least_value r bounds) c.ray_of-ray.ensures.ray (c.box_side.ensures.right w.in-Right.is) in let er = w.right-is in let el = w.left-is in same (c.loop-k.right + length block) (c.loop-k.left + 0) c.match-box_side.right c.match-box_side.left (more (length block) 0 c.loop-k.invariant (whole_right lines p block bounds ok holds h)) (omega arith) (omega arith)
-      | in-Left w ↦ let h = subst (λ (r : Ray). greatest_value r bounds <ℤ pos 0) c.ray_of-ray.ensures.ray (c.box_side.ensures.left w.in-Left.is) in let er = w.right-is in let el = w.left-is in same (c.loop-k.right + 0) (c.loop-k.left + length block) c.match-box_side.right c.match-box_side.left (more 0 (length block) c.loop-k.invariant (whole_left lines p block bounds ok holds h)) (omega arith) (omega arith)
-      | in-Across w ↦ let er = w.right-is in let el = w.left-is in same (c.loop-k.right + 0) (c.loop-k.left + 0) c.match-box_side.right c.match-box_side.left (more 0 0 c.loop-k.invariant (none_whole lines p block)) (omega arith) (omega arith)
+    elim c.match-side_of_box.branch [
+      | in-Right w ↦ let h = subst (λ (r : Ray). pos 0 <ℤ least_value r bounds) (c.sight_of-sight.ensures.ray ∙ c.ray_of.ensures.ray) (c.side_of_box.ensures.right w.in-Right.is) in let er = w.right-is in let el = w.left-is in same (c.loop-k.right + length block) (c.loop-k.left + 0) c.match-side_of_box.right c.match-side_of_box.left (more (length block) 0 c.loop-k.invariant (whole_right lines p block bounds ok holds h)) (omega arith) (omega arith)
+      | in-Left w ↦ let h = subst (λ (r : Ray). greatest_value r bounds <ℤ pos 0) (c.sight_of-sight.ensures.ray ∙ c.ray_of.ensures.ray) (c.side_of_box.ensures.left w.in-Left.is) in let er = w.right-is in let el = w.left-is in same (c.loop-k.right + 0) (c.loop-k.left + length block) c.match-side_of_box.right c.match-side_of_box.left (more 0 (length block) c.loop-k.invariant (whole_left lines p block bounds ok holds h)) (omega arith) (omega arith)
+      | in-Across w ↦ let er = w.right-is in let el = w.left-is in same (c.loop-k.right + 0) (c.loop-k.left + 0) c.match-side_of_box.right c.match-side_of_box.left (more 0 0 c.loop-k.invariant (none_whole lines p block)) (omega arith) (omega arith)
     ]
 
 pub overflow_sub-pieces : goal.overflow_sub-pieces

@@ -1,19 +1,19 @@
-use Rattle.std.proofs.Common.{get_or, sym, subst, arith, List}
+use Rattle.std.proofs.Common.{get_or, ap, ◌∙◌, arith, List}
 use Rattle.std.proofs.lemmas.List.{drop_all}
-use Rattle.lv_lumps.specs.declared.records.Bounds.{Bounds}
-use Rattle.lv_segs.specs.Boxes.{HoldsPiece}
+use Rattle.lv_partition.specs.declared.ends.Ends.{Ends}
 use Rattle.lv_partition.proofs.BlockSteps.{AtMost, counts_at_most}
-use Rattle.lv_partition.proofs.BoxLemmas.{no_box, no_piece, box_at, boxes_length}
+use Rattle.lv_partition.proofs.BoxLemmas.{no_piece}
+use Rattle.lv_partition.proofs.EndLemmas.{no_ends, ends_at, ends_length}
 use Rattle.lv_partition.proofs.OneMore.{Stepped, stepped, counted_all}
 use Rattle.lv_partition.proofs.walk.count_list.Goals as goal
 use Rattle.lv_partition.proofs.walk.count_list.Goals.{After-count_piece-more, After-plus-counts}
 
-pub bounds-boxes-n : goal.bounds-boxes-n
-bounds-boxes-n c = let l = boxes_length c.args.lines.now c.args.pieces.now c.args.boxes.now c.requires.boxes in omega arith
+pub bounds-ends-n : goal.bounds-ends-n
+bounds-ends-n c = let l = ends_length c.args.lines.now c.args.pieces.now c.args.ends.now c.requires.ends in omega arith
 
-pub count_piece-more-requires-clause-holds : goal.count_piece-more-requires-clause-holds
-count_piece-more-requires-clause-holds c =
-    subst (λ (bs : List Bounds). HoldsPiece c.args.lines.now (get_or bs c.loop-n.n no_box) (get_or c.args.pieces.now c.loop-n.n no_piece)) (sym c.requires.boxes) (box_at c.args.lines.now c.args.pieces.now c.loop-n.n no_box no_piece c.loop-n-test.true)
+pub count_piece-more-requires-clause-ends : goal.count_piece-more-requires-clause-ends
+count_piece-more-requires-clause-ends c =
+    ap (λ (es : List Ends). get_or es c.loop-n.n no_ends) c.requires.ends ∙ ends_at c.args.lines.now c.args.pieces.now c.loop-n.n no_ends no_piece c.loop-n-test.true
 
 one : (c : After-count_piece-more) → AtMost c.count_piece-more.result 1
 one c = counts_at_most c.args.lines.now c.args.partition.now _ c.count_piece-more.result 1 (omega arith) c.count_piece-more.ensures

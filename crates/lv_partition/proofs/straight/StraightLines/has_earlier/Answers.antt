@@ -4,8 +4,8 @@ use Rattle.lv_partition.proofs.Best.{earlier_found, line_known, before_within}
 use Rattle.lv_partition.proofs.BoxLemmas.{no_piece, piece_before}
 use Rattle.lv_partition.proofs.straight.StraightLines.has_earlier.Goals as goal
 
-pub returns-then-lies_along : goal.returns-then-lies_along
-returns-then-lies_along c = λ t.
+pub returns-then-lies_along-clause-earlier : goal.returns-then-lies_along-clause-earlier
+returns-then-lies_along-clause-earlier c = λ t.
     earlier_found c.args.lines.now c.args.pieces.now c.args.used.now c.args.at c.args.piece.now
     c.index-2.result.now no_piece
     c.requires.pieces c.requires.known c.if-earlier-at.true
@@ -27,11 +27,11 @@ bounds-used-first c =
 pub lies_along-requires-clause-first : goal.lies_along-requires-clause-first
 lies_along-requires-clause-first c = piece_before c.args.lines.now c.args.pieces.now c.index-2.result.now c.args.at c.args.piece.now c.if-earlier-at.true c.requires.stands c.requires.pieces
 
-pub returns-then-line-len : goal.returns-then-line-len
-returns-then-line-len c = λ e. cc
+pub returns-then-line-len-clause-earlier : goal.returns-then-line-len-clause-earlier
+returns-then-line-len-clause-earlier c = λ e. cc
 
-pub returns-then-number-len : goal.returns-then-number-len
-returns-then-number-len c = λ e. cc
+pub returns-then-number-len-clause-earlier : goal.returns-then-number-len-clause-earlier
+returns-then-number-len-clause-earlier c = λ e. cc
 
-pub returns : goal.returns
-returns c = λ e. cc
+pub returns-clause-earlier : goal.returns-clause-earlier
+returns-clause-earlier c = λ e. cc

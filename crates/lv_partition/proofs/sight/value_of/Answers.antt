@@ -3,8 +3,8 @@ use Rattle.std.proofs.lemmas.Int.{to_z-of_z}
 use Rattle.std.specs.Prelude.{ℤ, ◌-ℤ◌, ◌*ℤ◌, FitsSigned}
 use Rattle.std.specs.Int.{w16, w32}
 use Rattle.lv_partition.proofs.Casts.{Difference, sub_two}
-use Rattle.lv_partition.proofs.box_place.offset_of.Goals as goal
-use Rattle.lv_partition.proofs.box_place.offset_of.Goals.{After-times-upward}
+use Rattle.lv_partition.proofs.sight.value_of.Goals as goal
+use Rattle.lv_partition.proofs.sight.value_of.Goals.{After-times-upward}
 
 difference : (c : After-times-upward) → Difference c.times-across.result c.times-upward.result
 difference c =
@@ -18,14 +18,15 @@ overflow_sub-result c = (difference (goal.at.overflow_sub-result c).After-times-
 pub returns-clause-value : goal.returns-clause-value
 returns-clause-value c =
     let r = c.args.ray in
+    let v = c.args.place in
     let fx : FitsSigned w32 r.dx = search rules in
     let fy : FitsSigned w32 r.dy = search rules in
-    let sx : FitsSigned w16 r.start.x = search rules in
-    let sy : FitsSigned w16 r.start.y = search rules in
-    let a : c.times-across.result ≡ r.dy *ℤ r.start.x = simp (to_z-of_z w32 r.dy fy, to_z-of_z w16 r.start.x sx) at c.times-across.ensures.value in
-    let b : c.times-upward.result ≡ r.dx *ℤ r.start.y = simp (to_z-of_z w32 r.dx fx, to_z-of_z w16 r.start.y sy) at c.times-upward.ensures.value in
+    let sx : FitsSigned w16 v.x = search rules in
+    let sy : FitsSigned w16 v.y = search rules in
+    let a : c.times-across.result ≡ r.dy *ℤ v.x = simp (to_z-of_z w32 r.dy fy, to_z-of_z w16 v.x sx) at c.times-across.ensures.value in
+    let b : c.times-upward.result ≡ r.dx *ℤ v.y = simp (to_z-of_z w32 r.dx fx, to_z-of_z w16 v.y sy) at c.times-upward.ensures.value in
     (difference (goal.at.returns-clause-value c).After-times-upward).is
-    ∙ ap (λ (x : ℤ). x -ℤ c.times-upward.result) a ∙ ap (λ (x : ℤ). r.dy *ℤ r.start.x -ℤ x) b
+    ∙ ap (λ (x : ℤ). x -ℤ c.times-upward.result) a ∙ ap (λ (x : ℤ). r.dy *ℤ v.x -ℤ x) b
 
 pub returns-clause-low : goal.returns-clause-low
 returns-clause-low c = let d = difference (goal.at.returns-clause-low c).After-times-upward in rw d.is d.within.low

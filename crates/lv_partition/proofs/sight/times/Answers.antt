@@ -1,6 +1,6 @@
 use Rattle.lv_partition.proofs.Casts.{from_32, from_16, IsTimes, times_by}
-use Rattle.lv_partition.proofs.box_place.times.Goals as goal
-use Rattle.lv_partition.proofs.box_place.times.Goals.{After-product}
+use Rattle.lv_partition.proofs.sight.times.Goals as goal
+use Rattle.lv_partition.proofs.sight.times.Goals.{After-product}
 
 is_times : (c : After-product) → IsTimes c.product.result c.args.k c.args.z
 is_times c = times_by c.product.result c.args.k c.args.z c.ranges.k c.ranges.z (simp (from_32 c.args.k c.ranges.k, from_16 c.args.z c.ranges.z) at c.product.ensures)

@@ -3,7 +3,7 @@ use Rattle.std.proofs.lemmas.Int.{to_z-of_z}
 use Rattle.std.specs.Prelude.{ℤ, pos, ◌<ℤ◌, FitsSigned}
 use Rattle.std.specs.Int.{w64}
 use Rattle.lv_partition.proofs.Casts.{above_zero, below_zero}
-use Rattle.lv_partition.proofs.box_place.box_side.Goals as goal
+use Rattle.lv_partition.proofs.box_place.side_of_box.Goals as goal
 
 pub returns-then-least_in-gt0-clause-right : goal.returns-then-least_in-gt0-clause-right
 returns-then-least_in-gt0-clause-right c = λ _.

@@ -1,7 +1,0 @@
-use Rattle.std.proofs.Common.{◌≡◌, drop}
-use Rattle.lv_segs.specs.Division.{left_parts}
-use Rattle.lv_partition.proofs.separating.separates_in.Given as goal
-
--- the pieces before this one leave nothing on the left
-abbrev pub invariant-loop-piece : goal.invariant-loop-piece
-invariant-loop-piece l = left_parts l.lines l.partition (drop l.piece-index l.pieces) ≡ left_parts l.lines l.partition l.pieces
