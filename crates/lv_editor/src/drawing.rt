@@ -14,7 +14,7 @@ use crate::query::{Query, read_query};
 use crate::reading::run_lines;
 use crate::session::Session;
 use lv_commands::CommandError;
-use lv_commands::project::{apply, parse};
+use lv_commands::{apply, parse};
 use lv_maptables::Maps;
 use std::alloc::Global;
 use std::io::{Read, Write};

@@ -1,5 +1,5 @@
 -- Boxes beside pieces: a piece that isn't split keeps its own, and one more part is put down with its box.
-use Rattle.std.proofs.Common.{◌≡◌, refl, sym, ap, ◌∙◌, subst, ℕ, zero, suc, ◌+◌, ◌<◌, Bool, true, false, ◌&&◌, List, [], ◌∷◌, ◌++◌, append_assoc, length, get_or, drop, Option, Some, None, All, Result, Ok, Err, add-one, arith, drop-cons}
+use Rattle.std.proofs.Common.{◌≡◌, refl, sym, ap, ◌∙◌, subst, ℕ, zero, suc, ◌+◌, ◌<◌, Bool, true, false, ◌&&◌, List, [], ◌∷◌, ◌++◌, append_assoc, length, get_or, drop, Option, Some, None, Result, Ok, Err, add-one, arith, drop-cons}
 use Rattle.std.specs.Prelude.{pos, int_lt, filter_map, option_to_list, is_some, IfSome, OnOk, if◌then◌else◌}
 use Rattle.std.specs.List.{cons_option}
 use Rattle.lv_lumps.specs.declared.records.Vertex.{Vertex}

@@ -6,7 +6,8 @@ use Rattle.std.proofs.lemmas.List.Sums.{sum_by-append, sum_by-cons}
 use Rattle.lv_lumps.specs.declared.records.Node.{Node}
 use Rattle.lv_segs.specs.declared.edge.Edge.{Edge}
 use Rattle.lv_segs.specs.Tree.{Tree, Leaf, Branch}
-use Rattle.lv_nodes.specs.References.{subsector, children, times_child}
+use Rattle.lv_nodes.specs.InRange.{below_each}
+use Rattle.lv_nodes.specs.References.{subsector, times_child}
 use Rattle.lv_nodes.specs.TreeLists.{leaf_count, branch_count, child_of, HasNodes}
 
 -- 1 where x is at least a, else 0
@@ -50,9 +51,9 @@ times_cons x y ys = sum_by-cons (λ (z : ℕ). cond (nat_eq x z) 1 0) y ys ∙ a
 pub times_append : (x : ℕ) (xs ys : List ℕ) → times x (xs ++ ys) ≡ times x xs + times x ys
 times_append x xs ys = sum_by-append (λ (z : ℕ). cond (nat_eq x z) 1 0) xs ys
 
-children_append : (ms bs : List Node) → children (ms ++ bs) ≡ children ms ++ children bs
-children_append [] bs = refl
-children_append (a ∷ ms) bs = ap (λ (ns : List ℕ). a.right ∷ a.left ∷ ns) (children_append ms bs)
+below_append : (ms bs : List Node) → below_each (ms ++ bs) ≡ below_each ms ++ below_each bs
+below_append [] bs = refl
+below_append (a ∷ ms) bs = ap (λ (ns : List ℕ). a.right ∷ a.left ∷ ns) (below_append ms bs)
 
 -- the child that stands for a tree and the children in its nodes: each number of its subsectors and nodes once
 pub once : (lines : List Edge) (t : Tree) (s n : ℕ) (nodes : List Node) (x : ℕ) → HasNodes lines t s n nodes → among x (child_of t s n) 1 + times_child nodes x ≡ among x (subsector s) (leaf_count t) + among x n (branch_count t)
@@ -68,10 +69,10 @@ once lines (Branch p right left) s n nodes x h =
     let b = branch_count left in
     let c = leaf_count right in
     let d = leaf_count left in
-    let all : times_child nodes x ≡ times x ((children br ++ children bl) ++ (node.right ∷ node.left ∷ [])) =
-    ap (λ (ns : List Node). times x (children ns)) h.3 ∙ ap (times x) (children_append (br ++ bl) (node ∷ []) ∙ ap (λ (ns : List ℕ). ns ++ (node.right ∷ node.left ∷ [])) (children_append br bl)) in
-    let s1 = times_append x (children br ++ children bl) (node.right ∷ node.left ∷ []) in
-    let s2 = times_append x (children br) (children bl) in
+    let all : times_child nodes x ≡ times x ((below_each br ++ below_each bl) ++ (node.right ∷ node.left ∷ [])) =
+    ap (λ (ns : List Node). times x (below_each ns)) h.3 ∙ ap (times x) (below_append (br ++ bl) (node ∷ []) ∙ ap (λ (ns : List ℕ). ns ++ (node.right ∷ node.left ∷ [])) (below_append br bl)) in
+    let s1 = times_append x (below_each br ++ below_each bl) (node.right ∷ node.left ∷ []) in
+    let s2 = times_append x (below_each br) (below_each bl) in
     let s3 = times_cons x node.right (node.left ∷ []) in
     let s4 = times_cons x node.left [] in
     let r = once lines right s n br x h.4 in
@@ -84,7 +85,7 @@ once lines (Branch p right left) s n nodes x h =
     let moved : among x (subsector (s + c)) d ≡ among x (subsector s + c) d = ap (λ (k : ℕ). among x k d) (omega arith) in
     let top : among x (n + a + b) 1 ≡ among x (n + (a + b)) 1 = ap (λ (k : ℕ). among x k 1) (omega arith) in
     summed (times_child nodes x) (times_child br x) (times_child bl x) (among x node.right 1) (among x node.left 1) (among x (child_of right s n) 1) (among x (child_of left (s + c) (n + a)) 1) (among x (subsector s) c) (among x (subsector (s + c)) d) (among x (subsector s + c) d) (among x (subsector s) (c + d)) (among x n a) (among x (n + a) b) (among x n (a + b)) (among x (n + (a + b)) 1) (among x (n + a + b) 1) (among x n (a + b + 1))
-    (all ∙ s1 ∙ ap (λ (k : ℕ). k + times x (node.right ∷ node.left ∷ [])) s2 ∙ ap (λ (k : ℕ). times x (children br) + times x (children bl) + k) (s3 ∙ ap (λ (k : ℕ). among x node.right 1 + k) s4)) r l er el m1 m2 m3 moved top
+    (all ∙ s1 ∙ ap (λ (k : ℕ). k + times x (node.right ∷ node.left ∷ [])) s2 ∙ ap (λ (k : ℕ). times x (below_each br) + times x (below_each bl) + k) (s3 ∙ ap (λ (k : ℕ). among x node.right 1 + k) s4)) r l er el m1 m2 m3 moved top
   where
     summed : (whole wr wl ar al cr cl u v v' uv i j ij k k' ijk : ℕ) → whole ≡ wr + wl + (ar + (al + 0)) → cr + wr ≡ u + i → cl + wl ≡ v + j → ar ≡ cr → al ≡ cl → uv ≡ u + v' → ijk ≡ ij + k → ij ≡ i + j → v ≡ v' → k' ≡ k → k' + whole ≡ uv + ijk
     summed whole wr wl ar al cr cl u v v' uv i j ij k k' ijk e1 e2 e3 e4 e5 e6 e7 e8 e9 e10 = omega arith

@@ -15,7 +15,7 @@ use Rattle.lv_segs.specs.Nodes.{IsLeastBox}
 use Rattle.lv_segs.proofs.Lists.{All-at}
 use Rattle.lv_segs.proofs.Choice.{one_tree, one_best}
 use Rattle.lv_segs.proofs.Trees.{right_reached, left_reached}
-use Rattle.lv_nodes.specs.References.{greatest_number}
+use Rattle.lv_nodes.specs.InRange.{greatest_number}
 use Rattle.lv_nodes.specs.TreeLists.{leaf_count, branch_count, child_of, IsEndOf, HasNodes}
 use Rattle.lv_nodes.specs.Boxed.{IsBoxed}
 use Rattle.lv_nodes.specs.Growth.{Lists, IsStep, HasBoxes, IsGrown, IsRefused, IsDivision, IsLeafPut, IsLeafRefused, IsNodePut}

@@ -6,6 +6,7 @@ use Rattle.lv_lumps.specs.declared.records.Node.{Node}
 use Rattle.lv_segs.specs.declared.edge.Edge.{Edge}
 use Rattle.lv_segs.specs.declared.piece.Piece.{Piece}
 use Rattle.lv_segs.specs.Tree.{Tree, Leaf, Branch, pieces, leaves, counts}
+use Rattle.lv_nodes.specs.InRange.{Tiles}
 use Rattle.lv_nodes.specs.References.{FollowsFrom}
 use Rattle.lv_nodes.specs.Tiling.{count_list, total}
 use Rattle.lv_nodes.specs.TreeLists.{leaf_count, branch_count, HasNodes}
@@ -36,6 +37,11 @@ counts_total (Branch p right left) =
     let l = length-append (pieces right) (pieces left) in
     let c = ap total (counts_append (leaves right) (leaves left)) ∙ total_append (counts right) (counts left) in
     c ∙ omega arith
+
+-- subsectors that follow one another tile what their counts make up
+pub tiles_from : (at : ℕ) (us : List Sub) (to : ℕ) → FollowsFrom at us → at + total (count_list us) ≡ to → Tiles at us to
+tiles_from at [] to f e = omega arith
+tiles_from at (u ∷ us) to f e = (f.2, f.0, (let a = f.0 in let b = f.1 in omega arith), tiles_from (at + u.count) us to f.3 (omega arith))
 
 pub record IsSplit (xs ys : List ℕ) (b : ℕ) (ts : List Sub) : Type 0 where
   pub us : List Sub

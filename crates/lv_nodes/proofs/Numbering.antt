@@ -1,5 +1,5 @@
 -- The seg of a piece by numbered places, and that it stays one as places are added.
-use Rattle.std.proofs.Common.{◌≡◌, refl, sym, ap, ◌∙◌, subst, ℕ, zero, suc, ◌<◌, List, [], ◌∷◌, ◌++◌, append_assoc, length, Some, slice_get, arith}
+use Rattle.std.proofs.Common.{◌≡◌, refl, sym, ap, ◌∙◌, subst, ℕ, zero, suc, ◌+◌, ◌<◌, List, [], ◌∷◌, ◌++◌, append_assoc, length, Some, slice_get, arith}
 use Rattle.std.specs.Prelude.{slice_index_or}
 use Rattle.lv_lumps.specs.declared.records.Vertex.{Vertex}
 use Rattle.lv_lumps.specs.declared.records.Seg.{Seg}
@@ -21,9 +21,10 @@ use Rattle.lv_segs.specs.declared.edge.Facing.{Facing}
 use Rattle.lv_segs.specs.declared.edge.Facing.TheVariants.{Along, Against}
 use Rattle.lv_segs.proofs.Lists.{All-at}
 use Rattle.lv_segs.specs.Places.{IsKnown}
-use Rattle.lv_nodes.specs.References.{IsNumber, greatest_number}
+use Rattle.lv_nodes.specs.InRange.{greatest_number}
+use Rattle.lv_nodes.specs.References.{IsNumber}
 use Rattle.lv_nodes.specs.TreeLists.{IsEndOf}
-use Rattle.lv_nodes.specs.Sound.{AllDiffer}
+use Rattle.lv_nodes.specs.Sound.{AllDiffer, IsNamedBefore}
 use Rattle.lv_nodes.specs.Corners.{IsOneEnd}
 use Rattle.lv_nodes.specs.Numbers.{IsNumbered, IsPlaceRefused, HasNumbers, HasMore, IsSegRefused, AreNumbered, HaveMore, AreSegsRefused}
 use Rattle.lv_nodes.specs.declared.error.TreeError.{TreeError}
@@ -119,6 +120,8 @@ has_numbers old mid new v w s a b =
       first = (omega arith, omega arith);
       second = (omega arith, omega arith);
       ends = λ k lo hi. ⊎_elim (λ below. inl (a.only k lo below)) (λ above. inr (b.only k above hi)) (cases_lt k (length mid));
+      first_next = ⊎_elim (λ more. let e = a.only (length old) (omega arith) more in omega arith) (λ same. omega arith) (cases_lt (length old) (length mid));
+      second_next = λ k lo e. ⊎_elim (λ below. a.only k lo below) (λ above. let f = b.only k above (omega arith) in absurd (omega arith)) (cases_lt k (length mid));
       differ = λ d. b.differ (a.differ d);
       few = b.few;
     }
@@ -186,7 +189,7 @@ module _ (lines : List Edge) (drawn : List Vertex) (ps : List Piece) where
   none_numbered differ few = record {
     each = λ i p s a b. cc;
     ends = All-nil (λ (s : Seg). IsNumber (length drawn) s.first × IsNumber (length drawn) s.second);
-    added = record { added = []; all = append_nil drawn; ends = λ n a b. absurd (omega arith) };
+    added = record { added = []; all = append_nil drawn; ends = λ n a b. absurd (omega arith); first_in_order = λ i n s a lo e. cc; second_in_order = λ i n s a lo e. cc };
     differ = differ;
     few = few;
   }
@@ -219,6 +222,31 @@ module _ (lines : List Edge) (drawn : List Vertex) (ps : List Piece) where
     segs_refused k p TooManySubsectors few at h = h
     segs_refused k p TooDeep few at h = h
 
+    -- the segs so far name each place that was added, and those behind them keep this
+    named : (s : Seg) (n : ℕ) → length drawn ≤ n → n < length old → IsNamedBefore (segs ++ s ∷ []) (length segs) n
+    named s n lo below = let e = h.added.ends n lo below in (e.0, e.1, slice_get_within segs e.0 e.1 e.2, get_left segs (s ∷ []) e.0 e.1 e.2, e.3)
+
+    still_named : (s : Seg) (i n : ℕ) → IsNamedBefore segs i n → IsNamedBefore (segs ++ s ∷ []) i n
+    still_named s i n e = (e.0, e.1, e.2, get_left segs (s ∷ []) e.0 e.1 e.3, e.4)
+
+    first_order : (s : Seg) → HasNumbers old new s → (i n : ℕ) (t : Seg) → slice_get (segs ++ s ∷ []) i ≡ Some t → length drawn ≤ n → t.first ≡ n + 1 → IsNamedBefore (segs ++ s ∷ []) i n
+    first_order s g i n t at lo e =
+        ⊎_elim (λ a. still_named s i n (h.added.first_in_order i n t a lo e))
+        (λ a.
+        let f = ap (λ (x : Seg). x.first) a.1 in
+        let k = g.first_next in
+        subst (λ (j : ℕ). IsNamedBefore (segs ++ s ∷ []) j n) (sym a.0) (named s n lo (omega arith)))
+        (push_cases segs s i t at)
+
+    second_order : (s : Seg) → HasNumbers old new s → (i n : ℕ) (t : Seg) → slice_get (segs ++ s ∷ []) i ≡ Some t → length drawn ≤ n → t.second ≡ n + 1 → IsNamedBefore (segs ++ s ∷ []) i n ⊎ (t.first ≡ n)
+    second_order s g i n t at lo e =
+        ⊎_elim (λ a. ⊎_elim (λ b. inl (still_named s i n b)) (λ b. inr b) (h.added.second_in_order i n t a lo e))
+        (λ a.
+        ⊎_elim (λ below. inl (subst (λ (j : ℕ). IsNamedBefore (segs ++ s ∷ []) j n) (sym a.0) (named s n lo below)))
+        (λ above. inr (ap (λ (x : Seg). x.first) (sym a.1) ∙ g.second_next n above (ap (λ (x : Seg). x.second) a.1 ∙ e)))
+        (cases_lt n (length old)))
+        (push_cases segs s i t at)
+
     pub next_numbered : (p : Piece) (s : Seg) → slice_get ps (length segs) ≡ Some p → IsSegOf lines new p s → HasNumbers old new s → AreNumbered lines drawn new ps (segs ++ s ∷ [])
     next_numbered p s at is g = record {
       each = λ i q t a b. ⊎_elim (λ e. old_seg i q t a e) (λ e. this_seg i q t a e.0 e.1) (push_cases segs s i t b);
@@ -227,6 +255,8 @@ module _ (lines : List Edge) (drawn : List Vertex) (ps : List Piece) where
         added = h.added.added ++ g.added;
         all = g.grown ∙ ap (λ (vs : List Vertex). vs ++ g.added) h.added.all ∙ append_assoc drawn h.added.added g.added;
         ends = λ n lo hi. ⊎_elim (λ below. let e = h.added.ends n lo below in (e.0, e.1, get_left segs (s ∷ []) e.0 e.1 e.2, e.3)) (λ above. (length segs, s, get_right segs (s ∷ []) (length segs) 0 s (omega arith) refl, g.ends n above hi)) (cases_lt n (length old));
+        first_in_order = first_order s g;
+        second_in_order = second_order s g;
       };
       differ = g.differ h.differ;
       few = g.few;

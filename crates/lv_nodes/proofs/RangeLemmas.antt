@@ -1,8 +1,7 @@
 -- A sound tree's references lie in their lists; its parts make up a built tree of a map.
 use Rattle.std.proofs.Common.{◌≡◌, ◌≢◌, refl, sym, ap, ◌∙◌, subst, ℕ, zero, suc, ◌+◌, ◌<◌, ◌≤◌, ◌⊎◌, inl, inr, ⊎_elim, List, [], ◌∷◌, length, map, Bool, true, false, Some, arith, slice_get, Result, Ok, Err, IfOk, IfErr}
-use Rattle.std.specs.Prelude.{sum, count_by, flat_map, nat_eq, nat_lt, ◌==◌, ◌&&◌, not, IsTrue, AllPairs}
+use Rattle.std.specs.Prelude.{count_by, nat_eq, nat_lt, ◌==◌, ◌&&◌, not, IsTrue, AllPairs}
 use Rattle.std.proofs.lemmas.Bool.{cases_eq, cases_lt, cases_order, eq-eqb, ne_eqb, lt-ltb}
-use Rattle.std.proofs.lemmas.List.Sums.{sum_by-cons}
 use Rattle.std.proofs.lemmas.Option.{slice_get_within}
 use Rattle.lv_lumps.specs.Sides.{no_side}
 use Rattle.lv_lumps.specs.declared.records.Vertex.{Vertex}
@@ -16,9 +15,8 @@ use Rattle.lv_segs.specs.Pieces.{edge_at}
 use Rattle.lv_segs.proofs.FirstList.{index_is}
 use Rattle.lv_segs.proofs.Lists.{All-at}
 use Rattle.lv_segs.specs.Edges.{edge_between, edges_of}
-use Rattle.lv_nodes.specs.References.{HasPlaces, FollowsFrom, IsChild, AreTree, children, times_child, subsector}
-use Rattle.lv_nodes.specs.Tiling.{count_list, total}
-use Rattle.lv_nodes.specs.InRange.{sub_bit, SegInRange, Tiles, ChildInRange, TreeInRange, times_sub, times_node, children as all_children}
+use Rattle.lv_nodes.specs.References.{HasPlaces, IsChild, AreTree, times_child, subsector}
+use Rattle.lv_nodes.specs.InRange.{sub_bit, SegInRange, ChildInRange, TreeInRange, times_sub, times_node, below_each}
 use Rattle.lv_nodes.specs.Sound.{AllDiffer, IsSound, IsSmall, IsBuiltOf}
 use Rattle.lv_nodes.specs.Refusals.{IsBuildRefused}
 use Rattle.lv_nodes.specs.Built.{IsBuilt, IsTreeRefusal}
@@ -39,23 +37,7 @@ all_differ vs h i j v a b = by_order (cases_order i j)
     by_order : ((i ≡ j) ⊎ ((i < j) ⊎ (j < i))) → i ≡ j
     by_order o = ⊎_elim (λ e. e) (λ r. ⊎_elim (λ l. apart i j l a b) (λ l. sym (apart j i l b a)) r) o
 
--- ---- tiles
-tiles_from : (at : ℕ) (us : List Sub) (to : ℕ) → FollowsFrom at us → at + total (count_list us) ≡ to → Tiles at us to
-tiles_from at [] to f e = omega arith
-tiles_from at (u ∷ us) to f e = (f.2, f.0, (let a = f.0 in let b = f.1 in omega arith), tiles_from (at + u.count) us to f.3 (omega arith))
-
-sum_total : (xs : List ℕ) → sum xs ≡ total xs
-sum_total [] = refl
-sum_total (x ∷ xs) = let c = sum_by-cons (λ (n : ℕ). n) x xs in c ∙ ap (λ (n : ℕ). x + n) (sum_total xs)
-
 -- ---- children
-node_children : List Node → List ℕ
-node_children ns = flat_map (λ m. m.right ∷ m.left ∷ []) ns
-
-children_are : (ns : List Node) → flat_map (λ m. m.right ∷ m.left ∷ []) ns ≡ children ns
-children_are [] = refl
-children_are (n ∷ ns) = ap (λ (l : List ℕ). n.right ∷ n.left ∷ l) (children_are ns)
-
 same_test : (c x : ℕ) → (c == x) ≡ nat_eq x c
 same_test c x = ⊎_elim (λ e. eq-eqb c x e ∙ sym (eq-eqb x c (sym e))) (λ n. ne_eqb c x n ∙ sym (ne_eqb x c (λ e. n (sym e)))) (cases_eq c x)
 
@@ -71,11 +53,11 @@ counts_by f g xs h = same_counts f g xs xs refl (λ i y x a b. let e : x ≡ y =
 
 subs_times : (ns : List Node) (s : ℕ) → 0 < length ns → times_sub ns s ≡ times_child ns (subsector s)
 subs_times [] s h = absurd (omega arith)
-subs_times (n ∷ ns) s h = counts_by (λ c. c == (sub_bit + s)) (nat_eq (subsector s)) (all_children (n ∷ ns)) (λ c. same_test c (sub_bit + s)) ∙ ap (count_by (nat_eq (subsector s))) (children_are (n ∷ ns))
+subs_times (n ∷ ns) s h = counts_by (λ c. c == (sub_bit + s)) (nat_eq (subsector s)) (below_each (n ∷ ns)) (λ c. same_test c (sub_bit + s))
 
 nodes_times : (ns : List Node) (i : ℕ) → 0 < length ns → i < sub_bit → times_node ns i ≡ times_child ns i
 nodes_times [] i h l = absurd (omega arith)
-nodes_times (n ∷ ns) i h l = counts_by (λ c. nat_lt c sub_bit && (c == i)) (nat_eq i) (all_children (n ∷ ns)) (λ c. node_test c i l) ∙ ap (count_by (nat_eq i)) (children_are (n ∷ ns))
+nodes_times (n ∷ ns) i h l = counts_by (λ c. nat_lt c sub_bit && (c == i)) (nat_eq i) (below_each (n ∷ ns)) (λ c. node_test c i l)
 
 no_nodes_once : (ns : List Node) (s : ℕ) → length ns ≡ 0 → s ≡ 0 → times_sub ns s ≡ 1
 no_nodes_once [] s e z = ap (λ (k : ℕ). count_by (λ c. c == (sub_bit + k)) (sub_bit ∷ [])) z
@@ -131,7 +113,7 @@ module _ (m : Tables) where
       let sf = t.subs_few in
       record {
         segs = all_by (SegInRange vertices m.lines) segs (λ i s e. seg_in_range vertices s (All-at (HasPlaces (edges_of m) vertices) segs i s h.places e));
-        tiles = tiles_from 0 subs (length segs) h.tiles.follow (let a = h.tiles.total in let b = sum_total (count_list subs) in omega arith);
+        tiles = h.tiles;
         node_children = λ i n e. let w = slice_get_within nodes i n e in (child_in_range subs i n.right (omega arith) sf (t.right i n e), child_in_range subs i n.left (omega arith) sf (t.left i n e));
         some_sub = some_sub_of subs nodes t;
         subs_once = λ s l. ⊎_elim (λ z. no_nodes_once nodes s z (let o = t.one_sub z in omega arith)) (λ n. let p = more n in subs_times nodes s p ∙ t.subs_once p s l) (cases_eq (length nodes) 0);

@@ -1,11 +1,10 @@
 -- The lists of the tree of the lines are sound.
 use Rattle.std.proofs.Common.{◌≡◌, ◌≢◌, refl, sym, ap, ◌∙◌, subst, ℕ, suc, ◌+◌, ◌-◌, ◌≤◌, ◌<◌, ◌⊎◌, inl, inr, ⊎_elim, List, [], ◌∷◌, length, Bool, true, false, Option, Some, None, arith, slice_get, All}
-use Rattle.std.specs.Prelude.{slice_set, sum, IfSome, IsTrue, if◌then◌else◌}
+use Rattle.std.specs.Prelude.{slice_set, IfSome, IsTrue, if◌then◌else◌}
 use Rattle.std.proofs.lemmas.Bool.{cases_lt, true≢false}
 use Rattle.std.proofs.lemmas.Int.{ints}
 use Rattle.std.proofs.lemmas.Option.{slice_get_within}
 use Rattle.std.proofs.lemmas.List.Elements.{All-nil, All-cons, All-append}
-use Rattle.std.proofs.lemmas.List.Sums.{sum_by-cons}
 use Rattle.lv_lumps.specs.declared.records.Vertex.{Vertex}
 use Rattle.lv_lumps.specs.declared.records.Seg.{Seg}
 use Rattle.lv_lumps.specs.declared.records.Sub.{Sub}
@@ -17,22 +16,23 @@ use Rattle.lv_segs.specs.declared.piece.Piece.{Piece}
 use Rattle.lv_segs.specs.Plane.{IsEdge}
 use Rattle.lv_segs.specs.Pieces.{no_edge, edge_at, first_end, last_end, same_place, IsPiece, covers}
 use Rattle.lv_segs.specs.Division.{parts_of, right_parts, left_parts, IsPartOf, LiesInRight, LiesInLeft}
-use Rattle.lv_segs.specs.Tree.{Tree, Leaf, Branch, Divides, IsReached, pieces, counts, unused}
+use Rattle.lv_segs.specs.Tree.{Tree, Leaf, Branch, Divides, IsReached, pieces, unused}
 use Rattle.lv_segs.specs.First.{whole, sides_of, pieces_from, first_pieces}
 use Rattle.lv_segs.specs.Segs.{first_place, second_place, seg_edge, seg_covers, CoversStep, IsPointOf, RunAlong, HasFields, IsConvexSub}
 use Rattle.lv_segs.specs.Nodes.{IsParting}
 use Rattle.lv_segs.proofs.Lists.{All-at, All-filter_map}
 use Rattle.lv_segs.proofs.Trees.{right_reached, left_reached, may_divide, tree_cover, tree_convex, tree_pieces, tree_parted, first_reached}
 use Rattle.lv_segs.proofs.Division.{divided}
-use Rattle.lv_nodes.specs.References.{IsNumber, HasPlaces, Tiles, AreTree, IsChild, subsector}
+use Rattle.lv_nodes.specs.InRange.{Tiles}
+use Rattle.lv_nodes.specs.References.{IsNumber, HasPlaces, AreTree, IsChild, subsector}
 use Rattle.lv_nodes.specs.TreeLists.{leaf_count, branch_count, child_of, side_number, start_of, end_of, IsSegOf, HasNodes, AreListsOf}
-use Rattle.lv_nodes.specs.Tiling.{total}
+use Rattle.lv_nodes.specs.Tiling.{count_list, total}
 use Rattle.lv_nodes.specs.Sound.{IsTreeOfLines, AddsEnds, AllDiffer, HaveEnds, IsSound}
 use Rattle.lv_nodes.proofs.SegLaws.{seg_points}
 use Rattle.lv_nodes.proofs.Children.{among_yes, among_no, once}
 use Rattle.lv_nodes.proofs.Counting.{nodes_many, one_leaf_more}
 use Rattle.lv_nodes.proofs.Below.{IsLaid}
-use Rattle.lv_nodes.proofs.Laying.{StandsAt, counts_total, subs_many, laid}
+use Rattle.lv_nodes.proofs.Laying.{StandsAt, counts_total, tiles_from, subs_many, laid}
 use Rattle.lv_nodes.proofs.Partings.{tree_partitions, all_by, IsSegIn, seg_at, partings, convex_at}
 use Rattle.lv_segs.proofs.FirstList.{first_right, first_left, index_is}
 use Rattle.lv_nodes.proofs.Covering.{same_counts, covers_right, covers_left, covers_step}
@@ -81,10 +81,6 @@ first_sides lines (e ∷ es) n at =
 -- ---- small facts
 same_itself : (v : Vertex) → same_place v v ≡ true
 same_itself v = grind (arith, ints)
-
-sum_total : (xs : List ℕ) → sum xs ≡ total xs
-sum_total [] = refl
-sum_total (x ∷ xs) = let c = sum_by-cons (λ (n : ℕ). n) x xs in c ∙ ap (λ (n : ℕ). x + n) (sum_total xs)
 
 pub stands_whole : {X : Type 0} (xs : List X) → StandsAt xs xs 0
 stands_whole xs = λ k x e. let z : 0 + k ≡ k = omega arith in ap (slice_get xs) z ∙ e
@@ -203,10 +199,10 @@ module _ (lines : List Edge) (drawn vertices : List Vertex) (t : Tree) (segs : L
     places_differ = differ;
   }
 
-  pub tiles : Tiles segs subs
+  pub tiles : Tiles 0 subs (length segs)
   tiles =
-      let a = ap sum lists.leaf_counts ∙ sum_total (counts t) ∙ counts_total t in
-      record { follow = lists.follow; total = a ∙ sym lists.leaf_segs.many }
+      let e : total (count_list subs) ≡ length segs = ap total lists.leaf_counts ∙ counts_total t ∙ sym lists.leaf_segs.many in
+      tiles_from 0 subs (length segs) lists.follow (omega arith)
 
   pub tree_of : length subs ≤ 32767 → AreTree subs nodes
   tree_of few = are_tree lines t subs nodes lists.branch_nodes lay (subs_many t subs lists.leaf_counts) few

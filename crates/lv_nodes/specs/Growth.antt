@@ -13,7 +13,8 @@ use Rattle.lv_nodes.specs.declared.growth.Grown.{Grown}
 use Rattle.lv_nodes.specs.declared.growth.Child.{Child}
 use Rattle.lv_nodes.specs.declared.step.Step.{Step}
 use Rattle.lv_nodes.specs.declared.step.Step.TheVariants.{Leaf as StepLeaf, Parts as StepParts}
-use Rattle.lv_nodes.specs.References.{subsector, greatest_number}
+use Rattle.lv_nodes.specs.InRange.{greatest_number}
+use Rattle.lv_nodes.specs.References.{subsector}
 use Rattle.lv_nodes.specs.TreeLists.{child_of, IsEndOf, HasNodes}
 use Rattle.lv_nodes.specs.Corners.{IsJoined}
 use Rattle.lv_nodes.specs.Boxed.{IsBoxed}

@@ -41,10 +41,14 @@ pub record ChildInRange (subs : List Sub) (i c : ℕ) : Type 0 where
   pub node : c < sub_bit → c < i
   pub sub : sub_bit ≤ c → IsIn subs (c - sub_bit)
 
+-- the children of each node, the right one first
+abbrev pub below_each : List Node → List ℕ
+below_each nodes = flat_map (λ m. m.right ∷ m.left ∷ []) nodes
+
 -- the children of all nodes; with no nodes subsector 0 stands for the root
 abbrev pub children : List Node → List ℕ
 children [] = sub_bit ∷ []
-children (n ∷ nodes) = flat_map (λ m. m.right ∷ m.left ∷ []) (n ∷ nodes)
+children (n ∷ nodes) = below_each (n ∷ nodes)
 
 -- how often a subsector, or a node, is a child
 abbrev pub times_sub : List Node → ℕ → ℕ

@@ -1,4 +1,5 @@
 pub mod Errors
+pub mod InRange
 pub mod References
 pub mod Tiling
 pub mod TreeLists
@@ -8,5 +9,4 @@ pub mod Corners
 pub mod Boxed
 pub mod Growth
 pub mod Refusals
-pub mod InRange
 pub mod Built

@@ -1,5 +1,5 @@
 -- The numbering of places: each place is listed once, and a new one goes to the end.
-use Rattle.std.specs.Prelude.{◌≡◌, ℕ, ◌<◌, ◌≤◌, ◌⊎◌, List, ◌++◌, length, slice_get, Some}
+use Rattle.std.specs.Prelude.{◌≡◌, ℕ, ◌+◌, ◌<◌, ◌≤◌, ◌⊎◌, List, ◌++◌, length, slice_get, Some}
 use Rattle.lv_lumps.specs.declared.records.Vertex.{Vertex}
 use Rattle.lv_lumps.specs.declared.records.Seg.{Seg}
 use Rattle.lv_segs.specs.declared.edge.Edge.{Edge}
@@ -7,7 +7,8 @@ use Rattle.lv_segs.specs.declared.piece.Piece.{Piece}
 use Rattle.lv_segs.specs.Places.{IsKnown}
 use Rattle.lv_nodes.specs.declared.error.TreeError.{TreeError}
 use Rattle.lv_nodes.specs.declared.error.TreeError.TheVariants.{OutOfMemory, NothingToBuild, TooManyVertices, TooManySegs, TooManySubsectors, TooDeep}
-use Rattle.lv_nodes.specs.References.{greatest_number, IsNumber}
+use Rattle.lv_nodes.specs.InRange.{greatest_number}
+use Rattle.lv_nodes.specs.References.{IsNumber}
 use Rattle.lv_nodes.specs.TreeLists.{IsSegOf, IsEndOf}
 use Rattle.lv_nodes.specs.Sound.{AllDiffer, AddsEnds, HaveEnds}
 use Rattle.lv_nodes.specs.Corners.{IsOneEnd}
@@ -32,13 +33,15 @@ IsPlaceRefused old v TooManySubsectors = ⊥
 IsPlaceRefused old v TooDeep = ⊥
 
 -- ---- the ends of one seg
--- the seg's ends have numbers, and what the list has gained are its ends
+-- the seg's ends have numbers, and what the list has gained are its ends, the first one first
 pub record HasNumbers (old new : List Vertex) (s : Seg) : Type 0 where
   pub added : List Vertex
   pub grown : new ≡ old ++ added
   pub first : IsNumber (length new) s.first
   pub second : IsNumber (length new) s.second
   pub ends : (m : ℕ) → length old ≤ m → m < length new → (s.first ≡ m) ⊎ (s.second ≡ m)
+  pub first_next : s.first ≤ length old
+  pub second_next : (m : ℕ) → length old ≤ m → s.second ≡ m + 1 → s.first ≡ m
   pub differ : AllDiffer old → AllDiffer new
   pub few : length new ≤ greatest_number
 

@@ -5,7 +5,7 @@ use Rattle.lv_segs.specs.declared.edge.Edge.{Edge}
 use Rattle.lv_segs.specs.Tree.{Tree, pieces, counts, depth}
 use Rattle.lv_nodes.specs.declared.error.TreeError.{TreeError}
 use Rattle.lv_nodes.specs.declared.error.TreeError.TheVariants.{OutOfMemory, NothingToBuild, TooManyVertices, TooManySegs, TooManySubsectors, TooDeep}
-use Rattle.lv_nodes.specs.References.{greatest_number}
+use Rattle.lv_nodes.specs.InRange.{greatest_number}
 use Rattle.lv_nodes.specs.TreeLists.{HasNodes}
 use Rattle.lv_nodes.specs.Sound.{IsTreeOfLines, HasTooManyVertices, HasTooManySegs, HasTooManySubsectors, IsTooDeep}
 use Rattle.lv_nodes.specs.Growth.{Lists}

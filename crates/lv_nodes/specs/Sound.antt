@@ -1,5 +1,5 @@
 -- What a built tree is, and what speaks against building one.
-use Rattle.std.specs.Prelude.{◌≡◌, ℕ, ◌<◌, ◌≤◌, ◌⊎◌, List, ◌++◌, length, All, slice_get, Some, Contains}
+use Rattle.std.specs.Prelude.{◌≡◌, ℕ, ◌+◌, ◌<◌, ◌≤◌, ◌⊎◌, List, ◌++◌, length, All, slice_get, Some, Contains}
 use Rattle.lv_lumps.specs.declared.records.Vertex.{Vertex}
 use Rattle.lv_lumps.specs.declared.records.Seg.{Seg}
 use Rattle.lv_lumps.specs.declared.records.Sub.{Sub}
@@ -11,25 +11,35 @@ use Rattle.lv_segs.specs.Segs.{RunAlong, HasFields, IsConvexSub}
 use Rattle.lv_segs.specs.Nodes.{IsParting}
 use Rattle.lv_segs.specs.Tree.{Tree, IsTreeOf, pieces, leaves, depth}
 use Rattle.lv_segs.specs.First.{first_pieces}
-use Rattle.lv_nodes.specs.References.{IsNumber, HasPlaces, Tiles, AreTree, greatest_number}
+use Rattle.lv_nodes.specs.InRange.{greatest_number, Tiles}
+use Rattle.lv_nodes.specs.References.{IsNumber, HasPlaces, AreTree}
 use Rattle.lv_nodes.specs.TreeLists.{AreListsOf}
 
 -- the tree of the lines: that of the first list, with no line used above
 abbrev pub IsTreeOfLines : List Edge → Tree → Type 0
 IsTreeOfLines lines t = IsTreeOf lines (first_pieces lines) t
 
+-- the vertex n is an end of a seg in front of the i-th
+abbrev pub IsNamedBefore : List Seg → ℕ → ℕ → Type 0
+IsNamedBefore segs i n = (j : ℕ) × (t : Seg) × (j < i) × (slice_get segs j ≡ Some t) × ((t.first ≡ n) ⊎ (t.second ≡ n))
+
 -- the drawn vertices come first; each other one is an end of a seg
+-- the added ones stand in the order in which the segs first name them, a seg's first end before its second one
 pub record AddsEnds (drawn vertices : List Vertex) (segs : List Seg) : Type 0 where
   pub added : List Vertex
   pub all : vertices ≡ drawn ++ added
   pub ends : (n : ℕ) → length drawn ≤ n → n < length vertices →
       (i : ℕ) × (s : Seg) × (slice_get segs i ≡ Some s) × ((s.first ≡ n) ⊎ (s.second ≡ n))
+  pub first_in_order : (i n : ℕ) (s : Seg) → slice_get segs i ≡ Some s → length drawn ≤ n → s.first ≡ n + 1 →
+      IsNamedBefore segs i n
+  pub second_in_order : (i n : ℕ) (s : Seg) → slice_get segs i ≡ Some s → length drawn ≤ n → s.second ≡ n + 1 →
+      IsNamedBefore segs i n ⊎ (s.first ≡ n)
 
 -- a sound tree over all sides of the lines
 pub record IsSound (lines : List Edge) (drawn vertices : List Vertex) (segs : List Seg) (subs : List Sub) (nodes : List Node) : Type 0 where
   pub added_ends : AddsEnds drawn vertices segs
   pub places : All (HasPlaces lines vertices) segs
-  pub tiles : Tiles segs subs
+  pub tiles : Tiles 0 subs (length segs)
   pub tree : AreTree subs nodes
   pub run_along : RunAlong lines vertices segs
   pub fields : All (HasFields lines vertices) segs

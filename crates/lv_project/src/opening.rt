@@ -18,7 +18,7 @@ use crate::header::{header, read_header};
 use crate::places::{Parts, Places};
 use lv_checkpoint::{CheckpointError, Slots, first};
 use lv_commands::CommandError;
-use lv_commands::project::{apply, parse};
+use lv_commands::{apply, parse};
 use lv_disk::Disk;
 use lv_journal::{Journal, JournalError, blank};
 use lv_maptables::{MapError, Maps};

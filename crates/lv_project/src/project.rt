@@ -15,7 +15,7 @@ use crate::opening::{read_project, write_new};
 use crate::places::Places;
 use lv_checkpoint::{CheckpointError, Image, Slots};
 use lv_commands::CommandError;
-use lv_commands::project::{Ready, commit, parse, ready};
+use lv_commands::{Ready, commit, parse, ready};
 use lv_disk::Disk;
 use lv_journal::{Journal, JournalError};
 use lv_maptables::{Map, Maps};

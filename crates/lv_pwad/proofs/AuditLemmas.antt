@@ -1,5 +1,5 @@
 -- A level has no fault exactly where every reference is in range.
-use Rattle.std.proofs.Common.{◌≡◌, refl, sym, ap, ◌∙◌, subst, ℕ, zero, suc, ◌+◌, ◌-◌, ◌<◌, ◌≤◌, Bool, true, false, not, cond, ◌&&◌, List, [], ◌∷◌, ◌++◌, length, get_or, take, drop, ◌⊎◌, arith, None}
+use Rattle.std.proofs.Common.{◌≡◌, refl, sym, ap, ◌∙◌, subst, ℕ, zero, suc, ◌+◌, ◌-◌, ◌<◌, ◌≤◌, Bool, true, false, not, cond, ◌&&◌, List, [], ◌∷◌, ◌++◌, length, get_or, take, drop, ◌⊎◌, inl, inr, arith, None, Some}
 use Rattle.std.specs.Prelude.{◌↔◌, ◌≢◌, All, nat_lt, ◌==◌, ◌||◌, sum_by}
 use Rattle.std.specs.Bool.{Decides}
 use Rattle.std.specs.List.{range_with_len, enumerate_from}
@@ -7,6 +7,7 @@ use Rattle.std.specs.Option.{option_map}
 use Rattle.std.proofs.lemmas.List.Sums.{sum_by-cons}
 use Rattle.std.proofs.lemmas.Bool.Decides.{Decides-like, Decides-and, Decides-or, Decides-not, Decides-ltb, Decides-eqb}
 use Rattle.std.proofs.lemmas.List.Elements.{All-nil, All-cons, All-head, All-tail, All-weaker}
+use Rattle.std.proofs.lemmas.Option.{slice_get-get_or, slice_get_within}
 use Rattle.lv_lumps.specs.declared.records.Line.{Line}
 use Rattle.lv_lumps.specs.declared.records.Seg.{Seg}
 use Rattle.lv_lumps.specs.declared.records.Sub.{Sub}
@@ -17,8 +18,9 @@ use Rattle.lv_pwad.specs.Levels.{Lumps}
 use Rattle.lv_lumps.specs.Sides.{no_side, is_two_sided}
 use Rattle.lv_pwad.specs.Endings.{is_line, ends_in_lines}
 use Rattle.lv_pwad.specs.Reject.{reject_size}
-use Rattle.lv_pwad.specs.Range.{IsIn, LineInRange, SegInRange, Tiles, ChildInRange, ListInRange, InRange, greatest_number, sub_bit, line_of_seg, times_sub, times_node, blocks_in}
-use Rattle.lv_pwad.specs.Audit.{first_wrong, is_in, line_vertices, line_sides, seg_vertices, seg_side, sub_range, after_counts, child_right, node_children, block_list, faults, first_fault}
+use Rattle.lv_nodes.specs.InRange.{IsIn, HasSide, SegInRange, Tiles, ChildInRange, greatest_number, sub_bit, times_sub, times_node}
+use Rattle.lv_pwad.specs.Range.{LineInRange, ListInRange, InRange, blocks_in}
+use Rattle.lv_pwad.specs.Audit.{first_wrong, is_in, line_vertices, line_sides, line_of_seg, seg_vertices, seg_side, sub_range, after_counts, child_right, node_children, block_list, faults, first_fault}
 use Rattle.lv_pwad.proofs.Nones.{no_wrong, map_none, unless_none, first_some-none, Decides-leb, Decides-is_in}
 
 -- ---- lines
@@ -59,6 +61,24 @@ SideThere l s = (s.side ≡ 0) ⊎ ((s.side ≡ 1) × ((line_of_seg l s).left �
 side_there : (l : Lumps) (s : Seg) → Decides (seg_side l s) (SideThere l s)
 side_there l s =
     Decides-or _ _ (Decides-eqb s.side 0) (Decides-and _ _ (Decides-eqb s.side 1) (Decides-not _ (Decides-eqb (line_of_seg l s).left no_side)))
+
+abbrev no_line : Line
+no_line = record { v1 = 0; v2 = 0; flags = 0; special = 0; tag = 0; right = 0; left = no_side }
+
+has_side : (l : Lumps) (s : Seg) → SideThere l s → HasSide l.lines s.line s.side
+has_side l s (inl right) = inl right
+has_side l s (inr one) =
+    inr (
+      one.0,
+      λ x at e.
+          let there = slice_get-get_or l.lines s.line no_line (slice_get_within l.lines s.line x at) in
+          let same : line_of_seg l s ≡ x = cc in
+          one.1 (ap (λ (y : Line). y.left) same ∙ e),
+    )
+
+side_is_there : (l : Lumps) (s : Seg) → IsIn l.lines s.line → HasSide l.lines s.line s.side → SideThere l s
+side_is_there l s r (inl right) = inl right
+side_is_there l s r (inr one) = inr (one.0, one.1 (line_of_seg l s) (slice_get-get_or l.lines s.line no_line r.among))
 
 -- ---- subsectors
 record SubFollows (p : ℕ × Sub) : Type 0 where
@@ -105,7 +125,7 @@ child_by : (b below inside : Bool) (B L I : Type 0) → Decides b B → Decides 
 child_by true below inside B L I db dl di = (λ h. (λ _. dl.0 h, λ n. absurd (n (db.0 refl))), λ p. dl.1 (p.0 (db.0 refl)))
 child_by false below inside B L I db dl di = (λ h. (λ p. let e = db.1 p in cc, λ n. di.0 h), λ p. di.1 (p.1 (λ q. let e = db.1 q in cc)))
 
-child_in : (l : Lumps) (i c : ℕ) → Decides (child_right l i c) (ChildInRange l i c)
+child_in : (l : Lumps) (i c : ℕ) → Decides (child_right l i c) (ChildInRange l.subs i c)
 child_in l i c =
     Decides-like (child_right l i c) (λ p. record { node = p.0; sub = λ h. p.1 (λ k. omega arith) })
     (λ r. (r.node, λ n. r.sub (above n))) (child_by (nat_lt c sub_bit) (nat_lt c i) (is_in l.subs (c - sub_bit)) (c < sub_bit) (c < i) (IsIn l.subs (c - sub_bit)) (Decides-ltb c sub_bit) (Decides-ltb c i) (Decides-is_in l.subs (c - sub_bit)))
@@ -113,7 +133,7 @@ child_in l i c =
     above : (c < sub_bit → ⊥) → sub_bit ≤ c
     above n = grind arith
 
-children_in : (l : Lumps) (p : ℕ × Node) → Decides (node_children l p) (ChildInRange l p.0 p.1.right × ChildInRange l p.0 p.1.left)
+children_in : (l : Lumps) (p : ℕ × Node) → Decides (node_children l p) (ChildInRange l.subs p.0 p.1.right × ChildInRange l.subs p.0 p.1.left)
 children_in l p = Decides-and _ _ (child_in l p.0 p.1.right) (child_in l p.0 p.1.left)
 
 -- ---- the words of a block's list
@@ -209,23 +229,30 @@ no_fault-in_range l h =
     let sd = (listed _ (seg_side l) (SideThere l) (side_there l) l.segs).0 n.1.1.1.1.1.0 in
     let sr = (listed _ sub_range SubFollows sub_follows (after_counts 0 l.subs)).0 n.1.1.1.1.1.1.0 in
     let st = (unless_none _ (sum_by (λ s. s.count) l.subs ≡ length l.segs) _ (Decides-eqb _ (length l.segs))).0 n.1.1.1.1.1.1.1.0 in
-    let nc = (listed _ (node_children l) (λ p. ChildInRange l p.0 p.1.right × ChildInRange l p.0 p.1.left) (children_in l) (enumerate_from 0 l.nodes)).0 n.1.1.1.1.1.1.1.1.0 in
+    let nc = (listed _ (node_children l) (λ p. ChildInRange l.subs p.0 p.1.right × ChildInRange l.subs p.0 p.1.left) (children_in l) (enumerate_from 0 l.nodes)).0 n.1.1.1.1.1.1.1.1.0 in
     let so = (unless_none _ (0 < length l.subs) _ (Decides-ltb 0 (length l.subs))).0 n.1.1.1.1.1.1.1.1.1.0 in
-    let sn = (listed _ (λ s. times_sub l s == 1) (λ s. times_sub l s ≡ 1) (λ s. Decides-eqb (times_sub l s) 1) (range_with_len 0 (length l.subs))).0 n.1.1.1.1.1.1.1.1.1.1.0 in
-    let no = (listed _ (λ i. times_node l i == 1) (λ i. times_node l i ≡ 1) (λ i. Decides-eqb (times_node l i) 1) (range_with_len 0 (length l.nodes - 1))).0 n.1.1.1.1.1.1.1.1.1.1.1.0 in
+    let sn = (listed _ (λ s. times_sub l.nodes s == 1) (λ s. times_sub l.nodes s ≡ 1) (λ s. Decides-eqb (times_sub l.nodes s) 1) (range_with_len 0 (length l.subs))).0 n.1.1.1.1.1.1.1.1.1.1.0 in
+    let no = (listed _ (λ i. times_node l.nodes i == 1) (λ i. times_node l.nodes i ≡ 1) (λ i. Decides-eqb (times_node l.nodes i) 1) (range_with_len 0 (length l.nodes - 1))).0 n.1.1.1.1.1.1.1.1.1.1.1.0 in
     let rj = (unless_none _ (reject_size (length l.sectors) ≤ length l.reject) _ (Decides-leb (reject_size (length l.sectors)) (length l.reject))).0 n.1.1.1.1.1.1.1.1.1.1.1.1.0 in
     let bh = (unless_none _ (4 + blocks_in (words l.blockmap) ≤ length (words l.blockmap)) _ (Decides-leb (4 + blocks_in (words l.blockmap)) (length (words l.blockmap)))).0 n.1.1.1.1.1.1.1.1.1.1.1.1.1.0 in
     let bl = (listed _ (block_list l (words l.blockmap)) (ListInRange l (words l.blockmap)) (list_in l (words l.blockmap)) (take (blocks_in (words l.blockmap)) (drop 4 (words l.blockmap)))).0 n.1.1.1.1.1.1.1.1.1.1.1.1.1.1.0 in
     record {
       lines = all_both (VerticesIn l) (SidesIn l) (LineInRange l) (λ x p q. record { v1 = p.v1; v2 = p.v2; right = q.right; left = q.left; two_sided = q.two_sided }) l.lines lv ls;
       sides = ss;
-      segs = all_both (EndsIn l) (λ s. IsIn l.lines s.line × SideThere l s) (SegInRange l) (λ x p q. record { first = p.first; second = p.second; line = q.0; side = q.1 }) l.segs sv
-          (all_both (λ s. IsIn l.lines s.line) (SideThere l) (λ s. IsIn l.lines s.line × SideThere l s) (λ x p q. (p, q)) l.segs sl sd);
-      tiles = tiles_in 0 l.subs (length l.segs) sr (omega arith);
-      children = λ i lt x e. let k : 0 + i ≡ i = omega arith in subst (λ (j : ℕ). ChildInRange l j x.right × ChildInRange l j x.left) k (numbered_all (λ p. ChildInRange l p.0 p.1.right × ChildInRange l p.0 p.1.left) 0 l.nodes nc i lt x e);
-      some_sub = so;
-      subs_once = λ s lt. let k : 0 + s ≡ s = omega arith in subst (λ (j : ℕ). times_sub l j ≡ 1) k (range_all (λ j. times_sub l j ≡ 1) 0 (length l.subs) sn s lt);
-      nodes_once = λ i lt. let k : 0 + i ≡ i = omega arith in subst (λ (j : ℕ). times_node l j ≡ 1) k (range_all (λ j. times_node l j ≡ 1) 0 (length l.nodes - 1) no i (omega arith));
+      tree = record {
+        segs = all_both (EndsIn l) (λ s. IsIn l.lines s.line × SideThere l s) (SegInRange l.vertices l.lines) (λ x p q. record { first = p.first; second = p.second; line = q.0; side = has_side l x q.1 }) l.segs sv
+            (all_both (λ s. IsIn l.lines s.line) (SideThere l) (λ s. IsIn l.lines s.line × SideThere l s) (λ x p q. (p, q)) l.segs sl sd);
+        tiles = tiles_in 0 l.subs (length l.segs) sr (omega arith);
+        node_children = λ i x at.
+            let lt = slice_get_within l.nodes i x at in
+            let there = slice_get-get_or l.nodes i x lt in
+            let same : get_or l.nodes i x ≡ x = cc in
+            let k : 0 + i ≡ i = omega arith in
+            subst (λ (j : ℕ). ChildInRange l.subs j x.right × ChildInRange l.subs j x.left) k (numbered_all (λ p. ChildInRange l.subs p.0 p.1.right × ChildInRange l.subs p.0 p.1.left) 0 l.nodes nc i lt x same);
+        some_sub = so;
+        subs_once = λ s lt. let k : 0 + s ≡ s = omega arith in subst (λ (j : ℕ). times_sub l.nodes j ≡ 1) k (range_all (λ j. times_sub l.nodes j ≡ 1) 0 (length l.subs) sn s lt);
+        nodes_once = λ i lt. let k : 0 + i ≡ i = omega arith in subst (λ (j : ℕ). times_node l.nodes j ≡ 1) k (range_all (λ j. times_node l.nodes j ≡ 1) 0 (length l.nodes - 1) no i (omega arith));
+      };
       reject = rj;
       header = bh;
       lists = bl;
@@ -233,7 +260,7 @@ no_fault-in_range l h =
 
 pub in_range-no_fault : (l : Lumps) → InRange l → first_fault l ≡ None
 in_range-no_fault l r =
-    let t = in_tiles 0 l.subs (length l.segs) r.tiles in
+    let t = in_tiles 0 l.subs (length l.segs) r.tree.tiles in
     let e = t.1 in
     (first_some-none (faults l)).1 (
       (listed _ (line_vertices l) (VerticesIn l) (vertices_in l) l.lines).1 (All-weaker (LineInRange l) (VerticesIn l) (λ x p. record { v1 = p.v1; v2 = p.v2 }) l.lines r.lines),
@@ -242,26 +269,26 @@ in_range-no_fault l r =
         (
           (listed _ (λ s. is_in l.sectors s.sector) (λ s. IsIn l.sectors s.sector) (λ s. Decides-is_in l.sectors s.sector) l.sides).1 r.sides,
           (
-            (listed _ (seg_vertices l) (EndsIn l) (ends_in l) l.segs).1 (All-weaker (SegInRange l) (EndsIn l) (λ x p. record { first = p.first; second = p.second }) l.segs r.segs),
+            (listed _ (seg_vertices l) (EndsIn l) (ends_in l) l.segs).1 (All-weaker (SegInRange l.vertices l.lines) (EndsIn l) (λ x p. record { first = p.first; second = p.second }) l.segs r.tree.segs),
             (
-              (listed _ (λ s. is_in l.lines s.line) (λ s. IsIn l.lines s.line) (λ s. Decides-is_in l.lines s.line) l.segs).1 (All-weaker (SegInRange l) (λ s. IsIn l.lines s.line) (λ x p. p.line) l.segs r.segs),
+              (listed _ (λ s. is_in l.lines s.line) (λ s. IsIn l.lines s.line) (λ s. Decides-is_in l.lines s.line) l.segs).1 (All-weaker (SegInRange l.vertices l.lines) (λ s. IsIn l.lines s.line) (λ x p. p.line) l.segs r.tree.segs),
               (
-                (listed _ (seg_side l) (SideThere l) (side_there l) l.segs).1 (All-weaker (SegInRange l) (SideThere l) (λ x p. p.side) l.segs r.segs),
+                (listed _ (seg_side l) (SideThere l) (side_there l) l.segs).1 (All-weaker (SegInRange l.vertices l.lines) (SideThere l) (λ x p. side_is_there l x p.line p.side) l.segs r.tree.segs),
                 (
                   (listed _ sub_range SubFollows sub_follows (after_counts 0 l.subs)).1 t.0,
                   (
                     (unless_none _ (sum_by (λ s. s.count) l.subs ≡ length l.segs) _ (Decides-eqb _ (length l.segs))).1 (omega arith),
                     (
-                      (listed _ (node_children l) (λ p. ChildInRange l p.0 p.1.right × ChildInRange l p.0 p.1.left) (children_in l) (enumerate_from 0 l.nodes)).1
-                          (all_numbered (λ p. ChildInRange l p.0 p.1.right × ChildInRange l p.0 p.1.left) 0 l.nodes (λ i lt x q. let k : i ≡ 0 + i = omega arith in subst (λ (j : ℕ). ChildInRange l j x.right × ChildInRange l j x.left) k (r.children i lt x q))),
+                      (listed _ (node_children l) (λ p. ChildInRange l.subs p.0 p.1.right × ChildInRange l.subs p.0 p.1.left) (children_in l) (enumerate_from 0 l.nodes)).1
+                          (all_numbered (λ p. ChildInRange l.subs p.0 p.1.right × ChildInRange l.subs p.0 p.1.left) 0 l.nodes (λ i lt x q. let k : i ≡ 0 + i = omega arith in subst (λ (j : ℕ). ChildInRange l.subs j x.right × ChildInRange l.subs j x.left) k (r.tree.node_children i x (slice_get-get_or l.nodes i x lt ∙ ap Some q)))),
                       (
-                        (unless_none _ (0 < length l.subs) _ (Decides-ltb 0 (length l.subs))).1 r.some_sub,
+                        (unless_none _ (0 < length l.subs) _ (Decides-ltb 0 (length l.subs))).1 r.tree.some_sub,
                         (
-                          (listed _ (λ s. times_sub l s == 1) (λ s. times_sub l s ≡ 1) (λ s. Decides-eqb (times_sub l s) 1) (range_with_len 0 (length l.subs))).1
-                              (all_range (λ j. times_sub l j ≡ 1) 0 (length l.subs) (λ s lt. let k : s ≡ 0 + s = omega arith in subst (λ (j : ℕ). times_sub l j ≡ 1) k (r.subs_once s lt))),
+                          (listed _ (λ s. times_sub l.nodes s == 1) (λ s. times_sub l.nodes s ≡ 1) (λ s. Decides-eqb (times_sub l.nodes s) 1) (range_with_len 0 (length l.subs))).1
+                              (all_range (λ j. times_sub l.nodes j ≡ 1) 0 (length l.subs) (λ s lt. let k : s ≡ 0 + s = omega arith in subst (λ (j : ℕ). times_sub l.nodes j ≡ 1) k (r.tree.subs_once s lt))),
                           (
-                            (listed _ (λ i. times_node l i == 1) (λ i. times_node l i ≡ 1) (λ i. Decides-eqb (times_node l i) 1) (range_with_len 0 (length l.nodes - 1))).1
-                                (all_range (λ j. times_node l j ≡ 1) 0 (length l.nodes - 1) (λ i lt. let k : i ≡ 0 + i = omega arith in subst (λ (j : ℕ). times_node l j ≡ 1) k (r.nodes_once i (omega arith)))),
+                            (listed _ (λ i. times_node l.nodes i == 1) (λ i. times_node l.nodes i ≡ 1) (λ i. Decides-eqb (times_node l.nodes i) 1) (range_with_len 0 (length l.nodes - 1))).1
+                                (all_range (λ j. times_node l.nodes j ≡ 1) 0 (length l.nodes - 1) (λ i lt. let k : i ≡ 0 + i = omega arith in subst (λ (j : ℕ). times_node l.nodes j ≡ 1) k (r.tree.nodes_once i (omega arith)))),
                             (
                               (unless_none _ (reject_size (length l.sectors) ≤ length l.reject) _ (Decides-leb (reject_size (length l.sectors)) (length l.reject))).1 r.reject,
                               (

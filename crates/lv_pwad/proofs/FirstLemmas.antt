@@ -11,7 +11,8 @@ use Rattle.lv_lumps.specs.declared.records.Node.{Node}
 use Rattle.lv_lumps.specs.declared.records.Bounds.{Bounds}
 use Rattle.lv_pwad.specs.Counts.{times_child}
 use Rattle.lv_pwad.specs.Endings.{AreEndings, ends_in_lines}
-use Rattle.lv_pwad.specs.Range.{children, times_sub, times_node, blocks_in, InRange}
+use Rattle.lv_nodes.specs.InRange.{children, times_sub, times_node}
+use Rattle.lv_pwad.specs.Range.{blocks_in, InRange}
 use Rattle.lv_pwad.specs.Words.{words}
 use Rattle.lv_pwad.proofs.AuditLemmas.{no_fault-in_range, in_range-no_fault}
 use Rattle.std.proofs.lemmas.Bool.Decides.{nat_tests}
@@ -247,22 +248,22 @@ below_all : (c s : ℕ) → c < 65536 → (nat_lt c 65536 && (c == (32768 + s)))
 below_all c s h = let t : nat_lt c 65536 ≡ true = grind (arith, nat_tests) in ap (λ (b : Bool). b && (c == (32768 + s))) t
 
 -- the first subsector that isn't a child once
-pub sub_same : (l : Lumps) (cs : List ℕ) (len : ℕ) → ((i : ℕ) → get_or cs i 0 < 65536) → cs ≡ children l.nodes → first_wrong (λ s. times_child 32768 65536 cs s == 1) (range_with_len 0 len) ≡ first_wrong (λ s. times_sub l s == 1) (range_with_len 0 len)
+pub sub_same : (l : Lumps) (cs : List ℕ) (len : ℕ) → ((i : ℕ) → get_or cs i 0 < 65536) → cs ≡ children l.nodes → first_wrong (λ s. times_child 32768 65536 cs s == 1) (range_with_len 0 len) ≡ first_wrong (λ s. times_sub l.nodes s == 1) (range_with_len 0 len)
 sub_same l cs len fit e =
-    wrong_agree (λ s. times_child 32768 65536 cs s == 1) (λ s. times_sub l s == 1) each (range_with_len 0 len)
+    wrong_agree (λ s. times_child 32768 65536 cs s == 1) (λ s. times_sub l.nodes s == 1) each (range_with_len 0 len)
   where
-    each : (s : ℕ) → (times_child 32768 65536 cs s == 1) ≡ (times_sub l s == 1)
+    each : (s : ℕ) → (times_child 32768 65536 cs s == 1) ≡ (times_sub l.nodes s == 1)
     each s =
         ap (λ (k : ℕ). k == 1)
         (count_agree (λ c. nat_lt c 65536 && (c == (32768 + s))) (λ c. c == (32768 + s)) cs (All-from_get_or (λ c. (nat_lt c 65536 && (c == (32768 + s))) ≡ (c == (32768 + s))) cs 0 (λ i h. below_all (get_or cs i 0) s (fit i)))
         ∙ ap (count_by (λ c. c == (32768 + s))) e)
 
 -- the first node
-pub node_same : (l : Lumps) (cs : List ℕ) (len : ℕ) → cs ≡ children l.nodes → first_wrong (λ i. times_child 0 32768 cs i == 1) (range_with_len 0 len) ≡ first_wrong (λ i. times_node l i == 1) (range_with_len 0 len)
+pub node_same : (l : Lumps) (cs : List ℕ) (len : ℕ) → cs ≡ children l.nodes → first_wrong (λ i. times_child 0 32768 cs i == 1) (range_with_len 0 len) ≡ first_wrong (λ i. times_node l.nodes i == 1) (range_with_len 0 len)
 node_same l cs len e =
-    wrong_agree (λ i. times_child 0 32768 cs i == 1) (λ i. times_node l i == 1) each (range_with_len 0 len)
+    wrong_agree (λ i. times_child 0 32768 cs i == 1) (λ i. times_node l.nodes i == 1) each (range_with_len 0 len)
   where
-    each : (i : ℕ) → (times_child 0 32768 cs i == 1) ≡ (times_node l i == 1)
+    each : (i : ℕ) → (times_child 0 32768 cs i == 1) ≡ (times_node l.nodes i == 1)
     each i =
         ap (λ (k : ℕ). count_by (λ c. nat_lt c 32768 && (c == k)) cs == 1) (zero-add i)
         ∙ ap (λ (ds : List ℕ). count_by (λ c. nat_lt c 32768 && (c == i)) ds == 1) e

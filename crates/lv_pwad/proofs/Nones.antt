@@ -6,7 +6,7 @@ use Rattle.std.specs.Option.{option_map}
 use Rattle.std.specs.List.{position_or_len}
 use Rattle.std.proofs.lemmas.Bool.Decides.{Decides-by_and, Decides-like, Decides-and, Decides-ltb, nat_tests}
 use Rattle.lv_pwad.specs.Audit.{first_wrong, first_some, unless, is_in}
-use Rattle.lv_pwad.specs.Range.{IsIn, greatest_number}
+use Rattle.lv_nodes.specs.InRange.{IsIn, greatest_number}
 
 -- ---- no element is wrong
 none_past : {X : Type 0} → (X → Bool) → List X → Bool

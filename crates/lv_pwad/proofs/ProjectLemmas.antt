@@ -7,17 +7,17 @@ use Rattle.lv_lumps.specs.Names.{name_of, name_text, is_marker, IsNamed}
 use Rattle.lv_lumps.specs.declared.records.Name8.{Name8}
 use Rattle.lv_maptables.specs.Tables.{Tables}
 use Rattle.lv_maptables.specs.Projects.{ProjectMaps, WellFormedProject}
-use Rattle.lv_pwad.specs.Levels.{IsLevel}
-use Rattle.lv_pwad.specs.Wad.{Part, AreParts, IsPart, all_bytes, all_lumps, lumps_of, part_of}
+use Rattle.lv_pwad.specs.Levels.{IsLevel, Lumps}
+use Rattle.lv_pwad.specs.Wad.{Part, AreParts, IsPart, all_bytes, all_lumps, lumps_of, part_of, wad_bytes}
 use Rattle.lv_pwad.specs.Views.{view, parts_of}
 use Rattle.lv_pwad.specs.Sound.{IsBuildable, IsBuildRefusal, IsSoundBuild}
-use Rattle.lv_pwad.specs.Projects.{IsLevelOf, AreLevelsOf, IsSoundBuildOfAll, IsRefusalOfAll}
+use Rattle.lv_pwad.specs.Projects.{IsLevelOf, AreLevelsOf, AreSoundLevels, HoldsOnly, IsSoundBuildOfAll, IsRefusalOfAll, parts_under}
 use Rattle.lv_pwad.specs.declared.levels.NamedLevel.{NamedLevel}
 use Rattle.lv_pwad.specs.declared.error.BuildError.{BuildError}
 use Rattle.lv_pwad.specs.declared.error.BuildError.TheVariants.{NothingToBuild, TooManyVertices, TooManySegs, TooManySubsectors, TooDeep, BlockmapTooLarge, OutOfMemory}
 use Rattle.lv_pwad.proofs.CopyLemmas.{item_more}
 use Rattle.lv_pwad.proofs.LengthLemmas.{one_long}
-use Rattle.lv_pwad.proofs.SoundLemmas.{part_of_level, sound_build, buildable, level_writable}
+use Rattle.lv_pwad.proofs.SoundLemmas.{part_of_level, level_sound, sound_build, buildable, level_writable}
 
 -- where a number names no item it is beyond the last
 pub none_there : {X : Type 0} (P : Type 0) (Q : X → Type 0) (r : Option X) → MatchOption r P Q → ((x : X) → r ≡ Some x → ⊥) → P
@@ -84,6 +84,32 @@ all_sound wad (m ∷ ms) [] a r = absurd a
 all_sound wad (m ∷ ms) (x ∷ xs) a r =
     let P = λ (l : NamedLevel). IsLevel wad (name_text l.name) (view l.level) in
     All-cons (λ (k : Tables). IsSoundBuild k wad) m ms (sound_build m (view x.level) wad x.name a.0.named a.0.level (All-head P x xs r)) (all_sound wad ms xs a.1 (All-tail P x xs r))
+
+abbrev levels_in : List NamedLevel → List Lumps
+levels_in [] = []
+levels_in (x ∷ xs) = view x.level ∷ levels_in xs
+
+same_parts : (ms : List Tables) (xs : List NamedLevel) → AreLevelsOf ms xs → parts_of xs ≡ parts_under ms (levels_in xs)
+same_parts [] [] a = refl
+same_parts [] (x ∷ xs) a = absurd a
+same_parts (m ∷ ms) [] a = absurd a
+same_parts (m ∷ ms) (x ∷ xs) a =
+    ap (λ (n : Name8). part_of n (view x.level) ∷ parts_of xs) a.0.named
+    ∙ ap (λ (ps : List Part). part_of m.name (view x.level) ∷ ps) (same_parts ms xs a.1)
+
+sound_levels : (ms : List Tables) (xs : List NamedLevel) → AreLevelsOf ms xs → AreSoundLevels ms (levels_in xs)
+sound_levels [] [] a = tt
+sound_levels [] (x ∷ xs) a = absurd a
+sound_levels (m ∷ ms) [] a = absurd a
+sound_levels (m ∷ ms) (x ∷ xs) a = (level_sound m (view x.level) a.0.level, sound_levels ms xs a.1)
+
+pub holds_only : (wad : List ℕ) (ms : List Tables) (xs : List NamedLevel) → AreLevelsOf ms xs → wad ≡ wad_bytes (all_lumps (parts_of xs)) → HoldsOnly ms wad
+holds_only wad ms xs a w =
+    record {
+      levels = levels_in xs;
+      sound = sound_levels ms xs a;
+      bytes = w ∙ ap (λ (ps : List Part). wad_bytes (all_lumps ps)) (same_parts ms xs a);
+    }
 
 -- ---- they can stand in one WAD
 

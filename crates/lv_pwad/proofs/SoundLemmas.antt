@@ -1,17 +1,12 @@
 -- A map with its tree and its blocks is a sound level.
-use Rattle.std.proofs.Common.{◌≡◌, ◌≢◌, ◌∙◌, refl, sym, ap, subst, ℕ, ◌+◌, ◌*◌, ◌<◌, ◌≤◌, ◌⊎◌, inl, inr, List, [], ◌∷◌, ◌++◌, length, get_or, arith, length-append}
-use Rattle.std.specs.Prelude.{Some, count_by, nat_lt, ◌==◌, ◌&&◌, ◌↔◌, Result, Ok, Err}
+use Rattle.std.proofs.Common.{◌≡◌, ◌∙◌, refl, sym, ap, subst, ℕ, ◌*◌, ◌<◌, ◌≤◌, List, [], ◌∷◌, ◌++◌, length, get_or, arith, length-append}
+use Rattle.std.specs.Prelude.{◌↔◌, Result, Ok, Err}
 use Rattle.std.proofs.Math.Nat.{mul-le-mul}
 use Rattle.std.proofs.lemmas.List.{length-replicate, length-map}
-use Rattle.std.proofs.lemmas.Option.{slice_get-get_or}
 use Rattle.lv_lumps.specs.Names.{name_text, is_marker, IsNamed}
 use Rattle.lv_lumps.specs.declared.records.Name8.{Name8}
-use Rattle.lv_lumps.specs.Sides.{no_side}
 use Rattle.lv_lumps.specs.declared.records.Line.{Line}
 use Rattle.lv_lumps.specs.declared.records.Vertex.{Vertex}
-use Rattle.lv_lumps.specs.declared.records.Seg.{Seg}
-use Rattle.lv_lumps.specs.declared.records.Sub.{Sub}
-use Rattle.lv_lumps.specs.declared.records.Node.{Node}
 use Rattle.lv_maptables.specs.Tables.{Tables}
 use Rattle.lv_maptables.specs.WellFormed.{WellFormed}
 use Rattle.lv_blockmap.proofs.SizeLemmas.{one_lists}
@@ -20,7 +15,6 @@ use Rattle.lv_blockmap.specs.Blocks.{ends_in, ends_of, grid_of}
 use Rattle.lv_blockmap.specs.Lump.{IsBlockmap, IsTooLarge, RefusesBlockmap}
 use Rattle.lv_blockmap.specs.declared.error.BlockmapError.{BlockmapError}
 use Rattle.lv_blockmap.specs.declared.error.BlockmapError.TheVariants as blocks
-use Rattle.lv_nodes.specs.InRange.{TreeInRange, Tiles as TreeTiles, children as tree_children, SegInRange as TreeSeg, HasSide, ChildInRange as TreeChild}
 use Rattle.lv_nodes.specs.Built.{IsBuilt, IsTreeRefusal}
 use Rattle.lv_nodes.specs.declared.error.TreeError.{TreeError}
 use Rattle.lv_nodes.specs.declared.error.TreeError.TheVariants as tree
@@ -28,47 +22,14 @@ use Rattle.lv_nodes.specs.declared.built.Built.{Built}
 use Rattle.lv_pwad.specs.declared.error.BuildError.{BuildError}
 use Rattle.lv_pwad.specs.declared.error.BuildError.TheVariants as build
 use Rattle.lv_pwad.specs.Levels.{Lumps, IsLevel}
-use Rattle.lv_pwad.specs.Range.{LineInRange, SegInRange, Tiles, ChildInRange, InRange, children, line_of_seg, sub_bit}
+use Rattle.lv_pwad.specs.Range.{LineInRange, InRange}
 use Rattle.lv_pwad.specs.Reject.{reject_size}
 use Rattle.lv_pwad.specs.Words.{words}
 use Rattle.lv_pwad.specs.Sound.{IsBuildable, IsBuildRefusal, IsBuiltLevel, IsSoundBuild, IsSoundLevel, level_over, no_rejects, of_blockmap, of_tree}
-use Rattle.lv_pwad.specs.Wad.{AreParts, IsPart, part_of}
+use Rattle.lv_pwad.specs.Wad.{AreParts, IsPart, all_lumps, part_of, wad_bytes}
+use Rattle.lv_pwad.specs.Projects.{HoldsOnly}
 use Rattle.lv_pwad.proofs.LengthLemmas.{IsWritable, is_part, one_part}
 use Rattle.lv_pwad.proofs.BlockLemmas.{words_back, words_long, blocks_in_range}
-
--- ---- the tree's references
-
-abbrev no_line : Line
-no_line = record { v1 = 0; v2 = 0; flags = 0; special = 0; tag = 0; right = 0; left = no_side }
-
-tiles : (at : ℕ) (subs : List Sub) (to : ℕ) → TreeTiles at subs to → Tiles at subs to
-tiles at [] to t = t
-tiles at (s ∷ subs) to t = (t.0, t.1, t.2, tiles (at + s.count) subs to t.3)
-
-same_children : (nodes : List Node) → tree_children nodes ≡ children nodes
-same_children [] = refl
-same_children (n ∷ nodes) = refl
-
-seg_in : (l : Lumps) (s : Seg) → TreeSeg l.vertices l.lines s → SegInRange l s
-seg_in l s r =
-    record {
-      first = record { among = r.first.among; small = r.first.small };
-      second = record { among = r.second.among; small = r.second.small };
-      line = record { among = r.line.among; small = r.line.small };
-      side = by r.side;
-    }
-  where
-    by : HasSide l.lines s.line s.side → (s.side ≡ 0) ⊎ ((s.side ≡ 1) × ((line_of_seg l s).left ≢ no_side))
-    by (inl zero) = inl zero
-    by (inr one) = inr (one.0, one.1 (line_of_seg l s) (slice_get-get_or l.lines s.line no_line r.line.among))
-
-child_in : (l : Lumps) (i c : ℕ) → TreeChild l.subs i c → ChildInRange l i c
-child_in l i c r = record { node = r.node; sub = λ h. let s = r.sub h in record { among = s.among; small = s.small } }
-
-children_in : (l : Lumps) → TreeInRange l.vertices l.lines l.segs l.subs l.nodes → (i : ℕ) → i < length l.nodes → (n : Node) → get_or l.nodes i n ≡ n → ChildInRange l i n.right × ChildInRange l i n.left
-children_in l r i h n e =
-    let both = r.node_children i n (slice_get-get_or l.nodes i n h ∙ ap Some e) in
-    (child_in l i n.right both.0, child_in l i n.left both.1)
 
 -- ---- the drawn lumps' references
 
@@ -98,16 +59,10 @@ level_in_range m b bytes w t k =
     let long = length-map m.lines (ends_in m.vertices) in
     let same : words bytes ≡ k.words = ap words k.bytes_are ∙ words_back k.words k.sixteen_bits in
     let blocks = blocks_in_range l (ends_of m) bytes k long (omega (arith, long, some)) (omega (arith, long, few)) in
-    let r = t.in_range in
     record {
       lines = λ i d h. line_in m l t.added.added w t.added.all refl i d h;
       sides = λ i d h. let s = w.side_sectors i d h in let c = w.sector_count in record { among = s; small = omega (arith, s, c) };
-      segs = λ i d h. seg_in l (get_or l.segs i d) (r.segs i d h);
-      tiles = tiles 0 l.subs (length l.segs) r.tiles;
-      children = children_in l r;
-      some_sub = r.some_sub;
-      subs_once = λ s h. ap (count_by (λ c. c == (sub_bit + s))) (sym (same_children l.nodes)) ∙ r.subs_once s h;
-      nodes_once = λ i h. ap (count_by (λ c. nat_lt c sub_bit && (c == i))) (sym (same_children l.nodes)) ∙ r.nodes_once i h;
+      tree = t.in_range;
       reject = let e : length (no_rejects (length m.sectors)) ≡ reject_size (length m.sectors) = length-replicate (reject_size (length m.sectors)) 0 in omega (arith, e);
       header = rw same blocks.header;
       lists = rw same blocks.lists;
@@ -175,12 +130,24 @@ pub parts_of_level : (m : Tables) (l : Lumps) (name : Name8) → name ≡ m.name
 parts_of_level m l name n b =
     one_part name l (subst (λ (x : Name8). IsNamed is_marker x) (sym n) b.well_formed.name) (level_writable m l b)
 
+pub level_sound : (m : Tables) (l : Lumps) → IsBuiltLevel m l → IsSoundLevel m l
+level_sound m l b =
+    subst (λ (x : Lumps). IsSoundLevel m x) (sym b.is_over) (sound_level m b.tree b.blockmap b.well_formed b.built b.is_blockmap)
+
 pub sound_build : (m : Tables) (l : Lumps) (wad : List ℕ) (name : Name8) → name ≡ m.name → IsBuiltLevel m l → IsLevel wad (name_text name) l → IsSoundBuild m wad
 sound_build m l wad name n b r =
     record {
       level = l;
       reads = subst (λ (x : Name8). IsLevel wad (name_text x) l) n r;
-      sound = subst (λ (x : Lumps). IsSoundLevel m x) (sym b.is_over) (sound_level m b.tree b.blockmap b.well_formed b.built b.is_blockmap);
+      sound = level_sound m l b;
+    }
+
+pub holds_one : (m : Tables) (l : Lumps) (wad : List ℕ) (name : Name8) → name ≡ m.name → IsBuiltLevel m l → wad ≡ wad_bytes (all_lumps (part_of name l ∷ [])) → HoldsOnly (m ∷ []) wad
+holds_one m l wad name n b w =
+    record {
+      levels = l ∷ [];
+      sound = (level_sound m l b, tt);
+      bytes = w ∙ ap (λ (x : Name8). wad_bytes (all_lumps (part_of x l ∷ []))) n;
     }
 
 never_both : (m : Tables) (bytes : List ℕ) → IsBlockmap m bytes → IsTooLarge (ends_of m) → ⊥

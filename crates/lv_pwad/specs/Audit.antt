@@ -1,5 +1,5 @@
 -- The first fault of a level.
-use Rattle.std.specs.Prelude.{ℕ, ◌+◌, ◌-◌, Bool, cond, not, ◌==◌, ◌&&◌, ◌||◌, nat_lt, nat_le, List, [], ◌∷◌, ◌++◌, length, take, drop, Option, Some, None, position, sum_by}
+use Rattle.std.specs.Prelude.{ℕ, ◌+◌, ◌-◌, Bool, cond, not, ◌==◌, ◌&&◌, ◌||◌, nat_lt, nat_le, List, [], ◌∷◌, ◌++◌, length, get_or, take, drop, Option, Some, None, position, sum_by}
 use Rattle.std.specs.Option.{option_map}
 use Rattle.std.specs.List.{enumerate_from, range_with_len}
 use Rattle.lv_lumps.specs.declared.records.Line.{Line}
@@ -12,7 +12,8 @@ use Rattle.lv_pwad.specs.Levels.{Lumps}
 use Rattle.lv_lumps.specs.Sides.{no_side, is_two_sided}
 use Rattle.lv_pwad.specs.Endings.{ends_in_lines}
 use Rattle.lv_pwad.specs.Reject.{reject_size}
-use Rattle.lv_pwad.specs.Range.{greatest_number, sub_bit, line_of_seg, times_sub, times_node, blocks_in}
+use Rattle.lv_nodes.specs.InRange.{greatest_number, sub_bit, times_sub, times_node}
+use Rattle.lv_pwad.specs.Range.{blocks_in}
 use Rattle.lv_pwad.specs.declared.fault.Fault.{Fault}
 use Rattle.lv_pwad.specs.declared.fault.Fault.TheVariants.{LineVertex, LineSide, SideSector, SegVertex, SegLine, SegSide, SubRange, SubTotal, NodeChild, SubOnce, NodeOnce, Reject, BlockHeader, BlockList}
 
@@ -32,6 +33,12 @@ line_sides l x = is_in l.sides x.right && left_side l x
 
 abbrev pub seg_vertices : Lumps → Seg → Bool
 seg_vertices l s = is_in l.vertices s.first && is_in l.vertices s.second
+
+-- the seg's line, or one without a left side where there is none
+abbrev pub line_of_seg : Lumps → Seg → Line
+line_of_seg l s =
+    get_or l.lines s.line
+    (record { v1 = 0; v2 = 0; flags = 0; special = 0; tag = 0; right = 0; left = no_side })
 
 abbrev pub seg_side : Lumps → Seg → Bool
 seg_side l s = (s.side == 0) || ((s.side == 1) && not ((line_of_seg l s).left == no_side))
@@ -96,8 +103,8 @@ child_faults l =
 
 abbrev pub once_faults : Lumps → List (Option Fault)
 once_faults l =
-    option_map SubOnce (first_wrong (λ s. times_sub l s == 1) (range_with_len 0 (length l.subs)))
-    ∷ option_map NodeOnce (first_wrong (λ i. times_node l i == 1) (range_with_len 0 (length l.nodes - 1)))
+    option_map SubOnce (first_wrong (λ s. times_sub l.nodes s == 1) (range_with_len 0 (length l.subs)))
+    ∷ option_map NodeOnce (first_wrong (λ i. times_node l.nodes i == 1) (range_with_len 0 (length l.nodes - 1)))
     ∷ []
 
 abbrev pub size_faults : Lumps → List (Option Fault)

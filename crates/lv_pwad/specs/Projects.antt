@@ -1,8 +1,10 @@
 -- The PWAD of a project's maps, and why there is none.
 use Rattle.std.specs.Prelude.{◌≡◌, ℕ, List, [], ◌∷◌, take, slice_get, Some, All}
 use Rattle.lv_maptables.specs.Tables.{Tables}
-use Rattle.lv_pwad.specs.Sound.{IsBuildable, IsBuildRefusal, IsBuiltLevel, IsSoundBuild}
+use Rattle.lv_pwad.specs.Levels.{Lumps}
+use Rattle.lv_pwad.specs.Sound.{IsBuildable, IsBuildRefusal, IsBuiltLevel, IsSoundBuild, IsSoundLevel}
 use Rattle.lv_pwad.specs.Views.{view}
+use Rattle.lv_pwad.specs.Wad.{Part, all_lumps, part_of, wad_bytes}
 use Rattle.lv_pwad.specs.declared.levels.NamedLevel.{NamedLevel}
 use Rattle.lv_pwad.specs.declared.error.BuildError.{BuildError}
 use Rattle.lv_pwad.specs.declared.error.BuildError.TheVariants.{OutOfMemory}
@@ -22,6 +24,25 @@ AreLevelsOf (m ∷ ms) (x ∷ xs) = IsLevelOf m x × AreLevelsOf ms xs
 -- under the name of each map the bytes hold a sound level of it
 abbrev pub IsSoundBuildOfAll : List Tables → List ℕ → Type 0
 IsSoundBuildOfAll ms wad = All (λ m. IsSoundBuild m wad) ms
+
+-- the levels are sound levels of the maps, in their order
+abbrev pub AreSoundLevels : List Tables → List Lumps → Type 0
+AreSoundLevels [] [] = Unit {0}
+AreSoundLevels [] (l ∷ ls) = ⊥
+AreSoundLevels (m ∷ ms) [] = ⊥
+AreSoundLevels (m ∷ ms) (l ∷ ls) = IsSoundLevel m l × AreSoundLevels ms ls
+
+-- levels as the parts of one file, each under the name of its map
+abbrev pub parts_under : List Tables → List Lumps → List Part
+parts_under [] ls = []
+parts_under (m ∷ ms) [] = []
+parts_under (m ∷ ms) (l ∷ ls) = part_of m.name l ∷ parts_under ms ls
+
+-- the bytes are the PWAD of a sound level of each map under its name, in the maps' order, and of nothing else
+pub record HoldsOnly (ms : List Tables) (wad : List ℕ) : Type 0 where
+  pub levels : List Lumps
+  pub sound : AreSoundLevels ms levels
+  pub bytes : wad ≡ wad_bytes (all_lumps (parts_under ms levels))
 
 -- the refusal is that of the first map by number that can't be built
 pub record IsFirstRefusal (ms : List Tables) (e : BuildError) : Type 0 where

@@ -3,10 +3,11 @@ ghost use Rattle.std.specs.Prelude.{◌≡◌, ◌↔◌, [], ◌∷◌, length,
 ghost use Rattle.lv_lumps.specs.Names.{name_text};
 ghost use Rattle.lv_maptables.specs.WellFormed.{WellFormed};
 ghost use Rattle.lv_pwad.specs.Levels.{IsLevel};
+ghost use Rattle.lv_pwad.specs.Projects.{HoldsOnly};
 ghost use Rattle.lv_pwad.specs.Sound.{IsBuildable, IsBuildRefusal, IsBuiltLevel, IsSoundBuild};
 ghost use Rattle.lv_pwad.specs.Sound.{level_over, of_blockmap, of_tree};
 ghost use Rattle.lv_pwad.specs.Views.{view};
-ghost use Rattle.lv_pwad.specs.Wad.{AreParts, part_of};
+ghost use Rattle.lv_pwad.specs.Wad.{AreParts, all_lumps, part_of, wad_bytes};
 
 use crate::drawn::{lines_of, sectors_of, sides_of, things_of};
 use crate::error::BuildError;
@@ -69,6 +70,8 @@ fn level_of(alloc: Global, map: &Map, tree: Built, blockmap: Vec<u8>) -> Result<
 // The PWAD of one level, which is read back by its name.
 fn wad_of_level(alloc: Global, name: Name8, level: Level) -> Result<Vec<u8>, BuildError>
     requires { AreParts (part_of name (view level) ∷ []) }
+    ensures bytes { IfOk result (λ wad.
+        wad.items ≡ wad_bytes (all_lumps (part_of name (view level) ∷ []))) }
     ensures level { IfOk result (λ wad. IsLevel wad.items (name_text name) (view level)) }
     ensures memory { IsOkUnless result BuildError.OutOfMemory }
 {
@@ -99,7 +102,7 @@ pub fn level_of_map(alloc: Global, map: &Map) -> Result<Level, BuildError>
     }
 }
 
-/// The PWAD of a map: its level with all eleven lumps under its name.
+/// The PWAD of a map: its level with all eleven lumps under its name, and no other lump.
 ///
 /// # Errors
 ///
@@ -107,6 +110,7 @@ pub fn level_of_map(alloc: Global, map: &Map) -> Result<Level, BuildError>
 /// `TooManySubsectors`, `TooDeep`. Then `BlockmapTooLarge`; or `OutOfMemory`.
 pub fn build_wad(alloc: Global, map: &Map) -> Result<Vec<u8>, BuildError>
     ensures sound { IfOk result (λ wad. IsSoundBuild map.now.tables wad.items) }
+    ensures whole { IfOk result (λ wad. HoldsOnly (map.now.tables ∷ []) wad.items) }
     ensures buildable { OnOk result (IsBuildable map.now.tables) }
     ensures refused { IfErr result (IsBuildRefusal map.now.tables) }
     ensures nothing { result ≡ Err BuildError.NothingToBuild ↔ length map.now.tables.lines ≡ 0 }

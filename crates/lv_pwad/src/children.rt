@@ -4,7 +4,7 @@ ghost use Rattle.std.specs.Option.{option_map};
 ghost use Rattle.std.specs.List.{enumerate_from, range_with_len};
 ghost use Rattle.lv_pwad.specs.Audit.{child_faults, child_right, first_some, first_wrong, node_children, once_faults};
 ghost use Rattle.lv_pwad.specs.Counts.{times_child};
-ghost use Rattle.lv_pwad.specs.Range.{children, times_node, times_sub};
+ghost use Rattle.lv_nodes.specs.InRange.{children, times_node, times_sub};
 ghost use Rattle.lv_pwad.specs.Views.{view};
 ghost use Rattle.lv_pwad.specs.declared.fault.Fault.TheVariants.{SubOnce, NodeOnce};
 
@@ -108,7 +108,7 @@ fn not_once(
 fn sub_once(alloc: Global, level: &Level, numbers: &[u16]) -> Result<Option<Fault>, ReadError>
     requires { numbers.now ≡ children level.now.nodes.items }
     ensures fault { IfOk result (λ fault. fault ≡ option_map SubOnce
-        (first_wrong (λ s. times_sub (view level.now) s == 1)
+        (first_wrong (λ s. times_sub level.now.nodes.items s == 1)
         (range_with_len 0 (length level.now.subs.items)))) }
     ensures memory { IsOkUnless result ReadError.OutOfMemory }
 {
@@ -123,7 +123,7 @@ fn sub_once(alloc: Global, level: &Level, numbers: &[u16]) -> Result<Option<Faul
 fn node_once(alloc: Global, level: &Level, numbers: &[u16]) -> Result<Option<Fault>, ReadError>
     requires { numbers.now ≡ children level.now.nodes.items }
     ensures fault { IfOk result (λ fault. fault ≡ option_map NodeOnce
-        (first_wrong (λ i. times_node (view level.now) i == 1)
+        (first_wrong (λ i. times_node level.now.nodes.items i == 1)
         (range_with_len 0 (length level.now.nodes.items - 1)))) }
     ensures memory { IsOkUnless result ReadError.OutOfMemory }
 {

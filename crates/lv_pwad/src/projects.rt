@@ -2,7 +2,7 @@
 ghost use Rattle.std.specs.Prelude.{◌≡◌, ◌↔◌, All, Err, Some, IfOk, IfErr, OnOk, length, slice_get};
 ghost use Rattle.lv_maptables.specs.Projects.{WellFormedProject, project_of};
 ghost use Rattle.lv_maptables.specs.Tables.{Tables};
-ghost use Rattle.lv_pwad.specs.Projects.{AreLevelsOf, IsLevelOf, IsRefusalOfAll, IsSoundBuildOfAll};
+ghost use Rattle.lv_pwad.specs.Projects.{AreLevelsOf, HoldsOnly, IsLevelOf, IsRefusalOfAll, IsSoundBuildOfAll};
 ghost use Rattle.lv_pwad.specs.Sound.{IsBuildable, IsBuildRefusal};
 
 use crate::build::level_of_map;
@@ -45,13 +45,15 @@ fn levels_of(alloc: Global, maps: &Maps) -> Result<Vec<NamedLevel>, BuildError>
     Ok(levels)
 }
 
-/// The PWAD of all maps of a project, by number: each map's level with all eleven lumps under its name.
+/// The PWAD of all maps of a project, by number: each map's level with all eleven lumps under its name, and no other
+/// lump.
 ///
 /// # Errors
 ///
 /// Those of `build_wad` for the first map by number that can't be built; or `OutOfMemory`.
 pub fn build_all(alloc: Global, maps: &Maps) -> Result<Vec<u8>, BuildError>
     ensures sound { IfOk result (λ wad. IsSoundBuildOfAll (project_of maps.now).maps wad.items) }
+    ensures whole { IfOk result (λ wad. HoldsOnly (project_of maps.now).maps wad.items) }
     ensures buildable { OnOk result (All IsBuildable (project_of maps.now).maps) }
     ensures refused { IfErr result (IsRefusalOfAll (project_of maps.now).maps) }
     ensures nothing { (m : Tables) → slice_get (project_of maps.now).maps 0 ≡ Some m

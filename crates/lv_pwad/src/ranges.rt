@@ -3,8 +3,7 @@ ghost use Rattle.std.specs.Prelude.{◌≡◌, ◌∷◌, [], ◌&&◌, ◌==◌
 ghost use Rattle.std.specs.Option.{option_map};
 ghost use Rattle.lv_pwad.specs.Views.{view};
 ghost use Rattle.lv_lumps.specs.Sides.{no_side};
-ghost use Rattle.lv_pwad.specs.Range.{line_of_seg};
-ghost use Rattle.lv_pwad.specs.Audit.{drawn_faults, first_some, first_wrong, is_in, left_side, seg_faults, line_sides, line_vertices, seg_side, seg_vertices};
+ghost use Rattle.lv_pwad.specs.Audit.{drawn_faults, first_some, first_wrong, is_in, left_side, line_of_seg, seg_faults, line_sides, line_vertices, seg_side, seg_vertices};
 ghost use Rattle.lv_pwad.specs.declared.fault.Fault.TheVariants.{LineVertex, LineSide, SideSector, SegVertex, SegLine, SegSide};
 
 use crate::fault::Fault;

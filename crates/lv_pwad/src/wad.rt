@@ -5,6 +5,7 @@ ghost use Rattle.lv_pwad.specs.Views.{views};
 
 use crate::directory::Entry;
 use crate::error::BuildError;
+use byteorder::{ByteOrder, LittleEndian};
 use lv_lumps::Name8;
 use std::alloc::Global;
 
@@ -20,7 +21,9 @@ fn put_long(bytes: &mut Vec<u8>, n: u32) -> Result<(), BuildError>
     ensures ok { OnOk result (bytes.new.items ≡ bytes.old.items ++ long n) }
     ensures memory { IsOkUnless result BuildError.OutOfMemory }
 {
-    bytes.extend_from_slice(&n.to_le_bytes())?;
+    let mut four = [0; 4];
+    LittleEndian::write_u32(&mut four, n);
+    bytes.extend_from_slice(&four)?;
     Ok(())
 }
 

@@ -4,7 +4,7 @@ use crate::expect::same;
 use lv_lumps::{Seg, encode_nodes, encode_segs, encode_subs, encode_vertices};
 use lv_maptables::{Kind, Maps};
 use lv_nodes::{Built, TreeError, build_tree};
-use lv_tests_maps::drawing::{CUT, L, ROOM, SLIVER, TWO_ROOMS, draw, drawn};
+use lv_tests_maps::drawing::{CUT, L, ROOM, SECTOR, SIDE, SLIVER, TWO_ROOMS, draw, drawn};
 use std::alloc::Global;
 use std::process::Abort;
 use std::test::Fail;
@@ -56,6 +56,14 @@ fn segs_and_nodes_have_their_bytes(rt: HostRuntime) -> Result<(), Fail> {
     Ok(())
 }
 
+// A line that two others cut at (32,0) and at (64,0), in that order. Its middle part is the first seg, and names both
+// added vertices: its first end before its second.
+#[rattlefmt::skip]
+const MIDDLE: [&[u8]; 11] = [
+    b"vertex 0 0", b"vertex 96 0", b"vertex 32 -74", b"vertex 32 -10", b"vertex 64 -10", b"vertex 64 -74",
+    SECTOR, SIDE, b"line 0 1 1 0 0 0 -", b"line 2 3 1 0 0 0 -", b"line 4 5 1 0 0 0 -",
+];
+
 // Lines, how many vertices, segs and nodes their tree has, and its added vertices and its subsectors as bytes.
 type Row = (
     &'static [&'static [u8]],
@@ -69,6 +77,7 @@ const TREES: &[Row] = &[
     (&[ROOM], [4, 4, 0], &[], &[4, 0, 0, 0]),
     (&L, [7, 7, 1], &[128, 0, 0, 0], &[4, 0, 0, 0, 3, 0, 4, 0]),
     (&CUT, [7, 6, 3], &[4, 0, 1, 0], &[2, 0, 0, 0, 1, 0, 2, 0, 2, 0, 3, 0, 1, 0, 5, 0]),
+    (&MIDDLE, [8, 5, 2], &[32, 0, 0, 0, 64, 0, 0, 0], &[3, 0, 0, 0, 1, 0, 3, 0, 1, 0, 4, 0]),
     (&SLIVER, [4, 2, 0], &[], &[2, 0, 0, 0]),
     (&TWO_ROOMS, [6, 8, 1], &[], &[4, 0, 0, 0, 4, 0, 4, 0]),
     (&[ROOM, b"split 2 128 64"], [5, 5, 0], &[], &[5, 0, 0, 0]),

@@ -1,5 +1,4 @@
-use Rattle.std.proofs.Common.{◌≡◌, ◌∙◌, sym, subst, ap, length, arith, List, All}
-use Rattle.lv_segs.specs.declared.piece.Piece.{Piece}
+use Rattle.std.proofs.Common.{◌≡◌, ◌∙◌, sym, subst, ap, length, arith, All}
 use Rattle.lv_segs.specs.First.{first_pieces}
 use Rattle.lv_segs.specs.Pieces.{IsPiece}
 use Rattle.lv_nodes.specs.Growth.{lists_of}

@@ -1,5 +1,4 @@
 use Rattle.std.proofs.Common.{◌≡◌, get_or, sym, subst, List, arith}
-use Rattle.std.specs.Prelude.{Option}
 use Rattle.lv_lumps.specs.declared.records.Bounds.{Bounds}
 use Rattle.lv_segs.specs.declared.piece.Piece.{Piece}
 use Rattle.lv_segs.specs.Boxes.{box_of}

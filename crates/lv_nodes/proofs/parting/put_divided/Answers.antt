@@ -1,4 +1,4 @@
-use Rattle.std.proofs.Common.{◌≡◌, ◌∙◌, ◌++◌, ap, sym, List, false}
+use Rattle.std.proofs.Common.{◌∙◌, ◌++◌, ap, sym, List}
 use Rattle.lv_segs.specs.declared.piece.Piece.{Piece}
 use Rattle.lv_nodes.proofs.Boxing.{right_piece, left_piece, right_keeps, left_keeps, one_right, one_left}
 use Rattle.lv_nodes.proofs.parting.put_divided.Goals as goal

@@ -4,7 +4,6 @@ use Rattle.std.specs.List.{cons_option}
 use Rattle.lv_lumps.specs.declared.plane.Ray.{Ray}
 use Rattle.lv_lumps.specs.declared.records.Bounds.{Bounds}
 use Rattle.lv_segs.specs.declared.piece.Parts.{Parts}
-use Rattle.lv_segs.specs.declared.piece.Piece.{Piece}
 use Rattle.lv_segs.specs.Boxes.{least_value, greatest_value, HoldsPiece}
 use Rattle.lv_segs.specs.Division.{parts_of}
 use Rattle.lv_segs.proofs.Boxes.{box_right, box_left}

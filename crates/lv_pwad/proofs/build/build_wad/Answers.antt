@@ -1,6 +1,6 @@
 use Rattle.lv_pwad.specs.Views.{view}
 use Rattle.lv_pwad.specs.declared.error.BuildError.TheVariants as build
-use Rattle.lv_pwad.proofs.SoundLemmas.{sound_build, parts_of_level, buildable, built_some, memory_some}
+use Rattle.lv_pwad.proofs.SoundLemmas.{sound_build, holds_one, parts_of_level, buildable, built_some, memory_some}
 use Rattle.lv_pwad.proofs.build.build_wad.Goals as goal
 
 pub wad_of_level-requires : goal.wad_of_level-requires
@@ -10,6 +10,10 @@ wad_of_level-requires c =
 pub returns-in-Ok-wad_of_level-clause-sound : goal.returns-in-Ok-wad_of_level-clause-sound
 returns-in-Ok-wad_of_level-clause-sound c =
     sound_build c.args.map.now.tables (view c.in-Ok.level) c.in-Ok-wad_of_level.wad.items c.name.result c.name.ensures c.in-Ok.ensures.level c.in-Ok-wad_of_level.ensures.level
+
+pub returns-in-Ok-wad_of_level-clause-whole : goal.returns-in-Ok-wad_of_level-clause-whole
+returns-in-Ok-wad_of_level-clause-whole c =
+    holds_one c.args.map.now.tables (view c.in-Ok.level) c.in-Ok-wad_of_level.wad.items c.name.result c.name.ensures c.in-Ok.ensures.level c.in-Ok-wad_of_level.ensures.bytes
 
 pub returns-in-Ok-wad_of_level-clause-buildable : goal.returns-in-Ok-wad_of_level-clause-buildable
 returns-in-Ok-wad_of_level-clause-buildable c =

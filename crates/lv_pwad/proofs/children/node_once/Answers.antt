@@ -3,7 +3,7 @@ use Rattle.std.specs.Prelude.{◌==◌}
 use Rattle.std.specs.Option.{option_map}
 use Rattle.std.specs.List.{range_with_len}
 use Rattle.lv_pwad.specs.Audit.{first_wrong}
-use Rattle.lv_pwad.specs.Range.{times_node}
+use Rattle.lv_nodes.specs.InRange.{times_node}
 use Rattle.lv_pwad.specs.Views.{view}
 use Rattle.lv_pwad.specs.declared.fault.Fault.TheVariants.{NodeOnce}
 use Rattle.lv_pwad.proofs.FirstLemmas.{node_same}
@@ -14,11 +14,11 @@ returns-in-Ok-Some-clause-fault c =
     let l = view c.args.level.now in
     let whole = c.saturating_sub.ensures ∙ ap (λ (m : ℕ). m - 1) (c.len.ensures ∙ c.args.level.now.nodes.ok.0) in
     let same = node_same l c.args.numbers.now c.saturating_sub.result c.requires in
-    ap (option_map NodeOnce) (sym c.in-Ok-Some.field-0-is ∙ c.in-Ok-Some.ensures.place ∙ same ∙ ap (λ (m : ℕ). first_wrong (λ i. times_node l i == 1) (range_with_len 0 m)) whole)
+    ap (option_map NodeOnce) (sym c.in-Ok-Some.field-0-is ∙ c.in-Ok-Some.ensures.place ∙ same ∙ ap (λ (m : ℕ). first_wrong (λ i. times_node l.nodes i == 1) (range_with_len 0 m)) whole)
 
 pub returns-in-Ok-None-clause-fault : goal.returns-in-Ok-None-clause-fault
 returns-in-Ok-None-clause-fault c =
     let l = view c.args.level.now in
     let whole = c.saturating_sub.ensures ∙ ap (λ (m : ℕ). m - 1) (c.len.ensures ∙ c.args.level.now.nodes.ok.0) in
     let same = node_same l c.args.numbers.now c.saturating_sub.result c.requires in
-    ap (option_map NodeOnce) (sym c.in-Ok-None.field-0-is ∙ c.in-Ok-None.ensures.place ∙ same ∙ ap (λ (m : ℕ). first_wrong (λ i. times_node l i == 1) (range_with_len 0 m)) whole)
+    ap (option_map NodeOnce) (sym c.in-Ok-None.field-0-is ∙ c.in-Ok-None.ensures.place ∙ same ∙ ap (λ (m : ℕ). first_wrong (λ i. times_node l.nodes i == 1) (range_with_len 0 m)) whole)
