@@ -15,6 +15,7 @@ mod gate;
 mod law;
 mod memory;
 mod put;
+mod read_ahead;
 mod reading;
 
 pub use area::Area;
@@ -26,4 +27,5 @@ pub use fill::Fill;
 pub use gate::{CLOSED_GATE, OPEN_GATE};
 pub use law::show_the_disk_model;
 pub use memory::MemoryDisk;
+pub use read_ahead::{Buffer, ReadAhead};
 pub use reading::{read_gate, read_length};

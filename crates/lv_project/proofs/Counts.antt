@@ -1,5 +1,5 @@
 -- How a disk counts its failures over several calls, of which all but the last went well.
-use Rattle.std.proofs.Common.{◌≡◌, ℕ, Bool, true, false, ◌+◌, ◌-◌, ◌<◌, ◌^◌, inl, inr, Result, Ok, Err, refl, sym, ◌∙◌, ap, subst, ⊎_elim, arith}
+use Rattle.std.proofs.Common.{◌≡◌, ℕ, Bool, true, false, ◌-◌, ◌<◌, ◌^◌, inl, inr, Result, Ok, Err, refl, sym, ◌∙◌, ap, subst, ⊎_elim, arith}
 use Rattle.std.proofs.lemmas.Bool.{both_ways}
 use Rattle.lv_disk.specs.Stops.{Counted, CountsFaults}
 use Rattle.lv_journal.specs.declared.error.JournalError.{JournalError}

@@ -14,9 +14,8 @@ use crate::geometry::Geometry;
 use crate::opening::{read_project, write_new};
 use crate::places::Places;
 use lv_checkpoint::{CheckpointError, Image, Slots};
-use lv_commands::CommandError;
-use lv_commands::{Ready, commit, parse, ready};
-use lv_disk::Disk;
+use lv_commands::{CommandError, Ready, commit, parse, ready};
+use lv_disk::{Buffer, Disk, ReadAhead};
 use lv_journal::{Journal, JournalError};
 use lv_maptables::{Map, Maps};
 use std::alloc::Global;
@@ -190,8 +189,14 @@ impl<D: Disk> Project<D> {
         ensures count { IfErr result (λ r. r.error ≡ ProjectError.Device
             → Rose (D.failures disk) (D.failures r.disk)) }
     {
-        let mut disk = disk;
-        match read_project(alloc, &mut disk) {
+        let Ok(buffer) = Buffer::new(alloc) else {
+            let error = ProjectError::OutOfMemory;
+            return Err(Refused { error, disk });
+        };
+        let mut ahead = ReadAhead::new(disk, buffer);
+        let read = read_project(alloc, &mut ahead);
+        let disk = ahead.into_inner();
+        match read {
             Ok(opened) => Ok(Project {
                 alloc,
                 disk,

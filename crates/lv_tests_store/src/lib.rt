@@ -19,6 +19,8 @@ mod project;
 mod project_room;
 #[cfg(test)]
 mod project_stops;
+#[cfg(test)]
+mod read_ahead;
 mod ready;
 #[cfg(test)]
 mod slots;

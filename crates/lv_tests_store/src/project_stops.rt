@@ -288,7 +288,7 @@ fn unsynced_disk(alloc: Global) -> Result<FaultDisk<MemoryDisk>, Fail> {
     Ok(project.into_disk())
 }
 
-// That disk, of which then the k-th call fails, after a second vertex and one more checkpoint. Opening makes 15 calls,
+// That disk, of which then the k-th call fails, after a second vertex and one more checkpoint. Opening makes 7 calls,
 // and the append 4.
 fn failed_again(
     rt: &impl Abort,
@@ -308,7 +308,7 @@ fn failed_again(
 }
 
 // The same calls, of a checkpoint after one that failed.
-const AGAIN: &[(u64, u64)] = &[(20, 1), (21, 1), (22, 1), (23, 2), (24, 2)];
+const AGAIN: &[(u64, u64)] = &[(12, 1), (13, 1), (14, 1), (15, 2), (16, 2)];
 
 #[test]
 fn stops_within_a_checkpoint_after_one_that_failed(rt: HostRuntime) -> Result<(), Fail> {

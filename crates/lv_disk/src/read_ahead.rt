@@ -1,0 +1,198 @@
+//! A disk that is read by large pieces, for those who read many short ranges in turn.
+ghost use Rattle.std.specs.Prelude.{◌≡◌, ◌≤◌, ◌+◌, length, take, IfOk, OnOk, true};
+ghost use Rattle.lv_disk.specs.Files.{HasAt};
+ghost use Rattle.lv_disk.specs.Stops.{Counted, Each, Elapses};
+
+use crate::{DeviceFault, Disk, OutOfMemory};
+use std::alloc::Global;
+
+// How much is read at once, in bytes.
+const LONGEST: usize = 65_536;
+
+/// The memory that a disk is read into, 64 KB at once.
+#[derive(Drop)]
+pub struct Buffer {
+    bytes: Vec<u8>,
+}
+
+impl Buffer {
+    /// Takes the memory.
+    pub fn new(alloc: Global) -> Result<Buffer, OutOfMemory> {
+        Ok(Buffer {
+            bytes: vec![in alloc; 0; LONGEST]?,
+        })
+    }
+}
+
+/// Any disk, read ahead: a read of what lies in the buffer makes no call of the disk inside. A write empties the buffer.
+#[derive(Drop)]
+pub struct ReadAhead<D: Disk> {
+    inner: D,
+    // The first `filled` bytes of the buffer are those of the file from `at` on.
+    at: u64,
+    filled: usize,
+    buffer: Buffer,
+    ghost short: { filled ≤ length buffer.bytes.items },
+    ghost same: { Each (D.reads inner) (HasAt at (take filled buffer.bytes.items)) },
+}
+
+impl<D: Disk> ReadAhead<D> {
+    ghost use Rattle.lv_disk.specs.ReadAhead.{inner_of};
+
+    /// The disk, with nothing read of it yet.
+    pub fn new(inner: D, buffer: Buffer) -> ReadAhead<D>
+        ensures { inner_of result ≡ inner }
+    {
+        ReadAhead {
+            inner,
+            at: 0,
+            filled: 0,
+            buffer,
+        }
+    }
+
+    /// The disk inside.
+    pub fn into_inner(self) -> D
+        ensures { result ≡ inner_of self }
+    {
+        self.inner
+    }
+
+    // Empties the buffer.
+    fn forget(&mut self)
+        ensures empty { self.new.filled ≡ 0 }
+        ensures inner { inner_of self.new ≡ inner_of self.old }
+    {
+        self.at = 0;
+        self.filled = 0;
+    }
+
+    // Whether the range lies in the buffer.
+    fn holds(&self, at: u64, len: usize) -> bool
+        ensures { result ≡ true → (self.now.at ≤ at) × (at + len ≤ self.now.at + self.now.filled) }
+    {
+        match at.checked_sub(self.at) {
+            Some(skipped) => skipped <= self.filled as u64
+                && len as u64 <= self.filled as u64 - skipped,
+            None => false,
+        }
+    }
+
+    // Copies a range of the buffer.
+    fn copy(&self, at: u64, into: &mut [u8])
+        requires begins { self.now.at ≤ at }
+        requires ends { at + length into.old ≤ self.now.at + self.now.filled }
+        ensures { Each (D.reads (inner_of self.now)) (HasAt at into.new) }
+    {
+        let skipped = (at - self.at) as usize;
+        into.copy_from_slice(&self.buffer.bytes[skipped..skipped + into.len()]);
+    }
+
+    // Fills the buffer from a place on, as far as the file reaches.
+    fn refill(&mut self, at: u64) -> Result<(), DeviceFault>
+        requires { Each (D.reads (inner_of self.old)) (λ file. at ≤ length file) }
+        ensures reads { Each (D.reads (inner_of self.new)) (D.reads (inner_of self.old)) }
+        ensures still { Each (D.reads (inner_of self.old)) (D.reads (inner_of self.new)) }
+        ensures images { Each (D.may_leave (inner_of self.new)) (D.may_leave (inner_of self.old)) }
+        ensures kept { Each (D.may_leave (inner_of self.old)) (D.may_leave (inner_of self.new)) }
+        ensures time { let old = inner_of self.old in let new = inner_of self.new in
+            Elapses (D.moment old) (D.moment new) (D.left_since old) (D.left_since new)
+            (D.may_leave new) }
+        ensures count { Counted (D.failures (inner_of self.old))
+            (D.failures (inner_of self.new)) result }
+    {
+        self.forget();
+        let length = self.inner.len()?;
+        let filled = length
+            .saturating_sub(at)
+            .min(self.buffer.bytes.len() as u64) as usize;
+        read_front(&mut self.inner, at, &mut self.buffer.bytes, filled)?;
+        self.at = at;
+        self.filled = filled;
+        Ok(())
+    }
+
+    // Has the range in the buffer, where the buffer is long enough.
+    fn reach(&mut self, at: u64, len: usize) -> Result<bool, DeviceFault>
+        requires { Each (D.reads (inner_of self.old)) (λ file. at ≤ length file) }
+        ensures held { IfOk result (λ held. held ≡ true
+            → (self.new.at ≤ at) × (at + len ≤ self.new.at + self.new.filled)) }
+        ensures reads { Each (D.reads (inner_of self.new)) (D.reads (inner_of self.old)) }
+        ensures still { Each (D.reads (inner_of self.old)) (D.reads (inner_of self.new)) }
+        ensures images { Each (D.may_leave (inner_of self.new)) (D.may_leave (inner_of self.old)) }
+        ensures kept { Each (D.may_leave (inner_of self.old)) (D.may_leave (inner_of self.new)) }
+        ensures time { let old = inner_of self.old in let new = inner_of self.new in
+            Elapses (D.moment old) (D.moment new) (D.left_since old) (D.left_since new)
+            (D.may_leave new) }
+        ensures count { Counted (D.failures (inner_of self.old))
+            (D.failures (inner_of self.new)) result }
+    {
+        if !self.holds(at, len) {
+            self.refill(at)?;
+        }
+        Ok(self.holds(at, len))
+    }
+}
+
+impl<D: Disk> Disk for ReadAhead<D> {
+    ghost use Rattle.lv_disk.specs.ReadAhead.{inner_of};
+
+    ghost reads = { λ d. D.reads (inner_of d) };
+
+    ghost may_leave = { λ d. D.may_leave (inner_of d) };
+
+    ghost moment = { λ d. D.moment (inner_of d) };
+
+    ghost left_since = { λ d. D.left_since (inner_of d) };
+
+    ghost failures = { λ d. D.failures (inner_of d) };
+
+    ghost reads_an_image = { λ d file is. D.reads_an_image d.inner file is };
+
+    ghost counts_now = { λ d t file le now. D.counts_now d.inner t file le now };
+
+    ghost only_now = { λ d file left. D.only_now d.inner file left };
+
+    fn len(&mut self) -> Result<u64, DeviceFault> {
+        self.inner.len()
+    }
+
+    fn read(&mut self, at: u64, into: &mut [u8]) -> Result<(), DeviceFault> {
+        if !self.reach(at, into.len())? {
+            return self.inner.read(at, into);
+        }
+        self.copy(at, into);
+        Ok(())
+    }
+
+    fn write_at(&mut self, at: u64, from: &[u8]) -> Result<(), DeviceFault> {
+        self.forget();
+        self.inner.write_at(at, from)
+    }
+
+    fn sync(&mut self) -> Result<(), DeviceFault> {
+        self.inner.sync()
+    }
+}
+
+// Reads so many bytes from a place on, into the first ones.
+fn read_front<D: Disk>(
+    disk: &mut D,
+    at: u64,
+    into: &mut [u8],
+    count: usize,
+) -> Result<(), DeviceFault>
+    requires within { Each (D.reads disk.old) (λ file. at + count ≤ length file) }
+    requires short { count ≤ length into.old }
+    ensures told { OnOk result (Each (D.reads disk.old) (HasAt at (take count into.new))) }
+    ensures len { length into.new ≡ length into.old }
+    ensures reads { Each (D.reads disk.new) (D.reads disk.old) }
+    ensures still { Each (D.reads disk.old) (D.reads disk.new) }
+    ensures images { Each (D.may_leave disk.new) (D.may_leave disk.old) }
+    ensures kept { Each (D.may_leave disk.old) (D.may_leave disk.new) }
+    ensures time { Elapses (D.moment disk.old) (D.moment disk.new)
+        (D.left_since disk.old) (D.left_since disk.new) (D.may_leave disk.new) }
+    ensures count { Counted (D.failures disk.old) (D.failures disk.new) result }
+{
+    disk.read(at, &mut into[..count])
+}
