@@ -11,7 +11,8 @@ use Rattle.lv_maptables.specs.Tables.{Tables, empty_tables}
 use Rattle.lv_pwad.specs.Levels.{IsLevel, Lumps, lumps_behind, marker_at}
 use Rattle.lv_pwad.specs.declared.error.BuildError.{BuildError}
 use Rattle.lv_editor.specs.Building.{CountsLevels, CountsMore, IsCounted, built_text, level_of}
-use Rattle.lv_editor.specs.Deeds.{IsBuiltInto, NotBuilt, RefusesFile}
+use Rattle.lv_editor.specs.Deeds.{RefusesFile}
+use Rattle.lv_editor.specs.Sources.{IsBuiltOf}
 use Rattle.lv_editor.specs.declared.building.Counts.{Counts}
 use Rattle.lv_editor.specs.declared.error.EditorError.TheVariants.{WriterFailed}
 use Rattle.lv_editor.specs.declared.refusal.Refusal.{Refusal}
@@ -51,13 +52,13 @@ counts_more ms n wad old new within before each =
     }
 
 pub built_told : (r : Result ℕ Refusal) (maps : MapsView) (wad : List ℕ) (c : Counts) (u w : Option (List ℕ)) → IsCounted (project_of maps).maps wad c
-    → MatchResult r (λ status. (status ≡ 0) × Appends u w (built_text c)) (λ refusal. refusal ≡ Lines WriterFailed) → IsBuiltInto r u w
-built_told (Ok status) maps wad c u w is (done, told) = (maps, wad, c, done, is, told)
-built_told (Err refusal) maps wad c u w is same = subst (λ (why : Refusal). NotBuilt why u w) (sym same) refl
+    → MatchResult r (λ status. (status ≡ 0) × Appends u w (built_text c)) (λ refusal. refusal ≡ Lines WriterFailed) → IsBuiltOf maps r u w
+built_told (Ok status) maps wad c u w is (done, told) = (wad, c, done, is, told)
+built_told (Err refusal) maps wad c u w is same = subst (λ (why : Refusal). IsBuiltOf maps (Err why) u w) (sym same) refl
 
 -- no PWAD of these maps was made in the file, and nothing told
-pub file_refused : (maps : MapsView) (r : Refusal) (u : Option (List ℕ)) → RefusesFile (project_of maps).maps r → NotBuilt r u u
-file_refused maps (Build e) u is = ((maps, is), Keeps-refl u)
+pub file_refused : (maps : MapsView) (r : Refusal) (u : Option (List ℕ)) → RefusesFile (project_of maps).maps r → IsBuiltOf maps (Err r) u u
+file_refused maps (Build e) u is = (is, Keeps-refl u)
 file_refused maps (Lines e) u is = absurd is
 file_refused maps (Project e) u is = absurd is
 file_refused maps (Level e) u is = absurd is

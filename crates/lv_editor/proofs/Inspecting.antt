@@ -7,7 +7,8 @@ use Rattle.lv_pwad.specs.Levels.{IsLevel, Lumps}
 use Rattle.lv_pwad.specs.Range.{InRange}
 use Rattle.lv_pwad.specs.declared.fault.Fault.{Fault}
 use Rattle.lv_editor.specs.Inspections.{IsInspected, back_text, front_text, lengths_text, verdict_text}
-use Rattle.lv_editor.specs.Deeds.{IsExamined, status_told}
+use Rattle.lv_editor.specs.Deeds.{status_told}
+use Rattle.lv_editor.specs.Sources.{IsExaminedOf, ReadsAll}
 use Rattle.lv_editor.specs.declared.error.InspectError.{InspectError}
 use Rattle.lv_editor.specs.declared.error.InspectError.TheVariants.{WriterFailed}
 
@@ -68,10 +69,11 @@ kept_on (Some u) None x text written kept = absurd written
 kept_on (Some u) (Some w) None text written kept = absurd kept
 kept_on (Some u) (Some w) (Some x) text written kept = kept ∙ written
 
-pub examined : (wad name : List ℕ) (sound : Bool) (status : ℕ) (u w x : Option (List ℕ)) → status ≡ status_told sound
-    → IsInspected wad name sound u w → Keeps w x → IsExamined name (Ok status) u x
-examined wad name sound status u w x is done kept = (
+pub examined : (wad name : List ℕ) (sound : Bool) (status : ℕ) (r s u w x : Option (List ℕ)) → ReadsAll r s wad → status ≡ status_told sound
+    → IsInspected wad name sound u w → Keeps w x → IsExaminedOf name (Ok status) r s u x
+examined wad name sound status r s u w x all is done kept = (
   wad,
+  all,
   sound,
   is,
   record {

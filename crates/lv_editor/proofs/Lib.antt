@@ -10,5 +10,6 @@ pub mod Inspecting
 pub mod MapLines
 pub mod LongLines
 pub mod RunCalls
+pub mod Sources
 pub mod DeedCalls
 pub mod Telling

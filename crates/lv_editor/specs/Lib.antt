@@ -10,4 +10,5 @@ pub mod Recovery
 pub mod Request
 pub mod Runs
 pub mod Sessions
+pub mod Sources
 pub mod Texts

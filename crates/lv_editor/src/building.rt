@@ -9,9 +9,11 @@ ghost use Rattle.lv_pwad.specs.Views.{view};
 ghost use Rattle.lv_pwad.specs.declared.error.BuildError.TheVariants.{NothingToBuild};
 ghost use Rattle.lv_editor.specs.declared.error.EditorError.TheVariants.{WriterFailed};
 ghost use Rattle.lv_editor.specs.Building.{CountsLevels, CountsMore, IsCounted, IsWritten, RefusesWriting, built_text, level_of};
-ghost use Rattle.lv_editor.specs.Deeds.{IsBuiltInto, RefusesFile};
+ghost use Rattle.lv_editor.specs.Deeds.{RefusesFile};
+ghost use Rattle.lv_editor.specs.Sources.{IsBuiltOf, IsOnlyRead, OverMaps};
 
 use crate::error::{EditorError, WriteError};
+use crate::over_disk::{HandedBack, open_project};
 use crate::refusal::Refusal;
 use lv_disk::{Disk, FileDisk};
 use lv_maptables::{Map, Maps};
@@ -243,24 +245,20 @@ where
     }
 }
 
-/// Builds the maps of a disk's project into the file at the path, which is made where there is none, and tells what was
-/// made. A file that holds a project is not written over.
-pub fn build<E: Files, D: Disk + Drop, W: Write>(
+// Builds maps into the file at the path, which is made where there is none, and tells what was made. A file that holds a
+// project is not written over.
+fn build_at<E: Files, W: Write>(
     alloc: Global,
     rt: &E,
-    disk: D,
+    maps: &Maps,
     path: &str,
     writer: &mut W,
 ) -> Result<u8, Refusal>
 where
     E::File: FileExt,
     ensures small { IfOk result (λ s. s ≤ 3) }
-    ensures built { IsBuiltInto result (W.contents writer.old) (W.contents writer.new) }
+    ensures built { IsBuiltOf maps.now result (W.contents writer.old) (W.contents writer.new) }
 {
-    let project = match Project::open(alloc, disk) {
-        Ok(project) => project,
-        Err(refused) => return Err(Refusal::Project(refused.error)),
-    };
     if is_project(alloc, rt, path) {
         return Err(Refusal::Lines(EditorError::WriterFailed));
     }
@@ -268,8 +266,36 @@ where
     let Ok(mut file) = opened else {
         return Err(Refusal::Lines(EditorError::WriterFailed));
     };
-    match build_into(alloc, project.maps(), &mut file) {
+    match build_into(alloc, maps, &mut file) {
         Ok(counts) => tell_built(counts, writer),
         Err(refusal) => Err(refusal),
+    }
+}
+
+/// Builds the maps of a disk's project into the file at the path, which is made where there is none, and tells what was
+/// made. A file that holds a project is not written over. The disk is only read.
+pub fn build<E: Files, D: Disk, W: Write>(
+    alloc: Global,
+    rt: &E,
+    disk: D,
+    path: &str,
+    writer: &mut W,
+) -> HandedBack<D>
+where
+    E::File: FileExt,
+    ensures small { IfOk result.how (λ s. s ≤ 3) }
+    ensures built { OverMaps (D.reads disk) result.how
+        (W.contents writer.old) (W.contents writer.new)
+        (λ maps. IsBuiltOf maps result.how (W.contents writer.old) (W.contents writer.new)) }
+    ensures only_read { IsOnlyRead D.moment D.left_since D.may_leave D.reads disk result.disk }
+{
+    let project = match open_project(alloc, disk) {
+        Ok(project) => project,
+        Err(refused) => return refused,
+    };
+    let how = build_at(alloc, rt, project.maps(), path, writer);
+    HandedBack {
+        how,
+        disk: project.into_disk(),
     }
 }

@@ -2,11 +2,13 @@
 ghost use Rattle.std.specs.Prelude.{◌≡◌, ◌≤◌, IfErr, IfOk, MatchResult};
 ghost use Rattle.std.specs.Io.KnownBytes.{Appends, Consumes, IsAtEnd, Keeps};
 ghost use Rattle.lv_editor.specs.Inspections.{EndsReading};
-ghost use Rattle.lv_editor.specs.Deeds.{IsExamined, status_told};
+ghost use Rattle.lv_editor.specs.Deeds.{IsExamined};
+ghost use Rattle.lv_editor.specs.Sources.{IsExaminedOf};
 
 use crate::error::EditorError;
 use crate::inspection::inspect;
 use crate::refusal::Refusal;
+use crate::status::status_told;
 use std::alloc::Global;
 use std::fs::{self, Files};
 use std::io::{Read, Write};
@@ -36,14 +38,7 @@ fn read_whole<R: Read>(alloc: Global, reader: &mut R, turns: u32) -> Result<Vec<
     Err(EditorError::InputTooLong)
 }
 
-// The status that tells whether a level is sound.
-fn status_for(sound: bool) -> u8
-    ensures { result ≡ status_told sound }
-{
-    if sound { 0 } else { 3 }
-}
-
-// Inspects the level of the name in what the reader gives, hands on what is told, and answers the status.
+// Inspects the level of the name in all that the reader gives, hands on what is told, and answers the status.
 fn examine_read<R: Read, W: Write>(
     alloc: Global,
     reader: &mut R,
@@ -52,7 +47,8 @@ fn examine_read<R: Read, W: Write>(
     writer: &mut W,
 ) -> Result<u8, Refusal>
     ensures small { IfOk result (λ s. s ≤ 3) }
-    ensures examined { IsExamined name.now result
+    ensures examined { IsExaminedOf name.now result
+        (R.remaining reader.old) (R.remaining reader.new)
         (W.contents writer.old) (W.contents writer.new) }
 {
     let wad = match read_whole(alloc, reader, turns) {
@@ -64,7 +60,7 @@ fn examine_read<R: Read, W: Write>(
         Err(error) => return Err(Refusal::Level(error)),
     };
     match writer.flush() {
-        Ok(()) => Ok(status_for(sound)),
+        Ok(()) => Ok(status_told(sound)),
         Err(_) => Err(Refusal::Lines(EditorError::WriterFailed)),
     }
 }

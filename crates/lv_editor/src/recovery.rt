@@ -1,14 +1,19 @@
 //! Sessions of calls and runs, each stopped at any moment, and what is built of the disk that they leave.
-ghost use Rattle.std.specs.Prelude.{◌++◌, List, ℕ, MatchResult};
+ghost use Rattle.std.specs.Prelude.{◌≡◌, ◌++◌, List, ℕ, MatchResult};
+ghost use Rattle.lv_maptables.specs.Projects.{project_of};
 ghost use Rattle.lv_project.specs.Calls.{AllMade, Call};
 ghost use Rattle.lv_project.specs.Sessions.{IsLeftBy, Session};
 ghost use Rattle.lv_project.specs.States.{State};
+ghost use Rattle.lv_pwad.specs.Projects.{IsRefusalOfAll, IsSoundBuildOfAll};
+ghost use Rattle.lv_pwad.specs.declared.error.BuildError.{BuildError};
 ghost use Rattle.lv_editor.specs.Recovery.{BuildsKept, RefusesKept};
 ghost use Rattle.lv_editor.specs.Sessions.{AllDone, Deed};
+ghost use Rattle.lv_editor.specs.Sources.{IsOnlyRead};
 
 use crate::error::RecoveryError;
 use lv_disk::Disk;
-use lv_project::{hold_each_acknowledged, opens};
+use lv_maptables::Maps;
+use lv_project::{Project, Refused, hold_each_acknowledged};
 use lv_pwad::build_all;
 use std::alloc::Global;
 
@@ -22,30 +27,54 @@ pub fn sessions_hold_runs<D: Disk>()
         × AllMade D.moment D.failures D.left_since D.may_leave mid back last }
 {}
 
-/// Opens the project on a disk that any sessions left, stopped at any moment, and builds the PWAD of all its maps.
+/// What was built of the maps that a disk holds, and the disk.
+#[derive(Drop)]
+pub struct Recovery<D> {
+    pub wad: Result<Vec<u8>, RecoveryError>,
+    pub disk: D,
+}
+
+// The PWAD of all maps, or why there is none.
+fn build_maps(alloc: Global, maps: &Maps) -> Result<Vec<u8>, RecoveryError>
+    ensures { MatchResult result
+        (λ wad. IsSoundBuildOfAll (project_of maps.now).maps wad.items)
+        (λ e. (cause : BuildError) × (e ≡ RecoveryError.Build cause)
+        × IsRefusalOfAll (project_of maps.now).maps cause) }
+{
+    match build_all(alloc, maps) {
+        Ok(wad) => Ok(wad),
+        Err(error) => Err(RecoveryError::Build(error)),
+    }
+}
+
+/// Opens the project on a disk that any sessions left, stopped at any moment, and builds the PWAD of all its maps. The
+/// disk is only read, and handed back.
 ///
-/// The maps are those of a prefix of the accepted commands that holds each acknowledged one (`hold_each_acknowledged`).
-/// Under the name of each map the bytes are read back to a sound level of it (`sound_builds_read_back`).
+/// The maps are those of a prefix of the accepted commands that holds each acknowledged one (`hold_each_acknowledged`),
+/// and those that the disk's bytes stand for. Under the name of each map the bytes are read back to a sound level of it
+/// (`sound_builds_read_back`).
 ///
 /// # Errors
 ///
 /// `Open` by a fault of the device or for want of memory alone, and `Build` as `build_all` refuses those maps: 30, 31,
 /// 60 to 64 and 66.
-pub fn build_after_any_stop<D: Disk + Drop>(
-    alloc: Global,
-    disk: D,
-) -> Result<Vec<u8>, RecoveryError>
-    ensures { (cap : ℕ) (sessions : List Session) (file : List ℕ) → D.reads disk file
+pub fn build_after_any_stop<D: Disk>(alloc: Global, disk: D) -> Recovery<D>
+    ensures built { (cap : ℕ) (sessions : List Session) (file : List ℕ) → D.reads disk file
         → IsLeftBy D.moment D.failures D.left_since D.may_leave D.reads cap sessions disk
-        → MatchResult result (λ wad. BuildsKept cap sessions wad.items) (RefusesKept cap sessions) }
+        → MatchResult result.wad (λ wad. BuildsKept cap sessions file wad.items)
+        (RefusesKept cap sessions file) }
+    // So a stop at any moment of the call leaves what one left before.
+    ensures only_read { IsOnlyRead D.moment D.left_since D.may_leave D.reads disk result.disk }
 {
     hold_each_acknowledged::<D>();
-    let project = match opens(alloc, disk) {
-        Ok(project) => project,
-        Err(refused) => return Err(RecoveryError::Open(refused.error)),
-    };
-    match build_all(alloc, project.maps()) {
-        Ok(wad) => Ok(wad),
-        Err(error) => Err(RecoveryError::Build(error)),
+    match Project::open(alloc, disk) {
+        Ok(project) => Recovery {
+            wad: build_maps(alloc, project.maps()),
+            disk: project.into_disk(),
+        },
+        Err(Refused { error, disk }) => Recovery {
+            wad: Err(RecoveryError::Open(error)),
+            disk,
+        },
     }
 }

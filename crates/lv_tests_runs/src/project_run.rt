@@ -148,8 +148,8 @@ fn disk_of_room(alloc: Global) -> Result<MemoryDisk, Fail> {
 
 // How many bytes are built of the project of a room, and how an empty disk is refused.
 fn built(alloc: Global) -> Result<(usize, Option<u16>), Fail> {
-    let wad = build_after_any_stop(alloc, disk_of_room(alloc)?)?;
-    let refused = build_after_any_stop(alloc, empty_disk(alloc)?).err();
+    let wad = build_after_any_stop(alloc, disk_of_room(alloc)?).wad?;
+    let refused = build_after_any_stop(alloc, empty_disk(alloc)?).wad.err();
     Ok((wad.len(), refused.map(|error| error.code())))
 }
 

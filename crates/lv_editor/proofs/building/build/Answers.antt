@@ -1,14 +1,25 @@
-use Rattle.lv_editor.proofs.Counting.{built_told, file_refused}
+use Rattle.std.proofs.Common.{inl, inr, subst}
+use Rattle.std.proofs.KnownBytes.{Keeps-refl}
+use Rattle.lv_maptables.specs.Projects.{MapsView}
+use Rattle.lv_editor.specs.Sources.{IsBuiltOf}
+use Rattle.lv_editor.proofs.Sources.{no_status}
 use Rattle.lv_editor.proofs.building.build.Goals as goal
 
-pub returns-in-Ok-build_into-clause-built : goal.returns-in-Ok-build_into-clause-built
-returns-in-Ok-build_into-clause-built g c =
-    built_told c.tell_built.result c.maps.result.now c.in-Ok-build_into.ensures.written.0 c.in-Ok-build_into.counts (g.W.Write.contents c.args.writer.now)
-    (g.W.Write.contents c.tell_built.new.writer) c.in-Ok-build_into.ensures.written.1 c.tell_built.ensures.told
+pub returns-in-Err-clause-small : goal.returns-in-Err-clause-small
+returns-in-Err-clause-small g c = no_status (g.D.Disk.reads c.args.disk) c.in-Err.refused.how _ c.in-Err.ensures.refused.0
 
-pub returns-in-Ok-build_into-clause-small : goal.returns-in-Ok-build_into-clause-small
-returns-in-Ok-build_into-clause-small g c = c.tell_built.ensures.small
+pub returns-in-Err-clause-built : goal.returns-in-Err-clause-built
+returns-in-Err-clause-built g c = inl (c.in-Err.ensures.refused.0, Keeps-refl (g.W.Write.contents c.args.writer.now))
 
 pub returns-clause-built : goal.returns-clause-built
 returns-clause-built g c =
-    file_refused c.maps.result.now c.in-Err-build_into.refusal (g.W.Write.contents c.args.writer.now) c.in-Err-build_into.ensures.refused
+    let first = c.in-Ok.project in
+    inr (
+      first.maps,
+      (first.cap, first.generation, c.in-Ok.ensures.opened.stands),
+      subst (λ (maps : MapsView). IsBuiltOf maps c.build_at-how.result (g.W.Write.contents c.args.writer.now) (g.W.Write.contents c.build_at-how.new.writer))
+          c.maps.ensures c.build_at-how.ensures.built,
+    )
+
+pub returns-clause-only_read : goal.returns-clause-only_read
+returns-clause-only_read g c = rw c.into_disk.ensures.disk c.in-Ok.ensures.opened.only_read
