@@ -9,7 +9,7 @@ use Rattle.std.proofs.lemmas.List.Quantifiers.{all_pairs_push}
 use Rattle.std.specs.List.{list_any}
 use Rattle.lv_lumps.specs.declared.records.Vertex.{Vertex}
 use Rattle.lv_lumps.specs.contracts.records.VertexPartialEq.TheImpl.{eq-value}
-use Rattle.lv_segs.specs.Places.{ArePlaces, IsKnown, IsNumbered}
+use Rattle.lv_segs.specs.Places.{ArePlaces, IsKnown, IsWithPlace}
 use Rattle.lv_segs.proofs.ItemReads.{taken, is_before, one_place}
 
 same_is : (u v : Vertex) → eq-value.it u v ≡ true → u ≡ v
@@ -49,11 +49,11 @@ not_known v (u ∷ vs) e k = by_place (not_known v vs) k.0 k.1
     by_place r (suc n) s = r (by_tail (eq-value.it v u) (list_any (eq-value.it v) vs) e) (n, s)
 
 -- a place that isn't known goes to the end
-pub new_numbered : (v : Vertex) (vs ws : List Vertex) → false ≡ list_any (eq-value.it v) vs → ws ≡ (if list_any (eq-value.it v) vs then vs else vs ++ v ∷ []) → IsNumbered vs v ws
+pub new_numbered : (v : Vertex) (vs ws : List Vertex) → false ≡ list_any (eq-value.it v) vs → ws ≡ (if list_any (eq-value.it v) vs then vs else vs ++ v ∷ []) → IsWithPlace vs v ws
 new_numbered v vs ws e k = inr (not_known v vs e, k ∙ ap (λ (b : Bool). if b then vs else vs ++ v ∷ []) (sym e))
 
 -- a list with one place more is one of different places
-pub places_more : (v : Vertex) (vs ws : List Vertex) → ArePlaces vs → length vs < 32767 → IsNumbered vs v ws → ArePlaces ws
+pub places_more : (v : Vertex) (vs ws : List Vertex) → ArePlaces vs → length vs < 32767 → IsWithPlace vs v ws → ArePlaces ws
 places_more v vs ws h l (inl k) = subst ArePlaces (sym k.1) h
 places_more v vs ws h l (inr k) = subst ArePlaces (sym k.1) more
   where
@@ -65,7 +65,7 @@ places_more v vs ws h l (inr k) = subst ArePlaces (sym k.1) more
         }
 
 -- numbering the vertices in turn
-pub vertices_more : (vs : List Vertex) → AllPairs (λ a b. a ≢ b) vs → (n : ℕ) (v : Vertex) (ws : List Vertex) → slice_get vs n ≡ Some v → IsNumbered (take n vs) v ws → ws ≡ take (n + 1) vs
+pub vertices_more : (vs : List Vertex) → AllPairs (λ a b. a ≢ b) vs → (n : ℕ) (v : Vertex) (ws : List Vertex) → slice_get vs n ≡ Some v → IsWithPlace (take n vs) v ws → ws ≡ take (n + 1) vs
 vertices_more vs all n v ws e (inl k) =
     let b = is_before vs n k.0.0 v k.0.1 in
     absurd (one_place vs all k.0.0 n v b.0 b.1 e)

@@ -22,10 +22,12 @@ ray_offset r = r.dy *ℤ r.start.x -ℤ r.dx *ℤ r.start.y
 
 -- the least side value in a box, and the greatest
 abbrev pub least_value : Ray → Bounds → ℤ
-least_value r b = least_times r.dy b.left b.right -ℤ greatest_times r.dx b.bottom b.top -ℤ ray_offset r
+least_value r b =
+    least_times r.dy b.left b.right -ℤ greatest_times r.dx b.bottom b.top -ℤ ray_offset r
 
 abbrev pub greatest_value : Ray → Bounds → ℤ
-greatest_value r b = greatest_times r.dy b.left b.right -ℤ least_times r.dx b.bottom b.top -ℤ ray_offset r
+greatest_value r b =
+    greatest_times r.dy b.left b.right -ℤ least_times r.dx b.bottom b.top -ℤ ray_offset r
 
 -- the place lies in the box, a whole step or more from each of its sides
 pub record IsWellIn (b : Bounds) (v : Vertex) : Type 0 where

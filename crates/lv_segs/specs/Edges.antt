@@ -9,7 +9,8 @@ use Rattle.lv_segs.specs.declared.edge.Edge.{Edge}
 
 -- a line over a list of vertices
 abbrev pub edge_between : List Vertex → Line → Edge
-edge_between vertices l = record { v1 = nth_vertex vertices l.v1; v2 = nth_vertex vertices l.v2; has_left = has_left l }
+edge_between vertices l =
+    record { v1 = nth_vertex vertices l.v1; v2 = nth_vertex vertices l.v2; has_left = has_left l }
 
 -- the lines of a map, by number
 abbrev pub edges_of : Tables → List Edge

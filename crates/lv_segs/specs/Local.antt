@@ -43,8 +43,10 @@ kept_on e p = (if same_place (point_at e p.from) (point_at e p.to) then None els
 
 -- the parts of a piece of a line cut at a fraction, by whether it starts on the right
 abbrev pub cut_on : Edge → Piece → Frac → Bool → Parts
-cut_on e p at true = record { right = kept_on e (record p { to = at }); left = kept_on e (record p { from = at }) }
-cut_on e p at false = record { right = kept_on e (record p { from = at }); left = kept_on e (record p { to = at }) }
+cut_on e p at true =
+    record { right = kept_on e (record p { to = at }); left = kept_on e (record p { from = at }) }
+cut_on e p at false =
+    record { right = kept_on e (record p { from = at }); left = kept_on e (record p { to = at }) }
 
 -- the parts at this place
 abbrev pub parts_at : Ray → Edge → Piece → Place → Parts

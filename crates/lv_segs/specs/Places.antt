@@ -11,6 +11,6 @@ pub record ArePlaces (vs : List Vertex) : Type 0 where
 abbrev pub IsKnown : List Vertex → Vertex → Type 0
 IsKnown vs v = (n : ℕ) × (slice_get vs n ≡ Some v)
 
--- a known place leaves the list as it was, and a new one goes to its end
-abbrev pub IsNumbered : List Vertex → Vertex → List Vertex → Type 0
-IsNumbered old v new = (IsKnown old v × (new ≡ old)) ⊎ ((IsKnown old v → ⊥) × (new ≡ old ++ v ∷ []))
+-- the list with a place: a known one leaves it as it was, and a new one goes to its end
+abbrev pub IsWithPlace : List Vertex → Vertex → List Vertex → Type 0
+IsWithPlace old v new = (IsKnown old v × (new ≡ old)) ⊎ ((IsKnown old v → ⊥) × (new ≡ old ++ v ∷ []))

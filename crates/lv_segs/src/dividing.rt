@@ -9,11 +9,11 @@ ghost use Rattle.lv_segs.specs.Edges.{edges_of};
 ghost use Rattle.lv_segs.specs.Local.{IsLineRay, HasFractions, place_on, parts_on, cut_on};
 
 use crate::edge::Edge;
-use crate::edges::{edge_of, lines_are_drawn};
 use crate::frac::Frac;
+use crate::line_points::point;
+use crate::map_lines::{edge_of, lines_are_drawn};
 use crate::piece::{Parts, Piece, Place};
-use crate::place::{place_by_signs, value_between};
-use crate::points::point;
+use crate::signs::{place_by_signs, value_between};
 use crate::values::{dot_of, ray_of, value_at, zero_of};
 use lv_lumps::{Ray, Vertex};
 use lv_maptables::Map;

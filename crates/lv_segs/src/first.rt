@@ -5,9 +5,9 @@ ghost use Rattle.lv_segs.specs.Edges.{edges_of};
 ghost use Rattle.lv_segs.specs.First.{whole, first_pieces};
 
 use crate::edge::{Edge, Facing};
-use crate::edges::{edges_of, lines_are_drawn};
 use crate::error::SegsError;
 use crate::frac::Frac;
+use crate::map_lines::{edges_of, lines_are_drawn};
 use crate::piece::Piece;
 use lv_maptables::Map;
 use std::alloc::{AllocError, Global};

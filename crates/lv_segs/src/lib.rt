@@ -6,24 +6,23 @@ mod angle;
 mod distance;
 mod dividing;
 mod edge;
-mod edges;
 mod error;
 mod first;
 mod frac;
 mod laws;
 mod line_angles;
+mod line_points;
+mod map_lines;
 mod numbered;
 mod piece;
 mod piece_box;
-mod place;
-mod points;
+mod signs;
 mod values;
 
 pub use angle::{angle16, reversed_angle};
 pub use distance::offset;
 pub use dividing::{divide, divide_in, divide_on, lies_along, place_on, side_of};
 pub use edge::{Edge, Facing};
-pub use edges::{edges_of, lines_are_drawn};
 pub use error::SegsError;
 pub use first::{pieces_in, pieces_of};
 pub use frac::Frac;
@@ -33,8 +32,9 @@ pub use laws::{
     trees_keep_their_list,
 };
 pub use line_angles::angles_in;
+pub use line_points::point;
+pub use map_lines::{edges_of, lines_are_drawn};
 pub use numbered::Points;
 pub use piece::{Parts, Piece, Place};
 pub use piece_box::{box_on, boxes_in};
-pub use points::point;
 pub use values::{ray_of, value_at};

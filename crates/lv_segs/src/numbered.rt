@@ -27,7 +27,7 @@ impl Model for Points {
 
 impl Points {
     ghost use Rattle.std.specs.Prelude.{◌≡◌, ◌≤◌, length, Some, Err, slice_get, IfOk, OnOk, OnErr, IsOkUnless};
-    ghost use Rattle.lv_segs.specs.Places.{ArePlaces, IsKnown, IsNumbered};
+    ghost use Rattle.lv_segs.specs.Places.{ArePlaces, IsKnown, IsWithPlace};
 
     /// The vertices of a map, each with its own number. It is refused by want of memory alone.
     pub fn new(alloc: Global, map: &Map) -> Result<Points, SegsError>
@@ -63,7 +63,7 @@ impl Points {
     /// there are 32,767 already, and for want of memory. After a refusal nothing has changed.
     pub fn number(&mut self, place: Vertex) -> Result<u32, SegsError>
         ensures number { IfOk result (λ n. slice_get self.new n ≡ Some place) }
-        ensures places { OnOk result (IsNumbered self.old place self.new) }
+        ensures places { OnOk result (IsWithPlace self.old place self.new) }
         ensures unchanged { OnErr result (self.new ≡ self.old) }
         ensures full { result ≡ Err SegsError.TooManyVertices → length self.old ≡ 32767 }
         ensures new { result ≡ Err SegsError.TooManyVertices → IsKnown self.old place → ⊥ }

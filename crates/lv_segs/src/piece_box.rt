@@ -8,8 +8,8 @@ ghost use Rattle.lv_segs.specs.Local.{HasFractions};
 ghost use Rattle.lv_segs.specs.Boxes.{widened, box_on, boxes_of};
 
 use crate::edge::Edge;
+use crate::line_points::point;
 use crate::piece::Piece;
-use crate::points::point;
 use lv_lumps::{Bounds, Vertex};
 use std::alloc::{AllocError, Global};
 

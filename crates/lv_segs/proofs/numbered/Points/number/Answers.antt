@@ -1,6 +1,6 @@
 use Rattle.std.proofs.Common.{◌≡◌, sym, refl, subst, inl, Some, slice_get, OnOk, ℕ, List, arith, Result}
 use Rattle.lv_lumps.specs.declared.records.Vertex.{Vertex}
-use Rattle.lv_segs.specs.Places.{ArePlaces, IsKnown, IsNumbered}
+use Rattle.lv_segs.specs.Places.{ArePlaces, IsKnown, IsWithPlace}
 use Rattle.lv_segs.specs.declared.error.SegsError.{SegsError}
 use Rattle.lv_segs.proofs.Known.{found_stands, not_known, new_numbered, places_more}
 use Rattle.lv_segs.proofs.numbered.Points.number.Goals as goal
@@ -20,9 +20,9 @@ returns-clause-places c =
     elim c.match-insert_full.branch [
       | in-Ok w ↦
           let n = new_numbered c.args.place c.self.inside.places.keys c.insert_full.new.self.keys c.in_default.ensures.found w.in-Ok.ensures.keys in
-          let m = subst (λ (vs : List Vertex). IsNumbered vs c.args.place c.insert_full.new.self.keys) c.self.view_is n in
-          subst (λ (r : Result ℕ SegsError). OnOk r (IsNumbered c.args.self.now c.args.place c.insert_full.new.self.keys)) (sym w.result-is) m
-      | in-Err w ↦ subst (λ (r : Result ℕ SegsError). OnOk r (IsNumbered c.args.self.now c.args.place c.insert_full.new.self.keys)) (sym w.result-is) tt
+          let m = subst (λ (vs : List Vertex). IsWithPlace vs c.args.place c.insert_full.new.self.keys) c.self.view_is n in
+          subst (λ (r : Result ℕ SegsError). OnOk r (IsWithPlace c.args.self.now c.args.place c.insert_full.new.self.keys)) (sym w.result-is) m
+      | in-Err w ↦ subst (λ (r : Result ℕ SegsError). OnOk r (IsWithPlace c.args.self.now c.args.place c.insert_full.new.self.keys)) (sym w.result-is) tt
     ]
 
 pub returns-in-Some-clause-refused : goal.returns-in-Some-clause-refused

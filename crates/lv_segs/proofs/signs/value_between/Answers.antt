@@ -2,8 +2,8 @@ use Rattle.std.proofs.Common.{◌≡◌, ap, ◌∙◌}
 use Rattle.std.specs.Prelude.{ℤ, ◌+ℤ◌, ◌-ℤ◌, ◌*ℤ◌}
 use Rattle.lv_segs.proofs.Wide.{n_within, narrowed}
 use Rattle.lv_segs.proofs.Shares.{side_back, side_value_back, n_share, rest_of, IsSum, sum_by}
-use Rattle.lv_segs.proofs.place.value_between.Goals as goal
-use Rattle.lv_segs.proofs.place.value_between.Goals.{After-scaled-far}
+use Rattle.lv_segs.proofs.signs.value_between.Goals as goal
+use Rattle.lv_segs.proofs.signs.value_between.Goals.{After-scaled-far}
 
 pub overflow_sub-rest : goal.overflow_sub-rest
 overflow_sub-rest c = (rest_of c.args.at c.requires.fraction).fits

@@ -1,6 +1,6 @@
 use Rattle.std.proofs.Common.{◌≡◌, map, take}
 use Rattle.lv_segs.specs.Edges.{edge_between}
-use Rattle.lv_segs.proofs.edges.edges_of.Given as goal
+use Rattle.lv_segs.proofs.map_lines.edges_of.Given as goal
 
 -- the lines so far
 abbrev pub invariant-loop-n : goal.invariant-loop-n

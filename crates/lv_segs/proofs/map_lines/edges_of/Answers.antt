@@ -4,7 +4,7 @@ use Rattle.lv_maptables.specs.WellFormed.{HasEnds}
 use Rattle.lv_segs.specs.declared.edge.Edge.{Edge}
 use Rattle.lv_segs.specs.Edges.{edge_between}
 use Rattle.lv_segs.proofs.ItemReads.{is_there, at_some, mapped}
-use Rattle.lv_segs.proofs.edges.edges_of.Goals as goal
+use Rattle.lv_segs.proofs.map_lines.edges_of.Goals as goal
 
 pub unwrap-line-requires : goal.unwrap-line-requires
 unwrap-line-requires c =

@@ -1,5 +1,5 @@
 use Rattle.lv_segs.proofs.Shares.{scaled_by}
-use Rattle.lv_segs.proofs.place.scaled.Goals as goal
+use Rattle.lv_segs.proofs.signs.scaled.Goals as goal
 
 pub overflow_mul-result : goal.overflow_mul-result
 overflow_mul-result c = (scaled_by c.args.share c.args.value c.ranges.share c.ranges.value c.requires.share c.requires.value).fits

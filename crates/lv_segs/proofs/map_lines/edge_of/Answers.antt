@@ -7,8 +7,8 @@ use Rattle.lv_segs.proofs.FirstList.{index_is}
 use Rattle.lv_segs.proofs.Lists.{All-at}
 use Rattle.lv_segs.proofs.EdgeLemmas.{as_many}
 use Rattle.lv_segs.proofs.ItemReads.{is_there, at_some, mapped_at}
-use Rattle.lv_segs.proofs.edges.edge_of.Goals as goal
-use Rattle.lv_segs.proofs.edges.edge_of.Goals.{After-edge_between}
+use Rattle.lv_segs.proofs.map_lines.edge_of.Goals as goal
+use Rattle.lv_segs.proofs.map_lines.edge_of.Goals.{After-edge_between}
 
 pub unwrap-line-requires : goal.unwrap-line-requires
 unwrap-line-requires c = let e = c.from.ensures in let h = c.requires in let m = as_many c.args.map.now.tables in is_there c.args.map.now.tables.lines c.from.result c.line.result c.line.ensures.item (omega arith)

@@ -1,4 +1,4 @@
-//! The lines of a map with their places, read once.
+//! The lines of a map with the places of their ends, read once.
 ghost use Rattle.std.specs.Prelude.{◌≡◌, ◌≤◌, ◌<◌, length, All, IfOk, IsOkUnless};
 ghost use Rattle.lv_maptables.specs.WellFormed.{HasEnds, nth_vertex};
 ghost use Rattle.lv_segs.specs.Plane.{IsEdge};

@@ -2,7 +2,7 @@ use Rattle.std.proofs.Common.{sym, ap, ◌∙◌, arith, slice_get}
 use Rattle.std.proofs.lemmas.Option.{get_or_from_slice_get}
 use Rattle.lv_segs.specs.Pieces.{no_edge}
 use Rattle.lv_segs.proofs.ItemReads.{is_there}
-use Rattle.lv_segs.proofs.edges.vertex_of.Goals as goal
+use Rattle.lv_segs.proofs.map_lines.vertex_of.Goals as goal
 
 pub unwrap-requires : goal.unwrap-requires
 unwrap-requires c = let e = c.from.ensures in let h = c.requires in is_there c.args.map.now.tables.vertices c.from.result c.vertex.result c.vertex.ensures.item (omega arith)

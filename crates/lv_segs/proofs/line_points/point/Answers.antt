@@ -4,8 +4,8 @@ use Rattle.std.specs.Prelude.{pos}
 use Rattle.lv_segs.specs.Fractions.{rounded}
 use Rattle.lv_segs.proofs.Rounding.{rounded_start, rounded_end}
 use Rattle.lv_segs.proofs.Coordinates.{IsDrawn, drawn_by}
-use Rattle.lv_segs.proofs.points.point.Goals as goal
-use Rattle.lv_segs.proofs.points.point.Goals.{Then-at-eq0, Else-at-eq0, Then-at-eq1, After-coordinate-2}
+use Rattle.lv_segs.proofs.line_points.point.Goals as goal
+use Rattle.lv_segs.proofs.line_points.point.Goals.{Then-at-eq0, Else-at-eq0, Then-at-eq1, After-coordinate-2}
 
 -- a fraction with the denominator 1
 over_one : (c : Then-at-eq1) → c.args.at.d ≡ pos 1
