@@ -1,0 +1,192 @@
+-- A map's items are added one by one, each accepted.
+use Rattle.std.proofs.Common.{◌≡◌, ℕ, ◌≤◌, List, [], ◌∷◌, ◌++◌, length, map, None, Ok, refl, sym, subst, ◌∙◌, ap, arith, append_assoc, append-nil, false, length-append, nat_lt}
+use Rattle.std.specs.List.{All}
+use Rattle.std.proofs.lemmas.Bool.{le-ltb}
+use Rattle.std.proofs.lemmas.List.Sums.{sum_by_push}
+use Rattle.lv_lumps.specs.declared.records.Thing.{Thing}
+use Rattle.lv_lumps.specs.declared.records.Line.{Line}
+use Rattle.lv_lumps.specs.declared.records.Side.{Side}
+use Rattle.lv_lumps.specs.declared.records.Vertex.{Vertex}
+use Rattle.lv_lumps.specs.declared.records.Sector.{Sector}
+use Rattle.lv_maptables.specs.Tables.{Tables, empty_tables, part_len}
+use Rattle.lv_maptables.specs.WellFormed.{WellFormed}
+use Rattle.lv_maptables.specs.Ranges.{IsLine, IsSector, IsSide, IsThing, IsVertex}
+use Rattle.lv_maptables.specs.Outcomes.{least}
+use Rattle.lv_maptables.specs.Edits.{with_name}
+use Rattle.lv_maptables.specs.Projects.{ProjectMaps, body_len, current_map, with_current}
+use Rattle.lv_maptables.proofs.ProjectLemmas.{get_middle, set_middle}
+use Rattle.lv_commands.specs.declared.command.Command.{Command}
+use Rattle.lv_commands.specs.declared.command.Command.TheVariants.{AddVertex, AddSector, AddSide, AddLine, AddThing}
+use Rattle.lv_commands.specs.declared.project.command.ProjectCommand.{ProjectCommand}
+use Rattle.lv_commands.specs.declared.project.command.ProjectCommand.TheVariants.{Edit}
+use Rattle.lv_commands.specs.CommandRanges as of_one
+use Rattle.lv_commands.specs.Step as of_one_map
+use Rattle.lv_commands.specs.ProjectCommands.{spelling}
+use Rattle.lv_commands.specs.ProjectStep.{after, naming_faults, number_of}
+use Rattle.lv_commands.specs.ProjectLines.{Leads, LeadsTo}
+use Rattle.lv_commands.proofs.ProjectSteps.{step-accepts}
+use Rattle.lv_commands.proofs.Steps.{least-none}
+use Rattle.lv_dump.specs.Dump.{items_of}
+use Rattle.lv_dump.proofs.Fronts.{fewer, holds_at, line_free, sector_free, side_free, thing_free, vertex_free}
+
+-- ---- Commands one after another
+
+-- the commands lead from one project to the other, each accepted
+abbrev pub Draws : ℕ → ProjectMaps → List ProjectCommand → ProjectMaps → Type 0
+Draws cap old cs new = Leads cap old (map spelling cs) new
+
+pub Draws-append : (cap : ℕ) (old mid new : ProjectMaps) (cs ds : List ProjectCommand) → Draws cap old cs mid → Draws cap mid ds new → Draws cap old (cs ++ ds) new
+Draws-append cap old mid new [] ds f g = subst (λ p. Draws cap p ds new) f g
+Draws-append cap old mid new (c ∷ cs) ds f g = (f.0, f.1, Draws-append cap f.0 mid new cs ds f.2 g)
+
+edits-append : (cap : ℕ) (old mid new : ProjectMaps) (cs ds : List Command) → Draws cap old (map Edit cs) mid → Draws cap mid (map Edit ds) new → Draws cap old (map Edit (cs ++ ds)) new
+edits-append cap old mid new [] ds f g = subst (λ p. Draws cap p (map Edit ds) new) f g
+edits-append cap old mid new (c ∷ cs) ds f g = (f.0, f.1, edits-append cap f.0 mid new cs ds f.2 g)
+
+-- ---- The last map is drawn
+
+-- maps that are done, and the current one behind them
+abbrev pub drawing : List Tables → Tables → ProjectMaps
+drawing done m = record { maps = done ++ m ∷ []; current = length done }
+
+-- a command makes one map of another, and the new one is no longer than the whole
+pub record Adds (whole old : Tables) (c : Command) (new : Tables) : Type 0 where
+  pub range : of_one.InRange c
+  pub free : least (of_one_map.faults old c) ≡ None
+  pub made : of_one_map.after old c ≡ new
+  pub short : part_len new ≤ part_len whole
+
+pub leads_one : (cap : ℕ) (done : List Tables) (whole old new : Tables) (c : Command) → Adds whole old c new
+    → least (naming_faults (drawing done old) c) ≡ None → body_len (drawing done whole) ≤ cap → LeadsTo cap (drawing done old) (spelling (Edit c)) (drawing done new)
+leads_one cap done whole old new c a naming fits =
+    let p = drawing done old in
+    let here : current_map p ≡ old = get_middle done [] old empty_tables in
+    let none = least-none (of_one_map.faults (current_map p) c) (naming_faults p c) (ap (λ m. least (of_one_map.faults m c)) here ∙ a.free) ∙ naming in
+    let is : after p (Edit c) ≡ drawing done new = ap (λ m. with_current p (of_one_map.after m c)) here ∙ ap (with_current p) a.made ∙ (λ i. record { maps = set_middle done [] old new i; current = length done }) in
+    let few : body_len (drawing done new) ≤ cap = omega (arith, fits, a.short, sum_by_push part_len done new, sum_by_push part_len done whole) in
+    let short : nat_lt cap (body_len (after p (Edit c))) ≡ false = ap (λ q. nat_lt cap (body_len q)) is ∙ le-ltb cap (body_len (drawing done new)) few in (
+      number_of p (Edit c),
+      record {
+        command = Edit c;
+        range = a.range;
+        line_is = refl;
+        stepped = step-accepts p (Edit c) cap none short ∙ ap (λ q. Ok (q, number_of p (Edit c))) is;
+      },
+    )
+
+-- ---- One table
+
+-- how each item of a table is added
+abbrev EachAdds : {X : Type 0} → Tables → (X → Command) → (List X → Tables) → List X → Type 0
+EachAdds {X} whole make stage all =
+    (front back : List X) (x : X) → all ≡ front ++ x ∷ back
+    → Adds whole (stage front) (make x) (stage (front ++ x ∷ [])) × ((p : ProjectMaps) → naming_faults p (make x) ≡ [])
+
+leads_table : {X : Type 0} (cap : ℕ) (done : List Tables) (whole : Tables) (make : X → Command) (stage : List X → Tables) (all front back : List X)
+    → body_len (drawing done whole) ≤ cap → all ≡ front ++ back → EachAdds whole make stage all
+    → Draws cap (drawing done (stage front)) (map Edit (map make back)) (drawing done (stage all))
+leads_table cap done whole make stage all front [] fits e each = ap (λ xs. drawing done (stage xs)) (e ∙ append-nil front)
+leads_table {X} cap done whole make stage all front (x ∷ back) fits e each =
+    let one = each front back x e in
+    let next : all ≡ (front ++ x ∷ []) ++ back = e ∙ sym (append_assoc front (x ∷ []) back) in (
+      drawing done (stage (front ++ x ∷ [])),
+      leads_one cap done whole (stage front) (stage (front ++ x ∷ [])) (make x) one.0 (ap least (one.1 (drawing done (stage front)))) fits,
+      leads_table cap done whole make stage all (front ++ x ∷ []) back fits next each,
+    )
+
+-- ---- The five tables, each up to an item
+
+abbrev to_vertices : Tables → List Vertex → Tables
+to_vertices m vs = record { name = m.name; vertices = vs; sectors = []; sides = []; lines = []; things = [] }
+
+abbrev to_sectors : Tables → List Sector → Tables
+to_sectors m ss = record { name = m.name; vertices = m.vertices; sectors = ss; sides = []; lines = []; things = [] }
+
+abbrev to_sides : Tables → List Side → Tables
+to_sides m ss =
+    record { name = m.name; vertices = m.vertices; sectors = m.sectors; sides = ss; lines = []; things = [] }
+
+abbrev to_lines : Tables → List Line → Tables
+to_lines m ls =
+    record { name = m.name; vertices = m.vertices; sectors = m.sectors; sides = m.sides; lines = ls; things = [] }
+
+abbrev to_things : Tables → List Thing → Tables
+to_things m ts =
+    record { name = m.name; vertices = m.vertices; sectors = m.sectors; sides = m.sides; lines = m.lines; things = ts }
+
+vertex_adds : (m : Tables) → WellFormed m → EachAdds m AddVertex (to_vertices m) m.vertices
+vertex_adds m w front back v e =
+    let few = fewer m.vertices front back v e in (
+      record {
+        range = holds_at IsVertex front back v (subst (All IsVertex) e w.vertices);
+        free = vertex_free m (to_vertices m front) front back v w e refl;
+        made = refl;
+        short = omega (arith, few, length-append front (v ∷ []));
+      },
+      λ p. refl,
+    )
+
+sector_adds : (m : Tables) → WellFormed m → EachAdds m AddSector (to_sectors m) m.sectors
+sector_adds m w front back s e =
+    let few = fewer m.sectors front back s e in (
+      record {
+        range = holds_at IsSector front back s (subst (All IsSector) e w.sectors);
+        free = sector_free m (to_sectors m front) front back s w e refl;
+        made = refl;
+        short = omega (arith, few, length-append front (s ∷ []));
+      },
+      λ p. refl,
+    )
+
+side_adds : (m : Tables) → WellFormed m → EachAdds m AddSide (to_sides m) m.sides
+side_adds m w front back s e =
+    let few = fewer m.sides front back s e in (
+      record {
+        range = holds_at IsSide front back s (subst (All IsSide) e w.sides);
+        free = side_free m (to_sides m front) front back s w e refl refl;
+        made = refl;
+        short = omega (arith, few, length-append front (s ∷ []));
+      },
+      λ p. refl,
+    )
+
+line_adds : (m : Tables) → WellFormed m → EachAdds m AddLine (to_lines m) m.lines
+line_adds m w front back l e =
+    let few = fewer m.lines front back l e in (
+      record {
+        range = holds_at IsLine front back l (subst (All IsLine) e w.lines);
+        free = line_free m (to_lines m front) front back l w e refl refl refl;
+        made = refl;
+        short = omega (arith, few, length-append front (l ∷ []));
+      },
+      λ p. refl,
+    )
+
+thing_adds : (m : Tables) → WellFormed m → EachAdds m AddThing (to_things m) m.things
+thing_adds m w front back t e =
+    let few = fewer m.things front back t e in (
+      record {
+        range = holds_at IsThing front back t (subst (All IsThing) e w.things);
+        free = thing_free m (to_things m front) front back t w e refl;
+        made = refl;
+        short = omega (arith, few, length-append front (t ∷ []));
+      },
+      λ p. refl,
+    )
+
+-- ---- All items
+
+-- the items of a map make it of the empty map of its name
+pub leads_items : (cap : ℕ) (done : List Tables) (m : Tables) → WellFormed m → body_len (drawing done m) ≤ cap
+    → Draws cap (drawing done (with_name empty_tables m.name)) (map Edit (items_of m)) (drawing done m)
+leads_items cap done m w fits =
+    let vertices = leads_table cap done m AddVertex (to_vertices m) m.vertices [] m.vertices fits refl (vertex_adds m w) in
+    let sectors = leads_table cap done m AddSector (to_sectors m) m.sectors [] m.sectors fits refl (sector_adds m w) in
+    let sides = leads_table cap done m AddSide (to_sides m) m.sides [] m.sides fits refl (side_adds m w) in
+    let lines = leads_table cap done m AddLine (to_lines m) m.lines [] m.lines fits refl (line_adds m w) in
+    let things = leads_table cap done m AddThing (to_things m) m.things [] m.things fits refl (thing_adds m w) in
+    let start = drawing done (with_name empty_tables m.name) in
+    let two = edits-append cap start (drawing done (to_vertices m m.vertices)) (drawing done (to_sectors m m.sectors)) (map AddVertex m.vertices) (map AddSector m.sectors) vertices sectors in
+    let three = edits-append cap start (drawing done (to_sectors m m.sectors)) (drawing done (to_sides m m.sides)) (map AddVertex m.vertices ++ map AddSector m.sectors) (map AddSide m.sides) two sides in
+    let four = edits-append cap start (drawing done (to_sides m m.sides)) (drawing done (to_lines m m.lines)) (map AddVertex m.vertices ++ map AddSector m.sectors ++ map AddSide m.sides) (map AddLine m.lines) three lines in
+    edits-append cap start (drawing done (to_lines m m.lines)) (drawing done m) (map AddVertex m.vertices ++ map AddSector m.sectors ++ map AddSide m.sides ++ map AddLine m.lines) (map AddThing m.things) four things

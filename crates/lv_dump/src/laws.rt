@@ -1,0 +1,12 @@
+//! Laws of dumps, each the contract of a call without a body.
+ghost use Rattle.lv_dump.specs.Laws.{DumpsDrawAgain, DumpsTellProjectsApart};
+
+/// The lines of a project's dump lead from the empty project to it.
+pub fn draw_again()
+    ensures { DumpsDrawAgain }
+{}
+
+/// Two projects with one dump are one.
+pub fn tell_projects_apart()
+    ensures { DumpsTellProjectsApart }
+{}
