@@ -24,7 +24,8 @@ impl Buffer {
     }
 }
 
-/// Any disk, read ahead: a read of what lies in the buffer makes no call of the disk inside. A write empties the buffer.
+/// Any disk, read ahead: a read of what lies in the buffer makes no call of the disk inside. A write empties the
+/// buffer.
 #[derive(Drop)]
 pub struct ReadAhead<D: Disk> {
     inner: D,

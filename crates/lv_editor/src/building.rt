@@ -245,8 +245,8 @@ where
     }
 }
 
-// Builds maps into the file at the path, which is made where there is none, and tells what was made. A file that holds a
-// project is not written over.
+// Builds maps into the file at the path, which is made where there is none, and tells what was made. A file that holds
+// a project is not written over.
 fn build_at<E: Files, W: Write>(
     alloc: Global,
     rt: &E,

@@ -81,7 +81,8 @@ fn consider_ordered(
     requires few { length pieces.now < 2 ^ 32 }
     requires piece { IsPiece lines.now piece.now }
     requires stands { slice_get pieces.now at ≡ Some piece.now }
-    requires noted { take (length ordered.now) straight.old.ends.items ≡ all_ends lines.now ordered.now }
+    requires noted { take (length ordered.now) straight.old.ends.items
+        ≡ all_ends lines.now ordered.now }
     requires so_far { SoFar lines.now pieces.now used.now at best }
     ensures so_far { SoFar lines.now pieces.now used.now (at + 1) result }
     ensures kept { straight.new.ends ≡ straight.old.ends }

@@ -36,8 +36,8 @@ fn ends<D: Disk>(
     }
 }
 
-// Which call of the disk inside fails, and then the reads in turn: a place, a length, and the first and the last byte. A
-// place's byte is what is left of it by 251.
+// Which call of the disk inside fails, and then the reads in turn: a place, a length, and the first and the last byte.
+// A place's byte is what is left of it by 251.
 const READS: &[(u64, &[(u64, usize, (u8, u8))])] = &[
     // The length and one read serve each range of the buffer; the range across its end needs the length again.
     (
