@@ -11,6 +11,7 @@ use Rattle.lv_project.specs.Stands.{IsOutcome}
 use Rattle.lv_project.specs.States.{State, IsKept}
 use Rattle.lv_project.specs.declared.error.ProjectError.{ProjectError}
 use Rattle.lv_project.specs.declared.error.ProjectError.TheVariants.{Device, OutOfMemory, Reopen, GenerationsSpent, Refused, Damaged, Blank, NotAProject, NotEmpty, BadGeometry}
+use Rattle.lv_project.proofs.Fronts.{begins_with}
 use Rattle.lv_project.proofs.Holding.{Holds, fronts, moves}
 use Rattle.lv_editor.specs.Editing.{AnswersQuery, IsTold, MayLack, RepliesInProject, outcome_in}
 use Rattle.lv_editor.specs.Queries.{query_of}
@@ -187,7 +188,7 @@ module _ {D : Type 0} (moment failures : D → ℕ) (left_since : D → ℕ → 
               lines = h.lines;
               rest = h.rest;
               prefix = accepted_append front back ∙ ap (λ (l : List (List ℕ)). l ++ accepted back) well.2 ∙ h.prefix;
-              holds = h.holds;
+              holds = begins_with h.lines h.rest (acknowledged front) (accepted back) (sym h.prefix) h.holds;
               leads = h.leads;
             },
             h.stands,
