@@ -19,6 +19,7 @@ demo:
 test:
 	scripts/kit
 	scripts/house
+	scripts/pages
 	scripts/test
 
 # the gate: every proof from nothing, the wrong bodies, the tests proved and run, the programs as two compilers build them
