@@ -50,6 +50,12 @@ def product(lines):
     return {name: line for name, line in lines.items() if name in wanted}
 
 
+def knows_anew():
+    """Whether the kit keeps what a run has passed, so that `rt ci` takes the word --anew."""
+    ran = subprocess.run(["rt", "help"], stdout=subprocess.PIPE, stderr=subprocess.STDOUT, text=True, check=False)
+    return "--anew" in ran.stdout
+
+
 def copy(lines, to, *left_out):
     """Makes a repository of these crates alone in the folder, without these folders of a crate."""
     os.makedirs(f"{to}/crates")
