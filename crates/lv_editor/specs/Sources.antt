@@ -29,7 +29,7 @@ use Rattle.lv_editor.specs.declared.refusal.Refusal.TheVariants as of
 
 -- ---- A disk
 
--- of the disk was only read: what a read gives stays, and a stop at any moment leaves what one left before
+-- the disk was only read: what a read gives stays, and a stop at any moment leaves what one left before
 pub record IsOnlyRead {D : Type 0} (moment : D → ℕ) (left_since : D → ℕ → List ℕ → Type 0) (may_leave reads : D → List ℕ → Type 0)
     (before after : D) : Type 0 where
   pub no_other : Each (reads after) (reads before)
@@ -40,7 +40,7 @@ pub record IsOnlyRead {D : Type 0} (moment : D → ℕ) (left_since : D → ℕ 
 abbrev pub HasMaps : (List ℕ → Type 0) → MapsView → Type 0
 HasMaps reads maps = (cap generation : ℕ) × Each reads (StandsOnlyFor cap (project_of maps) generation)
 
--- a project that was opened: the one that the disk's bytes stand for, of which was only read
+-- a project that was opened: the one that the disk's bytes stand for; the disk was only read
 pub record IsOpenedFrom {D : Type 0} (moment : D → ℕ) (left_since : D → ℕ → List ℕ → Type 0) (may_leave reads : D → List ℕ → Type 0)
     (before : D) (first : State D) : Type 0 where
   pub reopen : first.must_reopen ≡ false
