@@ -4,6 +4,9 @@
 PREFIX ?= /usr/local
 EXAMPLE ?= examples/two_rooms.txt
 DOC = $(PREFIX)/share/doc/leveled
+BASH = $(PREFIX)/share/bash-completion/completions
+ZSH = $(PREFIX)/share/zsh/vendor-completions
+FISH = $(PREFIX)/share/fish/vendor_completions.d
 
 .PHONY: all demo test prove stress install uninstall package package-test clean distclean
 
@@ -36,17 +39,21 @@ stress: all
 	bench/limits
 	bench/memory
 
-# the program, its manual page, and what a user reads and runs; nothing is proved or built here
+# the program, its manual page, completion for three shells, and what a user reads and runs; nothing is proved or built here
 install:
 	@test -x bin/leveled || { echo 'There is no bin/leveled: make comes first.' >&2; exit 1; }
 	install -d $(DESTDIR)$(PREFIX)/bin $(DESTDIR)$(PREFIX)/share/man/man1 $(DESTDIR)$(DOC)/examples
 	install -m 755 bin/leveled $(DESTDIR)$(PREFIX)/bin/leveled
 	install -m 644 docs/leveled.1 $(DESTDIR)$(PREFIX)/share/man/man1/leveled.1
+	install -D -m 644 completion/leveled.bash $(DESTDIR)$(BASH)/leveled
+	install -D -m 644 completion/_leveled $(DESTDIR)$(ZSH)/_leveled
+	install -D -m 644 completion/leveled.fish $(DESTDIR)$(FISH)/leveled.fish
 	install -m 644 README.md LICENSE CHANGELOG.md docs/COMMANDS.md docs/FIRST_LEVEL.md docs/FORMAT.md $(DESTDIR)$(DOC)
 	install -m 644 examples/* $(DESTDIR)$(DOC)/examples
 
 uninstall:
 	rm -f $(DESTDIR)$(PREFIX)/bin/leveled $(DESTDIR)$(PREFIX)/share/man/man1/leveled.1
+	rm -f $(DESTDIR)$(BASH)/leveled $(DESTDIR)$(ZSH)/_leveled $(DESTDIR)$(FISH)/leveled.fish
 	rm -rf $(DESTDIR)$(DOC)
 
 # a Debian package and a plain archive of bin/leveled, in bin/

@@ -1,0 +1,21 @@
+# Completes the words of leveled in bash.
+_leveled() {
+    local word=${COMP_WORDS[COMP_CWORD]} subcommand=${COMP_WORDS[1]}
+    if [ "$COMP_CWORD" -eq 1 ]; then
+        mapfile -t COMPREPLY < <(compgen -W 'scratch create edit check build inspect help --help --version' -- "$word")
+        return
+    fi
+    case $word in
+    -*)
+        local flags=--help
+        [ "$subcommand" = create ] && flags='--slot --journal --help'
+        mapfile -t COMPREPLY < <(compgen -W "$flags" -- "$word")
+        ;;
+    *)
+        case $subcommand in
+        create | edit | check | build | inspect) mapfile -t COMPREPLY < <(compgen -f -- "$word") ;;
+        esac
+        ;;
+    esac
+}
+complete -o filenames -F _leveled leveled
