@@ -21,7 +21,7 @@ fn counted(alloc: Global, k: u64) -> Result<ReadAhead<FaultDisk<MemoryDisk>>, Fa
     Ok(ahead)
 }
 
-// The first byte of so many from a place on, and the last one; 255 for both where the read fails.
+// The first byte of so many from a place on, and the last one; 255 for both where a call fails.
 fn ends<D: Disk>(
     alloc: Global,
     disk: &mut ReadAhead<D>,
@@ -29,6 +29,10 @@ fn ends<D: Disk>(
     len: usize,
 ) -> Result<(u8, u8), Fail> {
     let mut bytes = vec![in alloc; 0; len]?;
+    let length = disk.len().unwrap_or(0);
+    if length < at || length - at < bytes.len() as u64 {
+        return Ok((255, 255));
+    }
     let done = disk.read(at, &mut bytes);
     match (done, bytes.first(), bytes.last()) {
         (Ok(()), Some(first), Some(last)) => Ok((*first, *last)),
@@ -36,12 +40,12 @@ fn ends<D: Disk>(
     }
 }
 
-// Which call of the disk inside fails, and then the reads in turn: a place, a length, and the first and the last byte.
-// A place's byte is what is left of it by 251.
+// Which call of the disk inside fails, and then the reads in turn, each of which asks for the length first: a place, a
+// length, and the first and the last byte. A place's byte is what is left of it by 251.
 const READS: &[(u64, &[(u64, usize, (u8, u8))])] = &[
-    // The length and one read serve each range of the buffer; the range across its end needs the length again.
+    // The length and one read fill the buffer for each range in it; the range across its end fills it anew.
     (
-        4,
+        8,
         &[
             (0, 10, (0, 9)),
             (1000, 200, (247, 195)),
@@ -49,9 +53,9 @@ const READS: &[(u64, &[(u64, usize, (u8, u8))])] = &[
             (65_530, 10, (255, 255)),
         ],
     ),
-    (5, &[(0, 10, (0, 9)), (65_530, 10, (255, 255))]),
+    (7, &[(0, 10, (0, 9)), (65_530, 10, (255, 255))]),
     (
-        6,
+        10,
         &[
             (0, 10, (0, 9)),
             (65_530, 10, (19, 28)),
@@ -61,7 +65,7 @@ const READS: &[(u64, &[(u64, usize, (u8, u8))])] = &[
     ),
     // More than the buffer holds is read by the disk inside.
     (0, &[(0, 70_000, (0, 221)), (1, 65_537, (1, 26))]),
-    (4, &[(0, 70_000, (255, 255))]),
+    (5, &[(0, 70_000, (255, 255))]),
 ];
 
 #[test]
