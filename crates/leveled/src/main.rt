@@ -3,7 +3,8 @@
 
 use clap::Error;
 use clap::error::ErrorKind;
-use lv_editor::{RequestError, perform, request};
+use lv_editor::perform;
+use lv_requests::{RequestError, request};
 use std::env::{self, Env, FillError};
 use std::fs::{self, File};
 use std::io::{self, BufWriter};

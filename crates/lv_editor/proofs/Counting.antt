@@ -11,9 +11,9 @@ use Rattle.lv_maptables.specs.Tables.{Tables, empty_tables}
 use Rattle.lv_pwad.specs.Levels.{IsLevel, Lumps, lumps_behind, marker_at}
 use Rattle.lv_pwad.specs.declared.error.BuildError.{BuildError}
 use Rattle.lv_editor.specs.Building.{CountsLevels, CountsMore, IsCounted, built_text, level_of}
-use Rattle.lv_editor.specs.Deeds.{RefusesFile}
+use Rattle.lv_editor.specs.Refusals.{RefusesFile}
 use Rattle.lv_editor.specs.Sources.{IsBuiltOf}
-use Rattle.lv_editor.specs.declared.building.Counts.{Counts}
+use Rattle.lv_editor.specs.declared.counted_wad.Counts.{Counts}
 use Rattle.lv_editor.specs.declared.error.EditorError.TheVariants.{WriterFailed}
 use Rattle.lv_editor.specs.declared.refusal.Refusal.{Refusal}
 use Rattle.lv_editor.specs.declared.refusal.Refusal.TheVariants.{Build, Level, Lines, Project}

@@ -2,13 +2,13 @@
 use Rattle.std.proofs.Common.{◌≡◌, ℕ, ◌<◌, ◌≤◌, Bool, true, false, ◌||◌, cond, List, [], ◌∷◌, ◌++◌, length, refl, sym, ◌∙◌, ap, arith}
 use Rattle.std.proofs.lemmas.List.Folds.{list_any-append}
 use Rattle.std.specs.List.{list_any}
-use Rattle.lv_editor.specs.Lines.{is_break, onto_first, whole_lines, unfinished}
+use Rattle.lv_editor.specs.Lines.{is_break, onto_first_line, whole_lines, unfinished}
 
 whole-break : (b : ℕ) (bs : List ℕ) → is_break b ≡ true → whole_lines (b ∷ bs) ≡ [] ∷ whole_lines bs
-whole-break b bs e = ap (λ t. cond t ([] ∷ whole_lines bs) (onto_first b (whole_lines bs))) e
+whole-break b bs e = ap (λ t. cond t ([] ∷ whole_lines bs) (onto_first_line b (whole_lines bs))) e
 
-whole-other : (b : ℕ) (bs : List ℕ) → is_break b ≡ false → whole_lines (b ∷ bs) ≡ onto_first b (whole_lines bs)
-whole-other b bs e = ap (λ t. cond t ([] ∷ whole_lines bs) (onto_first b (whole_lines bs))) e
+whole-other : (b : ℕ) (bs : List ℕ) → is_break b ≡ false → whole_lines (b ∷ bs) ≡ onto_first_line b (whole_lines bs)
+whole-other b bs e = ap (λ t. cond t ([] ∷ whole_lines bs) (onto_first_line b (whole_lines bs))) e
 
 unfinished-if : (b : ℕ) (bs : List ℕ) (t : Bool) → list_any is_break (b ∷ bs) ≡ t → unfinished (b ∷ bs) ≡ cond t (unfinished bs) (b ∷ bs)
 unfinished-if b bs t e = ap (λ t. cond t (unfinished bs) (b ∷ bs)) e
@@ -29,7 +29,7 @@ pub whole-none : (bs : List ℕ) → list_any is_break bs ≡ false → whole_li
 whole-none [] e = refl
 whole-none (b ∷ bs) e =
     two (is_break b) (λ s. absurd (no (sym (or-true (is_break b) (list_any is_break bs) s) ∙ e)))
-    (λ s. whole-other b bs s ∙ ap (onto_first b) (whole-none bs (sym (or-false _ _ _ s refl) ∙ e)))
+    (λ s. whole-other b bs s ∙ ap (onto_first_line b) (whole-none bs (sym (or-false _ _ _ s refl) ∙ e)))
   where
     no : true ≡ false → ⊥
     no h = cc
@@ -39,11 +39,11 @@ unfinished-none [] e = refl
 unfinished-none (b ∷ bs) e = unfinished-if b bs false e
 
 -- a line goes on only in front
-onto-append : (b : ℕ) (xs ys : List (List ℕ)) → 0 < length xs → onto_first b (xs ++ ys) ≡ onto_first b xs ++ ys
+onto-append : (b : ℕ) (xs ys : List (List ℕ)) → 0 < length xs → onto_first_line b (xs ++ ys) ≡ onto_first_line b xs ++ ys
 onto-append b [] ys h = absurd (omega arith)
 onto-append b (x ∷ xs) ys h = refl
 
-length-onto : (b : ℕ) (xs : List (List ℕ)) → length (onto_first b xs) ≡ length xs
+length-onto : (b : ℕ) (xs : List (List ℕ)) → length (onto_first_line b xs) ≡ length xs
 length-onto b [] = refl
 length-onto b (x ∷ xs) = refl
 
@@ -65,7 +65,7 @@ whole-append (b ∷ bs) ys =
     (λ s.
     two (list_any is_break bs)
     (λ t.
-    whole-other b (bs ++ ys) s ∙ ap (onto_first b) (whole-append bs ys)
+    whole-other b (bs ++ ys) s ∙ ap (onto_first_line b) (whole-append bs ys)
     ∙ onto-append b (whole_lines bs) (whole_lines (unfinished bs ++ ys)) (whole-some bs t)
     ∙ sym (rw (whole-other b bs s, unfinished-if b bs true (or-false _ _ _ s t)) refl))
     (λ t.
@@ -107,7 +107,7 @@ right-false false t e = e
 pub whole-end : (bs : List ℕ) → list_any is_break bs ≡ false → whole_lines (bs ++ 10 ∷ []) ≡ bs ∷ []
 whole-end [] e = refl
 whole-end (b ∷ bs) e =
-    whole-other b (bs ++ 10 ∷ []) (left-false _ _ e) ∙ ap (onto_first b) (whole-end bs (right-false _ _ e))
+    whole-other b (bs ++ 10 ∷ []) (left-false _ _ e) ∙ ap (onto_first_line b) (whole-end bs (right-false _ _ e))
 
 pub unfinished-end : (bs : List ℕ) → unfinished (bs ++ 10 ∷ []) ≡ []
 unfinished-end [] = refl

@@ -2,7 +2,7 @@
 use Rattle.std.proofs.Common.{inl, inr, ℕ, List, [], ◌∷◌, ◌++◌, refl, sym, subst}
 use Rattle.lv_project.specs.Calls.{AllMade, Call}
 use Rattle.lv_project.specs.States.{State}
-use Rattle.lv_editor.specs.Sessions.{AllDone, Deed, IsDone}
+use Rattle.lv_editor.specs.Sessions.{AllDone, Deed, IsDeedDone}
 
 module _ {D : Type 0} (moment failures : D → ℕ) (left_since : D → ℕ → List ℕ → Type 0) (may_leave : D → List ℕ → Type 0) where
   abbrev Goes : State D → List Call → State D → Type 0
@@ -18,7 +18,7 @@ module _ {D : Type 0} (moment failures : D → ℕ) (left_since : D → ℕ → 
       let p = go_parted xs ys next new rest in
       (p.0, (next, made, p.1), p.2)
 
-  deed_calls : (deed : Deed D) (calls : List Call) (old new : State D) → IsDone moment failures left_since may_leave old deed calls new → Goes old calls new
+  deed_calls : (deed : Deed D) (calls : List Call) (old new : State D) → IsDeedDone moment failures left_since may_leave old deed calls new → Goes old calls new
   deed_calls (inl call) calls old new (made, is) = subst (λ (l : List Call). Goes old l new) (sym is) (new, made, refl)
   deed_calls (inr trace) calls old new (run, is) = subst (λ (l : List Call). Goes old l new) (sym is) run.made
 

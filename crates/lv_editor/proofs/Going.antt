@@ -126,7 +126,8 @@ module _ {S : Type 0} (answers : S → List ℕ → List ℕ → S → Type 0) w
       let e : Exchange S = record { line = l; text = text; after = new } in
       (e ∷ [], (told, refl), (refl, record { asked = refl; output = rw append-nil wrote }))
 
-  pub lost : (error : EditorError) (old new : S) (l : List ℕ) (u w : Option (List ℕ)) → ((text : List ℕ) × answers old l text new × (error ≡ WriterFailed)) → AnswersLines answers (Err error) old new (l ∷ []) u w
+  pub lost : (error : EditorError) (old new : S) (l : List ℕ) (u w : Option (List ℕ))
+      → ((text : List ℕ) × answers old l text new × (error ≡ WriterFailed)) → AnswersLines answers (Err error) old new (l ∷ []) u w
   lost WriterFailed old new l u w (text, told, is) =
       let e : Exchange S = record { line = l; text = text; after = new } in
       (e ∷ [], (told, refl), ([], refl))
@@ -135,11 +136,13 @@ module _ {S : Type 0} (answers : S → List ℕ → List ℕ → S → Type 0) w
   lost ReaderFailed old new l u w (text, told, is) = cc
 
   -- one stretch, and another
-  pub both : (old mid new : S) (xs ys : List (List ℕ)) (n m : ℕ) (u v w : Option (List ℕ)) → AnswersLines answers (Ok n) old mid xs u v → AnswersLines answers (Ok m) mid new ys v w → AnswersLines answers (Ok (n + m)) old new (xs ++ ys) u w
+  pub both : (old mid new : S) (xs ys : List (List ℕ)) (n m : ℕ) (u v w : Option (List ℕ)) → AnswersLines answers (Ok n) old mid xs u v
+      → AnswersLines answers (Ok m) mid new ys v w → AnswersLines answers (Ok (n + m)) old new (xs ++ ys) u w
   both old mid new xs ys n m u v w (trace, told, (count, covers)) (trace', told', (count', covers')) =
       (trace ++ trace', IsTrace-append old mid new trace trace' told told', (omega (arith, length-append xs ys), Answered-append trace trace' xs ys u v w covers covers'))
 
-  pub both_lost : (old mid new : S) (xs ys : List (List ℕ)) (n : ℕ) (e : EditorError) (u v w : Option (List ℕ)) → AnswersLines answers (Ok n) old mid xs u v → AnswersLines answers (Err e) mid new ys v w → AnswersLines answers (Err e) old new (xs ++ ys) u w
+  pub both_lost : (old mid new : S) (xs ys : List (List ℕ)) (n : ℕ) (e : EditorError) (u v w : Option (List ℕ))
+      → AnswersLines answers (Ok n) old mid xs u v → AnswersLines answers (Err e) mid new ys v w → AnswersLines answers (Err e) old new (xs ++ ys) u w
   both_lost old mid new xs ys n WriterFailed u v w (trace, told, (count, covers)) (trace', told', (back, is)) = (
     trace ++ trace',
     IsTrace-append old mid new trace trace' told told',
@@ -166,7 +169,8 @@ module _ {S : Type 0} (answers : S → List ℕ → List ℕ → S → Type 0) w
   kept old new xs n u v w (trace, told, (count, covers)) keeps =
       (trace, told, (count, record { asked = covers.asked; output = Appends-keeps u v w (output_of trace) covers.output keeps }))
 
-  pub stopped : (old new : S) (xs : List (List ℕ)) (n : ℕ) (e : EditorError) (u v w : Option (List ℕ)) → AnswersLines answers (Ok n) old new xs u v → e ≡ WriterFailed → AnswersLines answers (Err e) old new xs u w
+  pub stopped : (old new : S) (xs : List (List ℕ)) (n : ℕ) (e : EditorError) (u v w : Option (List ℕ)) → AnswersLines answers (Ok n) old new xs u v
+      → e ≡ WriterFailed → AnswersLines answers (Err e) old new xs u w
   stopped old new xs n WriterFailed u v w (trace, told, (count, covers)) is =
       (trace, told, ([], sym (append-nil (lines_in trace) ∙ covers.asked)))
   stopped old new xs n OutOfMemory u v w p is = cc
@@ -176,20 +180,23 @@ module _ {S : Type 0} (answers : S → List ℕ → List ℕ → S → Type 0) w
   -- ---- More bytes
 
   -- a byte that ends no line
-  pub Feeds-byte : (m : S) (before part : List ℕ) (b : ℕ) (after : List ℕ) (u : Option (List ℕ)) → IsBegun before part → is_break b ≡ false → after ≡ take 257 (before ++ b ∷ []) → Feeds answers (Ok 0) m m part (b ∷ []) after u u
+  pub Feeds-byte : (m : S) (before part : List ℕ) (b : ℕ) (after : List ℕ) (u : Option (List ℕ)) → IsBegun before part → is_break b ≡ false
+      → after ≡ take 257 (before ++ b ∷ []) → Feeds answers (Ok 0) m m part (b ∷ []) after u u
   Feeds-byte m before part b after u begun other e = record {
     ends = none m _ u (whole-push part b begun.open_ended other);
     begun = rw (unfinished-push part b begun.open_ended other) (begun-push before part b after begun other e);
   }
 
   -- a LF: the line was answered, or it wasn't
-  pub Feeds-line : (old new : S) (before part : List ℕ) (b : ℕ) (after : List ℕ) (u w : Option (List ℕ)) → IsBegun before part → b ≡ 10 → after ≡ [] → AnswersLines answers (Ok 1) old new (part ∷ []) u w → Feeds answers (Ok 1) old new part (b ∷ []) after u w
+  pub Feeds-line : (old new : S) (before part : List ℕ) (b : ℕ) (after : List ℕ) (u w : Option (List ℕ)) → IsBegun before part → b ≡ 10 → after ≡ []
+      → AnswersLines answers (Ok 1) old new (part ∷ []) u w → Feeds answers (Ok 1) old new part (b ∷ []) after u w
   Feeds-line old new before part b after u w begun lf e ended = record {
     ends = rw (whole-at part b lf begun.open_ended) ended;
     begun = rw (e, unfinished-at part b lf) begun-none;
   }
 
-  pub Feeds-lost : (e : EditorError) (old new : S) (before part : List ℕ) (b : ℕ) (after : List ℕ) (u w : Option (List ℕ)) → IsBegun before part → b ≡ 10 → AnswersLines answers (Err e) old new (part ∷ []) u w → Feeds answers (Err e) old new part (b ∷ []) after u w
+  pub Feeds-lost : (e : EditorError) (old new : S) (before part : List ℕ) (b : ℕ) (after : List ℕ) (u w : Option (List ℕ)) → IsBegun before part
+      → b ≡ 10 → AnswersLines answers (Err e) old new (part ∷ []) u w → Feeds answers (Err e) old new part (b ∷ []) after u w
   Feeds-lost e old new before part b after u w begun lf ended = record {
     ends = rw (whole-at part b lf begun.open_ended) ended;
     begun = tt;
@@ -202,20 +209,25 @@ module _ {S : Type 0} (answers : S → List ℕ → List ℕ → S → Type 0) w
   }
 
   -- some bytes, and more
-  pub Feeds-ok : (old mid new : S) (part xs ys before after : List ℕ) (n m : ℕ) (u v w : Option (List ℕ)) → Feeds answers (Ok n) old mid part xs before u v → Feeds answers (Ok m) mid new (unfinished (part ++ xs)) ys after v w → Feeds answers (Ok (n + m)) old new part (xs ++ ys) after u w
+  pub Feeds-ok : (old mid new : S) (part xs ys before after : List ℕ) (n m : ℕ) (u v w : Option (List ℕ))
+      → Feeds answers (Ok n) old mid part xs before u v → Feeds answers (Ok m) mid new (unfinished (part ++ xs)) ys after v w
+      → Feeds answers (Ok (n + m)) old new part (xs ++ ys) after u w
   Feeds-ok old mid new part xs ys before after n m u v w p q = record {
     ends = rw (← append_assoc part xs ys, whole-append (part ++ xs) ys) (both old mid new _ _ n m u v w p.ends q.ends);
     begun = rw (← append_assoc part xs ys, unfinished-append (part ++ xs) ys) q.begun;
   }
 
-  pub Feeds-err : (old mid new : S) (part xs ys before after : List ℕ) (n : ℕ) (e : EditorError) (u v w : Option (List ℕ)) → Feeds answers (Ok n) old mid part xs before u v → Feeds answers (Err e) mid new (unfinished (part ++ xs)) ys after v w → Feeds answers (Err e) old new part (xs ++ ys) after u w
+  pub Feeds-err : (old mid new : S) (part xs ys before after : List ℕ) (n : ℕ) (e : EditorError) (u v w : Option (List ℕ))
+      → Feeds answers (Ok n) old mid part xs before u v → Feeds answers (Err e) mid new (unfinished (part ++ xs)) ys after v w
+      → Feeds answers (Err e) old new part (xs ++ ys) after u w
   Feeds-err old mid new part xs ys before after n e u v w p q = record {
     ends = rw (← append_assoc part xs ys, whole-append (part ++ xs) ys) (both_lost old mid new _ _ n e u v w p.ends q.ends);
     begun = tt;
   }
 
   -- the bytes behind those
-  pub Feeds-further : (old new : S) (part xs ys after : List ℕ) (e : EditorError) (u w : Option (List ℕ)) → Feeds answers (Err e) old new part xs after u w → Feeds answers (Err e) old new part (xs ++ ys) after u w
+  pub Feeds-further : (old new : S) (part xs ys after : List ℕ) (e : EditorError) (u w : Option (List ℕ))
+      → Feeds answers (Err e) old new part xs after u w → Feeds answers (Err e) old new part (xs ++ ys) after u w
   Feeds-further old new part xs ys after e u w p = record {
     ends = rw (← append_assoc part xs ys, whole-append (part ++ xs) ys) (further old new _ _ e u w p.ends);
     begun = tt;
@@ -223,12 +235,14 @@ module _ {S : Type 0} (answers : S → List ℕ → List ℕ → S → Type 0) w
 
   -- ---- The end of a run
 
-  pub Ran-ok : (n turns : ℕ) (first last : S) (read : List ℕ) (r s u w : Option (List ℕ)) → Consumes r s read → length read ≤ 4096 * turns → IsAtEnd s → AnswersLines answers (Ok n) first last (lines_of read) u w
+  pub Ran-ok : (n turns : ℕ) (first last : S) (read : List ℕ) (r s u w : Option (List ℕ)) → Consumes r s read → length read ≤ 4096 * turns → IsAtEnd s
+      → AnswersLines answers (Ok n) first last (lines_of read) u w
       → (trace : List (Exchange S)) × Ran answers first last trace turns (Ok n) r s u w
   Ran-ok n turns first last read r s u w took few at_end (trace, told, (count, covers)) =
       (trace, record { read = read; took = took; few = few; whole = at_end; in_turn = told; ends = (count, covers) })
 
-  pub Ran-lost : (e : EditorError) (turns : ℕ) (first last : S) (read : List ℕ) (r s u w : Option (List ℕ)) → Consumes r s read → length read ≤ 4096 * turns → AnswersLines answers (Err e) first last (lines_of read) u w
+  pub Ran-lost : (e : EditorError) (turns : ℕ) (first last : S) (read : List ℕ) (r s u w : Option (List ℕ)) → Consumes r s read
+      → length read ≤ 4096 * turns → AnswersLines answers (Err e) first last (lines_of read) u w
       → (trace : List (Exchange S)) × Ran answers first last trace turns (Err e) r s u w
   Ran-lost WriterFailed turns first last read r s u w took few (trace, told, front) =
       (trace, record { read = read; took = took; few = few; whole = tt; in_turn = told; ends = front })
@@ -236,12 +250,14 @@ module _ {S : Type 0} (answers : S → List ℕ → List ℕ → S → Type 0) w
   Ran-lost InputTooLong turns first last read r s u w took few (trace, told, never) = absurd never
   Ran-lost ReaderFailed turns first last read r s u w took few (trace, told, never) = absurd never
 
-  pub Ran-unread : (n turns : ℕ) (first last : S) (read : List ℕ) (r s u w : Option (List ℕ)) → Consumes r s read → length read ≤ 4096 * turns → AnswersLines answers (Ok n) first last (whole_lines read) u w
+  pub Ran-unread : (n turns : ℕ) (first last : S) (read : List ℕ) (r s u w : Option (List ℕ)) → Consumes r s read → length read ≤ 4096 * turns
+      → AnswersLines answers (Ok n) first last (whole_lines read) u w
       → (trace : List (Exchange S)) × Ran answers first last trace turns (Err ReaderFailed) r s u w
   Ran-unread n turns first last read r s u w took few (trace, told, (count, covers)) =
       (trace, record { read = read; took = took; few = few; whole = tt; in_turn = told; ends = covers })
 
-  pub Ran-cut : (n turns : ℕ) (first last : S) (read : List ℕ) (r s u w : Option (List ℕ)) → Consumes r s read → length read ≤ 4096 * turns → turns ≤ length read → AnswersLines answers (Ok n) first last (whole_lines read) u w
+  pub Ran-cut : (n turns : ℕ) (first last : S) (read : List ℕ) (r s u w : Option (List ℕ)) → Consumes r s read → length read ≤ 4096 * turns
+      → turns ≤ length read → AnswersLines answers (Ok n) first last (whole_lines read) u w
       → (trace : List (Exchange S)) × Ran answers first last trace turns (Err InputTooLong) r s u w
   Ran-cut n turns first last read r s u w took few each (trace, told, (count, covers)) =
       (trace, record { read = read; took = took; few = few; whole = tt; in_turn = told; ends = (each, covers) })

@@ -1,9 +1,7 @@
 pub mod Answering
-pub mod Built
 pub mod Counting
 pub mod Cutting
 pub mod EditingLines
-pub mod FromMatches
 pub mod Going
 pub mod HexDigits
 pub mod Inspecting

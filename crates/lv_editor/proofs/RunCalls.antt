@@ -179,7 +179,8 @@ module _ {D : Type 0} (moment failures : D → ℕ) (left_since : D → ℕ → 
       pub run_moments : (old : State D) (calls : List Call) (new : State D) → IsKept may_leave old → old.must_reopen ≡ false → HoldsThroughout moment failures left_since may_leave old calls new
       run_moments old calls new kept ready front back mid split still before behind =
           ⊎_elim
-          (λ well. weaker moment left_since mid.disk new.disk (Holds moment failures left_since may_leave only_now counts_now old.cap (project_of old.maps) (acknowledged front ++ accepted back) (length (acknowledged front)))
+          (λ well. weaker moment left_since mid.disk new.disk (Holds moment failures left_since may_leave only_now counts_now old.cap
+          (project_of old.maps) (acknowledged front ++ accepted back) (length (acknowledged front)))
           (HoldsAcknowledged old.cap (project_of old.maps) (record { front = front; back = back }))
           (moves moment failures left_since may_leave only_now counts_now old.cap (project_of old.maps) back (acknowledged front) mid new well.1 well.0 behind)
           (λ file h. (

@@ -13,7 +13,8 @@ use Rattle.lv_project.specs.declared.error.ProjectError.TheVariants.{Refused, De
 use Rattle.lv_project.specs.declared.geometry.Geometry.{Geometry}
 use Rattle.lv_pwad.specs.Projects.{IsRefusalOfAll}
 use Rattle.lv_pwad.specs.declared.error.BuildError.{BuildError}
-use Rattle.lv_editor.specs.Deeds.{IsBuiltInto, IsChecked, IsCreated, IsEdited, IsExamined, IsOfOpening}
+use Rattle.lv_editor.specs.Deeds.{IsBuiltInto, IsChecked, IsCreated, IsEdited, IsExamined}
+use Rattle.lv_editor.specs.Refusals.{IsOfOpening}
 use Rattle.lv_editor.specs.Recovery.{RefusesKept}
 use Rattle.lv_editor.specs.Sources.{IsBuiltOf, IsCheckedOf, IsEditedOver, IsExaminedOf, IsMade, NotOpened, OverMaps}
 use Rattle.lv_editor.specs.declared.error.EditorError.TheVariants.{WriterFailed}

@@ -1,4 +1,5 @@
--- What a build writes and tells (docs/COMMANDS.md, "The program"): a PWAD, and how long the lists of its levels are.
+-- What a build writes and tells (docs/COMMANDS.md, "The program"): a PWAD, and how long the lists
+-- of its levels are.
 use Rattle.std.specs.Prelude.{◌≡◌, ◌+◌, ◌++◌, ℕ, List, [], ◌∷◌, All, length, sum_by, Option, codes, decimal}
 use Rattle.std.specs.Io.KnownBytes.{Appends, Keeps}
 use Rattle.lv_lumps.specs.Names.{name_text}
@@ -6,7 +7,7 @@ use Rattle.lv_maptables.specs.Tables.{Tables}
 use Rattle.lv_pwad.specs.Levels.{Lumps, lumps_behind, marker_at}
 use Rattle.lv_pwad.specs.Projects.{IsRefusalOfAll, IsSoundBuildOfAll}
 use Rattle.lv_pwad.specs.Sound.{IsBuildable}
-use Rattle.lv_editor.specs.declared.building.Counts.{Counts}
+use Rattle.lv_editor.specs.declared.counted_wad.Counts.{Counts}
 use Rattle.lv_editor.specs.declared.error.WriteError.{WriteError}
 use Rattle.lv_editor.specs.declared.error.WriteError.TheVariants.{Build, WriterFailed}
 
@@ -37,15 +38,18 @@ pub record IsCounted (ms : List Tables) (wad : List ℕ) (c : Counts) : Type 0 w
 
 -- a sound build of each map was written, and these are its counts
 abbrev pub IsWritten : List Tables → Counts → Option (List ℕ) → Option (List ℕ) → Type 0
-IsWritten ms c writer-old writer-new = (wad : List ℕ) × IsCounted ms wad c × Appends writer-old writer-new wad
+IsWritten ms c writer-old writer-new =
+    (wad : List ℕ) × IsCounted ms wad c × Appends writer-old writer-new wad
 
 -- no build was written: nothing at all where a map isn't built, and else the writer failed
 abbrev pub RefusesWriting : List Tables → WriteError → Option (List ℕ) → Option (List ℕ) → Type 0
-RefusesWriting ms (Build e) writer-old writer-new = IsRefusalOfAll ms e × Keeps writer-old writer-new
+RefusesWriting ms (Build e) writer-old writer-new =
+    IsRefusalOfAll ms e × Keeps writer-old writer-new
 RefusesWriting ms WriterFailed writer-old writer-new = All IsBuildable ms
 
 -- `built`, the counts, and the length of the PWAD
 abbrev pub built_text : Counts → List ℕ
 built_text c =
-    codes "built vertices " ++ decimal c.vertices ++ codes " segs " ++ decimal c.segs ++ codes " subsectors "
-    ++ decimal c.subs ++ codes " nodes " ++ decimal c.nodes ++ codes " bytes " ++ decimal c.bytes ++ 10 ∷ []
+    codes "built vertices " ++ decimal c.vertices ++ codes " segs " ++ decimal c.segs
+    ++ codes " subsectors " ++ decimal c.subs ++ codes " nodes " ++ decimal c.nodes
+    ++ codes " bytes " ++ decimal c.bytes ++ 10 ∷ []

@@ -1,28 +1,24 @@
--- What was done for a request, and why it was refused (docs/COMMANDS.md, "The program"). How it ended is a status, or
--- the refusal. A file tells no bytes, so which project or WAD it was is left open.
+-- What was done for a request (docs/COMMANDS.md, "The program"). How it ended is a status, or the
+-- refusal. A file tells no bytes, so which project or WAD it was is left open.
 use Rattle.std.specs.Prelude.{◌≡◌, ◌⊎◌, ℕ, Bool, Option, Result, Ok, Err, List, [], ◌∷◌, ◌++◌, codes, string_bytes, false, length, nat_eq, if◌then◌else◌}
 use Rattle.std.specs.Io.KnownBytes.{Appends, Keeps}
 use Rattle.lv_maptables.specs.Projects.{MapsView, ProjectMaps, empty_project, project_of}
 use Rattle.lv_maptables.specs.Tables.{Tables}
 use Rattle.lv_checks.specs.Findings.{findings}
-use Rattle.lv_pwad.specs.Projects.{IsRefusalOfAll}
-use Rattle.lv_project.specs.Places.{IsAllowed}
 use Rattle.lv_project.specs.States.{State}
 use Rattle.lv_project.specs.declared.error.ProjectError.{ProjectError}
-use Rattle.lv_project.specs.declared.error.ProjectError.TheVariants.{Device, OutOfMemory, Damaged, Blank, NotAProject, NotEmpty, BadGeometry}
 use Rattle.lv_editor.specs.Answers.{RepliesInMemory}
 use Rattle.lv_editor.specs.Building.{IsCounted, built_text}
 use Rattle.lv_editor.specs.Editing.{RepliesInProject}
-use Rattle.lv_editor.specs.Inspections.{IsInspected, RefusesInspection}
-use Rattle.lv_editor.specs.Runs.{Exchange, Ran, Unwritten}
+use Rattle.lv_editor.specs.Inspections.{IsInspected}
+use Rattle.lv_editor.specs.Refusals.{IsOfOpening, NotBuilt, NotChecked, NotCreated, NotExamined}
+use Rattle.lv_editor.specs.Runs.{Exchange, Ran}
 use Rattle.lv_editor.specs.Sessions.{RunsOver}
 use Rattle.lv_editor.specs.Texts.{findings_text}
-use Rattle.lv_editor.specs.declared.asked.Request.{Request}
-use Rattle.lv_editor.specs.declared.asked.Request.TheVariants.{Scratch, Create, Edit, Check, Inspect, Build}
-use Rattle.lv_editor.specs.declared.building.Counts.{Counts}
+use Rattle.lv_requests.specs.declared.asked.Request.{Request}
+use Rattle.lv_requests.specs.declared.asked.Request.TheVariants.{Scratch, Create, Edit, Check, Inspect, Build}
+use Rattle.lv_editor.specs.declared.counted_wad.Counts.{Counts}
 use Rattle.lv_editor.specs.declared.error.EditorError.{EditorError}
-use Rattle.lv_editor.specs.declared.error.EditorError.TheVariants.{WriterFailed}
-use Rattle.lv_editor.specs.declared.error.WriteError.TheVariants as writing
 use Rattle.lv_editor.specs.declared.refusal.Refusal.{Refusal}
 use Rattle.lv_editor.specs.declared.refusal.Refusal.TheVariants as of
 
@@ -39,7 +35,8 @@ abbrev pub status_in : Result ℕ Refusal → ℕ
 status_in (Ok status) = status
 status_in (Err refusal) = 1
 
--- how a request ended that was a run: 0 where all lines were answered, and else refused as the run was
+-- how a request ended that was a run: 0 where all lines were answered, and else refused as the run
+-- was
 abbrev pub ended : Result ℕ EditorError → Result ℕ Refusal
 ended (Ok n) = Ok 0
 ended (Err e) = Err (of.Lines e)
@@ -52,116 +49,81 @@ status_after found = if nat_eq found 0 then 0 else 3
 abbrev pub status_told : Bool → ℕ
 status_told sound = if sound then 0 else 3
 
--- ---- Refusals
-
--- a refusal that a project file which is opened can have
-abbrev pub IsOfOpening : ProjectError → Type 0
-IsOfOpening Device = Unit {0}
-IsOfOpening OutOfMemory = Unit {0}
-IsOfOpening (Damaged place) = Unit {0}
-IsOfOpening Blank = Unit {0}
-IsOfOpening NotAProject = Unit {0}
-IsOfOpening BadGeometry = Unit {0}
-IsOfOpening _ = ⊥
-
--- a refusal that a project file which is made with this slot and this journal can have
-abbrev pub IsOfMaking : ℕ → ℕ → ProjectError → Type 0
-IsOfMaking slot journal Device = Unit {0}
-IsOfMaking slot journal NotEmpty = IsAllowed slot journal
-IsOfMaking slot journal BadGeometry = ¬ IsAllowed slot journal
-IsOfMaking slot journal _ = ⊥
-
--- no project was made, and then nothing written; or the writer failed
-abbrev pub NotCreated : ℕ → ℕ → Refusal → Option (List ℕ) → Option (List ℕ) → Type 0
-NotCreated slot journal (of.Project e) writer-old writer-new = IsOfMaking slot journal e × Keeps writer-old writer-new
-NotCreated slot journal (of.Lines e) writer-old writer-new = e ≡ WriterFailed
-NotCreated slot journal _ writer-old writer-new = ⊥
-
--- no project was opened, or there is no memory for the findings, and then nothing was written; or the writer failed
-abbrev pub NotChecked : Refusal → Option (List ℕ) → Option (List ℕ) → Type 0
-NotChecked (of.Project e) writer-old writer-new = IsOfOpening e × Keeps writer-old writer-new
-NotChecked (of.Lines e) writer-old writer-new = Unwritten e writer-old writer-new
-NotChecked _ writer-old writer-new = ⊥
-
--- a PWAD of these maps was not written into a file: a map isn't built, or the file can't be written
-abbrev pub RefusesFile : List Tables → Refusal → Type 0
-RefusesFile ms (of.Build (writing.Build e)) = IsRefusalOfAll ms e
-RefusesFile ms (of.Build writing.WriterFailed) = Unit {0}
-RefusesFile ms _ = ⊥
-
--- no project was opened, or no PWAD of its maps written, and then nothing was told; or the file to be made can't be
--- opened or holds a project, or the writer failed
-abbrev pub NotBuilt : Refusal → Option (List ℕ) → Option (List ℕ) → Type 0
-NotBuilt (of.Project e) writer-old writer-new = IsOfOpening e × Keeps writer-old writer-new
-NotBuilt (of.Build e) writer-old writer-new =
-    ((maps : MapsView) × RefusesFile (project_of maps).maps (of.Build e)) × Keeps writer-old writer-new
-NotBuilt (of.Lines e) writer-old writer-new = e ≡ WriterFailed
-NotBuilt (of.Level e) writer-old writer-new = ⊥
-
--- the WAD was not read to its end, and then nothing was written; or what was read of it was not inspected; or the
--- writer failed
-abbrev pub NotExamined : List ℕ → Refusal → Option (List ℕ) → Option (List ℕ) → Type 0
-NotExamined name (of.Lines e) writer-old writer-new = (e ≡ WriterFailed) ⊎ Keeps writer-old writer-new
-NotExamined name (of.Level e) writer-old writer-new = (wad : List ℕ) × RefusesInspection wad name e writer-old writer-new
-NotExamined name _ writer-old writer-new = ⊥
-
--- ---- What was done
-
 -- the lines of the input were answered over the empty project, and the answers written
-abbrev pub IsScratched : Result ℕ Refusal → Option (List ℕ) → Option (List ℕ) → Option (List ℕ) → Option (List ℕ) → Type 0
+abbrev pub IsScratched : Result ℕ Refusal → Option (List ℕ) → Option (List ℕ) → Option (List ℕ)
+    → Option (List ℕ) → Type 0
 IsScratched how reader-old reader-new writer-old writer-new =
-    (result : Result ℕ EditorError) × (last : ProjectMaps) × (trace : List (Exchange ProjectMaps)) × (how ≡ ended result)
-    × Ran (RepliesInMemory longest_body) empty_project last trace turns result reader-old reader-new writer-old writer-new
+    (result : Result ℕ EditorError) × (last : ProjectMaps) × (trace : List (Exchange ProjectMaps))
+    × (how ≡ ended result)
+    × Ran (RepliesInMemory longest_body) empty_project last trace turns result reader-old reader-new
+    writer-old writer-new
 
 -- `created` was written, or it was refused
 abbrev pub IsCreated : ℕ → ℕ → Result ℕ Refusal → Option (List ℕ) → Option (List ℕ) → Type 0
 IsCreated slot journal (Ok status) writer-old writer-new =
     (status ≡ 0) × Appends writer-old writer-new (codes "created" ++ 10 ∷ [])
-IsCreated slot journal (Err refusal) writer-old writer-new = NotCreated slot journal refusal writer-old writer-new
+IsCreated slot journal (Err refusal) writer-old writer-new =
+    NotCreated slot journal refusal writer-old writer-new
 
--- no project was opened and nothing read or written, or the lines of the input were answered over one, and the answers
--- written
-abbrev pub IsEdited : {D : Type 0} → (D → ℕ) → (D → ℕ) → (D → ℕ → List ℕ → Type 0) → (D → List ℕ → Type 0) → Result ℕ Refusal
+-- no project was opened and nothing read or written, or the lines of the input were answered over
+-- one, and the answers written
+abbrev pub IsEdited : {D : Type 0} → (D → ℕ) → (D → ℕ) → (D → ℕ → List ℕ → Type 0)
+    → (D → List ℕ → Type 0) → Result ℕ Refusal
     → Option (List ℕ) → Option (List ℕ) → Option (List ℕ) → Option (List ℕ) → Type 0
-IsEdited {D = D} moment failures left_since may_leave how reader-old reader-new writer-old writer-new =
-    ((e : ProjectError) × (how ≡ Err (of.Project e)) × IsOfOpening e × Keeps reader-old reader-new × Keeps writer-old writer-new)
-    ⊎ ((result : Result ℕ EditorError) × (first : State D) × (last : State D) × (trace : List (Exchange (State D)))
+IsEdited {D = D} moment failures left_since may_leave how reader-old reader-new writer-old
+    writer-new =
+    ((e : ProjectError) × (how ≡ Err (of.Project e)) × IsOfOpening e × Keeps reader-old reader-new
+    × Keeps writer-old writer-new)
+    ⊎ ((result : Result ℕ EditorError) × (first : State D) × (last : State D)
+    × (trace : List (Exchange (State D)))
     × (first.must_reopen ≡ false) × (how ≡ ended result)
-    × Ran (RepliesInProject moment failures left_since may_leave) first last trace turns result reader-old reader-new writer-old writer-new
+    × Ran (RepliesInProject moment failures left_since may_leave) first last trace turns result
+    reader-old reader-new writer-old writer-new
     × RunsOver moment failures left_since may_leave first last trace)
 
 -- the findings of a map were written, and the status tells whether there are any; or it was refused
 abbrev pub IsChecked : Result ℕ Refusal → Option (List ℕ) → Option (List ℕ) → Type 0
 IsChecked (Ok status) writer-old writer-new =
-    (m : Tables) × (status ≡ status_after (length (findings m))) × Appends writer-old writer-new (findings_text (findings m))
+    (m : Tables) × (status ≡ status_after (length (findings m)))
+    × Appends writer-old writer-new (findings_text (findings m))
 IsChecked (Err refusal) writer-old writer-new = NotChecked refusal writer-old writer-new
 
--- the level of the name in what was read of a WAD was inspected, and the status tells whether it is sound; or it was
--- refused
+-- the level of the name in what was read of a WAD was inspected, and the status tells whether it is
+-- sound; or it was refused
 abbrev pub IsExamined : List ℕ → Result ℕ Refusal → Option (List ℕ) → Option (List ℕ) → Type 0
 IsExamined name (Ok status) writer-old writer-new =
-    (wad : List ℕ) × (sound : Bool) × (status ≡ status_told sound) × IsInspected wad name sound writer-old writer-new
+    (wad : List ℕ) × (sound : Bool) × (status ≡ status_told sound)
+    × IsInspected wad name sound writer-old writer-new
 IsExamined name (Err refusal) writer-old writer-new = NotExamined name refusal writer-old writer-new
 
 -- the counts of a sound build of some project's maps were told, or it was refused
 abbrev pub IsBuiltInto : Result ℕ Refusal → Option (List ℕ) → Option (List ℕ) → Type 0
 IsBuiltInto (Ok status) writer-old writer-new =
-    (maps : MapsView) × (wad : List ℕ) × (c : Counts) × (status ≡ 0) × IsCounted (project_of maps).maps wad c
+    (maps : MapsView) × (wad : List ℕ) × (c : Counts) × (status ≡ 0)
+    × IsCounted (project_of maps).maps wad c
     × Appends writer-old writer-new (built_text c)
 IsBuiltInto (Err refusal) writer-old writer-new = NotBuilt refusal writer-old writer-new
 
 -- what was done for a request that ended so; only a run reads the input
-abbrev pub IsPerformed : {D : Type 0} → (D → ℕ) → (D → ℕ) → (D → ℕ → List ℕ → Type 0) → (D → List ℕ → Type 0) → Request
-    → Result ℕ Refusal → Option (List ℕ) → Option (List ℕ) → Option (List ℕ) → Option (List ℕ) → Type 0
-IsPerformed moment failures left_since may_leave Scratch how reader-old reader-new writer-old writer-new =
+abbrev pub IsPerformed : {D : Type 0} → (D → ℕ) → (D → ℕ) → (D → ℕ → List ℕ → Type 0)
+    → (D → List ℕ → Type 0) → Request
+    → Result ℕ Refusal → Option (List ℕ) → Option (List ℕ) → Option (List ℕ) → Option (List ℕ)
+    → Type 0
+IsPerformed moment failures left_since may_leave Scratch how reader-old reader-new writer-old
+    writer-new =
     IsScratched how reader-old reader-new writer-old writer-new
-IsPerformed moment failures left_since may_leave (Create file slot journal) how reader-old reader-new writer-old writer-new =
+IsPerformed moment failures left_since may_leave (Create file slot journal) how reader-old
+    reader-new writer-old writer-new =
     IsCreated slot journal how writer-old writer-new × Keeps reader-old reader-new
-IsPerformed moment failures left_since may_leave (Edit file) how reader-old reader-new writer-old writer-new =
+IsPerformed moment failures left_since may_leave (Edit file) how reader-old reader-new writer-old
+    writer-new =
     IsEdited moment failures left_since may_leave how reader-old reader-new writer-old writer-new
-IsPerformed moment failures left_since may_leave (Check file) how reader-old reader-new writer-old writer-new =
+IsPerformed moment failures left_since may_leave (Check file) how reader-old reader-new writer-old
+    writer-new =
     IsChecked how writer-old writer-new × Keeps reader-old reader-new
-IsPerformed moment failures left_since may_leave (Inspect wad name) how reader-old reader-new writer-old writer-new =
+IsPerformed moment failures left_since may_leave (Inspect wad name) how reader-old reader-new
+    writer-old writer-new =
     IsExamined (string_bytes name) how writer-old writer-new × Keeps reader-old reader-new
-IsPerformed moment failures left_since may_leave (Build file out) how reader-old reader-new writer-old writer-new =
+IsPerformed moment failures left_since may_leave (Build file out) how reader-old reader-new
+    writer-old writer-new =
     IsBuiltInto how writer-old writer-new × Keeps reader-old reader-new

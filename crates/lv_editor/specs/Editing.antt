@@ -1,4 +1,5 @@
--- What is answered to a line over a project, and what becomes of it (docs/COMMANDS.md, "Answers and queries").
+-- What is answered to a line over a project, and what becomes of it (docs/COMMANDS.md, "Answers and
+-- queries").
 use Rattle.std.specs.Prelude.{◌≡◌, ◌⊎◌, ℕ, true, false, List, MatchOption, Result, Ok, Err}
 use Rattle.lv_maptables.specs.Projects.{project_of}
 use Rattle.lv_project.specs.Calls.{Applies}
@@ -15,7 +16,8 @@ abbrev pub outcome_in : Result ℕ ProjectError → Result ℕ ℕ
 outcome_in (Ok n) = Ok n
 outcome_in (Err error) = Err (code_of error)
 
--- what is answered to a query: `no 32` where the project must be opened again, and else an answer of its maps as they are
+-- what is answered to a query: `no 32` where the project must be opened again, and else an answer
+-- of its maps as they are
 abbrev pub AnswersQuery : {D : Type 0} → State D → Query → List ℕ → Type 0
 AnswersQuery project query text = ((project.must_reopen ≡ true) × (text ≡ refused_text 32))
     ⊎ ((project.must_reopen ≡ false) × IsAnswer (project_of project.maps) query text)
@@ -26,17 +28,21 @@ MayLack project query = (project.must_reopen ≡ false) × TakesMemory query
 
 -- what may be answered to a query: its answer, or `no 31` where that takes memory
 abbrev pub RepliesToQuery : {D : Type 0} → State D → Query → List ℕ → Type 0
-RepliesToQuery project query text = AnswersQuery project query text ⊎ (MayLack project query × (text ≡ refused_text 31))
+RepliesToQuery project query text =
+    AnswersQuery project query text ⊎ (MayLack project query × (text ≡ refused_text 31))
 
 -- a line that is no query: `apply` kept its promises of it, and the text tells what it answered
-abbrev pub IsTold : {D : Type 0} → (D → ℕ) → (D → ℕ) → (D → ℕ → List ℕ → Type 0) → (D → List ℕ → Type 0) → State D → List ℕ
+abbrev pub IsTold : {D : Type 0} → (D → ℕ) → (D → ℕ) → (D → ℕ → List ℕ → Type 0)
+    → (D → List ℕ → Type 0) → State D → List ℕ
     → List ℕ → State D → Type 0
 IsTold moment failures left_since may_leave old line text new =
-    (answer : Result ℕ ProjectError) × Applies moment failures left_since may_leave old line answer new
+    (answer : Result ℕ ProjectError)
+    × Applies moment failures left_since may_leave old line answer new
     × (text ≡ outcome_text (outcome_in answer))
 
 -- what is answered to a line over a project, and the project after it
-abbrev pub AnswersInProject : {D : Type 0} → (D → ℕ) → (D → ℕ) → (D → ℕ → List ℕ → Type 0) → (D → List ℕ → Type 0) → State D
+abbrev pub AnswersInProject : {D : Type 0} → (D → ℕ) → (D → ℕ) → (D → ℕ → List ℕ → Type 0)
+    → (D → List ℕ → Type 0) → State D
     → List ℕ → List ℕ → State D → Type 0
 AnswersInProject moment failures left_since may_leave old line text new =
     MatchOption (query_of line) (IsTold moment failures left_since may_leave old line text new)
@@ -47,7 +53,8 @@ abbrev pub LacksInProject : {D : Type 0} → State D → List ℕ → State D �
 LacksInProject old line new = MatchOption (query_of line) ⊥ (λ q. MayLack old q.1) × (new ≡ old)
 
 -- what may be answered to a line over a project, and the project after it
-abbrev pub RepliesInProject : {D : Type 0} → (D → ℕ) → (D → ℕ) → (D → ℕ → List ℕ → Type 0) → (D → List ℕ → Type 0) → State D
+abbrev pub RepliesInProject : {D : Type 0} → (D → ℕ) → (D → ℕ) → (D → ℕ → List ℕ → Type 0)
+    → (D → List ℕ → Type 0) → State D
     → List ℕ → List ℕ → State D → Type 0
 RepliesInProject moment failures left_since may_leave =
     Replies (AnswersInProject moment failures left_since may_leave) LacksInProject

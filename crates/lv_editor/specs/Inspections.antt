@@ -1,4 +1,5 @@
--- What `inspect` tells of a level (docs/COMMANDS.md, "The program"): how long its lumps are, and whether it is sound.
+-- What `inspect` tells of a level (docs/COMMANDS.md, "The program"): how long its lumps are, and
+-- whether it is sound.
 use Rattle.std.specs.Prelude.{◌≡◌, ◌↔◌, ◌++◌, ℕ, Bool, true, List, [], ◌∷◌, length, Option, Some, None, codes, decimal}
 use Rattle.std.specs.Io.KnownBytes.{Appends, Keeps}
 use Rattle.lv_pwad.specs.Audit.{first_fault}
@@ -17,20 +18,24 @@ use Rattle.lv_editor.specs.declared.error.InspectError.TheVariants.{Level, Write
 -- so many records of the first five lumps
 abbrev pub front_text : ℕ → ℕ → ℕ → ℕ → ℕ → List ℕ
 front_text things lines sides vertices segs =
-    codes "things " ++ decimal things ++ codes " lines " ++ decimal lines ++ codes " sides " ++ decimal sides
+    codes "things " ++ decimal things ++ codes " lines " ++ decimal lines ++ codes " sides "
+    ++ decimal sides
     ++ codes " vertices " ++ decimal vertices ++ codes " segs " ++ decimal segs
 
 -- so many records of the next three, and so many bytes of the last two
 abbrev pub back_text : ℕ → ℕ → ℕ → ℕ → ℕ → List ℕ
 back_text subs nodes sectors reject blockmap =
-    codes " subsectors " ++ decimal subs ++ codes " nodes " ++ decimal nodes ++ codes " sectors " ++ decimal sectors
+    codes " subsectors " ++ decimal subs ++ codes " nodes " ++ decimal nodes ++ codes " sectors "
+    ++ decimal sectors
     ++ codes " reject " ++ decimal reject ++ codes " blockmap " ++ decimal blockmap ++ 10 ∷ []
 
 -- how many records the lumps hold, and how many bytes REJECT and BLOCKMAP have
 abbrev pub lengths_text : Lumps → List ℕ
 lengths_text l =
-    front_text (length l.things) (length l.lines) (length l.sides) (length l.vertices) (length l.segs)
-    ++ back_text (length l.subs) (length l.nodes) (length l.sectors) (length l.reject) (length l.blockmap)
+    front_text (length l.things) (length l.lines) (length l.sides) (length l.vertices)
+    (length l.segs)
+    ++ back_text (length l.subs) (length l.nodes) (length l.sectors) (length l.reject)
+    (length l.blockmap)
 
 -- the name of a fault
 abbrev pub fault_name : Fault → List ℕ
@@ -68,7 +73,8 @@ fault_number (BlockList n) = n
 
 -- `fault NAME I`
 abbrev pub fault_text : Fault → List ℕ
-fault_text fault = codes "fault " ++ fault_name fault ++ codes " " ++ decimal (fault_number fault) ++ 10 ∷ []
+fault_text fault =
+    codes "fault " ++ fault_name fault ++ codes " " ++ decimal (fault_number fault) ++ 10 ∷ []
 
 -- `sound`, or the fault
 abbrev pub verdict_text : Option Fault → List ℕ
@@ -81,17 +87,21 @@ level_text l = lengths_text l ++ verdict_text (first_fault l)
 
 -- ---- What was done
 
--- what is to be told of the level that the WAD holds under the name was written, and it was answered whether all
--- references of the level are in range
-pub record IsInspected (wad name : List ℕ) (sound : Bool) (writer-old writer-new : Option (List ℕ)) : Type 0 where
+-- what is to be told of the level that the WAD holds under the name was written, and it was
+-- answered whether all references of the level are in range
+pub record IsInspected (wad name : List ℕ) (sound : Bool)
+    (writer-old writer-new : Option (List ℕ)) : Type 0 where
   pub level : Lumps
   pub read : IsLevel wad name level
   pub written : Appends writer-old writer-new (level_text level)
   pub is : (sound ≡ true) ↔ InRange level
 
--- a level was not inspected: nothing was written where it can't be read or audited, and else the writer failed
-abbrev pub RefusesInspection : List ℕ → List ℕ → InspectError → Option (List ℕ) → Option (List ℕ) → Type 0
-RefusesInspection wad name (Level e) writer-old writer-new = RefusesLevel wad name e × Keeps writer-old writer-new
+-- a level was not inspected: nothing was written where it can't be read or audited, and else the
+-- writer failed
+abbrev pub RefusesInspection : List ℕ → List ℕ → InspectError → Option (List ℕ) → Option (List ℕ)
+    → Type 0
+RefusesInspection wad name (Level e) writer-old writer-new =
+    RefusesLevel wad name e × Keeps writer-old writer-new
 RefusesInspection wad name WriterFailed writer-old writer-new = refusal wad name ≡ None
 
 -- why a WAD was not read to its end

@@ -7,7 +7,7 @@ pub mod Inspections
 pub mod Lines
 pub mod Queries
 pub mod Recovery
-pub mod Request
+pub mod Refusals
 pub mod Runs
 pub mod Sessions
 pub mod Sources

@@ -7,14 +7,14 @@ abbrev pub is_break : ℕ → Bool
 is_break b = b == 10
 
 -- a byte in front of the first line, if there is one
-abbrev pub onto_first : ℕ → List (List ℕ) → List (List ℕ)
-onto_first b [] = []
-onto_first b (line ∷ lines) = (b ∷ line) ∷ lines
+abbrev pub onto_first_line : ℕ → List (List ℕ) → List (List ℕ)
+onto_first_line b [] = []
+onto_first_line b (line ∷ lines) = (b ∷ line) ∷ lines
 
 -- the lines that end with a LF, without it
 abbrev pub whole_lines : List ℕ → List (List ℕ)
 whole_lines [] = []
-whole_lines (b ∷ bs) = if is_break b then [] ∷ whole_lines bs else onto_first b (whole_lines bs)
+whole_lines (b ∷ bs) = if is_break b then [] ∷ whole_lines bs else onto_first_line b (whole_lines bs)
 
 -- what stands behind the last LF
 abbrev pub unfinished : List ℕ → List ℕ
@@ -30,7 +30,8 @@ line_if_any (b ∷ bs) = (b ∷ bs) ∷ []
 abbrev pub lines_of : List ℕ → List (List ℕ)
 lines_of bytes = whole_lines bytes ++ line_if_any (unfinished bytes)
 
--- what is kept of a line that hasn't ended yet: its first 257 bytes, one more than a command may have
+-- what is kept of a line that hasn't ended yet: its first 257 bytes, one more than a command may
+-- have
 pub record IsBegun (kept part : List ℕ) : Type 0 where
   pub front : kept ≡ take 257 part
   pub open_ended : list_any is_break part ≡ false

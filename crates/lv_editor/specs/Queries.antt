@@ -1,4 +1,5 @@
--- The lines that ask and change nothing, and what may be answered to them (docs/COMMANDS.md, "Answers and queries").
+-- The lines that ask and change nothing, and what may be answered to them (docs/COMMANDS.md,
+-- "Answers and queries").
 use Rattle.std.specs.Prelude.{◌≡◌, ◌≢◌, ◌⊎◌, List, ℕ, [], ◌∷◌, ◌++◌, length, drop, flat_map, find, Option, Result, MatchResult, codes, bytes_eq}
 use Rattle.std.specs.Io.KnownBytes.{Appends}
 use Rattle.lv_lumps.specs.Names.{name_text}
@@ -18,7 +19,7 @@ use Rattle.lv_pwad.specs.declared.error.BuildError.TheVariants as refused
 use Rattle.lv_editor.specs.Building.{IsCounted, built_text}
 use Rattle.lv_editor.specs.Runs.{Unwritten}
 use Rattle.lv_editor.specs.Texts.{count_text, findings_text, hex_text, maps_text, refused_text}
-use Rattle.lv_editor.specs.declared.building.Counts.{Counts}
+use Rattle.lv_editor.specs.declared.counted_wad.Counts.{Counts}
 use Rattle.lv_editor.specs.declared.error.EditorError.{EditorError}
 use Rattle.lv_editor.specs.declared.error.EditorError.TheVariants.{OutOfMemory, WriterFailed}
 use Rattle.lv_editor.specs.declared.lump.BuiltLump.{BuiltLump}
@@ -33,14 +34,16 @@ use Rattle.lv_editor.specs.declared.query.Query.TheVariants.{Check, Count, Maps,
 -- each query for a lump as it is drawn beside its line
 abbrev pub drawn_lines : List (List ℕ × Query)
 drawn_lines =
-    (codes "hex THINGS", Hex Things) ∷ (codes "hex LINEDEFS", Hex Linedefs) ∷ (codes "hex SIDEDEFS", Hex Sidedefs)
+    (codes "hex THINGS", Hex Things) ∷ (codes "hex LINEDEFS", Hex Linedefs)
+    ∷ (codes "hex SIDEDEFS", Hex Sidedefs)
     ∷ (codes "hex VERTEXES", Hex Vertexes) ∷ (codes "hex SECTORS", Hex Sectors) ∷ []
 
 -- each query for a lump that a build makes
 abbrev pub built_lines : List (List ℕ × Query)
 built_lines =
-    (codes "hex SEGS", HexBuilt Segs) ∷ (codes "hex SSECTORS", HexBuilt Ssectors) ∷ (codes "hex NODES", HexBuilt Nodes)
-    ∷ (codes "hex REJECT", HexBuilt Reject) ∷ (codes "hex BLOCKMAP", HexBuilt Blockmap) ∷ (codes "hex ADDED", HexBuilt Added) ∷ []
+    (codes "hex SEGS", HexBuilt Segs) ∷ (codes "hex SSECTORS", HexBuilt Ssectors)
+    ∷ (codes "hex NODES", HexBuilt Nodes) ∷ (codes "hex REJECT", HexBuilt Reject)
+    ∷ (codes "hex BLOCKMAP", HexBuilt Blockmap) ∷ (codes "hex ADDED", HexBuilt Added) ∷ []
 
 -- each query
 abbrev pub queries : List (List ℕ × Query)
@@ -55,14 +58,15 @@ query_of line = find (λ q. bytes_eq line q.0) queries
 -- ---- Lumps
 
 -- the items of which a drawn lump has the records
-abbrev pub kind_of : Lump → Kind
-kind_of Things = kind.Thing
-kind_of Linedefs = kind.Line
-kind_of Sidedefs = kind.Side
-kind_of Vertexes = kind.Vertex
-kind_of Sectors = kind.Sector
+abbrev pub kind_of_lump : Lump → Kind
+kind_of_lump Things = kind.Thing
+kind_of_lump Linedefs = kind.Line
+kind_of_lump Sidedefs = kind.Side
+kind_of_lump Vertexes = kind.Vertex
+kind_of_lump Sectors = kind.Sector
 
--- the bytes of a lump of the map's level that a build makes; `ADDED` is the vertices behind the drawn ones
+-- the bytes of a lump of the map's level that a build makes; `ADDED` is the vertices behind the
+-- drawn ones
 abbrev pub built_lump_of : Tables → Lumps → BuiltLump → List ℕ
 built_lump_of m l Segs = flat_map seg_record l.segs
 built_lump_of m l Ssectors = flat_map sub_record l.subs
@@ -86,15 +90,18 @@ pub record TellsRefusal (IsCause : BuildError → Type 0) (text : List ℕ) : Ty
   pub not_memory : error ≢ refused.OutOfMemory
   pub told : text ≡ refused_text (build_code_of error)
 
--- the text has the counts of some sound build of each map, or the refusal of the first map that can't be built
+-- the text has the counts of some sound build of each map, or the refusal of the first map that
+-- can't be built
 abbrev pub TellsBuild : List Tables → List ℕ → Type 0
 TellsBuild ms text =
-    ((wad : List ℕ) × (c : Counts) × IsCounted ms wad c × (text ≡ built_text c)) ⊎ TellsRefusal (IsRefusalOfAll ms) text
+    ((wad : List ℕ) × (c : Counts) × IsCounted ms wad c × (text ≡ built_text c))
+    ⊎ TellsRefusal (IsRefusalOfAll ms) text
 
 -- the text has the bytes of a lump of some sound build of the map, or the refusal of its build
 abbrev pub TellsBuilt : Tables → BuiltLump → List ℕ → Type 0
 TellsBuilt m lump text =
-    ((l : Lumps) × IsOfBuild m l × (text ≡ hex_text (built_lump_of m l lump))) ⊎ TellsRefusal (IsBuildRefusal m) text
+    ((l : Lumps) × IsOfBuild m l × (text ≡ hex_text (built_lump_of m l lump)))
+    ⊎ TellsRefusal (IsBuildRefusal m) text
 
 -- the text is an answer to the query, of the maps as they are
 abbrev pub IsAnswer : ProjectMaps → Query → List ℕ → Type 0
@@ -102,7 +109,7 @@ IsAnswer p Check text = text ≡ findings_text (findings (current_map p))
 IsAnswer p Count text = text ≡ count_text (current_map p)
 IsAnswer p Maps text = text ≡ maps_text p
 IsAnswer p Build text = TellsBuild p.maps text
-IsAnswer p (Hex lump) text = text ≡ hex_text (lump_of (current_map p) (kind_of lump))
+IsAnswer p (Hex lump) text = text ≡ hex_text (lump_of (current_map p) (kind_of_lump lump))
 IsAnswer p (HexBuilt lump) text = TellsBuilt (current_map p) lump text
 
 -- an answer to the query has to be put together in memory
@@ -116,32 +123,39 @@ TakesMemory (HexBuilt lump) = Unit {0}
 
 -- ---- What a call wrote
 
--- a text that fits was not written: nothing was, for want of memory where it takes any, or the writer failed in such a text
-pub record Unanswered (e : EditorError) (Fits : List ℕ → Type 0) (Takes : Type 0) (writer-old writer-new : Option (List ℕ)) : Type 0 where
+-- a text that fits was not written: nothing was, for want of memory where it takes any, or the
+-- writer failed in such a text
+pub record Unanswered (e : EditorError) (Fits : List ℕ → Type 0) (Takes : Type 0)
+    (writer-old writer-new : Option (List ℕ)) : Type 0 where
   pub unwritten : Unwritten e writer-old writer-new
   pub lacks : e ≡ OutOfMemory → Takes
   pub failed : e ≡ WriterFailed → (text : List ℕ) × Fits text
 
 -- how a call ended that should write a text that fits
-abbrev pub WritesText : {U : Type 0} → Result U EditorError → (List ℕ → Type 0) → Type 0 → Option (List ℕ) → Option (List ℕ) → Type 0
+abbrev pub WritesText : {U : Type 0} → Result U EditorError → (List ℕ → Type 0) → Type 0
+    → Option (List ℕ) → Option (List ℕ) → Type 0
 WritesText result Fits Takes writer-old writer-new =
     MatchResult result (λ _. (text : List ℕ) × Fits text × Appends writer-old writer-new text)
     (λ e. Unanswered e Fits Takes writer-old writer-new)
 
--- how a call ended that should answer a query: an answer was written, or nothing for want of memory where it takes any,
--- or the writer failed in an answer
-abbrev pub WritesAnswer : {U : Type 0} → Result U EditorError → ProjectMaps → Query → Option (List ℕ) → Option (List ℕ) → Type 0
+-- how a call ended that should answer a query: an answer was written, or nothing for want of memory
+-- where it takes any, or the writer failed in an answer
+abbrev pub WritesAnswer : {U : Type 0} → Result U EditorError → ProjectMaps → Query
+    → Option (List ℕ) → Option (List ℕ) → Type 0
 WritesAnswer result p query writer-old writer-new =
     WritesText result (λ text. IsAnswer p query text) (TakesMemory query) writer-old writer-new
 
 -- the same of a lump that a build of the map makes
-abbrev pub WritesBuilt : {U : Type 0} → Result U EditorError → Tables → BuiltLump → Option (List ℕ) → Option (List ℕ) → Type 0
+abbrev pub WritesBuilt : {U : Type 0} → Result U EditorError → Tables → BuiltLump → Option (List ℕ)
+    → Option (List ℕ) → Type 0
 WritesBuilt result m lump writer-old writer-new =
     WritesText result (λ text. TellsBuilt m lump text) (Unit {0}) writer-old writer-new
 
--- how a call ended that should write `no CODE` for a refused build: it was written, and the cause isn't want of memory; or
--- nothing was written where it is; or the writer failed where it isn't
-abbrev pub WritesRefusal : {U : Type 0} → Result U EditorError → BuildError → Option (List ℕ) → Option (List ℕ) → Type 0
+-- how a call ended that should write `no CODE` for a refused build: it was written, and the cause
+-- isn't want of memory; or nothing was written where it is; or the writer failed where it isn't
+abbrev pub WritesRefusal : {U : Type 0} → Result U EditorError → BuildError → Option (List ℕ)
+    → Option (List ℕ) → Type 0
 WritesRefusal result cause writer-old writer-new =
-    MatchResult result (λ _. (cause ≢ refused.OutOfMemory) × Appends writer-old writer-new (refused_text (build_code_of cause)))
+    MatchResult result (λ _. (cause ≢ refused.OutOfMemory)
+    × Appends writer-old writer-new (refused_text (build_code_of cause)))
     (λ e. Unwritten e writer-old writer-new × (e ≡ WriterFailed → cause ≢ refused.OutOfMemory))

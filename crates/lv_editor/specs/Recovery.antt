@@ -11,11 +11,13 @@ use Rattle.lv_editor.specs.declared.error.RecoveryError.TheVariants.{Build, Open
 -- the bytes are a sound build of each of the maps that the sessions keep, for which the file stands
 abbrev pub BuildsKept : ℕ → List Session → List ℕ → List ℕ → Type 0
 BuildsKept cap sessions file wad =
-    (maps : ProjectMaps) × KeepEach cap empty_project sessions maps × StandsFor cap maps file × IsSoundBuildOfAll maps.maps wad
+    (maps : ProjectMaps) × KeepEach cap empty_project sessions maps × StandsFor cap maps file
+    × IsSoundBuildOfAll maps.maps wad
 
--- Why there are no such bytes: the builder refused the maps that the sessions keep, for which the file stands; or there was
--- no opening, by a fault of the device or for want of memory.
+-- Why there are no such bytes: the builder refused the maps that the sessions keep, for which the
+-- file stands; or there was no opening, by a fault of the device or for want of memory.
 abbrev pub RefusesKept : ℕ → List Session → List ℕ → RecoveryError → Type 0
 RefusesKept cap sessions file (Build e) =
-    (maps : ProjectMaps) × KeepEach cap empty_project sessions maps × StandsFor cap maps file × IsRefusalOfAll maps.maps e
+    (maps : ProjectMaps) × KeepEach cap empty_project sessions maps × StandsFor cap maps file
+    × IsRefusalOfAll maps.maps e
 RefusesKept cap sessions file (Open e) = (e ≡ Device) ⊎ (e ≡ OutOfMemory)

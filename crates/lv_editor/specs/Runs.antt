@@ -1,5 +1,6 @@
--- What a run has read, answered and written (docs/COMMANDS.md, "Lines and turns"). The state that lines move and the
--- answers that a line may have are parameters: maps in memory have their own, and a project file has its own.
+-- What a run has read, answered and written (docs/COMMANDS.md, "Lines and turns"). The state that
+-- lines move and the answers that a line may have are parameters: maps in memory have their own,
+-- and a project file has its own.
 use Rattle.std.specs.Prelude.{◌≡◌, ◌≤◌, ◌*◌, ◌⊎◌, ℕ, List, [], ◌∷◌, ◌++◌, length, map, flat_map, Result, Ok, Err, Option, MatchResult, OnOk}
 use Rattle.std.specs.Io.KnownBytes.{Consumes, Appends, IsAtEnd, Keeps}
 use Rattle.lv_editor.specs.Lines.{IsBegun, whole_lines, unfinished, lines_of}
@@ -16,9 +17,11 @@ pub record Exchange (S : Type 0) : Type 0 where
   pub after : S
 
 -- each line was answered in turn, from one state to the next
-abbrev pub IsTrace : {S : Type 0} → (S → List ℕ → List ℕ → S → Type 0) → S → List (Exchange S) → S → Type 0
+abbrev pub IsTrace : {S : Type 0} → (S → List ℕ → List ℕ → S → Type 0) → S → List (Exchange S) → S
+    → Type 0
 IsTrace answers first [] last = last ≡ first
-IsTrace answers first (e ∷ trace) last = answers first e.line e.text e.after × IsTrace answers e.after trace last
+IsTrace answers first (e ∷ trace) last =
+    answers first e.line e.text e.after × IsTrace answers e.after trace last
 
 -- the lines of a trace
 abbrev pub lines_in : {S : Type 0} → List (Exchange S) → List (List ℕ)
@@ -34,18 +37,23 @@ IsFront {X = X} front xs = (back : List X) × (xs ≡ front ++ back)
 
 -- ---- One line
 
--- what may be answered to a line, and the state after it: its answer, or `no 31` where it can need memory
-abbrev pub Replies : {S : Type 0} → (S → List ℕ → List ℕ → S → Type 0) → (S → List ℕ → S → Type 0) → S → List ℕ → List ℕ → S → Type 0
-Replies answers lacks old line text new = answers old line text new ⊎ (lacks old line new × (text ≡ refused_text 31))
+-- what may be answered to a line, and the state after it: its answer, or `no 31` where it can need
+-- memory
+abbrev pub Replies : {S : Type 0} → (S → List ℕ → List ℕ → S → Type 0) → (S → List ℕ → S → Type 0)
+    → S → List ℕ → List ℕ → S → Type 0
+Replies answers lacks old line text new =
+    answers old line text new ⊎ (lacks old line new × (text ≡ refused_text 31))
 
 -- the state is as an answer of the line left it; that answer was written, or the writer failed
-abbrev pub AnswersLine : {S U : Type 0} → (S → List ℕ → List ℕ → S → Type 0) → Result U EditorError → S → S → List ℕ
+abbrev pub AnswersLine : {S U : Type 0} → (S → List ℕ → List ℕ → S → Type 0) → Result U EditorError
+    → S → S → List ℕ
     → Option (List ℕ) → Option (List ℕ) → Type 0
 AnswersLine answers result old new line writer-old writer-new =
     (text : List ℕ) × answers old line text new
     × MatchResult result (λ _. Appends writer-old writer-new text) (λ e. e ≡ WriterFailed)
 
--- a call that was to write was refused: nothing was written where memory was wanting, and else the writer failed
+-- a call that was to write was refused: nothing was written where memory was wanting, and else the
+-- writer failed
 abbrev pub Unwritten : EditorError → Option (List ℕ) → Option (List ℕ) → Type 0
 Unwritten OutOfMemory writer-old writer-new = Keeps writer-old writer-new
 Unwritten WriterFailed writer-old writer-new = Unit {0}
@@ -55,49 +63,61 @@ Unwritten ReaderFailed writer-old writer-new = ⊥
 -- ---- Some lines
 
 -- these lines were answered, and the writer has grown by the answers
-pub record Answered {S : Type 0} (trace : List (Exchange S)) (lines : List (List ℕ)) (writer-old writer-new : Option (List ℕ)) : Type 0 where
+pub record Answered {S : Type 0} (trace : List (Exchange S)) (lines : List (List ℕ))
+    (writer-old writer-new : Option (List ℕ)) : Type 0 where
   pub asked : lines_in trace ≡ lines
   pub output : Appends writer-old writer-new (output_of trace)
 
--- how a call ended that should answer these lines: with their number, or after a front of them because the writer failed
-abbrev pub EndsLines : {S : Type 0} → Result ℕ EditorError → List (Exchange S) → List (List ℕ) → Option (List ℕ) → Option (List ℕ) → Type 0
-EndsLines (Ok n) trace lines writer-old writer-new = (n ≡ length lines) × Answered trace lines writer-old writer-new
+-- how a call ended that should answer these lines: with their number, or after a front of them
+-- because the writer failed
+abbrev pub EndsLines : {S : Type 0} → Result ℕ EditorError → List (Exchange S) → List (List ℕ)
+    → Option (List ℕ) → Option (List ℕ) → Type 0
+EndsLines (Ok n) trace lines writer-old writer-new =
+    (n ≡ length lines) × Answered trace lines writer-old writer-new
 EndsLines (Err WriterFailed) trace lines writer-old writer-new = IsFront (lines_in trace) lines
 EndsLines (Err InputTooLong) trace lines writer-old writer-new = ⊥
 EndsLines (Err ReaderFailed) trace lines writer-old writer-new = ⊥
 EndsLines (Err OutOfMemory) trace lines writer-old writer-new = ⊥
 
 -- the same, with some trace
-abbrev pub AnswersLines : {S : Type 0} → (S → List ℕ → List ℕ → S → Type 0) → Result ℕ EditorError → S → S
+abbrev pub AnswersLines : {S : Type 0} → (S → List ℕ → List ℕ → S → Type 0) → Result ℕ EditorError
+    → S → S
     → List (List ℕ) → Option (List ℕ) → Option (List ℕ) → Type 0
 AnswersLines {S = S} answers result old new lines writer-old writer-new =
-    (trace : List (Exchange S)) × IsTrace answers old trace new × EndsLines result trace lines writer-old writer-new
+    (trace : List (Exchange S)) × IsTrace answers old trace new
+    × EndsLines result trace lines writer-old writer-new
 
--- how a call ended that was given more bytes behind a part of a line: each line that they end is answered, and the
--- front of what stands behind the last is kept
-pub record Feeds {S : Type 0} (answers : S → List ℕ → List ℕ → S → Type 0) (result : Result ℕ EditorError) (old new : S)
+-- how a call ended that was given more bytes behind a part of a line: each line that they end is
+-- answered, and the front of what stands behind the last is kept
+pub record Feeds {S : Type 0} (answers : S → List ℕ → List ℕ → S → Type 0)
+    (result : Result ℕ EditorError) (old new : S)
     (part more kept : List ℕ) (writer-old writer-new : Option (List ℕ)) : Type 0 where
   pub ends : AnswersLines answers result old new (whole_lines (part ++ more)) writer-old writer-new
   pub begun : OnOk result (IsBegun kept (unfinished (part ++ more)))
 
 -- ---- A run
 
--- How a run of so many turns ended that has read these bytes. All lines are answered at Ok, and all that were read
--- whole where the reader failed or the turns were used up, each for a byte at least. It never ends for want of memory:
--- that is an answer of its line.
-abbrev pub EndsRun : {S : Type 0} → Result ℕ EditorError → ℕ → List (Exchange S) → List ℕ → Option (List ℕ) → Option (List ℕ) → Type 0
+-- How a run of so many turns ended that has read these bytes. All lines are answered at Ok, and all
+-- that were read whole where the reader failed or the turns were used up, each for a byte at least.
+-- It never ends for want of memory: that is an answer of its line.
+abbrev pub EndsRun : {S : Type 0} → Result ℕ EditorError → ℕ → List (Exchange S) → List ℕ
+    → Option (List ℕ) → Option (List ℕ) → Type 0
 EndsRun (Ok n) turns trace read writer-old writer-new =
     (n ≡ length (lines_of read)) × Answered trace (lines_of read) writer-old writer-new
 EndsRun (Err InputTooLong) turns trace read writer-old writer-new =
     (turns ≤ length read) × Answered trace (whole_lines read) writer-old writer-new
-EndsRun (Err ReaderFailed) turns trace read writer-old writer-new = Answered trace (whole_lines read) writer-old writer-new
-EndsRun (Err WriterFailed) turns trace read writer-old writer-new = IsFront (lines_in trace) (lines_of read)
+EndsRun (Err ReaderFailed) turns trace read writer-old writer-new =
+    Answered trace (whole_lines read) writer-old writer-new
+EndsRun (Err WriterFailed) turns trace read writer-old writer-new =
+    IsFront (lines_in trace) (lines_of read)
 EndsRun (Err OutOfMemory) turns trace read writer-old writer-new = ⊥
 
--- A run of so many turns of at most 4,096 bytes: some bytes were read, at Ok all that there were, the trace leads from
--- the first state to the last, and over those bytes the run ended so.
-pub record Ran {S : Type 0} (answers : S → List ℕ → List ℕ → S → Type 0) (first last : S) (trace : List (Exchange S)) (turns : ℕ)
-    (result : Result ℕ EditorError) (reader-old reader-new writer-old writer-new : Option (List ℕ)) : Type 0 where
+-- A run of so many turns of at most 4,096 bytes: some bytes were read, at Ok all that there were,
+-- the trace leads from the first state to the last, and over those bytes the run ended so.
+pub record Ran {S : Type 0} (answers : S → List ℕ → List ℕ → S → Type 0) (first last : S)
+    (trace : List (Exchange S)) (turns : ℕ)
+    (result : Result ℕ EditorError)
+    (reader-old reader-new writer-old writer-new : Option (List ℕ)) : Type 0 where
   pub read : List ℕ
   pub took : Consumes reader-old reader-new read
   pub few : length read ≤ 4096 * turns

@@ -13,7 +13,8 @@ use Rattle.lv_editor.specs.Queries.{query_of}
 use Rattle.lv_editor.specs.Runs.{Exchange}
 use Rattle.lv_editor.specs.Texts.{outcome_text, refused_text}
 
--- the calls of `apply` that some lines made: one for each that is no query, and its text tells what the call answered
+-- the calls of `apply` that some lines made: one for each that is no query, and its text tells what
+-- the call answered
 abbrev pub AreCalls : {S : Type 0} → List (Exchange S) → List Call → Type 0
 AreCalls [] calls = calls ≡ []
 AreCalls (e ∷ trace) calls = MatchOption (query_of e.line)
@@ -21,26 +22,34 @@ AreCalls (e ∷ trace) calls = MatchOption (query_of e.line)
     × (e.text ≡ outcome_text (outcome_in answer)) × AreCalls trace rest)
     (λ q. AreCalls trace calls)
 
--- the file stands for maps to which a prefix of the accepted commands leads that holds each acknowledged one
+-- the file stands for maps to which a prefix of the accepted commands leads that holds each
+-- acknowledged one
 abbrev pub HoldsAcknowledged : ℕ → ProjectMaps → Session → List ℕ → Type 0
-HoldsAcknowledged cap base s file = (maps : ProjectMaps) × KeepsAcknowledged cap base s maps × StandsFor cap maps file
+HoldsAcknowledged cap base s file =
+    (maps : ProjectMaps) × KeepsAcknowledged cap base s maps × StandsFor cap maps file
 
--- From each moment between two calls on, of a project that needn't be opened again: each image stands for maps to which a
--- prefix of the accepted commands leads that holds each one acknowledged up to the moment.
-abbrev pub HoldsThroughout : {D : Type 0} → (D → ℕ) → (D → ℕ) → (D → ℕ → List ℕ → Type 0) → (D → List ℕ → Type 0) → State D
+-- From each moment between two calls on, of a project that needn't be opened again: each image
+-- stands for maps to which a prefix of the accepted commands leads that holds each one acknowledged
+-- up to the moment.
+abbrev pub HoldsThroughout : {D : Type 0} → (D → ℕ) → (D → ℕ) → (D → ℕ → List ℕ → Type 0)
+    → (D → List ℕ → Type 0) → State D
     → List Call → State D → Type 0
 HoldsThroughout {D = D} moment failures left_since may_leave old calls new =
     (front back : List Call) (mid : State D) → calls ≡ front ++ back → mid.must_reopen ≡ false
-    → AllMade moment failures left_since may_leave old front mid → AllMade moment failures left_since may_leave mid back new
-    → LeavesOnly moment left_since mid.disk new.disk (HoldsAcknowledged old.cap (project_of old.maps) (record { front = front; back = back }))
+    → AllMade moment failures left_since may_leave old front mid
+    → AllMade moment failures left_since may_leave mid back new
+    → LeavesOnly moment left_since mid.disk new.disk
+    (HoldsAcknowledged old.cap (project_of old.maps) (record { front = front; back = back }))
 
 -- each of these lines was answered `no 32`
 abbrev pub AllReopen : {S : Type 0} → List (Exchange S) → Type 0
 AllReopen [] = Unit {0}
 AllReopen (e ∷ trace) = (e.text ≡ refused_text 32) × AllReopen trace
 
--- A line was answered `no 30` and each one behind it `no 32`; each image stands for the maps, or for their step by that line.
-pub record IsInDoubt {D : Type 0} (may_leave : D → List ℕ → Type 0) (trace : List (Exchange (State D))) (new : State D) : Type 0 where
+-- A line was answered `no 30` and each one behind it `no 32`; each image stands for the maps, or
+-- for their step by that line.
+pub record IsInDoubt {D : Type 0} (may_leave : D → List ℕ → Type 0)
+    (trace : List (Exchange (State D))) (new : State D) : Type 0 where
   pub front : List (Exchange (State D))
   pub faulted : Exchange (State D)
   pub back : List (Exchange (State D))
@@ -49,33 +58,42 @@ pub record IsInDoubt {D : Type 0} (may_leave : D → List ℕ → Type 0) (trace
   pub behind : AllReopen back
   pub images : Each (may_leave new.disk) (IsOutcome new.cap (project_of new.maps) faulted.line)
 
--- What a run leaves: its lines are calls, each with its promises; a project that must be opened again stays as it is, and
--- answers `no 32` alone; of another each image stands, at each moment and at the exit.
-pub record RunsOver {D : Type 0} (moment failures : D → ℕ) (left_since : D → ℕ → List ℕ → Type 0) (may_leave : D → List ℕ → Type 0)
+-- What a run leaves: its lines are calls, each with its promises; a project that must be opened
+-- again stays as it is, and answers `no 32` alone; of another each image stands, at each moment and
+-- at the exit.
+pub record RunsOver {D : Type 0} (moment failures : D → ℕ) (left_since : D → ℕ → List ℕ → Type 0)
+    (may_leave : D → List ℕ → Type 0)
     (old new : State D) (trace : List (Exchange (State D))) : Type 0 where
   pub calls : List Call
   pub are : AreCalls trace calls
   pub made : AllMade moment failures left_since may_leave old calls new
-  pub any_moment : old.must_reopen ≡ false → HoldsThroughout moment failures left_since may_leave old calls new
+  pub any_moment : old.must_reopen ≡ false
+      → HoldsThroughout moment failures left_since may_leave old calls new
   pub kept : IsKept may_leave new
   pub in_doubt : old.must_reopen ≡ false → new.must_reopen ≡ true → IsInDoubt may_leave trace new
   pub reopen : old.must_reopen ≡ true → (new ≡ old) × AllReopen trace
 
--- what a session does at a time: a call of `apply` or `checkpoint` with its answer, or a run with its lines and their answers
+-- what a session does at a time: a call of `apply` or `checkpoint` with its answer, or a run with
+-- its lines and their answers
 abbrev pub Deed : Type 0 → Type 0
 Deed D = Call ⊎ List (Exchange (State D))
 
 -- it was done, and these are its calls
-abbrev pub IsDone : {D : Type 0} → (D → ℕ) → (D → ℕ) → (D → ℕ → List ℕ → Type 0) → (D → List ℕ → Type 0) → State D → Deed D
+abbrev pub IsDeedDone : {D : Type 0} → (D → ℕ) → (D → ℕ) → (D → ℕ → List ℕ → Type 0)
+    → (D → List ℕ → Type 0) → State D → Deed D
     → List Call → State D → Type 0
-IsDone moment failures left_since may_leave old (inl call) calls new = Made moment failures left_since may_leave old call new × (calls ≡ call ∷ [])
-IsDone moment failures left_since may_leave old (inr trace) calls new =
+IsDeedDone moment failures left_since may_leave old (inl call) calls new =
+    Made moment failures left_since may_leave old call new × (calls ≡ call ∷ [])
+IsDeedDone moment failures left_since may_leave old (inr trace) calls new =
     (run : RunsOver moment failures left_since may_leave old new trace) × (calls ≡ run.calls)
 
 -- all of it was done in turn, and these are the calls
-abbrev pub AllDone : {D : Type 0} → (D → ℕ) → (D → ℕ) → (D → ℕ → List ℕ → Type 0) → (D → List ℕ → Type 0) → State D → List (Deed D)
+abbrev pub AllDone : {D : Type 0} → (D → ℕ) → (D → ℕ) → (D → ℕ → List ℕ → Type 0)
+    → (D → List ℕ → Type 0) → State D → List (Deed D)
     → List Call → State D → Type 0
 AllDone moment failures left_since may_leave old [] calls new = (calls ≡ []) × (new ≡ old)
-AllDone {D = D} moment failures left_since may_leave old (deed ∷ deeds) calls new = (mid : State D) × (its more : List Call)
-    × IsDone moment failures left_since may_leave old deed its mid × AllDone moment failures left_since may_leave mid deeds more new
+AllDone {D = D} moment failures left_since may_leave old (deed ∷ deeds) calls new =
+    (mid : State D) × (its more : List Call)
+    × IsDeedDone moment failures left_since may_leave old deed its mid
+    × AllDone moment failures left_since may_leave mid deeds more new
     × (calls ≡ its ++ more)

@@ -1,5 +1,5 @@
--- Whose maps and whose level it was: what was done over a disk, or of a reader, that is handed over and tells its bytes.
--- A real file tells none, so that `Deeds` leaves it open.
+-- Whose maps and whose level it was: what was done over a disk, or of a reader, that is handed over
+-- and tells its bytes. A real file tells none, so that `Deeds` leaves it open.
 use Rattle.std.specs.Prelude.{◌≡◌, ◌⊎◌, ℕ, Bool, false, Option, Result, Ok, Err, List, length}
 use Rattle.std.specs.Io.KnownBytes.{Appends, Consumes, IsAtEnd, Keeps}
 use Rattle.lv_disk.specs.Reading.{OnlyReads}
@@ -15,13 +15,14 @@ use Rattle.lv_project.specs.declared.error.ProjectError.{ProjectError}
 use Rattle.lv_project.specs.declared.error.ProjectError.TheVariants.{Device}
 use Rattle.lv_project.specs.declared.geometry.Geometry.{Geometry}
 use Rattle.lv_editor.specs.Building.{IsCounted, built_text}
-use Rattle.lv_editor.specs.Deeds.{RefusesFile, ended, status_after, status_told, turns}
+use Rattle.lv_editor.specs.Deeds.{ended, status_after, status_told, turns}
 use Rattle.lv_editor.specs.Editing.{RepliesInProject}
 use Rattle.lv_editor.specs.Inspections.{IsInspected, RefusesInspection}
+use Rattle.lv_editor.specs.Refusals.{RefusesFile}
 use Rattle.lv_editor.specs.Runs.{Exchange, Ran, Unwritten}
 use Rattle.lv_editor.specs.Sessions.{RunsOver}
 use Rattle.lv_editor.specs.Texts.{findings_text}
-use Rattle.lv_editor.specs.declared.building.Counts.{Counts}
+use Rattle.lv_editor.specs.declared.counted_wad.Counts.{Counts}
 use Rattle.lv_editor.specs.declared.error.EditorError.{EditorError}
 use Rattle.lv_editor.specs.declared.error.EditorError.TheVariants.{WriterFailed}
 use Rattle.lv_editor.specs.declared.refusal.Refusal.{Refusal}
@@ -29,8 +30,10 @@ use Rattle.lv_editor.specs.declared.refusal.Refusal.TheVariants as of
 
 -- ---- A disk
 
--- the disk was only read: what a read gives stays, and a stop at any moment leaves what one left before
-pub record IsOnlyRead {D : Type 0} (moment : D → ℕ) (left_since : D → ℕ → List ℕ → Type 0) (may_leave reads : D → List ℕ → Type 0)
+-- the disk was only read: what a read gives stays, and a stop at any moment leaves what one left
+-- before
+pub record IsOnlyRead {D : Type 0} (moment : D → ℕ) (left_since : D → ℕ → List ℕ → Type 0)
+    (may_leave reads : D → List ℕ → Type 0)
     (before after : D) : Type 0 where
   pub no_other : Each (reads after) (reads before)
   pub still : Each (reads before) (reads after)
@@ -38,59 +41,78 @@ pub record IsOnlyRead {D : Type 0} (moment : D → ℕ) (left_since : D → ℕ 
 
 -- the bytes stand for these maps, and for no others
 abbrev pub HasMaps : (List ℕ → Type 0) → MapsView → Type 0
-HasMaps reads maps = (cap generation : ℕ) × Each reads (StandsOnlyFor cap (project_of maps) generation)
+HasMaps reads maps =
+    (cap generation : ℕ) × Each reads (StandsOnlyFor cap (project_of maps) generation)
 
 -- a project that was opened: the one that the disk's bytes stand for; the disk was only read
-pub record IsOpenedFrom {D : Type 0} (moment : D → ℕ) (left_since : D → ℕ → List ℕ → Type 0) (may_leave reads : D → List ℕ → Type 0)
+pub record IsOpenedFrom {D : Type 0} (moment : D → ℕ) (left_since : D → ℕ → List ℕ → Type 0)
+    (may_leave reads : D → List ℕ → Type 0)
     (before : D) (first : State D) : Type 0 where
   pub reopen : first.must_reopen ≡ false
-  pub stands : Each (reads before) (StandsOnlyFor first.cap (project_of first.maps) first.generation)
+  pub stands : Each (reads before)
+      (StandsOnlyFor first.cap (project_of first.maps) first.generation)
   pub only_read : IsOnlyRead moment left_since may_leave reads before first.disk
 
 -- no project was opened, because of the disk's bytes, by a fault or for want of memory
 abbrev pub NotOpened : (List ℕ → Type 0) → Result ℕ Refusal → Type 0
 NotOpened reads how = (e : ProjectError) × (how ≡ Err (of.Project e)) × IsRefusedRead reads e
 
--- no project was opened and nothing written, or this was done with the maps that the disk's bytes stand for
-abbrev pub OverMaps : (List ℕ → Type 0) → Result ℕ Refusal → Option (List ℕ) → Option (List ℕ) → (MapsView → Type 0) → Type 0
+-- no project was opened and nothing written, or this was done with the maps that the disk's bytes
+-- stand for
+abbrev pub OverMaps : (List ℕ → Type 0) → Result ℕ Refusal → Option (List ℕ) → Option (List ℕ)
+    → (MapsView → Type 0) → Type 0
 OverMaps reads how writer-old writer-new does =
-    (NotOpened reads how × Keeps writer-old writer-new) ⊎ ((maps : MapsView) × HasMaps reads maps × does maps)
+    (NotOpened reads how × Keeps writer-old writer-new)
+    ⊎ ((maps : MapsView) × HasMaps reads maps × does maps)
 
 -- ---- Requests
 
--- `created` was written or the writer failed, and each image is the empty project's; or none was made, and the disk was
--- only read where it was no fault
-abbrev pub IsMade : {D : Type 0} → (D → ℕ) → (D → ℕ → List ℕ → Type 0) → (D → List ℕ → Type 0) → (D → List ℕ → Type 0) → Geometry
+-- `created` was written or the writer failed, and each image is the empty project's; or none was
+-- made, and the disk was only read where it was no fault
+abbrev pub IsMade : {D : Type 0} → (D → ℕ) → (D → ℕ → List ℕ → Type 0) → (D → List ℕ → Type 0)
+    → (D → List ℕ → Type 0) → Geometry
     → D → D → Result ℕ Refusal → Type 0
 IsMade moment left_since may_leave reads geometry before after (Err (of.Project e)) =
-    RefusesCreate (reads before) geometry e × ((e ≡ Device) ⊎ OnlyReads reads may_leave moment left_since before after)
-IsMade moment left_since may_leave reads geometry before after _ = Each (may_leave after) (Stands (cap_of geometry) empty_project 1)
+    RefusesCreate (reads before) geometry e
+    × ((e ≡ Device) ⊎ OnlyReads reads may_leave moment left_since before after)
+IsMade moment left_since may_leave reads geometry before after _ =
+    Each (may_leave after) (Stands (cap_of geometry) empty_project 1)
 
--- No project was opened, and nothing read or written; or the lines of the input were answered over the one that the
--- disk's bytes stand for, and the disk is as the run left it.
-abbrev pub IsEditedOver : {D : Type 0} → (D → ℕ) → (D → ℕ) → (D → ℕ → List ℕ → Type 0) → (D → List ℕ → Type 0) → (D → List ℕ → Type 0)
-    → D → D → Result ℕ Refusal → Option (List ℕ) → Option (List ℕ) → Option (List ℕ) → Option (List ℕ) → Type 0
-IsEditedOver {D = D} moment failures left_since may_leave reads before after how reader-old reader-new writer-old writer-new =
+-- No project was opened, and nothing read or written; or the lines of the input were answered over
+-- the one that the disk's bytes stand for, and the disk is as the run left it.
+abbrev pub IsEditedOver : {D : Type 0} → (D → ℕ) → (D → ℕ) → (D → ℕ → List ℕ → Type 0)
+    → (D → List ℕ → Type 0) → (D → List ℕ → Type 0)
+    → D → D → Result ℕ Refusal → Option (List ℕ) → Option (List ℕ) → Option (List ℕ)
+    → Option (List ℕ) → Type 0
+IsEditedOver {D = D} moment failures left_since may_leave reads before after how reader-old
+    reader-new writer-old writer-new =
     (NotOpened (reads before) how × IsOnlyRead moment left_since may_leave reads before after
     × Keeps reader-old reader-new × Keeps writer-old writer-new)
-    ⊎ ((result : Result ℕ EditorError) × (first : State D) × (last : State D) × (trace : List (Exchange (State D)))
-    × IsOpenedFrom moment left_since may_leave reads before first × (after ≡ last.disk) × (how ≡ ended result)
-    × Ran (RepliesInProject moment failures left_since may_leave) first last trace turns result reader-old reader-new writer-old writer-new
+    ⊎ ((result : Result ℕ EditorError) × (first : State D) × (last : State D)
+    × (trace : List (Exchange (State D)))
+    × IsOpenedFrom moment left_since may_leave reads before first × (after ≡ last.disk)
+    × (how ≡ ended result)
+    × Ran (RepliesInProject moment failures left_since may_leave) first last trace turns result
+    reader-old reader-new writer-old writer-new
     × RunsOver moment failures left_since may_leave first last trace)
 
--- the findings of this map were written, and the status tells whether there are any; or it was refused
+-- the findings of this map were written, and the status tells whether there are any; or it was
+-- refused
 abbrev pub IsCheckedOf : Tables → Result ℕ Refusal → Option (List ℕ) → Option (List ℕ) → Type 0
 IsCheckedOf m (Ok status) writer-old writer-new =
-    (status ≡ status_after (length (findings m))) × Appends writer-old writer-new (findings_text (findings m))
+    (status ≡ status_after (length (findings m)))
+    × Appends writer-old writer-new (findings_text (findings m))
 IsCheckedOf m (Err (of.Lines e)) writer-old writer-new = Unwritten e writer-old writer-new
 IsCheckedOf m _ writer-old writer-new = ⊥
 
--- the counts of a sound build of these maps were told; or they were not built into the file and nothing was told; or the
--- file to be made can't be opened or holds a project, or the writer failed
+-- the counts of a sound build of these maps were told; or they were not built into the file and
+-- nothing was told; or the file to be made can't be opened or holds a project, or the writer failed
 abbrev pub IsBuiltOf : MapsView → Result ℕ Refusal → Option (List ℕ) → Option (List ℕ) → Type 0
 IsBuiltOf maps (Ok status) writer-old writer-new =
-    (wad : List ℕ) × (c : Counts) × (status ≡ 0) × IsCounted (project_of maps).maps wad c × Appends writer-old writer-new (built_text c)
-IsBuiltOf maps (Err (of.Build e)) writer-old writer-new = RefusesFile (project_of maps).maps (of.Build e) × Keeps writer-old writer-new
+    (wad : List ℕ) × (c : Counts) × (status ≡ 0) × IsCounted (project_of maps).maps wad c
+    × Appends writer-old writer-new (built_text c)
+IsBuiltOf maps (Err (of.Build e)) writer-old writer-new =
+    RefusesFile (project_of maps).maps (of.Build e) × Keeps writer-old writer-new
 IsBuiltOf maps (Err (of.Lines e)) writer-old writer-new = e ≡ WriterFailed
 IsBuiltOf maps _ writer-old writer-new = ⊥
 
@@ -98,13 +120,17 @@ IsBuiltOf maps _ writer-old writer-new = ⊥
 abbrev pub ReadsAll : Option (List ℕ) → Option (List ℕ) → List ℕ → Type 0
 ReadsAll reader-old reader-new bytes = Consumes reader-old reader-new bytes × IsAtEnd reader-new
 
--- the level of the name in all that the reader gave was inspected, and the status tells whether it is sound; or it was
--- refused
-abbrev pub IsExaminedOf : List ℕ → Result ℕ Refusal → Option (List ℕ) → Option (List ℕ) → Option (List ℕ) → Option (List ℕ) → Type 0
+-- the level of the name in all that the reader gave was inspected, and the status tells whether it
+-- is sound; or it was refused
+abbrev pub IsExaminedOf : List ℕ → Result ℕ Refusal → Option (List ℕ) → Option (List ℕ)
+    → Option (List ℕ) → Option (List ℕ) → Type 0
 IsExaminedOf name (Ok status) reader-old reader-new writer-old writer-new =
     (wad : List ℕ) × ReadsAll reader-old reader-new wad
-    × (sound : Bool) × (status ≡ status_told sound) × IsInspected wad name sound writer-old writer-new
+    × (sound : Bool) × (status ≡ status_told sound)
+    × IsInspected wad name sound writer-old writer-new
 IsExaminedOf name (Err (of.Level e)) reader-old reader-new writer-old writer-new =
-    (wad : List ℕ) × ReadsAll reader-old reader-new wad × RefusesInspection wad name e writer-old writer-new
-IsExaminedOf name (Err (of.Lines e)) reader-old reader-new writer-old writer-new = (e ≡ WriterFailed) ⊎ Keeps writer-old writer-new
+    (wad : List ℕ) × ReadsAll reader-old reader-new wad
+    × RefusesInspection wad name e writer-old writer-new
+IsExaminedOf name (Err (of.Lines e)) reader-old reader-new writer-old writer-new =
+    (e ≡ WriterFailed) ⊎ Keeps writer-old writer-new
 IsExaminedOf name _ reader-old reader-new writer-old writer-new = ⊥

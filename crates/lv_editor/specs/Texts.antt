@@ -44,13 +44,15 @@ hex_text bytes = hex_digits bytes ++ 10 ∷ []
 -- so many items of each kind
 abbrev pub counts_text : ℕ → ℕ → ℕ → ℕ → ℕ → List ℕ
 counts_text vertices sectors sides lines things =
-    codes "vertices " ++ decimal vertices ++ codes " sectors " ++ decimal sectors ++ codes " sides " ++ decimal sides
+    codes "vertices " ++ decimal vertices ++ codes " sectors " ++ decimal sectors ++ codes " sides "
+    ++ decimal sides
     ++ codes " lines " ++ decimal lines ++ codes " things " ++ decimal things ++ 10 ∷ []
 
 -- how many items there are of each kind
 abbrev pub count_text : Tables → List ℕ
 count_text m =
-    counts_text (length m.vertices) (length m.sectors) (length m.sides) (length m.lines) (length m.things)
+    counts_text (length m.vertices) (length m.sectors) (length m.sides) (length m.lines)
+    (length m.things)
 
 -- `I NAME`
 abbrev pub map_line : ℕ → Tables → List ℕ

@@ -5,11 +5,11 @@ ghost use Rattle.lv_checks.specs.Findings.{findings};
 ghost use Rattle.lv_maptables.specs.Body.{lump_of};
 ghost use Rattle.lv_maptables.specs.Projects.{project_of};
 ghost use Rattle.lv_editor.specs.declared.error.EditorError.TheVariants.{WriterFailed};
-ghost use Rattle.lv_editor.specs.Queries.{WritesAnswer, kind_of};
+ghost use Rattle.lv_editor.specs.Queries.{WritesAnswer, kind_of_lump};
 ghost use Rattle.lv_editor.specs.Runs.{Unwritten};
 ghost use Rattle.lv_editor.specs.Texts.{count_text, counts_text, findings_text, hex_text};
 
-use crate::builds::{write_build, write_built};
+use crate::build_queries::{write_build, write_built};
 use crate::error::EditorError;
 use crate::findings::write_findings;
 use crate::hex::hex_text;
@@ -67,7 +67,7 @@ fn write_hex<W: Write>(
 ) -> Result<(), EditorError>
     ensures { MatchResult result
         (λ _. Appends (W.contents writer.old) (W.contents writer.new)
-        (hex_text (lump_of map.now.tables (kind_of lump))))
+        (hex_text (lump_of map.now.tables (kind_of_lump lump))))
         (λ e. Unwritten e (W.contents writer.old) (W.contents writer.new)) }
 {
     let Ok(bytes) = map.lump(alloc, lump.kind()) else {

@@ -1,4 +1,8 @@
 //! Why a run, an inspection, a build or a recovery ended, and the number of each refusal.
+ghost use Rattle.std.specs.Prelude.{◌≡◌};
+ghost use Rattle.lv_editor.specs.declared.error.InspectError.TheVariants.{Level};
+ghost use Rattle.lv_editor.specs.declared.error.WriteError.TheVariants.{Build};
+
 use lv_project::ProjectError;
 use lv_pwad::{BuildError, ReadError};
 use thiserror::Error;
@@ -38,7 +42,7 @@ impl EditorError {
 pub enum InspectError {
     /// The WAD holds no such level, or there is no memory to read and audit it.
     #[error(transparent)]
-    Level(#[from] ReadError),
+    Level(ReadError),
     #[error("the writer failed")]
     WriterFailed,
 }
@@ -58,12 +62,20 @@ impl InspectError {
     }
 }
 
+impl From<ReadError> for InspectError {
+    ghost from_gives = { λ error e. e ≡ Level error };
+
+    fn from(error: ReadError) -> InspectError {
+        InspectError::Level(error)
+    }
+}
+
 /// Why no PWAD was written.
 #[derive(Clone, Copy, Debug, PartialEq, Eq, Error)]
 pub enum WriteError {
     /// A map is not built.
     #[error(transparent)]
-    Build(#[from] BuildError),
+    Build(BuildError),
     #[error("the writer failed")]
     WriterFailed,
 }
@@ -80,6 +92,14 @@ impl WriteError {
             WriteError::Build(error) => error.code(),
             WriteError::WriterFailed => 38,
         }
+    }
+}
+
+impl From<BuildError> for WriteError {
+    ghost from_gives = { λ error e. e ≡ Build error };
+
+    fn from(error: BuildError) -> WriteError {
+        WriteError::Build(error)
     }
 }
 

@@ -51,14 +51,8 @@ fn examine_read<R: Read, W: Write>(
         (R.remaining reader.old) (R.remaining reader.new)
         (W.contents writer.old) (W.contents writer.new) }
 {
-    let wad = match read_whole(alloc, reader, turns) {
-        Ok(wad) => wad,
-        Err(error) => return Err(Refusal::Lines(error)),
-    };
-    let sound = match inspect(alloc, &wad, name, writer) {
-        Ok(sound) => sound,
-        Err(error) => return Err(Refusal::Level(error)),
-    };
+    let wad = read_whole(alloc, reader, turns)?;
+    let sound = inspect(alloc, &wad, name, writer)?;
     match writer.flush() {
         Ok(()) => Ok(status_told(sound)),
         Err(_) => Err(Refusal::Lines(EditorError::WriterFailed)),

@@ -76,12 +76,7 @@ pub fn write_findings<W: Write>(
     let Ok(count) = u32::try_from(found.len()) else {
         return Err(EditorError::OutOfMemory);
     };
-    match write_each(&found, writer) {
-        Ok(()) => {}
-        Err(error) => return Err(error),
-    }
-    match write_total(count, writer) {
-        Ok(()) => Ok(count),
-        Err(error) => Err(error),
-    }
+    write_each(&found, writer)?;
+    write_total(count, writer)?;
+    Ok(count)
 }

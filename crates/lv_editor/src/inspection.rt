@@ -193,12 +193,7 @@ pub fn inspect<W: Write>(
     ensures refused { IfErr result (λ e. RefusesInspection wad.now name.now e
         (W.contents writer.old) (W.contents writer.new)) }
 {
-    let level = match read_level(alloc, wad, name) {
-        Ok(level) => level,
-        Err(error) => return Err(InspectError::Level(error)),
-    };
-    match audit(alloc, &level) {
-        Ok(fault) => write_level(&level, fault, writer),
-        Err(error) => Err(InspectError::Level(error)),
-    }
+    let level = read_level(alloc, wad, name)?;
+    let fault = audit(alloc, &level)?;
+    write_level(&level, fault, writer)
 }

@@ -1,17 +1,15 @@
-//! The editor: lines in, answers out, and the words of the program.
+//! The editor: lines in, answers out, and what the words of the program ask for.
 #![tactic(auto)]
 
 mod answers;
-mod asked;
-mod building;
-mod builds;
-mod command_line;
+mod build_queries;
+mod build_request;
+mod counted_wad;
 mod drawing;
 mod editing;
 mod error;
 mod examining;
 mod findings;
-mod help;
 mod hex;
 mod input_line;
 mod inspection;
@@ -28,9 +26,7 @@ mod refusal;
 mod session;
 mod status;
 
-pub use asked::{Request, RequestError};
-pub use building::{Counts, write_wad};
-pub use command_line::request;
+pub use counted_wad::{Counts, write_wad};
 pub use drawing::run_in_memory;
 pub use editing::{answer, run};
 pub use error::{EditorError, InspectError, RecoveryError, WriteError};

@@ -1,6 +1,6 @@
 //! The lumps that a line may ask for, as they are drawn and as a build makes them.
 ghost use Rattle.std.specs.Prelude.{◌≡◌};
-ghost use Rattle.lv_editor.specs.Queries.{kind_of};
+ghost use Rattle.lv_editor.specs.Queries.{kind_of_lump};
 
 use lv_maptables::Kind;
 
@@ -17,7 +17,7 @@ pub enum Lump {
 impl Lump {
     /// The items of which a drawn lump has the records.
     pub fn kind(self) -> Kind
-        ensures { result ≡ kind_of self }
+        ensures { result ≡ kind_of_lump self }
     {
         match self {
             Lump::Things => Kind::Thing,

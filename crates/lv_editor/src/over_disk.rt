@@ -111,10 +111,7 @@ fn tell<W: Write>(alloc: Global, map: &Map, writer: &mut W) -> Result<u8, Refusa
     ensures told { IsCheckedOf map.now.tables result
         (W.contents writer.old) (W.contents writer.new) }
 {
-    let found = match write_findings(alloc, map, writer) {
-        Ok(found) => found,
-        Err(error) => return Err(Refusal::Lines(error)),
-    };
+    let found = write_findings(alloc, map, writer)?;
     match writer.flush() {
         Ok(()) => Ok(status_after(found)),
         Err(_) => Err(Refusal::Lines(EditorError::WriterFailed)),

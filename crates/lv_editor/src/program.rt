@@ -4,8 +4,7 @@ ghost use Rattle.std.specs.Io.KnownBytes.{Keeps};
 ghost use Rattle.lv_editor.specs.Deeds.{IsBuiltInto, IsChecked, IsCreated, IsEdited, IsPerformed, IsScratched, status_in};
 ghost use Rattle.lv_editor.specs.declared.refusal.Refusal.{Refusal};
 
-use crate::asked::Request;
-use crate::building::build;
+use crate::build_request::build;
 use crate::drawing::run_in_memory;
 use crate::examining::examine;
 use crate::limits::TURNS;
@@ -14,6 +13,7 @@ use crate::refusal::{Refusal, report};
 use crate::status::ended;
 use lv_disk::{Disk, FileDisk};
 use lv_project::{Geometry, ProjectError};
+use lv_requests::Request;
 use std::alloc::Global;
 use std::io::{Read, Write};
 use std::os::unix::fs::FileExt;

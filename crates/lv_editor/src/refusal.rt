@@ -1,4 +1,7 @@
 //! Why a request was refused, and the line that says so.
+ghost use Rattle.std.specs.Prelude.{◌≡◌};
+ghost use Rattle.lv_editor.specs.declared.refusal.Refusal.TheVariants.{Build, Level, Lines};
+
 use crate::error::{EditorError, InspectError, WriteError};
 use lv_project::ProjectError;
 use lv_pwad::{BuildError, ReadError};
@@ -15,6 +18,30 @@ pub enum Refusal {
     Level(InspectError),
     /// The PWAD of the maps.
     Build(WriteError),
+}
+
+impl From<EditorError> for Refusal {
+    ghost from_gives = { λ error r. r ≡ Lines error };
+
+    fn from(error: EditorError) -> Refusal {
+        Refusal::Lines(error)
+    }
+}
+
+impl From<InspectError> for Refusal {
+    ghost from_gives = { λ error r. r ≡ Level error };
+
+    fn from(error: InspectError) -> Refusal {
+        Refusal::Level(error)
+    }
+}
+
+impl From<WriteError> for Refusal {
+    ghost from_gives = { λ error r. r ≡ Build error };
+
+    fn from(error: WriteError) -> Refusal {
+        Refusal::Build(error)
+    }
 }
 
 impl Refusal {

@@ -1,8 +1,9 @@
 //! The inspection of a level: a worked room as a WAD, and the same with one byte changed.
 
 use crate::expect::same;
-use lv_editor::{InspectError, inspect, perform, request};
+use lv_editor::{InspectError, inspect, perform};
 use lv_pwad::ReadError;
+use lv_requests::request;
 use std::alloc::{AllocError, Global};
 use std::fs;
 use std::test::Fail;

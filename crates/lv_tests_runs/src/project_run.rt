@@ -3,8 +3,9 @@
 use crate::expect::same;
 use crate::streams::Narrow;
 use lv_disk::{Disk, FaultDisk, FileDisk, MemoryDisk};
-use lv_editor::{EditorError, RequestError, answer, build_after_any_stop, perform, request, run};
+use lv_editor::{EditorError, answer, build_after_any_stop, perform, run};
 use lv_project::{Geometry, Project};
+use lv_requests::{RequestError, request};
 use lv_tests_store::small::{SMALL, created, empty_disk, found, vertices};
 use std::alloc::Global;
 use std::fs;

@@ -6,7 +6,7 @@ use Rattle.lv_maptables.specs.Body.{lump_of}
 use Rattle.lv_maptables.specs.Projects.{current_map, project_of}
 use Rattle.lv_maptables.specs.Tables.{Tables}
 use Rattle.lv_maptables.proofs.ProjectLemmas.{current_of}
-use Rattle.lv_editor.specs.Queries.{IsAnswer, TakesMemory, WritesBuilt, kind_of}
+use Rattle.lv_editor.specs.Queries.{IsAnswer, TakesMemory, WritesBuilt, kind_of_lump}
 use Rattle.lv_editor.specs.Runs.{Unwritten}
 use Rattle.lv_editor.specs.Texts.{count_text, findings_text, hex_text, maps_text}
 use Rattle.lv_editor.specs.declared.error.EditorError.TheVariants.{WriterFailed}
@@ -52,8 +52,8 @@ returns-in-Hex g c =
     let w = g.W.Write.contents c.write_hex.new.writer in
     let same : c.current-map.result.now.tables ≡ current_map p = c.current-map.ensures.tables ∙ sym (current_of c.args.maps.now) in
     rw c.in-Hex.is
-    (text_told c.write_hex.result (λ text. IsAnswer p (Hex lump) text) (TakesMemory (Hex lump)) (hex_text (lump_of (current_map p) (kind_of lump))) u w refl tt
-    (subst (λ (m : Tables). MatchResult c.write_hex.result (λ _. Appends u w (hex_text (lump_of m (kind_of lump)))) (λ e. Unwritten e u w)) same c.write_hex.ensures))
+    (text_told c.write_hex.result (λ text. IsAnswer p (Hex lump) text) (TakesMemory (Hex lump)) (hex_text (lump_of (current_map p) (kind_of_lump lump))) u w refl tt
+    (subst (λ (m : Tables). MatchResult c.write_hex.result (λ _. Appends u w (hex_text (lump_of m (kind_of_lump lump)))) (λ e. Unwritten e u w)) same c.write_hex.ensures))
 
 pub returns-in-HexBuilt : goal.returns-in-HexBuilt
 returns-in-HexBuilt g c =

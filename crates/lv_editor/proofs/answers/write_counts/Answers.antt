@@ -5,7 +5,9 @@ use Rattle.lv_editor.specs.Texts.{counts_text}
 use Rattle.lv_editor.proofs.answers.write_counts.Goals as goal
 
 -- the parts one in the other, as they are written
-in_parts : (v s d l t : ℕ) → counts_text v s d l t ≡ codes "vertices " ++ (decimal v ++ (codes " sectors " ++ (decimal s ++ (codes " sides " ++ (decimal d ++ (codes " lines " ++ (decimal l ++ (codes " things " ++ (decimal t ++ 10 ∷ [])))))))))
+in_parts : (v s d l t : ℕ) → counts_text v s d l t ≡ codes "vertices " ++ (decimal v ++ (codes " sectors "
+    ++ (decimal s ++ (codes " sides " ++ (decimal d ++ (codes " lines " ++ (decimal l
+    ++ (codes " things " ++ (decimal t ++ 10 ∷ [])))))))))
 in_parts v s d l t = simp append_assoc
 
 pub returns-in-Ok : goal.returns-in-Ok

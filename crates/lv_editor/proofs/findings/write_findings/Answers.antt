@@ -7,8 +7,8 @@ use Rattle.lv_editor.specs.Texts.{finding_line, total_text}
 use Rattle.lv_editor.proofs.Going.{Appends-append}
 use Rattle.lv_editor.proofs.findings.write_findings.Goals as goal
 
-pub returns-in-Ok-write_total-clause-written : goal.returns-in-Ok-write_total-clause-written
-returns-in-Ok-write_total-clause-written g c =
+pub returns-clause-written : goal.returns-clause-written
+returns-clause-written g c =
     let u = g.W.Write.contents c.args.writer.now in
     let w = g.W.Write.contents c.write_total.new.writer in
     let all = findings c.args.map.now.tables in
@@ -16,6 +16,6 @@ returns-in-Ok-write_total-clause-written g c =
     let same : c.deref.result.now ≡ all = c.deref.ensures.value ∙ c.in-Ok.ensures.found in
     let number : count ≡ length all = omega (arith, ap length same, c.deref.ensures.len, c.in-Ok.found.ok.0, c.len.ensures, c.in-Ok-try_from.ensures) in
     let both = Appends-append u (g.W.Write.contents c.write_each.new.writer) w (flat_map finding_line c.deref.result.now) (total_text count)
-    c.in-Ok-write_each.ensures c.in-Ok-write_total.ensures in
+    c.in_ok-write_each.ensures c.in_ok-write_total.ensures in
     subst (λ (n : ℕ). Appends u w (flat_map finding_line all ++ total_text n)) number
     (subst (λ (found : List Finding). Appends u w (flat_map finding_line found ++ total_text count)) same both)

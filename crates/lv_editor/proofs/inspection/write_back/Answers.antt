@@ -7,7 +7,9 @@ use Rattle.lv_editor.proofs.inspection.write_back.Goals as goal
 -- the parts one in the other, as they are written
 in_parts : (subs nodes sectors reject blockmap : ℕ)
     → back_text subs nodes sectors reject blockmap
-    ≡ codes " subsectors " ++ (decimal subs ++ (codes " nodes " ++ (decimal nodes ++ (codes " sectors " ++ (decimal sectors ++ (codes " reject " ++ (decimal reject ++ (codes " blockmap " ++ (decimal blockmap ++ 10 ∷ [])))))))))
+    ≡ codes " subsectors " ++ (decimal subs ++ (codes " nodes " ++ (decimal nodes ++ (codes " sectors "
+    ++ (decimal sectors ++ (codes " reject " ++ (decimal reject ++ (codes " blockmap "
+    ++ (decimal blockmap ++ 10 ∷ [])))))))))
 in_parts subs nodes sectors reject blockmap = simp append_assoc
 
 pub returns-in-Ok : goal.returns-in-Ok

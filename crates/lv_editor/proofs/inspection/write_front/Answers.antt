@@ -7,7 +7,9 @@ use Rattle.lv_editor.proofs.inspection.write_front.Goals as goal
 -- the parts one in the other, as they are written
 in_parts : (things lines sides vertices segs : ℕ)
     → front_text things lines sides vertices segs
-    ≡ codes "things " ++ (decimal things ++ (codes " lines " ++ (decimal lines ++ (codes " sides " ++ (decimal sides ++ (codes " vertices " ++ (decimal vertices ++ (codes " segs " ++ decimal segs))))))))
+    ≡ codes "things " ++ (decimal things ++ (codes " lines " ++ (decimal lines ++ (codes " sides "
+    ++ (decimal sides ++ (codes " vertices " ++ (decimal vertices
+    ++ (codes " segs " ++ decimal segs))))))))
 in_parts things lines sides vertices segs = simp append_assoc
 
 pub returns-in-Ok : goal.returns-in-Ok

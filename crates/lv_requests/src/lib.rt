@@ -1,0 +1,9 @@
+//! The words of the program: the command line that clap reads, and what the words ask for.
+#![tactic(auto)]
+
+mod asked;
+mod command_line;
+mod help;
+
+pub use asked::{Request, RequestError};
+pub use command_line::request;
