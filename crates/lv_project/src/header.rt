@@ -10,20 +10,20 @@ ghost use Rattle.lv_project.specs.Opening.{RefusesHeader};
 
 use crate::ProjectError;
 use crate::geometry::Geometry;
+use byteorder::{ByteOrder, LittleEndian};
 use lv_disk::Disk;
 
 // The magic, the version, and the two lengths.
 pub fn header(geometry: Geometry) -> [u8; 16]
     ensures { result ≡ header_bytes geometry.slot geometry.journal }
 {
-    let s = geometry.slot.to_le_bytes();
-    let j = geometry.journal.to_le_bytes();
-    [
-        76, 86, 80, 74, 1, 0, 0, 0, s[0], s[1], s[2], s[3], j[0], j[1], j[2], j[3],
-    ]
+    let mut bytes = [76, 86, 80, 74, 1, 0, 0, 0, 0, 0, 0, 0, 0, 0, 0, 0];
+    LittleEndian::write_u32(&mut bytes[8..], geometry.slot);
+    LittleEndian::write_u32(&mut bytes[12..], geometry.journal);
+    bytes
 }
 
-// The lengths where a header has them.
+// The lengths where a header has them. From std: its clauses tell that the bytes of a number are read as that number.
 fn lengths_of(bytes: [u8; 16]) -> Geometry
     ensures small { (result.slot < 2 ^ 32) × (result.journal < 2 ^ 32) }
     ensures only { (slot : ℕ) → (journal : ℕ) → slot < 2 ^ 32 → journal < 2 ^ 32

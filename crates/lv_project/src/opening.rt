@@ -1,5 +1,5 @@
 //! A project as its file is read or made.
-ghost use Rattle.std.specs.Prelude.{◌≡◌, ◌≤◌, ◌<◌, ◌⊎◌, ◌+◌, ◌^◌, ℕ, [], false, true, Ok, length, IfOk, IfErr, IsErrOf, OnOk};
+ghost use Rattle.std.specs.Prelude.{◌≡◌, ◌≤◌, ◌<◌, ◌⊎◌, ◌+◌, ◌^◌, ℕ, [], false, true, Ok, length, IfOk, IfErr, IsErrOf, OnErr, OnOk};
 ghost use Rattle.lv_disk.specs.Stops.{Each, LeavesOnly};
 ghost use Rattle.lv_journal.specs.Records.{IsJournal};
 ghost use Rattle.lv_journal.specs.State as journal;
@@ -275,6 +275,9 @@ pub fn write_new<D: Disk>(
     ensures refused { IfErr result (RefusesCreate (D.reads disk.old) geometry) }
     // But for a `Device` it has only read.
     ensures untouched { IfErr result (λ e. (e ≡ ProjectError.Device)
+        ⊎ OnlyReads D.reads D.may_leave D.moment D.left_since disk.old disk.new) }
+    // So is a file that isn't empty, whatever the refusal.
+    ensures stays { OnErr result (Each (D.reads disk.old) (λ file. length file ≡ 0)
         ⊎ OnlyReads D.reads D.may_leave D.moment D.left_since disk.old disk.new) }
     ensures count { CountsFaults ProjectError.Device (D.failures disk.old)
         (D.failures disk.new) result }

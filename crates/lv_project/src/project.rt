@@ -4,17 +4,17 @@ ghost use Rattle.lv_disk.specs.Stops.{Each, LeavesOnly};
 ghost use Rattle.lv_journal.specs.State.{IsAbove};
 ghost use Rattle.lv_maptables.specs.Projects.{body_len, project_of};
 ghost use Rattle.lv_commands.specs.ProjectReadiness as readiness;
-ghost use Rattle.lv_project.specs.Refusals.{IsRefusalOf};
 ghost use Rattle.lv_commands.specs.ProjectCommands.{spelling};
 ghost use Rattle.lv_commands.specs.ProjectStep.{after, number_of, step};
 
 use crate::ProjectError;
 use crate::change::turn;
+use crate::error::refusal_of;
 use crate::geometry::Geometry;
 use crate::opening::{read_project, write_new};
 use crate::places::Places;
 use lv_checkpoint::{CheckpointError, Image, Slots};
-use lv_commands::{CommandError, Ready, commit, parse, ready};
+use lv_commands::{Ready, commit, parse, ready};
 use lv_disk::{Buffer, Disk, ReadAhead};
 use lv_journal::{Journal, JournalError};
 use lv_maptables::{Map, Maps};
@@ -66,16 +66,6 @@ impl<D: Disk> Model for Project<D> {
     ghost view = { state_of };
 
     ghost invariant = { IsSound D.may_leave };
-}
-
-// The refusal of a line.
-fn refusal_of(error: CommandError) -> ProjectError
-    ensures { IsRefusalOf result error }
-{
-    match error {
-        CommandError::OutOfMemory => ProjectError::OutOfMemory,
-        error => ProjectError::Refused(error),
-    }
 }
 
 impl<D: Disk> Project<D> {
@@ -150,6 +140,9 @@ impl<D: Disk> Project<D> {
         ensures refused { IfErr result (λ r. RefusesCreate (D.reads disk) geometry r.error) }
         // A refusal but `Device` leaves the file alone, whatever it is.
         ensures untouched { IfErr result (λ r. (r.error ≡ ProjectError.Device)
+            ⊎ OnlyReads D.reads D.may_leave D.moment D.left_since disk r.disk) }
+        // Whatever the refusal, a file that isn't empty is only read.
+        ensures stays { IfErr result (λ r. Each (D.reads disk) (λ file. length file ≡ 0)
             ⊎ OnlyReads D.reads D.may_leave D.moment D.left_since disk r.disk) }
         ensures count { IfErr result (λ r. r.error ≡ ProjectError.Device
             → Rose (D.failures disk) (D.failures r.disk)) }
