@@ -8,7 +8,9 @@ use Rattle.lv_lumps.specs.declared.records.Vertex.{Vertex}
 use Rattle.lv_blockmap.specs.declared.line_ends.LineEnds.{LineEnds}
 use Rattle.lv_blockmap.specs.Blocks.{ends_in}
 
-pub ends_more : (vs : List Vertex) (ls : List Line) (n : ℕ) (line : Line) (old : List LineEnds) (e : LineEnds) → slice_get ls n ≡ Some line → e ≡ ends_in vs line → old ≡ map (ends_in vs) (take n ls) → old ++ e ∷ [] ≡ map (ends_in vs) (take (n + 1) ls)
+pub ends_more :
+    (vs : List Vertex) (ls : List Line) (n : ℕ) (line : Line) (old : List LineEnds) (e : LineEnds) → slice_get ls n ≡ Some line → e ≡ ends_in vs line → old ≡ map (ends_in vs) (take n ls)
+    → old ++ e ∷ [] ≡ map (ends_in vs) (take (n + 1) ls)
 ends_more vs ls n line old e at is so_far =
     let h = slice_get_within ls n line at in
     let here : get_or ls n line ≡ line = get_or_from_slice_get ls n line line at in

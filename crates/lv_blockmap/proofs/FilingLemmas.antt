@@ -40,7 +40,9 @@ both_filed P R Q line old mid new apart either (inl p) (inr r) = inl (either.1 (
 both_filed P R Q line old mid new apart either (inr p) (inl r) = inl (either.1 (inr r.0), r.1 ∙ ap (λ (xs : List ℕ). xs ++ line ∷ []) p.1)
 both_filed P R Q line old mid new apart either (inr p) (inr r) = inr (λ q. elim (either.0 q) [ inl x ↦ p.0 x | inr x ↦ r.0 x ], r.1 ∙ p.1)
 
-pub files_both : (P R Q : ℕ → Type 0) (line : ℕ) (old mid new : List (List ℕ)) → ((n : ℕ) → P n → R n → ⊥) → ((n : ℕ) → n < length old → Q n ↔ (P n ⊎ R n)) → Files P line old mid → Files R line mid new → Files Q line old new
+pub files_both :
+    (P R Q : ℕ → Type 0) (line : ℕ) (old mid new : List (List ℕ)) → ((n : ℕ) → P n → R n → ⊥) → ((n : ℕ) → n < length old → Q n ↔ (P n ⊎ R n)) → Files P line old mid → Files R line mid new
+    → Files Q line old new
 files_both P R Q line old mid new apart either p r =
     record {
       count = r.count ∙ p.count;

@@ -9,11 +9,11 @@ use Rattle.std.proofs.Math.Nat.{mod-lt, div-lt_iff_lt-mul}
 use Rattle.lv_blockmap.specs.declared.line_ends.LineEnds.{LineEnds}
 use Rattle.lv_blockmap.specs.declared.grid.Grid.{Grid}
 use Rattle.lv_blockmap.specs.Touch.{Touches}
-use Rattle.lv_blockmap.specs.Rows.{TouchesRow, IsRowRange, NoRowBelow}
+use Rattle.lv_blockmap.specs.Rows.{TouchesRow, IsRowRange, NoRowBelow, NoColumnBelow, NoColumnFrom}
 use Rattle.lv_blockmap.specs.Filing.{Filed, Files, InColumn}
-use Rattle.lv_blockmap.specs.Blocks.{TouchesBlock, LineTouches, AreBlockLists, block_count, block_bottom}
-use Rattle.lv_blockmap.proofs.RowLemmas.{row_range-touches}
-use Rattle.lv_blockmap.proofs.FilingLemmas.{files_both, files_as, lt_or_le}
+use Rattle.lv_blockmap.specs.Blocks.{TouchesBlock, LineTouches, AreBlockLists, block_count, block_left, block_bottom}
+use Rattle.lv_blockmap.proofs.RowLemmas.{row_range-touches, touches-column}
+use Rattle.lv_blockmap.proofs.FilingLemmas.{files_both, files_as, files_none, lt_or_le}
 
 some_same : {X : Type 0} (x y : X) → Some x ≡ Some y → x ≡ y
 some_same x y e = cc
@@ -30,7 +30,10 @@ of_row : (line : LineEnds) (g : Grid) (column n : ℕ) → n % g.columns ≡ col
 of_row line g column n e t = subst (λ (k : ℕ). Touches line.start line.end (g.left +ℤ pos (128 * k)) (block_bottom g n)) (sym e) t
 
 -- the next column, with the rows that the line touches there
-pub column_files : (line : LineEnds) (g : Grid) (column low high k : ℕ) (old mid new : List (List ℕ)) → ((n : ℕ) → n < length old → n / g.columns < g.rows) → IsRowRange line.start line.end (g.left +ℤ pos (128 * column)) g.bottom g.rows low high → Files (Before line g column) k old mid → Files (InColumn g.columns column low (high + 1)) k mid new → Files (Before line g (column + 1)) k old new
+pub column_files :
+    (line : LineEnds) (g : Grid) (column low high k : ℕ) (old mid new : List (List ℕ)) → ((n : ℕ) → n < length old → n / g.columns < g.rows)
+    → IsRowRange line.start line.end (g.left +ℤ pos (128 * column)) g.bottom g.rows low high → Files (Before line g column) k old mid → Files (InColumn g.columns column low (high + 1)) k mid new
+    → Files (Before line g (column + 1)) k old new
 column_files line g column low high k old mid new rows range p r =
     files_both (Before line g column) (InColumn g.columns column low (high + 1)) (Before line g (column + 1)) k old mid new
     (λ n b i. let x = b.0 in let y = i.0 in omega arith) either p r
@@ -57,7 +60,9 @@ column_files line g column low high k old mid new rows range p r =
     either n h = (λ b. split n h b (lt_or_le (n % g.columns) column), join n h)
 
 -- the next column, where the line touches no row
-pub column_skipped : (line : LineEnds) (g : Grid) (column k : ℕ) (old new : List (List ℕ)) → ((n : ℕ) → n < length old → n / g.columns < g.rows) → NoRowBelow line.start line.end (g.left +ℤ pos (128 * column)) g.bottom g.rows → Files (Before line g column) k old new → Files (Before line g (column + 1)) k old new
+pub column_skipped :
+    (line : LineEnds) (g : Grid) (column k : ℕ) (old new : List (List ℕ)) → ((n : ℕ) → n < length old → n / g.columns < g.rows)
+    → NoRowBelow line.start line.end (g.left +ℤ pos (128 * column)) g.bottom g.rows → Files (Before line g column) k old new → Files (Before line g (column + 1)) k old new
 column_skipped line g column k old new rows none p =
     files_as (Before line g column) (Before line g (column + 1)) k old new (λ n h. (λ b. only n h b (lt_or_le (n % g.columns) column), λ b. let x = b.0 in (omega arith, b.1))) p
   where
@@ -77,10 +82,23 @@ row_among g count n h e lt =
     let swapped : g.columns * g.rows ≡ g.rows * g.columns = omega arith in
     div_among g.columns g.rows n h (omega (arith, e, swapped, lt))
 
--- all columns
-pub all_columns : (line : LineEnds) (g : Grid) (column k : ℕ) (old new : List (List ℕ)) → 0 < g.columns → g.columns ≤ column → Files (Before line g column) k old new → Files (TouchesBlock line g) k old new
-all_columns line g column k old new some all p =
-    files_as (Before line g column) (TouchesBlock line g) k old new (λ n h. (λ t. let m = mod_among g.columns n some in (omega (arith, m, all), t), λ b. b.1)) p
+-- no column before the first that the line's box reaches
+pub no_columns : (line : LineEnds) (g : Grid) (first k : ℕ) (lists : List (List ℕ)) → NoColumnBelow line.start.x line.end.x g.left first → Files (Before line g first) k lists lists
+no_columns line g first k lists none =
+    files_none (Before line g first) k lists
+    (λ n h b. none (n % g.columns) b.0 (touches-column line.start line.end (block_left g n) (block_bottom g n) b.1))
+
+-- all columns that it reaches
+pub all_columns :
+    (line : LineEnds) (g : Grid) (column end k : ℕ) (old new : List (List ℕ)) → 0 < g.columns → end ≤ column → NoColumnFrom line.start.x line.end.x g.left end g.columns
+    → Files (Before line g column) k old new → Files (TouchesBlock line g) k old new
+all_columns line g column end k old new some all none p =
+    files_as (Before line g column) (TouchesBlock line g) k old new (λ n h. (λ t. (inside n t (lt_or_le (n % g.columns) column), t), λ b. b.1)) p
+  where
+    inside : (n : ℕ) → TouchesBlock line g n → (n % g.columns < column) ⊎ (column ≤ n % g.columns) → n % g.columns < column
+    inside n t (inl x) = x
+    inside n t (inr x) =
+        absurd (none (n % g.columns) (omega (arith, x, all)) (mod_among g.columns n some) (touches-column line.start line.end (block_left g n) (block_bottom g n) t))
 
 -- ---- the lists once the first k lines are filed
 pub record IsFiled (lines : List LineEnds) (g : Grid) (n k : ℕ) (list : List ℕ) : Type 0 where
@@ -109,7 +127,9 @@ are_filed-none lines g =
     }
 
 -- one line more
-filed_more : (lines : List LineEnds) (g : Grid) (n k : ℕ) (line : LineEnds) (old new : List ℕ) → slice_get lines k ≡ Some line → IsFiled lines g n k old → Filed (TouchesBlock line g n) k old new → IsFiled lines g n (k + 1) new
+filed_more :
+    (lines : List LineEnds) (g : Grid) (n k : ℕ) (line : LineEnds) (old new : List ℕ) → slice_get lines k ≡ Some line → IsFiled lines g n k old → Filed (TouchesBlock line g n) k old new
+    → IsFiled lines g n (k + 1) new
 filed_more lines g n k line old new at f (inl p) =
     subst (λ (xs : List ℕ). IsFiled lines g n (k + 1) xs) (sym p.1)
     (record {
@@ -148,7 +168,9 @@ filed_more lines g n k line old new at f (inr p) =
         let same : t.line ≡ line = some_same t.line line (sym t.is_line ∙ at) in
         absurd (p.0 (subst (λ (l : LineEnds). TouchesBlock l g n) same t.touches))
 
-pub are_filed-more : (lines : List LineEnds) (g : Grid) (k : ℕ) (line : LineEnds) (old new : List (List ℕ)) → slice_get lines k ≡ Some line → AreFiled lines g k old → Files (TouchesBlock line g) k old new → AreFiled lines g (k + 1) new
+pub are_filed-more :
+    (lines : List LineEnds) (g : Grid) (k : ℕ) (line : LineEnds) (old new : List (List ℕ)) → slice_get lines k ≡ Some line → AreFiled lines g k old → Files (TouchesBlock line g) k old new
+    → AreFiled lines g (k + 1) new
 are_filed-more lines g k line old new at a f =
     record {
       count = f.count ∙ a.count;

@@ -9,7 +9,7 @@ use Rattle.std.proofs.lemmas.List.{take_more, take_all, map-append}
 use Rattle.lv_lumps.specs.declared.records.Vertex.{Vertex}
 use Rattle.lv_blockmap.specs.declared.line_ends.LineEnds.{LineEnds}
 use Rattle.lv_blockmap.specs.declared.grid.Grid.{Grid}
-use Rattle.lv_blockmap.specs.Blocks.{all_ends, least, greatest, blocks_over, grid_of}
+use Rattle.lv_blockmap.specs.Blocks.{both_ends, lowest, highest, blocks_over, grid_of}
 
 -- the lesser and the greater of two coordinates went to bits and came back
 pub lesser_back : (a b m : ℤ) → FitsSigned w16 a → FitsSigned w16 b → m ≡ int_min (to_z w16 (of_z w16 a)) (to_z w16 (of_z w16 b)) → to_z w16 (of_z w16 m) ≡ int_min a b
@@ -28,31 +28,37 @@ greater_back a b m f g e =
 
 -- a coordinate folded over the ends of the first n lines
 abbrev pub folded : (ℤ → ℤ → ℤ) → (Vertex → ℤ) → ℤ → List LineEnds → ℕ → ℤ
-folded f of first lines n = fold f first (map of (all_ends (take n lines)))
+folded f of first lines n = fold f first (map of (both_ends (take n lines)))
 
-pub folded_more : (f : ℤ → ℤ → ℤ) (of : Vertex → ℤ) (first : ℤ) (lines : List LineEnds) (n : ℕ) (line : LineEnds) → n < length lines → get_or lines n line ≡ line → folded f of first lines (n + 1) ≡ f (f (folded f of first lines n) (of line.start)) (of line.end)
+pub folded_more :
+    (f : ℤ → ℤ → ℤ) (of : Vertex → ℤ) (first : ℤ) (lines : List LineEnds) (n : ℕ) (line : LineEnds) → n < length lines → get_or lines n line ≡ line
+    → folded f of first lines (n + 1) ≡ f (f (folded f of first lines n) (of line.start)) (of line.end)
 folded_more f of first lines n line h is =
-    ap (λ (ls : List LineEnds). fold f first (map of (all_ends ls))) (take_more lines n line h ∙ ap (λ (l : LineEnds). take n lines ++ l ∷ []) is)
+    ap (λ (ls : List LineEnds). fold f first (map of (both_ends ls))) (take_more lines n line h ∙ ap (λ (l : LineEnds). take n lines ++ l ∷ []) is)
     ∙ ap (λ (vs : List Vertex). fold f first (map of vs)) (flat_map-append (λ (e : LineEnds). e.start ∷ e.end ∷ []) (take n lines) (line ∷ []))
-    ∙ ap (fold f first) (map-append of (all_ends (take n lines)) (line.start ∷ line.end ∷ []))
-    ∙ fold-append f first (map of (all_ends (take n lines))) (of line.start ∷ of line.end ∷ [])
+    ∙ ap (fold f first) (map-append of (both_ends (take n lines)) (line.start ∷ line.end ∷ []))
+    ∙ fold-append f first (map of (both_ends (take n lines))) (of line.start ∷ of line.end ∷ [])
 
 -- the first end counts once and again
-pub least_again : (lines : List LineEnds) (line : LineEnds) (of : Vertex → ℤ) → 0 < length lines → get_or lines 0 line ≡ line → fold int_min (of line.start) (map of (all_ends lines)) ≡ least (map of (all_ends lines))
+pub least_again :
+    (lines : List LineEnds) (line : LineEnds) (of : Vertex → ℤ) → 0 < length lines → get_or lines 0 line ≡ line
+    → fold int_min (of line.start) (map of (both_ends lines)) ≡ lowest (map of (both_ends lines))
 least_again [] line of h is = absurd (omega arith)
 least_again (l ∷ lines) line of h is =
     let e : l ≡ line = is in
     let twice : int_min (of l.start) (of l.start) ≡ of l.start = omega (arith, ints, clamps) in
-    ap (λ (k : LineEnds). fold int_min (of k.start) (map of (all_ends (l ∷ lines)))) (sym e)
-    ∙ ap (λ (z : ℤ). fold int_min z (of l.end ∷ map of (all_ends lines))) twice
+    ap (λ (k : LineEnds). fold int_min (of k.start) (map of (both_ends (l ∷ lines)))) (sym e)
+    ∙ ap (λ (z : ℤ). fold int_min z (of l.end ∷ map of (both_ends lines))) twice
 
-pub greatest_again : (lines : List LineEnds) (line : LineEnds) (of : Vertex → ℤ) → 0 < length lines → get_or lines 0 line ≡ line → fold int_max (of line.start) (map of (all_ends lines)) ≡ greatest (map of (all_ends lines))
+pub greatest_again :
+    (lines : List LineEnds) (line : LineEnds) (of : Vertex → ℤ) → 0 < length lines → get_or lines 0 line ≡ line
+    → fold int_max (of line.start) (map of (both_ends lines)) ≡ highest (map of (both_ends lines))
 greatest_again [] line of h is = absurd (omega arith)
 greatest_again (l ∷ lines) line of h is =
     let e : l ≡ line = is in
     let twice : int_max (of l.start) (of l.start) ≡ of l.start = omega (arith, ints, clamps) in
-    ap (λ (k : LineEnds). fold int_max (of k.start) (map of (all_ends (l ∷ lines)))) (sym e)
-    ∙ ap (λ (z : ℤ). fold int_max z (of l.end ∷ map of (all_ends lines))) twice
+    ap (λ (k : LineEnds). fold int_max (of k.start) (map of (both_ends (l ∷ lines)))) (sym e)
+    ∙ ap (λ (z : ℤ). fold int_max z (of l.end ∷ map of (both_ends lines))) twice
 
 abbrev pub no_line : LineEnds
 no_line = record { start = record { x = pos 0; y = pos 0 }; end = record { x = pos 0; y = pos 0 } }
@@ -88,13 +94,16 @@ made_grid left bottom columns rows = record { left = left; bottom = bottom; colu
 same_grid : (a b : ℤ) (m n : ℕ) (c d : ℤ) (p q : ℕ) → a ≡ c → b ≡ d → m ≡ p → n ≡ q → made_grid a b m n ≡ made_grid c d p q
 same_grid a b m n c d p q e f g h = cc
 
-whole : (f : ℤ → ℤ → ℤ) (of : Vertex → ℤ) (z : ℤ) (lines : List LineEnds) (n : ℕ) → length lines ≤ n → folded f of z lines n ≡ fold f z (map of (all_ends lines))
-whole f of z lines n h = ap (λ (ls : List LineEnds). fold f z (map of (all_ends ls))) (take_all n lines h)
+whole : (f : ℤ → ℤ → ℤ) (of : Vertex → ℤ) (z : ℤ) (lines : List LineEnds) (n : ℕ) → length lines ≤ n → folded f of z lines n ≡ fold f z (map of (both_ends lines))
+whole f of z lines n h = ap (λ (ls : List LineEnds). fold f z (map of (both_ends ls))) (take_all n lines h)
 
-pub grid_found : (lines : List LineEnds) (first : LineEnds) (n : ℕ) (low high : Vertex) (columns rows : ℕ) → 0 < length lines → length lines ≤ n → get_or lines 0 first ≡ first → columns ≡ blocks_over low.x high.x → rows ≡ blocks_over low.y high.y → CornersSoFar lines first n low high → made_grid low.x low.y columns rows ≡ grid_of lines
+pub grid_found :
+    (lines : List LineEnds) (first : LineEnds) (n : ℕ) (low high : Vertex) (columns rows : ℕ) → 0 < length lines → length lines ≤ n → get_or lines 0 first ≡ first → columns ≡ blocks_over low.x high.x
+    → rows ≡ blocks_over low.y high.y → CornersSoFar lines first n low high → made_grid low.x low.y columns rows ≡ grid_of lines
 grid_found lines first n low high columns rows some all is ec er c =
     let l = c.left ∙ whole int_min (λ v. v.x) first.start.x lines n all ∙ least_again lines first (λ v. v.x) some is in
     let b = c.bottom ∙ whole int_min (λ v. v.y) first.start.y lines n all ∙ least_again lines first (λ v. v.y) some is in
     let r = c.right ∙ whole int_max (λ v. v.x) first.start.x lines n all ∙ greatest_again lines first (λ v. v.x) some is in
     let t = c.top ∙ whole int_max (λ v. v.y) first.start.y lines n all ∙ greatest_again lines first (λ v. v.y) some is in
-    same_grid low.x low.y columns rows _ _ _ _ l b (ec ∙ ap (λ (z : ℤ). blocks_over z high.x) l ∙ ap (λ (z : ℤ). blocks_over (least (map (λ v. v.x) (all_ends lines))) z) r) (er ∙ ap (λ (z : ℤ). blocks_over z high.y) b ∙ ap (λ (z : ℤ). blocks_over (least (map (λ v. v.y) (all_ends lines))) z) t)
+    same_grid low.x low.y columns rows _ _ _ _ l b (ec ∙ ap (λ (z : ℤ). blocks_over z high.x) l ∙ ap (λ (z : ℤ). blocks_over (lowest (map (λ v. v.x) (both_ends lines))) z) r)
+    (er ∙ ap (λ (z : ℤ). blocks_over z high.y) b ∙ ap (λ (z : ℤ). blocks_over (lowest (map (λ v. v.y) (both_ends lines))) z) t)

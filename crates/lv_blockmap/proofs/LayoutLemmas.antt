@@ -31,7 +31,9 @@ length-starts at [] = refl
 length-starts at (list ∷ lists) = ap suc (length-starts (at + length (list_words list)) lists)
 
 -- each list stands where it starts
-pub starts_stand : (front : List ℕ) (at : ℕ) (lists : List (List ℕ)) → length front ≡ at → (n : ℕ) → n < length lists → StandsAt (front ++ flat_map list_words lists) (get_or (starts at lists) n 0) (list_words (get_or lists n []))
+pub starts_stand :
+    (front : List ℕ) (at : ℕ) (lists : List (List ℕ)) → length front ≡ at → (n : ℕ) → n < length lists
+    → StandsAt (front ++ flat_map list_words lists) (get_or (starts at lists) n 0) (list_words (get_or lists n []))
 starts_stand front at [] e n h = absurd (omega arith)
 starts_stand front at (list ∷ lists) e zero h =
     let w : List ℕ = list_words list in
@@ -41,7 +43,8 @@ starts_stand front at (list ∷ lists) e zero h =
 starts_stand front at (list ∷ lists) e (suc n) h =
     let k = length-append front (list_words list) in
     let i = starts_stand (front ++ list_words list) (at + length (list_words list)) lists (k ∙ ap (λ (m : ℕ). m + length (list_words list)) e) n (omega arith) in
-    subst (λ (zs : List ℕ). StandsAt zs (get_or (starts (at + length (list_words list)) lists) n 0) (list_words (get_or lists n []))) (append_assoc front (list_words list) (flat_map list_words lists)) i
+    subst (λ (zs : List ℕ). StandsAt zs (get_or (starts (at + length (list_words list)) lists) n 0) (list_words (get_or lists n [])))
+    (append_assoc front (list_words list) (flat_map list_words lists)) i
 
 offset_word : (g : Grid) (offsets rest : List ℕ) (n : ℕ) → n < length offsets → get_or (header g ++ offsets ++ rest) (4 + n) 0 ≡ get_or offsets n 0
 offset_word g offsets rest n h =
@@ -69,7 +72,9 @@ lists_blocks lines lists a = record { grid = refl; each = each }
         }
 
 -- ---- the answers
-pub blockmap_found : (lines : List LineEnds) (g : Grid) (lists : List (List ℕ)) (bytes : List ℕ) → lines ≢ [] → g ≡ grid_of lines → AreBlockLists lines g lists → length (blockmap_words g lists) ≤ 65536 → All (λ (w : ℕ). w < 65536) (blockmap_words g lists) → bytes ≡ word_bytes (blockmap_words g lists) → OffsetsFit lists → IsBlockmapOver lines bytes
+pub blockmap_found :
+    (lines : List LineEnds) (g : Grid) (lists : List (List ℕ)) (bytes : List ℕ) → lines ≢ [] → g ≡ grid_of lines → AreBlockLists lines g lists → length (blockmap_words g lists) ≤ 65536
+    → All (λ (w : ℕ). w < 65536) (blockmap_words g lists) → bytes ≡ word_bytes (blockmap_words g lists) → OffsetsFit lists → IsBlockmapOver lines bytes
 blockmap_found lines g lists bytes some e a short bits b f =
     let l : AreBlockLists lines (grid_of lines) lists = subst (λ (h : Grid). AreBlockLists lines h lists) e a in
     record {
@@ -82,7 +87,9 @@ blockmap_found lines g lists bytes some e a short bits b f =
       short = subst (λ (h : Grid). length (blockmap_words h lists) ≤ 65536) e short;
     }
 
-pub blockmap_refused : (lines : List LineEnds) (g : Grid) (lists : List (List ℕ)) (e : BlockmapError) → lines ≢ [] → g ≡ grid_of lines → AreBlockLists lines g lists → (e ≡ BlockmapTooLarge → OffsetsFit lists → ⊥) → (e ≡ NothingToBuild → ⊥) → RefusesBlockmapOver lines e
+pub blockmap_refused :
+    (lines : List LineEnds) (g : Grid) (lists : List (List ℕ)) (e : BlockmapError) → lines ≢ [] → g ≡ grid_of lines → AreBlockLists lines g lists → (e ≡ BlockmapTooLarge → OffsetsFit lists → ⊥)
+    → (e ≡ NothingToBuild → ⊥) → RefusesBlockmapOver lines e
 blockmap_refused lines g lists NothingToBuild some e a large nothing = absurd (nothing refl)
 blockmap_refused lines g lists BlockmapTooLarge some e a large nothing =
     (some, record { lists = lists; are_lists = subst (λ (h : Grid). AreBlockLists lines h lists) e a; too_large = large refl })

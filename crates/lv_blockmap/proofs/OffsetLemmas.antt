@@ -32,7 +32,9 @@ words_more (list ∷ lists) (suc k) h =
     ap (words_before (list ∷ lists)) e ∙ omega (arith, r)
 
 -- one word more is written
-pub word_more : (front bytes old : List ℕ) (words : List ℕ) (k : ℕ) (word : ℕ) → k < length words → get_or words k 0 ≡ word → bytes ≡ front ++ word_bytes (take k words) → bytes ++ unsigned word ≡ front ++ word_bytes (take (k + 1) words)
+pub word_more :
+    (front bytes old : List ℕ) (words : List ℕ) (k : ℕ) (word : ℕ) → k < length words → get_or words k 0 ≡ word → bytes ≡ front ++ word_bytes (take k words)
+    → bytes ++ unsigned word ≡ front ++ word_bytes (take (k + 1) words)
 word_more front bytes old words k word h is e =
     ap (λ (bs : List ℕ). bs ++ unsigned word) e ∙ append_assoc front (word_bytes (take k words)) (unsigned word)
     ∙ ap (λ (bs : List ℕ). front ++ bs)
@@ -41,7 +43,9 @@ word_more front bytes old words k word h is e =
     ∙ ap word_bytes (ap (λ (w : ℕ). take k words ++ w ∷ []) (sym is) ∙ sym (take_more words k 0 h)))
 
 -- one list more is written
-pub list_more : (front bytes : List ℕ) (lists : List (List ℕ)) (k : ℕ) (list : List ℕ) → k < length lists → get_or lists k [] ≡ list → bytes ≡ front ++ word_bytes (flat_map list_words (take k lists)) → bytes ++ word_bytes (list_words list) ≡ front ++ word_bytes (flat_map list_words (take (k + 1) lists))
+pub list_more :
+    (front bytes : List ℕ) (lists : List (List ℕ)) (k : ℕ) (list : List ℕ) → k < length lists → get_or lists k [] ≡ list → bytes ≡ front ++ word_bytes (flat_map list_words (take k lists))
+    → bytes ++ word_bytes (list_words list) ≡ front ++ word_bytes (flat_map list_words (take (k + 1) lists))
 list_more front bytes lists k list h is e =
     ap (λ (bs : List ℕ). bs ++ word_bytes (list_words list)) e ∙ append_assoc front (word_bytes (flat_map list_words (take k lists))) (word_bytes (list_words list))
     ∙ ap (λ (bs : List ℕ). front ++ bs)
@@ -65,7 +69,9 @@ starts_none lists first =
     none [] = omega arith
     none (list ∷ lists) = omega arith
 
-pub starts_more : (lists : List (List ℕ)) (first n at : ℕ) (found list : List ℕ) → n < length lists → get_or lists n [] ≡ list → at ≤ greatest_offset → StartsSoFar lists first n at found → StartsSoFar lists first (n + 1) (at + (2 + length list)) (found ++ at ∷ [])
+pub starts_more :
+    (lists : List (List ℕ)) (first n at : ℕ) (found list : List ℕ) → n < length lists → get_or lists n [] ≡ list → at ≤ greatest_offset → StartsSoFar lists first n at found
+    → StartsSoFar lists first (n + 1) (at + (2 + length list)) (found ++ at ∷ [])
 starts_more lists first n at found list h here small o =
     let s = start_at first lists n h in
     let is : get_or (starts first lists) n 0 ≡ at = s ∙ sym o.next in
@@ -82,7 +88,8 @@ starts_more lists first n at found list h here small o =
       fit = rw more (All-push (λ a. a ≤ greatest_offset) (take n (starts first lists)) (get_or (starts first lists) n 0) o.fit (omega (arith, is, small)));
     }
 
-pub starts_large : (lists : List (List ℕ)) (first n at : ℕ) (found : List ℕ) → n < length lists → greatest_offset < at → StartsSoFar lists first n at found → All (λ a. a ≤ greatest_offset) (starts first lists) → ⊥
+pub starts_large :
+    (lists : List (List ℕ)) (first n at : ℕ) (found : List ℕ) → n < length lists → greatest_offset < at → StartsSoFar lists first n at found → All (λ a. a ≤ greatest_offset) (starts first lists) → ⊥
 starts_large lists first n at found h large o a =
     let s = start_at first lists n h in
     let long = length-starts first lists in
@@ -91,7 +98,9 @@ starts_large lists first n at found h large o a =
     omega (arith, s, e, small, large)
 
 -- all starts
-pub starts_all : (lists : List (List ℕ)) (first n at : ℕ) (found : List ℕ) → length lists ≤ n → StartsSoFar lists first n at found → (found ≡ starts first lists) × All (λ a. a ≤ greatest_offset) (starts first lists)
+pub starts_all :
+    (lists : List (List ℕ)) (first n at : ℕ) (found : List ℕ) → length lists ≤ n → StartsSoFar lists first n at found
+    → (found ≡ starts first lists) × All (λ a. a ≤ greatest_offset) (starts first lists)
 starts_all lists first n at found h o =
     let long = length-starts first lists in
     let all : take n (starts first lists) ≡ starts first lists = take_all n (starts first lists) (omega (arith, long, h)) in

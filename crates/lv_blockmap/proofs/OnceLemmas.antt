@@ -5,13 +5,13 @@ use Rattle.std.specs.List.{list_any, position_or_len}
 use Rattle.std.specs.Cmp.Lexicographic.{bytes_decides}
 use Rattle.std.proofs.lemmas.List.Sums.{passes_at_first}
 use Rattle.std.proofs.lemmas.List.Elements.{All-nil, All-cons, All-get_or}
-use Rattle.lv_blockmap.specs.Layout.{same, noted, once, place_in}
+use Rattle.lv_blockmap.specs.Layout.{same_numbers, noted, once, place_in}
 
-pub same_self : (xs : List ℕ) → same xs xs ≡ true
+pub same_self : (xs : List ℕ) → same_numbers xs xs ≡ true
 same_self xs = (bytes_decides xs xs).1 refl
 
-same-eq : (xs ys : List ℕ) → same xs ys ≡ true → xs ≡ ys
-same-eq xs ys e = (bytes_decides xs ys).0 e
+same_numbers-eq : (xs ys : List ℕ) → same_numbers xs ys ≡ true → xs ≡ ys
+same_numbers-eq xs ys e = (bytes_decides xs ys).0 e
 
 -- a place among lists stays when one is put behind them, if it is found
 position_push : {X : Type 0} (p : X → Bool) (xs : List X) (y : X) → (list_any p xs ≡ true) ⊎ (p y ≡ true) → position_or_len p (xs ++ y ∷ []) ≡ position_or_len p xs
@@ -19,7 +19,8 @@ position_push p [] y (inl e) = absurd (cc)
 position_push p [] y (inr e) = rw e refl
 position_push p (x ∷ xs) y h = by (λ k. position_push p xs y k) (p x) refl h
   where
-    by : ((list_any p xs ≡ true) ⊎ (p y ≡ true) → position_or_len p (xs ++ y ∷ []) ≡ position_or_len p xs) → (b : Bool) → p x ≡ b → ((p x || list_any p xs) ≡ true) ⊎ (p y ≡ true) → position_or_len p (x ∷ xs ++ y ∷ []) ≡ position_or_len p (x ∷ xs)
+    by : ((list_any p xs ≡ true) ⊎ (p y ≡ true) → position_or_len p (xs ++ y ∷ []) ≡ position_or_len p xs) → (b : Bool) → p x ≡ b → ((p x || list_any p xs) ≡ true) ⊎ (p y ≡ true)
+        → position_or_len p (x ∷ xs ++ y ∷ []) ≡ position_or_len p (x ∷ xs)
     by later true e k = rw e refl
     by later false e (inl k) = let r = later (inl (rw e at k)) in rw (e, r) refl
     by later false e (inr k) = let r = later (inr k) in rw (e, r) refl
@@ -44,43 +45,43 @@ any_push p (x ∷ xs) y h = by (λ k. any_push p xs y k) (p x) refl h
     by later false e (inr k) = let r = later (inr k) in rw (e, r) refl
 
 -- a list's place stays when another is noted, if it is found or is that one
-pub place_noted : (keys : List (List ℕ)) (l x : List ℕ) → (list_any (same x) keys ≡ true) ⊎ (same x l ≡ true) → place_in (noted keys l) x ≡ place_in keys x
-place_noted keys l x h = by (list_any (same l) keys) refl
+pub place_noted : (keys : List (List ℕ)) (l x : List ℕ) → (list_any (same_numbers x) keys ≡ true) ⊎ (same_numbers x l ≡ true) → place_in (noted keys l) x ≡ place_in keys x
+place_noted keys l x h = by (list_any (same_numbers l) keys) refl
   where
-    by : (b : Bool) → list_any (same l) keys ≡ b → place_in (if b then keys else keys ++ l ∷ []) x ≡ place_in keys x
+    by : (b : Bool) → list_any (same_numbers l) keys ≡ b → place_in (if b then keys else keys ++ l ∷ []) x ≡ place_in keys x
     by true e = refl
-    by false e = position_push (same x) keys l h
+    by false e = position_push (same_numbers x) keys l h
 
 -- a list that is found is found among more
-pub found_noted : (keys : List (List ℕ)) (l x : List ℕ) → list_any (same x) keys ≡ true → list_any (same x) (noted keys l) ≡ true
-found_noted keys l x h = by (list_any (same l) keys)
+pub found_noted : (keys : List (List ℕ)) (l x : List ℕ) → list_any (same_numbers x) keys ≡ true → list_any (same_numbers x) (noted keys l) ≡ true
+found_noted keys l x h = by (list_any (same_numbers l) keys)
   where
-    by : (b : Bool) → list_any (same x) (if b then keys else keys ++ l ∷ []) ≡ true
+    by : (b : Bool) → list_any (same_numbers x) (if b then keys else keys ++ l ∷ []) ≡ true
     by true = h
-    by false = any_push (same x) keys l (inl h)
+    by false = any_push (same_numbers x) keys l (inl h)
 
 -- a noted list is found
-pub noted_found : (keys : List (List ℕ)) (l : List ℕ) → list_any (same l) (noted keys l) ≡ true
-noted_found keys l = by (list_any (same l) keys) refl
+pub noted_found : (keys : List (List ℕ)) (l : List ℕ) → list_any (same_numbers l) (noted keys l) ≡ true
+noted_found keys l = by (list_any (same_numbers l) keys) refl
   where
-    by : (b : Bool) → list_any (same l) keys ≡ b → list_any (same l) (if b then keys else keys ++ l ∷ []) ≡ true
+    by : (b : Bool) → list_any (same_numbers l) keys ≡ b → list_any (same_numbers l) (if b then keys else keys ++ l ∷ []) ≡ true
     by true e = e
-    by false e = any_push (same l) keys l (inr (same_self l))
+    by false e = any_push (same_numbers l) keys l (inr (same_self l))
 
 -- the same of more lists
 
-found_later : (keys lists : List (List ℕ)) (x : List ℕ) → list_any (same x) keys ≡ true → list_any (same x) (fold noted keys lists) ≡ true
+found_later : (keys lists : List (List ℕ)) (x : List ℕ) → list_any (same_numbers x) keys ≡ true → list_any (same_numbers x) (fold noted keys lists) ≡ true
 found_later keys [] x h = h
 found_later keys (l ∷ lists) x h = found_later (noted keys l) lists x (found_noted keys l x h)
 
-place_later : (keys lists : List (List ℕ)) (x : List ℕ) → list_any (same x) keys ≡ true → place_in (fold noted keys lists) x ≡ place_in keys x
+place_later : (keys lists : List (List ℕ)) (x : List ℕ) → list_any (same_numbers x) keys ≡ true → place_in (fold noted keys lists) x ≡ place_in keys x
 place_later keys [] x h = refl
 place_later keys (l ∷ lists) x h = place_later (noted keys l) lists x (found_noted keys l x h) ∙ place_noted keys l x (inl h)
 
-all_found : (keys lists : List (List ℕ)) → All (λ x. list_any (same x) (fold noted keys lists) ≡ true) lists
-all_found keys [] = All-nil (λ x. list_any (same x) keys ≡ true)
+all_found : (keys lists : List (List ℕ)) → All (λ x. list_any (same_numbers x) (fold noted keys lists) ≡ true) lists
+all_found keys [] = All-nil (λ x. list_any (same_numbers x) keys ≡ true)
 all_found keys (l ∷ lists) =
-    All-cons (λ x. list_any (same x) (fold noted (noted keys l) lists) ≡ true) l lists
+    All-cons (λ x. list_any (same_numbers x) (fold noted (noted keys l) lists) ≡ true) l lists
     (found_later (noted keys l) lists l (noted_found keys l)) (all_found (noted keys l) lists)
 
 any_before_end : {X : Type 0} (p : X → Bool) (xs : List X) → list_any p xs ≡ true → position_or_len p xs < length xs
@@ -91,17 +92,17 @@ any_before_end p (x ∷ xs) e = by (p x) (any_before_end p xs) e
     by true h e = omega arith
     by false h e = let k = h e in omega arith
 
-found_once : (lists : List (List ℕ)) (n : ℕ) → n < length lists → list_any (same (get_or lists n [])) (once lists) ≡ true
-found_once lists n h = All-get_or (λ x. list_any (same x) (once lists) ≡ true) lists n [] h (all_found [] lists)
+found_once : (lists : List (List ℕ)) (n : ℕ) → n < length lists → list_any (same_numbers (get_or lists n [])) (once lists) ≡ true
+found_once lists n h = All-get_or (λ x. list_any (same_numbers x) (once lists) ≡ true) lists n [] h (all_found [] lists)
 
 -- each list has a place among those that are written once, and that one is equal to it
 
 pub place_within : (lists : List (List ℕ)) (n : ℕ) → n < length lists → place_in (once lists) (get_or lists n []) < length (once lists)
-place_within lists n h = any_before_end (same (get_or lists n [])) (once lists) (found_once lists n h)
+place_within lists n h = any_before_end (same_numbers (get_or lists n [])) (once lists) (found_once lists n h)
 
 pub place_equal : (lists : List (List ℕ)) (n : ℕ) → (h : n < length lists) → get_or (once lists) (place_in (once lists) (get_or lists n [])) [] ≡ get_or lists n []
 place_equal lists n h =
-    sym (same-eq _ _ (passes_at_first (same (get_or lists n [])) (once lists) [] (place_within lists n h)))
+    sym (same_numbers-eq _ _ (passes_at_first (same_numbers (get_or lists n [])) (once lists) [] (place_within lists n h)))
 
 -- a place among the written lists is one that was there, or that of one of these lists
 pub record Serves (lists written : List (List ℕ)) (k : ℕ) : Type 0 where
@@ -119,10 +120,11 @@ served_from keys (l ∷ lists) k h = after (served_from (noted keys l) lists k h
     this : place_in (noted keys l) l ≡ k → Serves (l ∷ lists) (fold noted (noted keys l) lists) k
     this p = record { block = 0; among = omega arith; place = place_later (noted keys l) lists l (noted_found keys l) ∙ p }
 
-    at_end : (k < length keys) ⊎ (k ≡ length keys) → list_any (same l) keys ≡ false → place_in (keys ++ l ∷ []) l ≡ length keys → (k < length keys) ⊎ (k ≡ length keys)
+    at_end : (k < length keys) ⊎ (k ≡ length keys) → list_any (same_numbers l) keys ≡ false → place_in (keys ++ l ∷ []) l ≡ length keys → (k < length keys) ⊎ (k ≡ length keys)
     at_end h f p = h
 
-    new : (b : Bool) → list_any (same l) keys ≡ b → k < length (if b then keys else keys ++ l ∷ []) → (place_in (if b then keys else keys ++ l ∷ []) l ≡ k → Serves (l ∷ lists) (fold noted (noted keys l) lists) k) → (k < length keys) ⊎ Serves (l ∷ lists) (fold noted (noted keys l) lists) k
+    new : (b : Bool) → list_any (same_numbers l) keys ≡ b → k < length (if b then keys else keys ++ l ∷ [])
+        → (place_in (if b then keys else keys ++ l ∷ []) l ≡ k → Serves (l ∷ lists) (fold noted (noted keys l) lists) k) → (k < length keys) ⊎ Serves (l ∷ lists) (fold noted (noted keys l) lists) k
     new true e h t = inl h
     new false e h t = last (split k (length keys) (let n = length-append keys (l ∷ []) in omega arith))
       where
@@ -138,10 +140,10 @@ served_from keys (l ∷ lists) k h = after (served_from (noted keys l) lists k h
 
         last : (k < length keys) ⊎ (k ≡ length keys) → (k < length keys) ⊎ Serves (l ∷ lists) (fold noted (noted keys l) lists) k
         last (inl h) = inl h
-        last (inr h) = inr (t (position_push (same l) keys l (inr (same_self l)) ∙ position_none (same l) keys e ∙ sym h))
+        last (inr h) = inr (t (position_push (same_numbers l) keys l (inr (same_self l)) ∙ position_none (same_numbers l) keys e ∙ sym h))
 
     after : (k < length (noted keys l)) ⊎ Serves lists (fold noted (noted keys l) lists) k → (k < length keys) ⊎ Serves (l ∷ lists) (fold noted (noted keys l) lists) k
-    after (inl h) = new (list_any (same l) keys) refl h this
+    after (inl h) = new (list_any (same_numbers l) keys) refl h this
     after (inr s) = inr (later_serves l lists (fold noted (noted keys l) lists) k s)
 
 -- each written list is some block's

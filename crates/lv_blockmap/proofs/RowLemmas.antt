@@ -18,8 +18,11 @@ mixed_span n d m e p q a b low hp hq s t =
     let h1 = times_at_most p (d *ℤ a +ℤ n *ℤ (b -ℤ a)) (d *ℤ (low +ℤ pos 128)) hp s.at_most in
     let h2 = times_at_most q (e *ℤ a +ℤ m *ℤ (b -ℤ a)) (e *ℤ (low +ℤ pos 128)) hq t.at_most in
     let k1 : (p *ℤ d +ℤ q *ℤ e) *ℤ low ≡ p *ℤ (d *ℤ low) +ℤ q *ℤ (e *ℤ low) = by_ring (d ∷ e ∷ p ∷ q ∷ low ∷ []) _ _ (search quotes depth 20) (search quotes depth 20) tt in
-    let k2 : (p *ℤ d +ℤ q *ℤ e) *ℤ (low +ℤ pos 128) ≡ p *ℤ (d *ℤ (low +ℤ pos 128)) +ℤ q *ℤ (e *ℤ (low +ℤ pos 128)) = by_ring (d ∷ e ∷ p ∷ q ∷ low ∷ []) _ _ (search quotes depth 20) (search quotes depth 20) tt in
-    let k3 : (p *ℤ d +ℤ q *ℤ e) *ℤ a +ℤ (p *ℤ n +ℤ q *ℤ m) *ℤ (b -ℤ a) ≡ p *ℤ (d *ℤ a +ℤ n *ℤ (b -ℤ a)) +ℤ q *ℤ (e *ℤ a +ℤ m *ℤ (b -ℤ a)) = by_ring (n ∷ d ∷ m ∷ e ∷ p ∷ q ∷ a ∷ b ∷ []) _ _ (search quotes depth 30 fits 20000) (search quotes depth 30 fits 20000) tt in
+    let k2 : (p *ℤ d +ℤ q *ℤ e) *ℤ (low +ℤ pos 128)
+    ≡ p *ℤ (d *ℤ (low +ℤ pos 128)) +ℤ q *ℤ (e *ℤ (low +ℤ pos 128)) = by_ring (d ∷ e ∷ p ∷ q ∷ low ∷ []) _ _ (search quotes depth 20) (search quotes depth 20) tt in
+    let k3 : (p *ℤ d +ℤ q *ℤ e) *ℤ a +ℤ (p *ℤ n +ℤ q *ℤ m) *ℤ (b -ℤ a)
+    ≡ p *ℤ (d *ℤ a +ℤ n *ℤ (b -ℤ a)) +ℤ q *ℤ (e *ℤ a +ℤ m *ℤ (b -ℤ a)) = by_ring (n ∷ d ∷ m ∷ e ∷ p ∷ q ∷ a ∷ b ∷ []) _ _ (search quotes depth 30 fits 20000)
+    (search quotes depth 30 fits 20000) tt in
     record { at_least = omega (arith, linear); at_most = omega (arith, linear) }
 
 -- a line that touches two blocks of a column touches each block between them
@@ -115,7 +118,9 @@ none_above a b left bottom low row rows l t here r h k u =
     here (between_rows a b left (bottom +ℤ pos (128 * low)) (bottom +ℤ pos (128 * row)) (bottom +ℤ pos (128 * r)) (omega (arith, ints)) (omega (arith, ints)) t u)
 
 -- the rows that were found
-pub found_rows : (a b : Vertex) (left bottom : ℤ) (rows low high : ℕ) → low < rows → TouchesRow a b left bottom low → NoRowBelow a b left bottom low → low ≤ high → high < rows → TouchesRow a b left bottom high → NoRowFrom a b left bottom (high + 1) rows → IsRowRange a b left bottom rows low high
+pub found_rows :
+    (a b : Vertex) (left bottom : ℤ) (rows low high : ℕ) → low < rows → TouchesRow a b left bottom low → NoRowBelow a b left bottom low → low ≤ high → high < rows → TouchesRow a b left bottom high
+    → NoRowFrom a b left bottom (high + 1) rows → IsRowRange a b left bottom rows low high
 found_rows a b left bottom rows low high i t none l h u last =
     record { least = t; greatest = u; among = h; within = λ r k v. (from_low r v (lt_or_le r low), to_high r k v (lt_or_le high r)) }
   where

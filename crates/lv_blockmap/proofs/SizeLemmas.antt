@@ -49,7 +49,9 @@ flat_words [] = refl
 flat_words (list ∷ lists) = length-append (list_words list) (flat_map list_words lists) ∙ ap (λ (m : ℕ). length (list_words list) + m) (flat_words lists)
 
 -- the written lists end soon behind the last offset
-written_short : (lists : List (List ℕ)) (most : ℕ) → ((n : ℕ) → n < length lists → length (get_or lists n []) ≤ most) → OffsetsFit lists → (k : ℕ) → k < length (once lists) → first_list lists + words_before (once lists) (k + 1) ≤ greatest_offset + most + 2
+written_short :
+    (lists : List (List ℕ)) (most : ℕ) → ((n : ℕ) → n < length lists → length (get_or lists n []) ≤ most) → OffsetsFit lists → (k : ℕ) → k < length (once lists)
+    → first_list lists + words_before (once lists) (k + 1) ≤ greatest_offset + most + 2
 written_short lists most short fit k h =
     let s = served lists k h in
     let place = s.place in
@@ -65,7 +67,9 @@ written_short lists most short fit k h =
     let words = length-append (get_or (once lists) k []) (list_end ∷ []) in
     omega (arith, fits, is, there, start, more, len, few, words)
 
-words_short : (g : Grid) (lists : List (List ℕ)) (most : ℕ) → 0 < length lists → ((n : ℕ) → n < length lists → length (get_or lists n []) ≤ most) → OffsetsFit lists → length (blockmap_words g lists) ≤ greatest_offset + most + 2
+words_short :
+    (g : Grid) (lists : List (List ℕ)) (most : ℕ) → 0 < length lists → ((n : ℕ) → n < length lists → length (get_or lists n []) ≤ most) → OffsetsFit lists
+    → length (blockmap_words g lists) ≤ greatest_offset + most + 2
 words_short g lists most some short fit =
     let p = place_within lists 0 some in
     let w = written_short lists most short fit in
@@ -75,7 +79,10 @@ words_short g lists most some short fit =
     let f = flat_words (once lists) in
     last (length (once lists)) refl (omega (arith, p)) w a b f long
   where
-    last : (n : ℕ) → length (once lists) ≡ n → 0 < n → ((k : ℕ) → k < length (once lists) → first_list lists + words_before (once lists) (k + 1) ≤ greatest_offset + most + 2) → length (blockmap_words g lists) ≡ length (header g ++ offsets lists) + length (flat_map list_words (once lists)) → length (header g ++ offsets lists) ≡ 4 + length (offsets lists) → length (flat_map list_words (once lists)) ≡ words_before (once lists) (length (once lists)) → length (offsets lists) ≡ length lists → length (blockmap_words g lists) ≤ greatest_offset + most + 2
+    last : (n : ℕ) → length (once lists) ≡ n → 0 < n → ((k : ℕ) → k < length (once lists) → first_list lists + words_before (once lists) (k + 1) ≤ greatest_offset + most + 2)
+        → length (blockmap_words g lists) ≡ length (header g ++ offsets lists) + length (flat_map list_words (once lists)) → length (header g ++ offsets lists) ≡ 4 + length (offsets lists)
+        → length (flat_map list_words (once lists)) ≡ words_before (once lists) (length (once lists)) → length (offsets lists) ≡ length lists
+        → length (blockmap_words g lists) ≤ greatest_offset + most + 2
     last zero e h w a b f long = absurd (omega arith)
     last (suc k) e h w a b f long =
         let up : k + 1 ≡ length (once lists) = omega (arith, e) in
@@ -84,7 +91,8 @@ words_short g lists most some short fit =
         omega (arith, a, b, f, long, s, t)
 
 -- the whole lump of a map's lines
-pub blockmap_short : (lines : List LineEnds) (g : Grid) (lists : List (List ℕ)) → length lines ≤ 32767 → 0 < block_count g → AreBlockLists lines g lists → OffsetsFit lists → length (blockmap_words g lists) ≤ 65536
+pub blockmap_short :
+    (lines : List LineEnds) (g : Grid) (lists : List (List ℕ)) → length lines ≤ 32767 → 0 < block_count g → AreBlockLists lines g lists → OffsetsFit lists → length (blockmap_words g lists) ≤ 65536
 blockmap_short lines g lists few some a fit =
     let e = a.count in
     let s = words_short g lists (length lines) (omega (arith, e)) (λ n h. list_short lines g n (get_or lists n []) (a.each n h)) fit in
@@ -96,7 +104,10 @@ blockmap_short lines g lists few some a fit =
 offsets_are : (lists : List (List ℕ)) → map (λ place. slice_index (starts (first_list lists) (once lists)) place) (map (place_in (once lists)) lists) ≡ offsets lists
 offsets_are lists = map-map (λ place. slice_index (starts (first_list lists) (once lists)) place) (place_in (once lists)) lists
 
-pub laid_out : (g : Grid) (lists keys : List (List ℕ)) (b0 b1 b2 b3 places ss : List ℕ) → b0 ≡ [] → b1 ≡ b0 ++ word_bytes (header g) → places ≡ map (place_in (once lists)) lists → ss ≡ starts (first_list lists) (once lists) → keys ≡ once lists → b2 ≡ b1 ++ word_bytes (map (λ place. slice_index ss place) places) → b3 ≡ b2 ++ word_bytes (flat_map list_words keys) → b3 ≡ word_bytes (blockmap_words g lists)
+pub laid_out :
+    (g : Grid) (lists keys : List (List ℕ)) (b0 b1 b2 b3 places ss : List ℕ) → b0 ≡ [] → b1 ≡ b0 ++ word_bytes (header g) → places ≡ map (place_in (once lists)) lists
+    → ss ≡ starts (first_list lists) (once lists) → keys ≡ once lists → b2 ≡ b1 ++ word_bytes (map (λ place. slice_index ss place) places) → b3 ≡ b2 ++ word_bytes (flat_map list_words keys)
+    → b3 ≡ word_bytes (blockmap_words g lists)
 laid_out g lists keys b0 b1 b2 b3 places ss e0 e1 p s k e2 e3 =
     e3
     ∙ ap (λ (ks : List (List ℕ)). b2 ++ word_bytes (flat_map list_words ks)) k
@@ -126,7 +137,10 @@ Fits at = at ≤ greatest_offset
 pub offsets_fit : (lists keys : List (List ℕ)) → keys ≡ once lists → All (λ at. at ≤ greatest_offset) (starts (first_list lists) keys) → OffsetsFit lists
 offsets_fit lists keys k a =
     let fits : All Fits (starts (first_list lists) (once lists)) = subst (λ (ks : List (List ℕ)). All Fits (starts (first_list lists) ks)) k a in
-    All-map Fits (offset_of lists) lists (All-from_get_or (λ list. Fits (offset_of lists list)) lists [] (λ n h. let w = place_within lists n h in let l = length-starts (first_list lists) (once lists) in All-get_or Fits (starts (first_list lists) (once lists)) (place_in (once lists) (get_or lists n [])) 0 (omega (arith, w, l)) fits))
+    All-map Fits (offset_of lists) lists
+    (All-from_get_or (λ list. Fits (offset_of lists list)) lists []
+    (λ n h. let w = place_within lists n h in let l = length-starts (first_list lists) (once lists)
+    in All-get_or Fits (starts (first_list lists) (once lists)) (place_in (once lists) (get_or lists n [])) 0 (omega (arith, w, l)) fits))
 
 -- and the other way round, since each written list is some block's
 pub starts_fit : (lists keys : List (List ℕ)) → keys ≡ once lists → OffsetsFit lists → All (λ at. at ≤ greatest_offset) (starts (first_list lists) keys)
@@ -145,10 +159,14 @@ starts_fit lists keys k fit =
         omega (arith, fits, is, there)
 
 -- the places are among the starts
-pub places_within : (lists keys : List (List ℕ)) (places ss : List ℕ) → places ≡ map (place_in (once lists)) lists → ss ≡ starts (first_list lists) (once lists) → All (λ place. place < length ss) places
+pub places_within :
+    (lists keys : List (List ℕ)) (places ss : List ℕ) → places ≡ map (place_in (once lists)) lists → ss ≡ starts (first_list lists) (once lists) → All (λ place. place < length ss) places
 places_within lists keys places ss p s =
     subst (λ (ps : List ℕ). All (λ place. place < length ss) ps) (sym p)
-    (All-map (λ place. place < length ss) (place_in (once lists)) lists (All-from_get_or (λ list. place_in (once lists) list < length ss) lists [] (λ n h. let w = place_within lists n h in let l = length-starts (first_list lists) (once lists) in let e : length ss ≡ length (starts (first_list lists) (once lists)) = ap length s in omega (arith, w, l, e))))
+    (All-map (λ place. place < length ss) (place_in (once lists)) lists
+    (All-from_get_or (λ list. place_in (once lists) list < length ss) lists []
+    (λ n h. let w = place_within lists n h in let l = length-starts (first_list lists) (once lists) in let e : length ss ≡ length (starts (first_list lists) (once lists)) = ap length s
+    in omega (arith, w, l, e))))
 
 -- a grid over lines has a block
 pub some_block : (lines : List LineEnds) (g : Grid) → g ≡ grid_of lines → 0 < block_count g

@@ -72,8 +72,11 @@ exchanged s x y u v r =
     }
 
 -- a line that runs up and to the right
-rising : (s x y u v : ℤ) → pos 0 ≤ℤ s → pos 0 ≤ℤ u → pos 0 ≤ℤ v → x ≤ℤ s → pos 0 ≤ℤ (x +ℤ u) → y ≤ℤ s → pos 0 ≤ℤ (y +ℤ v) → corner x y u v (pos 0) s ≤ℤ pos 0 → pos 0 ≤ℤ corner x y u v s (pos 0) → Reaches s x y u v
-rising s x y u v hs hu hv x1 x2 y1 y2 low high = by_lt_z x (pos 0) (λ hx. by_lt_z (u *ℤ y -ℤ x *ℤ v) (pos 0) (λ k. below_first hx k) (λ k. enters_left s x y u v hs hu hx x2 k low)) (λ hx. from_right hx)
+rising :
+    (s x y u v : ℤ) → pos 0 ≤ℤ s → pos 0 ≤ℤ u → pos 0 ≤ℤ v → x ≤ℤ s → pos 0 ≤ℤ (x +ℤ u) → y ≤ℤ s → pos 0 ≤ℤ (y +ℤ v) → corner x y u v (pos 0) s ≤ℤ pos 0 → pos 0 ≤ℤ corner x y u v s (pos 0)
+    → Reaches s x y u v
+rising s x y u v hs hu hv x1 x2 y1 y2 low high =
+    by_lt_z x (pos 0) (λ hx. by_lt_z (u *ℤ y -ℤ x *ℤ v) (pos 0) (λ k. below_first hx k) (λ k. enters_left s x y u v hs hu hx x2 k low)) (λ hx. from_right hx)
   where
     up_first : y <ℤ pos 0 → pos 0 ≤ℤ (v *ℤ x -ℤ y *ℤ u) → Reaches s x y u v
     up_first hy k =
@@ -248,8 +251,10 @@ rising_reached s x y u v hu hv r =
     let n = r.n in
     let X : ℤ = d *ℤ x +ℤ n *ℤ u in
     let Y : ℤ = d *ℤ y +ℤ n *ℤ v in
-    let e1 : d *ℤ corner x y u v (pos 0) s ≡ neg_ℤ (v *ℤ (d *ℤ x +ℤ n *ℤ u)) -ℤ u *ℤ (d *ℤ s -ℤ (d *ℤ y +ℤ n *ℤ v)) = by_ring (d ∷ n ∷ s ∷ x ∷ y ∷ u ∷ v ∷ []) _ _ (search quotes depth 20) (search quotes depth 20) tt in
-    let e2 : d *ℤ corner x y u v s (pos 0) ≡ v *ℤ (d *ℤ s -ℤ (d *ℤ x +ℤ n *ℤ u)) +ℤ u *ℤ (d *ℤ y +ℤ n *ℤ v) = by_ring (d ∷ n ∷ s ∷ x ∷ y ∷ u ∷ v ∷ []) _ _ (search quotes depth 20) (search quotes depth 20) tt in
+    let e1 : d *ℤ corner x y u v (pos 0) s
+    ≡ neg_ℤ (v *ℤ (d *ℤ x +ℤ n *ℤ u)) -ℤ u *ℤ (d *ℤ s -ℤ (d *ℤ y +ℤ n *ℤ v)) = by_ring (d ∷ n ∷ s ∷ x ∷ y ∷ u ∷ v ∷ []) _ _ (search quotes depth 20) (search quotes depth 20) tt in
+    let e2 : d *ℤ corner x y u v s (pos 0)
+    ≡ v *ℤ (d *ℤ s -ℤ (d *ℤ x +ℤ n *ℤ u)) +ℤ u *ℤ (d *ℤ y +ℤ n *ℤ v) = by_ring (d ∷ n ∷ s ∷ x ∷ y ∷ u ∷ v ∷ []) _ _ (search quotes depth 20) (search quotes depth 20) tt in
     let one = r.positive in
     let l = r.left in
     let h = r.right in

@@ -8,7 +8,7 @@ use Rattle.std.proofs.lemmas.List.Elements.{All-nil, All-cons, All-head, All-tai
 use Rattle.lv_lumps.specs.Plane.{ray_between, IsOnRight, IsOnLeft}
 use Rattle.std.specs.Prelude.{FitsSigned}
 use Rattle.std.specs.Int.{w16, w32}
-use Rattle.lv_blockmap.specs.Touch.{MeetsSpan, Touches, SpansMeet, BoxesMeet, CornersParted, IsBlockPlace, corners}
+use Rattle.lv_blockmap.specs.Touch.{MeetsSpan, Touches, SpansMeet, BoxesMeet, CornersParted, IsBlockPlace, block_corners}
 use Rattle.lv_blockmap.proofs.SquareLemmas.{Meets, Parted, Reaches, corner, reached_meets, reached_parted, test_reaches}
 use Rattle.lv_lumps.proofs.Ring.{by_ring, quotes}
 use Rattle.lv_lumps.proofs.Signs.{linear}
@@ -23,7 +23,8 @@ pub record Straddle (k l m n : ℤ) : Type 0 where
   pub not_all_below : k <ℤ pos 0 → l <ℤ pos 0 → m <ℤ pos 0 → n <ℤ pos 0 → ⊥
 
 abbrev pub CornersStraddle : Vertex → Vertex → ℤ → ℤ → Type 0
-CornersStraddle a b left bottom = Straddle (side_value a b left bottom) (side_value a b (left +ℤ pos 128) bottom) (side_value a b left (bottom +ℤ pos 128)) (side_value a b (left +ℤ pos 128) (bottom +ℤ pos 128))
+CornersStraddle a b left bottom =
+    Straddle (side_value a b left bottom) (side_value a b (left +ℤ pos 128) bottom) (side_value a b left (bottom +ℤ pos 128)) (side_value a b (left +ℤ pos 128) (bottom +ℤ pos 128))
 
 -- the closed boxes meet, and the corners don't all lie strictly on one side
 pub record IsTouched (a b : Vertex) (left bottom : ℤ) : Type 0 where
@@ -105,10 +106,15 @@ touches-touched a b left bottom t =
     let e4 = value_shift a b left bottom (pos 128) (pos 128) in
     let h = span_out t.n t.d a.x b.x left t.across in
     let v = span_out t.n t.d a.y b.y bottom t.upward in
-    let r : Reaches (pos 128) (a.x -ℤ left) (a.y -ℤ bottom) (b.x -ℤ a.x) (b.y -ℤ a.y) = record { n = t.n; d = t.d; from_start = t.from_start; to_end = t.to_end; positive = t.positive; left = h.0; right = h.1; bottom = v.0; top = v.1 } in
+    let r : Reaches (pos 128) (a.x -ℤ left) (a.y -ℤ bottom) (b.x -ℤ a.x)
+    (b.y -ℤ a.y) = record { n = t.n; d = t.d; from_start = t.from_start; to_end = t.to_end; positive = t.positive; left = h.0; right = h.1; bottom = v.0; top = v.1 } in
     let p = reached_parted (pos 128) (a.x -ℤ left) (a.y -ℤ bottom) (b.x -ℤ a.x) (b.y -ℤ a.y) r in
     record {
-      boxes = record { across = meets_out a.x b.x left (reached_meets (pos 128) (a.x -ℤ left) (b.x -ℤ a.x) t.n t.d t.from_start t.to_end t.positive h.0 h.1); upward = meets_out a.y b.y bottom (reached_meets (pos 128) (a.y -ℤ bottom) (b.y -ℤ a.y) t.n t.d t.from_start t.to_end t.positive v.0 v.1) };
+      boxes =
+          record {
+            across = meets_out a.x b.x left (reached_meets (pos 128) (a.x -ℤ left) (b.x -ℤ a.x) t.n t.d t.from_start t.to_end t.positive h.0 h.1);
+            upward = meets_out a.y b.y bottom (reached_meets (pos 128) (a.y -ℤ bottom) (b.y -ℤ a.y) t.n t.d t.from_start t.to_end t.positive v.0 v.1);
+          };
       corners = record {
         not_all_above = λ k l m n. p.not_all_right (omega (arith, linear)) (omega (arith, linear)) (omega (arith, linear)) (omega (arith, linear));
         not_all_below = λ k l m n. p.not_all_left (omega (arith, linear)) (omega (arith, linear)) (omega (arith, linear)) (omega (arith, linear));
@@ -157,10 +163,12 @@ block_place a b low s fa fb fl =
     record { low = omega (arith, ints); high = elim s.not_below [ inl k ↦ omega (arith, ints) | inr k ↦ omega (arith, ints) ] }
 
 -- ---- the two tests of the corners
-pub then_parted : (a b : Vertex) (left bottom : ℤ) (p q : Bool) → (p ≡ true) ↔ All (IsOnRight (ray_between a b)) (corners left bottom) → (q ≡ true) ↔ All (IsOnLeft (ray_between a b)) (corners left bottom) → p ≡ false → (not q ≡ true) ↔ CornersParted a b left bottom
+pub then_parted :
+    (a b : Vertex) (left bottom : ℤ) (p q : Bool) → (p ≡ true) ↔ All (IsOnRight (ray_between a b)) (block_corners left bottom) → (q ≡ true)
+    ↔ All (IsOnLeft (ray_between a b)) (block_corners left bottom) → p ≡ false → (not q ≡ true) ↔ CornersParted a b left bottom
 then_parted a b left bottom p true r l n = (λ h. cc, λ c. absurd (c.not_all_left (l.0 refl)))
 then_parted a b left bottom p false r l n =
     (λ h. record { not_all_right = λ k. let e = r.1 k in cc; not_all_left = λ k. let e = l.1 k in cc }, λ c. refl)
 
-pub else_parted : (a b : Vertex) (left bottom : ℤ) (p : Bool) → (p ≡ true) ↔ All (IsOnRight (ray_between a b)) (corners left bottom) → p ≡ true → (not p ≡ true) ↔ CornersParted a b left bottom
+pub else_parted : (a b : Vertex) (left bottom : ℤ) (p : Bool) → (p ≡ true) ↔ All (IsOnRight (ray_between a b)) (block_corners left bottom) → p ≡ true → (not p ≡ true) ↔ CornersParted a b left bottom
 else_parted a b left bottom p r n = (λ h. cc, λ c. absurd (c.not_all_right (r.0 n)))

@@ -34,7 +34,8 @@ list_is_words : (lines : List LineEnds) (g : Grid) (n : ℕ) (list : List ℕ) �
 list_is_words lines g n list few p =
     All-cons IsWord 0 (list ++ list_end ∷ []) (omega arith)
     (All-append IsWord list (list_end ∷ [])
-    (All-from_get_or IsWord list 0 (λ i h. let t = (p.exactly (get_or list i 0)).0 (Contains-get_or list i 0 h) in let w = slice_get_within lines (get_or list i 0) t.line t.is_line in omega (arith, w, few)))
+    (All-from_get_or IsWord list 0
+    (λ i h. let t = (p.exactly (get_or list i 0)).0 (Contains-get_or list i 0 h) in let w = slice_get_within lines (get_or list i 0) t.line t.is_line in omega (arith, w, few)))
     (All-cons IsWord list_end [] (omega arith) (All-nil IsWord)))
 
 flat_is_words : (lists : List (List ℕ)) → ((k : ℕ) → k < length lists → All IsWord (list_words (get_or lists k []))) → All IsWord (flat_map list_words lists)
@@ -52,7 +53,9 @@ written_is lists P each k h =
     let e = ap (λ (i : ℕ). get_or (once lists) i []) (sym s.place) ∙ place_equal lists s.block s.among in
     subst P (sym e) (each s.block s.among)
 
-pub words_have_sixteen_bits : (lines : List LineEnds) (g : Grid) (lists : List (List ℕ)) → length lines ≤ 32767 → IsGrid g → FitsSigned w16 g.left → FitsSigned w16 g.bottom → AreBlockLists lines g lists → OffsetsFit lists → All IsWord (blockmap_words g lists)
+pub words_have_sixteen_bits :
+    (lines : List LineEnds) (g : Grid) (lists : List (List ℕ)) → length lines ≤ 32767 → IsGrid g → FitsSigned w16 g.left → FitsSigned w16 g.bottom → AreBlockLists lines g lists → OffsetsFit lists
+    → All IsWord (blockmap_words g lists)
 words_have_sixteen_bits lines g lists few h left bottom a fit =
     All-append IsWord (header g ++ offsets lists) (flat_map list_words (once lists))
     (All-append IsWord (header g) (offsets lists) (header_words g h left bottom) (offsets_are_words lists fit))

@@ -14,20 +14,20 @@ abbrev pub ends_in : List Vertex → Line → LineEnds
 ends_in vertices l = record { start = nth_vertex vertices l.v1; end = nth_vertex vertices l.v2 }
 
 -- those of each line of a map, by its number
-abbrev pub ends_of : Tables → List LineEnds
-ends_of m = map (ends_in m.vertices) m.lines
+abbrev pub map_ends : Tables → List LineEnds
+map_ends m = map (ends_in m.vertices) m.lines
 
 -- all ends of the lines
-abbrev pub all_ends : List LineEnds → List Vertex
-all_ends lines = flat_map (λ e. e.start ∷ e.end ∷ []) lines
+abbrev pub both_ends : List LineEnds → List Vertex
+both_ends lines = flat_map (λ e. e.start ∷ e.end ∷ []) lines
 
-abbrev pub least : List ℤ → ℤ
-least [] = pos 0
-least (z ∷ zs) = fold int_min z zs
+abbrev pub lowest : List ℤ → ℤ
+lowest [] = pos 0
+lowest (z ∷ zs) = fold int_min z zs
 
-abbrev pub greatest : List ℤ → ℤ
-greatest [] = pos 0
-greatest (z ∷ zs) = fold int_max z zs
+abbrev pub highest : List ℤ → ℤ
+highest [] = pos 0
+highest (z ∷ zs) = fold int_max z zs
 
 -- how many blocks of side 128 cover the way from `low` to `high`, both with it
 abbrev pub blocks_over : ℤ → ℤ → ℕ
@@ -36,13 +36,13 @@ blocks_over low high = unsigned_abs (high -ℤ low) / 128 + 1
 -- where the blocks begin, and how many there are
 abbrev pub grid_of : List LineEnds → Grid
 grid_of lines =
-    let xs = map (λ v. v.x) (all_ends lines) in
-    let ys = map (λ v. v.y) (all_ends lines) in
+    let xs = map (λ v. v.x) (both_ends lines) in
+    let ys = map (λ v. v.y) (both_ends lines) in
     record {
-      left = least xs;
-      bottom = least ys;
-      columns = blocks_over (least xs) (greatest xs);
-      rows = blocks_over (least ys) (greatest ys);
+      left = lowest xs;
+      bottom = lowest ys;
+      columns = blocks_over (lowest xs) (highest xs);
+      rows = blocks_over (lowest ys) (highest ys);
     }
 
 abbrev pub block_count : Grid → ℕ

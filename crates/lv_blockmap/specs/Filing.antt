@@ -12,4 +12,5 @@ pub record Files (T : ℕ → Type 0) (line : ℕ) (old new : List (List ℕ)) :
 
 -- the block stands in this column, in a row from `low` on and below `end`
 abbrev pub InColumn : ℕ → ℕ → ℕ → ℕ → ℕ → Type 0
-InColumn columns column low end n = (n % columns ≡ column) × (low ≤ n / columns) × (n / columns < end)
+InColumn columns column low end n =
+    (n % columns ≡ column) × (low ≤ n / columns) × (n / columns < end)

@@ -26,12 +26,12 @@ starts at [] = []
 starts at (list ∷ lists) = at ∷ starts (at + length (list_words list)) lists
 
 -- two lists have the same numbers
-abbrev pub same : List ℕ → List ℕ → Bool
-same a b = pointwise nat_eq a b
+abbrev pub same_numbers : List ℕ → List ℕ → Bool
+same_numbers a b = pointwise nat_eq a b
 
 -- the lists with one that goes last if it isn't among them
 abbrev pub noted : List (List ℕ) → List ℕ → List (List ℕ)
-noted lists list = if list_any (same list) lists then lists else lists ++ list ∷ []
+noted lists list = if list_any (same_numbers list) lists then lists else lists ++ list ∷ []
 
 -- each list once, in the order of their first places
 abbrev pub once : List (List ℕ) → List (List ℕ)
@@ -39,7 +39,7 @@ once lists = fold noted [] lists
 
 -- where a list stands among others
 abbrev pub place_in : List (List ℕ) → List ℕ → ℕ
-place_in written list = position_or_len (same list) written
+place_in written list = position_or_len (same_numbers list) written
 
 -- the first list stands behind the header and an offset for each block
 abbrev pub first_list : List (List ℕ) → ℕ
@@ -47,7 +47,8 @@ first_list lists = 4 + length lists
 
 -- where a list begins that is written once
 abbrev pub offset_of : List (List ℕ) → List ℕ → ℕ
-offset_of lists list = get_or (starts (first_list lists) (once lists)) (place_in (once lists) list) 0
+offset_of lists list =
+    get_or (starts (first_list lists) (once lists)) (place_in (once lists) list) 0
 
 -- the offset of each block's list
 abbrev pub offsets : List (List ℕ) → List ℕ

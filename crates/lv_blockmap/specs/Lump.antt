@@ -2,7 +2,7 @@
 use Rattle.std.specs.Prelude.{◌≡◌, ◌≢◌, ℕ, ◌<◌, ◌≤◌, List, [], length, All}
 use Rattle.lv_maptables.specs.Tables.{Tables}
 use Rattle.lv_blockmap.specs.declared.line_ends.LineEnds.{LineEnds}
-use Rattle.lv_blockmap.specs.Blocks.{grid_of, ends_of, AreBlockLists}
+use Rattle.lv_blockmap.specs.Blocks.{grid_of, map_ends, AreBlockLists}
 use Rattle.lv_blockmap.specs.Layout.{ListsBlocks, OffsetsFit, blockmap_words, word_bytes}
 use Rattle.lv_blockmap.specs.declared.error.BlockmapError.{BlockmapError}
 use Rattle.lv_blockmap.specs.declared.error.BlockmapError.TheVariants.{NothingToBuild, BlockmapTooLarge, OutOfMemory}
@@ -39,7 +39,7 @@ RefusesBlockmapOver lines OutOfMemory = Unit {0}
 -- the same of a map's lines
 
 abbrev pub IsBlockmap : Tables → List ℕ → Type 0
-IsBlockmap m bytes = IsBlockmapOver (ends_of m) bytes
+IsBlockmap m bytes = IsBlockmapOver (map_ends m) bytes
 
 abbrev pub RefusesBlockmap : Tables → BlockmapError → Type 0
-RefusesBlockmap m e = RefusesBlockmapOver (ends_of m) e
+RefusesBlockmap m e = RefusesBlockmapOver (map_ends m) e

@@ -1,7 +1,7 @@
--- The rows of a column that a line touches.
+-- The rows of a column that a line touches, and the columns that its box reaches.
 use Rattle.std.specs.Prelude.{ℕ, ◌*◌, ◌<◌, ◌≤◌, ℤ, pos, ◌+ℤ◌}
 use Rattle.lv_lumps.specs.declared.records.Vertex.{Vertex}
-use Rattle.lv_blockmap.specs.Touch.{Touches}
+use Rattle.lv_blockmap.specs.Touch.{SpansMeet, Touches}
 
 -- the line touches the block of this row, where rows are counted from `bottom`
 abbrev pub TouchesRow : Vertex → Vertex → ℤ → ℤ → ℕ → Type 0
@@ -21,3 +21,12 @@ NoRowBelow a b left bottom n = (r : ℕ) → r < n → TouchesRow a b left botto
 -- no row from this one on is touched
 abbrev pub NoRowFrom : Vertex → Vertex → ℤ → ℤ → ℕ → ℕ → Type 0
 NoRowFrom a b left bottom n rows = (r : ℕ) → n ≤ r → r < rows → TouchesRow a b left bottom r → ⊥
+
+-- no column below this one meets the span from a to b, where columns are counted from `left`
+abbrev pub NoColumnBelow : ℤ → ℤ → ℤ → ℕ → Type 0
+NoColumnBelow a b left n = (c : ℕ) → c < n → SpansMeet a b (left +ℤ pos (128 * c)) → ⊥
+
+-- no column from this one on meets it
+abbrev pub NoColumnFrom : ℤ → ℤ → ℤ → ℕ → ℕ → Type 0
+NoColumnFrom a b left n columns =
+    (c : ℕ) → n ≤ c → c < columns → SpansMeet a b (left +ℤ pos (128 * c)) → ⊥

@@ -1,4 +1,5 @@
--- A line touches a block: some point of it lies in the closed square with a lower left corner and side 128.
+-- A line touches a block: some point of it lies in the closed square with a lower left corner and
+-- side 128.
 use Rattle.std.specs.Prelude.{ℤ, pos, List, [], ◌∷◌, ◌+ℤ◌, ◌-ℤ◌, ◌*ℤ◌, ◌≤ℤ◌, ◌⊎◌, All, neg_ℤ}
 use Rattle.lv_lumps.specs.declared.records.Vertex.{Vertex}
 use Rattle.lv_lumps.specs.declared.plane.Point.{Point}
@@ -35,15 +36,16 @@ pub record BoxesMeet (a b : Vertex) (left bottom : ℤ) : Type 0 where
   pub upward : SpansMeet a.y b.y bottom
 
 -- the corners of a block
-abbrev pub corners : ℤ → ℤ → List Point
-corners left bottom =
+abbrev pub block_corners : ℤ → ℤ → List Point
+block_corners left bottom =
     record { x = left; y = bottom } ∷ record { x = left +ℤ pos 128; y = bottom }
-    ∷ record { x = left; y = bottom +ℤ pos 128 } ∷ record { x = left +ℤ pos 128; y = bottom +ℤ pos 128 } ∷ []
+    ∷ record { x = left; y = bottom +ℤ pos 128 }
+    ∷ record { x = left +ℤ pos 128; y = bottom +ℤ pos 128 } ∷ []
 
 -- not all corners of the block lie strictly on one side of the line
 pub record CornersParted (a b : Vertex) (left bottom : ℤ) : Type 0 where
-  pub not_all_right : All (IsOnRight (ray_between a b)) (corners left bottom) → ⊥
-  pub not_all_left : All (IsOnLeft (ray_between a b)) (corners left bottom) → ⊥
+  pub not_all_right : All (IsOnRight (ray_between a b)) (block_corners left bottom) → ⊥
+  pub not_all_left : All (IsOnLeft (ray_between a b)) (block_corners left bottom) → ⊥
 
 -- the block's corners are points: its sides lie within 32 bits
 pub record IsBlockPlace (z : ℤ) : Type 0 where

@@ -2,6 +2,7 @@
 ghost use Rattle.std.specs.Prelude.{◌≡◌, ◌≤◌, [], length, replicate, IfOk, OnOk, IsOkUnless};
 ghost use Rattle.lv_blockmap.specs.Blocks.{IsGrid, TouchesBlock, AreBlockLists, block_count};
 ghost use Rattle.lv_blockmap.specs.Filing.{Files};
+ghost use Rattle.lv_blockmap.specs.Rows.{NoColumnBelow, NoColumnFrom};
 
 use crate::columns::{Rows, touched_rows};
 use crate::error::BlockmapError;
@@ -9,6 +10,29 @@ use crate::grid::{Grid, side_of_strip};
 use crate::line_ends::LineEnds;
 use crate::lists::{BlockList, file_rows};
 use std::alloc::Global;
+
+// The first column that may meet the span from `a` to `b`: none before it does.
+fn first_column(a: i16, b: i16, left: i16) -> u32
+    ensures { NoColumnBelow a b left result }
+{
+    let low = a.min(b) as i32 - left as i32;
+    if low < 256 {
+        return 0;
+    }
+    low as u32 / 128 - 1
+}
+
+// The end of the columns that may meet it: none from there on does.
+fn end_column(a: i16, b: i16, left: i16, columns: u32) -> u32
+    ensures among { result ≤ columns }
+    ensures none { NoColumnFrom a b left result columns }
+{
+    let high = a.max(b) as i32 - left as i32;
+    if high < 0 {
+        return 0;
+    }
+    (high as u32 / 128 + 1).min(columns)
+}
 
 // The row of the end that lies further to the left, if the rows are counted from `bottom`.
 fn first_hint(line: LineEnds, bottom: i16) -> u32 {
@@ -30,7 +54,7 @@ fn next_hint(line: LineEnds, rows: Rows) -> u32 {
     }
 }
 
-// Puts the line at the end of the lists of the blocks that it touches, column by column.
+// Puts the line at the end of the lists of the blocks that it touches, in each column that its box may reach.
 fn file_line(
     lists: &mut [BlockList],
     grid: Grid,
@@ -43,7 +67,9 @@ fn file_line(
     ensures memory { IsOkUnless result BlockmapError.OutOfMemory }
 {
     let mut near = first_hint(line, grid.bottom);
-    for column in 0..grid.columns {
+    let first = first_column(line.start.x, line.end.x, grid.left);
+    let end = end_column(line.start.x, line.end.x, grid.left, grid.columns);
+    for column in first..end {
         let left = side_of_strip(grid.left, column);
         match touched_rows(line, left, grid.bottom, grid.rows, near) {
             Some(rows) => {

@@ -1,7 +1,7 @@
 //! Equal lists of blocks gathered, so that each is written once.
 ghost use Rattle.std.specs.Prelude.{◌≡◌, map, OnOk, IfOk, IsOkUnless};
 ghost use Rattle.std.specs.List.{position_or_len};
-ghost use Rattle.lv_blockmap.specs.Layout.{noted, once, place_in, same};
+ghost use Rattle.lv_blockmap.specs.Layout.{noted, once, place_in, same_numbers};
 
 use crate::error::BlockmapError;
 use crate::lists::BlockList;
@@ -23,7 +23,7 @@ fn note<'a>(
     ensures keys { OnOk result (map (λ l. l.now) written.new.keys
         ≡ noted (map (λ l. l.now) written.old.keys) list.now) }
     ensures place { IfOk result (λ place. place
-        ≡ position_or_len (same list.now) (map (λ l. l.now) written.old.keys)) }
+        ≡ position_or_len (same_numbers list.now) (map (λ l. l.now) written.old.keys)) }
 {
     let (place, _new) = written.insert_full(list)?;
     Ok(place)

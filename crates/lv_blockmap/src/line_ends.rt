@@ -1,7 +1,7 @@
 //! The lines of a map by the places of their ends.
 ghost use Rattle.std.specs.Prelude.{◌≡◌, ◌≤◌, length, IfOk, IsOkUnless};
 ghost use Rattle.lv_maptables.specs.WellFormed.{nth_vertex};
-ghost use Rattle.lv_blockmap.specs.Blocks.{ends_in, ends_of};
+ghost use Rattle.lv_blockmap.specs.Blocks.{ends_in, map_ends};
 
 use crate::error::BlockmapError;
 use lv_lumps::{Line, Vertex};
@@ -35,7 +35,7 @@ fn ends_in(map: &Map, line: Line) -> LineEnds
 
 /// The ends of each line of the map, by its number.
 pub fn ends_of(alloc: Global, map: &Map) -> Result<Vec<LineEnds>, BlockmapError>
-    ensures ends { IfOk result (λ v. v.items ≡ ends_of map.now.tables) }
+    ensures ends { IfOk result (λ v. v.items ≡ map_ends map.now.tables) }
     ensures few { IfOk result (λ v. length v.items ≤ 32767) }
     ensures memory { IsOkUnless result BlockmapError.OutOfMemory }
 {

@@ -20,7 +20,7 @@ use Rattle.lv_pwad.specs.Endings.{is_line, ends_in_lines}
 use Rattle.lv_pwad.specs.Reject.{reject_size}
 use Rattle.lv_nodes.specs.InRange.{IsIn, HasSide, SegInRange, Tiles, ChildInRange, greatest_number, sub_bit, times_sub, times_node}
 use Rattle.lv_pwad.specs.Range.{LineInRange, ListInRange, InRange, blocks_in}
-use Rattle.lv_pwad.specs.Audit.{first_wrong, is_in, line_vertices, line_sides, line_of_seg, seg_vertices, seg_side, sub_range, after_counts, child_right, node_children, block_list, faults, first_fault}
+use Rattle.lv_pwad.specs.Audit.{first_wrong, is_in_range, line_vertices, line_sides, line_of_seg, seg_vertices, seg_side, sub_range, after_counts, child_right, node_children, block_list, level_faults, first_fault}
 use Rattle.lv_pwad.proofs.Nones.{no_wrong, map_none, unless_none, first_some-none, Decides-leb, Decides-is_in}
 
 -- ---- lines
@@ -45,7 +45,8 @@ left_in false t i E I de di = (λ h. (λ n. di.0 h, λ u e. let f = de.1 e in cc
 sides_in : (l : Lumps) (x : Line) → Decides (line_sides l x) (SidesIn l x)
 sides_in l x =
     Decides-like (line_sides l x) (λ p. record { right = p.0; left = p.1.0; two_sided = p.1.1 }) (λ i. (i.right, (i.left, i.two_sided)))
-    (Decides-and _ _ (Decides-is_in l.sides x.right) (left_in (x.left == no_side) (is_two_sided x) (is_in l.sides x.left) (x.left ≡ no_side) (IsIn l.sides x.left) (Decides-eqb x.left no_side) (Decides-is_in l.sides x.left)))
+    (Decides-and _ _ (Decides-is_in l.sides x.right)
+    (left_in (x.left == no_side) (is_two_sided x) (is_in_range l.sides x.left) (x.left ≡ no_side) (IsIn l.sides x.left) (Decides-eqb x.left no_side) (Decides-is_in l.sides x.left)))
 
 -- ---- segs
 record EndsIn (l : Lumps) (s : Seg) : Type 0 where
@@ -53,7 +54,8 @@ record EndsIn (l : Lumps) (s : Seg) : Type 0 where
   second : IsIn l.vertices s.second
 
 ends_in : (l : Lumps) (s : Seg) → Decides (seg_vertices l s) (EndsIn l s)
-ends_in l s = Decides-like (seg_vertices l s) (λ p. record { first = p.0; second = p.1 }) (λ i. (i.first, i.second)) (Decides-and _ _ (Decides-is_in l.vertices s.first) (Decides-is_in l.vertices s.second))
+ends_in l s =
+    Decides-like (seg_vertices l s) (λ p. record { first = p.0; second = p.1 }) (λ i. (i.first, i.second)) (Decides-and _ _ (Decides-is_in l.vertices s.first) (Decides-is_in l.vertices s.second))
 
 abbrev SideThere : Lumps → Seg → Type 0
 SideThere l s = (s.side ≡ 0) ⊎ ((s.side ≡ 1) × ((line_of_seg l s).left ≢ no_side))
@@ -128,7 +130,9 @@ child_by false below inside B L I db dl di = (λ h. (λ p. let e = db.1 p in cc,
 child_in : (l : Lumps) (i c : ℕ) → Decides (child_right l i c) (ChildInRange l.subs i c)
 child_in l i c =
     Decides-like (child_right l i c) (λ p. record { node = p.0; sub = λ h. p.1 (λ k. omega arith) })
-    (λ r. (r.node, λ n. r.sub (above n))) (child_by (nat_lt c sub_bit) (nat_lt c i) (is_in l.subs (c - sub_bit)) (c < sub_bit) (c < i) (IsIn l.subs (c - sub_bit)) (Decides-ltb c sub_bit) (Decides-ltb c i) (Decides-is_in l.subs (c - sub_bit)))
+    (λ r. (r.node, λ n. r.sub (above n)))
+    (child_by (nat_lt c sub_bit) (nat_lt c i) (is_in_range l.subs (c - sub_bit)) (c < sub_bit) (c < i) (IsIn l.subs (c - sub_bit)) (Decides-ltb c sub_bit) (Decides-ltb c i)
+    (Decides-is_in l.subs (c - sub_bit)))
   where
     above : (c < sub_bit → ⊥) → sub_bit ≤ c
     above n = grind arith
@@ -220,27 +224,31 @@ listed fault right P each xs =
 -- ---- the law
 pub no_fault-in_range : (l : Lumps) → first_fault l ≡ None → InRange l
 no_fault-in_range l h =
-    let n = (first_some-none (faults l)).0 h in
+    let n = (first_some-none (level_faults l)).0 h in
     let lv = (listed _ (line_vertices l) (VerticesIn l) (vertices_in l) l.lines).0 n.0 in
     let ls = (listed _ (line_sides l) (SidesIn l) (sides_in l) l.lines).0 n.1.0 in
-    let ss = (listed _ (λ s. is_in l.sectors s.sector) (λ s. IsIn l.sectors s.sector) (λ s. Decides-is_in l.sectors s.sector) l.sides).0 n.1.1.0 in
+    let ss = (listed _ (λ s. is_in_range l.sectors s.sector) (λ s. IsIn l.sectors s.sector) (λ s. Decides-is_in l.sectors s.sector) l.sides).0 n.1.1.0 in
     let sv = (listed _ (seg_vertices l) (EndsIn l) (ends_in l) l.segs).0 n.1.1.1.0 in
-    let sl = (listed _ (λ s. is_in l.lines s.line) (λ s. IsIn l.lines s.line) (λ s. Decides-is_in l.lines s.line) l.segs).0 n.1.1.1.1.0 in
+    let sl = (listed _ (λ s. is_in_range l.lines s.line) (λ s. IsIn l.lines s.line) (λ s. Decides-is_in l.lines s.line) l.segs).0 n.1.1.1.1.0 in
     let sd = (listed _ (seg_side l) (SideThere l) (side_there l) l.segs).0 n.1.1.1.1.1.0 in
     let sr = (listed _ sub_range SubFollows sub_follows (after_counts 0 l.subs)).0 n.1.1.1.1.1.1.0 in
     let st = (unless_none _ (sum_by (λ s. s.count) l.subs ≡ length l.segs) _ (Decides-eqb _ (length l.segs))).0 n.1.1.1.1.1.1.1.0 in
     let nc = (listed _ (node_children l) (λ p. ChildInRange l.subs p.0 p.1.right × ChildInRange l.subs p.0 p.1.left) (children_in l) (enumerate_from 0 l.nodes)).0 n.1.1.1.1.1.1.1.1.0 in
     let so = (unless_none _ (0 < length l.subs) _ (Decides-ltb 0 (length l.subs))).0 n.1.1.1.1.1.1.1.1.1.0 in
     let sn = (listed _ (λ s. times_sub l.nodes s == 1) (λ s. times_sub l.nodes s ≡ 1) (λ s. Decides-eqb (times_sub l.nodes s) 1) (range_with_len 0 (length l.subs))).0 n.1.1.1.1.1.1.1.1.1.1.0 in
-    let no = (listed _ (λ i. times_node l.nodes i == 1) (λ i. times_node l.nodes i ≡ 1) (λ i. Decides-eqb (times_node l.nodes i) 1) (range_with_len 0 (length l.nodes - 1))).0 n.1.1.1.1.1.1.1.1.1.1.1.0 in
+    let no = (listed _ (λ i. times_node l.nodes i == 1) (λ i. times_node l.nodes i ≡ 1) (λ i. Decides-eqb (times_node l.nodes i) 1) (range_with_len 0 (length l.nodes - 1))).0 n.1.1.1.1.1.1.1.1.1.1.1.0
+    in
     let rj = (unless_none _ (reject_size (length l.sectors) ≤ length l.reject) _ (Decides-leb (reject_size (length l.sectors)) (length l.reject))).0 n.1.1.1.1.1.1.1.1.1.1.1.1.0 in
-    let bh = (unless_none _ (4 + blocks_in (words l.blockmap) ≤ length (words l.blockmap)) _ (Decides-leb (4 + blocks_in (words l.blockmap)) (length (words l.blockmap)))).0 n.1.1.1.1.1.1.1.1.1.1.1.1.1.0 in
-    let bl = (listed _ (block_list l (words l.blockmap)) (ListInRange l (words l.blockmap)) (list_in l (words l.blockmap)) (take (blocks_in (words l.blockmap)) (drop 4 (words l.blockmap)))).0 n.1.1.1.1.1.1.1.1.1.1.1.1.1.1.0 in
+    let bh = (unless_none _ (4 + blocks_in (words l.blockmap) ≤ length (words l.blockmap)) _ (Decides-leb (4 + blocks_in (words l.blockmap)) (length (words l.blockmap)))).0
+    n.1.1.1.1.1.1.1.1.1.1.1.1.1.0 in
+    let bl = (listed _ (block_list l (words l.blockmap)) (ListInRange l (words l.blockmap)) (list_in l (words l.blockmap)) (take (blocks_in (words l.blockmap)) (drop 4 (words l.blockmap)))).0
+    n.1.1.1.1.1.1.1.1.1.1.1.1.1.1.0 in
     record {
       lines = all_both (VerticesIn l) (SidesIn l) (LineInRange l) (λ x p q. record { v1 = p.v1; v2 = p.v2; right = q.right; left = q.left; two_sided = q.two_sided }) l.lines lv ls;
       sides = ss;
       tree = record {
-        segs = all_both (EndsIn l) (λ s. IsIn l.lines s.line × SideThere l s) (SegInRange l.vertices l.lines) (λ x p q. record { first = p.first; second = p.second; line = q.0; side = has_side l x q.1 }) l.segs sv
+        segs = all_both (EndsIn l) (λ s. IsIn l.lines s.line × SideThere l s) (SegInRange l.vertices l.lines)
+            (λ x p q. record { first = p.first; second = p.second; line = q.0; side = has_side l x q.1 }) l.segs sv
             (all_both (λ s. IsIn l.lines s.line) (SideThere l) (λ s. IsIn l.lines s.line × SideThere l s) (λ x p q. (p, q)) l.segs sl sd);
         tiles = tiles_in 0 l.subs (length l.segs) sr (omega arith);
         node_children = λ i x at.
@@ -248,7 +256,8 @@ no_fault-in_range l h =
             let there = slice_get-get_or l.nodes i x lt in
             let same : get_or l.nodes i x ≡ x = cc in
             let k : 0 + i ≡ i = omega arith in
-            subst (λ (j : ℕ). ChildInRange l.subs j x.right × ChildInRange l.subs j x.left) k (numbered_all (λ p. ChildInRange l.subs p.0 p.1.right × ChildInRange l.subs p.0 p.1.left) 0 l.nodes nc i lt x same);
+            subst (λ (j : ℕ). ChildInRange l.subs j x.right × ChildInRange l.subs j x.left) k
+            (numbered_all (λ p. ChildInRange l.subs p.0 p.1.right × ChildInRange l.subs p.0 p.1.left) 0 l.nodes nc i lt x same);
         some_sub = so;
         subs_once = λ s lt. let k : 0 + s ≡ s = omega arith in subst (λ (j : ℕ). times_sub l.nodes j ≡ 1) k (range_all (λ j. times_sub l.nodes j ≡ 1) 0 (length l.subs) sn s lt);
         nodes_once = λ i lt. let k : 0 + i ≡ i = omega arith in subst (λ (j : ℕ). times_node l.nodes j ≡ 1) k (range_all (λ j. times_node l.nodes j ≡ 1) 0 (length l.nodes - 1) no i (omega arith));
@@ -262,16 +271,19 @@ pub in_range-no_fault : (l : Lumps) → InRange l → first_fault l ≡ None
 in_range-no_fault l r =
     let t = in_tiles 0 l.subs (length l.segs) r.tree.tiles in
     let e = t.1 in
-    (first_some-none (faults l)).1 (
+    (first_some-none (level_faults l)).1 (
       (listed _ (line_vertices l) (VerticesIn l) (vertices_in l) l.lines).1 (All-weaker (LineInRange l) (VerticesIn l) (λ x p. record { v1 = p.v1; v2 = p.v2 }) l.lines r.lines),
       (
-        (listed _ (line_sides l) (SidesIn l) (sides_in l) l.lines).1 (All-weaker (LineInRange l) (SidesIn l) (λ x p. record { right = p.right; left = p.left; two_sided = p.two_sided }) l.lines r.lines),
+        (listed _ (line_sides l) (SidesIn l) (sides_in l) l.lines).1
+            (All-weaker (LineInRange l) (SidesIn l) (λ x p. record { right = p.right; left = p.left; two_sided = p.two_sided }) l.lines r.lines),
         (
-          (listed _ (λ s. is_in l.sectors s.sector) (λ s. IsIn l.sectors s.sector) (λ s. Decides-is_in l.sectors s.sector) l.sides).1 r.sides,
+          (listed _ (λ s. is_in_range l.sectors s.sector) (λ s. IsIn l.sectors s.sector) (λ s. Decides-is_in l.sectors s.sector) l.sides).1 r.sides,
           (
-            (listed _ (seg_vertices l) (EndsIn l) (ends_in l) l.segs).1 (All-weaker (SegInRange l.vertices l.lines) (EndsIn l) (λ x p. record { first = p.first; second = p.second }) l.segs r.tree.segs),
+            (listed _ (seg_vertices l) (EndsIn l) (ends_in l) l.segs).1
+                (All-weaker (SegInRange l.vertices l.lines) (EndsIn l) (λ x p. record { first = p.first; second = p.second }) l.segs r.tree.segs),
             (
-              (listed _ (λ s. is_in l.lines s.line) (λ s. IsIn l.lines s.line) (λ s. Decides-is_in l.lines s.line) l.segs).1 (All-weaker (SegInRange l.vertices l.lines) (λ s. IsIn l.lines s.line) (λ x p. p.line) l.segs r.tree.segs),
+              (listed _ (λ s. is_in_range l.lines s.line) (λ s. IsIn l.lines s.line) (λ s. Decides-is_in l.lines s.line) l.segs).1
+                  (All-weaker (SegInRange l.vertices l.lines) (λ s. IsIn l.lines s.line) (λ x p. p.line) l.segs r.tree.segs),
               (
                 (listed _ (seg_side l) (SideThere l) (side_there l) l.segs).1 (All-weaker (SegInRange l.vertices l.lines) (SideThere l) (λ x p. side_is_there l x p.line p.side) l.segs r.tree.segs),
                 (
@@ -280,21 +292,27 @@ in_range-no_fault l r =
                     (unless_none _ (sum_by (λ s. s.count) l.subs ≡ length l.segs) _ (Decides-eqb _ (length l.segs))).1 (omega arith),
                     (
                       (listed _ (node_children l) (λ p. ChildInRange l.subs p.0 p.1.right × ChildInRange l.subs p.0 p.1.left) (children_in l) (enumerate_from 0 l.nodes)).1
-                          (all_numbered (λ p. ChildInRange l.subs p.0 p.1.right × ChildInRange l.subs p.0 p.1.left) 0 l.nodes (λ i lt x q. let k : i ≡ 0 + i = omega arith in subst (λ (j : ℕ). ChildInRange l.subs j x.right × ChildInRange l.subs j x.left) k (r.tree.node_children i x (slice_get-get_or l.nodes i x lt ∙ ap Some q)))),
+                          (all_numbered (λ p. ChildInRange l.subs p.0 p.1.right × ChildInRange l.subs p.0 p.1.left) 0 l.nodes
+                          (λ i lt x q. let k : i ≡ 0 + i = omega arith
+                          in subst (λ (j : ℕ). ChildInRange l.subs j x.right × ChildInRange l.subs j x.left) k (r.tree.node_children i x (slice_get-get_or l.nodes i x lt ∙ ap Some q)))),
                       (
                         (unless_none _ (0 < length l.subs) _ (Decides-ltb 0 (length l.subs))).1 r.tree.some_sub,
                         (
                           (listed _ (λ s. times_sub l.nodes s == 1) (λ s. times_sub l.nodes s ≡ 1) (λ s. Decides-eqb (times_sub l.nodes s) 1) (range_with_len 0 (length l.subs))).1
-                              (all_range (λ j. times_sub l.nodes j ≡ 1) 0 (length l.subs) (λ s lt. let k : s ≡ 0 + s = omega arith in subst (λ (j : ℕ). times_sub l.nodes j ≡ 1) k (r.tree.subs_once s lt))),
+                              (all_range (λ j. times_sub l.nodes j ≡ 1) 0 (length l.subs)
+                              (λ s lt. let k : s ≡ 0 + s = omega arith in subst (λ (j : ℕ). times_sub l.nodes j ≡ 1) k (r.tree.subs_once s lt))),
                           (
                             (listed _ (λ i. times_node l.nodes i == 1) (λ i. times_node l.nodes i ≡ 1) (λ i. Decides-eqb (times_node l.nodes i) 1) (range_with_len 0 (length l.nodes - 1))).1
-                                (all_range (λ j. times_node l.nodes j ≡ 1) 0 (length l.nodes - 1) (λ i lt. let k : i ≡ 0 + i = omega arith in subst (λ (j : ℕ). times_node l.nodes j ≡ 1) k (r.tree.nodes_once i (omega arith)))),
+                                (all_range (λ j. times_node l.nodes j ≡ 1) 0 (length l.nodes - 1)
+                                (λ i lt. let k : i ≡ 0 + i = omega arith in subst (λ (j : ℕ). times_node l.nodes j ≡ 1) k (r.tree.nodes_once i (omega arith)))),
                             (
                               (unless_none _ (reject_size (length l.sectors) ≤ length l.reject) _ (Decides-leb (reject_size (length l.sectors)) (length l.reject))).1 r.reject,
                               (
-                                (unless_none _ (4 + blocks_in (words l.blockmap) ≤ length (words l.blockmap)) _ (Decides-leb (4 + blocks_in (words l.blockmap)) (length (words l.blockmap)))).1 r.header,
+                                (unless_none _ (4 + blocks_in (words l.blockmap) ≤ length (words l.blockmap)) _ (Decides-leb (4 + blocks_in (words l.blockmap)) (length (words l.blockmap)))).1
+                                    r.header,
                                 (
-                                  (listed _ (block_list l (words l.blockmap)) (ListInRange l (words l.blockmap)) (list_in l (words l.blockmap)) (take (blocks_in (words l.blockmap)) (drop 4 (words l.blockmap)))).1 r.lists,
+                                  (listed _ (block_list l (words l.blockmap)) (ListInRange l (words l.blockmap)) (list_in l (words l.blockmap))
+                                      (take (blocks_in (words l.blockmap)) (drop 4 (words l.blockmap)))).1 r.lists,
                                   tt,
                                 ),
                               ),

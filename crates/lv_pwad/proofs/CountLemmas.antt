@@ -5,7 +5,7 @@ use Rattle.std.proofs.Math.ListN.{set}
 use Rattle.std.proofs.lemmas.List.{get_or-set_same, get_or-set_other}
 use Rattle.std.proofs.lemmas.List.Sums.{count_by_more_no, count_by_more_yes}
 use Rattle.std.proofs.lemmas.Bool.Decides.{nat_tests}
-use Rattle.lv_pwad.specs.Counts.{times_child, AreCounts}
+use Rattle.lv_pwad.specs.Counts.{times_among, AreCounts}
 
 -- the child is the number base + n, and counts
 abbrev pub hits : ℕ → ℕ → ℕ → ℕ → Bool
@@ -27,11 +27,14 @@ pub record Counts (hit : Type 0) (old new : ℕ) : Type 0 where
   pub there : hit → ((new ≡ old + 1) × (old < 2)) ⊎ ((new ≡ old) × (2 ≤ old))
   pub elsewhere : (hit → ⊥) → new ≡ old
 
-pub count_step : (base end child k : ℕ) (children old new : List ℕ) → k < length children → get_or children k 0 ≡ child → length new ≡ length old → ((n : ℕ) → n < length old → Counts (IsHit base end child n) (get_or old n 0) (get_or new n 0)) → AreCounts base end (take k children) old → AreCounts base end (take (k + 1) children) new
+pub count_step :
+    (base end child k : ℕ) (children old new : List ℕ) → k < length children → get_or children k 0 ≡ child → length new ≡ length old
+    → ((n : ℕ) → n < length old → Counts (IsHit base end child n) (get_or old n 0) (get_or new n 0)) → AreCounts base end (take k children) old → AreCounts base end (take (k + 1) children) new
 count_step base end child k children old new h is len step a =
     record { each = λ n b. by n (subst (λ (m : ℕ). n < m) len b) (hit_or base end child n) }
   where
-    by : (n : ℕ) → n < length old → ((hits base end child n ≡ true) × IsHit base end child n) ⊎ ((hits base end child n ≡ false) × (IsHit base end child n → ⊥)) → get_or new n 0 ≡ min 2 (times_child base end (take (k + 1) children) n)
+    by : (n : ℕ) → n < length old → ((hits base end child n ≡ true) × IsHit base end child n) ⊎ ((hits base end child n ≡ false) × (IsHit base end child n → ⊥))
+        → get_or new n 0 ≡ min 2 (times_among base end (take (k + 1) children) n)
     by n b (inl y) =
         let t = count_by_more_yes (λ c. nat_lt c end && (c == (base + n))) children k 0 h (ap (λ (c : ℕ). hits base end c n) is ∙ y.0) in
         let e = a.each n b in
@@ -41,16 +44,21 @@ count_step base end child k children old new h is len step a =
         (step n b).elsewhere y.1 ∙ a.each n b ∙ ap (min 2) (sym t)
 
 -- a child that is none of the numbers
-pub none_hit : (base end child : ℕ) (counts : List ℕ) → ((n : ℕ) → n < length counts → IsHit base end child n → ⊥) → (n : ℕ) → n < length counts → Counts (IsHit base end child n) (get_or counts n 0) (get_or counts n 0)
+pub none_hit :
+    (base end child : ℕ) (counts : List ℕ) → ((n : ℕ) → n < length counts → IsHit base end child n → ⊥) → (n : ℕ) → n < length counts
+    → Counts (IsHit base end child n) (get_or counts n 0) (get_or counts n 0)
 none_hit base end child counts none n b = record { there = λ h. absurd (none n b h); elsewhere = λ h. refl }
 
 -- a number that was counted twice
-pub full_hit : (base end child m : ℕ) (counts : List ℕ) → child ≡ base + m → 2 ≤ get_or counts m 0 → (n : ℕ) → n < length counts → Counts (IsHit base end child n) (get_or counts n 0) (get_or counts n 0)
+pub full_hit :
+    (base end child m : ℕ) (counts : List ℕ) → child ≡ base + m → 2 ≤ get_or counts m 0 → (n : ℕ) → n < length counts → Counts (IsHit base end child n) (get_or counts n 0) (get_or counts n 0)
 full_hit base end child m counts e two n b =
     record { there = λ h. let f = h.1 in let same : n ≡ m = omega (arith, e, f) in inr (refl, rw same two); elsewhere = λ h. refl }
 
 -- a number that is counted once more
-pub more_hit : (base end child m v : ℕ) (counts : List ℕ) → child < end → child ≡ base + m → m < length counts → get_or counts m 0 ≡ v → v < 2 → (n : ℕ) → n < length counts → Counts (IsHit base end child n) (get_or counts n 0) (get_or (set counts m (v + 1)) n 0)
+pub more_hit :
+    (base end child m v : ℕ) (counts : List ℕ) → child < end → child ≡ base + m → m < length counts → get_or counts m 0 ≡ v → v < 2 → (n : ℕ) → n < length counts
+    → Counts (IsHit base end child n) (get_or counts n 0) (get_or (set counts m (v + 1)) n 0)
 more_hit base end child m v counts below e among is small n b =
     record {
       there = λ h. let f = h.1 in let same : n ≡ m = omega (arith, e, f) in inl (rw same (get_or-set_same counts m (v + 1) 0 among ∙ ap (λ (w : ℕ). w + 1) (sym is)), rw (same, is) small);

@@ -17,19 +17,25 @@ pub record SoFar (lines : ℕ) (words : List ℕ) (from size : ℕ) (flags : Lis
   pub flagged : AreEndings lines words from flags
   pub whole : length flags ≡ size
 
-pub here_before : (lines : ℕ) (words : List ℕ) (place word : ℕ) (ends : Bool) → place < length words → get_or words place 0 ≡ word → ends ≡ ends_in_lines lines (drop (place + 1) words) → ((word == 65535) || (is_line lines word && ends)) ≡ ends_in_lines lines (drop place words)
+pub here_before :
+    (lines : ℕ) (words : List ℕ) (place word : ℕ) (ends : Bool) → place < length words → get_or words place 0 ≡ word → ends ≡ ends_in_lines lines (drop (place + 1) words)
+    → ((word == 65535) || (is_line lines word && ends)) ≡ ends_in_lines lines (drop place words)
 here_before lines words place word ends h is e =
     ap (λ (b : Bool). (word == 65535) || (is_line lines word && b)) e
     ∙ ap (λ (w : ℕ). ends_in_lines lines (w ∷ drop (place + 1) words)) (sym is)
     ∙ sym (ap (ends_in_lines lines) (cons_at words place h))
 
 -- the place is beyond the flags
-pub no_flag : (lines : ℕ) (words : List ℕ) (place size : ℕ) (flags : List Bool) (ends new : Bool) → length flags ≤ place → new ≡ ends_in_lines lines (drop place words) → SoFar lines words (place + 1) size flags ends → SoFar lines words place size flags new
+pub no_flag :
+    (lines : ℕ) (words : List ℕ) (place size : ℕ) (flags : List Bool) (ends new : Bool) → length flags ≤ place → new ≡ ends_in_lines lines (drop place words)
+    → SoFar lines words (place + 1) size flags ends → SoFar lines words place size flags new
 no_flag lines words place size flags ends new far e s =
     record { here = e; flagged = record { each = λ p from below. absurd (omega arith) }; whole = s.whole }
 
 -- the place's flag is set
-pub flag_set : (lines : ℕ) (words : List ℕ) (place size : ℕ) (flags : List Bool) (ends new : Bool) → place < length flags → new ≡ ends_in_lines lines (drop place words) → SoFar lines words (place + 1) size flags ends → SoFar lines words place size (set flags place new) new
+pub flag_set :
+    (lines : ℕ) (words : List ℕ) (place size : ℕ) (flags : List Bool) (ends new : Bool) → place < length flags → new ≡ ends_in_lines lines (drop place words)
+    → SoFar lines words (place + 1) size flags ends → SoFar lines words place size (set flags place new) new
 flag_set lines words place size flags ends new near e s =
     record { here = e; flagged = record { each = each }; whole = length-set flags place new ∙ s.whole }
   where

@@ -9,7 +9,7 @@ use Rattle.std.proofs.lemmas.Grind.{flat_map-append}
 use Rattle.std.proofs.lemmas.Bool.{cases_eq, cases_lt}
 use Rattle.lv_lumps.specs.declared.records.Node.{Node}
 use Rattle.lv_lumps.specs.declared.records.Bounds.{Bounds}
-use Rattle.lv_pwad.specs.Counts.{times_child}
+use Rattle.lv_pwad.specs.Counts.{times_among}
 use Rattle.lv_pwad.specs.Endings.{AreEndings, ends_in_lines}
 use Rattle.lv_nodes.specs.InRange.{children, times_sub, times_node}
 use Rattle.lv_pwad.specs.Range.{blocks_in, InRange}
@@ -22,7 +22,7 @@ use Rattle.lv_lumps.specs.declared.records.Sub.{Sub}
 use Rattle.lv_pwad.specs.declared.fault.Fault.{Fault}
 use Rattle.lv_pwad.specs.declared.fault.Fault.TheVariants.{SubRange, SubTotal, BlockList}
 use Rattle.lv_pwad.specs.Levels.{Lumps}
-use Rattle.lv_pwad.specs.Audit.{first_some, first_wrong, unless, sub_faults, sub_range, after_counts, node_children, list_faults, once_faults, lump_faults, first_fault, block_list, block_faults}
+use Rattle.lv_pwad.specs.Audit.{first_some, first_wrong, fault_unless, sub_faults, sub_range, after_counts, node_children, list_faults, once_faults, lump_faults, first_fault, block_list, block_faults}
 
 pub one_of : {X : Type 0} (o : Option X) → first_some (o ∷ []) ≡ o
 one_of None = refl
@@ -90,11 +90,16 @@ here subs n at s d h is e =
     let z : 0 + sum_by (λ (x : Sub). x.count) (take n subs) ≡ at = omega (arith, e) in
     c ∙ ap (λ (k : ℕ). (k, get_or subs n d.1)) z ∙ ap (λ (x : Sub). (at, x)) is
 
-pub subs_more : (subs : List Sub) (n at : ℕ) (s : Sub) → n < length subs → ((d : Sub) → get_or subs n d ≡ s) → s.count < 65536 → sub_range (at, s) ≡ true → SubsSoFar subs n at → SubsSoFar subs (n + 1) (at + s.count)
+pub subs_more :
+    (subs : List Sub) (n at : ℕ) (s : Sub) → n < length subs → ((d : Sub) → get_or subs n d ≡ s) → s.count < 65536 → sub_range (at, s) ≡ true → SubsSoFar subs n at
+    → SubsSoFar subs (n + 1) (at + s.count)
 subs_more subs n at s h is few right o =
     let t = take_more subs n s h ∙ ap (λ (x : Sub). take n subs ++ x ∷ []) (is s) in
     let e = o.at_is in
-    let sum : sum_by (λ (x : Sub). x.count) (take (n + 1) subs) ≡ sum_by (λ (x : Sub). x.count) (take n subs) + s.count = ap (sum_by (λ (x : Sub). x.count)) t ∙ sum_by-append (λ (x : Sub). x.count) (take n subs) (s ∷ []) ∙ ap (λ (m : ℕ). sum_by (λ (x : Sub). x.count) (take n subs) + m) (zero-add s.count) in
+    let sum : sum_by (λ (x : Sub). x.count) (take (n + 1) subs)
+    ≡ sum_by (λ (x : Sub). x.count) (take n subs)
+    + s.count = ap (sum_by (λ (x : Sub). x.count)) t ∙ sum_by-append (λ (x : Sub). x.count) (take n subs) (s ∷ []) ∙ ap (λ (m : ℕ). sum_by (λ (x : Sub). x.count) (take n subs) + m)
+    (zero-add s.count) in
     let b = begins at s right in
     record {
       at_is = omega (arith, e, sum);
@@ -102,11 +107,12 @@ subs_more subs n at s h is few right o =
       before = below_more (λ k. (d : ℕ × Sub) → sub_range (get_or (after_counts 0 subs) k d) ≡ true) n o.before (λ d. ap sub_range (here subs n at s d h (is d.1) o.at_is) ∙ right);
     }
 
-pub sub_wrong : (l : Lumps) (n at : ℕ) (s : Sub) → n < length l.subs → ((d : Sub) → get_or l.subs n d ≡ s) → sub_range (at, s) ≡ false → SubsSoFar l.subs n at → Some (SubRange n) ≡ first_some (sub_faults l)
+pub sub_wrong :
+    (l : Lumps) (n at : ℕ) (s : Sub) → n < length l.subs → ((d : Sub) → get_or l.subs n d ≡ s) → sub_range (at, s) ≡ false → SubsSoFar l.subs n at → Some (SubRange n) ≡ first_some (sub_faults l)
 sub_wrong l n at s h is wrong o =
     let long = length_counts 0 l.subs in
     let e = wrong_found sub_range (after_counts 0 l.subs) n (0, s) (omega (arith, long, h)) o.before (ap sub_range (here l.subs n at s (0, s) h (is s) o.at_is) ∙ wrong) in
-    ap (λ (o : Option ℕ). first_some (option_map SubRange o ∷ unless (sum_by (λ (x : Sub). x.count) l.subs == length l.segs) SubTotal ∷ [])) (sym e)
+    ap (λ (o : Option ℕ). first_some (option_map SubRange o ∷ fault_unless (sum_by (λ (x : Sub). x.count) l.subs == length l.segs) SubTotal ∷ [])) (sym e)
 
 none_wrong : (l : Lumps) (n at : ℕ) → length l.subs ≤ n → SubsSoFar l.subs n at → first_wrong sub_range (after_counts 0 l.subs) ≡ None
 none_wrong l n at h o =
@@ -120,8 +126,8 @@ pub total_wrong : (l : Lumps) (n at : ℕ) → length l.subs ≤ n → SubsSoFar
 total_wrong l n at h o ne =
     let t = total l n at h o in
     let b : (sum_by (λ (x : Sub). x.count) l.subs == length l.segs) ≡ false = unequal _ _ (λ e. ne (sym t ∙ e)) in
-    ap (λ (c : Bool). first_some (option_map SubRange None ∷ unless c SubTotal ∷ [])) (sym b)
-    ∙ ap (λ (p : Option ℕ). first_some (option_map SubRange p ∷ unless (sum_by (λ (x : Sub). x.count) l.subs == length l.segs) SubTotal ∷ [])) (sym (none_wrong l n at h o))
+    ap (λ (c : Bool). first_some (option_map SubRange None ∷ fault_unless c SubTotal ∷ [])) (sym b)
+    ∙ ap (λ (p : Option ℕ). first_some (option_map SubRange p ∷ fault_unless (sum_by (λ (x : Sub). x.count) l.subs == length l.segs) SubTotal ∷ [])) (sym (none_wrong l n at h o))
   where
     unequal : (a b : ℕ) → (a ≡ b → ⊥) → (a == b) ≡ false
     unequal a b ne = grind (arith, nat_tests)
@@ -130,8 +136,8 @@ pub subs_right : (l : Lumps) (n at : ℕ) → length l.subs ≤ n → SubsSoFar 
 subs_right l n at h o eq =
     let t = total l n at h o in
     let b : (sum_by (λ (x : Sub). x.count) l.subs == length l.segs) ≡ true = grind (arith, nat_tests, t, eq) in
-    ap (λ (c : Bool). first_some (option_map SubRange None ∷ unless c SubTotal ∷ [])) (sym b)
-    ∙ ap (λ (p : Option ℕ). first_some (option_map SubRange p ∷ unless (sum_by (λ (x : Sub). x.count) l.subs == length l.segs) SubTotal ∷ [])) (sym (none_wrong l n at h o))
+    ap (λ (c : Bool). first_some (option_map SubRange None ∷ fault_unless c SubTotal ∷ [])) (sym b)
+    ∙ ap (λ (p : Option ℕ). first_some (option_map SubRange p ∷ fault_unless (sum_by (λ (x : Sub). x.count) l.subs == length l.segs) SubTotal ∷ [])) (sym (none_wrong l n at h o))
 
 -- ---- children
 
@@ -139,14 +145,20 @@ numbered : (nodes : List Node) (n : ℕ) (d : ℕ × Node) → n < length nodes 
 numbered nodes n d h = get_or-enumerate_from 0 nodes n d h ∙ ap (λ (k : ℕ). (k, get_or nodes n d.1)) (zero-add n)
 
 -- the first node with a child out of range
-pub child_wrong : (l : Lumps) (n : ℕ) (node : Node) → n < length l.nodes → get_or l.nodes n node ≡ node → IsBelow (node_children l) (enumerate_from 0 l.nodes) n → node_children l (n, node) ≡ false → Some n ≡ first_wrong (node_children l) (enumerate_from 0 l.nodes)
+pub child_wrong :
+    (l : Lumps) (n : ℕ) (node : Node) → n < length l.nodes → get_or l.nodes n node ≡ node → IsBelow (node_children l) (enumerate_from 0 l.nodes) n → node_children l (n, node) ≡ false
+    → Some n ≡ first_wrong (node_children l) (enumerate_from 0 l.nodes)
 child_wrong l n node h is before wrong =
     let long = length-enumerate_from 0 l.nodes in
-    sym (wrong_found (node_children l) (enumerate_from 0 l.nodes) n (0, node) (omega (arith, long, h)) before (ap (node_children l) (numbered l.nodes n (0, node) h ∙ ap (λ (m : Node). (n, m)) is) ∙ wrong))
+    sym (wrong_found (node_children l) (enumerate_from 0 l.nodes) n (0, node) (omega (arith, long, h)) before
+    (ap (node_children l) (numbered l.nodes n (0, node) h ∙ ap (λ (m : Node). (n, m)) is) ∙ wrong))
 
-pub child_more : (l : Lumps) (n : ℕ) (node : Node) → n < length l.nodes → ((d : Node) → get_or l.nodes n d ≡ node) → IsBelow (node_children l) (enumerate_from 0 l.nodes) n → node_children l (n, node) ≡ true → IsBelow (node_children l) (enumerate_from 0 l.nodes) (n + 1)
+pub child_more :
+    (l : Lumps) (n : ℕ) (node : Node) → n < length l.nodes → ((d : Node) → get_or l.nodes n d ≡ node) → IsBelow (node_children l) (enumerate_from 0 l.nodes) n → node_children l (n, node) ≡ true
+    → IsBelow (node_children l) (enumerate_from 0 l.nodes) (n + 1)
 child_more l n node h is before right =
-    below_more (λ k. (d : ℕ × Node) → node_children l (get_or (enumerate_from 0 l.nodes) k d) ≡ true) n before (λ d. ap (node_children l) (numbered l.nodes n d h ∙ ap (λ (m : Node). (n, m)) (is d.1)) ∙ right)
+    below_more (λ k. (d : ℕ × Node) → node_children l (get_or (enumerate_from 0 l.nodes) k d) ≡ true) n before
+    (λ d. ap (node_children l) (numbered l.nodes n d h ∙ ap (λ (m : Node). (n, m)) (is d.1)) ∙ right)
 
 pub child_none : (l : Lumps) (n : ℕ) (node : Node) → length l.nodes ≤ n → IsBelow (node_children l) (enumerate_from 0 l.nodes) n → None ≡ first_wrong (node_children l) (enumerate_from 0 l.nodes)
 child_none l n node h before =
@@ -155,22 +167,28 @@ child_none l n node h before =
 
 -- how often numbers are children
 
-times_at : (base end : ℕ) (cs : List ℕ) (len n d : ℕ) → n < len → (times_child base end cs (get_or (range_with_len 0 len) n d) == 1) ≡ (times_child base end cs n == 1)
-times_at base end cs len n d h = ap (λ (k : ℕ). times_child base end cs k == 1) (get_or-range_with_len 0 len n d h ∙ zero-add n)
+times_at : (base end : ℕ) (cs : List ℕ) (len n d : ℕ) → n < len → (times_among base end cs (get_or (range_with_len 0 len) n d) == 1) ≡ (times_among base end cs n == 1)
+times_at base end cs len n d h = ap (λ (k : ℕ). times_among base end cs k == 1) (get_or-range_with_len 0 len n d h ∙ zero-add n)
 
-pub once_wrong : (base end : ℕ) (cs : List ℕ) (len n : ℕ) → n < len → IsBelow (λ n. times_child base end cs n == 1) (range_with_len 0 len) n → (times_child base end cs n == 1) ≡ false → Some n ≡ first_wrong (λ n. times_child base end cs n == 1) (range_with_len 0 len)
+pub once_wrong :
+    (base end : ℕ) (cs : List ℕ) (len n : ℕ) → n < len → IsBelow (λ n. times_among base end cs n == 1) (range_with_len 0 len) n → (times_among base end cs n == 1) ≡ false
+    → Some n ≡ first_wrong (λ n. times_among base end cs n == 1) (range_with_len 0 len)
 once_wrong base end cs len n h before wrong =
     let long = length-range_with_len 0 len in
-    sym (wrong_found (λ n. times_child base end cs n == 1) (range_with_len 0 len) n 0 (omega (arith, long, h)) before (times_at base end cs len n 0 h ∙ wrong))
+    sym (wrong_found (λ n. times_among base end cs n == 1) (range_with_len 0 len) n 0 (omega (arith, long, h)) before (times_at base end cs len n 0 h ∙ wrong))
 
-pub once_more : (base end : ℕ) (cs : List ℕ) (len n : ℕ) → n < len → IsBelow (λ n. times_child base end cs n == 1) (range_with_len 0 len) n → (times_child base end cs n == 1) ≡ true → IsBelow (λ n. times_child base end cs n == 1) (range_with_len 0 len) (n + 1)
+pub once_more :
+    (base end : ℕ) (cs : List ℕ) (len n : ℕ) → n < len → IsBelow (λ n. times_among base end cs n == 1) (range_with_len 0 len) n → (times_among base end cs n == 1) ≡ true
+    → IsBelow (λ n. times_among base end cs n == 1) (range_with_len 0 len) (n + 1)
 once_more base end cs len n h before right =
-    below_more (λ k. (d : ℕ) → (times_child base end cs (get_or (range_with_len 0 len) k d) == 1) ≡ true) n before (λ d. times_at base end cs len n d h ∙ right)
+    below_more (λ k. (d : ℕ) → (times_among base end cs (get_or (range_with_len 0 len) k d) == 1) ≡ true) n before (λ d. times_at base end cs len n d h ∙ right)
 
-pub once_none : (base end : ℕ) (cs : List ℕ) (len n : ℕ) → len ≤ n → IsBelow (λ n. times_child base end cs n == 1) (range_with_len 0 len) n → None ≡ first_wrong (λ n. times_child base end cs n == 1) (range_with_len 0 len)
+pub once_none :
+    (base end : ℕ) (cs : List ℕ) (len n : ℕ) → len ≤ n → IsBelow (λ n. times_among base end cs n == 1) (range_with_len 0 len) n
+    → None ≡ first_wrong (λ n. times_among base end cs n == 1) (range_with_len 0 len)
 once_none base end cs len n h before =
     let long = length-range_with_len 0 len in
-    sym (wrong_none (λ n. times_child base end cs n == 1) (range_with_len 0 len) 0 (λ k lt d. before k (omega (arith, long, lt, h)) d))
+    sym (wrong_none (λ n. times_among base end cs n == 1) (range_with_len 0 len) 0 (λ k lt d. before k (omega (arith, long, lt, h)) d))
 
 -- a count to 2 is 1 where the number is
 pub counted_once : (count times : ℕ) → count ≡ min 2 times → count ≡ 1 → (times == 1) ≡ true
@@ -186,7 +204,9 @@ not_counted_once count times e not = by (cases_eq times 1)
 abbrev pub both : Node → List ℕ
 both m = m.right ∷ m.left ∷ []
 
-pub children_more : (nodes : List Node) (n : ℕ) (node : Node) (all : List ℕ) → n < length nodes → get_or nodes n node ≡ node → all ≡ flat_map both (take n nodes) → (all ++ node.right ∷ []) ++ node.left ∷ [] ≡ flat_map both (take (n + 1) nodes)
+pub children_more :
+    (nodes : List Node) (n : ℕ) (node : Node) (all : List ℕ) → n < length nodes → get_or nodes n node ≡ node → all ≡ flat_map both (take n nodes)
+    → (all ++ node.right ∷ []) ++ node.left ∷ [] ≡ flat_map both (take (n + 1) nodes)
 children_more nodes n node all h is so_far =
     let more : take (n + 1) nodes ≡ take n nodes ++ node ∷ [] = take_more nodes n node h ∙ ap (λ (m : Node). take n nodes ++ m ∷ []) is in
     append_assoc all (node.right ∷ []) (node.left ∷ [])
@@ -248,22 +268,27 @@ below_all : (c s : ℕ) → c < 65536 → (nat_lt c 65536 && (c == (32768 + s)))
 below_all c s h = let t : nat_lt c 65536 ≡ true = grind (arith, nat_tests) in ap (λ (b : Bool). b && (c == (32768 + s))) t
 
 -- the first subsector that isn't a child once
-pub sub_same : (l : Lumps) (cs : List ℕ) (len : ℕ) → ((i : ℕ) → get_or cs i 0 < 65536) → cs ≡ children l.nodes → first_wrong (λ s. times_child 32768 65536 cs s == 1) (range_with_len 0 len) ≡ first_wrong (λ s. times_sub l.nodes s == 1) (range_with_len 0 len)
+pub sub_same :
+    (l : Lumps) (cs : List ℕ) (len : ℕ) → ((i : ℕ) → get_or cs i 0 < 65536) → cs ≡ children l.nodes
+    → first_wrong (λ s. times_among 32768 65536 cs s == 1) (range_with_len 0 len) ≡ first_wrong (λ s. times_sub l.nodes s == 1) (range_with_len 0 len)
 sub_same l cs len fit e =
-    wrong_agree (λ s. times_child 32768 65536 cs s == 1) (λ s. times_sub l.nodes s == 1) each (range_with_len 0 len)
+    wrong_agree (λ s. times_among 32768 65536 cs s == 1) (λ s. times_sub l.nodes s == 1) each (range_with_len 0 len)
   where
-    each : (s : ℕ) → (times_child 32768 65536 cs s == 1) ≡ (times_sub l.nodes s == 1)
+    each : (s : ℕ) → (times_among 32768 65536 cs s == 1) ≡ (times_sub l.nodes s == 1)
     each s =
         ap (λ (k : ℕ). k == 1)
-        (count_agree (λ c. nat_lt c 65536 && (c == (32768 + s))) (λ c. c == (32768 + s)) cs (All-from_get_or (λ c. (nat_lt c 65536 && (c == (32768 + s))) ≡ (c == (32768 + s))) cs 0 (λ i h. below_all (get_or cs i 0) s (fit i)))
+        (count_agree (λ c. nat_lt c 65536 && (c == (32768 + s))) (λ c. c == (32768 + s)) cs
+        (All-from_get_or (λ c. (nat_lt c 65536 && (c == (32768 + s))) ≡ (c == (32768 + s))) cs 0 (λ i h. below_all (get_or cs i 0) s (fit i)))
         ∙ ap (count_by (λ c. c == (32768 + s))) e)
 
 -- the first node
-pub node_same : (l : Lumps) (cs : List ℕ) (len : ℕ) → cs ≡ children l.nodes → first_wrong (λ i. times_child 0 32768 cs i == 1) (range_with_len 0 len) ≡ first_wrong (λ i. times_node l.nodes i == 1) (range_with_len 0 len)
+pub node_same :
+    (l : Lumps) (cs : List ℕ) (len : ℕ) → cs ≡ children l.nodes
+    → first_wrong (λ i. times_among 0 32768 cs i == 1) (range_with_len 0 len) ≡ first_wrong (λ i. times_node l.nodes i == 1) (range_with_len 0 len)
 node_same l cs len e =
-    wrong_agree (λ i. times_child 0 32768 cs i == 1) (λ i. times_node l.nodes i == 1) each (range_with_len 0 len)
+    wrong_agree (λ i. times_among 0 32768 cs i == 1) (λ i. times_node l.nodes i == 1) each (range_with_len 0 len)
   where
-    each : (i : ℕ) → (times_child 0 32768 cs i == 1) ≡ (times_node l.nodes i == 1)
+    each : (i : ℕ) → (times_among 0 32768 cs i == 1) ≡ (times_node l.nodes i == 1)
     each i =
         ap (λ (k : ℕ). count_by (λ c. nat_lt c 32768 && (c == k)) cs == 1) (zero-add i)
         ∙ ap (λ (ds : List ℕ). count_by (λ c. nat_lt c 32768 && (c == i)) ds == 1) e
@@ -295,10 +320,15 @@ flag_right l ws flags a e at = by (cases_lt at (length flags))
             and_false false = refl
         past (inr k) = let f : nat_lt at (length ws) ≡ false = grind (arith, nat_tests) in rw f refl
 
-pub blocks_same : (l : Lumps) (ws : List ℕ) (flags : List Bool) → AreEndings (length l.lines) ws 0 flags → length flags ≡ min (length ws) 32768 → (xs : List ℕ) → first_wrong (λ at. get_or flags at false) xs ≡ first_wrong (block_list l ws) xs
+pub blocks_same :
+    (l : Lumps) (ws : List ℕ) (flags : List Bool) → AreEndings (length l.lines) ws 0 flags → length flags ≡ min (length ws) 32768 → (xs : List ℕ)
+    → first_wrong (λ at. get_or flags at false) xs ≡ first_wrong (block_list l ws) xs
 blocks_same l ws flags a e xs = wrong_agree (λ at. get_or flags at false) (block_list l ws) (flag_right l ws flags a e) xs
 
-pub block_first : (l : Lumps) (lump : List ℕ) (lines blocks : ℕ) (flags shown : List Bool) (n : Option ℕ) → lump ≡ words l.blockmap → lines ≡ length l.lines → AreEndings lines lump 0 flags → length flags ≡ min (length lump) 32768 → shown ≡ flags → blocks ≡ blocks_in lump → n ≡ first_wrong (λ at. get_or shown at false) (take (4 + blocks - 4) (drop 4 lump)) → option_map BlockList n ≡ first_some (block_faults l)
+pub block_first :
+    (l : Lumps) (lump : List ℕ) (lines blocks : ℕ) (flags shown : List Bool) (n : Option ℕ) → lump ≡ words l.blockmap → lines ≡ length l.lines → AreEndings lines lump 0 flags
+    → length flags ≡ min (length lump) 32768 → shown ≡ flags → blocks ≡ blocks_in lump → n ≡ first_wrong (λ at. get_or shown at false) (take (4 + blocks - 4) (drop 4 lump))
+    → option_map BlockList n ≡ first_some (block_faults l)
 block_first l lump lines blocks flags shown n e k a len s b q =
     let ends : AreEndings (length l.lines) lump 0 flags = subst (λ (m : ℕ). AreEndings m lump 0 flags) k a in
     let same : 4 + blocks - 4 ≡ blocks_in lump = omega (arith, b) in

@@ -10,7 +10,7 @@ use Rattle.lv_lumps.specs.declared.records.Side.{Side}
 use Rattle.lv_lumps.specs.declared.records.Sector.{Sector}
 use Rattle.lv_maptables.specs.Ranges.{IsSide, IsSector}
 use Rattle.lv_pwad.specs.Levels.{Lumps, record_sizes}
-use Rattle.lv_pwad.specs.Wad.{IsPart, AreParts, all_bytes, all_lumps, lumps_of, part_of, wad_size}
+use Rattle.lv_pwad.specs.Wad.{IsPart, AreParts, all_bytes, all_lumps, lumps_of, level_part, wad_size}
 use Rattle.lv_pwad.proofs.NameLemmas.{marker_free, marker_size, texture_size}
 
 -- records of n bytes
@@ -75,7 +75,7 @@ lengths l w =
     }
 
 -- the lumps in order, each of whole records
-whole_lumps : (name : Name8) (l : Lumps) → AreLengths l → length l.blockmap % 2 ≡ 0 → (n : ℕ) → n < 10 → length (get_or (part_of name l).lumps n []) % get_or record_sizes n 1 ≡ 0
+whole_lumps : (name : Name8) (l : Lumps) → AreLengths l → length l.blockmap % 2 ≡ 0 → (n : ℕ) → n < 10 → length (get_or (level_part name l).lumps n []) % get_or record_sizes n 1 ≡ 0
 whole_lumps name l a b zero h = let e = a.things in omega (arith, e)
 whole_lumps name l a b (suc zero) h = let e = a.lines in omega (arith, e)
 whole_lumps name l a b (suc (suc zero)) h = let e = a.sides in omega (arith, e)
@@ -88,14 +88,18 @@ whole_lumps name l a b (suc (suc (suc (suc (suc (suc (suc (suc zero)))))))) h = 
 whole_lumps name l a b (suc (suc (suc (suc (suc (suc (suc (suc (suc zero))))))))) h = b
 whole_lumps name l a b (suc (suc (suc (suc (suc (suc (suc (suc (suc (suc n)))))))))) h = absurd (omega arith)
 
-ten_long : (b0 b1 b2 b3 b4 b5 b6 b7 b8 b9 : List ℕ) → length (b0 ++ (b1 ++ (b2 ++ (b3 ++ (b4 ++ (b5 ++ (b6 ++ (b7 ++ (b8 ++ (b9 ++ [])))))))))) ≡ length b0 + length b1 + length b2 + length b3 + length b4 + length b5 + length b6 + length b7 + length b8 + length b9
+ten_long :
+    (b0 b1 b2 b3 b4 b5 b6 b7 b8 b9 : List ℕ)
+    → length (b0 ++ (b1 ++ (b2 ++ (b3 ++ (b4 ++ (b5 ++ (b6 ++ (b7 ++ (b8 ++ (b9 ++ []))))))))))
+    ≡ length b0 + length b1 + length b2 + length b3 + length b4 + length b5 + length b6 + length b7 + length b8 + length b9
 ten_long b0 b1 b2 b3 b4 b5 b6 b7 b8 b9 = simp length-append (omega arith)
 
 -- one level's lumps
-pub one_long : (name : Name8) (l : Lumps) → IsWritable l → length (all_bytes (lumps_of (part_of name l))) ≤ 6000000
+pub one_long : (name : Name8) (l : Lumps) → IsWritable l → length (all_bytes (lumps_of (level_part name l))) ≤ 6000000
 one_long name l w =
     let a = lengths l w in
-    let t = ten_long (flat_map thing_record l.things) (flat_map line_record l.lines) (flat_map side_record l.sides) (flat_map vertex_record l.vertices) (flat_map seg_record l.segs) (flat_map sub_record l.subs) (flat_map node_record l.nodes) (flat_map sector_record l.sectors) l.reject l.blockmap in
+    let t = ten_long (flat_map thing_record l.things) (flat_map line_record l.lines) (flat_map side_record l.sides) (flat_map vertex_record l.vertices) (flat_map seg_record l.segs)
+    (flat_map sub_record l.subs) (flat_map node_record l.nodes) (flat_map sector_record l.sectors) l.reject l.blockmap in
     let e0 = a.things in let e1 = a.lines in let e2 = a.sides in let e3 = a.vertices in
     let e4 = a.segs in let e5 = a.subs in let e6 = a.nodes in let e7 = a.sectors in
     let f0 = w.few_things in let f1 = w.few_lines in let f2 = w.few_sides in let f3 = w.few_vertices in
@@ -103,11 +107,11 @@ one_long name l w =
     let f8 = w.short_reject in let f9 = w.short_blockmap in
     omega (arith, t, e0, e1, e2, e3, e4, e5, e6, e7, f0, f1, f2, f3, f4, f5, f6, f7, f8, f9)
 
-one_size : (name : Name8) (l : Lumps) → IsWritable l → wad_size (all_lumps (part_of name l ∷ [])) < 4294967296
+one_size : (name : Name8) (l : Lumps) → IsWritable l → wad_size (all_lumps (level_part name l ∷ [])) < 4294967296
 one_size name l w = let t = one_long name l w in omega (arith, t)
 
 -- the lumps of one level under a map's name
-pub is_part : (name : Name8) (l : Lumps) → IsNamed is_marker name → IsWritable l → IsPart (part_of name l)
+pub is_part : (name : Name8) (l : Lumps) → IsNamed is_marker name → IsWritable l → IsPart (level_part name l)
 is_part name l n w =
     record {
       long = marker_size name n;
@@ -117,10 +121,10 @@ is_part name l n w =
     }
 
 -- one level under a map's name can be written
-pub one_part : (name : Name8) (l : Lumps) → IsNamed is_marker name → IsWritable l → AreParts (part_of name l ∷ [])
+pub one_part : (name : Name8) (l : Lumps) → IsNamed is_marker name → IsWritable l → AreParts (level_part name l ∷ [])
 one_part name l n w =
     record {
-      each = All-cons IsPart (part_of name l) [] (is_part name l n w) (All-nil IsPart);
+      each = All-cons IsPart (level_part name l) [] (is_part name l n w) (All-nil IsPart);
       differ = λ i j p h k d. absurd (d (omega (arith, h, k)));
       fits = one_size name l w;
     }

@@ -11,8 +11,8 @@ use Rattle.lv_lumps.specs.Lumps.{records_of}
 use Rattle.lv_lumps.specs.Records.{thing_at, line_at, side_at, vertex_at, seg_at, sub_at, node_at, sector_at}
 use Rattle.lv_pwad.specs.declared.levels.NamedLevel.{NamedLevel}
 use Rattle.lv_pwad.specs.Levels.{Lumps, IsLevel, lump, lumps_behind, marker_at}
-use Rattle.lv_pwad.specs.Wad.{Lump, Part, AreParts, IsCoded, IsReadBack, all_lumps, lumps_of, part_of, wad_bytes}
-use Rattle.lv_pwad.specs.Views.{view, parts_of}
+use Rattle.lv_pwad.specs.Wad.{Lump, Part, AreParts, IsCoded, IsReadBack, all_lumps, lumps_of, level_part, wad_bytes}
+use Rattle.lv_pwad.specs.Views.{view, level_parts}
 use Rattle.lv_pwad.proofs.PartLemmas.{reads_back}
 
 one_more : (levels : List NamedLevel) (n : ℕ) (x : NamedLevel) → n < length levels → get_or levels n x ≡ x → take (n + 1) levels ≡ take n levels ++ (x ∷ [])
@@ -20,24 +20,28 @@ one_more levels n x h e =
     let s : n + 1 ≡ suc n = omega arith in
     ap (λ (k : ℕ). take k levels) s ∙ take-suc levels n x h ∙ ap (λ (y : NamedLevel). take n levels ++ (y ∷ [])) e
 
-pub lumps_more : (levels : List NamedLevel) (n : ℕ) (x : NamedLevel) (new old : List Lump) → n < length levels → get_or levels n x ≡ x → old ≡ all_lumps (parts_of (take n levels)) → new ≡ old ++ lumps_of (part_of x.name (view x.level)) → new ≡ all_lumps (parts_of (take (n + 1) levels))
+pub lumps_more :
+    (levels : List NamedLevel) (n : ℕ) (x : NamedLevel) (new old : List Lump) → n < length levels → get_or levels n x ≡ x → old ≡ all_lumps (level_parts (take n levels))
+    → new ≡ old ++ lumps_of (level_part x.name (view x.level)) → new ≡ all_lumps (level_parts (take (n + 1) levels))
 lumps_more levels n x new old h e o w =
-    w ∙ ap (λ (ls : List Lump). ls ++ lumps_of (part_of x.name (view x.level))) o
+    w ∙ ap (λ (ls : List Lump). ls ++ lumps_of (level_part x.name (view x.level))) o
     ∙ sym
-    (ap (λ (ls : List NamedLevel). all_lumps (parts_of ls)) (one_more levels n x h e)
-    ∙ ap all_lumps (map-append (λ (l : NamedLevel). part_of l.name (view l.level)) (take n levels) (x ∷ []))
-    ∙ flat_map-append lumps_of (parts_of (take n levels)) (part_of x.name (view x.level) ∷ [])
-    ∙ ap (λ (ls : List Lump). all_lumps (parts_of (take n levels)) ++ ls) (append-nil (lumps_of (part_of x.name (view x.level))))
+    (ap (λ (ls : List NamedLevel). all_lumps (level_parts ls)) (one_more levels n x h e)
+    ∙ ap all_lumps (map-append (λ (l : NamedLevel). level_part l.name (view l.level)) (take n levels) (x ∷ []))
+    ∙ flat_map-append lumps_of (level_parts (take n levels)) (level_part x.name (view x.level) ∷ [])
+    ∙ ap (λ (ls : List Lump). all_lumps (level_parts (take n levels)) ++ ls) (append-nil (lumps_of (level_part x.name (view x.level))))
     )
 
-pub coded_more : (levels : List NamedLevel) (n : ℕ) (x : NamedLevel) → n < length levels → get_or levels n x ≡ x → All (λ (l : NamedLevel). IsCoded (view l.level)) (take n levels) → IsCoded (view x.level) → All (λ (l : NamedLevel). IsCoded (view l.level)) (take (n + 1) levels)
+pub coded_more :
+    (levels : List NamedLevel) (n : ℕ) (x : NamedLevel) → n < length levels → get_or levels n x ≡ x → All (λ (l : NamedLevel). IsCoded (view l.level)) (take n levels) → IsCoded (view x.level)
+    → All (λ (l : NamedLevel). IsCoded (view l.level)) (take (n + 1) levels)
 coded_more levels n x h e a c = All-same (λ (l : NamedLevel). IsCoded (view l.level)) _ _ (one_more levels n x h e) (All-push (λ (l : NamedLevel). IsCoded (view l.level)) (take n levels) x a c)
 
 -- a level whose lumps are read is read
-level_of : (wad : List ℕ) (x : NamedLevel) → IsReadBack wad (part_of x.name (view x.level)) → IsCoded (view x.level) → IsLevel wad (name_text x.name) (view x.level)
+level_of : (wad : List ℕ) (x : NamedLevel) → IsReadBack wad (level_part x.name (view x.level)) → IsCoded (view x.level) → IsLevel wad (name_text x.name) (view x.level)
 level_of wad x r c = record { accepted = r.accepted; holds = sym (all_ten (view x.level) (marker_at wad (name_text x.name)) (λ n b. r.lumps n b) c) }
   where
-    all_ten : (l : Lumps) (at : ℕ) → ((n : ℕ) → n < 10 → lump wad (at + 1 + n) ≡ get_or (part_of x.name l).lumps n []) → IsCoded l → lumps_behind wad at ≡ l
+    all_ten : (l : Lumps) (at : ℕ) → ((n : ℕ) → n < 10 → lump wad (at + 1 + n) ≡ get_or (level_part x.name l).lumps n []) → IsCoded l → lumps_behind wad at ≡ l
     all_ten l at f c =
         let a0 = ap (records_of thing_at 10) (f 0 (omega arith)) ∙ c.drawn.things in
         let a1 = ap (records_of line_at 14) (f 1 (omega arith)) ∙ c.drawn.lines in
@@ -51,15 +55,18 @@ level_of wad x r c = record { accepted = r.accepted; holds = sym (all_ten (view 
         let a9 = f 9 (omega arith) in
         rw (a0, a1, a2, a3, a4, a5, a6, a7, a8, a9) refl
 
-pub levels_read : (wad : List ℕ) (levels : List NamedLevel) → AreParts (parts_of levels) → wad ≡ wad_bytes (all_lumps (parts_of levels)) → All (λ (l : NamedLevel). IsCoded (view l.level)) levels → All (λ (l : NamedLevel). IsLevel wad (name_text l.name) (view l.level)) levels
+pub levels_read :
+    (wad : List ℕ) (levels : List NamedLevel) → AreParts (level_parts levels) → wad ≡ wad_bytes (all_lumps (level_parts levels)) → All (λ (l : NamedLevel). IsCoded (view l.level)) levels
+    → All (λ (l : NamedLevel). IsLevel wad (name_text l.name) (view l.level)) levels
 levels_read wad [] a w c = All-nil (λ (l : NamedLevel). IsLevel wad (name_text l.name) (view l.level))
 levels_read wad (y ∷ levels) a w c =
     All-from_get_or (λ (l : NamedLevel). IsLevel wad (name_text l.name) (view l.level)) (y ∷ levels) y
     (λ i h.
-    let m = length-map (y ∷ levels) (λ (l : NamedLevel). part_of l.name (view l.level)) in
-    let g = get_or-map (λ (l : NamedLevel). part_of l.name (view l.level)) (y ∷ levels) i y (part_of y.name (view y.level)) h in
-    let r = reads_back (parts_of (y ∷ levels)) i (part_of y.name (view y.level)) a (omega (arith, m, h)) in
-    level_of wad (get_or (y ∷ levels) i y) (subst (λ (p : Part). IsReadBack wad p) g (subst (λ (ws : List ℕ). IsReadBack ws (get_or (parts_of (y ∷ levels)) i (part_of y.name (view y.level)))) (sym w) r))
+    let m = length-map (y ∷ levels) (λ (l : NamedLevel). level_part l.name (view l.level)) in
+    let g = get_or-map (λ (l : NamedLevel). level_part l.name (view l.level)) (y ∷ levels) i y (level_part y.name (view y.level)) h in
+    let r = reads_back (level_parts (y ∷ levels)) i (level_part y.name (view y.level)) a (omega (arith, m, h)) in
+    level_of wad (get_or (y ∷ levels) i y)
+    (subst (λ (p : Part). IsReadBack wad p) g (subst (λ (ws : List ℕ). IsReadBack ws (get_or (level_parts (y ∷ levels)) i (level_part y.name (view y.level)))) (sym w) r))
     (All-get_or (λ (l : NamedLevel). IsCoded (view l.level)) (y ∷ levels) i y h c))
 
 abbrev pub named_lump : Name8 → List ℕ → Lump

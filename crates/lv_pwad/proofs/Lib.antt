@@ -16,3 +16,4 @@ pub mod SoundLemmas
 pub mod ReadBackLemmas
 pub mod CopyLemmas
 pub mod ProjectLemmas
+pub mod CountedLemmas

@@ -6,14 +6,14 @@ use Rattle.std.proofs.lemmas.Bool.{and_parts, leb-true, eqb-true}
 use Rattle.std.proofs.lemmas.List.{length-replicate}
 use Rattle.lv_lumps.specs.Names.{name_text, is_marker, is_name, is_name_byte, IsNamed}
 use Rattle.lv_lumps.specs.declared.records.Name8.{Name8}
-use Rattle.lv_pwad.specs.Wad.{is_taken}
+use Rattle.lv_pwad.specs.Wad.{is_lump_name}
 
 -- the names of lumps begin neither with E nor with M
-starts_free : (a : ℕ) (rest : List ℕ) → (a ≡ 69) ⊎ (a ≡ 77) → is_taken (a ∷ rest) ≡ false
+starts_free : (a : ℕ) (rest : List ℕ) → (a ≡ 69) ⊎ (a ≡ 77) → is_lump_name (a ∷ rest) ≡ false
 starts_free a rest (inl e) = rw e refl
 starts_free a rest (inr m) = rw m refl
 
-pub marker_free : (text : List ℕ) → is_marker text ≡ true → is_taken text ≡ false
+pub marker_free : (text : List ℕ) → is_marker text ≡ true → is_lump_name text ≡ false
 marker_free [] e = cc
 marker_free (a ∷ []) e = cc
 marker_free (a ∷ b ∷ []) e = cc

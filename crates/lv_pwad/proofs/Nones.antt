@@ -5,7 +5,7 @@ use Rattle.std.specs.Bool.{Decides}
 use Rattle.std.specs.Option.{option_map}
 use Rattle.std.specs.List.{position_or_len}
 use Rattle.std.proofs.lemmas.Bool.Decides.{Decides-by_and, Decides-like, Decides-and, Decides-ltb, nat_tests}
-use Rattle.lv_pwad.specs.Audit.{first_wrong, first_some, unless, is_in}
+use Rattle.lv_pwad.specs.Audit.{first_wrong, first_some, fault_unless, is_in_range}
 use Rattle.lv_nodes.specs.InRange.{IsIn, greatest_number}
 
 -- ---- no element is wrong
@@ -39,7 +39,7 @@ pub map_none : {X Y : Type 0} (f : X → Y) (o : Option X) → (option_map f o �
 map_none f None = (λ h. refl, λ h. refl)
 map_none f (Some x) = (λ h. cc, λ h. cc)
 
-pub unless_none : {F : Type 0} (b : Bool) (P : Type 0) (fault : F) → Decides b P → (unless b fault ≡ None) ↔ P
+pub unless_none : {F : Type 0} (b : Bool) (P : Type 0) (fault : F) → Decides b P → (fault_unless b fault ≡ None) ↔ P
 unless_none true P fault d = (λ h. d.0 refl, λ p. refl)
 unless_none false P fault d = (λ h. cc, λ p. let e = d.1 p in cc)
 
@@ -56,5 +56,7 @@ first_some-none (Some x ∷ os) = (λ h. cc, λ h. let e = h.0 in cc)
 pub Decides-leb : (a b : ℕ) → Decides (nat_le a b) (a ≤ b)
 Decides-leb a b = (λ h. grind (arith, nat_tests), λ h. grind (arith, nat_tests))
 
-pub Decides-is_in : {X : Type 0} (xs : List X) (n : ℕ) → Decides (is_in xs n) (IsIn xs n)
-Decides-is_in xs n = Decides-like (is_in xs n) (λ p. record { among = p.0; small = p.1 }) (λ i. (i.among, i.small)) (Decides-and (nat_lt n (length xs)) (nat_le n greatest_number) (Decides-ltb n (length xs)) (Decides-leb n greatest_number))
+pub Decides-is_in : {X : Type 0} (xs : List X) (n : ℕ) → Decides (is_in_range xs n) (IsIn xs n)
+Decides-is_in xs n =
+    Decides-like (is_in_range xs n) (λ p. record { among = p.0; small = p.1 }) (λ i. (i.among, i.small))
+    (Decides-and (nat_lt n (length xs)) (nat_le n greatest_number) (Decides-ltb n (length xs)) (Decides-leb n greatest_number))

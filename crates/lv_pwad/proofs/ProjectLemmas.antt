@@ -8,8 +8,8 @@ use Rattle.lv_lumps.specs.declared.records.Name8.{Name8}
 use Rattle.lv_maptables.specs.Tables.{Tables}
 use Rattle.lv_maptables.specs.Projects.{ProjectMaps, WellFormedProject}
 use Rattle.lv_pwad.specs.Levels.{IsLevel, Lumps}
-use Rattle.lv_pwad.specs.Wad.{Part, AreParts, IsPart, all_bytes, all_lumps, lumps_of, part_of, wad_bytes}
-use Rattle.lv_pwad.specs.Views.{view, parts_of}
+use Rattle.lv_pwad.specs.Wad.{Part, AreParts, IsPart, all_bytes, all_lumps, lumps_of, level_part, wad_bytes}
+use Rattle.lv_pwad.specs.Views.{view, level_parts}
 use Rattle.lv_pwad.specs.Sound.{IsBuildable, IsBuildRefusal, IsSoundBuild}
 use Rattle.lv_pwad.specs.Projects.{IsLevelOf, AreLevelsOf, AreSoundLevels, HoldsOnly, IsSoundBuildOfAll, IsRefusalOfAll, parts_under}
 use Rattle.lv_pwad.specs.declared.levels.NamedLevel.{NamedLevel}
@@ -32,7 +32,9 @@ snoc [] (y ∷ xs) m x a h = absurd a
 snoc (k ∷ ms) [] m x a h = absurd a
 snoc (k ∷ ms) (y ∷ xs) m x a h = (a.0, snoc ms xs m x a.1 h)
 
-pub levels_more : (ms : List Tables) (n : ℕ) (m : Tables) (xs : List NamedLevel) (x : NamedLevel) → slice_get ms n ≡ Some m → AreLevelsOf (take n ms) xs → IsLevelOf m x → AreLevelsOf (take (n + 1) ms) (xs ++ x ∷ [])
+pub levels_more :
+    (ms : List Tables) (n : ℕ) (m : Tables) (xs : List NamedLevel) (x : NamedLevel) → slice_get ms n ≡ Some m → AreLevelsOf (take n ms) xs → IsLevelOf m x
+    → AreLevelsOf (take (n + 1) ms) (xs ++ x ∷ [])
 levels_more ms n m xs x at a h =
     subst (λ (ks : List Tables). AreLevelsOf ks (xs ++ x ∷ [])) (item_more ms (take n ms) n m at refl) (snoc (take n ms) xs m x a h)
 
@@ -89,13 +91,13 @@ abbrev levels_in : List NamedLevel → List Lumps
 levels_in [] = []
 levels_in (x ∷ xs) = view x.level ∷ levels_in xs
 
-same_parts : (ms : List Tables) (xs : List NamedLevel) → AreLevelsOf ms xs → parts_of xs ≡ parts_under ms (levels_in xs)
+same_parts : (ms : List Tables) (xs : List NamedLevel) → AreLevelsOf ms xs → level_parts xs ≡ parts_under ms (levels_in xs)
 same_parts [] [] a = refl
 same_parts [] (x ∷ xs) a = absurd a
 same_parts (m ∷ ms) [] a = absurd a
 same_parts (m ∷ ms) (x ∷ xs) a =
-    ap (λ (n : Name8). part_of n (view x.level) ∷ parts_of xs) a.0.named
-    ∙ ap (λ (ps : List Part). part_of m.name (view x.level) ∷ ps) (same_parts ms xs a.1)
+    ap (λ (n : Name8). level_part n (view x.level) ∷ level_parts xs) a.0.named
+    ∙ ap (λ (ps : List Part). level_part m.name (view x.level) ∷ ps) (same_parts ms xs a.1)
 
 sound_levels : (ms : List Tables) (xs : List NamedLevel) → AreLevelsOf ms xs → AreSoundLevels ms (levels_in xs)
 sound_levels [] [] a = tt
@@ -103,7 +105,7 @@ sound_levels [] (x ∷ xs) a = absurd a
 sound_levels (m ∷ ms) [] a = absurd a
 sound_levels (m ∷ ms) (x ∷ xs) a = (level_sound m (view x.level) a.0.level, sound_levels ms xs a.1)
 
-pub holds_only : (wad : List ℕ) (ms : List Tables) (xs : List NamedLevel) → AreLevelsOf ms xs → wad ≡ wad_bytes (all_lumps (parts_of xs)) → HoldsOnly ms wad
+pub holds_only : (wad : List ℕ) (ms : List Tables) (xs : List NamedLevel) → AreLevelsOf ms xs → wad ≡ wad_bytes (all_lumps (level_parts xs)) → HoldsOnly ms wad
 holds_only wad ms xs a w =
     record {
       levels = levels_in xs;
@@ -113,24 +115,24 @@ holds_only wad ms xs a w =
 
 -- ---- they can stand in one WAD
 
-same_count : (ms : List Tables) (xs : List NamedLevel) → AreLevelsOf ms xs → length (parts_of xs) ≡ length ms
+same_count : (ms : List Tables) (xs : List NamedLevel) → AreLevelsOf ms xs → length (level_parts xs) ≡ length ms
 same_count [] [] a = refl
 same_count [] (x ∷ xs) a = absurd a
 same_count (m ∷ ms) [] a = absurd a
 same_count (m ∷ ms) (x ∷ xs) a = ap suc (same_count ms xs a.1)
 
-all_parts : (ms : List Tables) (xs : List NamedLevel) → AreLevelsOf ms xs → All IsPart (parts_of xs)
+all_parts : (ms : List Tables) (xs : List NamedLevel) → AreLevelsOf ms xs → All IsPart (level_parts xs)
 all_parts [] [] a = All-nil IsPart
 all_parts [] (x ∷ xs) a = absurd a
 all_parts (m ∷ ms) [] a = absurd a
-all_parts (m ∷ ms) (x ∷ xs) a = All-cons IsPart (part_of x.name (view x.level)) (parts_of xs) (part_of_level m (view x.level) x.name a.0.named a.0.level) (all_parts ms xs a.1)
+all_parts (m ∷ ms) (x ∷ xs) a = All-cons IsPart (level_part x.name (view x.level)) (level_parts xs) (part_of_level m (view x.level) x.name a.0.named a.0.level) (all_parts ms xs a.1)
 
 -- the name of a level is its map's
 pub record HasMapName (name : Name8) (m : Tables) : Type 0 where
   pub is : name ≡ m.name
   pub marker : IsNamed is_marker m.name
 
-name_at : (ms : List Tables) (xs : List NamedLevel) (i : ℕ) (p : Part) (d : Tables) → AreLevelsOf ms xs → i < length (parts_of xs) → HasMapName (get_or (parts_of xs) i p).name (get_or ms i d)
+name_at : (ms : List Tables) (xs : List NamedLevel) (i : ℕ) (p : Part) (d : Tables) → AreLevelsOf ms xs → i < length (level_parts xs) → HasMapName (get_or (level_parts xs) i p).name (get_or ms i d)
 name_at [] [] i p d a h = absurd (omega arith)
 name_at [] (x ∷ xs) i p d a h = absurd a
 name_at (m ∷ ms) [] i p d a h = absurd a
@@ -152,41 +154,44 @@ apart (suc i) (suc j) d = up (apart i j (λ e. d (ap suc e)))
     up (inl h) = inl (omega (arith, h))
     up (inr h) = inr (omega (arith, h))
 
-names_differ : (ms : List Tables) (xs : List NamedLevel) (d : Tables) → AreLevelsOf ms xs → AllPairs (λ m n. m.name ≢ n.name) ms → (i j : ℕ) (p : Part) → i < length (parts_of xs) → j < length (parts_of xs) → i ≢ j → name_text (get_or (parts_of xs) i p).name ≢ name_text (get_or (parts_of xs) j p).name
+names_differ :
+    (ms : List Tables) (xs : List NamedLevel) (d : Tables) → AreLevelsOf ms xs → AllPairs (λ m n. m.name ≢ n.name) ms → (i j : ℕ) (p : Part) → i < length (level_parts xs) → j < length (level_parts xs)
+    → i ≢ j → name_text (get_or (level_parts xs) i p).name ≢ name_text (get_or (level_parts xs) j p).name
 names_differ ms xs d a names i j p h k ne e = by (apart i j ne)
   where
-    count : length (parts_of xs) ≡ length ms
+    count : length (level_parts xs) ≡ length ms
     count = same_count ms xs a
 
     same : (get_or ms i d).name ≡ (get_or ms j d).name
-    same = same_text (get_or (parts_of xs) i p).name (get_or (parts_of xs) j p).name (get_or ms i d) (get_or ms j d) (name_at ms xs i p d a h) (name_at ms xs j p d a k) e
+    same = same_text (get_or (level_parts xs) i p).name (get_or (level_parts xs) j p).name (get_or ms i d) (get_or ms j d) (name_at ms xs i p d a h) (name_at ms xs j p d a k) e
 
     by : (i < j) ⊎ (j < i) → ⊥
     by (inl l) = names i j d l (let c = count in omega (arith, k, c)) same
     by (inr l) = names j i d l (let c = count in omega (arith, h, c)) (sym same)
 
 -- how long they are
-all_long : (ms : List Tables) (xs : List NamedLevel) → AreLevelsOf ms xs → length (all_bytes (all_lumps (parts_of xs))) ≤ 6000000 * length ms
+all_long : (ms : List Tables) (xs : List NamedLevel) → AreLevelsOf ms xs → length (all_bytes (all_lumps (level_parts xs))) ≤ 6000000 * length ms
 all_long [] [] a = omega arith
 all_long [] (x ∷ xs) a = absurd a
 all_long (m ∷ ms) [] a = absurd a
 all_long (m ∷ ms) (x ∷ xs) a =
     let rest = all_long ms xs a.1 in
     let here = one_long x.name (view x.level) (level_writable m (view x.level) a.0.level) in
-    let both : length (all_bytes (all_lumps (parts_of (x ∷ xs)))) ≡ length (all_bytes (lumps_of (part_of x.name (view x.level)))) + length (all_bytes (all_lumps (parts_of xs))) =
-    ap length (flat_map-append (λ l. l.bytes) (lumps_of (part_of x.name (view x.level))) (all_lumps (parts_of xs))) ∙ length-append (all_bytes (lumps_of (part_of x.name (view x.level)))) (all_bytes (all_lumps (parts_of xs))) in
+    let both : length (all_bytes (all_lumps (level_parts (x ∷ xs)))) ≡ length (all_bytes (lumps_of (level_part x.name (view x.level)))) + length (all_bytes (all_lumps (level_parts xs))) =
+    ap length (flat_map-append (λ l. l.bytes) (lumps_of (level_part x.name (view x.level))) (all_lumps (level_parts xs))) ∙ length-append (all_bytes (lumps_of (level_part x.name (view x.level))))
+    (all_bytes (all_lumps (level_parts xs))) in
     omega (arith, rest, here, both)
 
-all_count : (ms : List Tables) (xs : List NamedLevel) → AreLevelsOf ms xs → length (all_lumps (parts_of xs)) ≡ 11 * length ms
+all_count : (ms : List Tables) (xs : List NamedLevel) → AreLevelsOf ms xs → length (all_lumps (level_parts xs)) ≡ 11 * length ms
 all_count [] [] a = refl
 all_count [] (x ∷ xs) a = absurd a
 all_count (m ∷ ms) [] a = absurd a
 all_count (m ∷ ms) (x ∷ xs) a =
     let rest = all_count ms xs a.1 in
-    let both : length (all_lumps (parts_of (x ∷ xs))) ≡ 11 + length (all_lumps (parts_of xs)) = length-append (lumps_of (part_of x.name (view x.level))) (all_lumps (parts_of xs)) in
+    let both : length (all_lumps (level_parts (x ∷ xs))) ≡ 11 + length (all_lumps (level_parts xs)) = length-append (lumps_of (level_part x.name (view x.level))) (all_lumps (level_parts xs)) in
     omega (arith, rest, both)
 
-pub one_wad : (p : ProjectMaps) (xs : List NamedLevel) (d : Tables) → WellFormedProject p → AreLevelsOf p.maps xs → AreParts (parts_of xs)
+pub one_wad : (p : ProjectMaps) (xs : List NamedLevel) (d : Tables) → WellFormedProject p → AreLevelsOf p.maps xs → AreParts (level_parts xs)
 one_wad p xs d w a =
     let long = all_long p.maps xs a in
     let lumps = all_count p.maps xs a in

@@ -11,7 +11,7 @@ use Rattle.lv_maptables.specs.Tables.{Tables}
 use Rattle.lv_maptables.specs.WellFormed.{WellFormed}
 use Rattle.lv_blockmap.proofs.SizeLemmas.{one_lists}
 use Rattle.lv_blockmap.specs.Layout.{OffsetsFit}
-use Rattle.lv_blockmap.specs.Blocks.{ends_in, ends_of, grid_of}
+use Rattle.lv_blockmap.specs.Blocks.{ends_in, map_ends, grid_of}
 use Rattle.lv_blockmap.specs.Lump.{IsBlockmap, IsTooLarge, RefusesBlockmap}
 use Rattle.lv_blockmap.specs.declared.error.BlockmapError.{BlockmapError}
 use Rattle.lv_blockmap.specs.declared.error.BlockmapError.TheVariants as blocks
@@ -26,14 +26,15 @@ use Rattle.lv_pwad.specs.Range.{LineInRange, InRange}
 use Rattle.lv_pwad.specs.Reject.{reject_size}
 use Rattle.lv_pwad.specs.Words.{words}
 use Rattle.lv_pwad.specs.Sound.{IsBuildable, IsBuildRefusal, IsBuiltLevel, IsSoundBuild, IsSoundLevel, level_over, no_rejects, of_blockmap, of_tree}
-use Rattle.lv_pwad.specs.Wad.{AreParts, IsPart, all_lumps, part_of, wad_bytes}
+use Rattle.lv_pwad.specs.Wad.{AreParts, IsPart, all_lumps, level_part, wad_bytes}
 use Rattle.lv_pwad.specs.Projects.{HoldsOnly}
 use Rattle.lv_pwad.proofs.LengthLemmas.{IsWritable, is_part, one_part}
 use Rattle.lv_pwad.proofs.BlockLemmas.{words_back, words_long, blocks_in_range}
 
 -- ---- the drawn lumps' references
 
-line_in : (m : Tables) (l : Lumps) (added : List Vertex) → WellFormed m → l.vertices ≡ m.vertices ++ added → l.sides ≡ m.sides → (k : ℕ) (d : Line) → k < length m.lines → LineInRange l (get_or m.lines k d)
+line_in :
+    (m : Tables) (l : Lumps) (added : List Vertex) → WellFormed m → l.vertices ≡ m.vertices ++ added → l.sides ≡ m.sides → (k : ℕ) (d : Line) → k < length m.lines → LineInRange l (get_or m.lines k d)
 line_in m l added w v s k d h =
     let ends = w.ends k d h in
     let sides = w.line_sides k d h in
@@ -58,7 +59,7 @@ level_in_range m b bytes w t k =
     let few = w.line_count in
     let long = length-map m.lines (ends_in m.vertices) in
     let same : words bytes ≡ k.words = ap words k.bytes_are ∙ words_back k.words k.sixteen_bits in
-    let blocks = blocks_in_range l (ends_of m) bytes k long (omega (arith, long, some)) (omega (arith, long, few)) in
+    let blocks = blocks_in_range l (map_ends m) bytes k long (omega (arith, long, some)) (omega (arith, long, few)) in
     record {
       lines = λ i d h. line_in m l t.added.added w t.added.all refl i d h;
       sides = λ i d h. let s = w.side_sectors i d h in let c = w.sector_count in record { among = s; small = omega (arith, s, c) };
@@ -121,12 +122,12 @@ writable m b bytes w t k =
 pub level_writable : (m : Tables) (l : Lumps) → IsBuiltLevel m l → IsWritable l
 level_writable m l b = subst (λ (x : Lumps). IsWritable x) (sym b.is_over) (writable m b.tree b.blockmap b.well_formed b.built b.is_blockmap)
 
-pub part_of_level : (m : Tables) (l : Lumps) (name : Name8) → name ≡ m.name → IsBuiltLevel m l → IsPart (part_of name l)
+pub part_of_level : (m : Tables) (l : Lumps) (name : Name8) → name ≡ m.name → IsBuiltLevel m l → IsPart (level_part name l)
 part_of_level m l name n b =
     let named : IsNamed is_marker name = subst (λ (x : Name8). IsNamed is_marker x) (sym n) b.well_formed.name in
     is_part name l named (level_writable m l b)
 
-pub parts_of_level : (m : Tables) (l : Lumps) (name : Name8) → name ≡ m.name → IsBuiltLevel m l → AreParts (part_of name l ∷ [])
+pub parts_of_level : (m : Tables) (l : Lumps) (name : Name8) → name ≡ m.name → IsBuiltLevel m l → AreParts (level_part name l ∷ [])
 parts_of_level m l name n b =
     one_part name l (subst (λ (x : Name8). IsNamed is_marker x) (sym n) b.well_formed.name) (level_writable m l b)
 
@@ -142,18 +143,18 @@ sound_build m l wad name n b r =
       sound = level_sound m l b;
     }
 
-pub holds_one : (m : Tables) (l : Lumps) (wad : List ℕ) (name : Name8) → name ≡ m.name → IsBuiltLevel m l → wad ≡ wad_bytes (all_lumps (part_of name l ∷ [])) → HoldsOnly (m ∷ []) wad
+pub holds_one : (m : Tables) (l : Lumps) (wad : List ℕ) (name : Name8) → name ≡ m.name → IsBuiltLevel m l → wad ≡ wad_bytes (all_lumps (level_part name l ∷ [])) → HoldsOnly (m ∷ []) wad
 holds_one m l wad name n b w =
     record {
       levels = l ∷ [];
       sound = (level_sound m l b, tt);
-      bytes = w ∙ ap (λ (x : Name8). wad_bytes (all_lumps (part_of x l ∷ []))) n;
+      bytes = w ∙ ap (λ (x : Name8). wad_bytes (all_lumps (level_part x l ∷ []))) n;
     }
 
-never_both : (m : Tables) (bytes : List ℕ) → IsBlockmap m bytes → IsTooLarge (ends_of m) → ⊥
+never_both : (m : Tables) (bytes : List ℕ) → IsBlockmap m bytes → IsTooLarge (map_ends m) → ⊥
 never_both m bytes k t =
     let o = k.laid_out in
-    let same : o.lists ≡ t.lists = one_lists (ends_of m) (grid_of (ends_of m)) o.lists t.lists o.are_lists t.are_lists in
+    let same : o.lists ≡ t.lists = one_lists (map_ends m) (grid_of (map_ends m)) o.lists t.lists o.are_lists t.are_lists in
     t.too_large (subst (λ (x : List (List ℕ)). OffsetsFit x) same o.fit)
 
 pub buildable : (m : Tables) (l : Lumps) → IsBuiltLevel m l → IsBuildable m

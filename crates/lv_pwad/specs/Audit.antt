@@ -18,21 +18,21 @@ use Rattle.lv_pwad.specs.declared.fault.Fault.{Fault}
 use Rattle.lv_pwad.specs.declared.fault.Fault.TheVariants.{LineVertex, LineSide, SideSector, SegVertex, SegLine, SegSide, SubRange, SubTotal, NodeChild, SubOnce, NodeOnce, Reject, BlockHeader, BlockList}
 
 -- ---- what is right
-abbrev pub is_in : {X : Type 0} → List X → ℕ → Bool
-is_in xs n = nat_lt n (length xs) && nat_le n greatest_number
+abbrev pub is_in_range : {X : Type 0} → List X → ℕ → Bool
+is_in_range xs n = nat_lt n (length xs) && nat_le n greatest_number
 
 abbrev pub line_vertices : Lumps → Line → Bool
-line_vertices l x = is_in l.vertices x.v1 && is_in l.vertices x.v2
+line_vertices l x = is_in_range l.vertices x.v1 && is_in_range l.vertices x.v2
 
 -- the left side is in range, or missing on a line that isn't two-sided
 abbrev pub left_side : Lumps → Line → Bool
-left_side l x = cond (x.left == no_side) (not (is_two_sided x)) (is_in l.sides x.left)
+left_side l x = cond (x.left == no_side) (not (is_two_sided x)) (is_in_range l.sides x.left)
 
 abbrev pub line_sides : Lumps → Line → Bool
-line_sides l x = is_in l.sides x.right && left_side l x
+line_sides l x = is_in_range l.sides x.right && left_side l x
 
 abbrev pub seg_vertices : Lumps → Seg → Bool
-seg_vertices l s = is_in l.vertices s.first && is_in l.vertices s.second
+seg_vertices l s = is_in_range l.vertices s.first && is_in_range l.vertices s.second
 
 -- the seg's line, or one without a left side where there is none
 abbrev pub line_of_seg : Lumps → Seg → Line
@@ -52,7 +52,7 @@ abbrev pub sub_range : ℕ × Sub → Bool
 sub_range p = nat_lt 0 p.1.count && (p.1.first == p.0) && nat_le p.1.first greatest_number
 
 abbrev pub child_right : Lumps → ℕ → ℕ → Bool
-child_right l i c = cond (nat_lt c sub_bit) (nat_lt c i) (is_in l.subs (c - sub_bit))
+child_right l i c = cond (nat_lt c sub_bit) (nat_lt c i) (is_in_range l.subs (c - sub_bit))
 
 abbrev pub node_children : Lumps → ℕ × Node → Bool
 node_children l p = child_right l p.0 p.1.right && child_right l p.0 p.1.left
@@ -60,14 +60,15 @@ node_children l p = child_right l p.0 p.1.right && child_right l p.0 p.1.left
 -- the list at an offset begins where readers find it, ends in the lump and names lines
 abbrev pub block_list : Lumps → List ℕ → ℕ → Bool
 block_list l ws at =
-    nat_lt at (length ws) && nat_le at greatest_offset && ends_in_lines (length l.lines) (drop at ws)
+    nat_lt at (length ws) && nat_le at greatest_offset
+    && ends_in_lines (length l.lines) (drop at ws)
 
 -- ---- the faults in order
 abbrev pub first_wrong : {X : Type 0} → (X → Bool) → List X → Option ℕ
 first_wrong right xs = position (λ x. not (right x)) xs
 
-abbrev pub unless : {F : Type 0} → Bool → F → Option F
-unless right fault = cond right None (Some fault)
+abbrev pub fault_unless : {F : Type 0} → Bool → F → Option F
+fault_unless right fault = cond right None (Some fault)
 
 abbrev pub first_some : {X : Type 0} → List (Option X) → Option X
 first_some [] = None
@@ -79,38 +80,41 @@ abbrev pub drawn_faults : Lumps → List (Option Fault)
 drawn_faults l =
     option_map LineVertex (first_wrong (line_vertices l) l.lines)
     ∷ option_map LineSide (first_wrong (line_sides l) l.lines)
-    ∷ option_map SideSector (first_wrong (λ s. is_in l.sectors s.sector) l.sides)
+    ∷ option_map SideSector (first_wrong (λ s. is_in_range l.sectors s.sector) l.sides)
     ∷ []
 
 abbrev pub seg_faults : Lumps → List (Option Fault)
 seg_faults l =
     option_map SegVertex (first_wrong (seg_vertices l) l.segs)
-    ∷ option_map SegLine (first_wrong (λ s. is_in l.lines s.line) l.segs)
+    ∷ option_map SegLine (first_wrong (λ s. is_in_range l.lines s.line) l.segs)
     ∷ option_map SegSide (first_wrong (seg_side l) l.segs)
     ∷ []
 
 abbrev pub sub_faults : Lumps → List (Option Fault)
 sub_faults l =
     option_map SubRange (first_wrong sub_range (after_counts 0 l.subs))
-    ∷ unless (sum_by (λ s. s.count) l.subs == length l.segs) SubTotal
+    ∷ fault_unless (sum_by (λ s. s.count) l.subs == length l.segs) SubTotal
     ∷ []
 
 abbrev pub child_faults : Lumps → List (Option Fault)
 child_faults l =
     option_map NodeChild (first_wrong (node_children l) (enumerate_from 0 l.nodes))
-    ∷ unless (nat_lt 0 (length l.subs)) (SubOnce 0)
+    ∷ fault_unless (nat_lt 0 (length l.subs)) (SubOnce 0)
     ∷ []
 
 abbrev pub once_faults : Lumps → List (Option Fault)
 once_faults l =
-    option_map SubOnce (first_wrong (λ s. times_sub l.nodes s == 1) (range_with_len 0 (length l.subs)))
-    ∷ option_map NodeOnce (first_wrong (λ i. times_node l.nodes i == 1) (range_with_len 0 (length l.nodes - 1)))
+    option_map SubOnce
+    (first_wrong (λ s. times_sub l.nodes s == 1) (range_with_len 0 (length l.subs)))
+    ∷ option_map NodeOnce
+    (first_wrong (λ i. times_node l.nodes i == 1) (range_with_len 0 (length l.nodes - 1)))
     ∷ []
 
 abbrev pub size_faults : Lumps → List (Option Fault)
 size_faults l =
-    unless (nat_le (reject_size (length l.sectors)) (length l.reject)) Reject
-    ∷ unless (nat_le (4 + blocks_in (words l.blockmap)) (length (words l.blockmap))) BlockHeader
+    fault_unless (nat_le (reject_size (length l.sectors)) (length l.reject)) Reject
+    ∷ fault_unless
+    (nat_le (4 + blocks_in (words l.blockmap)) (length (words l.blockmap))) BlockHeader
     ∷ []
 
 abbrev pub block_faults : Lumps → List (Option Fault)
@@ -124,9 +128,9 @@ list_faults l = drawn_faults l ++ seg_faults l ++ sub_faults l ++ child_faults l
 abbrev pub lump_faults : Lumps → List (Option Fault)
 lump_faults l = size_faults l ++ block_faults l
 
-abbrev pub faults : Lumps → List (Option Fault)
-faults l = list_faults l ++ once_faults l ++ lump_faults l
+abbrev pub level_faults : Lumps → List (Option Fault)
+level_faults l = list_faults l ++ once_faults l ++ lump_faults l
 
 -- the fault that an audit answers
 abbrev pub first_fault : Lumps → Option Fault
-first_fault l = first_some (faults l)
+first_fault l = first_some (level_faults l)

@@ -12,4 +12,5 @@ ends_in_lines lines (w ∷ ws) = (w == 65535) || (is_line lines w && ends_in_lin
 
 -- for each place from `from` on, whether the words from there on do so
 pub record AreEndings (lines : ℕ) (words : List ℕ) (from : ℕ) (flags : List Bool) : Type 0 where
-  pub each : (p : ℕ) → from ≤ p → p < length flags → get_or flags p false ≡ ends_in_lines lines (drop p words)
+  pub each : (p : ℕ) → from ≤ p → p < length flags
+      → get_or flags p false ≡ ends_in_lines lines (drop p words)

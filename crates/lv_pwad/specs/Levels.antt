@@ -1,4 +1,4 @@
--- The level that a WAD's bytes hold under a name, and what refuses it (docs/FORMAT.md, "WAD container").
+-- The level that a WAD's bytes hold under a name, and what refuses it (docs/FORMAT.md, "WAD files").
 use Rattle.std.specs.Prelude.{◌≡◌, ℕ, zero, suc, ◌+◌, ◌*◌, ◌%◌, ◌<◌, ◌≤◌, Bool, true, if◌then◌else◌, not, ◌&&◌, ◌||◌, ◌==◌, nat_eq, nat_lt, nat_le, List, [], ◌∷◌, length, take, drop, Option, Some, None, is_some, codes}
 use Rattle.std.specs.Cmp.Lexicographic.{pointwise}
 use Rattle.std.specs.Option.{unwrap_or}
@@ -39,8 +39,8 @@ abbrev pub long_at : ℕ → List ℕ → ℕ
 long_at i bytes = unsigned_at i bytes + 65536 * unsigned_at (i + 2) bytes
 
 -- byte for byte the same
-abbrev pub same : List ℕ → List ℕ → Bool
-same a b = pointwise nat_eq a b
+abbrev pub same_bytes : List ℕ → List ℕ → Bool
+same_bytes a b = pointwise nat_eq a b
 
 abbrev pub lump_count : List ℕ → ℕ
 lump_count wad = long_at 4 wad
@@ -58,13 +58,13 @@ entry wad k =
     let at = entry_place wad k in
     record { at = long_at at wad; size = long_at (at + 4) wad; name = name_at (at + 8) wad }
 
-abbrev pub is_named : List ℕ → List ℕ → ℕ → Bool
-is_named wad name k = same (name_text (entry wad k).name) name
+abbrev pub entry_has_name : List ℕ → List ℕ → ℕ → Bool
+entry_has_name wad name k = same_bytes (name_text (entry wad k).name) name
 
 -- the last of the first n entries that has the name
 abbrev pub last_named : List ℕ → List ℕ → ℕ → Option ℕ
 last_named wad name zero = None
-last_named wad name (suc n) = if is_named wad name n then Some n else last_named wad name n
+last_named wad name (suc n) = if entry_has_name wad name n then Some n else last_named wad name n
 
 abbrev pub marker : List ℕ → List ℕ → Option ℕ
 marker wad name = last_named wad name (lump_count wad)
@@ -73,9 +73,9 @@ marker wad name = last_named wad name (lump_count wad)
 
 abbrev pub lump_names : List Name8
 lump_names =
-    name_of (codes "THINGS") ∷ name_of (codes "LINEDEFS") ∷ name_of (codes "SIDEDEFS") ∷ name_of (codes "VERTEXES")
-    ∷ name_of (codes "SEGS") ∷ name_of (codes "SSECTORS") ∷ name_of (codes "NODES") ∷ name_of (codes "SECTORS")
-    ∷ name_of (codes "REJECT") ∷ name_of (codes "BLOCKMAP") ∷ []
+    name_of (codes "THINGS") ∷ name_of (codes "LINEDEFS") ∷ name_of (codes "SIDEDEFS")
+    ∷ name_of (codes "VERTEXES") ∷ name_of (codes "SEGS") ∷ name_of (codes "SSECTORS")
+    ∷ name_of (codes "NODES") ∷ name_of (codes "SECTORS") ∷ name_of (codes "REJECT") ∷ name_of (codes "BLOCKMAP") ∷ []
 
 -- the size of a lump's records
 abbrev pub record_sizes : List ℕ
@@ -84,7 +84,8 @@ record_sizes = 10 ∷ 14 ∷ 30 ∷ 4 ∷ 12 ∷ 4 ∷ 28 ∷ 26 ∷ 1 ∷ 2 ∷
 -- the entries from k on have these names
 abbrev pub are_named : List ℕ → ℕ → List Name8 → Bool
 are_named wad k [] = true
-are_named wad k (name ∷ names) = is_named wad (name_text name) k && are_named wad (k + 1) names
+are_named wad k (name ∷ names) =
+    entry_has_name wad (name_text name) k && are_named wad (k + 1) names
 
 -- ten entries follow the marker, with the names of a level's lumps
 abbrev pub has_lumps : List ℕ → ℕ → Bool
@@ -92,7 +93,8 @@ has_lumps wad at = nat_lt (at + 10) (lump_count wad) && are_named wad (at + 1) l
 
 -- the eleventh entry is of a Hexen level
 abbrev pub is_hexen : List ℕ → ℕ → Bool
-is_hexen wad at = nat_lt (at + 11) (lump_count wad) && is_named wad (codes "BEHAVIOR") (at + 11)
+is_hexen wad at =
+    nat_lt (at + 11) (lump_count wad) && entry_has_name wad (codes "BEHAVIOR") (at + 11)
 
 -- a lump that isn't empty ends beyond the file
 abbrev pub is_outside : List ℕ → Entry → Bool
@@ -111,7 +113,9 @@ are_whole wad k (size ∷ sizes) = (((entry wad k).size % size) == 0) && are_who
 -- ---- what refuses a level
 
 abbrev pub is_wad : List ℕ → Bool
-is_wad wad = nat_le 12 (length wad) && (same (take 4 wad) (codes "IWAD") || same (take 4 wad) (codes "PWAD"))
+is_wad wad =
+    nat_le 12 (length wad)
+    && (same_bytes (take 4 wad) (codes "IWAD") || same_bytes (take 4 wad) (codes "PWAD"))
 
 abbrev pub has_directory : List ℕ → Bool
 has_directory wad = nat_le (entry_place wad (lump_count wad)) (length wad)

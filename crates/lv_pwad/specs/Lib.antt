@@ -10,3 +10,4 @@ pub mod Counts
 pub mod Audit
 pub mod Sound
 pub mod Projects
+pub mod Counted

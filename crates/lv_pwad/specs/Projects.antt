@@ -4,7 +4,7 @@ use Rattle.lv_maptables.specs.Tables.{Tables}
 use Rattle.lv_pwad.specs.Levels.{Lumps}
 use Rattle.lv_pwad.specs.Sound.{IsBuildable, IsBuildRefusal, IsBuiltLevel, IsSoundBuild, IsSoundLevel}
 use Rattle.lv_pwad.specs.Views.{view}
-use Rattle.lv_pwad.specs.Wad.{Part, all_lumps, part_of, wad_bytes}
+use Rattle.lv_pwad.specs.Wad.{Part, all_lumps, level_part, wad_bytes}
 use Rattle.lv_pwad.specs.declared.levels.NamedLevel.{NamedLevel}
 use Rattle.lv_pwad.specs.declared.error.BuildError.{BuildError}
 use Rattle.lv_pwad.specs.declared.error.BuildError.TheVariants.{OutOfMemory}
@@ -36,9 +36,10 @@ AreSoundLevels (m ∷ ms) (l ∷ ls) = IsSoundLevel m l × AreSoundLevels ms ls
 abbrev pub parts_under : List Tables → List Lumps → List Part
 parts_under [] ls = []
 parts_under (m ∷ ms) [] = []
-parts_under (m ∷ ms) (l ∷ ls) = part_of m.name l ∷ parts_under ms ls
+parts_under (m ∷ ms) (l ∷ ls) = level_part m.name l ∷ parts_under ms ls
 
--- the bytes are the PWAD of a sound level of each map under its name, in the maps' order, and of nothing else
+-- the bytes are the PWAD of a sound level of each map under its name, in the maps' order, and of
+-- nothing else
 pub record HoldsOnly (ms : List Tables) (wad : List ℕ) : Type 0 where
   pub levels : List Lumps
   pub sound : AreSoundLevels ms levels

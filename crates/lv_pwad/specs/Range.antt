@@ -8,7 +8,8 @@ use Rattle.lv_blockmap.specs.Layout.{list_end, greatest_offset, StandsAt}
 use Rattle.lv_pwad.specs.Levels.{Lumps}
 use Rattle.lv_pwad.specs.Reject.{reject_size}
 
--- the line's ends are vertices and its sides are sides; only a line that isn't two-sided may lack the left one
+-- the line's ends are vertices and its sides are sides; only a line that isn't two-sided may lack
+-- the left one
 pub record LineInRange (l : Lumps) (x : Line) : Type 0 where
   pub v1 : IsIn l.vertices x.v1
   pub v2 : IsIn l.vertices x.v2
@@ -35,4 +36,5 @@ pub record InRange (l : Lumps) : Type 0 where
   pub tree : TreeInRange l.vertices l.lines l.segs l.subs l.nodes
   pub reject : reject_size (length l.sectors) ≤ length l.reject
   pub header : 4 + blocks_in (words l.blockmap) ≤ length (words l.blockmap)
-  pub lists : All (ListInRange l (words l.blockmap)) (take (blocks_in (words l.blockmap)) (drop 4 (words l.blockmap)))
+  pub lists : All (ListInRange l (words l.blockmap))
+      (take (blocks_in (words l.blockmap)) (drop 4 (words l.blockmap)))

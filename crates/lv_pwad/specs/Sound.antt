@@ -3,7 +3,7 @@ use Rattle.std.specs.Prelude.{◌≡◌, ℕ, List, length, replicate, All}
 use Rattle.lv_lumps.specs.Names.{name_text}
 use Rattle.lv_maptables.specs.Tables.{Tables}
 use Rattle.lv_maptables.specs.WellFormed.{WellFormed}
-use Rattle.lv_blockmap.specs.Blocks.{ends_of}
+use Rattle.lv_blockmap.specs.Blocks.{map_ends}
 use Rattle.lv_blockmap.specs.Layout.{ListsBlocks}
 use Rattle.lv_blockmap.specs.Lump.{IsBlockmap, IsTooLarge}
 use Rattle.lv_segs.specs.Segs.{RunAlong, HasFields, IsConvexSub}
@@ -66,7 +66,7 @@ pub record IsSoundLevel (m : Tables) (l : Lumps) : Type 0 where
   pub fields : All (HasFields (edges_of m) l.vertices) l.segs
   pub convex : All (IsConvexSub (edges_of m) l.vertices l.segs) l.subs
   pub partings : All (IsParting (edges_of m) l.vertices l.segs l.subs l.nodes) l.nodes
-  pub blocks : ListsBlocks (ends_of m) (words l.blockmap)
+  pub blocks : ListsBlocks (map_ends m) (words l.blockmap)
 
 -- under the map's name the bytes hold a sound level of the map
 pub record IsSoundBuild (m : Tables) (wad : List ℕ) : Type 0 where
@@ -78,13 +78,13 @@ pub record IsSoundBuild (m : Tables) (wad : List ℕ) : Type 0 where
 pub record IsBuildable (m : Tables) : Type 0 where
   pub tree : Built
   pub built : IsBuilt m tree
-  pub fits : ¬ IsTooLarge (ends_of m)
+  pub fits : ¬ IsTooLarge (map_ends m)
 
 -- the map has a tree, but the layout of its blocks' lists needs an offset that is too great
 pub record HasOnlyTree (m : Tables) : Type 0 where
   pub tree : Built
   pub built : IsBuilt m tree
-  pub too_large : IsTooLarge (ends_of m)
+  pub too_large : IsTooLarge (map_ends m)
 
 -- the cause of each refusal: the tree's come first
 abbrev pub IsBuildRefusal : Tables → BuildError → Type 0

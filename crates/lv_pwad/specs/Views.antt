@@ -4,7 +4,7 @@ use Rattle.lv_pwad.specs.declared.level.Level.{Level}
 use Rattle.lv_pwad.specs.declared.error.ReadError.{ReadError}
 use Rattle.lv_pwad.specs.declared.error.ReadError.TheVariants.{OutOfMemory}
 use Rattle.lv_pwad.specs.Levels.{Lumps, refusal}
-use Rattle.lv_pwad.specs.Wad.{Lump, Part, part_of}
+use Rattle.lv_pwad.specs.Wad.{Lump, Part, level_part}
 use Rattle.lv_pwad.specs.declared.wad.NamedLump.{NamedLump}
 use Rattle.lv_pwad.specs.declared.levels.NamedLevel.{NamedLevel}
 
@@ -34,5 +34,5 @@ abbrev pub views : List NamedLump → List Lump
 views lumps = map (λ l. record { name = l.name; bytes = l.bytes.items }) lumps
 
 -- the bytes of the lumps of levels that are to be written
-abbrev pub parts_of : List NamedLevel → List Part
-parts_of levels = map (λ l. part_of l.name (view l.level)) levels
+abbrev pub level_parts : List NamedLevel → List Part
+level_parts levels = map (λ l. level_part l.name (view l.level)) levels

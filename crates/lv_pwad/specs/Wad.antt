@@ -7,7 +7,7 @@ use Rattle.lv_lumps.specs.declared.records.Name8.{Name8}
 use Rattle.lv_pwad.specs.declared.directory.Entry.{Entry}
 use Rattle.lv_lumps.specs.Lumps.{records_of}
 use Rattle.lv_lumps.specs.Records.{thing_record, line_record, side_record, vertex_record, seg_record, sub_record, node_record, sector_record, thing_at, line_at, side_at, vertex_at, seg_at, sub_at, node_at, sector_at}
-use Rattle.lv_pwad.specs.Levels.{Lumps, lump_names, record_sizes, lump, marker_at, refusal, same}
+use Rattle.lv_pwad.specs.Levels.{Lumps, lump_names, record_sizes, lump, marker_at, refusal, same_bytes}
 
 -- 32 bits, the lower bytes first
 abbrev pub long : ℕ → List ℕ
@@ -24,7 +24,8 @@ pub record Lump : Type 0 where
 abbrev pub entries_from : ℕ → List Lump → List Entry
 entries_from at [] = []
 entries_from at (l ∷ lumps) =
-    record { at = at; size = length l.bytes; name = l.name } ∷ entries_from (at + length l.bytes) lumps
+    record { at = at; size = length l.bytes; name = l.name }
+    ∷ entries_from (at + length l.bytes) lumps
 
 abbrev pub all_bytes : List Lump → List ℕ
 all_bytes lumps = flat_map (λ l. l.bytes) lumps
@@ -33,7 +34,8 @@ abbrev pub wad_head : List Lump → List ℕ
 wad_head lumps = codes "PWAD" ++ (long (length lumps) ++ long (12 + length (all_bytes lumps)))
 
 abbrev pub wad_bytes : List Lump → List ℕ
-wad_bytes lumps = wad_head lumps ++ (all_bytes lumps ++ flat_map entry_bytes (entries_from 12 lumps))
+wad_bytes lumps =
+    wad_head lumps ++ (all_bytes lumps ++ flat_map entry_bytes (entries_from 12 lumps))
 
 -- how many bytes that are
 abbrev pub wad_size : List Lump → ℕ
@@ -60,13 +62,15 @@ abbrev pub all_lumps : List Part → List Lump
 all_lumps parts = flat_map lumps_of parts
 
 -- the name is one of a level's lumps, or the one that tells a Hexen level
-abbrev pub is_taken : List ℕ → Bool
-is_taken text = list_any (λ name. same (name_text name) text) lump_names || same text (codes "BEHAVIOR")
+abbrev pub is_lump_name : List ℕ → Bool
+is_lump_name text =
+    list_any (λ name. same_bytes (name_text name) text) lump_names
+    || same_bytes text (codes "BEHAVIOR")
 
 -- ten lumps of whole records behind a marker whose name is none of theirs
 pub record IsPart (p : Part) : Type 0 where
   pub long : length p.name.bytes ≡ 8
-  pub free : is_taken (name_text p.name) ≡ false
+  pub free : is_lump_name (name_text p.name) ≡ false
   pub ten : length p.lumps ≡ 10
   pub whole : (n : ℕ) → n < 10 → length (get_or p.lumps n []) % get_or record_sizes n 1 ≡ 0
 
@@ -80,17 +84,21 @@ pub record AreParts (parts : List Part) : Type 0 where
 -- the level is accepted under its name, and its lumps are read
 pub record IsReadBack (wad : List ℕ) (p : Part) : Type 0 where
   pub accepted : refusal wad (name_text p.name) ≡ None
-  pub lumps : (n : ℕ) → n < 10 → lump wad (marker_at wad (name_text p.name) + 1 + n) ≡ get_or p.lumps n []
+  pub lumps : (n : ℕ) → n < 10
+      → lump wad (marker_at wad (name_text p.name) + 1 + n) ≡ get_or p.lumps n []
 
 -- the bytes of a level's lumps
-abbrev pub part_of : Name8 → Lumps → Part
-part_of name l =
+abbrev pub level_part : Name8 → Lumps → Part
+level_part name l =
     record {
       name = name;
       lumps =
-          flat_map thing_record l.things ∷ flat_map line_record l.lines ∷ flat_map side_record l.sides
-          ∷ flat_map vertex_record l.vertices ∷ flat_map seg_record l.segs ∷ flat_map sub_record l.subs
-          ∷ flat_map node_record l.nodes ∷ flat_map sector_record l.sectors ∷ l.reject ∷ l.blockmap ∷ [];
+          flat_map thing_record l.things ∷ flat_map line_record l.lines
+          ∷ flat_map side_record l.sides
+          ∷ flat_map vertex_record l.vertices ∷ flat_map seg_record l.segs
+          ∷ flat_map sub_record l.subs
+          ∷ flat_map node_record l.nodes ∷ flat_map sector_record l.sectors ∷ l.reject ∷ l.blockmap
+          ∷ [];
     }
 
 -- the lumps before the tree, the tree's, and those behind it
@@ -106,7 +114,8 @@ tree_lumps l =
     (flat_map seg_record l.segs ∷ flat_map sub_record l.subs ∷ flat_map node_record l.nodes ∷ [])
 
 abbrev pub last_lumps : Lumps → List Lump
-last_lumps l = with_names (drop 7 lump_names) (flat_map sector_record l.sectors ∷ l.reject ∷ l.blockmap ∷ [])
+last_lumps l =
+    with_names (drop 7 lump_names) (flat_map sector_record l.sectors ∷ l.reject ∷ l.blockmap ∷ [])
 
 -- each record is the one that its bytes hold
 pub record IsDrawnCoded (l : Lumps) : Type 0 where

@@ -7,7 +7,7 @@ ghost use Rattle.lv_pwad.specs.Projects.{HoldsOnly};
 ghost use Rattle.lv_pwad.specs.Sound.{IsBuildable, IsBuildRefusal, IsBuiltLevel, IsSoundBuild};
 ghost use Rattle.lv_pwad.specs.Sound.{level_over, of_blockmap, of_tree};
 ghost use Rattle.lv_pwad.specs.Views.{view};
-ghost use Rattle.lv_pwad.specs.Wad.{AreParts, all_lumps, part_of, wad_bytes};
+ghost use Rattle.lv_pwad.specs.Wad.{AreParts, all_lumps, level_part, wad_bytes};
 
 use crate::drawn::{lines_of, sectors_of, sides_of, things_of};
 use crate::error::BuildError;
@@ -69,9 +69,9 @@ fn level_of(alloc: Global, map: &Map, tree: Built, blockmap: Vec<u8>) -> Result<
 
 // The PWAD of one level, which is read back by its name.
 fn wad_of_level(alloc: Global, name: Name8, level: Level) -> Result<Vec<u8>, BuildError>
-    requires { AreParts (part_of name (view level) ∷ []) }
+    requires { AreParts (level_part name (view level) ∷ []) }
     ensures bytes { IfOk result (λ wad.
-        wad.items ≡ wad_bytes (all_lumps (part_of name (view level) ∷ []))) }
+        wad.items ≡ wad_bytes (all_lumps (level_part name (view level) ∷ []))) }
     ensures level { IfOk result (λ wad. IsLevel wad.items (name_text name) (view level)) }
     ensures memory { IsOkUnless result BuildError.OutOfMemory }
 {

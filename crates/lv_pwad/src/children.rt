@@ -3,7 +3,7 @@ ghost use Rattle.std.specs.Prelude.{◌≡◌, ◌-◌, ◌==◌, length, IfOk, 
 ghost use Rattle.std.specs.Option.{option_map};
 ghost use Rattle.std.specs.List.{enumerate_from, range_with_len};
 ghost use Rattle.lv_pwad.specs.Audit.{child_faults, child_right, first_some, first_wrong, node_children, once_faults};
-ghost use Rattle.lv_pwad.specs.Counts.{times_child};
+ghost use Rattle.lv_pwad.specs.Counts.{times_among};
 ghost use Rattle.lv_nodes.specs.InRange.{children, times_node, times_sub};
 ghost use Rattle.lv_pwad.specs.Views.{view};
 ghost use Rattle.lv_pwad.specs.declared.fault.Fault.TheVariants.{SubOnce, NodeOnce};
@@ -92,7 +92,7 @@ fn not_once(
     len: usize,
 ) -> Result<Option<usize>, ReadError>
     ensures place { IfOk result (λ place. place
-        ≡ first_wrong (λ n. times_child base end children.now n == 1) (range_with_len 0 len)) }
+        ≡ first_wrong (λ n. times_among base end children.now n == 1) (range_with_len 0 len)) }
     ensures memory { IsOkUnless result ReadError.OutOfMemory }
 {
     let counts = count_children(alloc, base, end, children, len)?;

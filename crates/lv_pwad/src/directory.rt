@@ -1,7 +1,7 @@
 //! The directory of a WAD: its entries, and where a level's stand.
 ghost use Rattle.std.specs.Prelude.{◌≡◌, ◌+◌, ◌*◌, ◌≤◌, ◌<◌, length, take, All, IfSome};
 ghost use Rattle.lv_pwad.specs.Levels.{HasEntries, are_inside, are_named, are_whole, entry, has_directory, has_lumps};
-ghost use Rattle.lv_pwad.specs.Levels.{is_hexen, is_named, is_outside, is_wad, long_at, lump_count, marker, record_sizes, same};
+ghost use Rattle.lv_pwad.specs.Levels.{is_hexen, entry_has_name, is_outside, is_wad, long_at, lump_count, marker, record_sizes, same_bytes};
 ghost use Rattle.lv_lumps.specs.Records.{name_at};
 
 use byteorder::{ByteOrder, LittleEndian};
@@ -36,7 +36,7 @@ fn name_at(bytes: &[u8], at: usize) -> Name8
 // Whether the first four bytes are these.
 fn begins_with(wad: &[u8], letters: &[u8; 4]) -> bool
     requires { 4 ≤ length wad.now }
-    ensures { result ≡ same (take 4 wad.now) letters.now }
+    ensures { result ≡ same_bytes (take 4 wad.now) letters.now }
 {
     &wad[..4] == letters.as_slice()
 }
@@ -85,7 +85,7 @@ pub fn entry_of(wad: &[u8], k: u32) -> Entry
 fn is_named(wad: &[u8], name: &[u8], k: u32) -> bool
     requires directory { HasEntries wad.now }
     requires among { k < lump_count wad.now }
-    ensures { result ≡ is_named wad.now name.now k }
+    ensures { result ≡ entry_has_name wad.now name.now k }
 {
     let entry = entry_of(wad, k);
     entry.name.text() == name

@@ -11,7 +11,7 @@ pub fn things_of(alloc: Global, map: &Map) -> Result<Vec<Thing>, BuildError>
     ensures things { IfOk result (λ v. v.items ≡ map.now.tables.things) }
     ensures memory { IsOkUnless result BuildError.OutOfMemory }
 {
-    let mut things = Vec::new(alloc);
+    let mut things = Vec::with_capacity(alloc, map.count(Kind::Thing) as usize)?;
     for n in 0..map.count(Kind::Thing) {
         if let Some(thing) = map.thing(n) {
             things.push(thing)?;
@@ -25,7 +25,7 @@ pub fn lines_of(alloc: Global, map: &Map) -> Result<Vec<Line>, BuildError>
     ensures lines { IfOk result (λ v. v.items ≡ map.now.tables.lines) }
     ensures memory { IsOkUnless result BuildError.OutOfMemory }
 {
-    let mut lines = Vec::new(alloc);
+    let mut lines = Vec::with_capacity(alloc, map.count(Kind::Line) as usize)?;
     for n in 0..map.count(Kind::Line) {
         if let Some(line) = map.line(n) {
             lines.push(line)?;
@@ -39,7 +39,7 @@ pub fn sides_of(alloc: Global, map: &Map) -> Result<Vec<Side>, BuildError>
     ensures sides { IfOk result (λ v. v.items ≡ map.now.tables.sides) }
     ensures memory { IsOkUnless result BuildError.OutOfMemory }
 {
-    let mut sides = Vec::new(alloc);
+    let mut sides = Vec::with_capacity(alloc, map.count(Kind::Side) as usize)?;
     for n in 0..map.count(Kind::Side) {
         if let Some(side) = map.side(n) {
             sides.push(side)?;
@@ -53,7 +53,7 @@ pub fn sectors_of(alloc: Global, map: &Map) -> Result<Vec<Sector>, BuildError>
     ensures sectors { IfOk result (λ v. v.items ≡ map.now.tables.sectors) }
     ensures memory { IsOkUnless result BuildError.OutOfMemory }
 {
-    let mut sectors = Vec::new(alloc);
+    let mut sectors = Vec::with_capacity(alloc, map.count(Kind::Sector) as usize)?;
     for n in 0..map.count(Kind::Sector) {
         if let Some(sector) = map.sector(n) {
             sectors.push(sector)?;

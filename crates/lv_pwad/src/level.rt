@@ -14,7 +14,6 @@ use lv_lumps::{
 use std::alloc::Global;
 
 /// What a level's ten lumps hold: the records of eight, and the bytes of REJECT and BLOCKMAP.
-#[derive(Drop)]
 pub struct Level {
     pub things: Vec<Thing>,
     pub lines: Vec<Line>,
@@ -26,6 +25,24 @@ pub struct Level {
     pub sectors: Vec<Sector>,
     pub reject: Vec<u8>,
     pub blockmap: Vec<u8>,
+}
+
+// A call of its own, so that who owns a level lets its lists go by one step.
+impl Drop for Level {
+    fn drop(self) {
+        let Level {
+            things: _things,
+            lines: _lines,
+            sides: _sides,
+            vertices: _vertices,
+            segs: _segs,
+            subs: _subs,
+            nodes: _nodes,
+            sectors: _sectors,
+            reject: _reject,
+            blockmap: _blockmap,
+        } = self;
+    }
 }
 
 // The bytes of the n-th lump behind a marker, whose lumps stand in the file.

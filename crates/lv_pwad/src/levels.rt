@@ -3,8 +3,8 @@ ghost use Rattle.std.specs.Prelude.{◌≡◌, ◌++◌, [], ◌∷◌, All, OnO
 ghost use Rattle.lv_lumps.specs.Names.{name_text};
 ghost use Rattle.lv_pwad.specs.Levels.{IsLevel};
 ghost use Rattle.lv_pwad.specs.Wad.{AreParts, IsCoded, IsDrawnCoded, IsTreeCoded, IsLastCoded};
-ghost use Rattle.lv_pwad.specs.Wad.{all_lumps, drawn_lumps, tree_lumps, last_lumps, lumps_of, part_of, wad_bytes};
-ghost use Rattle.lv_pwad.specs.Views.{parts_of, view, views};
+ghost use Rattle.lv_pwad.specs.Wad.{all_lumps, drawn_lumps, tree_lumps, last_lumps, lumps_of, level_part, wad_bytes};
+ghost use Rattle.lv_pwad.specs.Views.{level_parts, view, views};
 
 use crate::directory::LUMP_NAMES;
 use crate::error::BuildError;
@@ -95,7 +95,7 @@ fn push_level(
     level: &Level,
 ) -> Result<(), BuildError>
     ensures lumps { OnOk result (views lumps.new.items
-        ≡ views lumps.old.items ++ lumps_of (part_of name (view level.now))) }
+        ≡ views lumps.old.items ++ lumps_of (level_part name (view level.now))) }
     ensures coded { OnOk result (IsCoded (view level.now)) }
     ensures memory { IsOkUnless result BuildError.OutOfMemory }
 {
@@ -108,7 +108,7 @@ fn push_level(
 
 // The lumps of the levels, one level behind another.
 fn lumps_of(alloc: Global, levels: &[NamedLevel]) -> Result<Vec<NamedLump>, BuildError>
-    ensures lumps { IfOk result (λ v. views v.items ≡ all_lumps (parts_of levels.now)) }
+    ensures lumps { IfOk result (λ v. views v.items ≡ all_lumps (level_parts levels.now)) }
     ensures coded { IfOk result (λ v. All (λ l. IsCoded (view l.level)) levels.now) }
     ensures memory { IsOkUnless result BuildError.OutOfMemory }
 {
@@ -122,8 +122,8 @@ fn lumps_of(alloc: Global, levels: &[NamedLevel]) -> Result<Vec<NamedLump>, Buil
 
 /// The PWAD of the levels, of which each is read back by its name.
 pub fn wad_of_levels(alloc: Global, levels: &[NamedLevel]) -> Result<Vec<u8>, BuildError>
-    requires { AreParts (parts_of levels.now) }
-    ensures bytes { IfOk result (λ wad. wad.items ≡ wad_bytes (all_lumps (parts_of levels.now))) }
+    requires { AreParts (level_parts levels.now) }
+    ensures bytes { IfOk result (λ wad. wad.items ≡ wad_bytes (all_lumps (level_parts levels.now))) }
     ensures levels { IfOk result (λ wad.
         All (λ l. IsLevel wad.items (name_text l.name) (view l.level)) levels.now) }
     ensures memory { IsOkUnless result BuildError.OutOfMemory }

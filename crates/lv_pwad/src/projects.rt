@@ -2,12 +2,14 @@
 ghost use Rattle.std.specs.Prelude.{◌≡◌, ◌↔◌, All, Err, Some, IfOk, IfErr, OnOk, length, slice_get};
 ghost use Rattle.lv_maptables.specs.Projects.{WellFormedProject, project_of};
 ghost use Rattle.lv_maptables.specs.Tables.{Tables};
+ghost use Rattle.lv_pwad.specs.Counted.{IsCounted};
 ghost use Rattle.lv_pwad.specs.Projects.{AreLevelsOf, HoldsOnly, IsLevelOf, IsRefusalOfAll, IsSoundBuildOfAll};
 ghost use Rattle.lv_pwad.specs.Sound.{IsBuildable, IsBuildRefusal};
 
 use crate::build::level_of_map;
+use crate::counted::{BuiltWad, counted_wad};
 use crate::error::BuildError;
-use crate::levels::{NamedLevel, wad_of_levels};
+use crate::levels::NamedLevel;
 use lv_maptables::{Map, Maps};
 use std::alloc::Global;
 
@@ -45,6 +47,31 @@ fn levels_of(alloc: Global, maps: &Maps) -> Result<Vec<NamedLevel>, BuildError>
     Ok(levels)
 }
 
+/// The PWAD of all maps of a project, as `build_all` gives it, and how many records its levels have: they are counted
+/// from what is written, and nothing is read back.
+///
+/// # Errors
+///
+/// Those of `build_all`.
+pub fn build_counted(alloc: Global, maps: &Maps) -> Result<BuiltWad, BuildError>
+    ensures counted { IfOk result (λ built.
+        IsCounted (project_of maps.now).maps built.bytes.items built.counts) }
+    ensures whole { IfOk result (λ built. HoldsOnly (project_of maps.now).maps built.bytes.items) }
+    ensures buildable { OnOk result (All IsBuildable (project_of maps.now).maps) }
+    ensures refused { IfErr result (IsRefusalOfAll (project_of maps.now).maps) }
+    ensures nothing { (m : Tables) → slice_get (project_of maps.now).maps 0 ≡ Some m
+        → length m.lines ≡ 0 → result ≡ Err BuildError.NothingToBuild }
+{
+    let levels = match levels_of(alloc, maps) {
+        Ok(levels) => levels,
+        Err(error) => return Err(error),
+    };
+    match counted_wad(alloc, &levels) {
+        Ok(built) => Ok(built),
+        Err(_) => Err(BuildError::OutOfMemory),
+    }
+}
+
 /// The PWAD of all maps of a project, by number: each map's level with all eleven lumps under its name, and no other
 /// lump.
 ///
@@ -59,12 +86,8 @@ pub fn build_all(alloc: Global, maps: &Maps) -> Result<Vec<u8>, BuildError>
     ensures nothing { (m : Tables) → slice_get (project_of maps.now).maps 0 ≡ Some m
         → length m.lines ≡ 0 → result ≡ Err BuildError.NothingToBuild }
 {
-    let levels = match levels_of(alloc, maps) {
-        Ok(levels) => levels,
-        Err(error) => return Err(error),
-    };
-    match wad_of_levels(alloc, &levels) {
-        Ok(wad) => Ok(wad),
-        Err(_) => Err(BuildError::OutOfMemory),
+    match build_counted(alloc, maps) {
+        Ok(built) => Ok(built.bytes),
+        Err(error) => Err(error),
     }
 }

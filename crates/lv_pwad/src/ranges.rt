@@ -3,7 +3,7 @@ ghost use Rattle.std.specs.Prelude.{◌≡◌, ◌∷◌, [], ◌&&◌, ◌==◌
 ghost use Rattle.std.specs.Option.{option_map};
 ghost use Rattle.lv_pwad.specs.Views.{view};
 ghost use Rattle.lv_lumps.specs.Sides.{no_side};
-ghost use Rattle.lv_pwad.specs.Audit.{drawn_faults, first_some, first_wrong, is_in, left_side, line_of_seg, seg_faults, line_sides, line_vertices, seg_side, seg_vertices};
+ghost use Rattle.lv_pwad.specs.Audit.{drawn_faults, first_some, first_wrong, is_in_range, left_side, line_of_seg, seg_faults, line_sides, line_vertices, seg_side, seg_vertices};
 ghost use Rattle.lv_pwad.specs.declared.fault.Fault.TheVariants.{LineVertex, LineSide, SideSector, SegVertex, SegLine, SegSide};
 
 use crate::fault::Fault;
@@ -109,7 +109,7 @@ fn line_side(level: &Level) -> Option<Fault>
 // Where the first fault of this kind stands.
 fn side_sector_place(level: &Level) -> Option<usize>
     ensures { result
-        ≡ first_wrong (λ s. is_in (view level.now).sectors s.sector) level.now.sides.items }
+        ≡ first_wrong (λ s. is_in_range (view level.now).sectors s.sector) level.now.sides.items }
 {
     level
         .sides
@@ -121,7 +121,7 @@ fn side_sector_place(level: &Level) -> Option<usize>
 fn side_sector(level: &Level) -> Option<Fault>
     ensures { result
         ≡ option_map SideSector
-        (first_wrong (λ s. is_in (view level.now).sectors s.sector) level.now.sides.items) }
+        (first_wrong (λ s. is_in_range (view level.now).sectors s.sector) level.now.sides.items) }
 {
     match side_sector_place(level) {
         Some(n) => Some(Fault::SideSector(n)),
@@ -149,7 +149,7 @@ fn seg_vertex(level: &Level) -> Option<Fault>
 
 // Where the first fault of this kind stands.
 fn seg_line_place(level: &Level) -> Option<usize>
-    ensures { result ≡ first_wrong (λ s. is_in (view level.now).lines s.line) level.now.segs.items }
+    ensures { result ≡ first_wrong (λ s. is_in_range (view level.now).lines s.line) level.now.segs.items }
 {
     level
         .segs
@@ -161,7 +161,7 @@ fn seg_line_place(level: &Level) -> Option<usize>
 fn seg_line(level: &Level) -> Option<Fault>
     ensures { result
         ≡ option_map SegLine
-        (first_wrong (λ s. is_in (view level.now).lines s.line) level.now.segs.items) }
+        (first_wrong (λ s. is_in_range (view level.now).lines s.line) level.now.segs.items) }
 {
     match seg_line_place(level) {
         Some(n) => Some(Fault::SegLine(n)),

@@ -1,5 +1,5 @@
 //! Lumps written as a PWAD: header, lumps, directory.
-ghost use Rattle.std.specs.Prelude.{◌≡◌, ◌++◌, ◌+◌, ◌<◌, ◌^◌, length, flat_map, OnOk, IfOk, IsOkUnless};
+ghost use Rattle.std.specs.Prelude.{◌≡◌, ◌++◌, ◌+◌, ◌<◌, ◌^◌, codes, length, flat_map, OnOk, IfOk, IsOkUnless};
 ghost use Rattle.lv_pwad.specs.Wad.{all_bytes, entries_from, entry_bytes, long, wad_bytes, wad_size};
 ghost use Rattle.lv_pwad.specs.Views.{views};
 
@@ -38,45 +38,69 @@ fn put_entry(bytes: &mut Vec<u8>, entry: Entry) -> Result<(), BuildError>
     Ok(())
 }
 
-// Appends the lumps' bytes, and to the directory their entries.
+// How many bytes the lumps have together.
+fn bytes_in(lumps: &[NamedLump]) -> u32
+    requires { length (all_bytes (views lumps.now)) < 2 ^ 32 }
+    ensures { result ≡ length (all_bytes (views lumps.now)) }
+{
+    let mut sum: u32 = 0;
+    for n in 0..lumps.len() {
+        let lump = &lumps[n];
+        sum += lump.bytes.len() as u32;
+    }
+    sum
+}
+
+// Appends the header: how many lumps there are, and where the directory stands behind them.
+fn put_head(wad: &mut Vec<u8>, count: u32, directory: u32) -> Result<(), BuildError>
+    ensures ok { OnOk result (wad.new.items
+        ≡ wad.old.items ++ (codes "PWAD" ++ (long count ++ long directory))) }
+    ensures memory { IsOkUnless result BuildError.OutOfMemory }
+{
+    wad.extend_from_slice(b"PWAD")?;
+    put_long(wad, count)?;
+    put_long(wad, directory)?;
+    Ok(())
+}
+
+// Appends the lumps' bytes to the file, and to the directory their entries.
 fn put_lumps(
-    body: &mut Vec<u8>,
+    wad: &mut Vec<u8>,
     directory: &mut Vec<u8>,
     lumps: &[NamedLump],
 ) -> Result<(), BuildError>
-    requires fits { 12 + length body.old.items + length (all_bytes (views lumps.now)) < 2 ^ 32 }
-    ensures bytes { OnOk result (body.new.items ≡ body.old.items ++ all_bytes (views lumps.now)) }
+    requires fits { length wad.old.items + length (all_bytes (views lumps.now)) < 2 ^ 32 }
+    ensures bytes { OnOk result (wad.new.items ≡ wad.old.items ++ all_bytes (views lumps.now)) }
     ensures entries { OnOk result (directory.new.items ≡ directory.old.items
-        ++ flat_map entry_bytes (entries_from (12 + length body.old.items) (views lumps.now))) }
+        ++ flat_map entry_bytes (entries_from (length wad.old.items) (views lumps.now))) }
     ensures memory { IsOkUnless result BuildError.OutOfMemory }
 {
     for n in 0..lumps.len() {
         let lump = &lumps[n];
         let entry = Entry {
-            at: 12 + body.len() as u32,
+            at: wad.len() as u32,
             size: lump.bytes.len() as u32,
             name: lump.name,
         };
         put_entry(directory, entry)?;
-        body.extend_from_slice(&lump.bytes)?;
+        wad.extend_from_slice(&lump.bytes)?;
     }
     Ok(())
 }
 
-/// The PWAD of the lumps: header, lumps without gaps, directory.
+/// The PWAD of the lumps: header, lumps without gaps, directory. Its length is known before the first byte is written,
+/// so that no byte of a lump moves again.
 pub fn wad_of(alloc: Global, lumps: &[NamedLump]) -> Result<Vec<u8>, BuildError>
     requires fits { wad_size (views lumps.now) < 2 ^ 32 }
     ensures bytes { IfOk result (λ wad. wad.items ≡ wad_bytes (views lumps.now)) }
     ensures memory { IsOkUnless result BuildError.OutOfMemory }
 {
-    let mut body = Vec::new(alloc);
-    let mut directory = Vec::new(alloc);
-    put_lumps(&mut body, &mut directory, lumps)?;
-    let mut wad = Vec::new(alloc);
-    wad.extend_from_slice(b"PWAD")?;
-    put_long(&mut wad, lumps.len() as u32)?;
-    put_long(&mut wad, 12 + body.len() as u32)?;
-    wad.extend_from_slice(&body)?;
+    let end = 12 + bytes_in(lumps);
+    let entries = 16 * lumps.len();
+    let mut wad = Vec::with_capacity(alloc, end as usize + entries)?;
+    let mut directory = Vec::with_capacity(alloc, entries)?;
+    put_head(&mut wad, lumps.len() as u32, end)?;
+    put_lumps(&mut wad, &mut directory, lumps)?;
     wad.extend_from_slice(&directory)?;
     Ok(wad)
 }

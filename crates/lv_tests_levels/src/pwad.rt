@@ -4,7 +4,8 @@ use crate::expect::{holds, same};
 use lv_blockmap::{BlockmapError, blockmap, touches};
 use lv_lumps::Vertex;
 use lv_pwad::{
-    BuildError, Fault, Level, ReadError, audit, build_all, build_wad, read_level, reject,
+    BuildError, Fault, Level, ReadError, audit, build_all, build_counted, build_wad, read_level,
+    reject,
 };
 use lv_tests_maps::drawing::{CUT, L, ROOM, SECTOR, SIDE, SLIVER, TWO_ROOMS, drawn};
 use std::alloc::Global;
@@ -348,6 +349,29 @@ fn all_built(alloc: Global, lines: &[&[u8]]) -> Result<Vec<u8>, Fail> {
 }
 
 const NAMES: &[&[u8]] = &[b"MAP01", b"MAP02"];
+
+// The counts of a build of all maps that the lines leave, and whether its PWAD is that of `build_all`.
+fn all_counted(alloc: Global, lines: &[&[u8]]) -> Result<([u64; 5], bool), Fail> {
+    let maps = drawn(alloc, lines)?;
+    let built = build_counted(alloc, &maps)?;
+    let counts = built.counts;
+    let wad = build_all(alloc, &maps)?;
+    let numbers = [
+        counts.vertices,
+        counts.segs,
+        counts.subs,
+        counts.nodes,
+        counts.bytes,
+    ];
+    Ok((numbers, built.bytes == wad))
+}
+
+#[test]
+fn all_maps_are_counted(rt: HostRuntime) -> Result<(), Fail> {
+    let found = all_counted(rt.alloc(), &[ROOM, b"map MAP02", ROOM])?;
+    same(&rt, &found, &([8, 8, 2, 0, 1018], true));
+    Ok(())
+}
 
 #[test]
 fn all_maps_are_built(rt: HostRuntime) -> Result<(), Fail> {

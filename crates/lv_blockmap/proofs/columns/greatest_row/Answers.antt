@@ -12,7 +12,8 @@ returns-then-not-touches_row-clause-greatest c =
     let t = simp (e1, e2) at c.touches_row.ensures in
     let at = i.0 in
     let low = i.1 in
-    λ r h k u. none_above c.args.line.start c.args.line.end c.args.left c.args.bottom c.loop-row.high c.loop-row.row c.args.rows (omega (arith, at)) i.3 (λ v. let w = t.1 v in let f = c.if-not-touches_row.true in cc) r (omega (arith, at)) k u
+    λ r h k u. none_above c.args.line.start c.args.line.end c.args.left c.args.bottom c.loop-row.high c.loop-row.row c.args.rows (omega (arith, at)) i.3
+    (λ v. let w = t.1 v in let f = c.if-not-touches_row.true in cc) r (omega (arith, at)) k u
 
 pub returns-then-not-touches_row-clause-touched : goal.returns-then-not-touches_row-clause-touched
 returns-then-not-touches_row-clause-touched c =

@@ -28,7 +28,8 @@ returns-in-Some c =
     let a = c.greatest_row-high.ensures.among in
     let over : c.in-Some.row ≤ c.greatest_row-high.result = a.0 in
     let below : c.greatest_row-high.result < c.args.rows = a.1 in
-    found_rows c.args.line.start c.args.line.end c.args.left c.args.bottom c.args.rows c.least_row-low.result c.greatest_row-high.result (omega (arith, among, over, below)) t none (omega (arith, among, over)) below u l
+    found_rows c.args.line.start c.args.line.end c.args.left c.args.bottom c.args.rows c.least_row-low.result c.greatest_row-high.result (omega (arith, among, over, below)) t none
+    (omega (arith, among, over)) below u l
 
 pub returns-in-None : goal.returns-in-None
 returns-in-None c =

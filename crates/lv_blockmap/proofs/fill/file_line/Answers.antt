@@ -4,7 +4,7 @@ use Rattle.std.proofs.lemmas.Nat.{mul-le}
 use Rattle.std.proofs.Math.Nat.{mul_comm}
 use Rattle.std.specs.Prelude.{FitsSigned, ◌/◌}
 use Rattle.std.specs.Int.{w16, w32}
-use Rattle.lv_blockmap.proofs.FillLemmas.{row_among, column_files, column_skipped, all_columns}
+use Rattle.lv_blockmap.proofs.FillLemmas.{row_among, column_files, column_skipped, no_columns, all_columns}
 use Rattle.lv_blockmap.proofs.RowLemmas.{rows_rise}
 use Rattle.lv_blockmap.proofs.fill.file_line.Goals as goal
 use Rattle.lv_blockmap.proofs.fill.file_line.Goals.{in-Some+in_ok-file_rows-in-Some, in-None}
@@ -22,6 +22,16 @@ file_rows-requires-clause-all c = held c.args.grid.columns c.args.grid.rows c.in
 pub file_rows-requires-clause-order : goal.file_rows-requires-clause-order
 file_rows-requires-clause-order c = rows_rise _ _ _ _ _ _ _ c.in-Some.ensures
 
+pub loop-column-init : goal.loop-column-init
+loop-column-init c =
+    let f1 : FitsSigned w16 c.args.grid.left = search rules in
+    let e1 = to_z-of_z w16 c.args.grid.left f1 in
+    let f2 : FitsSigned w16 c.args.line.start.x = search rules in
+    let e2 = to_z-of_z w16 c.args.line.start.x f2 in
+    let f3 : FitsSigned w16 c.args.line.end.x = search rules in
+    let e3 = to_z-of_z w16 c.args.line.end.x f3 in
+    no_columns c.args.line c.args.grid c.first_column-first.result c.args.number c.args.lists.now (simp (e1, e2, e3) at c.first_column-first.ensures)
+
 pub loop-column-preserved : goal.loop-column-preserved
 loop-column-preserved c =
     let f1 : FitsSigned w16 c.args.grid.left = search rules in
@@ -31,12 +41,15 @@ loop-column-preserved c =
     let f3 : FitsSigned w32 c.side_of_strip-left.result = search rules in
     let e3 = to_z-of_z w32 c.side_of_strip-left.result f3 in
     let v = simp e1 at c.side_of_strip-left.ensures in
-    let rows : (n : ℕ) → n < length c.args.lists.now → n / c.args.grid.columns < c.args.grid.rows = λ n h. row_among c.args.grid (length c.args.lists.now) n c.requires.grid.some_column c.requires.all h in
+    let rows : (n : ℕ) → n < length c.args.lists.now
+    → n / c.args.grid.columns < c.args.grid.rows = λ n h. row_among c.args.grid (length c.args.lists.now) n c.requires.grid.some_column c.requires.all h in
     elim c.match-touched_rows.branch [
       | in-Some+in_ok-file_rows-in-Some w ↦
           (let r0 = simp (e2, e3) at w.in-Some.ensures in
           let r = simp v at r0 in
-          rw w.lists-is (column_files c.args.line c.args.grid c.loop-column.column w.in-Some.rows.low w.in-Some.rows.high c.args.number c.args.lists.now c.loop-column.lists w.file_rows.new.lists rows r c.loop-column.invariant w.in_ok-file_rows-in-Some.ensures.ok))
+          rw w.lists-is
+          (column_files c.args.line c.args.grid c.loop-column.column w.in-Some.rows.low w.in-Some.rows.high c.args.number c.args.lists.now c.loop-column.lists w.file_rows.new.lists rows r
+          c.loop-column.invariant w.in_ok-file_rows-in-Some.ensures.ok))
       | in-None w ↦
           (let r0 = simp (e2, e3) at w.in-None.ensures in
           let r = simp v at r0 in
@@ -45,4 +58,12 @@ loop-column-preserved c =
 
 pub returns-clause-ok : goal.returns-clause-ok
 returns-clause-ok c =
-    all_columns c.args.line c.args.grid c.loop-column.column c.args.number c.args.lists.now c.loop-column.lists c.requires.grid.some_column c.loop-column-test.false c.loop-column.invariant
+    let f1 : FitsSigned w16 c.args.grid.left = search rules in
+    let e1 = to_z-of_z w16 c.args.grid.left f1 in
+    let f2 : FitsSigned w16 c.args.line.start.x = search rules in
+    let e2 = to_z-of_z w16 c.args.line.start.x f2 in
+    let f3 : FitsSigned w16 c.args.line.end.x = search rules in
+    let e3 = to_z-of_z w16 c.args.line.end.x f3 in
+    let none = simp (e1, e2, e3) at c.end_column-end.ensures.none in
+    all_columns c.args.line c.args.grid c.loop-column.column c.end_column-end.result c.args.number c.args.lists.now c.loop-column.lists c.requires.grid.some_column c.loop-column-test.false none
+    c.loop-column.invariant

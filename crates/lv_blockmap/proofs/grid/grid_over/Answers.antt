@@ -13,7 +13,8 @@ loop-line-preserved c =
     let ly = c.lesser-low.ensures.y ∙ ap (λ (z : ℤ). int_min z line.end.y) c.lesser.ensures.y in
     let hx = c.greater-high.ensures.x ∙ ap (λ (z : ℤ). int_max z line.end.x) c.greater.ensures.x in
     let hy = c.greater-high.ensures.y ∙ ap (λ (z : ℤ). int_max z line.end.y) c.greater.ensures.y in
-    corners_more c.args.lines.now (get_or c.args.lines.now 0 no_line) line c.loop-line.line-index c.loop-line.low c.loop-line.high c.lesser-low.result c.greater-high.result c.loop-line-test.true (get_or_default c.args.lines.now c.loop-line.line-index _ _ c.loop-line-test.true) lx ly hx hy c.loop-line.invariant
+    corners_more c.args.lines.now (get_or c.args.lines.now 0 no_line) line c.loop-line.line-index c.loop-line.low c.loop-line.high c.lesser-low.result c.greater-high.result c.loop-line-test.true
+    (get_or_default c.args.lines.now c.loop-line.line-index _ _ c.loop-line-test.true) lx ly hx hy c.loop-line.invariant
 
 pub returns-clause-grid : goal.returns-clause-grid
 returns-clause-grid c =
@@ -27,7 +28,9 @@ returns-clause-grid c =
     let e4 = to_z-of_z w16 c.loop-line.high.y f4 in
     let p = simp (e1, e3) at c.blocks_over.ensures.count in
     let q = simp (e2, e4) at c.blocks_over-2.ensures.count in
-    rw (e1, e2) (grid_found c.args.lines.now (get_or c.args.lines.now 0 no_line) c.loop-line.line-index c.loop-line.low c.loop-line.high c.blocks_over.result c.blocks_over-2.result c.requires c.loop-line-test.false (get_or_default c.args.lines.now 0 _ _ c.requires) p q c.loop-line.invariant)
+    rw (e1, e2) (grid_found c.args.lines.now
+    (get_or c.args.lines.now 0 no_line) c.loop-line.line-index c.loop-line.low c.loop-line.high c.blocks_over.result c.blocks_over-2.result c.requires c.loop-line-test.false
+    (get_or_default c.args.lines.now 0 _ _ c.requires) p q c.loop-line.invariant)
 
 pub returns-clause-corner : goal.returns-clause-corner
 returns-clause-corner c =

@@ -21,7 +21,9 @@ returns-clause-ok c =
     let lists = c.args.lists.now in
     let keys = ap (map (λ l. l.now)) c.as_slice-written.ensures.keys ∙ c.in_ok-gathered.ensures.written in
     let found = c.deref-2.ensures.value ∙ c.in-Ok.ensures.ok ∙ ap (starts (4 + length lists)) keys in
-    laid_out c.args.grid lists (map (λ l. l.now) c.as_slice-written.result.now) c.new-bytes.result.items c.put_header.new.bytes.items c.put_offsets.new.bytes.items c.put_lists.new.bytes.items c.deref.result.now c.deref-2.result.now
+    laid_out c.args.grid lists
+    (map (λ l. l.now) c.as_slice-written.result.now) c.new-bytes.result.items c.put_header.new.bytes.items c.put_offsets.new.bytes.items c.put_lists.new.bytes.items c.deref.result.now
+    c.deref-2.result.now
     c.new-bytes.ensures.items c.in_ok-put_header.ensures.ok (c.deref.ensures.value ∙ c.in_ok-gathered.ensures.places) found keys c.in_ok-put_offsets.ensures.ok c.in_ok-put_lists.ensures.ok
 
 pub returns-clause-fit : goal.returns-clause-fit

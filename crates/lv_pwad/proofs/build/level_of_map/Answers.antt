@@ -32,8 +32,10 @@ returns-in-Err-clause-nothing c =
 
 pub returns-in-Err-blockmap-clause-refused : goal.returns-in-Err-blockmap-clause-refused
 returns-in-Err-blockmap-clause-refused c =
-    subst (λ e. IsBuildRefusal c.args.map.now.tables e) (sym c.blockmap_refusal.ensures) (blockmap_cause c.args.map.now.tables c.in-Ok.tree c.in-Err-blockmap.error c.in-Ok.ensures.built c.in-Err-blockmap.ensures)
+    subst (λ e. IsBuildRefusal c.args.map.now.tables e) (sym c.blockmap_refusal.ensures)
+    (blockmap_cause c.args.map.now.tables c.in-Ok.tree c.in-Err-blockmap.error c.in-Ok.ensures.built c.in-Err-blockmap.ensures)
 
 pub returns-in-Err-blockmap-clause-nothing : goal.returns-in-Err-blockmap-clause-nothing
 returns-in-Err-blockmap-clause-nothing c =
-    same_error c.blockmap_refusal.result build.NothingToBuild (blockmap_nothing c.args.map.now.tables c.in-Ok.tree c.in-Err-blockmap.error c.blockmap_refusal.result c.in-Ok.ensures.built c.in-Err-blockmap.ensures c.blockmap_refusal.ensures)
+    same_error c.blockmap_refusal.result build.NothingToBuild
+    (blockmap_nothing c.args.map.now.tables c.in-Ok.tree c.in-Err-blockmap.error c.blockmap_refusal.result c.in-Ok.ensures.built c.in-Err-blockmap.ensures c.blockmap_refusal.ensures)

@@ -7,7 +7,8 @@ use Rattle.lv_pwad.proofs.children.children_of.Goals as goal
 pub loop-node-preserved : goal.loop-node-preserved
 loop-node-preserved c =
     rw (c.in_ok-push-3.ensures.items, c.in_ok-push-2.ensures.items)
-    (children_more c.args.nodes.now c.loop-node.node-index _ c.loop-node.all.items c.loop-node-test.true (get_or_default c.args.nodes.now c.loop-node.node-index _ _ c.loop-node-test.true) c.loop-node.invariant)
+    (children_more c.args.nodes.now c.loop-node.node-index _ c.loop-node.all.items c.loop-node-test.true
+    (get_or_default c.args.nodes.now c.loop-node.node-index _ _ c.loop-node-test.true) c.loop-node.invariant)
 
 pub returns-clause-children : goal.returns-clause-children
 returns-clause-children c =

@@ -1,6 +1,6 @@
 use Rattle.std.proofs.Common.{◌∙◌, ◌<◌, ◌≤◌, length, arith}
 use Rattle.std.proofs.lemmas.List.{get_or_default}
-use Rattle.lv_pwad.specs.Counts.{times_child}
+use Rattle.lv_pwad.specs.Counts.{times_among}
 use Rattle.lv_pwad.proofs.FirstLemmas.{once_wrong, once_more, once_none, counted_once, not_counted_once}
 use Rattle.lv_pwad.proofs.children.not_once.Goals as goal
 
@@ -10,7 +10,8 @@ returns-then-index-ne1-clause-place c =
     let within : c.loop-n.n < length counts = omega (arith, c.loop-n-test.true, c.len-n-end.ensures) in
     let below : c.loop-n.n < c.args.len = omega (arith, within, c.in_ok-counts.ensures.length) in
     let count = c.index.ensures ∙ get_or_default counts c.loop-n.n _ 0 within ∙ c.in_ok-counts.ensures.counts.each c.loop-n.n within in
-    once_wrong c.args.base c.args.end c.args.children.now c.args.len c.loop-n.n below c.loop-n.invariant (not_counted_once c.index.result.now (times_child c.args.base c.args.end c.args.children.now c.loop-n.n) count c.if-index-ne1.true)
+    once_wrong c.args.base c.args.end c.args.children.now c.args.len c.loop-n.n below c.loop-n.invariant
+    (not_counted_once c.index.result.now (times_among c.args.base c.args.end c.args.children.now c.loop-n.n) count c.if-index-ne1.true)
 
 pub loop-n-preserved : goal.loop-n-preserved
 loop-n-preserved c =
@@ -18,7 +19,8 @@ loop-n-preserved c =
     let within : c.loop-n.n < length counts = omega (arith, c.loop-n-test.true, c.len-n-end.ensures) in
     let below : c.loop-n.n < c.args.len = omega (arith, within, c.in_ok-counts.ensures.length) in
     let count = c.index.ensures ∙ get_or_default counts c.loop-n.n _ 0 within ∙ c.in_ok-counts.ensures.counts.each c.loop-n.n within in
-    once_more c.args.base c.args.end c.args.children.now c.args.len c.loop-n.n below c.loop-n.invariant (counted_once c.index.result.now (times_child c.args.base c.args.end c.args.children.now c.loop-n.n) count c.if-index-ne1.false)
+    once_more c.args.base c.args.end c.args.children.now c.args.len c.loop-n.n below c.loop-n.invariant
+    (counted_once c.index.result.now (times_among c.args.base c.args.end c.args.children.now c.loop-n.n) count c.if-index-ne1.false)
 
 pub returns-clause-place : goal.returns-clause-place
 returns-clause-place c =

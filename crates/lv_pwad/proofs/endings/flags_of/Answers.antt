@@ -15,6 +15,10 @@ loop-behind-preserved c =
     let s = subst (λ (k : ℕ). SoFar c.args.lines c.args.words.now k (min (length c.args.words.now) 32768) c.loop-behind.flags.items c.loop-behind.ends) prev c.loop-behind.invariant in
     let e = c.goes_on-ends.ensures ∙ here_before c.args.lines c.args.words.now place _ c.loop-behind.ends within refl s.here in
     elim c.if-place-len.branch [
-      | then-place-len w ↦ rw (same, w.flags-is) (flag_set c.args.lines c.args.words.now place (min (length c.args.words.now) 32768) c.loop-behind.flags.items c.loop-behind.ends c.goes_on-ends.result (omega (arith, w.if-place-len.true, c.len.ensures)) e s)
-      | else-place-len w ↦ rw (same, w.flags-is) (no_flag c.args.lines c.args.words.now place (min (length c.args.words.now) 32768) c.loop-behind.flags.items c.loop-behind.ends c.goes_on-ends.result (omega (arith, w.if-place-len.false, c.len.ensures)) e s)
+      | then-place-len w ↦ rw (same, w.flags-is)
+          (flag_set c.args.lines c.args.words.now place (min (length c.args.words.now) 32768) c.loop-behind.flags.items c.loop-behind.ends c.goes_on-ends.result
+          (omega (arith, w.if-place-len.true, c.len.ensures)) e s)
+      | else-place-len w ↦ rw (same, w.flags-is)
+          (no_flag c.args.lines c.args.words.now place (min (length c.args.words.now) 32768) c.loop-behind.flags.items c.loop-behind.ends c.goes_on-ends.result
+          (omega (arith, w.if-place-len.false, c.len.ensures)) e s)
     ]

@@ -1,8 +1,8 @@
 -- The lumps of the levels so far.
 use Rattle.std.specs.Prelude.{◌≡◌, take, All}
 use Rattle.lv_pwad.specs.Wad.{all_lumps, IsCoded}
-use Rattle.lv_pwad.specs.Views.{views, view, parts_of}
+use Rattle.lv_pwad.specs.Views.{views, view, level_parts}
 use Rattle.lv_pwad.proofs.levels.lumps_of.Given as goal
 
 abbrev pub invariant-loop-n : goal.invariant-loop-n
-invariant-loop-n l = (views l.lumps.items ≡ all_lumps (parts_of (take l.n l.levels))) × All (λ x. IsCoded (view x.level)) (take l.n l.levels)
+invariant-loop-n l = (views l.lumps.items ≡ all_lumps (level_parts (take l.n l.levels))) × All (λ x. IsCoded (view x.level)) (take l.n l.levels)

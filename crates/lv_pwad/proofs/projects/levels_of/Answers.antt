@@ -22,7 +22,8 @@ loop-n-preserved c =
           record {
             levels = rw w.levels-is
                 (subst (λ (xs : List NamedLevel). AreLevelsOf (take (c.loop-n.n + 1) (project_of c.args.maps.now).maps) xs) (sym w.in_ok-push.ensures.items)
-                (levels_more (project_of c.args.maps.now).maps c.loop-n.n w.in-Some.map.now.tables c.loop-n.levels.items w.in-Ok.level w.in-Some.ensures c.loop-n.invariant.levels w.in-Ok.ensures.level));
+                (levels_more (project_of c.args.maps.now).maps c.loop-n.n w.in-Some.map.now.tables c.loop-n.levels.items w.in-Ok.level w.in-Some.ensures c.loop-n.invariant.levels
+                w.in-Ok.ensures.level));
             first = λ m at empty.
                 let e = w.in-Ok.ensures.nothing.1 (first_is ms c.loop-n.n w.in-Some.map.now.tables m c.loop-n.invariant.first w.in-Some.ensures at empty) in
                 cc;
@@ -36,7 +37,8 @@ loop-n-preserved c =
 pub returns-clause-levels : goal.returns-clause-levels
 returns-clause-levels c =
     let whole : length (project_of c.args.maps.now).maps ≤ c.loop-n.n = omega (arith, c.len-n-end.ensures.value, c.loop-n-test.false) in
-    subst (λ (ms : List Tables). AreLevelsOf ms c.loop-n.levels.items) (all_items (project_of c.args.maps.now).maps (take c.loop-n.n (project_of c.args.maps.now).maps) c.loop-n.n whole refl) c.loop-n.invariant.levels
+    subst (λ (ms : List Tables). AreLevelsOf ms c.loop-n.levels.items)
+    (all_items (project_of c.args.maps.now).maps (take c.loop-n.n (project_of c.args.maps.now).maps) c.loop-n.n whole refl) c.loop-n.invariant.levels
 
 pub returns-clause-nothing : goal.returns-clause-nothing
 returns-clause-nothing c = λ m at empty.

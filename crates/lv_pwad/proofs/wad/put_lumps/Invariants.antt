@@ -1,10 +1,12 @@
--- The lumps so far stand in the body, and their entries in the directory.
-use Rattle.std.specs.Prelude.{◌≡◌, ◌++◌, ◌+◌, take, length, flat_map}
+-- The lumps so far stand in the file, and their entries in the directory.
+use Rattle.std.specs.Prelude.{◌≡◌, ◌++◌, take, length, flat_map}
 use Rattle.lv_pwad.specs.Wad.{all_bytes, entries_from, entry_bytes}
 use Rattle.lv_pwad.specs.Views.{views}
 use Rattle.lv_pwad.proofs.wad.put_lumps.Given as goal
 
 abbrev pub invariant-loop-n : goal.invariant-loop-n
 invariant-loop-n l =
-    (l.body.items ≡ l.initial.body.items ++ all_bytes (views (take l.n l.lumps)))
-    × (l.directory.items ≡ l.initial.directory.items ++ flat_map entry_bytes (entries_from (12 + length l.initial.body.items) (views (take l.n l.lumps))))
+    (l.wad.items ≡ l.initial.wad.items ++ all_bytes (views (take l.n l.lumps)))
+    × (l.directory.items
+    ≡ l.initial.directory.items
+    ++ flat_map entry_bytes (entries_from (length l.initial.wad.items) (views (take l.n l.lumps))))
