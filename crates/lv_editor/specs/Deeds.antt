@@ -8,7 +8,8 @@ use Rattle.lv_checks.specs.Findings.{findings}
 use Rattle.lv_project.specs.States.{State}
 use Rattle.lv_project.specs.declared.error.ProjectError.{ProjectError}
 use Rattle.lv_editor.specs.Answers.{RepliesInMemory}
-use Rattle.lv_editor.specs.Building.{IsCounted, built_text}
+use Rattle.lv_pwad.specs.Counted.{IsCounted}
+use Rattle.lv_editor.specs.Building.{built_text}
 use Rattle.lv_editor.specs.Editing.{RepliesInProject}
 use Rattle.lv_editor.specs.Inspections.{IsInspected}
 use Rattle.lv_editor.specs.Refusals.{IsOfOpening, NotBuilt, NotChecked, NotCreated, NotExamined}
@@ -17,7 +18,7 @@ use Rattle.lv_editor.specs.Sessions.{RunsOver}
 use Rattle.lv_editor.specs.Texts.{findings_text}
 use Rattle.lv_requests.specs.declared.asked.Request.{Request}
 use Rattle.lv_requests.specs.declared.asked.Request.TheVariants.{Scratch, Create, Edit, Check, Inspect, Build}
-use Rattle.lv_editor.specs.declared.counted_wad.Counts.{Counts}
+use Rattle.lv_pwad.specs.declared.counted.BuildCounts.{BuildCounts}
 use Rattle.lv_editor.specs.declared.error.EditorError.{EditorError}
 use Rattle.lv_editor.specs.declared.refusal.Refusal.{Refusal}
 use Rattle.lv_editor.specs.declared.refusal.Refusal.TheVariants as of
@@ -99,7 +100,7 @@ IsExamined name (Err refusal) writer-old writer-new = NotExamined name refusal w
 -- the counts of a sound build of some project's maps were told, or it was refused
 abbrev pub IsBuiltInto : Result ℕ Refusal → Option (List ℕ) → Option (List ℕ) → Type 0
 IsBuiltInto (Ok status) writer-old writer-new =
-    (maps : MapsView) × (wad : List ℕ) × (c : Counts) × (status ≡ 0)
+    (maps : MapsView) × (wad : List ℕ) × (c : BuildCounts) × (status ≡ 0)
     × IsCounted (project_of maps).maps wad c
     × Appends writer-old writer-new (built_text c)
 IsBuiltInto (Err refusal) writer-old writer-new = NotBuilt refusal writer-old writer-new

@@ -16,10 +16,11 @@ use Rattle.lv_pwad.specs.Projects.{IsRefusalOfAll}
 use Rattle.lv_pwad.specs.Sound.{IsBuildRefusal, IsSoundBuild}
 use Rattle.lv_pwad.specs.declared.error.BuildError.{BuildError}
 use Rattle.lv_pwad.specs.declared.error.BuildError.TheVariants as refused
-use Rattle.lv_editor.specs.Building.{IsCounted, built_text}
+use Rattle.lv_pwad.specs.Counted.{IsCounted}
+use Rattle.lv_editor.specs.Building.{built_text}
 use Rattle.lv_editor.specs.Runs.{Unwritten}
 use Rattle.lv_editor.specs.Texts.{count_text, findings_text, hex_text, maps_text, refused_text}
-use Rattle.lv_editor.specs.declared.counted_wad.Counts.{Counts}
+use Rattle.lv_pwad.specs.declared.counted.BuildCounts.{BuildCounts}
 use Rattle.lv_editor.specs.declared.error.EditorError.{EditorError}
 use Rattle.lv_editor.specs.declared.error.EditorError.TheVariants.{OutOfMemory, WriterFailed}
 use Rattle.lv_editor.specs.declared.lump.BuiltLump.{BuiltLump}
@@ -94,7 +95,7 @@ pub record TellsRefusal (IsCause : BuildError → Type 0) (text : List ℕ) : Ty
 -- can't be built
 abbrev pub TellsBuild : List Tables → List ℕ → Type 0
 TellsBuild ms text =
-    ((wad : List ℕ) × (c : Counts) × IsCounted ms wad c × (text ≡ built_text c))
+    ((wad : List ℕ) × (c : BuildCounts) × IsCounted ms wad c × (text ≡ built_text c))
     ⊎ TellsRefusal (IsRefusalOfAll ms) text
 
 -- the text has the bytes of a lump of some sound build of the map, or the refusal of its build

@@ -14,7 +14,8 @@ use Rattle.lv_project.specs.States.{State}
 use Rattle.lv_project.specs.declared.error.ProjectError.{ProjectError}
 use Rattle.lv_project.specs.declared.error.ProjectError.TheVariants.{Device}
 use Rattle.lv_project.specs.declared.geometry.Geometry.{Geometry}
-use Rattle.lv_editor.specs.Building.{IsCounted, built_text}
+use Rattle.lv_pwad.specs.Counted.{IsCounted}
+use Rattle.lv_editor.specs.Building.{built_text}
 use Rattle.lv_editor.specs.Deeds.{ended, status_after, status_told, turns}
 use Rattle.lv_editor.specs.Editing.{RepliesInProject}
 use Rattle.lv_editor.specs.Inspections.{IsInspected, RefusesInspection}
@@ -22,7 +23,7 @@ use Rattle.lv_editor.specs.Refusals.{RefusesFile}
 use Rattle.lv_editor.specs.Runs.{Exchange, Ran, Unwritten}
 use Rattle.lv_editor.specs.Sessions.{RunsOver}
 use Rattle.lv_editor.specs.Texts.{findings_text}
-use Rattle.lv_editor.specs.declared.counted_wad.Counts.{Counts}
+use Rattle.lv_pwad.specs.declared.counted.BuildCounts.{BuildCounts}
 use Rattle.lv_editor.specs.declared.error.EditorError.{EditorError}
 use Rattle.lv_editor.specs.declared.error.EditorError.TheVariants.{WriterFailed}
 use Rattle.lv_editor.specs.declared.refusal.Refusal.{Refusal}
@@ -109,7 +110,7 @@ IsCheckedOf m _ writer-old writer-new = ⊥
 -- nothing was told; or the file to be made can't be opened or holds a project, or the writer failed
 abbrev pub IsBuiltOf : MapsView → Result ℕ Refusal → Option (List ℕ) → Option (List ℕ) → Type 0
 IsBuiltOf maps (Ok status) writer-old writer-new =
-    (wad : List ℕ) × (c : Counts) × (status ≡ 0) × IsCounted (project_of maps).maps wad c
+    (wad : List ℕ) × (c : BuildCounts) × (status ≡ 0) × IsCounted (project_of maps).maps wad c
     × Appends writer-old writer-new (built_text c)
 IsBuiltOf maps (Err (of.Build e)) writer-old writer-new =
     RefusesFile (project_of maps).maps (of.Build e) × Keeps writer-old writer-new

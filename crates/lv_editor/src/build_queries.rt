@@ -10,14 +10,14 @@ ghost use Rattle.lv_editor.specs.Runs.{Unwritten};
 ghost use Rattle.lv_editor.specs.Texts.{hex_text};
 ghost use Rattle.lv_editor.specs.declared.query.Query.TheVariants.{Build};
 
-use crate::counted_wad::{build_counted, write_counts};
+use crate::counted_wad::write_counts;
 use crate::error::EditorError;
 use crate::hex::hex_text;
 use crate::lump::BuiltLump;
 use crate::outcome::write_outcome;
 use lv_lumps::{LumpError, Vertex, encode_nodes, encode_segs, encode_subs, encode_vertices};
 use lv_maptables::{Kind, Map, Maps};
-use lv_pwad::{BuildError, Level, build_wad, read_level};
+use lv_pwad::{BuildError, Level, build_counted, build_wad, read_level};
 use std::alloc::Global;
 use std::io::Write;
 

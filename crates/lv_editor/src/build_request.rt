@@ -3,17 +3,19 @@ ghost use Rattle.std.specs.Prelude.{◌≡◌, ◌≤◌, List, ℕ, IfErr, IfOk
 ghost use Rattle.std.specs.Io.KnownBytes.{Appends};
 ghost use Rattle.lv_maptables.specs.Projects.{project_of};
 ghost use Rattle.lv_editor.specs.declared.error.EditorError.TheVariants.{WriterFailed};
-ghost use Rattle.lv_editor.specs.Building.{IsCounted, built_text};
+ghost use Rattle.lv_pwad.specs.Counted.{IsCounted};
+ghost use Rattle.lv_editor.specs.Building.{built_text};
 ghost use Rattle.lv_editor.specs.Refusals.{RefusesFile};
 ghost use Rattle.lv_editor.specs.Sources.{IsBuiltOf, IsOnlyRead, OverMaps};
 
-use crate::counted_wad::{Counts, write_counts, write_wad};
+use crate::counted_wad::{write_counts, write_wad};
 use crate::error::{EditorError, WriteError};
 use crate::over_disk::{HandedBack, open_project};
 use crate::refusal::Refusal;
 use lv_disk::{Disk, FileDisk};
 use lv_maptables::Maps;
 use lv_project::{Project, ProjectError};
+use lv_pwad::BuildCounts;
 use std::alloc::Global;
 use std::fs::{Files, OpenFile, OpenOptions};
 use std::io::Write;
@@ -25,7 +27,7 @@ fn build_into<F: Write + OpenFile>(
     alloc: Global,
     maps: &Maps,
     file: &mut F,
-) -> Result<Counts, Refusal>
+) -> Result<BuildCounts, Refusal>
     ensures written { IfOk result
         (λ counts. (wad : List ℕ) × IsCounted (project_of maps.now).maps wad counts) }
     ensures refused { IfErr result (RefusesFile (project_of maps.now).maps) }
@@ -43,7 +45,7 @@ fn build_into<F: Write + OpenFile>(
 }
 
 // Tells what a build made, and hands it on.
-fn tell_built<W: Write>(counts: Counts, writer: &mut W) -> Result<u8, Refusal>
+fn tell_built<W: Write>(counts: BuildCounts, writer: &mut W) -> Result<u8, Refusal>
     ensures told { MatchResult result (λ status. (status ≡ 0)
         × Appends (W.contents writer.old) (W.contents writer.new) (built_text counts))
         (λ refusal. refusal ≡ Refusal.Lines WriterFailed) }

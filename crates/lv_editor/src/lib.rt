@@ -26,11 +26,12 @@ mod refusal;
 mod session;
 mod status;
 
-pub use counted_wad::{Counts, write_wad};
+pub use counted_wad::write_wad;
 pub use drawing::run_in_memory;
 pub use editing::{answer, run};
 pub use error::{EditorError, InspectError, RecoveryError, WriteError};
 pub use findings::write_findings;
 pub use inspection::inspect;
+pub use lv_pwad::BuildCounts as Counts;
 pub use program::perform;
 pub use recovery::{Recovery, build_after_any_stop, sessions_hold_runs};

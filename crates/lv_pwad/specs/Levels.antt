@@ -84,8 +84,7 @@ record_sizes = 10 ∷ 14 ∷ 30 ∷ 4 ∷ 12 ∷ 4 ∷ 28 ∷ 26 ∷ 1 ∷ 2 ∷
 -- the entries from k on have these names
 abbrev pub are_named : List ℕ → ℕ → List Name8 → Bool
 are_named wad k [] = true
-are_named wad k (name ∷ names) =
-    entry_has_name wad (name_text name) k && are_named wad (k + 1) names
+are_named wad k (name ∷ more) = entry_has_name wad (name_text name) k && are_named wad (k + 1) more
 
 -- ten entries follow the marker, with the names of a level's lumps
 abbrev pub has_lumps : List ℕ → ℕ → Bool
@@ -113,8 +112,7 @@ are_whole wad k (size ∷ sizes) = (((entry wad k).size % size) == 0) && are_who
 -- ---- what refuses a level
 
 abbrev pub is_wad : List ℕ → Bool
-is_wad wad =
-    nat_le 12 (length wad)
+is_wad wad = nat_le 12 (length wad)
     && (same_bytes (take 4 wad) (codes "IWAD") || same_bytes (take 4 wad) (codes "PWAD"))
 
 abbrev pub has_directory : List ℕ → Bool

@@ -123,7 +123,8 @@ fn lumps_of(alloc: Global, levels: &[NamedLevel]) -> Result<Vec<NamedLump>, Buil
 /// The PWAD of the levels, of which each is read back by its name.
 pub fn wad_of_levels(alloc: Global, levels: &[NamedLevel]) -> Result<Vec<u8>, BuildError>
     requires { AreParts (level_parts levels.now) }
-    ensures bytes { IfOk result (λ wad. wad.items ≡ wad_bytes (all_lumps (level_parts levels.now))) }
+    ensures bytes { IfOk result (λ wad.
+        wad.items ≡ wad_bytes (all_lumps (level_parts levels.now))) }
     ensures levels { IfOk result (λ wad.
         All (λ l. IsLevel wad.items (name_text l.name) (view l.level)) levels.now) }
     ensures memory { IsOkUnless result BuildError.OutOfMemory }

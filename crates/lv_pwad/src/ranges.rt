@@ -149,7 +149,8 @@ fn seg_vertex(level: &Level) -> Option<Fault>
 
 // Where the first fault of this kind stands.
 fn seg_line_place(level: &Level) -> Option<usize>
-    ensures { result ≡ first_wrong (λ s. is_in_range (view level.now).lines s.line) level.now.segs.items }
+    ensures { result
+        ≡ first_wrong (λ s. is_in_range (view level.now).lines s.line) level.now.segs.items }
 {
     level
         .segs

@@ -2,11 +2,11 @@ use Rattle.std.proofs.Common.{◌≡◌, ◌++◌, [], ◌∷◌, List, ℕ, sym
 use Rattle.std.specs.Prelude.{codes, decimal}
 use Rattle.std.specs.Io.KnownBytes.{Appends}
 use Rattle.lv_editor.specs.Building.{built_text}
-use Rattle.lv_editor.specs.declared.counted_wad.Counts.{Counts}
+use Rattle.lv_pwad.specs.declared.counted.BuildCounts.{BuildCounts}
 use Rattle.lv_editor.proofs.counted_wad.write_counts.Goals as goal
 
 -- the parts one in the other, as they are written
-in_parts : (c : Counts) → built_text c ≡ codes "built vertices " ++ (decimal c.vertices ++ (codes " segs " ++ (decimal c.segs
+in_parts : (c : BuildCounts) → built_text c ≡ codes "built vertices " ++ (decimal c.vertices ++ (codes " segs " ++ (decimal c.segs
     ++ (codes " subsectors " ++ (decimal c.subs ++ (codes " nodes " ++ (decimal c.nodes ++ (codes " bytes " ++ (decimal c.bytes
     ++ 10 ∷ [])))))))))
 in_parts c = simp append_assoc
