@@ -39,7 +39,9 @@ own_name name m e = (bytes_eq-Decides m.name.bytes name.bytes).1 (ap (λ n. n.by
 -- where each map has another name, none has it
 none_named : (p : ProjectMaps) (name : Name8) → ((k : ℕ) (d : Tables) → k < length p.maps → is_named name (get_or p.maps k d) ≡ false) → has_map p name ≡ false
 none_named p name others =
-    let past : project.number_of p name ≡ length p.maps = position_or_len_is (is_named name) p.maps (length p.maps) empty_tables (omega arith) (λ k h. others k empty_tables h) (λ h. absurd (omega (arith, h))) in
+    let past : project.number_of p name ≡ length p.maps =
+    position_or_len_is (is_named name) p.maps (length p.maps) empty_tables (omega arith)
+    (λ k h. others k empty_tables h) (λ h. absurd (omega (arith, h))) in
     ap (λ n. nat_lt n (length p.maps)) past ∙ le-ltb (length p.maps) (length p.maps) (omega arith)
 
 and-false : (b : Bool) → (b && false) ≡ false
@@ -112,13 +114,16 @@ leads_maps cap p k done m (x ∷ ms) w fits e =
       (
         drawing front (with_name empty_tables x.name),
         leads_new cap (drawing done m) x.name fine.name new room short,
-        Draws-append cap (drawing front (with_name empty_tables x.name)) (drawing front x) (record { maps = p.maps; current = rest.0 }) (map Edit (items_of x)) (commands_from (suc (suc k)) ms) (leads_items cap front x fine part) rest.1,
+        Draws-append cap (drawing front (with_name empty_tables x.name)) (drawing front x)
+            (record { maps = p.maps; current = rest.0 }) (map Edit (items_of x)) (commands_from (suc (suc k)) ms)
+            (leads_items cap front x fine part) rest.1,
       ),
     )
 
 -- ---- The current map is selected
 
-leads_current : (cap : ℕ) (p : ProjectMaps) (n : ℕ) → WellFormedProject p → body_len p ≤ cap → LeadsTo cap (record { maps = p.maps; current = n }) (spelling (SelectMap (current_map p).name)) p
+leads_current : (cap : ℕ) (p : ProjectMaps) (n : ℕ) → WellFormedProject p → body_len p ≤ cap
+    → LeadsTo cap (record { maps = p.maps; current = n }) (spelling (SelectMap (current_map p).name)) p
 leads_current cap p n w fits =
     let q : ProjectMaps = record { maps = p.maps; current = n } in
     let name = (current_map p).name in
@@ -142,7 +147,8 @@ leads_current cap p n w fits =
 
 -- ---- All lines
 
-draws_maps : (cap : ℕ) (p : ProjectMaps) (m : Tables) (ms : List Tables) → WellFormedProject p → body_len p ≤ cap → p.maps ≡ m ∷ ms → Reaches cap empty_project (commands_from 0 (m ∷ ms)) p.maps
+draws_maps : (cap : ℕ) (p : ProjectMaps) (m : Tables) (ms : List Tables) → WellFormedProject p → body_len p ≤ cap → p.maps ≡ m ∷ ms
+    → Reaches cap empty_project (commands_from 0 (m ∷ ms)) p.maps
 draws_maps cap p m ms w fits e =
     let fine : WellFormed m = holds_at WellFormed [] ms m (subst (All WellFormed) e w.maps) in
     let part : body_len (drawing [] m) ≤ cap = omega (arith, fits, front_len p.maps [] ms m e) in
@@ -151,7 +157,9 @@ draws_maps cap p m ms w fits e =
       (
         drawing [] (with_name empty_tables m.name),
         leads_name cap m fine part,
-        Draws-append cap (drawing [] (with_name empty_tables m.name)) (drawing [] m) (record { maps = p.maps; current = rest.0 }) (map Edit (items_of m)) (commands_from 1 ms) (leads_items cap [] m fine part) rest.1,
+        Draws-append cap (drawing [] (with_name empty_tables m.name)) (drawing [] m)
+            (record { maps = p.maps; current = rest.0 }) (map Edit (items_of m)) (commands_from 1 ms)
+            (leads_items cap [] m fine part) rest.1,
       ),
     )
 

@@ -85,13 +85,16 @@ pub line_free : (m n : Tables) (front back : List Line) (l : Line) → WellForme
 line_free m n front back l w e is vs ss =
     let ends = holds_at (HasEnds m.vertices) front back l (subst (All (HasEnds m.vertices)) e w.ends) in
     let sides = holds_at (HasSides m.sides) front back l (subst (All (HasSides m.sides)) e w.line_sides) in
-    let there : (lacks m.vertices l.v1 || lacks m.vertices l.v2) ≡ false = or-both (lacks m.vertices l.v1) (lacks m.vertices l.v2) (lacks-not m.vertices l.v1 ends.v1) (lacks-not m.vertices l.v2 ends.v2) in
-    let beside : (lacks m.sides l.right || (has_left l && lacks m.sides l.left)) ≡ false = or-both (lacks m.sides l.right) (has_left l && lacks m.sides l.left) (lacks-not m.sides l.right sides.right) (left-there m.sides l (nat_eq l.left no_side) refl sides) in
+    let there : (lacks m.vertices l.v1 || lacks m.vertices l.v2) ≡ false =
+    or-both (lacks m.vertices l.v1) (lacks m.vertices l.v2) (lacks-not m.vertices l.v1 ends.v1) (lacks-not m.vertices l.v2 ends.v2) in
+    let beside : (lacks m.sides l.right || (has_left l && lacks m.sides l.left)) ≡ false =
+    or-both (lacks m.sides l.right) (has_left l && lacks m.sides l.left) (lacks-not m.sides l.right sides.right) (left-there m.sides l (nat_eq l.left no_side) refl sides) in
     let differ : nat_eq l.v1 l.v2 ≡ false = false_from_ne_true (nat_eq l.v1 l.v2) (λ t. ends.differ (eqb-true l.v1 l.v2 t)) in
     let flags : (is_two_sided l && not (has_left l)) ≡ false = two-sided m.sides l (is_two_sided l) (nat_eq l.left no_side) refl refl sides in
     let few = room m.lines front back l e w.line_count in
     let short : is_too_long m.vertices l ≡ false = le-ltb longest_squared (squared_distance (nth_vertex m.vertices l.v1) (nth_vertex m.vertices l.v2)) ends.short in
-    (λ i. least ((3, lacks (vs i) l.v1 || lacks (vs i) l.v2) ∷ (5, lacks (ss i) l.right || (has_left l && lacks (ss i) l.left)) ∷ (9, nat_eq l.v1 l.v2) ∷ (11, is_two_sided l && not (has_left l)) ∷ (12, lacks_room (is i) 1) ∷ (13, is_too_long (vs i) l) ∷ []))
+    (λ i. least ((3, lacks (vs i) l.v1 || lacks (vs i) l.v2) ∷ (5, lacks (ss i) l.right || (has_left l && lacks (ss i) l.left))
+    ∷ (9, nat_eq l.v1 l.v2) ∷ (11, is_two_sided l && not (has_left l)) ∷ (12, lacks_room (is i) 1) ∷ (13, is_too_long (vs i) l) ∷ []))
     ∙ (λ i. least ((3, there i) ∷ (5, beside i) ∷ (9, differ i) ∷ (11, flags i) ∷ (12, few i) ∷ (13, short i) ∷ []))
 
 pub thing_free : (m n : Tables) (front back : List Thing) (t : Thing) → WellFormed m → m.things ≡ front ++ t ∷ back → n.things ≡ front

@@ -62,7 +62,9 @@ leads_one cap done whole old new c a naming fits =
     let p = drawing done old in
     let here : current_map p ≡ old = get_middle done [] old empty_tables in
     let none = least-none (of_one_map.faults (current_map p) c) (naming_faults p c) (ap (λ m. least (of_one_map.faults m c)) here ∙ a.free) ∙ naming in
-    let is : after p (Edit c) ≡ drawing done new = ap (λ m. with_current p (of_one_map.after m c)) here ∙ ap (with_current p) a.made ∙ (λ i. record { maps = set_middle done [] old new i; current = length done }) in
+    let is : after p (Edit c) ≡ drawing done new =
+    ap (λ m. with_current p (of_one_map.after m c)) here ∙ ap (with_current p) a.made
+    ∙ (λ i. record { maps = set_middle done [] old new i; current = length done }) in
     let few : body_len (drawing done new) ≤ cap = omega (arith, fits, a.short, sum_by_push part_len done new, sum_by_push part_len done whole) in
     let short : nat_lt cap (body_len (after p (Edit c))) ≡ false = ap (λ q. nat_lt cap (body_len q)) is ∙ le-ltb cap (body_len (drawing done new)) few in (
       number_of p (Edit c),
@@ -186,7 +188,17 @@ leads_items cap done m w fits =
     let lines = leads_table cap done m AddLine (to_lines m) m.lines [] m.lines fits refl (line_adds m w) in
     let things = leads_table cap done m AddThing (to_things m) m.things [] m.things fits refl (thing_adds m w) in
     let start = drawing done (with_name empty_tables m.name) in
-    let two = edits-append cap start (drawing done (to_vertices m m.vertices)) (drawing done (to_sectors m m.sectors)) (map AddVertex m.vertices) (map AddSector m.sectors) vertices sectors in
-    let three = edits-append cap start (drawing done (to_sectors m m.sectors)) (drawing done (to_sides m m.sides)) (map AddVertex m.vertices ++ map AddSector m.sectors) (map AddSide m.sides) two sides in
-    let four = edits-append cap start (drawing done (to_sides m m.sides)) (drawing done (to_lines m m.lines)) (map AddVertex m.vertices ++ map AddSector m.sectors ++ map AddSide m.sides) (map AddLine m.lines) three lines in
-    edits-append cap start (drawing done (to_lines m m.lines)) (drawing done m) (map AddVertex m.vertices ++ map AddSector m.sectors ++ map AddSide m.sides ++ map AddLine m.lines) (map AddThing m.things) four things
+    let to_one = drawing done (to_vertices m m.vertices) in
+    let to_two = drawing done (to_sectors m m.sectors) in
+    let to_three = drawing done (to_sides m m.sides) in
+    let to_four = drawing done (to_lines m m.lines) in
+    let end = drawing done m in
+    let behind_four = map AddThing m.things ++ [] in
+    let behind_three = map AddLine m.lines ++ behind_four in
+    let behind_two = map AddSide m.sides ++ behind_three in
+    let behind_one = map AddSector m.sectors ++ behind_two in
+    let from_four = edits-append cap to_four end end (map AddThing m.things) [] things refl in
+    let from_three = edits-append cap to_three to_four end (map AddLine m.lines) behind_four lines from_four in
+    let from_two = edits-append cap to_two to_three end (map AddSide m.sides) behind_three sides from_three in
+    let from_one = edits-append cap to_one to_two end (map AddSector m.sectors) behind_two sectors from_two in
+    edits-append cap start to_one end (map AddVertex m.vertices) behind_one vertices from_one

@@ -1,28 +1,43 @@
 -- The lines that draw a project's maps again.
-use Rattle.std.specs.Prelude.{ℕ, zero, suc, List, [], ◌∷◌, ◌++◌, map}
+use Rattle.std.specs.Prelude.{ℕ, zero, suc, List, [], ◌∷◌, ◌++◌, map, flat_map}
 use Rattle.lv_lumps.specs.declared.records.Name8.{Name8}
+use Rattle.lv_maptables.specs.declared.kind.Kind.{Kind}
+use Rattle.lv_maptables.specs.declared.kind.Kind.TheVariants as kind
 use Rattle.lv_maptables.specs.Tables.{Tables}
 use Rattle.lv_maptables.specs.Projects.{ProjectMaps, current_map}
+use Rattle.lv_commands.specs.Grammar.{kinds}
 use Rattle.lv_commands.specs.ProjectCommands.{spelling}
 use Rattle.lv_commands.specs.declared.command.Command.{Command}
-use Rattle.lv_commands.specs.declared.command.Command.TheVariants.{Name, AddVertex, AddSector, AddSide, AddLine, AddThing}
+use Rattle.lv_commands.specs.declared.command.Command.TheVariants.{Name, AddVertex, AddSector, AddSide, AddLine}
+use Rattle.lv_commands.specs.declared.command.Command.TheVariants.{AddThing}
 use Rattle.lv_commands.specs.declared.project.command.ProjectCommand.{ProjectCommand}
 use Rattle.lv_commands.specs.declared.project.command.ProjectCommand.TheVariants.{Edit, SelectMap}
 
--- the command by which the map of a number gets its name: the first is there and is renamed, each other is added
-abbrev pub head_of : ℕ → Name8 → ProjectCommand
-head_of zero name = Edit (Name name)
-head_of (suc n) name = SelectMap name
+-- the command by which the map of a number gets its name: the first is there and is renamed, each
+-- other is added
+abbrev pub naming_of : ℕ → Name8 → ProjectCommand
+naming_of zero name = Edit (Name name)
+naming_of (suc n) name = SelectMap name
+
+-- the commands that add the items of a table
+abbrev pub additions_of : Tables → Kind → List Command
+additions_of m kind.Vertex = map AddVertex m.vertices
+additions_of m kind.Sector = map AddSector m.sectors
+additions_of m kind.Side = map AddSide m.sides
+additions_of m kind.Line = map AddLine m.lines
+additions_of m kind.Thing = map AddThing m.things
 
 -- the commands that add a map's items, table by table, each item after those that it names
 abbrev pub items_of : Tables → List Command
-items_of m =
-    map AddVertex m.vertices ++ map AddSector m.sectors ++ map AddSide m.sides ++ map AddLine m.lines
-    ++ map AddThing m.things
+items_of m = flat_map (additions_of m) kinds
+
+-- commands of the current map, as commands of the project
+abbrev pub edits_of : List Command → List ProjectCommand
+edits_of commands = map Edit commands
 
 -- the commands that draw the map of a number
 abbrev pub commands_of_map : ℕ → Tables → List ProjectCommand
-commands_of_map n m = head_of n m.name ∷ map Edit (items_of m)
+commands_of_map n m = naming_of n m.name ∷ edits_of (items_of m)
 
 -- the commands that draw maps of which the first has the number
 abbrev pub commands_from : ℕ → List Tables → List ProjectCommand

@@ -1,10 +1,12 @@
--- What the lines of a dump lead to.
-use Rattle.std.specs.Prelude.{◌≡◌, ℕ, ◌≤◌}
+-- What the lines of a dump lead to, and what its text is cut into.
+use Rattle.std.specs.Prelude.{◌≡◌, ℕ, ◌≤◌, List}
 use Rattle.lv_maptables.specs.Projects.{ProjectMaps, WellFormedProject, body_len, empty_project}
 use Rattle.lv_commands.specs.ProjectLines.{Leads}
 use Rattle.lv_dump.specs.Dump.{dump_of}
+use Rattle.lv_dump.specs.Texts.{IsCutInto, text_of}
 
--- each line of the project's dump is accepted, and they lead from the empty project to this one, at each limit that holds its body
+-- each line of the project's dump is accepted, and they lead from the empty project to this one, at
+-- each limit that holds its body
 abbrev pub DrawsAgain : ProjectMaps → Type 0
 DrawsAgain p = (cap : ℕ) → body_len p ≤ cap → Leads cap empty_project (dump_of p) p
 
@@ -16,3 +18,12 @@ DumpsDrawAgain = (p : ProjectMaps) → WellFormedProject p → DrawsAgain p
 abbrev pub DumpsTellProjectsApart : Type 0
 DumpsTellProjectsApart =
     (p q : ProjectMaps) → WellFormedProject p → WellFormedProject q → dump_of p ≡ dump_of q → p ≡ q
+
+-- the text of the project's dump is cut into the lines of the dump, and into no others
+pub record HoldsItsLines (p : ProjectMaps) : Type 0 where
+  pub cut : IsCutInto (text_of (dump_of p)) (dump_of p)
+  pub only : (lines : List (List ℕ)) → IsCutInto (text_of (dump_of p)) lines → lines ≡ dump_of p
+
+-- so is the text of every well-formed project's dump
+abbrev pub DumpsAreCutIntoLines : Type 0
+DumpsAreCutIntoLines = (p : ProjectMaps) → WellFormedProject p → HoldsItsLines p

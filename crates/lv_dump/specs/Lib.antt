@@ -1,2 +1,4 @@
 pub mod Dump
+pub mod Errors
 pub mod Laws
+pub mod Texts

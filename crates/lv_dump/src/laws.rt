@@ -1,5 +1,5 @@
 //! Laws of dumps, each the contract of a call without a body.
-ghost use Rattle.lv_dump.specs.Laws.{DumpsDrawAgain, DumpsTellProjectsApart};
+ghost use Rattle.lv_dump.specs.Laws.{DumpsAreCutIntoLines, DumpsDrawAgain, DumpsTellProjectsApart};
 
 /// The lines of a project's dump lead from the empty project to it.
 pub fn draw_again()
@@ -9,4 +9,9 @@ pub fn draw_again()
 /// Two projects with one dump are one.
 pub fn tell_projects_apart()
     ensures { DumpsTellProjectsApart }
+{}
+
+/// The text of a project's dump, cut at LF, is the lines of the dump.
+pub fn are_cut_into_lines()
+    ensures { DumpsAreCutIntoLines }
 {}

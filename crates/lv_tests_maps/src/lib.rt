@@ -1,4 +1,4 @@
-//! The tests of lumps, maps, commands and findings: worked examples, and what lines draw.
+//! The tests of lumps, maps, commands, findings and dumps: worked examples, and what lines draw.
 #![tactic(auto)]
 
 #[cfg(test)]
@@ -8,6 +8,8 @@ mod checks;
 #[cfg(test)]
 mod commands;
 pub mod drawing;
+#[cfg(test)]
+mod dump;
 #[cfg(test)]
 mod expect;
 #[cfg(test)]

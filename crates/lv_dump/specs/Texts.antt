@@ -1,0 +1,45 @@
+-- Lines as they are written, and how a call ends that writes some.
+use Rattle.std.specs.Prelude.{◌≡◌, ℕ, Bool, ◌==◌, not, List, ◌∷◌, [], ◌++◌, map, flat_map, IsTrue, Option, Result, Ok, Err}
+use Rattle.std.specs.Io.KnownBytes.{Appends}
+use Rattle.std.specs.List.{list_all}
+use Rattle.lv_commands.specs.ProjectCommands.{spelling}
+use Rattle.lv_commands.specs.declared.project.command.ProjectCommand.{ProjectCommand}
+use Rattle.lv_dump.specs.declared.error.DumpError.{DumpError}
+use Rattle.lv_dump.specs.declared.error.DumpError.TheVariants.{WriterFailed, OutOfMemory}
+
+-- a line with LF behind it
+abbrev pub ended : List ℕ → List ℕ
+ended line = line ++ 10 ∷ []
+
+-- the text of lines: each with LF behind it
+abbrev pub text_of : List (List ℕ) → List ℕ
+text_of lines = flat_map ended lines
+
+-- no byte is LF
+abbrev pub is_one_line : List ℕ → Bool
+is_one_line bytes = list_all (λ b. not (b == 10)) bytes
+
+-- the text, cut at LF, is these lines
+pub record IsCutInto (text : List ℕ) (lines : List (List ℕ)) : Type 0 where
+  pub joined : text ≡ text_of lines
+  pub cut : IsTrue (list_all is_one_line lines)
+
+-- the first of these lines have been written, each with LF behind it, and nothing else
+pub record WritesFront (lines : List (List ℕ)) (old new : Option (List ℕ)) : Type 0 where
+  pub front : List (List ℕ)
+  pub back : List (List ℕ)
+  pub parted : lines ≡ front ++ back
+  pub written : Appends old new (text_of front)
+
+-- how a call ended that was to write these lines: all were written, or those before one that found
+-- no memory; where the writer failed nothing is said of what it holds
+abbrev pub WritesLines : {U : Type 0} → Result U DumpError → List (List ℕ)
+    → Option (List ℕ) → Option (List ℕ) → Type 0
+WritesLines (Ok u) lines old new = Appends old new (text_of lines)
+WritesLines (Err OutOfMemory) lines old new = WritesFront lines old new
+WritesLines (Err WriterFailed) lines old new = Unit {0}
+
+-- the same of the lines of commands
+abbrev pub Writes : {U : Type 0} → Result U DumpError → List ProjectCommand
+    → Option (List ℕ) → Option (List ℕ) → Type 0
+Writes result commands old new = WritesLines result (map spelling commands) old new

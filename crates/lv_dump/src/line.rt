@@ -1,0 +1,74 @@
+//! A line of a dump: the command that it is, and how it is written.
+ghost use Rattle.std.specs.Prelude.{◌≡◌, ◌∷◌, [], IfOk, IfSome, IsOkUnless, slice_get};
+ghost use Rattle.lv_commands.specs.CommandRanges as of_one_map;
+ghost use Rattle.lv_commands.specs.ProjectCommands.{InRange, spelling};
+ghost use Rattle.lv_dump.specs.Dump.{additions_of, naming_of};
+ghost use Rattle.lv_dump.specs.Texts.{Writes, ended};
+ghost use Rattle.lv_lumps.specs.Names.{IsNamed, is_marker};
+
+use crate::error::DumpError;
+use lv_commands::{Command, ProjectCommand, print};
+use lv_lumps::Name8;
+use lv_maptables::{Kind, Map};
+use std::alloc::Global;
+use std::io::Write;
+
+/// The command by which the map of a number gets its name.
+pub fn naming(n: u32, name: Name8) -> ProjectCommand
+    requires { IsNamed is_marker name }
+    ensures command { result ≡ naming_of n name }
+    ensures range { InRange result }
+{
+    if n == 0 {
+        ProjectCommand::Edit(Command::Name(name))
+    } else {
+        ProjectCommand::SelectMap(name)
+    }
+}
+
+/// The command that adds the item of a number to its table.
+pub fn addition(map: &Map, kind: Kind, n: u32) -> Option<Command>
+    ensures command { result ≡ slice_get (additions_of map.now.tables kind) n }
+    ensures range { IfSome result of_one_map.InRange }
+{
+    match kind {
+        Kind::Vertex => map.vertex(n).map(Command::AddVertex),
+        Kind::Sector => map.sector(n).map(Command::AddSector),
+        Kind::Side => map.side(n).map(Command::AddSide),
+        Kind::Line => map.line(n).map(Command::AddLine),
+        Kind::Thing => map.thing(n).map(Command::AddThing),
+    }
+}
+
+// The line of the command, with LF behind it.
+fn line_of(alloc: Global, command: &ProjectCommand) -> Result<Vec<u8>, DumpError>
+    requires { InRange command.now }
+    ensures line { IfOk result (λ v. v.items ≡ ended (spelling command.now)) }
+    ensures memory { IsOkUnless result DumpError.OutOfMemory }
+{
+    let Ok(mut line) = print(alloc, command) else {
+        return Err(DumpError::OutOfMemory);
+    };
+    match line.push(b'\n') {
+        Ok(()) => Ok(line),
+        Err(_) => Err(DumpError::OutOfMemory),
+    }
+}
+
+/// Writes the line of the command, all of it at once.
+pub fn write_command<W: Write>(
+    alloc: Global,
+    command: &ProjectCommand,
+    writer: &mut W,
+) -> Result<(), DumpError>
+    requires { InRange command.now }
+    ensures { Writes result (command.now ∷ []) (W.contents writer.old) (W.contents writer.new) }
+{
+    match line_of(alloc, command) {
+        Ok(line) => match writer.write_all(&line) {
+            Ok(()) => Ok(()),
+            Err(_) => Err(DumpError::WriterFailed),
+        },
+        Err(error) => Err(error),
+    }
+}
