@@ -1,0 +1,9 @@
+pub mod Errors
+pub mod Texts
+pub mod Known
+pub mod Starts
+pub mod Tags
+pub mod Areas
+pub mod Rules
+pub mod Tallies
+pub mod Facts

@@ -1,0 +1,43 @@
+-- What the bodies count: tags that are there, and the areas of sectors.
+use Rattle.std.specs.Prelude.{◌≡◌, ℕ, ◌*◌, ◌<◌, ◌^◌, Bool, false, ◌==◌, List, length, get_or, take, flat_map, fold, ℤ, pos, neg_ℤ, ◌+ℤ◌, ◌≤ℤ◌}
+use Rattle.std.specs.List.{list_any}
+use Rattle.lv_maptables.specs.Tables.{Tables}
+use Rattle.lv_checks.specs.Corners.{Edge, edges_of}
+use Rattle.lv_lint.specs.Areas.{part_in, doubled_area}
+
+-- the mark of each tag says whether an item has it
+pub record MarksTags {X : Type 0} (tag : X → ℕ) (xs : List X) (marks : List Bool) : Type 0 where
+  pub count : length marks ≡ 65536
+  pub marked : (t : ℕ) → t < 65536 → get_or marks t false ≡ list_any (λ x. tag x == t) xs
+
+-- two numbers are at most k apart
+pub record IsNear (k : ℕ) (a b : ℤ) : Type 0 where
+  pub low : a ≤ℤ (b +ℤ pos k)
+  pub high : b ≤ℤ (a +ℤ pos k)
+
+-- the sums are at most k away from 0
+pub record AreWithin (k : ℕ) (sums : List ℤ) : Type 0 where
+  pub near : (s : ℕ) → IsNear k (pos 0) (get_or sums s (pos 0))
+
+-- the edge's part was added to the sum of its sector
+pub record AddsArea (m : Tables) (e : Edge) (old new : List ℤ) : Type 0 where
+  pub count : length new ≡ length old
+  pub sums : (s : ℕ) → get_or new s (pos 0) ≡ get_or old s (pos 0) +ℤ part_in m s e
+  pub near : (s : ℕ) → IsNear (2 ^ 48) (get_or old s (pos 0)) (get_or new s (pos 0))
+
+-- the edges' parts, at most two, were added to the sums of their sectors
+pub record AddsAreas (m : Tables) (es : List Edge) (old new : List ℤ) : Type 0 where
+  pub count : length new ≡ length old
+  pub sums : (s : ℕ) → get_or new s (pos 0) ≡ fold (λ sum e. sum +ℤ part_in m s e) (get_or old s (pos 0)) es
+  pub near : (s : ℕ) → IsNear (2 ^ 49) (get_or old s (pos 0)) (get_or new s (pos 0))
+
+-- each sum is twice the area of its sector
+pub record AreAreas (m : Tables) (areas : List ℤ) : Type 0 where
+  pub count : length areas ≡ length m.sectors
+  pub sums : (s : ℕ) → get_or areas s (pos 0) ≡ doubled_area m s
+
+-- each sum is twice the area that the sector's edges of the first n lines run round
+pub record AreSums (m : Tables) (n : ℕ) (areas : List ℤ) : Type 0 where
+  pub count : length areas ≡ length m.sectors
+  pub sums : (s : ℕ) → get_or areas s (pos 0) ≡ fold (λ sum e. sum +ℤ part_in m s e) (pos 0) (flat_map (edges_of m) (take n m.lines))
+  pub within : AreWithin (2 ^ 49 * n) areas

@@ -1,0 +1,24 @@
+-- The text of a warning: one line without its end.
+use Rattle.std.specs.Prelude.{ℕ, List, ◌++◌, codes, decimal}
+use Rattle.lv_lint.specs.declared.warning.Warning.{Warning}
+use Rattle.lv_lint.specs.declared.warning.Rule.{Rule}
+use Rattle.lv_lint.specs.declared.warning.Rule.TheVariants.{PlayerStart, OneStart, DeathmatchStarts, CeilingAboveFloor, TagGiven, TagOfSector, TagOfLine, LineSpecialKnown, SectorSpecialKnown, ThingKnown, TextureShows, SectorInside}
+
+-- the word for what is wrong where a rule is broken
+abbrev pub word_of : Rule → List ℕ
+word_of PlayerStart = codes "no-start"
+word_of OneStart = codes "start-twice"
+word_of DeathmatchStarts = codes "few-deathmatch-starts"
+word_of CeilingAboveFloor = codes "ceiling-below-floor"
+word_of TagGiven = codes "tag-missing"
+word_of TagOfSector = codes "tag-of-no-sector"
+word_of TagOfLine = codes "tag-of-no-line"
+word_of LineSpecialKnown = codes "line-special-unknown"
+word_of SectorSpecialKnown = codes "sector-special-unknown"
+word_of ThingKnown = codes "thing-type-unknown"
+word_of TextureShows = codes "texture-hidden"
+word_of SectorInside = codes "sector-inside-out"
+
+-- the text of a warning: the word, a space and the number in decimal
+abbrev pub warning_text : Warning → List ℕ
+warning_text w = word_of w.rule ++ codes " " ++ decimal w.number

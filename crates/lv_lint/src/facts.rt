@@ -1,0 +1,31 @@
+//! What is counted before the rules are looked at.
+ghost use Rattle.std.specs.Prelude.{IfOk};
+ghost use Rattle.lv_lint.specs.Facts.{AreFacts};
+
+use crate::areas::areas_of;
+use crate::error::LintError;
+use crate::tags::{tags_of_lines, tags_of_sectors};
+use lv_maptables::Map;
+use std::alloc::Global;
+
+/// Which tags the sectors have and which the lines, and twice the area of each sector.
+#[derive(Drop)]
+pub(crate) struct Facts {
+    pub sector_tags: Vec<bool>,
+    pub line_tags: Vec<bool>,
+    pub areas: Vec<i128>,
+}
+
+/// The facts of the map.
+pub(crate) fn facts_of(alloc: Global, map: &Map) -> Result<Facts, LintError>
+    ensures { IfOk result (AreFacts map.now.tables) }
+{
+    let sector_tags = tags_of_sectors(alloc, map)?;
+    let line_tags = tags_of_lines(alloc, map)?;
+    let areas = areas_of(alloc, map)?;
+    Ok(Facts {
+        sector_tags,
+        line_tags,
+        areas,
+    })
+}

@@ -1,0 +1,60 @@
+//! The call of the crate: all warnings of a map, in their order.
+ghost use Rattle.std.specs.Prelude.{◌≡◌, ◌++◌, IfOk, OnOk, IsOkUnless};
+ghost use Rattle.lv_lint.specs.Facts.{AreFacts};
+ghost use Rattle.lv_lint.specs.Rules.{breaches, warnings};
+
+use crate::error::LintError;
+use crate::facts::{Facts, facts_of};
+use crate::rules::{breaks, reach};
+use crate::warning::{Rule, Warning};
+use lv_maptables::Map;
+use std::alloc::Global;
+
+// The rules, in the order of their warnings.
+const RULES: [Rule; 12] = [
+    Rule::PlayerStart,
+    Rule::OneStart,
+    Rule::DeathmatchStarts,
+    Rule::CeilingAboveFloor,
+    Rule::TagGiven,
+    Rule::TagOfSector,
+    Rule::TagOfLine,
+    Rule::LineSpecialKnown,
+    Rule::SectorSpecialKnown,
+    Rule::ThingKnown,
+    Rule::TextureShows,
+    Rule::SectorInside,
+];
+
+// Adds a warning for each number that breaks the rule.
+fn list_breaches(
+    map: &Map,
+    facts: &Facts,
+    rule: Rule,
+    found: &mut Vec<Warning>,
+) -> Result<(), LintError>
+    requires { AreFacts map.now.tables facts.now }
+    ensures { OnOk result (found.new.items ≡ found.old.items ++ breaches map.now.tables rule) }
+{
+    for n in 0..reach(map, rule) {
+        if breaks(map, facts, rule, n) {
+            found.push(Warning { rule, number: n })?;
+        }
+    }
+    Ok(())
+}
+
+/// What the maker of a level would want to know before playing it, and `lv_checks` doesn't tell: a
+/// warning for each item of the map that breaks a rule, by rule in the order of `Rule`, then by
+/// number. It takes time in proportion to the map's size, and is refused by want of memory alone.
+pub fn lint(alloc: Global, map: &Map) -> Result<Vec<Warning>, LintError>
+    ensures found { IfOk result (λ found. found.items ≡ warnings map.now.tables) }
+    ensures memory { IsOkUnless result LintError.OutOfMemory }
+{
+    let facts = facts_of(alloc, map)?;
+    let mut found = Vec::new(alloc);
+    for rule in &RULES {
+        list_breaches(map, &facts, *rule, &mut found)?;
+    }
+    Ok(found)
+}
