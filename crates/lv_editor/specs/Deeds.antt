@@ -10,6 +10,7 @@ use Rattle.lv_project.specs.declared.error.ProjectError.{ProjectError}
 use Rattle.lv_editor.specs.Answers.{RepliesInMemory}
 use Rattle.lv_pwad.specs.Counted.{IsCounted}
 use Rattle.lv_editor.specs.Building.{built_text}
+use Rattle.lv_editor.specs.Dumping.{IsDumped}
 use Rattle.lv_editor.specs.Editing.{RepliesInProject}
 use Rattle.lv_editor.specs.Inspections.{IsInspected}
 use Rattle.lv_editor.specs.Refusals.{IsOfOpening, NotBuilt, NotChecked, NotCreated, NotExamined}
@@ -17,7 +18,7 @@ use Rattle.lv_editor.specs.Runs.{Exchange, Ran}
 use Rattle.lv_editor.specs.Sessions.{RunsOver}
 use Rattle.lv_editor.specs.Texts.{findings_text}
 use Rattle.lv_requests.specs.declared.asked.Request.{Request}
-use Rattle.lv_requests.specs.declared.asked.Request.TheVariants.{Scratch, Create, Edit, Check, Inspect, Build}
+use Rattle.lv_requests.specs.declared.asked.Request.TheVariants.{Scratch, Create, Edit, Check, Dump, Inspect, Build}
 use Rattle.lv_pwad.specs.declared.counted.BuildCounts.{BuildCounts}
 use Rattle.lv_editor.specs.declared.error.EditorError.{EditorError}
 use Rattle.lv_editor.specs.declared.refusal.Refusal.{Refusal}
@@ -122,6 +123,9 @@ IsPerformed moment failures left_since may_leave (Edit file) how reader-old read
 IsPerformed moment failures left_since may_leave (Check file) how reader-old reader-new writer-old
     writer-new =
     IsChecked how writer-old writer-new × Keeps reader-old reader-new
+IsPerformed moment failures left_since may_leave (Dump file) how reader-old reader-new writer-old
+    writer-new =
+    IsDumped how writer-old writer-new × Keeps reader-old reader-new
 IsPerformed moment failures left_since may_leave (Inspect wad name) how reader-old reader-new
     writer-old writer-new =
     IsExamined (string_bytes name) how writer-old writer-new × Keeps reader-old reader-new

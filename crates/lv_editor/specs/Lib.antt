@@ -1,6 +1,7 @@
 pub mod Answers
 pub mod Building
 pub mod Deeds
+pub mod Dumping
 pub mod Editing
 pub mod Errors
 pub mod Inspections

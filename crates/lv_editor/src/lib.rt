@@ -6,6 +6,7 @@ mod build_queries;
 mod build_request;
 mod counted_wad;
 mod drawing;
+mod dump_request;
 mod editing;
 mod error;
 mod examining;

@@ -1,11 +1,13 @@
 //! `perform`: does what a request asks for and answers the program's status.
 ghost use Rattle.std.specs.Prelude.{◌≡◌, ◌≤◌, ℕ, IfErr, IfOk, Result};
 ghost use Rattle.std.specs.Io.KnownBytes.{Keeps};
+ghost use Rattle.lv_editor.specs.Dumping.{IsDumped};
 ghost use Rattle.lv_editor.specs.Deeds.{IsBuiltInto, IsChecked, IsCreated, IsEdited, IsPerformed, IsScratched, status_in};
 ghost use Rattle.lv_editor.specs.declared.refusal.Refusal.{Refusal};
 
 use crate::build_request::build;
 use crate::drawing::run_in_memory;
+use crate::dump_request::dump;
 use crate::examining::examine;
 use crate::limits::TURNS;
 use crate::over_disk::{check, create, edit};
@@ -83,6 +85,19 @@ where
     check(rt.alloc(), disk, writer).how
 }
 
+// Writes the lines that draw the maps of the project in the file at the path again.
+fn dump_file<E, W>(rt: &E, path: &str, writer: &mut W) -> Result<u8, Refusal>
+where
+    E: AllocGlobal + Files,
+    E::File: FileExt,
+    W: Write,
+    ensures small { IfOk result (λ s. s ≤ 3) }
+    ensures dumped { IsDumped result (W.contents writer.old) (W.contents writer.new) }
+{
+    let disk = file_at(rt, path, false)?;
+    dump(rt.alloc(), disk, writer).how
+}
+
 // Builds the maps of the project in the file at the path into the file at `out`.
 fn build_file<E, W>(rt: &E, path: &str, out: &str, writer: &mut W) -> Result<u8, Refusal>
 where
@@ -125,6 +140,7 @@ where
         }
         Request::Edit { file } => edit_file(rt, file.as_str(), reader, writer),
         Request::Check { file } => check_file(rt, file.as_str(), writer),
+        Request::Dump { file } => dump_file(rt, file.as_str(), writer),
         Request::Build { file, out } => build_file(rt, file.as_str(), out.as_str(), writer),
         Request::Inspect { wad, name } => {
             examine(rt.alloc(), rt, wad.as_str(), name.as_str(), TURNS, writer)

@@ -20,6 +20,10 @@ pub enum Request {
     Check {
         file: String,
     },
+    /// Write the lines that draw the maps of a project again.
+    Dump {
+        file: String,
+    },
     /// Build the maps of a project into a PWAD.
     Build {
         file: String,

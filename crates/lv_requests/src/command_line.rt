@@ -138,10 +138,17 @@ fn with_subcommands<'a>(alloc: Global) -> Result<Command<'a>, AllocError>
         "Says what is wrong in a project's current map",
         help::CHECK,
     );
+    let dump = over_file(
+        alloc,
+        "dump",
+        "Prints lines that draw a project's maps again",
+        help::DUMP,
+    );
     let program = program.subcommand(scratch);
     let program = with(program, create(alloc));
     let program = with(program, edit);
     let program = with(program, check);
+    let program = with(program, dump);
     let program = with(program, inspect(alloc));
     with(program, build(alloc))
 }
@@ -269,6 +276,10 @@ fn asked(alloc: Global, name: &str, found: &ArgMatches<'_>) -> Result<Request, R
         },
         "check" => match text(alloc, found, "file") {
             Ok(file) => Ok(Request::Check { file }),
+            Err(error) => Err(error),
+        },
+        "dump" => match text(alloc, found, "file") {
+            Ok(file) => Ok(Request::Dump { file }),
             Err(error) => Err(error),
         },
         "inspect" => asked_inspect(alloc, found),

@@ -52,6 +52,12 @@ pub const CHECK: &str = "\
 Prints a line for each thing that is wrong or unfinished, then `findings N`. Status 3
 where there are any. FILE isn't changed.";
 
+/// `dump`.
+pub const DUMP: &str = "\
+Prints command lines that draw all maps of FILE again, with the same numbers, from a new
+project: `leveled dump a.lv | leveled edit b.lv` takes the maps into another file. FILE
+isn't changed.";
+
 /// `build`.
 pub const BUILD: &str = "\
 Builds all maps of FILE, writes the PWAD to OUT and prints how long its lists are. Where a

@@ -189,6 +189,7 @@ type Row = (
 const FILE_ROWS: &[Row] = &[
     ("edit", b"vertex 0 0\n", 1, b"", b"leveled: 30 Device\n"),
     ("check", b"", 1, b"", b"leveled: 30 Device\n"),
+    ("dump", b"", 1, b"", b"leveled: 30 Device\n"),
     ("create", b"", 0, b"created\n", b""),
     ("create", b"", 1, b"", b"leveled: 43 NotEmpty\n"),
     ("check", b"", 3, b"no player start\nfindings 1\n", b""),
@@ -208,10 +209,24 @@ const FILE_ROWS: &[Row] = &[
         b"",
     ),
     (
+        "dump",
+        b"",
+        0,
+        b"name MAP01\nvertex 0 0\nvertex 128 0\nmap MAP01\n",
+        b"",
+    ),
+    (
         "edit",
         b"map MAP02\nmaps\n",
         0,
         b"ok 1\n0 MAP01\n1 MAP02\ncurrent 1\n",
+        b"",
+    ),
+    (
+        "dump",
+        b"",
+        0,
+        b"name MAP01\nvertex 0 0\nvertex 128 0\nmap MAP02\nmap MAP02\n",
         b"",
     ),
     (
@@ -253,7 +268,7 @@ fn makes_edits_and_checks_a_file(rt: HostRuntime) -> Result<(), Fail> {
     Ok(())
 }
 
-const NO_CREATE: &[&str] = &["edit", "check"];
+const NO_CREATE: &[&str] = &["edit", "check", "dump"];
 
 #[test]
 fn makes_no_file_but_by_create(rt: HostRuntime) -> Result<(), Fail> {
