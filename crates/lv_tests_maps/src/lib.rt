@@ -1,4 +1,4 @@
-//! The tests of lumps, maps, commands, findings and dumps: worked examples, and what lines draw.
+//! The tests of lumps, maps, commands, findings, warnings and dumps: worked examples, and what lines draw.
 #![tactic(auto)]
 
 #[cfg(test)]
@@ -14,6 +14,8 @@ mod dump;
 mod expect;
 #[cfg(test)]
 mod lines;
+#[cfg(test)]
+mod lint;
 #[cfg(test)]
 mod lumps;
 #[cfg(test)]

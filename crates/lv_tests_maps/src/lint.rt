@@ -1,0 +1,100 @@
+//! The warnings of drawn maps.
+
+use crate::drawing::{ROOM, SECTOR, TWO_ROOMS, draw, drawn};
+use crate::expect::same;
+use lv_lint::{Rule, Warning, lint};
+use lv_maptables::Map;
+use std::alloc::Global;
+use std::test::Fail;
+
+// The warnings as text, a line each.
+fn report(alloc: Global, map: &Map) -> Result<String, Fail> {
+    let mut text = String::new(alloc);
+    for warning in &lint(alloc, map)? {
+        writeln!(text, "{warning}")?;
+    }
+    Ok(text)
+}
+
+const START: &[u8] = b"thing 64 64 90 1 7";
+
+const STARTS: [&[u8]; 5] = [
+    START,
+    b"thing 64 32 90 2 7",
+    b"thing 32 64 90 2 7",
+    b"thing 32 32 90 4 7",
+    b"thing 96 32 90 11 7",
+];
+
+// A room whose walls have their right sides outside.
+#[rattlefmt::skip]
+const REVERSED: [&[u8]; 5] = [
+    START,
+    b"set-line 0 1 0 1 0 0 0 -", b"set-line 1 2 1 1 0 0 1 -", b"set-line 2 3 2 1 0 0 2 -", b"set-line 3 0 3 1 0 0 3 -",
+];
+
+// A door by hand, a lift without a tag, a lift whose tag no sector has, and a lift with its sector's.
+#[rattlefmt::skip]
+const LIFTS: [&[u8]; 6] = [
+    START, b"set-line 0 0 1 1 1 0 0 -", b"set-line 1 1 2 1 62 0 1 -", b"set-line 2 2 3 1 62 7 2 -",
+    b"set-line 3 3 0 1 62 5 3 -", b"set-sector 0 0 128 FLOOR4_8 CEIL3_5 160 0 5",
+];
+
+// Lines that draw a map, further lines, and its warnings.
+#[rattlefmt::skip]
+const REPORTS: &[(&[&[u8]], &[&[u8]], &str)] = &[
+    (&[ROOM], &[START], ""),
+    (&TWO_ROOMS, &[START], ""),
+    (&[ROOM], &[], "no-start 1\n"),
+    (&[ROOM], &STARTS, "start-twice 2\nfew-deathmatch-starts 1\n"),
+    (&[ROOM], &[START, b"set-sector 0 64 63 FLOOR4_8 CEIL3_5 160 0 0"], "ceiling-below-floor 0\n"),
+    (&[ROOM], &[START, b"set-sector 0 64 64 FLOOR4_8 CEIL3_5 160 0 0"], ""),
+    (&[ROOM], &LIFTS, "tag-missing 1\ntag-of-no-sector 2\n"),
+    (&[ROOM], &[START, b"set-sector 0 0 128 FLOOR4_8 CEIL3_5 160 0 9"], "tag-of-no-line 0\n"),
+    (&[ROOM], &[START, b"set-sector 0 0 128 FLOOR4_8 CEIL3_5 160 9 666"], ""),
+    (&[ROOM], &[START, b"set-line 3 3 0 1 78 0 3 -", b"set-line 2 2 3 1 142 0 2 -", b"set-line 1 1 2 1 48 0 1 -"],
+        "line-special-unknown 2\nline-special-unknown 3\n"),
+    (&[ROOM], &[START, b"set-sector 0 0 128 FLOOR4_8 CEIL3_5 160 6 0"], "sector-special-unknown 0\n"),
+    (&[ROOM], &[START, b"thing 64 32 90 2009 7", b"thing 64 32 90 3006 7", b"thing 64 32 90 0 7"],
+        "thing-type-unknown 1\nthing-type-unknown 3\n"),
+    (&TWO_ROOMS, &[START, b"set-side 4 0 0 - STEP1 - 0"], "texture-hidden 2\n"),
+    (&TWO_ROOMS, &[START, b"set-side 4 0 0 - - MIDGRATE 0"], ""),
+    (&[ROOM], &REVERSED, "sector-inside-out 0\n"),
+    (&[ROOM], &[START, SECTOR], "sector-inside-out 1\n"),
+];
+
+// The warnings of the map that lines and further ones draw.
+fn report_of(alloc: Global, lines: &[&[u8]], further: &[&[u8]]) -> Result<String, Fail> {
+    let mut maps = drawn(alloc, lines)?;
+    draw(&mut maps, further)?;
+    report(alloc, maps.current())
+}
+
+#[test]
+fn maps_have_their_warnings(rt: HostRuntime) -> Result<(), Fail> {
+    for &(lines, further, warnings) in REPORTS {
+        let found = report_of(rt.alloc(), lines, further)?;
+        same(&rt, &found.as_str(), &warnings);
+    }
+    Ok(())
+}
+
+// The warnings of an empty map with a sector.
+const FOUND: [Warning; 2] = [
+    Warning {
+        rule: Rule::PlayerStart,
+        number: 1,
+    },
+    Warning {
+        rule: Rule::SectorInside,
+        number: 0,
+    },
+];
+
+#[test]
+fn a_warning_has_its_rule_and_number(rt: HostRuntime) -> Result<(), Fail> {
+    let maps = drawn(rt.alloc(), &[SECTOR])?;
+    let found = lint(rt.alloc(), maps.current())?;
+    assert_eq!(rt; found.as_slice(), FOUND.as_slice());
+    Ok(())
+}
