@@ -4,8 +4,7 @@ use crate::expect::{holds, same};
 use lv_blockmap::{BlockmapError, blockmap, touches};
 use lv_lumps::Vertex;
 use lv_pwad::{
-    BuildError, Fault, Level, ReadError, audit, build_all, build_counted, build_wad, read_level,
-    reject,
+    BuildError, Fault, ReadError, audit, build_all, build_counted, build_wad, read_level, reject,
 };
 use lv_tests_maps::drawing::{CUT, L, ROOM, SECTOR, SIDE, SLIVER, TWO_ROOMS, drawn};
 use std::alloc::Global;
@@ -127,16 +126,6 @@ fn places_of(rt: &impl Abort, wad: &[u8]) -> ([u8; 12], [u8; 22]) {
     (head, places)
 }
 
-// The REJECT and the BLOCKMAP of the level in a PWAD.
-fn reject_and_blocks(alloc: Global, wad: &[u8]) -> Result<(Vec<u8>, Vec<u8>), Fail> {
-    let Level {
-        reject,
-        blockmap,
-        ..
-    } = read_level(alloc, wad, b"MAP01")?;
-    Ok((reject, blockmap))
-}
-
 // The REJECT and the BLOCKMAP of what lines leave.
 fn expect_tables(
     rt: &impl Abort,
@@ -144,8 +133,12 @@ fn expect_tables(
     wad: &[u8],
     want: (&[u8], &[u8]),
 ) -> Result<(), Fail> {
-    let (reject, blocks) = reject_and_blocks(alloc, wad)?;
-    same(rt, &(reject.as_slice(), blocks.as_slice()), &want);
+    let level = read_level(alloc, wad, b"MAP01")?;
+    same(
+        rt,
+        &(level.reject.as_slice(), level.blockmap.as_slice()),
+        &want,
+    );
     Ok(())
 }
 
