@@ -1,22 +1,24 @@
 -- How a run of calls goes on.
 use Rattle.std.proofs.Common.{inl, inr, ⊎_elim, ℕ, List, arith}
-use Rattle.lv_disk.specs.Stops.{Elapses, LeavesOnly}
+use Rattle.lv_disk.specs.Moments.{LeavesOnly}
+use Rattle.lv_disk.specs.Stops.{Elapses}
+use Rattle.lv_disk.specs.declared.disk.Disk.{Ghosts}
 
-module _ {D : Type 0} (moment : D → ℕ) (left_since : D → ℕ → List ℕ → Type 0) where
+module _ {D : Type 0} (facts : Ghosts D) where
   -- before the first call
-  pub started : (old : D) (P : List ℕ → Type 0) → ((file : List ℕ) → left_since old (moment old) file → P file) → LeavesOnly moment left_since old old P
+  pub started : (old : D) (P : List ℕ → Type 0) → ((file : List ℕ) → facts.left_since old (facts.moment old) file → P file) → LeavesOnly facts old old P
   started old P here = record { later = omega arith; each = here; before = λ t file le left. inl left }
 
   -- one call more, after which a stop leaves what has P
-  pub goes_on : (old mid new : D) (P may_leave : List ℕ → Type 0) → LeavesOnly moment left_since old mid P → Elapses (moment mid) (moment new) (left_since mid) (left_since new) may_leave
-      → ((file : List ℕ) → may_leave file → P file) → LeavesOnly moment left_since old new P
+  pub goes_on : (old mid new : D) (P may_leave : List ℕ → Type 0) → LeavesOnly facts old mid P → Elapses (facts.moment mid) (facts.moment new) (facts.left_since mid) (facts.left_since new) may_leave
+      → ((file : List ℕ) → may_leave file → P file) → LeavesOnly facts old new P
   goes_on old mid new P may_leave so_far time here = record {
     later = omega (arith, so_far.later, time.later);
-    each = λ file left. ⊎_elim (so_far.each file) (here file) (time.nothing_else (moment old) file so_far.later left);
+    each = λ file left. ⊎_elim (so_far.each file) (here file) (time.nothing_else (facts.moment old) file so_far.later left);
     before = λ t file le left. ⊎_elim (so_far.before t file le) (λ now. inr (here file now)) (time.nothing_else t file (omega (arith, le, so_far.later)) left);
   }
 
-  pub weaker : (old new : D) (P Q : List ℕ → Type 0) → LeavesOnly moment left_since old new P → ((file : List ℕ) → P file → Q file) → LeavesOnly moment left_since old new Q
+  pub weaker : (old new : D) (P Q : List ℕ → Type 0) → LeavesOnly facts old new P → ((file : List ℕ) → P file → Q file) → LeavesOnly facts old new Q
   weaker old new P Q leaves so = record {
     later = leaves.later;
     each = λ file left. so file (leaves.each file left);
@@ -24,9 +26,9 @@ module _ {D : Type 0} (moment : D → ℕ) (left_since : D → ℕ → List ℕ 
   }
 
   -- two runs, one after the other
-  pub and_then : (old mid new : D) (P : List ℕ → Type 0) → LeavesOnly moment left_since old mid P → LeavesOnly moment left_since mid new P → LeavesOnly moment left_since old new P
+  pub and_then : (old mid new : D) (P : List ℕ → Type 0) → LeavesOnly facts old mid P → LeavesOnly facts mid new P → LeavesOnly facts old new P
   and_then old mid new P first second = record {
     later = omega (arith, first.later, second.later);
-    each = λ file left. ⊎_elim (first.each file) (λ is. is) (second.before (moment old) file first.later left);
+    each = λ file left. ⊎_elim (first.each file) (λ is. is) (second.before (facts.moment old) file first.later left);
     before = λ t file le left. ⊎_elim (first.before t file le) (λ is. inr is) (second.before t file (omega (arith, le, first.later)) left);
   }

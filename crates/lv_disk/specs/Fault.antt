@@ -3,6 +3,7 @@ use Rattle.std.specs.Prelude.{◌≡◌, ◌≢◌, ◌⊎◌, ◌-◌, ℕ, Lis
 use Rattle.lv_disk.specs.Files.{Failed, Torn, Written}
 use Rattle.lv_disk.specs.Stops.{Counted, Follows, Rose}
 use Rattle.lv_disk.specs.FaultCount.{one_if}
+use Rattle.lv_disk.specs.declared.disk.Disk.{Ghosts}
 use Rattle.lv_disk.specs.declared.fault.FaultDisk.{FaultDisk}
 
 -- the disk inside
@@ -22,15 +23,14 @@ abbrev pub own_failures : {D : Type 0} → FaultDisk D → ℕ
 own_failures disk = one_if disk.countdown.failed
 
 -- The call that is next fails. Any other call passes on what the disk inside answers.
-pub record IsCounted {D T E : Type 0} (failures : D → ℕ) (old new : FaultDisk D) (result : Result T E) : Type 0 where
+pub record IsCounted {D T E : Type 0} (facts : Ghosts D) (old new : FaultDisk D) (result : Result T E) : Type 0 where
   pub left : left_of new ≡ left_of old - 1
   pub part : part_of new ≡ part_of old
   pub fails : left_of old ≡ 1 → IsErr result
-  pub passes : left_of old ≢ 1 → Counted (failures (inner_of old)) (failures (inner_of new)) result
+  pub passes : left_of old ≢ 1 → Counted (facts.failures (inner_of old)) (facts.failures (inner_of new)) result
 
 -- These bytes are put down on the disk inside, unless it fails itself; what a stop leaves is a torn write of them.
-pub record PutsDown {D : Type 0} (at : ℕ) (bytes : List ℕ) (reads may_leave : D → List ℕ → Type 0) (failures : D → ℕ)
-    (old new : D) : Type 0 where
-  pub down : Follows (Written at bytes) (reads old) (reads new)
-      ⊎ (Rose (failures old) (failures new) × Follows (Failed at (length bytes)) (reads old) (reads new))
-  pub images : Follows (Torn at (length bytes)) (may_leave old) (may_leave new)
+pub record PutsDown {D : Type 0} (facts : Ghosts D) (at : ℕ) (bytes : List ℕ) (old new : D) : Type 0 where
+  pub down : Follows (Written at bytes) (facts.reads old) (facts.reads new)
+      ⊎ (Rose (facts.failures old) (facts.failures new) × Follows (Failed at (length bytes)) (facts.reads old) (facts.reads new))
+  pub images : Follows (Torn at (length bytes)) (facts.may_leave old) (facts.may_leave new)

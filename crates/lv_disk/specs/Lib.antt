@@ -11,6 +11,7 @@ pub mod Gates
 pub mod Medium
 pub mod MediumLaws
 pub mod Memory
+pub mod Moments
 pub mod ReadAhead
 pub mod Reading
 pub mod Shows

@@ -23,13 +23,6 @@ pub record Elapses (before now : ℕ) (past since : ℕ → List ℕ → Type 0)
   pub nothing_else : (t : ℕ) (file : List ℕ) → t ≤ before → since t file → past t file ⊎ may_leave file
   pub keeps : (t : ℕ) (file : List ℕ) → t ≤ before → past t file → since t file
 
--- A stop at any moment since old leaves a file that has P.
-pub record LeavesOnly {D : Type 0} (moment : D → ℕ) (left_since : D → ℕ → List ℕ → Type 0) (old new : D) (P : List ℕ → Type 0) : Type 0 where
-  pub later : moment old ≤ moment new
-  pub each : (file : List ℕ) → left_since new (moment old) file → P file
-  -- for a run that began earlier
-  pub before : (t : ℕ) (file : List ℕ) → t ≤ moment old → left_since new t file → left_since old t file ⊎ P file
-
 -- the count of failures rose, or it is at its end
 abbrev pub Rose : ℕ → ℕ → Type 0
 Rose before now = before < 2 ^ 64 - 1 → before < now

@@ -1,7 +1,7 @@
 //! A disk as the layers above see it: what a read gives, and what a stop may leave.
 ghost use Rattle.std.specs.Prelude.{◌≡◌, ◌≤◌, ◌+◌, List, ℕ, length, OnOk, OnErr, IfOk};
 ghost use Rattle.lv_disk.specs.Files.{Failed, HasAt, Torn, Written};
-ghost use Rattle.lv_disk.specs.Stops.{Counted, Each, Elapses, Follows, From, Leads, LeavesOnly};
+ghost use Rattle.lv_disk.specs.Stops.{Counted, Each, Elapses, Follows, Leads};
 
 use crate::DeviceFault;
 
@@ -84,25 +84,4 @@ pub trait Disk {
     /// Since this moment there is no other.
     ghost only_now: { (disk : Self) (file : List ℕ) → left_since disk (moment disk) file
         → may_leave disk file };
-}
-
-/// A write, and then a sync.
-pub fn write_through<D: Disk>(disk: &mut D, at: u64, from: &[u8]) -> Result<(), DeviceFault>
-    ensures done { OnOk result
-        (Follows (Written at from.now) (D.may_leave disk.old) (D.may_leave disk.new)) }
-    ensures durable { OnOk result (Each (D.may_leave disk.new) (D.reads disk.new)) }
-    ensures written { OnOk result
-        (Follows (Written at from.now) (D.reads disk.old) (D.reads disk.new)) }
-    ensures leads { OnOk result
-        (Leads (Written at from.now) (D.reads disk.old) (D.reads disk.new)) }
-    ensures failed { OnErr result
-        (Follows (Failed at (length from.now)) (D.reads disk.old) (D.reads disk.new)) }
-    ensures leads_failed { OnErr result
-        (Leads (Failed at (length from.now)) (D.reads disk.old) (D.reads disk.new)) }
-    ensures any_moment { LeavesOnly D.moment D.left_since disk.old disk.new
-        (From (D.may_leave disk.old) (Torn at (length from.now))) }
-    ensures count { Counted (D.failures disk.old) (D.failures disk.new) result }
-{
-    disk.write_at(at, from)?;
-    disk.sync()
 }

@@ -62,8 +62,8 @@ impl<D: Disk> FaultDisk<D> {
         ensures left { left_of self.new ≡ 0 }
         ensures same { part_of self.new ≡ part_of self.old }
         ensures untouched { part_of self.old ≡ 0 → inner_of self.new ≡ inner_of self.old }
-        ensures part { 0 < part_of self.old → PutsDown at (take (part_of self.old) from.now)
-            D.reads D.may_leave D.failures (inner_of self.old) (inner_of self.new) }
+        ensures part { 0 < part_of self.old → PutsDown D.Disk at (take (part_of self.old) from.now)
+            (inner_of self.old) (inner_of self.new) }
     {
         if self.countdown.part == 0 {
             return self.countdown.fail();
@@ -107,7 +107,7 @@ impl<D: Disk> Disk for FaultDisk<D> {
             (own_failures self.new + D.failures (inner_of self.new)) result }
 
         // Beyond what every disk promises: which call fails, and that the others are those of the disk inside.
-        ensures call { IsCounted D.failures self.old self.new result }
+        ensures call { IsCounted D.Disk self.old self.new result }
         ensures untouched { left_of self.old ≡ 1 → inner_of self.new ≡ inner_of self.old }
     {
         if self.countdown.is_next() {
@@ -130,7 +130,7 @@ impl<D: Disk> Disk for FaultDisk<D> {
             (own_failures self.new + D.failures (inner_of self.new)) result }
 
         // Beyond what every disk promises: which call fails, and that the others are those of the disk inside.
-        ensures call { IsCounted D.failures self.old self.new result }
+        ensures call { IsCounted D.Disk self.old self.new result }
         ensures untouched { left_of self.old ≡ 1 → inner_of self.new ≡ inner_of self.old }
     {
         if self.countdown.is_next() {
@@ -158,11 +158,11 @@ impl<D: Disk> Disk for FaultDisk<D> {
             (own_failures self.new + D.failures (inner_of self.new)) result }
 
         // Beyond what every disk promises: which call fails, and that the others are those of the disk inside.
-        ensures call { IsCounted D.failures self.old self.new result }
+        ensures call { IsCounted D.Disk self.old self.new result }
         ensures untouched { left_of self.old ≡ 1 → part_of self.old ≡ 0 → inner_of self.new
             ≡ inner_of self.old }
         ensures part { left_of self.old ≡ 1 → 0 < part_of self.old
-            → PutsDown at (take (part_of self.old) from.now) D.reads D.may_leave D.failures
+            → PutsDown D.Disk at (take (part_of self.old) from.now)
             (inner_of self.old) (inner_of self.new) }
     {
         if self.countdown.is_next() {
@@ -184,7 +184,7 @@ impl<D: Disk> Disk for FaultDisk<D> {
             (own_failures self.new + D.failures (inner_of self.new)) result }
 
         // Beyond what every disk promises: which call fails, and that the others are those of the disk inside.
-        ensures call { IsCounted D.failures self.old self.new result }
+        ensures call { IsCounted D.Disk self.old self.new result }
         ensures untouched { left_of self.old ≡ 1 → inner_of self.new ≡ inner_of self.old }
     {
         if self.countdown.is_next() {

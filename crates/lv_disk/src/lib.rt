@@ -17,9 +17,10 @@ mod memory;
 mod put;
 mod read_ahead;
 mod reading;
+mod writing;
 
 pub use area::Area;
-pub use disk::{Disk, write_through};
+pub use disk::Disk;
 pub use error::{DeviceFault, OutOfMemory};
 pub use fault::FaultDisk;
 pub use file::FileDisk;
@@ -29,3 +30,4 @@ pub use law::show_the_disk_model;
 pub use memory::MemoryDisk;
 pub use read_ahead::{Buffer, ReadAhead};
 pub use reading::{read_gate, read_length};
+pub use writing::write_through;

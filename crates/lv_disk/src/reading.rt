@@ -12,7 +12,7 @@ use byteorder::{ByteOrder, LittleEndian};
 pub fn read_gate<D: Disk>(disk: &mut D, at: u64) -> Result<u8, DeviceFault>
     requires { Each (D.reads disk.old) (λ file. at < length file) }
     ensures told { IfOk result (λ gate. Each (D.reads disk.old) (HasAt at (gate ∷ []))) }
-    ensures reads { OnlyReads D.reads D.may_leave D.moment D.left_since disk.old disk.new }
+    ensures reads { OnlyReads D.Disk disk.old disk.new }
     ensures count { Counted (D.failures disk.old) (D.failures disk.new) result }
 {
     let mut gate = [0];
@@ -24,7 +24,7 @@ pub fn read_gate<D: Disk>(disk: &mut D, at: u64) -> Result<u8, DeviceFault>
 pub fn read_length<D: Disk>(disk: &mut D, at: u64) -> Result<u32, DeviceFault>
     requires { Each (D.reads disk.old) (λ file. at + 4 ≤ length file) }
     ensures told { IfOk result (λ n. Each (D.reads disk.old) (HasAt at (to_le_bytes w32 n))) }
-    ensures reads { OnlyReads D.reads D.may_leave D.moment D.left_since disk.old disk.new }
+    ensures reads { OnlyReads D.Disk disk.old disk.new }
     ensures count { Counted (D.failures disk.old) (D.failures disk.new) result }
 {
     let mut bytes = [0; 4];

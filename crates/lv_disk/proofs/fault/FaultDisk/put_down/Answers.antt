@@ -21,7 +21,7 @@ returns-in_err-write_at-clause-images g c =
 
 pub returns-in_err-write_at-clause-part : goal.returns-in_err-write_at-clause-part
 returns-in_err-write_at-clause-part g c = λ some.
-    subst (λ (bytes : List ℕ). PutsDown c.args.at bytes g.D.Disk.reads g.D.Disk.may_leave g.D.Disk.failures c.args.self.now.inner c.write_at.new.self) c.first_bytes.ensures.first
+    subst (λ (bytes : List ℕ). PutsDown g.D.Disk c.args.at bytes c.args.self.now.inner c.write_at.new.self) c.first_bytes.ensures.first
     (record {
       down = inr (λ below. omega (arith, c.in_err-write_at.ensures.count.failed below), c.in_err-write_at.ensures.failed);
       images = c.write_at.ensures.images;
@@ -44,5 +44,5 @@ returns-clause-images g c =
 
 pub returns-clause-part : goal.returns-clause-part
 returns-clause-part g c = λ some.
-    subst (λ (bytes : List ℕ). PutsDown c.args.at bytes g.D.Disk.reads g.D.Disk.may_leave g.D.Disk.failures c.args.self.now.inner c.write_at.new.self) c.first_bytes.ensures.first
+    subst (λ (bytes : List ℕ). PutsDown g.D.Disk c.args.at bytes c.args.self.now.inner c.write_at.new.self) c.first_bytes.ensures.first
     (record { down = inl c.in_ok-write_at.ensures.written; images = c.write_at.ensures.images })

@@ -1,0 +1,28 @@
+//! What several writers of a disk's bytes share: a write that is on the device.
+ghost use Rattle.std.specs.Prelude.{length, OnErr, OnOk};
+ghost use Rattle.lv_disk.specs.Files.{Failed, Torn, Written};
+ghost use Rattle.lv_disk.specs.Moments.{LeavesOnly};
+ghost use Rattle.lv_disk.specs.Stops.{Counted, Each, Follows, From, Leads};
+
+use crate::{DeviceFault, Disk};
+
+/// A write, and then a sync.
+pub fn write_through<D: Disk>(disk: &mut D, at: u64, from: &[u8]) -> Result<(), DeviceFault>
+    ensures done { OnOk result
+        (Follows (Written at from.now) (D.may_leave disk.old) (D.may_leave disk.new)) }
+    ensures durable { OnOk result (Each (D.may_leave disk.new) (D.reads disk.new)) }
+    ensures written { OnOk result
+        (Follows (Written at from.now) (D.reads disk.old) (D.reads disk.new)) }
+    ensures leads { OnOk result
+        (Leads (Written at from.now) (D.reads disk.old) (D.reads disk.new)) }
+    ensures failed { OnErr result
+        (Follows (Failed at (length from.now)) (D.reads disk.old) (D.reads disk.new)) }
+    ensures leads_failed { OnErr result
+        (Leads (Failed at (length from.now)) (D.reads disk.old) (D.reads disk.new)) }
+    ensures any_moment { LeavesOnly D.Disk disk.old disk.new
+        (From (D.may_leave disk.old) (Torn at (length from.now))) }
+    ensures count { Counted (D.failures disk.old) (D.failures disk.new) result }
+{
+    disk.write_at(at, from)?;
+    disk.sync()
+}
