@@ -4,7 +4,9 @@ use Rattle.std.proofs.lemmas.Bool.{cases_eq}
 use Rattle.std.proofs.lemmas.List.Elements.{All-push}
 use Rattle.std.specs.Int.{to_le_bytes, w32}
 use Rattle.lv_disk.specs.Files.{HasAt, KeepsOutside, Torn, Written}
-use Rattle.lv_disk.specs.Stops.{From, Follows, Each, LeavesOnly}
+use Rattle.lv_disk.specs.Moments.{LeavesOnly}
+use Rattle.lv_disk.specs.Stops.{From, Follows, Each}
+use Rattle.lv_disk.specs.declared.disk.Disk.{Ghosts}
 use Rattle.lv_disk.proofs.Moments.{weaker, and_then}
 use Rattle.lv_disk.specs.declared.area.Area.{Area}
 use Rattle.lv_disk.proofs.Bytes.{keeps_itself, keeps_wider, keeps_then, has_kept, has_left, has_right, has_both, has_one, one_has}
@@ -113,30 +115,30 @@ module _ (area : Area) (next : ℕ) (payload : List ℕ) (short : length payload
         opened payloads mid new at staged (written.has (some_block payload)) opens.keeps (one_has gate 165 [] new (opens.has (omega arith)));
   }
 
-  module _ {D : Type 0} (moment : D → ℕ) (left_since : D → ℕ → List ℕ → Type 0) (may_leave : D → List ℕ → Type 0) (d0 d1 d2 : D) (bytes : List ℕ) (is_block : bytes ≡ block payload)
-      (ends : Each (may_leave d0) (EndsAt area next)) where
-    pub first_moments : LeavesOnly moment left_since d0 d1 (From (may_leave d0) (Torn (gate + 1) (length bytes))) → LeavesOnly moment left_since d0 d1 (From (may_leave d0) (MayAppend area payload))
+  module _ {D : Type 0} (facts : Ghosts D) (d0 d1 d2 : D) (bytes : List ℕ) (is_block : bytes ≡ block payload)
+      (ends : Each (facts.may_leave d0) (EndsAt area next)) where
+    pub first_moments : LeavesOnly facts d0 d1 (From (facts.may_leave d0) (Torn (gate + 1) (length bytes))) → LeavesOnly facts d0 d1 (From (facts.may_leave d0) (MayAppend area payload))
     first_moments first =
         let size : length bytes ≡ length payload + 5 = ap length is_block ∙ length-block payload in
-        weaker moment left_since d0 d1 (From (may_leave d0) (Torn (gate + 1) (length bytes))) (From (may_leave d0) (MayAppend area payload)) first
+        weaker facts d0 d1 (From (facts.may_leave d0) (Torn (gate + 1) (length bytes))) (From (facts.may_leave d0) (MayAppend area payload)) first
         (λ file left. (left.0, left.1, torn_behind left.0 file (ends left.0 left.1) (subst (λ (k : ℕ). Torn (gate + 1) k left.0 file) size left.2)))
 
-    pub both_moments : LeavesOnly moment left_since d0 d1 (From (may_leave d0) (Torn (gate + 1) (length bytes))) → Follows (Written (gate + 1) bytes) (may_leave d0) (may_leave d1)
-        → LeavesOnly moment left_since d1 d2 (From (may_leave d1) (Torn gate 1)) → LeavesOnly moment left_since d0 d2 (From (may_leave d0) (MayAppend area payload))
+    pub both_moments : LeavesOnly facts d0 d1 (From (facts.may_leave d0) (Torn (gate + 1) (length bytes))) → Follows (Written (gate + 1) bytes) (facts.may_leave d0) (facts.may_leave d1)
+        → LeavesOnly facts d1 d2 (From (facts.may_leave d1) (Torn gate 1)) → LeavesOnly facts d0 d2 (From (facts.may_leave d0) (MayAppend area payload))
     both_moments first written second =
-        and_then moment left_since d0 d1 d2 (From (may_leave d0) (MayAppend area payload)) (first_moments first)
-        (weaker moment left_since d1 d2 (From (may_leave d1) (Torn gate 1)) (From (may_leave d0) (MayAppend area payload)) second
+        and_then facts d0 d1 d2 (From (facts.may_leave d0) (MayAppend area payload)) (first_moments first)
+        (weaker facts d1 d2 (From (facts.may_leave d1) (Torn gate 1)) (From (facts.may_leave d0) (MayAppend area payload)) second
         (λ file left.
         let was = written left.0 left.1 in
         (was.0, was.1, torn_gate was.0 left.0 file (ends was.0 was.1) (subst (λ (l : List ℕ). Written (gate + 1) l was.0 left.0) is_block was.2) left.2)))
 
-    pub acknowledged : Follows (Written (gate + 1) bytes) (may_leave d0) (may_leave d1) → Follows (Written gate (165 ∷ [])) (may_leave d1) (may_leave d2) → Follows (Appends area payload) (may_leave d0) (may_leave d2)
+    pub acknowledged : Follows (Written (gate + 1) bytes) (facts.may_leave d0) (facts.may_leave d1) → Follows (Written gate (165 ∷ [])) (facts.may_leave d1) (facts.may_leave d2) → Follows (Appends area payload) (facts.may_leave d0) (facts.may_leave d2)
     acknowledged written opens file left =
         let mid = opens file left in
         let was = written mid.0 mid.1 in
         (was.0, was.1, written_gate was.0 mid.0 file (ends was.0 was.1) (subst (λ (l : List ℕ). Written (gate + 1) l was.0 mid.0) is_block was.2) mid.2)
 
-    pub again : Follows (Appends area payload) (may_leave d0) (may_leave d2) → Each (may_leave d2) (EndsAt area (next + 5 + length payload))
+    pub again : Follows (Appends area payload) (facts.may_leave d0) (facts.may_leave d2) → Each (facts.may_leave d2) (EndsAt area (next + 5 + length payload))
     again follows file left =
         let was = follows file left in
         let ended = ends was.0 was.1 in (

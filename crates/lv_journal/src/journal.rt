@@ -1,7 +1,8 @@
 //! A journal: a record counts where its gate is open, and a closed gate stands behind the last one, on the disk before
 //! anything is written behind it.
 ghost use Rattle.std.specs.Prelude.{◌≡◌, ◌≤◌, ◌<◌, ◌⊎◌, ◌↔◌, ◌+◌, [], ◌∷◌, length, true, false, OnOk, OnErr, IsErrOf, IfErr, IfOk};
-ghost use Rattle.lv_disk.specs.Stops.{CountsFaults, From, Follows, Each, Leads, LeavesOnly};
+ghost use Rattle.lv_disk.specs.Moments.{LeavesOnly};
+ghost use Rattle.lv_disk.specs.Stops.{CountsFaults, From, Follows, Each, Leads};
 ghost use Rattle.lv_disk.specs.Gates.{IsClosedAt};
 ghost use Rattle.lv_disk.specs.Files.{Failed, Torn, Written};
 ghost use Rattle.lv_journal.specs.Append.{Appends, MayAppend};
@@ -71,7 +72,7 @@ impl Journal {
         ensures no_other { IfErr result RefusesOpen }
 
         // It writes nothing.
-        ensures reads { OnlyReads D.reads D.may_leave D.moment D.left_since disk.old disk.new }
+        ensures reads { OnlyReads D.Disk disk.old disk.new }
         ensures only { Each (D.may_leave disk.new) (D.reads disk.new) }
         ensures count { CountsFaults JournalError.Device (D.failures disk.old)
             (D.failures disk.new) result }
@@ -161,7 +162,7 @@ impl Journal {
         ensures ready { IsReadyIn self.new (D.may_leave disk.new) }
 
         // A stop at any moment of the call leaves the records from before it, with the new one or without.
-        ensures any_moment { LeavesOnly D.moment D.left_since disk.old disk.new
+        ensures any_moment { LeavesOnly D.Disk disk.old disk.new
             (From (D.may_leave disk.old) (MayAppend self.old.area payload.now)) }
 
         ensures device { IsErrOf result JournalError.Device
@@ -209,7 +210,7 @@ pub fn blank<D: Disk>(disk: &mut D, area: Area) -> Result<Journal, JournalError>
     // Each image stays one, so nothing is synced.
     ensures images { Follows (Torn area.base 1) (D.may_leave disk.old) (D.may_leave disk.new) }
     ensures kept { Each (D.may_leave disk.old) (D.may_leave disk.new) }
-    ensures any_moment { LeavesOnly D.moment D.left_since disk.old disk.new
+    ensures any_moment { LeavesOnly D.Disk disk.old disk.new
         (From (D.may_leave disk.old) (Torn area.base 1)) }
     ensures device { IfErr result (λ e. e ≡ JournalError.Device) }
     ensures count { CountsFaults JournalError.Device (D.failures disk.old)

@@ -25,7 +25,7 @@ fn read_payload<D: Disk>(
     requires within { Each (D.reads disk.old) (λ file. at + len ≤ length file) }
     ensures len { IfOk result (λ payload. length payload.items ≡ len) }
     ensures told { IfOk result (λ payload. Each (D.reads disk.old) (HasAt at payload.items)) }
-    ensures reads { OnlyReads D.reads D.may_leave D.moment D.left_since disk.old disk.new }
+    ensures reads { OnlyReads D.Disk disk.old disk.new }
     ensures count { CountsFaults JournalError.Device (D.failures disk.old)
         (D.failures disk.new) result }
     ensures no_other { IfErr result
@@ -53,7 +53,7 @@ fn read_record_len<D: Disk>(
     ensures fits { IfOk result (λ len. (len ≤ 256) × (place + 6 + len ≤ end)) }
     ensures damaged { IfErr result (λ e. IfDamaged e (λ at.
         (at ≡ place) × Each (D.reads disk.old) (IsBadRecord area place))) }
-    ensures reads { OnlyReads D.reads D.may_leave D.moment D.left_since disk.old disk.new }
+    ensures reads { OnlyReads D.Disk disk.old disk.new }
     ensures count { CountsFaults JournalError.Device (D.failures disk.old)
         (D.failures disk.new) result }
     ensures no_other { IfErr result RefusesOpen }
@@ -86,7 +86,7 @@ fn read_open_record<D: Disk>(
         (length payload.items ≤ 256) × (place + 6 + length payload.items ≤ end)) }
     ensures damaged { IfErr result (λ e. IfDamaged e (λ at.
         (at ≡ place) × Each (D.reads disk.old) (IsBadRecord area place))) }
-    ensures reads { OnlyReads D.reads D.may_leave D.moment D.left_since disk.old disk.new }
+    ensures reads { OnlyReads D.Disk disk.old disk.new }
     ensures count { CountsFaults JournalError.Device (D.failures disk.old)
         (D.failures disk.new) result }
     ensures no_other { IfErr result RefusesOpen }
@@ -115,7 +115,7 @@ fn read_record<D: Disk>(
         (length payload.items ≤ 256) × (place + 6 + length payload.items ≤ end))) }
     ensures damaged { IfErr result (λ e. IfDamaged e (λ at.
         (at ≡ place) × Each (D.reads disk.old) (IsBadRecord area place))) }
-    ensures reads { OnlyReads D.reads D.may_leave D.moment D.left_since disk.old disk.new }
+    ensures reads { OnlyReads D.Disk disk.old disk.new }
     ensures count { CountsFaults JournalError.Device (D.failures disk.old)
         (D.failures disk.new) result }
     ensures no_other { IfErr result RefusesOpen }
@@ -144,7 +144,7 @@ fn read_up_to<D: Disk>(
         (λ records. length (records_bytes (payloads_of records.items)) < area.length) }
     ensures damaged { IfErr result (λ e. IfDamaged e
         (λ place. Each (D.reads disk.old) (IsDamagedAt area place))) }
-    ensures reads { OnlyReads D.reads D.may_leave D.moment D.left_since disk.old disk.new }
+    ensures reads { OnlyReads D.Disk disk.old disk.new }
     ensures count { CountsFaults JournalError.Device (D.failures disk.old)
         (D.failures disk.new) result }
     ensures no_other { IfErr result RefusesOpen }
@@ -170,7 +170,7 @@ pub fn read_records<D: Disk>(
         (λ records. length (records_bytes (payloads_of records.items)) < area.length) }
     ensures damaged { IfErr result (λ e. IfDamaged e
         (λ place. Each (D.reads disk.old) (IsDamagedAt area place))) }
-    ensures reads { OnlyReads D.reads D.may_leave D.moment D.left_since disk.old disk.new }
+    ensures reads { OnlyReads D.Disk disk.old disk.new }
     ensures count { CountsFaults JournalError.Device (D.failures disk.old)
         (D.failures disk.new) result }
     ensures no_other { IfErr result RefusesOpen }

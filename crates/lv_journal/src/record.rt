@@ -1,7 +1,8 @@
 //! A record as it is written: an open gate, the length of the payload as a `u32`, and the payload.
 ghost use Rattle.std.specs.Prelude.{◌≡◌, ◌≤◌, ◌<◌, ◌+◌, ◌++◌, [], ◌∷◌, length, take, OnOk, ◌^◌};
 ghost use Rattle.std.specs.Int.{to_le_bytes, w32};
-ghost use Rattle.lv_disk.specs.Stops.{From, Follows, Each, LeavesOnly, Counted};
+ghost use Rattle.lv_disk.specs.Moments.{LeavesOnly};
+ghost use Rattle.lv_disk.specs.Stops.{From, Follows, Each, Counted};
 ghost use Rattle.lv_journal.specs.Records.{records_bytes, payloads_of, EndsAt};
 ghost use Rattle.lv_journal.specs.Append.{Appends, MayAppend};
 
@@ -48,7 +49,7 @@ pub fn write_record<D: Disk>(
     ensures durable { OnOk result (Each (D.may_leave disk.new) (D.reads disk.new)) }
     ensures ready { OnOk result
         (Each (D.may_leave disk.new) (EndsAt area (next + 5 + length payload.now))) }
-    ensures any_moment { LeavesOnly D.moment D.left_since disk.old disk.new
+    ensures any_moment { LeavesOnly D.Disk disk.old disk.new
         (From (D.may_leave disk.old) (MayAppend area payload.now)) }
     ensures count { Counted (D.failures disk.old) (D.failures disk.new) result }
 {

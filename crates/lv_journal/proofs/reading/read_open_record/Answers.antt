@@ -25,4 +25,4 @@ returns-clause-found g c =
 
 pub returns-clause-reads : goal.returns-clause-reads
 returns-clause-reads g c =
-    both_runs g.D.Disk.reads g.D.Disk.may_leave g.D.Disk.moment g.D.Disk.left_since g.met.D.Disk.only_now c.args.disk.now c.read_record_len.new.disk c.read_payload.new.disk c.read_record_len.ensures.reads c.read_payload.ensures.reads
+    both_runs g.D.Disk g.met.D.Disk.only_now c.args.disk.now c.read_record_len.new.disk c.read_payload.new.disk c.read_record_len.ensures.reads c.read_payload.ensures.reads

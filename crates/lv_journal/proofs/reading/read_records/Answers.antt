@@ -11,5 +11,5 @@ pub returns-clause-reads : goal.returns-clause-reads
 returns-clause-reads g c =
     let old = c.args.disk.now in
     let e = c.len.ensures in
-    let one = one_call g.D.Disk.reads g.D.Disk.may_leave g.D.Disk.moment g.D.Disk.left_since g.met.D.Disk.only_now old c.len.new.self e.reads e.still e.images e.kept e.time in
-    both_runs g.D.Disk.reads g.D.Disk.may_leave g.D.Disk.moment g.D.Disk.left_since g.met.D.Disk.only_now old c.len.new.self c.read_up_to.new.disk one c.read_up_to.ensures.reads
+    let one = one_call g.D.Disk g.met.D.Disk.only_now old c.len.new.self e.reads e.still e.images e.kept e.time in
+    both_runs g.D.Disk g.met.D.Disk.only_now old c.len.new.self c.read_up_to.new.disk one c.read_up_to.ensures.reads

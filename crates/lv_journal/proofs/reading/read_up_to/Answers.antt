@@ -19,6 +19,6 @@ loop-records-preserved g c = record {
       let len : c.record_len-next.result ≡ 5 + length payload.items = omega (arith, c.record_len-next.ensures, c.deref.ensures.len, payload.ok.0) in
       subst (λ (ps : List (List ℕ)). HasRead c.args.area c.args.end (c.loop-records.next + c.record_len-next.result) ps (g.D.Disk.reads c.args.disk.now)) (sym pushed)
       (subst (λ (k : ℕ). HasRead c.args.area c.args.end (c.loop-records.next + k) (map items_of c.loop-records.records.items ++ payload.items ∷ []) (g.D.Disk.reads c.args.disk.now)) (sym len) more);
-  only = both_runs g.D.Disk.reads g.D.Disk.may_leave g.D.Disk.moment g.D.Disk.left_since g.met.D.Disk.only_now c.args.disk.now c.loop-records.disk c.read_record.new.disk c.loop-records.invariant.only c.read_record.ensures.reads;
+  only = both_runs g.D.Disk g.met.D.Disk.only_now c.args.disk.now c.loop-records.disk c.read_record.new.disk c.loop-records.invariant.only c.read_record.ensures.reads;
   count = ⊎_elim (λ is. absurd cc) (λ same. same ∙ c.loop-records.invariant.count) c.in_ok-payload.ensures.count.no_other;
 }

@@ -6,7 +6,7 @@ use Rattle.lv_journal.proofs.reading.read_up_to.Given as goal
 abbrev pub invariant-loop-records : goal.invariant-loop-records
 invariant-loop-records g l = record {
   found : HasRead l.area l.end l.next (map (λ payload. payload.items) l.records.items) (g.D.Disk.reads l.fn.disk);
-  only : OnlyReads g.D.Disk.reads g.D.Disk.may_leave g.D.Disk.moment g.D.Disk.left_since l.fn.disk l.disk;
+  only : OnlyReads g.D.Disk l.fn.disk l.disk;
   count : g.D.Disk.failures l.disk ≡ g.D.Disk.failures l.fn.disk;
 }
 

@@ -4,19 +4,19 @@ use Rattle.lv_journal.proofs.record.write_record.Goals as goal
 
 pub returns-in_err-write_through-clause-any_moment : goal.returns-in_err-write_through-clause-any_moment
 returns-in_err-write_through-clause-any_moment g c =
-    first_moments c.args.area c.args.next c.args.payload.now c.requires.short c.requires.room g.D.Disk.moment g.D.Disk.left_since g.D.Disk.may_leave
+    first_moments c.args.area c.args.next c.args.payload.now c.requires.short c.requires.room g.D.Disk
     c.args.disk.now c.write_through.new.disk c.write_through.new.disk _ c.put_block.ensures c.requires.ready c.write_through.ensures.any_moment
 
 pub returns-clause-any_moment : goal.returns-clause-any_moment
 returns-clause-any_moment g c =
-    both_moments c.args.area c.args.next c.args.payload.now c.requires.short c.requires.room g.D.Disk.moment g.D.Disk.left_since g.D.Disk.may_leave
+    both_moments c.args.area c.args.next c.args.payload.now c.requires.short c.requires.room g.D.Disk
     c.args.disk.now c.write_through.new.disk c.write_through-2.new.disk _ c.put_block.ensures c.requires.ready
     c.write_through.ensures.any_moment c.in_ok-write_through.ensures.done c.write_through-2.ensures.any_moment
 
 pub returns-clause-appended : goal.returns-clause-appended
 returns-clause-appended g c =
     on_ok_weaker c.write_through-2.result
-    (acknowledged c.args.area c.args.next c.args.payload.now c.requires.short c.requires.room g.D.Disk.moment g.D.Disk.left_since g.D.Disk.may_leave
+    (acknowledged c.args.area c.args.next c.args.payload.now c.requires.short c.requires.room g.D.Disk
     c.args.disk.now c.write_through.new.disk c.write_through-2.new.disk _ c.put_block.ensures c.requires.ready
     c.in_ok-write_through.ensures.done)
     c.write_through-2.ensures.done
@@ -24,6 +24,6 @@ returns-clause-appended g c =
 pub returns-clause-ready : goal.returns-clause-ready
 returns-clause-ready g c =
     on_ok_weaker c.write_through-2.result
-    (again c.args.area c.args.next c.args.payload.now c.requires.short c.requires.room g.D.Disk.moment g.D.Disk.left_since g.D.Disk.may_leave
+    (again c.args.area c.args.next c.args.payload.now c.requires.short c.requires.room g.D.Disk
     c.args.disk.now c.write_through.new.disk c.write_through-2.new.disk _ c.put_block.ensures c.requires.ready)
     (returns-clause-appended g c)
