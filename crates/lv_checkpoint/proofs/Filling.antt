@@ -2,7 +2,9 @@
 use Rattle.std.proofs.Common.{◌≡◌, inl, ◌<◌, ◌≤◌, ◌+◌, ◌^◌, ℕ, List, [], ◌∷◌, length, subst, arith, length-append}
 use Rattle.lv_disk.specs.Files.{HasAt, KeepsOutside, Torn, Written}
 use Rattle.lv_disk.specs.Gates.{IsClosedAt}
-use Rattle.lv_disk.specs.Stops.{Each, Elapses, From, Follows, LeavesOnly}
+use Rattle.lv_disk.specs.Moments.{LeavesOnly}
+use Rattle.lv_disk.specs.Stops.{Each, Elapses, From, Follows}
+use Rattle.lv_disk.specs.declared.disk.Disk.{Ghosts}
 use Rattle.lv_disk.proofs.Moments.{started, goes_on, weaker, and_then}
 use Rattle.lv_disk.specs.declared.area.Area.{Area}
 use Rattle.lv_disk.proofs.Gates.{closed_kept}
@@ -87,33 +89,33 @@ module _ (s : Slots) (journal : Area) (body : List ℕ) (fits : 13 + length body
       }
 
   -- over the images, as the clauses say it
-  module _ {D : Type 0} (moment : D → ℕ) (left_since : D → ℕ → List ℕ → Type 0) (may_leave reads : D → List ℕ → Type 0) (d0 d1 d2 : D) (place : ℕ) (bytes : List ℕ) (there : place ≡ at + 1) (is : bytes ≡ content)
-      (shut : Each (may_leave d0) (IsClosedAt at)) (only_now : (file : List ℕ) → left_since d0 (moment d0) file → may_leave d0 file)
-      (torn : Follows (Torn place (length bytes)) (may_leave d0) (may_leave d1)) (time : Elapses (moment d0) (moment d1) (left_since d0) (left_since d1) (may_leave d1)) where
+  module _ {D : Type 0} (facts : Ghosts D) (d0 d1 d2 : D) (place : ℕ) (bytes : List ℕ) (there : place ≡ at + 1) (is : bytes ≡ content)
+      (shut : Each (facts.may_leave d0) (IsClosedAt at)) (only_now : (file : List ℕ) → facts.left_since d0 (facts.moment d0) file → facts.may_leave d0 file)
+      (torn : Follows (Torn place (length bytes)) (facts.may_leave d0) (facts.may_leave d1)) (time : Elapses (facts.moment d0) (facts.moment d1) (facts.left_since d0) (facts.left_since d1) (facts.may_leave d1)) where
     abbrev May : List ℕ → Type 0
-    May = From (may_leave d0) (MayFill s journal)
+    May = From (facts.may_leave d0) (MayFill s journal)
 
     staged_from : (old mid : List ℕ) → Torn place (length bytes) old mid → Torn (at + 1) (length content) old mid
     staged_from old mid torn =
         subst (λ (k : ℕ). Torn k (length content) old mid) there (subst (λ (l : List ℕ). Torn place (length l) old mid) is torn)
 
-    pub first_moments : LeavesOnly moment left_since d0 d1 May
+    pub first_moments : LeavesOnly facts d0 d1 May
     first_moments =
-        goes_on moment left_since d0 d0 d1 May (may_leave d1)
-        (started moment left_since d0 May (λ file left. let now = only_now file left in (file, now, may_first file file (shut file now) (torn_itself (at + 1) (length content) file))))
+        goes_on facts d0 d0 d1 May (facts.may_leave d1)
+        (started facts d0 May (λ file left. let now = only_now file left in (file, now, may_first file file (shut file now) (torn_itself (at + 1) (length content) file))))
         time
         (λ file left. let was = torn file left in (was.0, was.1, may_first was.0 file (shut was.0 was.1) (staged_from was.0 file was.2)))
 
-    pub both_moments : LeavesOnly moment left_since d1 d2 (From (may_leave d1) (Torn journal.base 1)) → LeavesOnly moment left_since d0 d2 May
+    pub both_moments : LeavesOnly facts d1 d2 (From (facts.may_leave d1) (Torn journal.base 1)) → LeavesOnly facts d0 d2 May
     both_moments second =
-        and_then moment left_since d0 d1 d2 May first_moments
-        (weaker moment left_since d1 d2 (From (may_leave d1) (Torn journal.base 1)) May second
+        and_then facts d0 d1 d2 May first_moments
+        (weaker facts d1 d2 (From (facts.may_leave d1) (Torn journal.base 1)) May second
         (λ file left.
         let was = torn left.0 left.1 in
         (was.0, was.1, may_both was.0 left.0 file (shut was.0 was.1) (staged_from was.0 left.0 was.2) left.2)))
 
-    pub filled : ((file : List ℕ) → reads d0 file → may_leave d0 file) → Follows (Written place bytes) (reads d0) (reads d1)
-        → Follows (Written journal.base (0 ∷ [])) (reads d1) (reads d2) → Each (may_leave d2) (reads d2) → Follows (Fills s body journal) (may_leave d0) (may_leave d2)
+    pub filled : ((file : List ℕ) → facts.reads d0 file → facts.may_leave d0 file) → Follows (Written place bytes) (facts.reads d0) (facts.reads d1)
+        → Follows (Written journal.base (0 ∷ [])) (facts.reads d1) (facts.reads d2) → Each (facts.may_leave d2) (facts.reads d2) → Follows (Fills s body journal) (facts.may_leave d0) (facts.may_leave d2)
     filled reads_image first second durable file left =
         let marked = second file (durable file left) in
         let staged = first marked.0 marked.1 in

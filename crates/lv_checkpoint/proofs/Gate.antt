@@ -3,12 +3,14 @@ use Rattle.std.proofs.Common.{◌≡◌, ◌⊎◌, inl, inr, ⊎_elim, ◌<◌,
 use Rattle.std.proofs.lemmas.Bool.{cases_eq, true≢false}
 use Rattle.lv_disk.specs.Files.{HasAt, KeepsOutside, Torn, Written}
 use Rattle.lv_disk.specs.Gates.{IsClosedAt}
-use Rattle.lv_disk.specs.Stops.{From, Follows, LeavesOnly}
+use Rattle.lv_disk.specs.Moments.{LeavesOnly}
+use Rattle.lv_disk.specs.Stops.{From, Follows}
 use Rattle.lv_disk.proofs.Moments.{weaker}
 use Rattle.lv_disk.specs.declared.area.Area.{Area}
 use Rattle.lv_disk.proofs.Gates.{closed_now}
 use Rattle.lv_disk.proofs.Bytes.{keeps_wider, has_one, written_torn}
 use Rattle.lv_disk.specs.Areas.{IsApart}
+use Rattle.lv_disk.specs.declared.disk.Disk.{Ghosts}
 use Rattle.lv_checkpoint.specs.Bodies.{HasContent, IsOpen, IsOpenWith, IsOlder, IsLive}
 use Rattle.lv_checkpoint.specs.Handles.{live_of, other_of, generation_of, second_of, finds_open, HasSomeSlots}
 use Rattle.lv_checkpoint.specs.Steps.{IsNextBy, IsSomeLive, IsFilled, KeepsLive, ClosesOther, OpensOther, MayOpenOther}
@@ -131,22 +133,22 @@ turned_slots s t other old new is live_is other_is generation_is open_is live fi
     )
 
 -- over the images, as the clauses say it
-module _ {D : Type 0} (moment : D → ℕ) (left_since : D → ℕ → List ℕ → Type 0) (may_leave : D → List ℕ → Type 0) (s : Slots) (d0 d1 : D) (other : Area) (is : other ≡ other_of s) where
-  pub close_moments : ((file : List ℕ) → may_leave d0 file → IsOlder (other_of s) (generation_of s) file) → LeavesOnly moment left_since d0 d1 (From (may_leave d0) (Torn other.base 1)) → LeavesOnly moment left_since d0 d1 (From (may_leave d0) (KeepsLive s))
-  close_moments older leaves = weaker moment left_since d0 d1 (From (may_leave d0) (Torn other.base 1)) (From (may_leave d0) (KeepsLive s)) leaves
+module _ {D : Type 0} (facts : Ghosts D) (s : Slots) (d0 d1 : D) (other : Area) (is : other ≡ other_of s) where
+  pub close_moments : ((file : List ℕ) → facts.may_leave d0 file → IsOlder (other_of s) (generation_of s) file) → LeavesOnly facts d0 d1 (From (facts.may_leave d0) (Torn other.base 1)) → LeavesOnly facts d0 d1 (From (facts.may_leave d0) (KeepsLive s))
+  close_moments older leaves = weaker facts d0 d1 (From (facts.may_leave d0) (Torn other.base 1)) (From (facts.may_leave d0) (KeepsLive s)) leaves
       (λ file left. (left.0, left.1, keeps_live s left.0 file (older left.0 left.1) (subst (λ (a : Area). Torn a.base 1 left.0 file) is left.2)))
 
-  pub close_done : ((file : List ℕ) → may_leave d0 file → IsOlder (other_of s) (generation_of s) file) → Follows (Written other.base (0 ∷ [])) (may_leave d0) (may_leave d1) → Follows (ClosesOther s) (may_leave d0) (may_leave d1)
+  pub close_done : ((file : List ℕ) → facts.may_leave d0 file → IsOlder (other_of s) (generation_of s) file) → Follows (Written other.base (0 ∷ [])) (facts.may_leave d0) (facts.may_leave d1) → Follows (ClosesOther s) (facts.may_leave d0) (facts.may_leave d1)
   close_done older written file left =
       let was = written file left in
       (was.0, was.1, closes s was.0 file (older was.0 was.1) (subst (λ (a : Area). Written a.base (0 ∷ []) was.0 file) is was.2))
 
-  pub open_moments : ((file : List ℕ) → may_leave d0 file → IsFilled s file) → LeavesOnly moment left_since d0 d1 (From (may_leave d0) (Torn other.base 1)) → LeavesOnly moment left_since d0 d1 (From (may_leave d0) (MayOpenOther s))
-  open_moments filled leaves = weaker moment left_since d0 d1 (From (may_leave d0) (Torn other.base 1)) (From (may_leave d0) (MayOpenOther s)) leaves
+  pub open_moments : ((file : List ℕ) → facts.may_leave d0 file → IsFilled s file) → LeavesOnly facts d0 d1 (From (facts.may_leave d0) (Torn other.base 1)) → LeavesOnly facts d0 d1 (From (facts.may_leave d0) (MayOpenOther s))
+  open_moments filled leaves = weaker facts d0 d1 (From (facts.may_leave d0) (Torn other.base 1)) (From (facts.may_leave d0) (MayOpenOther s)) leaves
       (λ file left. (left.0, left.1, may_open s left.0 file (filled left.0 left.1) (subst (λ (a : Area). Torn a.base 1 left.0 file) is left.2)))
 
-  pub open_done : ((file : List ℕ) → may_leave d0 file → IsSomeLive s file × IsFilled s file)
-      → Follows (Written other.base (165 ∷ [])) (may_leave d0) (may_leave d1) → Follows (OpensOther s) (may_leave d0) (may_leave d1)
+  pub open_done : ((file : List ℕ) → facts.may_leave d0 file → IsSomeLive s file × IsFilled s file)
+      → Follows (Written other.base (165 ∷ [])) (facts.may_leave d0) (facts.may_leave d1) → Follows (OpensOther s) (facts.may_leave d0) (facts.may_leave d1)
   open_done ready written file left =
       let was = written file left in
       (was.0, was.1, opens s was.0 file (ready was.0 was.1).0 (ready was.0 was.1).1 (subst (λ (a : Area). Written a.base (165 ∷ []) was.0 file) is was.2))

@@ -1,6 +1,7 @@
 //! The change of the live slot: the other slot is closed, filled and opened, each on the disk before the next.
 ghost use Rattle.std.specs.Prelude.{◌≡◌, ◌≤◌, ◌<◌, ◌+◌, ◌^◌, length, false, true, OnOk, IfOk};
-ghost use Rattle.lv_disk.specs.Stops.{Counted, Each, Follows, From, LeavesOnly};
+ghost use Rattle.lv_disk.specs.Moments.{LeavesOnly};
+ghost use Rattle.lv_disk.specs.Stops.{Counted, Each, Follows, From};
 ghost use Rattle.lv_checkpoint.specs.Handles.{body_in, closed_of, filled_of, finds_open, first_of, generation_in, generation_of, live_of, other_of, other_slot, second_of, slot_of, HasSomeSlots};
 ghost use Rattle.lv_checkpoint.specs.Steps.{ClosesOther, Fills, HasClosed, HasFilled, KeepsLive, MayFill, MayOpenOther, OpensOther};
 
@@ -32,7 +33,7 @@ impl Slots {
             (Follows (ClosesOther self) (D.may_leave disk.old) (D.may_leave disk.new)) }
         ensures slots { IfOk result (λ closed. closed_of closed ≡ self) }
         ensures no_call { finds_open self ≡ false → disk.new ≡ disk.old }
-        ensures any_moment { LeavesOnly D.moment D.left_since disk.old disk.new
+        ensures any_moment { LeavesOnly D.Disk disk.old disk.new
             (From (D.may_leave disk.old) (KeepsLive self)) }
         ensures count { Counted (D.failures disk.old) (D.failures disk.new) result }
     {
@@ -62,7 +63,7 @@ impl Closed {
         ensures filled { OnOk result (Follows (Fills (closed_of self) (body_in image.now) journal)
             (D.may_leave disk.old) (D.may_leave disk.new)) }
         ensures slots { IfOk result (λ filled. filled_of filled ≡ closed_of self) }
-        ensures any_moment { LeavesOnly D.moment D.left_since disk.old disk.new
+        ensures any_moment { LeavesOnly D.Disk disk.old disk.new
             (From (D.may_leave disk.old) (MayFill (closed_of self) journal)) }
         ensures count { Counted (D.failures disk.old) (D.failures disk.new) result }
     {
@@ -88,7 +89,7 @@ impl Filled {
         ensures generation { IfOk result
             (λ s. generation_of s ≡ generation_of (filled_of self) + 1) }
         ensures other { IfOk result (λ s. finds_open s ≡ true) }
-        ensures any_moment { LeavesOnly D.moment D.left_since disk.old disk.new
+        ensures any_moment { LeavesOnly D.Disk disk.old disk.new
             (From (D.may_leave disk.old) (MayOpenOther (filled_of self))) }
         ensures count { Counted (D.failures disk.old) (D.failures disk.new) result }
     {

@@ -46,7 +46,7 @@ fn generation_of(bytes: [u8; 8]) -> u64
 fn read_generation<D: Disk>(disk: &mut D, at: u64) -> Result<u64, DeviceFault>
     requires { Each (D.reads disk.old) (λ file. at + 8 ≤ length file) }
     ensures told { IfOk result (λ n. Each (D.reads disk.old) (HasAt at (to_le_bytes w64 n))) }
-    ensures reads { OnlyReads D.reads D.may_leave D.moment D.left_since disk.old disk.new }
+    ensures reads { OnlyReads D.Disk disk.old disk.new }
     ensures count { Counted (D.failures disk.old) (D.failures disk.new) result }
 {
     let mut bytes = [0; 8];
@@ -64,7 +64,7 @@ pub fn read_body<D: Disk>(
     requires within { Each (D.reads disk.old) (λ file. at + len ≤ length file) }
     ensures len { IfOk result (λ body. length body.items ≡ len) }
     ensures told { IfOk result (λ body. Each (D.reads disk.old) (HasAt at body.items)) }
-    ensures reads { OnlyReads D.reads D.may_leave D.moment D.left_since disk.old disk.new }
+    ensures reads { OnlyReads D.Disk disk.old disk.new }
     ensures count { CountsFaults CheckpointError.Device (D.failures disk.old)
         (D.failures disk.new) result }
     ensures no_other { IfErr result
@@ -88,7 +88,7 @@ pub fn read_head<D: Disk>(
         (place ≡ slot.base) × Each (D.reads disk.old) (IsBadSlot slot))) }
     ensures no_other { IfErr result (λ e.
         (e ≡ CheckpointError.Device) ⊎ (e ≡ CheckpointError.Damaged slot.base)) }
-    ensures reads { OnlyReads D.reads D.may_leave D.moment D.left_since disk.old disk.new }
+    ensures reads { OnlyReads D.Disk disk.old disk.new }
     ensures count { CountsFaults CheckpointError.Device (D.failures disk.old)
         (D.failures disk.new) result }
 {

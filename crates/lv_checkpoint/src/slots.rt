@@ -170,7 +170,7 @@ impl Slots {
         ensures no_other { IfErr result RefusesOpen }
 
         // It writes nothing.
-        ensures reads { OnlyReads D.reads D.may_leave D.moment D.left_since disk.old disk.new }
+        ensures reads { OnlyReads D.Disk disk.old disk.new }
         ensures only { Each (D.may_leave disk.new) (D.reads disk.new) }
         ensures count { CountsFaults CheckpointError.Device (D.failures disk.old)
             (D.failures disk.new) result }

@@ -33,19 +33,19 @@ returns-clause-shows g c = λ file is.
 
 pub returns-in_err-generation-clause-reads : goal.returns-in_err-generation-clause-reads
 returns-in_err-generation-clause-reads g c =
-    both_runs g.D.Disk.reads g.D.Disk.may_leave g.D.Disk.moment g.D.Disk.left_since g.met.D.Disk.only_now c.args.disk.now c.read_gate.new.disk c.read_generation.new.disk c.read_gate.ensures.reads c.read_generation.ensures.reads
+    both_runs g.D.Disk g.met.D.Disk.only_now c.args.disk.now c.read_gate.new.disk c.read_generation.new.disk c.read_gate.ensures.reads c.read_generation.ensures.reads
 
 pub returns-in_err-len-clause-reads : goal.returns-in_err-len-clause-reads
 returns-in_err-len-clause-reads g c =
-    let two = both_runs g.D.Disk.reads g.D.Disk.may_leave g.D.Disk.moment g.D.Disk.left_since g.met.D.Disk.only_now c.args.disk.now c.read_gate.new.disk c.read_generation.new.disk c.read_gate.ensures.reads c.read_generation.ensures.reads in
-    both_runs g.D.Disk.reads g.D.Disk.may_leave g.D.Disk.moment g.D.Disk.left_since g.met.D.Disk.only_now c.args.disk.now c.read_generation.new.disk c.read_length.new.disk two c.read_length.ensures.reads
+    let two = both_runs g.D.Disk g.met.D.Disk.only_now c.args.disk.now c.read_gate.new.disk c.read_generation.new.disk c.read_gate.ensures.reads c.read_generation.ensures.reads in
+    both_runs g.D.Disk g.met.D.Disk.only_now c.args.disk.now c.read_generation.new.disk c.read_length.new.disk two c.read_length.ensures.reads
 
 pub returns-then-whole-slot-clause-reads : goal.returns-then-whole-slot-clause-reads
 returns-then-whole-slot-clause-reads g c =
-    let two = both_runs g.D.Disk.reads g.D.Disk.may_leave g.D.Disk.moment g.D.Disk.left_since g.met.D.Disk.only_now c.args.disk.now c.read_gate.new.disk c.read_generation.new.disk c.read_gate.ensures.reads c.read_generation.ensures.reads in
-    both_runs g.D.Disk.reads g.D.Disk.may_leave g.D.Disk.moment g.D.Disk.left_since g.met.D.Disk.only_now c.args.disk.now c.read_generation.new.disk c.read_length.new.disk two c.read_length.ensures.reads
+    let two = both_runs g.D.Disk g.met.D.Disk.only_now c.args.disk.now c.read_gate.new.disk c.read_generation.new.disk c.read_gate.ensures.reads c.read_generation.ensures.reads in
+    both_runs g.D.Disk g.met.D.Disk.only_now c.args.disk.now c.read_generation.new.disk c.read_length.new.disk two c.read_length.ensures.reads
 
 pub returns-clause-reads : goal.returns-clause-reads
 returns-clause-reads g c =
-    let two = both_runs g.D.Disk.reads g.D.Disk.may_leave g.D.Disk.moment g.D.Disk.left_since g.met.D.Disk.only_now c.args.disk.now c.read_gate.new.disk c.read_generation.new.disk c.read_gate.ensures.reads c.read_generation.ensures.reads in
-    both_runs g.D.Disk.reads g.D.Disk.may_leave g.D.Disk.moment g.D.Disk.left_since g.met.D.Disk.only_now c.args.disk.now c.read_generation.new.disk c.read_length.new.disk two c.read_length.ensures.reads
+    let two = both_runs g.D.Disk g.met.D.Disk.only_now c.args.disk.now c.read_gate.new.disk c.read_generation.new.disk c.read_gate.ensures.reads c.read_generation.ensures.reads in
+    both_runs g.D.Disk g.met.D.Disk.only_now c.args.disk.now c.read_generation.new.disk c.read_length.new.disk two c.read_length.ensures.reads

@@ -10,7 +10,7 @@ returns-in_err-write_at-clause-any_moment g c =
     let s = c.args.self.slots in
     let image = c.args.image.now in
     first_moments s c.args.journal (body_in image) c.requires.fits (omega (arith, c.requires.next, image.number)) image.count c.requires.apart
-    g.D.Disk.moment g.D.Disk.left_since g.D.Disk.may_leave g.D.Disk.reads c.args.disk.now c.write_at.new.self c.write_at.new.self _ c.bytes.result.now
+    g.D.Disk c.args.disk.now c.write_at.new.self c.write_at.new.self _ c.bytes.result.now
     (ap (λ (a : Area). a.base + 1) c.other.ensures) (c.bytes.ensures ∙ ap (λ (n : ℕ). content_bytes n (body_in image)) c.requires.next)
     (λ file left. (c.requires.ready file left).closed) (λ file left. g.met.D.Disk.only_now c.args.disk.now file left) c.write_at.ensures.images c.write_at.ensures.time
 
@@ -19,7 +19,7 @@ returns-in_err-write_through-clause-any_moment g c =
     let s = c.args.self.slots in
     let image = c.args.image.now in
     both_moments s c.args.journal (body_in image) c.requires.fits (omega (arith, c.requires.next, image.number)) image.count c.requires.apart
-    g.D.Disk.moment g.D.Disk.left_since g.D.Disk.may_leave g.D.Disk.reads c.args.disk.now c.write_at.new.self c.write_through.new.disk _ c.bytes.result.now
+    g.D.Disk c.args.disk.now c.write_at.new.self c.write_through.new.disk _ c.bytes.result.now
     (ap (λ (a : Area). a.base + 1) c.other.ensures) (c.bytes.ensures ∙ ap (λ (n : ℕ). content_bytes n (body_in image)) c.requires.next)
     (λ file left. (c.requires.ready file left).closed) (λ file left. g.met.D.Disk.only_now c.args.disk.now file left) c.write_at.ensures.images c.write_at.ensures.time
     c.write_through.ensures.any_moment
@@ -29,7 +29,7 @@ returns-clause-any_moment g c =
     let s = c.args.self.slots in
     let image = c.args.image.now in
     both_moments s c.args.journal (body_in image) c.requires.fits (omega (arith, c.requires.next, image.number)) image.count c.requires.apart
-    g.D.Disk.moment g.D.Disk.left_since g.D.Disk.may_leave g.D.Disk.reads c.args.disk.now c.write_at.new.self c.write_through.new.disk _ c.bytes.result.now
+    g.D.Disk c.args.disk.now c.write_at.new.self c.write_through.new.disk _ c.bytes.result.now
     (ap (λ (a : Area). a.base + 1) c.other.ensures) (c.bytes.ensures ∙ ap (λ (n : ℕ). content_bytes n (body_in image)) c.requires.next)
     (λ file left. (c.requires.ready file left).closed) (λ file left. g.met.D.Disk.only_now c.args.disk.now file left) c.write_at.ensures.images c.write_at.ensures.time
     c.write_through.ensures.any_moment
@@ -39,7 +39,7 @@ returns-clause-filled g c =
     let s = c.args.self.slots in
     let image = c.args.image.now in
     filled s c.args.journal (body_in image) c.requires.fits (omega (arith, c.requires.next, image.number)) image.count c.requires.apart
-    g.D.Disk.moment g.D.Disk.left_since g.D.Disk.may_leave g.D.Disk.reads c.args.disk.now c.write_at.new.self c.write_through.new.disk _ c.bytes.result.now
+    g.D.Disk c.args.disk.now c.write_at.new.self c.write_through.new.disk _ c.bytes.result.now
     (ap (λ (a : Area). a.base + 1) c.other.ensures) (c.bytes.ensures ∙ ap (λ (n : ℕ). content_bytes n (body_in image)) c.requires.next)
     (λ file left. (c.requires.ready file left).closed) (λ file left. g.met.D.Disk.only_now c.args.disk.now file left) c.write_at.ensures.images c.write_at.ensures.time
     (λ file is. g.met.D.Disk.reads_an_image c.args.disk.now file is) c.in_ok-write_at.ensures.written c.in_ok-write_through.ensures.written c.in_ok-write_through.ensures.durable

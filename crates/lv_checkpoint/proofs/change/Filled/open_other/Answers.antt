@@ -4,17 +4,17 @@ use Rattle.lv_checkpoint.proofs.change.Filled.open_other.Goals as goal
 
 pub returns-in_err-write_through-clause-any_moment : goal.returns-in_err-write_through-clause-any_moment
 returns-in_err-write_through-clause-any_moment g c =
-    open_moments g.D.Disk.moment g.D.Disk.left_since g.D.Disk.may_leave c.args.self.slots c.args.disk.now c.write_through.new.disk c.other.result c.other.ensures
+    open_moments g.D.Disk c.args.self.slots c.args.disk.now c.write_through.new.disk c.other.result c.other.ensures
     (λ file left. (c.requires.ready file left).filled) c.write_through.ensures.any_moment
 
 pub returns-clause-any_moment : goal.returns-clause-any_moment
 returns-clause-any_moment g c =
-    open_moments g.D.Disk.moment g.D.Disk.left_since g.D.Disk.may_leave c.args.self.slots c.args.disk.now c.write_through.new.disk c.other.result c.other.ensures
+    open_moments g.D.Disk c.args.self.slots c.args.disk.now c.write_through.new.disk c.other.result c.other.ensures
     (λ file left. (c.requires.ready file left).filled) c.write_through.ensures.any_moment
 
 pub returns-clause-opened : goal.returns-clause-opened
 returns-clause-opened g c =
-    open_done g.D.Disk.moment g.D.Disk.left_since g.D.Disk.may_leave c.args.self.slots c.args.disk.now c.write_through.new.disk c.other.result c.other.ensures
+    open_done g.D.Disk c.args.self.slots c.args.disk.now c.write_through.new.disk c.other.result c.other.ensures
     (λ file left. let ready = c.requires.ready file left in (ready.closed.live, ready.filled)) c.in_ok-write_through.ensures.done
 
 pub returns-clause-ready : goal.returns-clause-ready

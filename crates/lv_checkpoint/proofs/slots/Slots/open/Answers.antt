@@ -23,8 +23,8 @@ pub returns-in_err-first-clause-reads : goal.returns-in_err-first-clause-reads
 returns-in_err-first-clause-reads g c =
     let old = c.args.disk.now in
     let e = c.len.ensures in
-    let one = one_call g.D.Disk.reads g.D.Disk.may_leave g.D.Disk.moment g.D.Disk.left_since g.met.D.Disk.only_now old c.len.new.self e.reads e.still e.images e.kept e.time in
-    both_runs g.D.Disk.reads g.D.Disk.may_leave g.D.Disk.moment g.D.Disk.left_since g.met.D.Disk.only_now old c.len.new.self c.read_head.new.disk one c.read_head.ensures.reads
+    let one = one_call g.D.Disk g.met.D.Disk.only_now old c.len.new.self e.reads e.still e.images e.kept e.time in
+    both_runs g.D.Disk g.met.D.Disk.only_now old c.len.new.self c.read_head.new.disk one c.read_head.ensures.reads
 
 pub returns-in_err-first-clause-only : goal.returns-in_err-first-clause-only
 returns-in_err-first-clause-only g c file left =
@@ -35,9 +35,9 @@ pub returns-in-Err-clause-reads : goal.returns-in-Err-clause-reads
 returns-in-Err-clause-reads g c =
     let old = c.args.disk.now in
     let e = c.len.ensures in
-    let one = one_call g.D.Disk.reads g.D.Disk.may_leave g.D.Disk.moment g.D.Disk.left_since g.met.D.Disk.only_now old c.len.new.self e.reads e.still e.images e.kept e.time in
-    let first = both_runs g.D.Disk.reads g.D.Disk.may_leave g.D.Disk.moment g.D.Disk.left_since g.met.D.Disk.only_now old c.len.new.self c.read_head.new.disk one c.read_head.ensures.reads in
-    both_runs g.D.Disk.reads g.D.Disk.may_leave g.D.Disk.moment g.D.Disk.left_since g.met.D.Disk.only_now old c.read_head.new.disk c.read_head-2.new.disk first c.read_head-2.ensures.reads
+    let one = one_call g.D.Disk g.met.D.Disk.only_now old c.len.new.self e.reads e.still e.images e.kept e.time in
+    let first = both_runs g.D.Disk g.met.D.Disk.only_now old c.len.new.self c.read_head.new.disk one c.read_head.ensures.reads in
+    both_runs g.D.Disk g.met.D.Disk.only_now old c.read_head.new.disk c.read_head-2.new.disk first c.read_head-2.ensures.reads
 
 pub returns-in-Err-clause-only : goal.returns-in-Err-clause-only
 returns-in-Err-clause-only g c file left =
@@ -48,9 +48,9 @@ pub returns-in-Err-choose-clause-reads : goal.returns-in-Err-choose-clause-reads
 returns-in-Err-choose-clause-reads g c =
     let old = c.args.disk.now in
     let e = c.len.ensures in
-    let one = one_call g.D.Disk.reads g.D.Disk.may_leave g.D.Disk.moment g.D.Disk.left_since g.met.D.Disk.only_now old c.len.new.self e.reads e.still e.images e.kept e.time in
-    let first = both_runs g.D.Disk.reads g.D.Disk.may_leave g.D.Disk.moment g.D.Disk.left_since g.met.D.Disk.only_now old c.len.new.self c.read_head.new.disk one c.read_head.ensures.reads in
-    both_runs g.D.Disk.reads g.D.Disk.may_leave g.D.Disk.moment g.D.Disk.left_since g.met.D.Disk.only_now old c.read_head.new.disk c.read_head-2.new.disk first c.read_head-2.ensures.reads
+    let one = one_call g.D.Disk g.met.D.Disk.only_now old c.len.new.self e.reads e.still e.images e.kept e.time in
+    let first = both_runs g.D.Disk g.met.D.Disk.only_now old c.len.new.self c.read_head.new.disk one c.read_head.ensures.reads in
+    both_runs g.D.Disk g.met.D.Disk.only_now old c.read_head.new.disk c.read_head-2.new.disk first c.read_head-2.ensures.reads
 
 pub returns-in-Err-choose-clause-only : goal.returns-in-Err-choose-clause-only
 returns-in-Err-choose-clause-only g c file left =
@@ -61,10 +61,10 @@ pub returns-in_err-body-clause-reads : goal.returns-in_err-body-clause-reads
 returns-in_err-body-clause-reads g c =
     let old = c.args.disk.now in
     let e = c.len.ensures in
-    let one = one_call g.D.Disk.reads g.D.Disk.may_leave g.D.Disk.moment g.D.Disk.left_since g.met.D.Disk.only_now old c.len.new.self e.reads e.still e.images e.kept e.time in
-    let first = both_runs g.D.Disk.reads g.D.Disk.may_leave g.D.Disk.moment g.D.Disk.left_since g.met.D.Disk.only_now old c.len.new.self c.read_head.new.disk one c.read_head.ensures.reads in
-    let second = both_runs g.D.Disk.reads g.D.Disk.may_leave g.D.Disk.moment g.D.Disk.left_since g.met.D.Disk.only_now old c.read_head.new.disk c.read_head-2.new.disk first c.read_head-2.ensures.reads in
-    both_runs g.D.Disk.reads g.D.Disk.may_leave g.D.Disk.moment g.D.Disk.left_since g.met.D.Disk.only_now old c.read_head-2.new.disk c.read_body.new.disk second c.read_body.ensures.reads
+    let one = one_call g.D.Disk g.met.D.Disk.only_now old c.len.new.self e.reads e.still e.images e.kept e.time in
+    let first = both_runs g.D.Disk g.met.D.Disk.only_now old c.len.new.self c.read_head.new.disk one c.read_head.ensures.reads in
+    let second = both_runs g.D.Disk g.met.D.Disk.only_now old c.read_head.new.disk c.read_head-2.new.disk first c.read_head-2.ensures.reads in
+    both_runs g.D.Disk g.met.D.Disk.only_now old c.read_head-2.new.disk c.read_body.new.disk second c.read_body.ensures.reads
 
 pub returns-in_err-body-clause-only : goal.returns-in_err-body-clause-only
 returns-in_err-body-clause-only g c file left =
@@ -75,10 +75,10 @@ pub returns-clause-reads : goal.returns-clause-reads
 returns-clause-reads g c =
     let old = c.args.disk.now in
     let e = c.len.ensures in
-    let one = one_call g.D.Disk.reads g.D.Disk.may_leave g.D.Disk.moment g.D.Disk.left_since g.met.D.Disk.only_now old c.len.new.self e.reads e.still e.images e.kept e.time in
-    let first = both_runs g.D.Disk.reads g.D.Disk.may_leave g.D.Disk.moment g.D.Disk.left_since g.met.D.Disk.only_now old c.len.new.self c.read_head.new.disk one c.read_head.ensures.reads in
-    let second = both_runs g.D.Disk.reads g.D.Disk.may_leave g.D.Disk.moment g.D.Disk.left_since g.met.D.Disk.only_now old c.read_head.new.disk c.read_head-2.new.disk first c.read_head-2.ensures.reads in
-    both_runs g.D.Disk.reads g.D.Disk.may_leave g.D.Disk.moment g.D.Disk.left_since g.met.D.Disk.only_now old c.read_head-2.new.disk c.read_body.new.disk second c.read_body.ensures.reads
+    let one = one_call g.D.Disk g.met.D.Disk.only_now old c.len.new.self e.reads e.still e.images e.kept e.time in
+    let first = both_runs g.D.Disk g.met.D.Disk.only_now old c.len.new.self c.read_head.new.disk one c.read_head.ensures.reads in
+    let second = both_runs g.D.Disk g.met.D.Disk.only_now old c.read_head.new.disk c.read_head-2.new.disk first c.read_head-2.ensures.reads in
+    both_runs g.D.Disk g.met.D.Disk.only_now old c.read_head-2.new.disk c.read_body.new.disk second c.read_body.ensures.reads
 
 pub returns-clause-only : goal.returns-clause-only
 returns-clause-only g c file left =
