@@ -1,6 +1,7 @@
 -- A project that was just made is sound.
-use Rattle.std.proofs.Common.{◌≡◌, ◌≤◌, ℕ, false, List, [], refl, sym, ◌∙◌, ap, subst, arith}
+use Rattle.std.proofs.Common.{◌≡◌, ◌≤◌, ℕ, false, [], refl, sym, ◌∙◌, ap, subst, arith}
 use Rattle.lv_disk.specs.Stops.{Each}
+use Rattle.lv_disk.specs.declared.disk.Disk.{Ghosts}
 use Rattle.lv_journal.specs.State as journal
 use Rattle.lv_journal.specs.Records.{EndsAt, IsJournal}
 use Rattle.lv_checkpoint.specs.Handles.{first_of, second_of, slot_of, generation_of, HasSomeSlots}
@@ -11,11 +12,11 @@ use Rattle.lv_project.specs.Fields.{IsSound, parts_in}
 use Rattle.lv_project.specs.declared.places.Parts.{Parts}
 use Rattle.lv_project.specs.declared.project.Project.TheInside.{Inside}
 
-pub sound_created : {D : Type 0} (may_leave : D → List ℕ → Type 0) (p : Inside D) → IsAllowed p.geometry.slot p.geometry.journal → IsLaidOut p.geometry p.places
+pub sound_created : {D : Type 0} (facts : Ghosts D) (p : Inside D) → IsAllowed p.geometry.slot p.geometry.journal → IsLaidOut p.geometry p.places
     → first_of p.slots ≡ p.places.a → second_of p.slots ≡ p.places.b → slot_of p.slots ≡ 0 → generation_of p.slots ≡ 1 → p.journal ≡ journal.opened p.places.first [] → (project_of p.maps) ≡ empty_project
-    → Each (may_leave p.disk) (λ file. HasGeometry p.geometry p.places file × StandsAt (cap_of p.geometry) (parts_of p.places 0) empty_project 1 file) → Each (may_leave p.disk) (HasSomeSlots p.slots)
-    → Each (may_leave p.disk) (IsJournal p.places.first []) → IsSound may_leave p
-sound_created may_leave p allowed laid first second slot_is generation_is journal_is map_is made slots none =
+    → Each (facts.may_leave p.disk) (λ file. HasGeometry p.geometry p.places file × StandsAt (cap_of p.geometry) (parts_of p.places 0) empty_project 1 file) → Each (facts.may_leave p.disk) (HasSomeSlots p.slots)
+    → Each (facts.may_leave p.disk) (IsJournal p.places.first []) → IsSound facts p
+sound_created facts p allowed laid first second slot_is generation_is journal_is map_is made slots none =
     let parts : parts_of p.places 0 ≡ parts_in p = ap (parts_of p.places) (sym slot_is) in
     let area : p.journal.area ≡ (parts_in p).journal = ap (λ (j : journal.State). j.area) journal_is ∙ ap (λ (q : Parts). q.journal) parts in
     let go : p.journal.must_reopen ≡ false = ap (λ (j : journal.State). j.must_reopen) journal_is in

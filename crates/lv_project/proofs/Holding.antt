@@ -2,7 +2,9 @@
 use Rattle.std.proofs.Common.{◌≡◌, ◌⊎◌, inl, inr, ⊎_elim, ◌≤◌, ℕ, Bool, true, false, cond, List, [], ◌∷◌, ◌++◌, length, length-append, Some, None, Ok, Err, refl, sym, ◌∙◌, ap, subst, arith}
 use Rattle.std.proofs.lemmas.Bool.{cases_Bool, true≢false}
 use Rattle.std.proofs.lemmas.List.{append_assoc, append-nil}
-use Rattle.lv_disk.specs.Stops.{Each, LeavesOnly}
+use Rattle.lv_disk.specs.Moments.{LeavesOnly}
+use Rattle.lv_disk.specs.Stops.{Each}
+use Rattle.lv_disk.specs.declared.disk.Disk.{Ghosts}
 use Rattle.lv_disk.proofs.Moments.{started, weaker, and_then}
 use Rattle.lv_maptables.specs.Projects.{empty_project, ProjectMaps, project_of}
 use Rattle.lv_project.specs.Stands.{IsOutcome, StandsFor}
@@ -25,9 +27,9 @@ accepted_append ((Some line, answer) ∷ xs) ys = at (begins answer) (accepted_a
     at true e = ap (λ (l : List (List ℕ)). line ∷ l) e
     at false e = e
 
-module _ {D : Type 0} (failures : D → ℕ) (old new : State D) (line : List ℕ) where
+module _ {D : Type 0} (facts : Ghosts D) (old new : State D) (line : List ℕ) where
   -- a project that must be opened again stays
-  no_apply : (e : ProjectError) → old.must_reopen ≡ true → RefusesApply failures e old new line → new ≡ old
+  no_apply : (e : ProjectError) → old.must_reopen ≡ true → RefusesApply facts e old new line → new ≡ old
   no_apply Device reopen (a, b, rose) = absurd (true≢false (sym reopen ∙ a))
   no_apply OutOfMemory reopen (a, b, leads) = absurd (true≢false (sym reopen ∙ a))
   no_apply Reopen reopen (a, same) = same
@@ -39,7 +41,7 @@ module _ {D : Type 0} (failures : D → ℕ) (old new : State D) (line : List �
   no_apply NotEmpty reopen is = absurd is
   no_apply BadGeometry reopen is = absurd is
 
-  no_checkpoint : (e : ProjectError) → old.must_reopen ≡ true → RefusesCheckpoint failures e old new → new ≡ old
+  no_checkpoint : (e : ProjectError) → old.must_reopen ≡ true → RefusesCheckpoint facts e old new → new ≡ old
   no_checkpoint Device reopen (a, b, rose) = absurd (true≢false (sym reopen ∙ a))
   no_checkpoint OutOfMemory reopen (a, same) = same
   no_checkpoint Reopen reopen (a, same) = same
@@ -52,7 +54,7 @@ module _ {D : Type 0} (failures : D → ℕ) (old new : State D) (line : List �
   no_checkpoint BadGeometry reopen is = absurd is
 
   -- a line that was begun and refused leaves the project to be opened again
-  faulted : (e : ProjectError) → begins (Err e) ≡ true → RefusesApply failures e old new line → new.must_reopen ≡ true
+  faulted : (e : ProjectError) → begins (Err e) ≡ true → RefusesApply facts e old new line → new.must_reopen ≡ true
   faulted Device is (a, b, rose) = b
   faulted OutOfMemory is r = absurd (true≢false (sym is))
   faulted Reopen is r = absurd (true≢false (sym is))
@@ -64,31 +66,31 @@ module _ {D : Type 0} (failures : D → ℕ) (old new : State D) (line : List �
   faulted NotEmpty is r = absurd (true≢false (sym is))
   faulted BadGeometry is r = absurd (true≢false (sym is))
 
-module _ {D : Type 0} (moment failures : D → ℕ) (left_since : D → ℕ → List ℕ → Type 0) (may_leave : D → List ℕ → Type 0)
-    (only_now : (d : D) (file : List ℕ) → left_since d (moment d) file → may_leave d file)
-    (counts_now : (d : D) (t : ℕ) (file : List ℕ) → t ≤ moment d → may_leave d file → left_since d t file) where
-  stuck : (calls : List Call) (old new : State D) → old.must_reopen ≡ true → AllMade moment failures left_since may_leave old calls new → new ≡ old
+module _ {D : Type 0} (facts : Ghosts D)
+    (only_now : (d : D) (file : List ℕ) → facts.left_since d (facts.moment d) file → facts.may_leave d file)
+    (counts_now : (d : D) (t : ℕ) (file : List ℕ) → t ≤ facts.moment d → facts.may_leave d file → facts.left_since d t file) where
+  stuck : (calls : List Call) (old new : State D) → old.must_reopen ≡ true → AllMade facts old calls new → new ≡ old
   stuck [] old new reopen same = same
   stuck ((Some line, Ok n) ∷ calls) old new reopen (mid, made, more) = absurd (true≢false (sym reopen ∙ made.ends.0))
   stuck ((Some line, Err e) ∷ calls) old new reopen (mid, made, more) =
-      let same : mid ≡ old = no_apply failures old mid line e reopen made.ends.1 in
+      let same : mid ≡ old = no_apply facts old mid line e reopen made.ends.1 in
       stuck calls mid new (ap (λ (s : State D). s.must_reopen) same ∙ reopen) more ∙ same
   stuck ((None, Ok n) ∷ calls) old new reopen (mid, made, more) = absurd (true≢false (sym reopen ∙ made.ends.0))
   stuck ((None, Err e) ∷ calls) old new reopen (mid, made, more) =
-      let same : mid ≡ old = no_checkpoint failures old mid [] e reopen made.ends in
+      let same : mid ≡ old = no_checkpoint facts old mid [] e reopen made.ends in
       stuck calls mid new (ap (λ (s : State D). s.must_reopen) same ∙ reopen) more ∙ same
 
-  unacknowledged : (calls : List Call) (old new : State D) → old.must_reopen ≡ true → AllMade moment failures left_since may_leave old calls new → acknowledged calls ≡ []
+  unacknowledged : (calls : List Call) (old new : State D) → old.must_reopen ≡ true → AllMade facts old calls new → acknowledged calls ≡ []
   unacknowledged [] old new reopen same = refl
   unacknowledged ((Some line, Ok n) ∷ calls) old new reopen (mid, made, more) = absurd (true≢false (sym reopen ∙ made.ends.0))
   unacknowledged ((Some line, Err e) ∷ calls) old new reopen (mid, made, more) =
-      unacknowledged calls mid new (ap (λ (s : State D). s.must_reopen) (no_apply failures old mid line e reopen made.ends.1) ∙ reopen) more
+      unacknowledged calls mid new (ap (λ (s : State D). s.must_reopen) (no_apply facts old mid line e reopen made.ends.1) ∙ reopen) more
   unacknowledged ((None, Ok n) ∷ calls) old new reopen (mid, made, more) = absurd (true≢false (sym reopen ∙ made.ends.0))
   unacknowledged ((None, Err e) ∷ calls) old new reopen (mid, made, more) =
-      unacknowledged calls mid new (ap (λ (s : State D). s.must_reopen) (no_checkpoint failures old mid [] e reopen made.ends) ∙ reopen) more
+      unacknowledged calls mid new (ap (λ (s : State D). s.must_reopen) (no_checkpoint facts old mid [] e reopen made.ends) ∙ reopen) more
 
   -- the accepted lines begin with the acknowledged ones, since behind a line that was begun and refused there are none
-  acknowledged_first : (calls : List Call) (old new : State D) → AllMade moment failures left_since may_leave old calls new
+  acknowledged_first : (calls : List Call) (old new : State D) → AllMade facts old calls new
       → (more : List (List ℕ)) × (accepted calls ≡ acknowledged calls ++ more)
   acknowledged_first [] old new same = ([], refl)
   acknowledged_first ((None, answer) ∷ calls) old new (mid, made, more) = acknowledged_first calls mid new more
@@ -103,16 +105,16 @@ module _ {D : Type 0} (moment failures : D → ℕ) (left_since : D → ℕ → 
       at : (further : List (List ℕ)) × (accepted calls ≡ acknowledged calls ++ further) → (t : Bool) → begins (Err e) ≡ t
           → (further : List (List ℕ)) × (the_lines t ≡ acknowledged calls ++ further)
       at behind true is =
-          let none : acknowledged calls ≡ [] = unacknowledged calls mid new (faulted failures old mid line e is made.ends.1) more in
+          let none : acknowledged calls ≡ [] = unacknowledged calls mid new (faulted facts old mid line e is made.ends.1) more in
           (line ∷ accepted calls, ap (λ (l : List (List ℕ)). l ++ line ∷ accepted calls) (sym none))
       at behind false is = behind
 
   -- the calls behind the first
-  go_on : (old mid new : State D) (calls : List Call) (P : List ℕ → Type 0) → AllMade moment failures left_since may_leave mid calls new → LeavesOnly moment left_since old.disk mid.disk P
-      → (mid.must_reopen ≡ false → LeavesOnly moment left_since mid.disk new.disk P) → LeavesOnly moment left_since old.disk new.disk P
+  go_on : (old mid new : State D) (calls : List Call) (P : List ℕ → Type 0) → AllMade facts mid calls new → LeavesOnly facts old.disk mid.disk P
+      → (mid.must_reopen ≡ false → LeavesOnly facts mid.disk new.disk P) → LeavesOnly facts old.disk new.disk P
   go_on old mid new calls P more first second = elim (cases_Bool mid.must_reopen) [
-    | inl reopen ↦ subst (λ (s : State D). LeavesOnly moment left_since old.disk s.disk P) (sym (stuck calls mid new reopen more)) first
-    | inr still ↦ and_then moment left_since old.disk mid.disk new.disk P first (second still)
+    | inl reopen ↦ subst (λ (s : State D). LeavesOnly facts old.disk s.disk P) (sym (stuck calls mid new reopen more)) first
+    | inr still ↦ and_then facts old.disk mid.disk new.disk P first (second still)
   ]
 
   module _ (limit : ℕ) (base : ProjectMaps) where
@@ -130,7 +132,7 @@ module _ {D : Type 0} (moment failures : D → ℕ) (left_since : D → ℕ → 
     pub record Known (done : List (List ℕ)) (now : State D) : Type 0 where
       pub cap_is : now.cap ≡ limit
       pub leads : Leads limit base done (project_of now.maps)
-      pub kept : IsKept may_leave now
+      pub kept : IsKept facts now
 
     here : (done rest all : List (List ℕ)) (now : State D) → Known done now → all ≡ done ++ rest → (file : List ℕ) → StandsFor now.cap (project_of now.maps) file → Holds all (length done) file
     here done rest all now known is file stands = record {
@@ -158,21 +160,21 @@ module _ {D : Type 0} (moment failures : D → ℕ) (left_since : D → ℕ → 
       stands = subst (λ (k : ℕ). StandsFor k next file) known.cap_is stands;
     }
 
-    same_map : (done : List (List ℕ)) (old mid : State D) → Known done old → mid.cap ≡ old.cap → (project_of mid.maps) ≡ (project_of old.maps) → IsKept may_leave mid → Known done mid
+    same_map : (done : List (List ℕ)) (old mid : State D) → Known done old → mid.cap ≡ old.cap → (project_of mid.maps) ≡ (project_of old.maps) → IsKept facts mid → Known done mid
     same_map done old mid known cap_is map_is kept = record {
       cap_is = cap_is ∙ known.cap_is;
       leads = subst (λ (t : ProjectMaps). Leads limit base done t) (sym map_is) known.leads;
       kept = kept;
     }
 
-    pub moves : (calls : List Call) (done : List (List ℕ)) (old new : State D) → Known done old → old.must_reopen ≡ false → AllMade moment failures left_since may_leave old calls new
-        → LeavesOnly moment left_since old.disk new.disk (Holds (done ++ accepted calls) (length done))
+    pub moves : (calls : List Call) (done : List (List ℕ)) (old new : State D) → Known done old → old.must_reopen ≡ false → AllMade facts old calls new
+        → LeavesOnly facts old.disk new.disk (Holds (done ++ accepted calls) (length done))
     moves [] done old new known ready same =
-        subst (λ (s : State D). LeavesOnly moment left_since old.disk s.disk (Holds (done ++ []) (length done))) (sym same)
-        (started moment left_since old.disk (Holds (done ++ []) (length done)) (λ file left. here done [] (done ++ []) old known refl file (old.generation, known.kept ready file (only_now old.disk file left))))
+        subst (λ (s : State D). LeavesOnly facts old.disk s.disk (Holds (done ++ []) (length done))) (sym same)
+        (started facts old.disk (Holds (done ++ []) (length done)) (λ file left. here done [] (done ++ []) old known refl file (old.generation, known.kept ready file (only_now old.disk file left))))
     moves ((None, answer) ∷ calls) done old new known ready (mid, made, more) =
         go_on old mid new calls (Holds (done ++ accepted calls) (length done)) more
-        (weaker moment left_since old.disk mid.disk (StandsFor old.cap (project_of old.maps)) (Holds (done ++ accepted calls) (length done)) (made.any_moment ready) (here done (accepted calls) (done ++ accepted calls) old known refl))
+        (weaker facts old.disk mid.disk (StandsFor old.cap (project_of old.maps)) (Holds (done ++ accepted calls) (length done)) (made.any_moment ready) (here done (accepted calls) (done ++ accepted calls) old known refl))
         (λ still. moves calls done mid new (same_map done old mid known made.same_cap (ap project_of made.maps) made.kept) still more)
     moves ((Some line, Ok n) ∷ calls) done old new known ready (mid, made, more) =
         let all = done ++ line ∷ accepted calls in
@@ -182,8 +184,8 @@ module _ {D : Type 0} (moment failures : D → ℕ) (left_since : D → ℕ → 
           kept = made.kept;
         } in
         go_on old mid new calls (Holds all (length done)) more
-        (weaker moment left_since old.disk mid.disk (IsOutcome old.cap (project_of old.maps) line) (Holds all (length done)) (made.any_moment ready) (outcome done line (accepted calls) all old known refl))
-        (λ still. weaker moment left_since mid.disk new.disk (Holds ((done ++ line ∷ []) ++ accepted calls) (length (done ++ line ∷ []))) (Holds all (length done))
+        (weaker facts old.disk mid.disk (IsOutcome old.cap (project_of old.maps) line) (Holds all (length done)) (made.any_moment ready) (outcome done line (accepted calls) all old known refl))
+        (λ still. weaker facts mid.disk new.disk (Holds ((done ++ line ∷ []) ++ accepted calls) (length (done ++ line ∷ []))) (Holds all (length done))
         (moves calls (done ++ line ∷ []) mid new then_known still more)
         (λ file h. record {
           lines = h.lines;
@@ -202,31 +204,31 @@ module _ {D : Type 0} (moment failures : D → ℕ) (left_since : D → ℕ → 
         the_lines : Bool → List (List ℕ)
         the_lines t = cond t (line ∷ accepted calls) (accepted calls)
 
-        at : (Known done mid → mid.must_reopen ≡ false → LeavesOnly moment left_since mid.disk new.disk (Holds (done ++ accepted calls) (length done))) → (t : Bool) → begins (Err e) ≡ t
-            → LeavesOnly moment left_since old.disk new.disk (Holds (done ++ the_lines t) (length done))
+        at : (Known done mid → mid.must_reopen ≡ false → LeavesOnly facts mid.disk new.disk (Holds (done ++ accepted calls) (length done))) → (t : Bool) → begins (Err e) ≡ t
+            → LeavesOnly facts old.disk new.disk (Holds (done ++ the_lines t) (length done))
         at behind true is = go_on old mid new calls (Holds (done ++ line ∷ accepted calls) (length done)) more
-            (weaker moment left_since old.disk mid.disk (IsOutcome old.cap (project_of old.maps) line) (Holds (done ++ line ∷ accepted calls) (length done)) (made.any_moment ready)
+            (weaker facts old.disk mid.disk (IsOutcome old.cap (project_of old.maps) line) (Holds (done ++ line ∷ accepted calls) (length done)) (made.any_moment ready)
             (outcome done line (accepted calls) (done ++ line ∷ accepted calls) old known refl))
-            (λ still. absurd (true≢false (sym (faulted failures old mid line e is made.ends.1) ∙ still)))
+            (λ still. absurd (true≢false (sym (faulted facts old mid line e is made.ends.1) ∙ still)))
         at behind false is = go_on old mid new calls (Holds (done ++ accepted calls) (length done)) more
             (⊎_elim (λ device. absurd (true≢false (sym (ap (λ (x : ProjectError). begins (Err x)) device) ∙ is)))
-            (λ quiet. weaker moment left_since old.disk mid.disk (StandsFor old.cap (project_of old.maps)) (Holds (done ++ accepted calls) (length done)) quiet (here done (accepted calls) (done ++ accepted calls) old known refl))
+            (λ quiet. weaker facts old.disk mid.disk (StandsFor old.cap (project_of old.maps)) (Holds (done ++ accepted calls) (length done)) quiet (here done (accepted calls) (done ++ accepted calls) old known refl))
             (made.refused_moment ready))
             (λ still. behind stays still)
 
     -- after some calls: the acknowledged lines lead to the map; or the project must be opened again
     abbrev AfterOf : List (List ℕ) → List (List ℕ) → List (List ℕ) → State D → Type 0
     AfterOf done acc ack new = ((new.must_reopen ≡ false) × Known (done ++ ack) new × (acc ≡ ack))
-        ⊎ ((new.must_reopen ≡ true) × Each (may_leave new.disk) (Holds (done ++ acc) (length (done ++ ack))))
+        ⊎ ((new.must_reopen ≡ true) × Each (facts.may_leave new.disk) (Holds (done ++ acc) (length (done ++ ack))))
 
-    broken : (done all : List (List ℕ)) (calls : List Call) (old mid new : State D) → mid.must_reopen ≡ true → AllMade moment failures left_since may_leave mid calls new
-        → LeavesOnly moment left_since old.disk mid.disk (Holds all (length done)) → (new.must_reopen ≡ true) × Each (may_leave new.disk) (Holds all (length (done ++ acknowledged calls)))
+    broken : (done all : List (List ℕ)) (calls : List Call) (old mid new : State D) → mid.must_reopen ≡ true → AllMade facts mid calls new
+        → LeavesOnly facts old.disk mid.disk (Holds all (length done)) → (new.must_reopen ≡ true) × Each (facts.may_leave new.disk) (Holds all (length (done ++ acknowledged calls)))
     broken done all calls old mid new reopen more first =
         let same : new ≡ mid = stuck calls mid new reopen more in
         let none : length (acknowledged calls) ≡ 0 = ap length (unacknowledged calls mid new reopen more) in (
           ap (λ (s : State D). s.must_reopen) same ∙ reopen,
           λ file left.
-              let h = first.each file (counts_now mid.disk (moment old.disk) file first.later (subst (λ (s : State D). may_leave s.disk file) same left)) in
+              let h = first.each file (counts_now mid.disk (facts.moment old.disk) file first.later (subst (λ (s : State D). facts.may_leave s.disk file) same left)) in
               record {
                 lines = h.lines;
                 rest = h.rest;
@@ -238,13 +240,13 @@ module _ {D : Type 0} (moment failures : D → ℕ) (left_since : D → ℕ → 
               },
         )
 
-    pub fronts : (calls : List Call) (done : List (List ℕ)) (old new : State D) → Known done old → old.must_reopen ≡ false → AllMade moment failures left_since may_leave old calls new
+    pub fronts : (calls : List Call) (done : List (List ℕ)) (old new : State D) → Known done old → old.must_reopen ≡ false → AllMade facts old calls new
         → AfterOf done (accepted calls) (acknowledged calls) new
     fronts [] done old new known ready same =
         inl (ap (λ (s : State D). s.must_reopen) same ∙ ready, subst (λ (s : State D). Known (done ++ []) s) (sym same) (subst (λ (l : List (List ℕ)). Known l old) (sym (append-nil done)) known), refl)
     fronts ((None, answer) ∷ calls) done old new known ready (mid, made, more) = elim (cases_Bool mid.must_reopen) [
       | inl reopen ↦ inr (broken done (done ++ accepted calls) calls old mid new reopen more
-          (weaker moment left_since old.disk mid.disk (StandsFor old.cap (project_of old.maps)) (Holds (done ++ accepted calls) (length done)) (made.any_moment ready) (here done (accepted calls) (done ++ accepted calls) old known refl)))
+          (weaker facts old.disk mid.disk (StandsFor old.cap (project_of old.maps)) (Holds (done ++ accepted calls) (length done)) (made.any_moment ready) (here done (accepted calls) (done ++ accepted calls) old known refl)))
       | inr still ↦ fronts calls done mid new (same_map done old mid known made.same_cap (ap project_of made.maps) made.kept) still more
     ]
     fronts ((Some line, Ok n) ∷ calls) done old new known ready (mid, made, more) =
@@ -271,13 +273,13 @@ module _ {D : Type 0} (moment failures : D → ℕ) (left_since : D → ℕ → 
         the_lines t = cond t (line ∷ accepted calls) (accepted calls)
 
         at : (Known done mid → mid.must_reopen ≡ false → AfterOf done (accepted calls) (acknowledged calls) new) → (t : Bool) → begins (Err e) ≡ t → AfterOf done (the_lines t) (acknowledged calls) new
-        at behind true is = inr (broken done (done ++ line ∷ accepted calls) calls old mid new (faulted failures old mid line e is made.ends.1) more
-            (weaker moment left_since old.disk mid.disk (IsOutcome old.cap (project_of old.maps) line) (Holds (done ++ line ∷ accepted calls) (length done)) (made.any_moment ready)
+        at behind true is = inr (broken done (done ++ line ∷ accepted calls) calls old mid new (faulted facts old mid line e is made.ends.1) more
+            (weaker facts old.disk mid.disk (IsOutcome old.cap (project_of old.maps) line) (Holds (done ++ line ∷ accepted calls) (length done)) (made.any_moment ready)
             (outcome done line (accepted calls) (done ++ line ∷ accepted calls) old known refl)))
         at behind false is = elim (cases_Bool mid.must_reopen) [
           | inl reopen ↦ inr (broken done (done ++ accepted calls) calls old mid new reopen more
               (⊎_elim (λ device. absurd (true≢false (sym (ap (λ (x : ProjectError). begins (Err x)) device) ∙ is)))
-              (λ quiet. weaker moment left_since old.disk mid.disk (StandsFor old.cap (project_of old.maps)) (Holds (done ++ accepted calls) (length done)) quiet (here done (accepted calls) (done ++ accepted calls) old known refl))
+              (λ quiet. weaker facts old.disk mid.disk (StandsFor old.cap (project_of old.maps)) (Holds (done ++ accepted calls) (length done)) quiet (here done (accepted calls) (done ++ accepted calls) old known refl))
               (made.refused_moment ready)))
           | inr still ↦ behind stays still
         ]
@@ -288,12 +290,12 @@ module _ {D : Type 0} (moment failures : D → ℕ) (left_since : D → ℕ → 
   abbrev StandsAfter : ℕ → ProjectMaps → Session → List ℕ → Type 0
   StandsAfter cap base s file = (map : ProjectMaps) × KeepsAcknowledged cap base s map × StandsFor cap map file
 
-  session_moments : (cap : ℕ) (s : Session) (first mid last : State D) → first.cap ≡ cap → first.must_reopen ≡ false → IsKept may_leave first
-      → AllMade moment failures left_since may_leave first s.front mid → AllMade moment failures left_since may_leave mid s.back last
-      → LeavesOnly moment left_since mid.disk last.disk (StandsAfter cap (project_of first.maps) s)
+  session_moments : (cap : ℕ) (s : Session) (first mid last : State D) → first.cap ≡ cap → first.must_reopen ≡ false → IsKept facts first
+      → AllMade facts first s.front mid → AllMade facts mid s.back last
+      → LeavesOnly facts mid.disk last.disk (StandsAfter cap (project_of first.maps) s)
   session_moments cap s first mid last cap_is ready kept front back =
       ⊎_elim
-      (λ well. weaker moment left_since mid.disk last.disk (Holds cap (project_of first.maps) (acknowledged s.front ++ accepted s.back) (length (acknowledged s.front))) (StandsAfter cap (project_of first.maps) s)
+      (λ well. weaker facts mid.disk last.disk (Holds cap (project_of first.maps) (acknowledged s.front ++ accepted s.back) (length (acknowledged s.front))) (StandsAfter cap (project_of first.maps) s)
       (moves cap (project_of first.maps) s.back (acknowledged s.front) mid last well.1 well.0 back)
       (λ file h. (
         h.map,
@@ -306,8 +308,8 @@ module _ {D : Type 0} (moment failures : D → ℕ) (left_since : D → ℕ → 
         },
         h.stands,
       )))
-      (λ bad. subst (λ (t : State D). LeavesOnly moment left_since mid.disk t.disk (StandsAfter cap (project_of first.maps) s)) (sym (stuck s.back mid last bad.0 back))
-      (started moment left_since mid.disk (StandsAfter cap (project_of first.maps) s) (λ file left.
+      (λ bad. subst (λ (t : State D). LeavesOnly facts mid.disk t.disk (StandsAfter cap (project_of first.maps) s)) (sym (stuck s.back mid last bad.0 back))
+      (started facts mid.disk (StandsAfter cap (project_of first.maps) s) (λ file left.
       let h = bad.1 file (only_now mid.disk file left) in
       let first_ones = acknowledged_first s.front first mid front in (
         h.map,
@@ -330,7 +332,7 @@ module _ {D : Type 0} (moment failures : D → ℕ) (left_since : D → ℕ → 
   -- a state to which the sessions before lead
   pub record Reaches (cap : ℕ) (done : List Session) (f : State D) : Type 0 where
     pub ready : f.must_reopen ≡ false
-    pub kept : IsKept may_leave f
+    pub kept : IsKept facts f
     pub cap_is : f.cap ≡ cap
     pub held : KeepEach cap empty_project done (project_of f.maps)
 
@@ -338,21 +340,21 @@ module _ {D : Type 0} (moment failures : D → ℕ) (left_since : D → ℕ → 
   abbrev Good : ℕ → List Session → (State D → Type 0) → Type 0
   Good cap done begun = (f : State D) → begun f → Reaches cap done f
 
-  passes_moments : (cap : ℕ) (done : List Session) (begun : State D → Type 0) → Good cap done begun → (s : Session) (mid last : State D) → Passes moment failures left_since may_leave begun s mid last
-      → LeavesOnly moment left_since mid.disk last.disk (HoldsEach cap (done ++ s ∷ []))
+  passes_moments : (cap : ℕ) (done : List Session) (begun : State D → Type 0) → Good cap done begun → (s : Session) (mid last : State D) → Passes facts begun s mid last
+      → LeavesOnly facts mid.disk last.disk (HoldsEach cap (done ++ s ∷ []))
   passes_moments cap done begun good s mid last p =
       let from = good p.first p.begun in
-      weaker moment left_since mid.disk last.disk (StandsAfter cap (project_of p.first.maps) s) (HoldsEach cap (done ++ s ∷ []))
+      weaker facts mid.disk last.disk (StandsAfter cap (project_of p.first.maps) s) (HoldsEach cap (done ++ s ∷ []))
       (session_moments cap s p.first mid last from.cap_is from.ready from.kept p.front p.back)
       (λ file h. (h.0, keep_push cap empty_project done (project_of p.first.maps) s h.0 from.held h.1, h.2))
 
-  module _ (reads : D → List ℕ → Type 0) (reads_an_image : (d : D) (file : List ℕ) → reads d file → may_leave d file) where
+  module _ (reads_an_image : (d : D) (file : List ℕ) → facts.reads d file → facts.may_leave d file) where
     -- what the next session opens to
-    pub opens_well : (cap : ℕ) (done : List Session) (m l : State D) (next : D) → LeavesOnly moment left_since m.disk l.disk (HoldsEach cap done) → Each (may_leave next) (left_since l.disk (moment m.disk))
-        → Good cap done (Opens moment left_since may_leave reads next)
+    pub opens_well : (cap : ℕ) (done : List Session) (m l : State D) (next : D) → LeavesOnly facts m.disk l.disk (HoldsEach cap done) → Each (facts.may_leave next) (facts.left_since l.disk (facts.moment m.disk))
+        → Good cap done (Opens facts next)
     opens_well cap done m l next leaves images f o =
         let file = o.told.0 in
-        let image = o.any_moment.each file (counts_now f.disk (moment next) file o.any_moment.later (reads_an_image f.disk file o.told.1)) in
+        let image = o.any_moment.each file (counts_now f.disk (facts.moment next) file o.any_moment.later (reads_an_image f.disk file o.told.1)) in
         let held = leaves.each file (images file image) in
         let same = (o.opened file o.told.1).only cap held.0 held.2.0 held.2.1 in
         record {
@@ -362,12 +364,12 @@ module _ {D : Type 0} (moment failures : D → ℕ) (left_since : D → ℕ → 
           held = subst (λ (t : ProjectMaps). KeepEach cap empty_project done t) same.1 held.1;
         }
 
-    pub all_moments : (cap : ℕ) (done before : List Session) (begun : State D → Type 0) → Good cap done begun → (s : Session) (mid last : State D) → PassInTurn moment failures left_since may_leave reads begun before s mid last
-        → LeavesOnly moment left_since mid.disk last.disk (HoldsEach cap (done ++ (before ++ s ∷ [])))
+    pub all_moments : (cap : ℕ) (done before : List Session) (begun : State D → Type 0) → Good cap done begun → (s : Session) (mid last : State D) → PassInTurn facts begun before s mid last
+        → LeavesOnly facts mid.disk last.disk (HoldsEach cap (done ++ (before ++ s ∷ [])))
     all_moments cap done [] begun good s mid last p =
         let one : s ∷ [] ≡ [] ++ s ∷ [] = refl in
-        subst (λ (ss : List Session). LeavesOnly moment left_since mid.disk last.disk (HoldsEach cap (done ++ ss))) one (passes_moments cap done begun good s mid last p)
+        subst (λ (ss : List Session). LeavesOnly facts mid.disk last.disk (HoldsEach cap (done ++ ss))) one (passes_moments cap done begun good s mid last p)
     all_moments cap done (q ∷ qs) begun good s mid last (m, l, next, passes, images, more) =
-        subst (λ (ss : List Session). LeavesOnly moment left_since mid.disk last.disk (HoldsEach cap ss)) (append_assoc done (q ∷ []) (qs ++ s ∷ []))
-        (all_moments cap (done ++ q ∷ []) qs (Opens moment left_since may_leave reads next)
+        subst (λ (ss : List Session). LeavesOnly facts mid.disk last.disk (HoldsEach cap ss)) (append_assoc done (q ∷ []) (qs ++ s ∷ []))
+        (all_moments cap (done ++ q ∷ []) qs (Opens facts next)
         (opens_well cap (done ++ q ∷ []) m l next (passes_moments cap done begun good q m l passes) images) s mid last more)

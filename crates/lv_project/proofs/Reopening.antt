@@ -1,6 +1,8 @@
 -- What an `open` of a disk that sessions left gives, and what it may be refused for.
 use Rattle.std.proofs.Common.{◌≡◌, ◌⊎◌, inl, inr, ◌≤◌, ℕ, List, [], refl, sym, subst}
-use Rattle.lv_disk.specs.Stops.{Each, LeavesOnly}
+use Rattle.lv_disk.specs.Moments.{LeavesOnly}
+use Rattle.lv_disk.specs.Stops.{Each}
+use Rattle.lv_disk.specs.declared.disk.Disk.{Ghosts}
 use Rattle.lv_disk.proofs.Moments.{weaker}
 use Rattle.lv_maptables.specs.Projects.{ProjectMaps, empty_project, project_of}
 use Rattle.lv_project.specs.Opening.{IsRefusedRead}
@@ -26,32 +28,32 @@ fault_or_memory reads file there cap map g stands Reopen told = absurd told
 fault_or_memory reads file there cap map g stands GenerationsSpent told = absurd told
 fault_or_memory reads file there cap map g stands NotEmpty told = absurd told
 
-module _ {D : Type 0} (moment failures : D → ℕ) (left_since : D → ℕ → List ℕ → Type 0) (may_leave : D → List ℕ → Type 0)
-    (only_now : (d : D) (file : List ℕ) → left_since d (moment d) file → may_leave d file)
-    (counts_now : (d : D) (t : ℕ) (file : List ℕ) → t ≤ moment d → may_leave d file → left_since d t file)
-    (reads : D → List ℕ → Type 0) (reads_an_image : (d : D) (file : List ℕ) → reads d file → may_leave d file)
+module _ {D : Type 0} (facts : Ghosts D)
+    (only_now : (d : D) (file : List ℕ) → facts.left_since d (facts.moment d) file → facts.may_leave d file)
+    (counts_now : (d : D) (t : ℕ) (file : List ℕ) → t ≤ facts.moment d → facts.may_leave d file → facts.left_since d t file)
+    (reads_an_image : (d : D) (file : List ℕ) → facts.reads d file → facts.may_leave d file)
     (cap : ℕ) (sessions : List Session) (disk : D)
-    (left : IsLeftBy moment failures left_since may_leave reads cap sessions disk) where
+    (left : IsLeftBy facts cap sessions disk) where
   -- at each moment from the one in the last session on
-  moments : LeavesOnly moment left_since left.mid.disk left.last.disk (HoldsEach cap sessions)
-  moments = subst (λ (ss : List Session). LeavesOnly moment left_since left.mid.disk left.last.disk (HoldsEach cap ss)) (sym left.all)
-      (all_moments moment failures left_since may_leave only_now counts_now reads reads_an_image cap [] left.before (Creates may_leave cap)
+  moments : LeavesOnly facts left.mid.disk left.last.disk (HoldsEach cap sessions)
+  moments = subst (λ (ss : List Session). LeavesOnly facts left.mid.disk left.last.disk (HoldsEach cap ss)) (sym left.all)
+      (all_moments facts only_now counts_now reads_an_image cap [] left.before (Creates facts cap)
       (λ f o. record { ready = o.reopen; kept = o.kept; cap_is = o.cap_is; held = o.empty }) left.session left.mid left.last left.passed)
 
-  images_hold : Each (may_leave disk) (HoldsEach cap sessions)
+  images_hold : Each (facts.may_leave disk) (HoldsEach cap sessions)
   images_hold file image = moments.each file (left.images file image)
 
-  pub opened_so : (first : State D) → Opens moment left_since may_leave reads disk first
+  pub opened_so : (first : State D) → Opens facts disk first
       → (first.cap ≡ cap) × KeepEach cap empty_project sessions (project_of first.maps)
-      × LeavesOnly moment left_since disk first.disk (HoldsEach cap sessions)
+      × LeavesOnly facts disk first.disk (HoldsEach cap sessions)
   opened_so first o =
-      let at = opens_well moment failures left_since may_leave only_now counts_now reads reads_an_image
+      let at = opens_well facts only_now counts_now reads_an_image
       cap sessions left.mid left.last disk moments left.images first o in
-      (at.cap_is, at.held, weaker moment left_since disk first.disk (may_leave disk) (HoldsEach cap sessions) o.any_moment images_hold)
+      (at.cap_is, at.held, weaker facts disk first.disk (facts.may_leave disk) (HoldsEach cap sessions) o.any_moment images_hold)
 
   -- what a stop leaves within a call that leaves no new image
-  pub stopped_so : (after next : D) → LeavesOnly moment left_since disk after (may_leave disk)
-      → Each (may_leave next) (left_since after (moment disk)) → IsLeftBy moment failures left_since may_leave reads cap sessions next
+  pub stopped_so : (after next : D) → LeavesOnly facts disk after (facts.may_leave disk)
+      → Each (facts.may_leave next) (facts.left_since after (facts.moment disk)) → IsLeftBy facts cap sessions next
   stopped_so after next leaves images = record {
     before = left.before;
     session = left.session;
@@ -62,15 +64,15 @@ module _ {D : Type 0} (moment failures : D → ℕ) (left_since : D → ℕ → 
     images = λ file image. left.images file (leaves.each file (images file image));
   }
 
-  pub refused_so : (after : D) (e : ProjectError) → RefusesOpen moment left_since may_leave reads disk after e
-      → ((e ≡ Device) ⊎ (e ≡ OutOfMemory)) × IsLeftBy moment failures left_since may_leave reads cap sessions after
-      × LeavesOnly moment left_since disk after (HoldsEach cap sessions)
+  pub refused_so : (after : D) (e : ProjectError) → RefusesOpen facts disk after e
+      → ((e ≡ Device) ⊎ (e ≡ OutOfMemory)) × IsLeftBy facts cap sessions after
+      × LeavesOnly facts disk after (HoldsEach cap sessions)
   refused_so after e o =
-      let was : (file : List ℕ) → may_leave after file → may_leave disk file =
-      λ file image. o.any_moment.each file (counts_now after (moment disk) file o.any_moment.later image) in
+      let was : (file : List ℕ) → facts.may_leave after file → facts.may_leave disk file =
+      λ file image. o.any_moment.each file (counts_now after (facts.moment disk) file o.any_moment.later image) in
       let file = o.told.0 in
       let held = images_hold file (was file (reads_an_image after file o.told.1)) in (
-        fault_or_memory (reads after) file o.told.1 cap held.0 held.2.0 held.2.1 e o.refused,
-        stopped_so after after o.any_moment (λ file image. counts_now after (moment disk) file o.any_moment.later image),
-        weaker moment left_since disk after (may_leave disk) (HoldsEach cap sessions) o.any_moment images_hold,
+        fault_or_memory (facts.reads after) file o.told.1 cap held.0 held.2.0 held.2.1 e o.refused,
+        stopped_so after after o.any_moment (λ file image. counts_now after (facts.moment disk) file o.any_moment.later image),
+        weaker facts disk after (facts.may_leave disk) (HoldsEach cap sessions) o.any_moment images_hold,
       )

@@ -3,7 +3,8 @@ use Rattle.std.proofs.Common.{◌≡◌, inl, inr, ⊎_elim, ◌<◌, ◌≤◌,
 use Rattle.std.specs.Option.{is_none}
 use Rattle.std.proofs.lemmas.Bool.{true≢false}
 use Rattle.std.proofs.lemmas.Bool.Decides.{nat_tests}
-use Rattle.lv_disk.specs.Stops.{From, Follows, Each, LeavesOnly}
+use Rattle.lv_disk.specs.Moments.{LeavesOnly}
+use Rattle.lv_disk.specs.Stops.{From, Follows, Each}
 use Rattle.lv_disk.proofs.Moments.{weaker, started, and_then}
 use Rattle.lv_disk.specs.declared.area.Area.{Area}
 use Rattle.lv_journal.specs.Append.{Appends, MayAppend}
@@ -30,6 +31,7 @@ use Rattle.lv_project.proofs.Bodies.{project_size}
 use Rattle.lv_project.proofs.Recording.{appended, may_append, append_header, slots_kept}
 use Rattle.lv_disk.specs.Files.{KeepsOutside}
 use Rattle.lv_disk.specs.Areas as areas
+use Rattle.lv_disk.specs.declared.disk.Disk.{Ghosts}
 
 -- the parts where the other slot is live
 pub flipped : (p : Places) (n : ℕ) → parts_of p (other_slot n) ≡ turned (parts_of p n)
@@ -88,7 +90,7 @@ step_fits m c cap new n is =
     let le : body_len (after m c) ≤ cap = grind (arith, nat_tests, short) in
     subst (λ (t : ProjectMaps). body_len t ≤ cap) none.1 le
 
-module _ {D : Type 0} (may_leave : D → List ℕ → Type 0) (p : Inside D) (framed : IsFramed p) where
+module _ {D : Type 0} (facts : Ghosts D) (p : Inside D) (framed : IsFramed p) where
   abbrev cap : ℕ
   cap = cap_of p.geometry
 
@@ -128,21 +130,21 @@ module _ {D : Type 0} (may_leave : D → List ℕ → Type 0) (p : Inside D) (fr
   kept_header : (old new : List ℕ) → KeepsHeader old new → HasGeometry p.geometry p.places old → HasGeometry p.geometry p.places new
   kept_header old new keeps has = geometry_kept p.geometry p.places framed.allowed framed.laid_out old new keeps has
 
-  pub is_kept : (p.must_reopen ≡ false → IsReady may_leave p) → IsKept may_leave (state_of p)
+  pub is_kept : (p.must_reopen ≡ false → IsReady facts p) → IsKept facts (state_of p)
   is_kept ready go file left = stands_here (project_of p.maps) file ((ready go).geometry file left) ((ready go).stands file left)
 
   -- as a contract sees it
-  pub kept_view : (v : State D) → state_of p ≡ v → (p.must_reopen ≡ false → IsReady may_leave p) → IsKept may_leave v
-  kept_view v is ready = subst (λ (w : State D). IsKept may_leave w) is (is_kept ready)
+  pub kept_view : (v : State D) → state_of p ≡ v → (p.must_reopen ≡ false → IsReady facts p) → IsKept facts v
+  kept_view v is ready = subst (λ (w : State D). IsKept facts w) is (is_kept ready)
 
   -- a call that leaves the disk alone
-  pub no_moment : (moment : D → ℕ) (left_since : D → ℕ → List ℕ → Type 0) (v : State D) → state_of p ≡ v → (p.must_reopen ≡ false → IsReady may_leave p)
-      → ((file : List ℕ) → left_since v.disk (moment v.disk) file → may_leave v.disk file) → v.must_reopen ≡ false → LeavesOnly moment left_since v.disk v.disk (StandsFor v.cap (project_of v.maps))
-  no_moment moment left_since v is ready only go = started moment left_since v.disk (StandsFor v.cap (project_of v.maps)) (λ file left. (v.generation, kept_view v is ready go file (only file left)))
+  pub no_moment : (v : State D) → state_of p ≡ v → (p.must_reopen ≡ false → IsReady facts p)
+      → ((file : List ℕ) → facts.left_since v.disk (facts.moment v.disk) file → facts.may_leave v.disk file) → v.must_reopen ≡ false → LeavesOnly facts v.disk v.disk (StandsFor v.cap (project_of v.maps))
+  no_moment v is ready only go = started facts v.disk (StandsFor v.cap (project_of v.maps)) (λ file left. (v.generation, kept_view v is ready go file (only file left)))
 
-  pub no_outcome : (moment : D → ℕ) (left_since : D → ℕ → List ℕ → Type 0) (v : State D) (line : List ℕ) → state_of p ≡ v → (p.must_reopen ≡ false → IsReady may_leave p)
-      → ((file : List ℕ) → left_since v.disk (moment v.disk) file → may_leave v.disk file) → v.must_reopen ≡ false → LeavesOnly moment left_since v.disk v.disk (IsOutcome v.cap (project_of v.maps) line)
-  no_outcome moment left_since v line is ready only go = weaker moment left_since v.disk v.disk (StandsFor v.cap (project_of v.maps)) (IsOutcome v.cap (project_of v.maps) line) (no_moment moment left_since v is ready only go) (λ file st. inl st)
+  pub no_outcome : (v : State D) (line : List ℕ) → state_of p ≡ v → (p.must_reopen ≡ false → IsReady facts p)
+      → ((file : List ℕ) → facts.left_since v.disk (facts.moment v.disk) file → facts.may_leave v.disk file) → v.must_reopen ≡ false → LeavesOnly facts v.disk v.disk (IsOutcome v.cap (project_of v.maps) line)
+  no_outcome v line is ready only go = weaker facts v.disk v.disk (StandsFor v.cap (project_of v.maps)) (IsOutcome v.cap (project_of v.maps) line) (no_moment v is ready only go) (λ file st. inl st)
 
   -- the map's body fits the other slot
   pub body_fits : (bytes : List ℕ) → bytes ≡ project_body (project_of p.maps) → WellFormedProject (project_of p.maps) → 13 + length bytes ≤ (other_of p.slots).length
@@ -151,11 +153,11 @@ module _ {D : Type 0} (may_leave : D → List ℕ → Type 0) (p : Inside D) (fr
       let len : (other_of p.slots).length ≡ p.geometry.slot = ap (λ (a : Area). a.length) other_is ∙ other_length p.geometry p.places framed.allowed framed.laid_out (slot_of p.slots) in
       omega (arith, size, len, framed.fits, framed.allowed.slot_low)
 
-  module _ (ready : IsReady may_leave p) where
+  module _ (ready : IsReady facts p) where
     -- during a change of the live slot
-    pub turn_moments : (moment : D → ℕ) (left_since : D → ℕ → List ℕ → Type 0) (new : D) (bytes : List ℕ) → bytes ≡ project_body (project_of p.maps) → WellFormedProject (project_of p.maps)
-        → LeavesOnly moment left_since p.disk new (From (may_leave p.disk) (MayTurn cap g q bytes)) → LeavesOnly moment left_since p.disk new (StandsFor cap (project_of p.maps))
-    turn_moments moment left_since new bytes is formed leaves = weaker moment left_since p.disk new (From (may_leave p.disk) (MayTurn cap g q bytes)) (StandsFor cap (project_of p.maps)) leaves
+    pub turn_moments : (new : D) (bytes : List ℕ) → bytes ≡ project_body (project_of p.maps) → WellFormedProject (project_of p.maps)
+        → LeavesOnly facts p.disk new (From (facts.may_leave p.disk) (MayTurn cap g q bytes)) → LeavesOnly facts p.disk new (StandsFor cap (project_of p.maps))
+    turn_moments new bytes is formed leaves = weaker facts p.disk new (From (facts.may_leave p.disk) (MayTurn cap g q bytes)) (StandsFor cap (project_of p.maps)) leaves
         (λ file from.
         let has = kept_header from.0 file from.2.header (ready.geometry from.0 from.1) in
         ⊎_elim (λ here. (g, stands_here (project_of p.maps) file has here)) (λ there. (g + 1, stands_there (project_of p.maps) file has there))
@@ -163,10 +165,10 @@ module _ {D : Type 0} (may_leave : D → List ℕ → Type 0) (p : Inside D) (fr
 
     -- and after it
     pub sound_turned : (new : D) (s : Slots) (j : journal.State) (bytes : List ℕ) → bytes ≡ project_body (project_of p.maps) → WellFormedProject (project_of p.maps)
-        → Follows (Turns cap g q bytes) (may_leave p.disk) (may_leave new) → Each (may_leave new) (HasSomeSlots s)
+        → Follows (Turns cap g q bytes) (facts.may_leave p.disk) (facts.may_leave new) → Each (facts.may_leave new) (HasSomeSlots s)
         → (first_of s ≡ first_of p.slots) × (second_of s ≡ second_of p.slots) → slot_of s ≡ other_slot (slot_of p.slots) → generation_of s ≡ g + 1
-        → j ≡ journal.opened q.other_journal [] → journal.IsReadyIn j (may_leave new)
-        → IsSound may_leave (record p { disk = new; slots = s; journal = j })
+        → j ≡ journal.opened q.other_journal [] → journal.IsReadyIn j (facts.may_leave new)
+        → IsSound facts (record p { disk = new; slots = s; journal = j })
     sound_turned new s j bytes is formed turns slots areas slot_is generation_is journal_is ends =
         let parts : parts_of p.places (slot_of s) ≡ turned q = ap (parts_of p.places) slot_is ∙ flipped p.places (slot_of p.slots) in
         let area : j.area ≡ (parts_of p.places (slot_of s)).journal = ap (λ (k : journal.State). k.area) journal_is ∙ sym (ap (λ (r : Parts). r.journal) parts) in
@@ -193,9 +195,9 @@ module _ {D : Type 0} (may_leave : D → List ℕ → Type 0) (p : Inside D) (fr
         }
 
     -- during an append
-    pub append_moments : (moment : D → ℕ) (left_since : D → ℕ → List ℕ → Type 0) (new : D) (line : List ℕ) (next : ProjectMaps) → LeadsTo cap (project_of p.maps) line next
-        → LeavesOnly moment left_since p.disk new (From (may_leave p.disk) (MayAppend p.journal.area line)) → LeavesOnly moment left_since p.disk new (IsOutcome cap (project_of p.maps) line)
-    append_moments moment left_since new line next leads leaves = weaker moment left_since p.disk new (From (may_leave p.disk) (MayAppend p.journal.area line)) (IsOutcome cap (project_of p.maps) line) leaves
+    pub append_moments : (new : D) (line : List ℕ) (next : ProjectMaps) → LeadsTo cap (project_of p.maps) line next
+        → LeavesOnly facts p.disk new (From (facts.may_leave p.disk) (MayAppend p.journal.area line)) → LeavesOnly facts p.disk new (IsOutcome cap (project_of p.maps) line)
+    append_moments new line next leads leaves = weaker facts p.disk new (From (facts.may_leave p.disk) (MayAppend p.journal.area line)) (IsOutcome cap (project_of p.maps) line) leaves
         (λ file from.
         let has = kept_header from.0 file (append_header cap g q order p.journal.area framed.journal line from.0 file from.2.keeps) (ready.geometry from.0 from.1) in
         ⊎_elim (λ same. inl (g, stands_here (project_of p.maps) file has same)) (λ more. inr (next, leads, (g, stands_here next file has more)))
@@ -203,8 +205,8 @@ module _ {D : Type 0} (may_leave : D → List ℕ → Type 0) (p : Inside D) (fr
 
     -- and after it
     pub sound_recorded : (new : D) (j : journal.State) (m : MapsView) (line : List ℕ) (next : ProjectMaps) → LeadsTo cap (project_of p.maps) line next → project_of m ≡ next → body_len next ≤ cap
-        → Follows (Appends p.journal.area line) (may_leave p.disk) (may_leave new) → j ≡ record p.journal { next = p.journal.next + 5 + length line; must_reopen = false } → journal.IsReadyIn j (may_leave new)
-        → IsSound may_leave (record p { disk = new; journal = j; maps = m })
+        → Follows (Appends p.journal.area line) (facts.may_leave p.disk) (facts.may_leave new) → j ≡ record p.journal { next = p.journal.next + 5 + length line; must_reopen = false } → journal.IsReadyIn j (facts.may_leave new)
+        → IsSound facts (record p { disk = new; journal = j; maps = m })
     sound_recorded new j m line next leads map_is short appends journal_is ends =
         let area : j.area ≡ p.journal.area = ap (λ (k : journal.State). k.area) journal_is in
         let go : j.must_reopen ≡ false = ap (λ (k : journal.State). k.must_reopen) journal_is in
@@ -241,23 +243,23 @@ module _ {D : Type 0} (may_leave : D → List ℕ → Type 0) (p : Inside D) (fr
         }
 
 -- a call that leaves the disk alone, as a contract sees it
-module _ {D : Type 0} (moment : D → ℕ) (left_since : D → ℕ → List ℕ → Type 0) (may_leave : D → List ℕ → Type 0) (v : State D) (kept : IsKept may_leave v)
-    (only : (file : List ℕ) → left_since v.disk (moment v.disk) file → may_leave v.disk file) where
-  pub still_moment : v.must_reopen ≡ false → LeavesOnly moment left_since v.disk v.disk (StandsFor v.cap (project_of v.maps))
-  still_moment go = started moment left_since v.disk (StandsFor v.cap (project_of v.maps)) (λ file left. (v.generation, kept go file (only file left)))
+module _ {D : Type 0} (facts : Ghosts D) (v : State D) (kept : IsKept facts v)
+    (only : (file : List ℕ) → facts.left_since v.disk (facts.moment v.disk) file → facts.may_leave v.disk file) where
+  pub still_moment : v.must_reopen ≡ false → LeavesOnly facts v.disk v.disk (StandsFor v.cap (project_of v.maps))
+  still_moment go = started facts v.disk (StandsFor v.cap (project_of v.maps)) (λ file left. (v.generation, kept go file (only file left)))
 
-  pub still_outcome : (line : List ℕ) → v.must_reopen ≡ false → LeavesOnly moment left_since v.disk v.disk (IsOutcome v.cap (project_of v.maps) line)
-  still_outcome line go = weaker moment left_since v.disk v.disk (StandsFor v.cap (project_of v.maps)) (IsOutcome v.cap (project_of v.maps) line) (still_moment go) (λ file st. inl st)
+  pub still_outcome : (line : List ℕ) → v.must_reopen ≡ false → LeavesOnly facts v.disk v.disk (IsOutcome v.cap (project_of v.maps) line)
+  still_outcome line go = weaker facts v.disk v.disk (StandsFor v.cap (project_of v.maps)) (IsOutcome v.cap (project_of v.maps) line) (still_moment go) (λ file st. inl st)
 
 -- a checkpoint, and then an append
-pub both_moments : {D : Type 0} (moment : D → ℕ) (left_since : D → ℕ → List ℕ → Type 0) (cap : ℕ) (old mid : ProjectMaps) (mid_cap : ℕ) (line : List ℕ) (d0 d1 d2 : D) → mid ≡ old → mid_cap ≡ cap
-    → LeavesOnly moment left_since d0 d1 (StandsFor cap old) → LeavesOnly moment left_since d1 d2 (IsOutcome mid_cap mid line) → LeavesOnly moment left_since d0 d2 (IsOutcome cap old line)
-both_moments moment left_since cap old mid mid_cap line d0 d1 d2 map_is cap_is first second =
-    and_then moment left_since d0 d1 d2 (IsOutcome cap old line)
-    (weaker moment left_since d0 d1 (StandsFor cap old) (IsOutcome cap old line) first (λ file st. inl st))
-    (subst (λ (k : ℕ). LeavesOnly moment left_since d1 d2 (IsOutcome k old line)) cap_is (subst (λ (t : ProjectMaps). LeavesOnly moment left_since d1 d2 (IsOutcome mid_cap t line)) map_is second))
+pub both_moments : {D : Type 0} (facts : Ghosts D) (cap : ℕ) (old mid : ProjectMaps) (mid_cap : ℕ) (line : List ℕ) (d0 d1 d2 : D) → mid ≡ old → mid_cap ≡ cap
+    → LeavesOnly facts d0 d1 (StandsFor cap old) → LeavesOnly facts d1 d2 (IsOutcome mid_cap mid line) → LeavesOnly facts d0 d2 (IsOutcome cap old line)
+both_moments facts cap old mid mid_cap line d0 d1 d2 map_is cap_is first second =
+    and_then facts d0 d1 d2 (IsOutcome cap old line)
+    (weaker facts d0 d1 (StandsFor cap old) (IsOutcome cap old line) first (λ file st. inl st))
+    (subst (λ (k : ℕ). LeavesOnly facts d1 d2 (IsOutcome k old line)) cap_is (subst (λ (t : ProjectMaps). LeavesOnly facts d1 d2 (IsOutcome mid_cap t line)) map_is second))
 
-pub room_moments : {D : Type 0} (moment : D → ℕ) (left_since : D → ℕ → List ℕ → Type 0) (cap : ℕ) (old mid : ProjectMaps) (line : List ℕ) (d0 d1 : D) → mid ≡ old
-    → LeavesOnly moment left_since d0 d1 (StandsFor cap mid) → LeavesOnly moment left_since d0 d1 (IsOutcome cap old line)
-room_moments moment left_since cap old mid line d0 d1 map_is first =
-    weaker moment left_since d0 d1 (StandsFor cap mid) (IsOutcome cap old line) first (λ file st. inl (subst (λ (t : ProjectMaps). StandsFor cap t file) map_is st))
+pub room_moments : {D : Type 0} (facts : Ghosts D) (cap : ℕ) (old mid : ProjectMaps) (line : List ℕ) (d0 d1 : D) → mid ≡ old
+    → LeavesOnly facts d0 d1 (StandsFor cap mid) → LeavesOnly facts d0 d1 (IsOutcome cap old line)
+room_moments facts cap old mid line d0 d1 map_is first =
+    weaker facts d0 d1 (StandsFor cap mid) (IsOutcome cap old line) first (λ file st. inl (subst (λ (t : ProjectMaps). StandsFor cap t file) map_is st))

@@ -1,6 +1,7 @@
 -- What the fields of a project tell of, and what they keep.
-use Rattle.std.specs.Prelude.{◌≡◌, ◌≤◌, ℕ, false, List}
+use Rattle.std.specs.Prelude.{◌≡◌, ◌≤◌, false}
 use Rattle.lv_disk.specs.Stops.{Each}
+use Rattle.lv_disk.specs.declared.disk.Disk.{Ghosts}
 use Rattle.lv_journal.specs.Records.{EndsAt}
 use Rattle.lv_journal.specs.State.{room_of}
 use Rattle.lv_checkpoint.specs.Handles.{first_of, second_of, slot_of, generation_of, HasSomeSlots}
@@ -37,14 +38,14 @@ pub record IsFramed {D : Type 0} (p : Inside D) : Type 0 where
   pub fits : body_len (project_of p.maps) ≤ cap_of p.geometry
 
 -- what holds of a project that needn't be opened again: each image of its disk stands for its map
-pub record IsReady {D : Type 0} (may_leave : D → List ℕ → Type 0) (p : Inside D) : Type 0 where
+pub record IsReady {D : Type 0} (facts : Ghosts D) (p : Inside D) : Type 0 where
   pub journal : p.journal.must_reopen ≡ false
-  pub geometry : Each (may_leave p.disk) (HasGeometry p.geometry p.places)
-  pub stands : Each (may_leave p.disk) (StandsAt (cap_of p.geometry) (parts_in p) (project_of p.maps) (generation_of p.slots))
-  pub slots : Each (may_leave p.disk) (HasSomeSlots p.slots)
-  pub ends : Each (may_leave p.disk) (EndsAt p.journal.area p.journal.next)
+  pub geometry : Each (facts.may_leave p.disk) (HasGeometry p.geometry p.places)
+  pub stands : Each (facts.may_leave p.disk) (StandsAt (cap_of p.geometry) (parts_in p) (project_of p.maps) (generation_of p.slots))
+  pub slots : Each (facts.may_leave p.disk) (HasSomeSlots p.slots)
+  pub ends : Each (facts.may_leave p.disk) (EndsAt p.journal.area p.journal.next)
 
 -- what each project keeps
-pub record IsSound {D : Type 0} (may_leave : D → List ℕ → Type 0) (p : Inside D) : Type 0 where
+pub record IsSound {D : Type 0} (facts : Ghosts D) (p : Inside D) : Type 0 where
   pub framed : IsFramed p
-  pub ready : p.must_reopen ≡ false → IsReady may_leave p
+  pub ready : p.must_reopen ≡ false → IsReady facts p

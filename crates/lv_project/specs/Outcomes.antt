@@ -1,6 +1,7 @@
 -- How the calls of a project end.
 use Rattle.std.specs.Prelude.{◌≡◌, ◌≢◌, ◌≤◌, ◌⊎◌, ◌+◌, ◌-◌, ◌^◌, ℕ, true, false, List, length, Option, Result, Ok, Err}
 use Rattle.lv_disk.specs.Stops.{Rose}
+use Rattle.lv_disk.specs.declared.disk.Disk.{Ghosts}
 use Rattle.lv_journal.specs.State.{IsAbove}
 use Rattle.lv_maptables.specs.Projects.{ProjectMaps, project_of}
 use Rattle.lv_commands.specs.Errors as commands
@@ -27,48 +28,48 @@ CanLack room line = IsAddition line ⊎ IsAbove room (length line)
 
 -- How an `apply` was refused. Only after `Device` must the project be opened again, and only `Reopen` leaves it so. Memory is
 -- wanting only for a line that leads on.
-abbrev pub RefusesApply : {D : Type 0} → (D → ℕ) → ProjectError → State D → State D → List ℕ → Type 0
-RefusesApply failures Device old new line =
-    (old.must_reopen ≡ false) × (new.must_reopen ≡ true) × Rose (failures old.disk) (failures new.disk)
-RefusesApply failures OutOfMemory old new line =
+abbrev pub RefusesApply : {D : Type 0} → Ghosts D → ProjectError → State D → State D → List ℕ → Type 0
+RefusesApply facts Device old new line =
+    (old.must_reopen ≡ false) × (new.must_reopen ≡ true) × Rose (facts.failures old.disk) (facts.failures new.disk)
+RefusesApply facts OutOfMemory old new line =
     (old.must_reopen ≡ false) × (new.must_reopen ≡ false) × ((next : ProjectMaps) × LeadsTo old.cap (project_of old.maps) line next)
-RefusesApply failures Reopen old new line = (old.must_reopen ≡ true) × (new ≡ old)
-RefusesApply failures GenerationsSpent old new line =
+RefusesApply facts Reopen old new line = (old.must_reopen ≡ true) × (new ≡ old)
+RefusesApply facts GenerationsSpent old new line =
     (old.must_reopen ≡ false) × (new.must_reopen ≡ false) × (old.generation ≡ 2 ^ 64 - 1) × IsAbove old.room (length line)
     × ((next : ProjectMaps) × LeadsTo old.cap (project_of old.maps) line next)
-RefusesApply failures (Refused e) old new line =
+RefusesApply facts (Refused e) old new line =
     (old.must_reopen ≡ false) × (new.must_reopen ≡ false) × RefusesLine old.cap (project_of old.maps) line (commands.code_of e)
-RefusesApply failures _ old new line = ⊥
+RefusesApply facts _ old new line = ⊥
 
 -- how an `apply` ended: with the command's number and its map, or refused with the map as it was
-abbrev pub EndsApply : {D : Type 0} → (D → ℕ) → Result ℕ ProjectError → State D → State D → List ℕ → Type 0
-EndsApply failures (Ok n) old new line =
+abbrev pub EndsApply : {D : Type 0} → Ghosts D → Result ℕ ProjectError → State D → State D → List ℕ → Type 0
+EndsApply facts (Ok n) old new line =
     (old.must_reopen ≡ false) × (new.must_reopen ≡ false) × Accepts old.cap (project_of old.maps) line (project_of new.maps) n
-EndsApply failures (Err e) old new line = (project_of new.maps ≡ project_of old.maps) × RefusesApply failures e old new line
+EndsApply facts (Err e) old new line = (project_of new.maps ≡ project_of old.maps) × RefusesApply facts e old new line
 
 -- how a `checkpoint` was refused
-abbrev pub RefusesCheckpoint : {D : Type 0} → (D → ℕ) → ProjectError → State D → State D → Type 0
-RefusesCheckpoint failures Device old new =
-    (old.must_reopen ≡ false) × (new.must_reopen ≡ true) × Rose (failures old.disk) (failures new.disk)
-RefusesCheckpoint failures OutOfMemory old new = (old.must_reopen ≡ false) × (new ≡ old)
-RefusesCheckpoint failures Reopen old new = (old.must_reopen ≡ true) × (new ≡ old)
-RefusesCheckpoint failures GenerationsSpent old new = (old.must_reopen ≡ false) × (new ≡ old) × (old.generation ≡ 2 ^ 64 - 1)
-RefusesCheckpoint failures _ old new = ⊥
+abbrev pub RefusesCheckpoint : {D : Type 0} → Ghosts D → ProjectError → State D → State D → Type 0
+RefusesCheckpoint facts Device old new =
+    (old.must_reopen ≡ false) × (new.must_reopen ≡ true) × Rose (facts.failures old.disk) (facts.failures new.disk)
+RefusesCheckpoint facts OutOfMemory old new = (old.must_reopen ≡ false) × (new ≡ old)
+RefusesCheckpoint facts Reopen old new = (old.must_reopen ≡ true) × (new ≡ old)
+RefusesCheckpoint facts GenerationsSpent old new = (old.must_reopen ≡ false) × (new ≡ old) × (old.generation ≡ 2 ^ 64 - 1)
+RefusesCheckpoint facts _ old new = ⊥
 
 -- how a `checkpoint` ended: with the next generation, or refused; the map stays
-abbrev pub EndsCheckpoint : {D : Type 0} → (D → ℕ) → Result ℕ ProjectError → State D → State D → Type 0
-EndsCheckpoint failures (Ok g) old new =
+abbrev pub EndsCheckpoint : {D : Type 0} → Ghosts D → Result ℕ ProjectError → State D → State D → Type 0
+EndsCheckpoint facts (Ok g) old new =
     (old.must_reopen ≡ false) × (new.must_reopen ≡ false) × (g ≡ old.generation + 1) × (new.generation ≡ g)
-EndsCheckpoint failures (Err e) old new = RefusesCheckpoint failures e old new
+EndsCheckpoint facts (Err e) old new = RefusesCheckpoint facts e old new
 
 -- a journal with this room takes any line
 abbrev pub IsFresh : Option ℕ → Type 0
 IsFresh room = (len : ℕ) → len ≤ 256 → ¬ IsAbove room len
 
 -- how a call ended that was to make room for a line of so many bytes
-abbrev pub EndsRoom : {D : Type 0} → (D → ℕ) → Result Unit ProjectError → State D → State D → ℕ → Type 0
-EndsRoom failures (Ok _) old new len = (new.must_reopen ≡ false) × (¬ IsAbove new.room len)
-EndsRoom failures (Err e) old new len = RefusesCheckpoint failures e old new × IsAbove old.room len
+abbrev pub EndsRoom : {D : Type 0} → Ghosts D → Result Unit ProjectError → State D → State D → ℕ → Type 0
+EndsRoom facts (Ok _) old new len = (new.must_reopen ≡ false) × (¬ IsAbove new.room len)
+EndsRoom facts (Err e) old new len = RefusesCheckpoint facts e old new × IsAbove old.room len
 
 -- the generation rose by one where the journal had no room for so many bytes, and else it is as before
 abbrev pub TurnsWhereFull : {D : Type 0} → State D → State D → ℕ → Type 0

@@ -1,6 +1,8 @@
 -- Sessions, one behind the other, each after a stop of the one before.
 use Rattle.std.specs.Prelude.{◌≡◌, ℕ, false, List, [], ◌∷◌, ◌++◌}
-use Rattle.lv_disk.specs.Stops.{Each, LeavesOnly}
+use Rattle.lv_disk.specs.Moments.{LeavesOnly}
+use Rattle.lv_disk.specs.Stops.{Each}
+use Rattle.lv_disk.specs.declared.disk.Disk.{Ghosts}
 use Rattle.lv_maptables.specs.Projects.{ProjectMaps, empty_project, project_of}
 use Rattle.lv_commands.specs.ProjectLines.{Leads}
 use Rattle.lv_project.specs.Stands.{StandsFor}
@@ -34,52 +36,51 @@ abbrev pub HoldsEach : ℕ → List Session → List ℕ → Type 0
 HoldsEach cap sessions file = (map : ProjectMaps) × KeepEach cap empty_project sessions map × StandsFor cap map file
 
 -- what `create` promises of a geometry in which a body may have so many bytes
-pub record Creates {D : Type 0} (may_leave : D → List ℕ → Type 0) (cap : ℕ) (first : State D) : Type 0 where
+pub record Creates {D : Type 0} (facts : Ghosts D) (cap : ℕ) (first : State D) : Type 0 where
   pub cap_is : first.cap ≡ cap
   pub empty : (project_of first.maps) ≡ empty_project
   pub generation : first.generation ≡ 1
   pub reopen : first.must_reopen ≡ false
-  pub kept : IsKept may_leave first
+  pub kept : IsKept facts first
 
 -- what `open` promises, of a disk that tells its bytes
-pub record Opens {D : Type 0} (moment : D → ℕ) (left_since : D → ℕ → List ℕ → Type 0) (may_leave reads : D → List ℕ → Type 0) (before : D) (first : State D) : Type 0 where
+pub record Opens {D : Type 0} (facts : Ghosts D) (before : D) (first : State D) : Type 0 where
   pub reopen : first.must_reopen ≡ false
-  pub opened : Each (reads first.disk) (StandsOnlyFor first.cap (project_of first.maps) first.generation)
-  pub told : (file : List ℕ) × reads first.disk file
-  pub kept : IsKept may_leave first
-  pub any_moment : LeavesOnly moment left_since before first.disk (may_leave before)
+  pub opened : Each (facts.reads first.disk) (StandsOnlyFor first.cap (project_of first.maps) first.generation)
+  pub told : (file : List ℕ) × facts.reads first.disk file
+  pub kept : IsKept facts first
+  pub any_moment : LeavesOnly facts before first.disk (facts.may_leave before)
 
 -- what `open` promises where it is refused, of a disk that tells its bytes
-pub record RefusesOpen {D : Type 0} (moment : D → ℕ) (left_since : D → ℕ → List ℕ → Type 0) (may_leave reads : D → List ℕ → Type 0)
+pub record RefusesOpen {D : Type 0} (facts : Ghosts D)
     (before after : D) (error : ProjectError) : Type 0 where
-  pub refused : IsRefusedRead (reads after) error
-  pub told : (file : List ℕ) × reads after file
-  pub any_moment : LeavesOnly moment left_since before after (may_leave before)
+  pub refused : IsRefusedRead (facts.reads after) error
+  pub told : (file : List ℕ) × facts.reads after file
+  pub any_moment : LeavesOnly facts before after (facts.may_leave before)
 
 -- a session that began so: its state at the moment, and after its last call
-pub record Passes {D : Type 0} (moment failures : D → ℕ) (left_since : D → ℕ → List ℕ → Type 0) (may_leave : D → List ℕ → Type 0)
+pub record Passes {D : Type 0} (facts : Ghosts D)
     (begins : State D → Type 0) (s : Session) (mid last : State D) : Type 0 where
   pub first : State D
   pub begun : begins first
-  pub front : AllMade moment failures left_since may_leave first s.front mid
-  pub back : AllMade moment failures left_since may_leave mid s.back last
+  pub front : AllMade facts first s.front mid
+  pub back : AllMade facts mid s.back last
 
 -- Sessions in turn: the next one opens a disk that a stop from that moment on left, or the disk as it is.
-abbrev pub PassInTurn : {D : Type 0} → (D → ℕ) → (D → ℕ) → (D → ℕ → List ℕ → Type 0) → (D → List ℕ → Type 0) → (D → List ℕ → Type 0)
-    → (State D → Type 0) → List Session → Session → State D → State D → Type 0
-PassInTurn moment failures left_since may_leave reads begins [] s mid last = Passes moment failures left_since may_leave begins s mid last
-PassInTurn {D = D} moment failures left_since may_leave reads begins (q ∷ qs) s mid last =
-    (m : State D) × (l : State D) × (next : D) × Passes moment failures left_since may_leave begins q m l
-    × Each (may_leave next) (left_since l.disk (moment m.disk))
-    × PassInTurn moment failures left_since may_leave reads (Opens moment left_since may_leave reads next) qs s mid last
+abbrev pub PassInTurn : {D : Type 0} → Ghosts D → (State D → Type 0) → List Session → Session → State D → State D → Type 0
+PassInTurn facts begins [] s mid last = Passes facts begins s mid last
+PassInTurn {D = D} facts begins (q ∷ qs) s mid last =
+    (m : State D) × (l : State D) × (next : D) × Passes facts begins q m l
+    × Each (facts.may_leave next) (facts.left_since l.disk (facts.moment m.disk))
+    × PassInTurn facts (Opens facts next) qs s mid last
 
 -- A disk that is left by these sessions: each of its images is one that a stop from the moment in the last one on left.
-pub record IsLeftBy {D : Type 0} (moment failures : D → ℕ) (left_since : D → ℕ → List ℕ → Type 0) (may_leave reads : D → List ℕ → Type 0)
+pub record IsLeftBy {D : Type 0} (facts : Ghosts D)
     (cap : ℕ) (sessions : List Session) (disk : D) : Type 0 where
   pub before : List Session
   pub session : Session
   pub mid : State D
   pub last : State D
   pub all : sessions ≡ before ++ session ∷ []
-  pub passed : PassInTurn moment failures left_since may_leave reads (Creates may_leave cap) before session mid last
-  pub images : Each (may_leave disk) (left_since last.disk (moment mid.disk))
+  pub passed : PassInTurn facts (Creates facts cap) before session mid last
+  pub images : Each (facts.may_leave disk) (facts.left_since last.disk (facts.moment mid.disk))

@@ -1,6 +1,7 @@
 -- What a contract sees of a project, and what a project that needn't be opened again promises of its disk.
-use Rattle.std.specs.Prelude.{◌≡◌, ℕ, Bool, false, List, Option}
+use Rattle.std.specs.Prelude.{◌≡◌, ℕ, Bool, false, Option}
 use Rattle.lv_disk.specs.Stops.{Each}
+use Rattle.lv_disk.specs.declared.disk.Disk.{Ghosts}
 use Rattle.lv_maptables.specs.Projects.{MapsView, project_of}
 use Rattle.lv_project.specs.Stands.{Stands}
 
@@ -15,5 +16,5 @@ pub record State (D : Type 0) : Type 0 where
   pub room : Option ℕ
 
 -- where it needn't be opened again, each image of its disk stands for its map with its generation
-abbrev pub IsKept : {D : Type 0} → (D → List ℕ → Type 0) → State D → Type 0
-IsKept may_leave project = project.must_reopen ≡ false → Each (may_leave project.disk) (Stands project.cap (project_of project.maps) project.generation)
+abbrev pub IsKept : {D : Type 0} → Ghosts D → State D → Type 0
+IsKept facts project = project.must_reopen ≡ false → Each (facts.may_leave project.disk) (Stands project.cap (project_of project.maps) project.generation)

@@ -56,7 +56,7 @@ pub fn read_header<D: Disk>(disk: &mut D) -> Result<Geometry, ProjectError>
         (λ g. Each (D.reads disk.old) (HasAt 0 (header_bytes g.slot g.journal))) }
     ensures allowed { IfOk result (λ g. IsAllowed g.slot g.journal) }
     ensures refused { IfErr result (RefusesHeader (D.reads disk.old)) }
-    ensures reads { OnlyReads D.reads D.may_leave D.moment D.left_since disk.old disk.new }
+    ensures reads { OnlyReads D.Disk disk.old disk.new }
     ensures count { CountsFaults ProjectError.Device (D.failures disk.old)
         (D.failures disk.new) result }
 {

@@ -1,6 +1,7 @@
 //! A project as its file is read or made.
 ghost use Rattle.std.specs.Prelude.{◌≡◌, ◌≤◌, ◌<◌, ◌⊎◌, ◌+◌, ◌^◌, ℕ, [], false, true, Ok, length, IfOk, IfErr, IsErrOf, OnErr, OnOk};
-ghost use Rattle.lv_disk.specs.Stops.{Each, LeavesOnly};
+ghost use Rattle.lv_disk.specs.Moments.{LeavesOnly};
+ghost use Rattle.lv_disk.specs.Stops.{Each};
 ghost use Rattle.lv_journal.specs.Records.{IsJournal};
 ghost use Rattle.lv_journal.specs.State as journal;
 ghost use Rattle.lv_checkpoint.specs.Handles.{first_of, generation_of, second_of, slot_of, HasSomeSlots};
@@ -82,7 +83,7 @@ fn open_journal<D: Disk>(alloc: Global, disk: &mut D, parts: Parts) -> Result<Jo
     ensures other { OnOk result
         (Each (D.reads disk.old) (λ file. parts.other_journal.base < length file)) }
     ensures refused { IfErr result (RefusesGates (D.reads disk.old) parts) }
-    ensures reads { OnlyReads D.reads D.may_leave D.moment D.left_since disk.old disk.new }
+    ensures reads { OnlyReads D.Disk disk.old disk.new }
     ensures count { CountsFaults ProjectError.Device (D.failures disk.old)
         (D.failures disk.new) result }
 {
@@ -142,7 +143,7 @@ fn read_slots<D: Disk>(
         × (slot_of r.0 ≤ 1)) }
     ensures fits { IfOk result (λ r. body_len (project_of r.1) ≤ cap_of geometry) }
     ensures refused { IfErr result (RefusesSlots (D.reads disk.old) geometry places) }
-    ensures reads { OnlyReads D.reads D.may_leave D.moment D.left_since disk.old disk.new }
+    ensures reads { OnlyReads D.Disk disk.old disk.new }
     ensures only { Each (D.may_leave disk.new) (D.reads disk.new) }
     ensures count { CountsFaults ProjectError.Device (D.failures disk.old)
         (D.failures disk.new) result }
@@ -176,7 +177,7 @@ fn read_lines<D: Disk>(
     ensures fits { body_len (project_of maps.new) ≤ cap }
     ensures refused { IfErr result
         (RefusesLines (D.reads disk.old) cap parts (project_of maps.old)) }
-    ensures reads { OnlyReads D.reads D.may_leave D.moment D.left_since disk.old disk.new }
+    ensures reads { OnlyReads D.Disk disk.old disk.new }
     ensures count { CountsFaults ProjectError.Device (D.failures disk.old)
         (D.failures disk.new) result }
 {
@@ -203,7 +204,7 @@ fn read_synced<D: Disk>(alloc: Global, disk: &mut D) -> Result<Opened, ProjectEr
         × (slot_of o.slots ≤ 1)) }
     ensures fits { IfOk result (λ o. body_len (project_of o.maps) ≤ cap_of o.geometry) }
     ensures refused { IfErr result (IsRefusedRead (D.reads disk.old)) }
-    ensures reads { OnlyReads D.reads D.may_leave D.moment D.left_since disk.old disk.new }
+    ensures reads { OnlyReads D.Disk disk.old disk.new }
     ensures count { CountsFaults ProjectError.Device (D.failures disk.old)
         (D.failures disk.new) result }
 {
@@ -245,7 +246,7 @@ pub fn read_project<D: Disk>(alloc: Global, disk: &mut D) -> Result<Opened, Proj
     ensures only { OnOk result (Each (D.may_leave disk.new) (D.reads disk.new)) }
     ensures reads { Each (D.reads disk.new) (D.reads disk.old) }
     ensures still { Each (D.reads disk.old) (D.reads disk.new) }
-    ensures any_moment { LeavesOnly D.moment D.left_since disk.old disk.new (D.may_leave disk.old) }
+    ensures any_moment { LeavesOnly D.Disk disk.old disk.new (D.may_leave disk.old) }
     ensures count { CountsFaults ProjectError.Device (D.failures disk.old)
         (D.failures disk.new) result }
 {
@@ -275,10 +276,10 @@ pub fn write_new<D: Disk>(
     ensures refused { IfErr result (RefusesCreate (D.reads disk.old) geometry) }
     // But for a `Device` it has only read.
     ensures untouched { IfErr result (λ e. (e ≡ ProjectError.Device)
-        ⊎ OnlyReads D.reads D.may_leave D.moment D.left_since disk.old disk.new) }
+        ⊎ OnlyReads D.Disk disk.old disk.new) }
     // So is a file that isn't empty, whatever the refusal.
     ensures stays { OnErr result (Each (D.reads disk.old) (λ file. length file ≡ 0)
-        ⊎ OnlyReads D.reads D.may_leave D.moment D.left_since disk.old disk.new) }
+        ⊎ OnlyReads D.Disk disk.old disk.new) }
     ensures count { CountsFaults ProjectError.Device (D.failures disk.old)
         (D.failures disk.new) result }
 {

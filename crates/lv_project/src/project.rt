@@ -1,6 +1,7 @@
 //! A project on a disk: each accepted command is there before it is answered.
 ghost use Rattle.std.specs.Prelude.{◌≡◌, ◌≤◌, ◌<◌, ◌⊎◌, ◌↔◌, ◌+◌, ◌-◌, ◌^◌, [], length, false, true, Ok, IfOk, IfErr, IsErrOf, IfSome, MatchResult, OnOk};
-ghost use Rattle.lv_disk.specs.Stops.{Each, LeavesOnly};
+ghost use Rattle.lv_disk.specs.Moments.{LeavesOnly};
+ghost use Rattle.lv_disk.specs.Stops.{Each};
 ghost use Rattle.lv_journal.specs.State.{IsAbove};
 ghost use Rattle.lv_maptables.specs.Projects.{body_len, project_of};
 ghost use Rattle.lv_commands.specs.ProjectReadiness as readiness;
@@ -65,7 +66,7 @@ impl<D: Disk> Model for Project<D> {
 
     ghost view = { state_of };
 
-    ghost invariant = { IsSound D.may_leave };
+    ghost invariant = { IsSound D.Disk };
 }
 
 impl<D: Disk> Project<D> {
@@ -105,7 +106,7 @@ impl<D: Disk> Project<D> {
     /// Whether a device fault has left the disk in doubt, so that the project must be opened again.
     pub fn must_reopen(&self) -> bool
         ensures reopen { result ≡ self.now.must_reopen }
-        ensures kept { IsKept D.may_leave self.now }
+        ensures kept { IsKept D.Disk self.now }
     {
         self.must_reopen
     }
@@ -113,7 +114,7 @@ impl<D: Disk> Project<D> {
     /// The disk.
     pub fn into_disk(self) -> D
         ensures disk { result ≡ self.disk }
-        ensures kept { IsKept D.may_leave self }
+        ensures kept { IsKept D.Disk self }
     {
         let Project {
             alloc: _,
@@ -132,7 +133,7 @@ impl<D: Disk> Project<D> {
     pub fn create(alloc: Global, disk: D, geometry: Geometry) -> Result<Project<D>, Refused<D>>
         ensures made { IfOk result (λ p. ((project_of p.maps) ≡ empty_project) × (p.generation ≡ 1)
             × (p.must_reopen ≡ false) × (p.cap ≡ cap_of geometry)) }
-        ensures kept { IfOk result (λ p. IsKept D.may_leave p) }
+        ensures kept { IfOk result (λ p. IsKept D.Disk p) }
         // It has these very lengths, which are allowed, and it writes over no file.
         ensures lengths { IfOk result (λ p. Each (D.may_leave p.disk) (TellsLengths geometry)) }
         ensures allowed { OnOk result (IsAllowed geometry.slot geometry.journal) }
@@ -140,10 +141,10 @@ impl<D: Disk> Project<D> {
         ensures refused { IfErr result (λ r. RefusesCreate (D.reads disk) geometry r.error) }
         // A refusal but `Device` leaves the file alone, whatever it is.
         ensures untouched { IfErr result (λ r. (r.error ≡ ProjectError.Device)
-            ⊎ OnlyReads D.reads D.may_leave D.moment D.left_since disk r.disk) }
+            ⊎ OnlyReads D.Disk disk r.disk) }
         // Whatever the refusal, a file that isn't empty is only read.
         ensures stays { IfErr result (λ r. Each (D.reads disk) (λ file. length file ≡ 0)
-            ⊎ OnlyReads D.reads D.may_leave D.moment D.left_since disk r.disk) }
+            ⊎ OnlyReads D.Disk disk r.disk) }
         ensures count { IfErr result (λ r. r.error ≡ ProjectError.Device
             → Rose (D.failures disk) (D.failures r.disk)) }
     {
@@ -170,10 +171,10 @@ impl<D: Disk> Project<D> {
         ensures opened { IfOk result (λ p. (p.must_reopen ≡ false)
             × Each (D.reads p.disk) (StandsOnlyFor p.cap (project_of p.maps) p.generation)) }
         // Each image now stands for the map, and no stop within the call left a new image.
-        ensures kept { IfOk result (λ p. IsKept D.may_leave p) }
+        ensures kept { IfOk result (λ p. IsKept D.Disk p) }
         ensures any_moment { MatchResult result
-            (λ p. LeavesOnly D.moment D.left_since disk p.disk (D.may_leave disk))
-            (λ r. LeavesOnly D.moment D.left_since disk r.disk (D.may_leave disk)) }
+            (λ p. LeavesOnly D.Disk disk p.disk (D.may_leave disk))
+            (λ r. LeavesOnly D.Disk disk r.disk (D.may_leave disk)) }
         ensures refused { IfErr result (λ r. IsRefusedRead (D.reads r.disk) r.error) }
         // What a read gives stays.
         ensures reads { MatchResult result
@@ -208,7 +209,7 @@ impl<D: Disk> Project<D> {
     fn has_room(&self, len: usize) -> bool
         ensures full { result ≡ false → IsAbove self.now.room len }
         ensures room { result ≡ true → ¬ IsAbove self.now.room len }
-        ensures kept { IsKept D.may_leave self.now }
+        ensures kept { IsKept D.Disk self.now }
     {
         match self.journal.room() {
             Some(room) => len <= room as usize,
@@ -224,14 +225,14 @@ impl<D: Disk> Project<D> {
         requires body { body_in image.now ≡ project_body (project_of self.old.maps) }
         requires well_formed { WellFormedProject (project_of self.old.maps) }
         ensures device { IfErr result (λ e. e ≡ ProjectError.Device) }
-        ensures ends { EndsCheckpoint D.failures result self.old self.new }
+        ensures ends { EndsCheckpoint D.Disk result self.old self.new }
         ensures maps { self.new.maps ≡ self.old.maps }
-        ensures any_moment { LeavesOnly D.moment D.left_since self.old.disk self.new.disk
+        ensures any_moment { LeavesOnly D.Disk self.old.disk self.new.disk
             (StandsFor self.old.cap (project_of self.old.maps)) }
         ensures room { OnOk result (IsFresh self.new.room) }
         ensures cap { self.new.cap ≡ self.old.cap }
         ensures later { D.failures self.old.disk ≤ D.failures self.new.disk }
-        ensures kept { IsKept D.may_leave self.new }
+        ensures kept { IsKept D.Disk self.new }
     {
         let parts = self.places.parts(self.slots.slot());
         match turn(&mut self.disk, self.slots, parts, image) {
@@ -253,17 +254,17 @@ impl<D: Disk> Project<D> {
         // `GenerationsSpent` exactly where no generation is left.
         ensures spent { IsErrOf result ProjectError.GenerationsSpent
             ↔ (self.old.must_reopen ≡ false) × (self.old.generation ≡ 2 ^ 64 - 1) }
-        ensures ends { EndsCheckpoint D.failures result self.old self.new }
+        ensures ends { EndsCheckpoint D.Disk result self.old self.new }
         ensures maps { self.new.maps ≡ self.old.maps }
 
         // A stop at any moment of the call leaves the map.
         ensures any_moment { self.old.must_reopen ≡ false
-            → LeavesOnly D.moment D.left_since self.old.disk self.new.disk
+            → LeavesOnly D.Disk self.old.disk self.new.disk
             (StandsFor self.old.cap (project_of self.old.maps)) }
         ensures room { OnOk result (IsFresh self.new.room) }
         ensures cap { self.new.cap ≡ self.old.cap }
         ensures later { D.failures self.old.disk ≤ D.failures self.new.disk }
-        ensures kept { IsKept D.may_leave self.new }
+        ensures kept { IsKept D.Disk self.new }
     {
         if self.must_reopen {
             return Err(ProjectError::Reopen);
@@ -287,15 +288,15 @@ impl<D: Disk> Project<D> {
         requires short { len ≤ 256 }
         ensures spent { IsErrOf result ProjectError.GenerationsSpent
             ↔ IsAbove self.old.room len × (self.old.generation ≡ 2 ^ 64 - 1) }
-        ensures ends { EndsRoom D.failures result self.old self.new len }
+        ensures ends { EndsRoom D.Disk result self.old self.new len }
         ensures untouched { IfErr result (λ e. (e ≡ ProjectError.Device) ⊎ (self.new ≡ self.old)) }
         ensures turned { OnOk result (TurnsWhereFull self.old self.new len) }
         ensures later { D.failures self.old.disk ≤ D.failures self.new.disk }
         ensures maps { self.new.maps ≡ self.old.maps }
-        ensures any_moment { LeavesOnly D.moment D.left_since self.old.disk self.new.disk
+        ensures any_moment { LeavesOnly D.Disk self.old.disk self.new.disk
             (StandsFor self.old.cap (project_of self.old.maps)) }
         ensures cap { self.new.cap ≡ self.old.cap }
-        ensures kept { IsKept D.may_leave self.new }
+        ensures kept { IsKept D.Disk self.new }
     {
         if self.has_room(len) {
             return Ok(());
@@ -319,13 +320,13 @@ impl<D: Disk> Project<D> {
               number_of (project_of self.old.maps) ready.command,
             ) }
         ensures device { IfErr result (λ e. e ≡ ProjectError.Device) }
-        ensures ends { EndsApply D.failures result self.old self.new line.now }
+        ensures ends { EndsApply D.Disk result self.old self.new line.now }
         ensures generation { OnOk result (self.new.generation ≡ self.old.generation) }
         ensures later { D.failures self.old.disk ≤ D.failures self.new.disk }
-        ensures any_moment { LeavesOnly D.moment D.left_since self.old.disk self.new.disk
+        ensures any_moment { LeavesOnly D.Disk self.old.disk self.new.disk
             (IsOutcome self.old.cap (project_of self.old.maps) line.now) }
         ensures cap { self.new.cap ≡ self.old.cap }
-        ensures kept { IsKept D.may_leave self.new }
+        ensures kept { IsKept D.Disk self.new }
     {
         match self.journal.append(&mut self.disk, line) {
             Ok(()) => Ok(commit(&mut self.maps, ready)),
@@ -348,17 +349,17 @@ impl<D: Disk> Project<D> {
             → LeadsTo self.old.cap (project_of self.old.maps) line.now new
             → IsErrOf result ProjectError.GenerationsSpent
             ⊎ IsErrOf result ProjectError.OutOfMemory }
-        ensures ends { EndsApply D.failures result self.old self.new line.now }
+        ensures ends { EndsApply D.Disk result self.old self.new line.now }
 
         // A stop at any moment of the call leaves the map, or the one that the line leads to.
         ensures any_moment { self.old.must_reopen ≡ false
-            → LeavesOnly D.moment D.left_since self.old.disk self.new.disk
+            → LeavesOnly D.Disk self.old.disk self.new.disk
             (IsOutcome self.old.cap (project_of self.old.maps) line.now) }
 
         // A refusal but `Device` leaves the map alone.
         ensures refused_moment { IfErr result (λ e. self.old.must_reopen ≡ false
             → (e ≡ ProjectError.Device)
-            ⊎ LeavesOnly D.moment D.left_since self.old.disk self.new.disk
+            ⊎ LeavesOnly D.Disk self.old.disk self.new.disk
             (StandsFor self.old.cap (project_of self.old.maps))) }
         ensures untouched { IfErr result (λ e. (e ≡ ProjectError.Device)
             ⊎ ((self.new.disk ≡ self.old.disk) × (self.new.generation ≡ self.old.generation))) }
@@ -370,7 +371,7 @@ impl<D: Disk> Project<D> {
         ensures turned { OnOk result (TurnsWhereFull self.old self.new (length line.now)) }
 
         // Each image now stands for the map, unless the project must be opened again.
-        ensures kept { IsKept D.may_leave self.new }
+        ensures kept { IsKept D.Disk self.new }
         ensures cap { self.new.cap ≡ self.old.cap }
     {
         if self.must_reopen {

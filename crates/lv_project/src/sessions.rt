@@ -1,6 +1,7 @@
 //! The project's calls over any number of sessions, each begun by `create` or `open` and stopped at any moment.
 ghost use Rattle.std.specs.Prelude.{◌≡◌, ◌⊎◌, ◌++◌, ◌∷◌, [], List, ℕ, Result, IfErr, IfOk, MatchResult, OnOk, length};
-ghost use Rattle.lv_disk.specs.Stops.{Each, LeavesOnly};
+ghost use Rattle.lv_disk.specs.Moments.{LeavesOnly};
+ghost use Rattle.lv_disk.specs.Stops.{Each};
 ghost use Rattle.lv_maptables.specs.Projects.{empty_project, project_of};
 ghost use Rattle.lv_project.specs.Calls.{Applies, Checkpoints};
 ghost use Rattle.lv_project.specs.Opening.{RefusesCreate};
@@ -20,53 +21,50 @@ use std::alloc::Global;
 pub fn hold_each_acknowledged<D: Disk>()
     ensures any_moment { (cap : ℕ) (before : List Session) (s : Session) (mid : State D)
         (last : State D)
-        → PassInTurn D.moment D.failures D.left_since D.may_leave D.reads
-        (Creates D.may_leave cap) before s mid last
-        → LeavesOnly D.moment D.left_since mid.disk last.disk (HoldsEach cap (before ++ s ∷ [])) }
+        → PassInTurn D.Disk (Creates D.Disk cap) before s mid last
+        → LeavesOnly D.Disk mid.disk last.disk (HoldsEach cap (before ++ s ∷ [])) }
 
     // So does the map that an `open` gives of what they left, and so does each image at every moment of that call.
     ensures opened { (cap : ℕ) (sessions : List Session) (disk : D) (first : State D)
-        → IsLeftBy D.moment D.failures D.left_since D.may_leave D.reads cap sessions disk
-        → Opens D.moment D.left_since D.may_leave D.reads disk first
+        → IsLeftBy D.Disk cap sessions disk
+        → Opens D.Disk disk first
         → (first.cap ≡ cap) × KeepEach cap empty_project sessions (project_of first.maps)
-        × LeavesOnly D.moment D.left_since disk first.disk (HoldsEach cap sessions) }
+        × LeavesOnly D.Disk disk first.disk (HoldsEach cap sessions) }
 
     // An `open` is refused by a fault of the device or for want of memory alone, and the disk is then as good as
     // before.
     ensures refused { (cap : ℕ) (sessions : List Session) (disk : D) (after : D)
         (error : ProjectError)
-        → IsLeftBy D.moment D.failures D.left_since D.may_leave D.reads cap sessions disk
-        → RefusesOpen D.moment D.left_since D.may_leave D.reads disk after error
+        → IsLeftBy D.Disk cap sessions disk
+        → RefusesOpen D.Disk disk after error
         → ((error ≡ ProjectError.Device) ⊎ (error ≡ ProjectError.OutOfMemory))
-        × IsLeftBy D.moment D.failures D.left_since D.may_leave D.reads cap sessions after
-        × LeavesOnly D.moment D.left_since disk after (HoldsEach cap sessions) }
+        × IsLeftBy D.Disk cap sessions after
+        × LeavesOnly D.Disk disk after (HoldsEach cap sessions) }
 
     // A stop within an `open`, be it one that is then refused or not, leaves a disk that these sessions left.
     ensures stopped { (cap : ℕ) (sessions : List Session) (disk next : D) (first : State D)
-        → IsLeftBy D.moment D.failures D.left_since D.may_leave D.reads cap sessions disk
-        → Opens D.moment D.left_since D.may_leave D.reads disk first
+        → IsLeftBy D.Disk cap sessions disk
+        → Opens D.Disk disk first
         → Each (D.may_leave next) (D.left_since first.disk (D.moment disk))
-        → IsLeftBy D.moment D.failures D.left_since D.may_leave D.reads cap sessions next }
+        → IsLeftBy D.Disk cap sessions next }
     ensures stopped_refused { (cap : ℕ) (sessions : List Session) (disk after next : D)
         (error : ProjectError)
-        → IsLeftBy D.moment D.failures D.left_since D.may_leave D.reads cap sessions disk
-        → RefusesOpen D.moment D.left_since D.may_leave D.reads disk after error
+        → IsLeftBy D.Disk cap sessions disk
+        → RefusesOpen D.Disk disk after error
         → Each (D.may_leave next) (D.left_since after (D.moment disk))
-        → IsLeftBy D.moment D.failures D.left_since D.may_leave D.reads cap sessions next }
+        → IsLeftBy D.Disk cap sessions next }
 {}
 
 /// `Project::apply`, whose promises are those that the law asks of a call.
 pub fn applies<D: Disk>(project: &mut Project<D>, line: &[u8]) -> Result<u32, ProjectError>
-    ensures { Applies D.moment D.failures D.left_since D.may_leave project.old line.now result
-        project.new }
+    ensures { Applies D.Disk project.old line.now result project.new }
 {
     project.apply(line)
 }
 
 /// `Project::checkpoint`, likewise.
 pub fn checkpoints<D: Disk>(project: &mut Project<D>) -> Result<u64, ProjectError>
-    ensures { Checkpoints D.moment D.failures D.left_since D.may_leave
-        project.old result project.new }
+    ensures { Checkpoints D.Disk project.old result project.new }
 {
     project.checkpoint()
 }
@@ -77,7 +75,7 @@ pub fn creates<D: Disk>(
     disk: D,
     geometry: Geometry,
 ) -> Result<Project<D>, Refused<D>>
-    ensures created { IfOk result (Creates D.may_leave (cap_of geometry)) }
+    ensures created { IfOk result (Creates D.Disk (cap_of geometry)) }
     ensures lengths { IfOk result (λ p. Each (D.may_leave p.disk) (TellsLengths geometry)) }
     ensures allowed { OnOk result (IsAllowed geometry.slot geometry.journal) }
     ensures empty { OnOk result (Each (D.reads disk) (λ file. length file ≡ 0)) }
@@ -89,8 +87,8 @@ pub fn creates<D: Disk>(
 /// `Project::open`, whose project each later session begins with, of a disk that tells its bytes.
 pub fn opens<D: Disk>(alloc: Global, disk: D) -> Result<Project<D>, Refused<D>>
     ensures { (file : List ℕ) → D.reads disk file → MatchResult result
-        (λ p. Opens D.moment D.left_since D.may_leave D.reads disk p)
-        (λ r. RefusesOpen D.moment D.left_since D.may_leave D.reads disk r.disk r.error) }
+        (λ p. Opens D.Disk disk p)
+        (λ r. RefusesOpen D.Disk disk r.disk r.error) }
 {
     match Project::open(alloc, disk) {
         Ok(project) => Ok(project),

@@ -81,12 +81,12 @@ returns-in-Err-read_slots-clause-count g c =
 
 pub returns-in-Ok-read_lines-clause-reads : goal.returns-in-Ok-read_lines-clause-reads
 returns-in-Ok-read_lines-clause-reads g c =
-    both_runs g.D.Disk.reads g.D.Disk.may_leave g.D.Disk.moment g.D.Disk.left_since g.met.D.Disk.only_now _ _ _ c.in-Ok.ensures.reads
-    (both_runs g.D.Disk.reads g.D.Disk.may_leave g.D.Disk.moment g.D.Disk.left_since g.met.D.Disk.only_now _ _ _ c.in-Ok-read_slots.ensures.reads
+    both_runs g.D.Disk g.met.D.Disk.only_now _ _ _ c.in-Ok.ensures.reads
+    (both_runs g.D.Disk g.met.D.Disk.only_now _ _ _ c.in-Ok-read_slots.ensures.reads
     c.in-Ok-read_lines.ensures.reads)
 
 pub returns-in-Err-read_lines-clause-reads : goal.returns-in-Err-read_lines-clause-reads
 returns-in-Err-read_lines-clause-reads g c =
-    both_runs g.D.Disk.reads g.D.Disk.may_leave g.D.Disk.moment g.D.Disk.left_since g.met.D.Disk.only_now _ _ _ c.in-Ok.ensures.reads
-    (both_runs g.D.Disk.reads g.D.Disk.may_leave g.D.Disk.moment g.D.Disk.left_since g.met.D.Disk.only_now _ _ _ c.in-Ok-read_slots.ensures.reads
+    both_runs g.D.Disk g.met.D.Disk.only_now _ _ _ c.in-Ok.ensures.reads
+    (both_runs g.D.Disk g.met.D.Disk.only_now _ _ _ c.in-Ok-read_slots.ensures.reads
     c.in-Err-read_lines.ensures.reads)

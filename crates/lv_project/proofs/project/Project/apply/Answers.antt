@@ -1,5 +1,5 @@
 use Rattle.std.proofs.Common.{◌≡◌, ◌∙◌, ℕ, false, inl, inr, length, Ok, Err, OnOk, ap, sym, subst, refl}
-use Rattle.lv_disk.specs.Stops.{LeavesOnly}
+use Rattle.lv_disk.specs.Moments.{LeavesOnly}
 use Rattle.lv_maptables.specs.Projects.{ProjectMaps, project_of}
 use Rattle.lv_commands.specs.ProjectReadiness as readiness
 use Rattle.lv_commands.specs.ProjectLines.{Accepts, LeadsTo}
@@ -34,37 +34,37 @@ returns-clause-memory g c is = absurd (device_alone c.record.result c.record.ens
 
 pub returns-in-Err-clause-any_moment : goal.returns-in-Err-clause-any_moment
 returns-in-Err-clause-any_moment g c =
-    no_outcome g.D.Disk.may_leave c.self.inside c.self.invariant.framed g.D.Disk.moment g.D.Disk.left_since c.args.self.now c.args.line.now c.self.view_is c.self.invariant.ready (λ file left. g.met.D.Disk.only_now c.args.self.now.disk file left)
+    no_outcome g.D.Disk c.self.inside c.self.invariant.framed c.args.self.now c.args.line.now c.self.view_is c.self.invariant.ready (λ file left. g.met.D.Disk.only_now c.args.self.now.disk file left)
 
 pub returns-in-Err-clause-kept : goal.returns-in-Err-clause-kept
-returns-in-Err-clause-kept g c = kept_view g.D.Disk.may_leave c.self.inside c.self.invariant.framed c.args.self.now c.self.view_is c.self.invariant.ready
+returns-in-Err-clause-kept g c = kept_view g.D.Disk c.self.inside c.self.invariant.framed c.args.self.now c.self.view_is c.self.invariant.ready
 
 pub returns-in-Err-ready-clause-kept : goal.returns-in-Err-ready-clause-kept
 returns-in-Err-ready-clause-kept g c go file left =
     subst (λ (t : ProjectMaps). Stands (cap_of c.self.inside.geometry) t c.self.inside.slots.generation file) (sym c.ready.ensures.project)
-    (is_kept g.D.Disk.may_leave c.self.inside c.self.invariant.framed c.self.invariant.ready go file left)
+    (is_kept g.D.Disk c.self.inside c.self.invariant.framed c.self.invariant.ready go file left)
 
 pub returns-in-Err-ready-clause-any_moment : goal.returns-in-Err-ready-clause-any_moment
 returns-in-Err-ready-clause-any_moment g c =
-    subst (λ (v : _). v.must_reopen ≡ false → LeavesOnly g.D.Disk.moment g.D.Disk.left_since v.disk c.self.inside.disk (IsOutcome v.cap (project_of v.maps) c.args.line.now)) c.self.view_is
-    (no_outcome g.D.Disk.may_leave c.self.inside c.self.invariant.framed g.D.Disk.moment g.D.Disk.left_since (state_of c.self.inside) c.args.line.now refl c.self.invariant.ready (λ file left. g.met.D.Disk.only_now c.self.inside.disk file left))
+    subst (λ (v : _). v.must_reopen ≡ false → LeavesOnly g.D.Disk v.disk c.self.inside.disk (IsOutcome v.cap (project_of v.maps) c.args.line.now)) c.self.view_is
+    (no_outcome g.D.Disk c.self.inside c.self.invariant.framed (state_of c.self.inside) c.args.line.now refl c.self.invariant.ready (λ file left. g.met.D.Disk.only_now c.self.inside.disk file left))
 
 pub returns-in-Err-make_room-clause-any_moment : goal.returns-in-Err-make_room-clause-any_moment
 returns-in-Err-make_room-clause-any_moment g c =
-    subst (λ (v : _). v.must_reopen ≡ false → LeavesOnly g.D.Disk.moment g.D.Disk.left_since v.disk c.make_room.new.self.disk (IsOutcome v.cap (project_of v.maps) c.args.line.now)) c.self.view_is
-    (λ go. room_moments g.D.Disk.moment g.D.Disk.left_since (cap_of c.self.inside.geometry) (project_of c.self.inside.maps) (project_of c.ready.new.maps) c.args.line.now c.self.inside.disk c.make_room.new.self.disk c.ready.ensures.project c.make_room.ensures.any_moment)
+    subst (λ (v : _). v.must_reopen ≡ false → LeavesOnly g.D.Disk v.disk c.make_room.new.self.disk (IsOutcome v.cap (project_of v.maps) c.args.line.now)) c.self.view_is
+    (λ go. room_moments g.D.Disk (cap_of c.self.inside.geometry) (project_of c.self.inside.maps) (project_of c.ready.new.maps) c.args.line.now c.self.inside.disk c.make_room.new.self.disk c.ready.ensures.project c.make_room.ensures.any_moment)
 
 pub returns-clause-any_moment : goal.returns-clause-any_moment
 returns-clause-any_moment g c =
-    subst (λ (v : _). v.must_reopen ≡ false → LeavesOnly g.D.Disk.moment g.D.Disk.left_since v.disk c.record.new.self.disk (IsOutcome v.cap (project_of v.maps) c.args.line.now)) c.self.view_is
-    (λ go. both_moments g.D.Disk.moment g.D.Disk.left_since (cap_of c.self.inside.geometry) (project_of c.self.inside.maps) (project_of c.make_room.new.self.maps) c.make_room.new.self.cap c.args.line.now
+    subst (λ (v : _). v.must_reopen ≡ false → LeavesOnly g.D.Disk v.disk c.record.new.self.disk (IsOutcome v.cap (project_of v.maps) c.args.line.now)) c.self.view_is
+    (λ go. both_moments g.D.Disk (cap_of c.self.inside.geometry) (project_of c.self.inside.maps) (project_of c.make_room.new.self.maps) c.make_room.new.self.cap c.args.line.now
     c.self.inside.disk c.make_room.new.self.disk c.record.new.self.disk (ap project_of c.make_room.ensures.maps ∙ c.ready.ensures.project) c.make_room.ensures.cap
-    (subst (λ (t : ProjectMaps). LeavesOnly g.D.Disk.moment g.D.Disk.left_since c.self.inside.disk c.make_room.new.self.disk (StandsFor (cap_of c.self.inside.geometry) t)) c.ready.ensures.project c.make_room.ensures.any_moment) c.record.ensures.any_moment)
+    (subst (λ (t : ProjectMaps). LeavesOnly g.D.Disk c.self.inside.disk c.make_room.new.self.disk (StandsFor (cap_of c.self.inside.geometry) t)) c.ready.ensures.project c.make_room.ensures.any_moment) c.record.ensures.any_moment)
 
 pub returns-clause-ends : goal.returns-clause-ends
 returns-clause-ends g c =
-    subst (λ (v : _). v.must_reopen ≡ false → EndsApply g.D.Disk.failures c.record.result v c.record.new.self c.args.line.now) c.self.view_is
-    (λ go. ends_from g.D.Disk.failures (state_of c.self.inside) c.make_room.new.self c.record.new.self c.args.line.now (ap project_of c.make_room.ensures.maps ∙ c.ready.ensures.project) c.make_room.ensures.cap
+    subst (λ (v : _). v.must_reopen ≡ false → EndsApply g.D.Disk c.record.result v c.record.new.self c.args.line.now) c.self.view_is
+    (λ go. ends_from g.D.Disk (state_of c.self.inside) c.make_room.new.self c.record.new.self c.args.line.now (ap project_of c.make_room.ensures.maps ∙ c.ready.ensures.project) c.make_room.ensures.cap
     go c.in-Ok-make_room.ensures.ends.0 c.make_room.ensures.later c.record.ensures.later c.in-Ok-make_room.ensures.ends.1 c.record.result c.record.ensures.ends)
     (sym (ap (λ (v : _). v.must_reopen) c.self.view_is) ∙ c.if-self.false)
 
@@ -73,7 +73,7 @@ returns-in-Err-ready-clause-ends g c =
     let by = subst (λ (v : _). readiness.RefusesStep c.in-Err-ready.error (step (project_of v.maps) c.in-Ok.command v.cap)) c.self.view_is
     (subst (λ (k : ℕ). readiness.RefusesStep c.in-Err-ready.error (step (project_of c.self.inside.maps) c.in-Ok.command k)) c.cap.ensures c.in-Err-ready.ensures.refused) in (
       c.ready.ensures.project ∙ ap (λ (v : _). (project_of v.maps)) c.self.view_is,
-      refused_ends g.D.Disk.failures c.args.self.now _ c.args.line.now c.in-Ok.command c.in-Err-ready.error c.refusal_of-in-Err-ready.result c.refusal_of-in-Err-ready.ensures by
+      refused_ends g.D.Disk c.args.self.now _ c.args.line.now c.in-Ok.command c.in-Err-ready.error c.refusal_of-in-Err-ready.result c.refusal_of-in-Err-ready.ensures by
           c.in-Ok.ensures.ok.1 c.in-Ok.ensures.ok.0 c.in-Ok.ensures.fault (sym (ap (λ (v : _). v.must_reopen) c.self.view_is) ∙ c.if-self.false) c.if-self.false,
     )
 
@@ -100,21 +100,21 @@ returns-clause-spent g c go above last new leads =
 
 pub returns-in-Err-clause-refused_moment : goal.returns-in-Err-clause-refused_moment
 returns-in-Err-clause-refused_moment g c go =
-    inr (no_moment g.D.Disk.may_leave c.self.inside c.self.invariant.framed g.D.Disk.moment g.D.Disk.left_since c.args.self.now c.self.view_is c.self.invariant.ready (λ file left. g.met.D.Disk.only_now c.args.self.now.disk file left) go)
+    inr (no_moment g.D.Disk c.self.inside c.self.invariant.framed c.args.self.now c.self.view_is c.self.invariant.ready (λ file left. g.met.D.Disk.only_now c.args.self.now.disk file left) go)
 
 pub returns-in-Err-ready-clause-refused_moment : goal.returns-in-Err-ready-clause-refused_moment
 returns-in-Err-ready-clause-refused_moment g c go =
-    inr (subst (λ (v : _). v.must_reopen ≡ false → LeavesOnly g.D.Disk.moment g.D.Disk.left_since v.disk c.self.inside.disk (StandsFor v.cap (project_of v.maps))) c.self.view_is
-    (no_moment g.D.Disk.may_leave c.self.inside c.self.invariant.framed g.D.Disk.moment g.D.Disk.left_since (state_of c.self.inside) refl c.self.invariant.ready (λ file left. g.met.D.Disk.only_now c.self.inside.disk file left)) go)
+    inr (subst (λ (v : _). v.must_reopen ≡ false → LeavesOnly g.D.Disk v.disk c.self.inside.disk (StandsFor v.cap (project_of v.maps))) c.self.view_is
+    (no_moment g.D.Disk c.self.inside c.self.invariant.framed (state_of c.self.inside) refl c.self.invariant.ready (λ file left. g.met.D.Disk.only_now c.self.inside.disk file left)) go)
 
 pub returns-in-Err-make_room-clause-refused_moment : goal.returns-in-Err-make_room-clause-refused_moment
 returns-in-Err-make_room-clause-refused_moment g c go =
-    inr (subst (λ (v : _). LeavesOnly g.D.Disk.moment g.D.Disk.left_since v.disk c.make_room.new.self.disk (StandsFor v.cap (project_of v.maps))) c.self.view_is
-    (subst (λ (t : ProjectMaps). LeavesOnly g.D.Disk.moment g.D.Disk.left_since c.self.inside.disk c.make_room.new.self.disk (StandsFor (cap_of c.self.inside.geometry) t)) c.ready.ensures.project c.make_room.ensures.any_moment))
+    inr (subst (λ (v : _). LeavesOnly g.D.Disk v.disk c.make_room.new.self.disk (StandsFor v.cap (project_of v.maps))) c.self.view_is
+    (subst (λ (t : ProjectMaps). LeavesOnly g.D.Disk c.self.inside.disk c.make_room.new.self.disk (StandsFor (cap_of c.self.inside.geometry) t)) c.ready.ensures.project c.make_room.ensures.any_moment))
 
 pub returns-clause-refused_moment : goal.returns-clause-refused_moment
 returns-clause-refused_moment g c =
-    device_or (c.args.self.now.must_reopen ≡ false) (LeavesOnly g.D.Disk.moment g.D.Disk.left_since c.args.self.now.disk c.record.new.self.disk (StandsFor c.args.self.now.cap (project_of c.args.self.now.maps))) c.record.result c.record.ensures.device
+    device_or (c.args.self.now.must_reopen ≡ false) (LeavesOnly g.D.Disk c.args.self.now.disk c.record.new.self.disk (StandsFor c.args.self.now.cap (project_of c.args.self.now.maps))) c.record.result c.record.ensures.device
 
 pub returns-in-Err-make_room-clause-ends : goal.returns-in-Err-make_room-clause-ends
 returns-in-Err-make_room-clause-ends g c =
@@ -127,10 +127,10 @@ returns-in-Err-make_room-clause-ends g c =
       stepped = subst (λ (k : ℕ). step m c.in-Ok.command k ≡ Ok (after m c.in-Ok.command, number_of m c.in-Ok.command)) c.cap.ensures c.in-Ok-ready.ensures.accepted;
     } in
     let leads : (next : ProjectMaps) × LeadsTo n m c.args.line.now next = (after m c.in-Ok.command, (number_of m c.in-Ok.command, accepts)) in
-    subst (λ (v : _). v.must_reopen ≡ false → EndsApply g.D.Disk.failures (Err c.in-Err-make_room.error) v c.make_room.new.self c.args.line.now) c.self.view_is
+    subst (λ (v : _). v.must_reopen ≡ false → EndsApply g.D.Disk (Err c.in-Err-make_room.error) v c.make_room.new.self c.args.line.now) c.self.view_is
     (λ go. (
       ap project_of c.make_room.ensures.maps ∙ c.ready.ensures.project,
-      room_refused g.D.Disk.failures (state_of c.self.inside) (record (state_of c.self.inside) { maps = c.ready.new.maps }) c.make_room.new.self c.args.line.now go refl refl refl refl leads
+      room_refused g.D.Disk (state_of c.self.inside) (record (state_of c.self.inside) { maps = c.ready.new.maps }) c.make_room.new.self c.args.line.now go refl refl refl refl leads
           c.in-Err-make_room.error c.in-Err-make_room.ensures.ends.0 c.in-Err-make_room.ensures.ends.1,
     ))
     (sym (ap (λ (v : _). v.must_reopen) c.self.view_is) ∙ c.if-self.false)
@@ -144,5 +144,5 @@ pub returns-in-Err-clause-ends : goal.returns-in-Err-clause-ends
 returns-in-Err-clause-ends g c = (
   refl,
   (let still = sym (ap (λ (v : _). v.must_reopen) c.self.view_is) ∙ c.if-self.false in
-      fault_refused g.D.Disk.failures c.args.self.now c.args.self.now c.args.line.now c.in-Err.error c.refusal_of.result c.refusal_of.ensures c.in-Err.ensures.fault still still),
+      fault_refused g.D.Disk c.args.self.now c.args.self.now c.args.line.now c.in-Err.error c.refusal_of.result c.refusal_of.ensures c.in-Err.ensures.fault still still),
 )
