@@ -1,12 +1,13 @@
 -- What a session does, runs among it, is calls in turn, which may be parted anywhere.
-use Rattle.std.proofs.Common.{inl, inr, ℕ, List, [], ◌∷◌, ◌++◌, refl, sym, subst}
+use Rattle.std.proofs.Common.{inl, inr, List, [], ◌∷◌, ◌++◌, refl, sym, subst}
+use Rattle.lv_disk.specs.declared.disk.Disk.{Ghosts}
 use Rattle.lv_project.specs.Calls.{AllMade, Call}
 use Rattle.lv_project.specs.States.{State}
 use Rattle.lv_editor.specs.Sessions.{AllDone, Deed, IsDeedDone}
 
-module _ {D : Type 0} (moment failures : D → ℕ) (left_since : D → ℕ → List ℕ → Type 0) (may_leave : D → List ℕ → Type 0) where
+module _ {D : Type 0} (facts : Ghosts D) where
   abbrev Goes : State D → List Call → State D → Type 0
-  Goes = AllMade moment failures left_since may_leave
+  Goes = AllMade facts
 
   go_behind : (xs ys : List Call) (old mid new : State D) → Goes old xs mid → Goes mid ys new → Goes old (xs ++ ys) new
   go_behind [] ys old mid new same more = subst (λ (s : State D). Goes s ys new) same more
@@ -18,11 +19,11 @@ module _ {D : Type 0} (moment failures : D → ℕ) (left_since : D → ℕ → 
       let p = go_parted xs ys next new rest in
       (p.0, (next, made, p.1), p.2)
 
-  deed_calls : (deed : Deed D) (calls : List Call) (old new : State D) → IsDeedDone moment failures left_since may_leave old deed calls new → Goes old calls new
+  deed_calls : (deed : Deed D) (calls : List Call) (old new : State D) → IsDeedDone facts old deed calls new → Goes old calls new
   deed_calls (inl call) calls old new (made, is) = subst (λ (l : List Call). Goes old l new) (sym is) (new, made, refl)
   deed_calls (inr trace) calls old new (run, is) = subst (λ (l : List Call). Goes old l new) (sym is) run.made
 
-  pub done_calls : (deeds : List (Deed D)) (calls : List Call) (old new : State D) → AllDone moment failures left_since may_leave old deeds calls new → Goes old calls new
+  pub done_calls : (deeds : List (Deed D)) (calls : List Call) (old new : State D) → AllDone facts old deeds calls new → Goes old calls new
   done_calls [] calls old new (is, same) = subst (λ (l : List Call). Goes old l new) (sym is) same
   done_calls (deed ∷ deeds) calls old new (mid, its, more, done, rest, is) =
       subst (λ (l : List Call). Goes old l new) (sym is)

@@ -4,6 +4,7 @@ use Rattle.std.specs.Prelude.{MatchOption, nat_lt}
 use Rattle.std.specs.Option.{option_map}
 use Rattle.std.proofs.lemmas.Bool.{ltb-false, ltb-true}
 use Rattle.std.proofs.lemmas.List.{take_all, length-take-le}
+use Rattle.lv_disk.specs.declared.disk.Disk.{Ghosts}
 use Rattle.lv_disk.proofs.Moments.{weaker}
 use Rattle.lv_maptables.specs.Projects.{MapsView, ProjectMaps, project_of}
 use Rattle.lv_commands.specs.Errors as commands
@@ -39,16 +40,16 @@ none_of : (o : Option (List ℕ × Query)) → None ≡ option_map (λ q. q.1) o
 none_of None e = refl
 none_of (Some q) e = cc
 
-module _ {D : Type 0} (moment failures : D → ℕ) (left_since : D → ℕ → List ℕ → Type 0) (may_leave : D → List ℕ → Type 0) where
+module _ {D : Type 0} (facts : Ghosts D) where
   abbrev Told : State D → List ℕ → List ℕ → State D → Type 0
-  Told = RepliesInProject moment failures left_since may_leave
+  Told = RepliesInProject facts
 
   abbrev Tried : State D → List ℕ → List ℕ → State D → Type 0
-  Tried = IsTold moment failures left_since may_leave
+  Tried = IsTold facts
 
   -- ---- A long line
 
-  long_refusal : (e : ProjectError) (old new : State D) (a b : List ℕ) → 256 < length a → 256 < length b → RefusesApply failures e old new a → RefusesApply failures e old new b
+  long_refusal : (e : ProjectError) (old new : State D) (a b : List ℕ) → 256 < length a → 256 < length b → RefusesApply facts e old new a → RefusesApply facts e old new b
   long_refusal Device old new a b long longer told = told
   long_refusal OutOfMemory old new a b long longer (ready, still, (next, (n, accepts))) = absurd (long-accepts old.cap (project_of old.maps) next a n long accepts)
   long_refusal Reopen old new a b long longer told = told
@@ -65,11 +66,11 @@ module _ {D : Type 0} (moment failures : D → ℕ) (left_since : D → ℕ → 
   long_refusal NotEmpty old new a b long longer told = absurd told
   long_refusal BadGeometry old new a b long longer told = absurd told
 
-  long_ends : (answer : Result ℕ ProjectError) (old new : State D) (a b : List ℕ) → 256 < length a → 256 < length b → EndsApply failures answer old new a → EndsApply failures answer old new b
+  long_ends : (answer : Result ℕ ProjectError) (old new : State D) (a b : List ℕ) → 256 < length a → 256 < length b → EndsApply facts answer old new a → EndsApply facts answer old new b
   long_ends (Ok n) old new a b long longer (ready, still, accepts) = absurd (long-accepts old.cap (project_of old.maps) (project_of new.maps) a n long accepts)
   long_ends (Err e) old new a b long longer (same, told) = (same, long_refusal e old new a b long longer told)
 
-  long_memory : (old new : State D) (a : List ℕ) → 256 < length a → EndsApply failures (Err OutOfMemory) old new a → ⊥
+  long_memory : (old new : State D) (a : List ℕ) → 256 < length a → EndsApply facts (Err OutOfMemory) old new a → ⊥
   long_memory old new a long (same, (ready, still, (next, (n, accepts)))) = long-accepts old.cap (project_of old.maps) next a n long accepts
 
   long_outcome : (cap : ℕ) (map : ProjectMaps) (a b : List ℕ) → 256 < length a → (file : List ℕ) → IsOutcome cap map a file → IsOutcome cap map b file
@@ -83,10 +84,10 @@ module _ {D : Type 0} (moment failures : D → ℕ) (left_since : D → ℕ → 
       ends = long_ends answer old new a b long longer p.ends;
       any_moment =
           λ ready.
-          weaker moment left_since old.disk new.disk (IsOutcome old.cap (project_of old.maps) a) (IsOutcome old.cap (project_of old.maps) b) (p.any_moment ready)
+          weaker facts old.disk new.disk (IsOutcome old.cap (project_of old.maps) a) (IsOutcome old.cap (project_of old.maps) b) (p.any_moment ready)
           (long_outcome old.cap (project_of old.maps) a b long);
       refused_moment = p.refused_moment;
-      memory = λ lacks. absurd (long_memory old new a long (subst (λ (r : Result ℕ ProjectError). EndsApply failures r old new a) lacks p.ends));
+      memory = λ lacks. absurd (long_memory old new a long (subst (λ (r : Result ℕ ProjectError). EndsApply facts r old new a) lacks p.ends));
       kept = p.kept;
       same_cap = p.same_cap;
     },
@@ -116,7 +117,7 @@ module _ {D : Type 0} (moment failures : D → ℕ) (left_since : D → ℕ → 
 
   -- a line that is no query
   pub replies_change : (old new : State D) (line : List ℕ) (outcome : Result ℕ ℕ) → None ≡ option_map (λ q. q.1) (query_of line)
-      → ((answer : Result ℕ ProjectError) × Applies moment failures left_since may_leave old line answer new × (outcome ≡ outcome_in answer))
+      → ((answer : Result ℕ ProjectError) × Applies facts old line answer new × (outcome ≡ outcome_in answer))
       → Told old line (outcome_text outcome) new
   replies_change old new line outcome none (answer, applies, is) =
       inl (to_none (Tried old line (outcome_text outcome) new) (λ q. AnswersQuery old q.1 (outcome_text outcome) × (new ≡ old)) (query_of line) (none_of (query_of line) none)

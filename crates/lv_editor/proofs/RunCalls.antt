@@ -2,7 +2,9 @@
 use Rattle.std.proofs.Common.{◌≡◌, ◌∙◌, ◌⊎◌, inl, inr, ⊎_elim, ℕ, ◌≤◌, Bool, true, false, cond, List, [], ◌∷◌, ◌++◌, length, Option, Some, None, Result, Ok, Err, refl, sym, ap, subst}
 use Rattle.std.specs.Prelude.{MatchOption}
 use Rattle.std.proofs.lemmas.Bool.{cases_Bool, true≢false}
-use Rattle.lv_disk.specs.Stops.{Each, LeavesOnly}
+use Rattle.lv_disk.specs.Moments.{LeavesOnly}
+use Rattle.lv_disk.specs.Stops.{Each}
+use Rattle.lv_disk.specs.declared.disk.Disk.{Ghosts}
 use Rattle.lv_disk.proofs.Moments.{started, weaker}
 use Rattle.lv_maptables.specs.Projects.{ProjectMaps, project_of}
 use Rattle.lv_project.specs.Calls.{AllMade, Applies, Call, accepted, acknowledged, begins}
@@ -29,17 +31,17 @@ accepted_append ((Some line, answer) ∷ xs) ys = at (begins answer) (accepted_a
     at true e = ap (λ (l : List (List ℕ)). line ∷ l) e
     at false e = e
 
-module _ {D : Type 0} (moment failures : D → ℕ) (left_since : D → ℕ → List ℕ → Type 0) (may_leave : D → List ℕ → Type 0) where
+module _ {D : Type 0} (facts : Ghosts D) where
   abbrev Told : State D → List ℕ → List ℕ → State D → Type 0
-  Told = RepliesInProject moment failures left_since may_leave
+  Told = RepliesInProject facts
 
   -- what `Told` is, by what the line is
   abbrev ToldOf : Option (List ℕ × Query) → State D → Exchange (State D) → Type 0
-  ToldOf o old e = MatchOption o (IsTold moment failures left_since may_leave old e.line e.text e.after) (λ q. AnswersQuery old q.1 e.text × (e.after ≡ old))
+  ToldOf o old e = MatchOption o (IsTold facts old e.line e.text e.after) (λ q. AnswersQuery old q.1 e.text × (e.after ≡ old))
       ⊎ ((MatchOption o ⊥ (λ q. MayLack old q.1) × (e.after ≡ old)) × (e.text ≡ refused_text 31))
 
   abbrev Made : State D → List Call → State D → Type 0
-  Made = AllMade moment failures left_since may_leave
+  Made = AllMade facts
 
   -- ---- The calls
 
@@ -62,7 +64,7 @@ module _ {D : Type 0} (moment failures : D → ℕ) (left_since : D → ℕ → 
 
   -- ---- A project that must be opened again
 
-  reopen_refused : (e : ProjectError) (old new : State D) (line : List ℕ) → old.must_reopen ≡ true → RefusesApply failures e old new line → (new ≡ old) × (e ≡ Reopen)
+  reopen_refused : (e : ProjectError) (old new : State D) (line : List ℕ) → old.must_reopen ≡ true → RefusesApply facts e old new line → (new ≡ old) × (e ≡ Reopen)
   reopen_refused Device old new line reopen told = absurd (true≢false (sym reopen ∙ told.0))
   reopen_refused OutOfMemory old new line reopen told = absurd (true≢false (sym reopen ∙ told.0))
   reopen_refused Reopen old new line reopen (was, same) = (same, refl)
@@ -74,7 +76,7 @@ module _ {D : Type 0} (moment failures : D → ℕ) (left_since : D → ℕ → 
   reopen_refused NotEmpty old new line reopen told = absurd told
   reopen_refused BadGeometry old new line reopen told = absurd told
 
-  reopen_told : (answer : Result ℕ ProjectError) (old new : State D) (line text : List ℕ) → old.must_reopen ≡ true → EndsApply failures answer old new line → text ≡ outcome_text (outcome_in answer)
+  reopen_told : (answer : Result ℕ ProjectError) (old new : State D) (line text : List ℕ) → old.must_reopen ≡ true → EndsApply facts answer old new line → text ≡ outcome_text (outcome_in answer)
       → (new ≡ old) × (text ≡ refused_text 32)
   reopen_told (Ok n) old new line text reopen told is = absurd (true≢false (sym reopen ∙ told.0))
   reopen_told (Err e) old new line text reopen (same, told) is =
@@ -97,20 +99,20 @@ module _ {D : Type 0} (moment failures : D → ℕ) (left_since : D → ℕ → 
 
   -- ---- The exit
 
-  module _ (counts_now : (d : D) (t : ℕ) (file : List ℕ) → t ≤ moment d → may_leave d file → left_since d t file) where
+  module _ (counts_now : (d : D) (t : ℕ) (file : List ℕ) → t ≤ facts.moment d → facts.may_leave d file → facts.left_since d t file) where
     -- each image after a line of a project that needn't be opened again
     abbrev After : State D → List ℕ → Type 0
-    After new line = Each (may_leave new.disk) (IsOutcome new.cap (project_of new.maps) line)
+    After new line = Each (facts.may_leave new.disk) (IsOutcome new.cap (project_of new.maps) line)
 
-    images_after : (old new : State D) (line : List ℕ) (answer : Result ℕ ProjectError) → old.must_reopen ≡ false → Applies moment failures left_since may_leave old line answer new
+    images_after : (old new : State D) (line : List ℕ) (answer : Result ℕ ProjectError) → old.must_reopen ≡ false → Applies facts old line answer new
         → project_of new.maps ≡ project_of old.maps → After new line
     images_after old new line answer ready applies same = λ file left.
         let moments = applies.any_moment ready in
-        let is = moments.each file (counts_now new.disk (moment old.disk) file moments.later left) in
+        let is = moments.each file (counts_now new.disk (facts.moment old.disk) file moments.later left) in
         subst (λ (m : ProjectMaps). IsOutcome new.cap m line file) (sym same) (subst (λ (c : ℕ). IsOutcome c (project_of old.maps) line file) (sym applies.same_cap) is)
 
     -- a line that leaves the project to be opened again was answered `no 30`
-    at_fault : (e : ProjectError) (old new : State D) (line : List ℕ) → old.must_reopen ≡ false → new.must_reopen ≡ true → RefusesApply failures e old new line → e ≡ Device
+    at_fault : (e : ProjectError) (old new : State D) (line : List ℕ) → old.must_reopen ≡ false → new.must_reopen ≡ true → RefusesApply facts e old new line → e ≡ Device
     at_fault Device old new line ready reopen told = refl
     at_fault OutOfMemory old new line ready reopen told = absurd (true≢false (sym reopen ∙ told.1))
     at_fault Reopen old new line ready reopen (was, same) = absurd (true≢false (sym was ∙ ready))
@@ -123,7 +125,7 @@ module _ {D : Type 0} (moment failures : D → ℕ) (left_since : D → ℕ → 
     at_fault BadGeometry old new line ready reopen told = absurd told
 
     doubt_told : (answer : Result ℕ ProjectError) (old new : State D) (line text : List ℕ) → old.must_reopen ≡ false → new.must_reopen ≡ true
-        → Applies moment failures left_since may_leave old line answer new → EndsApply failures answer old new line → text ≡ outcome_text (outcome_in answer)
+        → Applies facts old line answer new → EndsApply facts answer old new line → text ≡ outcome_text (outcome_in answer)
         → (text ≡ refused_text 30) × After new line
     doubt_told (Ok n) old new line text ready reopen applies told is = absurd (true≢false (sym reopen ∙ told.1))
     doubt_told (Err e) old new line text ready reopen applies (same, told) is = (
@@ -144,7 +146,7 @@ module _ {D : Type 0} (moment failures : D → ℕ) (left_since : D → ℕ → 
         let e : Exchange (State D) = record { line = line; text = text; after = new } in
         (doubt_one (query_of line) e old ready reopen told).1
 
-    further : (e : Exchange (State D)) (trace : List (Exchange (State D))) (new : State D) → IsInDoubt may_leave trace new → IsInDoubt may_leave (e ∷ trace) new
+    further : (e : Exchange (State D)) (trace : List (Exchange (State D))) (new : State D) → IsInDoubt facts trace new → IsInDoubt facts (e ∷ trace) new
     further e trace new doubt = record {
       front = e ∷ doubt.front;
       faulted = doubt.faulted;
@@ -155,7 +157,7 @@ module _ {D : Type 0} (moment failures : D → ℕ) (left_since : D → ℕ → 
       images = doubt.images;
     }
 
-    pub ends_in_doubt : (trace : List (Exchange (State D))) (old new : State D) → IsTrace Told old trace new → old.must_reopen ≡ false → new.must_reopen ≡ true → IsInDoubt may_leave trace new
+    pub ends_in_doubt : (trace : List (Exchange (State D))) (old new : State D) → IsTrace Told old trace new → old.must_reopen ≡ false → new.must_reopen ≡ true → IsInDoubt facts trace new
     ends_in_doubt [] old new same ready reopen = absurd (true≢false (sym reopen ∙ (ap (λ (s : State D). s.must_reopen) same ∙ ready)))
     ends_in_doubt (e ∷ trace) old new (told, more) ready reopen = elim (cases_Bool e.after.must_reopen) [
       | inl at ↦
@@ -175,14 +177,14 @@ module _ {D : Type 0} (moment failures : D → ℕ) (left_since : D → ℕ → 
 
     -- ---- The moments
 
-    module _ (only_now : (d : D) (file : List ℕ) → left_since d (moment d) file → may_leave d file) where
-      pub run_moments : (old : State D) (calls : List Call) (new : State D) → IsKept may_leave old → old.must_reopen ≡ false → HoldsThroughout moment failures left_since may_leave old calls new
+    module _ (only_now : (d : D) (file : List ℕ) → facts.left_since d (facts.moment d) file → facts.may_leave d file) where
+      pub run_moments : (old : State D) (calls : List Call) (new : State D) → IsKept facts old → old.must_reopen ≡ false → HoldsThroughout facts old calls new
       run_moments old calls new kept ready front back mid split still before behind =
           ⊎_elim
-          (λ well. weaker moment left_since mid.disk new.disk (Holds moment failures left_since may_leave only_now counts_now old.cap
+          (λ well. weaker facts mid.disk new.disk (Holds facts only_now counts_now old.cap
           (project_of old.maps) (acknowledged front ++ accepted back) (length (acknowledged front)))
           (HoldsAcknowledged old.cap (project_of old.maps) (record { front = front; back = back }))
-          (moves moment failures left_since may_leave only_now counts_now old.cap (project_of old.maps) back (acknowledged front) mid new well.1 well.0 behind)
+          (moves facts only_now counts_now old.cap (project_of old.maps) back (acknowledged front) mid new well.1 well.0 behind)
           (λ file h. (
             h.map,
             record {
@@ -195,45 +197,45 @@ module _ {D : Type 0} (moment failures : D → ℕ) (left_since : D → ℕ → 
             h.stands,
           )))
           (λ bad. absurd (true≢false (sym bad.0 ∙ still)))
-          (fronts moment failures left_since may_leave only_now counts_now old.cap (project_of old.maps) front [] old mid (record { cap_is = refl; leads = refl; kept = kept }) ready before)
+          (fronts facts only_now counts_now old.cap (project_of old.maps) front [] old mid (record { cap_is = refl; leads = refl; kept = kept }) ready before)
 
       -- the moments of one line
-      quiet : (old : State D) (line : List ℕ) → IsKept may_leave old → old.must_reopen ≡ false → LeavesOnly moment left_since old.disk old.disk (IsOutcome old.cap (project_of old.maps) line)
-      quiet old line kept ready = started moment left_since old.disk (IsOutcome old.cap (project_of old.maps) line) (λ file left. inl (old.generation, kept ready file (only_now old.disk file left)))
+      quiet : (old : State D) (line : List ℕ) → IsKept facts old → old.must_reopen ≡ false → LeavesOnly facts old.disk old.disk (IsOutcome old.cap (project_of old.maps) line)
+      quiet old line kept ready = started facts old.disk (IsOutcome old.cap (project_of old.maps) line) (λ file left. inl (old.generation, kept ready file (only_now old.disk file left)))
 
-      moments_one : (o : Option (List ℕ × Query)) (e : Exchange (State D)) (old : State D) → IsKept may_leave old → old.must_reopen ≡ false → ToldOf o old e
-          → LeavesOnly moment left_since old.disk e.after.disk (IsOutcome old.cap (project_of old.maps) e.line)
+      moments_one : (o : Option (List ℕ × Query)) (e : Exchange (State D)) (old : State D) → IsKept facts old → old.must_reopen ≡ false → ToldOf o old e
+          → LeavesOnly facts old.disk e.after.disk (IsOutcome old.cap (project_of old.maps) e.line)
       moments_one None e old kept ready (inl (answer, applies, is)) = applies.any_moment ready
       moments_one None e old kept ready (inr ((never, same), is)) = absurd never
       moments_one (Some q) e old kept ready (inl (told, same)) =
-          subst (λ (s : State D). LeavesOnly moment left_since old.disk s.disk (IsOutcome old.cap (project_of old.maps) e.line)) (sym same) (quiet old e.line kept ready)
+          subst (λ (s : State D). LeavesOnly facts old.disk s.disk (IsOutcome old.cap (project_of old.maps) e.line)) (sym same) (quiet old e.line kept ready)
       moments_one (Some q) e old kept ready (inr ((lacks, same), is)) =
-          subst (λ (s : State D). LeavesOnly moment left_since old.disk s.disk (IsOutcome old.cap (project_of old.maps) e.line)) (sym same) (quiet old e.line kept ready)
+          subst (λ (s : State D). LeavesOnly facts old.disk s.disk (IsOutcome old.cap (project_of old.maps) e.line)) (sym same) (quiet old e.line kept ready)
 
-      pub line_moments : (old new : State D) (line text : List ℕ) → Told old line text new → IsKept may_leave old → old.must_reopen ≡ false
-          → LeavesOnly moment left_since old.disk new.disk (IsOutcome old.cap (project_of old.maps) line)
+      pub line_moments : (old new : State D) (line text : List ℕ) → Told old line text new → IsKept facts old → old.must_reopen ≡ false
+          → LeavesOnly facts old.disk new.disk (IsOutcome old.cap (project_of old.maps) line)
       line_moments old new line text told kept ready =
           let e : Exchange (State D) = record { line = line; text = text; after = new } in
           moments_one (query_of line) e old kept ready told
 
       -- ---- All of it
 
-      kept_one : (o : Option (List ℕ × Query)) (e : Exchange (State D)) (old : State D) → IsKept may_leave old → ToldOf o old e → IsKept may_leave e.after
+      kept_one : (o : Option (List ℕ × Query)) (e : Exchange (State D)) (old : State D) → IsKept facts old → ToldOf o old e → IsKept facts e.after
       kept_one None e old kept (inl (answer, applies, is)) = applies.kept
       kept_one None e old kept (inr ((never, same), is)) = absurd never
-      kept_one (Some q) e old kept (inl (told, same)) = subst (λ (s : State D). IsKept may_leave s) (sym same) kept
-      kept_one (Some q) e old kept (inr ((lacks, same), is)) = subst (λ (s : State D). IsKept may_leave s) (sym same) kept
+      kept_one (Some q) e old kept (inl (told, same)) = subst (λ (s : State D). IsKept facts s) (sym same) kept
+      kept_one (Some q) e old kept (inr ((lacks, same), is)) = subst (λ (s : State D). IsKept facts s) (sym same) kept
 
-      pub line_kept : (old new : State D) (line text : List ℕ) → Told old line text new → IsKept may_leave old → IsKept may_leave new
+      pub line_kept : (old new : State D) (line text : List ℕ) → Told old line text new → IsKept facts old → IsKept facts new
       line_kept old new line text told kept =
           let e : Exchange (State D) = record { line = line; text = text; after = new } in
           kept_one (query_of line) e old kept told
 
-      run_kept : (trace : List (Exchange (State D))) (old new : State D) → IsTrace Told old trace new → IsKept may_leave old → IsKept may_leave new
-      run_kept [] old new same kept = subst (λ (s : State D). IsKept may_leave s) (sym same) kept
+      run_kept : (trace : List (Exchange (State D))) (old new : State D) → IsTrace Told old trace new → IsKept facts old → IsKept facts new
+      run_kept [] old new same kept = subst (λ (s : State D). IsKept facts s) (sym same) kept
       run_kept (e ∷ trace) old new (told, more) kept = run_kept trace e.after new more (kept_one (query_of e.line) e old kept told)
 
-      pub runs_over : (trace : List (Exchange (State D))) (old new : State D) → IsTrace Told old trace new → IsKept may_leave old → RunsOver moment failures left_since may_leave old new trace
+      pub runs_over : (trace : List (Exchange (State D))) (old new : State D) → IsTrace Told old trace new → IsKept facts old → RunsOver facts old new trace
       runs_over trace old new in_turn kept =
           let all = calls_of trace old new in_turn in
           record {

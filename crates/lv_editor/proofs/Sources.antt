@@ -3,6 +3,7 @@ use Rattle.std.proofs.Common.{◌≡◌, inl, inr, ℕ, List, Option, Result, Ok
 use Rattle.std.specs.Io.KnownBytes.{Appends}
 use Rattle.std.specs.Prelude.{codes, ◌++◌, ◌∷◌, []}
 use Rattle.lv_disk.specs.Stops.{Each}
+use Rattle.lv_disk.specs.declared.disk.Disk.{Ghosts}
 use Rattle.lv_maptables.specs.Projects.{MapsView, ProjectMaps, empty_project}
 use Rattle.lv_project.specs.Opening.{IsRefusedRead, StandsOnlyFor}
 use Rattle.lv_project.specs.Places.{cap_of}
@@ -57,12 +58,12 @@ no_status reads how P (e, is, refused) = subst (λ (h : Result ℕ Refusal). IfO
 
 -- ---- What was made
 
-pub made_told : {D : Type 0} (moment : D → ℕ) (left_since : D → ℕ → List ℕ → Type 0) (may_leave reads : D → List ℕ → Type 0) (g : Geometry)
+pub made_told : {D : Type 0} (facts : Ghosts D) (g : Geometry)
     (before after : D) (how : Result ℕ Refusal) → IfErr how (λ r. r ≡ Lines WriterFailed)
-    → Each (may_leave after) (Stands (cap_of g) empty_project 1) → IsMade moment left_since may_leave reads g before after how
-made_told moment left_since may_leave reads g before after (Ok status) failed images = images
-made_told moment left_since may_leave reads g before after (Err e) failed images =
-    subst (λ (r : Refusal). IsMade moment left_since may_leave reads g before after (Err r)) (sym failed) images
+    → Each (facts.may_leave after) (Stands (cap_of g) empty_project 1) → IsMade facts g before after how
+made_told facts g before after (Ok status) failed images = images
+made_told facts g before after (Err e) failed images =
+    subst (λ (r : Refusal). IsMade facts g before after (Err r)) (sym failed) images
 
 pub created_told : (slot journal : ℕ) (how : Result ℕ Refusal) (u w : Option (List ℕ))
     → IfOk how (λ status. (status ≡ 0) × Appends u w (codes "created" ++ 10 ∷ [])) → IfErr how (λ r. r ≡ Lines WriterFailed)
@@ -92,12 +93,12 @@ refused_kept cap sessions file maps e keep stand (cause, is, refused) =
 
 -- ---- What a file leaves open
 
-pub edited : {D : Type 0} (moment failures : D → ℕ) (left_since : D → ℕ → List ℕ → Type 0) (may_leave reads : D → List ℕ → Type 0) (before after : D)
-    (how : Result ℕ Refusal) (r s u w : Option (List ℕ)) → IsEditedOver moment failures left_since may_leave reads before after how r s u w
-    → IsEdited moment failures left_since may_leave how r s u w
-edited moment failures left_since may_leave reads before after how r s u w (inl ((e, is, refused), only, unread, unwritten)) =
-    inl (e, is, of_opening (reads before) e refused, unread, unwritten)
-edited moment failures left_since may_leave reads before after how r s u w (inr (result, first, last, trace, opened, back, is, ran, over)) =
+pub edited : {D : Type 0} (facts : Ghosts D) (before after : D)
+    (how : Result ℕ Refusal) (r s u w : Option (List ℕ)) → IsEditedOver facts before after how r s u w
+    → IsEdited facts how r s u w
+edited facts before after how r s u w (inl ((e, is, refused), only, unread, unwritten)) =
+    inl (e, is, of_opening (facts.reads before) e refused, unread, unwritten)
+edited facts before after how r s u w (inr (result, first, last, trace, opened, back, is, ran, over)) =
     inr (result, first, last, trace, opened.reopen, is, ran, over)
 
 checked_of : (maps : MapsView) (how : Result ℕ Refusal) (u w : Option (List ℕ)) → IsCheckedOf maps.tables how u w → IsChecked how u w

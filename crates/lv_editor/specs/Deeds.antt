@@ -2,6 +2,7 @@
 -- refusal. A file tells no bytes, so which project or WAD it was is left open.
 use Rattle.std.specs.Prelude.{◌≡◌, ◌⊎◌, ℕ, Bool, Option, Result, Ok, Err, List, [], ◌∷◌, ◌++◌, codes, string_bytes, false, length, nat_eq, if◌then◌else◌}
 use Rattle.std.specs.Io.KnownBytes.{Appends, Keeps}
+use Rattle.lv_disk.specs.declared.disk.Disk.{Ghosts}
 use Rattle.lv_maptables.specs.Projects.{MapsView, ProjectMaps, empty_project, project_of}
 use Rattle.lv_maptables.specs.Tables.{Tables}
 use Rattle.lv_checks.specs.Findings.{findings}
@@ -69,19 +70,17 @@ IsCreated slot journal (Err refusal) writer-old writer-new =
 
 -- no project was opened and nothing read or written, or the lines of the input were answered over
 -- one, and the answers written
-abbrev pub IsEdited : {D : Type 0} → (D → ℕ) → (D → ℕ) → (D → ℕ → List ℕ → Type 0)
-    → (D → List ℕ → Type 0) → Result ℕ Refusal
-    → Option (List ℕ) → Option (List ℕ) → Option (List ℕ) → Option (List ℕ) → Type 0
-IsEdited {D = D} moment failures left_since may_leave how reader-old reader-new writer-old
-    writer-new =
+abbrev pub IsEdited : {D : Type 0} → Ghosts D → Result ℕ Refusal → Option (List ℕ) → Option (List ℕ)
+    → Option (List ℕ) → Option (List ℕ) → Type 0
+IsEdited {D = D} facts how reader-old reader-new writer-old writer-new =
     ((e : ProjectError) × (how ≡ Err (of.Project e)) × IsOfOpening e × Keeps reader-old reader-new
     × Keeps writer-old writer-new)
     ⊎ ((result : Result ℕ EditorError) × (first : State D) × (last : State D)
     × (trace : List (Exchange (State D)))
     × (first.must_reopen ≡ false) × (how ≡ ended result)
-    × Ran (RepliesInProject moment failures left_since may_leave) first last trace turns result
+    × Ran (RepliesInProject facts) first last trace turns result
     reader-old reader-new writer-old writer-new
-    × RunsOver moment failures left_since may_leave first last trace)
+    × RunsOver facts first last trace)
 
 -- the findings of a map were written, and the status tells whether there are any; or it was refused
 abbrev pub IsChecked : Result ℕ Refusal → Option (List ℕ) → Option (List ℕ) → Type 0
@@ -107,28 +106,19 @@ IsBuiltInto (Ok status) writer-old writer-new =
 IsBuiltInto (Err refusal) writer-old writer-new = NotBuilt refusal writer-old writer-new
 
 -- what was done for a request that ended so; only a run reads the input
-abbrev pub IsPerformed : {D : Type 0} → (D → ℕ) → (D → ℕ) → (D → ℕ → List ℕ → Type 0)
-    → (D → List ℕ → Type 0) → Request
-    → Result ℕ Refusal → Option (List ℕ) → Option (List ℕ) → Option (List ℕ) → Option (List ℕ)
-    → Type 0
-IsPerformed moment failures left_since may_leave Scratch how reader-old reader-new writer-old
-    writer-new =
+abbrev pub IsPerformed : {D : Type 0} → Ghosts D → Request → Result ℕ Refusal → Option (List ℕ)
+    → Option (List ℕ) → Option (List ℕ) → Option (List ℕ) → Type 0
+IsPerformed facts Scratch how reader-old reader-new writer-old writer-new =
     IsScratched how reader-old reader-new writer-old writer-new
-IsPerformed moment failures left_since may_leave (Create file slot journal) how reader-old
-    reader-new writer-old writer-new =
+IsPerformed facts (Create file slot journal) how reader-old reader-new writer-old writer-new =
     IsCreated slot journal how writer-old writer-new × Keeps reader-old reader-new
-IsPerformed moment failures left_since may_leave (Edit file) how reader-old reader-new writer-old
-    writer-new =
-    IsEdited moment failures left_since may_leave how reader-old reader-new writer-old writer-new
-IsPerformed moment failures left_since may_leave (Check file) how reader-old reader-new writer-old
-    writer-new =
+IsPerformed facts (Edit file) how reader-old reader-new writer-old writer-new =
+    IsEdited facts how reader-old reader-new writer-old writer-new
+IsPerformed facts (Check file) how reader-old reader-new writer-old writer-new =
     IsChecked how writer-old writer-new × Keeps reader-old reader-new
-IsPerformed moment failures left_since may_leave (Dump file) how reader-old reader-new writer-old
-    writer-new =
+IsPerformed facts (Dump file) how reader-old reader-new writer-old writer-new =
     IsDumped how writer-old writer-new × Keeps reader-old reader-new
-IsPerformed moment failures left_since may_leave (Inspect wad name) how reader-old reader-new
-    writer-old writer-new =
+IsPerformed facts (Inspect wad name) how reader-old reader-new writer-old writer-new =
     IsExamined (string_bytes name) how writer-old writer-new × Keeps reader-old reader-new
-IsPerformed moment failures left_since may_leave (Build file out) how reader-old reader-new
-    writer-old writer-new =
+IsPerformed facts (Build file out) how reader-old reader-new writer-old writer-new =
     IsBuiltInto how writer-old writer-new × Keeps reader-old reader-new

@@ -1,6 +1,7 @@
 -- What is answered to a line over a project, and what becomes of it (docs/COMMANDS.md, "Answers and
 -- queries").
 use Rattle.std.specs.Prelude.{◌≡◌, ◌⊎◌, ℕ, true, false, List, MatchOption, Result, Ok, Err}
+use Rattle.lv_disk.specs.declared.disk.Disk.{Ghosts}
 use Rattle.lv_maptables.specs.Projects.{project_of}
 use Rattle.lv_project.specs.Calls.{Applies}
 use Rattle.lv_project.specs.Refusals.{code_of}
@@ -32,20 +33,15 @@ RepliesToQuery project query text =
     AnswersQuery project query text ⊎ (MayLack project query × (text ≡ refused_text 31))
 
 -- a line that is no query: `apply` kept its promises of it, and the text tells what it answered
-abbrev pub IsTold : {D : Type 0} → (D → ℕ) → (D → ℕ) → (D → ℕ → List ℕ → Type 0)
-    → (D → List ℕ → Type 0) → State D → List ℕ
-    → List ℕ → State D → Type 0
-IsTold moment failures left_since may_leave old line text new =
-    (answer : Result ℕ ProjectError)
-    × Applies moment failures left_since may_leave old line answer new
+abbrev pub IsTold : {D : Type 0} → Ghosts D → State D → List ℕ → List ℕ → State D → Type 0
+IsTold facts old line text new =
+    (answer : Result ℕ ProjectError) × Applies facts old line answer new
     × (text ≡ outcome_text (outcome_in answer))
 
 -- what is answered to a line over a project, and the project after it
-abbrev pub AnswersInProject : {D : Type 0} → (D → ℕ) → (D → ℕ) → (D → ℕ → List ℕ → Type 0)
-    → (D → List ℕ → Type 0) → State D
-    → List ℕ → List ℕ → State D → Type 0
-AnswersInProject moment failures left_since may_leave old line text new =
-    MatchOption (query_of line) (IsTold moment failures left_since may_leave old line text new)
+abbrev pub AnswersInProject : {D : Type 0} → Ghosts D → State D → List ℕ → List ℕ → State D → Type 0
+AnswersInProject facts old line text new =
+    MatchOption (query_of line) (IsTold facts old line text new)
     (λ q. AnswersQuery old q.1 text × (new ≡ old))
 
 -- the line is a query that finds no memory, and the project stays
@@ -53,8 +49,5 @@ abbrev pub LacksInProject : {D : Type 0} → State D → List ℕ → State D �
 LacksInProject old line new = MatchOption (query_of line) ⊥ (λ q. MayLack old q.1) × (new ≡ old)
 
 -- what may be answered to a line over a project, and the project after it
-abbrev pub RepliesInProject : {D : Type 0} → (D → ℕ) → (D → ℕ) → (D → ℕ → List ℕ → Type 0)
-    → (D → List ℕ → Type 0) → State D
-    → List ℕ → List ℕ → State D → Type 0
-RepliesInProject moment failures left_since may_leave =
-    Replies (AnswersInProject moment failures left_since may_leave) LacksInProject
+abbrev pub RepliesInProject : {D : Type 0} → Ghosts D → State D → List ℕ → List ℕ → State D → Type 0
+RepliesInProject facts = Replies (AnswersInProject facts) LacksInProject

@@ -1,7 +1,9 @@
 -- What the disk of a project holds while lines are answered, and at the end of a run.
 use Rattle.std.specs.Prelude.{◌≡◌, ◌⊎◌, ℕ, true, false, List, [], ◌∷◌, ◌++◌, Some, MatchOption, Result}
 use mathlib.Core.Logic.{inl, inr}
-use Rattle.lv_disk.specs.Stops.{Each, LeavesOnly}
+use Rattle.lv_disk.specs.Moments.{LeavesOnly}
+use Rattle.lv_disk.specs.Stops.{Each}
+use Rattle.lv_disk.specs.declared.disk.Disk.{Ghosts}
 use Rattle.lv_maptables.specs.Projects.{ProjectMaps, project_of}
 use Rattle.lv_project.specs.Calls.{AllMade, Call, Made}
 use Rattle.lv_project.specs.Sessions.{KeepsAcknowledged, Session}
@@ -31,14 +33,11 @@ HoldsAcknowledged cap base s file =
 -- From each moment between two calls on, of a project that needn't be opened again: each image
 -- stands for maps to which a prefix of the accepted commands leads that holds each one acknowledged
 -- up to the moment.
-abbrev pub HoldsThroughout : {D : Type 0} → (D → ℕ) → (D → ℕ) → (D → ℕ → List ℕ → Type 0)
-    → (D → List ℕ → Type 0) → State D
-    → List Call → State D → Type 0
-HoldsThroughout {D = D} moment failures left_since may_leave old calls new =
+abbrev pub HoldsThroughout : {D : Type 0} → Ghosts D → State D → List Call → State D → Type 0
+HoldsThroughout {D = D} facts old calls new =
     (front back : List Call) (mid : State D) → calls ≡ front ++ back → mid.must_reopen ≡ false
-    → AllMade moment failures left_since may_leave old front mid
-    → AllMade moment failures left_since may_leave mid back new
-    → LeavesOnly moment left_since mid.disk new.disk
+    → AllMade facts old front mid → AllMade facts mid back new
+    → LeavesOnly facts mid.disk new.disk
     (HoldsAcknowledged old.cap (project_of old.maps) (record { front = front; back = back }))
 
 -- each of these lines was answered `no 32`
@@ -48,29 +47,27 @@ AllReopen (e ∷ trace) = (e.text ≡ refused_text 32) × AllReopen trace
 
 -- A line was answered `no 30` and each one behind it `no 32`; each image stands for the maps, or
 -- for their step by that line.
-pub record IsInDoubt {D : Type 0} (may_leave : D → List ℕ → Type 0)
-    (trace : List (Exchange (State D))) (new : State D) : Type 0 where
+pub record IsInDoubt {D : Type 0} (facts : Ghosts D) (trace : List (Exchange (State D)))
+    (new : State D) : Type 0 where
   pub front : List (Exchange (State D))
   pub faulted : Exchange (State D)
   pub back : List (Exchange (State D))
   pub split : trace ≡ front ++ faulted ∷ back
   pub answered : faulted.text ≡ refused_text 30
   pub behind : AllReopen back
-  pub images : Each (may_leave new.disk) (IsOutcome new.cap (project_of new.maps) faulted.line)
+  pub images : Each (facts.may_leave new.disk) (IsOutcome new.cap (project_of new.maps) faulted.line)
 
 -- What a run leaves: its lines are calls, each with its promises; a project that must be opened
 -- again stays as it is, and answers `no 32` alone; of another each image stands, at each moment and
 -- at the exit.
-pub record RunsOver {D : Type 0} (moment failures : D → ℕ) (left_since : D → ℕ → List ℕ → Type 0)
-    (may_leave : D → List ℕ → Type 0)
-    (old new : State D) (trace : List (Exchange (State D))) : Type 0 where
+pub record RunsOver {D : Type 0} (facts : Ghosts D) (old new : State D)
+    (trace : List (Exchange (State D))) : Type 0 where
   pub calls : List Call
   pub are : AreCalls trace calls
-  pub made : AllMade moment failures left_since may_leave old calls new
-  pub any_moment : old.must_reopen ≡ false
-      → HoldsThroughout moment failures left_since may_leave old calls new
-  pub kept : IsKept may_leave new
-  pub in_doubt : old.must_reopen ≡ false → new.must_reopen ≡ true → IsInDoubt may_leave trace new
+  pub made : AllMade facts old calls new
+  pub any_moment : old.must_reopen ≡ false → HoldsThroughout facts old calls new
+  pub kept : IsKept facts new
+  pub in_doubt : old.must_reopen ≡ false → new.must_reopen ≡ true → IsInDoubt facts trace new
   pub reopen : old.must_reopen ≡ true → (new ≡ old) × AllReopen trace
 
 -- what a session does at a time: a call of `apply` or `checkpoint` with its answer, or a run with
@@ -79,21 +76,16 @@ abbrev pub Deed : Type 0 → Type 0
 Deed D = Call ⊎ List (Exchange (State D))
 
 -- it was done, and these are its calls
-abbrev pub IsDeedDone : {D : Type 0} → (D → ℕ) → (D → ℕ) → (D → ℕ → List ℕ → Type 0)
-    → (D → List ℕ → Type 0) → State D → Deed D
-    → List Call → State D → Type 0
-IsDeedDone moment failures left_since may_leave old (inl call) calls new =
-    Made moment failures left_since may_leave old call new × (calls ≡ call ∷ [])
-IsDeedDone moment failures left_since may_leave old (inr trace) calls new =
-    (run : RunsOver moment failures left_since may_leave old new trace) × (calls ≡ run.calls)
+abbrev pub IsDeedDone : {D : Type 0} → Ghosts D → State D → Deed D → List Call → State D → Type 0
+IsDeedDone facts old (inl call) calls new = Made facts old call new × (calls ≡ call ∷ [])
+IsDeedDone facts old (inr trace) calls new =
+    (run : RunsOver facts old new trace) × (calls ≡ run.calls)
 
 -- all of it was done in turn, and these are the calls
-abbrev pub AllDone : {D : Type 0} → (D → ℕ) → (D → ℕ) → (D → ℕ → List ℕ → Type 0)
-    → (D → List ℕ → Type 0) → State D → List (Deed D)
-    → List Call → State D → Type 0
-AllDone moment failures left_since may_leave old [] calls new = (calls ≡ []) × (new ≡ old)
-AllDone {D = D} moment failures left_since may_leave old (deed ∷ deeds) calls new =
+abbrev pub AllDone : {D : Type 0} → Ghosts D → State D → List (Deed D) → List Call → State D
+    → Type 0
+AllDone facts old [] calls new = (calls ≡ []) × (new ≡ old)
+AllDone {D = D} facts old (deed ∷ deeds) calls new =
     (mid : State D) × (its more : List Call)
-    × IsDeedDone moment failures left_since may_leave old deed its mid
-    × AllDone moment failures left_since may_leave mid deeds more new
+    × IsDeedDone facts old deed its mid × AllDone facts mid deeds more new
     × (calls ≡ its ++ more)

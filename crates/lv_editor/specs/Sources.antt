@@ -3,7 +3,9 @@
 use Rattle.std.specs.Prelude.{◌≡◌, ◌⊎◌, ℕ, Bool, false, Option, Result, Ok, Err, List, length}
 use Rattle.std.specs.Io.KnownBytes.{Appends, Consumes, IsAtEnd, Keeps}
 use Rattle.lv_disk.specs.Reading.{OnlyReads}
-use Rattle.lv_disk.specs.Stops.{Each, LeavesOnly}
+use Rattle.lv_disk.specs.Moments.{LeavesOnly}
+use Rattle.lv_disk.specs.Stops.{Each}
+use Rattle.lv_disk.specs.declared.disk.Disk.{Ghosts}
 use Rattle.lv_maptables.specs.Projects.{MapsView, empty_project, project_of}
 use Rattle.lv_maptables.specs.Tables.{Tables}
 use Rattle.lv_checks.specs.Findings.{findings}
@@ -33,12 +35,10 @@ use Rattle.lv_editor.specs.declared.refusal.Refusal.TheVariants as of
 
 -- the disk was only read: what a read gives stays, and a stop at any moment leaves what one left
 -- before
-pub record IsOnlyRead {D : Type 0} (moment : D → ℕ) (left_since : D → ℕ → List ℕ → Type 0)
-    (may_leave reads : D → List ℕ → Type 0)
-    (before after : D) : Type 0 where
-  pub no_other : Each (reads after) (reads before)
-  pub still : Each (reads before) (reads after)
-  pub any_moment : LeavesOnly moment left_since before after (may_leave before)
+pub record IsOnlyRead {D : Type 0} (facts : Ghosts D) (before after : D) : Type 0 where
+  pub no_other : Each (facts.reads after) (facts.reads before)
+  pub still : Each (facts.reads before) (facts.reads after)
+  pub any_moment : LeavesOnly facts before after (facts.may_leave before)
 
 -- the bytes stand for these maps, and for no others
 abbrev pub HasMaps : (List ℕ → Type 0) → MapsView → Type 0
@@ -46,13 +46,12 @@ HasMaps reads maps =
     (cap generation : ℕ) × Each reads (StandsOnlyFor cap (project_of maps) generation)
 
 -- a project that was opened: the one that the disk's bytes stand for; the disk was only read
-pub record IsOpenedFrom {D : Type 0} (moment : D → ℕ) (left_since : D → ℕ → List ℕ → Type 0)
-    (may_leave reads : D → List ℕ → Type 0)
-    (before : D) (first : State D) : Type 0 where
+pub record IsOpenedFrom {D : Type 0} (facts : Ghosts D) (before : D)
+    (first : State D) : Type 0 where
   pub reopen : first.must_reopen ≡ false
-  pub stands : Each (reads before)
+  pub stands : Each (facts.reads before)
       (StandsOnlyFor first.cap (project_of first.maps) first.generation)
-  pub only_read : IsOnlyRead moment left_since may_leave reads before first.disk
+  pub only_read : IsOnlyRead facts before first.disk
 
 -- no project was opened, because of the disk's bytes, by a fault or for want of memory
 abbrev pub NotOpened : (List ℕ → Type 0) → Result ℕ Refusal → Type 0
@@ -70,32 +69,25 @@ OverMaps reads how writer-old writer-new does =
 
 -- `created` was written or the writer failed, and each image is the empty project's; or none was
 -- made, and the disk was only read where it was no fault
-abbrev pub IsMade : {D : Type 0} → (D → ℕ) → (D → ℕ → List ℕ → Type 0) → (D → List ℕ → Type 0)
-    → (D → List ℕ → Type 0) → Geometry
-    → D → D → Result ℕ Refusal → Type 0
-IsMade moment left_since may_leave reads geometry before after (Err (of.Project e)) =
-    RefusesCreate (reads before) geometry e
-    × ((e ≡ Device) ⊎ OnlyReads reads may_leave moment left_since before after)
-IsMade moment left_since may_leave reads geometry before after _ =
-    Each (may_leave after) (Stands (cap_of geometry) empty_project 1)
+abbrev pub IsMade : {D : Type 0} → Ghosts D → Geometry → D → D → Result ℕ Refusal → Type 0
+IsMade facts geometry before after (Err (of.Project e)) =
+    RefusesCreate (facts.reads before) geometry e × ((e ≡ Device) ⊎ OnlyReads facts before after)
+IsMade facts geometry before after _ =
+    Each (facts.may_leave after) (Stands (cap_of geometry) empty_project 1)
 
 -- No project was opened, and nothing read or written; or the lines of the input were answered over
 -- the one that the disk's bytes stand for, and the disk is as the run left it.
-abbrev pub IsEditedOver : {D : Type 0} → (D → ℕ) → (D → ℕ) → (D → ℕ → List ℕ → Type 0)
-    → (D → List ℕ → Type 0) → (D → List ℕ → Type 0)
-    → D → D → Result ℕ Refusal → Option (List ℕ) → Option (List ℕ) → Option (List ℕ)
-    → Option (List ℕ) → Type 0
-IsEditedOver {D = D} moment failures left_since may_leave reads before after how reader-old
-    reader-new writer-old writer-new =
-    (NotOpened (reads before) how × IsOnlyRead moment left_since may_leave reads before after
+abbrev pub IsEditedOver : {D : Type 0} → Ghosts D → D → D → Result ℕ Refusal → Option (List ℕ)
+    → Option (List ℕ) → Option (List ℕ) → Option (List ℕ) → Type 0
+IsEditedOver {D = D} facts before after how reader-old reader-new writer-old writer-new =
+    (NotOpened (facts.reads before) how × IsOnlyRead facts before after
     × Keeps reader-old reader-new × Keeps writer-old writer-new)
     ⊎ ((result : Result ℕ EditorError) × (first : State D) × (last : State D)
     × (trace : List (Exchange (State D)))
-    × IsOpenedFrom moment left_since may_leave reads before first × (after ≡ last.disk)
-    × (how ≡ ended result)
-    × Ran (RepliesInProject moment failures left_since may_leave) first last trace turns result
+    × IsOpenedFrom facts before first × (after ≡ last.disk) × (how ≡ ended result)
+    × Ran (RepliesInProject facts) first last trace turns result
     reader-old reader-new writer-old writer-new
-    × RunsOver moment failures left_since may_leave first last trace)
+    × RunsOver facts first last trace)
 
 -- the findings of this map were written, and the status tells whether there are any; or it was
 -- refused

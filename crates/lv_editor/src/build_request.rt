@@ -117,7 +117,7 @@ where
     ensures built { OverMaps (D.reads disk) result.how
         (W.contents writer.old) (W.contents writer.new)
         (λ maps. IsBuiltOf maps result.how (W.contents writer.old) (W.contents writer.new)) }
-    ensures only_read { IsOnlyRead D.moment D.left_since D.may_leave D.reads disk result.disk }
+    ensures only_read { IsOnlyRead D.Disk disk result.disk }
 {
     let project = match open_project(alloc, disk) {
         Ok(project) => project,

@@ -35,7 +35,7 @@ pub fn dump<D: Disk, W: Write>(alloc: Global, disk: D, writer: &mut W) -> Handed
     ensures dumped { OverMaps (D.reads disk) result.how
         (W.contents writer.old) (W.contents writer.new)
         (λ maps. IsDumpedOf maps result.how (W.contents writer.old) (W.contents writer.new)) }
-    ensures only_read { IsOnlyRead D.moment D.left_since D.may_leave D.reads disk result.disk }
+    ensures only_read { IsOnlyRead D.Disk disk result.disk }
 {
     let project = match open_project(alloc, disk) {
         Ok(project) => project,

@@ -1,7 +1,8 @@
 //! A run over a project file: the session of `edit`, where a command is on the disk before it is answered.
 ghost use Rattle.std.specs.Prelude.{◌≡◌, ℕ, List, true, false, Result, MatchResult, take};
 ghost use Rattle.std.specs.Io.KnownBytes.{Appends};
-ghost use Rattle.lv_disk.specs.Stops.{Each, LeavesOnly};
+ghost use Rattle.lv_disk.specs.Moments.{LeavesOnly};
+ghost use Rattle.lv_disk.specs.Stops.{Each};
 ghost use Rattle.lv_maptables.specs.Projects.{project_of};
 ghost use Rattle.lv_project.specs.Calls.{Applies};
 ghost use Rattle.lv_project.specs.Stands.{IsOutcome};
@@ -36,8 +37,7 @@ fn outcome_in(ended: Result<u32, ProjectError>) -> Result<u32, u16>
 // Does what a line asks for that is no query, and answers its number or the refusal's code.
 fn change<D: Disk>(project: &mut Project<D>, line: &[u8]) -> Result<u32, u16>
     ensures { (answer : Result ℕ ProjectError)
-        × Applies D.moment D.failures D.left_since D.may_leave project.old line.now answer
-        project.new
+        × Applies D.Disk project.old line.now answer project.new
         × (result ≡ outcome_in answer) }
 {
     outcome_in(project.apply(line))
@@ -78,7 +78,7 @@ fn answer_query<D: Disk, W: Write>(
 }
 
 impl<D: Disk> Session for Project<D> {
-    ghost answers = { AnswersInProject D.moment D.failures D.left_since D.may_leave };
+    ghost answers = { AnswersInProject D.Disk };
 
     ghost lacks = { LacksInProject };
 
@@ -107,17 +107,16 @@ pub fn answer<D: Disk, W: Write>(
     line: &[u8],
     writer: &mut W,
 ) -> Result<(), EditorError>
-    ensures answered { AnswersLine
-        (RepliesInProject D.moment D.failures D.left_since D.may_leave) result
+    ensures answered { AnswersLine (RepliesInProject D.Disk) result
         project.old project.new line.now (W.contents writer.old) (W.contents writer.new) }
 
     // A stop at any moment of the call leaves the maps, or those that the line leads to.
     ensures any_moment { project.old.must_reopen ≡ false
-        → LeavesOnly D.moment D.left_since project.old.disk project.new.disk
+        → LeavesOnly D.Disk project.old.disk project.new.disk
         (IsOutcome project.old.cap (project_of project.old.maps) line.now) }
 
     // Each image now stands for the maps, or, where the project must be opened again, for their step by the line.
-    ensures kept { IsKept D.may_leave project.new }
+    ensures kept { IsKept D.Disk project.new }
     ensures in_doubt { project.old.must_reopen ≡ false → project.new.must_reopen ≡ true
         → Each (D.may_leave project.new.disk)
         (IsOutcome project.new.cap (project_of project.new.maps) line.now) }
@@ -145,11 +144,10 @@ pub fn run<D: Disk, R: Read, W: Write>(
     turns: u32,
 ) -> Result<u64, EditorError>
     ensures { (trace : List (Exchange (State D)))
-        × Ran (RepliesInProject D.moment D.failures D.left_since D.may_leave)
-        project.old project.new trace turns result
+        × Ran (RepliesInProject D.Disk) project.old project.new trace turns result
         (R.remaining reader.old) (R.remaining reader.new)
         (W.contents writer.old) (W.contents writer.new)
-        × RunsOver D.moment D.failures D.left_since D.may_leave project.old project.new trace }
+        × RunsOver D.Disk project.old project.new trace }
 {
     // What each image stands for as the run begins, which this call tells.
     let _ = project.must_reopen();

@@ -28,9 +28,9 @@ pub struct HandedBack<D> {
 
 /// The project that a disk's bytes stand for, or how a request ends that finds none.
 pub fn open_project<D: Disk>(alloc: Global, disk: D) -> Result<Project<D>, HandedBack<D>>
-    ensures opened { IfOk result (IsOpenedFrom D.moment D.left_since D.may_leave D.reads disk) }
+    ensures opened { IfOk result (IsOpenedFrom D.Disk disk) }
     ensures refused { IfErr result (λ r. NotOpened (D.reads disk) r.how
-        × IsOnlyRead D.moment D.left_since D.may_leave D.reads disk r.disk) }
+        × IsOnlyRead D.Disk disk r.disk) }
 {
     match Project::open(alloc, disk) {
         Ok(project) => Ok(project),
@@ -67,8 +67,7 @@ pub fn create<D: Disk, W: Write>(
     ensures small { IfOk result.how (λ s. s ≤ 3) }
     ensures created { IsCreated geometry.slot geometry.journal result.how
         (W.contents writer.old) (W.contents writer.new) }
-    ensures made { IsMade D.moment D.left_since D.may_leave D.reads geometry disk result.disk
-        result.how }
+    ensures made { IsMade D.Disk geometry disk result.disk result.how }
 {
     match Project::create(alloc, disk, geometry) {
         Ok(project) => HandedBack {
@@ -90,8 +89,8 @@ pub fn edit<D: Disk, R: Read, W: Write>(
     writer: &mut W,
 ) -> HandedBack<D>
     ensures small { IfOk result.how (λ s. s ≤ 3) }
-    ensures answered { IsEditedOver D.moment D.failures D.left_since D.may_leave D.reads
-        disk result.disk result.how (R.remaining reader.old) (R.remaining reader.new)
+    ensures answered { IsEditedOver D.Disk disk result.disk result.how
+        (R.remaining reader.old) (R.remaining reader.new)
         (W.contents writer.old) (W.contents writer.new) }
 {
     let mut project = match open_project(alloc, disk) {
@@ -125,7 +124,7 @@ pub fn check<D: Disk, W: Write>(alloc: Global, disk: D, writer: &mut W) -> Hande
         (W.contents writer.old) (W.contents writer.new)
         (λ maps. IsCheckedOf maps.tables result.how
         (W.contents writer.old) (W.contents writer.new)) }
-    ensures only_read { IsOnlyRead D.moment D.left_since D.may_leave D.reads disk result.disk }
+    ensures only_read { IsOnlyRead D.Disk disk result.disk }
 {
     let project = match open_project(alloc, disk) {
         Ok(project) => project,

@@ -62,10 +62,8 @@ where
     R: Read,
     W: Write,
     ensures small { IfOk result (λ s. s ≤ 3) }
-    ensures answered { IsEdited ⟦<FileDisk<E::File> as Disk>⟧.moment
-        ⟦<FileDisk<E::File> as Disk>⟧.failures
-        ⟦<FileDisk<E::File> as Disk>⟧.left_since ⟦<FileDisk<E::File> as Disk>⟧.may_leave
-        result (R.remaining reader.old) (R.remaining reader.new)
+    ensures answered { IsEdited ⟦<FileDisk<E::File> as Disk>⟧ result
+        (R.remaining reader.old) (R.remaining reader.new)
         (W.contents writer.old) (W.contents writer.new) }
 {
     let disk = file_at(rt, path, false)?;
@@ -118,10 +116,8 @@ where
     E::File: FileExt,
     R: Read,
     W: Write,
-    ensures performed { IsPerformed ⟦<FileDisk<E::File> as Disk>⟧.moment
-        ⟦<FileDisk<E::File> as Disk>⟧.failures
-        ⟦<FileDisk<E::File> as Disk>⟧.left_since ⟦<FileDisk<E::File> as Disk>⟧.may_leave
-        request.now result (R.remaining reader.old) (R.remaining reader.new)
+    ensures performed { IsPerformed ⟦<FileDisk<E::File> as Disk>⟧ request.now result
+        (R.remaining reader.old) (R.remaining reader.new)
         (W.contents writer.old) (W.contents writer.new) }
     ensures small { IfOk result (λ s. s ≤ 3) }
 {
@@ -166,10 +162,8 @@ where
     F: Write,
     ensures status { result ≤ 3 }
     ensures performed { (how : Result ℕ Refusal) × (result ≡ status_in how)
-        × IsPerformed ⟦<FileDisk<E::File> as Disk>⟧.moment
-        ⟦<FileDisk<E::File> as Disk>⟧.failures
-        ⟦<FileDisk<E::File> as Disk>⟧.left_since ⟦<FileDisk<E::File> as Disk>⟧.may_leave
-        request.now how (R.remaining reader.old) (R.remaining reader.new)
+        × IsPerformed ⟦<FileDisk<E::File> as Disk>⟧ request.now how
+        (R.remaining reader.old) (R.remaining reader.new)
         (W.contents writer.old) (W.contents writer.new) }
     ensures quiet { ¬ (result ≡ 1) → Keeps (F.contents faults.old) (F.contents faults.new) }
 {

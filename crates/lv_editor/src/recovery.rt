@@ -22,9 +22,8 @@ use std::alloc::Global;
 /// may be stopped between any two of them. The function has no body: its contract is the law.
 pub fn sessions_hold_runs<D: Disk>()
     ensures { (first : State D) (deeds : List (Deed D)) (front back : List Call) (last : State D)
-        → AllDone D.moment D.failures D.left_since D.may_leave first deeds (front ++ back) last
-        → (mid : State D) × AllMade D.moment D.failures D.left_since D.may_leave first front mid
-        × AllMade D.moment D.failures D.left_since D.may_leave mid back last }
+        → AllDone D.Disk first deeds (front ++ back) last
+        → (mid : State D) × AllMade D.Disk first front mid × AllMade D.Disk mid back last }
 {}
 
 /// What was built of the maps that a disk holds, and the disk.
@@ -60,11 +59,11 @@ fn build_maps(alloc: Global, maps: &Maps) -> Result<Vec<u8>, RecoveryError>
 /// 60 to 64 and 66.
 pub fn build_after_any_stop<D: Disk>(alloc: Global, disk: D) -> Recovery<D>
     ensures built { (cap : ℕ) (sessions : List Session) (file : List ℕ) → D.reads disk file
-        → IsLeftBy D.moment D.failures D.left_since D.may_leave D.reads cap sessions disk
+        → IsLeftBy D.Disk cap sessions disk
         → MatchResult result.wad (λ wad. BuildsKept cap sessions file wad.items)
         (RefusesKept cap sessions file) }
     // So a stop at any moment of the call leaves what one left before.
-    ensures only_read { IsOnlyRead D.moment D.left_since D.may_leave D.reads disk result.disk }
+    ensures only_read { IsOnlyRead D.Disk disk result.disk }
 {
     hold_each_acknowledged::<D>();
     match Project::open(alloc, disk) {

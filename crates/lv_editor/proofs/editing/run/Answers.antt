@@ -6,6 +6,6 @@ returns g c =
     let ran = c.run_lines.ensures in (
       ran.0,
       ran.1,
-      runs_over g.D.Disk.moment g.D.Disk.failures g.D.Disk.left_since g.D.Disk.may_leave g.met.D.Disk.counts_now g.met.D.Disk.only_now ran.0
+      runs_over g.D.Disk g.met.D.Disk.counts_now g.met.D.Disk.only_now ran.0
           c.args.project.now c.run_lines.new.session ran.1.in_turn c.must_reopen.ensures.kept,
     )

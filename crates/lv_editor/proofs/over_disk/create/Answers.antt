@@ -12,7 +12,7 @@ returns-in-Ok-clause-made g c =
     let project = c.in-Ok.project in
     let made = c.in-Ok.ensures.made in
     rw c.into_disk.ensures.disk
-    (made_told g.D.Disk.moment g.D.Disk.left_since g.D.Disk.may_leave g.D.Disk.reads c.args.geometry c.args.disk project.disk c.say.result
+    (made_told g.D.Disk c.args.geometry c.args.disk project.disk c.say.result
     c.say.ensures.failed
     (images_empty (g.D.Disk.may_leave project.disk) c.args.geometry project.cap project.generation (project_of project.maps) made.3 made.0 made.1
     (c.in-Ok.ensures.kept made.2)))

@@ -4,5 +4,5 @@ use Rattle.lv_editor.proofs.recovery.sessions_hold_runs.Goals as goal
 
 pub returns : goal.returns
 returns g c first deeds front back last done =
-    let all = done_calls g.D.Disk.moment g.D.Disk.failures g.D.Disk.left_since g.D.Disk.may_leave deeds (front ++ back) first last done in
-    go_parted g.D.Disk.moment g.D.Disk.failures g.D.Disk.left_since g.D.Disk.may_leave front back first last all
+    let all = done_calls g.D.Disk deeds (front ++ back) first last done in
+    go_parted g.D.Disk front back first last all
