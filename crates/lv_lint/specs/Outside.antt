@@ -1,5 +1,5 @@
 -- Things that lie in no sector, told by the walls on their row. A wall is a line without a left side.
-use Rattle.std.specs.Prelude.{ℕ, ℤ, Bool, ◌&&◌, ◌||◌, nat_le, List, count_by, pos, int_lt, int_le}
+use Rattle.std.specs.Prelude.{ℤ, Bool, ◌&&◌, ◌||◌, nat_le, List, count_by, pos, int_lt, int_le}
 use Rattle.std.specs.List.{list_any}
 use Rattle.lv_lumps.specs.declared.records.Vertex.{Vertex}
 use Rattle.lv_lint.specs.declared.places.PlacedLine.{PlacedLine}

@@ -1,10 +1,9 @@
-use Rattle.std.proofs.Common.{◌≡◌, ℕ, ◌+◌, ◌<◌, ◌≤◌, List, [], ◌∷◌, ◌++◌, length, get_or, map, take, sym, ap, ◌∙◌, arith, zero-add}
+use Rattle.std.proofs.Common.{◌≡◌, ℕ, ◌+◌, List, [], ◌∷◌, ◌++◌, get_or, map, take, sym, ap, ◌∙◌, arith, zero-add}
 use Rattle.std.specs.List.{enumerate_from, slice_get}
 use Rattle.std.specs.Prelude.{Some}
 use Rattle.std.proofs.lemmas.List.{take_more, take_all, map-append}
 use Rattle.std.proofs.lemmas.List.FromFn.{length-enumerate_from, get_or-enumerate_from}
 use Rattle.std.proofs.lemmas.Option.{slice_get_within, get_or_from_slice_get}
-use Rattle.lv_lumps.specs.declared.records.Line.{Line}
 use Rattle.lv_maptables.specs.WellFormed.{HasEnds}
 use Rattle.lv_checks.proofs.ItemReads.{is_there, at_some}
 use Rattle.lv_lint.specs.declared.places.PlacedLine.{PlacedLine}

@@ -1,4 +1,4 @@
-use Rattle.std.proofs.Common.{◌≡◌, ℕ, pos, sym, ap, ◌∙◌, arith, slice_get}
+use Rattle.std.proofs.Common.{pos, sym, ap, ◌∙◌, arith, slice_get}
 use Rattle.std.proofs.lemmas.Option.{get_or_from_slice_get}
 use Rattle.lv_checks.proofs.ItemReads.{is_there}
 use Rattle.lv_lint.proofs.places.vertex_of.Goals as goal
