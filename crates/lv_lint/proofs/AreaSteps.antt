@@ -11,7 +11,7 @@ use Rattle.std.proofs.lemmas.List.Sums.{fold-append}
 use Rattle.std.proofs.lemmas.Option.{slice_get_within, get_or_from_slice_get}
 use Rattle.lv_lumps.specs.declared.records.Line.{Line}
 use Rattle.lv_maptables.specs.Tables.{Tables}
-use Rattle.lv_checks.specs.Corners.{Edge, edges, edges_of}
+use Rattle.lv_checks.specs.Corners.{Edge, edges_of}
 use Rattle.lv_lint.specs.Areas.{edge_area, part_in}
 use Rattle.lv_lint.specs.Tallies.{IsNear, AreWithin, AddsArea, AddsAreas, AreSums, AreAreas}
 

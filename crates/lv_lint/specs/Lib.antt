@@ -1,4 +1,8 @@
 pub mod Errors
+pub mod Places
+pub mod Meeting
+pub mod Outside
+pub mod Bands
 pub mod Texts
 pub mod Known
 pub mod Starts

@@ -1,5 +1,5 @@
 -- What the bodies count: tags that are there, and the areas of sectors.
-use Rattle.std.specs.Prelude.{◌≡◌, ℕ, ◌*◌, ◌<◌, ◌^◌, Bool, false, ◌==◌, List, length, get_or, take, flat_map, fold, ℤ, pos, neg_ℤ, ◌+ℤ◌, ◌≤ℤ◌}
+use Rattle.std.specs.Prelude.{◌≡◌, ℕ, ◌*◌, ◌<◌, ◌^◌, Bool, false, ◌==◌, List, length, get_or, take, flat_map, fold, ℤ, pos, ◌+ℤ◌, ◌≤ℤ◌}
 use Rattle.std.specs.List.{list_any}
 use Rattle.lv_maptables.specs.Tables.{Tables}
 use Rattle.lv_checks.specs.Corners.{Edge, edges_of}

@@ -2,7 +2,7 @@
 use Rattle.std.specs.Prelude.{ℕ, List, ◌++◌, codes, decimal}
 use Rattle.lv_lint.specs.declared.warning.Warning.{Warning}
 use Rattle.lv_lint.specs.declared.warning.Rule.{Rule}
-use Rattle.lv_lint.specs.declared.warning.Rule.TheVariants.{PlayerStart, OneStart, DeathmatchStarts, CeilingAboveFloor, TagGiven, TagOfSector, TagOfLine, LineSpecialKnown, SectorSpecialKnown, ThingKnown, TextureShows, SectorInside}
+use Rattle.lv_lint.specs.declared.warning.Rule.TheVariants.{PlayerStart, OneStart, DeathmatchStarts, CeilingAboveFloor, TagGiven, TagOfSector, TagOfLine, LineSpecialKnown, SectorSpecialKnown, ThingKnown, TextureShows, SectorInside, LinesApart, ThingInside}
 
 -- the word for what is wrong where a rule is broken
 abbrev pub word_of : Rule → List ℕ
@@ -18,6 +18,8 @@ word_of SectorSpecialKnown = codes "sector-special-unknown"
 word_of ThingKnown = codes "thing-type-unknown"
 word_of TextureShows = codes "texture-hidden"
 word_of SectorInside = codes "sector-inside-out"
+word_of LinesApart = codes "line-crossed"
+word_of ThingInside = codes "thing-outside"
 
 -- the text of a warning: the word, a space and the number in decimal
 abbrev pub warning_text : Warning → List ℕ

@@ -3,17 +3,19 @@ ghost use Rattle.std.specs.Prelude.{IfOk};
 ghost use Rattle.lv_lint.specs.Facts.{AreFacts};
 
 use crate::areas::areas_of;
+use crate::bands::{FiledLines, file_lines};
 use crate::error::LintError;
 use crate::tags::{tags_of_lines, tags_of_sectors};
 use lv_maptables::Map;
 use std::alloc::Global;
 
-/// Which tags the sectors have and which the lines, and twice the area of each sector.
+/// Which tags the sectors have and which the lines, twice the area of each sector, and the lines by bands of rows.
 #[derive(Drop)]
 pub(crate) struct Facts {
     pub sector_tags: Vec<bool>,
     pub line_tags: Vec<bool>,
     pub areas: Vec<i128>,
+    pub filed: FiledLines,
 }
 
 /// The facts of the map.
@@ -23,9 +25,11 @@ pub(crate) fn facts_of(alloc: Global, map: &Map) -> Result<Facts, LintError>
     let sector_tags = tags_of_sectors(alloc, map)?;
     let line_tags = tags_of_lines(alloc, map)?;
     let areas = areas_of(alloc, map)?;
+    let filed = file_lines(alloc, map)?;
     Ok(Facts {
         sector_tags,
         line_tags,
         areas,
+        filed,
     })
 }

@@ -2,9 +2,13 @@
 #![tactic(auto)]
 
 mod areas;
+mod bands;
 mod error;
 mod facts;
 mod known;
+mod meeting;
+mod outside;
+mod places;
 mod report;
 mod rules;
 mod starts;

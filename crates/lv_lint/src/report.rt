@@ -11,7 +11,7 @@ use lv_maptables::Map;
 use std::alloc::Global;
 
 // The rules, in the order of their warnings.
-const RULES: [Rule; 12] = [
+const RULES: [Rule; 14] = [
     Rule::PlayerStart,
     Rule::OneStart,
     Rule::DeathmatchStarts,
@@ -24,6 +24,8 @@ const RULES: [Rule; 12] = [
     Rule::ThingKnown,
     Rule::TextureShows,
     Rule::SectorInside,
+    Rule::LinesApart,
+    Rule::ThingInside,
 ];
 
 // Adds a warning for each number that breaks the rule.
@@ -46,7 +48,8 @@ fn list_breaches(
 
 /// What the maker of a level would want to know before playing it, and `lv_checks` doesn't tell: a
 /// warning for each item of the map that breaks a rule, by rule in the order of `Rule`, then by
-/// number. It takes time in proportion to the map's size, and is refused by want of memory alone.
+/// number. It takes time in proportion to the map's size and, for lines that meet, to the pairs of lines
+/// with a band of 128 rows in common, and is refused by want of memory alone.
 pub fn lint(alloc: Global, map: &Map) -> Result<Vec<Warning>, LintError>
     ensures found { IfOk result (λ found. found.items ≡ warnings map.now.tables) }
     ensures memory { IsOkUnless result LintError.OutOfMemory }

@@ -5,15 +5,19 @@ ghost use Rattle.lv_checks.specs.Textures.{is_missing};
 ghost use Rattle.lv_lint.specs.Tallies.{MarksTags, AreAreas};
 ghost use Rattle.lv_lint.specs.Tags.{tag_of, line_tag, tag_of_no_sector, tag_of_no_line, needs_line};
 ghost use Rattle.lv_lint.specs.Areas.{is_inside_out};
+ghost use Rattle.lv_lint.specs.Bands.{AreFiledLines};
+ghost use Rattle.lv_lint.specs.Outside.{is_outside};
+ghost use Rattle.lv_lint.specs.Places.{placed_lines, place_of};
 ghost use Rattle.lv_lint.specs.Facts.{AreFacts};
 ghost use Rattle.lv_lint.specs.Rules.{at_item, names_wall, texture_hidden, number_breaks, sector_breaks, line_breaks, thing_breaks, breaks, reach};
 
+use crate::bands::{FiledLines, is_in_no_sector, meets_another};
 use crate::facts::Facts;
 use crate::known::{is_known_line, is_known_sector, is_known_thing, needs_tag};
 use crate::starts::things_of_type;
 use crate::tags::tag_of;
 use crate::warning::Rule;
-use lv_lumps::{Line, Name8, Sector, Side, Thing};
+use lv_lumps::{Line, Name8, Sector, Side, Thing, Vertex};
 use lv_maptables::{Kind, Map};
 
 // Whether the line's special needs a tag, and no sector has the line's.
@@ -79,15 +83,16 @@ fn is_inside_out(map: &Map, areas: &[i128], n: u32) -> bool
 }
 
 // Whether the rule goes by a number alone, and the number breaks it.
-fn number_breaks(map: &Map, areas: &[i128], rule: Rule, n: u32) -> bool
-    requires { AreAreas map.now.tables areas.now }
+fn number_breaks(map: &Map, facts: &Facts, rule: Rule, n: u32) -> bool
+    requires { AreFacts map.now.tables facts.now }
     ensures { result ≡ number_breaks map.now.tables rule n }
 {
     match rule {
         Rule::PlayerStart => n == 1 && things_of_type(map, 1) == 0,
         Rule::OneStart => 0 < n && 1 < things_of_type(map, n),
         Rule::DeathmatchStarts => 0 < n && things_of_type(map, 11) == n,
-        Rule::SectorInside => is_inside_out(map, areas, n),
+        Rule::SectorInside => is_inside_out(map, &facts.areas, n),
+        Rule::LinesApart => meets_another(&facts.filed, n),
         _ => false,
     }
 }
@@ -120,12 +125,26 @@ fn line_breaks(map: &Map, sector_tags: &[bool], rule: Rule, line: &Line) -> bool
     }
 }
 
+// Whether the thing lies in no sector.
+fn is_out(map: &Map, filed: &FiledLines, thing: &Thing) -> bool
+    requires { AreFiledLines map.now.tables filed.now }
+    ensures { result ≡ is_outside (placed_lines map.now.tables) (place_of thing.now) }
+{
+    let place = Vertex {
+        x: thing.x,
+        y: thing.y,
+    };
+    is_in_no_sector(filed, place)
+}
+
 // Whether the thing breaks the rule.
-fn thing_breaks(rule: Rule, thing: &Thing) -> bool
-    ensures { result ≡ thing_breaks rule thing.now }
+fn thing_breaks(map: &Map, filed: &FiledLines, rule: Rule, thing: &Thing) -> bool
+    requires { AreFiledLines map.now.tables filed.now }
+    ensures { result ≡ thing_breaks map.now.tables rule thing.now }
 {
     match rule {
         Rule::ThingKnown => !is_known_thing(thing),
+        Rule::ThingInside => is_out(map, filed, thing),
         _ => false,
     }
 }
@@ -153,11 +172,12 @@ fn line_at_breaks(map: &Map, facts: &Facts, rule: Rule, n: u32) -> bool
 }
 
 // Whether there is a thing n, and it breaks the rule.
-fn thing_at_breaks(map: &Map, rule: Rule, n: u32) -> bool
-    ensures { result ≡ at_item (thing_breaks rule) map.now.tables.things n }
+fn thing_at_breaks(map: &Map, facts: &Facts, rule: Rule, n: u32) -> bool
+    requires { AreFacts map.now.tables facts.now }
+    ensures { result ≡ at_item (thing_breaks map.now.tables rule) map.now.tables.things n }
 {
     match map.thing(n) {
-        Some(thing) => thing_breaks(rule, &thing),
+        Some(thing) => thing_breaks(map, &facts.filed, rule, &thing),
         None => false,
     }
 }
@@ -168,10 +188,10 @@ pub(crate) fn breaks(map: &Map, facts: &Facts, rule: Rule, n: u32) -> bool
     requires { AreFacts map.now.tables facts.now }
     ensures { result ≡ breaks map.now.tables rule n }
 {
-    number_breaks(map, &facts.areas, rule, n)
+    number_breaks(map, facts, rule, n)
         || sector_at_breaks(map, facts, rule, n)
         || line_at_breaks(map, facts, rule, n)
-        || thing_at_breaks(map, rule, n)
+        || thing_at_breaks(map, facts, rule, n)
 }
 
 /// How many numbers the rule is asked of.
@@ -188,6 +208,7 @@ pub(crate) fn reach(map: &Map, rule: Rule) -> u32
         Rule::SectorSpecialKnown => map.count(Kind::Sector),
         Rule::SectorInside => map.count(Kind::Sector),
         Rule::ThingKnown => map.count(Kind::Thing),
+        Rule::ThingInside => map.count(Kind::Thing),
         _ => map.count(Kind::Line),
     }
 }

@@ -29,6 +29,10 @@ pub enum Rule {
     TextureShows,
     /// A sector lies on the right of its edges, and isn't empty.
     SectorInside,
+    /// A line has no point with another one but an end of both.
+    LinesApart,
+    /// A thing lies in a sector.
+    ThingInside,
 }
 
 /// A rule that is broken, and by which item.
@@ -59,6 +63,8 @@ impl Rule {
             Rule::ThingKnown => "thing-type-unknown",
             Rule::TextureShows => "texture-hidden",
             Rule::SectorInside => "sector-inside-out",
+            Rule::LinesApart => "line-crossed",
+            Rule::ThingInside => "thing-outside",
         }
     }
 }

@@ -40,6 +40,27 @@ const LIFTS: [&[u8]; 6] = [
     b"set-line 3 3 0 1 62 5 3 -", b"set-sector 0 0 128 FLOOR4_8 CEIL3_5 160 0 5",
 ];
 
+// Places in a room from vertex 4 on, and further ones on a straight line: (32,32), (64,32), (96,32), (112,32).
+#[rattlefmt::skip]
+const PLACES: [&[u8]; 7] = [
+    ROOM, START, b"vertex 32 32", b"vertex 64 32", b"vertex 96 32", b"vertex 112 32", b"vertex 0 64",
+];
+
+// A pillar in a room: a hole in the sector, with things in it, beside it, and on the rows of its corners.
+#[rattlefmt::skip]
+const PILLAR: [&[u8]; 13] = [
+    START, b"vertex 32 32", b"vertex 32 48", b"vertex 48 48", b"vertex 48 32",
+    b"line 4 7 1 0 0 0 -", b"line 7 6 1 0 0 0 -", b"line 6 5 1 0 0 0 -", b"line 5 4 1 0 0 0 -",
+    b"thing 40 40 90 2001 7", b"thing 16 40 90 2001 7", b"thing 16 32 90 2001 7", b"thing 16 48 90 2001 7",
+];
+
+// Two lines that cross at (200,2300/3), six bands above the room.
+#[rattlefmt::skip]
+const ACROSS: [&[u8]; 7] = [
+    START, b"vertex 200 -1000", b"vertex 200 1000", b"vertex 150 700", b"vertex 300 900",
+    b"line 4 5 4 0 0 0 0", b"line 6 7 4 0 0 0 0",
+];
+
 // Lines that draw a map, further lines, and its warnings.
 #[rattlefmt::skip]
 const REPORTS: &[(&[&[u8]], &[&[u8]], &str)] = &[
@@ -59,8 +80,30 @@ const REPORTS: &[(&[&[u8]], &[&[u8]], &str)] = &[
         "thing-type-unknown 1\nthing-type-unknown 3\n"),
     (&TWO_ROOMS, &[START, b"set-side 4 0 0 - STEP1 - 0"], "texture-hidden 2\n"),
     (&TWO_ROOMS, &[START, b"set-side 4 0 0 - - MIDGRATE 0"], ""),
-    (&[ROOM], &REVERSED, "sector-inside-out 0\n"),
+    (&[ROOM], &REVERSED, "sector-inside-out 0\nthing-outside 0\n"),
     (&[ROOM], &[START, SECTOR], "sector-inside-out 1\n"),
+    // in the middle of both
+    (&PLACES, &[b"vertex 48 64", b"line 4 6 4 0 0 0 0", b"vertex 80 16", b"line 9 10 4 0 0 0 0"],
+        "line-crossed 4\nline-crossed 5\n"),
+    (&[ROOM], &ACROSS, "line-crossed 4\nline-crossed 5\n"),
+    // an end on a wall, between its ends
+    (&PLACES, &[b"line 8 4 4 0 0 0 0"], "line-crossed 0\nline-crossed 4\n"),
+    (&PLACES, &[b"line 4 8 4 0 0 0 0"], "line-crossed 0\nline-crossed 4\n"),
+    // along each other: in part, from a common end, all the way
+    (&PLACES, &[b"line 4 6 4 0 0 0 0", b"line 5 7 4 0 0 0 0"], "line-crossed 4\nline-crossed 5\n"),
+    (&PLACES, &[b"line 4 5 4 0 0 0 0", b"line 4 6 4 0 0 0 0"], "line-crossed 4\nline-crossed 5\n"),
+    (&PLACES, &[b"line 4 5 4 0 0 0 0", b"line 5 4 4 0 0 0 0"], "line-crossed 4\nline-crossed 5\n"),
+    // with a common end alone, apart on one straight line, and apart with boxes that meet
+    (&PLACES, &[b"line 4 5 4 0 0 0 0", b"line 5 6 4 0 0 0 0"], ""),
+    (&PLACES, &[b"line 4 5 4 0 0 0 0", b"line 6 7 4 0 0 0 0"], ""),
+    (&PLACES, &[b"vertex 96 96", b"line 4 9 4 0 0 0 0", b"vertex 80 48", b"line 5 10 4 0 0 0 0"], ""),
+    // outside the walls, in a hole, on a wall, and on a two-sided line
+    (&[ROOM], &[START, b"thing 200 64 90 2001 7", b"thing -8 64 90 2001 7", b"thing 64 129 90 2001 7"],
+        "thing-outside 1\nthing-outside 2\nthing-outside 3\n"),
+    (&[ROOM], &PILLAR, "thing-outside 1\n"),
+    (&[ROOM], &[START, b"thing 128 64 90 2001 7", b"thing 64 0 90 2001 7", b"thing 127 127 90 2001 7"],
+        "thing-outside 1\nthing-outside 2\n"),
+    (&TWO_ROOMS, &[START, b"thing 128 64 90 2001 7"], ""),
 ];
 
 // The warnings of the map that lines and further ones draw.

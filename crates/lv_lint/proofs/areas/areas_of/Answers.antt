@@ -1,6 +1,6 @@
 use Rattle.std.proofs.Common.{◌*◌, ◌^◌, sym, ◌∙◌, arith}
-use Rattle.lv_checks.proofs.ItemReads.{is_there, at_some}
-use Rattle.lv_lint.proofs.AreaSteps.{sums_more, areas_from_sums, within_weaker}
+use Rattle.lv_checks.proofs.ItemReads.{is_there}
+use Rattle.lv_lint.proofs.AreaSteps.{sums_more, within_weaker}
 use Rattle.lv_lint.proofs.areas.areas_of.Goals as goal
 
 pub unwrap-line-requires : goal.unwrap-line-requires

@@ -1,5 +1,4 @@
-use Rattle.std.proofs.Common.{ℕ, true, false, sym, ap, ◌∙◌, ◌++◌, map, filter, arith}
-use Rattle.std.specs.List.{range_with_len}
+use Rattle.std.proofs.Common.{true, false, sym, ◌∙◌}
 use Rattle.std.proofs.lemmas.List.{append-nil}
 use Rattle.lv_checks.proofs.MarkSteps.{marked_more}
 use Rattle.lv_lint.specs.Rules.{breaks, warning_of}

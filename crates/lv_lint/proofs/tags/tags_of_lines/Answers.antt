@@ -1,4 +1,4 @@
-use Rattle.std.proofs.Common.{sym, ap, ◌∙◌, arith}
+use Rattle.std.proofs.Common.{sym, ◌∙◌, arith}
 use Rattle.lv_checks.proofs.ItemReads.{is_there}
 use Rattle.lv_lint.specs.Tags.{line_tag}
 use Rattle.lv_lint.proofs.TagSteps.{marks_more}

@@ -1,0 +1,44 @@
+use Rattle.std.proofs.Common.{◌≡◌, ℕ, ◌+◌, ◌≤◌, false, Vec, filter, below_more, sym, ap, ◌∙◌, arith}
+use Rattle.std.specs.List.{list_any}
+use Rattle.std.specs.declared.alloc.Global.{Global}
+use Rattle.lv_lint.specs.declared.places.PlacedLine.{PlacedLine}
+use Rattle.lv_lint.specs.Meeting.{meets}
+use Rattle.lv_lint.specs.Bands.{is_in_band}
+use Rattle.lv_lint.proofs.BandLemmas.{any_of_filtered, none_in_parts, meets_in_band}
+use Rattle.lv_lint.proofs.bands.meets_near.Goals as goal
+
+pub loop-band-preserved : goal.loop-band-preserved
+loop-band-preserved c =
+    let lines = c.args.filed.now.lines.items in
+    let line = c.args.line.now in
+    let band = c.loop-band.band in
+    let first = c.first_band-first.result in
+    let P : ℕ → Type 0 = λ b. first ≤ b → list_any (meets line) (filter (is_in_band b) lines) ≡ false in
+    let filed : c.deref.result.now ≡ filter (is_in_band band) lines =
+    c.deref.ensures.value ∙ ap (λ (v : Vec PlacedLine Global). v.items) c.index.ensures
+    ∙ c.requires.filed band c.index.result.now (omega (arith, c.loop-band-test.true, c.last_band-last.ensures.among)) in
+    let none : list_any (meets line) (filter (is_in_band band) lines) ≡ false =
+    ap (list_any (meets line)) (sym filed) ∙ sym c.meets_any.ensures ∙ c.if-meets_any.false in
+    λ b low high. below_more P band (λ k below from. c.loop-band.invariant k from below) (λ from. none) b high low
+
+pub returns-then-meets_any : goal.returns-then-meets_any
+returns-then-meets_any c =
+    let lines = c.args.filed.now.lines.items in
+    let line = c.args.line.now in
+    let band = c.loop-band.band in
+    let filed : c.deref.result.now ≡ filter (is_in_band band) lines =
+    c.deref.ensures.value ∙ ap (λ (v : Vec PlacedLine Global). v.items) c.index.ensures
+    ∙ c.requires.filed band c.index.result.now (omega (arith, c.loop-band-test.true, c.last_band-last.ensures.among)) in
+    sym
+    (any_of_filtered (meets line) (is_in_band band) lines
+    (ap (list_any (meets line)) (sym filed) ∙ sym c.meets_any.ensures ∙ c.if-meets_any.true))
+
+pub returns : goal.returns
+returns c =
+    let line = c.args.line.now in
+    let first = c.first_band-first.result in
+    let last = c.last_band-last.result in
+    sym
+    (none_in_parts (meets line) is_in_band first (last + 1) c.args.filed.now.lines.items
+    (λ k h. meets_in_band line k first last c.first_band-first.ensures c.last_band-last.ensures h)
+    (λ b low high. c.loop-band.invariant b low (omega (arith, high, c.loop-band-test.false))))

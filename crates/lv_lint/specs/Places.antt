@@ -1,0 +1,27 @@
+-- The lines of a map with their numbers and the places of their ends, and the places of things.
+use Rattle.std.specs.Prelude.{ℕ, not, List, map}
+use Rattle.std.specs.List.{enumerate_from}
+use Rattle.lv_lumps.specs.declared.records.Line.{Line}
+use Rattle.lv_lumps.specs.declared.records.Thing.{Thing}
+use Rattle.lv_lumps.specs.declared.records.Vertex.{Vertex}
+use Rattle.lv_lumps.specs.Sides.{has_left}
+use Rattle.lv_maptables.specs.Tables.{Tables}
+use Rattle.lv_maptables.specs.WellFormed.{nth_vertex}
+use Rattle.lv_lint.specs.declared.places.PlacedLine.{PlacedLine}
+
+-- a line with its number and the places of its ends; a wall has no left side
+abbrev pub placed : Tables → ℕ × Line → PlacedLine
+placed m e = record {
+  number = e.0;
+  from = nth_vertex m.vertices e.1.v1;
+  to = nth_vertex m.vertices e.1.v2;
+  is_wall = not (has_left e.1);
+}
+
+-- all lines so
+abbrev pub placed_lines : Tables → List PlacedLine
+placed_lines m = map (placed m) (enumerate_from 0 m.lines)
+
+-- where a thing stands
+abbrev pub place_of : Thing → Vertex
+place_of t = record { x = t.x; y = t.y }

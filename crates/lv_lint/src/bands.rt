@@ -1,0 +1,147 @@
+//! The lines of a map, filed by bands of 128 rows.
+ghost use Rattle.std.specs.Prelude.{◌≡◌, ◌<◌, filter, IfOk};
+ghost use Rattle.std.specs.Int.{int_min, int_max};
+ghost use Rattle.std.specs.List.{list_any};
+ghost use Rattle.lv_lint.specs.Meeting.{meets, meets_another};
+ghost use Rattle.lv_lint.specs.Outside.{is_outside};
+ghost use Rattle.lv_lint.specs.Bands.{IsBandOf, band_bottom, band_top, is_in_band, AreBands, AreFiled, AreFiledLines};
+
+use crate::error::LintError;
+use crate::meeting::{meets_any, spans_meet};
+use crate::outside::is_outside;
+use crate::places::{PlacedLine, placed_lines};
+use lv_lumps::Vertex;
+use lv_maptables::Map;
+use std::alloc::Global;
+
+/// The lines of a map, and those of each band of rows.
+#[derive(Drop)]
+pub(crate) struct FiledLines {
+    pub lines: Vec<PlacedLine>,
+    pub bands: Vec<Vec<PlacedLine>>,
+}
+
+// The band of a row.
+fn band_of(y: i16) -> usize
+    ensures { IsBandOf y result }
+{
+    let row = i32::from(y) + 32_768;
+    row as usize / 128
+}
+
+// The band of a place's row.
+fn band_at(place: Vertex) -> usize
+    ensures { IsBandOf place.y result }
+{
+    band_of(place.y)
+}
+
+// The lowest row of the band.
+fn band_bottom(band: usize) -> i16
+    requires { band < 512 }
+    ensures { result ≡ band_bottom band }
+{
+    (band as i32 * 128 - 32_768) as i16
+}
+
+// The highest row of the band.
+fn band_top(band: usize) -> i16
+    requires { band < 512 }
+    ensures { result ≡ band_top band }
+{
+    (band as i32 * 128 - 32_641) as i16
+}
+
+// Whether the line's box has a row in the band.
+#[tactic(auto, unfolding(crate::specs::Bands::is_in_band))]
+fn is_in_band(band: usize, line: &PlacedLine) -> bool
+    requires { band < 512 }
+    ensures { result ≡ is_in_band band line.now }
+{
+    spans_meet(line.from.y, line.to.y, band_bottom(band), band_top(band))
+}
+
+// The lines whose boxes have a row in the band.
+fn lines_in_band(
+    alloc: Global,
+    lines: &[PlacedLine],
+    band: usize,
+) -> Result<Vec<PlacedLine>, LintError>
+    requires { band < 512 }
+    ensures { IfOk result (λ filed. filed.items ≡ filter (is_in_band band) lines.now) }
+{
+    let filed = lines
+        .iter()
+        .filter(|line| is_in_band(band, line))
+        .copied()
+        .collect(alloc)?;
+    Ok(filed)
+}
+
+// The lines of each band.
+fn bands_of(alloc: Global, lines: &[PlacedLine]) -> Result<Vec<Vec<PlacedLine>>, LintError>
+    ensures { IfOk result (λ bands. AreBands lines.now 512 bands.items) }
+{
+    let mut bands = Vec::new(alloc);
+    for band in 0..512 {
+        bands.push(lines_in_band(alloc, lines, band)?)?;
+    }
+    Ok(bands)
+}
+
+/// The lines of the map, and those of each band.
+pub(crate) fn file_lines(alloc: Global, map: &Map) -> Result<FiledLines, LintError>
+    ensures { IfOk result (AreFiledLines map.now.tables) }
+{
+    let lines = placed_lines(alloc, map)?;
+    let bands = bands_of(alloc, &lines)?;
+    Ok(FiledLines { lines, bands })
+}
+
+// The first band in which the line's box has a row.
+fn first_band(line: &PlacedLine) -> usize
+    ensures { IsBandOf (int_min line.now.from.y line.now.to.y) result }
+{
+    band_of(line.from.y.min(line.to.y))
+}
+
+// The last band in which it has one.
+fn last_band(line: &PlacedLine) -> usize
+    ensures { IsBandOf (int_max line.now.from.y line.now.to.y) result }
+{
+    band_of(line.from.y.max(line.to.y))
+}
+
+// Whether the line meets another one, which then has a row in one of the line's bands.
+fn meets_near(filed: &FiledLines, line: &PlacedLine) -> bool
+    requires { AreFiled filed.now }
+    ensures { result ≡ list_any (meets line.now) filed.now.lines.items }
+{
+    let first = first_band(line);
+    let last = last_band(line);
+    for band in first..last + 1 {
+        if meets_any(line, &filed.bands[band]) {
+            return true;
+        }
+    }
+    false
+}
+
+/// Whether there is a line n, and it meets another one.
+pub(crate) fn meets_another(filed: &FiledLines, n: u32) -> bool
+    requires { AreFiled filed.now }
+    ensures { result ≡ meets_another filed.now.lines.items n }
+{
+    match filed.lines.get(n as usize) {
+        Some(line) => meets_near(filed, line),
+        None => false,
+    }
+}
+
+/// Whether the place lies in no sector.
+pub(crate) fn is_in_no_sector(filed: &FiledLines, place: Vertex) -> bool
+    requires { AreFiled filed.now }
+    ensures { result ≡ is_outside filed.now.lines.items place }
+{
+    is_outside(&filed.bands[band_at(place)], place)
+}
