@@ -11,14 +11,9 @@ ghost use Rattle.lv_nodes.specs.Growth.{IsStep, HasBoxes};
 use crate::boxed::BoxedPieces;
 use crate::parting::{Sides, part_list};
 use lv_lumps::Bounds;
-use lv_partition::{
-    Choice, StraightLines, blocks_of, by_place, choose_in, choose_in_boxes, choose_ordered,
-};
+use lv_partition::{Choice, StraightLines, blocks_of, by_place, choose_in_boxes, choose_ordered};
 use lv_segs::{Edge, Piece, boxes_in};
 use std::alloc::{AllocError, Global};
-
-// Up to so many pieces are looked at one by one.
-const SHORT: usize = 16;
 
 // The boxes of more pieces than these are made in an order by their places.
 const LONG: usize = 256;
@@ -55,7 +50,7 @@ fn choice_by_place(
     Ok(choose_ordered(lines, list, &ordered, &boxes, &blocks, used, straight))
 }
 
-// The best candidate of a list: by boxes where it is long.
+// The best candidate of a list: by the boxes that it has, or by others where it is long.
 fn choice_of(
     alloc: Global,
     lines: &[Edge],
@@ -72,9 +67,6 @@ fn choice_of(
     ensures { IfOk result (λ choice. MatchOption choice (HasNoChoice lines.now list.now used.now)
         (λ c. IsChoice lines.now list.now used.now c)) }
 {
-    if list.len() <= SHORT {
-        return Ok(choose_in(lines, list, used));
-    }
     if list.len() > LONG {
         return choice_by_place(alloc, lines, list, used, straight);
     }

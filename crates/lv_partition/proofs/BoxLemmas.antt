@@ -1,5 +1,5 @@
 -- Wider boxes hold what the boxes in them hold, and a list of blocks grows one by one.
-use Rattle.std.proofs.Common.{◌≡◌, sym, ap, ◌∙◌, subst, ℕ, zero, suc, ◌+◌, ◌*◌, ◌-◌, ◌<◌, ◌≤◌, ⊎_elim, min, List, [], ◌∷◌, ◌++◌, length, take, drop, get_or, Some, arith, All, slice_get}
+use Rattle.std.proofs.Common.{◌≡◌, refl, sym, ap, ◌∙◌, subst, ℕ, zero, suc, ◌+◌, ◌*◌, ◌-◌, ◌<◌, ◌≤◌, ⊎_elim, min, List, [], ◌∷◌, ◌++◌, length, take, drop, get_or, Some, arith, All, slice_get}
 use Rattle.std.proofs.lemmas.Bool.{cases_lt}
 use Rattle.std.proofs.lemmas.List.{take_all, length-drop, length-map, take-map, drop-map}
 use Rattle.std.proofs.lemmas.List.Elements.{All-nil, All-cons, All-head, All-tail, All-get_or}
@@ -14,7 +14,7 @@ use Rattle.lv_segs.specs.declared.piece.Piece.{Piece}
 use Rattle.lv_segs.specs.Boxes.{IsWellIn, HoldsPiece, box_of, boxes_of}
 use Rattle.lv_segs.proofs.Steps.{box_holds}
 use Rattle.lv_segs.specs.Pieces.{IsPiece}
-use Rattle.lv_partition.specs.Blocks.{AreBlocks, IsWithinBox}
+use Rattle.lv_partition.specs.Blocks.{AreBlocks, AreGroups, IsWithinBox}
 use Rattle.lv_partition.proofs.Best.{before_within}
 
 -- ---- a box within a box
@@ -96,6 +96,22 @@ one_more_block boxes blocks n m b k h e all =
 pub all_blocks : (boxes blocks : List Bounds) (n : ℕ) → AreFirstBlocks boxes blocks n → length boxes ≤ 16 * n → 16 * n < length boxes + 16 → AreBlocks boxes blocks
 all_blocks boxes blocks n k h l = let m = k.made in record { enough = omega arith; each_needed = omega arith; holds = k.holds }
 
+-- ---- the groups of a list
+pub no_groups : (boxes : List Bounds) → AreGroups boxes []
+no_groups boxes = record { within = omega arith; holds = λ k b e. cc }
+
+pub one_more_group : (boxes groups : List Bounds) (n : ℕ) (b : Bounds) → AreGroups boxes groups → length groups ≡ n → 256 * n + 256 ≤ length boxes → All (λ a. IsWithinBox a b) (take 256 (drop (256 * n) boxes)) → AreGroups boxes (groups ++ (b ∷ []))
+one_more_group boxes groups n b k made h all =
+    let l = longer groups b in
+    record {
+      within = omega arith;
+      holds = λ j x at. stands_in groups b j x at (λ i y. All (λ a. IsWithinBox a y) (take 256 (drop (256 * i) boxes))) k.holds (subst (λ (i : ℕ). All (λ a. IsWithinBox a b) (take 256 (drop (256 * i) boxes))) (sym made) all);
+    }
+  where
+    longer : (xs : List Bounds) (y : Bounds) → length (xs ++ (y ∷ [])) ≡ length xs + 1
+    longer [] y = omega arith
+    longer (x ∷ xs) y = let r = longer xs y in omega arith
+
 -- ---- the pieces in their boxes
 -- what is read where a list has no element
 abbrev pub no_box : Bounds
@@ -138,3 +154,18 @@ module _ (lines : List Edge) where
   -- the box of a block holds its pieces
   pub block_holds : (ps : List Piece) (blocks : List Bounds) (k : ℕ) (b : Bounds) → AreBlocks (boxes_of lines ps) blocks → slice_get blocks k ≡ Some b → All (HoldsPiece lines b) (take 16 (drop (16 * k) ps))
   block_holds ps blocks k b are at = all_in b (take 16 (drop (16 * k) ps)) (subst (All (λ (a : Bounds). IsWithinBox a b)) (part_boxes ps 16 (16 * k)) (are.holds k b at))
+
+  -- and that of a group its pieces
+  pub group_holds : (ps : List Piece) (groups : List Bounds) (k : ℕ) (b : Bounds) → AreGroups (boxes_of lines ps) groups → slice_get groups k ≡ Some b → All (HoldsPiece lines b) (take 256 (drop (256 * k) ps))
+  group_holds ps groups k b are at = all_in b (take 256 (drop (256 * k) ps)) (subst (All (λ (a : Bounds). IsWithinBox a b)) (part_boxes ps 256 (256 * k)) (are.holds k b at))
+
+  -- a group lies in the list, and so do its blocks
+  pub group_within : (ps : List Piece) (groups : List Bounds) (k : ℕ) → AreGroups (boxes_of lines ps) groups → k < length groups → 256 * (k + 1) ≤ length ps
+  group_within ps groups k are h = let w = are.within in let l = boxes_length ps (boxes_of lines ps) refl in omega arith
+
+  pub blocks_within : (ps : List Piece) (blocks : List Bounds) (k : ℕ) → AreBlocks (boxes_of lines ps) blocks → 256 * (k + 1) ≤ length ps → 16 * k + 16 ≤ length blocks
+  blocks_within ps blocks k are h = let w = are.enough in let l = boxes_length ps (boxes_of lines ps) refl in omega arith
+
+  -- behind the last block all pieces are seen
+  pub blocks_end : (ps : List Piece) (blocks : List Bounds) → AreBlocks (boxes_of lines ps) blocks → (length ps ≤ 16 * length blocks) × (16 * length blocks < length ps + 16)
+  blocks_end ps blocks are = let w = are.enough in let n = are.each_needed in let l = boxes_length ps (boxes_of lines ps) refl in (omega arith, omega arith)

@@ -3,6 +3,6 @@ pub mod Best
 pub mod Casts
 pub mod BlockSteps
 pub mod BoxLemmas
-pub mod Reaching
+pub mod OpenBlocks
 pub mod Reordered
 pub mod EndLemmas

@@ -1,12 +1,15 @@
-//! Boxes round blocks of sixteen pieces.
+//! Boxes round blocks of sixteen pieces, and round groups of sixteen blocks.
 ghost use Rattle.std.specs.Prelude.{◌≡◌, ◌^◌, ◌<◌, ◌≤◌, length, All, IfOk};
-ghost use Rattle.lv_partition.specs.Blocks.{IsWithinBox, AreBlocks};
+ghost use Rattle.lv_partition.specs.Blocks.{IsWithinBox, AreBlocks, AreGroups};
 
 use lv_lumps::Bounds;
 use std::alloc::{AllocError, Global};
 
 // How many pieces have one box.
 pub(crate) const BLOCK: usize = 16;
+
+// How many pieces have one box in a group of blocks.
+pub(crate) const GROUP: usize = 256;
 
 // The box round two boxes.
 fn joined(a: Bounds, b: Bounds) -> Bounds
@@ -50,4 +53,19 @@ pub fn blocks_of(alloc: Global, boxes: &[Bounds]) -> Result<Vec<Bounds>, AllocEr
         blocks.push(joined_all(&boxes[from..end]))?;
     }
     Ok(blocks)
+}
+
+/// Notes a box round each whole group of 256 boxes of a list; where there is no room, those of the first groups alone.
+pub(crate) fn note_groups(boxes: &[Bounds], groups: &mut Vec<Bounds>)
+    ensures { AreGroups boxes.now groups.new.items }
+{
+    groups.clear();
+    for g in 0..boxes.len() / GROUP {
+        let from = GROUP * g;
+        let bounds = joined_all(&boxes[from..from + GROUP]);
+        match groups.push(bounds) {
+            Err(_) => return,
+            Ok(()) => {}
+        }
+    }
 }

@@ -5,12 +5,13 @@ ghost use Rattle.lv_segs.specs.Plane.{IsEdge};
 ghost use Rattle.lv_segs.specs.Pieces.{IsPiece};
 ghost use Rattle.lv_segs.specs.Tree.{HasNoChoice, cost};
 ghost use Rattle.lv_segs.specs.Boxes.{boxes_of};
-ghost use Rattle.lv_partition.specs.Blocks.{AreBlocks};
+ghost use Rattle.lv_partition.specs.Blocks.{AreBlocks, AreGroups};
 ghost use Rattle.lv_partition.specs.Counts.{AreCounts};
 ghost use Rattle.lv_partition.specs.Choices.{IsChoice};
 ghost use Rattle.lv_partition.specs.SoFar.{SoFar};
 ghost use Rattle.lv_partition.specs.Sights.{all_ends};
 
+use crate::block_boxes::note_groups;
 use crate::choice::{Choice, limit_of, take_in};
 use crate::counts::count_below;
 use crate::ends::note_ends;
@@ -83,9 +84,13 @@ fn consider_ordered(
     requires stands { slice_get pieces.now at ≡ Some piece.now }
     requires noted { take (length ordered.now) straight.old.ends.items
         ≡ all_ends lines.now ordered.now }
+    requires groups { AreGroups (boxes_of lines.now ordered.now) straight.old.groups.items }
+    requires room { length blocks.now ≤ length straight.old.noted.items }
     requires so_far { SoFar lines.now pieces.now used.now at best }
     ensures so_far { SoFar lines.now pieces.now used.now (at + 1) result }
-    ensures kept { straight.new.ends ≡ straight.old.ends }
+    ensures ends { straight.new.ends ≡ straight.old.ends }
+    ensures groups { straight.new.groups ≡ straight.old.groups }
+    ensures room { length straight.new.noted.items ≡ length straight.old.noted.items }
 {
     if used[piece.line as usize] {
         return best;
@@ -95,7 +100,16 @@ fn consider_ordered(
     }
     let limit = limit_of(best);
     let ends = &straight.ends[..ordered.len()];
-    let counted = count_by_boxes(lines, piece, ordered, ends, blocks, limit);
+    let counted = count_by_boxes(
+        lines,
+        piece,
+        ordered,
+        ends,
+        blocks,
+        &straight.groups,
+        &mut straight.noted,
+        limit,
+    );
     take_in(at, best, limit, counted)
 }
 
@@ -121,10 +135,11 @@ pub fn choose_ordered(
     ensures { MatchOption result (HasNoChoice lines.now pieces.now used.now)
         (λ c. IsChoice lines.now pieces.now used.now c) }
 {
-    if straight.ends.len() < ordered.len() {
+    if straight.ends.len() < ordered.len() || straight.noted.len() < blocks.len() {
         return choose_in(lines, pieces, used);
     }
     note_ends(lines, ordered, &mut straight.ends);
+    note_groups(boxes, &mut straight.groups);
     let mut best = None;
     for (at, piece) in pieces.iter().enumerate() {
         best = consider_ordered(

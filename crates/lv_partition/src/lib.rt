@@ -9,6 +9,7 @@ mod counts;
 mod ends;
 mod map_choice;
 mod sight;
+mod sorting;
 mod straight;
 mod strips;
 mod walk;

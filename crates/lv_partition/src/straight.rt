@@ -6,19 +6,22 @@ ghost use Rattle.lv_segs.specs.Pieces.{IsPiece};
 
 use crate::ends::Ends;
 use indexmap::IndexSet;
-use lv_lumps::Vertex;
+use lv_lumps::{Bounds, Vertex};
 use lv_segs::{Edge, Facing, Piece, lies_along, ray_of};
 use std::alloc::{AllocError, Global};
 
 /// Hints that save counts: a number for the straight line of each line, and under each number the
 /// place where a piece on that straight line was met last. What they say is tested before it is
 /// used, so a choice is right whatever stands here, and old or wrong hints cost time alone. Beside
-/// them there is room for the rounded ends of as many pieces as the lines have sides.
+/// them there is room for what a choice notes of as many pieces as the lines have sides: rounded
+/// ends, boxes of groups, and the numbers of open blocks.
 #[derive(Drop)]
 pub struct StraightLines {
     numbers: Vec<u16>,
     met: Vec<u32>,
     pub(crate) ends: Vec<Ends>,
+    pub(crate) groups: Vec<Bounds>,
+    pub(crate) noted: Vec<u32>,
 }
 
 // A straight line by its direction in least whole numbers, east or else north, and by how far it is
@@ -95,7 +98,15 @@ impl StraightLines {
             numbers.push(u16::try_from(number).unwrap_or(u16::MAX))?;
         }
         let ends = room_for_ends(alloc, lines.len())?;
-        Ok(StraightLines { numbers, met, ends })
+        let groups = Vec::with_capacity(alloc, lines.len() / 128 + 1)?;
+        let noted = Vec::from_elem(alloc, 0, lines.len() / 8 + 1)?;
+        Ok(StraightLines {
+            numbers,
+            met,
+            ends,
+            groups,
+            noted,
+        })
     }
 
     // An earlier piece of an unused line lies on the straight line of this one. It is looked for at
@@ -115,7 +126,9 @@ impl StraightLines {
         requires piece { IsPiece lines.now piece.now }
         requires stands { slice_get pieces.now at ≡ Some piece.now }
         ensures earlier { result ≡ true → HasEarlier lines.now pieces.now used.now at piece.now }
-        ensures kept { self.new.ends ≡ self.old.ends }
+        ensures ends { self.new.ends ≡ self.old.ends }
+        ensures groups { self.new.groups ≡ self.old.groups }
+        ensures noted { self.new.noted ≡ self.old.noted }
     {
         let line = piece.line as usize;
         if line >= self.numbers.len() {

@@ -1,18 +1,19 @@
-//! The counts of a list by rounded ends and by the boxes of blocks.
-ghost use Rattle.std.specs.Prelude.{◌≡◌, ℕ, ◌≤◌, ◌<◌, ◌^◌, [], ◌∷◌, length, All, MatchOption, true};
+//! The counts of a list: blocks whole on one side by their boxes, the pieces of open ones by their rounded ends.
+ghost use Rattle.std.specs.Prelude.{◌≡◌, ℕ, ◌≤◌, ◌<◌, ◌^◌, [], ◌∷◌, length, All, MatchOption};
 ghost use Rattle.lv_segs.specs.Plane.{IsEdge};
 ghost use Rattle.lv_segs.specs.Pieces.{IsPiece, ray_of};
 ghost use Rattle.lv_segs.specs.Tree.{cost};
-ghost use Rattle.lv_segs.specs.Boxes.{HoldsPiece, boxes_of};
+ghost use Rattle.lv_segs.specs.Boxes.{boxes_of};
 ghost use Rattle.lv_partition.specs.Counts.{AreCounts};
-ghost use Rattle.lv_partition.specs.Blocks.{AreBlocks};
+ghost use Rattle.lv_partition.specs.Blocks.{AreBlocks, AreGroups};
 ghost use Rattle.lv_partition.specs.Sights.{IsSight, ends_of, all_ends};
+ghost use Rattle.lv_partition.specs.Sorting.{IsSorted};
 
 use crate::block_boxes::BLOCK;
-use crate::box_place::side_of_box;
-use crate::counts::{Counts, count_below};
+use crate::counts::Counts;
 use crate::ends::Ends;
 use crate::sight::{Sight, side_of_place, sight_of};
+use crate::sorting::{Sorted, sort_all};
 use lv_lumps::Bounds;
 use lv_segs::{Edge, Piece, Place, divide_in, ray_of};
 
@@ -62,68 +63,50 @@ fn count_list(
     counts
 }
 
-// The counts of a block, by its box where that lies on one side.
-fn count_block(
+// The counts of a list whose blocks are sorted, open block by open block, or None where the cost is found to be the
+// limit or more.
+fn count_open(
     lines: &[Edge],
     partition: &Piece,
     sight: Sight,
     pieces: &[Piece],
     ends: &[Ends],
-    bounds: Bounds,
-) -> Counts
+    sorted: Sorted,
+    noted: &[u32],
+    limit: u64,
+) -> Option<Counts>
     requires lines { All IsEdge lines.now }
     requires partition { IsPiece lines.now partition.now }
     requires ray { sight.ray ≡ ray_of lines.now partition.now }
     requires sight { IsSight sight }
     requires pieces { All (IsPiece lines.now) pieces.now }
     requires ends { ends.now ≡ all_ends lines.now pieces.now }
-    requires holds { All (HoldsPiece lines.now bounds) pieces.now }
     requires few { length pieces.now < 2 ^ 32 }
-    ensures { AreCounts lines.now partition.now pieces.now result }
-{
-    match side_of_box(sight, bounds) {
-        Place::Right => Counts {
-            splits: 0,
-            right: pieces.len() as u32,
-            left: 0,
-        },
-        Place::Left => Counts {
-            splits: 0,
-            right: 0,
-            left: pieces.len() as u32,
-        },
-        Place::Across => count_list(lines, partition, sight, pieces, ends),
-    }
-}
-
-// The counts of a list, block by block, or None where the cost is found to be the limit or more.
-fn count_in_boxes(
-    lines: &[Edge],
-    partition: &Piece,
-    pieces: &[Piece],
-    ends: &[Ends],
-    blocks: &[Bounds],
-    limit: u64,
-) -> Option<Counts>
-    requires lines { All IsEdge lines.now }
-    requires partition { IsPiece lines.now partition.now }
-    requires pieces { All (IsPiece lines.now) pieces.now }
-    requires ends { ends.now ≡ all_ends lines.now pieces.now }
-    requires blocks { AreBlocks (boxes_of lines.now pieces.now) blocks.now }
-    requires few { length pieces.now < 2 ^ 32 }
+    requires sorted { IsSorted lines.now partition.now pieces.now (length pieces.now) sorted noted.now }
     ensures { MatchOption result (limit ≤ cost lines.now partition.now pieces.now)
         (λ c. AreCounts lines.now partition.now pieces.now c) }
 {
-    let along = lines[partition.line as usize];
-    let sight = sight_of(ray_of(along, partition.side));
-    let mut counts = Counts::NONE;
-    for (k, bounds) in blocks.iter().enumerate() {
-        let from = BLOCK * k;
+    let mut rest = pieces.len() - sorted.right - sorted.left;
+    let mut counts = Counts {
+        splits: 0,
+        right: sorted.right as u32,
+        left: sorted.left as u32,
+    };
+    if limit <= counts.least_cost(rest as u32) {
+        return None;
+    }
+    for n in 0..sorted.count {
+        let from = BLOCK * noted[n] as usize;
         let end = (from + BLOCK).min(pieces.len());
-        let block = &pieces[from..end];
-        let more = count_block(lines, partition, sight, block, &ends[from..end], *bounds);
+        let more = count_list(
+            lines,
+            partition,
+            sight,
+            &pieces[from..end],
+            &ends[from..end],
+        );
         counts = counts.plus(more);
-        let rest = pieces.len() - end;
+        rest -= end - from;
         if limit <= counts.least_cost(rest as u32) {
             return None;
         }
@@ -131,46 +114,17 @@ fn count_in_boxes(
     Some(counts)
 }
 
-// The blocks that lie whole on one side show that the cost is the limit or more.
-fn blocks_reach(
-    lines: &[Edge],
-    partition: &Piece,
-    pieces: &[Piece],
-    blocks: &[Bounds],
-    limit: u64,
-) -> bool
-    requires lines { All IsEdge lines.now }
-    requires partition { IsPiece lines.now partition.now }
-    requires pieces { All (IsPiece lines.now) pieces.now }
-    requires blocks { AreBlocks (boxes_of lines.now pieces.now) blocks.now }
-    requires few { length pieces.now < 2 ^ 32 }
-    ensures { result ≡ true → limit ≤ cost lines.now partition.now pieces.now }
-{
-    let along = lines[partition.line as usize];
-    let sight = sight_of(ray_of(along, partition.side));
-    let mut right = 0;
-    let mut left = 0;
-    for (k, bounds) in blocks.iter().enumerate() {
-        let size = BLOCK.min(pieces.len() - BLOCK * k);
-        match side_of_box(sight, *bounds) {
-            Place::Right => right += size,
-            Place::Left => left += size,
-            Place::Across => {}
-        }
-    }
-    // all but the pieces on one side may be on the other one
-    let most = right.max(left);
-    limit <= (2 * most).saturating_sub(pieces.len()) as u64
-}
-
-/// The counts of a list, or None where the cost is found to be the limit or more: piece by piece
-/// where they are few, else first by a bound from the boxes of blocks alone.
+/// The counts of a list, or None where the cost is found to be the limit or more: piece by piece where they are few,
+/// else first by the boxes of groups and of blocks, each looked at once, and then by the pieces of the blocks that these
+/// leave open.
 pub(crate) fn count_by_boxes(
     lines: &[Edge],
     partition: &Piece,
     pieces: &[Piece],
     ends: &[Ends],
     blocks: &[Bounds],
+    groups: &[Bounds],
+    noted: &mut [u32],
     limit: u64,
 ) -> Option<Counts>
     requires lines { All IsEdge lines.now }
@@ -178,15 +132,18 @@ pub(crate) fn count_by_boxes(
     requires pieces { All (IsPiece lines.now) pieces.now }
     requires ends { ends.now ≡ all_ends lines.now pieces.now }
     requires blocks { AreBlocks (boxes_of lines.now pieces.now) blocks.now }
+    requires groups { AreGroups (boxes_of lines.now pieces.now) groups.now }
     requires few { length pieces.now < 2 ^ 32 }
-    ensures { MatchOption result (limit ≤ cost lines.now partition.now pieces.now)
+    requires room { length blocks.now ≤ length noted.old }
+    ensures counts { MatchOption result (limit ≤ cost lines.now partition.now pieces.now)
         (λ c. AreCounts lines.now partition.now pieces.now c) }
+    ensures room { length noted.new ≡ length noted.old }
 {
+    let along = lines[partition.line as usize];
+    let sight = sight_of(ray_of(along, partition.side));
     if pieces.len() <= BLOCK {
-        return count_below(lines, partition, pieces, limit);
+        return Some(count_list(lines, partition, sight, pieces, ends));
     }
-    if blocks_reach(lines, partition, pieces, blocks, limit) {
-        return None;
-    }
-    count_in_boxes(lines, partition, pieces, ends, blocks, limit)
+    let sorted = sort_all(lines, partition, sight, pieces, blocks, groups, noted);
+    count_open(lines, partition, sight, pieces, ends, sorted, noted, limit)
 }

@@ -31,7 +31,7 @@ returns-clause-so_far c =
     let within = line_known lines c.args.used.now p c.requires.piece c.requires.known in
     let free = stands_at c.args.used.now p.line false within ∙ ap Some c.if-used-piece.false in
     let o = c.count_by_boxes-counted.result in
-    let e = reordered lines p ps c.args.ordered.now c.requires.ordered c.limit_of-limit.result o c.count_by_boxes-counted.ensures in
+    let e = reordered lines p ps c.args.ordered.now c.requires.ordered c.limit_of-limit.result o c.count_by_boxes-counted.ensures.counts in
     let m = subst (λ (limit : ℕ). MatchOption o (limit ≤ cost lines p ps) (λ k. AreCounts lines p ps k)) c.limit_of-limit.ensures e in
     subst (SoFar lines ps c.args.used.now (c.args.at + 1)) (sym c.take_in.ensures)
     (taken lines ps c.args.used.now c.args.at p c.requires.stands c.args.best o c.requires.few c.requires.so_far free m)
@@ -44,4 +44,4 @@ returns-then-used-piece-clause-so_far c =
     used_stays lines c.args.pieces.now used c.args.at p c.requires.stands c.args.best c.requires.few (line_known lines used p c.requires.piece c.requires.known) c.if-used-piece.true c.requires.so_far
 
 pub count_by_boxes-counted-requires-clause-ends : goal.count_by_boxes-counted-requires-clause-ends
-count_by_boxes-counted-requires-clause-ends c = rw (c.deref.ensures.value, c.has_earlier.ensures.kept) c.requires.noted
+count_by_boxes-counted-requires-clause-ends c = rw (c.deref.ensures.value, c.has_earlier.ensures.ends) c.requires.noted

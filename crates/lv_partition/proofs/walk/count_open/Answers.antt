@@ -1,0 +1,159 @@
+use Rattle.std.proofs.Common.{◌≡◌, ◌+◌, ◌*◌, ◌-◌, ◌^◌, ◌<◌, ◌≤◌, ap, sym, ◌∙◌, subst, length, take, drop, min, get_or, arith, ℕ, List}
+use Rattle.std.proofs.lemmas.List.{length-take, length-drop}
+use Rattle.std.proofs.lemmas.List.Elements.{All-take, All-drop}
+use Rattle.lv_segs.specs.declared.piece.Piece.{Piece}
+use Rattle.lv_segs.specs.Pieces.{IsPiece}
+use Rattle.lv_segs.proofs.Stops.{Counted, cost_at_least}
+use Rattle.lv_partition.specs.declared.ends.Ends.{Ends}
+use Rattle.lv_partition.specs.Counts.{AreCounts}
+use Rattle.lv_partition.specs.Sorting.{pieces_in}
+use Rattle.lv_partition.proofs.BoxLemmas.{block_is}
+use Rattle.lv_partition.proofs.EndLemmas.{part_ends, ends_length}
+use Rattle.lv_partition.proofs.OneMore.{counted_all}
+use Rattle.lv_partition.proofs.OpenBlocks.{open_left, all_length, counted_few, begins, open_counted, open_rest, none_open}
+use Rattle.lv_partition.proofs.walk.count_open.Goals as goal
+use Rattle.lv_partition.proofs.walk.count_open.Goals.{After-count_list-more, After-plus-counts}
+
+-- an open block begins in the list
+pub slice_bounds-count_list-count : goal.slice_bounds-count_list-count
+slice_bounds-count_list-count c =
+    let b = begins c.args.lines.now c.args.partition.now c.args.pieces.now c.loop-n.n c.args.sorted c.args.noted.now c.requires.sorted c.loop-n-test.true in
+    let e = c.min-end.ensures in
+    omega arith
+
+pub slice_bounds-count_list-start : goal.slice_bounds-count_list-start
+slice_bounds-count_list-start c =
+    let b = begins c.args.lines.now c.args.partition.now c.args.pieces.now c.loop-n.n c.args.sorted c.args.noted.now c.requires.sorted c.loop-n-test.true in
+    let e = c.min-end.ensures in
+    omega arith
+
+pub slice_bounds-count_list-count-in-loop-n : goal.slice_bounds-count_list-count-in-loop-n
+slice_bounds-count_list-count-in-loop-n c =
+    let b = begins c.args.lines.now c.args.partition.now c.args.pieces.now c.loop-n.n c.args.sorted c.args.noted.now c.requires.sorted c.loop-n-test.true in
+    let e = c.min-end.ensures in
+    omega arith
+
+pub slice_bounds-count_list-start-in-loop-n : goal.slice_bounds-count_list-start-in-loop-n
+slice_bounds-count_list-start-in-loop-n c =
+    let b = begins c.args.lines.now c.args.partition.now c.args.pieces.now c.loop-n.n c.args.sorted c.args.noted.now c.requires.sorted c.loop-n-test.true in
+    let e = c.min-end.ensures in
+    omega arith
+
+pub returns-then-limit-least_cost : goal.returns-then-limit-least_cost
+returns-then-limit-least_cost c =
+    let lines = c.args.lines.now in
+    let p = c.args.partition.now in
+    let ps = c.args.pieces.now in
+    let s = c.args.sorted in
+    let noted = c.args.noted.now in
+    let k = cost_at_least lines p ps (pieces_in ps (take s.count noted)) s.right s.left 0 (open_left lines p ps s noted c.requires.sorted) in
+    let l = all_length lines p ps s noted c.requires.sorted in
+    let e = c.least_cost.ensures in
+    let t = c.if-limit-least_cost.true in
+    omega arith
+
+pub loop-n-init : goal.loop-n-init
+loop-n-init c =
+    let lines = c.args.lines.now in
+    let p = c.args.partition.now in
+    let ps = c.args.pieces.now in
+    let s = c.args.sorted in
+    let noted = c.args.noted.now in
+    let l = all_length lines p ps s noted c.requires.sorted in
+    record { counted = open_left lines p ps s noted c.requires.sorted; rest = omega arith; most = omega arith }
+
+pub count_list-more-requires-clause-pieces : goal.count_list-more-requires-clause-pieces
+count_list-more-requires-clause-pieces c =
+    let from = 16 * get_or c.args.noted.now c.loop-n.n 0 in
+    All-take (IsPiece c.args.lines.now) (c.min-end.result - from) (drop from c.args.pieces.now) (All-drop (IsPiece c.args.lines.now) from c.args.pieces.now c.requires.pieces)
+
+pub count_list-more-requires-clause-ends : goal.count_list-more-requires-clause-ends
+count_list-more-requires-clause-ends c =
+    let from = 16 * get_or c.args.noted.now c.loop-n.n 0 in
+    ap (λ (es : List Ends). take (c.min-end.result - from) (drop from es)) c.requires.ends ∙ part_ends c.args.lines.now c.args.pieces.now (c.min-end.result - from) from
+
+-- what is known once the next open block is counted
+record Next (c : After-count_list-more) : Type 0 where
+  counted : Counted c.args.lines.now c.args.partition.now c.args.pieces.now (pieces_in c.args.pieces.now (drop (c.loop-n.n + 1) (take c.args.sorted.count c.args.noted.now))) (c.loop-n.counts.right + c.count_list-more.result.right) (c.loop-n.counts.left + c.count_list-more.result.left) (c.loop-n.counts.splits + c.count_list-more.result.splits)
+  right : c.loop-n.counts.right + c.count_list-more.result.right < 2 ^ 32
+  left : c.loop-n.counts.left + c.count_list-more.result.left < 2 ^ 32
+  splits : c.loop-n.counts.splits + c.count_list-more.result.splits < 2 ^ 32
+  rest : c.loop-n.rest ≡ (c.min-end.result - 16 * get_or c.args.noted.now c.loop-n.n 0) + length (pieces_in c.args.pieces.now (drop (c.loop-n.n + 1) (take c.args.sorted.count c.args.noted.now)))
+  forward : 16 * get_or c.args.noted.now c.loop-n.n 0 ≤ c.min-end.result
+
+next : (c : After-count_list-more) → Next c
+next c =
+    let lines = c.args.lines.now in
+    let p = c.args.partition.now in
+    let ps = c.args.pieces.now in
+    let noted = c.args.noted.now in
+    let m = c.args.sorted.count in
+    let n = c.loop-n.n in
+    let k = get_or noted n 0 in
+    let i = c.loop-n.invariant in
+    let b = begins lines p ps n c.args.sorted noted c.requires.sorted c.loop-n-test.true in
+    let e = c.min-end.ensures in
+    let room = c.requires.sorted.few in
+    let same = block_is ps k c.min-end.result (omega arith) e in
+    let a = subst (λ (qs : List Piece). AreCounts lines p qs c.count_list-more.result) same c.count_list-more.ensures in
+    let counted = open_counted lines p ps m n noted c.loop-n.counts.right c.loop-n.counts.left c.loop-n.counts.splits c.count_list-more.result c.loop-n-test.true room i.counted a in
+    let few = counted_few lines p ps _ _ _ _ counted in
+    let fr = few.right in
+    let fl = few.left in
+    let fs = few.splits in
+    let all = c.requires.few in
+    let o = open_rest lines p ps m n noted c.loop-n-test.true room in
+    let lt = length-take 16 (drop (16 * k) ps) in
+    let ld = length-drop (16 * k) ps in
+    let r = i.rest in
+    record { counted = counted; right = omega arith; left = omega arith; splits = omega arith; rest = omega arith; forward = omega arith }
+
+pub plus-counts-requires-clause-right : goal.plus-counts-requires-clause-right
+plus-counts-requires-clause-right c = (next (goal.at.plus-counts-requires-clause-right c).After-count_list-more).right
+
+pub plus-counts-requires-clause-left : goal.plus-counts-requires-clause-left
+plus-counts-requires-clause-left c = (next (goal.at.plus-counts-requires-clause-left c).After-count_list-more).left
+
+pub plus-counts-requires-clause-splits : goal.plus-counts-requires-clause-splits
+plus-counts-requires-clause-splits c = (next (goal.at.plus-counts-requires-clause-splits c).After-count_list-more).splits
+
+pub overflow_sub-rest-in-loop-n : goal.overflow_sub-rest-in-loop-n
+overflow_sub-rest-in-loop-n c = (next (goal.at.overflow_sub-rest-in-loop-n c).After-count_list-more).forward
+
+pub overflow_sub-rest-in-loop-n-2 : goal.overflow_sub-rest-in-loop-n-2
+overflow_sub-rest-in-loop-n-2 c = let r = (next (goal.at.overflow_sub-rest-in-loop-n-2 c).After-count_list-more).rest in omega arith
+
+pub overflow_cast-rest-in-loop-n : goal.overflow_cast-rest-in-loop-n
+overflow_cast-rest-in-loop-n c = let m = c.loop-n.invariant.most in let f = c.requires.few in omega arith
+
+pub returns-then-limit-least_cost-2 : goal.returns-then-limit-least_cost-2
+returns-then-limit-least_cost-2 c =
+    let x = next (goal.at.returns-then-limit-least_cost-2 c).After-count_list-more in
+    let r = x.rest in
+    let e = c.plus-counts.ensures in
+    let er = e.right in
+    let el = e.left in
+    let es = e.splits in
+    let k = cost_at_least c.args.lines.now c.args.partition.now c.args.pieces.now _ _ _ _ x.counted in
+    omega arith
+
+pub loop-n-preserved : goal.loop-n-preserved
+loop-n-preserved c =
+    let x = next (goal.at.loop-n-preserved c).After-count_list-more in
+    let r = x.rest in
+    let k = x.counted in
+    let kr = k.right in
+    let kl = k.left in
+    let ks = k.splits in
+    let e = c.plus-counts.ensures in
+    let er = e.right in
+    let el = e.left in
+    let es = e.splits in
+    let m = c.loop-n.invariant.most in
+    record { counted = record { right = omega arith; left = omega arith; splits = omega arith }; rest = omega arith; most = omega arith }
+
+pub returns : goal.returns
+returns c =
+    let f = c.loop-n-test.false in
+    let a = counted_all c.args.lines.now c.args.partition.now c.args.pieces.now _ _ _ _ (none_open c.args.lines.now c.args.partition.now c.args.pieces.now c.args.sorted.count c.loop-n.n c.args.noted.now (omega arith)) c.loop-n.invariant.counted in
+    record { splits = a.0; right = a.1; left = a.2 }
