@@ -4,21 +4,34 @@ ghost use Rattle.lv_disk.specs.Stops.{Counted};
 
 use crate::{DeviceFault, Disk};
 use std::fs::{Files, OpenFile, OpenOptions};
-use std::io;
+use std::io::{self, ErrorKind};
 use std::os::unix::fs::FileExt;
 
 /// A real file.
 ///
 /// It tells no bytes: that what it reads and what a stop leaves of it keep the facts of `Disk` is assumed. An
-/// interrupted call of the system is tried again and a short one goes on; a read that meets the end early is a fault.
+/// interrupted call of the system is tried again and a short one goes on; a read that meets the end early is a fault. A
+/// medium that knows no sync is no fault where the file is open for reads alone.
 #[derive(Drop)]
 pub struct FileDisk<F> {
     file: F,
+    writes: bool,
     failures: u64,
 }
 
 impl<F> FileDisk<F> {
     ghost use Rattle.lv_disk.specs.File.{failures_of};
+
+    /// The disk of a file that is open for reads, and with `writes` for writes too.
+    pub fn new(file: F, writes: bool) -> FileDisk<F>
+        ensures { failures_of result ≡ 0 }
+    {
+        FileDisk {
+            file,
+            writes,
+            failures: 0,
+        }
+    }
 
     /// Opens the file for reads and writes. With `new` one is made where there is none; nothing is cut.
     pub fn open<R: Files<File = F>>(
@@ -34,7 +47,7 @@ impl<F> FileDisk<F> {
             .create(new)
             .open(rt, path);
         match opened {
-            Ok(file) => Ok(FileDisk { file, failures: 0 }),
+            Ok(file) => Ok(FileDisk::new(file, true)),
             Err(_) => Err(DeviceFault),
         }
     }
@@ -51,6 +64,19 @@ impl<F> FileDisk<F> {
                 Err(DeviceFault)
             }
         }
+    }
+}
+
+// How a sync of a file ended of which nothing is written: where its medium can't be synced, nothing is wanting.
+fn without_refusal(done: io::Result<()>) -> io::Result<()> {
+    match done {
+        Err(error) => match error.kind() {
+            ErrorKind::InvalidInput | ErrorKind::ReadOnlyFilesystem | ErrorKind::Unsupported => {
+                Ok(())
+            }
+            _ => Err(error),
+        },
+        Ok(()) => Ok(()),
     }
 }
 
@@ -90,6 +116,11 @@ impl<F: FileExt + OpenFile> Disk for FileDisk<F> {
 
     fn sync(&mut self) -> Result<(), DeviceFault> {
         let done = self.file.sync_all();
+        let done = if self.writes {
+            done
+        } else {
+            without_refusal(done)
+        };
         self.counted(done)
     }
 }

@@ -1,0 +1,5 @@
+pub mod Accesses
+pub mod Causes
+pub mod Names
+pub mod NewFile
+pub mod Replaced

@@ -1,0 +1,15 @@
+//! Files that two programs may want at once, and new files that are whole or not there.
+#![tactic(auto)]
+
+mod cause;
+mod hold;
+mod name;
+mod new_file;
+mod replaceable;
+mod target;
+
+pub use cause::{Cause, write_cause};
+pub use hold::{Access, Hold, open_held};
+pub use name::beside;
+pub use new_file::{NewFile, open_new};
+pub use replaceable::may_be_replaced;

@@ -1,0 +1,210 @@
+//! A new file that takes a path's place once it is whole.
+ghost use Rattle.std.specs.Prelude.{◌≡◌};
+
+use crate::hold::{Hold, held};
+use crate::name::beside;
+use crate::replaceable::may_be_replaced;
+use crate::target::target_of;
+use crate::{Access, Cause};
+use std::alloc::Global;
+use std::fs::{self, Files, OpenFile, OpenOptions, Permissions};
+use std::io::{self, ErrorKind, Write};
+use std::os::unix::fs::MetadataExt;
+use std::path::PathBuf;
+
+// Where a new file stands, and where it goes once it is whole.
+#[derive(Drop)]
+struct Names {
+    new: PathBuf,
+    target: PathBuf,
+}
+
+/// A file that is being made for a path. What is written stands in a new file beside it, and `put` gives it the path's
+/// place; a pipe or a device is written itself.
+#[derive(Drop)]
+pub struct NewFile<F> {
+    file: F,
+    names: Option<Names>,
+    fault: Option<io::Error>,
+}
+
+impl<F: Write> Write for NewFile<F> {
+    ghost use Rattle.lv_files.specs.NewFile.{file_of};
+
+    ghost contents = { λ new. F.contents (file_of new) };
+
+    fn write(&mut self, buf: &[u8]) -> io::Result<usize> {
+        let done = self.file.write(buf);
+        if let Err(error) = &done {
+            self.fault = Some(*error);
+        }
+        done
+    }
+
+    fn flush(&mut self) -> io::Result<()> {
+        self.file.flush()
+    }
+}
+
+// Whether the file stands at the path.
+fn stands_at<E: Files>(rt: &E, file: &E::File, path: &str) -> io::Result<bool> {
+    let found = rt.metadata(path)?;
+    let own = file.metadata()?;
+    Ok(found.dev() == own.dev() && found.ino() == own.ino())
+}
+
+// Makes a new file at the path, where there is none.
+fn make<E: Files>(rt: &E, path: &str) -> io::Result<E::File> {
+    OpenOptions::new()
+        .write(true)
+        .create_new(true)
+        .open(rt, path)
+}
+
+// Makes a new file in place of what a killed program left. One whose maker still runs is left alone.
+fn make_again<E: Files>(rt: &E, path: &str) -> Result<E::File, Cause>
+where
+    E::File: Hold,
+{
+    let left = fs::open(rt, path)?;
+    held(&left, true)?;
+    rt.remove_file(path)?;
+    Ok(make(rt, path)?)
+}
+
+// Makes a new file at the path and holds it. Whoever finds it asks for the hold before it takes it away.
+fn make_held<E: Files>(rt: &E, path: &str) -> Result<E::File, Cause>
+where
+    E::File: Hold,
+{
+    let file = match make(rt, path) {
+        Ok(file) => file,
+        Err(error) if error.kind() == ErrorKind::AlreadyExists => make_again(rt, path)?,
+        Err(error) => return Err(Cause::System(error)),
+    };
+    held(&file, true)?;
+    if stands_at(rt, &file, path)? {
+        Ok(file)
+    } else {
+        Err(Cause::Held)
+    }
+}
+
+// Refuses a file that may not be written, or that is neither empty nor a PWAD.
+fn check_replaceable<E: Files>(alloc: Global, rt: &E, path: &str) -> Result<(), Cause> {
+    let file = OpenOptions::new().read(true).write(true).open(rt, path)?;
+    if may_be_replaced(alloc, file)? {
+        Ok(())
+    } else {
+        Err(Cause::NoPwad)
+    }
+}
+
+// Opens a new file beside the one that the path leads to, with the permissions of that one.
+fn open_beside<E: Files>(
+    alloc: Global,
+    rt: &E,
+    path: &str,
+    permissions: Option<Permissions>,
+) -> Result<NewFile<E::File>, Cause>
+where
+    E::File: Hold,
+{
+    let target = target_of(alloc, rt, path)?;
+    if permissions.is_some() {
+        check_replaceable(alloc, rt, target.as_path().as_str())?;
+    }
+    let new = beside(alloc, target.as_path().as_str())?;
+    let file = make_held(rt, new.as_path().as_str())?;
+    if let Some(permissions) = permissions {
+        if let Err(error) = file.set_permissions(permissions) {
+            let _ = rt.remove_file(new.as_path().as_str());
+            return Err(Cause::System(error));
+        }
+    }
+    Ok(NewFile {
+        file,
+        names: Some(Names { new, target }),
+        fault: None,
+    })
+}
+
+// Opens what is no regular file, to be written itself.
+fn open_itself<E: Files>(rt: &E, path: &str) -> Result<NewFile<E::File>, Cause> {
+    let file = OpenOptions::new().write(true).open(rt, path)?;
+    Ok(NewFile {
+        file,
+        names: None,
+        fault: None,
+    })
+}
+
+/// Opens a new file for a path at which there is nothing, an empty file or a PWAD; what stands there stays until `put`.
+/// A link is followed. A pipe or a device is opened itself.
+///
+/// # Errors
+///
+/// `NoPwad` where a file stands there that may not be replaced, `Held` where another program makes one, `System`, or
+/// `OutOfMemory`.
+pub fn open_new<E: Files>(alloc: Global, rt: &E, path: &str) -> Result<NewFile<E::File>, Cause>
+where
+    E::File: Hold,
+{
+    match rt.metadata(path) {
+        Ok(found) if found.is_file() => { open_beside(alloc, rt, path, Some(found.permissions())) }
+        Ok(_) => open_itself(rt, path),
+        Err(error) if error.kind() == ErrorKind::NotFound => open_beside(alloc, rt, path, None),
+        Err(error) => Err(Cause::System(error)),
+    }
+}
+
+// Syncs the folder of a path, where that can be done.
+fn sync_folder<E: Files>(rt: &E, path: &PathBuf) {
+    let folder = match path.as_path().parent() {
+        Some(folder) if !folder.as_str().is_empty() => folder.as_str(),
+        _ => ".",
+    };
+    if let Ok(folder) = fs::open(rt, folder) {
+        let _ = folder.sync_all();
+    }
+}
+
+impl<F: OpenFile + Drop> NewFile<F> {
+    /// What the last write that failed was refused for.
+    pub fn fault(&self) -> Option<Cause> {
+        self.fault.map(Cause::System)
+    }
+
+    /// Syncs what was written and gives it the path's place, or takes it away.
+    ///
+    /// # Errors
+    ///
+    /// `System`; what stood at the path stands there then.
+    pub fn put<E: Files>(self, rt: &E) -> Result<(), Cause> {
+        let Some(names) = &self.names else {
+            return Ok(());
+        };
+        let new = names.new.as_path().as_str();
+        let put = match self.file.sync_all() {
+            Ok(()) => rt.rename(new, names.target.as_path().as_str()),
+            Err(error) => Err(error),
+        };
+        match put {
+            Ok(()) => {
+                sync_folder(rt, &names.target);
+                Ok(())
+            }
+            Err(error) => {
+                let _ = rt.remove_file(new);
+                Err(Cause::System(error))
+            }
+        }
+    }
+
+    /// Takes away what was written. What stood at the path stands there.
+    pub fn take_away<E: Files>(self, rt: &E) {
+        if let Some(names) = &self.names {
+            let _ = rt.remove_file(names.new.as_path().as_str());
+        }
+    }
+}

@@ -1,0 +1,23 @@
+//! Where a path leads.
+use crate::Cause;
+use std::alloc::Global;
+use std::fs::Files;
+use std::io::{Error, ErrorKind};
+use std::path::PathBuf;
+
+// How many links are followed, as the system does.
+const LINKS: u32 = 40;
+
+/// The path of the file that a path leads to, by the links at its end; there may be none yet.
+pub fn target_of<E: Files>(alloc: Global, rt: &E, path: &str) -> Result<PathBuf, Cause> {
+    let mut at = PathBuf::from_str(alloc, path)?;
+    for _ in 0..LINKS {
+        match rt.symlink_metadata(at.as_path().as_str()) {
+            Ok(found) if found.is_symlink() => {}
+            _ => return Ok(at),
+        }
+        let link = rt.read_link(alloc, at.as_path().as_str())?;
+        at = at.as_path().with_file_name(alloc, link.as_path().as_str())?;
+    }
+    Err(Cause::System(Error::from(ErrorKind::FilesystemLoop)))
+}
