@@ -5,6 +5,7 @@ pub mod Dumping
 pub mod Editing
 pub mod Errors
 pub mod Inspections
+pub mod LevelNames
 pub mod Lines
 pub mod Queries
 pub mod Recovery

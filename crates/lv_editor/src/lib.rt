@@ -26,6 +26,7 @@ mod recovery;
 mod refusal;
 mod session;
 mod status;
+mod wad_levels;
 
 pub use counted_wad::write_wad;
 pub use drawing::run_in_memory;

@@ -11,3 +11,4 @@ pub mod Audit
 pub mod Sound
 pub mod Projects
 pub mod Counted
+pub mod Listing

@@ -59,8 +59,8 @@ pub fn has_directory(wad: &[u8]) -> bool
     long_at(wad, 8) as u64 + 16 * long_at(wad, 4) as u64 <= wad.len() as u64
 }
 
-// How many lumps the WAD has.
-fn lump_count(wad: &[u8]) -> u32
+/// How many lumps the WAD has.
+pub fn lump_count(wad: &[u8]) -> u32
     requires { 12 ≤ length wad.now }
     ensures { result ≡ lump_count wad.now }
 {
@@ -81,8 +81,8 @@ pub fn entry_of(wad: &[u8], k: u32) -> Entry
     }
 }
 
-// Whether the k-th entry has the name.
-fn is_named(wad: &[u8], name: &[u8], k: u32) -> bool
+/// Whether the k-th entry has the name.
+pub fn is_named(wad: &[u8], name: &[u8], k: u32) -> bool
     requires directory { HasEntries wad.now }
     requires among { k < lump_count wad.now }
     ensures { result ≡ entry_has_name wad.now name.now k }
