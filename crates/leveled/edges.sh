@@ -40,7 +40,8 @@ sed -n '/^\.TS/,/^\.TE/p' "$page" | sed -n 's/^\([a-z][a-z, -]*\).*\t.*/\1/p' | 
 # A folder and a missing file are no project; what can't be told is kept.
 for word in create edit check; do
     said=$("$program" "$word" "$place" </dev/null 2>&1); status_is "$word of a folder" 1 $?
-    [ "$said" = 'leveled: 30 Device' ] || { echo "$word of a folder says: $said"; bad=1; }
+    [ "$said" = "$(printf 'leveled: 30 Device\n  %s: is no regular file' "$place")" ] ||
+        { echo "$word of a folder says: $said"; bad=1; }
 done
 "$program" edit "$place/none" </dev/null 2>/dev/null; status_is 'a missing file' 1 $?
 [ ! -e "$place/none" ] || { echo 'edit made a file'; bad=1; }
@@ -60,7 +61,8 @@ echo 'hex THINGS' | "$program" edit "$place/map" 2>&- >/dev/null
 ln -s map "$place/link"
 for out in map link; do
     said=$("$program" build "$place/map" "$place/$out" 2>&1); status_is "build over $out" 1 $?
-    [ "$said" = 'leveled: 38 WriterFailed' ] || { echo "build over $out says: $said"; bad=1; }
+    [ "$said" = "$(printf 'leveled: 38 WriterFailed\n  %s: is no PWAD; it is left alone' "$place/$out")" ] ||
+        { echo "build over $out says: $said"; bad=1; }
 done
 cmp -s "$place/map" "$place/kept" || { echo 'a project was written over'; bad=1; }
 

@@ -12,36 +12,40 @@ use crate::counted_wad::{write_counts, write_wad};
 use crate::error::{EditorError, WriteError};
 use crate::over_disk::{HandedBack, open_project};
 use crate::refusal::Refusal;
-use lv_disk::{Disk, FileDisk};
+use lv_disk::Disk;
+use lv_files::{Cause, Hold, NewFile, open_new};
 use lv_maptables::Maps;
-use lv_project::{Project, ProjectError};
 use lv_pwad::BuildCounts;
 use std::alloc::Global;
-use std::fs::{Files, OpenFile, OpenOptions};
+use std::fs::{Files, OpenFile};
 use std::io::Write;
-use std::os::unix::fs::FileExt;
 
-// Builds the maps of a project into a file, whose bytes behind the PWAD are cut off. Maps that aren't built leave the
-// file alone.
-fn build_into<F: Write + OpenFile>(
+// Builds the maps of a project into a new file, which takes its path's place once it is whole, or notes why it doesn't.
+fn build_into<E: Files, F: Write + OpenFile + Drop>(
     alloc: Global,
+    rt: &E,
     maps: &Maps,
-    file: &mut F,
+    mut new: NewFile<F>,
+    why: &mut Option<Cause>,
 ) -> Result<BuildCounts, Refusal>
     ensures written { IfOk result
         (λ counts. (wad : List ℕ) × IsCounted (project_of maps.now).maps wad counts) }
     ensures refused { IfErr result (RefusesFile (project_of maps.now).maps) }
 {
-    let counts = write_wad(alloc, maps, file)?;
-    let failed = Refusal::Build(WriteError::WriterFailed);
-    let Ok(found) = file.metadata() else {
-        return Err(failed);
-    };
-    // A pipe or a device has no length.
-    if found.len() > counts.bytes && file.set_len(counts.bytes).is_err() {
-        return Err(failed);
+    match write_wad(alloc, maps, &mut new) {
+        Ok(counts) => match new.put(rt) {
+            Ok(()) => Ok(counts),
+            Err(cause) => {
+                *why = Some(cause);
+                Err(Refusal::Build(WriteError::WriterFailed))
+            }
+        },
+        Err(error) => {
+            *why = new.fault();
+            new.take_away(rt);
+            Err(Refusal::Build(error))
+        }
     }
-    Ok(counts)
 }
 
 // Tells what a build made, and hands it on.
@@ -58,61 +62,45 @@ fn tell_built<W: Write>(counts: BuildCounts, writer: &mut W) -> Result<u8, Refus
     }
 }
 
-// Whether a project stands in the file at the path, sound or damaged.
-fn is_project<E: Files>(alloc: Global, rt: &E, path: &str) -> bool
-where
-    E::File: FileExt,
-{
-    let Ok(disk) = FileDisk::open(rt, path, false) else {
-        return false;
-    };
-    match Project::open(alloc, disk) {
-        Ok(_) => true,
-        Err(refused) => match refused.error {
-            ProjectError::Device | ProjectError::NotAProject => false,
-            _ => true,
-        },
-    }
-}
-
-// Builds maps into the file at the path, which is made where there is none, and tells what was made. A file that holds
-// a project is not written over.
+// Builds maps into the file at the path, where nothing, an empty file or a PWAD stands, and tells what was made.
 fn build_at<E: Files, W: Write>(
     alloc: Global,
     rt: &E,
     maps: &Maps,
     path: &str,
     writer: &mut W,
+    why: &mut Option<Cause>,
 ) -> Result<u8, Refusal>
 where
-    E::File: FileExt,
+    E::File: Hold,
     ensures small { IfOk result (λ s. s ≤ 3) }
     ensures built { IsBuiltOf maps.now result (W.contents writer.old) (W.contents writer.new) }
 {
-    if is_project(alloc, rt, path) {
-        return Err(Refusal::Lines(EditorError::WriterFailed));
-    }
-    let opened = OpenOptions::new().write(true).create(true).open(rt, path);
-    let Ok(mut file) = opened else {
-        return Err(Refusal::Lines(EditorError::WriterFailed));
+    let new = match open_new(alloc, rt, path) {
+        Ok(new) => new,
+        Err(cause) => {
+            *why = Some(cause);
+            return Err(Refusal::Lines(EditorError::WriterFailed));
+        }
     };
-    match build_into(alloc, maps, &mut file) {
+    match build_into(alloc, rt, maps, new, why) {
         Ok(counts) => tell_built(counts, writer),
         Err(refusal) => Err(refusal),
     }
 }
 
-/// Builds the maps of a disk's project into the file at the path, which is made where there is none, and tells what was
-/// made. A file that holds a project is not written over. The disk is only read.
+/// Builds the maps of a disk's project into the file at the path, and tells what was made, or notes why the file can't
+/// be made. The file is whole or as it was; only nothing, an empty file or a PWAD is replaced. The disk is only read.
 pub fn build<E: Files, D: Disk, W: Write>(
     alloc: Global,
     rt: &E,
     disk: D,
     path: &str,
     writer: &mut W,
+    why: &mut Option<Cause>,
 ) -> HandedBack<D>
 where
-    E::File: FileExt,
+    E::File: Hold,
     ensures small { IfOk result.how (λ s. s ≤ 3) }
     ensures built { OverMaps (D.reads disk) result.how
         (W.contents writer.old) (W.contents writer.new)
@@ -123,7 +111,7 @@ where
         Ok(project) => project,
         Err(refused) => return refused,
     };
-    let how = build_at(alloc, rt, project.maps(), path, writer);
+    let how = build_at(alloc, rt, project.maps(), path, writer, why);
     HandedBack {
         how,
         disk: project.into_disk(),

@@ -9,6 +9,7 @@ use crate::error::EditorError;
 use crate::inspection::inspect;
 use crate::refusal::Refusal;
 use crate::status::status_told;
+use lv_files::Cause;
 use std::alloc::Global;
 use std::fs::{self, Files};
 use std::io::{Read, Write};
@@ -59,7 +60,7 @@ fn examine_read<R: Read, W: Write>(
     }
 }
 
-/// Inspects the level of the name in the WAD at the path, and answers the status.
+/// Inspects the level of the name in the WAD at the path, and answers the status, or notes why it can't be opened.
 pub fn examine<E: Files, W: Write>(
     alloc: Global,
     rt: &E,
@@ -67,6 +68,7 @@ pub fn examine<E: Files, W: Write>(
     name: &str,
     turns: u32,
     writer: &mut W,
+    why: &mut Option<Cause>,
 ) -> Result<u8, Refusal>
     ensures small { IfOk result (λ s. s ≤ 3) }
     ensures examined { IsExamined name.now result
@@ -74,6 +76,9 @@ pub fn examine<E: Files, W: Write>(
 {
     match fs::open(rt, path) {
         Ok(mut file) => examine_read(alloc, &mut file, name.as_bytes(), turns, writer),
-        Err(_) => Err(Refusal::Lines(EditorError::ReaderFailed)),
+        Err(error) => {
+            *why = Some(Cause::System(error));
+            Err(Refusal::Lines(EditorError::ReaderFailed))
+        }
     }
 }

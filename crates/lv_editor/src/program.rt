@@ -11,9 +11,10 @@ use crate::dump_request::dump;
 use crate::examining::examine;
 use crate::limits::TURNS;
 use crate::over_disk::{check, create, edit};
-use crate::refusal::{Refusal, report};
+use crate::refusal::{Causes, Refusal, report, report_causes};
 use crate::status::ended;
 use lv_disk::{Disk, FileDisk};
+use lv_files::{Access, Hold, open_held};
 use lv_project::{Geometry, ProjectError};
 use lv_requests::Request;
 use std::alloc::Global;
@@ -30,35 +31,57 @@ fn scratch<R: Read, W: Write>(alloc: Global, reader: &mut R, writer: &mut W) -> 
     ended(run_in_memory(alloc, reader, writer, TURNS))
 }
 
-// The file of a request. With `new` one is made where there is none.
-fn file_at<E: Files>(rt: &E, path: &str, new: bool) -> Result<FileDisk<E::File>, Refusal>
+// The file of a request, held until the disk is let go, or notes why it can't be opened.
+fn file_at<E: Files>(
+    rt: &E,
+    path: &str,
+    access: Access,
+    why: &mut Causes,
+) -> Result<FileDisk<E::File>, Refusal>
+where
+    E::File: Hold,
     ensures { IfErr result (λ r. r ≡ Refusal.Project ProjectError.Device) }
 {
-    match FileDisk::open(rt, path, new) {
-        Ok(disk) => Ok(disk),
-        Err(_) => Err(Refusal::Project(ProjectError::Device)),
+    match open_held(rt, path, access) {
+        Ok(file) => Ok(FileDisk::new(file, access.writes())),
+        Err(cause) => {
+            why.file = Some(cause);
+            Err(Refusal::Project(ProjectError::Device))
+        }
     }
 }
 
 // Makes a project in the file at the path.
-fn create_file<E, W>(rt: &E, path: &str, geometry: Geometry, writer: &mut W) -> Result<u8, Refusal>
+fn create_file<E, W>(
+    rt: &E,
+    path: &str,
+    geometry: Geometry,
+    writer: &mut W,
+    why: &mut Causes,
+) -> Result<u8, Refusal>
 where
     E: AllocGlobal + Files,
-    E::File: FileExt,
+    E::File: FileExt + Hold,
     W: Write,
     ensures small { IfOk result (λ s. s ≤ 3) }
     ensures created { IsCreated geometry.slot geometry.journal result
         (W.contents writer.old) (W.contents writer.new) }
 {
-    let disk = file_at(rt, path, true)?;
+    let disk = file_at(rt, path, Access::Making, why)?;
     create(rt.alloc(), disk, geometry, writer).how
 }
 
 // Answers the lines of the input over the project in the file at the path.
-fn edit_file<E, R, W>(rt: &E, path: &str, reader: &mut R, writer: &mut W) -> Result<u8, Refusal>
+fn edit_file<E, R, W>(
+    rt: &E,
+    path: &str,
+    reader: &mut R,
+    writer: &mut W,
+    why: &mut Causes,
+) -> Result<u8, Refusal>
 where
     E: AllocGlobal + Files,
-    E::File: FileExt,
+    E::File: FileExt + Hold,
     R: Read,
     W: Write,
     ensures small { IfOk result (λ s. s ≤ 3) }
@@ -68,54 +91,66 @@ where
         result (R.remaining reader.old) (R.remaining reader.new)
         (W.contents writer.old) (W.contents writer.new) }
 {
-    let disk = file_at(rt, path, false)?;
+    let disk = file_at(rt, path, Access::Writes, why)?;
     edit(rt.alloc(), disk, reader, writer).how
 }
 
 // Says what is wrong or unfinished in the current map of the project in the file at the path.
-fn check_file<E, W>(rt: &E, path: &str, writer: &mut W) -> Result<u8, Refusal>
+fn check_file<E, W>(rt: &E, path: &str, writer: &mut W, why: &mut Causes) -> Result<u8, Refusal>
 where
     E: AllocGlobal + Files,
-    E::File: FileExt,
+    E::File: FileExt + Hold,
     W: Write,
     ensures small { IfOk result (λ s. s ≤ 3) }
     ensures found { IsChecked result (W.contents writer.old) (W.contents writer.new) }
 {
-    let disk = file_at(rt, path, false)?;
+    let disk = file_at(rt, path, Access::Reads, why)?;
     check(rt.alloc(), disk, writer).how
 }
 
 // Writes the lines that draw the maps of the project in the file at the path again.
-fn dump_file<E, W>(rt: &E, path: &str, writer: &mut W) -> Result<u8, Refusal>
+fn dump_file<E, W>(rt: &E, path: &str, writer: &mut W, why: &mut Causes) -> Result<u8, Refusal>
 where
     E: AllocGlobal + Files,
-    E::File: FileExt,
+    E::File: FileExt + Hold,
     W: Write,
     ensures small { IfOk result (λ s. s ≤ 3) }
     ensures dumped { IsDumped result (W.contents writer.old) (W.contents writer.new) }
 {
-    let disk = file_at(rt, path, false)?;
+    let disk = file_at(rt, path, Access::Reads, why)?;
     dump(rt.alloc(), disk, writer).how
 }
 
 // Builds the maps of the project in the file at the path into the file at `out`.
-fn build_file<E, W>(rt: &E, path: &str, out: &str, writer: &mut W) -> Result<u8, Refusal>
+fn build_file<E, W>(
+    rt: &E,
+    path: &str,
+    out: &str,
+    writer: &mut W,
+    why: &mut Causes,
+) -> Result<u8, Refusal>
 where
     E: AllocGlobal + Files,
-    E::File: FileExt,
+    E::File: FileExt + Hold,
     W: Write,
     ensures small { IfOk result (λ s. s ≤ 3) }
     ensures built { IsBuiltInto result (W.contents writer.old) (W.contents writer.new) }
 {
-    let disk = file_at(rt, path, false)?;
-    build(rt.alloc(), rt, disk, out, writer).how
+    let disk = file_at(rt, path, Access::Reads, why)?;
+    build(rt.alloc(), rt, disk, out, writer, &mut why.out).how
 }
 
 // Does what a request asks for, and answers the status where it isn't refused.
-fn done<E, R, W>(rt: &E, request: &Request, reader: &mut R, writer: &mut W) -> Result<u8, Refusal>
+fn done<E, R, W>(
+    rt: &E,
+    request: &Request,
+    reader: &mut R,
+    writer: &mut W,
+    why: &mut Causes,
+) -> Result<u8, Refusal>
 where
     E: AllocGlobal + Files,
-    E::File: FileExt,
+    E::File: FileExt + Hold,
     R: Read,
     W: Write,
     ensures performed { IsPerformed ⟦<FileDisk<E::File> as Disk>⟧.moment
@@ -136,21 +171,30 @@ where
                 slot: *slot,
                 journal: *journal,
             };
-            create_file(rt, file.as_str(), geometry, writer)
+            create_file(rt, file.as_str(), geometry, writer, why)
         }
-        Request::Edit { file } => edit_file(rt, file.as_str(), reader, writer),
-        Request::Check { file } => check_file(rt, file.as_str(), writer),
-        Request::Dump { file } => dump_file(rt, file.as_str(), writer),
-        Request::Build { file, out } => build_file(rt, file.as_str(), out.as_str(), writer),
+        Request::Edit { file } => edit_file(rt, file.as_str(), reader, writer, why),
+        Request::Check { file } => check_file(rt, file.as_str(), writer, why),
+        Request::Dump { file } => dump_file(rt, file.as_str(), writer, why),
+        Request::Build { file, out } => build_file(rt, file.as_str(), out.as_str(), writer, why),
         Request::Inspect { wad, name } => {
-            examine(rt.alloc(), rt, wad.as_str(), name.as_str(), TURNS, writer)
+            examine(
+                rt.alloc(),
+                rt,
+                wad.as_str(),
+                name.as_str(),
+                TURNS,
+                writer,
+                &mut why.file,
+            )
         }
     }
 }
 
 /// Does what the words asked for, with standard input, output and error handed in, and answers the
 /// status: 0 where it is done, 3 where a map has findings or a level a fault, and 1 where it was
-/// refused, with a line on `faults` that says why. The writer is flushed after each turn of reading.
+/// refused, with a line on `faults` that says why, and one more where a file can't be opened or
+/// made. The writer is flushed after each turn of reading.
 pub fn perform<E, R, W, F>(
     rt: &E,
     request: &Request,
@@ -160,7 +204,7 @@ pub fn perform<E, R, W, F>(
 ) -> u8
 where
     E: AllocGlobal + Files,
-    E::File: FileExt,
+    E::File: FileExt + Hold,
     R: Read,
     W: Write,
     F: Write,
@@ -173,10 +217,15 @@ where
         (W.contents writer.old) (W.contents writer.new) }
     ensures quiet { ¬ (result ≡ 1) → Keeps (F.contents faults.old) (F.contents faults.new) }
 {
-    match done(rt, request, reader, writer) {
+    let mut why = Causes {
+        file: None,
+        out: None,
+    };
+    match done(rt, request, reader, writer, &mut why) {
         Ok(status) => status,
         Err(refusal) => {
             report(&refusal, faults);
+            report_causes(rt.alloc(), request, &why, faults);
             1
         }
     }

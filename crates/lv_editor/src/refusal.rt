@@ -1,10 +1,13 @@
-//! Why a request was refused, and the line that says so.
+//! Why a request was refused, and the lines that say so.
 ghost use Rattle.std.specs.Prelude.{◌≡◌};
 ghost use Rattle.lv_editor.specs.declared.refusal.Refusal.TheVariants.{Build, Level, Lines};
 
 use crate::error::{EditorError, InspectError, WriteError};
+use lv_files::{Cause, write_cause};
 use lv_project::ProjectError;
 use lv_pwad::{BuildError, ReadError};
+use lv_requests::Request;
+use std::alloc::Global;
 use std::io::Write;
 
 /// Why a request was refused.
@@ -18,6 +21,15 @@ pub enum Refusal {
     Level(InspectError),
     /// The PWAD of the maps.
     Build(WriteError),
+}
+
+/// Why a request's files can't be opened or made, where that is known.
+#[derive(Clone, Copy)]
+pub struct Causes {
+    /// Of FILE or WAD.
+    pub file: Option<Cause>,
+    /// Of OUT.
+    pub out: Option<Cause>,
 }
 
 impl From<EditorError> for Refusal {
@@ -131,4 +143,28 @@ pub fn report<F: Write>(refusal: &Refusal, faults: &mut F) {
         }
         _ => writeln!(faults, "leveled: {code} {name}"),
     };
+}
+
+// The file that a request opens, and the one that it makes.
+fn paths_of(request: &Request) -> (&str, &str) {
+    match request {
+        Request::Scratch => ("", ""),
+        Request::Create { file, .. }
+        | Request::Edit { file }
+        | Request::Check { file }
+        | Request::Dump { file } => (file.as_str(), ""),
+        Request::Inspect { wad, .. } => (wad.as_str(), ""),
+        Request::Build { file, out } => (file.as_str(), out.as_str()),
+    }
+}
+
+/// Says why a file can't be opened or made, as `  PATH: REASON`, where that is known.
+pub fn report_causes<F: Write>(alloc: Global, request: &Request, why: &Causes, faults: &mut F) {
+    let (file, out) = paths_of(request);
+    if let Some(cause) = &why.file {
+        let _ = write_cause(alloc, file, cause, faults);
+    }
+    if let Some(cause) = &why.out {
+        let _ = write_cause(alloc, out, cause, faults);
+    }
 }
