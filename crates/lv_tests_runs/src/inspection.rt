@@ -127,21 +127,21 @@ const CALLS: &[Call] = &[
         b"",
         1,
         b"",
-        b"leveled: 30 Device\n",
+        b"leveled: 30 Device\n  none.lv: No such file or directory\n",
     ),
     (
         &["leveled", "build", "room.lv", "none/room.wad"],
         b"",
         1,
         b"",
-        b"leveled: 38 WriterFailed\n",
+        b"leveled: 38 WriterFailed\n  none/room.wad: No such file or directory\n",
     ),
     (
         &["leveled", "build", "room.lv", "./room.lv"],
         b"",
         1,
         b"",
-        b"leveled: 38 WriterFailed\n",
+        b"leveled: 38 WriterFailed\n  ./room.lv: is no PWAD; it is left alone\n",
     ),
     (
         &["leveled", "build", "room.lv", "room.wad"],
@@ -169,7 +169,7 @@ const CALLS: &[Call] = &[
         b"",
         1,
         b"",
-        b"leveled: 37 ReaderFailed\n",
+        b"leveled: 37 ReaderFailed\n  none.wad: No such file or directory\n",
     ),
 ];
 
@@ -287,21 +287,26 @@ fn perform_all(rt: &HostRuntime, calls: &[(&[&str], &[u8])]) -> Result<(), Fail>
 
 const BUILD_OLD: &[&str] = &["leveled", "build", "old.lv", "old.wad"];
 
-// A refused build leaves what stood in the file, and a shorter one cuts it off.
+// A refused build leaves what stood in the file, a shorter one takes its place, and an IWAD stays.
 #[test]
 fn builds_over_a_file(rt: HostRuntime) -> Result<(), Fail> {
+    let mut old = [7; 600];
+    old[..4].copy_from_slice(b"PWAD");
     let _ = fs::remove_file(&rt, "old.lv");
-    fs::write(&rt, "old.wad", &[7; 600])?;
+    fs::write(&rt, "old.wad", &old)?;
     perform_all(
         &rt,
         &[(&["leveled", "create", "old.lv"], b""), (BUILD_OLD, b"")],
     )?;
-    let is_old = has_bytes(&rt, "old.wad", &[7; 600])?;
+    let is_old = has_bytes(&rt, "old.wad", &old)?;
     perform_all(
         &rt,
         &[(&["leveled", "edit", "old.lv"], ROOM), (BUILD_OLD, b"")],
     )?;
     let is_room = has_bytes(&rt, "old.wad", ROOM_WAD)?;
-    assert_eq!(rt; (is_old, is_room), (true, true));
+    fs::write(&rt, "old.wad", b"IWAD")?;
+    perform_all(&rt, &[(BUILD_OLD, b"")])?;
+    let is_iwad = has_bytes(&rt, "old.wad", b"IWAD")?;
+    assert_eq!(rt; (is_old, is_room, is_iwad), (true, true, true));
     Ok(())
 }

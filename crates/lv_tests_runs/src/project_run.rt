@@ -186,10 +186,14 @@ type Row = (
     &'static [u8],
 );
 
+// What is said where there is no file.
+const NO_FILE: &[u8] =
+    b"leveled: 30 Device\n  lv_project_run_file: No such file or directory\n";
+
 const FILE_ROWS: &[Row] = &[
-    ("edit", b"vertex 0 0\n", 1, b"", b"leveled: 30 Device\n"),
-    ("check", b"", 1, b"", b"leveled: 30 Device\n"),
-    ("dump", b"", 1, b"", b"leveled: 30 Device\n"),
+    ("edit", b"vertex 0 0\n", 1, b"", NO_FILE),
+    ("check", b"", 1, b"", NO_FILE),
+    ("dump", b"", 1, b"", NO_FILE),
     ("create", b"", 0, b"created\n", b""),
     ("create", b"", 1, b"", b"leveled: 43 NotEmpty\n"),
     ("check", b"", 3, b"no player start\nfindings 1\n", b""),

@@ -205,6 +205,16 @@ fn goes_on_after_interrupted_and_short_calls(rt: HostRuntime) -> Result<(), Fail
     Ok(())
 }
 
+// `/dev/null` refuses a sync.
+#[test]
+fn reads_a_medium_without_syncs(rt: HostRuntime) -> Result<(), Fail> {
+    for &(writes, wanted) in &[(false, Ok(())), (true, Err(DeviceFault))] {
+        let mut disk = FileDisk::new(fs::open(&rt, "/dev/null")?, writes);
+        same(&rt, &(writes, disk.sync()), &(writes, wanted));
+    }
+    Ok(())
+}
+
 #[test]
 fn syncs_its_file(rt: HostRuntime) -> Result<(), Fail> {
     let path = "lv_disk_synced_file";
