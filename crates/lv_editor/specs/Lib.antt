@@ -6,10 +6,12 @@ pub mod Editing
 pub mod Errors
 pub mod Inspections
 pub mod Lines
+pub mod Linting
 pub mod Queries
 pub mod Recovery
 pub mod Refusals
 pub mod Runs
 pub mod Sessions
 pub mod Sources
+pub mod Statuses
 pub mod Texts
