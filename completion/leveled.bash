@@ -2,7 +2,7 @@
 _leveled() {
     local word=${COMP_WORDS[COMP_CWORD]} subcommand=${COMP_WORDS[1]}
     if [ "$COMP_CWORD" -eq 1 ]; then
-        mapfile -t COMPREPLY < <(compgen -W 'scratch create edit check dump build inspect help --help --version' -- "$word")
+        mapfile -t COMPREPLY < <(compgen -W 'scratch create edit check lint dump build inspect help --help --version' -- "$word")
         return
     fi
     case $word in
@@ -13,7 +13,7 @@ _leveled() {
         ;;
     *)
         case $subcommand in
-        create | edit | check | dump | build | inspect) mapfile -t COMPREPLY < <(compgen -f -- "$word") ;;
+        create | edit | check | lint | dump | build | inspect) mapfile -t COMPREPLY < <(compgen -f -- "$word") ;;
         esac
         ;;
     esac

@@ -7,7 +7,7 @@ use Rattle.lv_pwad.specs.Levels.{IsLevel, Lumps}
 use Rattle.lv_pwad.specs.Range.{InRange}
 use Rattle.lv_pwad.specs.declared.fault.Fault.{Fault}
 use Rattle.lv_editor.specs.Inspections.{IsInspected, back_text, front_text, lengths_text, verdict_text}
-use Rattle.lv_editor.specs.Deeds.{status_told}
+use Rattle.lv_editor.specs.Statuses.{status_told}
 use Rattle.lv_editor.specs.Sources.{IsExaminedOf, ReadsAll}
 use Rattle.lv_editor.specs.declared.error.InspectError.{InspectError}
 use Rattle.lv_editor.specs.declared.error.InspectError.TheVariants.{WriterFailed}

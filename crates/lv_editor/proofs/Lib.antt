@@ -3,6 +3,7 @@ pub mod Counting
 pub mod Cutting
 pub mod EditingLines
 pub mod Going
+pub mod Linting
 pub mod HexDigits
 pub mod Inspecting
 pub mod MapLines

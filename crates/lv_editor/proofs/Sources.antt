@@ -16,6 +16,7 @@ use Rattle.lv_pwad.specs.Projects.{IsRefusalOfAll}
 use Rattle.lv_pwad.specs.declared.error.BuildError.{BuildError}
 use Rattle.lv_editor.specs.Deeds.{IsBuiltInto, IsChecked, IsCreated, IsEdited, IsExamined}
 use Rattle.lv_editor.specs.Dumping.{IsDumped, IsDumpedOf}
+use Rattle.lv_editor.specs.Linting.{IsLinted, IsLintedOf}
 use Rattle.lv_editor.specs.Refusals.{IsOfOpening}
 use Rattle.lv_editor.specs.Recovery.{RefusesKept}
 use Rattle.lv_editor.specs.Sources.{IsBuiltOf, IsCheckedOf, IsEditedOver, IsExaminedOf, IsMade, NotOpened, OverMaps}
@@ -126,6 +127,19 @@ pub dumped : (reads : List ℕ → Type 0) (how : Result ℕ Refusal) (u w : Opt
 dumped reads how u w (inl ((e, is, refused), kept)) =
     subst (λ (h : Result ℕ Refusal). IsDumped h u w) (sym is) (of_opening reads e refused, kept)
 dumped reads how u w (inr (maps, has, done)) = dumped_of maps how u w done
+
+linted_of : (maps : MapsView) (how : Result ℕ Refusal) (u w : Option (List ℕ)) → IsLintedOf maps how u w → IsLinted how u w
+linted_of maps (Ok status) u w done = (maps, done)
+linted_of maps (Err (Lines e)) u w done = (maps, done)
+linted_of maps (Err (Project e)) u w never = absurd never
+linted_of maps (Err (Level e)) u w never = absurd never
+linted_of maps (Err (Build e)) u w never = absurd never
+
+pub linted : (reads : List ℕ → Type 0) (how : Result ℕ Refusal) (u w : Option (List ℕ))
+    → OverMaps reads how u w (λ maps. IsLintedOf maps how u w) → IsLinted how u w
+linted reads how u w (inl ((e, is, refused), kept)) =
+    subst (λ (h : Result ℕ Refusal). IsLinted h u w) (sym is) (of_opening reads e refused, kept)
+linted reads how u w (inr (maps, has, done)) = linted_of maps how u w done
 
 built_of : (maps : MapsView) (how : Result ℕ Refusal) (u w : Option (List ℕ)) → IsBuiltOf maps how u w → IsBuiltInto how u w
 built_of maps (Ok status) u w (wad, c, is, counted, told) = (maps, wad, c, is, counted, told)

@@ -1,6 +1,6 @@
 -- What was done for a request (docs/COMMANDS.md, "The program"). How it ended is a status, or the
 -- refusal. A file tells no bytes, so which project or WAD it was is left open.
-use Rattle.std.specs.Prelude.{◌≡◌, ◌⊎◌, ℕ, Bool, Option, Result, Ok, Err, List, [], ◌∷◌, ◌++◌, codes, string_bytes, false, length, nat_eq, if◌then◌else◌}
+use Rattle.std.specs.Prelude.{◌≡◌, ◌⊎◌, ℕ, Bool, Option, Result, Ok, Err, List, [], ◌∷◌, ◌++◌, codes, string_bytes, false, length}
 use Rattle.std.specs.Io.KnownBytes.{Appends, Keeps}
 use Rattle.lv_disk.specs.declared.disk.Disk.{Ghosts}
 use Rattle.lv_maptables.specs.Projects.{MapsView, ProjectMaps, empty_project, project_of}
@@ -14,12 +14,14 @@ use Rattle.lv_editor.specs.Building.{built_text}
 use Rattle.lv_editor.specs.Dumping.{IsDumped}
 use Rattle.lv_editor.specs.Editing.{RepliesInProject}
 use Rattle.lv_editor.specs.Inspections.{IsInspected}
+use Rattle.lv_editor.specs.Linting.{IsLinted}
 use Rattle.lv_editor.specs.Refusals.{IsOfOpening, NotBuilt, NotChecked, NotCreated, NotExamined}
 use Rattle.lv_editor.specs.Runs.{Exchange, Ran}
 use Rattle.lv_editor.specs.Sessions.{RunsOver}
+use Rattle.lv_editor.specs.Statuses.{status_after, status_told}
 use Rattle.lv_editor.specs.Texts.{findings_text}
 use Rattle.lv_requests.specs.declared.asked.Request.{Request}
-use Rattle.lv_requests.specs.declared.asked.Request.TheVariants.{Scratch, Create, Edit, Check, Dump, Inspect, Build}
+use Rattle.lv_requests.specs.declared.asked.Request.TheVariants.{Scratch, Create, Edit, Check, Lint, Dump, Inspect, Build}
 use Rattle.lv_pwad.specs.declared.counted.BuildCounts.{BuildCounts}
 use Rattle.lv_editor.specs.declared.error.EditorError.{EditorError}
 use Rattle.lv_editor.specs.declared.refusal.Refusal.{Refusal}
@@ -43,14 +45,6 @@ status_in (Err refusal) = 1
 abbrev pub ended : Result ℕ EditorError → Result ℕ Refusal
 ended (Ok n) = Ok 0
 ended (Err e) = Err (of.Lines e)
-
--- the status after so many findings
-abbrev pub status_after : ℕ → ℕ
-status_after found = if nat_eq found 0 then 0 else 3
-
--- the status that tells whether a level is sound
-abbrev pub status_told : Bool → ℕ
-status_told sound = if sound then 0 else 3
 
 -- the lines of the input were answered over the empty project, and the answers written
 abbrev pub IsScratched : Result ℕ Refusal → Option (List ℕ) → Option (List ℕ) → Option (List ℕ)
@@ -116,6 +110,8 @@ IsPerformed facts (Edit file) how reader-old reader-new writer-old writer-new =
     IsEdited facts how reader-old reader-new writer-old writer-new
 IsPerformed facts (Check file) how reader-old reader-new writer-old writer-new =
     IsChecked how writer-old writer-new × Keeps reader-old reader-new
+IsPerformed facts (Lint file) how reader-old reader-new writer-old writer-new =
+    IsLinted how writer-old writer-new × Keeps reader-old reader-new
 IsPerformed facts (Dump file) how reader-old reader-new writer-old writer-new =
     IsDumped how writer-old writer-new × Keeps reader-old reader-new
 IsPerformed facts (Inspect wad name) how reader-old reader-new writer-old writer-new =

@@ -7,10 +7,12 @@ pub mod Errors
 pub mod Inspections
 pub mod LevelNames
 pub mod Lines
+pub mod Linting
 pub mod Queries
 pub mod Recovery
 pub mod Refusals
 pub mod Runs
 pub mod Sessions
 pub mod Sources
+pub mod Statuses
 pub mod Texts

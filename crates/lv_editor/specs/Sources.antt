@@ -18,12 +18,13 @@ use Rattle.lv_project.specs.declared.error.ProjectError.TheVariants.{Device}
 use Rattle.lv_project.specs.declared.geometry.Geometry.{Geometry}
 use Rattle.lv_pwad.specs.Counted.{IsCounted}
 use Rattle.lv_editor.specs.Building.{built_text}
-use Rattle.lv_editor.specs.Deeds.{ended, status_after, status_told, turns}
+use Rattle.lv_editor.specs.Deeds.{ended, turns}
 use Rattle.lv_editor.specs.Editing.{RepliesInProject}
 use Rattle.lv_editor.specs.Inspections.{IsInspected, RefusesInspection}
 use Rattle.lv_editor.specs.Refusals.{RefusesFile}
 use Rattle.lv_editor.specs.Runs.{Exchange, Ran, Unwritten}
 use Rattle.lv_editor.specs.Sessions.{RunsOver}
+use Rattle.lv_editor.specs.Statuses.{status_after, status_told}
 use Rattle.lv_editor.specs.Texts.{findings_text}
 use Rattle.lv_pwad.specs.declared.counted.BuildCounts.{BuildCounts}
 use Rattle.lv_editor.specs.declared.error.EditorError.{EditorError}

@@ -40,8 +40,8 @@ fn write_each<W: Write>(found: &[Finding], writer: &mut W) -> Result<(), EditorE
     Ok(())
 }
 
-// Writes `findings N`.
-fn write_total<W: Write>(count: u32, writer: &mut W) -> Result<(), EditorError>
+/// Writes `findings N`.
+pub fn write_total<W: Write>(count: u32, writer: &mut W) -> Result<(), EditorError>
     ensures { MatchResult result
         (λ _. Appends (W.contents writer.old) (W.contents writer.new) (total_text count))
         (λ e. e ≡ WriterFailed) }

@@ -15,6 +15,7 @@ mod hex;
 mod input_line;
 mod inspection;
 mod limits;
+mod lint_request;
 mod listing;
 mod lump;
 mod outcome;

@@ -2,6 +2,7 @@
 ghost use Rattle.std.specs.Prelude.{◌≡◌, ◌≤◌, ℕ, IfErr, IfOk, Result};
 ghost use Rattle.std.specs.Io.KnownBytes.{Keeps};
 ghost use Rattle.lv_editor.specs.Dumping.{IsDumped};
+ghost use Rattle.lv_editor.specs.Linting.{IsLinted};
 ghost use Rattle.lv_editor.specs.Deeds.{IsBuiltInto, IsChecked, IsCreated, IsEdited, IsPerformed, IsScratched, status_in};
 ghost use Rattle.lv_editor.specs.declared.refusal.Refusal.{Refusal};
 
@@ -10,6 +11,7 @@ use crate::drawing::run_in_memory;
 use crate::dump_request::dump;
 use crate::examining::examine;
 use crate::limits::TURNS;
+use crate::lint_request::lint;
 use crate::over_disk::{check, create, edit};
 use crate::refusal::{Causes, Refusal, report, report_causes};
 use crate::status::ended;
@@ -106,6 +108,19 @@ where
     check(rt.alloc(), disk, writer).how
 }
 
+// Says what is wrong, unfinished or doubtful in each map of the project in the file at the path.
+fn lint_file<E, W>(rt: &E, path: &str, writer: &mut W, why: &mut Causes) -> Result<u8, Refusal>
+where
+    E: AllocGlobal + Files,
+    E::File: FileExt + Hold,
+    W: Write,
+    ensures small { IfOk result (λ s. s ≤ 3) }
+    ensures linted { IsLinted result (W.contents writer.old) (W.contents writer.new) }
+{
+    let disk = file_at(rt, path, Access::Reads, why)?;
+    lint(rt.alloc(), disk, writer).how
+}
+
 // Writes the lines that draw the maps of the project in the file at the path again.
 fn dump_file<E, W>(rt: &E, path: &str, writer: &mut W, why: &mut Causes) -> Result<u8, Refusal>
 where
@@ -171,6 +186,7 @@ where
         }
         Request::Edit { file } => edit_file(rt, file.as_str(), reader, writer, why),
         Request::Check { file } => check_file(rt, file.as_str(), writer, why),
+        Request::Lint { file } => lint_file(rt, file.as_str(), writer, why),
         Request::Dump { file } => dump_file(rt, file.as_str(), writer, why),
         Request::Build { file, out } => build_file(rt, file.as_str(), out.as_str(), writer, why),
         Request::Inspect { wad, name } => {
@@ -188,7 +204,7 @@ where
 }
 
 /// Does what the words asked for, with standard input, output and error handed in, and answers the
-/// status: 0 where it is done, 3 where a map has findings or a level a fault, and 1 where it was
+/// status: 0 where it is done, 3 where maps have findings or a level a fault, and 1 where it was
 /// refused, with a line on `faults` that says why, and one more where a file can't be opened or
 /// made. The writer is flushed after each turn of reading.
 pub fn perform<E, R, W, F>(

@@ -1,6 +1,7 @@
 //! The status that the program answers: of a run, of findings and of a level.
 ghost use Rattle.std.specs.Prelude.{◌≡◌, ◌≤◌, IfOk, Result};
-ghost use Rattle.lv_editor.specs.Deeds.{ended, status_after, status_told};
+ghost use Rattle.lv_editor.specs.Deeds.{ended};
+ghost use Rattle.lv_editor.specs.Statuses.{status_after, status_told};
 
 use crate::error::EditorError;
 use crate::refusal::Refusal;
@@ -8,7 +9,7 @@ use crate::refusal::Refusal;
 /// The status where what was asked for is done.
 pub const DONE: u8 = 0;
 
-// The status where a map has findings, or a level a fault.
+// The status where maps have findings, or a level a fault.
 const FOUND: u8 = 3;
 
 /// The status after a run.

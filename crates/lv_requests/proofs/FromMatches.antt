@@ -69,7 +69,8 @@ of_found test (s ∷ subs) words name rows e = go (test s) (of_found test subs w
     go true behind d = inl (ap (name_in s.name) (sym d))
     go false behind d = inr (behind d)
 
-of_all : (name : Text) → IsAmong (codes "scratch" ∷ codes "create" ∷ codes "edit" ∷ codes "check" ∷ codes "dump" ∷ codes "inspect" ∷ codes "build" ∷ []) name
+of_all : (name : Text)
+    → IsAmong (codes "scratch" ∷ codes "create" ∷ codes "edit" ∷ codes "check" ∷ codes "lint" ∷ codes "dump" ∷ codes "inspect" ∷ codes "build" ∷ []) name
     → IsSubcommand name
 of_all name (inl is) = inl is
 of_all name (inr (inl is)) = inr (inl is)
@@ -77,8 +78,9 @@ of_all name (inr (inr (inl is))) = inr (inr (inl is))
 of_all name (inr (inr (inr (inl is)))) = inr (inr (inr (inl is)))
 of_all name (inr (inr (inr (inr (inl is))))) = inr (inr (inr (inr (inl is))))
 of_all name (inr (inr (inr (inr (inr (inl is)))))) = inr (inr (inr (inr (inr (inl is)))))
-of_all name (inr (inr (inr (inr (inr (inr (inl is))))))) = inr (inr (inr (inr (inr (inr is)))))
-of_all name (inr (inr (inr (inr (inr (inr (inr never))))))) = absurd never
+of_all name (inr (inr (inr (inr (inr (inr (inl is))))))) = inr (inr (inr (inr (inr (inr (inl is))))))
+of_all name (inr (inr (inr (inr (inr (inr (inr (inl is)))))))) = inr (inr (inr (inr (inr (inr (inr is))))))
+of_all name (inr (inr (inr (inr (inr (inr (inr (inr never)))))))) = absurd never
 
 only_these : (stop : Option (Text × List Text)) (name : Text) (rows : List Row) → entered (built leveled_app) stop ≡ Some (name, rows) → IsSubcommand name
 only_these None name rows e = cc

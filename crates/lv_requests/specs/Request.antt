@@ -13,7 +13,7 @@ use Rattle.clap.specs.declared.error.kind.ErrorKind.TheVariants.{OutOfMemory}
 use Rattle.lv_requests.specs.declared.asked.Request.{Request}
 use Rattle.lv_requests.specs.declared.asked.RequestError.{RequestError}
 use Rattle.lv_requests.specs.declared.asked.RequestError.TheVariants.{Words, Number, Memory}
-use Rattle.lv_requests.specs.declared.asked.Request.TheVariants.{Scratch, Create, Edit, Check, Dump, Inspect, Build}
+use Rattle.lv_requests.specs.declared.asked.Request.TheVariants.{Scratch, Create, Edit, Check, Lint, Dump, Inspect, Build}
 
 -- ---- The command line
 
@@ -69,11 +69,12 @@ inspect_app = with_rule (with_word (codes "inspect") (codes "wad")) (word_rule (
 abbrev pub with_subcommands : App
 with_subcommands =
     with_subcommand (with_subcommand (with_subcommand (with_subcommand (with_subcommand
-    (with_subcommand (with_subcommand (new_app (codes "leveled"))
+    (with_subcommand (with_subcommand (with_subcommand (new_app (codes "leveled"))
     (new_app (codes "scratch")).top)
     create_app.top)
     (with_word (codes "edit") (codes "file")).top)
     (with_word (codes "check") (codes "file")).top)
+    (with_word (codes "lint") (codes "file")).top)
     (with_word (codes "dump") (codes "file")).top)
     inspect_app.top)
     build_app.top
@@ -111,6 +112,8 @@ AsksFor (Edit file) asked =
     (asked.0 ≡ codes "edit") × (first_of (codes "file") asked.1 ≡ Some (string_bytes file))
 AsksFor (Check file) asked =
     (asked.0 ≡ codes "check") × (first_of (codes "file") asked.1 ≡ Some (string_bytes file))
+AsksFor (Lint file) asked =
+    (asked.0 ≡ codes "lint") × (first_of (codes "file") asked.1 ≡ Some (string_bytes file))
 AsksFor (Dump file) asked =
     (asked.0 ≡ codes "dump") × (first_of (codes "file") asked.1 ≡ Some (string_bytes file))
 AsksFor (Build file out) asked = (asked.0 ≡ codes "build")
@@ -124,8 +127,8 @@ AsksFor (Inspect wad name) asked = (asked.0 ≡ codes "inspect")
 abbrev pub IsSubcommand : Text → Type 0
 IsSubcommand name =
     (name ≡ codes "scratch") ⊎ (name ≡ codes "create") ⊎ (name ≡ codes "edit")
-    ⊎ (name ≡ codes "check") ⊎ (name ≡ codes "dump") ⊎ (name ≡ codes "inspect")
-    ⊎ (name ≡ codes "build")
+    ⊎ (name ≡ codes "check") ⊎ (name ≡ codes "lint") ⊎ (name ≡ codes "dump")
+    ⊎ (name ≡ codes "inspect") ⊎ (name ≡ codes "build")
 
 -- the subcommand is over a project file
 abbrev pub IsOverFile : Text → Type 0

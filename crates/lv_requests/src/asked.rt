@@ -20,6 +20,10 @@ pub enum Request {
     Check {
         file: String,
     },
+    /// Say what is wrong, unfinished or doubtful in each map of a project.
+    Lint {
+        file: String,
+    },
     /// Write the lines that draw the maps of a project again.
     Dump {
         file: String,

@@ -138,6 +138,12 @@ fn with_subcommands<'a>(alloc: Global) -> Result<Command<'a>, AllocError>
         "Says what is wrong in a project's current map",
         help::CHECK,
     );
+    let lint = over_file(
+        alloc,
+        "lint",
+        "Says what is wrong or doubtful in each map of a project",
+        help::LINT,
+    );
     let dump = over_file(
         alloc,
         "dump",
@@ -148,6 +154,7 @@ fn with_subcommands<'a>(alloc: Global) -> Result<Command<'a>, AllocError>
     let program = with(program, create(alloc));
     let program = with(program, edit);
     let program = with(program, check);
+    let program = with(program, lint);
     let program = with(program, dump);
     let program = with(program, inspect(alloc));
     with(program, build(alloc))
@@ -276,6 +283,10 @@ fn asked(alloc: Global, name: &str, found: &ArgMatches<'_>) -> Result<Request, R
         },
         "check" => match text(alloc, found, "file") {
             Ok(file) => Ok(Request::Check { file }),
+            Err(error) => Err(error),
+        },
+        "lint" => match text(alloc, found, "file") {
+            Ok(file) => Ok(Request::Lint { file }),
             Err(error) => Err(error),
         },
         "dump" => match text(alloc, found, "file") {

@@ -24,7 +24,7 @@ Queries, which change nothing:
 The end of the input ends the program; a last line without its end is answered too.
 
 Status: 0 done; 1 refused, with `leveled: CODE NAME` on standard error; 2 no such
-words; 3 `check` has findings, or `inspect` found a fault.
+words; 3 `check` or `lint` has findings, or `inspect` found a fault.
 
 `leveled SUBCOMMAND --help` says more of one. The manual page leveled(1) and, in
 share/doc/leveled, COMMANDS.md (every line and refusal) and FIRST_LEVEL.md (a first
@@ -51,6 +51,13 @@ failed: nothing more is kept until FILE is opened again. `leveled --help` lists 
 pub const CHECK: &str = "\
 Prints a line for each thing that is wrong or unfinished, then `findings N`. Status 3
 where there are any. FILE isn't changed.";
+
+/// `lint`.
+pub const LINT: &str = "\
+Looks at every map of FILE. Prints what `check` finds in it, and what is unlikely to play
+as it was meant, each line behind the map's name, as `MAP01 tag-of-no-sector 7`; then
+`findings N`. Status 3 where there are any. COMMANDS.md says what to do about each line.
+FILE isn't changed.";
 
 /// `dump`.
 pub const DUMP: &str = "\

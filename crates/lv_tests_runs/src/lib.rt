@@ -12,6 +12,8 @@ mod expect;
 #[cfg(test)]
 mod inspection;
 #[cfg(test)]
+mod lints;
+#[cfg(test)]
 mod project_run;
 #[cfg(test)]
 mod streams;

@@ -194,6 +194,7 @@ const FILE_ROWS: &[Row] = &[
     ("edit", b"vertex 0 0\n", 1, b"", NO_FILE),
     ("check", b"", 1, b"", NO_FILE),
     ("dump", b"", 1, b"", NO_FILE),
+    ("lint", b"", 1, b"", NO_FILE),
     ("create", b"", 0, b"created\n", b""),
     ("create", b"", 1, b"", b"leveled: 43 NotEmpty\n"),
     ("check", b"", 3, b"no player start\nfindings 1\n", b""),
@@ -242,10 +243,11 @@ const FILE_ROWS: &[Row] = &[
     ),
 ];
 
-// The status of a subcommand over a file, and what it writes and says.
-type Ended = (u8, Vec<u8>, Vec<u8>);
+/// The status of a subcommand over a file, and what it writes and says.
+pub type Ended = (u8, Vec<u8>, Vec<u8>);
 
-fn over_file(rt: &HostRuntime, name: &str, path: &str, input: &[u8]) -> Result<Ended, Fail> {
+/// How a subcommand over a file ends.
+pub fn over_file(rt: &HostRuntime, name: &str, path: &str, input: &[u8]) -> Result<Ended, Fail> {
     let mut out = Vec::new(rt.alloc());
     let (status, faults) = status_of(rt, &["leveled", name, path], input, &mut out)?;
     Ok((status, out, faults))
@@ -272,7 +274,7 @@ fn makes_edits_and_checks_a_file(rt: HostRuntime) -> Result<(), Fail> {
     Ok(())
 }
 
-const NO_CREATE: &[&str] = &["edit", "check", "dump"];
+const NO_CREATE: &[&str] = &["edit", "check", "lint", "dump"];
 
 #[test]
 fn makes_no_file_but_by_create(rt: HostRuntime) -> Result<(), Fail> {
