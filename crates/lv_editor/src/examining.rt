@@ -15,7 +15,11 @@ use std::fs::{self, Files};
 use std::io::{Read, Write};
 
 /// All that the reader gives, in at most `turns` reads of at most 4,096 bytes.
-pub fn read_whole<R: Read>(alloc: Global, reader: &mut R, turns: u32) -> Result<Vec<u8>, EditorError>
+pub fn read_whole<R: Read>(
+    alloc: Global,
+    reader: &mut R,
+    turns: u32,
+) -> Result<Vec<u8>, EditorError>
     ensures whole { IfOk result (λ bytes.
         Consumes (R.remaining reader.old) (R.remaining reader.new) bytes.items
         × IsAtEnd (R.remaining reader.new)) }

@@ -19,7 +19,11 @@ use std::io::{Read, Write};
 fn shown(byte: u8) -> u8
     ensures { result ≡ shown byte }
 {
-    if 33 <= byte && byte <= 126 { byte } else { b'?' }
+    if 33 <= byte && byte <= 126 {
+        byte
+    } else {
+        b'?'
+    }
 }
 
 // Writes the bytes of a name as they are shown.
