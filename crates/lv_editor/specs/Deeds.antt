@@ -14,6 +14,7 @@ use Rattle.lv_editor.specs.Building.{built_text}
 use Rattle.lv_editor.specs.Dumping.{IsDumped}
 use Rattle.lv_editor.specs.Editing.{RepliesInProject}
 use Rattle.lv_editor.specs.Inspections.{IsInspected}
+use Rattle.lv_editor.specs.LevelNames.{IsListed}
 use Rattle.lv_editor.specs.Linting.{IsLinted}
 use Rattle.lv_editor.specs.Refusals.{IsOfOpening, NotBuilt, NotChecked, NotCreated, NotExamined}
 use Rattle.lv_editor.specs.Runs.{Exchange, Ran}
@@ -21,7 +22,7 @@ use Rattle.lv_editor.specs.Sessions.{RunsOver}
 use Rattle.lv_editor.specs.Statuses.{status_after, status_told}
 use Rattle.lv_editor.specs.Texts.{findings_text}
 use Rattle.lv_requests.specs.declared.asked.Request.{Request}
-use Rattle.lv_requests.specs.declared.asked.Request.TheVariants.{Scratch, Create, Edit, Check, Lint, Dump, Inspect, Build}
+use Rattle.lv_requests.specs.declared.asked.Request.TheVariants.{Scratch, Create, Edit, Check, Lint, Dump, Inspect, Levels, Build}
 use Rattle.lv_pwad.specs.declared.counted.BuildCounts.{BuildCounts}
 use Rattle.lv_editor.specs.declared.error.EditorError.{EditorError}
 use Rattle.lv_editor.specs.declared.refusal.Refusal.{Refusal}
@@ -116,5 +117,7 @@ IsPerformed facts (Dump file) how reader-old reader-new writer-old writer-new =
     IsDumped how writer-old writer-new × Keeps reader-old reader-new
 IsPerformed facts (Inspect wad name) how reader-old reader-new writer-old writer-new =
     IsExamined (string_bytes name) how writer-old writer-new × Keeps reader-old reader-new
+IsPerformed facts (Levels wad) how reader-old reader-new writer-old writer-new =
+    IsListed how writer-old writer-new × Keeps reader-old reader-new
 IsPerformed facts (Build file out) how reader-old reader-new writer-old writer-new =
     IsBuiltInto how writer-old writer-new × Keeps reader-old reader-new

@@ -15,6 +15,7 @@ use crate::lint_request::lint;
 use crate::over_disk::{check, create, edit};
 use crate::refusal::{Causes, Refusal, report, report_causes};
 use crate::status::ended;
+use crate::wad_levels::list_levels;
 use lv_disk::{Disk, FileDisk};
 use lv_files::{Access, Hold, open_held};
 use lv_project::{Geometry, ProjectError};
@@ -200,6 +201,14 @@ where
                 &mut why.file,
             )
         }
+        Request::Levels { wad } => list_levels(
+            rt.alloc(),
+            rt,
+            wad.as_str(),
+            TURNS,
+            writer,
+            &mut why.file,
+        ),
     }
 }
 

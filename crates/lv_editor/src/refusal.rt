@@ -154,7 +154,7 @@ fn paths_of(request: &Request) -> (&str, &str) {
         | Request::Check { file }
         | Request::Lint { file }
         | Request::Dump { file } => (file.as_str(), ""),
-        Request::Inspect { wad, .. } => (wad.as_str(), ""),
+        Request::Inspect { wad, .. } | Request::Levels { wad } => (wad.as_str(), ""),
         Request::Build { file, out } => (file.as_str(), out.as_str()),
     }
 }

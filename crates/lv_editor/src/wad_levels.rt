@@ -9,6 +9,7 @@ use crate::error::{EditorError, InspectError};
 use crate::examining::read_whole;
 use crate::refusal::Refusal;
 use crate::status::DONE;
+use lv_files::Cause;
 use lv_lumps::Name8;
 use lv_pwad::level_names;
 use std::alloc::Global;
@@ -109,19 +110,24 @@ fn list_read<R: Read, W: Write>(
     }
 }
 
-/// Writes the names of the levels of the WAD at the path, a line each, in the order of its directory.
+/// Writes the names of the levels of the WAD at the path, a line each, in the order of its directory, or notes why it can't
+/// be opened.
 pub fn list_levels<E: Files, W: Write>(
     alloc: Global,
     rt: &E,
     path: &str,
     turns: u32,
     writer: &mut W,
+    why: &mut Option<Cause>,
 ) -> Result<u8, Refusal>
     ensures small { IfOk result (λ s. s ≤ 3) }
     ensures listed { IsListed result (W.contents writer.old) (W.contents writer.new) }
 {
     match fs::open(rt, path) {
         Ok(mut file) => list_read(alloc, &mut file, turns, writer),
-        Err(_) => Err(Refusal::Lines(EditorError::ReaderFailed)),
+        Err(error) => {
+            *why = Some(Cause::System(error));
+            Err(Refusal::Lines(EditorError::ReaderFailed))
+        }
     }
 }

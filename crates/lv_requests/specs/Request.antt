@@ -13,7 +13,7 @@ use Rattle.clap.specs.declared.error.kind.ErrorKind.TheVariants.{OutOfMemory}
 use Rattle.lv_requests.specs.declared.asked.Request.{Request}
 use Rattle.lv_requests.specs.declared.asked.RequestError.{RequestError}
 use Rattle.lv_requests.specs.declared.asked.RequestError.TheVariants.{Words, Number, Memory}
-use Rattle.lv_requests.specs.declared.asked.Request.TheVariants.{Scratch, Create, Edit, Check, Lint, Dump, Inspect, Build}
+use Rattle.lv_requests.specs.declared.asked.Request.TheVariants.{Scratch, Create, Edit, Check, Lint, Dump, Inspect, Levels, Build}
 
 -- ---- The command line
 
@@ -30,6 +30,10 @@ pub record IsCommand (c : Command) (a : App) : Type 0 where
 -- a word that has to be there, with one name in the help
 abbrev pub word_rule : Text → Rule
 word_rule id = record (new_rule id) { required = true; value_names = 1 }
+
+-- a word that may be left out, with one name in the help
+abbrev pub last_rule : Text → Rule
+last_rule id = record (new_rule id) { value_names = 1 }
 
 -- `--ID N`, with the N that is taken where there is none
 abbrev pub option_rule : Text → Text → Rule
@@ -61,9 +65,9 @@ create_app =
 abbrev pub build_app : App
 build_app = with_rule (with_word (codes "build") (codes "file")) (word_rule (codes "out"))
 
--- `inspect WAD NAME`
+-- `inspect WAD [NAME]`
 abbrev pub inspect_app : App
-inspect_app = with_rule (with_word (codes "inspect") (codes "wad")) (word_rule (codes "name"))
+inspect_app = with_rule (with_word (codes "inspect") (codes "wad")) (last_rule (codes "name"))
 
 -- the program with its subcommands
 abbrev pub with_subcommands : App
@@ -122,6 +126,9 @@ AsksFor (Build file out) asked = (asked.0 ≡ codes "build")
 AsksFor (Inspect wad name) asked = (asked.0 ≡ codes "inspect")
     × (first_of (codes "wad") asked.1 ≡ Some (string_bytes wad))
     × (first_of (codes "name") asked.1 ≡ Some (string_bytes name))
+AsksFor (Levels wad) asked = (asked.0 ≡ codes "inspect")
+    × (first_of (codes "wad") asked.1 ≡ Some (string_bytes wad))
+    × (first_of (codes "name") asked.1 ≡ None)
 
 -- the name is a subcommand's
 abbrev pub IsSubcommand : Text → Type 0
@@ -140,12 +147,11 @@ RefusesText id rows (Words error) = ⊥
 RefusesText id rows Number = first_of id rows ≡ None
 RefusesText id rows Memory = Unit {0}
 
--- what clap let pass has no path or name where the subcommand takes one, or no number within the
+-- what clap let pass has no path where the subcommand takes one, or no number within the
 -- limits of `create`
 abbrev pub LacksValue : Text × List Row → Type 0
 LacksValue asked = (IsOverFile asked.0 × (first_of (codes "file") asked.1 ≡ None))
-    ⊎ ((asked.0 ≡ codes "inspect")
-    × ((first_of (codes "wad") asked.1 ≡ None) ⊎ (first_of (codes "name") asked.1 ≡ None)))
+    ⊎ ((asked.0 ≡ codes "inspect") × (first_of (codes "wad") asked.1 ≡ None))
     ⊎ ((asked.0 ≡ codes "build") × (first_of (codes "out") asked.1 ≡ None))
     ⊎ ((asked.0 ≡ codes "create")
     × (LacksNumber (codes "slot") asked.1 33 2007015

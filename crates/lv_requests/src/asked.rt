@@ -38,6 +38,10 @@ pub enum Request {
         wad: String,
         name: String,
     },
+    /// Write the names of a WAD's levels.
+    Levels {
+        wad: String,
+    },
 }
 
 /// Why the words are no request.

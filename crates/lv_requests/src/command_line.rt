@@ -1,7 +1,7 @@
 //! The words of the program: the command line that clap reads, and what the words ask for.
-ghost use Rattle.std.specs.Prelude.{◌≡◌, ◌≤◌, IfOk, IfErr, IfSome, IfNone, IsSomeAnd, Some, codes, map, string_bytes};
+ghost use Rattle.std.specs.Prelude.{◌≡◌, ◌≤◌, IfOk, IfErr, IfSome, IfNone, IsSomeAnd, Some, codes, map, option_map, string_bytes};
 ghost use Rattle.clap.specs.Words.{App, app_of, first_of, found_of, new_app, rows_of, subcommand_of, with_subcommand};
-ghost use Rattle.lv_requests.specs.Request.{AsksFor, HasNumber, IsArg, IsCommand, IsRefusal, IsSubcommand, LacksNumber, RefusesText, RefusesValues, build_app, create_app, inspect_app, journal_rule, leveled_app, option_rule, slot_rule, with_subcommands, with_word, word_rule};
+ghost use Rattle.lv_requests.specs.Request.{AsksFor, HasNumber, IsArg, IsCommand, IsRefusal, IsSubcommand, LacksNumber, RefusesText, RefusesValues, build_app, create_app, inspect_app, journal_rule, last_rule, leveled_app, option_rule, slot_rule, with_subcommands, with_word, word_rule};
 
 use crate::asked::{Request, RequestError};
 use crate::help;
@@ -32,6 +32,13 @@ fn over_file<'a>(
     ensures { IfOk result (λ c. IsCommand c (with_word name.now (codes "file"))) }
 {
     named(alloc, name, about, help).arg(word(alloc, "file", "FILE"))
+}
+
+// A word that may be left out, and what help calls it.
+fn last_word<'a>(alloc: Global, id: &'a str, name: &'a str) -> Arg<'a>
+    ensures { IsArg result (last_rule id.now) }
+{
+    Arg::new(alloc, id).value_name(name)
 }
 
 // `--ID N`, with the N that is taken where there is none.
@@ -82,7 +89,7 @@ fn inspect<'a>(alloc: Global) -> Result<Command<'a>, AllocError>
     let about = "Says whether a level of a WAD is sound";
     named(alloc, "inspect", about, help::INSPECT)
         .arg(word(alloc, "wad", "WAD"))?
-        .arg(word(alloc, "name", "NAME"))
+        .arg(last_word(alloc, "name", "NAME"))
 }
 
 // The program with one subcommand more, where memory was found for both.
@@ -253,7 +260,26 @@ fn asked_build(alloc: Global, found: &ArgMatches<'_>) -> Result<Request, Request
     }
 }
 
-// The request to inspect a level.
+// The text of an argument that may be left out.
+fn last_text(
+    alloc: Global,
+    found: &ArgMatches<'_>,
+    id: &str,
+) -> Result<Option<String>, RequestError>
+    ensures given { IfOk result (λ text.
+        first_of id.now (rows_of (found_of found.now)) ≡ option_map string_bytes text) }
+    ensures refused { IfErr result (λ e. e ≡ RequestError.Memory) }
+{
+    match found.get_str(id) {
+        Some(text) => match owned(alloc, text) {
+            Ok(text) => Ok(Some(text)),
+            Err(error) => Err(error),
+        },
+        None => Ok(None),
+    }
+}
+
+// The request to inspect a level, or without its name to list the levels.
 fn asked_inspect(alloc: Global, found: &ArgMatches<'_>) -> Result<Request, RequestError>
     ensures asked { IfOk result (λ r. AsksFor r (codes "inspect", rows_of (found_of found.now))) }
     ensures refused { IfErr result (RefusesValues (codes "inspect", rows_of (found_of found.now))) }
@@ -262,8 +288,9 @@ fn asked_inspect(alloc: Global, found: &ArgMatches<'_>) -> Result<Request, Reque
         Ok(wad) => wad,
         Err(error) => return Err(error),
     };
-    match text(alloc, found, "name") {
-        Ok(name) => Ok(Request::Inspect { wad, name }),
+    match last_text(alloc, found, "name") {
+        Ok(Some(name)) => Ok(Request::Inspect { wad, name }),
+        Ok(None) => Ok(Request::Levels { wad }),
         Err(error) => Err(error),
     }
 }

@@ -17,7 +17,7 @@ Lines of `scratch` and `edit`, each answered by `ok N` or `no CODE`:
   drop KIND I                                  vertex, sector, side, line or thing
 Queries, which change nothing:
   count, check, maps                           how many items, what is wrong, the maps
-  build                                        how long the lists of the PWAD would be
+  build                                        how many records the PWAD would have
   hex LUMP                                     the bytes of THINGS, LINEDEFS, SIDEDEFS,
                                                VERTEXES, SECTORS, SEGS, SSECTORS, NODES,
                                                REJECT, BLOCKMAP or ADDED
@@ -74,4 +74,5 @@ lines. An OUT that is a project is refused. FILE isn't changed.";
 /// `inspect`.
 pub const INSPECT: &str = "\
 Reads the level NAME (as MAP01 or E1M1) of a PWAD or an IWAD, prints how long its lumps
-are, then `sound`, or `fault NAME I` for the first reference out of range: status 3.";
+are, then `sound`, or `fault NAME I` for the first reference out of range: status 3.
+Without NAME it prints the names of the levels in WAD.";

@@ -265,6 +265,20 @@ const TWO_MAPS: &[Call] = &[
         ROOM_TEXT,
         b"",
     ),
+    (
+        &["leveled", "inspect", "two.wad"],
+        b"",
+        0,
+        b"MAP01\nMAP02\n",
+        b"",
+    ),
+    (
+        &["leveled", "inspect", "two.lv"],
+        b"",
+        1,
+        b"",
+        b"leveled: 70 NotAWad\n",
+    ),
 ];
 
 #[test]
