@@ -5,7 +5,6 @@ use Rattle.std.specs.Io.KnownBytes.{Appends, Keeps}
 use Rattle.lv_lumps.specs.Names.{name_text}
 use Rattle.lv_lumps.specs.declared.records.Name8.{Name8}
 use Rattle.lv_pwad.specs.Listing.{RefusesListing, level_names, listing_refusal}
-use Rattle.lv_editor.specs.Sources.{ReadsAll}
 use Rattle.lv_editor.specs.declared.error.EditorError.TheVariants.{WriterFailed}
 use Rattle.lv_editor.specs.declared.error.InspectError.{InspectError}
 use Rattle.lv_editor.specs.declared.error.InspectError.TheVariants as inspecting
@@ -31,19 +30,7 @@ RefusesNames wad (inspecting.Level e) writer-old writer-new =
     RefusesListing wad e × Keeps writer-old writer-new
 RefusesNames wad inspecting.WriterFailed writer-old writer-new = listing_refusal wad ≡ None
 
--- the names of the levels in all that the reader gave were written; or it was refused
-abbrev pub IsListedOf : Result ℕ Refusal → Option (List ℕ) → Option (List ℕ) → Option (List ℕ)
-    → Option (List ℕ) → Type 0
-IsListedOf (Ok status) reader-old reader-new writer-old writer-new =
-    (wad : List ℕ) × ReadsAll reader-old reader-new wad × (status ≡ 0)
-    × (listing_refusal wad ≡ None) × Appends writer-old writer-new (levels_text wad)
-IsListedOf (Err (of.Level e)) reader-old reader-new writer-old writer-new =
-    (wad : List ℕ) × ReadsAll reader-old reader-new wad × RefusesNames wad e writer-old writer-new
-IsListedOf (Err (of.Lines e)) reader-old reader-new writer-old writer-new =
-    (e ≡ WriterFailed) ⊎ Keeps writer-old writer-new
-IsListedOf _ reader-old reader-new writer-old writer-new = ⊥
-
--- the same of a file, which tells no bytes
+-- the names of the levels in some bytes were written, since a file tells none; or it was refused
 abbrev pub IsListed : Result ℕ Refusal → Option (List ℕ) → Option (List ℕ) → Type 0
 IsListed (Ok status) writer-old writer-new =
     (wad : List ℕ) × (status ≡ 0) × (listing_refusal wad ≡ None)

@@ -1,6 +1,6 @@
 -- Whose maps and whose level it was: what was done over a disk, or of a reader, that is handed over
 -- and tells its bytes. A real file tells none, so that `Deeds` leaves it open.
-use Rattle.std.specs.Prelude.{◌≡◌, ◌⊎◌, ℕ, Bool, false, Option, Result, Ok, Err, List, length}
+use Rattle.std.specs.Prelude.{◌≡◌, ◌⊎◌, ℕ, Bool, false, Option, None, Result, Ok, Err, List, length}
 use Rattle.std.specs.Io.KnownBytes.{Appends, Consumes, IsAtEnd, Keeps}
 use Rattle.lv_disk.specs.Reading.{OnlyReads}
 use Rattle.lv_disk.specs.Moments.{LeavesOnly}
@@ -17,10 +17,12 @@ use Rattle.lv_project.specs.declared.error.ProjectError.{ProjectError}
 use Rattle.lv_project.specs.declared.error.ProjectError.TheVariants.{Device}
 use Rattle.lv_project.specs.declared.geometry.Geometry.{Geometry}
 use Rattle.lv_pwad.specs.Counted.{IsCounted}
+use Rattle.lv_pwad.specs.Listing.{listing_refusal}
 use Rattle.lv_editor.specs.Building.{built_text}
 use Rattle.lv_editor.specs.Deeds.{ended, turns}
 use Rattle.lv_editor.specs.Editing.{RepliesInProject}
 use Rattle.lv_editor.specs.Inspections.{IsInspected, RefusesInspection}
+use Rattle.lv_editor.specs.LevelNames.{RefusesNames, levels_text}
 use Rattle.lv_editor.specs.Refusals.{RefusesFile}
 use Rattle.lv_editor.specs.Runs.{Exchange, Ran, Unwritten}
 use Rattle.lv_editor.specs.Sessions.{RunsOver}
@@ -128,3 +130,15 @@ IsExaminedOf name (Err (of.Level e)) reader-old reader-new writer-old writer-new
 IsExaminedOf name (Err (of.Lines e)) reader-old reader-new writer-old writer-new =
     (e ≡ WriterFailed) ⊎ Keeps writer-old writer-new
 IsExaminedOf name _ reader-old reader-new writer-old writer-new = ⊥
+
+-- the names of the levels in all that the reader gave were written; or it was refused
+abbrev pub IsListedOf : Result ℕ Refusal → Option (List ℕ) → Option (List ℕ) → Option (List ℕ)
+    → Option (List ℕ) → Type 0
+IsListedOf (Ok status) reader-old reader-new writer-old writer-new =
+    (wad : List ℕ) × ReadsAll reader-old reader-new wad × (status ≡ 0)
+    × (listing_refusal wad ≡ None) × Appends writer-old writer-new (levels_text wad)
+IsListedOf (Err (of.Level e)) reader-old reader-new writer-old writer-new =
+    (wad : List ℕ) × ReadsAll reader-old reader-new wad × RefusesNames wad e writer-old writer-new
+IsListedOf (Err (of.Lines e)) reader-old reader-new writer-old writer-new =
+    (e ≡ WriterFailed) ⊎ Keeps writer-old writer-new
+IsListedOf _ reader-old reader-new writer-old writer-new = ⊥

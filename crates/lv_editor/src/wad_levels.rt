@@ -1,7 +1,8 @@
 //! The request `inspect` without a name: the names of the levels that a WAD holds.
 ghost use Rattle.std.specs.Prelude.{◌≡◌, ◌≤◌, ◌++◌, ◌∷◌, [], None, IfOk, MatchResult, flat_map, map};
 ghost use Rattle.std.specs.Io.KnownBytes.{Appends};
-ghost use Rattle.lv_editor.specs.LevelNames.{IsListed, IsListedOf, RefusesNames, level_line, levels_text, shown};
+ghost use Rattle.lv_editor.specs.LevelNames.{IsListed, RefusesNames, level_line, levels_text, shown};
+ghost use Rattle.lv_editor.specs.Sources.{IsListedOf};
 ghost use Rattle.lv_editor.specs.declared.error.EditorError.TheVariants.{WriterFailed};
 ghost use Rattle.lv_pwad.specs.Listing.{listing_refusal};
 
