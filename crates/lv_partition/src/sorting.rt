@@ -43,7 +43,7 @@ fn sort_blocks(
     requires within { to ≤ length blocks.now }
     requires room { length blocks.now ≤ length noted.old }
     requires before { IsSorted lines.now partition.now pieces.now (16 * from) sorted noted.old }
-    ensures sorted { IsSorted lines.now partition.now pieces.now (16 * to) result noted.new }
+    ensures is { IsSorted lines.now partition.now pieces.now (16 * to) result noted.new }
     ensures room { length noted.new ≡ length noted.old }
 {
     let mut right = sorted.right;
@@ -85,7 +85,7 @@ fn sort_group(
     requires holds { All (HoldsPiece lines.now bounds) (take 256 (drop (256 * group) pieces.now)) }
     requires room { length blocks.now ≤ length noted.old }
     requires before { IsSorted lines.now partition.now pieces.now (256 * group) sorted noted.old }
-    ensures sorted { IsSorted lines.now partition.now pieces.now (256 * (group + 1)) result noted.new }
+    ensures is { IsSorted lines.now partition.now pieces.now (256 * (group + 1)) result noted.new }
     ensures room { length noted.new ≡ length noted.old }
 {
     match side_of_box(sight, bounds) {
@@ -134,7 +134,7 @@ pub(crate) fn sort_all(
     requires groups { AreGroups (boxes_of lines.now pieces.now) groups.now }
     requires few { length pieces.now < 2 ^ 32 }
     requires room { length blocks.now ≤ length noted.old }
-    ensures sorted { IsSorted lines.now partition.now pieces.now (length pieces.now) result noted.new }
+    ensures is { IsSorted lines.now partition.now pieces.now (length pieces.now) result noted.new }
     ensures room { length noted.new ≡ length noted.old }
 {
     let mut sorted = Sorted {

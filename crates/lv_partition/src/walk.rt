@@ -82,7 +82,7 @@ fn count_open(
     requires pieces { All (IsPiece lines.now) pieces.now }
     requires ends { ends.now ≡ all_ends lines.now pieces.now }
     requires few { length pieces.now < 2 ^ 32 }
-    requires sorted { IsSorted lines.now partition.now pieces.now (length pieces.now) sorted noted.now }
+    requires is { IsSorted lines.now partition.now pieces.now (length pieces.now) sorted noted.now }
     ensures { MatchOption result (limit ≤ cost lines.now partition.now pieces.now)
         (λ c. AreCounts lines.now partition.now pieces.now c) }
 {
@@ -115,8 +115,8 @@ fn count_open(
 }
 
 /// The counts of a list, or None where the cost is found to be the limit or more: piece by piece where they are few,
-/// else first by the boxes of groups and of blocks, each looked at once, and then by the pieces of the blocks that these
-/// leave open.
+/// else first by the boxes of groups and of blocks, each looked at once, and then by the pieces of the blocks that
+/// these leave open.
 pub(crate) fn count_by_boxes(
     lines: &[Edge],
     partition: &Piece,

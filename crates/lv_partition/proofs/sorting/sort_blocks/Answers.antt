@@ -59,8 +59,8 @@ loop-k-preserved c =
           (omega arith) w.right-is w.left-is w.count-is w.noted-is
     ]
 
-pub returns-clause-sorted : goal.returns-clause-sorted
-returns-clause-sorted c =
+pub returns-clause-is : goal.returns-clause-is
+returns-clause-is c =
     let f = c.loop-k-test.false in
     let e = c.loop-k.auto.k-end in
     let w = c.requires.forward in

@@ -11,8 +11,8 @@ use Rattle.lv_partition.proofs.BoxLemmas.{blocks_within}
 use Rattle.lv_partition.proofs.OpenBlocks.{same_sorted, part_sorted}
 use Rattle.lv_partition.proofs.sorting.sort_group.Goals as goal
 
-pub returns-in-Right-clause-sorted : goal.returns-in-Right-clause-sorted
-returns-in-Right-clause-sorted c =
+pub returns-in-Right-clause-is : goal.returns-in-Right-clause-is
+returns-in-Right-clause-is c =
     let lines = c.args.lines.now in
     let p = c.args.partition.now in
     let ps = c.args.pieces.now in
@@ -29,8 +29,8 @@ returns-in-Right-clause-sorted c =
     (part_sorted lines p ps (256 * g) 256 s.right s.left s.count (length block) 0 _ c.requires.before (block_right lines p block c.args.bounds ok c.requires.holds h) (omega arith))
     (omega arith) (omega arith) (omega arith) refl refl
 
-pub returns-in-Left-clause-sorted : goal.returns-in-Left-clause-sorted
-returns-in-Left-clause-sorted c =
+pub returns-in-Left-clause-is : goal.returns-in-Left-clause-is
+returns-in-Left-clause-is c =
     let lines = c.args.lines.now in
     let p = c.args.partition.now in
     let ps = c.args.pieces.now in

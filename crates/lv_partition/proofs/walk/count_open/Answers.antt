@@ -17,25 +17,25 @@ use Rattle.lv_partition.proofs.walk.count_open.Goals.{After-count_list-more, Aft
 -- an open block begins in the list
 pub slice_bounds-count_list-count : goal.slice_bounds-count_list-count
 slice_bounds-count_list-count c =
-    let b = begins c.args.lines.now c.args.partition.now c.args.pieces.now c.loop-n.n c.args.sorted c.args.noted.now c.requires.sorted c.loop-n-test.true in
+    let b = begins c.args.lines.now c.args.partition.now c.args.pieces.now c.loop-n.n c.args.sorted c.args.noted.now c.requires.is c.loop-n-test.true in
     let e = c.min-end.ensures in
     omega arith
 
 pub slice_bounds-count_list-start : goal.slice_bounds-count_list-start
 slice_bounds-count_list-start c =
-    let b = begins c.args.lines.now c.args.partition.now c.args.pieces.now c.loop-n.n c.args.sorted c.args.noted.now c.requires.sorted c.loop-n-test.true in
+    let b = begins c.args.lines.now c.args.partition.now c.args.pieces.now c.loop-n.n c.args.sorted c.args.noted.now c.requires.is c.loop-n-test.true in
     let e = c.min-end.ensures in
     omega arith
 
 pub slice_bounds-count_list-count-in-loop-n : goal.slice_bounds-count_list-count-in-loop-n
 slice_bounds-count_list-count-in-loop-n c =
-    let b = begins c.args.lines.now c.args.partition.now c.args.pieces.now c.loop-n.n c.args.sorted c.args.noted.now c.requires.sorted c.loop-n-test.true in
+    let b = begins c.args.lines.now c.args.partition.now c.args.pieces.now c.loop-n.n c.args.sorted c.args.noted.now c.requires.is c.loop-n-test.true in
     let e = c.min-end.ensures in
     omega arith
 
 pub slice_bounds-count_list-start-in-loop-n : goal.slice_bounds-count_list-start-in-loop-n
 slice_bounds-count_list-start-in-loop-n c =
-    let b = begins c.args.lines.now c.args.partition.now c.args.pieces.now c.loop-n.n c.args.sorted c.args.noted.now c.requires.sorted c.loop-n-test.true in
+    let b = begins c.args.lines.now c.args.partition.now c.args.pieces.now c.loop-n.n c.args.sorted c.args.noted.now c.requires.is c.loop-n-test.true in
     let e = c.min-end.ensures in
     omega arith
 
@@ -46,8 +46,8 @@ returns-then-limit-least_cost c =
     let ps = c.args.pieces.now in
     let s = c.args.sorted in
     let noted = c.args.noted.now in
-    let k = cost_at_least lines p ps (pieces_in ps (take s.count noted)) s.right s.left 0 (open_left lines p ps s noted c.requires.sorted) in
-    let l = all_length lines p ps s noted c.requires.sorted in
+    let k = cost_at_least lines p ps (pieces_in ps (take s.count noted)) s.right s.left 0 (open_left lines p ps s noted c.requires.is) in
+    let l = all_length lines p ps s noted c.requires.is in
     let e = c.least_cost.ensures in
     let t = c.if-limit-least_cost.true in
     omega arith
@@ -59,8 +59,8 @@ loop-n-init c =
     let ps = c.args.pieces.now in
     let s = c.args.sorted in
     let noted = c.args.noted.now in
-    let l = all_length lines p ps s noted c.requires.sorted in
-    record { counted = open_left lines p ps s noted c.requires.sorted; rest = omega arith; most = omega arith }
+    let l = all_length lines p ps s noted c.requires.is in
+    record { counted = open_left lines p ps s noted c.requires.is; rest = omega arith; most = omega arith }
 
 pub count_list-more-requires-clause-pieces : goal.count_list-more-requires-clause-pieces
 count_list-more-requires-clause-pieces c =
@@ -91,9 +91,9 @@ next c =
     let n = c.loop-n.n in
     let k = get_or noted n 0 in
     let i = c.loop-n.invariant in
-    let b = begins lines p ps n c.args.sorted noted c.requires.sorted c.loop-n-test.true in
+    let b = begins lines p ps n c.args.sorted noted c.requires.is c.loop-n-test.true in
     let e = c.min-end.ensures in
-    let room = c.requires.sorted.few in
+    let room = c.requires.is.few in
     let same = block_is ps k c.min-end.result (omega arith) e in
     let a = subst (λ (qs : List Piece). AreCounts lines p qs c.count_list-more.result) same c.count_list-more.ensures in
     let counted = open_counted lines p ps m n noted c.loop-n.counts.right c.loop-n.counts.left c.loop-n.counts.splits c.count_list-more.result c.loop-n-test.true room i.counted a in
