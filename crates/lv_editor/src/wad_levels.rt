@@ -111,8 +111,8 @@ fn list_read<R: Read, W: Write>(
     }
 }
 
-/// Writes the names of the levels of the WAD at the path, a line each, in the order of its directory, or notes why it can't
-/// be opened.
+/// Writes the names of the levels of the WAD at the path, a line each, in the order of its directory,
+/// or notes why it can't be opened.
 pub fn list_levels<E: Files, W: Write>(
     alloc: Global,
     rt: &E,

@@ -32,8 +32,8 @@ fn names_in(alloc: Global, wad: &[u8]) -> Result<Vec<Name8>, ReadError>
     Ok(names)
 }
 
-/// The names of a WAD's levels, in the order of its directory: those of the entries behind which THINGS follows. A level
-/// may stand there more than once, and may lack lumps.
+/// The names of a WAD's levels, in the order of its directory: those of the entries behind which
+/// THINGS follows. A level may stand there more than once, and may lack lumps.
 ///
 /// # Errors
 ///

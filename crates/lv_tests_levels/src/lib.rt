@@ -4,6 +4,8 @@
 #[cfg(test)]
 mod expect;
 #[cfg(test)]
+mod listing;
+#[cfg(test)]
 mod nodes;
 #[cfg(test)]
 mod partition;

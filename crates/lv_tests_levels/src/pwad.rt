@@ -2,10 +2,9 @@
 
 use crate::expect::{holds, same};
 use lv_blockmap::{BlockmapError, blockmap, touches};
-use lv_lumps::{Name8, Vertex};
+use lv_lumps::Vertex;
 use lv_pwad::{
-    BuildError, Fault, ReadError, audit, build_all, build_counted, build_wad, level_names,
-    read_level, reject,
+    BuildError, Fault, ReadError, audit, build_all, build_counted, build_wad, read_level, reject,
 };
 use lv_tests_maps::drawing::{CUT, L, ROOM, SECTOR, SIDE, SLIVER, TWO_ROOMS, drawn};
 use std::alloc::Global;
@@ -228,48 +227,6 @@ fn heads_alone_are_refused(rt: HostRuntime) {
         let refused = refusal_of(rt.alloc(), &head, b"MAP01");
         same(&rt, &(head, refused), &(head, Some(error)));
     }
-}
-
-// Bytes without a level, and why their levels aren't listed.
-const LISTED: &[(&[u8], Option<ReadError>)] = &[
-    (b"PWAD\0\0\0\0\x0c\0\0\0", None),
-    (
-        b"IWAD\x01\0\0\0\x0c\0\0\0",
-        Some(ReadError::DirectoryOutside),
-    ),
-    (b"PWAD\0\0\0\0\x0c\0\0", Some(ReadError::NotAWad)),
-];
-
-// How many levels the bytes hold, or why they aren't listed.
-fn listed(alloc: Global, wad: &[u8]) -> (usize, Option<ReadError>) {
-    match level_names(alloc, wad) {
-        Ok(names) => (names.len(), None),
-        Err(error) => (0, Some(error)),
-    }
-}
-
-#[test]
-fn lists_levels(rt: HostRuntime) -> Result<(), Fail> {
-    let maps = drawn(rt.alloc(), &[ROOM, b"map E1M2", ROOM])?;
-    let wad = build_all(rt.alloc(), &maps)?;
-    let names = level_names(rt.alloc(), &wad)?;
-    let wanted = [
-        Name8 {
-            bytes: *b"MAP01\0\0\0",
-        },
-        Name8 {
-            bytes: *b"E1M2\0\0\0\0",
-        },
-    ];
-    assert_eq!(rt; names.as_slice(), wanted.as_slice());
-    for &(bytes, refused) in LISTED {
-        same(
-            &rt,
-            &(bytes, listed(rt.alloc(), bytes)),
-            &(bytes, (0, refused)),
-        );
-    }
-    Ok(())
 }
 
 // Where a room's PWAD is cut, the name that is asked for, and how it is refused.
