@@ -1,7 +1,7 @@
 -- What there is to say of maps, one line after another.
 use Rattle.std.proofs.Common.{◌≡◌, ◌∙◌, ◌+◌, ◌<◌, ℕ, List, [], ◌∷◌, ◌++◌, Option, Some, None, Result, Ok, Err}
 use Rattle.std.proofs.Common.{length, get_or, map, take, drop, refl, sym, ap, subst, arith, append_assoc, append-nil, length-append}
-use Rattle.std.specs.Prelude.{MatchResult, flat_map}
+use Rattle.std.specs.Prelude.{flat_map}
 use Rattle.std.specs.Io.KnownBytes.{Appends, Keeps}
 use Rattle.std.proofs.KnownBytes.{Appends-kept, Appends-nil, Appends-trans}
 use Rattle.std.proofs.lemmas.Grind.{flat_map-append}
@@ -16,7 +16,7 @@ use Rattle.lv_lint.specs.Rules.{warnings}
 use Rattle.lv_lint.specs.Texts.{warning_text}
 use Rattle.lv_lint.specs.declared.warning.Warning.{Warning}
 use Rattle.lv_dump.specs.Texts.{WritesFront, ended, text_of}
-use Rattle.lv_editor.specs.Linting.{IsLintedOf, WritesRemarks, behind, lint_of, lint_text, remarks}
+use Rattle.lv_editor.specs.Linting.{IsLintedOf, WritesRemarks, behind, lint_of, remarks}
 use Rattle.lv_editor.specs.Statuses.{status_after}
 use Rattle.lv_editor.specs.Texts.{total_text}
 use Rattle.lv_editor.specs.declared.error.EditorError.{EditorError}

@@ -1,5 +1,5 @@
 -- What the request `lint` writes (docs/COMMANDS.md, "The program").
-use Rattle.std.specs.Prelude.{◌≡◌, ℕ, ◌+◌, Option, Result, Ok, Err, List, [], ◌∷◌, ◌++◌, length, map, flat_map}
+use Rattle.std.specs.Prelude.{◌≡◌, ℕ, ◌+◌, Option, Result, Ok, Err, List, ◌∷◌, ◌++◌, length, map, flat_map}
 use Rattle.std.specs.Io.KnownBytes.{Appends, Keeps}
 use Rattle.lv_lumps.specs.Names.{name_text}
 use Rattle.lv_maptables.specs.Projects.{MapsView, project_of}

@@ -30,7 +30,8 @@ fn write_remark<T: Display, W: Write>(
     writer: &mut W,
 ) -> Result<(), EditorError>
     ensures { (text : List ℕ) → T.output remark.now ≡ Some text → MatchResult result
-        (λ _. Appends (W.contents writer.old) (W.contents writer.new) (ended (behind name.now text)))
+        (λ _. Appends (W.contents writer.old) (W.contents writer.new)
+        (ended (behind name.now text)))
         (λ e. e ≡ WriterFailed) }
 {
     match writer.write_all(name) {

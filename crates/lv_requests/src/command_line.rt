@@ -74,6 +74,22 @@ fn create<'a>(alloc: Global) -> Result<Command<'a>, AllocError>
         .arg(journal(alloc))
 }
 
+// `lint`.
+fn lint<'a>(alloc: Global) -> Result<Command<'a>, AllocError>
+    ensures { IfOk result (λ c. IsCommand c (with_word (codes "lint") (codes "file"))) }
+{
+    let about = "Says what is wrong or doubtful in each map of a project";
+    over_file(alloc, "lint", about, help::LINT)
+}
+
+// `dump`.
+fn dump<'a>(alloc: Global) -> Result<Command<'a>, AllocError>
+    ensures { IfOk result (λ c. IsCommand c (with_word (codes "dump") (codes "file"))) }
+{
+    let about = "Prints lines that draw a project's maps again";
+    over_file(alloc, "dump", about, help::DUMP)
+}
+
 // `build`.
 fn build<'a>(alloc: Global) -> Result<Command<'a>, AllocError>
     ensures { IfOk result (λ c. IsCommand c build_app) }
@@ -145,24 +161,12 @@ fn with_subcommands<'a>(alloc: Global) -> Result<Command<'a>, AllocError>
         "Says what is wrong in a project's current map",
         help::CHECK,
     );
-    let lint = over_file(
-        alloc,
-        "lint",
-        "Says what is wrong or doubtful in each map of a project",
-        help::LINT,
-    );
-    let dump = over_file(
-        alloc,
-        "dump",
-        "Prints lines that draw a project's maps again",
-        help::DUMP,
-    );
     let program = program.subcommand(scratch);
     let program = with(program, create(alloc));
     let program = with(program, edit);
     let program = with(program, check);
-    let program = with(program, lint);
-    let program = with(program, dump);
+    let program = with(program, lint(alloc));
+    let program = with(program, dump(alloc));
     let program = with(program, inspect(alloc));
     with(program, build(alloc))
 }

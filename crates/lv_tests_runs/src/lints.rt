@@ -5,8 +5,8 @@ use crate::project_run::{Ended, over_file};
 use std::fs;
 use std::test::Fail;
 
-// The lines that draw a project, the status of `lint` over it, and what `lint` writes. In a room with a start nothing is
-// found. A vertex without a line is a finding, a type that Doom doesn't have a warning.
+// The lines that draw a project, the status of `lint` over it, and what `lint` writes. In a room with a start nothing
+// is found. A vertex without a line is a finding, a type that Doom doesn't have a warning.
 const ROWS: &[(&[u8], u8, &[u8])] = &[
     (
         b"room 0 0 256 256 0 128 FLOOR4_8 CEIL3_5 STARTAN3 160\nthing 64 64 0 1 7\n",

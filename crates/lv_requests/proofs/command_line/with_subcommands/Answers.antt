@@ -8,7 +8,7 @@ returns c =
     let s2 = c.with-program.ensures _ _ s1 c.create.ensures in
     let s3 = c.with-program-2.ensures _ _ s2 c.over_file-edit.ensures in
     let s4 = c.with-program-3.ensures _ _ s3 c.over_file-check.ensures in
-    let s5 = c.with-program-4.ensures _ _ s4 c.over_file-lint.ensures in
-    let s6 = c.with-program-5.ensures _ _ s5 c.over_file-dump.ensures in
+    let s5 = c.with-program-4.ensures _ _ s4 c.lint.ensures in
+    let s6 = c.with-program-5.ensures _ _ s5 c.dump.ensures in
     let s7 = c.with-program-6.ensures _ _ s6 c.inspect.ensures in
     c.with.ensures _ _ s7 c.build.ensures
