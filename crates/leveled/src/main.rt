@@ -19,7 +19,7 @@ const REFUSED: u8 = 1;
 // The status of words that are no request.
 const NO_REQUEST: u8 = 2;
 
-// Says that memory is wanting, whatever becomes of standard error.
+// Says that there is no memory, whatever becomes of standard error.
 fn complain_of_memory(rt: &HostRuntime) {
     let _ = eprintln!(rt; "leveled: 31 Memory");
 }

@@ -49,7 +49,7 @@ fn some_row(line: LineEnds, left: i32, bottom: i16, rows: u32, near: u32) -> Opt
     first_row(line, left, bottom, rows)
 }
 
-// The least row that the line touches, which touches `high`.
+// The least row that the line touches. It touches the row `high`.
 fn least_row(line: LineEnds, left: i32, bottom: i16, high: u32) -> u32
     requires high { high < 512 }
     requires touched { TouchesRow line.start line.end left bottom high }

@@ -137,7 +137,7 @@ impl Slots {
         }
     }
 
-    /// Reads the live body of two slots of a disk of which what it reads is the only image. It writes nothing.
+    /// Reads the live body of two slots of a fully synced disk. It writes nothing.
     ///
     /// `Damaged` tells the place in the file of a slot that isn't there, or that is open and whose length
     /// isn't there, is too great for the slot or goes beyond the file; or of the second one, where both are

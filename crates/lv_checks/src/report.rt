@@ -14,7 +14,7 @@ use std::alloc::Global;
 /// What is wrong or unfinished in the map: unused vertices, unused sides and unused sectors, each by
 /// number; missing textures by line, the right side before the left, upper before lower before
 /// middle; open sectors by sector, then by vertex; and that there is no player start. It takes time
-/// near the map's size times the logarithm of it, and is refused by want of memory alone.
+/// near the map's size times the logarithm of it, and is refused by lack of memory alone.
 pub fn check(alloc: Global, map: &Map) -> Result<Vec<Finding>, CheckError>
     ensures found { IfOk result (λ found. found.items ≡ findings map.now.tables) }
     ensures memory { IsOkUnless result CheckError.OutOfMemory }

@@ -1,4 +1,4 @@
--- Cutting a line in two: nothing speaks against its halves.
+-- Cutting a line in two: nothing refuses its halves.
 use Rattle.std.proofs.Common.{◌≡◌, ◌≢◌, ℕ, ◌+◌, ◌<◌, ◌≤◌, ◌⊎◌, inl, inr, Bool, true, false, cond, ◌&&◌, not, Result, Ok, Err, List, [], ◌∷◌, ◌++◌, length, None, Some, Option, refl, sym, subst, ◌∙◌, ap, arith, length-append, get_or, nat_eq, nat_lt}
 use Rattle.std.specs.Prelude.{◌||◌, IfSome, slice_get}
 use Rattle.std.proofs.lemmas.Bool.{both_ways, eq-eqb, eqb-true, false_from_ne_true, le-ltb, or_parts}
@@ -69,7 +69,7 @@ may_cut m s n l named is fine ends sides =
       sides = sides;
     }
 
--- nothing speaks against the front half
+-- nothing refuses the front half
 pub front_free : (m o : Tables) (at : Vertex) (n v : ℕ) (l : Line) → MayCut m at n l → o ≡ with_vertex m at → v ≡ length m.vertices → least (set_line_faults o n (cut_short l v)) ≡ None
 front_free m o at n v l h e is =
     let vertices = m.vertices ++ at ∷ [] in

@@ -1,4 +1,4 @@
--- Drawing a room: nothing speaks against its walls.
+-- Drawing a room: nothing refuses its walls.
 use Rattle.std.proofs.Common.{◌≡◌, ◌≢◌, ℕ, ◌+◌, ◌*◌, ◌<◌, ◌≤◌, Bool, true, false, List, [], ◌∷◌, ◌++◌, length, drop, None, refl, sym, subst, ◌∙◌, ap, arith, append_assoc, length-append, length-drop, ℤ, pos, negsuc, nat_lt, nat_eq, not}
 use Rattle.std.specs.Prelude.{◌||◌, ◌-ℤ◌, unsigned_abs}
 use Rattle.std.proofs.Math.Nat.{mul-le-mul_left, mul-le-mul_right}

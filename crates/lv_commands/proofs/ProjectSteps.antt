@@ -1,4 +1,4 @@
--- The step of a project, by what speaks against a command and by how long the new body is.
+-- The step of a project, by why a command is refused and by how long the new body is.
 use Rattle.std.proofs.Common.{◌≡◌, ℕ, suc, ◌+◌, ◌-◌, ◌≤◌, inl, inr, Bool, true, false, cond, ◌&&◌, List, [], ◌∷◌, ◌++◌, length, take, drop, take_all, drop_of_length-le, Option, Some, None, Result, Ok, Err, refl, sym, ◌∙◌, ap, arith, nat_lt}
 use Rattle.std.specs.Prelude.{sum_by, ⊤}
 use Rattle.std.specs.List.{remove}
@@ -55,7 +55,7 @@ unrefused fs gs long f g =
 
 -- ---- The step
 
--- a code other than 14 speaks against the command
+-- a code other than 14 refuses the command
 pub step-refuses : (p : ProjectMaps) (c : ProjectCommand) (cap k : ℕ) → least (current_faults p c ++ map_faults p c) ≡ Some k → step p c cap ≡ Err k
 step-refuses p c cap k e =
     ap (λ o. unless o (after p c) (number_of p c)) (refused-if (current_faults p c) (map_faults p c) (nat_lt cap (body_len (after p c))) k (least (current_faults p c)) refl e)
@@ -71,7 +71,7 @@ step-is-full p c cap e long =
     let none = none-of-both (current_faults p c) (map_faults p c) e in
     step-decided p c cap none.0 none.1 ∙ ap (λ t. unless (cond t (Some 14) None) (after p c) (number_of p c)) long
 
--- nothing speaks against the command
+-- nothing refuses the command
 pub step-accepts : (p : ProjectMaps) (c : ProjectCommand) (cap : ℕ) → least (current_faults p c ++ map_faults p c) ≡ None → nat_lt cap (body_len (after p c)) ≡ false → step p c cap ≡ Ok (after p c, number_of p c)
 step-accepts p c cap e long =
     let none = none-of-both (current_faults p c) (map_faults p c) e in
@@ -117,7 +117,7 @@ low-if : (p : ProjectMaps) (c : ProjectCommand) (k : ℕ) (o : Option ℕ) → l
 low-if p c k None f e = maps-low p c k (sym (least-none (current_faults p c) (map_faults p c) f) ∙ e)
 low-if p c k (Some j) f e = current-low p c k (f ∙ sym (least-some (current_faults p c) (map_faults p c) j f) ∙ e)
 
--- what speaks against a command is a refusal of an edit of the maps
+-- why a command is refused is why an edit of the maps is
 pub code-is-low : (p : ProjectMaps) (c : ProjectCommand) (k : ℕ) → least (current_faults p c ++ map_faults p c) ≡ Some k → k ≤ 19
 code-is-low p c k e = low-if p c k (least (current_faults p c)) refl e
 
@@ -228,7 +228,7 @@ abbrev made : {S X : Type 0} → S → Result (S × X) ℕ → S
 made d (Ok p) = p.0
 made d (Err code) = d
 
--- an edit that nothing speaks against is made
+-- an edit that isn't refused is made
 ends-as : {S X : Type 0} (r : Result X MapError) (o : Option ℕ) (after : S) (answer : X) (old new : S) → o ≡ None → EndsExactly r (unless o after answer) old new → after ≡ new
 ends-as (Ok x) None after answer old new e h = ap (made after) h
 ends-as (Ok x) (Some k) after answer old new e h = absurd (cc e)

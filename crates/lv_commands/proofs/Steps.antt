@@ -1,4 +1,4 @@
--- The least code that speaks against a command of a map, and how long the new body is.
+-- The least code that refuses a command of a map, and how long the new body is.
 use Rattle.std.proofs.Common.{◌≡◌, ℕ, suc, ◌+◌, ◌≤◌, Bool, true, false, cond, List, [], ◌∷◌, ◌++◌, length, take, drop, Option, Some, None, refl, sym, ap, ◌∙◌, arith, nat_lt, length-append, length-drop}
 use Rattle.std.specs.Prelude.{slice_set, remove}
 use Rattle.std.proofs.lemmas.Bool.{le-ltb}
@@ -74,7 +74,7 @@ faults-low m (Drop k n) = drop-low m k n
 faults-low m (Room r) = search arith
 faults-low m (Split s) = search arith
 
--- what speaks against a command is a map's refusal of an edit
+-- why a command is refused is why an edit of the map is
 pub code_is_low : (m : Tables) (c : Command) (k : ℕ) → least (faults m c) ≡ Some k → k ≤ 13
 code_is_low m c k e = least-low (faults m c) k (faults-low m c) e
 
@@ -117,6 +117,6 @@ fullness m (Split s) cap fits =
 
 -- ---- The code
 
--- a refusal of another number isn't want of memory
+-- a refusal of another number isn't lack of memory
 pub not-memory : (e : CommandError) → code_of e ≤ 19 → e ≡ OutOfMemory → ⊥
 not-memory e low is = let code = ap code_of is in absurd (omega (arith, low, code))

@@ -25,14 +25,14 @@ growth_of p (Edit c) = of_one_map.growth_of (of_one_map.need_of c)
 growth_of p (SelectMap name) = if has_map p name then 0 else 18
 growth_of p (DropMap name) = 0
 
--- nothing speaks against the command, its numbers and names are in range, and what it adds takes no memory
+-- nothing refuses the command, its numbers and names are in range, and what it adds takes no memory
 pub record CanCommit (v : MapsView) (c : ProjectCommand) : Type 0 where
   pub range : InRange c
   pub current : least (current_faults (project_of v) c) ≡ None
   pub maps : least (map_faults (project_of v) c) ≡ None
   pub covered : Covers v.spare (need_of c)
 
--- a refusal is the code that the step answers, and want of memory one of a step that is accepted
+-- a refusal is the code that the step answers, and lack of memory one of a step that is accepted
 abbrev pub RefusesStep : CommandError → Result (ProjectMaps × ℕ) ℕ → Type 0
 RefusesStep OutOfMemory change = IsOk change
 RefusesStep e change = change ≡ Err (code_of e)

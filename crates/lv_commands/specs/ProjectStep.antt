@@ -13,7 +13,7 @@ use Rattle.lv_commands.specs.declared.command.Command.TheVariants.{Name}
 use Rattle.lv_commands.specs.declared.project.command.ProjectCommand.{ProjectCommand}
 use Rattle.lv_commands.specs.declared.project.command.ProjectCommand.TheVariants.{Edit, SelectMap, DropMap}
 
--- what speaks against it in the current map, from NoVertex to LineTooLong
+-- why the current map refuses it, from NoVertex to LineTooLong
 abbrev pub current_faults : ProjectMaps → ProjectCommand → List (ℕ × Bool)
 current_faults p (Edit c) = of_one_map.faults (current_map p) c
 current_faults p (SelectMap name) = []
@@ -24,7 +24,7 @@ abbrev pub naming_faults : ProjectMaps → Command → List (ℕ × Bool)
 naming_faults p (Name name) = name_faults p name
 naming_faults p _ = []
 
--- what speaks against it among the maps, from TooManyMaps to CurrentMap
+-- why the list of maps refuses it, from TooManyMaps to CurrentMap
 abbrev pub map_faults : ProjectMaps → ProjectCommand → List (ℕ × Bool)
 map_faults p (Edit c) = naming_faults p c
 map_faults p (SelectMap name) = select_faults p name
@@ -42,11 +42,11 @@ number_of p (Edit c) = of_one_map.number_of (current_map p) c
 number_of p (SelectMap name) = project.number_of p name
 number_of p (DropMap name) = project.number_of p name
 
--- there is a new body (there is none where the maps speak against it), and it is longer than `cap`
+-- there is a new body (there is none where the maps refuse it), and it is longer than `cap`
 abbrev pub is_full : ProjectMaps → ProjectCommand → ℕ → Bool
 is_full p c cap = is_none (least (map_faults p c)) && nat_lt cap (body_len (after p c))
 
--- what speaks against a command, by rising code; a body may be at most `cap` long
+-- why a command is refused, by rising code; a body may be at most `cap` long
 abbrev pub faults : ProjectMaps → ProjectCommand → ℕ → List (ℕ × Bool)
 faults p c cap = current_faults p c ++ (code_of ProjectFull, is_full p c cap) ∷ map_faults p c
 

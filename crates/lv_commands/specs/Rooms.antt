@@ -1,4 +1,4 @@
--- What `room` adds to a map, and what speaks against it.
+-- What `room` adds to a map, and why it is refused.
 use Rattle.std.specs.Prelude.{ℕ, ◌+◌, Bool, ◌||◌, List, [], ◌∷◌, ◌++◌, length, pos}
 use Rattle.std.specs.List.{list_any}
 use Rattle.lv_lumps.specs.declared.records.Line.{Line}

@@ -1,4 +1,4 @@
--- What `split` makes of a map, and what speaks against it.
+-- What `split` makes of a map, and why it is refused.
 use Rattle.std.specs.Prelude.{ℕ, Bool, ◌||◌, List, [], ◌∷◌, ◌++◌, length, get_or, slice_set}
 use Rattle.lv_lumps.specs.declared.records.Line.{Line}
 use Rattle.lv_lumps.specs.declared.records.Vertex.{Vertex}

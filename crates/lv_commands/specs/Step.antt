@@ -1,4 +1,4 @@
--- What speaks against a command of a map, the map that it leaves, and its number.
+-- Why a command of a map is refused, the map that it leaves, and its number.
 use Rattle.std.specs.Prelude.{ℕ, Bool, List, [], length}
 use Rattle.lv_maptables.specs.declared.kind.Kind.{Kind}
 use Rattle.lv_maptables.specs.declared.kind.Kind.TheVariants as kind
@@ -10,7 +10,7 @@ use Rattle.lv_commands.specs.Splits.{with_split, split_faults}
 use Rattle.lv_commands.specs.declared.command.Command.{Command}
 use Rattle.lv_commands.specs.declared.command.Command.TheVariants.{Name, AddVertex, AddSector, AddSide, AddLine, AddThing, SetVertex, SetSector, SetSide, SetLine, SetThing, Drop, Room, Split}
 
--- what speaks against taking out an item
+-- why taking out an item is refused
 abbrev pub drop_faults : Tables → Kind → ℕ → List (ℕ × Bool)
 drop_faults m kind.Vertex n = drop_vertex_faults m n
 drop_faults m kind.Sector n = drop_sector_faults m n
@@ -26,7 +26,7 @@ without m kind.Side n = without_side m n
 without m kind.Line n = without_line m n
 without m kind.Thing n = without_thing m n
 
--- what speaks against a command, by rising code
+-- why a command is refused, by rising code
 abbrev pub faults : Tables → Command → List (ℕ × Bool)
 faults m (Name name) = []
 faults m (AddVertex v) = vertex_faults m v

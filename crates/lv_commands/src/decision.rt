@@ -1,4 +1,4 @@
-//! Whether anything speaks against a command of one map, memory aside: the least refusal that holds.
+//! Whether a command of one map is refused, memory aside: the least refusal that holds.
 ghost use Rattle.std.specs.Prelude.{◌≡◌, ◌+◌, ◌≤◌, ◌<◌, ◌||◌, nat_lt, length, [], ◌∷◌, ◌++◌};
 ghost use Rattle.std.specs.List.{list_any};
 ghost use Rattle.lv_maptables.specs.Faults.{is_taken, lacks_room, lacks_sector_room, is_too_long};
@@ -122,7 +122,7 @@ fn can_split(map: &Map, split: &LineSplit) -> Result<(), MapError>
     }
 }
 
-/// Whether nothing speaks against a command, memory and the body's length aside: else the least code that does.
+/// Whether a command is accepted, memory and the body's length aside: else the least code that refuses it.
 pub fn can_do(map: &Map, command: &Command) -> Result<(), MapError>
     ensures { Tells result (faults map.now.tables command.now) }
 {

@@ -1,5 +1,5 @@
 //! The commands that draw the maps of a project: their lines, and what each makes of the project. Those of its current
-//! map have their grammar, their spelling and what speaks against them here; those of the whole stand in `project`.
+//! map have their grammar, their spelling and refusals here; those of the whole stand in `project`.
 #![tactic(auto)]
 
 mod command;

@@ -1,4 +1,4 @@
--- Why nothing speaks against a map's next item, where those before it are drawn.
+-- Why nothing refuses a map's next item, where those before it are drawn.
 use Rattle.std.proofs.Common.{◌≡◌, ◌≢◌, ℕ, ◌+◌, ◌<◌, ◌≤◌, Bool, true, false, ◌&&◌, ◌||◌, not, List, [], ◌∷◌, ◌++◌, length, get_or, None, refl, subst, ◌∙◌, ap, arith, length-append, nat_eq}
 use Rattle.std.proofs.Math.Seq.{get_or-append_seam}
 use Rattle.std.proofs.lemmas.List.{get_or_append_left}

@@ -23,7 +23,7 @@ use Rattle.lv_editor.specs.declared.error.EditorError.{EditorError}
 use Rattle.lv_editor.specs.declared.error.EditorError.TheVariants as editing
 use Rattle.lv_editor.specs.declared.query.Query.{Query}
 
--- a refused command is refused by the step's code, but for want of memory
+-- a refused command is refused by the step's code, but for lack of memory
 by_code : (e : CommandError) (change : Result (ProjectMaps × ℕ) ℕ) → RefusesStep e change → (change ≡ Err (code_of e)) ⊎ ((e ≡ OutOfMemory) × IsOk change)
 by_code NotACommand change told = inl told
 by_code OutOfRange change told = inl told
@@ -127,7 +127,7 @@ replies-lack limit m line q code some takes is = inr ((go (query_of line) some, 
 
 -- ---- Where no answer was written
 
--- some text is an answer, or memory was wanting
+-- some text is an answer, or there was no memory
 pub some_answer : (p : ProjectMaps) (q : Query) (e : EditorError) (u w : Option (List ℕ)) → Unanswered e (λ text. IsAnswer p q text) (TakesMemory q) u w
     → ((text : List ℕ) × IsAnswer p q text) ⊎ TakesMemory q
 some_answer p q editing.OutOfMemory u w none = inr (none.lacks refl)

@@ -26,17 +26,17 @@ text_written (Err e) Fits Takes text u w is told =
       failed = λ _. (text, is);
     }
 
--- the same where memory can be wanting
+-- the same where memory can be lacking
 pub text_told : {U : Type 0} (r : Result U EditorError) (Fits : List ℕ → Type 0) (Takes : Type 0) (text : List ℕ) (u w : Option (List ℕ)) → Fits text → Takes
     → MatchResult r (λ _. Appends u w text) (λ e. Unwritten e u w) → WritesText r Fits Takes u w
 text_told (Ok x) Fits Takes text u w is takes told = (text, is, told)
 text_told (Err e) Fits Takes text u w is takes told = record { unwritten = told; lacks = λ _. takes; failed = λ _. (text, is) }
 
--- want of memory was handed on, and nothing written
+-- lack of memory was handed on, and nothing written
 pub no_memory : (cause : BuildError) (u : Option (List ℕ)) → Unwritten OutOfMemory u u × (OutOfMemory ≡ WriterFailed → cause ≢ refused.OutOfMemory)
 no_memory cause u = (Keeps-refl u, λ failed. absurd (apart failed))
 
--- a refusal that isn't want of memory was to be written
+-- a refusal that isn't lack of memory was to be written
 pub refusal_written : {U : Type 0} (r : Result U EditorError) (cause : BuildError) (code : ℕ) (u w : Option (List ℕ)) → cause ≢ refused.OutOfMemory
     → code ≡ build_code_of cause → MatchResult r (λ _. Appends u w (refused_text code)) (λ e. e ≡ WriterFailed) → WritesRefusal r cause u w
 refusal_written (Ok x) cause code u w other is told = (other, subst (λ (n : ℕ). Appends u w (refused_text n)) is told)

@@ -84,7 +84,7 @@ pub record IsOfBuild (m : Tables) (l : Lumps) : Type 0 where
 
 -- ---- Answers
 
--- `no CODE` with the cause that a build is refused for, which isn't want of memory
+-- `no CODE` with the cause that a build is refused for, which isn't lack of memory
 pub record TellsRefusal (IsCause : BuildError → Type 0) (text : List ℕ) : Type 0 where
   pub error : BuildError
   pub cause : IsCause error
@@ -124,7 +124,7 @@ TakesMemory (HexBuilt lump) = Unit {0}
 
 -- ---- What a call wrote
 
--- a text that fits was not written: nothing was, for want of memory where it takes any, or the
+-- a text that fits was not written: nothing was, for lack of memory where it takes any, or the
 -- writer failed in such a text
 pub record Unanswered (e : EditorError) (Fits : List ℕ → Type 0) (Takes : Type 0)
     (writer-old writer-new : Option (List ℕ)) : Type 0 where
@@ -139,7 +139,7 @@ WritesText result Fits Takes writer-old writer-new =
     MatchResult result (λ _. (text : List ℕ) × Fits text × Appends writer-old writer-new text)
     (λ e. Unanswered e Fits Takes writer-old writer-new)
 
--- how a call ended that should answer a query: an answer was written, or nothing for want of memory
+-- how a call ended that should answer a query: an answer was written, or nothing for lack of memory
 -- where it takes any, or the writer failed in an answer
 abbrev pub WritesAnswer : {U : Type 0} → Result U EditorError → ProjectMaps → Query
     → Option (List ℕ) → Option (List ℕ) → Type 0
@@ -153,7 +153,7 @@ WritesBuilt result m lump writer-old writer-new =
     WritesText result (λ text. TellsBuilt m lump text) (Unit {0}) writer-old writer-new
 
 -- how a call ended that should write `no CODE` for a refused build: it was written, and the cause
--- isn't want of memory; or nothing was written where it is; or the writer failed where it isn't
+-- isn't lack of memory; or nothing was written where it is; or the writer failed where it isn't
 abbrev pub WritesRefusal : {U : Type 0} → Result U EditorError → BuildError → Option (List ℕ)
     → Option (List ℕ) → Type 0
 WritesRefusal result cause writer-old writer-new =

@@ -15,7 +15,7 @@ BuildsKept cap sessions file wad =
     × IsSoundBuildOfAll maps.maps wad
 
 -- Why there are no such bytes: the builder refused the maps that the sessions keep, for which the
--- file stands; or there was no opening, by a fault of the device or for want of memory.
+-- file stands; or there was no opening, by a fault of the device or for lack of memory.
 abbrev pub RefusesKept : ℕ → List Session → List ℕ → RecoveryError → Type 0
 RefusesKept cap sessions file (Build e) =
     (maps : ProjectMaps) × KeepEach cap empty_project sessions maps × StandsFor cap maps file

@@ -52,7 +52,7 @@ AnswersLine answers result old new line writer-old writer-new =
     (text : List ℕ) × answers old line text new
     × MatchResult result (λ _. Appends writer-old writer-new text) (λ e. e ≡ WriterFailed)
 
--- a call that was to write was refused: nothing was written where memory was wanting, and else the
+-- a call that was to write was refused: nothing was written where there was no memory, and else the
 -- writer failed
 abbrev pub Unwritten : EditorError → Option (List ℕ) → Option (List ℕ) → Type 0
 Unwritten OutOfMemory writer-old writer-new = Keeps writer-old writer-new
@@ -99,7 +99,7 @@ pub record Feeds {S : Type 0} (answers : S → List ℕ → List ℕ → S → T
 
 -- How a run of so many turns ended that has read these bytes. All lines are answered at Ok, and all
 -- that were read whole where the reader failed or the turns were used up, each for a byte at least.
--- It never ends for want of memory: that is an answer of its line.
+-- It never ends for lack of memory: that is an answer of its line.
 abbrev pub EndsRun : {S : Type 0} → Result ℕ EditorError → ℕ → List (Exchange S) → List ℕ
     → Option (List ℕ) → Option (List ℕ) → Type 0
 EndsRun (Ok n) turns trace read writer-old writer-new =

@@ -56,7 +56,7 @@ pub record IsOpenedFrom {D : Type 0} (facts : Ghosts D) (before : D)
       (StandsOnlyFor first.cap (project_of first.maps) first.generation)
   pub only_read : IsOnlyRead facts before first.disk
 
--- no project was opened, because of the disk's bytes, by a fault or for want of memory
+-- no project was opened, because of the disk's bytes, by a fault or for lack of memory
 abbrev pub NotOpened : (List ℕ → Type 0) → Result ℕ Refusal → Type 0
 NotOpened reads how = (e : ProjectError) × (how ≡ Err (of.Project e)) × IsRefusedRead reads e
 

@@ -21,7 +21,7 @@ use lv_pwad::{BuildError, Level, build_counted, build_wad, read_level};
 use std::alloc::Global;
 use std::io::Write;
 
-// Writes why nothing is built, as `no CODE`. Want of memory is handed on, and nothing is written.
+// Writes why nothing is built, as `no CODE`. Lack of memory is handed on, and nothing is written.
 fn write_refusal<W: Write>(cause: BuildError, writer: &mut W) -> Result<(), EditorError>
     ensures { WritesRefusal result cause (W.contents writer.old) (W.contents writer.new) }
 {

@@ -115,13 +115,13 @@ pub fn answer<D: Disk, W: Write>(
         → LeavesOnly D.Disk project.old.disk project.new.disk
         (IsOutcome project.old.cap (project_of project.old.maps) line.now) }
 
-    // Each image now stands for the maps, or, where the project must be opened again, for their step by the line.
+    // Each image now stands for the maps, or, where the project must be opened again, for these maps after the line.
     ensures kept { IsKept D.Disk project.new }
     ensures in_doubt { project.old.must_reopen ≡ false → project.new.must_reopen ≡ true
         → Each (D.may_leave project.new.disk)
         (IsOutcome project.new.cap (project_of project.new.maps) line.now) }
 {
-    // What each image stands for as the call begins, which this call tells.
+    // What each image stands for as the call begins; this call is a law that tells it.
     let _ = project.must_reopen();
     project.answer(alloc, front(line), writer)
 }
@@ -149,7 +149,7 @@ pub fn run<D: Disk, R: Read, W: Write>(
         (W.contents writer.old) (W.contents writer.new)
         × RunsOver D.Disk project.old project.new trace }
 {
-    // What each image stands for as the run begins, which this call tells.
+    // What each image stands for as the run begins; this call is a law that tells it.
     let _ = project.must_reopen();
     run_lines(alloc, project, reader, writer, turns)
 }

@@ -22,7 +22,7 @@ pub enum Query {
     HexBuilt(BuiltLump),
 }
 
-// The query that a line is which asks for a built lump.
+// The query for a built lump that a line is, if it is one.
 fn read_built(line: &[u8]) -> Option<Query>
     ensures { result ≡ option_map (λ q. q.1) (find (λ q. bytes_eq line.now q.0) built_lines) }
 {
@@ -43,7 +43,7 @@ fn read_built(line: &[u8]) -> Option<Query>
     }
 }
 
-// The query that a line is which asks for a lump.
+// The query for a lump that a line is, if it is one.
 fn read_hex(line: &[u8]) -> Option<Query>
     ensures { result ≡ option_map (λ q. q.1)
         (find (λ q. bytes_eq line.now q.0) (drawn_lines ++ built_lines)) }

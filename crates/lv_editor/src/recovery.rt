@@ -55,7 +55,7 @@ fn build_maps(alloc: Global, maps: &Maps) -> Result<Vec<u8>, RecoveryError>
 ///
 /// # Errors
 ///
-/// `Open` by a fault of the device or for want of memory alone, and `Build` as `build_all` refuses those maps: 30, 31,
+/// `Open` by a fault of the device or for lack of memory alone, and `Build` as `build_all` refuses those maps: 30, 31,
 /// 60 to 64 and 66.
 pub fn build_after_any_stop<D: Disk>(alloc: Global, disk: D) -> Recovery<D>
     ensures built { (cap : ℕ) (sessions : List Session) (file : List ℕ) → D.reads disk file

@@ -53,7 +53,7 @@ fn write_reason<W: Write>(path: &str, reason: &str, writer: &mut W) -> io::Resul
 ///
 /// # Errors
 ///
-/// The writer's, or for want of memory.
+/// The writer's, or for lack of memory.
 pub fn write_cause<W: Write>(
     alloc: Global,
     path: &str,

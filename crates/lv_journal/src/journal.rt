@@ -53,7 +53,7 @@ impl Model for Journal {
 }
 
 impl Journal {
-    /// Reads the records of an area of a disk of which what it reads is the only image. It writes nothing.
+    /// Reads the records of an area of a fully synced disk. It writes nothing.
     ///
     /// `Damaged` tells the place in the file of a gate that isn't there, or of an open one whose record isn't whole, is
     /// longer than 256 bytes or leaves no place in the area for the next gate. Whatever stands behind a closed gate

@@ -49,7 +49,7 @@ fn list_breaches(
 /// What the maker of a level would want to know before playing it, and `lv_checks` doesn't tell: a
 /// warning for each item of the map that breaks a rule, by rule in the order of `Rule`, then by
 /// number. It takes time in proportion to the map's size and, for lines that meet, to the pairs of lines
-/// with a band of 128 rows in common, and is refused by want of memory alone.
+/// with a band of 128 rows in common, and is refused by lack of memory alone.
 pub fn lint(alloc: Global, map: &Map) -> Result<Vec<Warning>, LintError>
     ensures found { IfOk result (λ found. found.items ≡ warnings map.now.tables) }
     ensures memory { IsOkUnless result LintError.OutOfMemory }

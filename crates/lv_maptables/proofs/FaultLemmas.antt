@@ -1,4 +1,4 @@
--- What follows where nothing speaks against an edit.
+-- What follows where nothing refuses an edit.
 use Rattle.std.proofs.Common.{◌≡◌, ℕ, ◌<◌, ◌≤◌, ◌+◌, Bool, true, false, List, [], ◌∷◌, length, None, refl, sym, ltb, get_or}
 use Rattle.std.specs.List.{list_any, All}
 use Rattle.std.specs.Prelude.{Option, Some, Ok}

@@ -69,7 +69,7 @@ one_list (m ∷ ms) (n ∷ ns) wm wn e =
     let rest = append_cancel_left (part m) (flat_map part ns) (flat_map part ms) (ap (λ x. part x ++ flat_map part ns) (sym one) ∙ e) in
     λ i. one i ∷ one_list ms ns (All-tail WellFormed m ms wm) (All-tail WellFormed n ns wn) rest i
 
--- ---- What speaks against a next map
+-- ---- Why a next map is refused
 
 length_middle : (before behind : List Tables) (m : Tables) → length before < length (before ++ m ∷ behind)
 length_middle before behind m = omega (arith, length-append before (m ∷ behind))

@@ -6,7 +6,7 @@ use Rattle.lv_maptables.specs.declared.error.MapError.{MapError}
 use Rattle.lv_maptables.specs.Errors.{code_of}
 use Rattle.lv_maptables.specs.Outcomes.{least, Tells}
 
--- what speaks against it comes before what stands behind
+-- why it is refused comes before what stands behind
 pub told_before : (faults more : List (ℕ × Bool)) (code : ℕ) → least faults ≡ Some code → least (faults ++ more) ≡ Some code
 told_before [] more code is = absurd (cc)
 told_before ((first, true) ∷ faults) more code is = is

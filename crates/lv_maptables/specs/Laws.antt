@@ -15,7 +15,7 @@ Rises [] = Unit {0}
 Rises (fault ∷ []) = Unit {0}
 Rises (fault ∷ next ∷ faults) = (fault.0 < next.0) × Rises (next ∷ faults)
 
--- what speaks against an edit of a map stands by rising code, so that the first that holds is the least
+-- why an edit of a map is refused stands by rising code, so that the first that holds is the least
 pub record FaultsRise (m : Tables) (n : ℕ) (v : Vertex) (s : Side) (l : Line) : Type 0 where
   pub vertex : Rises (vertex_faults m v)
   pub set_vertex : Rises (set_vertex_faults m n v)

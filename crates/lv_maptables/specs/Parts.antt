@@ -29,7 +29,7 @@ pub record BeginsWith (bytes : List ℕ) (m : Tables) : Type 0 where
   pub well_formed : WellFormed m
   pub encoded : part m ++ drop (part_len m) bytes ≡ bytes
 
--- a reader refuses its bytes at place 0 for the reason, or for want of memory
+-- a reader refuses its bytes at place 0 for the reason, or for lack of memory
 abbrev pub RefusesFor : Type 0 → MapError → Type 0
 RefusesFor reason OutOfMemory = Unit {0}
 RefusesFor reason (Damaged place) = (place ≡ 0) × reason

@@ -1,4 +1,4 @@
--- What selecting, dropping and naming a map make of a project, and what speaks against it, by rising code.
+-- What selecting, dropping and naming a map make of a project, and why each is refused, by rising code.
 use Rattle.std.specs.Prelude.{ℕ, ◌+◌, Bool, ◌&&◌, not, nat_lt, if◌then◌else◌, List, [], ◌∷◌, ◌++◌, length, remove, Result, ⊤}
 use Rattle.lv_lumps.specs.declared.records.Name8.{Name8}
 use Rattle.lv_maptables.specs.declared.error.MapError.TheVariants.{TooManyMaps, MapNameTaken, NoSuchMap, CurrentMap}
@@ -8,7 +8,7 @@ use Rattle.lv_maptables.specs.Outcomes.{least, unless}
 use Rattle.lv_maptables.specs.Edits.{with_name, lowered}
 use Rattle.lv_maptables.specs.Projects.{ProjectMaps, map_limit, current_map, with_current, is_named, has_map, number_of}
 
--- ---- What speaks against it
+-- ---- Why it is refused
 
 -- there is no map of the name, and no room for one more
 abbrev pub select_faults : ProjectMaps → Name8 → List (ℕ × Bool)
@@ -41,7 +41,7 @@ without_map p name =
 abbrev pub with_current_named : ProjectMaps → Name8 → ProjectMaps
 with_current_named p name = with_current p (with_name (current_map p) name)
 
--- ---- What each gives: the new project and the map's number, or the least code that speaks against it
+-- ---- What each gives: the new project and the map's number, or the least code that refuses it
 
 abbrev pub selected_map : ProjectMaps → Name8 → Result (ProjectMaps × ℕ) ℕ
 selected_map p name = unless (least (select_faults p name)) (with_selected p name) (number_of p name)

@@ -6,7 +6,7 @@ ghost use Rattle.lv_lumps.specs.declared.records.Vertex.{Vertex};
 ghost use Rattle.lv_maptables.specs.Tables.{Tables};
 ghost use Rattle.lv_maptables.specs.Laws.{FaultsRise, BodiesTellProjects, OneMapKeepsItsLength};
 
-/// What speaks against each edit of a map stands by rising code, so the first that holds is the least.
+/// Why each edit of a map is refused stands by rising code, so the first that holds is the least.
 pub fn list_faults_by_rising_code()
     ensures { (m : Tables) (n : ℕ) (v : Vertex) (s : Side) (l : Line) → FaultsRise m n v s l }
 {}

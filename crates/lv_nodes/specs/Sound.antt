@@ -1,4 +1,4 @@
--- What a built tree is, and what speaks against building one.
+-- What a built tree is, and why one isn't built.
 use Rattle.std.specs.Prelude.{◌≡◌, ℕ, ◌+◌, ◌<◌, ◌≤◌, ◌⊎◌, List, ◌++◌, length, All, slice_get, Some, Contains}
 use Rattle.lv_lumps.specs.declared.records.Vertex.{Vertex}
 use Rattle.lv_lumps.specs.declared.records.Seg.{Seg}
@@ -64,7 +64,7 @@ pub record IsSmall (vertices : List Vertex) (segs : List Seg) (subs : List Sub) 
 abbrev pub HaveEnds : List Vertex → List Seg → Type 0
 HaveEnds vertices segs = All (λ (s : Seg). IsNumber (length vertices) s.first × IsNumber (length vertices) s.second) segs
 
--- ---- what speaks against it
+-- ---- why it is refused
 -- the places are vertices that are drawn, or rounded ends of pieces, each listed once
 abbrev pub AreEnds : List Edge → List Vertex → List Piece → Vertex → Type 0
 AreEnds lines drawn ps v = Contains drawn v ⊎ ((i : ℕ) × (p : Piece) × (slice_get ps i ≡ Some p) × ((v ≡ first_end lines p) ⊎ (v ≡ last_end lines p)))

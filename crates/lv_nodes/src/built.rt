@@ -132,7 +132,7 @@ fn build_over(alloc: Global, lines: &[Edge], points: &mut Points) -> Result<Buil
 /// The tree over all sides of a map's lines: the pieces of each side are divided by the lines of one
 /// another until no piece of an unused line separates its list. It is refused where the map has no
 /// line (`NothingToBuild`), where the tree has more than 32,767 vertices, segs or subsectors or a path
-/// of more than 1,024 nodes, and for want of memory.
+/// of more than 1,024 nodes, and for lack of memory.
 pub fn build_tree(alloc: Global, map: &Map) -> Result<Built, TreeError>
     ensures built { IfOk result (λ b. IsBuilt map.now.tables b) }
     ensures refused { IfErr result (IsTreeRefusal map.now.tables) }

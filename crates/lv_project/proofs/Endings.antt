@@ -73,7 +73,7 @@ split command.MapNameTaken r change is by = inr (is, by)
 split command.NoSuchMap r change is by = inr (is, by)
 split command.CurrentMap r change is by = inr (is, by)
 
--- a line that is no command is refused as such, and never for want of memory
+-- a line that is no command is refused as such, and never for lack of memory
 pub fault_refused : {D : Type 0} (facts : Ghosts D) (old new : State D) (line : List ℕ) (e : CommandError) (r : ProjectError) → IsRefusalOf r e → fault_of line ≡ Some (commands.code_of e)
     → old.must_reopen ≡ false → new.must_reopen ≡ false → RefusesApply facts r old new line
 fault_refused facts old new line e r is fault ready still = at (split e r refused is (refused-by e refused (omega (arith, low_fault line (commands.code_of e) fault)) refl))

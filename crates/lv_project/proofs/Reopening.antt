@@ -14,7 +14,7 @@ use Rattle.lv_project.specs.declared.error.ProjectError.TheVariants.{Device, Out
 use Rattle.lv_project.proofs.Excluding.{stands_bad, stands_blank, stands_damaged, stands_foreign}
 use Rattle.lv_project.proofs.Holding.{all_moments, opens_well}
 
--- bytes that stand for a map are refused by a fault or for want of memory alone
+-- bytes that stand for a map are refused by a fault or for lack of memory alone
 fault_or_memory : (reads : List ℕ → Type 0) (file : List ℕ) → reads file → (cap : ℕ) (map : ProjectMaps) (g : ℕ) → Stands cap map g file
     → (e : ProjectError) → IsRefusedRead reads e → (e ≡ Device) ⊎ (e ≡ OutOfMemory)
 fault_or_memory reads file there cap map g stands Device told = inl refl

@@ -40,7 +40,7 @@ only_device {T = T} r device is =
     let codes : 33 ≡ 30 = ap code_of same in
     omega (arith, codes)
 
--- a line that leads on isn't refused, but for want of memory
+-- a line that leads on isn't refused, but for lack of memory
 pub not_refused : {T : Type 0} (m : ProjectMaps) (n : ℕ) (line : List ℕ) (c : ProjectCommand) (e : CommandError) (r : ProjectError) → IsRefusalOf r e → readiness.RefusesStep e (step m c n) → line ≡ spelling c → InRange c
     → (new : ProjectMaps) → LeadsTo n m line new → (◌≡◌ {A = Result T ProjectError} (Err r) (Err GenerationsSpent)) ⊎ (◌≡◌ {A = Result T ProjectError} (Err r) (Err OutOfMemory))
 not_refused {T = T} m n line c e r is by line_is range new (k, a) = at (split e r (step m c n) is by)

@@ -1,4 +1,4 @@
--- When memory is wanting for a line.
+-- When there is no memory for a line.
 use Rattle.std.proofs.Common.{◌≡◌, ℕ, Bool, true, false, List, Some, Result, Err, IfErr, refl, sym, ◌∙◌, ap, subst, arith}
 use Rattle.std.proofs.lemmas.Bool.{true≢false}
 use Rattle.lv_maptables.specs.Outcomes.{Covers}
@@ -34,7 +34,7 @@ lacks BadGeometry = false
 other : (e : CommandError) (r : ProjectError) → r ≡ Refused e → r ≡ OutOfMemory → ⊥
 other e r is memory = true≢false (sym (ap lacks memory) ∙ ap lacks is)
 
--- want of memory is that of the command
+-- lack of memory is that of the command
 of_command : (e : CommandError) (r : ProjectError) → IsRefusalOf r e → r ≡ OutOfMemory → e ≡ command.OutOfMemory
 of_command command.OutOfMemory r is memory = refl
 of_command command.NotACommand r is memory = absurd (other command.NotACommand r is memory)

@@ -27,7 +27,7 @@ abbrev pub CanLack : Option ℕ → List ℕ → Type 0
 CanLack room line = IsAddition line ⊎ IsAbove room (length line)
 
 -- How an `apply` was refused. Only after `Device` must the project be opened again, and only `Reopen` leaves it so. Memory is
--- wanting only for a line that leads on.
+-- lacking only for a line that leads on.
 abbrev pub RefusesApply : {D : Type 0} → Ghosts D → ProjectError → State D → State D → List ℕ → Type 0
 RefusesApply facts Device old new line =
     (old.must_reopen ≡ false) × (new.must_reopen ≡ true) × Rose (facts.failures old.disk) (facts.failures new.disk)

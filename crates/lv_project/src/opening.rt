@@ -191,7 +191,7 @@ fn read_lines<D: Disk>(
     }
 }
 
-// A project of a disk of which what it reads is the only image. It only reads.
+// A project of a fully synced disk. It only reads.
 fn read_synced<D: Disk>(alloc: Global, disk: &mut D) -> Result<Opened, ProjectError>
     requires only { Each (D.may_leave disk.old) (D.reads disk.old) }
     ensures opened { IfOk result (λ o. Each (D.reads disk.old) (IsOpened o)) }

@@ -364,7 +364,7 @@ impl<D: Disk> Project<D> {
         ensures untouched { IfErr result (λ e. (e ≡ ProjectError.Device)
             ⊎ ((self.new.disk ≡ self.old.disk) × (self.new.generation ≡ self.old.generation))) }
 
-        // Memory is wanting only for a command that adds items, or where a checkpoint has to come first.
+        // Memory is lacking only for a command that adds items, or where a checkpoint has to come first.
         ensures memory { IsErrOf result ProjectError.OutOfMemory → CanLack self.old.room line.now }
 
         // A checkpoint comes where the journal has no room, and only there.

@@ -31,7 +31,7 @@ pub fn hold_each_acknowledged<D: Disk>()
         → (first.cap ≡ cap) × KeepEach cap empty_project sessions (project_of first.maps)
         × LeavesOnly D.Disk disk first.disk (HoldsEach cap sessions) }
 
-    // An `open` is refused by a fault of the device or for want of memory alone, and the disk is then as good as
+    // An `open` is refused by a fault of the device or for lack of memory alone, and the disk is then as good as
     // before.
     ensures refused { (cap : ℕ) (sessions : List Session) (disk : D) (after : D)
         (error : ProjectError)

@@ -24,7 +24,7 @@ view l =
       blockmap = l.blockmap.items;
     }
 
--- the first refusal that holds, or want of memory
+-- the first refusal that holds, or lack of memory
 abbrev pub RefusesLevel : List ℕ → List ℕ → ReadError → Type 0
 RefusesLevel wad name OutOfMemory = Unit {0}
 RefusesLevel wad name e = refusal wad name ≡ Some e

@@ -23,7 +23,7 @@ fn list_fault(level: &Level) -> Option<Fault>
 }
 
 /// The first fault of a level, in the order of docs/FORMAT.md, "What an audit looks for"; none exactly where every
-/// reference of the level is in range. It is refused for want of memory alone.
+/// reference of the level is in range. It is refused for lack of memory alone.
 pub fn audit(alloc: Global, level: &Level) -> Result<Option<Fault>, ReadError>
     ensures first { IfOk result (λ fault. fault ≡ first_fault (view level.now)) }
     ensures sound { IfOk result (λ fault. (fault ≡ None) ↔ InRange (view level.now)) }

@@ -134,7 +134,7 @@ impl<T: Drop> From<AllocFailed<T>> for BuildError {
     }
 }
 
-// The bytes of records are refused for want of memory alone.
+// The bytes of records are refused for lack of memory alone.
 impl From<LumpError> for BuildError {
     ghost from_gives = { λ _ e. e ≡ build.OutOfMemory };
 

@@ -6,7 +6,7 @@ use crate::error::ReadError;
 use std::alloc::Global;
 
 /// The bytes of REJECT of so many sectors: no sector is out of sight of another, so that the engine tests sight itself
-/// (docs/FORMAT.md, "REJECT and BLOCKMAP"). It is refused for want of memory alone.
+/// (docs/FORMAT.md, "REJECT and BLOCKMAP"). It is refused for lack of memory alone.
 pub fn reject(alloc: Global, sectors: u16) -> Result<Vec<u8>, ReadError>
     ensures bytes { IfOk result (λ v. v.items ≡ replicate (reject_size sectors) 0) }
     ensures memory { IsOkUnless result ReadError.OutOfMemory }

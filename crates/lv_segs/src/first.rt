@@ -40,7 +40,7 @@ pub fn pieces_in(alloc: Global, lines: &[Edge]) -> Result<Vec<Piece>, AllocError
 }
 
 /// The first list of a map's pieces: for each line by number its right side's piece, then its left
-/// side's where there is one. It is refused by want of memory alone.
+/// side's where there is one. It is refused by lack of memory alone.
 pub fn pieces_of(alloc: Global, map: &Map) -> Result<Vec<Piece>, SegsError>
     ensures pieces { IfOk result (λ pieces. pieces.items ≡ first_pieces (edges_of map.now.tables)) }
     ensures each { All (IsPiece (edges_of map.now.tables))

@@ -51,7 +51,7 @@ pub(crate) fn edge_of(map: &Map, line: u16) -> Edge
     edge_between(map, &line)
 }
 
-/// The lines of a map with the places of their ends, by number. It is refused by want of memory
+/// The lines of a map with the places of their ends, by number. It is refused by lack of memory
 /// alone.
 pub fn edges_of(alloc: Global, map: &Map) -> Result<Vec<Edge>, SegsError>
     ensures edges { IfOk result (λ edges. edges.items ≡ edges_of map.now.tables) }

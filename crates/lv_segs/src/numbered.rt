@@ -29,7 +29,7 @@ impl Points {
     ghost use Rattle.std.specs.Prelude.{◌≡◌, ◌≤◌, length, Some, Err, slice_get, IfOk, OnOk, OnErr, IsOkUnless};
     ghost use Rattle.lv_segs.specs.Places.{ArePlaces, IsKnown, IsWithPlace};
 
-    /// The vertices of a map, each with its own number. It is refused by want of memory alone.
+    /// The vertices of a map, each with its own number. It is refused by lack of memory alone.
     pub fn new(alloc: Global, map: &Map) -> Result<Points, SegsError>
         ensures drawn { IfOk result (λ points. points ≡ map.now.tables.vertices) }
         ensures memory { IsOkUnless result SegsError.OutOfMemory }
@@ -60,7 +60,7 @@ impl Points {
     }
 
     /// The number of a place. A new one goes to the end; it is refused as `TooManyVertices` where
-    /// there are 32,767 already, and for want of memory. After a refusal nothing has changed.
+    /// there are 32,767 already, and for lack of memory. After a refusal nothing has changed.
     pub fn number(&mut self, place: Vertex) -> Result<u32, SegsError>
         ensures number { IfOk result (λ n. slice_get self.new n ≡ Some place) }
         ensures places { OnOk result (IsWithPlace self.old place self.new) }

@@ -1,4 +1,4 @@
-//! The tests of lumps, maps, commands, findings, warnings and dumps: worked examples, and what lines draw.
+//! The tests of lumps, maps, commands, findings, warnings, dumps and pictures: worked examples, and what lines draw.
 #![tactic(auto)]
 
 #[cfg(test)]
@@ -22,3 +22,5 @@ mod lumps;
 mod maps;
 #[cfg(test)]
 mod maptables;
+#[cfg(test)]
+mod picture;

@@ -30,7 +30,7 @@ pub fn line_of(maps: &Maps, n: u32) -> Option<Line>
     maps.current().line(n)
 }
 
-/// Adds a vertex that nothing speaks against and for which there is memory, and answers its number.
+/// Adds a vertex that isn't refused and for which there is memory, and answers its number.
 pub fn put_vertex(maps: &mut Maps, vertex: Vertex) -> u32
     requires range { IsVertex vertex }
     requires accepted { least (vertex_faults maps.old.tables vertex) ≡ None }
@@ -43,7 +43,7 @@ pub fn put_vertex(maps: &mut Maps, vertex: Vertex) -> u32
     maps.add_vertex(vertex).unwrap()
 }
 
-/// Adds a sector that nothing speaks against and for which there is memory, and answers its number.
+/// Adds a sector that isn't refused and for which there is memory, and answers its number.
 pub fn put_sector(maps: &mut Maps, sector: Sector) -> u32
     requires range { IsSector sector }
     requires accepted { least (sector_faults maps.old.tables) ≡ None }
@@ -56,7 +56,7 @@ pub fn put_sector(maps: &mut Maps, sector: Sector) -> u32
     maps.add_sector(sector).unwrap()
 }
 
-/// Adds a side that nothing speaks against and for which there is memory, and answers its number.
+/// Adds a side that isn't refused and for which there is memory, and answers its number.
 pub fn put_side(maps: &mut Maps, side: Side) -> u32
     requires range { IsSide side }
     requires accepted { least (side_faults maps.old.tables side) ≡ None }
@@ -69,7 +69,7 @@ pub fn put_side(maps: &mut Maps, side: Side) -> u32
     maps.add_side(side).unwrap()
 }
 
-/// Adds a line that nothing speaks against and for which there is memory, and answers its number.
+/// Adds a line that isn't refused and for which there is memory, and answers its number.
 pub fn put_line(maps: &mut Maps, line: Line) -> u32
     requires range { IsLine line }
     requires accepted { least (line_faults maps.old.tables line) ≡ None }
@@ -82,7 +82,7 @@ pub fn put_line(maps: &mut Maps, line: Line) -> u32
     maps.add_line(line).unwrap()
 }
 
-/// Adds a thing that nothing speaks against and for which there is memory, and answers its number.
+/// Adds a thing that isn't refused and for which there is memory, and answers its number.
 pub fn put_thing(maps: &mut Maps, thing: Thing) -> u32
     requires range { IsThing thing }
     requires accepted { least (thing_faults maps.old.tables) ≡ None }
@@ -95,7 +95,7 @@ pub fn put_thing(maps: &mut Maps, thing: Thing) -> u32
     maps.add_thing(thing).unwrap()
 }
 
-/// Puts a line that nothing speaks against in place of that of a number.
+/// Puts a line that isn't refused in place of that of a number.
 pub fn replace_line(maps: &mut Maps, n: u32, line: Line)
     requires range { IsLine line }
     requires accepted { least (set_line_faults maps.old.tables n line) ≡ None }

@@ -19,7 +19,7 @@ use crate::project::room::draw;
 use crate::project::split::cut;
 use lv_maptables::{Kind, MapError, Maps};
 
-// Whether the new body would be longer than `cap`, where nothing else speaks against the command.
+// Whether the new body would be longer than `cap`, where nothing else refuses the command.
 fn is_full(maps: &Maps, command: &ProjectCommand, cap: u32) -> bool
     ensures { let p = project_of maps.now in result
         ≡ nat_lt cap (body_len p + growth_of p command.now) }
@@ -83,7 +83,7 @@ fn edited(n: u16, edit: Result<(), MapError>) -> u32
     u32::from(n)
 }
 
-// Makes a change of the current map that nothing speaks against, and answers its number.
+// Makes a change of the current map that isn't refused, and answers its number.
 fn edit(maps: &mut Maps, command: Command) -> u32
     requires range { of_one.InRange command }
     requires accepted { least (faults maps.old.tables command) ≡ None }

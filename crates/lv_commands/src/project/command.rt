@@ -20,7 +20,7 @@ pub enum MapHead {
     Drop,
 }
 
-/// A command that nothing speaks against, and for which the current map has memory.
+/// A command that isn't refused, and for which the current map has memory.
 #[derive(Clone, Copy)]
 pub struct Ready {
     pub command: ProjectCommand,

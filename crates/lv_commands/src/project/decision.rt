@@ -1,4 +1,4 @@
-//! What speaks against a command of a project, and what it needs.
+//! Why a command of a project is refused, and what it needs.
 ghost use Rattle.std.specs.Prelude.{◌≡◌, ◌++◌};
 ghost use Rattle.lv_maptables.specs.Outcomes.{Tells};
 ghost use Rattle.lv_maptables.specs.Projects.{current_map, has_map, project_of};
@@ -22,14 +22,14 @@ fn can_be_named(maps: &Maps, command: &Command) -> Result<(), MapError>
     }
 }
 
-// Whether nothing speaks against a change in the current map: else the least code that does.
+// Whether a change in the current map is accepted: else the least code that refuses it.
 fn can_change(maps: &Maps, command: &Command) -> Result<(), MapError>
     ensures { Tells result (faults (current_map (project_of maps.now)) command.now) }
 {
     decision::can_do(maps.current(), command)
 }
 
-// Whether nothing speaks against a change of the current map: else the least code that does.
+// Whether a change of the current map is accepted: else the least code that refuses it.
 fn can_edit(maps: &Maps, command: &Command) -> Result<(), MapError>
     ensures { let p = project_of maps.now in
         Tells result (faults (current_map p) command.now ++ naming_faults p command.now) }
@@ -40,7 +40,7 @@ fn can_edit(maps: &Maps, command: &Command) -> Result<(), MapError>
     }
 }
 
-/// Whether nothing speaks against a command, memory and the body's length aside: else the least code that does.
+/// Whether a command is accepted, memory and the body's length aside: else the least code that refuses it.
 pub fn can_do(maps: &Maps, command: &ProjectCommand) -> Result<(), MapError>
     ensures { let p = project_of maps.now in
         Tells result (current_faults p command.now ++ map_faults p command.now) }

@@ -1,4 +1,4 @@
--- Nothing speaks against the side, so the map stays well-formed with it. The lines keep their sides.
+-- Nothing refuses the side, so the map stays well-formed with it. The lines keep their sides.
 use Rattle.std.proofs.Common.{◌≡◌, ◌∙◌, ◌≤◌, refl, ap, length, arith, rules}
 use Rattle.std.proofs.lemmas.List.{length-map}
 use Rattle.lv_maptables.specs.MapFields.{tables_of}

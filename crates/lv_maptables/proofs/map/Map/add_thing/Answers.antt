@@ -1,4 +1,4 @@
--- Nothing speaks against the thing, so the map stays well-formed with it.
+-- Nothing refuses the thing, so the map stays well-formed with it.
 use Rattle.lv_maptables.proofs.LineLemmas.{with_thing-keeps}
 use Rattle.std.proofs.Common.{refl}
 use Rattle.lv_maptables.specs.MapFields.{tables_of}

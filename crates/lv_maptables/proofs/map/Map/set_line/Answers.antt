@@ -1,4 +1,4 @@
--- Nothing speaks against the line, so the map stays well-formed with it.
+-- Nothing refuses the line, so the map stays well-formed with it.
 use Rattle.std.proofs.Common.{refl, arith}
 use Rattle.std.proofs.lemmas.List.{length-map}
 use Rattle.lv_maptables.specs.MapFields.{tables_of}

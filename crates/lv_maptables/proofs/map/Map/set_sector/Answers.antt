@@ -1,4 +1,4 @@
--- Nothing speaks against the sector, so the map stays well-formed with it. The sides keep their sectors.
+-- Nothing refuses the sector, so the map stays well-formed with it. The sides keep their sectors.
 use Rattle.lv_maptables.proofs.SectorLemmas.{with_sector_at-keeps}
 use Rattle.std.proofs.Common.{refl}
 use Rattle.lv_maptables.specs.MapFields.{tables_of}

@@ -1,4 +1,4 @@
--- Nothing speaks against the side, so the map stays well-formed with it. The lines keep their sides.
+-- Nothing refuses the side, so the map stays well-formed with it. The lines keep their sides.
 use Rattle.std.proofs.Common.{refl, arith}
 use Rattle.lv_maptables.specs.MapFields.{tables_of}
 use Rattle.lv_maptables.specs.Edits.{with_side_at}

@@ -1,4 +1,4 @@
--- Nothing speaks against the thing, so the map stays well-formed with it.
+-- Nothing refuses the thing, so the map stays well-formed with it.
 use Rattle.lv_maptables.proofs.LineLemmas.{with_thing_at-keeps}
 use Rattle.lv_maptables.proofs.map.Map.set_thing.Goals as goal
 

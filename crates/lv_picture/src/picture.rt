@@ -1,0 +1,200 @@
+//! The call that writes a picture.
+ghost use Rattle.std.specs.Prelude.{◌≡◌, ◌≤◌, OnOk, flat_map};
+ghost use Rattle.std.specs.Io.KnownBytes.{Appends};
+ghost use Rattle.lv_picture.specs.Picture.{element, head_text, opening_text, page_text, paper_text, part_text, picture_of, style_text, title_text};
+
+use crate::error::PictureError;
+use crate::lines::write_line;
+use crate::numbers::{write_line_number, write_sector_number, write_vertex_number};
+use crate::parts::{Part, kind_of, parts_of};
+use crate::style::STYLE;
+use crate::text::write_bytes;
+use crate::things::write_thing;
+use crate::vertices::write_vertex;
+use crate::view::{View, view_of};
+use lv_lumps::Name8;
+use lv_maptables::Map;
+use std::io::Write;
+
+/// What a picture shows besides the map itself.
+#[derive(Clone, Copy, Debug, PartialEq, Eq)]
+pub struct PictureOptions {
+    /// Whether the numbers of vertices, lines and sectors stand beside them.
+    pub numbers: bool,
+}
+
+// Opens the picture, with what part of the plane it shows.
+fn write_opening<W: Write>(view: &View, writer: &mut W) -> Result<(), PictureError>
+    ensures { OnOk result
+        (Appends (W.contents writer.old) (W.contents writer.new) (opening_text view.now)) }
+{
+    let (left, top, width, height, step) = (
+        view.left,
+        view.top,
+        view.width,
+        view.height,
+        view.step,
+    );
+    let written = write!(
+        writer,
+        "<svg xmlns=\"http://www.w3.org/2000/svg\" version=\"1.1\" width=\"100%\"
+viewBox=\"{left} {top} {width} {height}\" font-size=\"{step}\">
+<title>"
+    );
+    match written {
+        Ok(()) => Ok(()),
+        Err(_) => Err(PictureError::WriterFailed),
+    }
+}
+
+// Writes the page on which the map is drawn.
+fn write_page<W: Write>(view: &View, writer: &mut W) -> Result<(), PictureError>
+    ensures { OnOk result
+        (Appends (W.contents writer.old) (W.contents writer.new) (page_text view.now)) }
+{
+    let (left, top, width, height) = (view.left, view.top, view.width, view.height);
+    let written = write!(
+        writer,
+        "<rect class=\"page\" x=\"{left}\" y=\"{top}\" width=\"{width}\" height=\"{height}\"/>\n"
+    );
+    match written {
+        Ok(()) => Ok(()),
+        Err(_) => Err(PictureError::WriterFailed),
+    }
+}
+
+// Writes the map's name, and ends the title.
+#[tactic(auto, unfolding(crate::specs::Picture::title_text))]
+fn write_name<W: Write>(name: Name8, writer: &mut W) -> Result<(), PictureError>
+    ensures { OnOk result
+        (Appends (W.contents writer.old) (W.contents writer.new) (title_text name)) }
+{
+    write_bytes(name.text(), writer)?;
+    write_bytes(b"</title>\n", writer)
+}
+
+// Writes the style.
+fn write_style<W: Write>(writer: &mut W) -> Result<(), PictureError>
+    ensures { OnOk result (Appends (W.contents writer.old) (W.contents writer.new) style_text) }
+{
+    write_bytes(STYLE.as_bytes(), writer)
+}
+
+// Writes the style and the page.
+#[tactic(auto, unfolding(crate::specs::Picture::paper_text))]
+fn write_paper<W: Write>(view: &View, writer: &mut W) -> Result<(), PictureError>
+    ensures { OnOk result
+        (Appends (W.contents writer.old) (W.contents writer.new) (paper_text view.now)) }
+{
+    write_style(writer)?;
+    write_page(view, writer)
+}
+
+// Writes the head: what the picture shows, the map's name, the style and the page.
+#[tactic(auto, unfolding(crate::specs::Picture::head_text))]
+fn write_head<W: Write>(name: Name8, view: &View, writer: &mut W) -> Result<(), PictureError>
+    ensures { OnOk result
+        (Appends (W.contents writer.old) (W.contents writer.new) (head_text view.now name)) }
+{
+    write_opening(view, writer)?;
+    write_name(name, writer)?;
+    write_paper(view, writer)
+}
+
+// Writes the element of a part for the item of the number, if there is one.
+fn write_element<W: Write>(
+    map: &Map,
+    step: u32,
+    part: Part,
+    n: u32,
+    writer: &mut W,
+) -> Result<(), PictureError>
+    requires { step ≤ 1000 }
+    ensures { OnOk result (Appends (W.contents writer.old) (W.contents writer.new)
+        (element map.now.tables step part n)) }
+{
+    match part {
+        Part::Lines => match map.line(n) {
+            Some(line) => write_line(map, step, n, &line, writer),
+            None => Ok(()),
+        },
+        Part::Things => match map.thing(n) {
+            Some(thing) => write_thing(n, &thing, writer),
+            None => Ok(()),
+        },
+        Part::Vertices => match map.vertex(n) {
+            Some(vertex) => write_vertex(n, vertex, writer),
+            None => Ok(()),
+        },
+        Part::VertexNumbers => match map.vertex(n) {
+            Some(vertex) => write_vertex_number(step, n, vertex, writer),
+            None => Ok(()),
+        },
+        Part::LineNumbers => match map.line(n) {
+            Some(line) => write_line_number(map, step, n, &line, writer),
+            None => Ok(()),
+        },
+        Part::SectorNumbers => write_sector_number(map, step, n, writer),
+    }
+}
+
+// Writes the elements of a part.
+fn write_part<W: Write>(
+    map: &Map,
+    step: u32,
+    part: Part,
+    writer: &mut W,
+) -> Result<(), PictureError>
+    requires { step ≤ 1000 }
+    ensures { OnOk result (Appends (W.contents writer.old) (W.contents writer.new)
+        (part_text map.now.tables step part)) }
+{
+    for n in 0..map.count(kind_of(part)) {
+        match write_element(map, step, part, n, writer) {
+            Ok(()) => {}
+            Err(error) => return Err(error),
+        }
+    }
+    Ok(())
+}
+
+// Writes the parts.
+fn write_parts<W: Write>(
+    map: &Map,
+    step: u32,
+    parts: &[Part],
+    writer: &mut W,
+) -> Result<(), PictureError>
+    requires { step ≤ 1000 }
+    ensures { OnOk result (Appends (W.contents writer.old) (W.contents writer.new)
+        (flat_map (part_text map.now.tables step) parts.now)) }
+{
+    for part in parts {
+        match write_part(map, step, *part, writer) {
+            Ok(()) => {}
+            Err(error) => return Err(error),
+        }
+    }
+    Ok(())
+}
+
+/// Writes the map as a picture in SVG 1.1: a title and a style, then an element for each line, for each thing and for
+/// each vertex, and the numbers where the options ask for them. It asks for no memory. Where the writer is a file, put
+/// a buffer round it.
+///
+/// # Errors
+///
+/// `WriterFailed` (38), and then any part of the picture may have been written.
+pub fn write_picture<W: Write>(
+    map: &Map,
+    options: PictureOptions,
+    writer: &mut W,
+) -> Result<(), PictureError>
+    ensures { OnOk result (Appends (W.contents writer.old) (W.contents writer.new)
+        (picture_of options map.now.tables)) }
+{
+    let view = view_of(map);
+    write_head(map.name(), &view, writer)?;
+    write_parts(map, view.step, parts_of(options.numbers), writer)?;
+    write_bytes(b"</svg>\n", writer)
+}

@@ -1,0 +1,41 @@
+//! The style of the picture.
+
+/// How the classes of the picture look, in a light and in a dark scheme. It holds no `<` and no `&`.
+pub const STYLE: &str = "<style type=\"text/css\">
+svg{color-scheme:light dark}
+.page{fill:#fff}
+path{fill:none;stroke-width:2px;stroke-linecap:round;stroke-linejoin:round;vector-effect:non-scaling-stroke}
+.one{stroke:#222}
+.one path{stroke-width:3px}
+.two{stroke:#888}
+.special{stroke:#c2410c}
+.one .tick,.two .tick{stroke-width:1.5px}
+.vertex{stroke:#1d4ed8;stroke-width:6px}
+.player path{fill:#15803d;stroke:#14532d}
+.deathmatch path{fill:#a855f7;stroke:#581c87}
+.monster path{fill:#dc2626;stroke:#7f1d1d}
+.item path{fill:#eab308;stroke:#854d0e}
+.other path{fill:#9ca3af;stroke:#374151}
+text{font-family:sans-serif;font-size:1.4em;text-anchor:middle;dominant-baseline:central}
+text{stroke:#fff;stroke-width:.2em;paint-order:stroke}
+.of-vertex{fill:#1d4ed8}
+.of-line{fill:#222}
+.of-sector{fill:#15803d;font-size:2em;font-weight:bold}
+@media (prefers-color-scheme:dark){
+.page{fill:#111}
+.one{stroke:#eee}
+.two{stroke:#888}
+.special{stroke:#fb923c}
+.vertex{stroke:#60a5fa}
+.player path{stroke:#4ade80}
+.deathmatch path{stroke:#d8b4fe}
+.monster path{stroke:#fca5a5}
+.item path{stroke:#fde047}
+.other path{stroke:#e5e7eb}
+text{stroke:#111}
+.of-vertex{fill:#93c5fd}
+.of-line{fill:#eee}
+.of-sector{fill:#4ade80}
+}
+</style>
+";

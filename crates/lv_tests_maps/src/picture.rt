@@ -1,0 +1,169 @@
+//! The pictures of worked maps.
+
+use crate::drawing::{ROOM, SECTOR, SIDE, drawn};
+use crate::expect::same;
+use lv_picture::{PictureError, PictureOptions, STYLE, write_picture};
+use std::alloc::Global;
+use std::io;
+use std::io::Write;
+use std::test::Fail;
+
+// A room of 128 by 128 with a player's start that faces north.
+const DRAWING: [&[u8]; 3] = [b"name E1M1", ROOM, b"thing 64 64 90 1 7"];
+
+// Its picture up to the style, worked by hand: the room and 64 on each side. y grows downwards, so the upper edge is
+// 64 above -128.
+const FRONT: &[u8] = br#"<svg xmlns="http://www.w3.org/2000/svg" version="1.1" width="100%"
+viewBox="-64 -192 256 256" font-size="8">
+<title>E1M1</title>
+"#;
+
+// And behind the style. The corners go round from the lower left one by the upper left one, so that each line has the
+// room on its right: east, down, west, and up.
+const BACK: &[u8] = br#"<rect class="page" x="-64" y="-192" width="256" height="256"/>
+<g id="line0" class="one">
+<title>line 0: vertices 0 1, flags 1, special 0, tag 0, right side 0 (sector 0), no left side</title>
+<path d="M0 0L0 -128"/><path class="tick" d="M0 -64l8 0"/></g>
+<g id="line1" class="one">
+<title>line 1: vertices 1 2, flags 1, special 0, tag 0, right side 1 (sector 0), no left side</title>
+<path d="M0 -128L128 -128"/><path class="tick" d="M64 -128l0 8"/></g>
+<g id="line2" class="one">
+<title>line 2: vertices 2 3, flags 1, special 0, tag 0, right side 2 (sector 0), no left side</title>
+<path d="M128 -128L128 0"/><path class="tick" d="M128 -64l-8 0"/></g>
+<g id="line3" class="one">
+<title>line 3: vertices 3 0, flags 1, special 0, tag 0, right side 3 (sector 0), no left side</title>
+<path d="M128 0L0 0"/><path class="tick" d="M64 0l0 -8"/></g>
+<g id="thing0" class="player" transform="translate(64 -64) rotate(-90)">
+<title>thing 0: type 1, angle 90, options 7</title>
+<path d="M16 0L-12 12L-5 0L-12 -12Z"/></g>
+<path id="vertex0" class="vertex" d="M0 0h0"><title>vertex 0: 0 0</title></path>
+<path id="vertex1" class="vertex" d="M0 -128h0"><title>vertex 1: 0 128</title></path>
+<path id="vertex2" class="vertex" d="M128 -128h0"><title>vertex 2: 128 128</title></path>
+<path id="vertex3" class="vertex" d="M128 0h0"><title>vertex 3: 128 0</title></path>
+"#;
+
+// Its numbers: a vertex's on the upper right, a line's on the left, and the sector's on the right of line 0, the first
+// of four that are as long.
+const NUMBERS: &[u8] = br#"<text class="of-vertex" x="0" y="0" dx="8" dy="-8">0</text>
+<text class="of-vertex" x="0" y="-128" dx="8" dy="-8">1</text>
+<text class="of-vertex" x="128" y="-128" dx="8" dy="-8">2</text>
+<text class="of-vertex" x="128" y="0" dx="8" dy="-8">3</text>
+<text class="of-line" x="0" y="-64" dx="-8" dy="0">0</text>
+<text class="of-line" x="64" y="-128" dx="0" dy="-8">1</text>
+<text class="of-line" x="128" y="-64" dx="8" dy="0">2</text>
+<text class="of-line" x="64" y="0" dx="0" dy="8">3</text>
+<text class="of-sector" x="0" y="-64" dx="24" dy="0">0</text>
+"#;
+
+// A slanting line between two sectors, with a special, and a thing of each other group.
+#[rattlefmt::skip]
+const SLANT: [&[u8]; 11] = [
+    b"vertex 0 0", b"vertex 101 -30", SECTOR, SECTOR, SIDE, b"side 0 0 - - - 1", b"line 0 1 4 1 5 0 1",
+    b"thing 50 -10 45 11 7", b"thing 51 -11 0 3001 7", b"thing 52 -12 270 2001 7", b"thing 53 -13 180 2035 0",
+];
+
+const SLANT_FRONT: &[u8] = br#"<svg xmlns="http://www.w3.org/2000/svg" version="1.1" width="100%"
+viewBox="-64 -64 229 158" font-size="8">
+<title>MAP01</title>
+"#;
+
+// The middle is at 50.5, which is rounded to 50, and the tick goes by -30 * 8 / 101 = -2.4, rounded to -2.
+const SLANT_BACK: &[u8] = br#"<rect class="page" x="-64" y="-64" width="229" height="158"/>
+<g id="line0" class="two special">
+<title>line 0: vertices 0 1, flags 4, special 1, tag 5, right side 0 (sector 0), left side 1 (sector 1)</title>
+<path d="M0 0L101 30"/><path class="tick" d="M50 15l-2 8"/></g>
+<g id="thing0" class="deathmatch" transform="translate(50 10) rotate(-45)">
+<title>thing 0: type 11, angle 45, options 7</title>
+<path d="M16 0L-12 12L-12 -12Z"/></g>
+<g id="thing1" class="monster" transform="translate(51 11) rotate(0)">
+<title>thing 1: type 3001, angle 0, options 7</title>
+<path d="M20 0L8 12L-12 12L-12 -12L8 -12Z"/></g>
+<g id="thing2" class="item" transform="translate(52 12) rotate(-270)">
+<title>thing 2: type 2001, angle 270, options 7</title>
+<path d="M8 0L0 8L-8 0L0 -8ZM8 0L14 0"/></g>
+<g id="thing3" class="other" transform="translate(53 13) rotate(-180)">
+<title>thing 3: type 2035, angle 180, options 0</title>
+<path d="M8 -8L8 8L-8 8L-8 -8ZM8 0L14 0"/></g>
+<path id="vertex0" class="vertex" d="M0 0h0"><title>vertex 0: 0 0</title></path>
+<path id="vertex1" class="vertex" d="M101 30h0"><title>vertex 1: 101 -30</title></path>
+"#;
+
+// Sector 1 is on the left: away from the tick, three times as far, rounded: 30 * 24 / 101 = 7.1.
+const SLANT_NUMBERS: &[u8] = br#"<text class="of-vertex" x="0" y="0" dx="8" dy="-8">0</text>
+<text class="of-vertex" x="101" y="30" dx="8" dy="-8">1</text>
+<text class="of-line" x="50" y="15" dx="2" dy="-8">0</text>
+<text class="of-sector" x="50" y="15" dx="-7" dy="24">0</text>
+<text class="of-sector" x="50" y="15" dx="7" dy="-24">1</text>
+"#;
+
+const END: &[u8] = b"</svg>\n";
+
+// The picture of what these lines draw.
+fn picture(alloc: Global, lines: &[&[u8]], numbers: bool) -> Result<Vec<u8>, Fail> {
+    let maps = drawn(alloc, lines)?;
+    let mut text = Vec::new(alloc);
+    write_picture(maps.current(), PictureOptions { numbers }, &mut text)?;
+    Ok(text)
+}
+
+// These texts in a row, the style behind the first.
+fn joined(alloc: Global, front: &[u8], rest: &[&[u8]]) -> Result<Vec<u8>, Fail> {
+    let mut text = front.to_vec(alloc)?;
+    text.extend_from_slice(STYLE.as_bytes())?;
+    for part in rest {
+        text.extend_from_slice(part)?;
+    }
+    Ok(text)
+}
+
+#[test]
+fn draws_a_room(rt: HostRuntime) -> Result<(), Fail> {
+    let found = picture(rt.alloc(), &DRAWING, false)?;
+    same(&rt, &found, &joined(rt.alloc(), FRONT, &[BACK, END])?);
+    Ok(())
+}
+
+#[test]
+fn numbers_a_room(rt: HostRuntime) -> Result<(), Fail> {
+    let found = picture(rt.alloc(), &DRAWING, true)?;
+    same(
+        &rt,
+        &found,
+        &joined(rt.alloc(), FRONT, &[BACK, NUMBERS, END])?,
+    );
+    Ok(())
+}
+
+#[test]
+fn draws_a_slanting_line(rt: HostRuntime) -> Result<(), Fail> {
+    let found = picture(rt.alloc(), &SLANT, true)?;
+    same(
+        &rt,
+        &found,
+        &joined(rt.alloc(), SLANT_FRONT, &[SLANT_BACK, SLANT_NUMBERS, END])?,
+    );
+    Ok(())
+}
+
+// A writer that takes nothing.
+#[derive(Drop)]
+struct Full;
+
+impl Write for Full {
+    fn write(&mut self, _buf: &[u8]) -> io::Result<usize> {
+        Err(io::Error::from(io::ErrorKind::StorageFull))
+    }
+
+    fn flush(&mut self) -> io::Result<()> {
+        Ok(())
+    }
+}
+
+#[test]
+fn tells_of_a_full_writer(rt: HostRuntime) -> Result<(), Fail> {
+    let maps = drawn(rt.alloc(), &DRAWING)?;
+    let told = write_picture(maps.current(), PictureOptions { numbers: false }, &mut Full);
+    same(&rt, &told, &Err(PictureError::WriterFailed));
+    same(&rt, &PictureError::WriterFailed.code(), &38);
+    Ok(())
+}
