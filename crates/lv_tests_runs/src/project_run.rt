@@ -187,8 +187,7 @@ type Row = (
 );
 
 // What is said where there is no file.
-const NO_FILE: &[u8] =
-    b"leveled: 30 Device\n  lv_project_run_file: No such file or directory\n";
+const NO_FILE: &[u8] = b"leveled: 30 Device\n  lv_project_run_file: No such file or directory\n";
 
 const FILE_ROWS: &[Row] = &[
     ("edit", b"vertex 0 0\n", 1, b"", NO_FILE),
