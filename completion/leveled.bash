@@ -13,6 +13,7 @@ _leveled() {
         ;;
     *)
         case $subcommand in
+        help) mapfile -t COMPREPLY < <(compgen -W 'scratch create edit check lint dump build inspect codes' -- "$word") ;;
         create | edit | check | lint | dump | build | inspect) mapfile -t COMPREPLY < <(compgen -f -- "$word") ;;
         esac
         ;;

@@ -14,3 +14,4 @@ complete -c leveled -l help -d 'Print the help'
 complete -c leveled -n "__fish_seen_subcommand_from create" -l slot -x -d 'Length of a slot in bytes'
 complete -c leveled -n "__fish_seen_subcommand_from create" -l journal -x -d 'Length of a journal in bytes'
 complete -c leveled -n "__fish_seen_subcommand_from scratch help" -f
+complete -c leveled -n "__fish_seen_subcommand_from help" -f -a 'scratch create edit check lint dump build inspect codes'

@@ -18,6 +18,7 @@ said=$("$program" --help 2>&1 >/dev/full)
 [ "$said" = 'leveled: 38 WriterFailed' ] || { echo "help on a full disk says: $said"; bad=1; }
 [ "$("$program" help)" = "$("$program" --help)" ] || { echo 'help is not as --help'; bad=1; }
 "$program" help >/dev/null; status_is 'help' 0 $?
+"$program" help bogus 2>/dev/null; status_is 'help of no subcommand' 2 $?
 said=$("$program" scratch "$(printf '\377')" 2>&1); status_is 'a word that is no text' 2 $?
 [ "$said" = 'leveled: word 2 is no text' ] || { echo "a word that is no text says: $said"; bad=1; }
 printf 'vertex 0 0\n' | "$program" scratch >/dev/full 2>/dev/null; status_is 'answers on a full disk' 1 $?
@@ -31,6 +32,15 @@ cmp -s "$place/told" "$place/written" || { echo 'help and the manual page have o
 while read -r word; do
     "$program" "$word" --help | grep -q "^Usage: leveled $word" || { echo "$word --help says nothing of it"; bad=1; }
 done < "$place/told"
+while read -r word; do
+    [ "$("$program" help "$word")" = "$("$program" "$word" --help)" ] || { echo "help $word is not as $word --help"; bad=1; }
+done < "$place/told"
+
+# Help and the manual page have the same refusals.
+"$program" help codes > "$place/codes"; status_is 'help codes' 0 $?
+sed -n 's/^ *\([0-9][0-9]* [A-Za-z]*\) .*/\1/p' "$place/codes" > "$place/told"
+sed -n 's/^\.B \([0-9][0-9]* [A-Z][A-Za-z]*\)$/\1/p' "$page" > "$place/written"
+cmp -s "$place/told" "$place/written" || { echo 'help and the manual page have other refusals'; bad=1; }
 sed -n '/^\.TS/,/^\.TE/p' "$page" | sed -n 's/^\([a-z][a-z, -]*\).*\t.*/\1/p' | tr -d ',' | tr ' ' '\n' |
     while read -r word; do
         grep -qw -e "$word" "$place/help" || echo "help lacks $word"
@@ -38,7 +48,7 @@ sed -n '/^\.TS/,/^\.TE/p' "$page" | sed -n 's/^\([a-z][a-z, -]*\).*\t.*/\1/p' | 
 [ ! -s "$place/lacks" ] || { cat "$place/lacks"; bad=1; }
 
 # A folder and a missing file are no project; what can't be told is kept.
-for word in create edit check; do
+for word in create edit check lint; do
     said=$("$program" "$word" "$place" </dev/null 2>&1); status_is "$word of a folder" 1 $?
     [ "$said" = "$(printf 'leveled: 30 Device\n  %s: is no regular file' "$place")" ] ||
         { echo "$word of a folder says: $said"; bad=1; }

@@ -1,10 +1,12 @@
 //! The program `leveled`: hands its words to `request`, and what they ask for to `perform`.
 #![tactic(auto)]
 
+ghost use Rattle.std.specs.Prelude.{◌≤◌};
+
 use clap::Error;
 use clap::error::ErrorKind;
 use lv_editor::perform;
-use lv_requests::{RequestError, request};
+use lv_requests::{CODES, RequestError, request};
 use std::env::{self, Env, FillError};
 use std::fs::{self, File};
 use std::io::{self, BufWriter};
@@ -42,7 +44,9 @@ fn place_of_no_text(rt: &HostRuntime) -> Option<usize> {
 }
 
 // Says why the words can't be read, and answers the status.
-fn refuse_unread(rt: &HostRuntime, error: &io::Error) -> u8 {
+fn refuse_unread(rt: &HostRuntime, error: &io::Error) -> u8
+    ensures { result ≤ 2 }
+{
     if error.kind() == io::ErrorKind::OutOfMemory {
         complain_of_memory(rt);
         return REFUSED;
@@ -54,9 +58,22 @@ fn refuse_unread(rt: &HostRuntime, error: &io::Error) -> u8 {
     NO_REQUEST
 }
 
+// The status where what the words ask for was to be printed to standard output.
+fn after_printing(rt: &HostRuntime, is_printed: bool) -> u8
+    ensures { result ≤ 2 }
+{
+    if is_printed {
+        return DONE;
+    }
+    let _ = eprintln!(rt; "leveled: 38 WriterFailed");
+    REFUSED
+}
+
 // Prints what clap answers to the words, and answers the status. Help and the version are asked
 // for: they go to standard output.
-fn answer_words(rt: &HostRuntime, error: &Error) -> u8 {
+fn answer_words(rt: &HostRuntime, error: &Error) -> u8
+    ensures { result ≤ 2 }
+{
     if error.kind() == ErrorKind::OutOfMemory {
         complain_of_memory(rt);
         return NO_REQUEST;
@@ -65,19 +82,16 @@ fn answer_words(rt: &HostRuntime, error: &Error) -> u8 {
     if error.use_stderr() {
         return NO_REQUEST;
     }
-    match printed {
-        Ok(()) => DONE,
-        Err(_) => {
-            let _ = eprintln!(rt; "leveled: 38 WriterFailed");
-            REFUSED
-        }
-    }
+    after_printing(rt, printed.is_ok())
 }
 
-// Says why the words are no request, and answers the status.
-fn refuse(rt: &HostRuntime, error: &RequestError) -> u8 {
+// Answers what is no request, or says why it is none, and answers the status.
+fn refuse(rt: &HostRuntime, error: &RequestError) -> u8
+    ensures { result ≤ 2 }
+{
     match error {
         RequestError::Words(error) => answer_words(rt, error),
+        RequestError::Codes => after_printing(rt, println!(rt; "{CODES}").is_ok()),
         RequestError::Memory => {
             complain_of_memory(rt);
             NO_REQUEST
@@ -89,12 +103,10 @@ fn refuse(rt: &HostRuntime, error: &RequestError) -> u8 {
     }
 }
 
-// Does what the words ask for, and answers the status. `help` alone asks for what `--help` does.
-fn answer(rt: &HostRuntime, words: &[&str]) -> u8 {
-    let words = match words {
-        [_, "help"] => ["leveled", "--help"].as_slice(),
-        words => words,
-    };
+// Does what the words ask for, and answers the status.
+fn answer(rt: &HostRuntime, words: &[&str]) -> u8
+    ensures { result ≤ 3 }
+{
     match request(rt.alloc(), words) {
         Ok(request) => {
             let Ok(mut out) = BufWriter::new(rt.alloc(), rt.stdout()) else {
@@ -119,7 +131,9 @@ fn fill_closed_streams(rt: &HostRuntime) -> [io::Result<File>; 3] {
 }
 
 // Reads the words, and does what they ask for.
-fn run(rt: &HostRuntime) -> u8 {
+fn run(rt: &HostRuntime) -> u8
+    ensures { result ≤ 3 }
+{
     let _held = fill_closed_streams(rt);
     let read = match env::args(rt) {
         Ok(read) => read,

@@ -18,9 +18,9 @@ use Rattle.clap.proofs.OnLiterals.{clap_on_literals}
 use Rattle.std.specs.Str.Parse.{ParsesUnsigned}
 use Rattle.clap.specs.declared.parser.matches.Found.{Found}
 use Rattle.clap.proofs.WalkLemmas.{one_text-rows}
-use Rattle.lv_requests.specs.Request.{HasNumber, IsRefusal, IsSubcommand, LacksNumber, LacksValue, RefusesValues, leveled_app}
+use Rattle.lv_requests.specs.Request.{HasNumber, IsSubcommand, LacksNumber, LacksValue, RefusesRead, RefusesValues, leveled_app}
 use Rattle.lv_requests.specs.declared.asked.RequestError.{RequestError}
-use Rattle.lv_requests.specs.declared.asked.RequestError.TheVariants.{Words, Number, Memory}
+use Rattle.lv_requests.specs.declared.asked.RequestError.TheVariants.{Words, Codes, Number, Memory}
 
 pub is_simple-leveled : is_simple leveled_app ≡ true
 unfolding clap_on_literals
@@ -140,8 +140,9 @@ met m words has none without =
 pub asks : (o : Option (Text × List Row)) (name : Text) (rows : List Row) (P : Text × List Row → Type 0) → o ≡ Some (name, rows) → P (name, rows) → IsSomeAnd o P
 asks o name rows P is holds = subst (λ (p : Option (Text × List Row)). IsSomeAnd p P) (sym is) holds
 
-pub refuses : (words : List Text) (name : Text) (rows : List Row) (e : RequestError) → subcommand_of leveled_app words ≡ Some (name, rows) → RefusesValues (name, rows) e → IsRefusal words e
+pub refuses : (words : List Text) (name : Text) (rows : List Row) (e : RequestError) → subcommand_of leveled_app words ≡ Some (name, rows) → RefusesValues (name, rows) e → RefusesRead words e
 refuses words name rows (Words error) is never = absurd never
+refuses words name rows Codes is never = absurd never
 refuses words name rows Number is lacks = asks (subcommand_of leveled_app words) name rows LacksValue is lacks
 refuses words name rows Memory is told = tt
 

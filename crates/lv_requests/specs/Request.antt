@@ -12,7 +12,7 @@ use Rattle.clap.specs.Values.{kind_of}
 use Rattle.clap.specs.declared.error.kind.ErrorKind.TheVariants.{OutOfMemory}
 use Rattle.lv_requests.specs.declared.asked.Request.{Request}
 use Rattle.lv_requests.specs.declared.asked.RequestError.{RequestError}
-use Rattle.lv_requests.specs.declared.asked.RequestError.TheVariants.{Words, Number, Memory}
+use Rattle.lv_requests.specs.declared.asked.RequestError.TheVariants.{Words, Codes, Number, Memory}
 use Rattle.lv_requests.specs.declared.asked.Request.TheVariants.{Scratch, Create, Edit, Check, Lint, Dump, Inspect, Levels, Build}
 
 -- ---- The command line
@@ -144,6 +144,7 @@ IsOverFile name = (¬ (name ≡ codes "scratch")) × (¬ (name ≡ codes "inspec
 -- the text of an argument is refused: it has none, or there is no memory for it
 abbrev pub RefusesText : Text → List Row → RequestError → Type 0
 RefusesText id rows (Words error) = ⊥
+RefusesText id rows Codes = ⊥
 RefusesText id rows Number = first_of id rows ≡ None
 RefusesText id rows Memory = Unit {0}
 
@@ -160,15 +161,17 @@ LacksValue asked = (IsOverFile asked.0 × (first_of (codes "file") asked.1 ≡ N
 -- the values of a subcommand are refused
 abbrev pub RefusesValues : Text × List Row → RequestError → Type 0
 RefusesValues asked (Words error) = ⊥
+RefusesValues asked Codes = ⊥
 RefusesValues asked Number = LacksValue asked
 RefusesValues asked Memory = Unit {0}
 
 -- clap refuses words that its simple command takes only where memory ran out, and else by a fault
 -- that it names for the words; `Number` stands where it let an argument without a value within its
 -- limits pass
-abbrev pub IsRefusal : List Text → RequestError → Type 0
-IsRefusal words (Words error) =
+abbrev pub RefusesRead : List Text → RequestError → Type 0
+RefusesRead words (Words error) =
     HasKind (fault_of leveled_app words) error
     × (takes leveled_app words ≡ true → kind_of error ≡ OutOfMemory)
-IsRefusal words Number = IsSomeAnd (subcommand_of leveled_app words) LacksValue
-IsRefusal words Memory = Unit {0}
+RefusesRead words Codes = ⊥
+RefusesRead words Number = IsSomeAnd (subcommand_of leveled_app words) LacksValue
+RefusesRead words Memory = Unit {0}

@@ -50,6 +50,9 @@ pub enum RequestError {
     /// The words are not the program's, or ask for its help or its version.
     #[error(transparent)]
     Words(#[from] clap::Error),
+    /// The words ask for the table of the refusals.
+    #[error("the table of the refusals is asked for")]
+    Codes,
     /// An argument without a value within its limits, which clap let pass.
     #[error("a number is outside its limits")]
     Number,

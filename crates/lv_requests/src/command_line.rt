@@ -1,7 +1,8 @@
 //! The words of the program: the command line that clap reads, and what the words ask for.
-ghost use Rattle.std.specs.Prelude.{◌≡◌, ◌≤◌, IfOk, IfErr, IfSome, IfNone, IsSomeAnd, Some, codes, map, option_map, string_bytes};
+ghost use Rattle.std.specs.Prelude.{◌≡◌, ◌≤◌, ◌∷◌, [], IfOk, IfErr, IfSome, IfNone, IsSomeAnd, Some, codes, map, option_map, string_bytes};
 ghost use Rattle.clap.specs.Words.{App, app_of, first_of, found_of, new_app, rows_of, subcommand_of, with_subcommand};
-ghost use Rattle.lv_requests.specs.Request.{AsksFor, HasNumber, IsArg, IsCommand, IsRefusal, IsSubcommand, LacksNumber, RefusesText, RefusesValues, build_app, create_app, inspect_app, journal_rule, last_rule, leveled_app, option_rule, slot_rule, with_subcommands, with_word, word_rule};
+ghost use Rattle.lv_requests.specs.Help.{IsRefusal, help_option, without_help};
+ghost use Rattle.lv_requests.specs.Request.{AsksFor, HasNumber, IsArg, IsCommand, IsSubcommand, LacksNumber, RefusesRead, RefusesText, RefusesValues, build_app, create_app, inspect_app, journal_rule, last_rule, leveled_app, option_rule, slot_rule, with_subcommands, with_word, word_rule};
 
 use crate::asked::{Request, RequestError};
 use crate::help;
@@ -330,17 +331,11 @@ fn asked(alloc: Global, name: &str, found: &ArgMatches<'_>) -> Result<Request, R
     }
 }
 
-/// What the words ask for. The first is the program's name.
-///
-/// # Errors
-///
-/// `Words` where clap refuses the words, or answers them itself: help and the version. clap's error
-/// has the text, and says where it goes and with which status. `Number` where clap let an argument
-/// without a value within its limits pass. `Memory` where there is none.
-pub fn request(alloc: Global, words: &[&str]) -> Result<Request, RequestError>
+// What the words ask for, as clap reads them.
+fn read(alloc: Global, words: &[&str]) -> Result<Request, RequestError>
     ensures asked { IfOk result (λ r.
         IsSomeAnd (subcommand_of leveled_app (map (λ w. w.now) words.now)) (AsksFor r)) }
-    ensures refused { IfErr result (IsRefusal (map (λ w. w.now) words.now)) }
+    ensures refused { IfErr result (RefusesRead (map (λ w. w.now) words.now)) }
 {
     let command = match leveled(alloc) {
         Ok(command) => command,
@@ -353,5 +348,47 @@ pub fn request(alloc: Global, words: &[&str]) -> Result<Request, RequestError>
     match matches.subcommand() {
         Some((name, found)) => asked(alloc, name, found),
         None => unreachable!(),
+    }
+}
+
+// `--help` in place of `help`.
+fn as_option<'a>(word: &'a str) -> &'a str
+    ensures { result.now ≡ help_option word.now }
+{
+    if word == "help" { "--help" } else { word }
+}
+
+// What two words behind the program's name ask for: perhaps `help NAME`, or `help codes`.
+fn read_two(alloc: Global, program: &str, word: &str, name: &str) -> Result<Request, RequestError>
+    ensures asked { IfOk result (λ r. IsSomeAnd (subcommand_of leveled_app
+        (without_help (program.now ∷ word.now ∷ name.now ∷ []))) (AsksFor r)) }
+    ensures refused { IfErr result (IsRefusal (program.now ∷ word.now ∷ name.now ∷ [])) }
+{
+    if word != "help" {
+        return read(alloc, &[program, word, name]);
+    }
+    if name == "codes" {
+        return Err(RequestError::Codes);
+    }
+    read(alloc, &[program, name, "--help"])
+}
+
+/// What the words ask for. The first is the program's name. `help` alone asks for what `--help` does, and `help NAME`
+/// for what `NAME --help` does.
+///
+/// # Errors
+///
+/// `Words` where clap refuses the words, or answers them itself: help and the version. clap's error
+/// has the text, and says where it goes and with which status. `Codes` where they are `help codes`.
+/// `Number` where clap let an argument without a value within its limits pass. `Memory` where there is none.
+pub fn request(alloc: Global, words: &[&str]) -> Result<Request, RequestError>
+    ensures asked { IfOk result (λ r. IsSomeAnd
+        (subcommand_of leveled_app (without_help (map (λ w. w.now) words.now))) (AsksFor r)) }
+    ensures refused { IfErr result (IsRefusal (map (λ w. w.now) words.now)) }
+{
+    match words.len() {
+        2 => read(alloc, &[words[0], as_option(words[1])]),
+        3 => read_two(alloc, words[0], words[1], words[2]),
+        _ => read(alloc, words),
     }
 }

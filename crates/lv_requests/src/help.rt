@@ -26,9 +26,11 @@ The end of the input ends the program; a last line without its end is answered t
 Status: 0 done; 1 refused, with `leveled: CODE NAME` on standard error; 2 no such
 words; 3 `check` or `lint` has findings, or `inspect` found a fault.
 
-`leveled SUBCOMMAND --help` says more of one. The manual page leveled(1) and, in
+`leveled help SUBCOMMAND` says more of one. The manual page leveled(1) and, in
 share/doc/leveled, COMMANDS.md (every line and refusal) and FIRST_LEVEL.md (a first
-level step by step) come with `make install`.";
+level step by step) come with `make install`.
+
+What each CODE says, and what to do: `leveled help codes`, `man leveled`.";
 
 /// `scratch`.
 pub const SCRATCH: &str = "\
@@ -76,3 +78,55 @@ pub const INSPECT: &str = "\
 Reads the level NAME (as MAP01 or E1M1) of a PWAD or an IWAD, prints how long its lumps
 are, then `sound`, or `fault NAME I` for the first reference out of range: status 3.
 Without NAME it prints the names of the levels in WAD.";
+
+/// The refusals: the number of each, its name, and what to do. Printed for `help codes`.
+pub const CODES: &str = "\
+Answered as `no CODE` to a line, or as `leveled: CODE NAME`. A refusal changes nothing.
+
+ 1 NotACommand         look for two spaces, a blank line, CR, a tab, a missing word
+ 2 OutOfRange          a number: COMMANDS.md has the ranges; a room's lower left corner first
+ 3 NoVertex            `count` tells how many there are; numbers begin at 0
+ 4 NoSector            as for 3
+ 5 NoSide              as for 3; `-` says that nothing is on the left
+ 6 NoLine              as for 3
+ 7 NoThing             as for 3
+ 8 InUse               drop or change first what names it
+ 9 SameEnds            give the line two vertices
+10 PlaceTaken          use the vertex that has this place
+11 TwoSidedWithoutLeft give a left side, or leave the flag 4 out
+12 TableFull           the level is as big as the formats allow
+13 LineTooLong         longer than 32767: split it, or draw it in parts
+14 ProjectFull         make a project with a greater slot; `dump` takes the maps over
+15 BadName             names in capitals, eight bytes at most; markers as MAP01 or E1M1
+16 TooManyMaps         there are 32: drop one
+17 MapNameTaken        choose another name
+18 NoSuchMap           `maps` tells the names
+19 CurrentMap          make another map the current one first
+30 Device              the disk failed, or FILE can't be opened: look, then open it again
+31 Memory              free some, and give the line again
+32 Reopen              open FILE again; every acknowledged command is there
+33 GenerationsSpent    draw on in a new project; `dump` takes the maps over
+34 JournalFull         nothing: a project makes room by itself
+35 SlotFull            nothing: 14 comes before
+36 InputTooLong        give the input in parts
+37 ReaderFailed        the input can't be read; what was answered is done
+38 WriterFailed        look at where the output goes; what was answered is done
+40 Damaged             take a copy of FILE from before the damage
+41 Blank               never made to its end: create it anew
+42 NotAProject         look at FILE's name, or at the program's version
+43 NotEmpty            choose another name for a new project
+44 BadGeometry         a slot of 33 to 2007015 bytes, a journal of 512 to 1048576
+50 LumpLength          the WAD is damaged
+60 NothingToBuild      a map has no line: draw one, or drop the map
+61 TooManyVertices     fewer lines, or fewer crossings
+62 TooManySegs         as for 61
+63 TooManySubsectors   as for 61
+64 TooDeep             as for 61
+65 Stuck               never answered
+66 BlockmapTooLarge    a smaller level, or fewer lines in many blocks
+70 NotAWad             look at the WAD's name
+71 DirectoryOutside    the WAD is cut off
+72 NoSuchLevel         look at NAME: MAP01, E1M1
+73 LumpMissing         the WAD's level was never built
+74 LumpOutside         the WAD is cut off
+75 HexenLevel          nothing: a level in the form of Hexen isn't read";

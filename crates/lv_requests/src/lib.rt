@@ -7,3 +7,4 @@ mod help;
 
 pub use asked::{Request, RequestError};
 pub use command_line::request;
+pub use help::CODES;

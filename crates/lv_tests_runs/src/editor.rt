@@ -282,7 +282,9 @@ fn reads_a_request(rt: HostRuntime) {
 #[rattlefmt::skip]
 const WORDS: &[(&[&str], i32, &str)] = &[
     (&["leveled"], 2, "requires a subcommand"),
-    (&["leveled", "help"], 2, "unrecognized subcommand 'help'"),
+    (&["leveled", "help"], 0, "Usage: leveled <COMMAND>"),
+    (&["leveled", "help", "lint"], 0, "Usage: leveled lint <FILE>"),
+    (&["leveled", "help", "bogus"], 2, "unrecognized subcommand 'bogus'"),
     (&["leveled", "scratch", "x"], 2, "unexpected argument 'x'"),
     (&["leveled", "--slot"], 2, "unexpected argument '--slot'"),
     (&["leveled", "--help"], 0, "Usage: leveled <COMMAND>"),
@@ -307,6 +309,12 @@ fn reads_words(rt: HostRuntime) -> Result<(), Fail> {
         same(&rt, &(words, found), &(words, (status, true)));
     }
     Ok(())
+}
+
+#[test]
+fn reads_a_wish_for_the_refusals(rt: HostRuntime) {
+    let asked = request(rt.alloc(), &["leveled", "help", "codes"]);
+    assert!(rt; matches!(asked, Err(RequestError::Codes)));
 }
 
 #[test]

@@ -1,54 +1,34 @@
-use Rattle.std.proofs.Common.{◌≡◌, true, subst, map, []}
-use Rattle.std.proofs.lemmas.Result.{IfErr-weaker, IfOk-weaker}
-use Rattle.clap.specs.Words.{App, HasKind, HasMatchesOf, fault_of, found_of, is_simple_and_free, kind_of, rows_of, subcommand_of, takes}
-use Rattle.clap.specs.declared.error.kind.ErrorKind.TheVariants.{OutOfMemory}
+use Rattle.std.proofs.Common.{◌≡◌, ◌∙◌, Bor, List, [], ◌∷◌, IfOk, IsSomeAnd, arith, ap, get_or, length, map, subst}
+use Rattle.std.proofs.lemmas.Result.{IfErr-weaker}
+use Rattle.clap.specs.Words.{Text, subcommand_of}
+use Rattle.lv_requests.specs.Help.{without_help}
 use Rattle.lv_requests.specs.Request.{AsksFor, leveled_app}
-use Rattle.lv_requests.proofs.FromMatches.{asks, is_simple_and_free-leveled, is_subcommand, met, refuses, words_name}
+use Rattle.lv_requests.proofs.WithoutHelp.{others, others_no_codes, refused_as, two}
 use Rattle.lv_requests.proofs.command_line.request.Goals as goal
 
-pub returns-in-Err-try_get_matches_from-clause-refused : goal.returns-in-Err-try_get_matches_from-clause-refused
-returns-in-Err-try_get_matches_from-clause-refused c =
-    let words = map (λ w. w.now) c.args.words.now in (
-      subst (λ (a : App). is_simple_and_free a ≡ true → HasKind (fault_of a words) c.in-Err-try_get_matches_from.error) c.in-Ok.ensures
-          c.in-Err-try_get_matches_from.ensures.kinds is_simple_and_free-leveled,
-      subst (λ (a : App). takes a words ≡ true → kind_of c.in-Err-try_get_matches_from.error ≡ OutOfMemory) c.in-Ok.ensures
-          c.in-Err-try_get_matches_from.ensures.passes,
-    )
+pub returns-in-2-clause-refused : goal.returns-in-2-clause-refused
+returns-in-2-clause-refused c =
+    let ws = c.args.words.now in
+    let len : length ws ≡ 2 = omega arith in
+    let none : Bor Text = record { ref_ptr = (0, 0); now = [] } in
+    let program = (get_or ws 0 none).now in
+    let word = c.as_option.result.now in
+    let reads : program ∷ word ∷ [] ≡ without_help (map (λ w. w.now) ws) =
+    ap (λ (t : Text). program ∷ t ∷ []) c.as_option.ensures ∙ ap without_help (two (λ w. w.now) ws none len) in
+    IfErr-weaker c.read.result _ _
+    (λ e h. refused_as (map (λ w. w.now) ws) (program ∷ word ∷ []) e reads (others_no_codes (λ w. w.now) ws (λ three. omega arith)) h)
+    c.read.ensures.refused
 
-pub asked-requires : goal.asked-requires
-asked-requires c =
-    let words = map (λ w. w.now) c.args.words.now in
-    let m = c.in-Ok-try_get_matches_from.matches in
-    let name = c.in-Some.name.now in
-    let rows = rows_of (found_of c.in-Some.found.now) in
-    let has = subst (λ (a : App). HasMatchesOf a words m) c.in-Ok.ensures c.in-Ok-try_get_matches_from.ensures.matches in
-    is_subcommand words name rows (words_name m words name rows has c.in-Some.ensures.name c.in-Some.ensures.rows)
+pub returns-in_default-clause-asked : goal.returns-in_default-clause-asked
+returns-in_default-clause-asked c =
+    let ws = c.args.words.now in
+    subst (λ (ts : List Text). IfOk c.read-in_default.result (λ r. IsSomeAnd (subcommand_of leveled_app ts) (AsksFor r)))
+    (others (λ w. w.now) ws (λ e. omega arith) (λ e. omega arith)) c.read-in_default.ensures.asked
 
-pub unreachable-requires : goal.unreachable-requires
-unreachable-requires c =
-    let words = map (λ w. w.now) c.args.words.now in
-    let m = c.in-Ok-try_get_matches_from.matches in
-    let has = subst (λ (a : App). HasMatchesOf a words m) c.in-Ok.ensures c.in-Ok-try_get_matches_from.ensures.matches in
-    let none = subst (λ (a : App). is_simple_and_free a ≡ true → fault_of a words ≡ []) c.in-Ok.ensures
-    c.in-Ok-try_get_matches_from.ensures.kinds is_simple_and_free-leveled in
-    met m words has none c.in-None.ensures.variant
-
-pub returns-clause-asked : goal.returns-clause-asked
-returns-clause-asked c =
-    let words = map (λ w. w.now) c.args.words.now in
-    let m = c.in-Ok-try_get_matches_from.matches in
-    let name = c.in-Some.name.now in
-    let rows = rows_of (found_of c.in-Some.found.now) in
-    let has = subst (λ (a : App). HasMatchesOf a words m) c.in-Ok.ensures c.in-Ok-try_get_matches_from.ensures.matches in
-    let is = words_name m words name rows has c.in-Some.ensures.name c.in-Some.ensures.rows in
-    IfOk-weaker c.asked.result _ _ (λ r h. asks (subcommand_of leveled_app words) name rows (AsksFor r) is h) c.asked.ensures.asked
-
-pub returns-clause-refused : goal.returns-clause-refused
-returns-clause-refused c =
-    let words = map (λ w. w.now) c.args.words.now in
-    let m = c.in-Ok-try_get_matches_from.matches in
-    let name = c.in-Some.name.now in
-    let rows = rows_of (found_of c.in-Some.found.now) in
-    let has = subst (λ (a : App). HasMatchesOf a words m) c.in-Ok.ensures c.in-Ok-try_get_matches_from.ensures.matches in
-    let is = words_name m words name rows has c.in-Some.ensures.name c.in-Some.ensures.rows in
-    IfErr-weaker c.asked.result _ _ (λ e h. refuses words name rows e is h) c.asked.ensures.refused
+pub returns-in_default-clause-refused : goal.returns-in_default-clause-refused
+returns-in_default-clause-refused c =
+    let ws = c.args.words.now in
+    IfErr-weaker c.read-in_default.result _ _
+    (λ e h. refused_as (map (λ w. w.now) ws) (map (λ w. w.now) ws) e (others (λ w. w.now) ws (λ s. omega arith) (λ s. omega arith))
+    (others_no_codes (λ w. w.now) ws (λ three. omega arith)) h)
+    c.read-in_default.ensures.refused
