@@ -2,19 +2,20 @@
 _leveled() {
     local word=${COMP_WORDS[COMP_CWORD]} subcommand=${COMP_WORDS[1]}
     if [ "$COMP_CWORD" -eq 1 ]; then
-        mapfile -t COMPREPLY < <(compgen -W 'scratch create edit check lint dump build inspect help --help --version' -- "$word")
+        mapfile -t COMPREPLY < <(compgen -W 'scratch create edit check lint dump picture build inspect help --help --version' -- "$word")
         return
     fi
     case $word in
     -*)
         local flags=--help
         [ "$subcommand" = create ] && flags='--slot --journal --help'
+        [ "$subcommand" = picture ] && flags='--out --numbers --nodes --lint --help'
         mapfile -t COMPREPLY < <(compgen -W "$flags" -- "$word")
         ;;
     *)
         case $subcommand in
-        help) mapfile -t COMPREPLY < <(compgen -W 'scratch create edit check lint dump build inspect codes' -- "$word") ;;
-        create | edit | check | lint | dump | build | inspect) mapfile -t COMPREPLY < <(compgen -f -- "$word") ;;
+        help) mapfile -t COMPREPLY < <(compgen -W 'scratch create edit check lint dump picture build inspect codes' -- "$word") ;;
+        create | edit | check | lint | dump | picture | build | inspect) mapfile -t COMPREPLY < <(compgen -f -- "$word") ;;
         esac
         ;;
     esac

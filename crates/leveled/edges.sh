@@ -47,6 +47,16 @@ sed -n '/^\.TS/,/^\.TE/p' "$page" | sed -n 's/^\([a-z][a-z, -]*\).*\t.*/\1/p' | 
     done > "$place/lacks"
 [ ! -s "$place/lacks" ] || { cat "$place/lacks"; bad=1; }
 
+# At a terminal a person is greeted on standard error, and nowhere else.
+if command -v script >/dev/null; then
+    greeting='one command a line; Ctrl-D ends; man leveled'
+    script -qec "$program scratch" /dev/null </dev/null | grep -q "^$greeting" || { echo 'no greeting at a terminal'; bad=1; }
+    script -qec "$program --version" /dev/null </dev/null | grep -q "^$greeting" && { echo 'a greeting for --version'; bad=1; }
+    script -qec "$program scratch 2>$place/errors" /dev/null </dev/null >/dev/null
+    [ ! -s "$place/errors" ] || { echo 'a greeting in a file'; bad=1; }
+fi
+[ -z "$("$program" scratch </dev/null 2>&1)" ] || { echo 'a greeting where no terminal is'; bad=1; }
+
 # A folder and a missing file are no project; what can't be told is kept.
 for word in create edit check lint; do
     said=$("$program" "$word" "$place" </dev/null 2>&1); status_is "$word of a folder" 1 $?

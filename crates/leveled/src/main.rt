@@ -5,11 +5,11 @@ ghost use Rattle.std.specs.Prelude.{◌≤◌};
 
 use clap::Error;
 use clap::error::ErrorKind;
-use lv_editor::perform;
-use lv_requests::{CODES, RequestError, request};
+use lv_program::perform;
+use lv_requests::{CODES, Request, RequestError, request};
 use std::env::{self, Env, FillError};
 use std::fs::{self, File};
-use std::io::{self, BufWriter};
+use std::io::{self, BufWriter, IsTerminal};
 use std::process::ExitCode;
 
 // The status where what was asked for is done.
@@ -103,6 +103,14 @@ fn refuse(rt: &HostRuntime, error: &RequestError) -> u8
     }
 }
 
+// Tells a person at a terminal how lines are given, before the first one is read.
+fn greet(rt: &HostRuntime, request: &Request) {
+    let reads_lines = matches!(request, Request::Scratch | Request::Edit { .. });
+    if reads_lines && rt.stdin().is_terminal() && rt.stderr().is_terminal() {
+        let _ = eprintln!(rt; "one command a line; Ctrl-D ends; man leveled");
+    }
+}
+
 // Does what the words ask for, and answers the status.
 fn answer(rt: &HostRuntime, words: &[&str]) -> u8
     ensures { result ≤ 3 }
@@ -113,6 +121,7 @@ fn answer(rt: &HostRuntime, words: &[&str]) -> u8
                 complain_of_memory(rt);
                 return REFUSED;
             };
+            greet(rt, &request);
             perform(rt, &request, &mut rt.stdin(), &mut out, &mut rt.stderr())
         }
         Err(error) => refuse(rt, &error),

@@ -10,7 +10,7 @@ use Rattle.lv_blockmap.specs.declared.error.BlockmapError.{BlockmapError}
 use Rattle.lv_blockmap.specs.declared.error.BlockmapError.TheVariants.{NothingToBuild, BlockmapTooLarge, OutOfMemory}
 use Rattle.lv_blockmap.specs.Lump.{IsBlockmapOver, RefusesBlockmapOver}
 use Rattle.lv_blockmap.specs.Blocks.{grid_of, block_count, AreBlockLists}
-use Rattle.lv_blockmap.specs.Layout.{list_words, starts, first_list, once, place_in, offset_of, offsets, header, blockmap_words, StandsAt, BlockStands, ListsBlocks, OffsetsFit, word_bytes}
+use Rattle.lv_blockmap.specs.Layout.{list_words, starts, first_list, once, place_in, offset_of, offsets, header, blockmap_words, HasWordsAt, BlockStands, ListsBlocks, OffsetsFit, word_bytes}
 use Rattle.lv_blockmap.proofs.OnceLemmas.{place_within, place_equal}
 
 drop_front : (xs ys : List ℕ) → drop (length xs) (xs ++ ys) ≡ ys
@@ -33,7 +33,7 @@ length-starts at (list ∷ lists) = ap suc (length-starts (at + length (list_wor
 -- each list stands where it starts
 pub starts_stand :
     (front : List ℕ) (at : ℕ) (lists : List (List ℕ)) → length front ≡ at → (n : ℕ) → n < length lists
-    → StandsAt (front ++ flat_map list_words lists) (get_or (starts at lists) n 0) (list_words (get_or lists n []))
+    → HasWordsAt (front ++ flat_map list_words lists) (get_or (starts at lists) n 0) (list_words (get_or lists n []))
 starts_stand front at [] e n h = absurd (omega arith)
 starts_stand front at (list ∷ lists) e zero h =
     let w : List ℕ = list_words list in
@@ -43,7 +43,7 @@ starts_stand front at (list ∷ lists) e zero h =
 starts_stand front at (list ∷ lists) e (suc n) h =
     let k = length-append front (list_words list) in
     let i = starts_stand (front ++ list_words list) (at + length (list_words list)) lists (k ∙ ap (λ (m : ℕ). m + length (list_words list)) e) n (omega arith) in
-    subst (λ (zs : List ℕ). StandsAt zs (get_or (starts (at + length (list_words list)) lists) n 0) (list_words (get_or lists n [])))
+    subst (λ (zs : List ℕ). HasWordsAt zs (get_or (starts (at + length (list_words list)) lists) n 0) (list_words (get_or lists n [])))
     (append_assoc front (list_words list) (flat_map list_words lists)) i
 
 offset_word : (g : Grid) (offsets rest : List ℕ) (n : ℕ) → n < length offsets → get_or (header g ++ offsets ++ rest) (4 + n) 0 ≡ get_or offsets n 0
@@ -63,12 +63,12 @@ lists_blocks lines lists a = record { grid = refl; each = each }
         let lo : n < length (offsets lists) = omega (arith, long) in
         let front : length (header (grid_of lines) ++ offsets lists) ≡ first_list lists = length-append (header (grid_of lines)) (offsets lists) ∙ ap (λ (m : ℕ). 4 + m) long in
         let there = starts_stand (header (grid_of lines) ++ offsets lists) (first_list lists) (once lists) front (place_in (once lists) (get_or lists n [])) (place_within lists n lt) in
-        let same_list = subst (λ (x : List ℕ). StandsAt (blockmap_words (grid_of lines) lists) (offset_of lists (get_or lists n [])) (list_words x)) (place_equal lists n lt) there in
+        let same_list = subst (λ (x : List ℕ). HasWordsAt (blockmap_words (grid_of lines) lists) (offset_of lists (get_or lists n [])) (list_words x)) (place_equal lists n lt) there in
         let at_offset = offset_word (grid_of lines) (offsets lists) (flat_map list_words (once lists)) n lo ∙ get_or-map (offset_of lists) lists n [] 0 lt in
         record {
           list = get_or lists n [];
           exactly = a.each n lt;
-          stands = subst (λ (k : ℕ). StandsAt (blockmap_words (grid_of lines) lists) k (list_words (get_or lists n []))) (sym at_offset) same_list;
+          stands = subst (λ (k : ℕ). HasWordsAt (blockmap_words (grid_of lines) lists) k (list_words (get_or lists n []))) (sym at_offset) same_list;
         }
 
 -- ---- the answers

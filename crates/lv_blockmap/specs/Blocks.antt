@@ -13,9 +13,13 @@ use Rattle.lv_blockmap.specs.Touch.{Touches}
 abbrev pub ends_in : List Vertex → Line → LineEnds
 ends_in vertices l = record { start = nth_vertex vertices l.v1; end = nth_vertex vertices l.v2 }
 
--- those of each line of a map, by its number
+-- those of each line of a list over a list of vertices, by its number
+abbrev pub ends_over : List Vertex → List Line → List LineEnds
+ends_over vertices lines = map (ends_in vertices) lines
+
+-- those of each line of a map
 abbrev pub map_ends : Tables → List LineEnds
-map_ends m = map (ends_in m.vertices) m.lines
+map_ends m = ends_over m.vertices m.lines
 
 -- all ends of the lines
 abbrev pub both_ends : List LineEnds → List Vertex

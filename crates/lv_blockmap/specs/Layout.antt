@@ -71,16 +71,16 @@ abbrev pub word_bytes : List ℕ → List ℕ
 word_bytes words = flat_map unsigned words
 
 -- the words from a place on begin with these
-abbrev pub StandsAt : List ℕ → ℕ → List ℕ → Type 0
-StandsAt words at part = take (length part) (drop at words) ≡ part
+abbrev pub HasWordsAt : List ℕ → ℕ → List ℕ → Type 0
+HasWordsAt words at part = take (length part) (drop at words) ≡ part
 
 -- the words at a block's offset are 0, the lines that touch it in rising number, and the end
 pub record BlockStands (lines : List LineEnds) (words : List ℕ) (n : ℕ) : Type 0 where
   pub list : List ℕ
   pub exactly : IsBlockList lines (grid_of lines) n list
-  pub stands : StandsAt words (slice_index words (4 + n)) (list_words list)
+  pub stands : HasWordsAt words (slice_index words (4 + n)) (list_words list)
 
 -- the header is the grid's, and each block lists exactly the lines that touch it
 pub record ListsBlocks (lines : List LineEnds) (words : List ℕ) : Type 0 where
-  pub grid : StandsAt words 0 (header (grid_of lines))
+  pub grid : HasWordsAt words 0 (header (grid_of lines))
   pub each : (n : ℕ) → n < block_count (grid_of lines) → BlockStands lines words n

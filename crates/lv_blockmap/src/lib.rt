@@ -1,4 +1,4 @@
-//! The blocks of a map: which lines touch which of them, and the bytes of the lump BLOCKMAP.
+//! The blocks of lines, or of a map: which lines touch which of them, and the bytes of the lump BLOCKMAP.
 #![tactic(auto)]
 
 mod columns;
@@ -15,5 +15,6 @@ mod touch;
 
 pub use error::BlockmapError;
 pub use laws::blocks_have_one_list;
-pub use lump::blockmap;
+pub use line_ends::{LineEnds, ends_over};
+pub use lump::{blockmap, blockmap_over};
 pub use touch::touches;

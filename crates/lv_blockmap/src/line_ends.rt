@@ -1,7 +1,7 @@
-//! The lines of a map by the places of their ends.
+//! The lines of a list, or of a map, by the places of their ends.
 ghost use Rattle.std.specs.Prelude.{◌≡◌, ◌≤◌, length, IfOk, IsOkUnless};
 ghost use Rattle.lv_maptables.specs.WellFormed.{nth_vertex};
-ghost use Rattle.lv_blockmap.specs.Blocks.{ends_in, map_ends};
+ghost use Rattle.lv_blockmap.specs.Blocks.{ends_in, ends_over, map_ends};
 
 use crate::error::BlockmapError;
 use lv_lumps::{Line, Vertex};
@@ -44,6 +44,35 @@ pub fn ends_of(alloc: Global, map: &Map) -> Result<Vec<LineEnds>, BlockmapError>
         if let Some(line) = map.line(n) {
             ends.push(ends_in(map, line))?;
         }
+    }
+    Ok(ends)
+}
+
+// The place of a vertex of a list.
+fn nth_place(vertices: &[Vertex], n: u16) -> Vertex
+    ensures { result ≡ nth_vertex vertices.now n }
+{
+    match vertices.get(usize::from(n)) {
+        Some(place) => *place,
+        None => Vertex { x: 0, y: 0 },
+    }
+}
+
+/// The ends of each line of a list over a list of vertices, by its number. It is refused by lack of memory alone.
+pub fn ends_over(
+    alloc: Global,
+    vertices: &[Vertex],
+    lines: &[Line],
+) -> Result<Vec<LineEnds>, BlockmapError>
+    ensures ends { IfOk result (λ v. v.items ≡ ends_over vertices.now lines.now) }
+    ensures memory { IsOkUnless result BlockmapError.OutOfMemory }
+{
+    let mut ends = Vec::new(alloc);
+    for line in lines {
+        ends.push(LineEnds {
+            start: nth_place(vertices, line.v1),
+            end: nth_place(vertices, line.v2),
+        })?;
     }
     Ok(ends)
 }

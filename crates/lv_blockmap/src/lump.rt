@@ -1,4 +1,4 @@
-//! The call of the crate: the lump BLOCKMAP of a map.
+//! The calls of the crate: the lump BLOCKMAP over lines, and that of a map.
 ghost use Rattle.std.specs.Prelude.{◌≤◌, length, MatchResult};
 ghost use Rattle.lv_blockmap.specs.Lump.{IsBlockmap, IsBlockmapOver, RefusesBlockmap, RefusesBlockmapOver};
 
@@ -10,8 +10,16 @@ use crate::line_ends::{LineEnds, ends_of};
 use lv_maptables::Map;
 use std::alloc::Global;
 
-// The bytes of BLOCKMAP over lines that are told by their ends.
-fn blockmap_over(alloc: Global, lines: &[LineEnds]) -> Result<Vec<u8>, BlockmapError>
+/// The bytes of the lump BLOCKMAP over lines that are told by the places of their ends (docs/FORMAT.md, "REJECT and
+/// BLOCKMAP"): words of 16 bits, the lower byte first. Equal lists of blocks are written once, in the order of their
+/// first block. Lines of any places and lengths have one, where its offsets fit.
+///
+/// # Errors
+///
+/// - `NothingToBuild` exactly where there is no line.
+/// - `BlockmapTooLarge` exactly where a list would begin beyond word 32,767.
+/// - `OutOfMemory`.
+pub fn blockmap_over(alloc: Global, lines: &[LineEnds]) -> Result<Vec<u8>, BlockmapError>
     requires { length lines.now ≤ 32767 }
     ensures { MatchResult result (λ v. IsBlockmapOver lines.now v.items)
         (λ e. RefusesBlockmapOver lines.now e) }
@@ -27,14 +35,8 @@ fn blockmap_over(alloc: Global, lines: &[LineEnds]) -> Result<Vec<u8>, BlockmapE
     }
 }
 
-/// The bytes of the lump BLOCKMAP of a map (docs/FORMAT.md, "REJECT and BLOCKMAP"): words of 16 bits, the lower byte
-/// first. Equal lists of blocks are written once, in the order of their first block.
-///
-/// # Errors
-///
-/// - `NothingToBuild` exactly where the map has no line.
-/// - `BlockmapTooLarge` exactly where a list would begin beyond word 32,767.
-/// - `OutOfMemory`.
+/// The bytes of the lump BLOCKMAP of a map's lines. It is refused as `blockmap_over` is: `NothingToBuild` exactly where
+/// the map has no line.
 pub fn blockmap(alloc: Global, map: &Map) -> Result<Vec<u8>, BlockmapError>
     ensures { MatchResult result (λ v. IsBlockmap map.now.tables v.items)
         (λ e. RefusesBlockmap map.now.tables e) }

@@ -10,7 +10,9 @@ use Rattle.lv_checkpoint.specs.declared.slots.Slots.{Slots}
 pub live_by : (s : Slots) (body file : List ℕ) → HasSlots s body file → IsLiveBy s body file
 live_by s body file has = record { is_open = has.live; behind = at (finds_open s) has.shut has.older }
   where
-    at : (t : Bool) → (t ≡ false → IsClosedAt (other_of s).base file) → (t ≡ true → IsOlder (other_of s) (generation_of s) file) → IsClosedAt (other_of s).base file ⊎ IsOlder (other_of s) (generation_of s) file
+    at : (t : Bool) → (t ≡ false → IsClosedAt (other_of s).base file)
+        → (t ≡ true → IsOlder (other_of s) (generation_of s) file) → IsClosedAt (other_of s).base file
+        ⊎ IsOlder (other_of s) (generation_of s) file
     at true shut older = inr (older refl)
     at false shut older = inl (shut refl)
 

@@ -83,7 +83,9 @@ module _ (s : Slots) (journal : Area) (body : List ℕ) (fits : 13 + length body
       } in
       record {
         may = may_both old mid new shut (written_torn (at + 1) content old mid first) (written_torn journal.base (0 ∷ []) mid new second);
-        closed = closed_kept at journal.base 1 mid new (inl (omega (arith, ends.1, (are_apart s).other_some))) second.keeps (closed_kept at (at + 1) (length content) old mid (inl (omega arith)) first.keeps shut);
+        closed = closed_kept at journal.base 1 mid new
+            (inl (omega (arith, ends.1, (are_apart s).other_some))) second.keeps
+            (closed_kept at (at + 1) (length content) old mid (inl (omega arith)) first.keeps shut);
         content = content_kept journal.base 1 mid new second.keeps (other_of s) (generation_of s + 1) body (inl ends.1) staged;
         begins = second.has (omega arith);
       }
@@ -91,7 +93,9 @@ module _ (s : Slots) (journal : Area) (body : List ℕ) (fits : 13 + length body
   -- over the images, as the clauses say it
   module _ {D : Type 0} (facts : Ghosts D) (d0 d1 d2 : D) (place : ℕ) (bytes : List ℕ) (there : place ≡ at + 1) (is : bytes ≡ content)
       (shut : Each (facts.may_leave d0) (IsClosedAt at)) (only_now : (file : List ℕ) → facts.left_since d0 (facts.moment d0) file → facts.may_leave d0 file)
-      (torn : Follows (Torn place (length bytes)) (facts.may_leave d0) (facts.may_leave d1)) (time : Elapses (facts.moment d0) (facts.moment d1) (facts.left_since d0) (facts.left_since d1) (facts.may_leave d1)) where
+      (torn : Follows (Torn place (length bytes)) (facts.may_leave d0) (facts.may_leave d1))
+      (time : Elapses (facts.moment d0) (facts.moment d1) (facts.left_since d0) (facts.left_since d1)
+      (facts.may_leave d1)) where
     abbrev May : List ℕ → Type 0
     May = From (facts.may_leave d0) (MayFill s journal)
 
@@ -115,7 +119,9 @@ module _ (s : Slots) (journal : Area) (body : List ℕ) (fits : 13 + length body
         (was.0, was.1, may_both was.0 left.0 file (shut was.0 was.1) (staged_from was.0 left.0 was.2) left.2)))
 
     pub filled : ((file : List ℕ) → facts.reads d0 file → facts.may_leave d0 file) → Follows (Written place bytes) (facts.reads d0) (facts.reads d1)
-        → Follows (Written journal.base (0 ∷ [])) (facts.reads d1) (facts.reads d2) → Each (facts.may_leave d2) (facts.reads d2) → Follows (Fills s body journal) (facts.may_leave d0) (facts.may_leave d2)
+        → Follows (Written journal.base (0 ∷ [])) (facts.reads d1) (facts.reads d2)
+        → Each (facts.may_leave d2) (facts.reads d2)
+        → Follows (Fills s body journal) (facts.may_leave d0) (facts.may_leave d2)
     filled reads_image first second durable file left =
         let marked = second file (durable file left) in
         let staged = first marked.0 marked.1 in

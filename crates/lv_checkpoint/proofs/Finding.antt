@@ -7,7 +7,7 @@ use Rattle.lv_disk.proofs.Bytes.{keeps_wider, keeps_then, has_kept, has_left, ha
 use Rattle.lv_checkpoint.specs.Bodies.{head_bytes, HasHead, HasContent}
 use Rattle.lv_checkpoint.specs.Damage.{IsBadSlot}
 use Rattle.lv_checkpoint.specs.Handles.{live_of, generation_of, HasSlots}
-use Rattle.lv_checkpoint.specs.Heads.{Shows, HasHeads}
+use Rattle.lv_checkpoint.specs.Heads.{ShowsHead, HasHeads}
 use Rattle.lv_checkpoint.specs.Steps.{IsFirst}
 use Rattle.lv_checkpoint.specs.declared.heads.Head.{Head}
 use Rattle.lv_checkpoint.specs.declared.slots.Slots.{Slots}
@@ -16,7 +16,7 @@ use Rattle.lv_checkpoint.proofs.OneBody.{whole_slot, closed_slot}
 use Rattle.lv_checkpoint.proofs.Filling.{written_has}
 
 -- a slot that shows what it has is no bad one
-pub not_bad : (slot : Area) (found : Option Head) (file : List ℕ) → Shows slot found file → IsBadSlot slot file → ⊥
+pub not_bad : (slot : Area) (found : Option Head) (file : List ℕ) → ShowsHead slot found file → IsBadSlot slot file → ⊥
 not_bad slot None file shut = closed_slot slot file shut
 not_bad slot (Some head) file is = whole_slot slot file head.generation head.len is
 
@@ -38,7 +38,9 @@ module _ (a b : Area) (body head : List ℕ) (fits : 13 + length body ≤ a.leng
       let gate_one : HasAt a.base (165 ∷ []) one = has_left a.base (165 ∷ []) (head_bytes 1 (length body)) one begun in
       let head_one : HasAt (a.base + 1) (head_bytes 1 (length body)) one = has_right a.base (165 ∷ []) (head_bytes 1 (length body)) one begun in
       let gate_two : HasAt a.base (165 ∷ []) two = has_kept (a.base + 13) (length body) a.base (165 ∷ []) one two (inl (omega arith)) w2.keeps gate_one in
-      let head_two : HasAt (a.base + 1) (head_bytes 1 (length body)) two = has_kept (a.base + 13) (length body) (a.base + 1) (head_bytes 1 (length body)) one two (inl (omega arith)) w2.keeps head_one in
+      let head_two : HasAt (a.base + 1) (head_bytes 1 (length body)) two =
+      has_kept (a.base + 13) (length body) (a.base + 1) (head_bytes 1 (length body)) one two
+      (inl (omega arith)) w2.keeps head_one in
       let stands : HasAt (a.base + 13) body two = written_has (a.base + 13) body one two (omega (arith, begun.within, size, is, w2.keeps.no_shorter)) w2 in
       let content : HasContent a 1 body two = record { head = record { head = head_two; room = fits; within = stands.within; number = omega arith; count = count }; stands = stands } in
       record {

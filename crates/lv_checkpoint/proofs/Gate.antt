@@ -61,11 +61,22 @@ module _ (live other : Area) (generation : ℕ) (apart : IsApart live other.base
   torn_older body is older =
       let there : other.base < length new = omega (arith, older.2.head.within, keeps.no_shorter) in
       live_stays body is (elim (cases_eq (get_or new other.base 0) 165) [
-        | inl is_open ↦ inr (older.0, older.1, record { gate = has_one other.base 165 new there is_open; head = head_kept other.base 1 old new keeps other older.0 older.1 (inr (omega arith)) older.2.head }, older.3)
+        | inl is_open ↦ inr (
+          older.0,
+          older.1,
+          record {
+            gate = has_one other.base 165 new there is_open;
+            head =
+                head_kept other.base 1 old new keeps other older.0 older.1 (inr (omega arith)) older.2.head;
+          },
+          older.3,
+        )
         | inr shut ↦ inl (record { within = there; closed = shut })
       ])
 
-  pub now_open : (live_body body : List ℕ) → IsLive live other generation live_body old → HasContent other (generation + 1) body old → HasAt other.base (165 ∷ []) new → IsLive other live (generation + 1) body new
+  pub now_open : (live_body body : List ℕ) → IsLive live other generation live_body old
+      → HasContent other (generation + 1) body old → HasAt other.base (165 ∷ []) new
+      → IsLive other live (generation + 1) body new
   now_open live_body body is filled gate = record {
     is_open = record { gate = gate; content = filled_kept (generation + 1) body filled };
     behind = inr (generation, length live_body, open_with live generation live_body new (open_kept other.base 1 old new keeps live generation live_body apart is.is_open), omega arith);
@@ -123,7 +134,8 @@ turned_slots s t other old new is live_is other_is generation_is open_is live fi
     let here : Written (other_of s).base (165 ∷ []) old new = subst (λ (a : Area). Written a.base (165 ∷ []) old new) is written in
     let next : IsNextBy s filled.0 new = (opens s old new live filled here).live filled.0 filled.1 in
     let kept : IsOpenWith (live_of s) (generation_of s) (length live.0) new = open_with (live_of s) (generation_of s) live.0 new
-    (open_kept (other_of s).base 1 old new here.keeps (live_of s) (generation_of s) live.0 (apart_from s (other_of s).base 1 (omega arith) (omega (arith, (are_apart s).other_some))) live.1.is_open) in (
+    (open_kept (other_of s).base 1 old new here.keeps (live_of s) (generation_of s) live.0
+    (apart_from s (other_of s).base 1 (omega arith) (omega (arith, (are_apart s).other_some))) live.1.is_open) in (
       filled.0,
       record {
         live = subst (λ (a : Area). IsOpen a (generation_of t) filled.0 new) (sym live_is) (subst (λ (k : ℕ). IsOpen (other_of s) k filled.0 new) (sym generation_is) next.is_open);
@@ -134,16 +146,22 @@ turned_slots s t other old new is live_is other_is generation_is open_is live fi
 
 -- over the images, as the clauses say it
 module _ {D : Type 0} (facts : Ghosts D) (s : Slots) (d0 d1 : D) (other : Area) (is : other ≡ other_of s) where
-  pub close_moments : ((file : List ℕ) → facts.may_leave d0 file → IsOlder (other_of s) (generation_of s) file) → LeavesOnly facts d0 d1 (From (facts.may_leave d0) (Torn other.base 1)) → LeavesOnly facts d0 d1 (From (facts.may_leave d0) (KeepsLive s))
+  pub close_moments : ((file : List ℕ) → facts.may_leave d0 file → IsOlder (other_of s) (generation_of s) file)
+      → LeavesOnly facts d0 d1 (From (facts.may_leave d0) (Torn other.base 1))
+      → LeavesOnly facts d0 d1 (From (facts.may_leave d0) (KeepsLive s))
   close_moments older leaves = weaker facts d0 d1 (From (facts.may_leave d0) (Torn other.base 1)) (From (facts.may_leave d0) (KeepsLive s)) leaves
       (λ file left. (left.0, left.1, keeps_live s left.0 file (older left.0 left.1) (subst (λ (a : Area). Torn a.base 1 left.0 file) is left.2)))
 
-  pub close_done : ((file : List ℕ) → facts.may_leave d0 file → IsOlder (other_of s) (generation_of s) file) → Follows (Written other.base (0 ∷ [])) (facts.may_leave d0) (facts.may_leave d1) → Follows (ClosesOther s) (facts.may_leave d0) (facts.may_leave d1)
+  pub close_done : ((file : List ℕ) → facts.may_leave d0 file → IsOlder (other_of s) (generation_of s) file)
+      → Follows (Written other.base (0 ∷ [])) (facts.may_leave d0) (facts.may_leave d1)
+      → Follows (ClosesOther s) (facts.may_leave d0) (facts.may_leave d1)
   close_done older written file left =
       let was = written file left in
       (was.0, was.1, closes s was.0 file (older was.0 was.1) (subst (λ (a : Area). Written a.base (0 ∷ []) was.0 file) is was.2))
 
-  pub open_moments : ((file : List ℕ) → facts.may_leave d0 file → IsFilled s file) → LeavesOnly facts d0 d1 (From (facts.may_leave d0) (Torn other.base 1)) → LeavesOnly facts d0 d1 (From (facts.may_leave d0) (MayOpenOther s))
+  pub open_moments : ((file : List ℕ) → facts.may_leave d0 file → IsFilled s file)
+      → LeavesOnly facts d0 d1 (From (facts.may_leave d0) (Torn other.base 1))
+      → LeavesOnly facts d0 d1 (From (facts.may_leave d0) (MayOpenOther s))
   open_moments filled leaves = weaker facts d0 d1 (From (facts.may_leave d0) (Torn other.base 1)) (From (facts.may_leave d0) (MayOpenOther s)) leaves
       (λ file left. (left.0, left.1, may_open s left.0 file (filled left.0 left.1) (subst (λ (a : Area). Torn a.base 1 left.0 file) is left.2)))
 

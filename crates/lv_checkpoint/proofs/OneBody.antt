@@ -7,7 +7,7 @@ use Rattle.lv_disk.specs.Gates.{IsClosedAt}
 use Rattle.lv_disk.specs.declared.area.Area.{Area}
 use Rattle.lv_disk.proofs.Bytes.{has_left, has_right, has_same}
 use Rattle.lv_checkpoint.specs.Bodies.{HasHead, IsOpenWith, IsOlder, IsLive}
-use Rattle.lv_checkpoint.specs.Damage.{HasBadLength, IsBadSlot, IsDamagedAt, AreBlank}
+use Rattle.lv_checkpoint.specs.Damage.{HasBadBodyLength, IsBadSlot, AreSlotsDamagedAt, AreBlank}
 use Rattle.lv_checkpoint.proofs.Kept.{open_with, not_closed}
 
 count_same : (place n m : ℕ) (file : List ℕ) → n < 2 ^ 32 → m < 2 ^ 32 → HasAt place (to_le_bytes w32 n) file → HasAt place (to_le_bytes w32 m) file → n ≡ m
@@ -35,7 +35,7 @@ module _ (slot : Area) (file : List ℕ) where
   )
 
   -- a slot that is closed, or open with a whole head, is no bad one
-  whole_length : (g n : ℕ) → HasHead slot g n file → HasBadLength slot file → ⊥
+  whole_length : (g n : ℕ) → HasHead slot g n file → HasBadBodyLength slot file → ⊥
   whole_length g n is (inl short) = omega (arith, is.within, short)
   whole_length g n is (inr (m, has, fits, wrong)) =
       let same : n ≡ m = count_same (slot.base + 9) n m file is.count fits (has_count g n is) has in
@@ -70,25 +70,25 @@ module _ (a b : Area) (file : List ℕ) where
   pub not_blank : (g : ℕ) (x : List ℕ) → IsLive a b g x file → AreBlank a b file → ⊥
   not_blank g x live blank = not_closed a.base file live.is_open.gate blank.0
 
-  pub nor_both : (p : ℕ) → AreBlank a b file → IsDamagedAt a b p file → ⊥
+  pub nor_both : (p : ℕ) → AreBlank a b file → AreSlotsDamagedAt a b p file → ⊥
   nor_both p blank (inl (bad, is)) = closed_slot a file blank.0 bad
   nor_both p blank (inr (good, is, inl bad)) = closed_slot b file blank.1 bad
   nor_both p blank (inr (good, is, inr (g, n, m, one, other))) = not_closed a.base file one.gate blank.0
 
-  pub one_place : (p q : ℕ) → IsDamagedAt a b p file → IsDamagedAt a b q file → p ≡ q
+  pub one_place : (p q : ℕ) → AreSlotsDamagedAt a b p file → AreSlotsDamagedAt a b q file → p ≡ q
   one_place p q (inl (bad, is)) (inl (bad', is')) = is ∙ sym is'
   one_place p q (inl (bad, is)) (inr (good, is', rest)) = absurd (good bad)
   one_place p q (inr (good, is, rest)) (inl (bad, is')) = absurd (good bad)
   one_place p q (inr (good, is, rest)) (inr (good', is', rest')) = is ∙ sym is'
 
-  pub not_damaged : (g p : ℕ) (x : List ℕ) → IsLive a b g x file → IsDamagedAt a b p file → ⊥
+  pub not_damaged : (g p : ℕ) (x : List ℕ) → IsLive a b g x file → AreSlotsDamagedAt a b p file → ⊥
   not_damaged g p x live (inl (bad, is)) = whole_slot a file g (length x) (open_with a g x file live.is_open) bad
   not_damaged g p x live (inr (good, is, inl bad)) = behind_slot b file g live.behind bad
   not_damaged g p x live (inr (good, is, inr (h, n, m, one, other))) =
       let same = head_same a file g (length x) h n live.is_open.content.head one.head in
       omega (arith, lower g h m x live other, same.0)
 
-  pub nor_damaged : (g p : ℕ) (x : List ℕ) → IsLive b a g x file → IsDamagedAt a b p file → ⊥
+  pub nor_damaged : (g p : ℕ) (x : List ℕ) → IsLive b a g x file → AreSlotsDamagedAt a b p file → ⊥
   nor_damaged g p x live (inl (bad, is)) = behind_slot a file g live.behind bad
   nor_damaged g p x live (inr (good, is, inl bad)) = whole_slot b file g (length x) (open_with b g x file live.is_open) bad
   nor_damaged g p x live (inr (good, is, inr (h, n, m, one, other))) = at live.behind

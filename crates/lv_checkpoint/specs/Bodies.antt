@@ -1,4 +1,5 @@
--- What the bytes of two slots of a file stand for: a body and its generation, that of the open slot with the greater one.
+-- What the bytes of two slots of a file stand for: a body and its generation, that of the open slot
+-- with the greater one.
 use Rattle.std.specs.Prelude.{◌<◌, ◌≤◌, ◌⊎◌, ◌+◌, ◌^◌, ℕ, List, [], ◌∷◌, ◌++◌, length}
 use Rattle.std.specs.Int.{to_le_bytes, w32, w64}
 use Rattle.lv_disk.specs.Files.{HasAt}
@@ -13,7 +14,8 @@ head_bytes generation n = to_le_bytes w64 generation ++ to_le_bytes w32 n
 abbrev pub content_bytes : ℕ → List ℕ → List ℕ
 content_bytes generation body = head_bytes generation (length body) ++ body
 
--- behind the slot's gate stand a generation and the length of a body, which the slot and the file have room for
+-- behind the slot's gate stand a generation and the length of a body, which the slot and the file
+-- have room for
 pub record HasHead (slot : Area) (generation n : ℕ) (file : List ℕ) : Type 0 where
   pub head : HasAt (slot.base + 1) (head_bytes generation n) file
   pub room : 13 + n ≤ slot.length
@@ -38,7 +40,8 @@ pub record IsOpen (slot : Area) (generation : ℕ) (body file : List ℕ) : Type
 
 -- the slot is open with a lower generation
 abbrev pub IsOlder : Area → ℕ → List ℕ → Type 0
-IsOlder slot generation file = (older : ℕ) × (n : ℕ) × IsOpenWith slot older n file × (older < generation)
+IsOlder slot generation file = (older : ℕ) × (n : ℕ) × IsOpenWith slot older n file
+    × (older < generation)
 
 -- the live slot is open with this generation and this body, and the other one closed or older
 pub record IsLive (live other : Area) (generation : ℕ) (body file : List ℕ) : Type 0 where

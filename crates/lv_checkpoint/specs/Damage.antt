@@ -7,15 +7,15 @@ use Rattle.lv_disk.specs.declared.area.Area.{Area}
 use Rattle.lv_checkpoint.specs.Bodies.{IsOpenWith}
 
 -- the slot's length isn't in the file whole, is too great for the slot, or goes beyond the file
-abbrev pub HasBadLength : Area → List ℕ → Type 0
-HasBadLength slot file = (length file < slot.base + 13)
+abbrev pub HasBadBodyLength : Area → List ℕ → Type 0
+HasBadBodyLength slot file = (length file < slot.base + 13)
     ⊎ ((n : ℕ) × HasAt (slot.base + 9) (to_le_bytes w32 n) file × (n < 2 ^ 32)
     × ((slot.length < 13 + n) ⊎ (length file < slot.base + 13 + n)))
 
 -- the slot's gate isn't in the file, or it is open and its length is bad
 abbrev pub IsBadSlot : Area → List ℕ → Type 0
 IsBadSlot slot file = (length file ≤ slot.base)
-    ⊎ (HasAt slot.base (open_gate ∷ []) file × HasBadLength slot file)
+    ⊎ (HasAt slot.base (open_gate ∷ []) file × HasBadBodyLength slot file)
 
 -- both slots are open with one generation
 abbrev pub AreOneGeneration : Area → Area → List ℕ → Type 0
@@ -23,8 +23,8 @@ AreOneGeneration a b file = (generation : ℕ) × (n : ℕ) × (m : ℕ)
     × IsOpenWith a generation n file × IsOpenWith b generation m file
 
 -- the least place of a fault: that of a bad slot, or the second's where both are open with one generation
-abbrev pub IsDamagedAt : Area → Area → ℕ → List ℕ → Type 0
-IsDamagedAt a b place file = (IsBadSlot a file × (place ≡ a.base))
+abbrev pub AreSlotsDamagedAt : Area → Area → ℕ → List ℕ → Type 0
+AreSlotsDamagedAt a b place file = (IsBadSlot a file × (place ≡ a.base))
     ⊎ ((¬ IsBadSlot a file) × (place ≡ b.base) × (IsBadSlot b file ⊎ AreOneGeneration a b file))
 
 -- no slot is open

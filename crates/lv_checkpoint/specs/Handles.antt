@@ -9,8 +9,8 @@ use Rattle.lv_checkpoint.specs.declared.change.Closed.{Closed}
 use Rattle.lv_checkpoint.specs.declared.change.Filled.{Filled}
 
 -- the first of the two areas in the file
-abbrev pub first_of : Slots → Area
-first_of slots = slots.a
+abbrev pub first_area : Slots → Area
+first_area slots = slots.a
 
 -- the second of them
 abbrev pub second_of : Slots → Area

@@ -8,9 +8,9 @@ use Rattle.lv_checkpoint.specs.declared.heads.Head.{Head}
 use Rattle.lv_checkpoint.specs.declared.slots.Slots.{Slots}
 
 -- the slot is closed where no head was found, else open with that head
-abbrev pub Shows : Area → Option Head → List ℕ → Type 0
-Shows slot None file = IsClosedAt slot.base file
-Shows slot (Some head) file = IsOpenWith slot head.generation head.len file
+abbrev pub ShowsHead : Area → Option Head → List ℕ → Type 0
+ShowsHead slot None file = IsClosedAt slot.base file
+ShowsHead slot (Some head) file = IsOpenWith slot head.generation head.len file
 
 -- the slot has room for the body
 abbrev pub HasRoom : Area → Option Head → Type 0

@@ -13,7 +13,8 @@ IsLiveBy slots body file = IsLive (live_of slots) (other_of slots) (generation_o
 
 -- the file is live after the change: the other slot is the live one, with the next generation
 abbrev pub IsNextBy : Slots → List ℕ → List ℕ → Type 0
-IsNextBy slots body file = IsLive (other_of slots) (live_of slots) (generation_of slots + 1) body file
+IsNextBy slots body file =
+    IsLive (other_of slots) (live_of slots) (generation_of slots + 1) body file
 
 -- the file is live as the handle says, with some body
 abbrev pub IsSomeLive : Slots → List ℕ → Type 0
@@ -21,7 +22,8 @@ IsSomeLive slots file = (body : List ℕ) × IsLiveBy slots body file
 
 -- some body stands behind the other slot's gate, with the next generation
 abbrev pub IsFilled : Slots → List ℕ → Type 0
-IsFilled slots file = (body : List ℕ) × HasContent (other_of slots) (generation_of slots + 1) body file
+IsFilled slots file =
+    (body : List ℕ) × HasContent (other_of slots) (generation_of slots + 1) body file
 
 -- what `close_other` leaves: the file is live as the handle says, and the other slot is closed
 pub record HasClosed (slots : Slots) (file : List ℕ) : Type 0 where
@@ -44,8 +46,8 @@ pub record ClosesOther (slots : Slots) (old new : List ℕ) : Type 0 where
   pub keeps : KeepsLive slots old new
   pub closed : IsClosedAt (other_of slots).base new
 
--- The live body stays, and all bytes outside the other slot, but for the first byte of the other journal; the file ends
--- no later than it did or than that byte.
+-- The live body stays, and all bytes outside the other slot, but for the first byte of the other
+-- journal; the file ends no later than it did or than that byte.
 pub record MayFill (slots : Slots) (journal : Area) (old new : List ℕ) : Type 0 where
   pub middle : List ℕ
   pub first : KeepsOutside (other_of slots).base (other_of slots).length old middle
@@ -53,21 +55,24 @@ pub record MayFill (slots : Slots) (journal : Area) (old new : List ℕ) : Type 
   pub no_longer : length new ≤ max (length old) (journal.base + 1)
   pub live : (body : List ℕ) → IsLiveBy slots body old → IsLiveBy slots body new
 
--- and the other slot has the content behind a closed gate, and the other journal begins with a closed one
+-- and the other slot has the content behind a closed gate, and the other journal begins with a
+-- closed one
 pub record Fills (slots : Slots) (body : List ℕ) (journal : Area) (old new : List ℕ) : Type 0 where
   pub may : MayFill slots journal old new
   pub closed : IsClosedAt (other_of slots).base new
   pub content : HasContent (other_of slots) (generation_of slots + 1) body new
   pub begins : HasAt journal.base (0 ∷ []) new
 
--- the content behind the other slot's gate is the live body, all bytes outside that slot stay, and the file gets no longer
+-- the content behind the other slot's gate is the live body, all bytes outside that slot stay, and
+-- the file gets no longer
 pub record OpensOther (slots : Slots) (old new : List ℕ) : Type 0 where
   pub keeps : KeepsOutside (other_of slots).base (other_of slots).length old new
   pub no_longer : length new ≤ length old
   pub live : (body : List ℕ)
       → HasContent (other_of slots) (generation_of slots + 1) body old → IsNextBy slots body new
 
--- the live body is the one from before, or that content, all bytes outside that slot stay, and the file gets no longer
+-- the live body is the one from before, or that content, all bytes outside that slot stay, and the
+-- file gets no longer
 pub record MayOpenOther (slots : Slots) (old new : List ℕ) : Type 0 where
   pub keeps : KeepsOutside (other_of slots).base (other_of slots).length old new
   pub no_longer : length new ≤ length old
@@ -75,7 +80,8 @@ pub record MayOpenOther (slots : Slots) (old new : List ℕ) : Type 0 where
       → HasContent (other_of slots) (generation_of slots + 1) body old
       → IsLiveBy slots live_body new ⊎ IsNextBy slots body new
 
--- what `first` makes of what a disk reads: a live first slot, a closed second one, and all bytes outside the two stay
+-- what `first` makes of what a disk reads: a live first slot, a closed second one, and all bytes
+-- outside the two stay
 pub record IsFirst (a b : Area) (body old new : List ℕ) : Type 0 where
   pub middle : List ℕ
   pub at_a : KeepsOutside a.base a.length old middle

@@ -2,7 +2,7 @@
 ghost use Rattle.std.specs.Prelude.{◌≡◌, ◌≤◌, ◌<◌, ◌+◌, ◌^◌, length, false, true, OnOk, IfOk};
 ghost use Rattle.lv_disk.specs.Moments.{LeavesOnly};
 ghost use Rattle.lv_disk.specs.Stops.{Counted, Each, Follows, From};
-ghost use Rattle.lv_checkpoint.specs.Handles.{body_in, closed_of, filled_of, finds_open, first_of, generation_in, generation_of, live_of, other_of, other_slot, second_of, slot_of, HasSomeSlots};
+ghost use Rattle.lv_checkpoint.specs.Handles.{body_in, closed_of, filled_of, finds_open, first_area, generation_in, generation_of, live_of, other_of, other_slot, second_of, slot_of, HasSomeSlots};
 ghost use Rattle.lv_checkpoint.specs.Steps.{ClosesOther, Fills, HasClosed, HasFilled, KeepsLive, MayFill, MayOpenOther, OpensOther};
 
 use crate::image::Image;
@@ -81,7 +81,7 @@ impl Filled {
         ensures opened { OnOk result
             (Follows (OpensOther (filled_of self)) (D.may_leave disk.old) (D.may_leave disk.new)) }
         ensures ready { IfOk result (λ s. Each (D.may_leave disk.new) (HasSomeSlots s)) }
-        ensures areas { IfOk result (λ s. (first_of s ≡ first_of (filled_of self))
+        ensures areas { IfOk result (λ s. (first_area s ≡ first_area (filled_of self))
             × (second_of s ≡ second_of (filled_of self))) }
         ensures live { IfOk result (λ s. (live_of s ≡ other_of (filled_of self))
             × (other_of s ≡ live_of (filled_of self))) }

@@ -6,8 +6,8 @@ ghost use Rattle.lv_disk.specs.Stops.{Counted, CountsFaults, Each};
 ghost use Rattle.lv_disk.specs.Gates.{IsClosedAt};
 ghost use Rattle.lv_checkpoint.specs.Bodies.{head_bytes};
 ghost use Rattle.lv_checkpoint.specs.Damage.{IsBadSlot};
-ghost use Rattle.lv_checkpoint.specs.Heads.{HasRoom, Shows};
-ghost use Rattle.lv_checkpoint.specs.Refusals.{IfDamaged, RefusesOpen};
+ghost use Rattle.lv_checkpoint.specs.Heads.{HasRoom, ShowsHead};
+ghost use Rattle.lv_checkpoint.specs.Refusals.{IfSlotDamaged, RefusesToOpenSlots};
 ghost use Rattle.lv_disk.specs.Reading.{OnlyReads};
 
 use crate::CheckpointError;
@@ -82,9 +82,9 @@ pub fn read_head<D: Disk>(
     end: u64,
 ) -> Result<Option<Head>, CheckpointError>
     requires ends { Each (D.reads disk.old) (λ file. end ≡ length file) }
-    ensures shows { IfOk result (λ found. Each (D.reads disk.old) (Shows slot found)) }
+    ensures shows { IfOk result (λ found. Each (D.reads disk.old) (ShowsHead slot found)) }
     ensures fits { IfOk result (HasRoom slot) }
-    ensures damaged { IfErr result (λ e. IfDamaged e (λ place.
+    ensures damaged { IfErr result (λ e. IfSlotDamaged e (λ place.
         (place ≡ slot.base) × Each (D.reads disk.old) (IsBadSlot slot))) }
     ensures no_other { IfErr result (λ e.
         (e ≡ CheckpointError.Device) ⊎ (e ≡ CheckpointError.Damaged slot.base)) }

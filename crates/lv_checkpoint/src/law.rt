@@ -4,7 +4,7 @@ ghost use Rattle.lv_disk.specs.Files.{KeepsOutside};
 ghost use Rattle.lv_disk.specs.declared.area.Area.{Area};
 ghost use Rattle.lv_disk.specs.Areas.{IsApart};
 ghost use Rattle.lv_checkpoint.specs.Bodies.{IsLive};
-ghost use Rattle.lv_checkpoint.specs.Damage.{AreBlank, IsDamagedAt};
+ghost use Rattle.lv_checkpoint.specs.Damage.{AreBlank, AreSlotsDamagedAt};
 
 /// Two slots have one live slot, generation and body at most; they are damaged at one place at most; and no two of
 /// live, damaged and blank hold at once.
@@ -14,17 +14,17 @@ pub fn stand_for_one_body()
     ensures one_slot { (a b : Area) (g h : ℕ) (x y file : List ℕ)
         → IsLive a b g x file → ¬ IsLive b a h y file }
     ensures place { (a b : Area) (p q : ℕ) (file : List ℕ)
-        → IsDamagedAt a b p file → IsDamagedAt a b q file → p ≡ q }
+        → AreSlotsDamagedAt a b p file → AreSlotsDamagedAt a b q file → p ≡ q }
     ensures not_damaged { (a b : Area) (g p : ℕ) (x file : List ℕ)
-        → IsLive a b g x file → ¬ IsDamagedAt a b p file }
+        → IsLive a b g x file → ¬ AreSlotsDamagedAt a b p file }
     ensures nor_damaged { (a b : Area) (g p : ℕ) (x file : List ℕ)
-        → IsLive b a g x file → ¬ IsDamagedAt a b p file }
+        → IsLive b a g x file → ¬ AreSlotsDamagedAt a b p file }
     ensures not_blank { (a b : Area) (g : ℕ) (x file : List ℕ) → IsLive a b g x file
         → ¬ AreBlank a b file }
     ensures nor_blank { (a b : Area) (g : ℕ) (x file : List ℕ) → IsLive b a g x file
         → ¬ AreBlank a b file }
     ensures nor_both { (a b : Area) (p : ℕ) (file : List ℕ) → AreBlank a b file
-        → ¬ IsDamagedAt a b p file }
+        → ¬ AreSlotsDamagedAt a b p file }
 {}
 
 /// What the bytes of two slots stand for depends on these bytes alone.

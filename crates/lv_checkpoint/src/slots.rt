@@ -34,11 +34,11 @@ impl Slots {
     ghost use Rattle.std.specs.Prelude.{◌≡◌, ◌≤◌, ◌<◌, ◌⊎◌, ◌↔◌, ◌+◌, ◌-◌, ◌^◌, List, ℕ, Option, length, false, true, OnOk, IfOk, IfErr, IsErrOf};
     ghost use Rattle.lv_disk.specs.Stops.{CountsFaults, Each};
     ghost use Rattle.lv_checkpoint.specs.Bodies.{IsOpenWith};
-    ghost use Rattle.lv_checkpoint.specs.Damage.{AreBlank, AreOneGeneration, IsDamagedAt};
-    ghost use Rattle.lv_checkpoint.specs.Handles.{body_in, finds_open, first_of, generation_in, generation_of, live_of, other_of, other_slot, second_of, slot_of, HasSlots};
-    ghost use Rattle.lv_checkpoint.specs.Heads.{HasRoom, HasHeads, Shows};
+    ghost use Rattle.lv_checkpoint.specs.Damage.{AreBlank, AreOneGeneration, AreSlotsDamagedAt};
+    ghost use Rattle.lv_checkpoint.specs.Handles.{body_in, finds_open, first_area, generation_in, generation_of, live_of, other_of, other_slot, second_of, slot_of, HasSlots};
+    ghost use Rattle.lv_checkpoint.specs.Heads.{HasRoom, HasHeads, ShowsHead};
     ghost use Rattle.lv_disk.specs.Reading.{OnlyReads};
-    ghost use Rattle.lv_checkpoint.specs.Refusals.{IfDamaged, RefusesImage, RefusesOpen};
+    ghost use Rattle.lv_checkpoint.specs.Refusals.{IfSlotDamaged, RefusesImage, RefusesToOpenSlots};
 
     // Which slot is live, and how long its body is.
     fn choose(
@@ -52,15 +52,16 @@ impl Slots {
         requires b_some { 0 < b.length }
         requires first_fits { HasRoom a first }
         requires second_fits { HasRoom b second }
-        ensures areas { IfOk result (λ r. (first_of r.0 ≡ a) × (second_of r.0 ≡ b)) }
+        ensures areas { IfOk result (λ r. (first_area r.0 ≡ a) × (second_of r.0 ≡ b)) }
         ensures which { IfOk result (λ r. slot_of r.0 ≤ 1) }
         ensures fits { IfOk result (λ r. 13 + r.1 ≤ (live_of r.0).length) }
         ensures heads { IfOk result (λ r. (file : List ℕ)
-            → Shows a first file → Shows b second file → HasHeads r.0 r.1 file) }
+            → ShowsHead a first file → ShowsHead b second file → HasHeads r.0 r.1 file) }
         ensures blank { IsErrOf result CheckpointError.Blank
-            → ((file : List ℕ) → Shows a first file → Shows b second file → AreBlank a b file) }
-        ensures damaged { IfErr result (λ e. IfDamaged e (λ place. (place ≡ b.base)
-            × ((file : List ℕ) → Shows a first file → Shows b second file
+            → ((file : List ℕ) → ShowsHead a first file → ShowsHead b second file
+            → AreBlank a b file) }
+        ensures damaged { IfErr result (λ e. IfSlotDamaged e (λ place. (place ≡ b.base)
+            × ((file : List ℕ) → ShowsHead a first file → ShowsHead b second file
             → AreOneGeneration a b file))) }
         ensures no_other { IfErr result (λ e.
             (e ≡ CheckpointError.Blank) ⊎ (e ≡ CheckpointError.Damaged b.base)) }
@@ -103,7 +104,7 @@ impl Slots {
         requires b_some { 0 < b.length }
         requires one_fits { 13 + one.len ≤ a.length }
         requires other_fits { 13 + other.len ≤ b.length }
-        ensures areas { IfOk result (λ r. (first_of r.0 ≡ a) × (second_of r.0 ≡ b)) }
+        ensures areas { IfOk result (λ r. (first_area r.0 ≡ a) × (second_of r.0 ≡ b)) }
         ensures which { IfOk result (λ r. slot_of r.0 ≤ 1) }
         ensures fits { IfOk result (λ r. 13 + r.1 ≤ (live_of r.0).length) }
         ensures heads { IfOk result (λ r. (file : List ℕ)
@@ -154,7 +155,7 @@ impl Slots {
         requires b_some { 0 < b.length }
 
         // The slots and the body are those that the bytes stand for.
-        ensures areas { IfOk result (λ r. (first_of r.0 ≡ a) × (second_of r.0 ≡ b)) }
+        ensures areas { IfOk result (λ r. (first_area r.0 ≡ a) × (second_of r.0 ≡ b)) }
         ensures tells { IfOk result
             (λ r. (slot_of r.0 ≡ r.1.slot) × (generation_of r.0 ≡ r.1.generation)) }
         ensures which { IfOk result (λ r. r.1.slot ≤ 1) }
@@ -163,11 +164,11 @@ impl Slots {
         ensures ready { IfOk result
             (λ r. Each (D.may_leave disk.new) (HasSlots r.0 r.1.body.items)) }
 
-        ensures damaged { IfErr result (λ e. IfDamaged e (λ place.
-            Each (D.reads disk.old) (IsDamagedAt a b place))) }
+        ensures damaged { IfErr result (λ e. IfSlotDamaged e (λ place.
+            Each (D.reads disk.old) (AreSlotsDamagedAt a b place))) }
         ensures blank { IsErrOf result CheckpointError.Blank
             → Each (D.reads disk.old) (AreBlank a b) }
-        ensures no_other { IfErr result RefusesOpen }
+        ensures no_other { IfErr result RefusesToOpenSlots }
 
         // It writes nothing.
         ensures reads { OnlyReads D.Disk disk.old disk.new }
@@ -223,7 +224,8 @@ impl Slots {
     // The slots after a change: the other one is live, with the next generation.
     pub fn turned(self) -> Slots
         requires { generation_of self + 1 < 2 ^ 64 }
-        ensures areas { (first_of result ≡ first_of self) × (second_of result ≡ second_of self) }
+        ensures areas { (first_area result ≡ first_area self)
+            × (second_of result ≡ second_of self) }
         ensures live { (live_of result ≡ other_of self) × (other_of result ≡ live_of self) }
         ensures slot { slot_of result ≡ other_slot (slot_of self) }
         ensures generation { generation_of result ≡ generation_of self + 1 }
@@ -276,7 +278,7 @@ impl Slots {
         requires in_order { a.base + a.length ≤ b.base }
         requires a_some { 0 < a.length }
         requires b_some { 0 < b.length }
-        ensures areas { (first_of result ≡ a) × (second_of result ≡ b) }
+        ensures areas { (first_area result ≡ a) × (second_of result ≡ b) }
         ensures live { (live_of result ≡ a) × (other_of result ≡ b) }
         ensures slot { slot_of result ≡ 0 }
         ensures generation { generation_of result ≡ 1 }

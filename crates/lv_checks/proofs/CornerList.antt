@@ -17,7 +17,7 @@ use Rattle.lv_maptables.specs.Tables.{Tables}
 use Rattle.lv_checks.specs.declared.corners.Degrees.{Degrees}
 use Rattle.lv_checks.specs.declared.finding.Finding.{Finding}
 use Rattle.lv_checks.specs.declared.finding.Finding.TheVariants.{SectorOpen}
-use Rattle.lv_checks.specs.Unused.{numbers_of}
+use Rattle.lv_checks.specs.Unused.{item_numbers}
 use Rattle.lv_checks.specs.Corners.{edges, is_open, open_corners}
 use Rattle.lv_checks.specs.Findings.{open_sectors}
 use Rattle.lv_checks.specs.Tallies.{corner_cmp, same_corner, no_degrees, degrees_of, is_uneven, corner_open, IsTally}
@@ -62,10 +62,10 @@ any-uneven m o q =
 -- ---- the corners of the definition
 
 row : Tables → ℕ → List ℕ
-row m s = filter (is_open m s) (numbers_of m.vertices)
+row m s = filter (is_open m s) (item_numbers m.vertices)
 
 corners : Tables → List (ℕ × ℕ)
-corners m = flat_map (λ s. map (λ v. (s, v)) (row m s)) (numbers_of m.sectors)
+corners m = flat_map (λ s. map (λ v. (s, v)) (row m s)) (item_numbers m.sectors)
 
 swap_test : (a b : Bool) (p : Bool) → (p && (a && b)) ≡ (a && (b && p))
 swap_test true true true = refl
@@ -77,45 +77,45 @@ swap_test false b false = refl
 
 any-corners : (m : Tables) (q : ℕ × ℕ)
     → list_any (is_at (corner_cmp q)) (corners m)
-    ≡ list_any (λ s. eqb q.0 s && list_any (λ v. eqb q.1 v && is_open m s v) (numbers_of m.vertices)) (numbers_of m.sectors)
+    ≡ list_any (λ s. eqb q.0 s && list_any (λ v. eqb q.1 v && is_open m s v) (item_numbers m.vertices)) (item_numbers m.sectors)
 unfolding corners row
 any-corners m q =
     list_any-agree (is_at (corner_cmp q)) (same_corner q) (is_at-corner q) (corners m)
-    ∙ list_any-flat_map (same_corner q) (λ s. map (λ v. (s, v)) (row m s)) (numbers_of m.sectors)
+    ∙ list_any-flat_map (same_corner q) (λ s. map (λ v. (s, v)) (row m s)) (item_numbers m.sectors)
     ∙ list_any-agree (λ s. list_any (same_corner q) (map (λ v. (s, v)) (row m s)))
-    (λ s. eqb q.0 s && list_any (λ v. eqb q.1 v && is_open m s v) (numbers_of m.vertices))
+    (λ s. eqb q.0 s && list_any (λ v. eqb q.1 v && is_open m s v) (item_numbers m.vertices))
     (λ s.
     list_any-map (same_corner q) (λ v. (s, v)) (row m s)
-    ∙ list_any-filter (λ v. same_corner q (s, v)) (is_open m s) (numbers_of m.vertices)
+    ∙ list_any-filter (λ v. same_corner q (s, v)) (is_open m s) (item_numbers m.vertices)
     ∙ list_any-agree (λ v. is_open m s v && (eqb q.0 s && eqb q.1 v)) (λ v. eqb q.0 s && (eqb q.1 v && is_open m s v))
-    (λ v. swap_test (eqb q.0 s) (eqb q.1 v) (is_open m s v)) (numbers_of m.vertices)
-    ∙ list_any-and (eqb q.0 s) (λ v. eqb q.1 v && is_open m s v) (numbers_of m.vertices))
-    (numbers_of m.sectors)
+    (λ v. swap_test (eqb q.0 s) (eqb q.1 v) (is_open m s v)) (item_numbers m.vertices)
+    ∙ list_any-and (eqb q.0 s) (λ v. eqb q.1 v && is_open m s v) (item_numbers m.vertices))
+    (item_numbers m.sectors)
 
 -- no corner beyond the map's is open
 abbrev pub ClosedOutside : Tables → Type 0
 ClosedOutside m = (s v : ℕ) → (length m.sectors ≤ s) ⊎ (length m.vertices ≤ v) → is_open m s v ≡ false
 
 any-corner : (m : Tables) → ClosedOutside m → (s v : ℕ)
-    → list_any (λ t. eqb s t && list_any (λ w. eqb v w && is_open m t w) (numbers_of m.vertices)) (numbers_of m.sectors) ≡ is_open m s v
+    → list_any (λ t. eqb s t && list_any (λ w. eqb v w && is_open m t w) (item_numbers m.vertices)) (item_numbers m.sectors) ≡ is_open m s v
 any-corner m r s v =
     ⊎_elim
     (λ sl.
-    any_within s (λ t. list_any (λ w. eqb v w && is_open m t w) (numbers_of m.vertices)) 0 (length m.sectors) (omega arith) (omega arith)
+    any_within s (λ t. list_any (λ w. eqb v w && is_open m t w) (item_numbers m.vertices)) 0 (length m.sectors) (omega arith) (omega arith)
     ∙ ⊎_elim
     (λ vl. any_within v (is_open m s) 0 (length m.vertices) (omega arith) (omega arith))
     (λ vg. any_outside v (is_open m s) 0 (length m.vertices) (inr (omega arith)) ∙ sym (r s v (inr vg)))
     (cases_lt v (length m.vertices)))
     (λ sg.
-    any_outside s (λ t. list_any (λ w. eqb v w && is_open m t w) (numbers_of m.vertices)) 0 (length m.sectors) (inr (omega arith))
+    any_outside s (λ t. list_any (λ w. eqb v w && is_open m t w) (item_numbers m.vertices)) 0 (length m.sectors) (inr (omega arith))
     ∙ sym (r s v (inl sg)))
     (cases_lt s (length m.sectors))
 
 corners-in_order : (m : Tables) → IsStrictlySortedBy corner_cmp (corners m)
 unfolding corners row
 corners-in_order m =
-    in_order-rows (row m) (λ s. IsStrictlySortedBy-filter nat_cmp (is_open m s) (numbers_of m.vertices) (in_order-range (length m.vertices)))
-    (numbers_of m.sectors) (in_order-range (length m.sectors))
+    in_order-rows (row m) (λ s. IsStrictlySortedBy-filter nat_cmp (is_open m s) (item_numbers m.vertices) (in_order-range (length m.vertices)))
+    (item_numbers m.sectors) (in_order-range (length m.sectors))
 
 -- ---- the two are one
 
@@ -132,7 +132,7 @@ findings-uneven es = each (filter is_uneven es)
 
 findings-corners : (m : Tables) → map open_at (corners m) ≡ open_sectors m
 unfolding corners row
-findings-corners m = each (numbers_of m.sectors)
+findings-corners m = each (item_numbers m.sectors)
   where
     inner : (s : ℕ) (vs : List ℕ) → map open_at (map (λ v. (s, v)) vs) ≡ map (λ v. SectorOpen s v) vs
     inner s [] = refl

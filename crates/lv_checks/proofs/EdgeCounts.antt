@@ -14,19 +14,19 @@ use Rattle.lv_maptables.specs.Tables.{Tables}
 use Rattle.lv_lumps.specs.Sides.{has_left}
 use Rattle.lv_maptables.specs.WellFormed.{WellFormed, HasEnds, HasSides}
 use Rattle.lv_checks.specs.declared.corners.Degrees.{Degrees}
-use Rattle.lv_checks.specs.Corners.{Edge, edges_of, edges, leaves, reaches}
+use Rattle.lv_checks.specs.Corners.{Edge, edges_of_line, edges, leaves_vertex, reaches}
 use Rattle.lv_checks.specs.Textures.{side_in, some_side}
-use Rattle.lv_checks.specs.Tallies.{HasRoom, AddsEdges, IsTally}
+use Rattle.lv_checks.specs.Tallies.{HasCountsLeft, AddsEdges, IsTally}
 use Rattle.lv_checks.proofs.CornerList.{ClosedOutside}
 use Rattle.lv_checks.proofs.InOrder.{each-flat_map, each-weaker}
 use Rattle.lv_checks.proofs.SideLemmas.{has_left-true}
 
 edges_more : (m : Tables) (n : ℕ) (l : Line) → slice_get m.lines n ≡ Some l
-    → flat_map (edges_of m) (take (n + 1) m.lines) ≡ flat_map (edges_of m) (take n m.lines) ++ edges_of m l
+    → flat_map (edges_of_line m) (take (n + 1) m.lines) ≡ flat_map (edges_of_line m) (take n m.lines) ++ edges_of_line m l
 edges_more m n l is =
-    ap (flat_map (edges_of m)) (take_more m.lines n l (slice_get_within m.lines n l is) ∙ ap (λ x. take n m.lines ++ x ∷ []) (get_or_from_slice_get m.lines n l l is))
-    ∙ flat_map-append (edges_of m) (take n m.lines) (l ∷ [])
-    ∙ ap (λ r. flat_map (edges_of m) (take n m.lines) ++ r) (append-nil (edges_of m l))
+    ap (flat_map (edges_of_line m)) (take_more m.lines n l (slice_get_within m.lines n l is) ∙ ap (λ x. take n m.lines ++ x ∷ []) (get_or_from_slice_get m.lines n l l is))
+    ∙ flat_map-append (edges_of_line m) (take n m.lines) (l ∷ [])
+    ∙ ap (λ r. flat_map (edges_of_line m) (take n m.lines) ++ r) (append-nil (edges_of_line m l))
 
 count_by-append : {X : Type 0} (p : X → Bool) (xs ys : List X) → count_by p (xs ++ ys) ≡ count_by p xs + count_by p ys
 count_by-append p xs ys = sum_by-append (λ x. cond (p x) 1 0) xs ys
@@ -35,15 +35,15 @@ count_by-append p xs ys = sum_by-append (λ x. cond (p x) 1 0) xs ys
 pub adds_both : (old mid new : BTreeMap (ℕ × ℕ) Degrees) (es fs : List Edge) → AddsEdges old mid es → AddsEdges mid new fs → AddsEdges old new (es ++ fs)
 adds_both old mid new es fs a b =
     record {
-      outgoing = λ q. omega (arith, a.outgoing q, b.outgoing q, count_by-append (leaves q.0 q.1) es fs);
+      outgoing = λ q. omega (arith, a.outgoing q, b.outgoing q, count_by-append (leaves_vertex q.0 q.1) es fs);
       incoming = λ q. omega (arith, a.incoming q, b.incoming q, count_by-append (reaches q.0 q.1) es fs);
     }
 
 -- where there is room for two edges, there is for one behind the first
-pub room_after : (old new : BTreeMap (ℕ × ℕ) Degrees) (e : Edge) → HasRoom 2 old → AddsEdges old new (e ∷ []) → HasRoom 1 new
+pub room_after : (old new : BTreeMap (ℕ × ℕ) Degrees) (e : Edge) → HasCountsLeft 2 old → AddsEdges old new (e ∷ []) → HasCountsLeft 1 new
 room_after old new e h a =
     record {
-      outgoing = λ q. omega (arith, h.outgoing q, a.outgoing q, count_by-le-length (leaves q.0 q.1) (e ∷ []));
+      outgoing = λ q. omega (arith, h.outgoing q, a.outgoing q, count_by-le-length (leaves_vertex q.0 q.1) (e ∷ []));
       incoming = λ q. omega (arith, h.incoming q, a.incoming q, count_by-le-length (reaches q.0 q.1) (e ∷ []));
     }
 
@@ -53,53 +53,53 @@ side_was m n k s read same = ap (side_in m) (sym same) ∙ get_or_from_slice_get
 
 -- the edges of a line with these sides
 pub edges_of_one : (m : Tables) (l : Line) (right : Side) → side_in m l.right ≡ right → has_left l ≡ false
-    → edges_of m l ≡ (record { sector = right.sector; from = l.v1; to = l.v2 }) ∷ []
+    → edges_of_line m l ≡ (record { sector = right.sector; from = l.v1; to = l.v2 }) ∷ []
 edges_of_one m l right is none =
     λ i. (record { sector = (is i).sector; from = l.v1; to = l.v2 }) ∷ cond (none i) ((record { sector = (side_in m l.left).sector; from = l.v2; to = l.v1 }) ∷ []) []
 
 pub edges_of_two : (m : Tables) (l : Line) (right left : Side) → side_in m l.right ≡ right → side_in m l.left ≡ left → has_left l ≡ true
-    → edges_of m l ≡ (record { sector = right.sector; from = l.v1; to = l.v2 }) ∷ (record { sector = left.sector; from = l.v2; to = l.v1 }) ∷ []
+    → edges_of_line m l ≡ (record { sector = right.sector; from = l.v1; to = l.v2 }) ∷ (record { sector = left.sector; from = l.v2; to = l.v1 }) ∷ []
 edges_of_two m l right left is at some =
     λ i. (record { sector = (is i).sector; from = l.v1; to = l.v2 }) ∷ cond (some i) ((record { sector = (at i).sector; from = l.v2; to = l.v1 }) ∷ []) []
 
 -- one line more is counted
 pub tally_more : (m : Tables) (n : ℕ) (l : Line) → slice_get m.lines n ≡ Some l → (old new : BTreeMap (ℕ × ℕ) Degrees)
-    → IsTally (flat_map (edges_of m) (take n m.lines)) old → AddsEdges old new (edges_of m l)
-    → IsTally (flat_map (edges_of m) (take (n + 1) m.lines)) new
+    → IsTally (flat_map (edges_of_line m) (take n m.lines)) old → AddsEdges old new (edges_of_line m l)
+    → IsTally (flat_map (edges_of_line m) (take (n + 1) m.lines)) new
 tally_more m n l is old new t a =
     let more = edges_more m n l is in
-    let done = flat_map (edges_of m) (take n m.lines) in
+    let done = flat_map (edges_of_line m) (take n m.lines) in
     record {
       outgoing = λ q.
-          a.outgoing q ∙ ap (λ x. x + count_by (leaves q.0 q.1) (edges_of m l)) (t.outgoing q)
-          ∙ sym (ap (count_by (leaves q.0 q.1)) more ∙ count_by-append (leaves q.0 q.1) done (edges_of m l));
+          a.outgoing q ∙ ap (λ x. x + count_by (leaves_vertex q.0 q.1) (edges_of_line m l)) (t.outgoing q)
+          ∙ sym (ap (count_by (leaves_vertex q.0 q.1)) more ∙ count_by-append (leaves_vertex q.0 q.1) done (edges_of_line m l));
       incoming = λ q.
-          a.incoming q ∙ ap (λ x. x + count_by (reaches q.0 q.1) (edges_of m l)) (t.incoming q)
-          ∙ sym (ap (count_by (reaches q.0 q.1)) more ∙ count_by-append (reaches q.0 q.1) done (edges_of m l));
+          a.incoming q ∙ ap (λ x. x + count_by (reaches q.0 q.1) (edges_of_line m l)) (t.incoming q)
+          ∙ sym (ap (count_by (reaches q.0 q.1)) more ∙ count_by-append (reaches q.0 q.1) done (edges_of_line m l));
     }
 
 short : {X : Type 0} (x y : X) (b : Bool) → length (x ∷ cond b (y ∷ []) []) ≤ 2
 short x y true = omega arith
 short x y false = omega arith
 
-edges-few : (m : Tables) (l : Line) → length (edges_of m l) ≤ 2
+edges-few : (m : Tables) (l : Line) → length (edges_of_line m l) ≤ 2
 edges-few m l =
     let right : Edge = record { sector = (side_in m l.right).sector; from = l.v1; to = l.v2 } in
     let left : Edge = record { sector = (side_in m l.left).sector; from = l.v2; to = l.v1 } in
     short right left (has_left l)
 
-all_edges-few : (m : Tables) (ls : List Line) → length (flat_map (edges_of m) ls) ≤ 2 * length ls
+all_edges-few : (m : Tables) (ls : List Line) → length (flat_map (edges_of_line m) ls) ≤ 2 * length ls
 all_edges-few m [] = omega arith
 all_edges-few m (l ∷ ls) =
-    omega (arith, length-append (edges_of m l) (flat_map (edges_of m) ls), edges-few m l, all_edges-few m ls)
+    omega (arith, length-append (edges_of_line m l) (flat_map (edges_of_line m) ls), edges-few m l, all_edges-few m ls)
 
 -- a map has too few lines for a count to overflow
-pub tally_room : (m : Tables) (n : ℕ) (d : BTreeMap (ℕ × ℕ) Degrees) → n ≤ 32767 → IsTally (flat_map (edges_of m) (take n m.lines)) d → HasRoom 2 d
+pub tally_room : (m : Tables) (n : ℕ) (d : BTreeMap (ℕ × ℕ) Degrees) → n ≤ 32767 → IsTally (flat_map (edges_of_line m) (take n m.lines)) d → HasCountsLeft 2 d
 tally_room m n d few t =
-    let es = flat_map (edges_of m) (take n m.lines) in
+    let es = flat_map (edges_of_line m) (take n m.lines) in
     let long : length es ≤ 2 * n = omega (arith, all_edges-few m (take n m.lines), length-take n m.lines) in
     record {
-      outgoing = λ q. omega (arith, t.outgoing q, count_by-le-length (leaves q.0 q.1) es);
+      outgoing = λ q. omega (arith, t.outgoing q, count_by-le-length (leaves_vertex q.0 q.1) es);
       incoming = λ q. omega (arith, t.incoming q, count_by-le-length (reaches q.0 q.1) es);
     }
 
@@ -110,7 +110,7 @@ record InMap (m : Tables) (e : Edge) : Type 0 where
   from : e.from < length m.vertices
   to : e.to < length m.vertices
 
-line-in_map : (m : Tables) → WellFormed m → (l : Line) → HasEnds m.vertices l → HasSides m.sides l → AllByRecursion (InMap m) (edges_of m l)
+line-in_map : (m : Tables) → WellFormed m → (l : Line) → HasEnds m.vertices l → HasSides m.sides l → AllByRecursion (InMap m) (edges_of_line m l)
 line-in_map m w l ends sides = (
   record { sector = w.side_sectors l.right some_side sides.right; from = ends.v1; to = ends.v2 },
   left (has_left l) (λ h. w.side_sectors l.left some_side (sides.left (has_left-true l h))),
@@ -124,8 +124,8 @@ line-in_map m w l ends sides = (
 edges-in_map : (m : Tables) → WellFormed m → AllByRecursion (InMap m) (edges m)
 edges-in_map m w =
     let P : Line → Type 0 = λ l. HasEnds m.vertices l × HasSides m.sides l in
-    each-flat_map (InMap m) (edges_of m) m.lines
-    (each-weaker P (λ l. AllByRecursion (InMap m) (edges_of m l)) (λ l h. line-in_map m w l h.0 h.1) m.lines
+    each-flat_map (InMap m) (edges_of_line m) m.lines
+    (each-weaker P (λ l. AllByRecursion (InMap m) (edges_of_line m l)) (λ l h. line-in_map m w l h.0 h.1) m.lines
     (recursion_from_All P m.lines (λ k d h. (w.ends k d h, w.line_sides k d h))))
 
 none-counted : {X : Type 0} (p : X → Bool) (P : X → Type 0) → ((x : X) → P x → p x ≡ false) → (xs : List X) → AllByRecursion P xs

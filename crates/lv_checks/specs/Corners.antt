@@ -1,11 +1,12 @@
--- Where a map's sectors aren't closed: a sector's edges go round it, so each vertex is left as often as it is reached.
+-- Where a map's sectors aren't closed: a sector's edges go round it, so each vertex is left as
+-- often as it is reached.
 use Rattle.std.specs.Prelude.{ℕ, Bool, ◌&&◌, ◌==◌, not, if◌then◌else◌, List, [], ◌∷◌, map, filter, count_by, flat_map}
 use Rattle.lv_lumps.specs.declared.records.Line.{Line}
 use Rattle.lv_lumps.specs.Sides.{has_left}
 use Rattle.lv_maptables.specs.Tables.{Tables}
 use Rattle.lv_checks.specs.declared.finding.Finding.{Finding}
 use Rattle.lv_checks.specs.declared.finding.Finding.TheVariants.{SectorOpen}
-use Rattle.lv_checks.specs.Unused.{numbers_of}
+use Rattle.lv_checks.specs.Unused.{item_numbers}
 use Rattle.lv_checks.specs.Textures.{side_in}
 
 -- an edge of a sector, which is on its right
@@ -15,18 +16,19 @@ pub record Edge : Type 0 where
   pub to : ℕ
 
 -- a line's edges: its right side's along the line, its left side's against it
-abbrev pub edges_of : Tables → Line → List Edge
-edges_of m l =
+abbrev pub edges_of_line : Tables → Line → List Edge
+edges_of_line m l =
     (record { sector = (side_in m l.right).sector; from = l.v1; to = l.v2 })
-    ∷ (if has_left l then (record { sector = (side_in m l.left).sector; from = l.v2; to = l.v1 }) ∷ [] else [])
+    ∷ (if has_left l then (record { sector = (side_in m l.left).sector; from = l.v2; to = l.v1 })
+    ∷ [] else [])
 
 -- the edges of all sectors
 abbrev pub edges : Tables → List Edge
-edges m = flat_map (edges_of m) m.lines
+edges m = flat_map (edges_of_line m) m.lines
 
 -- whether an edge of the sector leaves the vertex
-abbrev pub leaves : ℕ → ℕ → Edge → Bool
-leaves sector vertex e = (e.sector == sector) && (e.from == vertex)
+abbrev pub leaves_vertex : ℕ → ℕ → Edge → Bool
+leaves_vertex sector vertex e = (e.sector == sector) && (e.from == vertex)
 
 -- whether an edge of the sector reaches the vertex
 abbrev pub reaches : ℕ → ℕ → Edge → Bool
@@ -34,8 +36,11 @@ reaches sector vertex e = (e.sector == sector) && (e.to == vertex)
 
 -- whether the sector's edges that leave the vertex and those that reach it differ in number
 abbrev pub is_open : Tables → ℕ → ℕ → Bool
-is_open m sector vertex = not (count_by (leaves sector vertex) (edges m) == count_by (reaches sector vertex) (edges m))
+is_open m sector vertex =
+    not (count_by (leaves_vertex sector vertex) (edges m) == count_by (reaches sector vertex)
+    (edges m))
 
 -- the vertices at which the sector is open
 abbrev pub open_corners : Tables → ℕ → List Finding
-open_corners m sector = map (λ v. SectorOpen sector v) (filter (is_open m sector) (numbers_of m.vertices))
+open_corners m sector =
+    map (λ v. SectorOpen sector v) (filter (is_open m sector) (item_numbers m.vertices))

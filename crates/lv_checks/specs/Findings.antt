@@ -6,7 +6,7 @@ use Rattle.lv_lumps.specs.declared.records.Thing.{Thing}
 use Rattle.lv_maptables.specs.Tables.{Tables}
 use Rattle.lv_checks.specs.declared.finding.Finding.{Finding}
 use Rattle.lv_checks.specs.declared.finding.Finding.TheVariants.{NoPlayerStart}
-use Rattle.lv_checks.specs.Unused.{numbers_of, unused_vertices, unused_sides, unused_sectors}
+use Rattle.lv_checks.specs.Unused.{item_numbers, unused_vertices, unused_sides, unused_sectors}
 use Rattle.lv_checks.specs.Textures.{line_misses}
 use Rattle.lv_checks.specs.Corners.{open_corners}
 
@@ -20,7 +20,7 @@ missing_textures m = flat_map (line_misses m) (enumerate_from 0 m.lines)
 
 -- where the sectors are open, by sector and then by vertex
 abbrev pub open_sectors : Tables → List Finding
-open_sectors m = flat_map (open_corners m) (numbers_of m.sectors)
+open_sectors m = flat_map (open_corners m) (item_numbers m.sectors)
 
 -- that no thing is a start, if none is
 abbrev pub missing_start : Tables → List Finding
@@ -29,4 +29,5 @@ missing_start m = if list_any is_start m.things then [] else NoPlayerStart ∷ [
 -- all findings: unused vertices, sides and sectors, missing textures, open sectors, no start
 abbrev pub findings : Tables → List Finding
 findings m =
-    unused_vertices m ++ unused_sides m ++ unused_sectors m ++ missing_textures m ++ open_sectors m ++ missing_start m
+    unused_vertices m ++ unused_sides m ++ unused_sectors m ++ missing_textures m ++ open_sectors m
+    ++ missing_start m

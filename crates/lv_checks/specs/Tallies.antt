@@ -6,7 +6,7 @@ use Rattle.std.specs.Ordering.{nat_cmp, ordering_then}
 use Rattle.std.specs.BTreeMap.{BTreeMap, get}
 use Rattle.lv_maptables.specs.declared.kind.Kind.{Kind}
 use Rattle.lv_maptables.specs.declared.kind.Kind.TheVariants as kind
-use Rattle.lv_checks.specs.Corners.{Edge, leaves, reaches}
+use Rattle.lv_checks.specs.Corners.{Edge, leaves_vertex, reaches}
 use Rattle.lv_checks.specs.declared.corners.Degrees.{Degrees}
 use Rattle.lv_checks.specs.declared.finding.Finding.{Finding}
 use Rattle.lv_checks.specs.declared.finding.Finding.TheVariants.{VertexUnused, SideUnused, SectorUnused, SectorOpen}
@@ -28,7 +28,7 @@ abbrev pub degrees_of : BTreeMap (ℕ × ℕ) Degrees → ℕ × ℕ → Degrees
 degrees_of m corner = unwrap_or (get corner_cmp m corner) no_degrees
 
 -- there is room for n more in every count
-pub record HasRoom (n : ℕ) (m : BTreeMap (ℕ × ℕ) Degrees) : Type 0 where
+pub record HasCountsLeft (n : ℕ) (m : BTreeMap (ℕ × ℕ) Degrees) : Type 0 where
   pub outgoing : (q : ℕ × ℕ) → (degrees_of m q).outgoing + n < 2 ^ 32
   pub incoming : (q : ℕ × ℕ) → (degrees_of m q).incoming + n < 2 ^ 32
 
@@ -38,22 +38,26 @@ one_if b = if b then 1 else 0
 
 -- one edge more leaves the corner
 pub record Leaves (old new : BTreeMap (ℕ × ℕ) Degrees) (corner : ℕ × ℕ) : Type 0 where
-  pub outgoing : (q : ℕ × ℕ) → (degrees_of new q).outgoing ≡ (degrees_of old q).outgoing + one_if (same_corner corner q)
+  pub outgoing : (q : ℕ × ℕ) → (degrees_of new q).outgoing ≡ (degrees_of old q).outgoing
+      + one_if (same_corner corner q)
   pub incoming : (q : ℕ × ℕ) → (degrees_of new q).incoming ≡ (degrees_of old q).incoming
 
 -- one edge more reaches the corner
 pub record Reaches (old new : BTreeMap (ℕ × ℕ) Degrees) (corner : ℕ × ℕ) : Type 0 where
   pub outgoing : (q : ℕ × ℕ) → (degrees_of new q).outgoing ≡ (degrees_of old q).outgoing
-  pub incoming : (q : ℕ × ℕ) → (degrees_of new q).incoming ≡ (degrees_of old q).incoming + one_if (same_corner corner q)
+  pub incoming : (q : ℕ × ℕ) → (degrees_of new q).incoming ≡ (degrees_of old q).incoming
+      + one_if (same_corner corner q)
 
 -- the edges were counted
 pub record AddsEdges (old new : BTreeMap (ℕ × ℕ) Degrees) (es : List Edge) : Type 0 where
-  pub outgoing : (q : ℕ × ℕ) → (degrees_of new q).outgoing ≡ (degrees_of old q).outgoing + count_by (leaves q.0 q.1) es
-  pub incoming : (q : ℕ × ℕ) → (degrees_of new q).incoming ≡ (degrees_of old q).incoming + count_by (reaches q.0 q.1) es
+  pub outgoing : (q : ℕ × ℕ) → (degrees_of new q).outgoing ≡ (degrees_of old q).outgoing
+      + count_by (leaves_vertex q.0 q.1) es
+  pub incoming : (q : ℕ × ℕ) → (degrees_of new q).incoming ≡ (degrees_of old q).incoming
+      + count_by (reaches q.0 q.1) es
 
 -- just the edges were counted
 pub record IsTally (es : List Edge) (m : BTreeMap (ℕ × ℕ) Degrees) : Type 0 where
-  pub outgoing : (q : ℕ × ℕ) → (degrees_of m q).outgoing ≡ count_by (leaves q.0 q.1) es
+  pub outgoing : (q : ℕ × ℕ) → (degrees_of m q).outgoing ≡ count_by (leaves_vertex q.0 q.1) es
   pub incoming : (q : ℕ × ℕ) → (degrees_of m q).incoming ≡ count_by (reaches q.0 q.1) es
 
 -- whether a corner's counts differ
@@ -69,7 +73,8 @@ abbrev pub uneven_corners : BTreeMap (ℕ × ℕ) Degrees → List Finding
 uneven_corners m = map corner_open (filter is_uneven m.entries)
 
 -- each item's mark says whether one of the users uses it
-pub record Marks {X Y : Type 0} (uses : ℕ → Y → Bool) (items : List X) (users : List Y) (marks : List Bool) : Type 0 where
+pub record Marks {X Y : Type 0} (uses : ℕ → Y → Bool) (items : List X) (users : List Y)
+    (marks : List Bool) : Type 0 where
   pub count : length marks ≡ length items
   pub used : (n : ℕ) → n < length items → get_or marks n false ≡ list_any (uses n) users
 

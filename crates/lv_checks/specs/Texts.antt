@@ -22,7 +22,9 @@ finding_text (VertexUnused n) = codes "vertex " ++ decimal n ++ codes " unused"
 finding_text (SideUnused n) = codes "side " ++ decimal n ++ codes " unused"
 finding_text (SectorUnused n) = codes "sector " ++ decimal n ++ codes " unused"
 finding_text (TextureMissing line left texture) =
-    codes "line " ++ decimal line ++ codes " " ++ side_text left ++ codes " " ++ texture_text texture
+    codes "line " ++ decimal line ++ codes " " ++ side_text left ++ codes " "
+    ++ texture_text texture
     ++ codes " missing"
-finding_text (SectorOpen sector vertex) = codes "sector " ++ decimal sector ++ codes " open at vertex " ++ decimal vertex
+finding_text (SectorOpen sector vertex) = codes "sector " ++ decimal sector
+    ++ codes " open at vertex " ++ decimal vertex
 finding_text NoPlayerStart = codes "no player start"

@@ -19,7 +19,15 @@ nameless = name_of (codes "-")
 -- a side and a sector past the last ones
 abbrev pub some_side : Side
 some_side =
-    record { x_offset = pos 0; y_offset = pos 0; upper = nameless; lower = nameless; middle = nameless; sector = 0 }
+    record {
+      x_offset = pos 0;
+      y_offset = pos 0;
+      upper = nameless;
+      lower = nameless;
+      middle =
+          nameless;
+      sector = 0;
+    }
 
 abbrev pub some_sector : Sector
 some_sector =
@@ -38,8 +46,8 @@ abbrev pub side_in : Tables → ℕ → Side
 side_in m n = get_or m.sides n some_side
 
 -- the sector that the side of a number faces
-abbrev pub sector_of : Tables → ℕ → Sector
-sector_of m side = get_or m.sectors (side_in m side).sector some_sector
+abbrev pub sector_faced : Tables → ℕ → Sector
+sector_faced m side = get_or m.sectors (side_in m side).sector some_sector
 
 -- whether a name stands for no texture
 abbrev pub is_missing : Name8 → Bool
@@ -56,7 +64,8 @@ own_side l left = if left then l.left else l.right
 abbrev pub side_behind : Line → Bool → ℕ
 side_behind l left = if left then l.right else l.left
 
--- whether the wall over a lower ceiling can be seen, from the higher sector s: not between two skies
+-- whether the wall over a lower ceiling can be seen, from the higher sector s: not between two
+-- skies
 abbrev pub upper_shows : Sector → Sector → Bool
 upper_shows s t = int_lt t.ceiling s.ceiling && not (is_sky s && is_sky t)
 
@@ -66,14 +75,16 @@ lower_shows s t = int_lt s.floor t.floor
 
 -- whether the side `own` misses its upper texture before the side `behind`
 abbrev pub misses_upper : Tables → ℕ → ℕ → Bool
-misses_upper m own behind = upper_shows (sector_of m own) (sector_of m behind) && is_missing (side_in m own).upper
+misses_upper m own behind = upper_shows (sector_faced m own) (sector_faced m behind)
+    && is_missing (side_in m own).upper
 
 -- whether the side `own` misses its lower texture before the side `behind`
 abbrev pub misses_lower : Tables → ℕ → ℕ → Bool
-misses_lower m own behind = lower_shows (sector_of m own) (sector_of m behind) && is_missing (side_in m own).lower
+misses_lower m own behind = lower_shows (sector_faced m own) (sector_faced m behind)
+    && is_missing (side_in m own).lower
 
--- Whether one side of a line misses a texture: the middle where the line isn't two-sided, the upper and the lower where
--- it is.
+-- Whether one side of a line misses a texture: the middle where the line isn't two-sided, the upper
+-- and the lower where it is.
 abbrev pub misses : Tables → Line → Bool → Texture → Bool
 misses m l left Upper = is_two_sided l && misses_upper m (own_side l left) (side_behind l left)
 misses m l left Lower = is_two_sided l && misses_lower m (own_side l left) (side_behind l left)
@@ -89,4 +100,5 @@ side_misses m n l left = map (λ t. TextureMissing n left t) (filter (misses m l
 
 -- what line n misses, on its right and then on its left
 abbrev pub line_misses : Tables → ℕ × Line → List Finding
-line_misses m (n, l) = side_misses m n l false ++ (if has_left l then side_misses m n l true else [])
+line_misses m (n, l) = side_misses m n l false
+    ++ (if has_left l then side_misses m n l true else [])

@@ -7,12 +7,12 @@ use Rattle.lv_checks.specs.declared.finding.Finding.{Finding}
 use Rattle.lv_checks.specs.declared.finding.Finding.TheVariants.{VertexUnused, SideUnused, SectorUnused}
 
 -- the numbers 0, 1, .. of a list's items
-abbrev pub numbers_of : {X : Type 0} → List X → List ℕ
-numbers_of xs = range_with_len 0 (length xs)
+abbrev pub item_numbers : {X : Type 0} → List X → List ℕ
+item_numbers xs = range_with_len 0 (length xs)
 
 -- the numbers of the items that none of the users uses
 abbrev pub unused : {X Y : Type 0} → (ℕ → Y → Bool) → List X → List Y → List ℕ
-unused uses items users = filter (λ n. not (list_any (uses n) users)) (numbers_of items)
+unused uses items users = filter (λ n. not (list_any (uses n) users)) (item_numbers items)
 
 -- the vertices that no line has
 abbrev pub unused_vertices : Tables → List Finding

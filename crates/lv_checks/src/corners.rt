@@ -2,9 +2,9 @@
 ghost use Rattle.std.specs.Prelude.{◌≡◌, ◌<◌, [], ◌∷◌, ◌++◌, IfOk, OnOk};
 ghost use Rattle.std.specs.BTreeMap.{IsOrdered};
 ghost use Rattle.lv_maptables.specs.WellFormed.{WellFormed, HasSides};
-ghost use Rattle.lv_checks.specs.Corners.{edges, edges_of};
+ghost use Rattle.lv_checks.specs.Corners.{edges, edges_of_line};
 ghost use Rattle.lv_checks.specs.Findings.{open_sectors};
-ghost use Rattle.lv_checks.specs.Tallies.{corner_cmp, degrees_of, HasRoom, Leaves, Reaches, AddsEdges, IsTally, uneven_corners};
+ghost use Rattle.lv_checks.specs.Tallies.{corner_cmp, degrees_of, HasCountsLeft, Leaves, Reaches, AddsEdges, IsTally, uneven_corners};
 
 use crate::error::CheckError;
 use crate::finding::Finding;
@@ -63,7 +63,7 @@ fn count_edge(
     from: u16,
     to: u16,
 ) -> Result<(), CheckError>
-    requires { HasRoom 1 degrees.old }
+    requires { HasCountsLeft 1 degrees.old }
     ensures { OnOk result
         (AddsEdges degrees.old degrees.new
         ((record { sector = sector; from = from; to = to }) ∷ [])) }
@@ -79,8 +79,9 @@ fn count_line(
     line: &Line,
 ) -> Result<(), CheckError>
     requires sides { HasSides map.now.tables.sides line.now }
-    requires room { HasRoom 2 degrees.old }
-    ensures { OnOk result (AddsEdges degrees.old degrees.new (edges_of map.now.tables line.now)) }
+    requires room { HasCountsLeft 2 degrees.old }
+    ensures { OnOk result
+        (AddsEdges degrees.old degrees.new (edges_of_line map.now.tables line.now)) }
 {
     let right = map.side(u32::from(line.right)).unwrap();
     count_edge(degrees, right.sector, line.v1, line.v2)?;

@@ -2,7 +2,7 @@
 ghost use Rattle.std.specs.Prelude.{◌≡◌, ◌<◌, ◌++◌, ◌&&◌, not, length, true, OnOk, int_lt};
 ghost use Rattle.lv_lumps.specs.Sides.{has_left, is_two_sided};
 ghost use Rattle.lv_maptables.specs.WellFormed.{WellFormed, HasSides, HasSector};
-ghost use Rattle.lv_checks.specs.Textures.{is_missing, is_sky, upper_shows, side_in, sector_of, own_side, side_behind, misses_upper, misses_lower, misses, side_misses, line_misses};
+ghost use Rattle.lv_checks.specs.Textures.{is_missing, is_sky, upper_shows, side_in, sector_faced, own_side, side_behind, misses_upper, misses_lower, misses, side_misses, line_misses};
 ghost use Rattle.lv_checks.specs.Findings.{missing_textures};
 
 use crate::error::CheckError;
@@ -39,7 +39,7 @@ fn side_in(map: &Map, n: u16) -> Side
 // The sector that the side faces.
 fn sector_of(map: &Map, side: u16) -> Sector
     requires { side < length map.now.tables.sides }
-    ensures { result ≡ sector_of map.now.tables side }
+    ensures { result ≡ sector_faced map.now.tables side }
 {
     let sector = side_in(map, side).sector;
     map.sector(u32::from(sector)).unwrap()

@@ -14,7 +14,7 @@ use Rattle.lv_lumps.specs.Names.{IsNamed, is_digit, is_marker, is_name, is_name_
 use Rattle.lv_lumps.specs.Sides.{no_side}
 use Rattle.lv_commands.specs.Spelling.{left_word}
 use Rattle.lv_commands.specs.Words.{is_natural, is_numeral, is_printable, is_word}
-use Rattle.lv_commands.specs.Places.{Place, Number, NumberOrNone, Named, first_of, place_fault, places_fault}
+use Rattle.lv_commands.specs.Places.{Place, Number, NumberOrNone, Named, prior_fault, place_fault, places_fault}
 use Rattle.lv_commands.proofs.Numerals.{IsPlain, both, between, decimal-plain, digits-same, value-back}
 use Rattle.lv_commands.proofs.Padding.{marker-bytes, name-range}
 use Rattle.lv_commands.proofs.Readings.{number-alone}
@@ -76,7 +76,7 @@ all-read = record { none = refl }
 
 -- one place more, with nothing wrong
 pub next : (p : Place) (ps : List Place) (w : List ℕ) (ws : List (List ℕ)) → Fits p w → AllFit ps ws → AllFit (p ∷ ps) (w ∷ ws)
-next p ps w ws e f = record { none = λ i. first_of (e.none i) (f.none i) }
+next p ps w ws e f = record { none = λ i. prior_fault (e.none i) (f.none i) }
 
 tells-le : (a b : ℤ) → a ≤ℤ b → int_le a b ≡ true
 tells-le a b h = grind (arith, ints)

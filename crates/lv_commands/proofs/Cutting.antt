@@ -17,7 +17,7 @@ use Rattle.lv_maptables.specs.Edits.{with_line, with_line_at, with_vertex}
 use Rattle.lv_maptables.proofs.FaultLemmas.{none_hold}
 use Rattle.lv_commands.specs.declared.command.LineSplit.{LineSplit}
 use Rattle.lv_commands.specs.Rooms.{wall}
-use Rattle.lv_commands.specs.Splits.{cut_faults, cut_off, cut_short, line_at, split_faults, with_split}
+use Rattle.lv_commands.specs.Splits.{cut_faults, cut_off, cut_short, line_or_some, split_faults, with_split}
 use Rattle.lv_commands.proofs.Drawing.{lacks-not, or-both}
 
 left-if : (none missing : Bool) → (none ≡ false → missing ≡ false) → (not none && missing) ≡ false
@@ -54,12 +54,14 @@ pub record MayCut (m : Tables) (at : Vertex) (n : ℕ) (l : Line) : Type 0 where
   pub ends : HasEnds m.vertices l
   pub sides : HasSides m.sides l
 
-pub may_cut : (m : Tables) (s : LineSplit) (n : ℕ) (l : Line) → n ≡ s.line → line_at m.lines s.line ≡ l → least (split_faults m s) ≡ None → HasEnds m.vertices l → HasSides m.sides l → MayCut m s.at n l
+pub may_cut : (m : Tables) (s : LineSplit) (n : ℕ) (l : Line) → n ≡ s.line → line_or_some m.lines s.line ≡ l
+    → least (split_faults m s) ≡ None → HasEnds m.vertices l → HasSides m.sides l → MayCut m s.at n l
 may_cut m s n l named is fine ends sides =
     let none = none_hold (split_faults m s) fine in
     let rooms = or_parts (lacks_room m.vertices 1) (lacks_room m.lines 1) none.1.1.0 in
     let vertices = m.vertices ++ s.at ∷ [] in
-    let halves = or_parts (is_too_long vertices (cut_short (line_at m.lines s.line) (length m.vertices))) (is_too_long vertices (cut_off (line_at m.lines s.line) (length m.vertices))) none.1.1.1.0 in
+    let halves = or_parts (is_too_long vertices (cut_short (line_or_some m.lines s.line) (length m.vertices)))
+    (is_too_long vertices (cut_off (line_or_some m.lines s.line) (length m.vertices))) none.1.1.1.0 in
     record {
       found = subst (λ k. lacks m.lines k ≡ false) (sym named) none.0;
       room = rooms.1;
@@ -75,7 +77,9 @@ front_free m o at n v l h e is =
     let vertices = m.vertices ++ at ∷ [] in
     let long = length-append m.vertices (at ∷ []) in
     let from = h.ends.v1 in
-    let ends : (lacks vertices l.v1 || lacks vertices (length m.vertices)) ≡ false = or-both (lacks vertices l.v1) (lacks vertices (length m.vertices)) (lacks-not vertices l.v1 (omega arith)) (lacks-not vertices (length m.vertices) (omega arith)) in
+    let ends : (lacks vertices l.v1 || lacks vertices (length m.vertices)) ≡ false =
+    or-both (lacks vertices l.v1) (lacks vertices (length m.vertices)) (lacks-not vertices l.v1 (omega arith))
+    (lacks-not vertices (length m.vertices) (omega arith)) in
     let sides = sides-there m.sides l h.sides in
     let found = h.found in
     let differ = unlike l.v1 (length m.vertices) (omega arith) in
@@ -85,12 +89,15 @@ front_free m o at n v l h e is =
     ∙ (λ i. least ((3, ends i) ∷ (5, sides i) ∷ (6, found i) ∷ (9, differ i) ∷ (11, left i) ∷ (13, short i) ∷ []))
 
 -- nor, behind it, against the back half
-pub back_free : (m o p : Tables) (at : Vertex) (n v : ℕ) (l : Line) → MayCut m at n l → o ≡ with_vertex m at → p ≡ with_line_at o n (cut_short l v) → v ≡ length m.vertices → least (line_faults p (cut_off l v)) ≡ None
+pub back_free : (m o p : Tables) (at : Vertex) (n v : ℕ) (l : Line) → MayCut m at n l → o ≡ with_vertex m at → p
+    ≡ with_line_at o n (cut_short l v) → v ≡ length m.vertices → least (line_faults p (cut_off l v)) ≡ None
 back_free m o p at n v l h e f is =
     let vertices = m.vertices ++ at ∷ [] in
     let long = length-append m.vertices (at ∷ []) in
     let to = h.ends.v2 in
-    let ends : (lacks vertices (length m.vertices) || lacks vertices l.v2) ≡ false = or-both (lacks vertices (length m.vertices)) (lacks vertices l.v2) (lacks-not vertices (length m.vertices) (omega arith)) (lacks-not vertices l.v2 (omega arith)) in
+    let ends : (lacks vertices (length m.vertices) || lacks vertices l.v2) ≡ false =
+    or-both (lacks vertices (length m.vertices)) (lacks vertices l.v2)
+    (lacks-not vertices (length m.vertices) (omega arith)) (lacks-not vertices l.v2 (omega arith)) in
     let sides = sides-there m.sides l h.sides in
     let differ = unlike (length m.vertices) l.v2 (omega arith) in
     let left = left-there m.sides l h.sides in
@@ -101,14 +108,16 @@ back_free m o p at n v l h e f is =
     ∙ (λ i. least ((3, ends i) ∷ (5, sides i) ∷ (9, differ i) ∷ (11, left i) ∷ (12, room i) ∷ (13, short i) ∷ []))
 
 -- the three edits make what the split is to make
-pub cut_is : (m o p q : Tables) (s : LineSplit) (n v : ℕ) (l : Line) → n ≡ s.line → line_at m.lines s.line ≡ l → o ≡ with_vertex m s.at → p ≡ with_line_at o n (cut_short l v) → q ≡ with_line p (cut_off l v) → v ≡ length m.vertices → q ≡ with_split m s
+pub cut_is : (m o p q : Tables) (s : LineSplit) (n v : ℕ) (l : Line) → n ≡ s.line → line_or_some m.lines s.line ≡ l → o
+    ≡ with_vertex m s.at → p ≡ with_line_at o n (cut_short l v) → q ≡ with_line p (cut_off l v) → v ≡ length m.vertices
+    → q ≡ with_split m s
 cut_is m o p q s n v l named is e f g number =
     g ∙ ap (λ t. with_line t (cut_off l v)) f
     ∙ (λ i. with_line (with_line_at (e i) (named i) (cut_short (sym is i) (number i))) (cut_off (sym is i) (number i)))
 
 -- the line of a number that was found
-pub found_line : (ls : List Line) (n k : ℕ) (o : Option Line) (l : Line) → n ≡ k → o ≡ slice_get ls n → o ≡ Some l → line_at ls k ≡ l
-found_line ls n k o l named e f = ap (line_at ls) (sym named) ∙ get_or_from_slice_get ls n l _ (sym e ∙ f)
+pub found_line : (ls : List Line) (n k : ℕ) (o : Option Line) (l : Line) → n ≡ k → o ≡ slice_get ls n → o ≡ Some l → line_or_some ls k ≡ l
+found_line ls n k o l named e f = ap (line_or_some ls) (sym named) ∙ get_or_from_slice_get ls n l _ (sym e ∙ f)
 
 pub of_found : (P : Line → Type 0) (o : Option Line) (l : Line) → IfSome o P → o ≡ Some l → P l
 of_found P o l h e = subst (λ x. IfSome x P) e h
@@ -125,8 +134,8 @@ pub with-line : (m : Tables) (s : LineSplit) (n : ℕ) (l : Line) → n ≡ s.li
 with-line m s n l e at =
     let here : slice_get m.lines s.line ≡ Some l = subst (λ (k : ℕ). slice_get m.lines k ≡ Some l) e at in
     let there : lacks m.lines s.line ≡ false = lacks-not m.lines s.line (slice_get_within m.lines s.line l here) in
-    let is : line_at m.lines s.line ≡ l = get_or_from_slice_get m.lines s.line l (wall 0 0 0) here in
-    sym (ap (λ (t : Bool). cond t (Some 6) (least (cut_faults m (line_at m.lines s.line) s.at))) there ∙ ap (λ (x : Line). least (cut_faults m x s.at)) is)
+    let is : line_or_some m.lines s.line ≡ l = get_or_from_slice_get m.lines s.line l (wall 0 0 0) here in
+    sym (ap (λ (t : Bool). cond t (Some 6) (least (cut_faults m (line_or_some m.lines s.line) s.at))) there ∙ ap (λ (x : Line). least (cut_faults m x s.at)) is)
 
 lacks-past : {X : Type 0} (xs : List X) (n : ℕ) → length xs ≤ n → lacks xs n ≡ true
 lacks-past xs n h = ap not (le-ltb n (length xs) h)
@@ -141,4 +150,4 @@ lacks-none {X = X} xs n e = at (slice_get_cases xs n).1
 -- the table hasn't the line
 pub without-line : (m : Tables) (s : LineSplit) (n : ℕ) → n ≡ s.line → slice_get m.lines n ≡ None → least (split_faults m s) ≡ Some 6
 without-line m s n e none =
-    ap (λ (t : Bool). cond t (Some 6) (least (cut_faults m (line_at m.lines s.line) s.at))) (lacks-none m.lines s.line (subst (λ (k : ℕ). slice_get m.lines k ≡ None) e none))
+    ap (λ (t : Bool). cond t (Some 6) (least (cut_faults m (line_or_some m.lines s.line) s.at))) (lacks-none m.lines s.line (subst (λ (k : ℕ). slice_get m.lines k ≡ None) e none))

@@ -61,19 +61,26 @@ pub record StandsFree (m : Tables) (from to side : ℕ) : Type 0 where
   pub right : side < length m.sides
   pub short : squared_distance (nth_vertex m.vertices from) (nth_vertex m.vertices to) ≤ longest_squared
 
-pub wall_free : (m n : Tables) (ls : List Line) (l : Line) (v1 v2 right : ℕ) → n ≡ with_lines m ls → l ≡ wall v1 v2 right → StandsFree m v1 v2 right → length m.lines + length ls < 32767 → least (line_faults n l) ≡ None
+pub wall_free : (m n : Tables) (ls : List Line) (l : Line) (v1 v2 right : ℕ) → n ≡ with_lines m ls → l
+    ≡ wall v1 v2 right → StandsFree m v1 v2 right → length m.lines + length ls < 32767 → least (line_faults n l) ≡ None
 wall_free m n ls l v1 v2 right e is s h =
     let from = s.start in
     let to = s.end in
     let side = s.right in
     let far = s.short in
-    let ends : (lacks n.vertices v1 || lacks n.vertices v2) ≡ false = ap (λ t. lacks t.vertices v1 || lacks t.vertices v2) e ∙ or-both (lacks m.vertices v1) (lacks m.vertices v2) (lacks-not m.vertices v1 from) (lacks-not m.vertices v2 to) in
+    let ends : (lacks n.vertices v1 || lacks n.vertices v2) ≡ false =
+    ap (λ t. lacks t.vertices v1 || lacks t.vertices v2) e
+    ∙ or-both (lacks m.vertices v1) (lacks m.vertices v2) (lacks-not m.vertices v1 from)
+    (lacks-not m.vertices v2 to) in
     let sides : (lacks n.sides right || false) ≡ false = ap (λ t. lacks t.sides right || false) e ∙ or-both (lacks m.sides right) false (lacks-not m.sides right side) refl in
     let differ : nat_eq v1 v2 ≡ false = false_from_ne_true (nat_eq v1 v2) (λ t. s.differ (eqb-true v1 v2 t)) in
     let long = length-append m.lines ls in
     let count : length n.lines ≡ length m.lines + length ls = ap (λ t. length t.lines) e ∙ long in
     let room : lacks_room n.lines 1 ≡ false = le-ltb 32767 (length n.lines + 1) (omega (arith, count, h)) in
-    let short : nat_lt longest_squared (squared_distance (nth_vertex n.vertices v1) (nth_vertex n.vertices v2)) ≡ false = ap (λ t. nat_lt longest_squared (squared_distance (nth_vertex t.vertices v1) (nth_vertex t.vertices v2))) e ∙ not-longer (squared_distance (nth_vertex m.vertices v1) (nth_vertex m.vertices v2)) far in
+    let short : nat_lt longest_squared (squared_distance (nth_vertex n.vertices v1) (nth_vertex n.vertices v2))
+    ≡ false = ap (λ t. nat_lt longest_squared (squared_distance (nth_vertex t.vertices v1)
+    (nth_vertex t.vertices v2))) e ∙ not-longer (squared_distance (nth_vertex m.vertices v1)
+    (nth_vertex m.vertices v2)) far in
     ap (λ k. least (line_faults n k)) is
     ∙ (λ i. least ((3, ends i) ∷ (5, sides i) ∷ (9, differ i) ∷ (11, false) ∷ (12, room i) ∷ (13, short i) ∷ []))
 
@@ -96,7 +103,9 @@ west_wall m r f d e h sides =
       end = omega arith;
       differ = omega arith;
       right = omega arith;
-      short = far-enough _ _ _ _ (corner-at m.vertices (corners r) f f 0 e (omega arith)) (corner-at m.vertices (corners r) f (f + 1) 1 e refl) (above r.west r.south r.north h.plan.south h.plan.north);
+      short = far-enough _ _ _ _ (corner-at m.vertices (corners r) f f 0 e (omega arith))
+          (corner-at m.vertices (corners r) f (f + 1) 1 e refl)
+          (above r.west r.south r.north h.plan.south h.plan.north);
     }
 
 pub north_wall : (m : Tables) (r : RoomPlan) (f d : ℕ) → drop f m.vertices ≡ corners r → IsRoom r → d + 4 ≡ length m.sides → StandsFree m (f + 1) (f + 2) (d + 1)

@@ -81,7 +81,9 @@ natural-value w p =
     let same = natural-sign w p in
     λ i. cond (minus i) (neg_ℤ (pos (digits_value 10 (without_leading_sign w)))) (pos (digits_value 10 (same i)))
 
-numeral-if : {P : Type 0} (b : ℕ) (bs : List ℕ) (t : Bool) → nat_eq b 45 ≡ t → cond t (is_natural bs && not (bytes_eq bs (codes "0"))) (is_natural (b ∷ bs)) ≡ true → (IsPlain (b ∷ bs) → P) → ((ds : List ℕ) → b ∷ bs ≡ 45 ∷ ds → IsPlain ds → (ds ≡ codes "0" → ⊥) → P) → P
+numeral-if : {P : Type 0} (b : ℕ) (bs : List ℕ) (t : Bool) → nat_eq b 45 ≡ t
+    → cond t (is_natural bs && not (bytes_eq bs (codes "0"))) (is_natural (b ∷ bs)) ≡ true → (IsPlain (b ∷ bs) → P)
+    → ((ds : List ℕ) → b ∷ bs ≡ 45 ∷ ds → IsPlain ds → (ds ≡ codes "0" → ⊥) → P) → P
 numeral-if b bs true s e f g =
     let h = both (is_natural bs) (not (bytes_eq bs (codes "0"))) e in
     let is = eqb-true b 45 s in

@@ -22,9 +22,9 @@ use Rattle.lv_commands.specs.declared.error.CommandError.TheVariants.{NotAComman
 use Rattle.lv_commands.specs.declared.project.command.ProjectCommand.{ProjectCommand}
 use Rattle.lv_commands.specs.declared.project.command.ProjectCommand.TheVariants.{Edit, SelectMap, DropMap}
 use Rattle.lv_commands.specs.Errors.{code_of}
-use Rattle.lv_commands.specs.ProjectCommands.{InRange}
-use Rattle.lv_commands.specs.ProjectReadiness.{CanCommit, RefusesStep, growth_of, need_of}
-use Rattle.lv_commands.specs.ProjectStep.{after, current_faults, map_faults, naming_faults, number_of, step}
+use Rattle.lv_commands.specs.ProjectCommands.{InProjectRange}
+use Rattle.lv_commands.specs.ProjectReadiness.{CanCommit, RefusesStep, project_growth_of, project_need_of}
+use Rattle.lv_commands.specs.ProjectStep.{project_after, current_faults, map_faults, naming_faults, project_number_of, step}
 use Rattle.lv_commands.specs.Readiness as ready_one
 use Rattle.lv_commands.specs.Step as step_one
 use Rattle.lv_commands.proofs.Steps as steps
@@ -58,24 +58,26 @@ unrefused fs gs long f g =
 -- a code other than 14 refuses the command
 pub step-refuses : (p : ProjectMaps) (c : ProjectCommand) (cap k : ℕ) → least (current_faults p c ++ map_faults p c) ≡ Some k → step p c cap ≡ Err k
 step-refuses p c cap k e =
-    ap (λ o. unless o (after p c) (number_of p c)) (refused-if (current_faults p c) (map_faults p c) (nat_lt cap (body_len (after p c))) k (least (current_faults p c)) refl e)
+    ap (λ o. unless o (project_after p c) (project_number_of p c)) (refused-if (current_faults p c) (map_faults p c) (nat_lt cap (body_len (project_after p c))) k (least (current_faults p c)) refl e)
 
 step-decided : (p : ProjectMaps) (c : ProjectCommand) (cap : ℕ) → least (current_faults p c) ≡ None → least (map_faults p c) ≡ None
-    → step p c cap ≡ unless (cond (nat_lt cap (body_len (after p c))) (Some 14) None) (after p c) (number_of p c)
+    → step p c cap ≡ unless (cond (nat_lt cap (body_len (project_after p c))) (Some 14) None) (project_after p c) (project_number_of p c)
 step-decided p c cap f g =
-    ap (λ o. unless o (after p c) (number_of p c)) (unrefused (current_faults p c) (map_faults p c) (nat_lt cap (body_len (after p c))) f g)
+    ap (λ o. unless o (project_after p c) (project_number_of p c)) (unrefused (current_faults p c) (map_faults p c) (nat_lt cap (body_len (project_after p c))) f g)
 
 -- the new body would be too long
-pub step-is-full : (p : ProjectMaps) (c : ProjectCommand) (cap : ℕ) → least (current_faults p c ++ map_faults p c) ≡ None → nat_lt cap (body_len (after p c)) ≡ true → step p c cap ≡ Err 14
+pub step-is-full : (p : ProjectMaps) (c : ProjectCommand) (cap : ℕ) → least (current_faults p c ++ map_faults p c) ≡ None → nat_lt cap (body_len (project_after p c)) ≡ true → step p c cap ≡ Err 14
 step-is-full p c cap e long =
     let none = none-of-both (current_faults p c) (map_faults p c) e in
-    step-decided p c cap none.0 none.1 ∙ ap (λ t. unless (cond t (Some 14) None) (after p c) (number_of p c)) long
+    step-decided p c cap none.0 none.1 ∙ ap (λ t. unless (cond t (Some 14) None) (project_after p c) (project_number_of p c)) long
 
 -- nothing refuses the command
-pub step-accepts : (p : ProjectMaps) (c : ProjectCommand) (cap : ℕ) → least (current_faults p c ++ map_faults p c) ≡ None → nat_lt cap (body_len (after p c)) ≡ false → step p c cap ≡ Ok (after p c, number_of p c)
+pub step-accepts : (p : ProjectMaps) (c : ProjectCommand) (cap : ℕ) → least (current_faults p c ++ map_faults p c)
+    ≡ None → nat_lt cap (body_len (project_after p c)) ≡ false → step p c cap
+    ≡ Ok (project_after p c, project_number_of p c)
 step-accepts p c cap e long =
     let none = none-of-both (current_faults p c) (map_faults p c) e in
-    step-decided p c cap none.0 none.1 ∙ ap (λ t. unless (cond t (Some 14) None) (after p c) (number_of p c)) long
+    step-decided p c cap none.0 none.1 ∙ ap (λ t. unless (cond t (Some 14) None) (project_after p c) (project_number_of p c)) long
 
 -- ---- The codes
 
@@ -161,12 +163,12 @@ with-others : (cap k o a b x y : ℕ) → cap ≡ k + o → x ≡ a + o → y �
 with-others cap k o a b x y e f g h = (λ i. nat_lt (e i) (f i)) ∙ shifted k a o ∙ h ∙ sym (shifted k b o) ∙ (λ i. nat_lt (sym e i) (sym g i))
 
 -- the project with another current map, as a contract sees it
-pub edited-project : (v w : MapsView) (c : Command) → w.others ≡ v.others → w.tables ≡ step_one.after v.tables c → project_of w ≡ after (project_of v) (Edit c)
+pub edited-project : (v w : MapsView) (c : Command) → w.others ≡ v.others → w.tables ≡ step_one.after v.tables c → project_of w ≡ project_after (project_of v) (Edit c)
 edited-project v w c same is =
     with_current_of v w same ∙ ap (with_current (project_of v)) (is ∙ ap (λ m. step_one.after m c) (sym (current_of v)))
 
 edit-fullness : (v : MapsView) (c : Command) (cap : ℕ) → body_len (project_of v) ≤ cap
-    → nat_lt cap (body_len (after (project_of v) (Edit c))) ≡ nat_lt cap (body_len (project_of v) + growth_of (project_of v) (Edit c))
+    → nat_lt cap (body_len (project_after (project_of v) (Edit c))) ≡ nat_lt cap (body_len (project_of v) + project_growth_of (project_of v) (Edit c))
 edit-fullness v c cap fits =
     let w : MapsView = record v { tables = step_one.after v.tables c } in
     let old = body_len (project_of v) in
@@ -175,7 +177,7 @@ edit-fullness v c cap fits =
     let new = ap body_len (edited-project v w c refl refl) in
     let o = old - (part_len v.tables + 2) in
     let growth = ready_one.growth_of (ready_one.need_of c) in
-    with-others cap (cap - o) o (of_one.body_len w.tables) (of_one.body_len v.tables + growth) (body_len (after (project_of v) (Edit c))) (old + growth)
+    with-others cap (cap - o) o (of_one.body_len_of_one w.tables) (of_one.body_len_of_one v.tables + growth) (body_len (project_after (project_of v) (Edit c))) (old + growth)
     (omega (arith, fits, part)) (omega (arith, part, whole, new)) (omega (arith, part))
     (steps.fullness v.tables c (cap - o) (omega (arith, fits, part)))
 
@@ -198,12 +200,12 @@ both-fit a b cap h i = le-ltb cap a h ∙ sym (le-ltb cap b i)
 
 -- the new body is too long exactly where the old one and what is added are
 pub fullness : (v : MapsView) (c : ProjectCommand) (cap : ℕ) → body_len (project_of v) ≤ cap
-    → nat_lt cap (body_len (after (project_of v) c)) ≡ nat_lt cap (body_len (project_of v) + growth_of (project_of v) c)
+    → nat_lt cap (body_len (project_after (project_of v) c)) ≡ nat_lt cap (body_len (project_of v) + project_growth_of (project_of v) c)
 fullness v (Edit c) cap fits = edit-fullness v c cap fits
 fullness v (SelectMap name) cap fits =
     ap (nat_lt cap) (selected-len (project_of v).maps (with_name empty_tables name) (has_map (project_of v) name) refl)
 fullness v (DropMap name) cap fits =
-    let shorter = fewer (project_of v).maps (project.number_of (project_of v) name) in
+    let shorter = fewer (project_of v).maps (project.map_number_of (project_of v) name) in
     both-fit (body_len (without_map (project_of v) name)) (body_len (project_of v) + 0) cap (omega (arith, fits, shorter)) (omega (arith, fits))
 
 -- ---- What a contract sees
@@ -214,7 +216,9 @@ same-project v w tables others =
     λ i. record { maps = tables_of_each (others i).before ++ tables i ∷ tables_of_each (others i).behind; current = length (others i).before }
 
 -- the command can still be done on the same project
-pub can-commit : (v w : MapsView) (c : ProjectCommand) → InRange c → least (current_faults (project_of v) c ++ map_faults (project_of v) c) ≡ None → project_of w ≡ project_of v → Covers w.spare (need_of c) → CanCommit w c
+pub can-commit : (v w : MapsView) (c : ProjectCommand) → InProjectRange c
+    → least (current_faults (project_of v) c ++ map_faults (project_of v) c) ≡ None → project_of w ≡ project_of v
+    → Covers w.spare (project_need_of c) → CanCommit w c
 can-commit v w c range free same covered =
     let none = none-of-both (current_faults (project_of v) c) (map_faults (project_of v) c) free in
     record {
@@ -229,11 +233,11 @@ made d (Ok p) = p.0
 made d (Err code) = d
 
 -- an edit that isn't refused is made
-ends-as : {S X : Type 0} (r : Result X MapError) (o : Option ℕ) (after : S) (answer : X) (old new : S) → o ≡ None → EndsExactly r (unless o after answer) old new → after ≡ new
-ends-as (Ok x) None after answer old new e h = ap (made after) h
-ends-as (Ok x) (Some k) after answer old new e h = absurd (cc e)
-ends-as (Err f) None after answer old new e h = absurd (cc h.0)
-ends-as (Err f) (Some k) after answer old new e h = absurd (cc e)
+ends-as : {S X : Type 0} (r : Result X MapError) (o : Option ℕ) (project_after : S) (answer : X) (old new : S) → o ≡ None → EndsExactly r (unless o project_after answer) old new → project_after ≡ new
+ends-as (Ok x) None project_after answer old new e h = ap (made project_after) h
+ends-as (Ok x) (Some k) project_after answer old new e h = absurd (cc e)
+ends-as (Err f) None project_after answer old new e h = absurd (cc h.0)
+ends-as (Err f) (Some k) project_after answer old new e h = absurd (cc e)
 
 -- the current map has its new name, and is otherwise as it was
 pub renamed : (v w : MapsView) (name : Name8) (r : Result ⊤ MapError) → least (name_faults (project_of v) name) ≡ None → w.others ≡ v.others
@@ -241,5 +245,5 @@ pub renamed : (v w : MapsView) (name : Name8) (r : Result ⊤ MapError) → leas
 renamed v w name r free same ends =
     let u : MapsView = record v { tables = with_name v.tables name } in
     let there = edited-project v u (Name name) refl refl in
-    let here = ends-as r (least (name_faults (project_of v) name)) (after (project_of v) (Edit (Name name))) tt (project_of v) (project_of w) free ends in
+    let here = ends-as r (least (name_faults (project_of v) name)) (project_after (project_of v) (Edit (Name name))) tt (project_of v) (project_of w) free ends in
     sym (current_of w) ∙ ap current_map (sym here ∙ sym there) ∙ current_of u

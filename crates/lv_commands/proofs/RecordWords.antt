@@ -77,11 +77,32 @@ sector-ok s h =
     all-read))))))
 
 abbrev pub sector_of : List (List ℕ) → Sector
-sector_of (w0 ∷ w1 ∷ w2 ∷ w3 ∷ w4 ∷ w5 ∷ w6 ∷ ws) = record { floor = numeral_value w0; ceiling = numeral_value w1; floor_name = name_of w2; ceiling_name = name_of w3; light = numeral_value w4; special = numeral_value w5; tag = numeral_value w6 }
+sector_of (w0 ∷ w1 ∷ w2 ∷ w3 ∷ w4 ∷ w5 ∷ w6 ∷ ws) =
+    record {
+      floor = numeral_value w0;
+      ceiling = numeral_value w1;
+      floor_name = name_of w2;
+      ceiling_name = name_of w3;
+      light = numeral_value w4;
+      special = numeral_value w5;
+      tag = numeral_value w6;
+    }
 sector_of _ = record { floor = pos 0; ceiling = pos 0; floor_name = name_of []; ceiling_name = name_of []; light = pos 0; special = pos 0; tag = pos 0 }
 
 pub sector-back : (s : Sector) → IsSector s → sector_of (sector_words s) ≡ s
-sector-back s h = λ i. record { floor = value-back s.floor (short-fits s.floor h.floor) i; ceiling = value-back s.ceiling (short-fits s.ceiling h.ceiling) i; floor_name = sym h.floor_name.padded i; ceiling_name = sym h.ceiling_name.padded i; light = value-back s.light (light-fits s.light h.light) i; special = value-back s.special (code-fits s.special h.special) i; tag = value-back s.tag (code-fits s.tag h.tag) i }
+sector-back s h =
+    λ i. record {
+      floor = value-back s.floor (short-fits s.floor h.floor) i;
+      ceiling =
+          value-back s.ceiling (short-fits s.ceiling h.ceiling) i;
+      floor_name = sym h.floor_name.padded i;
+      ceiling_name =
+          sym h.ceiling_name.padded i;
+      light = value-back s.light (light-fits s.light h.light) i;
+      special =
+          value-back s.special (code-fits s.special h.special) i;
+      tag = value-back s.tag (code-fits s.tag h.tag) i;
+    }
 
 pub side-texts : (s : Side) → IsSide s → AreTexts (side_words s)
 side-texts s h = (
@@ -119,7 +140,17 @@ side_of (w0 ∷ w1 ∷ w2 ∷ w3 ∷ w4 ∷ w5 ∷ ws) = record { x_offset = num
 side_of _ = record { x_offset = pos 0; y_offset = pos 0; upper = name_of []; lower = name_of []; middle = name_of []; sector = 0 }
 
 pub side-back : (s : Side) → IsSide s → side_of (side_words s) ≡ s
-side-back s h = λ i. record { x_offset = value-back s.x_offset (short-fits s.x_offset h.x_offset) i; y_offset = value-back s.y_offset (short-fits s.y_offset h.y_offset) i; upper = sym h.upper.padded i; lower = sym h.lower.padded i; middle = sym h.middle.padded i; sector = natural-back s.sector (let b = h.sector in omega arith) i }
+side-back s h = λ i. record {
+  x_offset = value-back s.x_offset (short-fits s.x_offset h.x_offset) i;
+  y_offset =
+      value-back s.y_offset (short-fits s.y_offset h.y_offset) i;
+  upper = sym h.upper.padded i;
+  lower =
+      sym h.lower.padded i;
+  middle = sym h.middle.padded i;
+  sector =
+      natural-back s.sector (let b = h.sector in omega arith) i;
+}
 
 pub line-texts : (l : Line) → IsLine l → AreTexts (line_words l)
 line-texts l h = (
@@ -157,11 +188,32 @@ line-ok l h =
     all-read))))))
 
 abbrev pub line_of : List (List ℕ) → Line
-line_of (w0 ∷ w1 ∷ w2 ∷ w3 ∷ w4 ∷ w5 ∷ w6 ∷ ws) = record { v1 = natural_of w0; v2 = natural_of w1; flags = natural_of w2; special = natural_of w3; tag = natural_of w4; right = natural_of w5; left = left_of w6 }
+line_of (w0 ∷ w1 ∷ w2 ∷ w3 ∷ w4 ∷ w5 ∷ w6 ∷ ws) =
+    record {
+      v1 = natural_of w0;
+      v2 = natural_of w1;
+      flags = natural_of w2;
+      special = natural_of w3;
+      tag =
+          natural_of w4;
+      right = natural_of w5;
+      left = left_of w6;
+    }
 line_of _ = record { v1 = 0; v2 = 0; flags = 0; special = 0; tag = 0; right = 0; left = 0 }
 
 pub line-back : (l : Line) → IsLine l → line_of (line_words l) ≡ l
-line-back l h = λ i. record { v1 = natural-back l.v1 (let b = h.v1 in omega arith) i; v2 = natural-back l.v2 (let b = h.v2 in omega arith) i; flags = natural-back l.flags h.flags i; special = natural-back l.special h.special i; tag = natural-back l.tag h.tag i; right = natural-back l.right (let b = h.right in omega arith) i; left = left-back l.left h.left i }
+line-back l h = λ i. record {
+  v1 = natural-back l.v1 (let b = h.v1 in omega arith) i;
+  v2 =
+      natural-back l.v2 (let b = h.v2 in omega arith) i;
+  flags = natural-back l.flags h.flags i;
+  special =
+      natural-back l.special h.special i;
+  tag = natural-back l.tag h.tag i;
+  right =
+      natural-back l.right (let b = h.right in omega arith) i;
+  left = left-back l.left h.left i;
+}
 
 pub thing-texts : (t : Thing) → IsThing t → AreTexts (thing_words t)
 thing-texts t h = (
@@ -195,7 +247,15 @@ thing_of (w0 ∷ w1 ∷ w2 ∷ w3 ∷ w4 ∷ ws) = record { x = numeral_value w0
 thing_of _ = record { x = pos 0; y = pos 0; angle = pos 0; kind = pos 0; options = pos 0 }
 
 pub thing-back : (t : Thing) → IsThing t → thing_of (thing_words t) ≡ t
-thing-back t h = λ i. record { x = value-back t.x (coordinate-fits t.x h.x) i; y = value-back t.y (coordinate-fits t.y h.y) i; angle = value-back t.angle (angle-fits t.angle h.angle) i; kind = value-back t.kind (code-fits t.kind h.kind) i; options = value-back t.options (code-fits t.options h.options) i }
+thing-back t h = λ i. record {
+  x = value-back t.x (coordinate-fits t.x h.x) i;
+  y =
+      value-back t.y (coordinate-fits t.y h.y) i;
+  angle = value-back t.angle (angle-fits t.angle h.angle) i;
+  kind =
+      value-back t.kind (code-fits t.kind h.kind) i;
+  options = value-back t.options (code-fits t.options h.options) i;
+}
 
 pub room-texts : (r : RoomPlan) → IsPlan r → AreTexts (room_words r)
 room-texts r h = (
@@ -245,8 +305,36 @@ room-ok r h =
     all-read)))))))))
 
 abbrev pub room_of : List (List ℕ) → RoomPlan
-room_of (w0 ∷ w1 ∷ w2 ∷ w3 ∷ w4 ∷ w5 ∷ w6 ∷ w7 ∷ w8 ∷ w9 ∷ ws) = record { west = numeral_value w0; south = numeral_value w1; east = numeral_value w2; north = numeral_value w3; floor = numeral_value w4; ceiling = numeral_value w5; floor_name = name_of w6; ceiling_name = name_of w7; wall = name_of w8; light = numeral_value w9 }
+room_of (w0 ∷ w1 ∷ w2 ∷ w3 ∷ w4 ∷ w5 ∷ w6 ∷ w7 ∷ w8 ∷ w9 ∷ ws) =
+    record {
+      west = numeral_value w0;
+      south = numeral_value w1;
+      east = numeral_value w2;
+      north = numeral_value w3;
+      floor = numeral_value w4;
+      ceiling = numeral_value w5;
+      floor_name = name_of w6;
+      ceiling_name = name_of w7;
+      wall =
+          name_of w8;
+      light = numeral_value w9;
+    }
 room_of _ = record { west = pos 0; south = pos 0; east = pos 0; north = pos 0; floor = pos 0; ceiling = pos 0; floor_name = name_of []; ceiling_name = name_of []; wall = name_of []; light = pos 0 }
 
 pub room-back : (r : RoomPlan) → IsPlan r → room_of (room_words r) ≡ r
-room-back r h = λ i. record { west = value-back r.west (coordinate-fits r.west h.west) i; south = value-back r.south (coordinate-fits r.south h.south) i; east = value-back r.east (coordinate-fits r.east h.east) i; north = value-back r.north (coordinate-fits r.north h.north) i; floor = value-back r.floor (short-fits r.floor h.floor) i; ceiling = value-back r.ceiling (short-fits r.ceiling h.ceiling) i; floor_name = sym h.floor_name.padded i; ceiling_name = sym h.ceiling_name.padded i; wall = sym h.wall.padded i; light = value-back r.light (light-fits r.light h.light) i }
+room-back r h = λ i. record {
+  west = value-back r.west (coordinate-fits r.west h.west) i;
+  south =
+      value-back r.south (coordinate-fits r.south h.south) i;
+  east = value-back r.east (coordinate-fits r.east h.east) i;
+  north = value-back r.north (coordinate-fits r.north h.north) i;
+  floor =
+      value-back r.floor (short-fits r.floor h.floor) i;
+  ceiling =
+      value-back r.ceiling (short-fits r.ceiling h.ceiling) i;
+  floor_name = sym h.floor_name.padded i;
+  ceiling_name =
+      sym h.ceiling_name.padded i;
+  wall = sym h.wall.padded i;
+  light = value-back r.light (light-fits r.light h.light) i;
+}

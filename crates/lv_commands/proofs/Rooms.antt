@@ -16,7 +16,8 @@ fits : (z : ℤ) → IsCoordinate z → FitsSigned w16 z
 fits (pos n) h = let a = h.at_most in record { sfits = omega (arith, ints, a) }
 fits (negsuc n) h = let a = h.at_least in record { sfits = omega (arith, ints, a) }
 
-pub room-fault-is : (r : RoomPlan) (ws : List (List ℕ)) → ws ≡ room_words r → IsPlan r → places_fault room_places ws ≡ None → room_fault ws ≡ cond (int_lt r.west r.east && int_lt r.south r.north) None (Some 2)
+pub room-fault-is : (r : RoomPlan) (ws : List (List ℕ)) → ws ≡ room_words r → IsPlan r → places_fault room_places ws
+    ≡ None → room_fault ws ≡ cond (int_lt r.west r.east && int_lt r.south r.north) None (Some 2)
 room-fault-is r ws e h f =
     ap (λ x. or_else x (flat_fault ws)) f ∙ ap flat_fault e
     ∙ (λ i. cond {A = Option ℕ} (int_lt (value-back r.west (fits r.west h.west) i) (value-back r.east (fits r.east h.east) i)

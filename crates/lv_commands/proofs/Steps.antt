@@ -5,7 +5,7 @@ use Rattle.std.proofs.lemmas.Bool.{le-ltb}
 use Rattle.std.proofs.lemmas.List.{length-map, length-set, length-take}
 use Rattle.lv_maptables.specs.declared.kind.Kind.{Kind}
 use Rattle.lv_maptables.specs.declared.kind.Kind.TheVariants as kind
-use Rattle.lv_maptables.specs.Tables.{Tables, body_len}
+use Rattle.lv_maptables.specs.Tables.{Tables, body_len_of_one}
 use Rattle.lv_maptables.specs.Outcomes.{least}
 use Rattle.lv_maptables.specs.Edits.{line_without_vertex, line_without_side, side_without_sector}
 use Rattle.lv_commands.specs.declared.command.Command.{Command}
@@ -15,7 +15,7 @@ use Rattle.lv_commands.specs.declared.error.CommandError.{CommandError}
 use Rattle.lv_commands.specs.declared.error.CommandError.TheVariants.{OutOfMemory}
 use Rattle.lv_commands.specs.Readiness.{growth_of, need_of}
 use Rattle.lv_commands.specs.Rooms.{corners, room_sector, room_sides, walls}
-use Rattle.lv_commands.specs.Splits.{cut_off, cut_short, line_at}
+use Rattle.lv_commands.specs.Splits.{cut_off, cut_short, line_or_some}
 use Rattle.lv_commands.specs.Step.{after, drop_faults, faults, without}
 
 -- ---- The least code
@@ -86,7 +86,7 @@ shorter-remove xs n = let a = length-append (take n xs) (drop (suc n) xs) in let
 both-fit : (a b cap : ℕ) → a ≤ cap → b ≤ cap → nat_lt cap a ≡ nat_lt cap b
 both-fit a b cap h i = le-ltb cap a h ∙ sym (le-ltb cap b i)
 
-without-shorter : (m : Tables) (k : Kind) (n : ℕ) → body_len (without m k n) ≤ body_len m
+without-shorter : (m : Tables) (k : Kind) (n : ℕ) → body_len_of_one (without m k n) ≤ body_len_of_one m
 without-shorter m kind.Vertex n = let a = shorter-remove m.vertices n in let b = length-map m.lines (line_without_vertex n) in omega (arith, a, b)
 without-shorter m kind.Sector n = let a = shorter-remove m.sectors n in let b = length-map m.sides (side_without_sector n) in omega (arith, a, b)
 without-shorter m kind.Side n = let a = shorter-remove m.sides n in let b = length-map m.lines (line_without_side n) in omega (arith, a, b)
@@ -94,7 +94,7 @@ without-shorter m kind.Line n = let a = shorter-remove m.lines n in omega (arith
 without-shorter m kind.Thing n = let a = shorter-remove m.things n in omega (arith, a)
 
 -- the new body is too long exactly where the old one and what is added are
-pub fullness : (m : Tables) (c : Command) (cap : ℕ) → body_len m ≤ cap → nat_lt cap (body_len (after m c)) ≡ nat_lt cap (body_len m + growth_of (need_of c))
+pub fullness : (m : Tables) (c : Command) (cap : ℕ) → body_len_of_one m ≤ cap → nat_lt cap (body_len_of_one (after m c)) ≡ nat_lt cap (body_len_of_one m + growth_of (need_of c))
 fullness m (Name name) cap fits = ap (nat_lt cap) (omega arith)
 fullness m (AddVertex v) cap fits = ap (nat_lt cap) (omega (arith, length-append m.vertices (v ∷ [])))
 fullness m (AddSector s) cap fits = ap (nat_lt cap) (omega (arith, length-append m.sectors (s ∷ [])))
@@ -106,11 +106,17 @@ fullness m (SetSector n s) cap fits = ap (nat_lt cap) (omega (arith, length-set 
 fullness m (SetSide n s) cap fits = ap (nat_lt cap) (omega (arith, length-set m.sides n s))
 fullness m (SetLine n l) cap fits = ap (nat_lt cap) (omega (arith, length-set m.lines n l))
 fullness m (SetThing n t) cap fits = ap (nat_lt cap) (omega (arith, length-set m.things n t))
-fullness m (Drop k n) cap fits = let h = without-shorter m k n in both-fit (body_len (without m k n)) (body_len m + growth_of (need_of (Drop k n))) cap (omega (arith, h)) (omega arith)
+fullness m (Drop k n) cap fits = let h = without-shorter m k n in both-fit (body_len_of_one (without m k n)) (body_len_of_one m + growth_of (need_of (Drop k n))) cap (omega (arith, h)) (omega arith)
 fullness m (Room r) cap fits =
-    ap (nat_lt cap) (omega (arith, length-append m.vertices (corners r), length-append m.sectors (room_sector r ∷ []), length-append m.sides (room_sides r (length m.sectors)), length-append m.lines (walls (length m.vertices) (length m.sides))))
+    ap (nat_lt cap) (omega (
+      arith,
+      length-append m.vertices (corners r),
+      length-append m.sectors (room_sector r ∷ []),
+      length-append m.sides (room_sides r (length m.sectors)),
+      length-append m.lines (walls (length m.vertices) (length m.sides)),
+    ))
 fullness m (Split s) cap fits =
-    let line = line_at m.lines s.line in
+    let line = line_or_some m.lines s.line in
     let vertex = length m.vertices in
     let lines = slice_set m.lines s.line (cut_short line vertex) in
     ap (nat_lt cap) (omega (arith, length-append m.vertices (s.at ∷ []), length-append lines (cut_off line vertex ∷ []), length-set m.lines s.line (cut_short line vertex)))

@@ -34,6 +34,7 @@ spelling_parts (Room r) = refl
 spelling_parts (Split s) = refl
 
 -- the first word of a command, and the others behind it
-pub whole : {E : Type 0} (r : Result Text E) (x : Text) (c : Command) → written x ≡ head_word (head_for c) → IfOk r (λ t. Adds x t (32 ∷ join_with_byte 32 (words_behind c))) → IfOk r (λ t. written t ≡ spelling c)
+pub whole : {E : Type 0} (r : Result Text E) (x : Text) (c : Command) → written x ≡ head_word (head_for c)
+    → IfOk r (λ t. Adds x t (32 ∷ join_with_byte 32 (words_behind c))) → IfOk r (λ t. written t ≡ spelling c)
 whole (Ok t) x c e h = h.line ∙ ap (λ w. w ++ 32 ∷ join_with_byte 32 (words_behind c)) e ∙ sym (spelling_parts c)
 whole (Err f) x c e h = tt

@@ -16,7 +16,8 @@ use Rattle.lv_commands.specs.declared.head.Head.TheVariants as head
 -- OutOfRange for a room of no width or no height
 abbrev pub flat_fault : List (List ℕ) → Option ℕ
 flat_fault (west ∷ south ∷ east ∷ north ∷ ws) =
-    if int_lt (numeral_value west) (numeral_value east) && int_lt (numeral_value south) (numeral_value north)
+    if int_lt (numeral_value west) (numeral_value east)
+    && int_lt (numeral_value south) (numeral_value north)
     then None else Some (code_of OutOfRange)
 flat_fault _ = None
 
@@ -67,7 +68,8 @@ fault_behind head.Split ws = places_fault (item ∷ vertex_places) ws
 -- all first words
 abbrev pub heads : List Head
 heads =
-    head.Name ∷ head.Vertex ∷ head.Sector ∷ head.Side ∷ head.Line ∷ head.Thing ∷ head.MoveVertex ∷ head.SetSector
+    head.Name ∷ head.Vertex ∷ head.Sector ∷ head.Side ∷ head.Line ∷ head.Thing ∷ head.MoveVertex
+    ∷ head.SetSector
     ∷ head.SetSide ∷ head.SetLine ∷ head.SetThing ∷ head.Drop ∷ head.Room ∷ head.Split ∷ []
 
 -- the command that a first word begins
@@ -86,4 +88,5 @@ command_fault (w ∷ ws) = head_fault (head_of w) ws
 
 -- the fault of a line, and none exactly where it is a command
 abbrev pub fault_of : List ℕ → Option ℕ
-fault_of line = if nat_lt 256 (length line) then Some (code_of NotACommand) else command_fault (parts line)
+fault_of line = if nat_lt 256 (length line) then Some (code_of NotACommand)
+    else command_fault (parts line)

@@ -1,11 +1,13 @@
--- The places of a command behind its first word: what may stand at each, and the fault of what else does.
+-- The places of a command behind its first word: what may stand at each, and the fault of what else
+-- does.
 use Rattle.std.specs.Prelude.{ℕ, Bool, false, ◌&&◌, ◌||◌, ◌==◌, if◌then◌else◌, List, [], ◌∷◌, ℤ, pos, negsuc, int_le, Option, Some, None, codes, bytes_eq}
 use Rattle.lv_lumps.specs.Names.{is_name}
 use Rattle.lv_commands.specs.declared.error.CommandError.TheVariants.{NotACommand, OutOfRange, BadName}
 use Rattle.lv_commands.specs.Errors.{code_of}
 use Rattle.lv_commands.specs.Words.{is_numeral, is_word, numeral_value}
 
--- what may stand at a place of a line: a number from a least one to a greatest one, such a number or `-`, or a name
+-- what may stand at a place of a line: a number from a least one to a greatest one, such a number
+-- or `-`, or a name
 pub data Place : Type 0 where
   Number : ℤ → ℤ → Place
   NumberOrNone : ℤ → ℤ → Place
@@ -20,9 +22,11 @@ has_form (Named test) w = is_word w
 -- OutOfRange where the number is out of its range
 abbrev pub range_fault : ℤ → ℤ → List ℕ → Option ℕ
 range_fault low high w =
-    if int_le low (numeral_value w) && int_le (numeral_value w) high then None else Some (code_of OutOfRange)
+    if int_le low (numeral_value w) && int_le (numeral_value w) high then None
+    else Some (code_of OutOfRange)
 
--- what is wrong with a word that has the form of its place: OutOfRange for a number, BadName for a name
+-- what is wrong with a word that has the form of its place: OutOfRange for a number, BadName for a
+-- name
 abbrev pub fault_at : Place → List ℕ → Option ℕ
 fault_at (Number low high) w = range_fault low high w
 fault_at (NumberOrNone low high) w = if is_numeral w then range_fault low high w else None
@@ -38,16 +42,17 @@ is_form_fault None = false
 is_form_fault (Some code) = code == code_of NotACommand
 
 -- the fault of two places: the left one, but NotACommand where the right one is
-abbrev pub first_of : Option ℕ → Option ℕ → Option ℕ
-first_of None right = right
-first_of (Some code) right = if is_form_fault right then Some (code_of NotACommand) else Some code
+abbrev pub prior_fault : Option ℕ → Option ℕ → Option ℕ
+prior_fault None right = right
+prior_fault (Some code) right = if is_form_fault right then Some (code_of NotACommand)
+    else Some code
 
 -- the fault of the words, one at each place: NotACommand where they aren't as many as the places
 abbrev pub places_fault : List Place → List (List ℕ) → Option ℕ
 places_fault [] [] = None
 places_fault [] (w ∷ ws) = Some (code_of NotACommand)
 places_fault (p ∷ ps) [] = Some (code_of NotACommand)
-places_fault (p ∷ ps) (w ∷ ws) = first_of (place_fault p w) (places_fault ps ws)
+places_fault (p ∷ ps) (w ∷ ws) = prior_fault (place_fault p w) (places_fault ps ws)
 
 -- -16384 to 16383
 abbrev pub coordinate : Place
@@ -104,4 +109,5 @@ thing_places = coordinate ∷ coordinate ∷ angle ∷ flags ∷ flags ∷ []
 -- X1 Y1 X2 Y2 F C FN CN WALL LIGHT
 abbrev pub room_places : List Place
 room_places =
-    coordinate ∷ coordinate ∷ coordinate ∷ coordinate ∷ height ∷ height ∷ name ∷ name ∷ name ∷ light ∷ []
+    coordinate ∷ coordinate ∷ coordinate ∷ coordinate ∷ height ∷ height ∷ name ∷ name ∷ name ∷ light
+    ∷ []

@@ -10,10 +10,10 @@ use Rattle.lv_commands.specs.declared.project.command.ProjectCommand.{ProjectCom
 use Rattle.lv_commands.specs.declared.project.command.ProjectCommand.TheVariants.{Edit, SelectMap, DropMap}
 
 -- each number and name of the command is in its range
-abbrev pub InRange : ProjectCommand → Type 0
-InRange (Edit c) = of_one.InRange c
-InRange (SelectMap name) = IsNamed is_marker name
-InRange (DropMap name) = IsNamed is_marker name
+abbrev pub InProjectRange : ProjectCommand → Type 0
+InProjectRange (Edit c) = of_one.InRange c
+InProjectRange (SelectMap name) = IsNamed is_marker name
+InProjectRange (DropMap name) = IsNamed is_marker name
 
 -- the first word of a command that names a map of the project
 abbrev pub map_word : MapHead → List ℕ
@@ -21,11 +21,11 @@ map_word head.Select = codes "map"
 map_word head.Drop = codes "drop-map"
 
 -- the words of a command
-abbrev pub words_of : ProjectCommand → List (List ℕ)
-words_of (Edit c) = of_one_map.words_of c
-words_of (SelectMap name) = map_word head.Select ∷ name_text name ∷ []
-words_of (DropMap name) = map_word head.Drop ∷ name_text name ∷ []
+abbrev pub project_words_of : ProjectCommand → List (List ℕ)
+project_words_of (Edit c) = of_one_map.words_of c
+project_words_of (SelectMap name) = map_word head.Select ∷ name_text name ∷ []
+project_words_of (DropMap name) = map_word head.Drop ∷ name_text name ∷ []
 
 -- the line that is the command: its words with one space between each two
-abbrev pub spelling : ProjectCommand → List ℕ
-spelling c = join_with_byte 32 (words_of c)
+abbrev pub project_spelling : ProjectCommand → List ℕ
+project_spelling c = join_with_byte 32 (project_words_of c)

@@ -1,4 +1,5 @@
--- What a command makes of a project: a new project and a number, or the least of the codes that hold.
+-- What a command makes of a project: a new project and a number, or the least of the codes that
+-- hold.
 use Rattle.std.specs.Prelude.{ℕ, Bool, ◌&&◌, nat_lt, List, [], ◌∷◌, ◌++◌, Result}
 use Rattle.std.specs.Option.{is_none}
 use Rattle.lv_commands.specs.declared.error.CommandError.TheVariants.{ProjectFull}
@@ -31,25 +32,26 @@ map_faults p (SelectMap name) = select_faults p name
 map_faults p (DropMap name) = drop_map_faults p name
 
 -- the project that a command leaves, where it is accepted
-abbrev pub after : ProjectMaps → ProjectCommand → ProjectMaps
-after p (Edit c) = with_current p (of_one_map.after (current_map p) c)
-after p (SelectMap name) = with_selected p name
-after p (DropMap name) = without_map p name
+abbrev pub project_after : ProjectMaps → ProjectCommand → ProjectMaps
+project_after p (Edit c) = with_current p (of_one_map.after (current_map p) c)
+project_after p (SelectMap name) = with_selected p name
+project_after p (DropMap name) = without_map p name
 
 -- the number that is answered: as for the current map alone, and else that of the named map
-abbrev pub number_of : ProjectMaps → ProjectCommand → ℕ
-number_of p (Edit c) = of_one_map.number_of (current_map p) c
-number_of p (SelectMap name) = project.number_of p name
-number_of p (DropMap name) = project.number_of p name
+abbrev pub project_number_of : ProjectMaps → ProjectCommand → ℕ
+project_number_of p (Edit c) = of_one_map.number_of (current_map p) c
+project_number_of p (SelectMap name) = project.map_number_of p name
+project_number_of p (DropMap name) = project.map_number_of p name
 
 -- there is a new body (there is none where the maps refuse it), and it is longer than `cap`
 abbrev pub is_full : ProjectMaps → ProjectCommand → ℕ → Bool
-is_full p c cap = is_none (least (map_faults p c)) && nat_lt cap (body_len (after p c))
+is_full p c cap = is_none (least (map_faults p c)) && nat_lt cap (body_len (project_after p c))
 
 -- why a command is refused, by rising code; a body may be at most `cap` long
-abbrev pub faults : ProjectMaps → ProjectCommand → ℕ → List (ℕ × Bool)
-faults p c cap = current_faults p c ++ (code_of ProjectFull, is_full p c cap) ∷ map_faults p c
+abbrev pub project_faults : ProjectMaps → ProjectCommand → ℕ → List (ℕ × Bool)
+project_faults p c cap = current_faults p c ++ (code_of ProjectFull, is_full p c cap)
+    ∷ map_faults p c
 
 -- the new project and the number, or the least code
 abbrev pub step : ProjectMaps → ProjectCommand → ℕ → Result (ProjectMaps × ℕ) ℕ
-step p c cap = unless (least (faults p c cap)) (after p c) (number_of p c)
+step p c cap = unless (least (project_faults p c cap)) (project_after p c) (project_number_of p c)

@@ -16,7 +16,8 @@ use Rattle.lv_commands.specs.declared.command.RoomPlan.{RoomPlan}
 -- the corners, from the one in the south-west on by way of the north
 abbrev pub corners : RoomPlan → List Vertex
 corners r =
-    record { x = r.west; y = r.south } ∷ record { x = r.west; y = r.north } ∷ record { x = r.east; y = r.north }
+    record { x = r.west; y = r.south } ∷ record { x = r.west; y = r.north }
+    ∷ record { x = r.east; y = r.north }
     ∷ record { x = r.east; y = r.south } ∷ []
 
 -- the room's sector, with special 0 and tag 0
@@ -51,11 +52,14 @@ room_sides r sector =
 
 -- a line from one vertex to another with its right side: flags 1, special 0, tag 0, no left side
 abbrev pub wall : ℕ → ℕ → ℕ → Line
-wall v1 v2 right = record { v1 = v1; v2 = v2; flags = 1; special = 0; tag = 0; right = right; left = no_side }
+wall v1 v2 right =
+    record { v1 = v1; v2 = v2; flags = 1; special = 0; tag = 0; right = right; left = no_side }
 
--- the four walls, from each corner to the next and from the last to the first, the k-th with the k-th side
+-- the four walls, from each corner to the next and from the last to the first, the k-th with the
+-- k-th side
 abbrev pub walls : ℕ → ℕ → List Line
-walls v d = wall v (v + 1) d ∷ wall (v + 1) (v + 2) (d + 1) ∷ wall (v + 2) (v + 3) (d + 2) ∷ wall (v + 3) v (d + 3) ∷ []
+walls v d = wall v (v + 1) d ∷ wall (v + 1) (v + 2) (d + 1) ∷ wall (v + 2) (v + 3) (d + 2)
+    ∷ wall (v + 3) v (d + 3) ∷ []
 
 -- the map with more vertices, sides or lines
 
@@ -84,7 +88,8 @@ room_faults m r =
     (code_of PlaceTaken, list_any (is_taken m.vertices) (corners r))
     ∷ (
       code_of TableFull,
-      lacks_room m.vertices 4 || lacks_sector_room m.sectors 1 || lacks_room m.sides 4 || lacks_room m.lines 4,
+      lacks_room m.vertices 4 || lacks_sector_room m.sectors 1 || lacks_room m.sides 4
+          || lacks_room m.lines 4,
     )
     ∷ []
 

@@ -49,13 +49,15 @@ vertex_words v = signed_decimal v.x ∷ signed_decimal v.y ∷ []
 -- F C FN CN LIGHT SPECIAL TAG
 abbrev pub sector_words : Sector → List (List ℕ)
 sector_words s =
-    signed_decimal s.floor ∷ signed_decimal s.ceiling ∷ name_text s.floor_name ∷ name_text s.ceiling_name
+    signed_decimal s.floor ∷ signed_decimal s.ceiling ∷ name_text s.floor_name
+    ∷ name_text s.ceiling_name
     ∷ signed_decimal s.light ∷ signed_decimal s.special ∷ signed_decimal s.tag ∷ []
 
 -- XO YO UP LOW MID SECTOR
 abbrev pub side_words : Side → List (List ℕ)
 side_words s =
-    signed_decimal s.x_offset ∷ signed_decimal s.y_offset ∷ name_text s.upper ∷ name_text s.lower ∷ name_text s.middle
+    signed_decimal s.x_offset ∷ signed_decimal s.y_offset ∷ name_text s.upper ∷ name_text s.lower
+    ∷ name_text s.middle
     ∷ decimal s.sector ∷ []
 
 -- the number of a left side, and `-` for none
@@ -65,20 +67,23 @@ left_word n = if n == no_side then codes "-" else decimal n
 -- V1 V2 FLAGS SPECIAL TAG RIGHT LEFT
 abbrev pub line_words : Line → List (List ℕ)
 line_words l =
-    decimal l.v1 ∷ decimal l.v2 ∷ decimal l.flags ∷ decimal l.special ∷ decimal l.tag ∷ decimal l.right
+    decimal l.v1 ∷ decimal l.v2 ∷ decimal l.flags ∷ decimal l.special ∷ decimal l.tag
+    ∷ decimal l.right
     ∷ left_word l.left ∷ []
 
 -- X Y ANGLE TYPE OPTIONS
 abbrev pub thing_words : Thing → List (List ℕ)
 thing_words t =
-    signed_decimal t.x ∷ signed_decimal t.y ∷ signed_decimal t.angle ∷ signed_decimal t.kind ∷ signed_decimal t.options
+    signed_decimal t.x ∷ signed_decimal t.y ∷ signed_decimal t.angle ∷ signed_decimal t.kind
+    ∷ signed_decimal t.options
     ∷ []
 
 -- X1 Y1 X2 Y2 F C FN CN WALL LIGHT
 abbrev pub room_words : RoomPlan → List (List ℕ)
 room_words r =
     signed_decimal r.west ∷ signed_decimal r.south ∷ signed_decimal r.east ∷ signed_decimal r.north
-    ∷ signed_decimal r.floor ∷ signed_decimal r.ceiling ∷ name_text r.floor_name ∷ name_text r.ceiling_name
+    ∷ signed_decimal r.floor ∷ signed_decimal r.ceiling ∷ name_text r.floor_name
+    ∷ name_text r.ceiling_name
     ∷ name_text r.wall ∷ signed_decimal r.light ∷ []
 
 -- the first word of a command

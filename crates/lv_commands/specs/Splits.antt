@@ -10,8 +10,8 @@ use Rattle.lv_commands.specs.Rooms.{wall}
 use Rattle.lv_commands.specs.declared.command.LineSplit.{LineSplit}
 
 -- the line of a number, and some line past the last
-abbrev pub line_at : List Line → ℕ → Line
-line_at ls n = get_or ls n (wall 0 0 0)
+abbrev pub line_or_some : List Line → ℕ → Line
+line_or_some ls n = get_or ls n (wall 0 0 0)
 
 -- the line that is split, which now ends at the new vertex
 abbrev pub cut_short : Line → ℕ → Line
@@ -24,22 +24,28 @@ cut_off l vertex = record l { v1 = vertex }
 -- the map with the new vertex, the line cut short, and the new line last
 abbrev pub with_split : Tables → LineSplit → Tables
 with_split m s =
-    let line = line_at m.lines s.line in
+    let line = line_or_some m.lines s.line in
     let vertex = length m.vertices in
     record m {
       vertices = m.vertices ++ s.at ∷ [];
       lines = slice_set m.lines s.line (cut_short line vertex) ++ cut_off line vertex ∷ [];
     }
 
--- PlaceTaken where the place is, TableFull where a table is, LineTooLong where a half of the line is too long
+-- PlaceTaken where the place is, TableFull where a table is, LineTooLong where a half of the line
+-- is too long
 abbrev pub cut_faults : Tables → Line → Vertex → List (ℕ × Bool)
 cut_faults m line at =
     let vertex = length m.vertices in
     let vertices = m.vertices ++ at ∷ [] in
     (code_of PlaceTaken, is_taken m.vertices at)
     ∷ (code_of TableFull, lacks_room m.vertices 1 || lacks_room m.lines 1)
-    ∷ (code_of LineTooLong, is_too_long vertices (cut_short line vertex) || is_too_long vertices (cut_off line vertex)) ∷ []
+    ∷ (
+      code_of LineTooLong,
+      is_too_long vertices (cut_short line vertex)
+          || is_too_long vertices (cut_off line vertex),
+    ) ∷ []
 
 -- the same, and before it 6 where there is no such line
 abbrev pub split_faults : Tables → LineSplit → List (ℕ × Bool)
-split_faults m s = (code_of NoLine, lacks m.lines s.line) ∷ cut_faults m (line_at m.lines s.line) s.at
+split_faults m s = (code_of NoLine, lacks m.lines s.line)
+    ∷ cut_faults m (line_or_some m.lines s.line) s.at

@@ -28,7 +28,8 @@ is_natural (b ∷ c ∷ bs) = is_nonzero_digit b && list_all is_digit (c ∷ bs)
 -- such digits, or a `-` and such digits other than `0`
 abbrev pub is_numeral : List ℕ → Bool
 is_numeral [] = false
-is_numeral (b ∷ bs) = if b == 45 then is_natural bs && not (bytes_eq bs (codes "0")) else is_natural (b ∷ bs)
+is_numeral (b ∷ bs) = if b == 45 then is_natural bs && not (bytes_eq bs (codes "0"))
+    else is_natural (b ∷ bs)
 
 -- the number that a numeral stands for
 abbrev pub numeral_value : List ℕ → ℤ

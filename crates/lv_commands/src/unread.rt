@@ -20,7 +20,7 @@ impl<'a> UnreadWords<'a> {
     ghost use Rattle.lv_lumps.specs.Sides.{no_side};
     ghost use Rattle.lv_commands.specs.Errors.{code_of};
     ghost use Rattle.lv_commands.specs.Spelling.{left_word};
-    ghost use Rattle.lv_commands.specs.Places.{Named, Number, NumberOrNone, first_of};
+    ghost use Rattle.lv_commands.specs.Places.{Named, Number, NumberOrNone, prior_fault};
     ghost use Rattle.lv_commands.specs.Words.{parts_behind};
     ghost use Rattle.lv_commands.specs.Reading.{Reads, IsDone, fault_with};
     ghost use Rattle.lv_commands.specs.Views.{reading};
@@ -53,7 +53,7 @@ impl<'a> UnreadWords<'a> {
     // Keeps the fault, if it comes before the one so far.
     fn note(&mut self, error: CommandError)
         ensures fault { (reading self.new).fault
-            ≡ first_of (reading self.old).fault (Some (code_of error)) }
+            ≡ prior_fault (reading self.old).fault (Some (code_of error)) }
         ensures words { (reading self.new).words ≡ (reading self.old).words }
     {
         match (self.fault, error) {

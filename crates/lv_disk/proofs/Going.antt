@@ -2,13 +2,13 @@
 use Rattle.std.proofs.Common.{◌≡◌, inl, ℕ, List, [], ◌∷◌, length, refl, sym, ◌∙◌, ap, subst, arith}
 use Rattle.std.proofs.lemmas.List.{append-nil, get_or_past}
 use Rattle.lv_disk.specs.Files.{Failed, Torn, Written}
-use Rattle.lv_disk.specs.Stops.{Follows, Leads, Each, Elapses}
-use Rattle.lv_disk.specs.Medium.{Call, Wrote, Synced, Medium, step, after, overwritten, IsImage, LeftSince}
-use Rattle.lv_disk.specs.Memory.{Goes, calls_of, first_of, medium_of}
+use Rattle.lv_disk.specs.Stops.{Follows, LeadsBy, Each, Elapses}
+use Rattle.lv_disk.specs.Medium.{Call, Wrote, Synced, Medium, after_call, after_calls, overwritten, IsImage, LeftSince}
+use Rattle.lv_disk.specs.Memory.{Goes, calls_of, first_medium, medium_of}
 use Rattle.lv_disk.specs.declared.memory.MemoryDisk.{MemoryDisk}
 use Rattle.lv_disk.proofs.Bytes.{torn_itself}
 use Rattle.lv_disk.proofs.Overwriting.{overwritten_is_written}
-use Rattle.lv_disk.proofs.Stopping.{after-push, elapses_push, settled_only, still_image, torn_from}
+use Rattle.lv_disk.proofs.Stopping.{after_calls-push, elapses_push, settled_only, still_image, torn_from}
 
 -- what a read gives
 abbrev pub Reads : Medium → List ℕ → Type 0
@@ -16,17 +16,17 @@ Reads m file = file ≡ m.file
 
 module _ (old new : MemoryDisk) where
   abbrev Time : Type 0
-  Time = Elapses (length (calls_of old)) (length (calls_of new)) (LeftSince (first_of old) (calls_of old)) (LeftSince (first_of new) (calls_of new)) (IsImage (medium_of new))
+  Time = Elapses (length (calls_of old)) (length (calls_of new)) (LeftSince (first_medium old) (calls_of old)) (LeftSince (first_medium new) (calls_of new)) (IsImage (medium_of new))
 
   -- one call more
   module _ (call : Call) (goes : Goes (call ∷ []) old new) where
-    pub medium_now : medium_of new ≡ step (medium_of old) call
+    pub medium_now : medium_of new ≡ after_call (medium_of old) call
     medium_now =
-        ap (λ (m : Medium). after m (calls_of new)) goes.first ∙ ap (after (first_of old)) goes.calls_are ∙ after-push (first_of old) (calls_of old) call
+        ap (λ (m : Medium). after_calls m (calls_of new)) goes.first ∙ ap (after_calls (first_medium old)) goes.calls_are ∙ after_calls-push (first_medium old) (calls_of old) call
 
     pub time_goes : Time
     time_goes =
-        let pushed = elapses_push (first_of old) (calls_of old) call in
+        let pushed = elapses_push (first_medium old) (calls_of old) call in
         rw (goes.first, goes.calls_are) pushed
 
   -- no call more
@@ -35,11 +35,11 @@ module _ (old new : MemoryDisk) where
     same_calls = goes.calls_are ∙ append-nil (calls_of old)
 
     pub same_medium : medium_of new ≡ medium_of old
-    same_medium = ap (λ (m : Medium). after m (calls_of new)) goes.first ∙ ap (after (first_of old)) same_calls
+    same_medium = ap (λ (m : Medium). after_calls m (calls_of new)) goes.first ∙ ap (after_calls (first_medium old)) same_calls
 
     pub time_stays : Time
     time_stays =
-        let stays : Elapses (length (calls_of old)) (length (calls_of old)) (LeftSince (first_of old) (calls_of old)) (LeftSince (first_of old) (calls_of old)) (IsImage (medium_of old)) =
+        let stays : Elapses (length (calls_of old)) (length (calls_of old)) (LeftSince (first_medium old) (calls_of old)) (LeftSince (first_medium old) (calls_of old)) (IsImage (medium_of old)) =
         record { later = omega arith; nothing_else = λ t file le left. inl left; keeps = λ t file le left. left } in
         rw (goes.first, same_calls) stays
 
@@ -56,7 +56,7 @@ module _ (old new : MemoryDisk) where
     pub stays_reads : Each (Reads (medium_of old)) (Reads (medium_of new))
     stays_reads file is = is ∙ sym (ap (λ (m : Medium). m.file) same_medium)
 
-    pub leads_nowhere : (at n : ℕ) → Leads (Failed at n) (Reads (medium_of old)) (Reads (medium_of new))
+    pub leads_nowhere : (at n : ℕ) → LeadsBy (Failed at n) (Reads (medium_of old)) (Reads (medium_of new))
     leads_nowhere at n file is =
         (file, stays_reads file is, record { torn = torn_itself at n file; gap = λ i past before. get_or_past file i 0 past })
 
@@ -72,7 +72,7 @@ module _ (old new : MemoryDisk) where
         let now : file ≡ overwritten at x (medium_of old).file = is ∙ ap (λ (m : Medium). m.file) (medium_now (Wrote at x) goes) in
         ((medium_of old).file, refl, subst (λ (f : List ℕ). Written at x (medium_of old).file f) (sym now) (overwritten_is_written at x (medium_of old).file))
 
-    pub wrote_leads : Leads (Written at x) (Reads (medium_of old)) (Reads (medium_of new))
+    pub wrote_leads : LeadsBy (Written at x) (Reads (medium_of old)) (Reads (medium_of new))
     wrote_leads file is = (
       overwritten at x file,
       ap (overwritten at x) is ∙ sym (ap (λ (m : Medium). m.file) (medium_now (Wrote at x) goes)),

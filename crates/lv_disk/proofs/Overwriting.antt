@@ -110,7 +110,15 @@ module _ (at : ℕ) (x b : List ℕ) (fits : at + length x ≤ length b) where
   front_size = omega (arith, length-take at b, fits)
 
   pub length-put : length (put at x b) ≡ length b
-  length-put = omega (arith, length-append (take at b) (x ++ drop (length x) (drop at b)), length-append x (drop (length x) (drop at b)), length-drop (length x) (drop at b), length-drop at b, front_size, fits)
+  length-put = omega (
+    arith,
+    length-append (take at b) (x ++ drop (length x) (drop at b)),
+    length-append x (drop (length x) (drop at b)),
+    length-drop (length x) (drop at b),
+    length-drop at b,
+    front_size,
+    fits,
+  )
 
   put_below : (i : ℕ) → i < at → get_or (put at x b) i 0 ≡ get_or b i 0
   put_below i lt = get_or_append_left (take at b) (x ++ drop (length x) (drop at b)) 0 i (omega (arith, lt, front_size)) ∙ get_or-take at b i 0 lt

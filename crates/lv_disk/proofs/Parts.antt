@@ -2,7 +2,7 @@
 use Rattle.std.proofs.Common.{◌≤◌, ℕ, List, length, arith}
 use Rattle.std.proofs.lemmas.List.{get_or_past}
 use Rattle.lv_disk.specs.Files.{Failed, Torn, Written}
-use Rattle.lv_disk.specs.Stops.{Follows, Leads}
+use Rattle.lv_disk.specs.Stops.{Follows, LeadsBy}
 use Rattle.lv_disk.proofs.Bytes.{keeps_wider, torn_itself, written_torn}
 
 pub torn_wider : (at m n : ℕ) (old new : List ℕ) → m ≤ n → Torn at m old new → Torn at n old new
@@ -27,7 +27,7 @@ module _ (step wider : List ℕ → List ℕ → Type 0) (so : (old new : List �
   pub follows_by : Follows step old new → Follows wider old new
   follows_by follows file is = let was = follows file is in (was.0, was.1, so was.0 file was.2)
 
-  pub leads_by : Leads step old new → Leads wider old new
+  pub leads_by : LeadsBy step old new → LeadsBy wider old new
   leads_by leads file is = let next = leads file is in (next.0, next.1, so file next.0 next.2)
 
 -- no step
@@ -35,5 +35,5 @@ module _ (step : List ℕ → List ℕ → Type 0) (itself : (file : List ℕ) �
   pub follows_itself : Follows step files files
   follows_itself file is = (file, is, itself file)
 
-  pub leads_itself : Leads step files files
+  pub leads_itself : LeadsBy step files files
   leads_itself file is = (file, is, itself file)

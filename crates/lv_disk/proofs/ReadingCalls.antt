@@ -18,7 +18,8 @@ module _ {D : Type 0} (facts : Ghosts D)
   }
 
   -- one call
-  pub one_call : (old new : D) → Each (facts.reads new) (facts.reads old) → Each (facts.reads old) (facts.reads new) → Each (facts.may_leave new) (facts.may_leave old) → Each (facts.may_leave old) (facts.may_leave new)
+  pub one_call : (old new : D) → Each (facts.reads new) (facts.reads old) → Each (facts.reads old) (facts.reads new)
+      → Each (facts.may_leave new) (facts.may_leave old) → Each (facts.may_leave old) (facts.may_leave new)
       → Elapses (facts.moment old) (facts.moment new) (facts.left_since old) (facts.left_since new) (facts.may_leave new) → OnlyReads facts old new
   one_call old new is still images kept time = record {
     no_other = is;

@@ -3,12 +3,12 @@ use Rattle.std.proofs.Common.{◌≡◌, ◌<◌, ◌≤◌, ◌+◌, ◌*◌, �
 use Rattle.std.proofs.lemmas.List.{take_all, take-append-le, drop-append-le, take_more_set, take_at, nil_from_length}
 use Rattle.std.specs.List.{list_any}
 use Rattle.lv_disk.specs.Medium.{Call, Wrote, Synced, is_in, size_of}
-use Rattle.lv_disk.specs.Entries.{made_by, total, ranges_of, has_place}
+use Rattle.lv_disk.specs.Entries.{made_by, bytes_of_all, ranges_of, has_place}
 use Rattle.lv_disk.specs.declared.entry.Entry.{Entry}
 use Rattle.lv_disk.specs.declared.entry.Entry.TheVariants.{Write, Sync}
 use Rattle.lv_disk.proofs.Overwriting.{put}
 
-made_by-write : (es : List Entry) (d x : List ℕ) (at : ℕ) → total es ≡ length d → made_by (es ++ Write at (length x) ∷ []) (d ++ x) ≡ made_by es d ++ Wrote at x ∷ []
+made_by-write : (es : List Entry) (d x : List ℕ) (at : ℕ) → bytes_of_all es ≡ length d → made_by (es ++ Write at (length x) ∷ []) (d ++ x) ≡ made_by es d ++ Wrote at x ∷ []
 made_by-write [] d x at sum =
     let none : d ≡ [] = nil_from_length d (sym sum) in
     ap (λ (l : List ℕ). made_by (Write at (length x) ∷ []) (l ++ x)) none ∙ ap (λ (l : List ℕ). Wrote at l ∷ []) (take_all (length x) x (omega arith))
@@ -24,17 +24,17 @@ made_by-sync [] d = refl
 made_by-sync (Write a s ∷ es) d = ap (λ (cs : List Call). Wrote a (take s d) ∷ cs) (made_by-sync es (drop s d))
 made_by-sync (Sync ∷ es) d = ap (λ (cs : List Call). Synced ∷ cs) (made_by-sync es d)
 
-total-push : (es : List Entry) (e : Entry) → total (es ++ e ∷ []) ≡ total es + total (e ∷ [])
-total-push [] e = omega arith
-total-push (Write a s ∷ es) e = omega (arith, total-push es e)
-total-push (Sync ∷ es) e = total-push es e
+bytes_of_all-push : (es : List Entry) (e : Entry) → bytes_of_all (es ++ e ∷ []) ≡ bytes_of_all es + bytes_of_all (e ∷ [])
+bytes_of_all-push [] e = omega arith
+bytes_of_all-push (Write a s ∷ es) e = omega (arith, bytes_of_all-push es e)
+bytes_of_all-push (Sync ∷ es) e = bytes_of_all-push es e
 
 ranges_of-push : (es : List Entry) (e : Entry) → ranges_of (es ++ e ∷ []) ≡ ranges_of es ++ ranges_of (e ∷ [])
 ranges_of-push [] e = refl
 ranges_of-push (Write a s ∷ es) e = ap (λ (rs : List (ℕ × ℕ)). (a, s) ∷ rs) (ranges_of-push es e)
 ranges_of-push (Sync ∷ es) e = ranges_of-push es e
 
-size_of-made_by : (es : List Entry) (d : List ℕ) → total es ≡ length d → size_of (made_by es d) ≡ 16 * length es + length d
+size_of-made_by : (es : List Entry) (d : List ℕ) → bytes_of_all es ≡ length d → size_of (made_by es d) ≡ 16 * length es + length d
 size_of-made_by [] d sum = omega (arith, sum)
 size_of-made_by (Write a s ∷ es) d sum =
     omega (arith, sum, length-take s d, length-drop s d, size_of-made_by es (drop s d) (omega (arith, sum, length-drop s d)))
@@ -46,15 +46,15 @@ list_any-has_place i [] = refl
 list_any-has_place i (Write a s ∷ es) = cc (list_any-has_place i es)
 list_any-has_place i (Sync ∷ es) = list_any-has_place i es
 
-module _ (entries : List Entry) (count : ℕ) (written : List ℕ) (used : ℕ) (sum : total (take count entries) ≡ used) where
+module _ (entries : List Entry) (count : ℕ) (written : List ℕ) (used : ℕ) (sum : bytes_of_all (take count entries) ≡ used) where
   pub size_is : count ≤ length entries → used ≤ length written → size_of (made_by (take count entries) (take used written)) ≡ 16 * count + used
   size_is some fits =
       let long : length (take used written) ≡ used = omega (arith, length-take used written, fits) in
       omega (arith, long, length-take count entries, size_of-made_by (take count entries) (take used written) (sum ∙ sym long))
 
   module _ (lt : count < length entries) where
-    pub total_more : (e : Entry) → total (take (count + 1) (set entries count e)) ≡ used + total (e ∷ [])
-    total_more e = ap total (take_more_set entries count e lt) ∙ omega (arith, total-push (take count entries) e, sum)
+    pub total_more : (e : Entry) → bytes_of_all (take (count + 1) (set entries count e)) ≡ used + bytes_of_all (e ∷ [])
+    total_more e = ap bytes_of_all (take_more_set entries count e lt) ∙ omega (arith, bytes_of_all-push (take count entries) e, sum)
 
     pub ranges_more : (since : ℕ) (e : Entry) → since ≤ count → ranges_of (drop since (take (count + 1) (set entries count e))) ≡ ranges_of (drop since (take count entries)) ++ ranges_of (e ∷ [])
     ranges_more since e le =

@@ -9,7 +9,7 @@ use Rattle.std.specs.List.{range_with_len}
 use Rattle.lv_disk.specs.Files.{Outside, Torn}
 use Rattle.lv_disk.specs.Stops.{From, Elapses}
 use Rattle.lv_disk.specs.Shows.{Shows}
-use Rattle.lv_disk.specs.Medium.{Call, Wrote, Synced, Medium, overwritten, settled, step, after, is_in, is_unsynced, IsImage, LeftSince}
+use Rattle.lv_disk.specs.Medium.{Call, Wrote, Synced, Medium, overwritten, settled, after_call, after_calls, is_in, is_unsynced, IsImage, LeftSince}
 use Rattle.lv_disk.proofs.Overwriting.{overwritten_size, overwritten_no_shorter, overwritten_nothing, overwritten_out}
 
 pub shows_settled : (file : List ℕ) → Shows (settled file) file file []
@@ -23,7 +23,7 @@ shows_settled file = record {
 
 module _ (m : Medium) (at : ℕ) (x : List ℕ) where
   abbrev written : Medium
-  written = step m (Wrote at x)
+  written = after_call m (Wrote at x)
 
   -- what is synced after the write was so before it, and is outside its range
   synced_before : (i : ℕ) → is_unsynced written i ≡ false → is_unsynced m i ≡ false
@@ -115,7 +115,7 @@ module _ (m : Medium) (at : ℕ) (x : List ℕ) where
 
 -- the parts of a disk after each call
 pub shows_written : (m : Medium) (at : ℕ) (x file synced : List ℕ) (writes : List (ℕ × ℕ)) → Shows m file synced writes
-    → Shows (step m (Wrote at x)) (overwritten at x file) synced (writes ++ (at, length x) ∷ [])
+    → Shows (after_call m (Wrote at x)) (overwritten at x file) synced (writes ++ (at, length x) ∷ [])
 shows_written m at x file synced writes shows = record {
   file_is = ap (overwritten at x) shows.file_is;
   synced_is = shows.synced_is;
@@ -124,7 +124,7 @@ shows_written m at x file synced writes shows = record {
   image = wrote_good m at x shows.image;
 }
 
-pub shows_synced : (m : Medium) (file synced : List ℕ) (writes : List (ℕ × ℕ)) → Shows m file synced writes → Shows (step m Synced) file file []
+pub shows_synced : (m : Medium) (file synced : List ℕ) (writes : List (ℕ × ℕ)) → Shows m file synced writes → Shows (after_call m Synced) file file []
 shows_synced m file synced writes shows = subst (λ (f : List ℕ). Shows (settled m.file) f f []) shows.file_is (shows_settled m.file)
 
 -- a file that is all on the disk has no image but itself
@@ -136,20 +136,26 @@ pub only_settled : (m : Medium) (file : List ℕ) → m ≡ settled file → (im
 only_settled m file settles image is =
     settled_only file image (subst (λ (n : Medium). IsImage n image) settles is) ∙ sym (ap (λ (n : Medium). n.file) settles)
 
-pub after-push : (m : Medium) (calls : List Call) (call : Call) → after m (calls ++ call ∷ []) ≡ step (after m calls) call
-after-push m [] call = refl
-after-push m (c ∷ calls) call = after-push (step m c) calls call
+pub after_calls-push : (m : Medium) (calls : List Call) (call : Call) → after_calls m (calls ++ call ∷ []) ≡ after_call (after_calls m calls) call
+after_calls-push m [] call = refl
+after_calls-push m (c ∷ calls) call = after_calls-push (after_call m c) calls call
 
 -- time goes on by one call
 pub elapses_push : (first : Medium) (calls : List Call) (call : Call)
-    → Elapses (length calls) (length (calls ++ call ∷ [])) (LeftSince first calls) (LeftSince first (calls ++ call ∷ [])) (IsImage (after first (calls ++ call ∷ [])))
+    → Elapses (length calls) (length (calls ++ call ∷ [])) (LeftSince first calls) (LeftSince first (calls ++ call ∷ [])) (IsImage (after_calls first (calls ++ call ∷ [])))
 elapses_push first calls call = record {
   later = omega (arith, size);
   nothing_else = λ t file le left. elim (cases_lt (length calls) left.0) [
-    | inl above ↦ inr (subst (λ (cs : List Call). IsImage (after first cs) file) (take_all left.0 (calls ++ call ∷ []) (omega (arith, size, above))) left.3)
-    | inr below ↦ inl (left.0, left.1, below, subst (λ (cs : List Call). IsImage (after first cs) file) (take-append-le left.0 calls (call ∷ []) below) left.3)
+    | inl above ↦ inr (subst (λ (cs : List Call). IsImage (after_calls first cs) file) (take_all left.0 (calls ++ call ∷ []) (omega (arith, size, above))) left.3)
+    | inr below ↦ inl (left.0, left.1, below, subst (λ (cs : List Call). IsImage (after_calls first cs) file) (take-append-le left.0 calls (call ∷ []) below) left.3)
   ];
-  keeps = λ t file le left. (left.0, left.1, omega (arith, left.2, size), subst (λ (cs : List Call). IsImage (after first cs) file) (sym (take-append-le left.0 calls (call ∷ []) left.2)) left.3);
+  keeps = λ t file le left. (
+    left.0,
+    left.1,
+    omega (arith, left.2, size),
+    subst (λ (cs : List Call). IsImage (after_calls first cs) file)
+        (sym (take-append-le left.0 calls (call ∷ []) left.2)) left.3,
+  );
 }
   where
     size : length (calls ++ call ∷ []) ≡ length calls + 1

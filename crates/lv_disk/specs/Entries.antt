@@ -7,14 +7,15 @@ use Rattle.lv_disk.specs.declared.entry.Entry.TheVariants.{Write, Sync}
 -- the written bytes stand one write's after another's, and each entry says how many are its own
 abbrev pub made_by : List Entry → List ℕ → List Call
 made_by [] written = []
-made_by (Write at size ∷ entries) written = Wrote at (take size written) ∷ made_by entries (drop size written)
+made_by (Write at size ∷ entries) written = Wrote at (take size written)
+    ∷ made_by entries (drop size written)
 made_by (Sync ∷ entries) written = Synced ∷ made_by entries written
 
 -- how many bytes all of them wrote
-abbrev pub total : List Entry → ℕ
-total [] = 0
-total (Write at size ∷ entries) = size + total entries
-total (Sync ∷ entries) = total entries
+abbrev pub bytes_of_all : List Entry → ℕ
+bytes_of_all [] = 0
+bytes_of_all (Write at size ∷ entries) = size + bytes_of_all entries
+bytes_of_all (Sync ∷ entries) = bytes_of_all entries
 
 -- the ranges that they wrote, each as its place and its length
 abbrev pub ranges_of : List Entry → List (ℕ × ℕ)

@@ -11,8 +11,8 @@ abbrev pub inner_of : {D : Type 0} → FaultDisk D → D
 inner_of disk = disk.inner
 
 -- how many calls are left up to the one that fails, 0 where none is
-abbrev pub left_of : {D : Type 0} → FaultDisk D → ℕ
-left_of disk = disk.countdown.left
+abbrev pub calls_left : {D : Type 0} → FaultDisk D → ℕ
+calls_left disk = disk.countdown.left
 
 -- how many bytes of a failing write are put down
 abbrev pub part_of : {D : Type 0} → FaultDisk D → ℕ
@@ -23,14 +23,19 @@ abbrev pub own_failures : {D : Type 0} → FaultDisk D → ℕ
 own_failures disk = one_if disk.countdown.failed
 
 -- The call that is next fails. Any other call passes on what the disk inside answers.
-pub record IsCounted {D T E : Type 0} (facts : Ghosts D) (old new : FaultDisk D) (result : Result T E) : Type 0 where
-  pub left : left_of new ≡ left_of old - 1
+pub record IsCounted {D T E : Type 0} (facts : Ghosts D) (old new : FaultDisk D)
+    (result : Result T E) : Type 0 where
+  pub left : calls_left new ≡ calls_left old - 1
   pub part : part_of new ≡ part_of old
-  pub fails : left_of old ≡ 1 → IsErr result
-  pub passes : left_of old ≢ 1 → Counted (facts.failures (inner_of old)) (facts.failures (inner_of new)) result
+  pub fails : calls_left old ≡ 1 → IsErr result
+  pub passes : calls_left old ≢ 1 → Counted (facts.failures (inner_of old))
+      (facts.failures (inner_of new)) result
 
--- These bytes are put down on the disk inside, unless it fails itself; what a stop leaves is a torn write of them.
-pub record PutsDown {D : Type 0} (facts : Ghosts D) (at : ℕ) (bytes : List ℕ) (old new : D) : Type 0 where
+-- These bytes are put down on the disk inside, unless it fails itself; what a stop leaves is a torn
+-- write of them.
+pub record PutsDown {D : Type 0} (facts : Ghosts D) (at : ℕ) (bytes : List ℕ) (old new : D) :
+    Type 0 where
   pub down : Follows (Written at bytes) (facts.reads old) (facts.reads new)
-      ⊎ (Rose (facts.failures old) (facts.failures new) × Follows (Failed at (length bytes)) (facts.reads old) (facts.reads new))
+      ⊎ (Rose (facts.failures old) (facts.failures new)
+      × Follows (Failed at (length bytes)) (facts.reads old) (facts.reads new))
   pub images : Follows (Torn at (length bytes)) (facts.may_leave old) (facts.may_leave new)

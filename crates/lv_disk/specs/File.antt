@@ -3,5 +3,5 @@ use Rattle.std.specs.Prelude.{ℕ}
 use Rattle.lv_disk.specs.declared.file.FileDisk.{FileDisk}
 
 -- how often it has failed
-abbrev pub failures_of : {F : Type 0} → FileDisk F → ℕ
-failures_of disk = disk.failures
+abbrev pub file_failures : {F : Type 0} → FileDisk F → ℕ
+file_failures disk = disk.failures

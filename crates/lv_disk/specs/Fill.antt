@@ -14,7 +14,8 @@ abbrev pub filled : Medium → Fill → ℕ → ℕ
 filled m Stable i = slice_index m.synced i
 filled m Written i = slice_index m.file i
 filled m (Byte b) i = b
-filled m (Upto n) i = if nat_lt (unsynced_before m i) n then slice_index m.file i else slice_index m.synced i
+filled m (Upto n) i = if nat_lt (unsynced_before m i) n then slice_index m.file i
+    else slice_index m.synced i
 
 -- what stands at place i after the stop
 abbrev pub left_at : Medium → Fill → ℕ → ℕ

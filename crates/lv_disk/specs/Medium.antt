@@ -7,8 +7,8 @@ pub data Call : Type 0 where
   Wrote : (at : ℕ) (bytes : List ℕ) → Call
   Synced : Call
 
--- What a disk holds: the file as it reads and, counted from the last good sync, the file of then, the ranges written
--- since, each as its place and its length, and the greatest length since.
+-- What a disk holds: the file as it reads and, counted from the last good sync, the file of then,
+-- the ranges written since, each as its place and its length, and the greatest length since.
 pub record Medium : Type 0 where
   pub file : List ℕ
   pub synced : List ℕ
@@ -19,26 +19,27 @@ pub record Medium : Type 0 where
 abbrev pub overwritten : ℕ → List ℕ → List ℕ → List ℕ
 overwritten at [] file = file
 overwritten at (b ∷ bytes) file =
-    take at (file ++ replicate (at - length file) 0) ++ (b ∷ bytes) ++ drop (at + length (b ∷ bytes)) file
+    take at (file ++ replicate (at - length file) 0) ++ (b ∷ bytes)
+    ++ drop (at + length (b ∷ bytes)) file
 
 -- a file that is all on the disk
 abbrev pub settled : List ℕ → Medium
 settled file = record { file = file; synced = file; writes = []; longest = length file }
 
 -- what a good call makes of a disk
-abbrev pub step : Medium → Call → Medium
-step m (Wrote at bytes) = record {
+abbrev pub after_call : Medium → Call → Medium
+after_call m (Wrote at bytes) = record {
   file = overwritten at bytes m.file;
   synced = m.synced;
   writes = m.writes ++ (at, length bytes) ∷ [];
   longest = max m.longest (length (overwritten at bytes m.file));
 }
-step m Synced = settled m.file
+after_call m Synced = settled m.file
 
 -- what these calls make of it, the first of them first
-abbrev pub after : Medium → List Call → Medium
-after m [] = m
-after m (call ∷ calls) = after (step m call) calls
+abbrev pub after_calls : Medium → List Call → Medium
+after_calls m [] = m
+after_calls m (call ∷ calls) = after_calls (after_call m call) calls
 
 -- place i is in this range
 abbrev pub is_in : ℕ → ℕ × ℕ → Bool
@@ -48,8 +49,8 @@ is_in i range = nat_le range.0 i && nat_lt i (range.0 + range.1)
 abbrev pub is_unsynced : Medium → ℕ → Bool
 is_unsynced m i = nat_le (length m.synced) i || list_any (is_in i) m.writes
 
--- What a stop may leave: unsynced bytes are anything, all others are as synced, and the length lies between that of the
--- last good sync and the greatest since.
+-- What a stop may leave: unsynced bytes are anything, all others are as synced, and the length lies
+-- between that of the last good sync and the greatest since.
 pub record IsImage (m : Medium) (file : List ℕ) : Type 0 where
   pub no_shorter : length m.synced ≤ length file
   pub no_longer : length file ≤ m.longest
@@ -57,7 +58,8 @@ pub record IsImage (m : Medium) (file : List ℕ) : Type 0 where
 
 -- what a stop after so many of the calls, or later, might have left
 abbrev pub LeftSince : Medium → List Call → ℕ → List ℕ → Type 0
-LeftSince first calls t file = (k : ℕ) × (t ≤ k) × (k ≤ length calls) × IsImage (after first (take k calls)) file
+LeftSince first calls t file = (k : ℕ) × (t ≤ k) × (k ≤ length calls)
+    × IsImage (after_calls first (take k calls)) file
 
 -- the bytes that a record of these calls takes: 16 a call, and those written
 abbrev pub size_of : List Call → ℕ

@@ -1,13 +1,13 @@
 -- A disk in memory: what it shows, and what its calls make of it.
 use Rattle.std.specs.Prelude.{◌≡◌, ℕ, List, [], ◌++◌}
-use Rattle.lv_disk.specs.Medium.{Call, Medium, settled, after}
+use Rattle.lv_disk.specs.Medium.{Call, Medium, settled, after_calls}
 use Rattle.lv_disk.specs.FixedFile.{bytes_of, most_of}
 use Rattle.lv_disk.specs.Calls.{calls_in, record_room}
 use Rattle.lv_disk.specs.declared.memory.MemoryDisk.{MemoryDisk}
 
 -- the file as it was before the first call of the record
-abbrev pub first_of : MemoryDisk → Medium
-first_of d = settled (bytes_of d.first)
+abbrev pub first_medium : MemoryDisk → Medium
+first_medium d = settled (bytes_of d.first)
 
 -- the good calls in its record
 abbrev pub calls_of : MemoryDisk → List Call
@@ -15,30 +15,30 @@ calls_of d = calls_in d.calls
 
 -- what it holds
 abbrev pub medium_of : MemoryDisk → Medium
-medium_of d = after (first_of d) (calls_of d)
+medium_of d = after_calls (first_medium d) (calls_of d)
 
 -- how many bytes its file may have, and how many its record
-abbrev pub room_of : MemoryDisk → ℕ
-room_of d = most_of d.file
+abbrev pub memory_room : MemoryDisk → ℕ
+memory_room d = most_of d.file
 
 abbrev pub log_of : MemoryDisk → ℕ
 log_of d = record_room d.calls
 
 -- how often it has failed
-abbrev pub failures_of : MemoryDisk → ℕ
-failures_of d = d.failures
+abbrev pub memory_failures : MemoryDisk → ℕ
+memory_failures d = d.failures
 
 -- it has these calls more in its record, of the same size
 pub record Goes (calls : List Call) (old new : MemoryDisk) : Type 0 where
-  pub first : first_of new ≡ first_of old
+  pub first : first_medium new ≡ first_medium old
   pub calls_are : calls_of new ≡ calls_of old ++ calls
-  pub room : room_of new ≡ room_of old
+  pub room : memory_room new ≡ memory_room old
   pub log : log_of new ≡ log_of old
 
 -- it begins with this file, all of it on the disk, and with an empty record
 pub record Begins (file : List ℕ) (room log : ℕ) (d : MemoryDisk) : Type 0 where
   pub holds : medium_of d ≡ settled file
   pub calls_are : calls_of d ≡ []
-  pub room_is : room_of d ≡ room
+  pub room_is : memory_room d ≡ room
   pub log_is : log_of d ≡ log
-  pub failures_are : failures_of d ≡ 0
+  pub failures_are : memory_failures d ≡ 0

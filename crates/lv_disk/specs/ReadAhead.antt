@@ -3,5 +3,5 @@ use Rattle.lv_disk.specs.declared.disk.Disk.{Ghosts}
 use Rattle.lv_disk.specs.declared.read_ahead.ReadAhead.{ReadAhead}
 
 -- the disk inside
-abbrev pub inner_of : {D : Type 0} {ghosts : Ghosts D} → ReadAhead D ghosts → D
-inner_of disk = disk.inner
+abbrev pub disk_in : {D : Type 0} {ghosts : Ghosts D} → ReadAhead D ghosts → D
+disk_in disk = disk.inner

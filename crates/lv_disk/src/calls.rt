@@ -1,7 +1,7 @@
 //! The record of a memory disk's good calls, from which the images of past moments are known.
 ghost use Rattle.std.specs.Prelude.{◌≡◌, ◌≤◌, ◌<◌, ◌+◌, ◌*◌, ◌/◌, ◌^◌, ◌↔◌, [], ◌∷◌, ◌++◌, length, take, IfOk, IsTrue};
 ghost use Rattle.std.specs.List.{list_any};
-ghost use Rattle.lv_disk.specs.Entries.{has_place, total};
+ghost use Rattle.lv_disk.specs.Entries.{has_place, bytes_of_all};
 ghost use Rattle.lv_disk.specs.Medium.{Synced, Wrote, is_in, size_of};
 
 use crate::OutOfMemory;
@@ -19,7 +19,7 @@ pub struct Calls {
     // The first `used` are the bytes of the writes, one write's after another's.
     written: Vec<u8>,
     used: usize,
-    ghost used_is: { total (take count entries.items) ≡ used },
+    ghost used_is: { bytes_of_all (take count entries.items) ≡ used },
     ghost fits: { 16 * count + used ≤ length written.items },
     ghost entries_fit: { length entries.items ≡ length written.items / 16 },
     ghost since_fits: { since ≤ count },

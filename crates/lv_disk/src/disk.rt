@@ -1,7 +1,7 @@
 //! A disk as the layers above see it: what a read gives, and what a stop may leave.
 ghost use Rattle.std.specs.Prelude.{◌≡◌, ◌≤◌, ◌+◌, List, ℕ, length, OnOk, OnErr, IfOk};
 ghost use Rattle.lv_disk.specs.Files.{Failed, HasAt, Torn, Written};
-ghost use Rattle.lv_disk.specs.Stops.{Counted, Each, Elapses, Follows, Leads};
+ghost use Rattle.lv_disk.specs.Stops.{Counted, Each, Elapses, Follows, LeadsBy};
 
 use crate::DeviceFault;
 
@@ -52,11 +52,11 @@ pub trait Disk {
         ensures written { OnOk result
             (Follows (Written at from.now) (reads self.old) (reads self.new)) }
         ensures leads { OnOk result
-            (Leads (Written at from.now) (reads self.old) (reads self.new)) }
+            (LeadsBy (Written at from.now) (reads self.old) (reads self.new)) }
         ensures failed { OnErr result
             (Follows (Failed at (length from.now)) (reads self.old) (reads self.new)) }
         ensures leads_failed { OnErr result
-            (Leads (Failed at (length from.now)) (reads self.old) (reads self.new)) }
+            (LeadsBy (Failed at (length from.now)) (reads self.old) (reads self.new)) }
         ensures images { Follows (Torn at (length from.now)) (may_leave self.old)
             (may_leave self.new) }
         ensures kept { Each (may_leave self.old) (may_leave self.new) }

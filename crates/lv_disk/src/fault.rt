@@ -1,7 +1,7 @@
 //! A disk of which one call fails.
 ghost use Rattle.std.specs.Prelude.{◌≡◌, ◌<◌, ◌≤◌, ◌+◌, length, take, IfOk, IsErr, OnErr, OnOk, false};
 ghost use Rattle.lv_disk.specs.Files.{Failed, HasAt, Torn, Written};
-ghost use Rattle.lv_disk.specs.Stops.{Counted, Each, Elapses, Follows, Leads};
+ghost use Rattle.lv_disk.specs.Stops.{Counted, Each, Elapses, Follows, LeadsBy};
 
 use crate::countdown::Countdown;
 use crate::{DeviceFault, Disk};
@@ -14,12 +14,12 @@ pub struct FaultDisk<D> {
 }
 
 impl<D> FaultDisk<D> {
-    ghost use Rattle.lv_disk.specs.Fault.{inner_of, left_of, part_of, own_failures};
+    ghost use Rattle.lv_disk.specs.Fault.{inner_of, calls_left, part_of, own_failures};
 
     /// The `k`-th call from 1 fails, none where `k` is 0. Where that is a write, its first `part` bytes are put down.
     pub fn new(inner: D, k: u64, part: u32) -> Self
         ensures inner { inner_of result ≡ inner }
-        ensures left { left_of result ≡ k }
+        ensures left { calls_left result ≡ k }
         ensures part { part_of result ≡ part }
         ensures failures { own_failures result ≡ 0 }
     {
@@ -40,16 +40,16 @@ impl<D> FaultDisk<D> {
 }
 
 impl<D: Disk> FaultDisk<D> {
-    ghost use Rattle.lv_disk.specs.Fault.{inner_of, left_of, part_of, own_failures, PutsDown};
+    ghost use Rattle.lv_disk.specs.Fault.{inner_of, calls_left, part_of, own_failures, PutsDown};
 
     // A write that fails: puts its first bytes down.
     fn put_down(&mut self, at: u64, from: &[u8]) -> Result<(), DeviceFault>
-        requires last { left_of self.old ≡ 0 }
+        requires last { calls_left self.old ≡ 0 }
         requires first { self.old.countdown.failed ≡ false }
         ensures err { IsErr result }
         ensures failed { Follows (Failed at (length from.now))
             (D.reads (inner_of self.old)) (D.reads (inner_of self.new)) }
-        ensures leads { Leads (Failed at (length from.now))
+        ensures leads { LeadsBy (Failed at (length from.now))
             (D.reads (inner_of self.old)) (D.reads (inner_of self.new)) }
         ensures images { Follows (Torn at (length from.now))
             (D.may_leave (inner_of self.old)) (D.may_leave (inner_of self.new)) }
@@ -59,7 +59,7 @@ impl<D: Disk> FaultDisk<D> {
             (D.may_leave new) }
         ensures count { Counted (own_failures self.old + D.failures (inner_of self.old))
             (own_failures self.new + D.failures (inner_of self.new)) result }
-        ensures left { left_of self.new ≡ 0 }
+        ensures left { calls_left self.new ≡ 0 }
         ensures same { part_of self.new ≡ part_of self.old }
         ensures untouched { part_of self.old ≡ 0 → inner_of self.new ≡ inner_of self.old }
         ensures part { 0 < part_of self.old → PutsDown D.Disk at (take (part_of self.old) from.now)
@@ -75,7 +75,7 @@ impl<D: Disk> FaultDisk<D> {
 }
 
 impl<D: Disk> Disk for FaultDisk<D> {
-    ghost use Rattle.lv_disk.specs.Fault.{inner_of, left_of, part_of, own_failures, IsCounted, PutsDown};
+    ghost use Rattle.lv_disk.specs.Fault.{inner_of, calls_left, part_of, own_failures, IsCounted, PutsDown};
 
     ghost reads = { λ d. D.reads (inner_of d) };
 
@@ -108,7 +108,7 @@ impl<D: Disk> Disk for FaultDisk<D> {
 
         // Beyond what every disk promises: which call fails, and that the others are those of the disk inside.
         ensures call { IsCounted D.Disk self.old self.new result }
-        ensures untouched { left_of self.old ≡ 1 → inner_of self.new ≡ inner_of self.old }
+        ensures untouched { calls_left self.old ≡ 1 → inner_of self.new ≡ inner_of self.old }
     {
         if self.countdown.is_next() {
             return self.countdown.fail();
@@ -131,7 +131,7 @@ impl<D: Disk> Disk for FaultDisk<D> {
 
         // Beyond what every disk promises: which call fails, and that the others are those of the disk inside.
         ensures call { IsCounted D.Disk self.old self.new result }
-        ensures untouched { left_of self.old ≡ 1 → inner_of self.new ≡ inner_of self.old }
+        ensures untouched { calls_left self.old ≡ 1 → inner_of self.new ≡ inner_of self.old }
     {
         if self.countdown.is_next() {
             return self.countdown.fail();
@@ -142,11 +142,11 @@ impl<D: Disk> Disk for FaultDisk<D> {
     fn write_at(&mut self, at: u64, from: &[u8]) -> Result<(), DeviceFault>
         ensures written { OnOk result (Follows (Written at from.now)
             (D.reads (inner_of self.old)) (D.reads (inner_of self.new))) }
-        ensures leads { OnOk result (Leads (Written at from.now)
+        ensures leads { OnOk result (LeadsBy (Written at from.now)
             (D.reads (inner_of self.old)) (D.reads (inner_of self.new))) }
         ensures failed { OnErr result (Follows (Failed at (length from.now))
             (D.reads (inner_of self.old)) (D.reads (inner_of self.new))) }
-        ensures leads_failed { OnErr result (Leads (Failed at (length from.now))
+        ensures leads_failed { OnErr result (LeadsBy (Failed at (length from.now))
             (D.reads (inner_of self.old)) (D.reads (inner_of self.new))) }
         ensures images { Follows (Torn at (length from.now))
             (D.may_leave (inner_of self.old)) (D.may_leave (inner_of self.new)) }
@@ -159,9 +159,9 @@ impl<D: Disk> Disk for FaultDisk<D> {
 
         // Beyond what every disk promises: which call fails, and that the others are those of the disk inside.
         ensures call { IsCounted D.Disk self.old self.new result }
-        ensures untouched { left_of self.old ≡ 1 → part_of self.old ≡ 0 → inner_of self.new
+        ensures untouched { calls_left self.old ≡ 1 → part_of self.old ≡ 0 → inner_of self.new
             ≡ inner_of self.old }
-        ensures part { left_of self.old ≡ 1 → 0 < part_of self.old
+        ensures part { calls_left self.old ≡ 1 → 0 < part_of self.old
             → PutsDown D.Disk at (take (part_of self.old) from.now)
             (inner_of self.old) (inner_of self.new) }
     {
@@ -185,7 +185,7 @@ impl<D: Disk> Disk for FaultDisk<D> {
 
         // Beyond what every disk promises: which call fails, and that the others are those of the disk inside.
         ensures call { IsCounted D.Disk self.old self.new result }
-        ensures untouched { left_of self.old ≡ 1 → inner_of self.new ≡ inner_of self.old }
+        ensures untouched { calls_left self.old ≡ 1 → inner_of self.new ≡ inner_of self.old }
     {
         if self.countdown.is_next() {
             return self.countdown.fail();

@@ -20,11 +20,11 @@ pub struct FileDisk<F> {
 }
 
 impl<F> FileDisk<F> {
-    ghost use Rattle.lv_disk.specs.File.{failures_of};
+    ghost use Rattle.lv_disk.specs.File.{file_failures};
 
     /// The disk of a file that is open for reads, and with `writes` for writes too.
     pub fn new(file: F, writes: bool) -> FileDisk<F>
-        ensures { failures_of result ≡ 0 }
+        ensures { file_failures result ≡ 0 }
     {
         FileDisk {
             file,
@@ -39,7 +39,7 @@ impl<F> FileDisk<F> {
         path: &str,
         new: bool,
     ) -> Result<FileDisk<F>, DeviceFault>
-        ensures { IfOk result (λ d. failures_of d ≡ 0) }
+        ensures { IfOk result (λ d. file_failures d ≡ 0) }
     {
         let opened = OpenOptions::new()
             .read(true)
@@ -54,7 +54,7 @@ impl<F> FileDisk<F> {
 
     // Counts a call that the system refused.
     fn counted<T>(&mut self, outcome: io::Result<T>) -> Result<T, DeviceFault>
-        ensures count { Counted (failures_of self.old) (failures_of self.new) result }
+        ensures count { Counted (file_failures self.old) (file_failures self.new) result }
         ensures same { is_ok result ≡ is_ok outcome }
     {
         match outcome {
@@ -81,7 +81,7 @@ fn without_refusal(done: io::Result<()>) -> io::Result<()> {
 }
 
 impl<F: FileExt + OpenFile> Disk for FileDisk<F> {
-    ghost use Rattle.lv_disk.specs.File.{failures_of};
+    ghost use Rattle.lv_disk.specs.File.{file_failures};
 
     ghost reads = { λ _ _. ⊥ };
 
@@ -91,7 +91,7 @@ impl<F: FileExt + OpenFile> Disk for FileDisk<F> {
 
     ghost left_since = { λ _ _ _. ⊥ };
 
-    ghost failures = { λ d. failures_of d };
+    ghost failures = { λ d. file_failures d };
 
     ghost reads_an_image = { λ _ _ is. is };
 

@@ -1,7 +1,7 @@
 //! A law on a disk in memory. The function has no body: its contract is the law.
 ghost use Rattle.std.specs.Prelude.{◌≡◌, ◌↔◌, List, ℕ, length};
 ghost use Rattle.lv_disk.specs.Medium.{IsImage, LeftSince};
-ghost use Rattle.lv_disk.specs.Memory.{calls_of, failures_of, first_of, medium_of};
+ghost use Rattle.lv_disk.specs.Memory.{calls_of, memory_failures, first_medium, medium_of};
 ghost use Rattle.lv_disk.specs.declared.memory.MemoryDisk.{MemoryDisk as Memory};
 
 use crate::{Disk, MemoryDisk};
@@ -17,6 +17,7 @@ pub fn show_the_disk_model()
     ensures moment { (disk : Memory) → ⟦<MemoryDisk as Disk>⟧.moment disk ≡ length (calls_of disk) }
     ensures since { (disk : Memory) (t : ℕ) (file : List ℕ)
         → ⟦<MemoryDisk as Disk>⟧.left_since disk t file
-        ↔ LeftSince (first_of disk) (calls_of disk) t file }
-    ensures failures { (disk : Memory) → ⟦<MemoryDisk as Disk>⟧.failures disk ≡ failures_of disk }
+        ↔ LeftSince (first_medium disk) (calls_of disk) t file }
+    ensures failures { (disk : Memory)
+        → ⟦<MemoryDisk as Disk>⟧.failures disk ≡ memory_failures disk }
 {}

@@ -6,7 +6,7 @@ ghost use Rattle.lv_disk.specs.Files.{Failed, HasAt, Torn, Written};
 ghost use Rattle.lv_disk.specs.Fill.{filled, left_at, stopped, unsynced_before};
 ghost use Rattle.lv_disk.specs.FixedFile.{bytes_of, most_of};
 ghost use Rattle.lv_disk.specs.Shows.{Shows};
-ghost use Rattle.lv_disk.specs.Medium.{IsImage, LeftSince, Synced, Wrote, after, is_unsynced, settled, size_of};
+ghost use Rattle.lv_disk.specs.Medium.{IsImage, LeftSince, Synced, Wrote, after_calls, is_unsynced, settled, size_of};
 ghost use Rattle.lv_disk.specs.MediumLaws.{image_now, left_now, reads_image};
 ghost use Rattle.lv_disk.specs.Stops.{Counted, Each, Elapses, Follows};
 
@@ -27,7 +27,7 @@ pub struct MemoryDisk {
     first: FixedFile,
     calls: Calls,
     failures: u64,
-    ghost shows: { Shows (after (settled (bytes_of first)) (calls_in calls))
+    ghost shows: { Shows (after_calls (settled (bytes_of first)) (calls_in calls))
         (bytes_of file) (bytes_of synced) (ranges_in calls) },
     ghost same_room: { most_of synced ≡ most_of file },
 }
@@ -46,7 +46,7 @@ impl Drop for MemoryDisk {
 }
 
 impl MemoryDisk {
-    ghost use Rattle.lv_disk.specs.Memory.{Begins, Goes, calls_of, failures_of, log_of, medium_of, room_of};
+    ghost use Rattle.lv_disk.specs.Memory.{Begins, Goes, calls_of, memory_failures, log_of, medium_of, memory_room};
 
     /// An empty disk, for a file of at most `room` bytes and a record of at most `log`.
     pub fn new(alloc: Global, room: u32, log: u32) -> Result<MemoryDisk, OutOfMemory>
@@ -60,7 +60,7 @@ impl MemoryDisk {
     pub fn stop(&self, alloc: Global, fill: Fill, longest: bool) -> Result<MemoryDisk, OutOfMemory>
         ensures image { IsImage (medium_of self.now) (stopped (medium_of self.now) fill longest) }
         ensures begins { IfOk result (Begins (stopped (medium_of self.now) fill longest)
-            (room_of self.now) (log_of self.now)) }
+            (memory_room self.now) (log_of self.now)) }
         ensures only { IfOk result
             (λ d. Each (IsImage (medium_of d)) (λ image. image ≡ (medium_of d).file)) }
     {
@@ -75,10 +75,10 @@ impl MemoryDisk {
 
     // So many bytes of the image that the fill names.
     fn image(&self, alloc: Global, fill: Fill, size: usize) -> Result<FixedFile, OutOfMemory>
-        requires { size ≤ room_of self.now }
+        requires { size ≤ memory_room self.now }
         ensures bytes { IfOk result (λ f.
             bytes_of f ≡ map (left_at (medium_of self.now) fill) (range_with_len 0 size)) }
-        ensures most { IfOk result (λ f. most_of f ≡ room_of self.now) }
+        ensures most { IfOk result (λ f. most_of f ≡ memory_room self.now) }
     {
         let mut image = FixedFile::new(alloc, self.file.most())?;
         let mut before = 0;
@@ -102,7 +102,7 @@ impl MemoryDisk {
 
     // What stands at an unsynced place, with so many before it.
     fn filled(&self, fill: Fill, place: usize, before: usize) -> u8
-        requires place { place < room_of self.now }
+        requires place { place < memory_room self.now }
         requires before { before ≡ unsynced_before (medium_of self.now) place }
         ensures { result ≡ filled (medium_of self.now) fill place }
     {
@@ -135,7 +135,7 @@ impl MemoryDisk {
     // Whether a write of so many bytes ends within the room and has a place in the record.
     fn has_room(&self, at: u64, size: usize) -> bool
         ensures { IsTrue result
-            ↔ ((at + size ≤ room_of self.now)
+            ↔ ((at + size ≤ memory_room self.now)
             × (size_of (calls_of self.now) + 16 + size ≤ log_of self.now)) }
     {
         let room = self.file.most();
@@ -147,7 +147,7 @@ impl MemoryDisk {
     fn fail(&mut self) -> Result<(), DeviceFault>
         ensures err { IsErr result }
         ensures nothing { Goes [] self.old self.new }
-        ensures count { Counted (failures_of self.old) (failures_of self.new) result }
+        ensures count { Counted (memory_failures self.old) (memory_failures self.new) result }
     {
         self.failures = self.failures.saturating_add(1);
         Err(DeviceFault)
@@ -155,10 +155,10 @@ impl MemoryDisk {
 
     // The call as a good one.
     fn write(&mut self, at: usize, from: &[u8])
-        requires within { at + length from.now ≤ room_of self.old }
+        requires within { at + length from.now ≤ memory_room self.old }
         requires place { size_of (calls_of self.old) + 16 + length from.now ≤ log_of self.old }
         ensures goes { Goes (Wrote at from.now ∷ []) self.old self.new }
-        ensures failures { failures_of self.new ≡ failures_of self.old }
+        ensures failures { memory_failures self.new ≡ memory_failures self.old }
     {
         self.file.write(at, from);
         self.calls.push_write(at, from);
@@ -168,7 +168,7 @@ impl MemoryDisk {
     fn settle(&mut self)
         requires place { size_of (calls_of self.old) + 16 ≤ log_of self.old }
         ensures goes { Goes (Synced ∷ []) self.old self.new }
-        ensures failures { failures_of self.new ≡ failures_of self.old }
+        ensures failures { memory_failures self.new ≡ memory_failures self.old }
     {
         self.synced.copy(&self.file);
         self.calls.push_sync();
@@ -176,7 +176,7 @@ impl MemoryDisk {
 }
 
 impl Disk for MemoryDisk {
-    ghost use Rattle.lv_disk.specs.Memory.{Goes, calls_of, failures_of, first_of, log_of, medium_of, room_of};
+    ghost use Rattle.lv_disk.specs.Memory.{Goes, calls_of, memory_failures, first_medium, log_of, medium_of, memory_room};
 
     ghost reads = { λ d file. file ≡ (medium_of d).file };
 
@@ -184,15 +184,15 @@ impl Disk for MemoryDisk {
 
     ghost moment = { λ d. length (calls_of d) };
 
-    ghost left_since = { λ d. LeftSince (first_of d) (calls_of d) };
+    ghost left_since = { λ d. LeftSince (first_medium d) (calls_of d) };
 
-    ghost failures = { failures_of };
+    ghost failures = { memory_failures };
 
     ghost reads_an_image = { λ d file is. reads_image (medium_of d) file d.shows.image is };
 
-    ghost counts_now = { λ d t file le now. left_now (first_of d) (calls_of d) t file le now };
+    ghost counts_now = { λ d t file le now. left_now (first_medium d) (calls_of d) t file le now };
 
-    ghost only_now = { λ d file left. image_now (first_of d) (calls_of d) file left };
+    ghost only_now = { λ d file left. image_now (first_medium d) (calls_of d) file left };
 
     fn len(&mut self) -> Result<u64, DeviceFault>
         ensures ok { result ≡ Ok (length (medium_of self.old).file) }
@@ -212,11 +212,11 @@ impl Disk for MemoryDisk {
     }
 
     fn write_at(&mut self, at: u64, from: &[u8]) -> Result<(), DeviceFault>
-        ensures ok { IsOk result ↔ ((at + length from.now ≤ room_of self.old)
+        ensures ok { IsOk result ↔ ((at + length from.now ≤ memory_room self.old)
             × (size_of (calls_of self.old) + 16 + length from.now ≤ log_of self.old)) }
         ensures done { OnOk result (Goes (Wrote at from.now ∷ []) self.old self.new) }
         ensures nothing { OnErr result (Goes [] self.old self.new) }
-        ensures count { Counted (failures_of self.old) (failures_of self.new) result }
+        ensures count { Counted (memory_failures self.old) (memory_failures self.new) result }
     {
         if !self.has_room(at, from.len()) {
             return self.fail();
@@ -229,7 +229,7 @@ impl Disk for MemoryDisk {
         ensures ok { IsOk result ↔ (size_of (calls_of self.old) + 16 ≤ log_of self.old) }
         ensures done { OnOk result (Goes (Synced ∷ []) self.old self.new) }
         ensures nothing { OnErr result (Goes [] self.old self.new) }
-        ensures count { Counted (failures_of self.old) (failures_of self.new) result }
+        ensures count { Counted (memory_failures self.old) (memory_failures self.new) result }
     {
         if !self.calls.has_room(0) {
             return self.fail();

@@ -38,11 +38,11 @@ pub struct ReadAhead<D: Disk> {
 }
 
 impl<D: Disk> ReadAhead<D> {
-    ghost use Rattle.lv_disk.specs.ReadAhead.{inner_of};
+    ghost use Rattle.lv_disk.specs.ReadAhead.{disk_in};
 
     /// The disk, with nothing read of it yet.
     pub fn new(inner: D, buffer: Buffer) -> ReadAhead<D>
-        ensures { inner_of result ≡ inner }
+        ensures { disk_in result ≡ inner }
     {
         ReadAhead {
             inner,
@@ -54,7 +54,7 @@ impl<D: Disk> ReadAhead<D> {
 
     /// The disk inside.
     pub fn into_inner(self) -> D
-        ensures { result ≡ inner_of self }
+        ensures { result ≡ disk_in self }
     {
         self.inner
     }
@@ -62,7 +62,7 @@ impl<D: Disk> ReadAhead<D> {
     // Empties the buffer.
     fn forget(&mut self)
         ensures empty { self.new.filled ≡ 0 }
-        ensures inner { inner_of self.new ≡ inner_of self.old }
+        ensures inner { disk_in self.new ≡ disk_in self.old }
     {
         self.at = 0;
         self.filled = 0;
@@ -83,7 +83,7 @@ impl<D: Disk> ReadAhead<D> {
     fn copy(&self, at: u64, into: &mut [u8])
         requires begins { self.now.at ≤ at }
         requires ends { at + length into.old ≤ self.now.at + self.now.filled }
-        ensures { Each (D.reads (inner_of self.now)) (HasAt at into.new) }
+        ensures { Each (D.reads (disk_in self.now)) (HasAt at into.new) }
     {
         let skipped = (at - self.at) as usize;
         into.copy_from_slice(&self.buffer.bytes[skipped..skipped + into.len()]);
@@ -91,16 +91,16 @@ impl<D: Disk> ReadAhead<D> {
 
     // Fills the buffer from a place on, as far as the file reaches.
     fn refill(&mut self, at: u64) -> Result<(), DeviceFault>
-        requires { Each (D.reads (inner_of self.old)) (λ file. at ≤ length file) }
-        ensures reads { Each (D.reads (inner_of self.new)) (D.reads (inner_of self.old)) }
-        ensures still { Each (D.reads (inner_of self.old)) (D.reads (inner_of self.new)) }
-        ensures images { Each (D.may_leave (inner_of self.new)) (D.may_leave (inner_of self.old)) }
-        ensures kept { Each (D.may_leave (inner_of self.old)) (D.may_leave (inner_of self.new)) }
-        ensures time { let old = inner_of self.old in let new = inner_of self.new in
+        requires { Each (D.reads (disk_in self.old)) (λ file. at ≤ length file) }
+        ensures reads { Each (D.reads (disk_in self.new)) (D.reads (disk_in self.old)) }
+        ensures still { Each (D.reads (disk_in self.old)) (D.reads (disk_in self.new)) }
+        ensures images { Each (D.may_leave (disk_in self.new)) (D.may_leave (disk_in self.old)) }
+        ensures kept { Each (D.may_leave (disk_in self.old)) (D.may_leave (disk_in self.new)) }
+        ensures time { let old = disk_in self.old in let new = disk_in self.new in
             Elapses (D.moment old) (D.moment new) (D.left_since old) (D.left_since new)
             (D.may_leave new) }
-        ensures count { Counted (D.failures (inner_of self.old))
-            (D.failures (inner_of self.new)) result }
+        ensures count { Counted (D.failures (disk_in self.old))
+            (D.failures (disk_in self.new)) result }
     {
         self.forget();
         let length = self.inner.len()?;
@@ -115,18 +115,18 @@ impl<D: Disk> ReadAhead<D> {
 
     // Has the range in the buffer, where the buffer is long enough.
     fn reach(&mut self, at: u64, len: usize) -> Result<bool, DeviceFault>
-        requires { Each (D.reads (inner_of self.old)) (λ file. at ≤ length file) }
+        requires { Each (D.reads (disk_in self.old)) (λ file. at ≤ length file) }
         ensures held { IfOk result (λ held. held ≡ true
             → (self.new.at ≤ at) × (at + len ≤ self.new.at + self.new.filled)) }
-        ensures reads { Each (D.reads (inner_of self.new)) (D.reads (inner_of self.old)) }
-        ensures still { Each (D.reads (inner_of self.old)) (D.reads (inner_of self.new)) }
-        ensures images { Each (D.may_leave (inner_of self.new)) (D.may_leave (inner_of self.old)) }
-        ensures kept { Each (D.may_leave (inner_of self.old)) (D.may_leave (inner_of self.new)) }
-        ensures time { let old = inner_of self.old in let new = inner_of self.new in
+        ensures reads { Each (D.reads (disk_in self.new)) (D.reads (disk_in self.old)) }
+        ensures still { Each (D.reads (disk_in self.old)) (D.reads (disk_in self.new)) }
+        ensures images { Each (D.may_leave (disk_in self.new)) (D.may_leave (disk_in self.old)) }
+        ensures kept { Each (D.may_leave (disk_in self.old)) (D.may_leave (disk_in self.new)) }
+        ensures time { let old = disk_in self.old in let new = disk_in self.new in
             Elapses (D.moment old) (D.moment new) (D.left_since old) (D.left_since new)
             (D.may_leave new) }
-        ensures count { Counted (D.failures (inner_of self.old))
-            (D.failures (inner_of self.new)) result }
+        ensures count { Counted (D.failures (disk_in self.old))
+            (D.failures (disk_in self.new)) result }
     {
         if !self.holds(at, len) {
             self.refill(at)?;
@@ -136,17 +136,17 @@ impl<D: Disk> ReadAhead<D> {
 }
 
 impl<D: Disk> Disk for ReadAhead<D> {
-    ghost use Rattle.lv_disk.specs.ReadAhead.{inner_of};
+    ghost use Rattle.lv_disk.specs.ReadAhead.{disk_in};
 
-    ghost reads = { λ d. D.reads (inner_of d) };
+    ghost reads = { λ d. D.reads (disk_in d) };
 
-    ghost may_leave = { λ d. D.may_leave (inner_of d) };
+    ghost may_leave = { λ d. D.may_leave (disk_in d) };
 
-    ghost moment = { λ d. D.moment (inner_of d) };
+    ghost moment = { λ d. D.moment (disk_in d) };
 
-    ghost left_since = { λ d. D.left_since (inner_of d) };
+    ghost left_since = { λ d. D.left_since (disk_in d) };
 
-    ghost failures = { λ d. D.failures (inner_of d) };
+    ghost failures = { λ d. D.failures (disk_in d) };
 
     ghost reads_an_image = { λ d file is. D.reads_an_image d.inner file is };
 

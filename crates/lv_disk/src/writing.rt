@@ -2,7 +2,7 @@
 ghost use Rattle.std.specs.Prelude.{length, OnErr, OnOk};
 ghost use Rattle.lv_disk.specs.Files.{Failed, Torn, Written};
 ghost use Rattle.lv_disk.specs.Moments.{LeavesOnly};
-ghost use Rattle.lv_disk.specs.Stops.{Counted, Each, Follows, From, Leads};
+ghost use Rattle.lv_disk.specs.Stops.{Counted, Each, Follows, From, LeadsBy};
 
 use crate::{DeviceFault, Disk};
 
@@ -14,11 +14,11 @@ pub fn write_through<D: Disk>(disk: &mut D, at: u64, from: &[u8]) -> Result<(), 
     ensures written { OnOk result
         (Follows (Written at from.now) (D.reads disk.old) (D.reads disk.new)) }
     ensures leads { OnOk result
-        (Leads (Written at from.now) (D.reads disk.old) (D.reads disk.new)) }
+        (LeadsBy (Written at from.now) (D.reads disk.old) (D.reads disk.new)) }
     ensures failed { OnErr result
         (Follows (Failed at (length from.now)) (D.reads disk.old) (D.reads disk.new)) }
     ensures leads_failed { OnErr result
-        (Leads (Failed at (length from.now)) (D.reads disk.old) (D.reads disk.new)) }
+        (LeadsBy (Failed at (length from.now)) (D.reads disk.old) (D.reads disk.new)) }
     ensures any_moment { LeavesOnly D.Disk disk.old disk.new
         (From (D.may_leave disk.old) (Torn at (length from.now))) }
     ensures count { Counted (D.failures disk.old) (D.failures disk.new) result }

@@ -18,8 +18,8 @@ use Rattle.lv_maptables.proofs.ProjectLemmas.{added_is}
 use Rattle.lv_commands.specs.declared.command.Command.TheVariants.{Name}
 use Rattle.lv_commands.specs.declared.project.command.ProjectCommand.{ProjectCommand}
 use Rattle.lv_commands.specs.declared.project.command.ProjectCommand.TheVariants.{Edit, SelectMap}
-use Rattle.lv_commands.specs.ProjectCommands.{spelling}
-use Rattle.lv_commands.specs.ProjectStep.{number_of}
+use Rattle.lv_commands.specs.ProjectCommands.{project_spelling}
+use Rattle.lv_commands.specs.ProjectStep.{project_number_of}
 use Rattle.lv_commands.specs.ProjectLines.{Leads, LeadsTo}
 use Rattle.lv_commands.proofs.ProjectOutcomes.{one_project}
 use Rattle.lv_commands.proofs.ProjectSteps.{step-accepts}
@@ -39,7 +39,7 @@ own_name name m e = (bytes_eq-Decides m.name.bytes name.bytes).1 (ap (λ n. n.by
 -- where each map has another name, none has it
 none_named : (p : ProjectMaps) (name : Name8) → ((k : ℕ) (d : Tables) → k < length p.maps → is_named name (get_or p.maps k d) ≡ false) → has_map p name ≡ false
 none_named p name others =
-    let past : project.number_of p name ≡ length p.maps =
+    let past : project.map_number_of p name ≡ length p.maps =
     position_or_len_is (is_named name) p.maps (length p.maps) empty_tables (omega arith)
     (λ k h. others k empty_tables h) (λ h. absurd (omega (arith, h))) in
     ap (λ n. nat_lt n (length p.maps)) past ∙ le-ltb (length p.maps) (length p.maps) (omega arith)
@@ -62,12 +62,12 @@ rename_free m name = by (is_named name m) refl
 
 -- ---- The first map is renamed, each other is added
 
-leads_name : (cap : ℕ) (m : Tables) → WellFormed m → body_len (drawing [] m) ≤ cap → LeadsTo cap empty_project (spelling (Edit (Name m.name))) (drawing [] (with_name empty_tables m.name))
+leads_name : (cap : ℕ) (m : Tables) → WellFormed m → body_len (drawing [] m) ≤ cap → LeadsTo cap empty_project (project_spelling (Edit (Name m.name))) (drawing [] (with_name empty_tables m.name))
 leads_name cap m w fits =
     leads_one cap [] m empty_tables (with_name empty_tables m.name) (Name m.name) (record { range = w.name; free = refl; made = refl; short = omega arith }) (rename_free empty_tables m.name) fits
 
 leads_new : (cap : ℕ) (p : ProjectMaps) (name : Name8) → IsNamed is_marker name → has_map p name ≡ false → length p.maps < 32 → body_len p + 18 ≤ cap
-    → LeadsTo cap p (spelling (SelectMap name)) (record { maps = p.maps ++ with_name empty_tables name ∷ []; current = length p.maps })
+    → LeadsTo cap p (project_spelling (SelectMap name)) (record { maps = p.maps ++ with_name empty_tables name ∷ []; current = length p.maps })
 leads_new cap p name named new room fits =
     let few : nat_lt 32 (length p.maps + 1) ≡ false = le-ltb 32 (length p.maps + 1) (omega (arith, room)) in
     let added = with_name empty_tables name in
@@ -76,12 +76,12 @@ leads_new cap p name named new room fits =
     let is : with_selected p name ≡ q = sym (added_is p name added new refl) in
     let longer : body_len q ≤ cap = omega (arith, fits, sum_by-append part_len p.maps (added ∷ []), sum_by-cons part_len added []) in
     let short : nat_lt cap (body_len (with_selected p name)) ≡ false = ap (λ r. nat_lt cap (body_len r)) is ∙ le-ltb cap (body_len q) longer in (
-      number_of p (SelectMap name),
+      project_number_of p (SelectMap name),
       record {
         command = SelectMap name;
         range = named;
         line_is = refl;
-        stepped = step-accepts p (SelectMap name) cap none short ∙ ap (λ r. Ok (r, number_of p (SelectMap name))) is;
+        stepped = step-accepts p (SelectMap name) cap none short ∙ ap (λ r. Ok (r, project_number_of p (SelectMap name))) is;
       },
     )
 
@@ -123,11 +123,11 @@ leads_maps cap p k done m (x ∷ ms) w fits e =
 -- ---- The current map is selected
 
 leads_current : (cap : ℕ) (p : ProjectMaps) (n : ℕ) → WellFormedProject p → body_len p ≤ cap
-    → LeadsTo cap (record { maps = p.maps; current = n }) (spelling (SelectMap (current_map p).name)) p
+    → LeadsTo cap (record { maps = p.maps; current = n }) (project_spelling (SelectMap (current_map p).name)) p
 leads_current cap p n w fits =
     let q : ProjectMaps = record { maps = p.maps; current = n } in
     let name = (current_map p).name in
-    let at : project.number_of q name ≡ p.current =
+    let at : project.map_number_of q name ≡ p.current =
     position_or_len_is (is_named name) p.maps p.current empty_tables (omega (arith, w.current))
     (λ k h. other_name name (get_or p.maps k empty_tables) (w.names k p.current empty_tables h w.current))
     (λ h. own_name name (get_or p.maps p.current empty_tables) refl) in
@@ -136,12 +136,12 @@ leads_current cap p n w fits =
     let same = cond-true (has_map q name) p.maps (p.maps ++ with_name empty_tables name ∷ []) there in
     let is : with_selected q name ≡ p = λ i. record { maps = same i; current = at i } in
     let short : nat_lt cap (body_len (with_selected q name)) ≡ false = ap (λ r. nat_lt cap (body_len r)) is ∙ le-ltb cap (body_len p) fits in (
-      number_of q (SelectMap name),
+      project_number_of q (SelectMap name),
       record {
         command = SelectMap name;
         range = (w.maps p.current empty_tables w.current).name;
         line_is = refl;
-        stepped = step-accepts q (SelectMap name) cap none short ∙ ap (λ r. Ok (r, number_of q (SelectMap name))) is;
+        stepped = step-accepts q (SelectMap name) cap none short ∙ ap (λ r. Ok (r, project_number_of q (SelectMap name))) is;
       },
     )
 

@@ -21,8 +21,8 @@ use Rattle.lv_commands.specs.declared.project.command.ProjectCommand.{ProjectCom
 use Rattle.lv_commands.specs.declared.project.command.ProjectCommand.TheVariants.{Edit}
 use Rattle.lv_commands.specs.CommandRanges as of_one
 use Rattle.lv_commands.specs.Step as of_one_map
-use Rattle.lv_commands.specs.ProjectCommands.{spelling}
-use Rattle.lv_commands.specs.ProjectStep.{after, naming_faults, number_of}
+use Rattle.lv_commands.specs.ProjectCommands.{project_spelling}
+use Rattle.lv_commands.specs.ProjectStep.{project_after, naming_faults, project_number_of}
 use Rattle.lv_commands.specs.ProjectLines.{Leads, LeadsTo}
 use Rattle.lv_commands.proofs.ProjectSteps.{step-accepts}
 use Rattle.lv_commands.proofs.Steps.{least-none}
@@ -33,7 +33,7 @@ use Rattle.lv_dump.proofs.Fronts.{fewer, holds_at, line_free, sector_free, side_
 
 -- the commands lead from one project to the other, each accepted
 abbrev pub Draws : ℕ → ProjectMaps → List ProjectCommand → ProjectMaps → Type 0
-Draws cap old cs new = Leads cap old (map spelling cs) new
+Draws cap old cs new = Leads cap old (map project_spelling cs) new
 
 pub Draws-append : (cap : ℕ) (old mid new : ProjectMaps) (cs ds : List ProjectCommand) → Draws cap old cs mid → Draws cap mid ds new → Draws cap old (cs ++ ds) new
 Draws-append cap old mid new [] ds f g = subst (λ p. Draws cap p ds new) f g
@@ -57,22 +57,22 @@ pub record Adds (whole old : Tables) (c : Command) (new : Tables) : Type 0 where
   pub short : part_len new ≤ part_len whole
 
 pub leads_one : (cap : ℕ) (done : List Tables) (whole old new : Tables) (c : Command) → Adds whole old c new
-    → least (naming_faults (drawing done old) c) ≡ None → body_len (drawing done whole) ≤ cap → LeadsTo cap (drawing done old) (spelling (Edit c)) (drawing done new)
+    → least (naming_faults (drawing done old) c) ≡ None → body_len (drawing done whole) ≤ cap → LeadsTo cap (drawing done old) (project_spelling (Edit c)) (drawing done new)
 leads_one cap done whole old new c a naming fits =
     let p = drawing done old in
     let here : current_map p ≡ old = get_middle done [] old empty_tables in
     let none = least-none (of_one_map.faults (current_map p) c) (naming_faults p c) (ap (λ m. least (of_one_map.faults m c)) here ∙ a.free) ∙ naming in
-    let is : after p (Edit c) ≡ drawing done new =
+    let is : project_after p (Edit c) ≡ drawing done new =
     ap (λ m. with_current p (of_one_map.after m c)) here ∙ ap (with_current p) a.made
     ∙ (λ i. record { maps = set_middle done [] old new i; current = length done }) in
     let few : body_len (drawing done new) ≤ cap = omega (arith, fits, a.short, sum_by_push part_len done new, sum_by_push part_len done whole) in
-    let short : nat_lt cap (body_len (after p (Edit c))) ≡ false = ap (λ q. nat_lt cap (body_len q)) is ∙ le-ltb cap (body_len (drawing done new)) few in (
-      number_of p (Edit c),
+    let short : nat_lt cap (body_len (project_after p (Edit c))) ≡ false = ap (λ q. nat_lt cap (body_len q)) is ∙ le-ltb cap (body_len (drawing done new)) few in (
+      project_number_of p (Edit c),
       record {
         command = Edit c;
         range = a.range;
         line_is = refl;
-        stepped = step-accepts p (Edit c) cap none short ∙ ap (λ q. Ok (q, number_of p (Edit c))) is;
+        stepped = step-accepts p (Edit c) cap none short ∙ ap (λ q. Ok (q, project_number_of p (Edit c))) is;
       },
     )
 

@@ -17,8 +17,8 @@ use Rattle.lv_maptables.specs.Tables.{Tables}
 use Rattle.lv_maptables.specs.Projects.{ProjectMaps, WellFormedProject, current_map}
 use Rattle.lv_maptables.specs.Ranges.{IsLine, IsSector, IsSide, IsThing, IsVertex}
 use Rattle.lv_maptables.specs.WellFormed.{WellFormed}
-use Rattle.lv_commands.specs.Places.{Place, Number, NumberOrNone, Named, fault_at, first_of, has_form, is_form_fault, line_places, place_fault, places_fault, sector_places, side_places, thing_places, vertex_places}
-use Rattle.lv_commands.specs.ProjectCommands.{spelling}
+use Rattle.lv_commands.specs.Places.{Place, Number, NumberOrNone, Named, fault_at, prior_fault, has_form, is_form_fault, line_places, place_fault, places_fault, sector_places, side_places, thing_places, vertex_places}
+use Rattle.lv_commands.specs.ProjectCommands.{project_spelling}
 use Rattle.lv_commands.specs.Spelling.{line_words, sector_words, side_words, thing_words, vertex_words}
 use Rattle.lv_commands.specs.Words.{is_natural, is_numeral, is_printable, is_word}
 use Rattle.lv_commands.specs.declared.command.Command.{Command}
@@ -32,7 +32,7 @@ use Rattle.lv_commands.proofs.RecordWords.{line-ok, sector-ok, side-ok, thing-ok
 use Rattle.lv_commands.proofs.Wordings.{all-of, both-back}
 use Rattle.lv_dump.specs.Dump.{commands_from, commands_of, commands_of_map, dump_of, items_of, naming_of}
 use Rattle.lv_dump.specs.Laws.{DumpsAreCutIntoLines, HoldsItsLines}
-use Rattle.lv_dump.specs.Texts.{IsCutInto, ended, is_one_line, text_of}
+use Rattle.lv_dump.specs.Texts.{IsCutInto, with_lf, is_one_line, text_of}
 
 -- a byte that isn't LF
 abbrev is_inside : ℕ → Bool
@@ -86,7 +86,7 @@ some-fault : (t : Bool) (a b : ℕ) → cond t (Some a) (Some b) ≡ None → �
 some-fault true a b e = cc
 some-fault false a b e = cc
 
-no-faults : (x y : Option ℕ) → first_of x y ≡ None → (x ≡ None) × (y ≡ None)
+no-faults : (x y : Option ℕ) → prior_fault x y ≡ None → (x ≡ None) × (y ≡ None)
 no-faults None y e = (refl, e)
 no-faults (Some a) y e = absurd (some-fault (is_form_fault y) 1 a e)
 
@@ -111,25 +111,25 @@ join-line (w ∷ v ∷ vs) e =
     let h = both (is_one_line w) (list_all is_one_line (v ∷ vs)) e in
     all-append is_inside w (32 ∷ join_with_byte 32 (v ∷ vs)) h.0 (join-line (v ∷ vs) h.1)
 
-vertex-line : (v : Vertex) → IsVertex v → is_one_line (spelling (Edit (AddVertex v))) ≡ true
+vertex-line : (v : Vertex) → IsVertex v → is_one_line (project_spelling (Edit (AddVertex v))) ≡ true
 vertex-line v h = join-line (codes "vertex" ∷ vertex_words v) (places-lines vertex_places (vertex_words v) (vertex-ok v h).none)
 
-sector-line : (s : Sector) → IsSector s → is_one_line (spelling (Edit (AddSector s))) ≡ true
+sector-line : (s : Sector) → IsSector s → is_one_line (project_spelling (Edit (AddSector s))) ≡ true
 sector-line s h = join-line (codes "sector" ∷ sector_words s) (places-lines sector_places (sector_words s) (sector-ok s h).none)
 
-side-line : (s : Side) → IsSide s → is_one_line (spelling (Edit (AddSide s))) ≡ true
+side-line : (s : Side) → IsSide s → is_one_line (project_spelling (Edit (AddSide s))) ≡ true
 side-line s h = join-line (codes "side" ∷ side_words s) (places-lines side_places (side_words s) (side-ok s h).none)
 
-line-line : (l : Line) → IsLine l → is_one_line (spelling (Edit (AddLine l))) ≡ true
+line-line : (l : Line) → IsLine l → is_one_line (project_spelling (Edit (AddLine l))) ≡ true
 line-line l h = join-line (codes "line" ∷ line_words l) (places-lines line_places (line_words l) (line-ok l h).none)
 
-thing-line : (t : Thing) → IsThing t → is_one_line (spelling (Edit (AddThing t))) ≡ true
+thing-line : (t : Thing) → IsThing t → is_one_line (project_spelling (Edit (AddThing t))) ≡ true
 thing-line t h = join-line (codes "thing" ∷ thing_words t) (places-lines thing_places (thing_words t) (thing-ok t h).none)
 
 name-inside : (name : Name8) → IsNamed is_marker name → is_one_line (name_text name) ≡ true
 name-inside name h = place-line (Named is_marker) (name_text name) (marker-ok name h).none
 
-naming-line : (n : ℕ) (name : Name8) → IsNamed is_marker name → is_one_line (spelling (naming_of n name)) ≡ true
+naming-line : (n : ℕ) (name : Name8) → IsNamed is_marker name → is_one_line (project_spelling (naming_of n name)) ≡ true
 naming-line zero name h = join-line (codes "name" ∷ name_text name ∷ []) (both-back (is_one_line (name_text name)) true (name-inside name h) refl)
 naming-line (suc n) name h = join-line (codes "map" ∷ name_text name ∷ []) (both-back (is_one_line (name_text name)) true (name-inside name h) refl)
 
@@ -137,19 +137,19 @@ naming-line (suc n) name h = join-line (codes "map" ∷ name_text name ∷ []) (
 
 -- each command's line is one
 abbrev AreLines : List ProjectCommand → Type 0
-AreLines cs = list_all is_one_line (map spelling cs) ≡ true
+AreLines cs = list_all is_one_line (map project_spelling cs) ≡ true
 
 AreLines-append : (cs ds : List ProjectCommand) → AreLines cs → AreLines ds → AreLines (cs ++ ds)
-AreLines-append cs ds e f = ap (list_all is_one_line) (map-append spelling cs ds) ∙ all-append is_one_line (map spelling cs) (map spelling ds) e f
+AreLines-append cs ds e f = ap (list_all is_one_line) (map-append project_spelling cs ds) ∙ all-append is_one_line (map project_spelling cs) (map project_spelling ds) e f
 
 edits-append : (cs ds : List Command) → AreLines (map Edit cs) → AreLines (map Edit ds) → AreLines (map Edit (cs ++ ds))
 edits-append cs ds e f = subst AreLines (sym (map-append Edit cs ds)) (AreLines-append (map Edit cs) (map Edit ds) e f)
 
-table-lines : {X : Type 0} (P : X → Type 0) (make : X → Command) → ((x : X) → P x → is_one_line (spelling (Edit (make x))) ≡ true) → (xs : List X) → All P xs
+table-lines : {X : Type 0} (P : X → Type 0) (make : X → Command) → ((x : X) → P x → is_one_line (project_spelling (Edit (make x))) ≡ true) → (xs : List X) → All P xs
     → AreLines (map Edit (map make xs))
 table-lines P make one [] all = refl
 table-lines P make one (x ∷ xs) all =
-    both-back (is_one_line (spelling (Edit (make x)))) (list_all is_one_line (map spelling (map Edit (map make xs)))) (one x (all 0 x (omega arith)))
+    both-back (is_one_line (project_spelling (Edit (make x)))) (list_all is_one_line (map project_spelling (map Edit (map make xs)))) (one x (all 0 x (omega arith)))
     (table-lines P make one xs (λ k d h. all (suc k) d (omega arith)))
 
 items-lines : (m : Tables) → WellFormed m → AreLines (map Edit (items_of m))
@@ -167,7 +167,7 @@ items-lines m w =
 
 map-lines : (n : ℕ) (m : Tables) → WellFormed m → AreLines (commands_of_map n m)
 map-lines n m w =
-    both-back (is_one_line (spelling (naming_of n m.name))) (list_all is_one_line (map spelling (map Edit (items_of m)))) (naming-line n m.name w.name) (items-lines m w)
+    both-back (is_one_line (project_spelling (naming_of n m.name))) (list_all is_one_line (map project_spelling (map Edit (items_of m)))) (naming-line n m.name w.name) (items-lines m w)
 
 maps-lines : (n : ℕ) (ms : List Tables) → All WellFormed ms → AreLines (commands_from n ms)
 maps-lines n [] all = refl
@@ -178,31 +178,31 @@ maps-lines n (m ∷ ms) all =
 dump-lines : (p : ProjectMaps) → WellFormedProject p → list_all is_one_line (dump_of p) ≡ true
 dump-lines p w =
     AreLines-append (commands_from 0 p.maps) (SelectMap (current_map p).name ∷ []) (maps-lines 0 p.maps w.maps)
-    (both-back (is_one_line (spelling (naming_of 1 (current_map p).name))) true (naming-line 1 (current_map p).name (w.maps p.current _ w.current).name) refl)
+    (both-back (is_one_line (project_spelling (naming_of 1 (current_map p).name))) true (naming-line 1 (current_map p).name (w.maps p.current _ w.current).name) refl)
 
 -- ---- One text is cut in one way
 
 no-inside : (b : ℕ) → is_inside b ≡ true → b ≡ 10 → ⊥
 no-inside b e is = let f : false ≡ true = ap is_inside (sym is) ∙ e in cc
 
-ends-once : (x y t s : List ℕ) → is_one_line x ≡ true → is_one_line y ≡ true → ended x ++ t ≡ ended y ++ s → (x ≡ y) × (t ≡ s)
+ends-once : (x y t s : List ℕ) → is_one_line x ≡ true → is_one_line y ≡ true → with_lf x ++ t ≡ with_lf y ++ s → (x ≡ y) × (t ≡ s)
 ends-once [] [] t s e f same = (refl, cc)
 ends-once [] (b ∷ y) t s e f same = let is : 10 ≡ b = cc in absurd (no-inside b (both (is_inside b) (is_one_line y) f).0 (sym is))
 ends-once (a ∷ x) [] t s e f same = let is : a ≡ 10 = cc in absurd (no-inside a (both (is_inside a) (is_one_line x) e).0 is)
 ends-once (a ∷ x) (b ∷ y) t s e f same =
     let first : a ≡ b = cc in
-    let behind : ended x ++ t ≡ ended y ++ s = cc in
+    let behind : with_lf x ++ t ≡ with_lf y ++ s = cc in
     let h = ends-once x y t s (both (is_inside a) (is_one_line x) e).1 (both (is_inside b) (is_one_line y) f).1 behind in
     ((λ i. first i ∷ h.0 i), h.1)
 
-ended-some : (x t : List ℕ) → [] ≡ ended x ++ t → ⊥
-ended-some [] t e = cc
-ended-some (a ∷ x) t e = cc
+with_lf-some : (x t : List ℕ) → [] ≡ with_lf x ++ t → ⊥
+with_lf-some [] t e = cc
+with_lf-some (a ∷ x) t e = cc
 
 cut-once : (xs ys : List (List ℕ)) → list_all is_one_line xs ≡ true → list_all is_one_line ys ≡ true → text_of xs ≡ text_of ys → xs ≡ ys
 cut-once [] [] e f same = refl
-cut-once [] (y ∷ ys) e f same = absurd (ended-some y (text_of ys) same)
-cut-once (x ∷ xs) [] e f same = absurd (ended-some x (text_of xs) (sym same))
+cut-once [] (y ∷ ys) e f same = absurd (with_lf-some y (text_of ys) same)
+cut-once (x ∷ xs) [] e f same = absurd (with_lf-some x (text_of xs) (sym same))
 cut-once (x ∷ xs) (y ∷ ys) e f same =
     let g = both (is_one_line x) (list_all is_one_line xs) e in
     let h = both (is_one_line y) (list_all is_one_line ys) f in

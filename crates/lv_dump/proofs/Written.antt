@@ -16,22 +16,22 @@ use Rattle.lv_maptables.specs.Projects.{MapsView, ProjectMaps, WellFormedProject
 use Rattle.lv_maptables.specs.Tables.{Tables, count_of, empty_tables}
 use Rattle.lv_maptables.proofs.ProjectLemmas.{current_of}
 use Rattle.lv_commands.specs.Grammar.{kinds}
-use Rattle.lv_commands.specs.ProjectCommands.{spelling}
+use Rattle.lv_commands.specs.ProjectCommands.{project_spelling}
 use Rattle.lv_commands.specs.declared.command.Command.{Command}
 use Rattle.lv_commands.specs.declared.command.Command.TheVariants.{AddVertex, AddSector, AddSide, AddLine, AddThing, Drop, Name}
 use Rattle.lv_commands.specs.declared.project.command.ProjectCommand.{ProjectCommand}
 use Rattle.lv_commands.specs.declared.project.command.ProjectCommand.TheVariants.{Edit, SelectMap}
 use Rattle.lv_dump.specs.Dump.{additions_of, commands_from, commands_of_map, items_of, naming_of}
-use Rattle.lv_dump.specs.Texts.{Writes, WritesFront, ended, text_of}
+use Rattle.lv_dump.specs.Texts.{Writes, WritesFront, with_lf, text_of}
 use Rattle.lv_dump.specs.declared.error.DumpError.{DumpError}
 use Rattle.lv_dump.specs.declared.error.DumpError.TheVariants.{OutOfMemory, WriterFailed}
 
 -- the text of the lines of commands
 abbrev pub text : List ProjectCommand → List ℕ
-text cs = text_of (map spelling cs)
+text cs = text_of (map project_spelling cs)
 
 text-append : (cs ds : List ProjectCommand) → text (cs ++ ds) ≡ text cs ++ text ds
-text-append cs ds = ap text_of (map-append spelling cs ds) ∙ flat_map-append ended (map spelling cs) (map spelling ds)
+text-append cs ds = ap text_of (map-append project_spelling cs ds) ∙ flat_map-append with_lf (map project_spelling cs) (map project_spelling ds)
 
 -- ---- How calls end
 
@@ -41,10 +41,10 @@ pub Writes-append : {U : Type 0} (r : Result U DumpError) (cs ds : List ProjectC
 Writes-append (Ok x) cs ds u v w p q = subst (λ (t : List ℕ). Appends u w t) (sym (text-append cs ds)) (Appends-trans u v w (text cs) (text ds) p q)
 Writes-append (Err WriterFailed) cs ds u v w p q = tt
 Writes-append (Err OutOfMemory) cs ds u v w p q = record {
-  front = map spelling cs ++ q.front;
+  front = map project_spelling cs ++ q.front;
   back = q.back;
-  parted = map-append spelling cs ds ∙ ap (λ (xs : List (List ℕ)). map spelling cs ++ xs) q.parted ∙ sym (append_assoc (map spelling cs) q.front q.back);
-  written = subst (λ (t : List ℕ). Appends u w t) (sym (flat_map-append ended (map spelling cs) q.front)) (Appends-trans u v w (text cs) (text_of q.front) p q.written);
+  parted = map-append project_spelling cs ds ∙ ap (λ (xs : List (List ℕ)). map project_spelling cs ++ xs) q.parted ∙ sym (append_assoc (map project_spelling cs) q.front q.back);
+  written = subst (λ (t : List ℕ). Appends u w t) (sym (flat_map-append with_lf (map project_spelling cs) q.front)) (Appends-trans u v w (text cs) (text_of q.front) p q.written);
 }
 
 -- the lines behind those that were to be written
@@ -53,17 +53,17 @@ pub Writes-stopped : (e : DumpError) (cs ds : List ProjectCommand) (u w : Option
 Writes-stopped WriterFailed cs ds u w q = tt
 Writes-stopped OutOfMemory cs ds u w q = record {
   front = q.front;
-  back = q.back ++ map spelling ds;
-  parted = map-append spelling cs ds ∙ ap (λ (xs : List (List ℕ)). xs ++ map spelling ds) q.parted ∙ append_assoc q.front q.back (map spelling ds);
+  back = q.back ++ map project_spelling ds;
+  parted = map-append project_spelling cs ds ∙ ap (λ (xs : List (List ℕ)). xs ++ map project_spelling ds) q.parted ∙ append_assoc q.front q.back (map project_spelling ds);
   written = q.written;
 }
 
 -- no line
-pub Writes-none : (cs : List ProjectCommand) (u : Option (List ℕ)) → WritesFront (map spelling cs) u u
-Writes-none cs u = record { front = []; back = map spelling cs; parted = refl; written = Appends-nil u }
+pub Writes-none : (cs : List ProjectCommand) (u : Option (List ℕ)) → WritesFront (map project_spelling cs) u u
+Writes-none cs u = record { front = []; back = map project_spelling cs; parted = refl; written = Appends-nil u }
 
-pub Appends-line : (c : ProjectCommand) (u w : Option (List ℕ)) (line : List ℕ) → line ≡ ended (spelling c) → Appends u w line → Appends u w (text (c ∷ []))
-Appends-line c u w line is p = subst (λ (t : List ℕ). Appends u w t) (is ∙ sym (append-nil (ended (spelling c)))) p
+pub Appends-line : (c : ProjectCommand) (u w : Option (List ℕ)) (line : List ℕ) → line ≡ with_lf (project_spelling c) → Appends u w line → Appends u w (text (c ∷ []))
+Appends-line c u w line is p = subst (λ (t : List ℕ). Appends u w t) (is ∙ sym (append-nil (with_lf (project_spelling c)))) p
 
 -- ---- A list of pieces, each some commands
 

@@ -6,7 +6,7 @@ use Rattle.lv_maptables.specs.declared.kind.Kind.TheVariants as kind
 use Rattle.lv_maptables.specs.Tables.{Tables}
 use Rattle.lv_maptables.specs.Projects.{ProjectMaps, current_map}
 use Rattle.lv_commands.specs.Grammar.{kinds}
-use Rattle.lv_commands.specs.ProjectCommands.{spelling}
+use Rattle.lv_commands.specs.ProjectCommands.{project_spelling}
 use Rattle.lv_commands.specs.declared.command.Command.{Command}
 use Rattle.lv_commands.specs.declared.command.Command.TheVariants.{Name, AddVertex, AddSector, AddSide, AddLine}
 use Rattle.lv_commands.specs.declared.command.Command.TheVariants.{AddThing}
@@ -50,4 +50,4 @@ commands_of p = commands_from 0 p.maps ++ SelectMap (current_map p).name ∷ []
 
 -- the dump: the line of each of these commands
 abbrev pub dump_of : ProjectMaps → List (List ℕ)
-dump_of p = map spelling (commands_of p)
+dump_of p = map project_spelling (commands_of p)

@@ -2,18 +2,18 @@
 use Rattle.std.specs.Prelude.{◌≡◌, ℕ, Bool, ◌==◌, not, List, ◌∷◌, [], ◌++◌, map, flat_map, IsTrue, Option, Result, Ok, Err}
 use Rattle.std.specs.Io.KnownBytes.{Appends}
 use Rattle.std.specs.List.{list_all}
-use Rattle.lv_commands.specs.ProjectCommands.{spelling}
+use Rattle.lv_commands.specs.ProjectCommands.{project_spelling}
 use Rattle.lv_commands.specs.declared.project.command.ProjectCommand.{ProjectCommand}
 use Rattle.lv_dump.specs.declared.error.DumpError.{DumpError}
 use Rattle.lv_dump.specs.declared.error.DumpError.TheVariants.{WriterFailed, OutOfMemory}
 
 -- a line with LF behind it
-abbrev pub ended : List ℕ → List ℕ
-ended line = line ++ 10 ∷ []
+abbrev pub with_lf : List ℕ → List ℕ
+with_lf line = line ++ 10 ∷ []
 
 -- the text of lines: each with LF behind it
 abbrev pub text_of : List (List ℕ) → List ℕ
-text_of lines = flat_map ended lines
+text_of lines = flat_map with_lf lines
 
 -- no byte is LF
 abbrev pub is_one_line : List ℕ → Bool
@@ -42,4 +42,4 @@ WritesLines (Err WriterFailed) lines old new = Unit {0}
 -- the same of the lines of commands
 abbrev pub Writes : {U : Type 0} → Result U DumpError → List ProjectCommand
     → Option (List ℕ) → Option (List ℕ) → Type 0
-Writes result commands old new = WritesLines result (map spelling commands) old new
+Writes result commands old new = WritesLines result (map project_spelling commands) old new

@@ -1,9 +1,9 @@
 //! A line of a dump: the command that it is, and how it is written.
 ghost use Rattle.std.specs.Prelude.{◌≡◌, ◌∷◌, [], IfOk, IfSome, IsOkUnless, slice_get};
 ghost use Rattle.lv_commands.specs.CommandRanges as of_one_map;
-ghost use Rattle.lv_commands.specs.ProjectCommands.{InRange, spelling};
+ghost use Rattle.lv_commands.specs.ProjectCommands.{InProjectRange, project_spelling};
 ghost use Rattle.lv_dump.specs.Dump.{additions_of, naming_of};
-ghost use Rattle.lv_dump.specs.Texts.{Writes, ended};
+ghost use Rattle.lv_dump.specs.Texts.{Writes, with_lf};
 ghost use Rattle.lv_lumps.specs.Names.{IsNamed, is_marker};
 
 use crate::error::DumpError;
@@ -17,7 +17,7 @@ use std::io::Write;
 pub fn naming(n: u32, name: Name8) -> ProjectCommand
     requires { IsNamed is_marker name }
     ensures command { result ≡ naming_of n name }
-    ensures range { InRange result }
+    ensures range { InProjectRange result }
 {
     if n == 0 {
         ProjectCommand::Edit(Command::Name(name))
@@ -42,8 +42,8 @@ pub fn addition(map: &Map, kind: Kind, n: u32) -> Option<Command>
 
 // The line of the command, with LF behind it.
 fn line_of(alloc: Global, command: &ProjectCommand) -> Result<Vec<u8>, DumpError>
-    requires { InRange command.now }
-    ensures line { IfOk result (λ v. v.items ≡ ended (spelling command.now)) }
+    requires { InProjectRange command.now }
+    ensures line { IfOk result (λ v. v.items ≡ with_lf (project_spelling command.now)) }
     ensures memory { IsOkUnless result DumpError.OutOfMemory }
 {
     let Ok(mut line) = print(alloc, command) else {
@@ -61,7 +61,7 @@ pub fn write_command<W: Write>(
     command: &ProjectCommand,
     writer: &mut W,
 ) -> Result<(), DumpError>
-    requires { InRange command.now }
+    requires { InProjectRange command.now }
     ensures { Writes result (command.now ∷ []) (W.contents writer.old) (W.contents writer.new) }
 {
     match line_of(alloc, command) {

@@ -7,10 +7,10 @@ use Rattle.lv_maptables.specs.Projects.{ProjectMaps}
 use Rattle.lv_maptables.specs.Tables.{Counts}
 use Rattle.lv_maptables.specs.declared.map.Need.{Need}
 use Rattle.lv_commands.specs.Errors.{code_of}
-use Rattle.lv_commands.specs.ProjectCommands.{InRange, spelling}
-use Rattle.lv_commands.specs.ProjectGrammar.{fault_of}
+use Rattle.lv_commands.specs.ProjectCommands.{InProjectRange, project_spelling}
+use Rattle.lv_commands.specs.ProjectGrammar.{project_fault_of}
 use Rattle.lv_commands.specs.ProjectLines.{EndsLine, RefusesCommand}
-use Rattle.lv_commands.specs.ProjectReadiness.{EndsStep, RefusesStep, need_of}
+use Rattle.lv_commands.specs.ProjectReadiness.{EndsStep, RefusesStep, project_need_of}
 use Rattle.lv_commands.specs.ProjectStep.{step}
 use Rattle.lv_commands.specs.Readiness.{no_need}
 use Rattle.lv_commands.specs.declared.error.CommandError.{CommandError}
@@ -57,8 +57,8 @@ refused limit old line code None e told = told
 refused limit old line code (Some f) e told = cc
 
 -- a line with a fault is refused with it
-pub faulty : (cap : ℕ) (old : ProjectMaps) (line : List ℕ) (code : ℕ) → fault_of line ≡ Some code → ChangesBy cap old line (Err code) old
-faulty limit old line code e = inl (go (fault_of line) e, refl)
+pub faulty : (cap : ℕ) (old : ProjectMaps) (line : List ℕ) (code : ℕ) → project_fault_of line ≡ Some code → ChangesBy cap old line (Err code) old
+faulty limit old line code e = inl (go (project_fault_of line) e, refl)
   where
     go : (fault : Option ℕ) → fault ≡ Some code → MatchOption fault (RefusesCommand limit old line code) (λ f. code ≡ f)
     go None e = cc
@@ -71,12 +71,12 @@ covers-none spare need none =
     (record { vertices = omega arith; sectors = omega arith; sides = omega arith; lines = omega arith; things = omega arith })
 
 -- a command that was tried
-pub tried : (cap : ℕ) (old new : ProjectMaps) (line : List ℕ) (c : ProjectCommand) (spare : Counts) (r : Result ℕ CommandError) → InRange c → line ≡ spelling c
-    → fault_of line ≡ None → EndsStep r (step old c cap) old new → (Covers spare (need_of c) → r ≡ Err OutOfMemory → ⊥) → ChangesBy cap old line (outcome_of r) new
+pub tried : (cap : ℕ) (old new : ProjectMaps) (line : List ℕ) (c : ProjectCommand) (spare : Counts) (r : Result ℕ CommandError) → InProjectRange c → line ≡ project_spelling c
+    → project_fault_of line ≡ None → EndsStep r (step old c cap) old new → (Covers spare (project_need_of c) → r ≡ Err OutOfMemory → ⊥) → ChangesBy cap old line (outcome_of r) new
 tried limit old new line c spare (Ok n) range is none ends promised = inl (record { command = c; range = range; line_is = is; stepped = ends })
 tried limit old new line c spare (Err e) range is none (told, same) promised =
     elim (by_code e (step old c limit) told) [
-      | inl stepped ↦ inl (refused limit old line (code_of e) (fault_of line) none (record { command = c; range = range; line_is = is; stepped = stepped }), same)
+      | inl stepped ↦ inl (refused limit old line (code_of e) (project_fault_of line) none (record { command = c; range = range; line_is = is; stepped = stepped }), same)
       | inr (lacks, ok) ↦
           let some = some_step (step old c limit) ok in
           inr (
@@ -85,7 +85,7 @@ tried limit old new line c spare (Err e) range is none (told, same) promised =
               new = some.0;
               number = some.1;
               accepts = record { command = c; range = range; line_is = is; stepped = some.2 };
-              adds = λ nothing. promised (covers-none spare (need_of c) nothing) (ap Err lacks);
+              adds = λ nothing. promised (covers-none spare (project_need_of c) nothing) (ap Err lacks);
             },
             same,
           )

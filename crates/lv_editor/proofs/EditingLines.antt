@@ -8,7 +8,7 @@ use Rattle.lv_disk.specs.declared.disk.Disk.{Ghosts}
 use Rattle.lv_disk.proofs.Moments.{weaker}
 use Rattle.lv_maptables.specs.Projects.{MapsView, ProjectMaps, project_of}
 use Rattle.lv_commands.specs.Errors as commands
-use Rattle.lv_commands.specs.ProjectGrammar.{fault_of}
+use Rattle.lv_commands.specs.ProjectGrammar.{project_fault_of}
 use Rattle.lv_project.specs.Calls.{Applies}
 use Rattle.lv_project.specs.Outcomes.{EndsApply, RefusesApply}
 use Rattle.lv_project.specs.Stands.{IsOutcome}
@@ -57,8 +57,8 @@ module _ {D : Type 0} (facts : Ghosts D) where
   long_refusal (Refused e) old new a b long longer (ready, still, told) = (
     ready,
     still,
-    refused-long old.cap (project_of old.maps) b (commands.code_of e) (fault_of b) (long-fault b longer)
-        (long-refused old.cap (project_of old.maps) a (commands.code_of e) (fault_of a) (long-fault a long) told),
+    refused-long old.cap (project_of old.maps) b (commands.code_of e) (project_fault_of b) (long-fault b longer)
+        (long-refused old.cap (project_of old.maps) a (commands.code_of e) (project_fault_of a) (long-fault a long) told),
   )
   long_refusal (Damaged place) old new a b long longer told = absurd told
   long_refusal Blank old new a b long longer told = absurd told

@@ -1,14 +1,12 @@
 -- From what was read, audited and written of a level to what an inspection tells.
 use Rattle.std.proofs.Common.{◌≡◌, ◌++◌, ℕ, Bool, true, List, Option, Some, None, Result, Ok, Err, MatchResult, IfOk, is_none, length, refl, subst, ◌∙◌, ap, append_assoc}
 use Rattle.std.specs.Prelude.{◌↔◌}
-use Rattle.std.specs.Io.KnownBytes.{Appends, Keeps}
+use Rattle.std.specs.Io.KnownBytes.{Appends}
 use Rattle.lv_pwad.specs.Audit.{first_fault}
-use Rattle.lv_pwad.specs.Levels.{IsLevel, Lumps}
-use Rattle.lv_pwad.specs.Range.{InRange}
+use Rattle.lv_levels.specs.Levels.{IsLevel, Lumps}
+use Rattle.lv_pwad.specs.Range.{IsInRange}
 use Rattle.lv_pwad.specs.declared.fault.Fault.{Fault}
 use Rattle.lv_editor.specs.Inspections.{IsInspected, back_text, front_text, lengths_text, verdict_text}
-use Rattle.lv_editor.specs.Statuses.{status_told}
-use Rattle.lv_editor.specs.Sources.{IsExaminedOf, ReadsAll}
 use Rattle.lv_editor.specs.declared.error.InspectError.{InspectError}
 use Rattle.lv_editor.specs.declared.error.InspectError.TheVariants.{WriterFailed}
 
@@ -18,7 +16,7 @@ none_told None = (λ e. refl, λ e. refl)
 none_told (Some fault) = (λ e. cc, λ e. cc)
 
 pub told : (wad name : List ℕ) (l : Lumps) (fault : Option Fault) (r : Result Bool InspectError) (u w : Option (List ℕ))
-    → IsLevel wad name l → fault ≡ first_fault l → (fault ≡ None) ↔ InRange l
+    → IsLevel wad name l → fault ≡ first_fault l → (fault ≡ None) ↔ IsInRange l
     → MatchResult r (λ sound. (sound ≡ is_none fault) × Appends u w (lengths_text l ++ verdict_text fault)) (λ e. e ≡ WriterFailed)
     → IfOk r (λ sound. IsInspected wad name sound u w)
 told wad name l fault (Err e) u w level first range done = tt
@@ -61,25 +59,3 @@ lengths_written l r u w x a b c d e f g h i j ea eb ec ed ee ef eg eh ei ej firs
     let texts : front_text a b c d e ++ back_text f g h i j ≡ lengths_text l = rw (ea, eb, ec, ed, ee, ef, eg, eh, ei, ej) refl in
     subst (λ (text : List ℕ). MatchResult r (λ done. Appends u x text) (λ e. e ≡ WriterFailed)) texts
     (then_written r u w x (front_text a b c d e) (back_text f g h i j) first second)
-
--- what is told stays when it is handed on
-kept_on : (u w x : Option (List ℕ)) (text : List ℕ) → Appends u w text → Keeps w x → Appends u x text
-kept_on None w x text written kept = tt
-kept_on (Some u) None x text written kept = absurd written
-kept_on (Some u) (Some w) None text written kept = absurd kept
-kept_on (Some u) (Some w) (Some x) text written kept = kept ∙ written
-
-pub examined : (wad name : List ℕ) (sound : Bool) (status : ℕ) (r s u w x : Option (List ℕ)) → ReadsAll r s wad → status ≡ status_told sound
-    → IsInspected wad name sound u w → Keeps w x → IsExaminedOf name (Ok status) r s u x
-examined wad name sound status r s u w x all is done kept = (
-  wad,
-  all,
-  sound,
-  is,
-  record {
-    level = done.level;
-    read = done.read;
-    written = kept_on u w x _ done.written kept;
-    is = done.is;
-  },
-)

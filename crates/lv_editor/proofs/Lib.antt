@@ -1,14 +1,12 @@
 pub mod Answering
-pub mod Counting
 pub mod Cutting
 pub mod EditingLines
 pub mod Going
-pub mod Linting
 pub mod HexDigits
 pub mod Inspecting
 pub mod MapLines
 pub mod LongLines
 pub mod RunCalls
-pub mod Sources
+pub mod Recovering
 pub mod DeedCalls
 pub mod Telling

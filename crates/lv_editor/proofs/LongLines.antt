@@ -6,10 +6,10 @@ use Rattle.std.proofs.Math.Bool.{and-false}
 use Rattle.std.proofs.lemmas.Bool.{leb-true, lt-ltb, ltb-false, ltb-true}
 use Rattle.std.proofs.lemmas.List.{take_all, length-take-le}
 use Rattle.lv_maptables.specs.Projects.{ProjectMaps}
-use Rattle.lv_commands.specs.ProjectGrammar.{command_fault, fault_of}
+use Rattle.lv_commands.specs.ProjectGrammar.{project_command_fault, project_fault_of}
 use Rattle.lv_commands.specs.ProjectLines.{Accepts, EndsLine, RefusesCommand}
 use Rattle.lv_commands.specs.Words.{parts}
-use Rattle.lv_commands.proofs.ProjectWords.{spelling-accepted}
+use Rattle.lv_commands.proofs.ProjectWords.{project_spelling-accepted}
 use Rattle.lv_editor.specs.Answers.{AddsItems, RepliesInMemory}
 use Rattle.lv_editor.specs.Queries.{IsAnswer, TakesMemory, query_of, queries}
 use Rattle.lv_editor.specs.Texts.{outcome_text}
@@ -38,14 +38,14 @@ none-found (q ∷ qs) line long short =
 pub long-query : (line : List ℕ) → 256 < length line → query_of line ≡ None
 long-query line long = none-found queries line long refl
 
-pub long-fault : (line : List ℕ) → 256 < length line → fault_of line ≡ Some 1
-long-fault line long = ap (λ t. cond t (Some 1) (command_fault (parts line))) (lt-ltb 256 (length line) long)
+pub long-fault : (line : List ℕ) → 256 < length line → project_fault_of line ≡ Some 1
+long-fault line long = ap (λ t. cond t (Some 1) (project_command_fault (parts line))) (lt-ltb 256 (length line) long)
 
 -- it is no command's line
 pub long-accepts : (cap : ℕ) (old new : ProjectMaps) (line : List ℕ) (n : ℕ) → 256 < length line → Accepts cap old line new n → ⊥
 long-accepts limit old new line n long accepts =
-    let none : fault_of line ≡ None = ap fault_of accepts.line_is ∙ spelling-accepted accepts.command accepts.range in
-    let one : fault_of line ≡ Some 1 = long-fault line long in
+    let none : project_fault_of line ≡ None = ap project_fault_of accepts.line_is ∙ project_spelling-accepted accepts.command accepts.range in
+    let one : project_fault_of line ≡ Some 1 = long-fault line long in
     cc
 
 pub long-refused : (cap : ℕ) (old : ProjectMaps) (line : List ℕ) (code : ℕ) (fault : Option ℕ) → fault ≡ Some 1
@@ -62,7 +62,7 @@ refused-long limit old line code (Some f) e told = let is : f ≡ 1 = cc in told
 long-ends : (cap : ℕ) (old new : ProjectMaps) (a b : List ℕ) (outcome : Result ℕ ℕ) → 256 < length a → 256 < length b → EndsLine cap old a outcome new → EndsLine cap old b outcome new
 long-ends limit old new a b (Ok n) long longer ends = absurd (long-accepts limit old new a n long ends)
 long-ends limit old new a b (Err code) long longer (told, same) =
-    (refused-long limit old b code (fault_of b) (long-fault b longer) (long-refused limit old a code (fault_of a) (long-fault a long) told), same)
+    (refused-long limit old b code (project_fault_of b) (long-fault b longer) (long-refused limit old a code (project_fault_of a) (long-fault a long) told), same)
 
 -- the answer to a line that is no query
 of_none : (cap : ℕ) (old new : ProjectMaps) (line text : List ℕ) (q : Option (List ℕ × Query)) → q ≡ None

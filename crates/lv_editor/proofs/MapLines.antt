@@ -1,5 +1,5 @@
 -- The lines that tell of the maps, one after another.
-use Rattle.std.proofs.Common.{◌≡◌, ◌∙◌, ◌+◌, ◌<◌, ◌++◌, ℕ, List, [], ◌∷◌, Option, Some, Result, Ok, Err, MatchResult, length, get_or, take, sym, ap, subst, arith, append_assoc, append-nil}
+use Rattle.std.proofs.Common.{◌≡◌, ◌∙◌, ◌+◌, ◌<◌, ◌++◌, ℕ, List, [], ◌∷◌, Option, Some, None, Result, Ok, Err, MatchResult, length, get_or, take, sym, ap, subst, arith, append_assoc, append-nil}
 use Rattle.std.specs.Prelude.{slice_get}
 use Rattle.std.specs.Io.KnownBytes.{Appends}
 use Rattle.std.proofs.lemmas.List.{length-take-le, take_more}
@@ -44,3 +44,7 @@ each_told ms n u w x within before line =
     subst (λ (t : List ℕ). Appends u x t) (sym (lines_more ms n within))
     (Appends-append u w x (map_lines 0 (take n ms)) (map_line n (get_or ms n empty_tables)) before
     (line (get_or ms n empty_tables) (slice_get-get_or ms n empty_tables within)))
+
+-- no map has a number where none stands
+pub no_nth : (o : Option Tables) (m : Tables) → o ≡ None → o ≡ Some m → ⊥
+no_nth o m none some = cc

@@ -7,10 +7,10 @@ use Rattle.lv_disk.specs.Stops.{Each}
 use Rattle.lv_disk.specs.declared.disk.Disk.{Ghosts}
 use Rattle.lv_disk.proofs.Moments.{started, weaker}
 use Rattle.lv_maptables.specs.Projects.{ProjectMaps, project_of}
-use Rattle.lv_project.specs.Calls.{AllMade, Applies, Call, accepted, acknowledged, begins}
+use Rattle.lv_project.specs.Calls.{AllMade, Applies, ProjectCall, accepted, acknowledged, begins}
 use Rattle.lv_project.specs.Outcomes.{EndsApply, RefusesApply}
 use Rattle.lv_project.specs.Stands.{IsOutcome}
-use Rattle.lv_project.specs.States.{State, IsKept}
+use Rattle.lv_project.specs.States.{State, IsProjectKept}
 use Rattle.lv_project.specs.declared.error.ProjectError.{ProjectError}
 use Rattle.lv_project.specs.declared.error.ProjectError.TheVariants.{Device, OutOfMemory, Reopen, GenerationsSpent, Refused, Damaged, Blank, NotAProject, NotEmpty, BadGeometry}
 use Rattle.lv_project.proofs.Fronts.{begins_with}
@@ -22,7 +22,7 @@ use Rattle.lv_editor.specs.Sessions.{AllReopen, AreCalls, HoldsAcknowledged, Hol
 use Rattle.lv_editor.specs.Texts.{outcome_text, refused_text}
 use Rattle.lv_editor.specs.declared.query.Query.{Query}
 
-accepted_append : (xs ys : List Call) → accepted (xs ++ ys) ≡ accepted xs ++ accepted ys
+accepted_append : (xs ys : List ProjectCall) → accepted (xs ++ ys) ≡ accepted xs ++ accepted ys
 accepted_append [] ys = refl
 accepted_append ((None, answer) ∷ xs) ys = accepted_append xs ys
 accepted_append ((Some line, answer) ∷ xs) ys = at (begins answer) (accepted_append xs ys)
@@ -40,25 +40,25 @@ module _ {D : Type 0} (facts : Ghosts D) where
   ToldOf o old e = MatchOption o (IsTold facts old e.line e.text e.after) (λ q. AnswersQuery old q.1 e.text × (e.after ≡ old))
       ⊎ ((MatchOption o ⊥ (λ q. MayLack old q.1) × (e.after ≡ old)) × (e.text ≡ refused_text 31))
 
-  abbrev Made : State D → List Call → State D → Type 0
+  abbrev Made : State D → List ProjectCall → State D → Type 0
   Made = AllMade facts
 
   -- ---- The calls
 
-  abbrev CallsOf : Option (List ℕ × Query) → Exchange (State D) → List (Exchange (State D)) → List Call → Type 0
+  abbrev CallsOf : Option (List ℕ × Query) → Exchange (State D) → List (Exchange (State D)) → List ProjectCall → Type 0
   CallsOf o e trace calls = MatchOption o
-      ((answer : Result ℕ ProjectError) × (rest : List Call) × (calls ≡ (Some e.line, answer) ∷ rest)
+      ((answer : Result ℕ ProjectError) × (rest : List ProjectCall) × (calls ≡ (Some e.line, answer) ∷ rest)
       × (e.text ≡ outcome_text (outcome_in answer)) × AreCalls trace rest)
       (λ q. AreCalls trace calls)
 
   one_call : (o : Option (List ℕ × Query)) (e : Exchange (State D)) (trace : List (Exchange (State D))) (old new : State D) → ToldOf o old e
-      → ((calls : List Call) × AreCalls trace calls × Made e.after calls new) → (calls : List Call) × CallsOf o e trace calls × Made old calls new
+      → ((calls : List ProjectCall) × AreCalls trace calls × Made e.after calls new) → (calls : List ProjectCall) × CallsOf o e trace calls × Made old calls new
   one_call None e trace old new (inl (answer, applies, is)) (calls, are, made) = ((Some e.line, answer) ∷ calls, (answer, calls, refl, is, are), (e.after, applies, made))
   one_call None e trace old new (inr ((never, same), is)) rest = absurd never
   one_call (Some q) e trace old new (inl (told, same)) (calls, are, made) = (calls, are, subst (λ (s : State D). Made s calls new) same made)
   one_call (Some q) e trace old new (inr ((lacks, same), is)) (calls, are, made) = (calls, are, subst (λ (s : State D). Made s calls new) same made)
 
-  pub calls_of : (trace : List (Exchange (State D))) (old new : State D) → IsTrace Told old trace new → (calls : List Call) × AreCalls trace calls × Made old calls new
+  pub calls_of : (trace : List (Exchange (State D))) (old new : State D) → IsTrace Told old trace new → (calls : List ProjectCall) × AreCalls trace calls × Made old calls new
   calls_of [] old new same = ([], refl, same)
   calls_of (e ∷ trace) old new (told, more) = one_call (query_of e.line) e trace old new told (calls_of trace e.after new more)
 
@@ -178,7 +178,7 @@ module _ {D : Type 0} (facts : Ghosts D) where
     -- ---- The moments
 
     module _ (only_now : (d : D) (file : List ℕ) → facts.left_since d (facts.moment d) file → facts.may_leave d file) where
-      pub run_moments : (old : State D) (calls : List Call) (new : State D) → IsKept facts old → old.must_reopen ≡ false → HoldsThroughout facts old calls new
+      pub run_moments : (old : State D) (calls : List ProjectCall) (new : State D) → IsProjectKept facts old → old.must_reopen ≡ false → HoldsThroughout facts old calls new
       run_moments old calls new kept ready front back mid split still before behind =
           ⊎_elim
           (λ well. weaker facts mid.disk new.disk (Holds facts only_now counts_now old.cap
@@ -200,10 +200,10 @@ module _ {D : Type 0} (facts : Ghosts D) where
           (fronts facts only_now counts_now old.cap (project_of old.maps) front [] old mid (record { cap_is = refl; leads = refl; kept = kept }) ready before)
 
       -- the moments of one line
-      quiet : (old : State D) (line : List ℕ) → IsKept facts old → old.must_reopen ≡ false → LeavesOnly facts old.disk old.disk (IsOutcome old.cap (project_of old.maps) line)
+      quiet : (old : State D) (line : List ℕ) → IsProjectKept facts old → old.must_reopen ≡ false → LeavesOnly facts old.disk old.disk (IsOutcome old.cap (project_of old.maps) line)
       quiet old line kept ready = started facts old.disk (IsOutcome old.cap (project_of old.maps) line) (λ file left. inl (old.generation, kept ready file (only_now old.disk file left)))
 
-      moments_one : (o : Option (List ℕ × Query)) (e : Exchange (State D)) (old : State D) → IsKept facts old → old.must_reopen ≡ false → ToldOf o old e
+      moments_one : (o : Option (List ℕ × Query)) (e : Exchange (State D)) (old : State D) → IsProjectKept facts old → old.must_reopen ≡ false → ToldOf o old e
           → LeavesOnly facts old.disk e.after.disk (IsOutcome old.cap (project_of old.maps) e.line)
       moments_one None e old kept ready (inl (answer, applies, is)) = applies.any_moment ready
       moments_one None e old kept ready (inr ((never, same), is)) = absurd never
@@ -212,7 +212,7 @@ module _ {D : Type 0} (facts : Ghosts D) where
       moments_one (Some q) e old kept ready (inr ((lacks, same), is)) =
           subst (λ (s : State D). LeavesOnly facts old.disk s.disk (IsOutcome old.cap (project_of old.maps) e.line)) (sym same) (quiet old e.line kept ready)
 
-      pub line_moments : (old new : State D) (line text : List ℕ) → Told old line text new → IsKept facts old → old.must_reopen ≡ false
+      pub line_moments : (old new : State D) (line text : List ℕ) → Told old line text new → IsProjectKept facts old → old.must_reopen ≡ false
           → LeavesOnly facts old.disk new.disk (IsOutcome old.cap (project_of old.maps) line)
       line_moments old new line text told kept ready =
           let e : Exchange (State D) = record { line = line; text = text; after = new } in
@@ -220,22 +220,22 @@ module _ {D : Type 0} (facts : Ghosts D) where
 
       -- ---- All of it
 
-      kept_one : (o : Option (List ℕ × Query)) (e : Exchange (State D)) (old : State D) → IsKept facts old → ToldOf o old e → IsKept facts e.after
+      kept_one : (o : Option (List ℕ × Query)) (e : Exchange (State D)) (old : State D) → IsProjectKept facts old → ToldOf o old e → IsProjectKept facts e.after
       kept_one None e old kept (inl (answer, applies, is)) = applies.kept
       kept_one None e old kept (inr ((never, same), is)) = absurd never
-      kept_one (Some q) e old kept (inl (told, same)) = subst (λ (s : State D). IsKept facts s) (sym same) kept
-      kept_one (Some q) e old kept (inr ((lacks, same), is)) = subst (λ (s : State D). IsKept facts s) (sym same) kept
+      kept_one (Some q) e old kept (inl (told, same)) = subst (λ (s : State D). IsProjectKept facts s) (sym same) kept
+      kept_one (Some q) e old kept (inr ((lacks, same), is)) = subst (λ (s : State D). IsProjectKept facts s) (sym same) kept
 
-      pub line_kept : (old new : State D) (line text : List ℕ) → Told old line text new → IsKept facts old → IsKept facts new
+      pub line_kept : (old new : State D) (line text : List ℕ) → Told old line text new → IsProjectKept facts old → IsProjectKept facts new
       line_kept old new line text told kept =
           let e : Exchange (State D) = record { line = line; text = text; after = new } in
           kept_one (query_of line) e old kept told
 
-      run_kept : (trace : List (Exchange (State D))) (old new : State D) → IsTrace Told old trace new → IsKept facts old → IsKept facts new
-      run_kept [] old new same kept = subst (λ (s : State D). IsKept facts s) (sym same) kept
+      run_kept : (trace : List (Exchange (State D))) (old new : State D) → IsTrace Told old trace new → IsProjectKept facts old → IsProjectKept facts new
+      run_kept [] old new same kept = subst (λ (s : State D). IsProjectKept facts s) (sym same) kept
       run_kept (e ∷ trace) old new (told, more) kept = run_kept trace e.after new more (kept_one (query_of e.line) e old kept told)
 
-      pub runs_over : (trace : List (Exchange (State D))) (old new : State D) → IsTrace Told old trace new → IsKept facts old → RunsOver facts old new trace
+      pub runs_over : (trace : List (Exchange (State D))) (old new : State D) → IsTrace Told old trace new → IsProjectKept facts old → RunsOver facts old new trace
       runs_over trace old new in_turn kept =
           let all = calls_of trace old new in_turn in
           record {

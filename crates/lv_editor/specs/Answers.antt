@@ -4,7 +4,7 @@ use Rattle.std.specs.Prelude.{◌≡◌, ◌≢◌, ◌⊎◌, ℕ, List, MatchO
 use Rattle.lv_maptables.specs.Projects.{ProjectMaps}
 use Rattle.lv_commands.specs.Errors.{code_of}
 use Rattle.lv_commands.specs.ProjectLines.{Accepts, EndsLine}
-use Rattle.lv_commands.specs.ProjectReadiness.{need_of}
+use Rattle.lv_commands.specs.ProjectReadiness.{project_need_of}
 use Rattle.lv_commands.specs.Readiness.{no_need}
 use Rattle.lv_commands.specs.declared.error.CommandError.{CommandError}
 use Rattle.lv_editor.specs.Queries.{IsAnswer, TakesMemory, query_of}
@@ -24,7 +24,7 @@ pub record AddsItems (cap : ℕ) (old : ProjectMaps) (line : List ℕ) : Type 0 
   pub new : ProjectMaps
   pub number : ℕ
   pub accepts : Accepts cap old line new number
-  pub adds : need_of accepts.command ≢ no_need
+  pub adds : project_need_of accepts.command ≢ no_need
 
 -- the line can need memory: a query whose answer is put together, or a command that adds items
 abbrev pub NeedsMemory : ℕ → ProjectMaps → List ℕ → Type 0

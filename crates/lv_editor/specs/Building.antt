@@ -3,9 +3,9 @@
 use Rattle.std.specs.Prelude.{◌++◌, ℕ, List, [], ◌∷◌, All, Option, codes, decimal}
 use Rattle.std.specs.Io.KnownBytes.{Appends, Keeps}
 use Rattle.lv_maptables.specs.Tables.{Tables}
-use Rattle.lv_pwad.specs.Counted.{IsCounted}
-use Rattle.lv_pwad.specs.Projects.{IsRefusalOfAll}
-use Rattle.lv_pwad.specs.Sound.{IsBuildable}
+use Rattle.lv_pwad.specs.Counted.{IsBuildCounted}
+use Rattle.lv_pwad.specs.Projects.{Blames}
+use Rattle.lv_pwad.specs.Sound.{CanBeBuilt}
 use Rattle.lv_pwad.specs.declared.counted.BuildCounts.{BuildCounts}
 use Rattle.lv_editor.specs.declared.error.WriteError.{WriteError}
 use Rattle.lv_editor.specs.declared.error.WriteError.TheVariants.{Build, WriterFailed}
@@ -13,13 +13,13 @@ use Rattle.lv_editor.specs.declared.error.WriteError.TheVariants.{Build, WriterF
 -- a sound build of each map was written, and these are its counts
 abbrev pub IsWritten : List Tables → BuildCounts → Option (List ℕ) → Option (List ℕ) → Type 0
 IsWritten ms c writer-old writer-new =
-    (wad : List ℕ) × IsCounted ms wad c × Appends writer-old writer-new wad
+    (wad : List ℕ) × IsBuildCounted ms wad c × Appends writer-old writer-new wad
 
 -- no build was written: nothing at all where a map isn't built, and else the writer failed
 abbrev pub RefusesWriting : List Tables → WriteError → Option (List ℕ) → Option (List ℕ) → Type 0
-RefusesWriting ms (Build e) writer-old writer-new =
-    IsRefusalOfAll ms e × Keeps writer-old writer-new
-RefusesWriting ms WriterFailed writer-old writer-new = All IsBuildable ms
+RefusesWriting ms (Build unbuilt) writer-old writer-new =
+    Blames ms unbuilt.error unbuilt.map × Keeps writer-old writer-new
+RefusesWriting ms WriterFailed writer-old writer-new = All CanBeBuilt ms
 
 -- `built`, the counts, and the length of the PWAD
 abbrev pub built_text : BuildCounts → List ℕ

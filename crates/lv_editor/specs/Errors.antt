@@ -1,7 +1,8 @@
 -- The numbers of the editor's refusals, as docs/FORMAT.md lists them ("Numbers of the refusals").
 use Rattle.std.specs.Prelude.{ℕ}
 use Rattle.lv_project.specs.Refusals as projects
-use Rattle.lv_pwad.specs.Errors.{build_code_of, code_of as level_code_of}
+use Rattle.lv_levels.specs.Errors.{code_of as level_code_of}
+use Rattle.lv_pwad.specs.Errors.{build_code_of}
 use Rattle.lv_editor.specs.declared.error.EditorError.{EditorError}
 use Rattle.lv_editor.specs.declared.error.EditorError.TheVariants.{OutOfMemory, InputTooLong, ReaderFailed, WriterFailed}
 use Rattle.lv_editor.specs.declared.error.InspectError.{InspectError}
@@ -27,7 +28,7 @@ inspect_code_of inspecting.WriterFailed = 38
 
 -- the number that a refusal to write a PWAD is known by
 abbrev pub write_code_of : WriteError → ℕ
-write_code_of (Build e) = build_code_of e
+write_code_of (Build unbuilt) = build_code_of unbuilt.error
 write_code_of writing.WriterFailed = 38
 
 -- the number that a refusal to build what a stop left is known by

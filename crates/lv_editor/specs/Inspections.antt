@@ -3,13 +3,11 @@
 use Rattle.std.specs.Prelude.{◌≡◌, ◌↔◌, ◌++◌, ℕ, Bool, true, List, [], ◌∷◌, length, Option, Some, None, codes, decimal}
 use Rattle.std.specs.Io.KnownBytes.{Appends, Keeps}
 use Rattle.lv_pwad.specs.Audit.{first_fault}
-use Rattle.lv_pwad.specs.Levels.{IsLevel, Lumps, refusal}
-use Rattle.lv_pwad.specs.Range.{InRange}
-use Rattle.lv_pwad.specs.Views.{RefusesLevel}
+use Rattle.lv_levels.specs.Levels.{IsLevel, Lumps, refusal}
+use Rattle.lv_pwad.specs.Range.{IsInRange}
+use Rattle.lv_levels.specs.Views.{RefusesLevel}
 use Rattle.lv_pwad.specs.declared.fault.Fault.{Fault}
 use Rattle.lv_pwad.specs.declared.fault.Fault.TheVariants.{LineVertex, LineSide, SideSector, SegVertex, SegLine, SegSide, SubRange, SubTotal, NodeChild, SubOnce, NodeOnce, Reject, BlockHeader, BlockList}
-use Rattle.lv_editor.specs.declared.error.EditorError.{EditorError}
-use Rattle.lv_editor.specs.declared.error.EditorError.TheVariants as editing
 use Rattle.lv_editor.specs.declared.error.InspectError.{InspectError}
 use Rattle.lv_editor.specs.declared.error.InspectError.TheVariants.{Level, WriterFailed}
 
@@ -94,7 +92,7 @@ pub record IsInspected (wad name : List ℕ) (sound : Bool)
   pub level : Lumps
   pub read : IsLevel wad name level
   pub written : Appends writer-old writer-new (level_text level)
-  pub is : (sound ≡ true) ↔ InRange level
+  pub is : (sound ≡ true) ↔ IsInRange level
 
 -- a level was not inspected: nothing was written where it can't be read or audited, and else the
 -- writer failed
@@ -103,8 +101,3 @@ abbrev pub RefusesInspection : List ℕ → List ℕ → InspectError → Option
 RefusesInspection wad name (Level e) writer-old writer-new =
     RefusesLevel wad name e × Keeps writer-old writer-new
 RefusesInspection wad name WriterFailed writer-old writer-new = refusal wad name ≡ None
-
--- why a WAD was not read to its end
-abbrev pub EndsReading : EditorError → Type 0
-EndsReading editing.WriterFailed = ⊥
-EndsReading e = Unit {0}

@@ -14,7 +14,8 @@ onto_first_line b (line ∷ lines) = (b ∷ line) ∷ lines
 -- the lines that end with a LF, without it
 abbrev pub whole_lines : List ℕ → List (List ℕ)
 whole_lines [] = []
-whole_lines (b ∷ bs) = if is_break b then [] ∷ whole_lines bs else onto_first_line b (whole_lines bs)
+whole_lines (b ∷ bs) = if is_break b then [] ∷ whole_lines bs
+    else onto_first_line b (whole_lines bs)
 
 -- what stands behind the last LF
 abbrev pub unfinished : List ℕ → List ℕ

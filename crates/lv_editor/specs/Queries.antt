@@ -11,12 +11,12 @@ use Rattle.lv_maptables.specs.declared.kind.Kind.{Kind}
 use Rattle.lv_maptables.specs.declared.kind.Kind.TheVariants as kind
 use Rattle.lv_checks.specs.Findings.{findings}
 use Rattle.lv_pwad.specs.Errors.{build_code_of}
-use Rattle.lv_pwad.specs.Levels.{IsLevel, Lumps}
+use Rattle.lv_levels.specs.Levels.{IsLevel, Lumps}
 use Rattle.lv_pwad.specs.Projects.{IsRefusalOfAll}
 use Rattle.lv_pwad.specs.Sound.{IsBuildRefusal, IsSoundBuild}
 use Rattle.lv_pwad.specs.declared.error.BuildError.{BuildError}
 use Rattle.lv_pwad.specs.declared.error.BuildError.TheVariants as refused
-use Rattle.lv_pwad.specs.Counted.{IsCounted}
+use Rattle.lv_pwad.specs.Counted.{IsBuildCounted}
 use Rattle.lv_editor.specs.Building.{built_text}
 use Rattle.lv_editor.specs.Runs.{Unwritten}
 use Rattle.lv_editor.specs.Texts.{count_text, findings_text, hex_text, maps_text, refused_text}
@@ -95,7 +95,7 @@ pub record TellsRefusal (IsCause : BuildError → Type 0) (text : List ℕ) : Ty
 -- can't be built
 abbrev pub TellsBuild : List Tables → List ℕ → Type 0
 TellsBuild ms text =
-    ((wad : List ℕ) × (c : BuildCounts) × IsCounted ms wad c × (text ≡ built_text c))
+    ((wad : List ℕ) × (c : BuildCounts) × IsBuildCounted ms wad c × (text ≡ built_text c))
     ⊎ TellsRefusal (IsRefusalOfAll ms) text
 
 -- the text has the bytes of a lump of some sound build of the map, or the refusal of its build

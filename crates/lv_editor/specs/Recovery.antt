@@ -1,5 +1,8 @@
 -- What is built of a disk that sessions left.
 use Rattle.std.specs.Prelude.{◌≡◌, ◌⊎◌, ℕ, List}
+use Rattle.lv_disk.specs.Moments.{LeavesOnly}
+use Rattle.lv_disk.specs.Stops.{Each}
+use Rattle.lv_disk.specs.declared.disk.Disk.{Ghosts}
 use Rattle.lv_maptables.specs.Projects.{ProjectMaps, empty_project}
 use Rattle.lv_project.specs.Sessions.{KeepEach, Session}
 use Rattle.lv_project.specs.Stands.{StandsFor}
@@ -7,6 +10,13 @@ use Rattle.lv_project.specs.declared.error.ProjectError.TheVariants.{Device, Out
 use Rattle.lv_pwad.specs.Projects.{IsRefusalOfAll, IsSoundBuildOfAll}
 use Rattle.lv_editor.specs.declared.error.RecoveryError.{RecoveryError}
 use Rattle.lv_editor.specs.declared.error.RecoveryError.TheVariants.{Build, Open}
+
+-- the disk was only read: what a read gives stays, and a stop at any moment leaves what one left
+-- before
+pub record IsOnlyRead {D : Type 0} (facts : Ghosts D) (before after : D) : Type 0 where
+  pub no_other : Each (facts.reads after) (facts.reads before)
+  pub still : Each (facts.reads before) (facts.reads after)
+  pub any_moment : LeavesOnly facts before after (facts.may_leave before)
 
 -- the bytes are a sound build of each of the maps that the sessions keep, for which the file stands
 abbrev pub BuildsKept : ℕ → List Session → List ℕ → List ℕ → Type 0

@@ -5,10 +5,10 @@ use Rattle.lv_disk.specs.Moments.{LeavesOnly}
 use Rattle.lv_disk.specs.Stops.{Each}
 use Rattle.lv_disk.specs.declared.disk.Disk.{Ghosts}
 use Rattle.lv_maptables.specs.Projects.{ProjectMaps, project_of}
-use Rattle.lv_project.specs.Calls.{AllMade, Call, Made}
+use Rattle.lv_project.specs.Calls.{AllMade, ProjectCall, Made}
 use Rattle.lv_project.specs.Sessions.{KeepsAcknowledged, Session}
 use Rattle.lv_project.specs.Stands.{IsOutcome, StandsFor}
-use Rattle.lv_project.specs.States.{State, IsKept}
+use Rattle.lv_project.specs.States.{State, IsProjectKept}
 use Rattle.lv_project.specs.declared.error.ProjectError.{ProjectError}
 use Rattle.lv_editor.specs.Editing.{outcome_in}
 use Rattle.lv_editor.specs.Queries.{query_of}
@@ -17,10 +17,11 @@ use Rattle.lv_editor.specs.Texts.{outcome_text, refused_text}
 
 -- the calls of `apply` that some lines made: one for each that is no query, and its text tells what
 -- the call answered
-abbrev pub AreCalls : {S : Type 0} → List (Exchange S) → List Call → Type 0
+abbrev pub AreCalls : {S : Type 0} → List (Exchange S) → List ProjectCall → Type 0
 AreCalls [] calls = calls ≡ []
 AreCalls (e ∷ trace) calls = MatchOption (query_of e.line)
-    ((answer : Result ℕ ProjectError) × (rest : List Call) × (calls ≡ (Some e.line, answer) ∷ rest)
+    ((answer : Result ℕ ProjectError) × (rest : List ProjectCall)
+    × (calls ≡ (Some e.line, answer) ∷ rest)
     × (e.text ≡ outcome_text (outcome_in answer)) × AreCalls trace rest)
     (λ q. AreCalls trace calls)
 
@@ -33,9 +34,10 @@ HoldsAcknowledged cap base s file =
 -- From each moment between two calls on, of a project that needn't be opened again: each image
 -- stands for maps to which a prefix of the accepted commands leads that holds each one acknowledged
 -- up to the moment.
-abbrev pub HoldsThroughout : {D : Type 0} → Ghosts D → State D → List Call → State D → Type 0
+abbrev pub HoldsThroughout : {D : Type 0} → Ghosts D → State D → List ProjectCall → State D → Type 0
 HoldsThroughout {D = D} facts old calls new =
-    (front back : List Call) (mid : State D) → calls ≡ front ++ back → mid.must_reopen ≡ false
+    (front back : List ProjectCall) (mid : State D) → calls ≡ front ++ back → mid.must_reopen
+    ≡ false
     → AllMade facts old front mid → AllMade facts mid back new
     → LeavesOnly facts mid.disk new.disk
     (HoldsAcknowledged old.cap (project_of old.maps) (record { front = front; back = back }))
@@ -55,37 +57,39 @@ pub record IsInDoubt {D : Type 0} (facts : Ghosts D) (trace : List (Exchange (St
   pub split : trace ≡ front ++ faulted ∷ back
   pub answered : faulted.text ≡ refused_text 30
   pub behind : AllReopen back
-  pub images : Each (facts.may_leave new.disk) (IsOutcome new.cap (project_of new.maps) faulted.line)
+  pub images : Each (facts.may_leave new.disk)
+      (IsOutcome new.cap (project_of new.maps) faulted.line)
 
 -- What a run leaves: its lines are calls, each with its promises; a project that must be opened
 -- again stays as it is, and answers `no 32` alone; of another each image stands, at each moment and
 -- at the exit.
 pub record RunsOver {D : Type 0} (facts : Ghosts D) (old new : State D)
     (trace : List (Exchange (State D))) : Type 0 where
-  pub calls : List Call
+  pub calls : List ProjectCall
   pub are : AreCalls trace calls
   pub made : AllMade facts old calls new
   pub any_moment : old.must_reopen ≡ false → HoldsThroughout facts old calls new
-  pub kept : IsKept facts new
+  pub kept : IsProjectKept facts new
   pub in_doubt : old.must_reopen ≡ false → new.must_reopen ≡ true → IsInDoubt facts trace new
   pub reopen : old.must_reopen ≡ true → (new ≡ old) × AllReopen trace
 
 -- what a session does at a time: a call of `apply` or `checkpoint` with its answer, or a run with
 -- its lines and their answers
 abbrev pub Deed : Type 0 → Type 0
-Deed D = Call ⊎ List (Exchange (State D))
+Deed D = ProjectCall ⊎ List (Exchange (State D))
 
 -- it was done, and these are its calls
-abbrev pub IsDeedDone : {D : Type 0} → Ghosts D → State D → Deed D → List Call → State D → Type 0
+abbrev pub IsDeedDone : {D : Type 0} → Ghosts D → State D → Deed D → List ProjectCall → State D
+    → Type 0
 IsDeedDone facts old (inl call) calls new = Made facts old call new × (calls ≡ call ∷ [])
 IsDeedDone facts old (inr trace) calls new =
     (run : RunsOver facts old new trace) × (calls ≡ run.calls)
 
 -- all of it was done in turn, and these are the calls
-abbrev pub AllDone : {D : Type 0} → Ghosts D → State D → List (Deed D) → List Call → State D
+abbrev pub AllDone : {D : Type 0} → Ghosts D → State D → List (Deed D) → List ProjectCall → State D
     → Type 0
 AllDone facts old [] calls new = (calls ≡ []) × (new ≡ old)
 AllDone {D = D} facts old (deed ∷ deeds) calls new =
-    (mid : State D) × (its more : List Call)
+    (mid : State D) × (its more : List ProjectCall)
     × IsDeedDone facts old deed its mid × AllDone facts mid deeds more new
     × (calls ≡ its ++ more)

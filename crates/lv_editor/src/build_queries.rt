@@ -4,7 +4,7 @@ ghost use Rattle.std.specs.Io.KnownBytes.{Appends};
 ghost use Rattle.lv_lumps.specs.Records.{vertex_record};
 ghost use Rattle.lv_maptables.specs.Projects.{project_of};
 ghost use Rattle.lv_pwad.specs.Sound.{IsBuildRefusal};
-ghost use Rattle.lv_pwad.specs.Views.{view};
+ghost use Rattle.lv_levels.specs.Views.{view};
 ghost use Rattle.lv_editor.specs.Queries.{IsOfBuild, WritesAnswer, WritesBuilt, WritesRefusal, built_lump_of};
 ghost use Rattle.lv_editor.specs.Runs.{Unwritten};
 ghost use Rattle.lv_editor.specs.Texts.{hex_text};
@@ -42,7 +42,7 @@ pub fn write_build<W: Write>(alloc: Global, maps: &Maps, writer: &mut W) -> Resu
 {
     match build_counted(alloc, maps) {
         Ok(built) => write_counts(built.counts, writer),
-        Err(error) => write_refusal(error, writer),
+        Err(unbuilt) => write_refusal(unbuilt.error, writer),
     }
 }
 

@@ -3,6 +3,7 @@ ghost use Rattle.std.specs.Prelude.{◌≡◌, Err, Some, length, IfErr, IfOk, M
 ghost use Rattle.std.specs.Io.KnownBytes.{Appends};
 ghost use Rattle.lv_maptables.specs.Projects.{project_of};
 ghost use Rattle.lv_maptables.specs.Tables.{Tables};
+ghost use Rattle.lv_pwad.specs.Errors.{blamed};
 ghost use Rattle.lv_pwad.specs.declared.error.BuildError.TheVariants.{NothingToBuild};
 ghost use Rattle.lv_editor.specs.declared.error.EditorError.TheVariants.{WriterFailed};
 ghost use Rattle.lv_editor.specs.Building.{IsWritten, RefusesWriting, built_text};
@@ -18,7 +19,7 @@ use std::io::Write;
 ///
 /// # Errors
 ///
-/// `Build` as `build_all` refuses, and then nothing is written; or `WriterFailed`.
+/// `Build` as `build_counted` refuses, and then nothing is written; or `WriterFailed`.
 pub fn write_wad<W: Write>(
     alloc: Global,
     maps: &Maps,
@@ -31,7 +32,7 @@ pub fn write_wad<W: Write>(
     // With or without memory, where the first map has no line.
     ensures nothing { (m : Tables) → slice_get (project_of maps.now).maps 0 ≡ Some m
         → length m.lines ≡ 0
-        → result ≡ Err (WriteError.Build NothingToBuild) }
+        → result ≡ Err (WriteError.Build (blamed NothingToBuild m.name)) }
 {
     let built = build_counted(alloc, maps)?;
     match writer.write_all(&built.bytes) {

@@ -6,7 +6,7 @@ ghost use Rattle.lv_disk.specs.Stops.{Each};
 ghost use Rattle.lv_maptables.specs.Projects.{project_of};
 ghost use Rattle.lv_project.specs.Calls.{Applies};
 ghost use Rattle.lv_project.specs.Stands.{IsOutcome};
-ghost use Rattle.lv_project.specs.States.{IsKept, State};
+ghost use Rattle.lv_project.specs.States.{IsProjectKept, State};
 ghost use Rattle.lv_project.specs.declared.error.ProjectError.{ProjectError};
 ghost use Rattle.lv_editor.specs.Editing.{AnswersInProject, LacksInProject, RepliesInProject, RepliesToQuery, outcome_in};
 ghost use Rattle.lv_editor.specs.Runs.{AnswersLine, Exchange, Ran};
@@ -116,7 +116,7 @@ pub fn answer<D: Disk, W: Write>(
         (IsOutcome project.old.cap (project_of project.old.maps) line.now) }
 
     // Each image now stands for the maps, or, where the project must be opened again, for these maps after the line.
-    ensures kept { IsKept D.Disk project.new }
+    ensures kept { IsProjectKept D.Disk project.new }
     ensures in_doubt { project.old.must_reopen ≡ false → project.new.must_reopen ≡ true
         → Each (D.may_leave project.new.disk)
         (IsOutcome project.new.cap (project_of project.new.maps) line.now) }

@@ -4,7 +4,7 @@ ghost use Rattle.lv_editor.specs.declared.error.InspectError.TheVariants.{Level}
 ghost use Rattle.lv_editor.specs.declared.error.WriteError.TheVariants.{Build};
 
 use lv_project::ProjectError;
-use lv_pwad::{BuildError, ReadError};
+use lv_pwad::{BuildError, ReadError, Unbuilt};
 use thiserror::Error;
 
 /// Why a run, or what it was asked for, ended before its end.
@@ -73,9 +73,9 @@ impl From<ReadError> for InspectError {
 /// Why no PWAD was written.
 #[derive(Clone, Copy, Debug, PartialEq, Eq, Error)]
 pub enum WriteError {
-    /// A map is not built.
+    /// A map is not built, the one that is named.
     #[error(transparent)]
-    Build(BuildError),
+    Build(Unbuilt),
     #[error("the writer failed")]
     WriterFailed,
 }
@@ -89,17 +89,17 @@ impl WriteError {
         ensures { result ≡ write_code_of self.now }
     {
         match self {
-            WriteError::Build(error) => error.code(),
+            WriteError::Build(unbuilt) => unbuilt.error.code(),
             WriteError::WriterFailed => 38,
         }
     }
 }
 
-impl From<BuildError> for WriteError {
-    ghost from_gives = { λ error e. e ≡ Build error };
+impl From<Unbuilt> for WriteError {
+    ghost from_gives = { λ unbuilt e. e ≡ Build unbuilt };
 
-    fn from(error: BuildError) -> WriteError {
-        WriteError::Build(error)
+    fn from(unbuilt: Unbuilt) -> WriteError {
+        WriteError::Build(unbuilt)
     }
 }
 

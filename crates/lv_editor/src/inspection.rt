@@ -1,7 +1,7 @@
 //! What `inspect` tells of a level: its lengths, then `sound` or the first fault.
 ghost use Rattle.std.specs.Prelude.{◌≡◌, ◌++◌, IfErr, IfOk, MatchResult, is_none};
 ghost use Rattle.std.specs.Io.KnownBytes.{Appends};
-ghost use Rattle.lv_pwad.specs.Views.{view};
+ghost use Rattle.lv_levels.specs.Views.{view};
 ghost use Rattle.lv_editor.specs.declared.error.InspectError.TheVariants.{WriterFailed};
 ghost use Rattle.lv_editor.specs.Inspections.{IsInspected, RefusesInspection, back_text, fault_name, fault_number, fault_text, front_text, lengths_text, verdict_text};
 

@@ -1,14 +1,13 @@
 //! Sessions of calls and runs, each stopped at any moment, and what is built of the disk that they leave.
 ghost use Rattle.std.specs.Prelude.{◌≡◌, ◌++◌, List, ℕ, MatchResult};
 ghost use Rattle.lv_maptables.specs.Projects.{project_of};
-ghost use Rattle.lv_project.specs.Calls.{AllMade, Call};
+ghost use Rattle.lv_project.specs.Calls.{AllMade, ProjectCall};
 ghost use Rattle.lv_project.specs.Sessions.{IsLeftBy, Session};
 ghost use Rattle.lv_project.specs.States.{State};
 ghost use Rattle.lv_pwad.specs.Projects.{IsRefusalOfAll, IsSoundBuildOfAll};
 ghost use Rattle.lv_pwad.specs.declared.error.BuildError.{BuildError};
-ghost use Rattle.lv_editor.specs.Recovery.{BuildsKept, RefusesKept};
+ghost use Rattle.lv_editor.specs.Recovery.{BuildsKept, IsOnlyRead, RefusesKept};
 ghost use Rattle.lv_editor.specs.Sessions.{AllDone, Deed};
-ghost use Rattle.lv_editor.specs.Sources.{IsOnlyRead};
 
 use crate::error::RecoveryError;
 use lv_disk::Disk;
@@ -21,7 +20,8 @@ use std::alloc::Global;
 /// contract of `run` says. So all that a session does is calls in turn, which `hold_each_acknowledged` asks for, and it
 /// may be stopped between any two of them. The function has no body: its contract is the law.
 pub fn sessions_hold_runs<D: Disk>()
-    ensures { (first : State D) (deeds : List (Deed D)) (front back : List Call) (last : State D)
+    ensures { (first : State D) (deeds : List (Deed D)) (front back : List ProjectCall)
+        (last : State D)
         → AllDone D.Disk first deeds (front ++ back) last
         → (mid : State D) × AllMade D.Disk first front mid × AllMade D.Disk mid back last }
 {}

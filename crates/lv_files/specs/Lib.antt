@@ -1,5 +1,6 @@
 pub mod Accesses
 pub mod Causes
+pub mod GaplessFile
 pub mod Names
 pub mod NewFile
 pub mod Replaced

@@ -17,6 +17,8 @@ pub enum Cause {
     NotRegular,
     /// It is neither empty nor a PWAD.
     NoPwad,
+    /// It is neither empty nor a picture of a map.
+    NoPicture,
     /// There is no memory for its name.
     OutOfMemory,
 }
@@ -41,12 +43,16 @@ fn without_number(told: &str) -> &str {
     }
 }
 
-// Writes the line of a path and a reason.
-fn write_reason<W: Write>(path: &str, reason: &str, writer: &mut W) -> io::Result<()>
+/// Writes what is said of a path or of something else with a name, as `  NAME: REASON`.
+///
+/// # Errors
+///
+/// The writer's.
+pub fn write_reason<W: Write>(name: &str, reason: &str, writer: &mut W) -> io::Result<()>
     ensures { OnOk result (Appends (W.contents writer.old) (W.contents writer.new)
-        (cause_line path.now reason.now)) }
+        (cause_line name.now reason.now)) }
 {
-    writeln!(writer, "  {path}: {reason}")
+    writeln!(writer, "  {name}: {reason}")
 }
 
 /// Says why the file at the path can't be opened or made, as `  PATH: REASON`.
@@ -71,6 +77,7 @@ pub fn write_cause<W: Write>(
         Cause::Held => write_reason(path, "is open in another program", writer),
         Cause::NotRegular => write_reason(path, "is no regular file", writer),
         Cause::NoPwad => write_reason(path, "is no PWAD; it is left alone", writer),
+        Cause::NoPicture => write_reason(path, "is no picture of a map; it is left alone", writer),
         Cause::OutOfMemory => write_reason(path, "finds no memory", writer),
     }
 }

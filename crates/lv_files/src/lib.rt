@@ -2,14 +2,16 @@
 #![tactic(auto)]
 
 mod cause;
+mod gapless;
 mod hold;
 mod name;
 mod new_file;
 mod replaceable;
 mod target;
 
-pub use cause::{Cause, write_cause};
+pub use cause::{Cause, write_cause, write_reason};
+pub use gapless::GaplessFile;
 pub use hold::{Access, Hold, open_held};
 pub use name::beside;
 pub use new_file::{NewFile, open_new};
-pub use replaceable::may_be_replaced;
+pub use replaceable::{Form, may_be_replaced};

@@ -3,7 +3,7 @@ ghost use Rattle.std.specs.Prelude.{◌≡◌};
 
 use crate::hold::{Hold, held};
 use crate::name::beside;
-use crate::replaceable::may_be_replaced;
+use crate::replaceable::{Form, may_be_replaced};
 use crate::target::target_of;
 use crate::{Access, Cause};
 use std::alloc::Global;
@@ -90,13 +90,15 @@ where
     }
 }
 
-// Refuses a file that may not be written, or that is neither empty nor a PWAD.
-fn check_replaceable<E: Files>(alloc: Global, rt: &E, path: &str) -> Result<(), Cause> {
+// Refuses a file that may not be written, or that is neither empty nor of the form.
+fn check_replaceable<E: Files>(alloc: Global, rt: &E, path: &str, form: Form) -> Result<(), Cause> {
     let file = OpenOptions::new().read(true).write(true).open(rt, path)?;
-    if may_be_replaced(alloc, file)? {
-        Ok(())
-    } else {
-        Err(Cause::NoPwad)
+    if may_be_replaced(alloc, form, file)? {
+        return Ok(());
+    }
+    match form {
+        Form::Pwad => Err(Cause::NoPwad),
+        Form::Picture => Err(Cause::NoPicture),
     }
 }
 
@@ -105,6 +107,7 @@ fn open_beside<E: Files>(
     alloc: Global,
     rt: &E,
     path: &str,
+    form: Form,
     permissions: Option<Permissions>,
 ) -> Result<NewFile<E::File>, Cause>
 where
@@ -112,7 +115,7 @@ where
 {
     let target = target_of(alloc, rt, path)?;
     if permissions.is_some() {
-        check_replaceable(alloc, rt, target.as_path().as_str())?;
+        check_replaceable(alloc, rt, target.as_path().as_str(), form)?;
     }
     let new = beside(alloc, target.as_path().as_str())?;
     let file = make_held(rt, new.as_path().as_str())?;
@@ -139,21 +142,30 @@ fn open_itself<E: Files>(rt: &E, path: &str) -> Result<NewFile<E::File>, Cause> 
     })
 }
 
-/// Opens a new file for a path at which there is nothing, an empty file or a PWAD; what stands there stays until `put`.
-/// A link is followed. A pipe or a device is opened itself.
+/// Opens a new file of the form for a path at which there is nothing, an empty file or one of the form; what stands
+/// there stays until `put`. A link is followed. A pipe or a device is opened itself.
 ///
 /// # Errors
 ///
-/// `NoPwad` where a file stands there that may not be replaced, `Held` where another program makes one, `System`, or
-/// `OutOfMemory`.
-pub fn open_new<E: Files>(alloc: Global, rt: &E, path: &str) -> Result<NewFile<E::File>, Cause>
+/// `NoPwad` or `NoPicture` where a file stands there that may not be replaced, `Held` where another program makes one,
+/// `System`, or `OutOfMemory`.
+pub fn open_new<E: Files>(
+    alloc: Global,
+    rt: &E,
+    path: &str,
+    form: Form,
+) -> Result<NewFile<E::File>, Cause>
 where
     E::File: Hold,
 {
     match rt.metadata(path) {
-        Ok(found) if found.is_file() => { open_beside(alloc, rt, path, Some(found.permissions())) }
+        Ok(found) if found.is_file() => {
+            open_beside(alloc, rt, path, form, Some(found.permissions()))
+        }
         Ok(_) => open_itself(rt, path),
-        Err(error) if error.kind() == ErrorKind::NotFound => open_beside(alloc, rt, path, None),
+        Err(error) if error.kind() == ErrorKind::NotFound => {
+            open_beside(alloc, rt, path, form, None)
+        }
         Err(error) => Err(Cause::System(error)),
     }
 }

@@ -33,7 +33,9 @@ module _ (area : Area) (next : ℕ) (payload : List ℕ) (short : length payload
   itself file = record { keeps = keeps_itself area.base area.length file; no_longer = omega arith; journal = λ payloads is. inl is }
 
   -- all that stood up to the gate stands, and it's closed
-  stays : (payloads : List (List ℕ)) (old new : List ℕ) → length (records_bytes payloads) ≡ next → IsJournal area payloads old → KeepsOutside gate 1 old new → get_or new gate 0 ≢ 165 → IsJournal area payloads new
+  stays : (payloads : List (List ℕ)) (old new : List ℕ) → length (records_bytes payloads) ≡ next
+      → IsJournal area payloads old → KeepsOutside gate 1 old new → get_or new gate 0 ≢ 165
+      → IsJournal area payloads new
   stays payloads old new ends is keeps shut =
       let at : area.base + length (records_bytes payloads) ≡ gate = omega (arith, ends) in
       record {
@@ -44,10 +46,13 @@ module _ (area : Area) (next : ℕ) (payload : List ℕ) (short : length payload
       }
 
   -- the same for a write behind the gate
-  behind : (payloads : List (List ℕ)) (old new : List ℕ) → length (records_bytes payloads) ≡ next → IsJournal area payloads old → KeepsOutside (gate + 1) (length payload + 5) old new → IsJournal area payloads new
+  behind : (payloads : List (List ℕ)) (old new : List ℕ) → length (records_bytes payloads) ≡ next
+      → IsJournal area payloads old → KeepsOutside (gate + 1) (length payload + 5) old new → IsJournal area payloads new
   behind payloads old new ends is keeps =
       let at : area.base + length (records_bytes payloads) ≡ gate = omega (arith, ends) in
-      let kept : get_or new (area.base + length (records_bytes payloads)) 0 ≡ get_or old (area.base + length (records_bytes payloads)) 0 = keeps.same (area.base + length (records_bytes payloads)) is.gate.within (inl (omega (arith, at))) in
+      let kept : get_or new (area.base + length (records_bytes payloads)) 0
+      ≡ get_or old (area.base + length (records_bytes payloads)) 0 =
+      keeps.same (area.base + length (records_bytes payloads)) is.gate.within (inl (omega (arith, at))) in
       record {
         records = has_kept (gate + 1) (length payload + 5) area.base (records_bytes payloads) old new (inl (omega (arith, ends))) keeps is.records;
         gate = record { within = omega (arith, is.gate.within, keeps.no_shorter); closed = λ is_open. is.gate.closed (sym kept ∙ is_open) };
@@ -56,13 +61,16 @@ module _ (area : Area) (next : ℕ) (payload : List ℕ) (short : length payload
       }
 
   -- with the block behind it and the gate open, there's one more
-  opened : (payloads : List (List ℕ)) (mid new : List ℕ) → length (records_bytes payloads) ≡ next → IsJournal area payloads mid → HasAt (gate + 1) (block payload) mid → KeepsOutside gate 1 mid new → get_or new gate 0 ≡ 165 → IsJournal area (payloads ++ payload ∷ []) new
+  opened : (payloads : List (List ℕ)) (mid new : List ℕ) → length (records_bytes payloads) ≡ next
+      → IsJournal area payloads mid → HasAt (gate + 1) (block payload) mid → KeepsOutside gate 1 mid new
+      → get_or new gate 0 ≡ 165 → IsJournal area (payloads ++ payload ∷ []) new
   opened payloads mid new ends is has keeps is_open =
       let all = records_bytes payloads in
       let le = to_le_bytes w32 (length payload) in
       let at : area.base + length all ≡ gate = omega (arith, ends) in
       let pushed = records_bytes-push payloads payload in
-      let size : length (records_bytes (payloads ++ payload ∷ [])) ≡ next + length payload + 5 = ap length pushed ∙ omega (arith, length-append all (record_bytes payload), length-append le payload, ends) in
+      let size : length (records_bytes (payloads ++ payload ∷ [])) ≡ next + length payload + 5 = ap length pushed
+      ∙ omega (arith, length-append all (record_bytes payload), length-append le payload, ends) in
       let has_new : HasAt (gate + 1) (block payload) new = has_kept gate 1 (gate + 1) (block payload) mid new (inr (omega arith)) keeps has in
       let one : HasAt gate (165 ∷ []) new = has_one gate 165 new (omega (arith, has_new.within)) is_open in
       let whole : HasAt gate (record_bytes payload) new = has_both gate (165 ∷ []) (le ++ payload) new one (has_left (gate + 1) (le ++ payload) (0 ∷ []) new has_new) in
@@ -70,7 +78,8 @@ module _ (area : Area) (next : ℕ) (payload : List ℕ) (short : length payload
       let both : HasAt area.base (all ++ record_bytes payload) new = has_both area.base all (record_bytes payload) new front (subst (λ (k : ℕ). HasAt k (record_bytes payload) new) (sym at) whole) in
       let last : HasAt (gate + 1 + length (le ++ payload)) (0 ∷ []) new = has_right (gate + 1) (le ++ payload) (0 ∷ []) new has_new in
       let next_gate : gate + 1 + length (le ++ payload) ≡ area.base + length (records_bytes (payloads ++ payload ∷ [])) = omega (arith, size, length-append le payload) in
-      let closed_gate : get_or new (area.base + length (records_bytes (payloads ++ payload ∷ []))) 0 ≡ 0 = ap (λ (k : ℕ). get_or new k 0) (sym next_gate) ∙ one_has (gate + 1 + length (le ++ payload)) 0 [] new last in
+      let closed_gate : get_or new (area.base + length (records_bytes (payloads ++ payload ∷ []))) 0 ≡ 0 =
+      ap (λ (k : ℕ). get_or new k 0) (sym next_gate) ∙ one_has (gate + 1 + length (le ++ payload)) 0 [] new last in
       record {
         records = subst (λ (l : List ℕ). HasAt area.base l new) (sym pushed) both;
         gate = record { within = omega (arith, last.within, next_gate); closed = λ open_too. absurd (omega (arith, sym closed_gate ∙ open_too)) };
@@ -92,7 +101,10 @@ module _ (area : Area) (next : ℕ) (payload : List ℕ) (short : length payload
   -- the second leaves it with the new payload or without
   pub torn_gate : (old mid new : List ℕ) → EndsAt area next old → Written (gate + 1) (block payload) old mid → Torn gate 1 mid new → MayAppend area payload old new
   torn_gate old mid new ends written torn = record {
-    keeps = keeps_then area.base area.length old mid new (keeps_wider (gate + 1) (length (block payload)) area.base area.length old mid (omega arith) (omega (arith, fits, length-block payload)) written.keeps) (keeps_wider gate 1 area.base area.length mid new (omega arith) (omega (arith, fits)) torn.keeps);
+    keeps = keeps_then area.base area.length old mid new
+        (keeps_wider (gate + 1) (length (block payload)) area.base area.length old mid (omega arith)
+        (omega (arith, fits, length-block payload)) written.keeps)
+        (keeps_wider gate 1 area.base area.length mid new (omega arith) (omega (arith, fits)) torn.keeps);
     no_longer = omega (arith, written.long (some_block payload), torn.no_longer, length-block payload, fits);
     journal = λ payloads is. either payloads (ends_there payloads old ends is) is;
   }
@@ -107,7 +119,10 @@ module _ (area : Area) (next : ℕ) (payload : List ℕ) (short : length payload
 
   pub written_gate : (old mid new : List ℕ) → EndsAt area next old → Written (gate + 1) (block payload) old mid → Written gate (165 ∷ []) mid new → Appends area payload old new
   written_gate old mid new ends written opens = record {
-    keeps = keeps_then area.base area.length old mid new (keeps_wider (gate + 1) (length (block payload)) area.base area.length old mid (omega arith) (omega (arith, fits, length-block payload)) written.keeps) (keeps_wider gate 1 area.base area.length mid new (omega arith) (omega (arith, fits)) opens.keeps);
+    keeps = keeps_then area.base area.length old mid new
+        (keeps_wider (gate + 1) (length (block payload)) area.base area.length old mid (omega arith)
+        (omega (arith, fits, length-block payload)) written.keeps)
+        (keeps_wider gate 1 area.base area.length mid new (omega arith) (omega (arith, fits)) opens.keeps);
     no_longer = omega (arith, written.long (some_block payload), opens.long (omega arith), length-block payload, fits);
     journal = λ payloads is.
         let at = ends_there payloads old ends is in
@@ -132,7 +147,9 @@ module _ (area : Area) (next : ℕ) (payload : List ℕ) (short : length payload
         let was = written left.0 left.1 in
         (was.0, was.1, torn_gate was.0 left.0 file (ends was.0 was.1) (subst (λ (l : List ℕ). Written (gate + 1) l was.0 left.0) is_block was.2) left.2)))
 
-    pub acknowledged : Follows (Written (gate + 1) bytes) (facts.may_leave d0) (facts.may_leave d1) → Follows (Written gate (165 ∷ [])) (facts.may_leave d1) (facts.may_leave d2) → Follows (Appends area payload) (facts.may_leave d0) (facts.may_leave d2)
+    pub acknowledged : Follows (Written (gate + 1) bytes) (facts.may_leave d0) (facts.may_leave d1)
+        → Follows (Written gate (165 ∷ [])) (facts.may_leave d1) (facts.may_leave d2)
+        → Follows (Appends area payload) (facts.may_leave d0) (facts.may_leave d2)
     acknowledged written opens file left =
         let mid = opens file left in
         let was = written mid.0 mid.1 in
@@ -144,5 +161,11 @@ module _ (area : Area) (next : ℕ) (payload : List ℕ) (short : length payload
         let ended = ends was.0 was.1 in (
           ended.0 ++ payload ∷ [],
           was.2.journal ended.0 ended.1,
-          ap length (records_bytes-push ended.0 payload) ∙ omega (arith, length-append (records_bytes ended.0) (record_bytes payload), length-append (to_le_bytes w32 (length payload)) payload, ended.2),
+          ap length (records_bytes-push ended.0 payload)
+              ∙ omega (
+                arith,
+                length-append (records_bytes ended.0) (record_bytes payload),
+                length-append (to_le_bytes w32 (length payload)) payload,
+                ended.2,
+              ),
         )

@@ -6,7 +6,7 @@ use Rattle.lv_disk.specs.Gates.{IsClosedAt}
 use Rattle.lv_disk.specs.declared.area.Area.{Area}
 use Rattle.lv_disk.proofs.Bytes.{has_kept}
 use Rattle.lv_disk.proofs.Gates.{closed_kept}
-use Rattle.lv_journal.specs.Damage.{IsDamagedAt}
+use Rattle.lv_journal.specs.Damage.{IsJournalDamagedAt}
 use Rattle.lv_journal.specs.Records.{records_bytes, IsJournal}
 
 pub journal_kept : (area : Area) (payloads : List (List ℕ)) (at n : ℕ) (old new : List ℕ) → IsApart area at n → KeepsOutside at n old new → IsJournal area payloads old → IsJournal area payloads new
@@ -26,7 +26,7 @@ none_closed area file is =
 pub begins_inside : (area : Area) (payloads : List (List ℕ)) (file : List ℕ) → IsJournal area payloads file → (0 < area.length) × (area.base < length file)
 begins_inside area payloads file is = (omega (arith, is.room), omega (arith, is.gate.within))
 
-pub damage_inside : (area : Area) (place : ℕ) (file : List ℕ) → 0 < area.length → IsDamagedAt area place file → (area.base ≤ place) × (place < area.base + area.length)
+pub damage_inside : (area : Area) (place : ℕ) (file : List ℕ) → 0 < area.length → IsJournalDamagedAt area place file → (area.base ≤ place) × (place < area.base + area.length)
 damage_inside area place file some (inl first) = (omega (arith, first.0), omega (arith, first.0, some))
 damage_inside area place file some (inr breaks) = (omega (arith, breaks.there), breaks.bad.inside.in_area)
 

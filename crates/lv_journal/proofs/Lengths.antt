@@ -4,7 +4,7 @@ use Rattle.std.proofs.lemmas.List.{append-nil, take_more, take-append-drop, map-
 use Rattle.std.specs.Int.{to_le_bytes, w32}
 use Rattle.std.proofs.lemmas.Bool.{cond_below}
 use Rattle.lv_journal.specs.Records.{record_bytes, records_bytes}
-use Rattle.lv_journal.specs.State.{State, gate_of}
+use Rattle.lv_journal.specs.State.{JournalState, gate_of}
 
 pub length-record : (payload : List ℕ) → length (record_bytes payload) ≡ length payload + 5
 length-record payload = omega (arith, length-append (to_le_bytes w32 (length payload)) payload)
@@ -35,10 +35,17 @@ module _ {X : Type 0} (view : X → List ℕ) where
   pub length-map_take : (xs : List X) (i : ℕ) → length (records_bytes (map view (take i xs))) ≤ length (records_bytes (map view xs))
   length-map_take xs i =
       let whole : map view xs ≡ map view (take i xs) ++ map view (drop i xs) = ap (map view) (sym (take-append-drop i xs)) ∙ map-append view (take i xs) (drop i xs) in
-      omega (arith, ap (λ ps. length (records_bytes ps)) whole, ap length (records_bytes-append (map view (take i xs)) (map view (drop i xs))), length-append (records_bytes (map view (take i xs))) (records_bytes (map view (drop i xs))))
+      omega (
+        arith,
+        ap (λ ps. length (records_bytes ps)) whole,
+        ap length (records_bytes-append (map view (take i xs)) (map view (drop i xs))),
+        length-append (records_bytes (map view (take i xs))) (records_bytes (map view (drop i xs))),
+      )
 
 -- the place of a record that there is
-pub place-found : (journal : State) (n base before : ℕ) → n < length journal.records → base ≡ journal.area.base → before ≡ length (records_bytes (take n journal.records))
+pub place-found : (journal : JournalState) (n base before : ℕ) → n < length journal.records → base ≡ journal.area.base → before ≡ length (records_bytes (take n journal.records))
     → Some (base + before) ≡ gate_of journal n
 place-found journal n base before lt base_is before_is =
-    ap (λ k. Some (k + before)) base_is ∙ ap (λ k. Some (journal.area.base + k)) before_is ∙ cond_below n (length journal.records) (Some (journal.area.base + length (records_bytes (take n journal.records)))) None lt
+    ap (λ k. Some (k + before)) base_is ∙ ap (λ k. Some (journal.area.base + k)) before_is
+    ∙ cond_below n (length journal.records) (Some
+    (journal.area.base + length (records_bytes (take n journal.records)))) None lt

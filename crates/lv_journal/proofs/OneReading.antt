@@ -9,7 +9,7 @@ use Rattle.lv_disk.specs.Gates.{IsClosedAt}
 use Rattle.lv_disk.specs.declared.area.Area.{Area}
 use Rattle.lv_disk.proofs.Bytes.{has_left, has_right, has_same, one_has}
 use Rattle.lv_journal.specs.Records.{record_bytes, records_bytes, IsJournal}
-use Rattle.lv_journal.specs.Damage.{IsInside, EndsBefore, HasBadLength, IsBadRecord, BreaksOffAt, IsDamagedAt}
+use Rattle.lv_journal.specs.Damage.{IsInside, EndsBefore, HasBadRecordLength, IsBadRecord, BreaksOffAt, IsJournalDamagedAt}
 use Rattle.lv_journal.proofs.Lengths.{length-record}
 
 abbrev IsShort : List ℕ → Type 0
@@ -29,7 +29,9 @@ length_same place n m file n_fits m_fits has_n has_m =
 -- one record, read in two ways
 record_same : (place : ℕ) (p q file : List ℕ) → HasAt place (record_bytes p) file → HasAt place (record_bytes q) file → length p ≤ 256 → length q ≤ 256 → p ≡ q
 record_same place p q file has_p has_q short_p short_q =
-    let size : length p ≡ length q = length_same (place + 1) (length p) (length q) file (omega (arith, short_p)) (omega (arith, short_q)) (has_length place p file has_p) (has_length place q file has_q) in
+    let size : length p ≡ length q =
+    length_same (place + 1) (length p) (length q) file (omega (arith, short_p)) (omega (arith, short_q))
+    (has_length place p file has_p) (has_length place q file has_q) in
     let behind_p = has_right place (165 ∷ []) (to_le_bytes w32 (length p) ++ p) file has_p in
     let behind_q = has_right place (165 ∷ []) (to_le_bytes w32 (length q) ++ q) file has_q in
     has_same (place + 1 + 4) p q file size (has_right (place + 1) (to_le_bytes w32 (length p)) p file behind_p) (has_right (place + 1) (to_le_bytes w32 (length q)) q file behind_q)
@@ -46,7 +48,7 @@ module _ (area : Area) (file : List ℕ) where
       no_end at le (inl short_file) = omega (arith, next.in_file, end)
       no_end at le (inr short_area) = omega (arith, next.in_area, end)
 
-      no : EndsBefore area (place + 6) file ⊎ HasBadLength area place file → ⊥
+      no : EndsBefore area (place + 6) file ⊎ HasBadRecordLength area place file → ⊥
       no (inl ends) = no_end (place + 6) (omega arith) ends
       no (inr (n, has_n, fits, wrong)) = no_length n (length_same (place + 1) (length p) n file (omega (arith, short)) fits (has_length place p file has) has_n) wrong
         where
@@ -95,7 +97,10 @@ module _ (area : Area) (file : List ℕ) where
       let here : place + 0 ≡ place = omega arith in
       absurd (not_here place p ps first (subst (λ (k : ℕ). Stops k) here second.ends))
   reading_same place (p ∷ ps) (q ∷ qs) first second =
-      let one : p ≡ q = record_same place p q file (has_left place (record_bytes p) (records_bytes ps) file first.has) (has_left place (record_bytes q) (records_bytes qs) file second.has) (All-head IsShort p ps first.short) (All-head IsShort q qs second.short) in
+      let one : p ≡ q =
+      record_same place p q file (has_left place (record_bytes p) (records_bytes ps) file first.has)
+      (has_left place (record_bytes q) (records_bytes qs) file second.has) (All-head IsShort p ps first.short)
+      (All-head IsShort q qs second.short) in
       let there : place + length (record_bytes q) ≡ place + length (record_bytes p) = ap (λ (l : List ℕ). place + length (record_bytes l)) (sym one) in
       let rest : ps ≡ qs = reading_same (place + length (record_bytes p)) ps qs (rest_of place p ps first) (subst (λ (k : ℕ). IsReading k qs) there (rest_of place q qs second)) in
       (λ i. one i ∷ rest i)
@@ -124,7 +129,7 @@ module _ (area : Area) (file : List ℕ) where
   pub one_journal : (ps qs : List (List ℕ)) → IsJournal area ps file → IsJournal area qs file → ps ≡ qs
   one_journal ps qs first second = reading_same area.base ps qs (sound_reading ps first) (sound_reading qs second)
 
-  pub one_place : (p q : ℕ) → IsDamagedAt area p file → IsDamagedAt area q file → p ≡ q
+  pub one_place : (p q : ℕ) → IsJournalDamagedAt area p file → IsJournalDamagedAt area q file → p ≡ q
   one_place p q (inl first) (inl second) = first.0 ∙ sym second.0
   one_place p q (inl first) (inr second) = absurd (no_first q (omega (arith, second.there)) second.bad.inside first.1)
   one_place p q (inr first) (inl second) = absurd (no_first p (omega (arith, first.there)) first.bad.inside second.1)
@@ -132,7 +137,7 @@ module _ (area : Area) (file : List ℕ) where
       let same = reading_same area.base first.payloads second.payloads (bad_reading p first) (bad_reading q second) in
       first.there ∙ ap (λ (ps : List (List ℕ)). area.base + length (records_bytes ps)) same ∙ sym second.there
 
-  pub not_both : (ps : List (List ℕ)) (p : ℕ) → IsJournal area ps file → IsDamagedAt area p file → ⊥
+  pub not_both : (ps : List (List ℕ)) (p : ℕ) → IsJournal area ps file → IsJournalDamagedAt area p file → ⊥
   not_both ps p sound (inl none) =
       let reading = sound_reading ps sound in
       no_first (area.base + length (records_bytes ps)) (omega arith) reading.inside none.1

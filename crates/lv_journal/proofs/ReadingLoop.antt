@@ -9,7 +9,7 @@ use Rattle.lv_disk.specs.Gates.{IsClosedAt}
 use Rattle.lv_disk.specs.declared.area.Area.{Area}
 use Rattle.lv_disk.proofs.Bytes.{has_both}
 use Rattle.lv_journal.specs.Records.{record_bytes, records_bytes, IsJournal}
-use Rattle.lv_journal.specs.Damage.{EndsBefore, IsBadRecord, IsDamagedAt}
+use Rattle.lv_journal.specs.Damage.{EndsBefore, IsBadRecord, IsJournalDamagedAt}
 use Rattle.lv_journal.proofs.Lengths.{records_bytes-push, length-push}
 
 -- these payloads stand at the front of the area, and their next gate before the end
@@ -44,7 +44,7 @@ module _ (area : Area) (end next : ℕ) (payloads : List (List ℕ)) (reads : Li
     short = found.short;
   }
 
-  pub is_damaged : (place : ℕ) → place ≡ area.base + next → Each reads (IsBadRecord area (area.base + next)) → Each reads (IsDamagedAt area place)
+  pub is_damaged : (place : ℕ) → place ≡ area.base + next → Each reads (IsBadRecord area (area.base + next)) → Each reads (IsJournalDamagedAt area place)
   is_damaged place there bad file is = inr (record {
     payloads = payloads;
     records = found.has file is;

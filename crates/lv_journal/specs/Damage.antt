@@ -16,17 +16,19 @@ pub record IsInside (area : Area) (place : ℕ) (file : List ℕ) : Type 0 where
 abbrev pub EndsBefore : Area → ℕ → List ℕ → Type 0
 EndsBefore area place file = (length file < place) ⊎ (area.base + area.length < place)
 
--- the length behind the gate is above 256, or the record or the next gate goes beyond the file or the area
-abbrev pub HasBadLength : Area → ℕ → List ℕ → Type 0
-HasBadLength area place file =
-    (n : ℕ) × HasAt (place + 1) (to_le_bytes w32 n) file × (n < 2 ^ 32) × ((256 < n) ⊎ EndsBefore area (place + 6 + n) file)
+-- the length behind the gate is above 256, or the record or the next gate goes beyond the file or
+-- the area
+abbrev pub HasBadRecordLength : Area → ℕ → List ℕ → Type 0
+HasBadRecordLength area place file =
+    (n : ℕ) × HasAt (place + 1) (to_le_bytes w32 n) file × (n < 2 ^ 32)
+    × ((256 < n) ⊎ EndsBefore area (place + 6 + n) file)
 
--- An open gate stands here, and its record isn't one: with its next gate not even an empty one fits the file and the
--- area, or it has a bad length.
+-- An open gate stands here, and its record isn't one: with its next gate not even an empty one fits
+-- the file and the area, or it has a bad length.
 pub record IsBadRecord (area : Area) (place : ℕ) (file : List ℕ) : Type 0 where
   pub inside : IsInside area place file
   pub gate : HasAt place (open_gate ∷ []) file
-  pub bad : EndsBefore area (place + 6) file ⊎ HasBadLength area place file
+  pub bad : EndsBefore area (place + 6) file ⊎ HasBadRecordLength area place file
 
 -- whole records stand up to this place, and there a bad one
 pub record BreaksOffAt (area : Area) (place : ℕ) (file : List ℕ) : Type 0 where
@@ -36,7 +38,8 @@ pub record BreaksOffAt (area : Area) (place : ℕ) (file : List ℕ) : Type 0 wh
   pub there : place ≡ area.base + length (records_bytes payloads)
   pub bad : IsBadRecord area place file
 
--- the area's bytes stand for no list: the first gate isn't there, or the records break off at a bad one
-abbrev pub IsDamagedAt : Area → ℕ → List ℕ → Type 0
-IsDamagedAt area place file =
+-- the area's bytes stand for no list: the first gate isn't there, or the records break off at a bad
+-- one
+abbrev pub IsJournalDamagedAt : Area → ℕ → List ℕ → Type 0
+IsJournalDamagedAt area place file =
     ((place ≡ area.base) × EndsBefore area (area.base + 1) file) ⊎ BreaksOffAt area place file

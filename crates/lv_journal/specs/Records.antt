@@ -26,7 +26,8 @@ pub record IsJournal (area : Area) (payloads : List (List ℕ)) (file : List ℕ
 -- the area's bytes stand for some payloads, whose records take so many bytes
 abbrev pub EndsAt : Area → ℕ → List ℕ → Type 0
 EndsAt area end file =
-    (payloads : List (List ℕ)) × IsJournal area payloads file × (length (records_bytes payloads) ≡ end)
+    (payloads : List (List ℕ)) × IsJournal area payloads file
+    × (length (records_bytes payloads) ≡ end)
 
 -- the payloads, each in a vector
 abbrev pub payloads_of : List (Vec ℕ Global) → List (List ℕ)

@@ -12,13 +12,13 @@ code_of JournalFull = 34
 code_of (Damaged place) = 40
 
 -- `open` refuses by these alone
-abbrev pub RefusesOpen : JournalError → Type 0
-RefusesOpen e = (e ≡ Device) ⊎ ((e ≡ OutOfMemory) ⊎ ((place : ℕ) × (e ≡ Damaged place)))
+abbrev pub RefusesToOpenJournal : JournalError → Type 0
+RefusesToOpenJournal e = (e ≡ Device) ⊎ ((e ≡ OutOfMemory) ⊎ ((place : ℕ) × (e ≡ Damaged place)))
 
 -- `append` refuses by these alone
 abbrev pub RefusesAppend : JournalError → Type 0
 RefusesAppend e = (e ≡ Device) ⊎ ((e ≡ Reopen) ⊎ (e ≡ JournalFull))
 
 -- where it says that a gate is damaged, the gate's place has P
-abbrev pub IfDamaged : JournalError → (ℕ → Type 0) → Type 0
-IfDamaged e P = (place : ℕ) → e ≡ Damaged place → P place
+abbrev pub IfGateDamaged : JournalError → (ℕ → Type 0) → Type 0
+IfGateDamaged e P = (place : ℕ) → e ≡ Damaged place → P place

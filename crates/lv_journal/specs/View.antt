@@ -2,7 +2,7 @@
 use Rattle.std.specs.Prelude.{◌<◌, ◌≤◌, ℕ, List, [], length, Option, Some, None, Vec}
 use Rattle.std.specs.declared.alloc.Global.{Global}
 use Rattle.lv_journal.specs.Records.{records_bytes, payloads_of}
-use Rattle.lv_journal.specs.State.{State}
+use Rattle.lv_journal.specs.State.{JournalState}
 use Rattle.lv_journal.specs.declared.journal.Journal.TheInside.{Inside}
 
 -- the payloads that the journal was opened with, none where it was not opened
@@ -10,8 +10,8 @@ abbrev pub found_in : Option (Vec (Vec ℕ Global) Global) → List (List ℕ)
 found_in None = []
 found_in (Some records) = payloads_of records.items
 
-abbrev pub state_of : Inside → State
-state_of fields = record {
+abbrev pub journal_state : Inside → JournalState
+journal_state fields = record {
   area = fields.area;
   next = fields.next;
   must_reopen = fields.must_reopen;

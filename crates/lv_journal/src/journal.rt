@@ -2,12 +2,12 @@
 //! anything is written behind it.
 ghost use Rattle.std.specs.Prelude.{◌≡◌, ◌≤◌, ◌<◌, ◌⊎◌, ◌↔◌, ◌+◌, [], ◌∷◌, length, true, false, OnOk, OnErr, IsErrOf, IfErr, IfOk};
 ghost use Rattle.lv_disk.specs.Moments.{LeavesOnly};
-ghost use Rattle.lv_disk.specs.Stops.{CountsFaults, From, Follows, Each, Leads};
+ghost use Rattle.lv_disk.specs.Stops.{CountsFaults, From, Follows, Each, LeadsBy};
 ghost use Rattle.lv_disk.specs.Gates.{IsClosedAt};
 ghost use Rattle.lv_disk.specs.Files.{Failed, Torn, Written};
 ghost use Rattle.lv_journal.specs.Append.{Appends, MayAppend};
-ghost use Rattle.lv_journal.specs.Damage.{IsDamagedAt};
-ghost use Rattle.lv_journal.specs.Refusals.{IfDamaged, RefusesAppend, RefusesOpen};
+ghost use Rattle.lv_journal.specs.Damage.{IsJournalDamagedAt};
+ghost use Rattle.lv_journal.specs.Refusals.{IfGateDamaged, RefusesAppend, RefusesToOpenJournal};
 ghost use Rattle.lv_disk.specs.Reading.{OnlyReads};
 ghost use Rattle.lv_journal.specs.Records.{payloads_of, IsJournal};
 ghost use Rattle.lv_journal.specs.State.{opened, room_of, gate_of, IsAbove, IsReadyIn};
@@ -41,13 +41,13 @@ impl Drop for Journal {
 }
 
 impl Model for Journal {
-    ghost use Rattle.lv_journal.specs.State.{State};
+    ghost use Rattle.lv_journal.specs.State.{JournalState};
 
-    ghost Value = { State };
+    ghost Value = { JournalState };
 
-    ghost use Rattle.lv_journal.specs.View.{state_of, IsInArea};
+    ghost use Rattle.lv_journal.specs.View.{journal_state, IsInArea};
 
-    ghost view = { state_of };
+    ghost view = { journal_state };
 
     ghost invariant = { IsInArea };
 }
@@ -67,9 +67,9 @@ impl Journal {
             (λ journal. Each (D.reads disk.old) (IsJournal area journal.records)) }
         ensures ready { IfOk result (λ journal. IsReadyIn journal (D.may_leave disk.new)) }
 
-        ensures damaged { IfErr result (λ e. IfDamaged e (λ place.
-            Each (D.reads disk.old) (IsDamagedAt area place))) }
-        ensures no_other { IfErr result RefusesOpen }
+        ensures damaged { IfErr result (λ e. IfGateDamaged e (λ place.
+            Each (D.reads disk.old) (IsJournalDamagedAt area place))) }
+        ensures no_other { IfErr result RefusesToOpenJournal }
 
         // It writes nothing.
         ensures reads { OnlyReads D.Disk disk.old disk.new }
@@ -203,9 +203,9 @@ pub fn blank<D: Disk>(disk: &mut D, area: Area) -> Result<Journal, JournalError>
     ensures failed { OnErr result
         (Follows (Failed area.base 1) (D.reads disk.old) (D.reads disk.new)) }
     ensures leads { OnOk result
-        (Leads (Written area.base (0 ∷ [])) (D.reads disk.old) (D.reads disk.new)) }
+        (LeadsBy (Written area.base (0 ∷ [])) (D.reads disk.old) (D.reads disk.new)) }
     ensures leads_failed { OnErr result
-        (Leads (Failed area.base 1) (D.reads disk.old) (D.reads disk.new)) }
+        (LeadsBy (Failed area.base 1) (D.reads disk.old) (D.reads disk.new)) }
 
     // Each image stays one, so nothing is synced.
     ensures images { Follows (Torn area.base 1) (D.may_leave disk.old) (D.may_leave disk.new) }

@@ -4,7 +4,7 @@ ghost use Rattle.lv_disk.specs.Areas.{IsApart};
 ghost use Rattle.lv_disk.specs.Files.{KeepsOutside};
 ghost use Rattle.lv_disk.specs.Gates.{IsClosedAt};
 ghost use Rattle.lv_disk.specs.declared.area.Area.{Area};
-ghost use Rattle.lv_journal.specs.Damage.{IsDamagedAt};
+ghost use Rattle.lv_journal.specs.Damage.{IsJournalDamagedAt};
 ghost use Rattle.lv_journal.specs.Records.{IsJournal};
 
 /// An area's bytes stand for one list of payloads at most, are damaged at one place at most, and are not both.
@@ -12,9 +12,9 @@ pub fn stand_for_one_list()
     ensures list { (area : Area) (file : List ℕ) (ps qs : List (List ℕ))
         → IsJournal area ps file → IsJournal area qs file → ps ≡ qs }
     ensures place { (area : Area) (file : List ℕ) (p q : ℕ)
-        → IsDamagedAt area p file → IsDamagedAt area q file → p ≡ q }
+        → IsJournalDamagedAt area p file → IsJournalDamagedAt area q file → p ≡ q }
     ensures not_both { (area : Area) (file : List ℕ) (ps : List (List ℕ)) (p : ℕ)
-        → IsJournal area ps file → ¬ IsDamagedAt area p file }
+        → IsJournal area ps file → ¬ IsJournalDamagedAt area p file }
 {}
 
 /// What an area's bytes stand for depends on these bytes alone: a change outside the area leaves it, and where the
@@ -35,5 +35,6 @@ pub fn begin_in_their_area()
     ensures closed { (area : Area) (file : List ℕ) → IsJournal area [] file
         → IsClosedAt area.base file }
     ensures place { (area : Area) (file : List ℕ) (place : ℕ) → 0 < area.length
-        → IsDamagedAt area place file → (area.base ≤ place) × (place < area.base + area.length) }
+        → IsJournalDamagedAt area place file
+        → (area.base ≤ place) × (place < area.base + area.length) }
 {}

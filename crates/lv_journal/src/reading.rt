@@ -4,8 +4,8 @@ ghost use Rattle.std.specs.Int.{to_le_bytes, w32};
 ghost use Rattle.lv_disk.specs.Files.{HasAt};
 ghost use Rattle.lv_disk.specs.Stops.{CountsFaults, Each};
 ghost use Rattle.lv_disk.specs.Gates.{open_gate, IsClosedAt};
-ghost use Rattle.lv_journal.specs.Damage.{IsBadRecord, IsDamagedAt};
-ghost use Rattle.lv_journal.specs.Refusals.{IfDamaged, RefusesOpen};
+ghost use Rattle.lv_journal.specs.Damage.{IsBadRecord, IsJournalDamagedAt};
+ghost use Rattle.lv_journal.specs.Refusals.{IfGateDamaged, RefusesToOpenJournal};
 ghost use Rattle.lv_disk.specs.Reading.{OnlyReads};
 ghost use Rattle.lv_journal.specs.Records.{record_bytes, records_bytes, payloads_of, IsJournal};
 
@@ -51,12 +51,12 @@ fn read_record_len<D: Disk>(
     ensures told { IfOk result
         (λ len. Each (D.reads disk.old) (HasAt (place + 1) (to_le_bytes w32 len))) }
     ensures fits { IfOk result (λ len. (len ≤ 256) × (place + 6 + len ≤ end)) }
-    ensures damaged { IfErr result (λ e. IfDamaged e (λ at.
+    ensures damaged { IfErr result (λ e. IfGateDamaged e (λ at.
         (at ≡ place) × Each (D.reads disk.old) (IsBadRecord area place))) }
     ensures reads { OnlyReads D.Disk disk.old disk.new }
     ensures count { CountsFaults JournalError.Device (D.failures disk.old)
         (D.failures disk.new) result }
-    ensures no_other { IfErr result RefusesOpen }
+    ensures no_other { IfErr result RefusesToOpenJournal }
 {
     if end - place < LEAST {
         return Err(JournalError::Damaged { place });
@@ -84,12 +84,12 @@ fn read_open_record<D: Disk>(
         (HasAt place (record_bytes payload.items))) }
     ensures fits { IfOk result (λ payload.
         (length payload.items ≤ 256) × (place + 6 + length payload.items ≤ end)) }
-    ensures damaged { IfErr result (λ e. IfDamaged e (λ at.
+    ensures damaged { IfErr result (λ e. IfGateDamaged e (λ at.
         (at ≡ place) × Each (D.reads disk.old) (IsBadRecord area place))) }
     ensures reads { OnlyReads D.Disk disk.old disk.new }
     ensures count { CountsFaults JournalError.Device (D.failures disk.old)
         (D.failures disk.new) result }
-    ensures no_other { IfErr result RefusesOpen }
+    ensures no_other { IfErr result RefusesToOpenJournal }
 {
     let len = read_record_len(disk, area, place, end)?;
     read_payload(alloc, disk, place + HEAD, len as usize)
@@ -113,12 +113,12 @@ fn read_record<D: Disk>(
         Each (D.reads disk.old) (HasAt place (record_bytes payload.items)))) }
     ensures fits { IfOk result (λ found. IfSome found (λ payload.
         (length payload.items ≤ 256) × (place + 6 + length payload.items ≤ end))) }
-    ensures damaged { IfErr result (λ e. IfDamaged e (λ at.
+    ensures damaged { IfErr result (λ e. IfGateDamaged e (λ at.
         (at ≡ place) × Each (D.reads disk.old) (IsBadRecord area place))) }
     ensures reads { OnlyReads D.Disk disk.old disk.new }
     ensures count { CountsFaults JournalError.Device (D.failures disk.old)
         (D.failures disk.new) result }
-    ensures no_other { IfErr result RefusesOpen }
+    ensures no_other { IfErr result RefusesToOpenJournal }
 {
     if read_gate(disk, place)? != OPEN_GATE {
         return Ok(None);
@@ -142,12 +142,12 @@ fn read_up_to<D: Disk>(
         (IsJournal area (payloads_of records.items))) }
     ensures room { IfOk result
         (λ records. length (records_bytes (payloads_of records.items)) < area.length) }
-    ensures damaged { IfErr result (λ e. IfDamaged e
-        (λ place. Each (D.reads disk.old) (IsDamagedAt area place))) }
+    ensures damaged { IfErr result (λ e. IfGateDamaged e
+        (λ place. Each (D.reads disk.old) (IsJournalDamagedAt area place))) }
     ensures reads { OnlyReads D.Disk disk.old disk.new }
     ensures count { CountsFaults JournalError.Device (D.failures disk.old)
         (D.failures disk.new) result }
-    ensures no_other { IfErr result RefusesOpen }
+    ensures no_other { IfErr result RefusesToOpenJournal }
 {
     let mut records = Vec::new(alloc);
     let mut next = 0;
@@ -168,12 +168,12 @@ pub fn read_records<D: Disk>(
         (IsJournal area (payloads_of records.items))) }
     ensures room { IfOk result
         (λ records. length (records_bytes (payloads_of records.items)) < area.length) }
-    ensures damaged { IfErr result (λ e. IfDamaged e
-        (λ place. Each (D.reads disk.old) (IsDamagedAt area place))) }
+    ensures damaged { IfErr result (λ e. IfGateDamaged e
+        (λ place. Each (D.reads disk.old) (IsJournalDamagedAt area place))) }
     ensures reads { OnlyReads D.Disk disk.old disk.new }
     ensures count { CountsFaults JournalError.Device (D.failures disk.old)
         (D.failures disk.new) result }
-    ensures no_other { IfErr result RefusesOpen }
+    ensures no_other { IfErr result RefusesToOpenJournal }
 {
     let end = disk.len()?.min(area.base + area.length as u64);
     if end <= area.base {

@@ -11,7 +11,7 @@ use Rattle.std.proofs.lemmas.List.Sums.{fold-append}
 use Rattle.std.proofs.lemmas.Option.{slice_get_within, get_or_from_slice_get}
 use Rattle.lv_lumps.specs.declared.records.Line.{Line}
 use Rattle.lv_maptables.specs.Tables.{Tables}
-use Rattle.lv_checks.specs.Corners.{Edge, edges_of}
+use Rattle.lv_checks.specs.Corners.{Edge, edges_of_line}
 use Rattle.lv_lint.specs.Areas.{edge_area, part_in}
 use Rattle.lv_lint.specs.Tallies.{IsNear, AreWithin, AddsArea, AddsAreas, AreSums, AreAreas}
 
@@ -107,22 +107,22 @@ pub within_weaker : (k n : ℕ) (sums : List ℤ) → AreWithin k sums → k ≤
 within_weaker k n sums w h = record { near = λ s. near_weaker k n (pos 0) (get_or sums s (pos 0)) (w.near s) h }
 
 edges_more : (m : Tables) (n : ℕ) (l : Line) → slice_get m.lines n ≡ Some l
-    → flat_map (edges_of m) (take (n + 1) m.lines) ≡ flat_map (edges_of m) (take n m.lines) ++ edges_of m l
+    → flat_map (edges_of_line m) (take (n + 1) m.lines) ≡ flat_map (edges_of_line m) (take n m.lines) ++ edges_of_line m l
 edges_more m n l is =
-    ap (flat_map (edges_of m)) (take_more m.lines n l (slice_get_within m.lines n l is) ∙ ap (λ x. take n m.lines ++ x ∷ []) (get_or_from_slice_get m.lines n l l is))
-    ∙ flat_map-append (edges_of m) (take n m.lines) (l ∷ [])
-    ∙ ap (λ r. flat_map (edges_of m) (take n m.lines) ++ r) (append-nil (edges_of m l))
+    ap (flat_map (edges_of_line m)) (take_more m.lines n l (slice_get_within m.lines n l is) ∙ ap (λ x. take n m.lines ++ x ∷ []) (get_or_from_slice_get m.lines n l l is))
+    ∙ flat_map-append (edges_of_line m) (take n m.lines) (l ∷ [])
+    ∙ ap (λ r. flat_map (edges_of_line m) (take n m.lines) ++ r) (append-nil (edges_of_line m l))
 
 -- one line more is added
 pub sums_more : (m : Tables) (n : ℕ) (l : Line) → slice_get m.lines n ≡ Some l → (old new : List ℤ)
-    → AreSums m n old → AddsAreas m (edges_of m l) old new → AreSums m (n + 1) new
+    → AreSums m n old → AddsAreas m (edges_of_line m l) old new → AreSums m (n + 1) new
 sums_more m n l is old new t a = record {
   count = a.count ∙ t.count;
   sums = λ s.
       let add = λ (sum : ℤ) (e : Edge). sum +ℤ part_in m s e in
       a.sums s
-      ∙ ap (λ z. fold add z (edges_of m l)) (t.sums s)
-      ∙ sym (ap (fold add (pos 0)) (edges_more m n l is) ∙ fold-append add (pos 0) (flat_map (edges_of m) (take n m.lines)) (edges_of m l));
+      ∙ ap (λ z. fold add z (edges_of_line m l)) (t.sums s)
+      ∙ sym (ap (fold add (pos 0)) (edges_more m n l is) ∙ fold-append add (pos 0) (flat_map (edges_of_line m) (take n m.lines)) (edges_of_line m l));
   within = record {
     near = λ s.
         near_both (2 ^ 49 * n) (2 ^ 49) (2 ^ 49 * (n + 1)) (pos 0) (get_or old s (pos 0)) (get_or new s (pos 0)) (t.within.near s) (a.near s) (omega arith);
@@ -133,5 +133,5 @@ sums_more m n l is old new t a = record {
 pub areas_from_sums : (m : Tables) (n : ℕ) (sums : List ℤ) → length m.lines ≤ n → AreSums m n sums → AreAreas m sums
 areas_from_sums m n sums h t = record {
   count = t.count;
-  sums = λ s. t.sums s ∙ ap (λ ls. fold (λ sum e. sum +ℤ part_in m s e) (pos 0) (flat_map (edges_of m) ls)) (take_all n m.lines h);
+  sums = λ s. t.sums s ∙ ap (λ ls. fold (λ sum e. sum +ℤ part_in m s e) (pos 0) (flat_map (edges_of_line m) ls)) (take_all n m.lines h);
 }

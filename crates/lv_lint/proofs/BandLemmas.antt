@@ -1,6 +1,6 @@
 -- Lines that share a row share a band, so a search of the bands misses none.
-use Rattle.std.proofs.Common.{◌≡◌, ℕ, ◌+◌, ◌-◌, ◌/◌, ◌<◌, ◌≤◌, Bool, true, false, cond, ◌&&◌, ◌||◌, List, [], ◌∷◌, ◌++◌, get_or, filter, count_by, refl, sym, ap, ◌∙◌, ◌⊎◌, inl, inr, ⊎_elim, ℤ, pos, negsuc, neg_ℤ, ◌-ℤ◌, ◌≤ℤ◌, not, below_more, length-append, zero-add, arith}
-use Rattle.std.specs.Prelude.{int_le, int_lt, nat_le, Vec, ◌<ℤ◌, ◌==◌}
+use Rattle.std.proofs.Common.{◌≡◌, ℕ, ◌+◌, ◌-◌, ◌/◌, ◌<◌, ◌≤◌, Bool, true, false, cond, ◌&&◌, ◌||◌, List, [], ◌∷◌, ◌++◌, get_or, filter, count_by, refl, sym, ap, ◌∙◌, ◌⊎◌, ⊎_elim, ℤ, pos, negsuc, neg_ℤ, ◌-ℤ◌, ◌≤ℤ◌, not, below_more, length-append, zero-add, arith}
+use Rattle.std.specs.Prelude.{int_le, int_lt, nat_le, Vec, ◌==◌}
 use Rattle.std.specs.Int.{int_min, int_max}
 use Rattle.std.specs.List.{list_any}
 use Rattle.std.specs.declared.alloc.Global.{Global}
@@ -12,56 +12,12 @@ use Rattle.std.proofs.lemmas.List.Sums.{sum_by-cons}
 use Rattle.std.proofs.lemmas.Map.Views.{any-filter_same}
 use Rattle.lv_lumps.specs.declared.records.Vertex.{Vertex}
 use Rattle.lv_lint.specs.declared.places.PlacedLine.{PlacedLine}
-use Rattle.lv_lint.specs.Meeting.{is_under, spans_meet, boxes_meet, is_on, side_of, share, meets}
-use Rattle.lv_lint.specs.Outside.{is_on_wall, comes_down, faces, turns_away, is_outside}
+use Rattle.lv_lint.specs.Meeting.{is_under, spans_meet, boxes_meet, is_on, side_value_at, share, meets}
+use Rattle.lv_lint.specs.Outside.{is_on_wall, comes_down, faces, turns_away, is_place_outside}
 use Rattle.lv_lint.specs.Bands.{band_bottom, band_top, is_in_band, IsBandOf, AreBands}
-
--- ---- tests
-
-and_both : (a b : Bool) → (a && b) ≡ true → (a ≡ true) × (b ≡ true)
-and_both true b h = (refl, h)
-and_both false b h = cc
-
-or_either : (a b : Bool) → (a || b) ≡ true → (a ≡ true) ⊎ (b ≡ true)
-or_either true b h = inl refl
-or_either false b h = inr h
-
-or_left : (a b : Bool) → a ≡ true → (a || b) ≡ true
-or_left true b h = refl
-or_left false b h = cc
-
-or_right : (a b : Bool) → b ≡ true → (a || b) ≡ true
-or_right true b h = refl
-or_right false b h = h
-
-or_none : (a b : Bool) → (a || b) ≡ false → b ≡ false
-or_none true b h = cc
-or_none false b h = h
-
-le_says : (a b : ℤ) → int_le a b ≡ true → a ≤ℤ b
-le_says a b h = grind (arith, ints)
-
-le_is : (a b : ℤ) → a ≤ℤ b → int_le a b ≡ true
-le_is a b h = grind (arith, ints)
-
-lt_says : (a b : ℤ) → int_lt a b ≡ true → a <ℤ b
-lt_says a b h = grind (arith, ints)
+use Rattle.lv_lint.proofs.Tests.{and_both, or_either, or_left, or_right, or_none, le_says, le_is, lt_says, both, under_says}
 
 -- ---- spans
-
-under_says : (a b c d : ℤ) → is_under a b c d ≡ true → int_min a b ≤ℤ int_max c d
-unfolding is_under
-under_says a b c d h =
-    ⊎_elim
-    (λ h3. ⊎_elim
-    (λ h2. ⊎_elim
-    (λ h1. let e = le_says a c h1 in omega (arith, ints, clamps))
-    (λ h1. let e = le_says a d h1 in omega (arith, ints, clamps))
-    (or_either (int_le a c) (int_le a d) h2))
-    (λ h2. let e = le_says b c h2 in omega (arith, ints, clamps))
-    (or_either (int_le a c || int_le a d) (int_le b c) h3))
-    (λ h3. let e = le_says b d h3 in omega (arith, ints, clamps))
-    (or_either (int_le a c || int_le a d || int_le b c) (int_le b d) h)
 
 -- a row between a and b, in the band from c to d
 under_top : (a b c d y : ℤ) → int_min a b ≤ℤ y → y ≤ℤ d → is_under a b c d ≡ true
@@ -81,10 +37,6 @@ under_bottom a b c d y h k =
     (by_lt_z a b
     (λ lt. or_right (int_le c a) (int_le c b) (le_is c b (omega (arith, ints, clamps))))
     (λ ge. or_left (int_le c a) (int_le c b) (le_is c a (omega (arith, ints, clamps))))))
-
-both : (a b : Bool) → a ≡ true → b ≡ true → (a && b) ≡ true
-both true b h k = k
-both false b h k = cc
 
 -- a line with a row in a band has its box in it
 row_in_band : (l : PlacedLine) (y : ℤ) (n : ℕ) → int_min l.from.y l.to.y ≤ℤ y → y ≤ℤ int_max l.from.y l.to.y → IsBandOf y n → is_in_band n l ≡ true
@@ -211,8 +163,8 @@ module _ {X : Type 0} (t : X → Bool) where
 on_wall_near : (p : Vertex) (n : ℕ) → IsBandOf p.y n → (l : PlacedLine) → is_on_wall p l ≡ true → is_in_band n l ≡ true
 unfolding is_on_wall is_on
 on_wall_near p n band l h =
-    let wall = and_both l.is_wall (int_eq (side_of l p) (pos 0) && spans_meet l.from.x l.to.x p.x p.x && spans_meet l.from.y l.to.y p.y p.y) h in
-    let box = and_both (int_eq (side_of l p) (pos 0) && spans_meet l.from.x l.to.x p.x p.x) (spans_meet l.from.y l.to.y p.y p.y) wall.1 in
+    let wall = and_both l.is_wall (int_eq (side_value_at l p) (pos 0) && spans_meet l.from.x l.to.x p.x p.x && spans_meet l.from.y l.to.y p.y p.y) h in
+    let box = and_both (int_eq (side_value_at l p) (pos 0) && spans_meet l.from.x l.to.x p.x p.x) (spans_meet l.from.y l.to.y p.y p.y) wall.1 in
     let y = spans_begin l.from.y l.to.y p.y p.y box.1 in
     row_in_band l p.y n (omega (arith, ints, clamps, y.1.first_low, y.1.second_high)) (omega (arith, ints, clamps, y.1.first_high, y.1.second_low)) band
 
@@ -228,20 +180,20 @@ down_near p n band l a b h low high =
 faces_near : (p : Vertex) (n : ℕ) → IsBandOf p.y n → (l : PlacedLine) → faces p l ≡ true → is_in_band n l ≡ true
 unfolding faces
 faces_near p n band l h =
-    let two = and_both (l.is_wall && comes_down p.y l.from.y l.to.y) (int_lt (pos 0) (side_of l p)) h in
+    let two = and_both (l.is_wall && comes_down p.y l.from.y l.to.y) (int_lt (pos 0) (side_value_at l p)) h in
     let down = and_both l.is_wall (comes_down p.y l.from.y l.to.y) two.0 in
     down_near p n band l l.from.y l.to.y down.1 refl refl
 
 turned_near : (p : Vertex) (n : ℕ) → IsBandOf p.y n → (l : PlacedLine) → turns_away p l ≡ true → is_in_band n l ≡ true
 unfolding turns_away
 turned_near p n band l h =
-    let two = and_both (l.is_wall && comes_down p.y l.to.y l.from.y) (int_lt (side_of l p) (pos 0)) h in
+    let two = and_both (l.is_wall && comes_down p.y l.to.y l.from.y) (int_lt (side_value_at l p) (pos 0)) h in
     let down = and_both l.is_wall (comes_down p.y l.to.y l.from.y) two.0 in
     down_near p n band l l.to.y l.from.y down.1 (omega (arith, ints, clamps)) (omega (arith, ints, clamps))
 
 -- the lines of a place's band tell whether it lies in no sector
-pub outside_in_band : (ls : List PlacedLine) (p : Vertex) (n : ℕ) → IsBandOf p.y n → is_outside (filter (is_in_band n) ls) p ≡ is_outside ls p
-unfolding is_outside
+pub outside_in_band : (ls : List PlacedLine) (p : Vertex) (n : ℕ) → IsBandOf p.y n → is_place_outside (filter (is_in_band n) ls) p ≡ is_place_outside ls p
+unfolding is_place_outside
 outside_in_band ls p n band =
     let walls = any-filter_same (is_on_wall p) (is_in_band n) true (on_wall_near p n band) ls in
     let facing = count_of_filtered (faces p) (is_in_band n) (faces_near p n band) ls in

@@ -1,3 +1,10 @@
+pub mod Tests
 pub mod TagSteps
 pub mod AreaSteps
 pub mod BandLemmas
+pub mod BorderSteps
+pub mod Means
+pub mod CrossingPoints
+pub mod Crossings
+pub mod RuleSteps
+pub mod GraphicSteps

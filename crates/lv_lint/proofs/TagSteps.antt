@@ -7,7 +7,7 @@ use Rattle.std.proofs.lemmas.List.Folds.{list_any_more}
 use Rattle.std.proofs.lemmas.Option.{slice_get_within, get_or_from_slice_get}
 use Rattle.lv_lint.specs.Tallies.{MarksTags}
 
-or_false : (b : Bool) → b ≡ (b || false)
+pub or_false : (b : Bool) → b ≡ (b || false)
 or_false true = refl
 or_false false = refl
 
@@ -15,7 +15,7 @@ or_true : (b : Bool) → true ≡ (b || true)
 or_true true = refl
 or_true false = refl
 
-get_or-set_mark : (marks : List Bool) (v k : ℕ) → v < length marks → get_or (set marks v true) k false ≡ (get_or marks k false || eqb v k)
+pub get_or-set_mark : (marks : List Bool) (v k : ℕ) → v < length marks → get_or (set marks v true) k false ≡ (get_or marks k false || eqb v k)
 get_or-set_mark marks v k h =
     ⊎_elim
     (λ e. ap (λ j. get_or (set marks v true) j false) e ∙ get_or-set_same marks v true false h

@@ -6,12 +6,14 @@ use Rattle.lv_lumps.specs.Plane.{ray_between, side_value}
 use Rattle.lv_maptables.specs.Tables.{Tables}
 use Rattle.lv_maptables.specs.WellFormed.{nth_vertex}
 use Rattle.lv_checks.specs.Corners.{Edge, edges}
+use Rattle.lv_lint.specs.Borders.{has_border}
 
 -- the point (0,0)
 abbrev pub origin : Point
 origin = record { x = pos 0; y = pos 0 }
 
--- twice the area of the triangle from the origin over an edge: above 0 where the origin is on the edge's right
+-- twice the area of the triangle from the origin over an edge: above 0 where the origin is on the
+-- edge's right
 abbrev pub edge_area : List Vertex → ℕ → ℕ → ℤ
 edge_area vs from to = side_value (ray_between (nth_vertex vs from) (nth_vertex vs to)) origin
 
@@ -23,6 +25,7 @@ part_in m s e = if e.sector == s then edge_area m.vertices e.from e.to else pos 
 abbrev pub doubled_area : Tables → ℕ → ℤ
 doubled_area m s = fold (λ sum e. sum +ℤ part_in m s e) (pos 0) (edges m)
 
--- the sector has its edges' left side inside, or is empty
+-- the sector has a border, and what it runs round lies on its left or is empty
 abbrev pub is_inside_out : Tables → ℕ → Bool
-is_inside_out m s = nat_lt s (length m.sectors) && not (int_lt (pos 0) (doubled_area m s))
+is_inside_out m s = nat_lt s (length m.sectors) && has_border m s
+    && not (int_lt (pos 0) (doubled_area m s))

@@ -25,9 +25,11 @@ pub record IsBandOf (y : ℤ) (b : ℕ) : Type 0 where
   pub high : y ≤ℤ band_top b
 
 -- the first n bands hold the lines whose boxes have a row in them
-pub record AreBands (ls : List PlacedLine) (n : ℕ) (bands : List (Vec PlacedLine Global)) : Type 0 where
+pub record AreBands (ls : List PlacedLine) (n : ℕ) (bands : List (Vec PlacedLine Global)) :
+    Type 0 where
   pub count : length bands ≡ n
-  pub filed : (b : ℕ) (d : Vec PlacedLine Global) → b < n → (get_or bands b d).items ≡ filter (is_in_band b) ls
+  pub filed : (b : ℕ) (d : Vec PlacedLine Global) → b < n → (get_or bands b d).items
+      ≡ filter (is_in_band b) ls
 
 -- the lines are filed
 abbrev pub AreFiled : FiledLines → Type 0

@@ -1,5 +1,5 @@
--- The types and specials of Doom, as the "Unofficial Doom Specs" 1.666 list them: runs of numbers, each by its first and
--- its last.
+-- The types and specials of Doom, as the "Unofficial Doom Specs" 1.666 list them: runs of numbers,
+-- each by its first and its last.
 use Rattle.std.specs.Prelude.{Bool, ◌&&◌, not, List, [], ◌∷◌, ℤ, pos, int_le}
 use Rattle.std.specs.List.{list_any}
 use Rattle.lv_lumps.specs.declared.records.Thing.{Thing}
@@ -13,7 +13,8 @@ is_among runs z = list_any (λ run. int_le run.0 z && int_le z run.1) runs
 -- the types of things
 abbrev pub known_things : List (ℤ × ℤ)
 known_things =
-    (pos 1, pos 89) ∷ (pos 2001, pos 2008) ∷ (pos 2010, pos 2015) ∷ (pos 2018, pos 2019) ∷ (pos 2022, pos 2026)
+    (pos 1, pos 89) ∷ (pos 2001, pos 2008) ∷ (pos 2010, pos 2015) ∷ (pos 2018, pos 2019)
+    ∷ (pos 2022, pos 2026)
     ∷ (pos 2028, pos 2028) ∷ (pos 2035, pos 2035) ∷ (pos 2045, pos 2049) ∷ (pos 3001, pos 3006) ∷ []
 
 -- the specials of lines
@@ -23,7 +24,8 @@ known_lines = (pos 0, pos 77) ∷ (pos 79, pos 84) ∷ (pos 86, pos 141) ∷ []
 -- those that need no tag: none, doors that open by hand, exits, and a wall that scrolls
 abbrev pub tagless_lines : List (ℤ × ℤ)
 tagless_lines =
-    (pos 0, pos 1) ∷ (pos 11, pos 11) ∷ (pos 26, pos 28) ∷ (pos 31, pos 34) ∷ (pos 48, pos 48) ∷ (pos 51, pos 52)
+    (pos 0, pos 1) ∷ (pos 11, pos 11) ∷ (pos 26, pos 28) ∷ (pos 31, pos 34) ∷ (pos 48, pos 48)
+    ∷ (pos 51, pos 52)
     ∷ (pos 117, pos 118) ∷ (pos 124, pos 124) ∷ []
 
 -- the specials of sectors

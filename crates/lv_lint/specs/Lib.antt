@@ -1,6 +1,7 @@
 pub mod Errors
 pub mod Places
 pub mod Meeting
+pub mod Segments
 pub mod Outside
 pub mod Bands
 pub mod Texts
@@ -8,6 +9,9 @@ pub mod Known
 pub mod Starts
 pub mod Tags
 pub mod Areas
+pub mod Borders
+pub mod Whereabouts
 pub mod Rules
+pub mod Graphics
 pub mod Tallies
 pub mod Facts

@@ -11,21 +11,24 @@ use Rattle.lv_lint.specs.declared.places.PlacedLine.{PlacedLine}
 unfoldable pub is_under : ℤ → ℤ → ℤ → ℤ → Bool
 is_under a b c d = int_le a c || int_le a d || int_le b c || int_le b d
 
--- the spans from a to b and from c to d have a number in common: neither lies wholly above the other
+-- the spans from a to b and from c to d have a number in common: neither lies wholly above the
+-- other
 unfoldable pub spans_meet : ℤ → ℤ → ℤ → ℤ → Bool
 spans_meet a b c d = is_under a b c d && is_under c d a b
 
 -- the boxes of two lines have a point in common
 unfoldable pub boxes_meet : PlacedLine → PlacedLine → Bool
-boxes_meet l k = spans_meet l.from.x l.to.x k.from.x k.to.x && spans_meet l.from.y l.to.y k.from.y k.to.y
+boxes_meet l k = spans_meet l.from.x l.to.x k.from.x k.to.x
+    && spans_meet l.from.y l.to.y k.from.y k.to.y
 
 -- how far a place lies to the right of a line, times the line's length
-unfoldable pub side_of : PlacedLine → Vertex → ℤ
-side_of l p = side_value (ray_between l.from l.to) (point_of p)
+unfoldable pub side_value_at : PlacedLine → Vertex → ℤ
+side_value_at l p = side_value (ray_between l.from l.to) (point_of p)
 
 -- a place lies on a line: on its straight line, and in its box
 unfoldable pub is_on : PlacedLine → Vertex → Bool
-is_on l p = int_eq (side_of l p) (pos 0) && spans_meet l.from.x l.to.x p.x p.x && spans_meet l.from.y l.to.y p.y p.y
+is_on l p = int_eq (side_value_at l p) (pos 0) && spans_meet l.from.x l.to.x p.x p.x
+    && spans_meet l.from.y l.to.y p.y p.y
 
 -- two vertices stand at one place
 unfoldable pub is_at : Vertex → Vertex → Bool
@@ -40,18 +43,20 @@ unfoldable pub abuts : PlacedLine → PlacedLine → Bool
 abuts k l = (is_on l k.from && not (ends_at l k.from)) || (is_on l k.to && not (ends_at l k.to))
 
 -- the ends of line k lie on both sides of line l's straight line
-unfoldable pub parts : PlacedLine → PlacedLine → Bool
-parts l k =
-    (int_lt (side_of l k.from) (pos 0) && int_lt (pos 0) (side_of l k.to))
-    || (int_lt (pos 0) (side_of l k.from) && int_lt (side_of l k.to) (pos 0))
+unfoldable pub has_on_both_sides : PlacedLine → PlacedLine → Bool
+has_on_both_sides l k =
+    (int_lt (side_value_at l k.from) (pos 0) && int_lt (pos 0) (side_value_at l k.to))
+    || (int_lt (pos 0) (side_value_at l k.from) && int_lt (side_value_at l k.to) (pos 0))
 
 -- two lines run between the same places
 unfoldable pub doubles : PlacedLine → PlacedLine → Bool
 doubles l k = ends_at l k.from && ends_at l k.to
 
--- a point of both lines isn't an end of both: they part each other, one abuts the other, or one doubles the other
+-- a point of both lines isn't an end of both: they part each other, one abuts the other, or one
+-- doubles the other
 unfoldable pub share : PlacedLine → PlacedLine → Bool
-share l k = (parts l k && parts k l) || abuts k l || abuts l k || doubles l k
+share l k = (has_on_both_sides l k && has_on_both_sides k l) || abuts k l || abuts l k
+    || doubles l k
 
 -- line k is another line than l, their boxes meet, and a point of both isn't an end of both
 unfoldable pub meets : PlacedLine → PlacedLine → Bool

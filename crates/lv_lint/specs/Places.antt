@@ -23,5 +23,5 @@ abbrev pub placed_lines : Tables → List PlacedLine
 placed_lines m = map (placed m) (enumerate_from 0 m.lines)
 
 -- where a thing stands
-abbrev pub place_of : Thing → Vertex
-place_of t = record { x = t.x; y = t.y }
+abbrev pub thing_place : Thing → Vertex
+thing_place t = record { x = t.x; y = t.y }

@@ -10,15 +10,16 @@ use Rattle.lv_lumps.specs.Sides.{is_two_sided}
 use Rattle.lv_maptables.specs.Tables.{Tables}
 use Rattle.lv_checks.specs.Textures.{side_in, is_missing}
 use Rattle.lv_lint.specs.declared.warning.Rule.{Rule}
-use Rattle.lv_lint.specs.declared.warning.Rule.TheVariants.{PlayerStart, OneStart, DeathmatchStarts, CeilingAboveFloor, TagGiven, TagOfSector, TagOfLine, LineSpecialKnown, SectorSpecialKnown, ThingKnown, TextureShows, SectorInside, LinesApart, ThingInside}
+use Rattle.lv_lint.specs.declared.warning.Rule.TheVariants.{PlayerStart, OneStart, DeathmatchStarts, CeilingAboveFloor, TagGiven, TagOfSector, TagOfLine, LineSpecialKnown, SectorSpecialKnown, ThingKnown, TextureShows, SectorInside, LinesApart, ThingInside, FlatKnown}
 use Rattle.lv_lint.specs.declared.warning.Warning.{Warning}
 use Rattle.lv_lint.specs.Known.{is_known_thing, is_known_line, is_known_sector}
-use Rattle.lv_lint.specs.Starts.{things_of_type}
+use Rattle.lv_lint.specs.Starts.{things_of_type, starts_twice}
 use Rattle.lv_lint.specs.Tags.{tag_missing, tag_of_no_sector, tag_of_no_line}
 use Rattle.lv_lint.specs.Areas.{is_inside_out}
-use Rattle.lv_lint.specs.Places.{placed_lines, place_of}
+use Rattle.lv_lint.specs.Places.{placed_lines, thing_place}
 use Rattle.lv_lint.specs.Meeting.{meets_another}
-use Rattle.lv_lint.specs.Outside.{is_outside}
+use Rattle.lv_lint.specs.Outside.{is_place_outside}
+use Rattle.lv_lint.specs.Whereabouts.{whereabouts_of}
 
 -- there is an item n, and it passes the test
 abbrev pub at_item : {X : Type 0} → (X → Bool) → List X → ℕ → Bool
@@ -28,16 +29,17 @@ at_item test xs n = option_map_or test (slice_get xs n) false
 abbrev pub names_wall : Side → Bool
 names_wall s = not (is_missing s.upper) || not (is_missing s.lower)
 
--- the line is two-sided within one sector, so that there is no step, and a side of it has a texture for one
+-- the line is two-sided within one sector, so that there is no step, and a side of it has a texture
+-- for one
 abbrev pub texture_hidden : Tables → Line → Bool
 texture_hidden m l =
     is_two_sided l && ((side_in m l.right).sector == (side_in m l.left).sector)
     && (names_wall (side_in m l.right) || names_wall (side_in m l.left))
 
--- the rule goes by a number alone, and the number breaks it: that of a player, of deathmatch starts, a sector or a line
+-- the rule goes by a number alone, and the number breaks it: player 1, a count of deathmatch
+-- starts, a sector or a line
 abbrev pub number_breaks : Tables → Rule → ℕ → Bool
 number_breaks m PlayerStart n = (n == 1) && (things_of_type m 1 == 0)
-number_breaks m OneStart n = nat_lt 0 n && nat_lt 1 (things_of_type m n)
 number_breaks m DeathmatchStarts n = nat_lt 0 n && (things_of_type m 11 == n)
 number_breaks m SectorInside n = is_inside_out m n
 number_breaks m LinesApart n = meets_another (placed_lines m) n
@@ -60,25 +62,29 @@ line_breaks m _ l = false
 
 -- the thing breaks the rule
 abbrev pub thing_breaks : Tables → Rule → Thing → Bool
+thing_breaks m OneStart t = starts_twice m t
 thing_breaks m ThingKnown t = not (is_known_thing t)
-thing_breaks m ThingInside t = is_outside (placed_lines m) (place_of t)
+thing_breaks m ThingInside t = is_place_outside (placed_lines m) (thing_place t)
 thing_breaks m _ t = false
 
 -- number n breaks the rule, or the item of that number in the table that the rule is about
 unfoldable pub breaks : Tables → Rule → ℕ → Bool
 breaks m rule n =
-    number_breaks m rule n || at_item (sector_breaks m rule) m.sectors n || at_item (line_breaks m rule) m.lines n
+    number_breaks m rule n || at_item (sector_breaks m rule) m.sectors n
+    || at_item (line_breaks m rule) m.lines n
     || at_item (thing_breaks m rule) m.things n
 
--- how many numbers the rule is asked of: players up to 4, fewer than four deathmatch starts, or the items of a table
+-- how many numbers the rule is asked of: player 1, fewer than four deathmatch starts, or the items
+-- of a table
 unfoldable pub reach : Tables → Rule → ℕ
-reach m PlayerStart = 5
-reach m OneStart = 5
+reach m PlayerStart = 2
 reach m DeathmatchStarts = 4
 reach m CeilingAboveFloor = length m.sectors
 reach m TagOfLine = length m.sectors
 reach m SectorSpecialKnown = length m.sectors
 reach m SectorInside = length m.sectors
+reach m FlatKnown = length m.sectors
+reach m OneStart = length m.things
 reach m ThingKnown = length m.things
 reach m ThingInside = length m.things
 reach m _ = length m.lines
@@ -86,16 +92,18 @@ reach m _ = length m.lines
 -- the rules in their order
 abbrev pub rules_in_order : List Rule
 rules_in_order =
-    PlayerStart ∷ OneStart ∷ DeathmatchStarts ∷ CeilingAboveFloor ∷ TagGiven ∷ TagOfSector ∷ TagOfLine
-    ∷ LineSpecialKnown ∷ SectorSpecialKnown ∷ ThingKnown ∷ TextureShows ∷ SectorInside ∷ LinesApart ∷ ThingInside ∷ []
+    PlayerStart ∷ OneStart ∷ DeathmatchStarts ∷ CeilingAboveFloor ∷ TagGiven ∷ TagOfSector
+    ∷ TagOfLine
+    ∷ LineSpecialKnown ∷ SectorSpecialKnown ∷ ThingKnown ∷ TextureShows ∷ SectorInside ∷ LinesApart
+    ∷ ThingInside ∷ []
 
 -- the warning that a number breaks the rule
-abbrev pub warning_of : Rule → ℕ → Warning
-warning_of rule n = record { rule = rule; number = n }
+abbrev pub warning_of : Tables → Rule → ℕ → Warning
+warning_of m rule n = record { rule = rule; number = n; whereabouts = whereabouts_of m rule n }
 
 -- a warning for each number that breaks the rule
 abbrev pub breaches : Tables → Rule → List Warning
-breaches m rule = map (warning_of rule) (filter (breaks m rule) (range_with_len 0 (reach m rule)))
+breaches m rule = map (warning_of m rule) (filter (breaks m rule) (range_with_len 0 (reach m rule)))
 
 -- all warnings
 abbrev pub warnings : Tables → List Warning

@@ -1,5 +1,5 @@
 -- How many starts of a kind a map has.
-use Rattle.std.specs.Prelude.{ℕ, Bool, count_by, pos}
+use Rattle.std.specs.Prelude.{ℕ, Bool, ◌&&◌, nat_lt, count_by, pos, unsigned_abs, int_le}
 use Rattle.std.specs.Ordering.{int_eq}
 use Rattle.lv_lumps.specs.declared.records.Thing.{Thing}
 use Rattle.lv_maptables.specs.Tables.{Tables}
@@ -11,3 +11,11 @@ is_of_type kind t = int_eq t.kind (pos kind)
 -- how many things are of the type
 abbrev pub things_of_type : Tables → ℕ → ℕ
 things_of_type m kind = count_by (is_of_type kind) m.things
+
+-- the thing is a player's start
+abbrev pub is_player_start : Thing → Bool
+is_player_start t = int_le (pos 1) t.kind && int_le t.kind (pos 4)
+
+-- the thing is the start of a player who has another one
+abbrev pub starts_twice : Tables → Thing → Bool
+starts_twice m t = is_player_start t && nat_lt 1 (things_of_type m (unsigned_abs t.kind))

@@ -20,7 +20,8 @@ tag_missing l = needs_tag l && (l.tag == 0)
 
 -- the special needs a tag, and no sector has the line's
 abbrev pub tag_of_no_sector : Tables → Line → Bool
-tag_of_no_sector m l = needs_tag l && not (l.tag == 0) && not (list_any (λ s. tag_of s == l.tag) m.sectors)
+tag_of_no_sector m l = needs_tag l && not (l.tag == 0)
+    && not (list_any (λ s. tag_of s == l.tag) m.sectors)
 
 -- a tag that a line should have: 0 is none, and 666 and 667 are raised by the death of monsters
 abbrev pub needs_line : ℕ → Bool

@@ -1,8 +1,12 @@
 -- The text of a warning: one line without its end.
-use Rattle.std.specs.Prelude.{ℕ, List, ◌++◌, codes, decimal}
+use Rattle.std.specs.Prelude.{ℕ, List, [], ◌++◌, codes, decimal}
+use Rattle.std.specs.Fmt.{signed_decimal}
+use Rattle.lv_lumps.specs.declared.records.Vertex.{Vertex}
 use Rattle.lv_lint.specs.declared.warning.Warning.{Warning}
+use Rattle.lv_lint.specs.declared.whereabouts.Whereabouts.{Whereabouts}
+use Rattle.lv_lint.specs.declared.whereabouts.Whereabouts.TheVariants.{Unplaced, At, Between}
 use Rattle.lv_lint.specs.declared.warning.Rule.{Rule}
-use Rattle.lv_lint.specs.declared.warning.Rule.TheVariants.{PlayerStart, OneStart, DeathmatchStarts, CeilingAboveFloor, TagGiven, TagOfSector, TagOfLine, LineSpecialKnown, SectorSpecialKnown, ThingKnown, TextureShows, SectorInside, LinesApart, ThingInside}
+use Rattle.lv_lint.specs.declared.warning.Rule.TheVariants.{PlayerStart, OneStart, DeathmatchStarts, CeilingAboveFloor, TagGiven, TagOfSector, TagOfLine, LineSpecialKnown, SectorSpecialKnown, ThingKnown, TextureShows, SectorInside, LinesApart, ThingInside, FlatKnown, TextureKnown}
 
 -- the word for what is wrong where a rule is broken
 abbrev pub word_of : Rule → List ℕ
@@ -20,7 +24,19 @@ word_of TextureShows = codes "texture-hidden"
 word_of SectorInside = codes "sector-inside-out"
 word_of LinesApart = codes "line-crossed"
 word_of ThingInside = codes "thing-outside"
+word_of FlatKnown = codes "flat-unknown"
+word_of TextureKnown = codes "texture-unknown"
 
--- the text of a warning: the word, a space and the number in decimal
+-- a place: its coordinates in decimal, in brackets
+abbrev pub place_text : Vertex → List ℕ
+place_text v = codes "(" ++ signed_decimal v.x ++ codes "," ++ signed_decimal v.y ++ codes ")"
+
+-- where to look: at a place, between two, or nothing
+abbrev pub whereabouts_text : Whereabouts → List ℕ
+whereabouts_text Unplaced = []
+whereabouts_text (At v) = codes " at " ++ place_text v
+whereabouts_text (Between v w) = codes " at " ++ place_text v ++ codes " " ++ place_text w
+
+-- the text of a warning: the word, the number in decimal, and where to look, each behind a space
 abbrev pub warning_text : Warning → List ℕ
-warning_text w = word_of w.rule ++ codes " " ++ decimal w.number
+warning_text w = word_of w.rule ++ codes " " ++ decimal w.number ++ whereabouts_text w.whereabouts

@@ -1,7 +1,7 @@
 //! The areas of a map's sectors.
 ghost use Rattle.std.specs.Prelude.{◌≡◌, ◌<◌, ◌≤ℤ◌, ◌^◌, pos, neg_ℤ, length, vec_len, IfOk};
 ghost use Rattle.lv_maptables.specs.WellFormed.{HasEnds, HasSides};
-ghost use Rattle.lv_checks.specs.Corners.{edges_of};
+ghost use Rattle.lv_checks.specs.Corners.{edges_of_line};
 ghost use Rattle.lv_lint.specs.Areas.{edge_area};
 ghost use Rattle.lv_lint.specs.Tallies.{AreWithin, AddsArea, AddsAreas, AreAreas};
 
@@ -44,7 +44,7 @@ fn add_line(areas: &mut Vec<i128>, map: &Map, line: &Line)
     requires sides { HasSides map.now.tables.sides line.now }
     requires room { AreWithin (2 ^ 100) areas.old.items }
     ensures { AddsAreas map.now.tables
-        (edges_of map.now.tables line.now) areas.old.items areas.new.items }
+        (edges_of_line map.now.tables line.now) areas.old.items areas.new.items }
 {
     let right = map.side(u32::from(line.right)).unwrap();
     add_edge(areas, map, right.sector, line.v1, line.v2);

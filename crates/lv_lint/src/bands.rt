@@ -3,7 +3,7 @@ ghost use Rattle.std.specs.Prelude.{◌≡◌, ◌<◌, filter, IfOk};
 ghost use Rattle.std.specs.Int.{int_min, int_max};
 ghost use Rattle.std.specs.List.{list_any};
 ghost use Rattle.lv_lint.specs.Meeting.{meets, meets_another};
-ghost use Rattle.lv_lint.specs.Outside.{is_outside};
+ghost use Rattle.lv_lint.specs.Outside.{is_place_outside};
 ghost use Rattle.lv_lint.specs.Bands.{IsBandOf, band_bottom, band_top, is_in_band, AreBands, AreFiled, AreFiledLines};
 
 use crate::error::LintError;
@@ -141,7 +141,7 @@ pub(crate) fn meets_another(filed: &FiledLines, n: u32) -> bool
 /// Whether the place lies in no sector.
 pub(crate) fn is_in_no_sector(filed: &FiledLines, place: Vertex) -> bool
     requires { AreFiled filed.now }
-    ensures { result ≡ is_outside filed.now.lines.items place }
+    ensures { result ≡ is_place_outside filed.now.lines.items place }
 {
     is_outside(&filed.bands[band_at(place)], place)
 }

@@ -4,16 +4,21 @@ ghost use Rattle.lv_lint.specs.Facts.{AreFacts};
 
 use crate::areas::areas_of;
 use crate::bands::{FiledLines, file_lines};
+use crate::borders::bordered_sectors;
 use crate::error::LintError;
+use crate::starts::starts_of;
 use crate::tags::{tags_of_lines, tags_of_sectors};
 use lv_maptables::Map;
 use std::alloc::Global;
 
-/// Which tags the sectors have and which the lines, twice the area of each sector, and the lines by bands of rows.
+/// Which tags the sectors have and which the lines, how many things are of each type below 5, which sectors have a
+/// border, twice the area of each, and the lines by bands of rows.
 #[derive(Drop)]
 pub(crate) struct Facts {
     pub sector_tags: Vec<bool>,
     pub line_tags: Vec<bool>,
+    pub starts: Vec<u32>,
+    pub bordered: Vec<bool>,
     pub areas: Vec<i128>,
     pub filed: FiledLines,
 }
@@ -24,11 +29,15 @@ pub(crate) fn facts_of(alloc: Global, map: &Map) -> Result<Facts, LintError>
 {
     let sector_tags = tags_of_sectors(alloc, map)?;
     let line_tags = tags_of_lines(alloc, map)?;
+    let starts = starts_of(alloc, map)?;
+    let bordered = bordered_sectors(alloc, map)?;
     let areas = areas_of(alloc, map)?;
     let filed = file_lines(alloc, map)?;
     Ok(Facts {
         sector_tags,
         line_tags,
+        starts,
+        bordered,
         areas,
         filed,
     })

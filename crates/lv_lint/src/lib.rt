@@ -3,9 +3,12 @@
 
 mod areas;
 mod bands;
+mod borders;
 mod error;
 mod facts;
+mod graphics;
 mod known;
+mod laws;
 mod meeting;
 mod outside;
 mod places;
@@ -14,7 +17,11 @@ mod rules;
 mod starts;
 mod tags;
 mod warning;
+mod whereabouts;
 
 pub use error::LintError;
+pub use graphics::lint_graphics;
+pub use laws::tell_crossings;
 pub use report::lint;
 pub use warning::{Rule, Warning};
+pub use whereabouts::Whereabouts;

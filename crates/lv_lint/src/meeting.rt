@@ -1,7 +1,7 @@
 //! Whether two lines have a point in common that isn't an end of both.
 ghost use Rattle.std.specs.Prelude.{◌≡◌};
 ghost use Rattle.std.specs.List.{list_any};
-ghost use Rattle.lv_lint.specs.Meeting.{is_under, spans_meet, boxes_meet, side_of, is_on, is_at, ends_at, abuts, parts, doubles, share, meets};
+ghost use Rattle.lv_lint.specs.Meeting.{is_under, spans_meet, boxes_meet, side_value_at, is_on, is_at, ends_at, abuts, has_on_both_sides, doubles, share, meets};
 
 use crate::places::PlacedLine;
 use lv_lumps::{Ray, Vertex};
@@ -31,9 +31,9 @@ fn boxes_meet(l: &PlacedLine, k: &PlacedLine) -> bool
 }
 
 /// How far the place lies to the right of the line, times the line's length.
-#[tactic(auto, unfolding(crate::specs::Meeting::side_of))]
+#[tactic(auto, unfolding(crate::specs::Meeting::side_value_at))]
 pub(crate) fn side_of(line: &PlacedLine, place: Vertex) -> i64
-    ensures { result ≡ side_of line.now place }
+    ensures { result ≡ side_value_at line.now place }
 {
     Ray::between(line.from, line.to).side_value(place.into())
 }
@@ -73,9 +73,9 @@ fn abuts(k: &PlacedLine, l: &PlacedLine) -> bool
 }
 
 // Whether the ends of line k lie on both sides of line l's straight line.
-#[tactic(auto, unfolding(crate::specs::Meeting::parts))]
+#[tactic(auto, unfolding(crate::specs::Meeting::has_on_both_sides))]
 fn parts(l: &PlacedLine, k: &PlacedLine) -> bool
-    ensures { result ≡ parts l.now k.now }
+    ensures { result ≡ has_on_both_sides l.now k.now }
 {
     let from = side_of(l, k.from);
     let to = side_of(l, k.to);

@@ -1,7 +1,7 @@
 //! Whether a place lies in no sector.
 ghost use Rattle.std.specs.Prelude.{◌≡◌, count_by};
 ghost use Rattle.std.specs.List.{list_any};
-ghost use Rattle.lv_lint.specs.Outside.{is_on_wall, comes_down, faces, turns_away, is_outside};
+ghost use Rattle.lv_lint.specs.Outside.{is_on_wall, comes_down, faces, turns_away, is_place_outside};
 
 use crate::meeting::{is_on, side_of};
 use crate::places::PlacedLine;
@@ -63,9 +63,9 @@ fn count_turned(lines: &[PlacedLine], place: Vertex) -> usize
 }
 
 /// Whether the place lies in no sector, among these lines.
-#[tactic(auto, unfolding(crate::specs::Outside::is_outside))]
+#[tactic(auto, unfolding(crate::specs::Outside::is_place_outside))]
 pub(crate) fn is_outside(lines: &[PlacedLine], place: Vertex) -> bool
-    ensures { result ≡ is_outside lines.now place }
+    ensures { result ≡ is_place_outside lines.now place }
 {
     is_on_any_wall(lines, place) || count_facing(lines, place) <= count_turned(lines, place)
 }

@@ -1,10 +1,10 @@
 //! The lines of a map with the places of their ends.
 ghost use Rattle.std.specs.Prelude.{◌≡◌, ◌<◌, length, IfOk};
 ghost use Rattle.lv_maptables.specs.WellFormed.{HasEnds, nth_vertex};
-ghost use Rattle.lv_lint.specs.Places.{placed, placed_lines};
+ghost use Rattle.lv_lint.specs.Places.{placed, placed_lines, thing_place};
 
 use crate::error::LintError;
-use lv_lumps::{Line, Vertex};
+use lv_lumps::{Line, Thing, Vertex};
 use lv_maptables::{Kind, Map};
 use std::alloc::Global;
 
@@ -25,15 +25,35 @@ fn vertex_of(map: &Map, n: u16) -> Vertex
     map.vertex(u32::from(n)).unwrap()
 }
 
+/// The places of the line's ends.
+pub(crate) fn ends_of(map: &Map, line: &Line) -> (Vertex, Vertex)
+    requires { HasEnds map.now.tables.vertices line.now }
+    ensures from { result.0 ≡ nth_vertex map.now.tables.vertices line.now.v1 }
+    ensures to { result.1 ≡ nth_vertex map.now.tables.vertices line.now.v2 }
+{
+    (vertex_of(map, line.v1), vertex_of(map, line.v2))
+}
+
+/// Where the thing stands.
+pub(crate) fn place_of(thing: &Thing) -> Vertex
+    ensures { result ≡ thing_place thing.now }
+{
+    Vertex {
+        x: thing.x,
+        y: thing.y,
+    }
+}
+
 // A line with its number and the places of its ends.
 fn placed(map: &Map, number: u32, line: &Line) -> PlacedLine
     requires { HasEnds map.now.tables.vertices line.now }
     ensures { result ≡ placed map.now.tables (number, line.now) }
 {
+    let (from, to) = ends_of(map, line);
     PlacedLine {
         number,
-        from: vertex_of(map, line.v1),
-        to: vertex_of(map, line.v2),
+        from,
+        to,
         is_wall: !line.has_left(),
     }
 }

@@ -7,6 +7,7 @@ use crate::error::LintError;
 use crate::facts::{Facts, facts_of};
 use crate::rules::{breaks, reach};
 use crate::warning::{Rule, Warning};
+use crate::whereabouts::whereabouts_of;
 use lv_maptables::Map;
 use std::alloc::Global;
 
@@ -40,7 +41,12 @@ fn list_breaches(
 {
     for n in 0..reach(map, rule) {
         if breaks(map, facts, rule, n) {
-            found.push(Warning { rule, number: n })?;
+            let whereabouts = whereabouts_of(map, rule, n);
+            found.push(Warning {
+                rule,
+                number: n,
+                whereabouts,
+            })?;
         }
     }
     Ok(())

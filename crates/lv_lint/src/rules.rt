@@ -2,22 +2,23 @@
 ghost use Rattle.std.specs.Prelude.{◌≡◌, not};
 ghost use Rattle.lv_maptables.specs.WellFormed.{HasSides};
 ghost use Rattle.lv_checks.specs.Textures.{is_missing};
-ghost use Rattle.lv_lint.specs.Tallies.{MarksTags, AreAreas};
+ghost use Rattle.lv_lint.specs.Tallies.{MarksTags, MarksBordered, AreAreas};
 ghost use Rattle.lv_lint.specs.Tags.{tag_of, line_tag, tag_of_no_sector, tag_of_no_line, needs_line};
 ghost use Rattle.lv_lint.specs.Areas.{is_inside_out};
 ghost use Rattle.lv_lint.specs.Bands.{AreFiledLines};
-ghost use Rattle.lv_lint.specs.Outside.{is_outside};
-ghost use Rattle.lv_lint.specs.Places.{placed_lines, place_of};
+ghost use Rattle.lv_lint.specs.Outside.{is_place_outside};
+ghost use Rattle.lv_lint.specs.Places.{placed_lines, thing_place};
 ghost use Rattle.lv_lint.specs.Facts.{AreFacts};
 ghost use Rattle.lv_lint.specs.Rules.{at_item, names_wall, texture_hidden, number_breaks, sector_breaks, line_breaks, thing_breaks, breaks, reach};
 
 use crate::bands::{FiledLines, is_in_no_sector, meets_another};
 use crate::facts::Facts;
 use crate::known::{is_known_line, is_known_sector, is_known_thing, needs_tag};
-use crate::starts::things_of_type;
+use crate::places::place_of;
+use crate::starts::{starts_twice, things_of_type};
 use crate::tags::tag_of;
 use crate::warning::Rule;
-use lv_lumps::{Line, Name8, Sector, Side, Thing, Vertex};
+use lv_lumps::{Line, Name8, Sector, Side, Thing};
 use lv_maptables::{Kind, Map};
 
 // Whether the line's special needs a tag, and no sector has the line's.
@@ -44,8 +45,8 @@ fn tag_of_no_line(map: &Map, tags: &[bool], sector: &Sector) -> bool
     needs_line(tag) && !tags[usize::from(tag)]
 }
 
-// Whether the name is that of a texture.
-fn names_texture(name: &Name8) -> bool
+/// Whether the name is that of a texture.
+pub(crate) fn names_texture(name: &Name8) -> bool
     ensures { result ≡ not (is_missing name.now) }
 {
     name.text() != b"-".as_slice()
@@ -71,13 +72,14 @@ fn texture_hidden(map: &Map, line: &Line) -> bool
     right.sector == left.sector && (names_wall(&right) || names_wall(&left))
 }
 
-// Whether the sector has its edges' left side inside, or is empty.
-fn is_inside_out(map: &Map, areas: &[i128], n: u32) -> bool
-    requires { AreAreas map.now.tables areas.now }
+// Whether the sector has a border, and what it runs round lies on its left or is empty.
+fn is_inside_out(map: &Map, bordered: &[bool], areas: &[i128], n: u32) -> bool
+    requires bordered { MarksBordered map.now.tables map.now.tables.lines bordered.now }
+    requires areas { AreAreas map.now.tables areas.now }
     ensures { result ≡ is_inside_out map.now.tables n }
 {
     match areas.get(n as usize) {
-        Some(area) => !(0 < *area),
+        Some(area) => bordered[n as usize] && !(0 < *area),
         None => false,
     }
 }
@@ -89,9 +91,8 @@ fn number_breaks(map: &Map, facts: &Facts, rule: Rule, n: u32) -> bool
 {
     match rule {
         Rule::PlayerStart => n == 1 && things_of_type(map, 1) == 0,
-        Rule::OneStart => 0 < n && 1 < things_of_type(map, n),
         Rule::DeathmatchStarts => 0 < n && things_of_type(map, 11) == n,
-        Rule::SectorInside => is_inside_out(map, &facts.areas, n),
+        Rule::SectorInside => is_inside_out(map, &facts.bordered, &facts.areas, n),
         Rule::LinesApart => meets_another(&facts.filed, n),
         _ => false,
     }
@@ -128,23 +129,20 @@ fn line_breaks(map: &Map, sector_tags: &[bool], rule: Rule, line: &Line) -> bool
 // Whether the thing lies in no sector.
 fn is_out(map: &Map, filed: &FiledLines, thing: &Thing) -> bool
     requires { AreFiledLines map.now.tables filed.now }
-    ensures { result ≡ is_outside (placed_lines map.now.tables) (place_of thing.now) }
+    ensures { result ≡ is_place_outside (placed_lines map.now.tables) (thing_place thing.now) }
 {
-    let place = Vertex {
-        x: thing.x,
-        y: thing.y,
-    };
-    is_in_no_sector(filed, place)
+    is_in_no_sector(filed, place_of(thing))
 }
 
 // Whether the thing breaks the rule.
-fn thing_breaks(map: &Map, filed: &FiledLines, rule: Rule, thing: &Thing) -> bool
-    requires { AreFiledLines map.now.tables filed.now }
+fn thing_breaks(map: &Map, facts: &Facts, rule: Rule, thing: &Thing) -> bool
+    requires { AreFacts map.now.tables facts.now }
     ensures { result ≡ thing_breaks map.now.tables rule thing.now }
 {
     match rule {
         Rule::ThingKnown => !is_known_thing(thing),
-        Rule::ThingInside => is_out(map, filed, thing),
+        Rule::OneStart => starts_twice(map, &facts.starts, thing),
+        Rule::ThingInside => is_out(map, &facts.filed, thing),
         _ => false,
     }
 }
@@ -177,7 +175,7 @@ fn thing_at_breaks(map: &Map, facts: &Facts, rule: Rule, n: u32) -> bool
     ensures { result ≡ at_item (thing_breaks map.now.tables rule) map.now.tables.things n }
 {
     match map.thing(n) {
-        Some(thing) => thing_breaks(map, &facts.filed, rule, &thing),
+        Some(thing) => thing_breaks(map, facts, rule, &thing),
         None => false,
     }
 }
@@ -200,13 +198,14 @@ pub(crate) fn reach(map: &Map, rule: Rule) -> u32
     ensures { result ≡ reach map.now.tables rule }
 {
     match rule {
-        Rule::PlayerStart => 5,
-        Rule::OneStart => 5,
+        Rule::PlayerStart => 2,
         Rule::DeathmatchStarts => 4,
         Rule::CeilingAboveFloor => map.count(Kind::Sector),
         Rule::TagOfLine => map.count(Kind::Sector),
         Rule::SectorSpecialKnown => map.count(Kind::Sector),
         Rule::SectorInside => map.count(Kind::Sector),
+        Rule::FlatKnown => map.count(Kind::Sector),
+        Rule::OneStart => map.count(Kind::Thing),
         Rule::ThingKnown => map.count(Kind::Thing),
         Rule::ThingInside => map.count(Kind::Thing),
         _ => map.count(Kind::Line),

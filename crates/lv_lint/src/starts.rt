@@ -1,9 +1,12 @@
-//! How many starts of a kind a map has.
-ghost use Rattle.std.specs.Prelude.{◌≡◌};
-ghost use Rattle.lv_lint.specs.Starts.{is_of_type, things_of_type};
+//! How many starts of each kind a map has.
+ghost use Rattle.std.specs.Prelude.{◌≡◌, IfOk};
+ghost use Rattle.lv_lint.specs.Starts.{is_of_type, things_of_type, starts_twice};
+ghost use Rattle.lv_lint.specs.Tallies.{AreStarts};
 
+use crate::error::LintError;
 use lv_lumps::Thing;
 use lv_maptables::{Kind, Map};
+use std::alloc::Global;
 
 // Whether the thing is of the type.
 fn is_of_type(thing: &Thing, kind: u32) -> bool
@@ -24,4 +27,23 @@ pub(crate) fn things_of_type(map: &Map, kind: u32) -> u32
         }
     }
     count
+}
+
+/// How many things are of each type below 5, of which 1 to 4 are the players' starts.
+pub(crate) fn starts_of(alloc: Global, map: &Map) -> Result<Vec<u32>, LintError>
+    ensures { IfOk result (λ starts. AreStarts map.now.tables 5 starts.items) }
+{
+    let mut starts = Vec::new(alloc);
+    for kind in 0..5 {
+        starts.push(things_of_type(map, kind))?;
+    }
+    Ok(starts)
+}
+
+/// Whether the thing is the start of a player who has another one.
+pub(crate) fn starts_twice(map: &Map, starts: &[u32], thing: &Thing) -> bool
+    requires { AreStarts map.now.tables 5 starts.now }
+    ensures { result ≡ starts_twice map.now.tables thing.now }
+{
+    1 <= thing.kind && thing.kind <= 4 && 1 < starts[usize::from(thing.kind.unsigned_abs())]
 }

@@ -1,13 +1,14 @@
 //! A warning, and its line of text.
+use crate::whereabouts::Whereabouts;
 use std::fmt;
 
 /// What a level should keep. The number of a warning is that of the item which breaks the rule,
-/// but for the rules on starts, where each says what it is.
+/// but for two rules on starts, where each says what it is.
 #[derive(Clone, Copy, Debug, PartialEq, Eq)]
 pub enum Rule {
     /// The first player has a start. The number is 1.
     PlayerStart,
-    /// No player has two starts. The number is the player's, 1 to 4.
+    /// No thing is the start of a player who has another one.
     OneStart,
     /// With a deathmatch start there are at least four. The number is how many there are.
     DeathmatchStarts,
@@ -27,19 +28,24 @@ pub enum Rule {
     ThingKnown,
     /// A two-sided line within one sector has no upper or lower texture, since none would show.
     TextureShows,
-    /// A sector lies on the right of its edges, and isn't empty.
+    /// A sector lies on the right of its edges, and isn't empty. One that has no line on one side alone may be so.
     SectorInside,
     /// A line has no point with another one but an end of both.
     LinesApart,
     /// A thing lies in a sector.
     ThingInside,
+    /// The flats of a sector are among those of a WAD.
+    FlatKnown,
+    /// The textures of a line's sides are among those of a WAD.
+    TextureKnown,
 }
 
-/// A rule that is broken, and by which item.
+/// A rule that is broken, by which item, and where to look for it.
 #[derive(Clone, Copy, Debug, PartialEq, Eq)]
 pub struct Warning {
     pub rule: Rule,
     pub number: u32,
+    pub whereabouts: Whereabouts,
 }
 
 impl Rule {
@@ -65,6 +71,8 @@ impl Rule {
             Rule::SectorInside => "sector-inside-out",
             Rule::LinesApart => "line-crossed",
             Rule::ThingInside => "thing-outside",
+            Rule::FlatKnown => "flat-unknown",
+            Rule::TextureKnown => "texture-unknown",
         }
     }
 }
@@ -78,6 +86,12 @@ impl fmt::Display for Warning {
     fn fmt<W: fmt::Write>(&self, f: &mut fmt::Formatter<W>) -> fmt::Result {
         let word = self.rule.word();
         let number = self.number;
-        write!(f, "{word} {number}")
+        match self.whereabouts {
+            Whereabouts::Unplaced => write!(f, "{word} {number}"),
+            Whereabouts::At(v) => write!(f, "{word} {number} at ({},{})", v.x, v.y),
+            Whereabouts::Between(v, w) => {
+                write!(f, "{word} {number} at ({},{}) ({},{})", v.x, v.y, w.x, w.y)
+            }
+        }
     }
 }

@@ -21,7 +21,8 @@ pub record IsDrawable (v : Vertex) : Type 0 where
 -- the square of the distance of two places
 abbrev pub squared_distance : Vertex → Vertex → ℕ
 squared_distance a b =
-    unsigned_abs (b.x -ℤ a.x) * unsigned_abs (b.x -ℤ a.x) + unsigned_abs (b.y -ℤ a.y) * unsigned_abs (b.y -ℤ a.y)
+    unsigned_abs (b.x -ℤ a.x) * unsigned_abs (b.x -ℤ a.x)
+    + unsigned_abs (b.y -ℤ a.y) * unsigned_abs (b.y -ℤ a.y)
 
 -- the greatest squared length of a line: that of 32,767
 abbrev pub longest_squared : ℕ

@@ -23,7 +23,7 @@ use Rattle.lv_lumps.specs.declared.records.Sector.{Sector}
 use Rattle.lv_lumps.proofs.DrawingLemmas.{drawable_x, drawable_y}
 use Rattle.lv_lumps.proofs.FieldBytes.{next, name-here, unsigned-here, unsigned-part, after}
 use Rattle.lv_lumps.proofs.RecordBytes.{thing_at-record, line_at-record, side_at-record, vertex_at-record, sector_at-record, thing_record-at, line_record-at, side_record-at, vertex_record-at, sector_record-at}
-use Rattle.lv_maptables.specs.Tables.{Tables, no_side, body_len, part_len}
+use Rattle.lv_maptables.specs.Tables.{Tables, no_side, body_len_of_one, part_len}
 use Rattle.lv_maptables.specs.Ranges.{IsNamed, is_name, is_name_byte, is_marker, IsBetween, IsShort, IsCode, IsCoordinate, IsVertex, IsSector, IsSide, IsLine, IsThing}
 use Rattle.lv_maptables.specs.WellFormed.{WellFormed}
 use Rattle.lv_maptables.specs.Parts.{part, part_head, NoPartBegins, BeginsWith, RefusesFor, IsFramed, tables_in, behind_head, behind_things, behind_lines, behind_sides, behind_vertices, behind_sectors}
@@ -204,7 +204,8 @@ sectors_back m w = λ k d h. sector_back (get_or m.sectors k d) (w.sectors k d h
 
 -- a well-formed map's part is laid out by its counts
 part_laid_out : (m : Tables) (rest : List ℕ) → WellFormed m
-    → IsLaidOut (part m ++ rest) m.name.bytes (flat_map thing_record m.things) (flat_map line_record m.lines) (flat_map side_record m.sides) (flat_map vertex_record m.vertices) (flat_map sector_record m.sectors) rest
+    → IsLaidOut (part m ++ rest) m.name.bytes (flat_map thing_record m.things) (flat_map line_record m.lines)
+    (flat_map side_record m.sides) (flat_map vertex_record m.vertices) (flat_map sector_record m.sectors) rest
     (length m.things) (length m.lines) (length m.sides) (length m.vertices) (length m.sectors)
 part_laid_out m rest w =
     record {
@@ -303,7 +304,7 @@ one_part m n r s wm wn e = sym (part_holds m r wm).1 ∙ ap tables_in e ∙ (par
 -- ---- A map's body
 
 -- its length is that of its counts
-pub body_size : (m : Tables) → WellFormed m → length (body m) ≡ body_len m
+pub body_size : (m : Tables) → WellFormed m → length (body m) ≡ body_len_of_one m
 body_size m w = omega (arith, part_size m w)
 
 -- what stands in a well-formed map's body
@@ -351,7 +352,7 @@ module _ (bs rest : List ℕ) (version : bs ≡ 1 ∷ 0 ∷ rest) where
     no_map_longer longer other w e =
         let same : part other ≡ rest = ap (drop 2) (e ∙ version) in
         let one = one_part other m [] (drop (part_len m) rest) w begins.well_formed (append-nil (part other) ∙ same ∙ sym begins.encoded) in
-        longer (ap length (sym e) ∙ body_size other w ∙ ap body_len one ∙ omega arith)
+        longer (ap length (sym e) ∙ body_size other w ∙ ap body_len_of_one one ∙ omega arith)
 
     -- where it is as long, that map alone has the bytes
     pub map_behind : length bs ≡ 2 + part_len m → IsMapOf bs m

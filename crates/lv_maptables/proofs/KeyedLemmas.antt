@@ -140,7 +140,8 @@ lines_push_side vertices old new ss (l ∷ ls) keep count few many sides =
     ∙ ap (λ (ks : List Line). line_of vertices old.keys l ∷ ks) rest
 
 -- a side taken out that no line has
-pub lines_drop_side : (vertices : List ℕ) (old new : TableView KeyedSide) (n : ℕ) (ss : List Side) (ls : List KeyedLine) → LowerRanks n old new → length old.keys ≡ length old.items → length old.items ≤ 32767
+pub lines_drop_side : (vertices : List ℕ) (old new : TableView KeyedSide) (n : ℕ) (ss : List Side) (ls : List KeyedLine)
+    → LowerRanks n old new → length old.keys ≡ length old.items → length old.items ≤ 32767
     → length ss ≡ length old.items → All (HasSides ss) (map (line_of vertices old.keys) ls) → All (λ l. uses_side n l ≡ false) (map (line_of vertices old.keys) ls)
     → map (line_of vertices new.keys) ls ≡ map (line_without_side n) (map (line_of vertices old.keys) ls)
 lines_drop_side vertices old new n ss [] lower count few many sides unused = refl

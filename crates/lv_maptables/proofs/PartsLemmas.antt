@@ -11,7 +11,7 @@ use Rattle.std.proofs.Math.ListN.{get_or-append}
 use Rattle.lv_maptables.specs.Tables.{Tables, empty_tables, part_len}
 use Rattle.lv_maptables.specs.WellFormed.{WellFormed}
 use Rattle.lv_maptables.specs.Parts.{part, NoPartBegins, BeginsWith}
-use Rattle.lv_maptables.specs.Projects.{ProjectMaps, WellFormedProject, is_named, has_map, number_of, map_limit}
+use Rattle.lv_maptables.specs.Projects.{ProjectMaps, WellFormedProject, is_named, has_map, map_number_of, map_limit}
 use Rattle.lv_maptables.specs.ProjectBody.{NoMapsHave, NoneFollow, ReadsNext, with_last}
 use Rattle.lv_maptables.proofs.FramedLemmas.{part_size, one_part}
 use Rattle.lv_maptables.proofs.ProjectLemmas.{get_middle, same_name}
@@ -87,8 +87,8 @@ none_begins maps bs none p m more w is e = none m (flat_map part more) (behind_w
 -- a map before it has its name
 pub name_is_taken : (q : ProjectMaps) (x : Tables) (bs : List ℕ) → BeginsWith bs x → has_map q x.name ≡ true → NoneFollow q.maps bs
 name_is_taken q x bs begins has p m more w is e =
-    let k = number_of q x.name in
-    let there : k < length q.maps = ltb-true (number_of q x.name) (length q.maps) has in
+    let k = map_number_of q x.name in
+    let there : k < length q.maps = ltb-true (map_number_of q x.name) (length q.maps) has in
     let one = one_part m x (flat_map part more) (drop (part_len x) bs) (behind_well_formed p q.maps more m w is) begins.well_formed (e ∙ sym begins.encoded) in
     let named = same_name x.name (get_or q.maps k empty_tables) (passes_at_first (is_named x.name) q.maps empty_tables there) in
     let names : AllPairs (λ m n. m.name ≢ n.name) (q.maps ++ m ∷ more) = subst (AllPairs (λ m n. m.name ≢ n.name)) is w.names in

@@ -80,7 +80,8 @@ next_free vs i d at apart =
     rw (get_or-take i vs k e inside, get_or_default vs i d e at) (apart k i e inside at))
 
 -- one more vertex, whose place comes last
-pub taken_step : (marked vs : List Vertex) (i : ℕ) (d v : Vertex) → i < length vs → is_taken marked v ≡ is_taken (take i vs) v → (is_place v (get_or vs i d) || is_taken marked v) ≡ is_taken (take (i + 1) vs) v
+pub taken_step : (marked vs : List Vertex) (i : ℕ) (d v : Vertex) → i < length vs → is_taken marked v
+    ≡ is_taken (take i vs) v → (is_place v (get_or vs i d) || is_taken marked v) ≡ is_taken (take (i + 1) vs) v
 taken_step marked vs i d v at e = rw (list_any_more (is_place v) vs i d at, e) (or_comm (is_place v (get_or vs i d)) (is_taken (take i vs) v))
 
 -- ---- The places of a list of vertices after each edit

@@ -19,7 +19,7 @@ use Rattle.lv_maptables.specs.Outcomes.{EndsEdit, EndsExactly, unless, least}
 use Rattle.lv_maptables.specs.Edits.{with_name, lowered}
 use Rattle.lv_maptables.specs.ProjectEdits.{name_faults, drop_map_faults, named_map, with_current_named, with_selected}
 use Rattle.lv_lumps.specs.declared.records.Name8.{Name8}
-use Rattle.lv_maptables.specs.Projects.{ProjectMaps, MapsView, WellFormedProject, project_of, tables_of_each, current_map, with_current, body_len, map_limit, is_named, has_map, number_of}
+use Rattle.lv_maptables.specs.Projects.{ProjectMaps, MapsView, WellFormedProject, project_of, tables_of_each, current_map, with_current, body_len, map_limit, is_named, has_map, map_number_of}
 use Rattle.lv_maptables.specs.MapsFields.{KeepsMaps, maps_view}
 use Rattle.lv_maptables.proofs.ListLemmas.{all_pairs_set, All-remove, lowered_fits}
 use Rattle.lv_maptables.proofs.FaultLemmas.{none_hold}
@@ -137,8 +137,11 @@ current_of v =
 pub with_current_of : (v w : MapsView) → w.others ≡ v.others → project_of w ≡ with_current (project_of v) w.tables
 with_current_of v w same =
     let n : length (tables_of_each v.others.before) ≡ length v.others.before = length-map v.others.before (λ m. m.tables) in
-    let is : set (tables_of_each v.others.before ++ v.tables ∷ tables_of_each v.others.behind) (length v.others.before) w.tables ≡ tables_of_each v.others.before ++ w.tables ∷ tables_of_each v.others.behind =
-    ap (λ k. set (tables_of_each v.others.before ++ v.tables ∷ tables_of_each v.others.behind) k w.tables) (sym n) ∙ set_middle (tables_of_each v.others.before) (tables_of_each v.others.behind) v.tables w.tables in
+    let is : set (tables_of_each v.others.before ++ v.tables ∷ tables_of_each v.others.behind)
+    (length v.others.before) w.tables ≡ tables_of_each v.others.before ++ w.tables
+    ∷ tables_of_each v.others.behind =
+    ap (λ k. set (tables_of_each v.others.before ++ v.tables ∷ tables_of_each v.others.behind) k w.tables) (sym n)
+    ∙ set_middle (tables_of_each v.others.before) (tables_of_each v.others.behind) v.tables w.tables in
     (λ i. record { maps = tables_of_each (same i).before ++ w.tables ∷ tables_of_each (same i).behind; current = length (same i).before })
     ∙ (λ i. record { maps = sym is i; current = length v.others.before })
 
@@ -149,7 +152,9 @@ sum_middle before behind m = sum_by-append part_len before (m ∷ behind) ∙ ap
 pub body_len_with : (v w : MapsView) → w.others ≡ v.others → body_len (project_of w) + part_len v.tables ≡ body_len (project_of v) + part_len w.tables
 body_len_with v w same =
     let there = sum_middle (tables_of_each v.others.before) (tables_of_each v.others.behind) v.tables in
-    let here : sum_by part_len (tables_of_each w.others.before ++ w.tables ∷ tables_of_each w.others.behind) ≡ sum_by part_len (tables_of_each v.others.before) + (part_len w.tables + sum_by part_len (tables_of_each v.others.behind)) =
+    let here : sum_by part_len (tables_of_each w.others.before ++ w.tables ∷ tables_of_each w.others.behind)
+    ≡ sum_by part_len (tables_of_each v.others.before)
+    + (part_len w.tables + sum_by part_len (tables_of_each v.others.behind)) =
     ap (λ o. sum_by part_len (tables_of_each o.before ++ w.tables ∷ tables_of_each o.behind)) same ∙ sum_middle (tables_of_each v.others.before) (tables_of_each v.others.behind) w.tables in
     omega (arith, there, here)
 
@@ -209,20 +214,22 @@ told_name name m e = (bytes_eq-Decides m.name.bytes name.bytes).1 (ap (λ n. n.b
 -- where no map has the name, each has another
 absent : (p : ProjectMaps) (name : Name8) → has_map p name ≡ false → (j : ℕ) (d : Tables) → j < length p.maps → (get_or p.maps j d).name ≢ name
 absent p name none j d within e =
-    let past = ltb-false (number_of p name) (length p.maps) none in
+    let past = ltb-false (map_number_of p name) (length p.maps) none in
     both_ways (is_named name (get_or p.maps j d)) (fails_before_first (is_named name) p.maps j d (omega arith)) (told_name name (get_or p.maps j d) e)
 
 -- and its number is that of the maps
-absent_number : (p : ProjectMaps) (name : Name8) → has_map p name ≡ false → number_of p name ≡ length p.maps
+absent_number : (p : ProjectMaps) (name : Name8) → has_map p name ≡ false → map_number_of p name ≡ length p.maps
 absent_number p name none =
-    let past = ltb-false (number_of p name) (length p.maps) none in
-    position_or_len_is (is_named name) p.maps (length p.maps) empty_tables (omega arith) (λ k within. fails_before_first (is_named name) p.maps k empty_tables (omega arith)) (λ past. absurd (omega arith))
+    let past = ltb-false (map_number_of p name) (length p.maps) none in
+    position_or_len_is (is_named name) p.maps (length p.maps) empty_tables (omega arith)
+    (λ k within. fails_before_first (is_named name) p.maps k empty_tables (omega arith))
+    (λ past. absurd (omega arith))
 
 -- a map that may be dropped isn't the current one
-pub other_map : (p : ProjectMaps) (name : Name8) (n : ℕ) → n ≡ number_of p name → least (drop_map_faults p name) ≡ None → n ≢ p.current
+pub other_map : (p : ProjectMaps) (name : Name8) (n : ℕ) → n ≡ map_number_of p name → least (drop_map_faults p name) ≡ None → n ≢ p.current
 other_map p name n is free e =
     let none = none_hold (drop_map_faults p name) free in
-    let there = ltb-true (number_of p name) (length p.maps) (not-false (has_map p name) none.0) in
+    let there = ltb-true (map_number_of p name) (length p.maps) (not-false (has_map p name) none.0) in
     both_ways (is_named name (current_map p)) none.1.0
     (ap (λ k. is_named name (get_or p.maps k empty_tables)) (sym e ∙ is) ∙ passes_at_first (is_named name) p.maps empty_tables there)
 
@@ -239,7 +246,9 @@ named_keeps a m name is fine free k =
     elim (and_cases (has_map p name) (not (is_named name (current_map p))) none.0) [
       | inl none ↦ absent p name none j d within (e ∙ named)
       | inr current ↦
-          let here : (get_or p.maps (length before) d).name ≡ name = ap (λ t. t.name) (get_middle before behind a.map.tables d ∙ sym (current_of (maps_view a))) ∙ same_name name (current_map p) (not-false (is_named name (current_map p)) current) in
+          let here : (get_or p.maps (length before) d).name ≡ name =
+          ap (λ t. t.name) (get_middle before behind a.map.tables d ∙ sym (current_of (maps_view a)))
+          ∙ same_name name (current_map p) (not-false (is_named name (current_map p)) current) in
           elim (cases_lt j (length before)) [
             | inl below ↦ k.project.names j (length before) d below (length_middle before behind a.map.tables) (e ∙ named ∙ sym here)
             | inr above ↦ k.project.names (length before) j d (omega arith) within (here ∙ sym named ∙ sym e)
@@ -256,7 +265,8 @@ named_edit v w name same is free =
 -- ---- The current map put among the others, and another made current
 
 pub chosen : (items after : List MapView) (i n : ℕ) (m x : MapView) → i ≤ length items → n < length items + 1 → after ≡ remove (insert items i m) n → x ≡ get_or (insert items i m) n x
-    → (tables_of_each (take n after) ++ x.tables ∷ tables_of_each (drop n after) ≡ tables_of_each (take i items) ++ m.tables ∷ tables_of_each (drop i items)) × (length (take n after) ≡ n) × (n ≤ length after)
+    → (tables_of_each (take n after) ++ x.tables ∷ tables_of_each (drop n after) ≡ tables_of_each (take i items)
+    ++ m.tables ∷ tables_of_each (drop i items)) × (length (take n after) ≡ n) × (n ≤ length after)
 chosen items after i n m x le within is at =
     let size = length-insert items i m le in
     let fewer = length-remove (insert items i m) n (omega arith) in
@@ -266,7 +276,9 @@ chosen items after i n m x le within is at =
       long,
     )
 
-pub chosen_keeps : (maps maps' : List Tables) (current n n' : ℕ) → maps' ≡ maps → n' ≡ n → n < length maps → WellFormedProject (record { maps = maps; current = current }) → WellFormedProject (record { maps = maps'; current = n' })
+pub chosen_keeps : (maps maps' : List Tables) (current n n' : ℕ) → maps' ≡ maps → n' ≡ n → n < length maps
+    → WellFormedProject (record { maps = maps; current = current })
+    → WellFormedProject (record { maps = maps'; current = n' })
 chosen_keeps maps maps' current n n' same is within w =
     subst (λ ms. WellFormedProject (record { maps = ms; current = n' })) (sym same)
     (subst (λ k. WellFormedProject (record { maps = maps; current = k })) (sym is) (record { count = w.count; current = within; maps = w.maps; names = w.names }))
@@ -294,10 +306,11 @@ added_keeps p maps' n' name m same is named fine none room w =
       names = all_pairs_push (λ m n. m.name ≢ n.name) p.maps m w.names (λ k d within e. absent p name none k d within (e ∙ named));
     })
 
-pub added_is : (p : ProjectMaps) (name : Name8) (m : Tables) → has_map p name ≡ false → m ≡ with_name empty_tables name → record { maps = p.maps ++ m ∷ []; current = length p.maps } ≡ with_selected p name
+pub added_is : (p : ProjectMaps) (name : Name8) (m : Tables) → has_map p name ≡ false → m ≡ with_name empty_tables name
+    → record { maps = p.maps ++ m ∷ []; current = length p.maps } ≡ with_selected p name
 added_is p name m none is =
     (λ i. record { maps = p.maps ++ is i ∷ []; current = sym (absent_number p name none) i })
-    ∙ (λ i. record { maps = sym (cond-false (has_map p name) p.maps (p.maps ++ with_name empty_tables name ∷ []) none) i; current = number_of p name })
+    ∙ (λ i. record { maps = sym (cond-false (has_map p name) p.maps (p.maps ++ with_name empty_tables name ∷ []) none) i; current = map_number_of p name })
 
 -- ---- A map taken out
 
@@ -312,7 +325,9 @@ pub out_below : (items after : List MapView) (i i' n : ℕ) (m : MapView) → i 
 out_below items after i i' n m le next below is =
     let fewer = length-remove items n (omega arith) in
     let long : i' ≤ length after = omega (arith, ap length is) in
-    let whole : tables_of_each (insert items (suc i') m) ≡ tables_of_each (take i items) ++ m.tables ∷ tables_of_each (drop i items) = ap (λ k. tables_of_each (insert items k m)) (sym next) ∙ sym (maps_are items i m) in (
+    let whole : tables_of_each (insert items (suc i') m) ≡ tables_of_each (take i items) ++ m.tables
+    ∷ tables_of_each (drop i items) = ap (λ k. tables_of_each (insert items k m)) (sym next)
+    ∙ sym (maps_are items i m) in (
       maps_are after i' m ∙ ap tables_of_each (ap (λ l. insert l i' m) is ∙ sym (taken_below items i' n m (omega arith) (omega arith)))
           ∙ tables_without (insert items (suc i') m) n ∙ ap (λ ms. remove ms n) whole,
       length-take-le i' after long ∙ sym (cond-true (ltb n i) (i - 1) i (lt-ltb n i below) ∙ omega arith),
@@ -326,12 +341,16 @@ out_above items after i n n' m above next within is =
     let fewer = length-remove items n' within in
     let long : i ≤ length after = omega (arith, ap length is) in (
       maps_are after i m ∙ ap tables_of_each (ap (λ l. insert l i m) is ∙ sym (taken_above items i n' m above within))
-          ∙ tables_without (insert items i m) (suc n') ∙ ap (λ ms. remove ms (suc n')) (sym (maps_are items i m)) ∙ ap (λ k. remove (tables_of_each (take i items) ++ m.tables ∷ tables_of_each (drop i items)) k) (sym next),
+          ∙ tables_without (insert items i m) (suc n') ∙ ap (λ ms. remove ms (suc n')) (sym (maps_are items i m))
+          ∙ ap (λ k. remove (tables_of_each (take i items) ++ m.tables ∷ tables_of_each (drop i items)) k)
+          (sym next),
       length-take-le i after long ∙ sym (cond-false (ltb n i) (i - 1) i (le-ltb n i (omega arith))),
       long,
     )
 
-pub out_keeps : (p : ProjectMaps) (maps' : List Tables) (n n' : ℕ) → maps' ≡ remove p.maps n → n' ≡ lowered n p.current → n < length p.maps → n ≢ p.current → WellFormedProject p → WellFormedProject (record { maps = maps'; current = n' })
+pub out_keeps : (p : ProjectMaps) (maps' : List Tables) (n n' : ℕ) → maps' ≡ remove p.maps n → n' ≡ lowered n p.current
+    → n < length p.maps → n ≢ p.current → WellFormedProject p
+    → WellFormedProject (record { maps = maps'; current = n' })
 out_keeps p maps' n n' same is within other w =
     let fewer = length-remove p.maps n within in
     let below = lowered_fits n p.current (length (remove p.maps n)) (omega arith) (omega (arith, w.current)) (λ e. other (sym e)) in

@@ -27,15 +27,20 @@ no_key {T} s key k none has e =
 
 kept_others : {T : Type 0} (s t : Slab T) (key : ℕ) (slot : Option T) (keys : List ℕ) → All (λ k. k ≢ key) keys → All (ContainsKey s) keys → Updates s t key slot → All (ContainsKey t) keys
 kept_others {T} s t key slot keys apart held u =
-    All-from_get_or (ContainsKey t) keys 0 (λ i b. subst (λ (o : Option T). IsSome o) (sym (u.others (get_or keys i 0) (All-get_or (λ k. k ≢ key) keys i 0 b apart))) (All-get_or (ContainsKey s) keys i 0 b held))
+    All-from_get_or (ContainsKey t) keys 0 (λ i b.
+    subst (λ (o : Option T). IsSome o) (sym (u.others (get_or keys i 0)
+    (All-get_or (λ k. k ≢ key) keys i 0 b apart))) (All-get_or (ContainsKey s) keys i 0 b held))
 
 new_apart : {T : Type 0} (s : Slab T) (keys : List ℕ) (key : ℕ) → IsKept s keys → get s key ≡ None → All (λ k. k ≢ key) keys
 new_apart s keys key k none = All-weaker (ContainsKey s) (λ j. j ≢ key) (λ j h. no_key s key j none h) keys k.held_each
 
-pub push_items : {T : Type 0} (s t : Slab T) (keys : List ℕ) (key : ℕ) (v : T) → IsKept s keys → get s key ≡ None → Updates s t key (Some v) → items_under t (keys ++ key ∷ []) ≡ items_under s keys ++ v ∷ []
+pub push_items : {T : Type 0} (s t : Slab T) (keys : List ℕ) (key : ℕ) (v : T) → IsKept s keys → get s key ≡ None
+    → Updates s t key (Some v) → items_under t (keys ++ key ∷ []) ≡ items_under s keys ++ v ∷ []
 push_items {T} s t keys key v k none u =
     filter_map-append (get t) keys (key ∷ [])
-    ∙ ap (λ (vs : List T). vs ++ filter_map (get t) (key ∷ [])) (given_same (get t) (get s) keys (All-weaker (λ k. k ≢ key) (λ k. get t k ≡ get s k) (λ k h. u.others k h) keys (new_apart s keys key k none)))
+    ∙ ap (λ (vs : List T). vs ++ filter_map (get t) (key ∷ []))
+    (given_same (get t) (get s) keys (All-weaker (λ k. k ≢ key) (λ k. get t k ≡ get s k) (λ k h. u.others k h) keys
+    (new_apart s keys key k none)))
     ∙ ap (λ (o : Option T). items_under s keys ++ cons_option o []) u.changed
 
 pub push_keeps : {T : Type 0} (s t : Slab T) (keys : List ℕ) (key : ℕ) (v : T) → IsKept s keys → get s key ≡ None → Updates s t key (Some v) → slab_len t ≡ slab_len s + 1 → IsKept t (keys ++ key ∷ [])
@@ -50,7 +55,8 @@ push_keeps {T} s t keys key v k none u len =
     }
 
 -- ---- an item less
-pub remove_items : {T : Type 0} (s t : Slab T) (keys : List ℕ) (n : ℕ) → n < length keys → IsKept s keys → Updates s t (get_or keys n 0) None → items_under t (remove keys n) ≡ remove (items_under s keys) n
+pub remove_items : {T : Type 0} (s t : Slab T) (keys : List ℕ) (n : ℕ) → n < length keys → IsKept s keys
+    → Updates s t (get_or keys n 0) None → items_under t (remove keys n) ≡ remove (items_under s keys) n
 remove_items s t keys n h k u =
     given_same (get t) (get s) (remove keys n) (All-weaker (λ k. k ≢ get_or keys n 0) (λ k. get t k ≡ get s k) (λ k h. u.others k h) (remove keys n) (rest_apart keys n h k.differ))
     ∙ given_remove (get s) keys n k.held_each
@@ -67,7 +73,8 @@ remove_keeps s t keys n h k u len =
     }
 
 -- ---- another item under a key
-pub set_items : {T : Type 0} (s t : Slab T) (keys : List ℕ) (n : ℕ) (v : T) → n < length keys → IsKept s keys → Updates s t (get_or keys n 0) (Some v) → items_under t keys ≡ slice_set (items_under s keys) n v
+pub set_items : {T : Type 0} (s t : Slab T) (keys : List ℕ) (n : ℕ) (v : T) → n < length keys → IsKept s keys
+    → Updates s t (get_or keys n 0) (Some v) → items_under t keys ≡ slice_set (items_under s keys) n v
 set_items s t keys n v h k u =
     given_set (get s) (get t) keys n v k.held_each h u.changed (λ i b other. u.others (get_or keys i 0) (two_apart keys i n k.differ b h other))
 

@@ -1,4 +1,5 @@
--- What a map keeps of a line and of a side, by keys, and the line and the side that they are by numbers.
+-- What a map keeps of a line and of a side, by keys, and the line and the side that they are by
+-- numbers.
 use Rattle.std.specs.Prelude.{◌≢◌, ℕ, ◌<◌, Bool, false, ◌==◌, ◌&&◌, List, [], Option, Some, None}
 use Rattle.lv_lumps.specs.declared.records.Line.{Line}
 use Rattle.lv_lumps.specs.declared.records.Side.{Side}
@@ -53,4 +54,5 @@ is_left (Some left) key = left == key
 
 -- the line has the vertex, and is too long with the vertices where they are
 abbrev pub stretches : List ℕ → List Vertex → ℕ → KeyedLine → Bool
-stretches keys vertices n l = uses_vertex n (line_of keys [] l) && is_too_long vertices (line_of keys [] l)
+stretches keys vertices n l = uses_vertex n (line_of keys [] l)
+    && is_too_long vertices (line_of keys [] l)

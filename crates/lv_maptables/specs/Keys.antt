@@ -1,4 +1,5 @@
--- What a contract sees of a table: its items in order, the key of each, and how many more fit without memory.
+-- What a contract sees of a table: its items in order, the key of each, and how many more fit
+-- without memory.
 use Rattle.std.specs.Prelude.{◌≡◌, ◌≢◌, ℕ, ◌<◌, ◌==◌, List, length, filter_map, All, AllPairs}
 use Rattle.std.specs.List.{position_or_len}
 use Rattle.slab.specs.Slab.{Slab, get, slab_len, ContainsKey}
@@ -25,7 +26,8 @@ pub record IsKept {T : Type 0} (s : Slab T) (keys : List ℕ) : Type 0 where
 
 -- each item keeps its rank
 abbrev pub KeepRanks : {T : Type 0} → TableView T → TableView T → Type 0
-KeepRanks old new = (key : ℕ) → rank_of old.keys key < length old.items → rank_of new.keys key ≡ rank_of old.keys key
+KeepRanks old new = (key : ℕ) → rank_of old.keys key < length old.items → rank_of new.keys key
+    ≡ rank_of old.keys key
 
 -- each item but the n-th keeps its key, and the ranks behind it fall by one
 abbrev pub LowerRanks : {T : Type 0} → ℕ → TableView T → TableView T → Type 0

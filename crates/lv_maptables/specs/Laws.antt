@@ -36,7 +36,8 @@ pub record FaultsRise (m : Tables) (n : ℕ) (v : Vertex) (s : Side) (l : Line) 
 -- one well-formed project at most has a body's bytes, in either version
 abbrev pub BodiesTellProjects : Type 0
 BodiesTellProjects =
-    (p q : ProjectMaps) (bytes : List ℕ) → WellFormedProject p → WellFormedProject q → HasBody p bytes → HasBody q bytes
+    (p q : ProjectMaps) (bytes : List ℕ) → WellFormedProject p → WellFormedProject q
+    → HasBody p bytes → HasBody q bytes
     → p ≡ q
 
 -- the body of a project of one map is as long as that map's body

@@ -3,13 +3,18 @@ use Rattle.std.specs.Prelude.{◌≤◌, length, take, drop}
 use Rattle.lv_maptables.specs.declared.maps.Maps.TheInside.{Inside}
 use Rattle.lv_maptables.specs.Projects.{MapsView, WellFormedProject, project_of}
 
--- the current map stands apart; the others stand in order, its number saying where it belongs among them
+-- the current map stands apart; the others stand in order, its number saying where it belongs among
+-- them
 abbrev pub maps_view : Inside → MapsView
 maps_view a =
     record {
       tables = a.map.tables;
       spare = a.map.spare;
-      others = record { before = take a.number a.others.items; behind = drop a.number a.others.items };
+      others = record {
+        before = take a.number a.others.items;
+        behind =
+            drop a.number a.others.items;
+      };
     }
 
 -- the maps are a project's

@@ -11,13 +11,15 @@ use Rattle.lv_maptables.specs.WellFormed.{WellFormed}
 -- the name, and the counts of things, lines, sides, vertices and sectors
 abbrev pub part_head : Tables → List ℕ
 part_head m =
-    m.name.bytes ++ unsigned (length m.things) ++ unsigned (length m.lines) ++ unsigned (length m.sides)
+    m.name.bytes ++ unsigned (length m.things) ++ unsigned (length m.lines)
+    ++ unsigned (length m.sides)
     ++ unsigned (length m.vertices) ++ unsigned (length m.sectors)
 
 -- the head, and these tables in that order
 abbrev pub part : Tables → List ℕ
 part m =
-    part_head m ++ flat_map thing_record m.things ++ flat_map line_record m.lines ++ flat_map side_record m.sides
+    part_head m ++ flat_map thing_record m.things ++ flat_map line_record m.lines
+    ++ flat_map side_record m.sides
     ++ flat_map vertex_record m.vertices ++ flat_map sector_record m.sectors
 
 -- no well-formed map's part begins the bytes

@@ -1,4 +1,5 @@
--- The bytes of a project's body: of version 2, which is written, and of version 1, of one map, which is read too.
+-- The bytes of a project's body: of version 2, which is written, and of version 1, of one map,
+-- which is read too.
 use Rattle.std.specs.Prelude.{◌≡◌, ◌≢◌, ℕ, ◌≤◌, ◌<◌, ◌⊎◌, List, [], ◌∷◌, ◌++◌, length, flat_map, drop}
 use Rattle.lv_maptables.specs.declared.error.MapError.{MapError}
 use Rattle.lv_maptables.specs.Tables.{Tables}
@@ -16,13 +17,15 @@ alone m = record { maps = m ∷ []; current = 0 }
 
 -- the bytes are the project's body of version 2, or, of a project of one map, its body of version 1
 abbrev pub HasBody : ProjectMaps → List ℕ → Type 0
-HasBody p bytes = (project_body p ≡ bytes) ⊎ ((p ≡ alone (current_map p)) × (body (current_map p) ≡ bytes))
+HasBody p bytes = (project_body p ≡ bytes)
+    ⊎ ((p ≡ alone (current_map p)) × (body (current_map p) ≡ bytes))
 
 -- no well-formed project has these bytes in either version
 abbrev pub NoProjectHas : List ℕ → Type 0
 NoProjectHas bytes = (p : ProjectMaps) → WellFormedProject p → HasBody p bytes → ⊥
 
--- the project is well-formed, it has these bytes, and no other well-formed project has them in either version
+-- the project is well-formed, it has these bytes, and no other well-formed project has them in
+-- either version
 pub record IsProjectOf (bytes : List ℕ) (p : ProjectMaps) : Type 0 where
   pub well_formed : WellFormedProject p
   pub encoded : HasBody p bytes
@@ -46,7 +49,8 @@ NoMapsHave bytes = (p : ProjectMaps) → WellFormedProject p → flat_map part p
 -- no well-formed project has, behind these maps, some whose parts are the bytes
 abbrev pub NoneFollow : List Tables → List ℕ → Type 0
 NoneFollow maps bytes =
-    (p : ProjectMaps) (m : Tables) (more : List Tables) → WellFormedProject p → p.maps ≡ maps ++ m ∷ more
+    (p : ProjectMaps) (m : Tables) (more : List Tables) → WellFormedProject p → p.maps ≡ maps ++ m
+    ∷ more
     → part m ++ flat_map part more ≢ bytes
 
 -- the project with one map more behind the others, which is current

@@ -61,12 +61,12 @@ abbrev pub is_named : Name8 → Tables → Bool
 is_named name m = bytes_eq m.name.bytes name.bytes
 
 -- the number of the map of the name, and how many maps there are where none has it
-abbrev pub number_of : ProjectMaps → Name8 → ℕ
-number_of p name = position_or_len (is_named name) p.maps
+abbrev pub map_number_of : ProjectMaps → Name8 → ℕ
+map_number_of p name = position_or_len (is_named name) p.maps
 
 -- a map of the project has the name
 abbrev pub has_map : ProjectMaps → Name8 → Bool
-has_map p name = nat_lt (number_of p name) (length p.maps)
+has_map p name = nat_lt (map_number_of p name) (length p.maps)
 
 -- the length of a body
 abbrev pub body_len : ProjectMaps → ℕ

@@ -4,13 +4,13 @@ use Rattle.slab.specs.Slab.{slab_len}
 use Rattle.lv_maptables.specs.declared.map.table.Table.TheInside.{Inside}
 use Rattle.lv_maptables.specs.Keys.{TableView, items_under, IsKept}
 
-abbrev pub view_of : {T : Type 0} → Inside T → TableView T
-view_of a =
+abbrev pub view_of_table : {T : Type 0} → Inside T → TableView T
+view_of_table a =
     record {
       items = items_under a.items a.order.items;
       keys = a.order.items;
       spare = min (a.items.capacity - slab_len a.items) (vec_capacity a.order - vec_len a.order);
     }
 
-abbrev pub Keeps : {T : Type 0} → Inside T → Type 0
-Keeps a = IsKept a.items a.order.items
+abbrev pub KeepsTable : {T : Type 0} → Inside T → Type 0
+KeepsTable a = IsKept a.items a.order.items

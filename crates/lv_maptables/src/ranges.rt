@@ -5,6 +5,12 @@ ghost use Rattle.lv_maptables.specs.Ranges.{IsVertex, IsSector, IsSide, IsLine, 
 
 use lv_lumps::{Line, NO_SIDE, Name8, Sector, Side, Thing, Vertex, is_marker, is_name};
 
+// The greatest number that an item may have.
+const LAST_ITEM: u16 = 32766;
+
+// The greatest flags, special and tag of a line.
+const LAST_CODE: u16 = 32767;
+
 // Whether nothing but NUL follows the name's text.
 fn is_padded(name: &Name8) -> bool
     ensures { IsTrue result ↔ (name.now ≡ name_of (name_text name.now)) }
@@ -120,13 +126,13 @@ fn is_side(side: &Side) -> bool
 fn is_line(line: &Line) -> bool
     ensures { IsTrue result ↔ IsLine line.now }
 {
-    line.v1 <= 32766
-        && line.v2 <= 32766
-        && line.flags <= 32767
-        && line.special <= 32767
-        && line.tag <= 32767
-        && line.right <= 32766
-        && (line.left <= 32766 || line.left == NO_SIDE)
+    line.v1 <= LAST_ITEM
+        && line.v2 <= LAST_ITEM
+        && line.flags <= LAST_CODE
+        && line.special <= LAST_CODE
+        && line.tag <= LAST_CODE
+        && line.right <= LAST_ITEM
+        && (line.left <= LAST_ITEM || line.left == NO_SIDE)
 }
 
 // Whether the thing's place is in range.

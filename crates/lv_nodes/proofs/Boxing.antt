@@ -12,7 +12,7 @@ use Rattle.lv_segs.specs.declared.piece.Place.{Place}
 use Rattle.lv_segs.specs.declared.piece.Place.TheVariants.{Right, Left, Across}
 use Rattle.lv_segs.specs.Fractions.{point_at, crossing}
 use Rattle.lv_segs.specs.Pieces.{IsPiece, edge_of, ray_of, same_place}
-use Rattle.lv_segs.specs.Division.{parts_of, parts_by, place_of, value_by, cut_at, right_parts, left_parts, IsDivided}
+use Rattle.lv_segs.specs.Division.{parts_of, parts_by, place_of_piece, value_by, cut_at, right_parts, left_parts, IsDivided}
 use Rattle.lv_segs.specs.Boxes.{box_of, boxes_of, widened}
 use Rattle.lv_segs.proofs.Division.{same_vertex_is}
 
@@ -68,7 +68,7 @@ module _ (lines : List Edge) (p : Piece) (b : Bounds) (own : b ≡ box_of lines 
   unsplit_by partition Across h = by_start (crossing (ray_of lines partition) (edge_of lines p)) (int_lt (pos 0) (value_by lines partition p p.from)) h
 
   unsplit : (partition : Piece) (parts : Parts) → parts ≡ parts_of lines partition p → (is_some parts.right && is_some parts.left) ≡ false → KeepBox lines b parts
-  unsplit partition parts e h = subst (KeepBox lines b) (sym e) (unsplit_by partition (place_of lines partition p) (subst (λ (x : Parts). is_split x ≡ false) e h))
+  unsplit partition parts e h = subst (KeepBox lines b) (sym e) (unsplit_by partition (place_of_piece lines partition p) (subst (λ (x : Parts). is_split x ≡ false) e h))
 
   pub right_keeps : (partition : Piece) (parts : Parts) → parts ≡ parts_of lines partition p → (is_some parts.right && is_some parts.left) ≡ false → IfSome parts.right (λ q. b ≡ box_of lines q)
   right_keeps partition parts e h = (unsplit partition parts e h).right
@@ -108,7 +108,9 @@ boxed_more lines ps bs p b e f = ap (λ (x : List Bounds). x ++ b ∷ []) e ∙ 
     spread (q ∷ qs) = ap (λ (x : List Bounds). box_of lines q ∷ x) (spread qs)
 
 -- what is listed with the parts of the next piece, and what the pieces behind it will add
-pub gained : (f : Piece → Option Piece) (ps : List Piece) (n : ℕ) (d : Piece) (old new : List Piece) → n < length ps → new ≡ old ++ filter_map f (get_or ps n d ∷ []) → old ++ filter_map f (drop n ps) ≡ filter_map f ps → new ++ filter_map f (drop (n + 1) ps) ≡ filter_map f ps
+pub gained : (f : Piece → Option Piece) (ps : List Piece) (n : ℕ) (d : Piece) (old new : List Piece) → n < length ps
+    → new ≡ old ++ filter_map f (get_or ps n d ∷ []) → old ++ filter_map f (drop n ps) ≡ filter_map f ps → new
+    ++ filter_map f (drop (n + 1) ps) ≡ filter_map f ps
 gained f ps n d old new h e k =
     let q = get_or ps n d in
     let s : drop n ps ≡ q ∷ drop (n + 1) ps = drop-cons ps n d h ∙ ap (λ (i : ℕ). q ∷ drop i ps) (sym (add-one n)) in

@@ -1,8 +1,8 @@
 -- From the recursion's lists to the lists of the tree of the lines, and to a sound tree.
-use Rattle.std.proofs.Common.{◌≡◌, sym, ap, ◌∙◌, subst, ℕ, ◌+◌, ◌*◌, ◌<◌, ◌≤◌, inl, inr, ⊎_elim, List, [], ◌∷◌, length, Bool, true, false, Some, arith, slice_get, All}
-use Rattle.std.specs.Prelude.{Contains, if◌then◌else◌}
+use Rattle.std.proofs.Common.{◌≡◌, sym, ap, ◌∙◌, subst, ℕ, ◌+◌, ◌*◌, ◌<◌, ◌≤◌, List, [], ◌∷◌, length, Bool, true, false, arith, All}
+use Rattle.std.specs.Prelude.{if◌then◌else◌}
 use Rattle.std.proofs.lemmas.List.{length-append}
-use Rattle.std.proofs.lemmas.Option.{slice_get_within}
+use Rattle.std.proofs.lemmas.List.Elements.{All-nil}
 use Rattle.lv_lumps.specs.declared.records.Vertex.{Vertex}
 use Rattle.lv_lumps.specs.declared.records.Seg.{Seg}
 use Rattle.lv_lumps.specs.declared.records.Sub.{Sub}
@@ -13,22 +13,25 @@ use Rattle.lv_segs.specs.declared.piece.Piece.{Piece}
 use Rattle.lv_segs.specs.Plane.{IsEdge}
 use Rattle.lv_segs.specs.Pieces.{IsPiece}
 use Rattle.lv_segs.specs.First.{whole, sides_of, pieces_from, first_pieces}
-use Rattle.lv_segs.specs.Tree.{Tree, Divides, IsReached, pieces, unused}
+use Rattle.lv_segs.specs.Tree.{Tree, Divides, IsReached, pieces, none_used}
 use Rattle.lv_segs.proofs.Choice.{left_over, tree_exists}
-use Rattle.lv_segs.proofs.FirstList.{first_are_pieces, index_is}
+use Rattle.lv_segs.proofs.FirstList.{first_are_pieces}
 use Rattle.lv_segs.proofs.Trees.{first_reached, tree_pieces}
 use Rattle.lv_nodes.specs.declared.error.TreeError.{TreeError}
 use Rattle.lv_nodes.specs.declared.error.TreeError.TheVariants.{OutOfMemory, NothingToBuild, TooManyVertices, TooManySegs, TooManySubsectors, TooDeep}
 use Rattle.lv_nodes.specs.declared.growth.Child.{Child}
+use Rattle.lv_nodes.specs.InRange.{greatest_number}
 use Rattle.lv_nodes.specs.References.{FollowsFrom}
 use Rattle.lv_nodes.specs.Tiling.{count_list, total}
 use Rattle.lv_nodes.specs.TreeLists.{HasNodes, IsEndOf, AreSegsOf}
-use Rattle.lv_nodes.specs.Sound.{IsTreeOfLines, IsBuiltOf, IsSound, IsSmall, AreEnds, HasTooManyVertices}
+use Rattle.lv_nodes.specs.Sound.{IsTreeOfLines, IsBuiltOf, IsSound, IsSmall, HasTooManyVertices, HasTooManySegs}
 use Rattle.lv_nodes.specs.Growth.{Lists, IsGrown, IsRefused}
 use Rattle.lv_nodes.specs.Numbers.{AreNumbered, HaveMore, AreSegsRefused}
-use Rattle.lv_nodes.specs.Refusals.{AreTreeLists, IsTreeRefused, IsBuildRefused}
+use Rattle.lv_nodes.specs.Refusals.{AreTreeLists, IsTreeRefused}
+use Rattle.lv_nodes.specs.Built.{IsRefusalOver}
 use Rattle.lv_nodes.proofs.Counting.{counts_many, one_leaf_more, nodes_many}
-use Rattle.lv_nodes.proofs.Filling.{counts_some}
+use Rattle.lv_nodes.proofs.Filling.{counts_some, tree_many}
+use Rattle.lv_nodes.proofs.Numbering.{none_new}
 use Rattle.lv_nodes.proofs.Laying.{counts_total, counted}
 use Rattle.lv_nodes.proofs.Partings.{all_by}
 use Rattle.lv_nodes.proofs.Sounding.{sound}
@@ -38,7 +41,8 @@ use Rattle.lv_nodes.proofs.Sounding.{sound}
 sides_many : (n : ℕ) (e : Edge) → (0 < length (sides_of n e)) × (length (sides_of n e) ≤ 2)
 sides_many n e = by_left e.has_left
   where
-    by_left : (b : Bool) → (0 < length (if b then (whole n Along ∷ whole n Against ∷ []) else (whole n Along ∷ []))) × (length (if b then (whole n Along ∷ whole n Against ∷ []) else (whole n Along ∷ [])) ≤ 2)
+    by_left : (b : Bool) → (0 < length (if b then (whole n Along ∷ whole n Against ∷ []) else (whole n Along ∷ [])))
+        × (length (if b then (whole n Along ∷ whole n Against ∷ []) else (whole n Along ∷ [])) ≤ 2)
     by_left true = (omega arith, omega arith)
     by_left false = (omega arith, omega arith)
 
@@ -50,7 +54,11 @@ pub first_few : (n : ℕ) (lines : List Edge) → length (pieces_from n lines) �
 first_few n [] = omega arith
 first_few n (e ∷ es) = let s = (sides_many n e).1 in let l = length-append (sides_of n e) (pieces_from (n + 1) es) in let r = first_few (n + 1) es in omega arith
 
-pub start_reached : (lines : List Edge) → All IsEdge lines → IsReached lines (unused lines) (first_pieces lines)
+pub first_many : (n : ℕ) (lines : List Edge) → length lines ≤ length (pieces_from n lines)
+first_many n [] = omega arith
+first_many n (e ∷ es) = let s = (sides_many n e).0 in let l = length-append (sides_of n e) (pieces_from (n + 1) es) in let r = first_many (n + 1) es in omega arith
+
+pub start_reached : (lines : List Edge) → All IsEdge lines → IsReached lines (none_used lines) (first_pieces lines)
 start_reached lines all = first_reached lines (first_pieces lines) (first_are_pieces lines all)
 
 -- ---- the recursion from the first list
@@ -58,10 +66,10 @@ abbrev pub no_lists : Lists
 no_lists = record { segs = []; sizes = []; nodes = [] }
 
 module _ (lines : List Edge) (all : All IsEdge lines) where
-  tree_of : (t : Tree) → Divides lines (first_pieces lines) (unused lines) t → IsTreeOfLines lines t
+  tree_of : (t : Tree) → Divides lines (first_pieces lines) (none_used lines) t → IsTreeOfLines lines t
   tree_of t d = record { drawn = all; each = first_are_pieces lines all; divides = d }
 
-  pub tree_lists : (new : Lists) (child : Child) → IsGrown lines (first_pieces lines) (unused lines) 1024 no_lists new child → AreTreeLists lines new
+  pub tree_lists : (new : Lists) (child : Child) → IsGrown lines (first_pieces lines) (none_used lines) 1024 no_lists new child → AreTreeLists lines new
   tree_lists new child g = record {
     tree = g.tree;
     of_lines = tree_of g.tree g.divides;
@@ -73,10 +81,10 @@ module _ (lines : List Edge) (all : All IsEdge lines) where
     few_sizes = g.few_sizes;
   }
 
-  the_tree : (t : Tree) × Divides lines (first_pieces lines) (unused lines) t
-  the_tree = tree_exists lines (left_over (unused lines)) (first_pieces lines) (unused lines) (omega arith)
+  the_tree : (t : Tree) × Divides lines (first_pieces lines) (none_used lines) t
+  the_tree = tree_exists lines (left_over (none_used lines)) (first_pieces lines) (none_used lines) (omega arith)
 
-  pub tree_refused : (e : TreeError) → IsRefused lines (first_pieces lines) (unused lines) 1024 no_lists e → IsTreeRefused lines e
+  pub tree_refused : (e : TreeError) → IsRefused lines (first_pieces lines) (none_used lines) 1024 no_lists e → IsTreeRefused lines e
   tree_refused TooDeep h = (the_tree.0, tree_of the_tree.0 the_tree.1, h the_tree.0 the_tree.1)
   tree_refused TooManySegs h = let l = h the_tree.0 the_tree.1 in (the_tree.0, tree_of the_tree.0 the_tree.1, omega arith)
   tree_refused TooManySubsectors h = let l = h the_tree.0 the_tree.1 in (the_tree.0, tree_of the_tree.0 the_tree.1, omega arith)
@@ -84,25 +92,39 @@ module _ (lines : List Edge) (all : All IsEdge lines) where
   tree_refused NothingToBuild h = h
   tree_refused TooManyVertices h = h
 
+  -- more drawn vertices than there are numbers are too many
+  pub too_many_drawn : (drawn : List Vertex) → greatest_number < length drawn → HasTooManyVertices lines drawn
+  too_many_drawn drawn many = (the_tree.0, tree_of the_tree.0 the_tree.1, ([], none_new drawn, All-nil (IsEndOf lines (pieces the_tree.0)), omega arith))
+
+  -- so are more lines, since each piece leaves one at least
+  pub too_many_lines : greatest_number < length lines → HasTooManySegs lines
+  too_many_lines many =
+      let t = the_tree.0 in
+      let n = tree_many lines all t (first_pieces lines) (none_used lines) (start_reached lines all) the_tree.1 in
+      let l = first_many 0 lines in
+      (t, tree_of t the_tree.1, omega arith)
+
   -- the first list is made of pieces
   pub first_pieced : All (IsPiece lines) (first_pieces lines)
   first_pieced = first_are_pieces lines all
 
   -- what the recursion was given
-  pub reached_at : (ps : List Piece) (used : List Bool) → ps ≡ first_pieces lines → used ≡ unused lines → IsReached lines used ps
-  reached_at ps used e f = subst (λ (u : List Bool). IsReached lines u ps) (sym f) (subst (IsReached lines (unused lines)) (sym e) (start_reached lines all))
+  pub reached_at : (ps : List Piece) (used : List Bool) → ps ≡ first_pieces lines → used ≡ none_used lines → IsReached lines used ps
+  reached_at ps used e f = subst (λ (u : List Bool). IsReached lines u ps) (sym f) (subst (IsReached lines (none_used lines)) (sym e) (start_reached lines all))
 
-  pub lists_at : (ps : List Piece) (used : List Bool) (old new : Lists) (child : Child) → ps ≡ first_pieces lines → used ≡ unused lines → old ≡ no_lists → IsGrown lines ps used 1024 old new child → AreTreeLists lines new
+  pub lists_at : (ps : List Piece) (used : List Bool) (old new : Lists) (child : Child) → ps ≡ first_pieces lines → used
+      ≡ none_used lines → old ≡ no_lists → IsGrown lines ps used 1024 old new child → AreTreeLists lines new
   lists_at ps used old new child e f g h =
       let a = subst (λ (x : List Piece). IsGrown lines x used 1024 old new child) e h in
       let b = subst (λ (u : List Bool). IsGrown lines (first_pieces lines) u 1024 old new child) f a in
-      tree_lists new child (subst (λ (o : Lists). IsGrown lines (first_pieces lines) (unused lines) 1024 o new child) g b)
+      tree_lists new child (subst (λ (o : Lists). IsGrown lines (first_pieces lines) (none_used lines) 1024 o new child) g b)
 
-  pub refused_at : (ps : List Piece) (used : List Bool) (old : Lists) (e : TreeError) → ps ≡ first_pieces lines → used ≡ unused lines → old ≡ no_lists → IsRefused lines ps used 1024 old e → IsTreeRefused lines e
+  pub refused_at : (ps : List Piece) (used : List Bool) (old : Lists) (e : TreeError) → ps ≡ first_pieces lines → used
+      ≡ none_used lines → old ≡ no_lists → IsRefused lines ps used 1024 old e → IsTreeRefused lines e
   refused_at ps used old error e f g h =
       let a = subst (λ (x : List Piece). IsRefused lines x used 1024 old error) e h in
       let b = subst (λ (u : List Bool). IsRefused lines (first_pieces lines) u 1024 old error) f a in
-      tree_refused error (subst (λ (o : Lists). IsRefused lines (first_pieces lines) (unused lines) 1024 o error) g b)
+      tree_refused error (subst (λ (o : Lists). IsRefused lines (first_pieces lines) (none_used lines) 1024 o error) g b)
 
 pub no_lists_yet : (segs : List Piece) (sizes : List ℕ) (nodes : List Node) → segs ≡ [] → sizes ≡ [] → nodes ≡ [] → record { segs = segs; sizes = sizes; nodes = nodes } ≡ no_lists
 no_lists_yet segs sizes nodes a b c =
@@ -111,41 +133,40 @@ no_lists_yet segs sizes nodes a b c =
     let three : List Node → Lists = λ x. record { segs = []; sizes = []; nodes = x } in
     ap one a ∙ ap two b ∙ ap three c
 
-pub build_refused : (lines : List Edge) (drawn : List Vertex) (e : TreeError) → IsTreeRefused lines e → IsBuildRefused lines drawn e
+pub build_refused : (lines : List Edge) (drawn : List Vertex) (e : TreeError) → IsTreeRefused lines e → IsRefusalOver lines drawn e
 build_refused lines drawn TooDeep h = h
 build_refused lines drawn TooManySegs h = h
 build_refused lines drawn TooManySubsectors h = h
 build_refused lines drawn OutOfMemory h = tt
-build_refused lines drawn NothingToBuild h = h
+build_refused lines drawn NothingToBuild h = absurd h
 build_refused lines drawn TooManyVertices h = absurd h
 
 -- ---- from the lists to a sound tree
 module _ (lines : List Edge) (drawn : List Vertex) (l : Lists) (a : AreTreeLists lines l) where
   own_pieces : All (IsPiece lines) (pieces a.tree)
-  own_pieces = tree_pieces lines a.of_lines.drawn a.tree (first_pieces lines) (unused lines) (start_reached lines a.of_lines.drawn) a.of_lines.divides
+  own_pieces = tree_pieces lines a.of_lines.drawn a.tree (first_pieces lines) (none_used lines) (start_reached lines a.of_lines.drawn) a.of_lines.divides
 
   pub lists_pieces : All (IsPiece lines) l.segs
   lists_pieces = subst (All (IsPiece lines)) (sym a.segs) own_pieces
 
   pub lists_some : 0 < length lines → All (λ (n : ℕ). 0 < n) l.sizes
-  lists_some h = subst (All (λ (n : ℕ). 0 < n)) (sym a.sizes) (counts_some lines a.of_lines.drawn a.tree (first_pieces lines) (unused lines) (start_reached lines a.of_lines.drawn) (first_some lines h) a.of_lines.divides)
+  lists_some h = subst (All (λ (n : ℕ). 0 < n)) (sym a.sizes)
+      (counts_some lines a.of_lines.drawn a.tree (first_pieces lines) (none_used lines)
+      (start_reached lines a.of_lines.drawn) (first_some lines h) a.of_lines.divides)
 
   pub lists_total : total l.sizes ≤ 32767
   lists_total = let e = ap total a.sizes ∙ counts_total a.tree in let s = ap length a.segs in let f = a.few_segs in omega arith
 
   more_places : HaveMore lines drawn l.segs → HasTooManyVertices lines drawn
-  more_places m = (a.tree, a.of_lines, (m.places, m.differ, all_by (AreEnds lines drawn (pieces a.tree)) m.places (λ n v e. ⊎_elim (λ k. inl (known v k)) (λ k. inr (subst (λ (ps : List Piece). IsEndOf lines ps v) a.segs k)) (m.each n v e)), m.many))
-    where
-      known : (v : Vertex) → ((n : ℕ) × (slice_get drawn n ≡ Some v)) → Contains drawn v
-      known v k = (k.0, slice_get_within drawn k.0 v k.1, index_is drawn k.0 v v k.1)
+  more_places m = (a.tree, a.of_lines, (m.added, m.new_places, all_by (IsEndOf lines (pieces a.tree)) m.added (λ n v e. subst (λ (ps : List Piece). IsEndOf lines ps v) a.segs (m.each n v e)), m.many))
 
-  pub segs_refused_too : (e : TreeError) → AreSegsRefused lines drawn l.segs e → IsBuildRefused lines drawn e
+  pub segs_refused_too : (e : TreeError) → AreSegsRefused lines drawn l.segs e → IsRefusalOver lines drawn e
   segs_refused_too TooManyVertices h = more_places h
   segs_refused_too TooDeep h = absurd h
   segs_refused_too TooManySegs h = absurd h
   segs_refused_too TooManySubsectors h = absurd h
   segs_refused_too OutOfMemory h = tt
-  segs_refused_too NothingToBuild h = h
+  segs_refused_too NothingToBuild h = absurd h
 
   module _ (vertices : List Vertex) (segs : List Seg) (subs : List Sub) (as_segs : AreSegsOf lines vertices l.segs segs) (sizes : count_list subs ≡ l.sizes) (follow : FollowsFrom 0 subs) where
     pub built_of : IsBuiltOf lines vertices segs subs l.nodes
@@ -170,8 +191,9 @@ module _ (lines : List Edge) (drawn : List Vertex) (l : Lists) (a : AreTreeLists
         few_vertices = numbered.few;
         few_segs = let e = as_segs.many in let f = a.few_segs in omega arith;
         few_subs = few_subs;
-        few_nodes = let e = nodes_many lines a.tree 0 0 l.nodes a.has_nodes in let o = one_leaf_more a.tree in let m = counts_many a.tree in let s = ap length a.sizes in let f = a.few_sizes in omega arith;
+        few_nodes = let e = nodes_many lines a.tree 0 0 l.nodes a.has_nodes in let o = one_leaf_more a.tree in let m =
+            counts_many a.tree in let s = ap length a.sizes in let f = a.few_sizes in omega arith;
       }
 
       pub sound_of : length lines ≤ 32767 → IsSound lines drawn vertices segs subs l.nodes
-      sound_of few = let b = built_of in sound lines drawn vertices b.tree segs subs l.nodes b.of_lines b.lists few few_subs numbered.differ numbered.ends numbered.added
+      sound_of few = let b = built_of in sound lines drawn vertices b.tree segs subs l.nodes b.of_lines b.lists few few_subs numbered.firsts numbered.ends numbered.added

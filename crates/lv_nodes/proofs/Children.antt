@@ -56,7 +56,9 @@ below_append [] bs = refl
 below_append (a ∷ ms) bs = ap (λ (ns : List ℕ). a.right ∷ a.left ∷ ns) (below_append ms bs)
 
 -- the child that stands for a tree and the children in its nodes: each number of its subsectors and nodes once
-pub once : (lines : List Edge) (t : Tree) (s n : ℕ) (nodes : List Node) (x : ℕ) → HasNodes lines t s n nodes → among x (child_of t s n) 1 + times_child nodes x ≡ among x (subsector s) (leaf_count t) + among x n (branch_count t)
+pub once : (lines : List Edge) (t : Tree) (s n : ℕ) (nodes : List Node) (x : ℕ) → HasNodes lines t s n nodes
+    → among x (child_of t s n) 1 + times_child nodes x ≡ among x (subsector s) (leaf_count t)
+    + among x n (branch_count t)
 once lines (Leaf ps) s n nodes x h =
     let e : times_child nodes x ≡ 0 = ap (λ (ns : List Node). times_child ns x) h in
     let z = among_none x n in
@@ -84,8 +86,16 @@ once lines (Branch p right left) s n nodes x h =
     let m3 = among_more x n a b in
     let moved : among x (subsector (s + c)) d ≡ among x (subsector s + c) d = ap (λ (k : ℕ). among x k d) (omega arith) in
     let top : among x (n + a + b) 1 ≡ among x (n + (a + b)) 1 = ap (λ (k : ℕ). among x k 1) (omega arith) in
-    summed (times_child nodes x) (times_child br x) (times_child bl x) (among x node.right 1) (among x node.left 1) (among x (child_of right s n) 1) (among x (child_of left (s + c) (n + a)) 1) (among x (subsector s) c) (among x (subsector (s + c)) d) (among x (subsector s + c) d) (among x (subsector s) (c + d)) (among x n a) (among x (n + a) b) (among x n (a + b)) (among x (n + (a + b)) 1) (among x (n + a + b) 1) (among x n (a + b + 1))
-    (all ∙ s1 ∙ ap (λ (k : ℕ). k + times x (node.right ∷ node.left ∷ [])) s2 ∙ ap (λ (k : ℕ). times x (below_each br) + times x (below_each bl) + k) (s3 ∙ ap (λ (k : ℕ). among x node.right 1 + k) s4)) r l er el m1 m2 m3 moved top
+    summed (times_child nodes x) (times_child br x) (times_child bl x) (among x node.right 1) (among x node.left 1)
+    (among x (child_of right s n) 1) (among x (child_of left (s + c) (n + a)) 1) (among x (subsector s) c)
+    (among x (subsector (s + c)) d) (among x (subsector s + c) d) (among x (subsector s) (c + d)) (among x n a)
+    (among x (n + a) b) (among x n (a + b)) (among x (n + (a + b)) 1) (among x (n + a + b) 1)
+    (among x n (a + b + 1))
+    (all ∙ s1 ∙ ap (λ (k : ℕ). k + times x (node.right ∷ node.left ∷ [])) s2
+    ∙ ap (λ (k : ℕ). times x (below_each br) + times x (below_each bl) + k)
+    (s3 ∙ ap (λ (k : ℕ). among x node.right 1 + k) s4)) r l er el m1 m2 m3 moved top
   where
-    summed : (whole wr wl ar al cr cl u v v' uv i j ij k k' ijk : ℕ) → whole ≡ wr + wl + (ar + (al + 0)) → cr + wr ≡ u + i → cl + wl ≡ v + j → ar ≡ cr → al ≡ cl → uv ≡ u + v' → ijk ≡ ij + k → ij ≡ i + j → v ≡ v' → k' ≡ k → k' + whole ≡ uv + ijk
+    summed : (whole wr wl ar al cr cl u v v' uv i j ij k k' ijk : ℕ) → whole ≡ wr + wl + (ar + (al + 0)) → cr + wr ≡ u
+        + i → cl + wl ≡ v + j → ar ≡ cr → al ≡ cl → uv ≡ u + v' → ijk ≡ ij + k → ij ≡ i + j → v ≡ v' → k' ≡ k → k'
+        + whole ≡ uv + ijk
     summed whole wr wl ar al cr cl u v v' uv i j ij k k' ijk e1 e2 e3 e4 e5 e6 e7 e8 e9 e10 = omega arith

@@ -25,7 +25,13 @@ equal_most a b h = omega (arith, linear)
 -- the box of one place
 pub one_box : (b : Bounds) (v : Vertex) → IsBoxAt b v → IsLeastBox b (λ w. w ≡ v)
 one_box b v h = record {
-  inside = λ w e. let x = ap (λ (u : Vertex). u.x) e in let y = ap (λ (u : Vertex). u.y) e in (equal_most b.left w.x (h.left ∙ sym x), equal_most w.x b.right (x ∙ sym h.right), equal_most b.bottom w.y (h.bottom ∙ sym y), equal_most w.y b.top (y ∙ sym h.top));
+  inside = λ w e. let x = ap (λ (u : Vertex). u.x) e in let y =
+      ap (λ (u : Vertex). u.y) e in (
+        equal_most b.left w.x (h.left ∙ sym x),
+        equal_most w.x b.right (x ∙ sym h.right),
+        equal_most b.bottom w.y (h.bottom ∙ sym y),
+        equal_most w.y b.top (y ∙ sym h.top),
+      );
   left = (v, refl, sym h.left);
   right = (v, refl, sym h.right);
   bottom = (v, refl, sym h.bottom);
@@ -36,8 +42,18 @@ one_box b v h = record {
 pub joined_box : (a b c : Bounds) (P Q : Vertex → Type 0) → IsLeastBox a P → IsLeastBox b Q → IsJoined a b c → IsLeastBox c (λ v. P v ⊎ Q v)
 joined_box a b c P Q h k j = record {
   inside = λ v. ⊎_elim
-      (λ p. let i = h.inside v p in (at_most c.left a.left v.x j.left_first i.0, at_most v.x a.right c.right i.1 j.right_first, at_most c.bottom a.bottom v.y j.bottom_first i.2, at_most v.y a.top c.top i.3 j.top_first))
-      (λ q. let i = k.inside v q in (at_most c.left b.left v.x j.left_second i.0, at_most v.x b.right c.right i.1 j.right_second, at_most c.bottom b.bottom v.y j.bottom_second i.2, at_most v.y b.top c.top i.3 j.top_second));
+      (λ p. let i = h.inside v p in (
+        at_most c.left a.left v.x j.left_first i.0,
+        at_most v.x a.right c.right i.1 j.right_first,
+        at_most c.bottom a.bottom v.y j.bottom_first i.2,
+        at_most v.y a.top c.top i.3 j.top_first,
+      ))
+      (λ q. let i = k.inside v q in (
+        at_most c.left b.left v.x j.left_second i.0,
+        at_most v.x b.right c.right i.1 j.right_second,
+        at_most c.bottom b.bottom v.y j.bottom_second i.2,
+        at_most v.y b.top c.top i.3 j.top_second,
+      ));
   left = ⊎_elim (λ e. (h.left.0, inl h.left.1, h.left.2 ∙ sym e)) (λ e. (k.left.0, inr k.left.1, k.left.2 ∙ sym e)) j.left;
   right = ⊎_elim (λ e. (h.right.0, inl h.right.1, h.right.2 ∙ sym e)) (λ e. (k.right.0, inr k.right.1, k.right.2 ∙ sym e)) j.right;
   bottom = ⊎_elim (λ e. (h.bottom.0, inl h.bottom.1, h.bottom.2 ∙ sym e)) (λ e. (k.bottom.0, inr k.bottom.1, k.bottom.2 ∙ sym e)) j.bottom;
@@ -55,7 +71,8 @@ same_box b P Q f g h = record {
 }
 
 -- the ends of two lists of pieces
-pub joined_pieces : (lines : List Edge) (a b c : Bounds) (ps qs : List Piece) → IsLeastBox a (IsEndOf lines ps) → IsLeastBox b (IsEndOf lines qs) → IsJoined a b c → IsLeastBox c (IsEndOf lines (ps ++ qs))
+pub joined_pieces : (lines : List Edge) (a b c : Bounds) (ps qs : List Piece) → IsLeastBox a (IsEndOf lines ps)
+    → IsLeastBox b (IsEndOf lines qs) → IsJoined a b c → IsLeastBox c (IsEndOf lines (ps ++ qs))
 joined_pieces lines a b c ps qs h k j = same_box c (λ v. IsEndOf lines ps v ⊎ IsEndOf lines qs v) (IsEndOf lines (ps ++ qs)) to from (joined_box a b c (IsEndOf lines ps) (IsEndOf lines qs) h k j)
   where
     to : (v : Vertex) → IsEndOf lines ps v ⊎ IsEndOf lines qs v → IsEndOf lines (ps ++ qs) v
@@ -75,8 +92,11 @@ module _ (lines : List Edge) (ps : List Piece) where
           same : (j : ℕ) (q : Piece) → slice_get ps j ≡ Some q → j ≡ 0 → q ≡ p
           same j q s z = let t = ap (slice_get ps) z in cc
 
-  pub next_ends : (a b c : Bounds) (n : ℕ) (p : Piece) → slice_get ps n ≡ Some p → IsLeastBox a (IsEndBefore lines ps n) → IsLeastBox b (IsOneEnd lines p) → IsJoined a b c → IsLeastBox c (IsEndBefore lines ps (n + 1))
-  next_ends a b c n p at h k j = same_box c (λ v. IsEndBefore lines ps n v ⊎ IsOneEnd lines p v) (IsEndBefore lines ps (n + 1)) to from (joined_box a b c (IsEndBefore lines ps n) (IsOneEnd lines p) h k j)
+  pub next_ends : (a b c : Bounds) (n : ℕ) (p : Piece) → slice_get ps n ≡ Some p → IsLeastBox a (IsEndBefore lines ps n)
+      → IsLeastBox b (IsOneEnd lines p) → IsJoined a b c → IsLeastBox c (IsEndBefore lines ps (n + 1))
+  next_ends a b c n p at h k j =
+      same_box c (λ v. IsEndBefore lines ps n v ⊎ IsOneEnd lines p v) (IsEndBefore lines ps (n + 1)) to from
+      (joined_box a b c (IsEndBefore lines ps n) (IsOneEnd lines p) h k j)
     where
       to : (v : Vertex) → IsEndBefore lines ps n v ⊎ IsOneEnd lines p v → IsEndBefore lines ps (n + 1) v
       to v = ⊎_elim (λ e. (e.0, e.1, ⊎_elim (λ z. inl z) (λ l. inr (omega arith)) e.2, e.3, e.4)) (λ e. (n, p, inr (omega arith), at, e))
@@ -92,18 +112,26 @@ module _ (lines : List Edge) (ps : List Piece) where
       from v e = ⊎_elim (λ z. inl (e.0, e.1, inl z, e.3, e.4)) (λ l. ⊎_elim (λ m. inl (e.0, e.1, inr m, e.3, e.4)) (λ m. inr (this v e.0 e.1 e.3 e.4 m l)) (cases_lt e.0 n)) e.2
 
   pub all_ends : (b : Bounds) (n : ℕ) → length ps ≤ n → 0 < length ps → IsLeastBox b (IsEndBefore lines ps n) → IsLeastBox b (IsEndOf lines ps)
-  all_ends b n long some h = same_box b (IsEndBefore lines ps n) (IsEndOf lines ps) (λ v e. (e.0, e.1, e.3, e.4)) (λ v e. (e.0, e.1, inr (let w = slice_get_within ps e.0 e.1 e.2 in omega arith), e.2, e.3)) h
+  all_ends b n long some h =
+      same_box b (IsEndBefore lines ps n) (IsEndOf lines ps) (λ v e. (e.0, e.1, e.3, e.4))
+      (λ v e. (e.0, e.1, inr (let w = slice_get_within ps e.0 e.1 e.2 in omega arith), e.2, e.3)) h
 
 -- ---- numbers of 16 bits that were passed on
 -- one side of the box that holds two
-pub up_side : (x y m : ℤ) → FitsSigned w16 x → FitsSigned w16 y → FitsSigned w16 m → to_z w16 (of_z w16 x) ≤ℤ m → to_z w16 (of_z w16 y) ≤ℤ m → ((m ≡ to_z w16 (of_z w16 x)) ⊎ (m ≡ to_z w16 (of_z w16 y))) → (x ≤ℤ to_z w16 (of_z w16 m)) × (y ≤ℤ to_z w16 (of_z w16 m)) × ((to_z w16 (of_z w16 m) ≡ x) ⊎ (to_z w16 (of_z w16 m) ≡ y))
+pub up_side : (x y m : ℤ) → FitsSigned w16 x → FitsSigned w16 y → FitsSigned w16 m → to_z w16 (of_z w16 x) ≤ℤ m
+    → to_z w16 (of_z w16 y) ≤ℤ m → ((m ≡ to_z w16 (of_z w16 x)) ⊎ (m ≡ to_z w16 (of_z w16 y)))
+    → (x ≤ℤ to_z w16 (of_z w16 m)) × (y ≤ℤ to_z w16 (of_z w16 m))
+    × ((to_z w16 (of_z w16 m) ≡ x) ⊎ (to_z w16 (of_z w16 m) ≡ y))
 up_side x y m f g k h l o =
     let a = to_z-of_z w16 x f in
     let b = to_z-of_z w16 y g in
     let c = to_z-of_z w16 m k in
     (omega (arith, linear), omega (arith, linear), ⊎_elim (λ e. inl (c ∙ e ∙ a)) (λ e. inr (c ∙ e ∙ b)) o)
 
-pub down_side : (x y m : ℤ) → FitsSigned w16 x → FitsSigned w16 y → FitsSigned w16 m → m ≤ℤ to_z w16 (of_z w16 x) → m ≤ℤ to_z w16 (of_z w16 y) → ((m ≡ to_z w16 (of_z w16 x)) ⊎ (m ≡ to_z w16 (of_z w16 y))) → (to_z w16 (of_z w16 m) ≤ℤ x) × (to_z w16 (of_z w16 m) ≤ℤ y) × ((to_z w16 (of_z w16 m) ≡ x) ⊎ (to_z w16 (of_z w16 m) ≡ y))
+pub down_side : (x y m : ℤ) → FitsSigned w16 x → FitsSigned w16 y → FitsSigned w16 m → m ≤ℤ to_z w16 (of_z w16 x)
+    → m ≤ℤ to_z w16 (of_z w16 y) → ((m ≡ to_z w16 (of_z w16 x)) ⊎ (m ≡ to_z w16 (of_z w16 y)))
+    → (to_z w16 (of_z w16 m) ≤ℤ x) × (to_z w16 (of_z w16 m) ≤ℤ y)
+    × ((to_z w16 (of_z w16 m) ≡ x) ⊎ (to_z w16 (of_z w16 m) ≡ y))
 down_side x y m f g k h l o =
     let a = to_z-of_z w16 x f in
     let b = to_z-of_z w16 y g in

@@ -23,7 +23,10 @@ module _ (lines : List Edge) (vertices : List Vertex) (line k : ℕ) (p : Piece)
   pub covers_right : seg_covers lines vertices line 0 k s ≡ covers lines line Along k p
   covers_right = by_side p.side h.side h.first h.second
     where
-      by_side : (f : Facing) → s.side ≡ side_number f → first_place lines vertices s ≡ start_of lines f p → second_place lines vertices s ≡ end_of lines f p → seg_covers lines vertices line 0 k s ≡ (nat_eq p.line line && same_side f Along && step_within (edge_of lines p) (first_end lines p) (last_end lines p) k)
+      by_side : (f : Facing) → s.side ≡ side_number f → first_place lines vertices s ≡ start_of lines f p
+          → second_place lines vertices s ≡ end_of lines f p → seg_covers lines vertices line 0 k s
+          ≡ (nat_eq p.line line && same_side f Along && step_within (edge_of lines p) (first_end lines p)
+          (last_end lines p) k)
       by_side Along e a b =
           ap (λ (n : ℕ). nat_eq n line && nat_eq s.side 0 && step_within (edge_at lines n) (first_place lines vertices s) (second_place lines vertices s) k) h.line
           ∙ ap (λ (n : ℕ). nat_eq p.line line && nat_eq n 0 && step_within (edge_of lines p) (first_place lines vertices s) (second_place lines vertices s) k) e
@@ -37,7 +40,10 @@ module _ (lines : List Edge) (vertices : List Vertex) (line k : ℕ) (p : Piece)
   pub covers_left : seg_covers lines vertices line 1 k s ≡ covers lines line Against k p
   covers_left = by_side p.side h.side h.first h.second
     where
-      by_side : (f : Facing) → s.side ≡ side_number f → first_place lines vertices s ≡ start_of lines f p → second_place lines vertices s ≡ end_of lines f p → seg_covers lines vertices line 1 k s ≡ (nat_eq p.line line && same_side f Against && step_within (edge_of lines p) (first_end lines p) (last_end lines p) k)
+      by_side : (f : Facing) → s.side ≡ side_number f → first_place lines vertices s ≡ start_of lines f p
+          → second_place lines vertices s ≡ end_of lines f p → seg_covers lines vertices line 1 k s
+          ≡ (nat_eq p.line line && same_side f Against
+          && step_within (edge_of lines p) (first_end lines p) (last_end lines p) k)
       by_side Against e a b =
           ap (λ (n : ℕ). nat_eq n line && nat_eq s.side 1 && step_within (edge_at lines n) (second_place lines vertices s) (first_place lines vertices s) k) h.line
           ∙ ap (λ (n : ℕ). nat_eq p.line line && nat_eq n 1 && step_within (edge_of lines p) (second_place lines vertices s) (first_place lines vertices s) k) e
@@ -48,7 +54,9 @@ module _ (lines : List Edge) (vertices : List Vertex) (line k : ℕ) (p : Piece)
           ∙ ap (λ (n : ℕ). nat_eq p.line line && nat_eq n 1 && step_within (edge_of lines p) (second_place lines vertices s) (first_place lines vertices s) k) e
           ∙ gone (nat_eq p.line line) _ _
 
-pub same_counts : {X Y : Type 0} (f : X → Bool) (g : Y → Bool) (xs : List X) (ys : List Y) → length xs ≡ length ys → ((i : ℕ) (y : Y) (x : X) → slice_get ys i ≡ Some y → slice_get xs i ≡ Some x → f x ≡ g y) → count_by f xs ≡ count_by g ys
+pub same_counts : {X Y : Type 0} (f : X → Bool) (g : Y → Bool) (xs : List X) (ys : List Y) → length xs ≡ length ys
+    → ((i : ℕ) (y : Y) (x : X) → slice_get ys i ≡ Some y → slice_get xs i ≡ Some x → f x ≡ g y) → count_by f xs
+    ≡ count_by g ys
 same_counts f g [] [] l h = refl
 same_counts f g [] (y ∷ ys) l h = absurd (omega arith)
 same_counts f g (x ∷ xs) [] l h = absurd (omega arith)

@@ -1,9 +1,12 @@
--- No list that a tree reaches is empty, where the first one isn't.
-use Rattle.std.proofs.Common.{◌≡◌, sym, ap, ◌∙◌, subst, ℕ, ◌<◌, ⊎_elim, List, [], length, Some, None, Bool, true, arith, slice_get, All}
+-- No list that a tree reaches is empty, where the first one isn't; and a tree has no fewer pieces than its first list.
+use Rattle.std.proofs.Common.{◌≡◌, sym, ap, ◌∙◌, subst, ℕ, ◌+◌, ◌<◌, ◌≤◌, ⊎_elim, List, [], ◌∷◌, length, Option, Some, None, Bool, true, cond, arith, slice_get, All}
 use Rattle.std.proofs.lemmas.Int.{ints}
 use Rattle.std.proofs.lemmas.Bool.{cases_lt}
-use Rattle.std.proofs.lemmas.List.Elements.{All-nil, All-cons, All-append, All-get_or}
+use Rattle.std.proofs.lemmas.List.{length-append}
+use Rattle.std.proofs.lemmas.List.Elements.{All-nil, All-cons, All-append, All-get_or, All-head, All-tail}
+use Rattle.std.proofs.lemmas.List.Sums.{sum_by-cons}
 use Rattle.std.specs.Prelude.{ℤ, pos, ◌<ℤ◌, slice_set}
+use Rattle.std.specs.List.{cons_option}
 use Rattle.lv_lumps.proofs.Signs.{linear}
 use Rattle.lv_segs.specs.declared.edge.Edge.{Edge}
 use Rattle.lv_segs.specs.declared.frac.Frac.{Frac}
@@ -11,15 +14,16 @@ use Rattle.lv_segs.specs.declared.piece.Piece.{Piece}
 use Rattle.lv_segs.specs.declared.piece.Parts.{Parts}
 use Rattle.lv_segs.specs.declared.piece.Place.TheVariants.{Right}
 use Rattle.lv_segs.specs.Plane.{vertex_value, dot, IsEdge, LiesOn}
-use Rattle.lv_segs.specs.Fractions.{between}
-use Rattle.lv_segs.specs.Pieces.{no_edge, edge_of, ray_of, IsPiece}
+use Rattle.lv_segs.specs.Fractions.{between, steps_between}
+use Rattle.lv_segs.specs.Pieces.{no_edge, edge_of, ray_of, first_end, covers, cover, IsPiece}
 use Rattle.lv_segs.specs.Division.{value_by, place_by, parts_by, parts_of, right_parts, left_parts}
-use Rattle.lv_segs.specs.Tree.{Tree, Leaf, Branch, Divides, IsReached, leaves, counts}
+use Rattle.lv_segs.specs.Tree.{Tree, Leaf, Branch, Divides, IsReached, leaves, pieces, counts}
 use Rattle.lv_segs.proofs.Lists.{All-at, none_left}
 use Rattle.lv_segs.proofs.Crossing.{zero_everywhere}
 use Rattle.lv_segs.proofs.Lengths.{ray_along}
 use Rattle.lv_segs.proofs.Convex.{on_itself}
-use Rattle.lv_segs.proofs.Trees.{right_reached, left_reached}
+use Rattle.lv_segs.proofs.Steps.{piece_covers}
+use Rattle.lv_segs.proofs.Trees.{right_reached, left_reached, parts_cover}
 use Rattle.lv_nodes.proofs.Counting.{counts_append}
 
 right_if : (u w z : ℤ) → u ≡ pos 0 → w ≡ pos 0 → pos 0 <ℤ z → place_by u w z ≡ Right
@@ -49,10 +53,50 @@ right_some lines all p ok ps i at = ⊎_elim (λ z. absurd (kept (none_left (λ 
     kept e = let g = ap (λ (x : Parts). x.right) (goes_right lines p long) in cc
 
 -- each leaf has a piece
-pub counts_some : (lines : List Edge) → All IsEdge lines → (t : Tree) (ps : List Piece) (used : List Bool) → IsReached lines used ps → 0 < length ps → Divides lines ps used t → All (λ (n : ℕ). 0 < n) (counts t)
+pub counts_some : (lines : List Edge) → All IsEdge lines → (t : Tree) (ps : List Piece) (used : List Bool)
+    → IsReached lines used ps → 0 < length ps → Divides lines ps used t → All (λ (n : ℕ). 0 < n) (counts t)
 counts_some lines all (Leaf qs) ps used r some d = All-cons (λ (n : ℕ). 0 < n) (length qs) [] (let e = ap length d.0 in omega arith) (All-nil (λ (n : ℕ). 0 < n))
 counts_some lines all (Branch p right left) ps used r some d =
     let ok = All-at (IsPiece lines) ps d.0.0 p r.pieces d.0.1.stands in
     let a = counts_some lines all right (right_parts lines p ps) (slice_set used p.line true) (right_reached lines all used ps r p ok) (right_some lines all p ok ps d.0.0 d.0.1.stands) d.1 in
     let b = counts_some lines all left (left_parts lines p ps) (slice_set used p.line true) (left_reached lines all used ps r p ok) d.0.1.candidate.1 d.2 in
     subst (All (λ (n : ℕ). 0 < n)) (sym (counts_append (leaves right) (leaves left))) (All-append (λ (n : ℕ). 0 < n) (counts right) (counts left) a b)
+
+-- each piece leaves a part, on the right or on the left, since it covers a step
+parts_many : (lines : List Edge) → All IsEdge lines → (p : Piece) → IsPiece lines p → (ps : List Piece)
+    → All (IsPiece lines) ps → length ps ≤ length (right_parts lines p ps) + length (left_parts lines p ps)
+parts_many lines all p ok [] h = omega arith
+parts_many lines all p ok (q ∷ qs) h =
+    one (parts_of lines p q).right (parts_of lines p q).left
+    (parts_cover lines all p ok q.line q.side step (q ∷ []) (All-cons (IsPiece lines) q [] hq (All-nil (IsPiece lines))))
+    (parts_many lines all p ok qs (All-tail (IsPiece lines) q qs h))
+  where
+    hq : IsPiece lines q
+    hq = All-head (IsPiece lines) q qs h
+
+    step : ℕ
+    step = steps_between (edge_of lines q).v1 (first_end lines q)
+
+    own : cover lines q.line q.side step (q ∷ []) ≡ 1
+    own = sum_by-cons (λ (z : Piece). cond (covers lines q.line q.side step z) 1 0) q [] ∙ ap (λ (b : Bool). cond b 1 0 + 0) (piece_covers lines q hq)
+
+    one : (a b : Option Piece) → cover lines q.line q.side step (cons_option a [])
+        + cover lines q.line q.side step (cons_option b []) ≡ cover lines q.line q.side step (q ∷ [])
+        → length qs ≤ length (right_parts lines p qs) + length (left_parts lines p qs)
+        → length (q ∷ qs) ≤ length (cons_option a (right_parts lines p qs))
+        + length (cons_option b (left_parts lines p qs))
+    one None None e r = let o = own in absurd (omega arith)
+    one None (Some y) e r = omega arith
+    one (Some x) None e r = omega arith
+    one (Some x) (Some y) e r = omega arith
+
+-- so a tree has no fewer pieces than the list that it divides
+pub tree_many : (lines : List Edge) → All IsEdge lines → (t : Tree) (ps : List Piece) (used : List Bool) → IsReached lines used ps → Divides lines ps used t → length ps ≤ length (pieces t)
+tree_many lines all (Leaf qs) ps used r d = let e = ap length d.0 in omega arith
+tree_many lines all (Branch p right left) ps used r d =
+    let ok = All-at (IsPiece lines) ps d.0.0 p r.pieces d.0.1.stands in
+    let a = tree_many lines all right (right_parts lines p ps) (slice_set used p.line true) (right_reached lines all used ps r p ok) d.1 in
+    let b = tree_many lines all left (left_parts lines p ps) (slice_set used p.line true) (left_reached lines all used ps r p ok) d.2 in
+    let m = parts_many lines all p ok ps r.pieces in
+    let s = length-append (pieces right) (pieces left) in
+    omega arith

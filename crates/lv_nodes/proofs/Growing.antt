@@ -18,7 +18,7 @@ use Rattle.lv_segs.proofs.Trees.{right_reached, left_reached}
 use Rattle.lv_nodes.specs.InRange.{greatest_number}
 use Rattle.lv_nodes.specs.TreeLists.{leaf_count, branch_count, child_of, IsEndOf, HasNodes}
 use Rattle.lv_nodes.specs.Boxed.{IsBoxed}
-use Rattle.lv_nodes.specs.Growth.{Lists, IsStep, HasBoxes, IsGrown, IsRefused, IsDivision, IsLeafPut, IsLeafRefused, IsNodePut}
+use Rattle.lv_nodes.specs.Growth.{Lists, IsListStep, HasBoxes, IsGrown, IsRefused, IsDivision, IsLeafPut, IsLeafRefused, IsNodePut}
 use Rattle.lv_nodes.specs.declared.error.TreeError.{TreeError}
 use Rattle.lv_nodes.specs.declared.error.TreeError.TheVariants.{OutOfMemory, NothingToBuild, TooManyVertices, TooManySegs, TooManySubsectors, TooDeep}
 use Rattle.lv_nodes.specs.declared.boxed.BoxedPieces.{BoxedPieces}
@@ -83,13 +83,17 @@ kept_most {X} {Y} f (x ∷ xs) = by_head (f x) (kept_most f xs)
 -- ---- over a division
 module _ (lines : List Edge) (ps : List Piece) (used : List Bool) (p : Piece) (right left : List Piece) (d : IsDivision lines ps used p right left) where
   -- a tree of a list that is divided is a branch of the partition
-  by_branch : (Q : Tree → Type 0) → ((r l : Tree) → Divides lines right (slice_set used p.line true) r → Divides lines left (slice_set used p.line true) l → Q (Branch p r l)) → (t : Tree) → Divides lines ps used t → Q t
+  by_branch : (Q : Tree → Type 0) → ((r l : Tree) → Divides lines right (slice_set used p.line true) r
+      → Divides lines left (slice_set used p.line true) l → Q (Branch p r l)) → (t : Tree) → Divides lines ps used t
+      → Q t
   by_branch Q f (Leaf qs) h = absurd (h.1 d.place p d.best.stands d.best.candidate)
   by_branch Q f (Branch q r l) h =
       let e : q ≡ p = one_best lines ps used h.0.0 d.place q p h.0.1 d.best in
       let a : Divides lines (right_parts lines p ps) (slice_set used p.line true) r = subst (λ (x : Piece). Divides lines (right_parts lines x ps) (slice_set used x.line true) r) e h.1 in
       let b : Divides lines (left_parts lines p ps) (slice_set used p.line true) l = subst (λ (x : Piece). Divides lines (left_parts lines x ps) (slice_set used x.line true) l) e h.2 in
-      subst (λ (x : Piece). Q (Branch x r l)) (sym e) (f r l (subst (λ (x : List Piece). Divides lines x (slice_set used p.line true) r) (sym d.right_is) a) (subst (λ (x : List Piece). Divides lines x (slice_set used p.line true) l) (sym d.left_is) b))
+      subst (λ (x : Piece). Q (Branch x r l)) (sym e)
+      (f r l (subst (λ (x : List Piece). Divides lines x (slice_set used p.line true) r) (sym d.right_is) a)
+      (subst (λ (x : List Piece). Divides lines x (slice_set used p.line true) l) (sym d.left_is) b))
 
   module _ (all : All IsEdge lines) (reached : IsReached lines used ps) where
     pub partition_is : IsPiece lines p
@@ -125,7 +129,9 @@ module _ (lines : List Edge) (ps : List Piece) (used : List Bool) (p : Piece) (r
   refused_right room old NothingToBuild h = h
   refused_right room old TooManyVertices h = h
   refused_right room old TooManySegs h = by_branch (λ t. greatest_number < length old.segs + length (pieces t)) (λ r l x y. let k = h r x in let a = length-append (pieces r) (pieces l) in omega arith)
-  refused_right room old TooManySubsectors h = by_branch (λ t. greatest_number < length old.sizes + length (leaves t)) (λ r l x y. let k = h r x in let a = length-append (leaves r) (leaves l) in omega arith)
+  refused_right room old TooManySubsectors h =
+      by_branch (λ t. greatest_number < length old.sizes + length (leaves t))
+      (λ r l x y. let k = h r x in let a = length-append (leaves r) (leaves l) in omega arith)
   refused_right room old TooDeep h = by_branch (λ t. room < depth t) (λ r l x y. let k = h r x in omega arith)
 
   module _ (room : ℕ) (old mid : Lists) (on_right : Child) (g : IsGrown lines right (slice_set used p.line true) (room - 1) old mid on_right) where
@@ -149,8 +155,15 @@ module _ (lines : List Edge) (ps : List Piece) (used : List Bool) (p : Piece) (r
     refused_left OutOfMemory h = tt
     refused_left NothingToBuild h = h
     refused_left TooManyVertices h = h
-    refused_left TooManySegs h = by_branch (λ t. greatest_number < length old.segs + length (pieces t)) (λ r l x y. let k = h l y in let a = length-append (pieces r) (pieces l) in let b = ap (λ (t : Tree). length (pieces t)) (same_right r x) in let c = segs_mid in omega arith)
-    refused_left TooManySubsectors h = by_branch (λ t. greatest_number < length old.sizes + length (leaves t)) (λ r l x y. let k = h l y in let a = length-append (leaves r) (leaves l) in let b = ap (λ (t : Tree). length (leaves t)) (same_right r x) in let c = sizes_mid in let m = leaves_many g.tree in omega arith)
+    refused_left TooManySegs h =
+        by_branch (λ t. greatest_number < length old.segs + length (pieces t))
+        (λ r l x y. let k = h l y in let a = length-append (pieces r) (pieces l) in let b =
+        ap (λ (t : Tree). length (pieces t)) (same_right r x) in let c = segs_mid in omega arith)
+    refused_left TooManySubsectors h =
+        by_branch (λ t. greatest_number < length old.sizes + length (leaves t))
+        (λ r l x y. let k = h l y in let a = length-append (leaves r) (leaves l) in let b =
+        ap (λ (t : Tree). length (leaves t)) (same_right r x) in let c = sizes_mid in let m =
+        leaves_many g.tree in omega arith)
     refused_left TooDeep h = by_branch (λ t. room < depth t) (λ r l x y. let k = h l y in omega arith)
 
     -- ---- a node
@@ -175,7 +188,8 @@ module _ (lines : List Edge) (ps : List Piece) (used : List Bool) (p : Piece) (r
           omega arith
 
       left_nodes : HasNodes lines h.tree (length old.sizes + leaf_count g.tree) (length old.nodes + branch_count g.tree) h.below
-      left_nodes = subst (λ (s : ℕ). HasNodes lines h.tree s (length old.nodes + branch_count g.tree) h.below) sizes_mid (subst (λ (n : ℕ). HasNodes lines h.tree (length mid.sizes) n h.below) nodes_mid h.has_nodes)
+      left_nodes = subst (λ (s : ℕ). HasNodes lines h.tree s (length old.nodes + branch_count g.tree) h.below) sizes_mid
+          (subst (λ (n : ℕ). HasNodes lines h.tree (length mid.sizes) n h.below) nodes_mid h.has_nodes)
 
       left_number : on_left.number ≡ child_of h.tree (length old.sizes + leaf_count g.tree) (length old.nodes + branch_count g.tree)
       left_number = h.number ∙ ap (λ (s : ℕ). child_of h.tree s (length mid.nodes)) sizes_mid ∙ ap (child_of h.tree (length old.sizes + leaf_count g.tree)) nodes_mid
@@ -186,12 +200,35 @@ module _ (lines : List Edge) (ps : List Piece) (used : List Bool) (p : Piece) (r
           let b = h.shallow in
           record {
             tree = Branch p g.tree h.tree;
-            divides = ((d.place, d.best), subst (λ (x : List Piece). Divides lines x (slice_set used p.line true) g.tree) d.right_is g.divides, subst (λ (x : List Piece). Divides lines x (slice_set used p.line true) h.tree) d.left_is h.divides);
+            divides = (
+              (d.place, d.best),
+              subst (λ (x : List Piece).
+                  Divides lines x (slice_set used p.line true) g.tree) d.right_is g.divides,
+              subst (λ (x : List Piece). Divides lines x (slice_set used p.line true) h.tree) d.left_is h.divides,
+            );
             segs = put.segs ∙ h.segs ∙ ap (λ (x : List Piece). x ++ pieces h.tree) g.segs ∙ append_assoc old.segs (pieces g.tree) (pieces h.tree);
-            sizes = put.sizes ∙ h.sizes ∙ ap (λ (x : List ℕ). x ++ counts h.tree) g.sizes ∙ append_assoc old.sizes (counts g.tree) (counts h.tree) ∙ ap (λ (x : List ℕ). old.sizes ++ x) (sym (counts_append (leaves g.tree) (leaves h.tree)));
+            sizes = put.sizes ∙ h.sizes ∙ ap (λ (x : List ℕ). x ++ counts h.tree) g.sizes
+                ∙ append_assoc old.sizes (counts g.tree) (counts h.tree)
+                ∙ ap (λ (x : List ℕ). old.sizes ++ x) (sym (counts_append (leaves g.tree) (leaves h.tree)));
             below = g.below ++ h.below ++ put.node ∷ [];
-            nodes = put.nodes ∙ ap (λ (x : List Node). x ++ put.node ∷ []) (h.nodes ∙ ap (λ (x : List Node). x ++ h.below) g.nodes ∙ append_assoc old.nodes g.below h.below) ∙ append_assoc old.nodes (g.below ++ h.below) (put.node ∷ []);
-            has_nodes = (g.below, h.below, put.node, refl, g.has_nodes, left_nodes, put.along, put.right_is ∙ g.number, put.left_is ∙ left_number, subst (λ (b : Bounds). IsLeastBox b (IsEndOf lines (pieces g.tree))) (sym put.right_box) g.bounds, subst (λ (b : Bounds). IsLeastBox b (IsEndOf lines (pieces h.tree))) (sym put.left_box) h.bounds);
+            nodes = put.nodes ∙ ap (λ (x : List Node). x ++ put.node ∷ [])
+                (h.nodes ∙ ap (λ (x : List Node). x ++ h.below) g.nodes ∙ append_assoc old.nodes g.below h.below)
+                ∙ append_assoc old.nodes (g.below ++ h.below) (put.node ∷ []);
+            has_nodes = (
+              g.below,
+              h.below,
+              put.node,
+              refl,
+              g.has_nodes,
+              left_nodes,
+              put.along,
+              put.right_is ∙ g.number,
+              put.left_is ∙ left_number,
+              subst (λ (b : Bounds). IsLeastBox b (IsEndOf lines (pieces g.tree)))
+                  (sym put.right_box) g.bounds,
+              subst (λ (b : Bounds). IsLeastBox b (IsEndOf lines (pieces h.tree)))
+                  (sym put.left_box) h.bounds,
+            );
             number = put.number ∙ end_nodes;
             bounds = joined_pieces lines on_right.bounds on_left.bounds child.bounds (pieces g.tree) (pieces h.tree) g.bounds h.bounds put.bounds;
             shallow = omega arith;
@@ -200,14 +237,16 @@ module _ (lines : List Edge) (ps : List Piece) (used : List Bool) (p : Piece) (r
           }
 
 -- ---- what a step says
-pub division_of : (lines : List Edge) (ps : List Piece) (used : List Bool) (s : Step) (p : Piece) (right left : BoxedPieces) → s ≡ StepParts p right left → IsStep lines ps used s → IsDivision lines ps used p right.pieces.items left.pieces.items
-division_of lines ps used s p right left f h = subst (IsStep lines ps used) f h
+pub division_of : (lines : List Edge) (ps : List Piece) (used : List Bool) (s : Step) (p : Piece)
+    (right left : BoxedPieces) → s ≡ StepParts p right left → IsListStep lines ps used s
+    → IsDivision lines ps used p right.pieces.items left.pieces.items
+division_of lines ps used s p right left f h = subst (IsListStep lines ps used) f h
 
 pub boxes_are : (lines : List Edge) (s : Step) (p : Piece) (right left : BoxedPieces) → s ≡ StepParts p right left → HasBoxes lines s → IsBoxed lines right × IsBoxed lines left
 boxes_are lines s p right left f h = subst (HasBoxes lines) f h
 
-pub leaf_of : (lines : List Edge) (ps : List Piece) (used : List Bool) (s : Step) (leaf : Vec Piece Global) → s ≡ StepLeaf leaf → IsStep lines ps used s → (leaf.items ≡ ps) × HasNoChoice lines ps used
-leaf_of lines ps used s leaf f h = subst (IsStep lines ps used) f h
+pub leaf_of : (lines : List Edge) (ps : List Piece) (used : List Bool) (s : Step) (leaf : Vec Piece Global) → s ≡ StepLeaf leaf → IsListStep lines ps used s → (leaf.items ≡ ps) × HasNoChoice lines ps used
+leaf_of lines ps used s leaf f h = subst (IsListStep lines ps used) f h
 
 -- ---- what a result says
 pub ok_by : {T E : Type 0} (r : Result T E) (P Q : T → Type 0) → ((x : T) → P x → Q x) → IfOk r P → IfOk r Q

@@ -53,7 +53,17 @@ pub record IsSplit (xs ys : List ℕ) (b : ℕ) (ts : List Sub) : Type 0 where
   pub vs_follow : FollowsFrom (b + total xs) vs
 
 pub split_subs : (xs ys : List ℕ) (b : ℕ) (ts : List Sub) → count_list ts ≡ xs ++ ys → FollowsFrom b ts → IsSplit xs ys b ts
-split_subs [] ys b ts e f = record { us = []; vs = ts; whole = refl; us_counts = refl; vs_counts = e; us_follow = tt; vs_follow = let z : b ≡ b + 0 = omega arith in subst (λ (k : ℕ). FollowsFrom k ts) z f }
+split_subs [] ys b ts e f =
+    record {
+      us = [];
+      vs = ts;
+      whole = refl;
+      us_counts = refl;
+      vs_counts = e;
+      us_follow = tt;
+      vs_follow = let z : b ≡ b
+          + 0 = omega arith in subst (λ (k : ℕ). FollowsFrom k ts) z f;
+    }
 split_subs (x ∷ xs) ys b [] e f = cc
 split_subs (x ∷ xs) ys b (t ∷ ts) e f =
     let c : t.count ≡ x = cc in
@@ -87,7 +97,8 @@ module _ (nodes : List Node) (subs : List Sub) (lines : List Edge) where
       let c : sub.count ≡ length ps = cc in
       (sub, ap (slice_get subs) z ∙ h 0 sub refl, f.0, c)
 
-  pub laid : (t : Tree) (s n b : ℕ) (ns : List Node) (ts : List Sub) → HasNodes lines t s n ns → StandsAt ns nodes n → count_list ts ≡ counts t → FollowsFrom b ts → StandsAt ts subs s → IsLaid nodes subs lines t s n b
+  pub laid : (t : Tree) (s n b : ℕ) (ns : List Node) (ts : List Sub) → HasNodes lines t s n ns → StandsAt ns nodes n
+      → count_list ts ≡ counts t → FollowsFrom b ts → StandsAt ts subs s → IsLaid nodes subs lines t s n b
   laid (Leaf ps) s n b ns ts h at e f g = laid_leaf ps s n b ts e f g
   laid (Branch p right left) s n b ns ts h at e f g =
       let d = split_subs (counts right) (counts left) b ts (e ∙ counts_append (leaves right) (leaves left)) f in
@@ -103,6 +114,9 @@ module _ (nodes : List Node) (subs : List Sub) (lines : List Edge) where
       let last : StandsAt (h.2 ∷ []) nodes (n + branch_count right + branch_count left) = stands_right (h.0 ++ h.1) (h.2 ∷ []) nodes n (n + branch_count right + branch_count left) (omega arith) all in
       let y : n + branch_count right + branch_count left ≡ n + branch_count right + branch_count left + 0 = omega arith in (
         laid right s n b h.0 d.us h.4 (stands_left h.0 h.1 nodes n below) d.us_counts d.us_follow (stands_left d.us d.vs subs s whole),
-        laid left (s + leaf_count right) (n + branch_count right) (b + length (pieces right)) h.1 d.vs h.5 (stands_right h.0 h.1 nodes n (n + branch_count right) (omega arith) below) d.vs_counts (subst (λ (k : ℕ). FollowsFrom k d.vs) z d.vs_follow) (stands_right d.us d.vs subs s (s + leaf_count right) (omega arith) whole),
+        laid left (s + leaf_count right) (n + branch_count right) (b + length (pieces right)) h.1 d.vs h.5
+            (stands_right h.0 h.1 nodes n (n + branch_count right) (omega arith) below) d.vs_counts
+            (subst (λ (k : ℕ). FollowsFrom k d.vs) z d.vs_follow)
+            (stands_right d.us d.vs subs s (s + leaf_count right) (omega arith) whole),
         (h.2, (ap (slice_get nodes) y ∙ last 0 h.2 refl, h.6, h.7, h.8, h.9, h.10)),
       )

@@ -48,7 +48,8 @@ pub all_by : {X : Type 0} (P : X → Type 0) (xs : List X) → ((k : ℕ) (x : X
 all_by P [] f = All-nil P
 all_by P (x ∷ xs) f = All-cons P x xs (f 0 x refl) (all_by P xs (λ k y e. f (suc k) y e))
 
-module _ (lines : List Edge) (vertices : List Vertex) (segs : List Seg) (subs : List Sub) (nodes : List Node) (whole : List Piece) (as_segs : AreSegsOf lines vertices whole segs) (ok : All (IsPiece lines) whole) where
+module _ (lines : List Edge) (vertices : List Vertex) (segs : List Seg) (subs : List Sub) (nodes : List Node)
+    (whole : List Piece) (as_segs : AreSegsOf lines vertices whole segs) (ok : All (IsPiece lines) whole) where
   pub record IsSegIn (ps : List Piece) (s : Seg) (j : ℕ) : Type 0 where
     pub piece : Piece
     pub stands : slice_get ps j ≡ Some piece
@@ -66,18 +67,22 @@ module _ (lines : List Edge) (vertices : List Vertex) (segs : List Seg) (subs : 
   first_sided : (q : Piece) (s : Seg) → IsSegOf lines vertices q s → (v : Vertex) → v ≡ first_end lines q → (v ≡ first_place lines vertices s) ⊎ (v ≡ second_place lines vertices s)
   first_sided q s h v e = by_side q.side h.first h.second
     where
-      by_side : (f : Facing) → first_place lines vertices s ≡ start_of lines f q → second_place lines vertices s ≡ end_of lines f q → (v ≡ first_place lines vertices s) ⊎ (v ≡ second_place lines vertices s)
+      by_side : (f : Facing) → first_place lines vertices s ≡ start_of lines f q → second_place lines vertices s
+          ≡ end_of lines f q → (v ≡ first_place lines vertices s) ⊎ (v ≡ second_place lines vertices s)
       by_side Along a b = inl (e ∙ sym a)
       by_side Against a b = inr (e ∙ sym b)
 
   last_sided : (q : Piece) (s : Seg) → IsSegOf lines vertices q s → (v : Vertex) → v ≡ last_end lines q → (v ≡ first_place lines vertices s) ⊎ (v ≡ second_place lines vertices s)
   last_sided q s h v e = by_side q.side h.first h.second
     where
-      by_side : (f : Facing) → first_place lines vertices s ≡ start_of lines f q → second_place lines vertices s ≡ end_of lines f q → (v ≡ first_place lines vertices s) ⊎ (v ≡ second_place lines vertices s)
+      by_side : (f : Facing) → first_place lines vertices s ≡ start_of lines f q → second_place lines vertices s
+          ≡ end_of lines f q → (v ≡ first_place lines vertices s) ⊎ (v ≡ second_place lines vertices s)
       by_side Along a b = inr (e ∙ sym b)
       by_side Against a b = inl (e ∙ sym a)
 
-  sided_back : (q : Piece) (s : Seg) → IsSegOf lines vertices q s → (v : Vertex) → ((v ≡ first_place lines vertices s) ⊎ (v ≡ second_place lines vertices s)) → (v ≡ first_end lines q) ⊎ (v ≡ last_end lines q)
+  sided_back : (q : Piece) (s : Seg) → IsSegOf lines vertices q s → (v : Vertex)
+      → ((v ≡ first_place lines vertices s) ⊎ (v ≡ second_place lines vertices s)) → (v ≡ first_end lines q)
+      ⊎ (v ≡ last_end lines q)
   sided_back q s h v o = by_side q.side h.first h.second
     where
       by_side : (f : Facing) → first_place lines vertices s ≡ start_of lines f q → second_place lines vertices s ≡ end_of lines f q → (v ≡ first_end lines q) ⊎ (v ≡ last_end lines q)
@@ -102,15 +107,22 @@ module _ (lines : List Edge) (vertices : List Vertex) (segs : List Seg) (subs : 
         (o.0 - b, g.piece, g.stands, sided_back g.piece o.1 g.is v o.4)
 
     pub box_below : (c : Bounds) (child : ℕ) → child ≡ child_of t s n → IsLeastBox c (IsEndOf lines (pieces t)) → IsLeastBox c (IsEndBelow lines vertices segs subs nodes child)
-    box_below c child e k = subst (λ (x : ℕ). IsLeastBox c (IsEndBelow lines vertices segs subs nodes x)) (sym e) (same_box c (IsEndOf lines (pieces t)) (IsEndBelow lines vertices segs subs nodes (child_of t s n)) ends_below ends_back k)
+    box_below c child e k =
+        subst (λ (x : ℕ). IsLeastBox c (IsEndBelow lines vertices segs subs nodes x)) (sym e)
+        (same_box c (IsEndOf lines (pieces t)) (IsEndBelow lines vertices segs subs nodes
+        (child_of t s n)) ends_below ends_back k)
 
-    pub right_below : (p : Piece) (r : Ray) (child : ℕ) → r ≡ ray_of lines p → child ≡ child_of t s n → All (LiesInRight lines p) (pieces t) → (i : ℕ) (g : Seg) → Below nodes subs child i → slice_get segs i ≡ Some g → SegLiesRight lines vertices r g
+    pub right_below : (p : Piece) (r : Ray) (child : ℕ) → r ≡ ray_of lines p → child ≡ child_of t s n
+        → All (LiesInRight lines p) (pieces t) → (i : ℕ) (g : Seg) → Below nodes subs child i → slice_get segs i
+        ≡ Some g → SegLiesRight lines vertices r g
     right_below p r child re ce l i g w e =
         let k = below_range nodes subs lines t s n b i few h (subst (λ (x : ℕ). Below nodes subs x i) ce w) in
         let q = seg_at (pieces t) b i g at k.0 k.1 e in
         subst (λ (x : Ray). SegLiesRight lines vertices x g) (sym re) (seg_right lines vertices p q.piece g q.is q.valid (All-at (LiesInRight lines p) (pieces t) (i - b) q.piece l q.stands))
 
-    pub left_below : (p : Piece) (r : Ray) (child : ℕ) → r ≡ ray_of lines p → child ≡ child_of t s n → All (LiesInLeft lines p) (pieces t) → (i : ℕ) (g : Seg) → Below nodes subs child i → slice_get segs i ≡ Some g → SegLiesLeft lines vertices r g
+    pub left_below : (p : Piece) (r : Ray) (child : ℕ) → r ≡ ray_of lines p → child ≡ child_of t s n
+        → All (LiesInLeft lines p) (pieces t) → (i : ℕ) (g : Seg) → Below nodes subs child i → slice_get segs i ≡ Some g
+        → SegLiesLeft lines vertices r g
     left_below p r child re ce l i g w e =
         let k = below_range nodes subs lines t s n b i few h (subst (λ (x : ℕ). Below nodes subs x i) ce w) in
         let q = seg_at (pieces t) b i g at k.0 k.1 e in
@@ -122,7 +134,9 @@ module _ (lines : List Edge) (vertices : List Vertex) (segs : List Seg) (subs : 
     pub stands : slice_get nodes k ≡ Some node
     pub parts : IsParting lines vertices segs subs nodes node
 
-  pub partings : (t : Tree) (s n b : ℕ) → n + branch_count t ≤ 32768 → IsLaid nodes subs lines t s n b → StandsAt (pieces t) whole b → HavePieces lines t → IsParted lines t → (k : ℕ) → n ≤ k → k < n + branch_count t → PartsAt k
+  pub partings : (t : Tree) (s n b : ℕ) → n + branch_count t ≤ 32768 → IsLaid nodes subs lines t s n b
+      → StandsAt (pieces t) whole b → HavePieces lines t → IsParted lines t → (k : ℕ) → n ≤ k → k < n + branch_count t
+      → PartsAt k
   partings (Leaf ps) s n b few h at own parted k lo hi = absurd (omega arith)
   partings (Branch p right left) s n b few h at own parted k lo hi =
       let at_right : StandsAt (pieces right) whole b = stands_left (pieces right) (pieces left) whole b at in
@@ -157,7 +171,8 @@ module _ (lines : List Edge) (vertices : List Vertex) (segs : List Seg) (subs : 
     pub stands : slice_get subs m ≡ Some sub
     pub convex : IsConvexSub lines vertices segs sub
 
-  leaf_at : (ps : List Piece) (s b : ℕ) (sub : Sub) → slice_get subs s ≡ Some sub → sub.first ≡ b → sub.count ≡ length ps → StandsAt ps whole b → IsConvex lines ps → IsConvexSub lines vertices segs sub
+  leaf_at : (ps : List Piece) (s b : ℕ) (sub : Sub) → slice_get subs s ≡ Some sub → sub.first ≡ b → sub.count
+      ≡ length ps → StandsAt ps whole b → IsConvex lines ps → IsConvexSub lines vertices segs sub
   leaf_at ps s b sub e f c at convex = λ i j g k hi hj gi gj.
       let lo = hi.0 in
       let up = hi.1 in

@@ -17,7 +17,8 @@ get_cases [] ys i x e = inr (i, omega arith, e)
 get_cases (y ∷ xs) ys zero x e = inl e
 get_cases {X} (y ∷ xs) ys (suc i) x e = by_rest (get_cases xs ys i x e)
   where
-    by_rest : ((slice_get xs i ≡ Some x) ⊎ ((k : ℕ) × (i ≡ length xs + k) × (slice_get ys k ≡ Some x))) → (slice_get (y ∷ xs) (suc i) ≡ Some x) ⊎ ((k : ℕ) × (suc i ≡ length (y ∷ xs) + k) × (slice_get ys k ≡ Some x))
+    by_rest : ((slice_get xs i ≡ Some x) ⊎ ((k : ℕ) × (i ≡ length xs + k) × (slice_get ys k ≡ Some x)))
+        → (slice_get (y ∷ xs) (suc i) ≡ Some x) ⊎ ((k : ℕ) × (suc i ≡ length (y ∷ xs) + k) × (slice_get ys k ≡ Some x))
     by_rest = ⊎_elim (λ s. inl s) (λ s. inr (s.0, (let e = s.1 in omega arith), s.2))
 
 -- the one place of a list of one

@@ -1,5 +1,5 @@
--- A sound tree's references lie in their lists; its parts make up a built tree of a map.
-use Rattle.std.proofs.Common.{◌≡◌, ◌≢◌, refl, sym, ap, ◌∙◌, subst, ℕ, zero, suc, ◌+◌, ◌<◌, ◌≤◌, ◌⊎◌, inl, inr, ⊎_elim, List, [], ◌∷◌, length, map, Bool, true, false, Some, arith, slice_get, Result, Ok, Err, IfOk, IfErr}
+-- A sound tree's references lie in their lists; what is built over a map's lines is built of the map.
+use Rattle.std.proofs.Common.{◌≡◌, ◌≢◌, refl, sym, ap, ◌∙◌, subst, ℕ, zero, suc, ◌+◌, ◌<◌, ◌≤◌, ◌⊎◌, inl, inr, ⊎_elim, List, [], ◌∷◌, ◌++◌, length, map, Bool, true, false, Some, arith, slice_get, Result, Ok, Err, IfOk, IfErr}
 use Rattle.std.specs.Prelude.{count_by, nat_eq, nat_lt, ◌==◌, ◌&&◌, not, IsTrue, AllPairs}
 use Rattle.std.proofs.lemmas.Bool.{cases_eq, cases_lt, cases_order, eq-eqb, ne_eqb, lt-ltb}
 use Rattle.std.proofs.lemmas.Option.{slice_get_within}
@@ -14,16 +14,16 @@ use Rattle.lv_segs.specs.declared.edge.Edge.{Edge}
 use Rattle.lv_segs.specs.Pieces.{edge_at}
 use Rattle.lv_segs.proofs.FirstList.{index_is}
 use Rattle.lv_segs.proofs.Lists.{All-at}
-use Rattle.lv_segs.specs.Edges.{edge_between, edges_of}
+use Rattle.lv_segs.specs.Edges.{edge_between, edges_in, edges_of}
 use Rattle.lv_nodes.specs.References.{HasPlaces, IsChild, AreTree, times_child, subsector}
 use Rattle.lv_nodes.specs.InRange.{sub_bit, SegInRange, ChildInRange, TreeInRange, times_sub, times_node, below_each}
-use Rattle.lv_nodes.specs.Sound.{AllDiffer, IsSound, IsSmall, IsBuiltOf}
-use Rattle.lv_nodes.specs.Refusals.{IsBuildRefused}
-use Rattle.lv_nodes.specs.Built.{IsBuilt, IsTreeRefusal}
+use Rattle.lv_nodes.specs.Sound.{AllDiffer, AreNew, IsSound}
+use Rattle.lv_nodes.specs.Built.{IsBuilt, IsBuiltOver, IsRefusalOver, IsTreeRefusal}
 use Rattle.lv_nodes.specs.declared.built.Built.{Built}
 use Rattle.lv_nodes.specs.declared.error.TreeError.{TreeError}
-use Rattle.lv_nodes.specs.declared.error.TreeError.TheVariants.{OutOfMemory, NothingToBuild, TooManyVertices, TooManySegs, TooManySubsectors, TooDeep}
+use Rattle.lv_nodes.specs.declared.error.TreeError.TheVariants.{NothingToBuild}
 use Rattle.lv_nodes.proofs.Below.{at_place}
+use Rattle.lv_nodes.proofs.Numbering.{old_or_new}
 use Rattle.lv_nodes.proofs.Covering.{same_counts}
 use Rattle.lv_nodes.proofs.Partings.{all_by}
 
@@ -42,7 +42,10 @@ same_test : (c x : ℕ) → (c == x) ≡ nat_eq x c
 same_test c x = ⊎_elim (λ e. eq-eqb c x e ∙ sym (eq-eqb x c (sym e))) (λ n. ne_eqb c x n ∙ sym (ne_eqb x c (λ e. n (sym e)))) (cases_eq c x)
 
 node_test : (c i : ℕ) → i < sub_bit → (nat_lt c sub_bit && (c == i)) ≡ nat_eq i c
-node_test c i l = ⊎_elim (λ e. ap (λ (b : Bool). b && (c == i)) (lt-ltb c sub_bit (omega arith)) ∙ same_test c i) (λ n. ap (λ (b : Bool). nat_lt c sub_bit && b) (ne_eqb c i n) ∙ nothing (nat_lt c sub_bit) ∙ sym (ne_eqb i c (λ e. n (sym e)))) (cases_eq c i)
+node_test c i l =
+    ⊎_elim (λ e. ap (λ (b : Bool). b && (c == i)) (lt-ltb c sub_bit (omega arith)) ∙ same_test c i)
+    (λ n. ap (λ (b : Bool). nat_lt c sub_bit && b) (ne_eqb c i n) ∙ nothing (nat_lt c sub_bit)
+    ∙ sym (ne_eqb i c (λ e. n (sym e)))) (cases_eq c i)
   where
     nothing : (b : Bool) → (b && false) ≡ false
     nothing true = refl
@@ -78,26 +81,26 @@ some_sub_of subs nodes t = ⊎_elim (λ z. let o = t.one_sub z in omega arith) (
     of_first : ((x : Node) × (slice_get nodes 0 ≡ Some x)) → 0 < length subs
     of_first g = ⊎_elim (λ l. absurd (omega arith)) (λ a. let m = a.1 in omega arith) (t.right 0 g.0 g.1)
 
--- ---- over the lines of a map
-module _ (m : Tables) where
-  mapped : (ls : List Line) (n : ℕ) (l : Line) → slice_get ls n ≡ Some l → edge_at (map (edge_between m.vertices) ls) n ≡ edge_between m.vertices l
+-- ---- over lines of a list
+module _ (drawn : List Vertex) (lines : List Line) where
+  mapped : (ls : List Line) (n : ℕ) (l : Line) → slice_get ls n ≡ Some l → edge_at (map (edge_between drawn) ls) n ≡ edge_between drawn l
   mapped [] n l e = cc
-  mapped (x ∷ ls) zero l e = let s : x ≡ l = cc in ap (edge_between m.vertices) s
+  mapped (x ∷ ls) zero l e = let s : x ≡ l = cc in ap (edge_between drawn) s
   mapped (x ∷ ls) (suc n) l e = mapped ls n l e
 
-  pub edges_many : (ls : List Line) → length (map (edge_between m.vertices) ls) ≡ length ls
+  pub edges_many : (ls : List Line) → length (map (edge_between drawn) ls) ≡ length ls
   edges_many [] = refl
   edges_many (l ∷ ls) = ap suc (edges_many ls)
 
-  left_there : (n : ℕ) → IsTrue (edge_at (edges_of m) n).has_left → (l : Line) → slice_get m.lines n ≡ Some l → l.left ≢ no_side
-  left_there n t l at = λ e. by_test (ap (λ (x : Edge). x.has_left) (mapped m.lines n l at)) (eq-eqb l.left no_side e)
+  left_there : (n : ℕ) → IsTrue (edge_at (edges_in drawn lines) n).has_left → (l : Line) → slice_get lines n ≡ Some l → l.left ≢ no_side
+  left_there n t l at = λ e. by_test (ap (λ (x : Edge). x.has_left) (mapped lines n l at)) (eq-eqb l.left no_side e)
     where
-      by_test : (edge_at (edges_of m) n).has_left ≡ not (l.left == no_side) → (l.left == no_side) ≡ true → ⊥
+      by_test : (edge_at (edges_in drawn lines) n).has_left ≡ not (l.left == no_side) → (l.left == no_side) ≡ true → ⊥
       by_test e f = let g = ap not f in cc
 
-  seg_in_range : (vertices : List Vertex) (s : Seg) → HasPlaces (edges_of m) vertices s → SegInRange vertices m.lines s
+  seg_in_range : (vertices : List Vertex) (s : Seg) → HasPlaces (edges_in drawn lines) vertices s → SegInRange vertices lines s
   seg_in_range vertices s h =
-      let c = edges_many m.lines in
+      let c = edges_many lines in
       let l = h.line.0 in
       record {
         first = record { among = h.first.0; small = h.first.1 };
@@ -106,13 +109,14 @@ module _ (m : Tables) where
         side = ⊎_elim (λ z. inl z) (λ o. inr (o.0, left_there s.line o.1)) h.side;
       }
 
-  tree_in_range : (vertices : List Vertex) (segs : List Seg) (subs : List Sub) (nodes : List Node) → IsSound (edges_of m) m.vertices vertices segs subs nodes → TreeInRange vertices m.lines segs subs nodes
+  pub tree_in_range : (vertices : List Vertex) (segs : List Seg) (subs : List Sub) (nodes : List Node)
+      → IsSound (edges_in drawn lines) drawn vertices segs subs nodes → TreeInRange vertices lines segs subs nodes
   tree_in_range vertices segs subs nodes h =
       let t = h.tree in
       let nf = t.nodes_few in
       let sf = t.subs_few in
       record {
-        segs = all_by (SegInRange vertices m.lines) segs (λ i s e. seg_in_range vertices s (All-at (HasPlaces (edges_of m) vertices) segs i s h.places e));
+        segs = all_by (SegInRange vertices lines) segs (λ i s e. seg_in_range vertices s (All-at (HasPlaces (edges_in drawn lines) vertices) segs i s h.places e));
         tiles = h.tiles;
         node_children = λ i n e. let w = slice_get_within nodes i n e in (child_in_range subs i n.right (omega arith) sf (t.right i n e), child_in_range subs i n.left (omega arith) sf (t.left i n e));
         some_sub = some_sub_of subs nodes t;
@@ -123,41 +127,34 @@ module _ (m : Tables) where
       more : (length nodes ≡ 0 → ⊥) → 0 < length nodes
       more n = ⊎_elim (λ l. absurd (n (omega arith))) (λ l. l) (cases_lt (length nodes) 1)
 
-  -- the parts of a built tree
-  pub is_built : (b : Built) → 0 < length m.lines → IsSound (edges_of m) m.vertices b.vertices.items b.segs.items b.subs.items b.nodes.items → IsBuiltOf (edges_of m) b.vertices.items b.segs.items b.subs.items b.nodes.items → IsSmall b.vertices.items b.segs.items b.subs.items b.nodes.items → IsBuilt m b
-  is_built b some h of_tree small = record {
-    some_line = some;
-    small = small;
-    added = h.added_ends;
-    in_range = tree_in_range b.vertices.items b.segs.items b.subs.items b.nodes.items h;
-    along = h.run_along;
-    fields = h.fields;
-    convex = h.convex;
-    partings = h.partings;
-    of_tree = of_tree;
-  }
+-- ---- what the build over the edges says of the map
+pub built_result : (m : Tables) (lines : List Edge) (drawn : List Vertex) (r : Result Built TreeError) → lines
+    ≡ edges_of m → drawn ≡ m.vertices → IfOk r (IsBuiltOver lines drawn) → IfOk r (λ (b : Built). IsBuilt m b)
+built_result m lines drawn (Ok b) e f h = subst (λ (x : List Edge). IsBuiltOver x m.vertices b) e (subst (λ (d : List Vertex). IsBuiltOver lines d b) f h)
+built_result m lines drawn (Err x) e f h = tt
 
-  -- the causes
-  pub refusal_of : (e : TreeError) → IsBuildRefused (edges_of m) m.vertices e → IsTreeRefusal m e
-  refusal_of OutOfMemory h = tt
-  refusal_of NothingToBuild h = absurd h
-  refusal_of TooManyVertices h = h
-  refusal_of TooManySegs h = h
-  refusal_of TooManySubsectors h = h
-  refusal_of TooDeep h = h
+pub refused_result : (m : Tables) (lines : List Edge) (drawn : List Vertex) (r : Result Built TreeError) → lines
+    ≡ edges_of m → drawn ≡ m.vertices → IfErr r (IsRefusalOver lines drawn) → IfErr r (IsTreeRefusal m)
+refused_result m lines drawn (Ok b) e f h = tt
+refused_result m lines drawn (Err x) e f h = subst (λ (ls : List Edge). IsRefusalOver ls m.vertices x) e (subst (λ (d : List Vertex). IsRefusalOver lines d x) f h)
 
-  -- ---- what the build over the edges says of the map
-  pub built_result : (lines : List Edge) (drawn : List Vertex) (r : Result Built TreeError) → lines ≡ edges_of m → drawn ≡ m.vertices → 0 < length m.lines → IfOk r (λ (b : Built). IsSound lines drawn b.vertices.items b.segs.items b.subs.items b.nodes.items) → IfOk r (λ (b : Built). IsBuiltOf lines b.vertices.items b.segs.items b.subs.items b.nodes.items) → IfOk r (λ (b : Built). IsSmall b.vertices.items b.segs.items b.subs.items b.nodes.items) → IfOk r (λ (b : Built). IsBuilt m b)
-  built_result lines drawn (Ok b) e f some h g s =
-      is_built b some
-      (subst (λ (x : List Edge). IsSound x m.vertices b.vertices.items b.segs.items b.subs.items b.nodes.items) e (subst (λ (d : List Vertex). IsSound lines d b.vertices.items b.segs.items b.subs.items b.nodes.items) f h))
-      (subst (λ (x : List Edge). IsBuiltOf x b.vertices.items b.segs.items b.subs.items b.nodes.items) e g) s
-  built_result lines drawn (Err x) e f some h g s = tt
+-- behind places that differ, new places differ too
+pub new_differ : (drawn added : List Vertex) → AllDiffer drawn → AreNew drawn added → AllDiffer (drawn ++ added)
+new_differ drawn added d new i j v a b = by_order (cases_order i j)
+  where
+    drawn_at : (i : ℕ) → i < length drawn → slice_get (drawn ++ added) i ≡ Some v → slice_get drawn i ≡ Some v
+    drawn_at i l a = old_or_new drawn (drawn ++ added) added i v refl a l
 
-  pub refused_result : (lines : List Edge) (drawn : List Vertex) (r : Result Built TreeError) → lines ≡ edges_of m → drawn ≡ m.vertices → IfErr r (IsBuildRefused lines drawn) → IfErr r (IsTreeRefusal m)
-  refused_result lines drawn (Ok b) e f h = tt
-  refused_result lines drawn (Err x) e f h = refusal_of x (subst (λ (ls : List Edge). IsBuildRefused ls m.vertices x) e (subst (λ (d : List Vertex). IsBuildRefused lines d x) f h))
+    apart : (i j : ℕ) → i < j → slice_get (drawn ++ added) i ≡ Some v → slice_get (drawn ++ added) j ≡ Some v → i ≡ j
+    apart i j l a b = ⊎_elim (λ below. d i j v (drawn_at i (omega arith) a) (drawn_at j below b)) (λ above. let n = new j above i v a b in absurd (omega arith)) (cases_lt j (length drawn))
 
-pub never_nothing : (lines : List Edge) (drawn : List Vertex) (r : Result Built TreeError) → IfErr r (IsBuildRefused lines drawn) → r ≡ Err NothingToBuild → ⊥
-never_nothing lines drawn (Ok b) h e = cc
-never_nothing lines drawn (Err x) h e = let s : x ≡ NothingToBuild = cc in subst (IsBuildRefused lines drawn) s h
+    by_order : ((i ≡ j) ⊎ ((i < j) ⊎ (j < i))) → i ≡ j
+    by_order o = ⊎_elim (λ e. e) (λ r. ⊎_elim (λ l. apart i j l a b) (λ l. sym (apart j i l b a)) r) o
+
+pub differ_result : (drawn : List Vertex) (lines : List Edge) (r : Result Built TreeError) → AllDiffer drawn → IfOk r (IsBuiltOver lines drawn) → IfOk r (λ (b : Built). AllDiffer b.vertices.items)
+differ_result drawn lines (Ok b) d h = let a = h.sound.added_ends in subst AllDiffer (sym a.all) (new_differ drawn a.added d a.new)
+differ_result drawn lines (Err x) d h = tt
+
+pub never_nothing : (lines : List Edge) (drawn : List Vertex) (r : Result Built TreeError) → 0 < length lines → IfErr r (IsRefusalOver lines drawn) → r ≡ Err NothingToBuild → ⊥
+never_nothing lines drawn (Ok b) some h e = cc
+never_nothing lines drawn (Err x) some h e = let s : x ≡ NothingToBuild = cc in let z : length lines ≡ 0 = subst (IsRefusalOver lines drawn) s h in omega arith

@@ -27,17 +27,21 @@ module _ (lines : List Edge) (vertices : List Vertex) where
   ray_is p s h = ap (λ (n : ℕ). ray (edge_at lines n) (facing_of s.side)) h.line ∙ ap (ray (edge_of lines p)) (side_is p.side s.side h.side)
 
   -- what holds at both ends of the piece holds at both ends of the seg
-  pub by_ends : (P : Vertex → Type 0) (p : Piece) (s : Seg) → IsSegOf lines vertices p s → P (first_end lines p) → P (last_end lines p) → P (first_place lines vertices s) × P (second_place lines vertices s)
+  pub by_ends : (P : Vertex → Type 0) (p : Piece) (s : Seg) → IsSegOf lines vertices p s → P (first_end lines p)
+      → P (last_end lines p) → P (first_place lines vertices s) × P (second_place lines vertices s)
   by_ends P p s h a b = by_side p.side h.first h.second
     where
-      by_side : (f : Facing) → first_place lines vertices s ≡ start_of lines f p → second_place lines vertices s ≡ end_of lines f p → P (first_place lines vertices s) × P (second_place lines vertices s)
+      by_side : (f : Facing) → first_place lines vertices s ≡ start_of lines f p → second_place lines vertices s
+          ≡ end_of lines f p → P (first_place lines vertices s) × P (second_place lines vertices s)
       by_side Along e f = (subst P (sym e) a, subst P (sym f) b)
       by_side Against e f = (subst P (sym e) b, subst P (sym f) a)
 
   -- a piece exactly on the right of a partition, as a seg
   pub seg_right : (p q : Piece) (s : Seg) → IsSegOf lines vertices q s → IsPiece lines q → LiesInRight lines p q → SegLiesRight lines vertices (ray_of lines p) s
   seg_right p q s h ok l =
-      let e = by_ends (NearRight (ray_of lines p)) q s h (near_right (ray_of lines p) (edge_of lines q) q.from ok.from_in.positive l.from) (near_right (ray_of lines p) (edge_of lines q) q.to ok.to_in.positive l.to) in
+      let e = by_ends (NearRight (ray_of lines p)) q s h
+      (near_right (ray_of lines p) (edge_of lines q) q.from ok.from_in.positive l.from)
+      (near_right (ray_of lines p) (edge_of lines q) q.to ok.to_in.positive l.to) in
       record {
         first_near = e.0;
         second_near = e.1;
@@ -47,7 +51,9 @@ module _ (lines : List Edge) (vertices : List Vertex) where
   -- and on its left
   pub seg_left : (p q : Piece) (s : Seg) → IsSegOf lines vertices q s → IsPiece lines q → LiesInLeft lines p q → SegLiesLeft lines vertices (ray_of lines p) s
   seg_left p q s h ok l =
-      let e = by_ends (NearLeft (ray_of lines p)) q s h (near_left (ray_of lines p) (edge_of lines q) q.from ok.from_in.positive l.from) (near_left (ray_of lines p) (edge_of lines q) q.to ok.to_in.positive l.to) in
+      let e = by_ends (NearLeft (ray_of lines p)) q s h
+      (near_left (ray_of lines p) (edge_of lines q) q.from ok.from_in.positive l.from)
+      (near_left (ray_of lines p) (edge_of lines q) q.to ok.to_in.positive l.to) in
       record {
         first_near = e.0;
         second_near = e.1;
@@ -66,7 +72,9 @@ module _ (lines : List Edge) (vertices : List Vertex) where
       subst (λ (r : Ray). SegLiesRight lines vertices r t) (sym (ray_is p s hs)) k
 
   -- the ends of a seg are points of its line
-  pub seg_points : (p : Piece) (s : Seg) → IsSegOf lines vertices p s → IsPiece lines p → IsPointOf lines vertices (seg_edge lines vertices s) (first_place lines vertices s) × IsPointOf lines vertices (seg_edge lines vertices s) (second_place lines vertices s)
+  pub seg_points : (p : Piece) (s : Seg) → IsSegOf lines vertices p s → IsPiece lines p
+      → IsPointOf lines vertices (seg_edge lines vertices s) (first_place lines vertices s)
+      × IsPointOf lines vertices (seg_edge lines vertices s) (second_place lines vertices s)
   seg_points p s h ok =
       let e = by_ends (IsPointOf lines vertices (edge_of lines p)) p s h (p.from, ok.from_in, refl) (p.to, ok.to_in, refl) in
       let w = sym (edge_is p s h) in

@@ -16,9 +16,9 @@ use Rattle.lv_segs.specs.declared.piece.Piece.{Piece}
 use Rattle.lv_segs.specs.Plane.{IsEdge}
 use Rattle.lv_segs.specs.Pieces.{no_edge, edge_at, first_end, last_end, same_place, IsPiece, covers}
 use Rattle.lv_segs.specs.Division.{parts_of, right_parts, left_parts, IsPartOf, LiesInRight, LiesInLeft}
-use Rattle.lv_segs.specs.Tree.{Tree, Leaf, Branch, Divides, IsReached, pieces, unused}
+use Rattle.lv_segs.specs.Tree.{Tree, Leaf, Branch, Divides, IsReached, pieces, none_used}
 use Rattle.lv_segs.specs.First.{whole, sides_of, pieces_from, first_pieces}
-use Rattle.lv_segs.specs.Segs.{first_place, second_place, seg_edge, seg_covers, CoversStep, IsPointOf, RunAlong, HasFields, IsConvexSub}
+use Rattle.lv_segs.specs.Segs.{NamesFirst, first_place, second_place, seg_edge, seg_covers, CoversStep, IsPointOf, RunAlong, HasFields, IsConvexSub}
 use Rattle.lv_segs.specs.Nodes.{IsParting}
 use Rattle.lv_segs.proofs.Lists.{All-at, All-filter_map}
 use Rattle.lv_segs.proofs.Trees.{right_reached, left_reached, may_divide, tree_cover, tree_convex, tree_pieces, tree_parted, first_reached}
@@ -27,7 +27,7 @@ use Rattle.lv_nodes.specs.InRange.{Tiles}
 use Rattle.lv_nodes.specs.References.{IsNumber, HasPlaces, AreTree, IsChild, subsector}
 use Rattle.lv_nodes.specs.TreeLists.{leaf_count, branch_count, child_of, side_number, start_of, end_of, IsSegOf, HasNodes, AreListsOf}
 use Rattle.lv_nodes.specs.Tiling.{count_list, total}
-use Rattle.lv_nodes.specs.Sound.{IsTreeOfLines, AddsEnds, AllDiffer, HaveEnds, IsSound}
+use Rattle.lv_nodes.specs.Sound.{IsTreeOfLines, AddsEnds, HaveEnds, IsSound}
 use Rattle.lv_nodes.proofs.SegLaws.{seg_points}
 use Rattle.lv_nodes.proofs.Children.{among_yes, among_no, once}
 use Rattle.lv_nodes.proofs.Counting.{nodes_many, one_leaf_more}
@@ -51,12 +51,16 @@ module _ (lines : List Edge) (all : All IsEdge lines) where
 
   right_sides : (p : Piece) → IsPiece lines p → (ps : List Piece) → All (IsPiece lines) ps → All (HasSide lines) ps → All (HasSide lines) (right_parts lines p ps)
   right_sides p ok ps is h = All-filter_map (λ q. IsPiece lines q × HasSide lines q) (HasSide lines) (λ q. (parts_of lines p q).right)
-      (λ q k. weaker (parts_of lines p q).right (λ x. IsPartOf lines q x × LiesInRight lines p x) (HasSide lines) (λ x m. part_has_side lines q x m.0.line m.0.side k.1) (divided lines p q (may_divide lines all p q ok k.0)).right)
+      (λ q k. weaker (parts_of lines p q).right (λ x. IsPartOf lines q x × LiesInRight lines p x) (HasSide lines)
+      (λ x m. part_has_side lines q x m.0.line m.0.side k.1)
+      (divided lines p q (may_divide lines all p q ok k.0)).right)
       ps (λ k d l. (is k d l, h k d l))
 
   left_sides : (p : Piece) → IsPiece lines p → (ps : List Piece) → All (IsPiece lines) ps → All (HasSide lines) ps → All (HasSide lines) (left_parts lines p ps)
   left_sides p ok ps is h = All-filter_map (λ q. IsPiece lines q × HasSide lines q) (HasSide lines) (λ q. (parts_of lines p q).left)
-      (λ q k. weaker (parts_of lines p q).left (λ x. IsPartOf lines q x × LiesInLeft lines p x) (HasSide lines) (λ x m. part_has_side lines q x m.0.line m.0.side k.1) (divided lines p q (may_divide lines all p q ok k.0)).left)
+      (λ q k. weaker (parts_of lines p q).left (λ x. IsPartOf lines q x × LiesInLeft lines p x) (HasSide lines)
+      (λ x m. part_has_side lines q x m.0.line m.0.side k.1)
+      (divided lines p q (may_divide lines all p q ok k.0)).left)
       ps (λ k d l. (is k d l, h k d l))
 
   pub tree_sides : (t : Tree) (ps : List Piece) (used : List Bool) → IsReached lines used ps → All (HasSide lines) ps → Divides lines ps used t → All (HasSide lines) (pieces t)
@@ -72,7 +76,10 @@ first_sides lines [] n at = All-nil (HasSide lines)
 first_sides lines (e ∷ es) n at =
     let z : n ≡ n + 0 = omega arith in
     let g : edge_at lines n ≡ e = index_is lines n no_edge e (ap (slice_get lines) z ∙ at 0 e refl) in
-    All-append (HasSide lines) (sides_of n e) (pieces_from (n + 1) es) (by_left e.has_left (ap (λ (x : Edge). x.has_left) g)) (first_sides lines es (n + 1) (λ i x k. let y : n + 1 + i ≡ n + suc i = omega arith in ap (slice_get lines) y ∙ at (suc i) x k))
+    All-append (HasSide lines) (sides_of n e) (pieces_from (n + 1) es)
+    (by_left e.has_left (ap (λ (x : Edge). x.has_left) g))
+    (first_sides lines es (n + 1) (λ i x k. let y : n + 1 + i ≡ n + suc i = omega arith in ap (slice_get lines) y
+    ∙ at (suc i) x k))
   where
     by_left : (b : Bool) → (edge_at lines n).has_left ≡ b → All (HasSide lines) (if b then (whole n Along ∷ whole n Against ∷ []) else (whole n Along ∷ []))
     by_left true s = All-cons (HasSide lines) (whole n Along) (whole n Against ∷ []) (inl refl) (All-cons (HasSide lines) (whole n Against) [] (inr (refl, s)) (All-nil (HasSide lines)))
@@ -123,7 +130,8 @@ root_last (Branch p right left) h = omega arith
 no_branch : (t : Tree) → branch_count t ≡ 0 → leaf_count t ≡ 1
 no_branch t e = let o = one_leaf_more t in omega arith
 
-pub are_tree : (lines : List Edge) (t : Tree) (subs : List Sub) (nodes : List Node) → HasNodes lines t 0 0 nodes → IsLaid nodes subs lines t 0 0 0 → length subs ≡ leaf_count t → length subs ≤ 32767 → AreTree subs nodes
+pub are_tree : (lines : List Edge) (t : Tree) (subs : List Sub) (nodes : List Node) → HasNodes lines t 0 0 nodes
+    → IsLaid nodes subs lines t 0 0 0 → length subs ≡ leaf_count t → length subs ≤ 32767 → AreTree subs nodes
 are_tree lines t subs nodes has lay many few =
     let nm = nodes_many lines t 0 0 nodes has in
     let o = one_leaf_more t in
@@ -159,15 +167,16 @@ are_tree lines t subs nodes has lay many few =
     }
 
 -- ---- the whole
-module _ (lines : List Edge) (drawn vertices : List Vertex) (t : Tree) (segs : List Seg) (subs : List Sub) (nodes : List Node) (of : IsTreeOfLines lines t) (lists : AreListsOf lines vertices t segs subs nodes) where
-  reached : IsReached lines (unused lines) (first_pieces lines)
+module _ (lines : List Edge) (drawn vertices : List Vertex) (t : Tree) (segs : List Seg) (subs : List Sub)
+    (nodes : List Node) (of : IsTreeOfLines lines t) (lists : AreListsOf lines vertices t segs subs nodes) where
+  reached : IsReached lines (none_used lines) (first_pieces lines)
   reached = first_reached lines (first_pieces lines) of.each
 
   own_pieces : All (IsPiece lines) (pieces t)
-  own_pieces = tree_pieces lines of.drawn t (first_pieces lines) (unused lines) reached of.divides
+  own_pieces = tree_pieces lines of.drawn t (first_pieces lines) (none_used lines) reached of.divides
 
   own_sides : All (HasSide lines) (pieces t)
-  own_sides = tree_sides lines of.drawn t (first_pieces lines) (unused lines) reached (first_sides lines lines 0 (stands_whole lines)) of.divides
+  own_sides = tree_sides lines of.drawn t (first_pieces lines) (none_used lines) reached (first_sides lines lines 0 (stands_whole lines)) of.divides
 
   pub lay : IsLaid nodes subs lines t 0 0 0
   lay = laid nodes subs lines t 0 0 0 nodes subs lists.branch_nodes (stands_whole nodes) lists.leaf_counts lists.follow (stands_whole subs)
@@ -184,19 +193,31 @@ module _ (lines : List Edge) (drawn vertices : List Vertex) (t : Tree) (segs : L
   ends_apart : (p : Piece) (s : Seg) → IsSegOf lines vertices p s → IsPiece lines p → first_place lines vertices s ≢ second_place lines vertices s
   ends_apart p s h ok = λ e. true≢false (sym (by_side p.side h.first h.second e) ∙ ok.ends_differ)
     where
-      by_side : (f : Facing) → first_place lines vertices s ≡ start_of lines f p → second_place lines vertices s ≡ end_of lines f p → first_place lines vertices s ≡ second_place lines vertices s → same_place (first_end lines p) (last_end lines p) ≡ true
+      by_side : (f : Facing) → first_place lines vertices s ≡ start_of lines f p → second_place lines vertices s
+          ≡ end_of lines f p → first_place lines vertices s ≡ second_place lines vertices s
+          → same_place (first_end lines p) (last_end lines p) ≡ true
       by_side Along a b e = ap (same_place (first_end lines p)) (sym b ∙ sym e ∙ a) ∙ same_itself (first_end lines p)
       by_side Against a b e = ap (same_place (first_end lines p)) (sym a ∙ e ∙ b) ∙ same_itself (first_end lines p)
 
-  pub run_along : AllDiffer vertices → RunAlong lines vertices segs
-  run_along differ = record {
-    right = λ line k h. same_counts (seg_covers lines vertices line 0 k) (covers lines line Along k) segs (pieces t) lists.leaf_segs.many (λ i p s ep es. covers_right lines vertices line k p s (lists.leaf_segs.each i p s ep es)) ∙ tree_cover lines of.drawn t (first_pieces lines) (unused lines) reached of.divides line Along k ∙ first_right lines line k h.0 h.1;
-    left = λ line k h there. same_counts (seg_covers lines vertices line 1 k) (covers lines line Against k) segs (pieces t) lists.leaf_segs.many (λ i p s ep es. covers_left lines vertices line k p s (lists.leaf_segs.each i p s ep es)) ∙ tree_cover lines of.drawn t (first_pieces lines) (unused lines) reached of.divides line Against k ∙ first_left lines line k h.0 h.1 there;
+  pub run_along : All (NamesFirst vertices) segs → RunAlong lines vertices segs
+  run_along firsts = record {
+    right = λ line k h. same_counts (seg_covers lines vertices line 0 k) (covers lines line Along k) segs
+        (pieces t) lists.leaf_segs.many (λ i p s ep es.
+        covers_right lines vertices line k p s (lists.leaf_segs.each i p s ep es))
+        ∙ tree_cover lines of.drawn t (first_pieces lines) (none_used lines) reached of.divides line Along k
+        ∙ first_right lines line k h.0 h.1;
+    left = λ line k h there. same_counts (seg_covers lines vertices line 1 k) (covers lines line Against k) segs
+        (pieces t) lists.leaf_segs.many (λ i p s ep es.
+        covers_left lines vertices line k p s (lists.leaf_segs.each i p s ep es))
+        ∙ tree_cover lines of.drawn t (first_pieces lines) (none_used lines) reached of.divides line Against k
+        ∙ first_left lines line k h.0 h.1 there;
     covering = all_by (CoversStep lines vertices) segs (λ i s e. let g = seg_of i s e in covers_step lines vertices g.piece s g.is g.valid);
-    first = all_by (λ s. IsPointOf lines vertices (seg_edge lines vertices s) (first_place lines vertices s)) segs (λ i s e. let g = seg_of i s e in (seg_points lines vertices g.piece s g.is g.valid).0);
-    second = all_by (λ s. IsPointOf lines vertices (seg_edge lines vertices s) (second_place lines vertices s)) segs (λ i s e. let g = seg_of i s e in (seg_points lines vertices g.piece s g.is g.valid).1);
+    first = all_by (λ s. IsPointOf lines vertices (seg_edge lines vertices s) (first_place lines vertices s)) segs
+        (λ i s e. let g = seg_of i s e in (seg_points lines vertices g.piece s g.is g.valid).0);
+    second = all_by (λ s. IsPointOf lines vertices (seg_edge lines vertices s) (second_place lines vertices s)) segs
+        (λ i s e. let g = seg_of i s e in (seg_points lines vertices g.piece s g.is g.valid).1);
     ends_differ = all_by (λ s. first_place lines vertices s ≢ second_place lines vertices s) segs (λ i s e. let g = seg_of i s e in ends_apart g.piece s g.is g.valid);
-    places_differ = differ;
+    firsts = firsts;
   }
 
   pub tiles : Tiles 0 subs (length segs)
@@ -211,7 +232,9 @@ module _ (lines : List Edge) (drawn vertices : List Vertex) (t : Tree) (segs : L
   convex_of = all_by (IsConvexSub lines vertices segs) subs (λ m sub e.
       let w = slice_get_within subs m sub e in
       let n = subs_many t subs lists.leaf_counts in
-      let c = convex_at lines vertices segs subs nodes (pieces t) lists.leaf_segs own_pieces t 0 0 0 lay (stands_whole (pieces t)) (tree_convex lines of.drawn t (first_pieces lines) (unused lines) reached of.divides) m (omega arith) (omega arith) in
+      let c = convex_at lines vertices segs subs nodes (pieces t) lists.leaf_segs own_pieces t 0 0 0 lay
+      (stands_whole (pieces t)) (tree_convex lines of.drawn t (first_pieces lines)
+      (none_used lines) reached of.divides) m (omega arith) (omega arith) in
       let f = c.stands in
       let same : c.sub ≡ sub = cc in
       subst (IsConvexSub lines vertices segs) same c.convex)
@@ -222,7 +245,10 @@ module _ (lines : List Edge) (drawn vertices : List Vertex) (t : Tree) (segs : L
       let m = nodes_many lines t 0 0 nodes lists.branch_nodes in
       let n = subs_many t subs lists.leaf_counts in
       let o = one_leaf_more t in
-      let c = partings lines vertices segs subs nodes (pieces t) lists.leaf_segs own_pieces t 0 0 0 (omega arith) lay (stands_whole (pieces t)) (tree_partitions lines of.drawn t (first_pieces lines) (unused lines) reached of.divides) (tree_parted lines of.drawn t (first_pieces lines) (unused lines) reached of.divides) k (omega arith) (omega arith) in
+      let c = partings lines vertices segs subs nodes (pieces t) lists.leaf_segs own_pieces t 0 0 0 (omega arith) lay
+      (stands_whole (pieces t)) (tree_partitions lines of.drawn t (first_pieces lines)
+      (none_used lines) reached of.divides) (tree_parted lines of.drawn t (first_pieces lines)
+      (none_used lines) reached of.divides) k (omega arith) (omega arith) in
       let f = c.stands in
       let same : c.node ≡ node = cc in
       subst (IsParting lines vertices segs subs nodes) same c.parts)
@@ -243,14 +269,14 @@ module _ (lines : List Edge) (drawn vertices : List Vertex) (t : Tree) (segs : L
             (All-at (HasSide lines) (pieces t) (i - 0) g.piece own_sides g.stands);
       })
 
-  -- the lists of the tree of the lines are sound, where their numbers are small, the vertices differ and each added one is an end
-  pub sound : length lines ≤ 32767 → length subs ≤ 32767 → AllDiffer vertices → HaveEnds vertices segs → AddsEnds drawn vertices segs → IsSound lines drawn vertices segs subs nodes
-  sound few few_subs differ ends added = record {
+  -- the lists of the tree of the lines are sound, where their numbers are small, the segs name the first vertices at their places and each added one is an end
+  pub sound : length lines ≤ 32767 → length subs ≤ 32767 → All (NamesFirst vertices) segs → HaveEnds vertices segs → AddsEnds drawn vertices segs → IsSound lines drawn vertices segs subs nodes
+  sound few few_subs firsts ends added = record {
     added_ends = added;
     places = places_of few ends;
     tiles = tiles;
     tree = tree_of few_subs;
-    run_along = run_along differ;
+    run_along = run_along firsts;
     fields = fields;
     convex = convex_of;
     partings = partings_of few_subs;

@@ -34,4 +34,5 @@ IsOneEnd lines p v = (v ≡ first_end lines p) ⊎ (v ≡ last_end lines p)
 
 -- a place is a rounded end of the first piece, or of one of the first n
 abbrev pub IsEndBefore : List Edge → List Piece → ℕ → Vertex → Type 0
-IsEndBefore lines ps n v = (j : ℕ) × (q : Piece) × ((j ≡ 0) ⊎ (j < n)) × (slice_get ps j ≡ Some q) × IsOneEnd lines q v
+IsEndBefore lines ps n v = (j : ℕ) × (q : Piece) × ((j ≡ 0) ⊎ (j < n)) × (slice_get ps j ≡ Some q)
+    × IsOneEnd lines q v

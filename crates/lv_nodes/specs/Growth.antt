@@ -21,16 +21,18 @@ use Rattle.lv_nodes.specs.Boxed.{IsBoxed}
 
 -- ---- one step
 -- a division of a list: its best candidate, and the parts on its two sides
-pub record IsDivision (lines : List Edge) (ps : List Piece) (used : List Bool) (partition : Piece) (right left : List Piece) : Type 0 where
+pub record IsDivision (lines : List Edge) (ps : List Piece) (used : List Bool) (partition : Piece)
+    (right left : List Piece) : Type 0 where
   pub place : ℕ
   pub best : IsBestAt lines ps used place partition
   pub right_is : right ≡ right_parts lines partition ps
   pub left_is : left ≡ left_parts lines partition ps
 
 -- what comes of a list
-abbrev pub IsStep : List Edge → List Piece → List Bool → Step → Type 0
-IsStep lines ps used (StepLeaf leaf) = (leaf.items ≡ ps) × HasNoChoice lines ps used
-IsStep lines ps used (StepParts partition right left) = IsDivision lines ps used partition right.pieces.items left.pieces.items
+abbrev pub IsListStep : List Edge → List Piece → List Bool → Step → Type 0
+IsListStep lines ps used (StepLeaf leaf) = (leaf.items ≡ ps) × HasNoChoice lines ps used
+IsListStep lines ps used (StepParts partition right left) =
+    IsDivision lines ps used partition right.pieces.items left.pieces.items
 
 -- each part of it has its box
 abbrev pub HasBoxes : List Edge → Step → Type 0
@@ -48,7 +50,8 @@ abbrev pub lists_of : Grown → Lists
 lists_of g = record { segs = g.pieces.items; sizes = g.counts.items; nodes = g.nodes.items }
 
 -- the lists have gained those of a tree of this list of pieces, whose child is this one
-pub record IsGrown (lines : List Edge) (ps : List Piece) (used : List Bool) (room : ℕ) (old new : Lists) (child : Child) : Type 0 where
+pub record IsGrown (lines : List Edge) (ps : List Piece) (used : List Bool) (room : ℕ)
+    (old new : Lists) (child : Child) : Type 0 where
   pub tree : Tree
   pub divides : Divides lines ps used tree
   pub segs : new.segs ≡ old.segs ++ pieces tree
@@ -65,15 +68,18 @@ pub record IsGrown (lines : List Edge) (ps : List Piece) (used : List Bool) (roo
 -- every tree of the list goes beyond a limit
 abbrev pub IsRefused : List Edge → List Piece → List Bool → ℕ → Lists → TreeError → Type 0
 IsRefused lines ps used room old TooDeep = (t : Tree) → Divides lines ps used t → room < depth t
-IsRefused lines ps used room old TooManySegs = (t : Tree) → Divides lines ps used t → greatest_number < length old.segs + length (pieces t)
-IsRefused lines ps used room old TooManySubsectors = (t : Tree) → Divides lines ps used t → greatest_number < length old.sizes + length (leaves t)
+IsRefused lines ps used room old TooManySegs = (t : Tree) → Divides lines ps used t
+    → greatest_number < length old.segs + length (pieces t)
+IsRefused lines ps used room old TooManySubsectors = (t : Tree) → Divides lines ps used t
+    → greatest_number < length old.sizes + length (leaves t)
 IsRefused lines ps used room old OutOfMemory = Unit {0}
 IsRefused lines ps used room old NothingToBuild = ⊥
 IsRefused lines ps used room old TooManyVertices = ⊥
 
 -- ---- one leaf, one node
 -- a leaf was put down
-pub record IsLeafPut (lines : List Edge) (ps : List Piece) (old new : Lists) (child : Child) : Type 0 where
+pub record IsLeafPut (lines : List Edge) (ps : List Piece) (old new : Lists) (child : Child) :
+    Type 0 where
   pub segs : new.segs ≡ old.segs ++ ps
   pub sizes : new.sizes ≡ old.sizes ++ length ps ∷ []
   pub nodes : new.nodes ≡ old.nodes
@@ -92,7 +98,8 @@ IsLeafRefused ps old NothingToBuild = ⊥
 IsLeafRefused ps old TooManyVertices = ⊥
 
 -- a node of a partition with these two children was put down
-pub record IsNodePut (lines : List Edge) (partition : Piece) (right left : Child) (old new : Lists) (child : Child) : Type 0 where
+pub record IsNodePut (lines : List Edge) (partition : Piece) (right left : Child) (old new : Lists)
+    (child : Child) : Type 0 where
   pub segs : new.segs ≡ old.segs
   pub sizes : new.sizes ≡ old.sizes
   pub node : Node

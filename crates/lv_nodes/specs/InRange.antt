@@ -22,7 +22,8 @@ pub record IsIn {X : Type 0} (xs : List X) (n : ℕ) : Type 0 where
 
 -- the line has the side: 0 is the right one, 1 the left one
 abbrev pub HasSide : List Line → ℕ → ℕ → Type 0
-HasSide lines line side = (side ≡ 0) ⊎ ((side ≡ 1) × ((l : Line) → slice_get lines line ≡ Some l → l.left ≢ no_side))
+HasSide lines line side =
+    (side ≡ 0) ⊎ ((side ≡ 1) × ((l : Line) → slice_get lines line ≡ Some l → l.left ≢ no_side))
 
 -- the seg's ends are vertices, its line is a line, and has the seg's side
 pub record SegInRange (vertices : List Vertex) (lines : List Line) (s : Seg) : Type 0 where
@@ -34,7 +35,8 @@ pub record SegInRange (vertices : List Vertex) (lines : List Line) (s : Seg) : T
 -- the subsectors' runs of segs follow one another from `at` to `to`; none is empty
 abbrev pub Tiles : ℕ → List Sub → ℕ → Type 0
 Tiles at [] to = at ≡ to
-Tiles at (s ∷ subs) to = (0 < s.count) × (s.first ≡ at) × (s.first ≤ greatest_number) × Tiles (at + s.count) subs to
+Tiles at (s ∷ subs) to = (0 < s.count) × (s.first ≡ at) × (s.first ≤ greatest_number)
+    × Tiles (at + s.count) subs to
 
 -- a child of the node i: a node below it, or a subsector
 pub record ChildInRange (subs : List Sub) (i c : ℕ) : Type 0 where
@@ -57,11 +59,14 @@ times_sub nodes s = count_by (λ c. c == (sub_bit + s)) (children nodes)
 abbrev pub times_node : List Node → ℕ → ℕ
 times_node nodes i = count_by (λ c. nat_lt c sub_bit && (c == i)) (children nodes)
 
--- each reference lies in its list; subsectors tile the segs; each subsector and each node but the last is a child once
-pub record TreeInRange (vs : List Vertex) (ls : List Line) (ss : List Seg) (us : List Sub) (ns : List Node) : Type 0 where
+-- each reference lies in its list; subsectors tile the segs; each subsector and each node but the
+-- last is a child once
+pub record TreeInRange (vs : List Vertex) (ls : List Line) (ss : List Seg) (us : List Sub)
+    (ns : List Node) : Type 0 where
   pub segs : All (SegInRange vs ls) ss
   pub tiles : Tiles 0 us (length ss)
-  pub node_children : (i : ℕ) (n : Node) → slice_get ns i ≡ Some n → ChildInRange us i n.right × ChildInRange us i n.left
+  pub node_children : (i : ℕ) (n : Node) → slice_get ns i ≡ Some n → ChildInRange us i n.right
+      × ChildInRange us i n.left
   pub some_sub : 0 < length us
   pub subs_once : (s : ℕ) → s < length us → times_sub ns s ≡ 1
   pub nodes_once : (i : ℕ) → i + 1 < length ns → times_node ns i ≡ 1

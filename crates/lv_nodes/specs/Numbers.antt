@@ -1,16 +1,17 @@
--- The numbering of places: each place is listed once, and a new one goes to the end.
-use Rattle.std.specs.Prelude.{◌≡◌, ℕ, ◌+◌, ◌<◌, ◌≤◌, ◌⊎◌, List, ◌++◌, length, slice_get, Some}
+-- The numbering of places: a known one has its lowest number, and a new one goes to the end.
+use Rattle.std.specs.Prelude.{◌≡◌, ℕ, ◌+◌, ◌<◌, ◌≤◌, ◌⊎◌, List, ◌++◌, length, slice_get, Some, All}
 use Rattle.lv_lumps.specs.declared.records.Vertex.{Vertex}
 use Rattle.lv_lumps.specs.declared.records.Seg.{Seg}
 use Rattle.lv_segs.specs.declared.edge.Edge.{Edge}
 use Rattle.lv_segs.specs.declared.piece.Piece.{Piece}
-use Rattle.lv_segs.specs.Places.{IsKnown}
+use Rattle.lv_segs.specs.Places.{IsKnown, StandsFirst}
+use Rattle.lv_segs.specs.Segs.{NamesFirst}
 use Rattle.lv_nodes.specs.declared.error.TreeError.{TreeError}
 use Rattle.lv_nodes.specs.declared.error.TreeError.TheVariants.{OutOfMemory, NothingToBuild, TooManyVertices, TooManySegs, TooManySubsectors, TooDeep}
 use Rattle.lv_nodes.specs.InRange.{greatest_number}
 use Rattle.lv_nodes.specs.References.{IsNumber}
 use Rattle.lv_nodes.specs.TreeLists.{IsSegOf, IsEndOf}
-use Rattle.lv_nodes.specs.Sound.{AllDiffer, AddsEnds, HaveEnds}
+use Rattle.lv_nodes.specs.Sound.{AreNew, AddsEnds, HaveEnds}
 use Rattle.lv_nodes.specs.Corners.{IsOneEnd}
 
 -- ---- one place
@@ -19,8 +20,9 @@ pub record IsNumbered (old new : List Vertex) (v : Vertex) (n : ℕ) : Type 0 wh
   pub added : List Vertex
   pub grown : new ≡ old ++ added
   pub stands : slice_get new n ≡ Some v
+  pub first : StandsFirst new n
   pub only : (m : ℕ) → length old ≤ m → m < length new → n ≡ m
-  pub differ : AllDiffer old → AllDiffer new
+  pub new_places : AreNew old added
   pub few : length new ≤ greatest_number
 
 -- the place is new, and there is no number left
@@ -42,15 +44,16 @@ pub record HasNumbers (old new : List Vertex) (s : Seg) : Type 0 where
   pub ends : (m : ℕ) → length old ≤ m → m < length new → (s.first ≡ m) ⊎ (s.second ≡ m)
   pub first_next : s.first ≤ length old
   pub second_next : (m : ℕ) → length old ≤ m → s.second ≡ m + 1 → s.first ≡ m
-  pub differ : AllDiffer old → AllDiffer new
+  pub firsts : NamesFirst new s
+  pub new_places : AreNew old added
   pub few : length new ≤ greatest_number
 
--- the places and ends of the piece are more than there are numbers
+-- the places and ends of the piece that are new are more than there are numbers
 pub record HasMore (lines : List Edge) (old : List Vertex) (p : Piece) : Type 0 where
-  pub places : List Vertex
-  pub many : greatest_number < length places
-  pub differ : AllDiffer old → AllDiffer places
-  pub each : (n : ℕ) (v : Vertex) → slice_get places n ≡ Some v → IsKnown old v ⊎ IsOneEnd lines p v
+  pub added : List Vertex
+  pub many : greatest_number < length old + length added
+  pub new_places : AreNew old added
+  pub each : (n : ℕ) (v : Vertex) → slice_get added n ≡ Some v → IsOneEnd lines p v
 
 abbrev pub IsSegRefused : List Edge → List Vertex → Piece → TreeError → Type 0
 IsSegRefused lines old p TooManyVertices = HasMore lines old p
@@ -62,19 +65,21 @@ IsSegRefused lines old p TooDeep = ⊥
 
 -- ---- the ends of all segs
 -- the segs of the first pieces, whose ends are numbered behind the drawn places
-pub record AreNumbered (lines : List Edge) (drawn vertices : List Vertex) (ps : List Piece) (segs : List Seg) : Type 0 where
-  pub each : (i : ℕ) (p : Piece) (s : Seg) → slice_get ps i ≡ Some p → slice_get segs i ≡ Some s → IsSegOf lines vertices p s
+pub record AreNumbered (lines : List Edge) (drawn vertices : List Vertex) (ps : List Piece)
+    (segs : List Seg) : Type 0 where
+  pub each : (i : ℕ) (p : Piece) (s : Seg) → slice_get ps i ≡ Some p → slice_get segs i ≡ Some s
+      → IsSegOf lines vertices p s
   pub ends : HaveEnds vertices segs
   pub added : AddsEnds drawn vertices segs
-  pub differ : AllDiffer vertices
+  pub firsts : All (NamesFirst vertices) segs
   pub few : length vertices ≤ greatest_number
 
--- the drawn places and the ends of the pieces are more than there are numbers
+-- the drawn places and ends of the pieces that are new are more than there are numbers
 pub record HaveMore (lines : List Edge) (drawn : List Vertex) (ps : List Piece) : Type 0 where
-  pub places : List Vertex
-  pub many : greatest_number < length places
-  pub differ : AllDiffer places
-  pub each : (n : ℕ) (v : Vertex) → slice_get places n ≡ Some v → IsKnown drawn v ⊎ IsEndOf lines ps v
+  pub added : List Vertex
+  pub many : greatest_number < length drawn + length added
+  pub new_places : AreNew drawn added
+  pub each : (n : ℕ) (v : Vertex) → slice_get added n ≡ Some v → IsEndOf lines ps v
 
 abbrev pub AreSegsRefused : List Edge → List Vertex → List Piece → TreeError → Type 0
 AreSegsRefused lines drawn ps TooManyVertices = HaveMore lines drawn ps

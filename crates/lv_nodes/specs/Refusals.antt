@@ -1,13 +1,12 @@
 -- The lists of the tree of the lines, and why there is none.
 use Rattle.std.specs.Prelude.{◌≡◌, ◌≤◌, List, length}
-use Rattle.lv_lumps.specs.declared.records.Vertex.{Vertex}
 use Rattle.lv_segs.specs.declared.edge.Edge.{Edge}
 use Rattle.lv_segs.specs.Tree.{Tree, pieces, counts, depth}
 use Rattle.lv_nodes.specs.declared.error.TreeError.{TreeError}
 use Rattle.lv_nodes.specs.declared.error.TreeError.TheVariants.{OutOfMemory, NothingToBuild, TooManyVertices, TooManySegs, TooManySubsectors, TooDeep}
 use Rattle.lv_nodes.specs.InRange.{greatest_number}
 use Rattle.lv_nodes.specs.TreeLists.{HasNodes}
-use Rattle.lv_nodes.specs.Sound.{IsTreeOfLines, HasTooManyVertices, HasTooManySegs, HasTooManySubsectors, IsTooDeep}
+use Rattle.lv_nodes.specs.Sound.{IsTreeOfLines, HasTooManySegs, HasTooManySubsectors, IsTooDeep}
 use Rattle.lv_nodes.specs.Growth.{Lists}
 
 -- the lists are those of the tree of the lines
@@ -29,12 +28,3 @@ IsTreeRefused lines TooManySubsectors = HasTooManySubsectors lines
 IsTreeRefused lines OutOfMemory = Unit {0}
 IsTreeRefused lines NothingToBuild = ⊥
 IsTreeRefused lines TooManyVertices = ⊥
-
--- the tree goes beyond a limit, or the drawn places and the ends of its pieces are more than there are numbers
-abbrev pub IsBuildRefused : List Edge → List Vertex → TreeError → Type 0
-IsBuildRefused lines drawn TooManyVertices = HasTooManyVertices lines drawn
-IsBuildRefused lines drawn TooDeep = IsTooDeep lines
-IsBuildRefused lines drawn TooManySegs = HasTooManySegs lines
-IsBuildRefused lines drawn TooManySubsectors = HasTooManySubsectors lines
-IsBuildRefused lines drawn OutOfMemory = Unit {0}
-IsBuildRefused lines drawn NothingToBuild = ⊥

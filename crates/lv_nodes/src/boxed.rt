@@ -16,15 +16,14 @@ pub(crate) struct BoxedPieces {
 }
 
 impl BoxedPieces {
-    /// No pieces.
-    pub(crate) fn empty(alloc: Global) -> BoxedPieces
-        ensures pieces { result.pieces.items ≡ [] }
-        ensures boxes { result.boxes.items ≡ [] }
+    /// No pieces, with room for so many.
+    pub(crate) fn with_room(alloc: Global, count: u32) -> Result<BoxedPieces, AllocError>
+        ensures pieces { IfOk result (λ list. list.pieces.items ≡ []) }
+        ensures boxes { IfOk result (λ list. list.boxes.items ≡ []) }
     {
-        BoxedPieces {
-            pieces: Vec::new(alloc),
-            boxes: Vec::new(alloc),
-        }
+        let pieces = Vec::with_capacity(alloc, count as usize)?;
+        let boxes = Vec::with_capacity(alloc, count as usize)?;
+        Ok(BoxedPieces { pieces, boxes })
     }
 
     /// These pieces, each with its box.

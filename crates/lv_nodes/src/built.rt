@@ -1,20 +1,20 @@
-//! The call of the crate: the tree of a map's lines.
+//! The calls of the crate: the tree of lines over drawn vertices, and that of a map's lines.
 ghost use Rattle.std.specs.Prelude.{◌≡◌, ◌<◌, ◌≤◌, length, All, ◌↔◌, Err, IfOk, IfErr, replicate, false};
 ghost use Rattle.lv_segs.specs.Plane.{IsEdge};
 ghost use Rattle.lv_nodes.specs.Growth.{lists_of};
-ghost use Rattle.lv_nodes.specs.Sound.{AllDiffer, IsSound, IsBuiltOf, IsSmall};
-ghost use Rattle.lv_nodes.specs.Built.{IsBuilt, IsTreeRefusal};
-ghost use Rattle.lv_nodes.specs.Refusals.{AreTreeLists, IsTreeRefused, IsBuildRefused};
+ghost use Rattle.lv_nodes.specs.Sound.{AllDiffer};
+ghost use Rattle.lv_nodes.specs.Built.{IsBuilt, IsBuiltOver, IsRefusalOver, IsTreeRefusal};
+ghost use Rattle.lv_nodes.specs.Refusals.{AreTreeLists, IsTreeRefused};
 
 use crate::boxed::BoxedPieces;
 use crate::error::TreeError;
 use crate::growth::{Grown, grow};
 use crate::segs::segs_of;
 use crate::subsectors::subs_of;
-use lv_lumps::{Node, Seg, Sub, Vertex};
+use lv_lumps::{ITEM_LIMIT, Node, Seg, Sub, Vertex};
 use lv_maptables::{Kind, Map};
 use lv_partition::StraightLines;
-use lv_segs::{Edge, Points, edges_of, pieces_in};
+use lv_segs::{Edge, Points, SegsError, angles_in, edges_of, pieces_in};
 use std::alloc::{AllocError, Global};
 
 // How many nodes a path may have.
@@ -97,20 +97,18 @@ fn build_over(alloc: Global, lines: &[Edge], points: &mut Points) -> Result<Buil
     requires few { length lines.now ≤ 32767 }
     requires some { 0 < length lines.now }
     requires few_places { length points.old ≤ 32767 }
-    requires differ { AllDiffer points.old }
-    ensures sound { IfOk result (λ b.
-        IsSound lines.now points.old b.vertices.items b.segs.items b.subs.items b.nodes.items) }
-    ensures built { IfOk result (λ b.
-        IsBuiltOf lines.now b.vertices.items b.segs.items b.subs.items b.nodes.items) }
-    ensures small { IfOk result
-        (λ b. IsSmall b.vertices.items b.segs.items b.subs.items b.nodes.items) }
-    ensures refused { IfErr result (IsBuildRefused lines.now points.old) }
+    ensures built { IfOk result (IsBuiltOver lines.now points.old) }
+    ensures refused { IfErr result (IsRefusalOver lines.now points.old) }
 {
     let grown = match grown_of(alloc, lines) {
         Err(error) => return Err(error),
         Ok(grown) => grown,
     };
-    let segs = match segs_of(alloc, points, lines, &grown.pieces) {
+    let angles = match angles_in(alloc, lines) {
+        Err(_) => return Err(TreeError::OutOfMemory),
+        Ok(angles) => angles,
+    };
+    let segs = match segs_of(alloc, points, lines, &grown.pieces, &angles) {
         Err(error) => return Err(error),
         Ok(segs) => segs,
     };
@@ -129,12 +127,46 @@ fn build_over(alloc: Global, lines: &[Edge], points: &mut Points) -> Result<Buil
     }
 }
 
-/// The tree over all sides of a map's lines: the pieces of each side are divided by the lines of one
-/// another until no piece of an unused line separates its list. It is refused where the map has no
-/// line (`NothingToBuild`), where the tree has more than 32,767 vertices, segs or subsectors or a path
-/// of more than 1,024 nodes, and for lack of memory.
+/// The tree over all sides of lines, behind drawn vertices: the pieces of each side are divided by the
+/// lines of one another until no piece of an unused line separates its list. Drawn vertices may be of
+/// any number and may share places; a seg names the first vertex at a place, and an end of a seg at
+/// which none stands is added behind them, once.
+///
+/// # Errors
+///
+/// - `NothingToBuild` exactly where there is no line.
+/// - `TooManyVertices`, `TooManySegs`, `TooManySubsectors`: the tree has more than 32,767 of them. More
+///   drawn vertices, or else more lines, than that are refused so before the tree is looked for.
+/// - `TooDeep`: a path of the tree has more than 1,024 nodes.
+/// - `OutOfMemory`.
+pub fn build_lines(alloc: Global, lines: &[Edge], drawn: &[Vertex]) -> Result<Built, TreeError>
+    requires { All IsEdge lines.now }
+    ensures built { IfOk result (IsBuiltOver lines.now drawn.now) }
+    ensures refused { IfErr result (IsRefusalOver lines.now drawn.now) }
+    ensures nothing { result ≡ Err TreeError.NothingToBuild ↔ length lines.now ≡ 0 }
+    ensures many { 0 < length lines.now → 32767 < length drawn.now →
+        result ≡ Err TreeError.TooManyVertices }
+{
+    if lines.is_empty() {
+        return Err(TreeError::NothingToBuild);
+    }
+    let mut points = match Points::over(alloc, drawn) {
+        Err(SegsError::TooManyVertices) => return Err(TreeError::TooManyVertices),
+        Err(SegsError::OutOfMemory) => return Err(TreeError::OutOfMemory),
+        Ok(points) => points,
+    };
+    if lines.len() > ITEM_LIMIT {
+        return Err(TreeError::TooManySegs);
+    }
+    build_over(alloc, lines, &mut points)
+}
+
+/// The tree over all sides of a map's lines, behind its vertices, as `build_lines` builds it. It is
+/// refused where the map has no line (`NothingToBuild`), where the tree has more than 32,767 vertices,
+/// segs or subsectors or a path of more than 1,024 nodes, and for lack of memory.
 pub fn build_tree(alloc: Global, map: &Map) -> Result<Built, TreeError>
     ensures built { IfOk result (λ b. IsBuilt map.now.tables b) }
+    ensures differ { IfOk result (λ b. AllDiffer b.vertices.items) }
     ensures refused { IfErr result (IsTreeRefusal map.now.tables) }
     ensures nothing { result ≡ Err TreeError.NothingToBuild ↔ length map.now.tables.lines ≡ 0 }
 {

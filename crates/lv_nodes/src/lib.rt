@@ -1,4 +1,4 @@
-//! The node builder: the tree over all sides of a map's lines, with its vertices, segs, subsectors and nodes.
+//! The node builder: the tree over all sides of lines, or of a map's, with its vertices, segs, subsectors and nodes.
 #![tactic(auto)]
 
 mod boxed;
@@ -12,5 +12,5 @@ mod shape;
 mod step;
 mod subsectors;
 
-pub use built::{Built, build_tree};
+pub use built::{Built, build_lines, build_tree};
 pub use error::TreeError;

@@ -9,7 +9,7 @@ ghost use Rattle.lv_nodes.specs.Boxed.{IsBoxed};
 
 use crate::boxed::BoxedPieces;
 use lv_lumps::{Bounds, Ray};
-use lv_partition::box_side;
+use lv_partition::{Choice, box_side};
 use lv_segs::{Edge, Parts, Piece, Place, box_on, divide_in, ray_of};
 use std::alloc::{AllocError, Global};
 
@@ -130,11 +130,13 @@ fn put_parts(
     }
 }
 
-/// The parts of a list on the two sides of a partition, with their boxes.
+/// The parts of a list on the two sides of a partition, with their boxes. `choice` tells how many there will be; what
+/// it says costs time alone.
 pub(crate) fn part_list(
     alloc: Global,
     lines: &[Edge],
     partition: &Piece,
+    choice: Choice,
     pieces: &[Piece],
     boxes: &[Bounds],
 ) -> Result<Sides, AllocError>
@@ -151,8 +153,8 @@ pub(crate) fn part_list(
 {
     let along = lines[partition.line as usize];
     let ray = ray_of(along, partition.side);
-    let mut right = BoxedPieces::empty(alloc);
-    let mut left = BoxedPieces::empty(alloc);
+    let mut right = BoxedPieces::with_room(alloc, choice.right)?;
+    let mut left = BoxedPieces::with_room(alloc, choice.left)?;
     for (n, piece) in pieces.iter().enumerate() {
         put_parts(
             lines, partition, ray, piece, boxes[n], &mut right, &mut left,

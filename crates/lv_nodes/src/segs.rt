@@ -2,8 +2,8 @@
 ghost use Rattle.std.specs.Prelude.{◌≡◌, ◌≤◌, length, All, IfOk, IfErr};
 ghost use Rattle.lv_segs.specs.Plane.{IsEdge};
 ghost use Rattle.lv_segs.specs.Pieces.{IsPiece};
+ghost use Rattle.lv_segs.specs.LineAngles.{AreAngles};
 ghost use Rattle.lv_nodes.specs.TreeLists.{IsSegOf, AreSegsOf};
-ghost use Rattle.lv_nodes.specs.Sound.{AllDiffer};
 ghost use Rattle.lv_nodes.specs.Numbers.{IsNumbered, IsPlaceRefused, HasNumbers, IsSegRefused, AreNumbered, AreSegsRefused};
 
 use crate::error::TreeError;
@@ -26,15 +26,21 @@ fn number_of(points: &mut Points, place: Vertex) -> Result<u16, TreeError>
 }
 
 // The seg of a piece, with its start numbered before its end.
-fn seg_of(points: &mut Points, lines: &[Edge], piece: &Piece) -> Result<Seg, TreeError>
+fn seg_of(
+    points: &mut Points,
+    lines: &[Edge],
+    angles: &[u16],
+    piece: &Piece,
+) -> Result<Seg, TreeError>
     requires lines { All IsEdge lines.now }
+    requires angles { AreAngles lines.now angles.now }
     requires piece { IsPiece lines.now piece.now }
     requires few { length points.old ≤ 32767 }
     ensures seg { IfOk result (λ seg. IsSegOf lines.now points.new piece.now seg) }
     ensures numbers { IfOk result (λ seg. HasNumbers points.old points.new seg) }
     ensures refused { IfErr result (IsSegRefused lines.now points.old piece.now) }
 {
-    let shape = shape_of(lines, piece);
+    let shape = shape_of(lines, angles, piece);
     let first = match number_of(points, shape.start) {
         Err(error) => return Err(error),
         Ok(number) => number,
@@ -52,17 +58,18 @@ fn seg_of(points: &mut Points, lines: &[Edge], piece: &Piece) -> Result<Seg, Tre
     }
 }
 
-/// The segs of pieces, in their order. A new place is numbered behind the others.
+/// The segs of pieces, in their order, by the angles of the lines. A new place is numbered behind the others.
 pub(crate) fn segs_of(
     alloc: Global,
     points: &mut Points,
     lines: &[Edge],
     pieces: &[Piece],
+    angles: &[u16],
 ) -> Result<Vec<Seg>, TreeError>
     requires lines { All IsEdge lines.now }
+    requires angles { AreAngles lines.now angles.now }
     requires pieces { All (IsPiece lines.now) pieces.now }
     requires few { length points.old ≤ 32767 }
-    requires differ { AllDiffer points.old }
     ensures segs { IfOk result (λ segs. AreSegsOf lines.now points.new pieces.now segs.items) }
     ensures numbered { IfOk result
         (λ segs. AreNumbered lines.now points.old points.new pieces.now segs.items) }
@@ -70,7 +77,7 @@ pub(crate) fn segs_of(
 {
     let mut segs = Vec::new(alloc);
     for piece in pieces {
-        let seg = match seg_of(points, lines, piece) {
+        let seg = match seg_of(points, lines, angles, piece) {
             Err(error) => return Err(error),
             Ok(seg) => seg,
         };

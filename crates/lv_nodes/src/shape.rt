@@ -3,11 +3,12 @@ ghost use Rattle.std.specs.Prelude.{◌≡◌, ◌<◌, All};
 ghost use Rattle.lv_segs.specs.Plane.{IsEdge};
 ghost use Rattle.lv_segs.specs.Pieces.{IsPiece, ray_of as piece_ray};
 ghost use Rattle.lv_segs.specs.Angle.{IsAngle};
+ghost use Rattle.lv_segs.specs.LineAngles.{AreAngles};
 ghost use Rattle.lv_segs.specs.Offset.{IsOffset};
 ghost use Rattle.lv_nodes.specs.TreeLists.{side_number, start_of, end_of};
 
 use lv_lumps::Vertex;
-use lv_segs::{Edge, Facing, Piece, angle16, offset, point, ray_of};
+use lv_segs::{Edge, Facing, Piece, offset, point, reversed_angle};
 
 /// What a seg takes from its piece alone: the places of its ends, its side, angle and offset.
 #[derive(Clone, Copy, Debug)]
@@ -19,9 +20,10 @@ pub(crate) struct Shape {
     pub offset: u16,
 }
 
-/// The places and fields of a piece's seg.
-pub(crate) fn shape_of(lines: &[Edge], piece: &Piece) -> Shape
+/// The places and fields of a piece's seg, by the angles of the lines.
+pub(crate) fn shape_of(lines: &[Edge], angles: &[u16], piece: &Piece) -> Shape
     requires lines { All IsEdge lines.now }
+    requires angles { AreAngles lines.now angles.now }
     requires piece { IsPiece lines.now piece.now }
     ensures start { result.start ≡ start_of lines.now piece.now.side piece.now }
     ensures end { result.end ≡ end_of lines.now piece.now.side piece.now }
@@ -31,23 +33,22 @@ pub(crate) fn shape_of(lines: &[Edge], piece: &Piece) -> Shape
     ensures offset { IsOffset (piece_ray lines.now piece.now).start result.start result.offset }
 {
     let edge = lines[piece.line as usize];
+    let along = angles[piece.line as usize];
     let from = point(edge.v1, edge.v2, piece.from);
     let to = point(edge.v1, edge.v2, piece.to);
-    let ray = ray_of(edge, piece.side);
-    let angle = angle16(ray.dx, ray.dy);
     match piece.side {
         Facing::Along => Shape {
             start: from,
             end: to,
             side: 0,
-            angle,
+            angle: along,
             offset: offset(edge.v1, from),
         },
         Facing::Against => Shape {
             start: to,
             end: from,
             side: 1,
-            angle,
+            angle: reversed_angle(along),
             offset: offset(edge.v2, to),
         },
     }

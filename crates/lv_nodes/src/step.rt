@@ -6,7 +6,7 @@ ghost use Rattle.lv_segs.specs.Boxes.{boxes_of};
 ghost use Rattle.lv_segs.specs.Tree.{HasNoChoice};
 ghost use Rattle.lv_partition.specs.Choices.{IsChoice};
 ghost use Rattle.lv_nodes.specs.Boxed.{IsBoxed};
-ghost use Rattle.lv_nodes.specs.Growth.{IsStep, HasBoxes};
+ghost use Rattle.lv_nodes.specs.Growth.{IsListStep, HasBoxes};
 
 use crate::boxed::BoxedPieces;
 use crate::parting::{Sides, part_list};
@@ -87,7 +87,7 @@ pub(crate) fn step_in(
     requires boxed { IsBoxed lines.now list }
     requires known { length used.now ≡ length lines.now }
     requires few { vec_len list.pieces < 2 ^ 31 }
-    ensures step { IfOk result (λ step. IsStep lines.now list.pieces.items used.now step) }
+    ensures step { IfOk result (λ step. IsListStep lines.now list.pieces.items used.now step) }
     ensures boxed { IfOk result (HasBoxes lines.now) }
 {
     let BoxedPieces { pieces, boxes } = list;
@@ -96,7 +96,7 @@ pub(crate) fn step_in(
         Some(choice) => choice,
     };
     let partition = pieces[choice.at as usize];
-    let Sides { right, left } = part_list(alloc, lines, &partition, &pieces, &boxes)?;
+    let Sides { right, left } = part_list(alloc, lines, &partition, choice, &pieces, &boxes)?;
     Ok(Step::Parts {
         partition,
         right,

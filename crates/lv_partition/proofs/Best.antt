@@ -66,12 +66,17 @@ module _ (lines : List Edge) (ps : List Piece) (used : List Bool) (n : ℕ) (p :
 
   -- p costs too much, or is no candidate: the best stays
   pub stays : (best : Option Choice) → length ps < 2 ^ 32 → SoFar lines ps used n best → (IsCandidate lines ps used p → limit_by best ≤ cost lines p ps) → SoFar lines ps used (n + 1) best
-  stays None few before dear = λ j q h e k. ⊎_elim (λ l. before j q l e k) (λ s. let d = dear (subst (IsCandidate lines ps used) (sym s) k) in let m = cost_small lines p ps in absurd (omega arith)) (earlier_or_here j q h e)
+  stays None few before dear =
+      λ j q h e k. ⊎_elim (λ l. before j q l e k) (λ s. let d =
+      dear (subst (IsCandidate lines ps used) (sym s) k) in let m = cost_small lines p ps in absurd (omega arith))
+      (earlier_or_here j q h e)
   stays (Some c) few b dear = record {
     piece = b.piece;
     stands = b.stands;
     candidate = b.candidate;
-    least = λ j q h e k. ⊎_elim (λ l. b.least j q l e k) (λ s. let d = dear (subst (IsCandidate lines ps used) (sym s) k) in let m = limit_is c b in let f = ap (λ (x : Piece). cost lines x ps) s in omega arith) (earlier_or_here j q h e);
+    least = λ j q h e k. ⊎_elim (λ l. b.least j q l e k)
+        (λ s. let d = dear (subst (IsCandidate lines ps used) (sym s) k) in let m = limit_is c b in let f =
+        ap (λ (x : Piece). cost lines x ps) s in omega arith) (earlier_or_here j q h e);
     first = b.first;
     splits = b.splits;
     right = b.right;
@@ -79,7 +84,9 @@ module _ (lines : List Edge) (ps : List Piece) (used : List Bool) (n : ℕ) (p :
   }
 
   -- p costs less: it becomes the best
-  pub takes : (best : Option Choice) (c : Choice) → SoFar lines ps used n best → IsCandidate lines ps used p → cost lines p ps < limit_by best → c.at ≡ n → c.splits ≡ count_by (is_split lines p) ps → c.right ≡ length (right_parts lines p ps) → c.left ≡ length (left_parts lines p ps) → IsBestBefore lines ps used (n + 1) c
+  pub takes : (best : Option Choice) (c : Choice) → SoFar lines ps used n best → IsCandidate lines ps used p
+      → cost lines p ps < limit_by best → c.at ≡ n → c.splits ≡ count_by (is_split lines p) ps → c.right
+      ≡ length (right_parts lines p ps) → c.left ≡ length (left_parts lines p ps) → IsBestBefore lines ps used (n + 1) c
   takes best c before can cheap here s r l = record {
     piece = p;
     stands = ap (slice_get ps) here ∙ at;
@@ -91,12 +98,19 @@ module _ (lines : List Edge) (ps : List Piece) (used : List Bool) (n : ℕ) (p :
     left = l;
   }
     where
-      dearer : (best : Option Choice) → SoFar lines ps used n best → cost lines p ps < limit_by best → (j : ℕ) (q : Piece) → j < n → slice_get ps j ≡ Some q → IsCandidate lines ps used q → cost lines p ps < cost lines q ps
+      dearer : (best : Option Choice) → SoFar lines ps used n best → cost lines p ps < limit_by best
+          → (j : ℕ) (q : Piece) → j < n → slice_get ps j ≡ Some q → IsCandidate lines ps used q
+          → cost lines p ps < cost lines q ps
       dearer None none m j q h e k = absurd (none j q h e k)
       dearer (Some b) was m j q h e k = let a = was.least j q h e k in let f = limit_is b was in omega arith
 
   -- the test on a counted piece decides
-  by_test : (best : Option Choice) (c : Counts) → length ps < 2 ^ 32 → SoFar lines ps used n best → slice_get used p.line ≡ Some false → AreCounts lines p ps c → (b : Bool) → (b ≡ true → (c.left ≡ 0) ⊎ (limit_by best ≤ cost_by c)) → (b ≡ false → (0 < c.left) × (cost_by c < limit_by best)) → SoFar lines ps used (n + 1) (cond b best (Some (record { at = n; splits = c.splits; right = c.right; left = c.left })))
+  by_test : (best : Option Choice) (c : Counts) → length ps < 2 ^ 32 → SoFar lines ps used n best
+      → slice_get used p.line ≡ Some false → AreCounts lines p ps c → (b : Bool)
+      → (b ≡ true → (c.left ≡ 0) ⊎ (limit_by best ≤ cost_by c))
+      → (b ≡ false → (0 < c.left) × (cost_by c < limit_by best))
+      → SoFar lines ps used (n + 1) (cond b best (Some
+      (record { at = n; splits = c.splits; right = c.right; left = c.left })))
   by_test best c few so free k true f g =
       ⊎_elim
       (λ z. stays best few so (λ can. let l = k.left in let s = can.1 in absurd (omega arith)))
@@ -111,12 +125,18 @@ module _ (lines : List Edge) (ps : List Piece) (used : List Bool) (n : ℕ) (p :
       takes best _ so (free, omega arith) (omega arith) refl k.splits k.right k.left
 
   -- a counted piece of an unused line is taken in
-  pub taken : (best : Option Choice) (o : Option Counts) → length ps < 2 ^ 32 → SoFar lines ps used n best → slice_get used p.line ≡ Some false → MatchOption o (limit_by best ≤ cost lines p ps) (λ c. AreCounts lines p ps c) → SoFar lines ps used (n + 1) (taken_in n best o)
+  pub taken : (best : Option Choice) (o : Option Counts) → length ps < 2 ^ 32 → SoFar lines ps used n best
+      → slice_get used p.line ≡ Some false → MatchOption o (limit_by best ≤ cost lines p ps)
+      (λ c. AreCounts lines p ps c) → SoFar lines ps used (n + 1) (taken_in n best o)
   taken best None few so free m = stays best few so (λ can. m)
-  taken best (Some c) few so free k = by_test best c few so free k (nat_eq c.left 0 || nat_le (limit_by best) (cost_by c)) (kept (c.left) (limit_by best) (cost_by c)) (better (c.left) (limit_by best) (cost_by c))
+  taken best (Some c) few so free k =
+      by_test best c few so free k (nat_eq c.left 0 || nat_le (limit_by best) (cost_by c))
+      (kept (c.left) (limit_by best) (cost_by c)) (better (c.left) (limit_by best) (cost_by c))
 
 -- a piece on the straight line of an earlier piece of an unused line needs no count
-pub skips : (lines : List Edge) (ps : List Piece) (used : List Bool) (n : ℕ) (p : Piece) → slice_get ps n ≡ Some p → All IsEdge lines → All (IsPiece lines) ps → (best : Option Choice) → length ps < 2 ^ 32 → SoFar lines ps used n best → HasEarlier lines ps used n p → SoFar lines ps used (n + 1) best
+pub skips : (lines : List Edge) (ps : List Piece) (used : List Bool) (n : ℕ) (p : Piece) → slice_get ps n ≡ Some p
+    → All IsEdge lines → All (IsPiece lines) ps → (best : Option Choice) → length ps < 2 ^ 32
+    → SoFar lines ps used n best → HasEarlier lines ps used n p → SoFar lines ps used (n + 1) best
 skips lines ps used n p at drawn each best few before h =
     let on : OnOneLine lines h.piece p = record { drawn = drawn; first = All-at (IsPiece lines) ps h.place h.piece each h.stands; second = All-at (IsPiece lines) ps n p each at; along = h.along } in
     stays lines ps used n p at best few before (λ k. dear best before (candidate_too lines used h.piece p ps n on each at h.free k) (same_cost lines h.piece p ps on each))
@@ -129,14 +149,17 @@ skips lines ps used n p at drawn each best few before h =
         omega arith
 
 -- what was seen under a number is an earlier piece on the same straight line
-pub earlier_found : (lines : List Edge) (ps : List Piece) (used : List Bool) (n : ℕ) (p : Piece) (k : ℕ) (d : Piece) → All (IsPiece lines) ps → length used ≡ length lines → k < n → n < length ps → get_or used (get_or ps k d).line false ≡ false → LiesAlong lines (get_or ps k d) p → HasEarlier lines ps used n p
+pub earlier_found : (lines : List Edge) (ps : List Piece) (used : List Bool) (n : ℕ) (p : Piece) (k : ℕ) (d : Piece)
+    → All (IsPiece lines) ps → length used ≡ length lines → k < n → n < length ps
+    → get_or used (get_or ps k d).line false ≡ false → LiesAlong lines (get_or ps k d) p → HasEarlier lines ps used n p
 earlier_found lines ps used n p k d each known h w free along =
     let at = stands_at ps k d (omega arith) in
     let within = (All-at (IsPiece lines) ps k (get_or ps k d) each at).line_in in
     record { place = k; piece = get_or ps k d; before = h; stands = at; free = stands_at used (get_or ps k d).line false (omega arith) ∙ ap Some free; along = along }
 
 -- what is known once all pieces are looked at
-pub finished : (lines : List Edge) (ps : List Piece) (used : List Bool) (n : ℕ) (best : Option Choice) → length ps ≤ n → SoFar lines ps used n best → MatchOption best (HasNoChoice lines ps used) (λ c. IsChoice lines ps used c)
+pub finished : (lines : List Edge) (ps : List Piece) (used : List Bool) (n : ℕ) (best : Option Choice) → length ps ≤ n
+    → SoFar lines ps used n best → MatchOption best (HasNoChoice lines ps used) (λ c. IsChoice lines ps used c)
 finished lines ps used n None h none = λ i p at can. none i p (let w = slice_get_within ps i p at in omega arith) at can
 finished lines ps used n (Some c) h b = record {
   piece = b.piece;
@@ -159,6 +182,8 @@ pub before_within : (ps : List Piece) (i n : ℕ) (p : Piece) → i < n → slic
 before_within ps i n p h e = let w = slice_get_within ps n p e in omega arith
 
 -- a piece of a used line is no candidate
-pub used_stays : (lines : List Edge) (ps : List Piece) (used : List Bool) (n : ℕ) (p : Piece) → slice_get ps n ≡ Some p → (best : Option Choice) → length ps < 2 ^ 32 → p.line < length used → get_or used p.line false ≡ true → SoFar lines ps used n best → SoFar lines ps used (n + 1) best
+pub used_stays : (lines : List Edge) (ps : List Piece) (used : List Bool) (n : ℕ) (p : Piece) → slice_get ps n ≡ Some p
+    → (best : Option Choice) → length ps < 2 ^ 32 → p.line < length used → get_or used p.line false ≡ true
+    → SoFar lines ps used n best → SoFar lines ps used (n + 1) best
 used_stays lines ps used n p stands best few within flag so_far =
     stays lines ps used n p stands best few so_far (λ h. let e = stands_at used p.line false within ∙ ap Some flag in let f = h.0 in cc)

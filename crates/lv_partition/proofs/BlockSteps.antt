@@ -60,7 +60,10 @@ counts_at_most lines p ps c n h k =
     record { splits = omega arith; right = omega arith; left = omega arith }
 
 -- the counts after one more block
-pub block_taken : (lines : List Edge) (p : Piece) (ps : List Piece) (from m r l s r' l' s' : ℕ) (c : Counts) → from ≤ length ps → m ≡ min (from + 16) (length ps) → Counted lines p ps (drop from ps) r l s → AreCounts lines p (take (m - from) (drop from ps)) c → r' ≡ r + c.right → l' ≡ l + c.left → s' ≡ s + c.splits → Counted lines p ps (drop (from + 16) ps) r' l' s'
+pub block_taken : (lines : List Edge) (p : Piece) (ps : List Piece) (from m r l s r' l' s' : ℕ) (c : Counts)
+    → from ≤ length ps → m ≡ min (from + 16) (length ps) → Counted lines p ps (drop from ps) r l s
+    → AreCounts lines p (take (m - from) (drop from ps)) c → r' ≡ r + c.right → l' ≡ l + c.left → s' ≡ s + c.splits
+    → Counted lines p ps (drop (from + 16) ps) r' l' s'
 block_taken lines p ps from m r l s r' l' s' c h e k a er el es =
     let k' = subst (λ (qs : List Piece). Counted lines p ps qs r l s) (next_block ps from m h e) k in
     let f = block_counted lines p ps (take (m - from) (drop from ps)) (drop (from + 16) ps) r l s c.right c.left c.splits k' (sym a.right) (sym a.left) (sym a.splits) in

@@ -46,7 +46,9 @@ pub holds_wider : (lines : List Edge) (a b : Bounds) (p : Piece) → IsWithinBox
 holds_wider lines a b p w h = record { first = well_in_wider a b _ w h.first; last = well_in_wider a b _ w h.last }
 
 -- one more box in the box round the first ones
-pub one_more_within : (a b : Bounds) (xs : List Bounds) (n : ℕ) (d : Bounds) → IsWithinBox a b → n < length xs → All (λ x. IsWithinBox x a) (take n xs) → IsWithinBox (get_or xs n d) b → All (λ x. IsWithinBox x b) (take (n + 1) xs)
+pub one_more_within : (a b : Bounds) (xs : List Bounds) (n : ℕ) (d : Bounds) → IsWithinBox a b → n < length xs
+    → All (λ x. IsWithinBox x a) (take n xs) → IsWithinBox (get_or xs n d) b
+    → All (λ x. IsWithinBox x b) (take (n + 1) xs)
 one_more_within a b xs n d w h all one = let e : suc n ≡ n + 1 = omega arith in subst (λ (i : ℕ). All (λ x. IsWithinBox x b) (take i xs)) e (front xs n h all one)
   where
     front : (xs : List Bounds) (n : ℕ) → n < length xs → All (λ x. IsWithinBox x a) (take n xs) → IsWithinBox (get_or xs n d) b → All (λ x. IsWithinBox x b) (take (suc n) xs)
@@ -63,7 +65,8 @@ pub record AreFirstBlocks (boxes blocks : List Bounds) (n : ℕ) : Type 0 where
   pub holds : (k : ℕ) (b : Bounds) → slice_get blocks k ≡ Some b → All (λ a. IsWithinBox a b) (take 16 (drop (16 * k) boxes))
 
 -- what stands in a list with one more element
-stands_in : {X : Type 0} (xs : List X) (y : X) (k : ℕ) (x : X) → slice_get (xs ++ (y ∷ [])) k ≡ Some x → (P : ℕ → X → Type 0) → ((j : ℕ) (z : X) → slice_get xs j ≡ Some z → P j z) → P (length xs) y → P k x
+stands_in : {X : Type 0} (xs : List X) (y : X) (k : ℕ) (x : X) → slice_get (xs ++ (y ∷ [])) k ≡ Some x
+    → (P : ℕ → X → Type 0) → ((j : ℕ) (z : X) → slice_get xs j ≡ Some z → P j z) → P (length xs) y → P k x
 stands_in [] y zero x e P f g = let s : y ≡ x = cc in subst (P zero) s g
 stands_in [] y (suc k) x e P f g = cc
 stands_in (z ∷ xs) y zero x e P f g = f zero x e
@@ -79,13 +82,18 @@ block_is xs n m h e =
     let l = length-drop (16 * n) xs in
     shorter_block (drop (16 * n) xs) (m - 16 * n) (omega arith) (λ j. omega arith)
 
-pub one_more_block : (boxes blocks : List Bounds) (n m : ℕ) (b : Bounds) → AreFirstBlocks boxes blocks n → 16 * n ≤ length boxes → m ≡ min (16 * n + 16) (length boxes) → All (λ a. IsWithinBox a b) (take (m - 16 * n) (drop (16 * n) boxes)) → AreFirstBlocks boxes (blocks ++ (b ∷ [])) (n + 1)
+pub one_more_block : (boxes blocks : List Bounds) (n m : ℕ) (b : Bounds) → AreFirstBlocks boxes blocks n
+    → 16 * n ≤ length boxes → m ≡ min (16 * n + 16) (length boxes)
+    → All (λ a. IsWithinBox a b) (take (m - 16 * n) (drop (16 * n) boxes))
+    → AreFirstBlocks boxes (blocks ++ (b ∷ [])) (n + 1)
 one_more_block boxes blocks n m b k h e all =
     let made = k.made in
     let here : All (λ a. IsWithinBox a b) (take 16 (drop (16 * n) boxes)) = subst (All (λ (a : Bounds). IsWithinBox a b)) (block_is boxes n m h e) all in
     record {
       made = longer blocks ∙ ap (λ (i : ℕ). i + 1) made;
-      holds = λ j x at. stands_in blocks b j x at (λ i y. All (λ a. IsWithinBox a y) (take 16 (drop (16 * i) boxes))) k.holds (subst (λ (i : ℕ). All (λ a. IsWithinBox a b) (take 16 (drop (16 * i) boxes))) (sym made) here);
+      holds = λ j x at. stands_in blocks b j x at (λ i y.
+          All (λ a. IsWithinBox a y) (take 16 (drop (16 * i) boxes))) k.holds
+          (subst (λ (i : ℕ). All (λ a. IsWithinBox a b) (take 16 (drop (16 * i) boxes))) (sym made) here);
     }
   where
     longer : (xs : List Bounds) → length (xs ++ (b ∷ [])) ≡ length xs + 1
@@ -100,12 +108,16 @@ all_blocks boxes blocks n k h l = let m = k.made in record { enough = omega arit
 pub no_groups : (boxes : List Bounds) → AreGroups boxes []
 no_groups boxes = record { within = omega arith; holds = λ k b e. cc }
 
-pub one_more_group : (boxes groups : List Bounds) (n : ℕ) (b : Bounds) → AreGroups boxes groups → length groups ≡ n → 256 * n + 256 ≤ length boxes → All (λ a. IsWithinBox a b) (take 256 (drop (256 * n) boxes)) → AreGroups boxes (groups ++ (b ∷ []))
+pub one_more_group : (boxes groups : List Bounds) (n : ℕ) (b : Bounds) → AreGroups boxes groups → length groups ≡ n
+    → 256 * n + 256 ≤ length boxes → All (λ a. IsWithinBox a b) (take 256 (drop (256 * n) boxes))
+    → AreGroups boxes (groups ++ (b ∷ []))
 one_more_group boxes groups n b k made h all =
     let l = longer groups b in
     record {
       within = omega arith;
-      holds = λ j x at. stands_in groups b j x at (λ i y. All (λ a. IsWithinBox a y) (take 256 (drop (256 * i) boxes))) k.holds (subst (λ (i : ℕ). All (λ a. IsWithinBox a b) (take 256 (drop (256 * i) boxes))) (sym made) all);
+      holds = λ j x at. stands_in groups b j x at (λ i y.
+          All (λ a. IsWithinBox a y) (take 256 (drop (256 * i) boxes))) k.holds
+          (subst (λ (i : ℕ). All (λ a. IsWithinBox a b) (take 256 (drop (256 * i) boxes))) (sym made) all);
     }
   where
     longer : (xs : List Bounds) (y : Bounds) → length (xs ++ (y ∷ [])) ≡ length xs + 1
@@ -152,11 +164,13 @@ module _ (lines : List Edge) where
   part_boxes ps n j = ap (take n) (drop-map (box_of lines) j ps) ∙ take-map (box_of lines) n (drop j ps)
 
   -- the box of a block holds its pieces
-  pub block_holds : (ps : List Piece) (blocks : List Bounds) (k : ℕ) (b : Bounds) → AreBlocks (boxes_of lines ps) blocks → slice_get blocks k ≡ Some b → All (HoldsPiece lines b) (take 16 (drop (16 * k) ps))
+  pub block_holds : (ps : List Piece) (blocks : List Bounds) (k : ℕ) (b : Bounds) → AreBlocks (boxes_of lines ps) blocks
+      → slice_get blocks k ≡ Some b → All (HoldsPiece lines b) (take 16 (drop (16 * k) ps))
   block_holds ps blocks k b are at = all_in b (take 16 (drop (16 * k) ps)) (subst (All (λ (a : Bounds). IsWithinBox a b)) (part_boxes ps 16 (16 * k)) (are.holds k b at))
 
   -- and that of a group its pieces
-  pub group_holds : (ps : List Piece) (groups : List Bounds) (k : ℕ) (b : Bounds) → AreGroups (boxes_of lines ps) groups → slice_get groups k ≡ Some b → All (HoldsPiece lines b) (take 256 (drop (256 * k) ps))
+  pub group_holds : (ps : List Piece) (groups : List Bounds) (k : ℕ) (b : Bounds) → AreGroups (boxes_of lines ps) groups
+      → slice_get groups k ≡ Some b → All (HoldsPiece lines b) (take 256 (drop (256 * k) ps))
   group_holds ps groups k b are at = all_in b (take 256 (drop (256 * k) ps)) (subst (All (λ (a : Bounds). IsWithinBox a b)) (part_boxes ps 256 (256 * k)) (are.holds k b at))
 
   -- a group lies in the list, and so do its blocks

@@ -113,7 +113,9 @@ negated h f l = omega (arith, ints)
 pub negation_fits : (h : ℤ) → FitsSigned w64 h → pos 0 ≤ℤ h → FitsSigned w64 (pos 0 -ℤ to_z w64 (of_z w64 h))
 negation_fits h f l = rw (to_z-of_z w64 h f) (negated h f l)
 
-pub beyond_left : (h v b : ℤ) → FitsSigned w64 h → FitsSigned w64 v → pos 0 ≤ℤ h → b ≤ℤ (pos 2 *ℤ h +ℤ pos 1) → int_lt (to_z w64 (of_z w64 v)) (to_z w64 (of_z w64 (pos 0 -ℤ to_z w64 (of_z w64 h)))) ≡ true → (pos 2 *ℤ v) <ℤ neg_ℤ b
+pub beyond_left : (h v b : ℤ) → FitsSigned w64 h → FitsSigned w64 v → pos 0 ≤ℤ h → b ≤ℤ (pos 2 *ℤ h +ℤ pos 1)
+    → int_lt (to_z w64 (of_z w64 v)) (to_z w64 (of_z w64 (pos 0 -ℤ to_z w64 (of_z w64 h)))) ≡ true
+    → (pos 2 *ℤ v) <ℤ neg_ℤ b
 beyond_left h v b f g l k t =
     let u = rw (to_z-of_z w64 v g, to_z-of_z w64 h f, to_z-of_z w64 (pos 0 -ℤ h) (negated h f l)) at t in
     let m = less v (pos 0 -ℤ h) u in

@@ -14,7 +14,7 @@ use Rattle.lv_segs.specs.declared.piece.Place.TheVariants.{Right, Left, Across}
 use Rattle.lv_segs.specs.Plane.{vertex_value, blur, dot}
 use Rattle.lv_segs.specs.Fractions.{IsFraction, exact_value, point_at, crossing}
 use Rattle.lv_segs.specs.Pieces.{edge_of, ray_of, first_end, last_end, same_place, IsPiece}
-use Rattle.lv_segs.specs.Division.{place_by, place_of, parts_by, parts_of, value_by, kept, cut_at}
+use Rattle.lv_segs.specs.Division.{place_by, place_of_piece, parts_by, parts_of, value_by, kept, cut_at}
 use Rattle.lv_segs.proofs.Rounding.{near_right, near_left}
 use Rattle.lv_segs.proofs.Crossing.{crossing_down, crossing_up, zero_there}
 use Rattle.lv_segs.proofs.Division.{same_vertex_is}
@@ -99,21 +99,33 @@ module _ (lines : List Edge) (partition p : Piece) (ok : IsPiece lines p) where
   end_left t f h = exact_left (ray_of lines partition) (edge_of lines p) t f h
 
   -- both ends on one side: the piece goes there whole
-  pub ends_right : IsWellRight (ray_of lines partition) (first_end lines p) → IsWellRight (ray_of lines partition) (last_end lines p) → parts_of lines partition p ≡ record { right = Some p; left = None }
-  ends_right h k = ap (parts_by lines partition p) (right_by_signs (value_by lines partition p p.from) (value_by lines partition p p.to) (dot (ray_of lines partition) (ray_of lines p)) (end_right p.from ok.from_in h) (end_right p.to ok.to_in k))
+  pub ends_right : IsWellRight (ray_of lines partition) (first_end lines p)
+      → IsWellRight (ray_of lines partition) (last_end lines p) → parts_of lines partition p
+      ≡ record { right = Some p; left = None }
+  ends_right h k = ap (parts_by lines partition p)
+      (right_by_signs (value_by lines partition p p.from) (value_by lines partition p p.to)
+      (dot (ray_of lines partition) (ray_of lines p)) (end_right p.from ok.from_in h) (end_right p.to ok.to_in k))
 
   pub ends_left : IsWellLeft (ray_of lines partition) (first_end lines p) → IsWellLeft (ray_of lines partition) (last_end lines p) → parts_of lines partition p ≡ record { right = None; left = Some p }
-  ends_left h k = ap (parts_by lines partition p) (left_by_signs (value_by lines partition p p.from) (value_by lines partition p p.to) (dot (ray_of lines partition) (ray_of lines p)) (end_left p.from ok.from_in h) (end_left p.to ok.to_in k))
+  ends_left h k = ap (parts_by lines partition p)
+      (left_by_signs (value_by lines partition p p.from) (value_by lines partition p p.to)
+      (dot (ray_of lines partition) (ray_of lines p)) (end_left p.from ok.from_in h) (end_left p.to ok.to_in k))
 
   -- a part whose ends differ is kept
   kept_is : (q : Piece) → same_place (first_end lines q) (last_end lines q) ≡ false → is_some (kept lines q) ≡ true
   kept_is q e = ap (λ (b : Bool). is_some (if b then None else Some q)) e
 
-  both_kept : (at : Frac) (b : Bool) → same_place (first_end lines p) (point_at (edge_of lines p) at) ≡ false → same_place (point_at (edge_of lines p) at) (last_end lines p) ≡ false → (is_some (cut_at lines p at b).right ≡ true) × (is_some (cut_at lines p at b).left ≡ true)
+  both_kept : (at : Frac) (b : Bool) → same_place (first_end lines p) (point_at (edge_of lines p) at) ≡ false
+      → same_place (point_at (edge_of lines p) at) (last_end lines p) ≡ false
+      → (is_some (cut_at lines p at b).right ≡ true) × (is_some (cut_at lines p at b).left ≡ true)
   both_kept at true e f = (kept_is (record p { to = at }) e, kept_is (record p { from = at }) f)
   both_kept at false e f = (kept_is (record p { from = at }) f, kept_is (record p { to = at }) e)
 
-  parted_by : place_of lines partition p ≡ Across → same_place (first_end lines p) (point_at (edge_of lines p) (crossing (ray_of lines partition) (edge_of lines p))) ≡ false → same_place (point_at (edge_of lines p) (crossing (ray_of lines partition) (edge_of lines p))) (last_end lines p) ≡ false → IsParted lines partition p
+  parted_by : place_of_piece lines partition p ≡ Across
+      → same_place (first_end lines p) (point_at (edge_of lines p)
+      (crossing (ray_of lines partition) (edge_of lines p))) ≡ false
+      → same_place (point_at (edge_of lines p) (crossing (ray_of lines partition) (edge_of lines p))) (last_end lines p)
+      ≡ false → IsParted lines partition p
   parted_by a e f =
       let k = both_kept (crossing (ray_of lines partition) (edge_of lines p)) (int_lt (pos 0) (value_by lines partition p p.from)) e f in
       record {
@@ -159,7 +171,8 @@ module _ (lines : List Edge) (partition p : Piece) (ok : IsPiece lines p) where
   parted_counts c k r l s =
       let a = k.right in
       let b = k.left in
-      piece_counts lines partition p (parts_of lines partition p) c refl (r ∙ ap one (sym a)) (l ∙ ap one (sym b)) (s ∙ both (is_some (parts_of lines partition p).right) (is_some (parts_of lines partition p).left) a b)
+      piece_counts lines partition p (parts_of lines partition p) c refl (r ∙ ap one (sym a)) (l ∙ ap one (sym b))
+      (s ∙ both (is_some (parts_of lines partition p).right) (is_some (parts_of lines partition p).left) a b)
     where
       both : (x y : Bool) → x ≡ true → y ≡ true → 1 ≡ one (x && y)
       both true true e f = refl
@@ -185,7 +198,9 @@ module _ (lines : List Edge) where
   part_ends ps n j = ap (take n) (drop-map (ends_of lines) j ps) ∙ take-map (ends_of lines) n (drop j ps)
 
   -- the ends of one more piece are noted
-  pub noted_more : (ps : List Piece) (es : List Ends) (n : ℕ) (e : Ends) (d : Piece) → n < length ps → n < length es → take n es ≡ all_ends lines (take n ps) → e ≡ ends_of lines (get_or ps n d) → take (n + 1) (set es n e) ≡ all_ends lines (take (n + 1) ps)
+  pub noted_more : (ps : List Piece) (es : List Ends) (n : ℕ) (e : Ends) (d : Piece) → n < length ps → n < length es
+      → take n es ≡ all_ends lines (take n ps) → e ≡ ends_of lines (get_or ps n d) → take (n + 1) (set es n e)
+      ≡ all_ends lines (take (n + 1) ps)
   noted_more ps es n e d h k same one =
       take_more_set es n e k ∙ ap (λ (xs : List Ends). xs ++ (e ∷ [])) same ∙ ap (λ (x : Ends). all_ends lines (take n ps) ++ (x ∷ [])) one
       ∙ sym (ap (all_ends lines) (take_more ps n d h) ∙ map-append (ends_of lines) (take n ps) (get_or ps n d ∷ []))

@@ -20,11 +20,15 @@ kept_one None = refl
 kept_one (Some x) = refl
 
 -- the counts of one piece, by its parts
-pub piece_counts : (lines : List Edge) (p q : Piece) (parts : Parts) (c : Counts) → parts ≡ parts_of lines p q → c.right ≡ one (is_some parts.right) → c.left ≡ one (is_some parts.left) → c.splits ≡ one (is_some parts.right && is_some parts.left) → AreCounts lines p (q ∷ []) c
+pub piece_counts : (lines : List Edge) (p q : Piece) (parts : Parts) (c : Counts) → parts ≡ parts_of lines p q → c.right
+    ≡ one (is_some parts.right) → c.left ≡ one (is_some parts.left) → c.splits
+    ≡ one (is_some parts.right && is_some parts.left) → AreCounts lines p (q ∷ []) c
 piece_counts lines p q parts c e r l s =
     let er : one (is_some parts.right) ≡ one (is_some (parts_of lines p q).right) = ap (λ (x : Parts). one (is_some x.right)) e in
     let el : one (is_some parts.left) ≡ one (is_some (parts_of lines p q).left) = ap (λ (x : Parts). one (is_some x.left)) e in
-    let es : one (is_some parts.right && is_some parts.left) ≡ one (is_some (parts_of lines p q).right && is_some (parts_of lines p q).left) = ap (λ (x : Parts). one (is_some x.right && is_some x.left)) e in
+    let es : one (is_some parts.right && is_some parts.left)
+    ≡ one (is_some (parts_of lines p q).right && is_some (parts_of lines p q).left) =
+    ap (λ (x : Parts). one (is_some x.right && is_some x.left)) e in
     record { splits = s ∙ es ∙ sym (zero-add _); right = r ∙ er ∙ sym (kept_one (parts_of lines p q).right); left = l ∙ el ∙ sym (kept_one (parts_of lines p q).left) }
 
 -- the counts after one more piece
@@ -34,7 +38,11 @@ pub record Stepped (lines : List Edge) (p : Piece) (ps : List Piece) (n : ℕ) (
   pub left : c.left ≤ n + 1
   pub splits : c.splits ≤ n + 1
 
-pub stepped : (lines : List Edge) (p : Piece) (ps : List Piece) (d : Piece) (n : ℕ) (before more after : Counts) → n < length ps → Counted lines p ps (drop n ps) before.right before.left before.splits → before.right ≤ n → before.left ≤ n → before.splits ≤ n → AreCounts lines p (get_or ps n d ∷ []) more → after.right ≡ before.right + more.right → after.left ≡ before.left + more.left → after.splits ≡ before.splits + more.splits → Stepped lines p ps n after
+pub stepped : (lines : List Edge) (p : Piece) (ps : List Piece) (d : Piece) (n : ℕ) (before more after : Counts)
+    → n < length ps → Counted lines p ps (drop n ps) before.right before.left before.splits → before.right ≤ n
+    → before.left ≤ n → before.splits ≤ n → AreCounts lines p (get_or ps n d ∷ []) more → after.right ≡ before.right
+    + more.right → after.left ≡ before.left + more.left → after.splits ≡ before.splits + more.splits
+    → Stepped lines p ps n after
 stepped lines p ps d n before more after h k hr hl hs a er el es =
     let q = get_or ps n d in
     let e : drop n ps ≡ (q ∷ []) ++ drop (n + 1) ps = drop-cons ps n d h ∙ ap (λ (i : ℕ). q ∷ drop i ps) (sym (add-one n)) in

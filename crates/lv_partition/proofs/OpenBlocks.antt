@@ -1,6 +1,6 @@
 -- The blocks of a list are sorted one after another, and the open ones counted one after another.
-use Rattle.std.proofs.Common.{◌≡◌, refl, sym, ap, ◌∙◌, subst, ℕ, zero, suc, ◌+◌, ◌*◌, ◌-◌, ◌<◌, ◌≤◌, min, List, [], ◌∷◌, ◌++◌, length, take, drop, set, get_or, flat_map, Some, slice_get, drop-cons, arith, All}
-use Rattle.std.proofs.lemmas.List.{length-take, length-drop, length-append, length-set, append-nil, append_assoc, take_all, take_more_set, get_or-take, drop_all}
+use Rattle.std.proofs.Common.{◌≡◌, refl, sym, ap, ◌∙◌, subst, ℕ, zero, suc, ◌+◌, ◌*◌, ◌<◌, ◌≤◌, List, [], ◌∷◌, ◌++◌, length, take, drop, set, get_or, drop-cons, arith, All}
+use Rattle.std.proofs.lemmas.List.{length-take, length-append, length-set, take-set, append-nil, append_assoc, take_all, take_more_set, get_or-take, drop_all}
 use Rattle.std.proofs.lemmas.List.Elements.{All-nil, All-cons, All-append, All-get_or}
 use Rattle.lv_segs.specs.declared.edge.Edge.{Edge}
 use Rattle.lv_segs.specs.declared.piece.Piece.{Piece}
@@ -25,19 +25,34 @@ front (suc n) j (x ∷ xs) = let e : suc (n + j) ≡ suc n + j = omega arith in 
 -- the pieces of one more block
 pub one_more_in : (ps : List Piece) (ks : List ℕ) (k : ℕ) → pieces_in ps (ks ++ (k ∷ [])) ≡ pieces_in ps ks ++ take 16 (drop (16 * k) ps)
 one_more_in ps [] k = append-nil (take 16 (drop (16 * k) ps))
-one_more_in ps (j ∷ ks) k = ap (λ (qs : List Piece). take 16 (drop (16 * j) ps) ++ qs) (one_more_in ps ks k) ∙ sym (append_assoc (take 16 (drop (16 * j) ps)) (pieces_in ps ks) (take 16 (drop (16 * k) ps)))
+one_more_in ps (j ∷ ks) k = ap (λ (qs : List Piece). take 16 (drop (16 * j) ps) ++ qs) (one_more_in ps ks k)
+    ∙ sym (append_assoc (take 16 (drop (16 * j) ps)) (pieces_in ps ks) (take 16 (drop (16 * k) ps)))
 
 module _ (lines : List Edge) (p : Piece) (ps : List Piece) where
   -- the same by equal numbers
-  pub same_sorted : (n n' : ℕ) (r r' l l' m m' : ℕ) (noted noted' : List ℕ) → IsSorted lines p ps n (record { right = r; left = l; count = m }) noted → n' ≡ n → r' ≡ r → l' ≡ l → m' ≡ m → noted' ≡ noted → IsSorted lines p ps n' (record { right = r'; left = l'; count = m' }) noted'
+  pub same_sorted : (n n' : ℕ) (r r' l l' m m' : ℕ) (noted noted' : List ℕ)
+      → IsSorted lines p ps n (record { right = r; left = l; count = m }) noted → n' ≡ n → r' ≡ r → l' ≡ l → m' ≡ m
+      → noted' ≡ noted → IsSorted lines p ps n' (record { right = r'; left = l'; count = m' }) noted'
   same_sorted n n' r r' l l' m m' noted noted' h a b c d e = rw (a, b, c, d, e) h
 
   -- no piece is sorted yet
   pub none_sorted : (noted : List ℕ) → IsSorted lines p ps 0 (record { right = 0; left = 0; count = 0 }) noted
   none_sorted noted = record { right = refl; left = refl; splits = refl; others = refl; begin = All-nil (λ (k : ℕ). 16 * k < length ps); few = omega arith; fewer = omega arith }
 
+  -- what stands behind the open blocks is no matter
+  pub spare_sorted : (n r l m k : ℕ) (noted : List ℕ) → IsSorted lines p ps n (record { right = r; left = l; count = m }) noted
+      → IsSorted lines p ps n (record { right = r; left = l; count = m }) (set noted m k)
+  spare_sorted n r l m k noted h =
+      let t = take-set noted m k in
+      let w = length-set noted m k in
+      let f = h.few in
+      record { right = rw t h.right; left = rw t h.left; splits = rw t h.splits; others = rw t h.others; begin = rw t h.begin; few = omega arith; fewer = h.fewer }
+
   -- a part that goes to one side whole
-  pub part_sorted : (n j : ℕ) (r l m a b : ℕ) (noted : List ℕ) → IsSorted lines p ps n (record { right = r; left = l; count = m }) noted → Contributes lines p (take j (drop n ps)) a b → a + b ≡ length (take j (drop n ps)) → IsSorted lines p ps (n + j) (record { right = r + a; left = l + b; count = m }) noted
+  pub part_sorted : (n j : ℕ) (r l m a b : ℕ) (noted : List ℕ)
+      → IsSorted lines p ps n (record { right = r; left = l; count = m }) noted
+      → Contributes lines p (take j (drop n ps)) a b → a + b ≡ length (take j (drop n ps))
+      → IsSorted lines p ps (n + j) (record { right = r + a; left = l + b; count = m }) noted
   part_sorted n j r l m a b noted h c whole =
       let e = front n j ps in
       let er = ap (rights lines p) e in
@@ -60,7 +75,10 @@ module _ (lines : List Edge) (p : Piece) (ps : List Piece) where
       record { right = omega arith; left = omega arith; splits = omega arith; others = omega arith; begin = h.begin; few = f; fewer = omega arith }
 
   -- an open block
-  pub open_sorted : (k : ℕ) (r l m : ℕ) (noted : List ℕ) → IsSorted lines p ps (16 * k) (record { right = r; left = l; count = m }) noted → m < length noted → 16 * k < length ps → IsSorted lines p ps (16 * k + 16) (record { right = r; left = l; count = m + 1 }) (set noted m k)
+  pub open_sorted : (k : ℕ) (r l m : ℕ) (noted : List ℕ)
+      → IsSorted lines p ps (16 * k) (record { right = r; left = l; count = m }) noted → m < length noted
+      → 16 * k < length ps → IsSorted lines p ps (16 * k + 16) (record { right = r; left = l; count = m + 1 })
+      (set noted m k)
   open_sorted k r l m noted h room within =
       let block = take 16 (drop (16 * k) ps) in
       let before = take (16 * k) ps in
@@ -96,7 +114,9 @@ module _ (lines : List Edge) (p : Piece) (ps : List Piece) where
         left = omega arith;
         splits = omega arith;
         others = omega arith;
-        begin = subst (All (λ (j : ℕ). 16 * j < length ps)) (sym t) (All-append (λ (j : ℕ). 16 * j < length ps) (take m noted) (k ∷ []) h.begin (All-cons (λ (j : ℕ). 16 * j < length ps) k [] within (All-nil (λ (j : ℕ). 16 * j < length ps))));
+        begin = subst (All (λ (j : ℕ). 16 * j < length ps)) (sym t)
+            (All-append (λ (j : ℕ). 16 * j < length ps) (take m noted) (k ∷ []) h.begin
+            (All-cons (λ (j : ℕ). 16 * j < length ps) k [] within (All-nil (λ (j : ℕ). 16 * j < length ps))));
         few = omega arith;
         fewer = omega arith;
       }
@@ -151,7 +171,9 @@ module _ (lines : List Edge) (p : Piece) (ps : List Piece) where
   next_open m n noted h room =
       let w = length-take m noted in
       let e : suc n ≡ n + 1 = omega arith in
-      ap (pieces_in ps) (drop-cons (take m noted) n 0 (omega arith) ∙ ap (λ (k : ℕ). k ∷ drop (suc n) (take m noted)) (get_or-take m noted n 0 h) ∙ ap (λ (i : ℕ). get_or noted n 0 ∷ drop i (take m noted)) e)
+      ap (pieces_in ps) (drop-cons (take m noted) n 0 (omega arith)
+      ∙ ap (λ (k : ℕ). k ∷ drop (suc n) (take m noted)) (get_or-take m noted n 0 h)
+      ∙ ap (λ (i : ℕ). get_or noted n 0 ∷ drop i (take m noted)) e)
 
   -- an open block begins in the list
   pub begins : (n : ℕ) (s : Sorted) (noted : List ℕ) → IsSorted lines p ps (length ps) s noted → n < s.count → 16 * get_or noted n 0 < length ps
@@ -161,13 +183,17 @@ module _ (lines : List Edge) (p : Piece) (ps : List Piece) where
       subst (λ (j : ℕ). 16 * j < length ps) (get_or-take s.count noted n 0 k) (All-get_or (λ (j : ℕ). 16 * j < length ps) (take s.count noted) n 0 (omega arith) h.begin)
 
   -- it is counted
-  pub open_counted : (m n : ℕ) (noted : List ℕ) (r l s : ℕ) (c : Counts) → n < m → m ≤ length noted → Counted lines p ps (pieces_in ps (drop n (take m noted))) r l s → AreCounts lines p (take 16 (drop (16 * get_or noted n 0) ps)) c → Counted lines p ps (pieces_in ps (drop (n + 1) (take m noted))) (r + c.right) (l + c.left) (s + c.splits)
+  pub open_counted : (m n : ℕ) (noted : List ℕ) (r l s : ℕ) (c : Counts) → n < m → m ≤ length noted
+      → Counted lines p ps (pieces_in ps (drop n (take m noted))) r l s
+      → AreCounts lines p (take 16 (drop (16 * get_or noted n 0) ps)) c
+      → Counted lines p ps (pieces_in ps (drop (n + 1) (take m noted))) (r + c.right) (l + c.left) (s + c.splits)
   open_counted m n noted r l s c h room k a =
       let k' = subst (λ (qs : List Piece). Counted lines p ps qs r l s) (next_open m n noted h room) k in
       block_counted lines p ps (take 16 (drop (16 * get_or noted n 0) ps)) (pieces_in ps (drop (n + 1) (take m noted))) r l s c.right c.left c.splits k' (sym a.right) (sym a.left) (sym a.splits)
 
   -- so many are left
-  pub open_rest : (m n : ℕ) (noted : List ℕ) → n < m → m ≤ length noted → length (pieces_in ps (drop n (take m noted))) ≡ length (take 16 (drop (16 * get_or noted n 0) ps)) + length (pieces_in ps (drop (n + 1) (take m noted)))
+  pub open_rest : (m n : ℕ) (noted : List ℕ) → n < m → m ≤ length noted → length (pieces_in ps (drop n (take m noted)))
+      ≡ length (take 16 (drop (16 * get_or noted n 0) ps)) + length (pieces_in ps (drop (n + 1) (take m noted)))
   open_rest m n noted h room = ap (λ (qs : List Piece). length qs) (next_open m n noted h room) ∙ length-append (take 16 (drop (16 * get_or noted n 0) ps)) (pieces_in ps (drop (n + 1) (take m noted)))
 
   -- behind the last one all is counted

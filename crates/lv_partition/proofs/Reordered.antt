@@ -25,7 +25,9 @@ one_more {Y} (Some y) ys = let a : weight (Some y) ≡ 1 = refl in let b : lengt
 -- what is kept of a list is the sum of what is kept of each element
 kept_sum : {X Y : Type 0} (f : X → Option Y) (xs : List X) → length (filter_map f xs) ≡ sum_by (λ x. weight (f x)) xs
 kept_sum f [] = refl
-kept_sum {X} {Y} f (x ∷ xs) = by_numbers _ _ _ _ (sum_by (λ (z : X). weight (f z)) (x ∷ [])) (weight (f x)) (one_more (f x) (filter_map f xs)) (kept_sum f xs) (sum_by-append (λ (z : X). weight (f z)) (x ∷ []) xs) refl
+kept_sum {X} {Y} f (x ∷ xs) =
+    by_numbers _ _ _ _ (sum_by (λ (z : X). weight (f z)) (x ∷ [])) (weight (f x)) (one_more (f x) (filter_map f xs))
+    (kept_sum f xs) (sum_by-append (λ (z : X). weight (f z)) (x ∷ []) xs) refl
   where
     by_numbers : (a b c d e v : ℕ) → a ≡ v + b → b ≡ c → d ≡ e + c → e ≡ 0 + v → a ≡ d
     by_numbers a b c d e v s t u z = omega arith

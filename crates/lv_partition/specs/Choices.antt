@@ -7,7 +7,8 @@ use Rattle.lv_segs.specs.Tree.{is_split, IsBestAt}
 use Rattle.lv_partition.specs.declared.choice.Choice.{Choice}
 
 -- the piece at the place answered is the best candidate, and the counts are its counts
-pub record IsChoice (lines : List Edge) (ps : List Piece) (used : List Bool) (c : Choice) : Type 0 where
+pub record IsChoice (lines : List Edge) (ps : List Piece) (used : List Bool) (c : Choice) :
+    Type 0 where
   pub piece : Piece
   pub best : IsBestAt lines ps used c.at piece
   pub splits : c.splits ≡ count_by (is_split lines piece) ps
@@ -15,7 +16,8 @@ pub record IsChoice (lines : List Edge) (ps : List Piece) (used : List Bool) (c 
   pub left : c.left ≡ length (left_parts lines piece ps)
 
 -- an earlier piece of an unused line, on whose straight line the piece at the place n lies
-pub record HasEarlier (lines : List Edge) (ps : List Piece) (used : List Bool) (n : ℕ) (p : Piece) : Type 0 where
+pub record HasEarlier (lines : List Edge) (ps : List Piece) (used : List Bool) (n : ℕ) (p : Piece) :
+    Type 0 where
   pub place : ℕ
   pub piece : Piece
   pub before : place < n

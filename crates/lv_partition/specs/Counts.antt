@@ -7,7 +7,8 @@ use Rattle.lv_segs.specs.Tree.{is_split}
 use Rattle.lv_partition.specs.declared.counts.Counts.{Counts}
 
 -- the counts are those of the list
-pub record AreCounts (lines : List Edge) (partition : Piece) (ps : List Piece) (c : Counts) : Type 0 where
+pub record AreCounts (lines : List Edge) (partition : Piece) (ps : List Piece) (c : Counts) :
+    Type 0 where
   pub splits : c.splits ≡ count_by (is_split lines partition) ps
   pub right : c.right ≡ length (right_parts lines partition ps)
   pub left : c.left ≡ length (left_parts lines partition ps)

@@ -9,13 +9,15 @@ use Rattle.lv_partition.specs.declared.counts.Counts.{Counts}
 use Rattle.lv_partition.specs.Counts.{cost_by}
 
 -- the candidate of a choice is the first of those that cost least among the first n pieces
-pub record IsBestBefore (lines : List Edge) (ps : List Piece) (used : List Bool) (n : ℕ) (c : Choice) : Type 0 where
+pub record IsBestBefore (lines : List Edge) (ps : List Piece) (used : List Bool) (n : ℕ)
+    (c : Choice) : Type 0 where
   pub piece : Piece
   pub stands : slice_get ps c.at ≡ Some piece
   pub candidate : IsCandidate lines ps used piece
   pub least : (j : ℕ) (q : Piece) → j < n → slice_get ps j ≡ Some q → IsCandidate lines ps used q →
       cost lines piece ps ≤ cost lines q ps
-  pub first : (j : ℕ) (q : Piece) → j < c.at → slice_get ps j ≡ Some q → IsCandidate lines ps used q →
+  pub first : (j : ℕ) (q : Piece) → j < c.at → slice_get ps j ≡ Some q
+      → IsCandidate lines ps used q →
       cost lines piece ps < cost lines q ps
   pub splits : c.splits ≡ count_by (is_split lines piece) ps
   pub right : c.right ≡ length (right_parts lines piece ps)

@@ -10,13 +10,16 @@ use Rattle.lv_partition.specs.declared.sorting.Sorted.{Sorted}
 abbrev pub pieces_in : List Piece → List ℕ → List Piece
 pieces_in ps ks = flat_map (λ k. take 16 (drop (16 * k) ps)) ks
 
--- so many pieces lie whole on the right and on the left, and all others of the first n in the open blocks
-pub record IsSorted (lines : List Edge) (p : Piece) (ps : List Piece) (n : ℕ) (s : Sorted) (noted : List ℕ) : Type 0 where
+-- so many pieces lie whole on the right and on the left, and all others of the first n in the open
+-- blocks
+pub record IsSorted (lines : List Edge) (p : Piece) (ps : List Piece) (n : ℕ) (s : Sorted)
+    (noted : List ℕ) : Type 0 where
   pub right : length (right_parts lines p (take n ps)) ≡
       s.right + length (right_parts lines p (pieces_in ps (take s.count noted)))
   pub left : length (left_parts lines p (take n ps)) ≡
       s.left + length (left_parts lines p (pieces_in ps (take s.count noted)))
-  pub splits : count_by (is_split lines p) (take n ps) ≡ count_by (is_split lines p) (pieces_in ps (take s.count noted))
+  pub splits : count_by (is_split lines p) (take n ps)
+      ≡ count_by (is_split lines p) (pieces_in ps (take s.count noted))
   pub others : length (take n ps) ≡ s.right + s.left + length (pieces_in ps (take s.count noted))
   pub begin : All (λ k. 16 * k < length ps) (take s.count noted)
   pub few : s.count ≤ length noted

@@ -1,5 +1,5 @@
 //! The blocks of a list sorted by a partition: those whole on one side, and those that their boxes leave open.
-ghost use Rattle.std.specs.Prelude.{◌≡◌, ◌+◌, ◌*◌, ◌≤◌, ◌<◌, ◌^◌, length, take, drop, All};
+ghost use Rattle.std.specs.Prelude.{◌≡◌, ◌+◌, ◌*◌, ◌≤◌, ◌<◌, ◌^◌, ◌&&◌, ◌||◌, not, if◌then◌else◌, length, take, drop, All};
 ghost use Rattle.lv_segs.specs.Plane.{IsEdge};
 ghost use Rattle.lv_segs.specs.Pieces.{IsPiece, ray_of};
 ghost use Rattle.lv_segs.specs.Boxes.{HoldsPiece, boxes_of};
@@ -8,7 +8,7 @@ ghost use Rattle.lv_partition.specs.Sights.{IsSight};
 ghost use Rattle.lv_partition.specs.Sorting.{IsSorted};
 
 use crate::block_boxes::{BLOCK, GROUP};
-use crate::box_place::side_of_box;
+use crate::box_place::{BoxSides, side_of_box, sides_of_box};
 use crate::sight::Sight;
 use lv_lumps::Bounds;
 use lv_segs::{Edge, Piece, Place};
@@ -19,6 +19,22 @@ pub(crate) struct Sorted {
     pub right: usize,
     pub left: usize,
     pub count: usize,
+}
+
+// What one block adds: its pieces on the right, or else on the left, or else an open block.
+fn added(sides: BoxSides, size: usize) -> Sorted
+    requires { size ≤ 16 }
+    ensures right { result.right ≡ (if sides.right then size else 0) }
+    ensures left { result.left ≡ (if not sides.right && sides.left then size else 0) }
+    ensures count { result.count ≡ (if sides.right || sides.left then 0 else 1) }
+{
+    let left = !sides.right & sides.left;
+    let open = !(sides.right | sides.left);
+    Sorted {
+        right: size * sides.right as usize,
+        left: size * left as usize,
+        count: open as usize,
+    }
 }
 
 // Sorts the blocks from one to another, each by its box.
@@ -51,14 +67,12 @@ fn sort_blocks(
     let mut count = sorted.count;
     for k in from..to {
         let size = BLOCK.min(pieces.len() - BLOCK * k);
-        match side_of_box(sight, blocks[k]) {
-            Place::Right => right += size,
-            Place::Left => left += size,
-            Place::Across => {
-                noted[count] = k as u32;
-                count += 1;
-            }
-        }
+        // where the block isn't open, the next open one's number is written over it
+        noted[count] = k as u32;
+        let more = added(sides_of_box(sight, blocks[k]), size);
+        right += more.right;
+        left += more.left;
+        count += more.count;
     }
     Sorted { right, left, count }
 }

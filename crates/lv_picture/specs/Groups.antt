@@ -16,13 +16,15 @@ players = (pos 1, pos 4) ∷ []
 -- the monsters
 abbrev pub monsters : List (ℤ × ℤ)
 monsters =
-    (pos 7, pos 7) ∷ (pos 9, pos 9) ∷ (pos 16, pos 16) ∷ (pos 58, pos 58) ∷ (pos 64, pos 69) ∷ (pos 71, pos 72)
+    (pos 7, pos 7) ∷ (pos 9, pos 9) ∷ (pos 16, pos 16) ∷ (pos 58, pos 58) ∷ (pos 64, pos 69)
+    ∷ (pos 71, pos 72)
     ∷ (pos 84, pos 84) ∷ (pos 88, pos 88) ∷ (pos 3001, pos 3006) ∷ []
 
 -- weapons, ammunition, keys and whatever else a player picks up
 abbrev pub items : List (ℤ × ℤ)
 items =
-    (pos 5, pos 6) ∷ (pos 8, pos 8) ∷ (pos 13, pos 13) ∷ (pos 17, pos 17) ∷ (pos 38, pos 40) ∷ (pos 82, pos 83)
+    (pos 5, pos 6) ∷ (pos 8, pos 8) ∷ (pos 13, pos 13) ∷ (pos 17, pos 17) ∷ (pos 38, pos 40)
+    ∷ (pos 82, pos 83)
     ∷ (pos 2001, pos 2008) ∷ (pos 2010, pos 2015) ∷ (pos 2018, pos 2019) ∷ (pos 2022, pos 2026)
     ∷ (pos 2045, pos 2049) ∷ []
 
@@ -41,7 +43,8 @@ is_item kind = is_among items kind
 -- the group of a type
 abbrev pub group_of : ℤ → Group
 group_of kind =
-    if is_player kind then Player else if int_eq kind (pos 11) then Deathmatch else if is_monster kind then Monster
+    if is_player kind then Player else if int_eq kind (pos 11) then Deathmatch
+    else if is_monster kind then Monster
     else if is_item kind then Item else Other
 
 -- the class of a group's marks

@@ -1,11 +1,8 @@
-pub mod Errors
 pub mod Groups
 pub mod Items
 pub mod Lines
 pub mod Numbers
 pub mod Picture
-pub mod Places
-pub mod Texts
 pub mod Things
 pub mod Vertices
 pub mod View

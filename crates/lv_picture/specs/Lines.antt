@@ -4,11 +4,11 @@ use Rattle.std.specs.Fmt.{signed_decimal}
 use Rattle.lv_lumps.specs.declared.records.Line.{Line}
 use Rattle.lv_lumps.specs.Sides.{has_left, is_two_sided}
 use Rattle.lv_maptables.specs.Tables.{Tables}
-use Rattle.lv_picture.specs.Texts.{joined}
+use Rattle.lv_svg.specs.Texts.{joined, path_text}
 use Rattle.lv_picture.specs.Items.{sector_of, vertex_of}
-use Rattle.lv_picture.specs.Places.{middle_of, right_of, spot_of}
-use Rattle.lv_picture.specs.declared.places.Spot.{Spot}
-use Rattle.lv_picture.specs.declared.places.Shift.{Shift}
+use Rattle.lv_svg.specs.Places.{middle_of, shift_right, spot_of}
+use Rattle.lv_svg.specs.declared.places.Spot.{Spot}
+use Rattle.lv_svg.specs.declared.places.Shift.{Shift}
 
 -- the class by a line's flags
 abbrev pub width_class : Line → List ℕ
@@ -23,7 +23,8 @@ unfoldable pub ends_text : ℕ → Line → List ℕ
 ends_text n l =
     joined
     (codes "<g id=\"line" ∷ decimal n ∷ codes "\" class=\"" ∷ width_class l ∷ special_class l
-    ∷ codes "\">\n<title>line " ∷ decimal n ∷ codes ": vertices " ∷ decimal l.v1 ∷ codes " " ∷ decimal l.v2 ∷ [])
+    ∷ codes "\">\n<title>line " ∷ decimal n ∷ codes ": vertices " ∷ decimal l.v1 ∷ codes " "
+    ∷ decimal l.v2 ∷ [])
 
 -- the title goes on with the flags, the special, the tag and the right side
 unfoldable pub fields_text : Tables → Line → List ℕ
@@ -36,33 +37,31 @@ fields_text m l =
 -- a left side and its sector
 unfoldable pub left_side_text : ℕ → ℕ → List ℕ
 left_side_text left sector =
-    joined (codes ", left side " ∷ decimal left ∷ codes " (sector " ∷ decimal sector ∷ codes ")" ∷ [])
+    joined (codes ", left side " ∷ decimal left ∷ codes " (sector " ∷ decimal sector ∷ codes ")"
+    ∷ [])
 
 -- and with the left side
 unfoldable pub left_text : Tables → Line → List ℕ
-left_text m l = if has_left l then left_side_text l.left (sector_of m l.left) else codes ", no left side"
+left_text m l = if has_left l then left_side_text l.left (sector_of m l.left)
+    else codes ", no left side"
 
 -- the element's beginning and the whole of the title
 unfoldable pub title_text : Tables → ℕ → Line → List ℕ
 title_text m n l = ends_text n l ++ fields_text m l ++ left_text m l
 
--- the title's end, and the line itself
-unfoldable pub path_text : Spot → Spot → List ℕ
-path_text from to =
-    joined
-    (codes "</title>\n<path d=\"M" ∷ signed_decimal from.x ∷ codes " " ∷ signed_decimal from.y
-    ∷ codes "L" ∷ signed_decimal to.x ∷ codes " " ∷ signed_decimal to.y ∷ codes "\"/>" ∷ [])
-
 -- a tick from the line's middle to its right side, and the element's end
 unfoldable pub tick_text : Spot → Shift → List ℕ
 tick_text middle right =
     joined
-    (codes "<path class=\"tick\" d=\"M" ∷ signed_decimal middle.x ∷ codes " " ∷ signed_decimal middle.y
-    ∷ codes "l" ∷ signed_decimal right.dx ∷ codes " " ∷ signed_decimal right.dy ∷ codes "\"/></g>\n" ∷ [])
+    (codes "<path class=\"tick\" d=\"M" ∷ signed_decimal middle.x ∷ codes " "
+    ∷ signed_decimal middle.y
+    ∷ codes "l" ∷ signed_decimal right.dx ∷ codes " " ∷ signed_decimal right.dy ∷ codes "\"/></g>\n"
+    ∷ [])
 
 -- the element of a line of the map, its tick of this length
 unfoldable pub line_text : Tables → ℕ → ℕ → Line → List ℕ
 line_text m step n l =
     let from = vertex_of m l.v1 in
     let to = vertex_of m l.v2 in
-    title_text m n l ++ path_text (spot_of from) (spot_of to) ++ tick_text (middle_of from to) (right_of from to step)
+    title_text m n l ++ path_text (spot_of from) (spot_of to)
+    ++ tick_text (middle_of from to) (shift_right from to step)

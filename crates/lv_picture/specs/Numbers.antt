@@ -7,11 +7,11 @@ use Rattle.lv_lumps.specs.declared.records.Vertex.{Vertex}
 use Rattle.lv_lumps.specs.Drawing.{squared_distance}
 use Rattle.lv_lumps.specs.Sides.{has_left}
 use Rattle.lv_maptables.specs.Tables.{Tables}
-use Rattle.lv_picture.specs.Texts.{joined}
+use Rattle.lv_svg.specs.Texts.{joined}
 use Rattle.lv_picture.specs.Items.{sector_of, vertex_of}
-use Rattle.lv_picture.specs.Places.{middle_of, right_of, spot_of}
-use Rattle.lv_picture.specs.declared.places.Spot.{Spot}
-use Rattle.lv_picture.specs.declared.places.Shift.{Shift}
+use Rattle.lv_svg.specs.Places.{middle_of, shift_right, spot_of}
+use Rattle.lv_svg.specs.declared.places.Spot.{Spot}
+use Rattle.lv_svg.specs.declared.places.Shift.{Shift}
 
 -- the text of a number begins: its class, and the place beside which it stands
 unfoldable pub anchor_text : List ℕ → Spot → List ℕ
@@ -24,7 +24,8 @@ anchor_text class p =
 unfoldable pub beside_text : Shift → ℕ → List ℕ
 beside_text s n =
     joined
-    (codes " dx=\"" ∷ signed_decimal s.dx ∷ codes "\" dy=\"" ∷ signed_decimal s.dy ∷ codes "\">" ∷ decimal n
+    (codes " dx=\"" ∷ signed_decimal s.dx ∷ codes "\" dy=\"" ∷ signed_decimal s.dy ∷ codes "\">"
+    ∷ decimal n
     ∷ codes "</text>\n" ∷ [])
 
 -- a number of a class, beside a place
@@ -48,7 +49,7 @@ line_middle m l = middle_of (vertex_of m l.v1) (vertex_of m l.v2)
 unfoldable pub line_number : Tables → ℕ → ℕ → Line → List ℕ
 line_number m step n l =
     number_text (codes "of-line") (line_middle m l)
-    (right_of (vertex_of m l.v2) (vertex_of m l.v1) step) n
+    (shift_right (vertex_of m l.v2) (vertex_of m l.v1) step) n
 
 -- the line has the sector on a side
 abbrev pub bounds : Tables → ℕ → Line → Bool
@@ -61,7 +62,8 @@ squared_len m l = squared_distance (vertex_of m l.v1) (vertex_of m l.v2)
 -- the longest line so far of a sector, after one line more
 abbrev pub longer : Tables → ℕ → Option Line → Line → Option Line
 longer m s longest l =
-    if bounds m s l && nat_lt (option_map_or (squared_len m) longest 0) (squared_len m l) then Some l else longest
+    if bounds m s l && nat_lt (option_map_or (squared_len m) longest 0) (squared_len m l)
+    then Some l else longest
 
 -- the longest of a sector's lines, the first of them where several are
 abbrev pub longest_line : Tables → ℕ → Option Line
@@ -72,9 +74,11 @@ abbrev pub sector_shift : Tables → ℕ → ℕ → Line → Shift
 sector_shift m step s l =
     let from = vertex_of m l.v1 in
     let to = vertex_of m l.v2 in
-    if sector_of m l.right == s then right_of from to (3 * step) else right_of to from (3 * step)
+    if sector_of m l.right == s then shift_right from to (3 * step)
+    else shift_right to from (3 * step)
 
 -- a sector's number, inside it beside the longest of its lines; none where it has no line
 unfoldable pub sector_number : Tables → ℕ → ℕ → List ℕ
 sector_number m step n =
-    option_map_or (λ l. number_text (codes "of-sector") (line_middle m l) (sector_shift m step n l) n) (longest_line m n) []
+    option_map_or (λ l. number_text (codes "of-sector") (line_middle m l)
+    (sector_shift m step n l) n) (longest_line m n) []

@@ -1,14 +1,16 @@
 -- The whole picture.
-use Rattle.std.specs.Prelude.{ℕ, Bool, true, false, List, [], ◌∷◌, ◌++◌, flat_map, slice_get, codes, decimal}
+use Rattle.std.specs.Prelude.{ℕ, Bool, true, false, List, [], ◌∷◌, ◌++◌, flat_map, codes, decimal}
 use Rattle.std.specs.Fmt.{signed_decimal}
 use Rattle.std.specs.List.{range_with_len}
-use Rattle.std.specs.Option.{option_map_or}
 use Rattle.lv_lumps.specs.Names.{name_text}
 use Rattle.lv_lumps.specs.declared.records.Name8.{Name8}
 use Rattle.lv_maptables.specs.declared.kind.Kind.{Kind}
 use Rattle.lv_maptables.specs.declared.kind.Kind.TheVariants as kind
 use Rattle.lv_maptables.specs.Tables.{Tables, count_of}
-use Rattle.lv_picture.specs.Texts.{joined}
+use Rattle.lv_svg.specs.Overlays.{overlay_text}
+use Rattle.lv_svg.specs.Texts.{joined, of_item}
+use Rattle.lv_svg.specs.declared.overlay.Overlay.{Overlay}
+use Rattle.lv_svg.specs.declared.places.Spot.{Spot}
 use Rattle.lv_picture.specs.declared.style.TheConstants.{STYLE}
 use Rattle.lv_picture.specs.declared.parts.Part.{Part}
 use Rattle.lv_picture.specs.declared.parts.Part.TheVariants.{Lines, Things, Vertices, VertexNumbers, LineNumbers, SectorNumbers}
@@ -24,20 +26,23 @@ use Rattle.lv_picture.specs.View.{view_of}
 unfoldable pub opening_text : View → List ℕ
 opening_text v =
     joined
-    (codes "<svg xmlns=\"http://www.w3.org/2000/svg\" version=\"1.1\" width=\"100%\"\nviewBox=\""
-    ∷ signed_decimal v.left ∷ codes " " ∷ signed_decimal v.top ∷ codes " " ∷ decimal v.width ∷ codes " "
+    (codes "<svg class=\"leveled\" xmlns=\"http://www.w3.org/2000/svg\" version=\"1.1\" width=\"100%\"\nviewBox=\""
+    ∷ signed_decimal v.left ∷ codes " " ∷ signed_decimal v.top ∷ codes " " ∷ decimal v.width
+    ∷ codes " "
     ∷ decimal v.height ∷ codes "\" font-size=\"" ∷ decimal v.step ∷ codes "\">\n<title>" ∷ [])
 
 -- the page on which the map is drawn
 unfoldable pub page_text : View → List ℕ
 page_text v =
     joined
-    (codes "<rect class=\"page\" x=\"" ∷ signed_decimal v.left ∷ codes "\" y=\"" ∷ signed_decimal v.top
-    ∷ codes "\" width=\"" ∷ decimal v.width ∷ codes "\" height=\"" ∷ decimal v.height ∷ codes "\"/>\n" ∷ [])
+    (codes "<rect class=\"page\" x=\"" ∷ signed_decimal v.left ∷ codes "\" y=\""
+    ∷ signed_decimal v.top
+    ∷ codes "\" width=\"" ∷ decimal v.width ∷ codes "\" height=\"" ∷ decimal v.height
+    ∷ codes "\"/>\n" ∷ [])
 
 -- the title: the map's name
-unfoldable pub title_text : Name8 → List ℕ
-title_text name = name_text name ++ codes "</title>\n"
+unfoldable pub map_title : Name8 → List ℕ
+map_title name = name_text name ++ codes "</title>\n"
 
 -- the style
 unfoldable pub style_text : List ℕ
@@ -49,25 +54,21 @@ paper_text v = style_text ++ page_text v
 
 -- the head: the beginning, the title, the style and the page
 unfoldable pub head_text : View → Name8 → List ℕ
-head_text v name = opening_text v ++ title_text name ++ paper_text v
+head_text v name = opening_text v ++ map_title name ++ paper_text v
 
 -- the parts of a picture in their order, with numbers or without
-abbrev pub parts_of : Bool → List Part
-parts_of false = Lines ∷ Things ∷ Vertices ∷ []
-parts_of true = Lines ∷ Things ∷ Vertices ∷ VertexNumbers ∷ LineNumbers ∷ SectorNumbers ∷ []
+abbrev pub picture_parts : Bool → List Part
+picture_parts false = Lines ∷ Things ∷ Vertices ∷ []
+picture_parts true = Lines ∷ Things ∷ Vertices ∷ VertexNumbers ∷ LineNumbers ∷ SectorNumbers ∷ []
 
 -- the table whose items a part shows
-abbrev pub kind_of : Part → Kind
-kind_of Lines = kind.Line
-kind_of Things = kind.Thing
-kind_of Vertices = kind.Vertex
-kind_of VertexNumbers = kind.Vertex
-kind_of LineNumbers = kind.Line
-kind_of SectorNumbers = kind.Sector
-
--- the text of the item of a number, and none where there is no such item
-abbrev pub of_item : {X : Type 0} → (X → List ℕ) → List X → ℕ → List ℕ
-of_item text xs n = option_map_or text (slice_get xs n) []
+abbrev pub part_kind : Part → Kind
+part_kind Lines = kind.Line
+part_kind Things = kind.Thing
+part_kind Vertices = kind.Vertex
+part_kind VertexNumbers = kind.Vertex
+part_kind LineNumbers = kind.Line
+part_kind SectorNumbers = kind.Sector
 
 -- the element of a part for the item of a number, its ticks of this length
 abbrev pub element : Tables → ℕ → Part → ℕ → List ℕ
@@ -80,10 +81,16 @@ element m step SectorNumbers n = sector_number m step n
 
 -- a part: the element of each item, in the order of the items
 abbrev pub part_text : Tables → ℕ → Part → List ℕ
-part_text m step part = flat_map (element m step part) (range_with_len 0 (count_of m (kind_of part)))
+part_text m step part =
+    flat_map (element m step part) (range_with_len 0 (count_of m (part_kind part)))
 
--- the picture of a map
-abbrev pub picture_of : PictureOptions → Tables → List ℕ
-picture_of options m =
+-- the upper left corner of the page
+abbrev pub page_corner : View → Spot
+page_corner v = record { x = v.left; y = v.top }
+
+-- the picture of a map, and what is laid over it
+abbrev pub picture_of : PictureOptions → Tables → Overlay → List ℕ
+picture_of options m o =
     let view = view_of m in
-    head_text view m.name ++ flat_map (part_text m view.step) (parts_of options.numbers) ++ codes "</svg>\n"
+    head_text view m.name ++ flat_map (part_text m view.step) (picture_parts options.numbers)
+    ++ overlay_text view.step (page_corner view) o ++ codes "</svg>\n"

@@ -2,24 +2,26 @@
 use Rattle.std.specs.Prelude.{ℕ, List, ◌++◌, codes, decimal, [], ◌∷◌}
 use Rattle.std.specs.Fmt.{signed_decimal}
 use Rattle.lv_lumps.specs.declared.records.Vertex.{Vertex}
-use Rattle.lv_picture.specs.Places.{spot_of}
-use Rattle.lv_picture.specs.declared.places.Spot.{Spot}
-use Rattle.lv_picture.specs.Texts.{joined}
+use Rattle.lv_svg.specs.Places.{spot_of}
+use Rattle.lv_svg.specs.declared.places.Spot.{Spot}
+use Rattle.lv_svg.specs.Texts.{joined}
 
 -- the element's beginning: its name and the dot
 unfoldable pub dot_text : ℕ → Spot → List ℕ
 dot_text n v =
     joined
-    (codes "<path id=\"vertex" ∷ decimal n ∷ codes "\" class=\"vertex\" d=\"M" ∷ signed_decimal v.x ∷ codes " "
+    (codes "<path id=\"vertex" ∷ decimal n ∷ codes "\" class=\"vertex\" d=\"M" ∷ signed_decimal v.x
+    ∷ codes " "
     ∷ signed_decimal v.y ∷ codes "h0\">" ∷ [])
 
 -- the title, which tells the place on the map, and the element's end
-unfoldable pub place_text : ℕ → Vertex → List ℕ
-place_text n v =
+unfoldable pub vertex_title : ℕ → Vertex → List ℕ
+vertex_title n v =
     joined
-    (codes "<title>vertex " ∷ decimal n ∷ codes ": " ∷ signed_decimal v.x ∷ codes " " ∷ signed_decimal v.y
+    (codes "<title>vertex " ∷ decimal n ∷ codes ": " ∷ signed_decimal v.x ∷ codes " "
+    ∷ signed_decimal v.y
     ∷ codes "</title></path>\n" ∷ [])
 
 -- the element of a vertex
 unfoldable pub vertex_text : ℕ → Vertex → List ℕ
-vertex_text n v = dot_text n (spot_of v) ++ place_text n v
+vertex_text n v = dot_text n (spot_of v) ++ vertex_title n v

@@ -1,14 +1,12 @@
 //! A line of the map as an element of the picture.
 ghost use Rattle.std.specs.Prelude.{◌≡◌, OnOk};
 ghost use Rattle.std.specs.Io.KnownBytes.{Appends};
-ghost use Rattle.lv_picture.specs.Lines.{ends_text, fields_text, left_side_text, left_text, line_text, path_text, special_class, tick_text, title_text, width_class};
+ghost use Rattle.lv_picture.specs.Lines.{ends_text, fields_text, left_side_text, left_text, line_text, special_class, tick_text, title_text, width_class};
 
-use crate::error::PictureError;
 use crate::items::{sector_of, vertex_of};
-use crate::places::{Shift, Spot, middle_of, right_of, spot_of};
-use crate::text::write_bytes;
 use lv_lumps::Line;
 use lv_maptables::Map;
+use lv_svg::{PictureError, Shift, Spot, middle_of, right_of, spot_of, write_bytes, write_path};
 use std::io::Write;
 
 // The class that a line has by its flags.
@@ -92,18 +90,6 @@ fn write_title<W: Write>(map: &Map, n: u32, line: &Line, writer: &mut W) -> Resu
     write_ends(n, line, writer)?;
     write_fields(map, line, writer)?;
     write_left(map, line, writer)
-}
-
-// Ends the title, and draws the line.
-fn write_path<W: Write>(from: Spot, to: Spot, writer: &mut W) -> Result<(), PictureError>
-    ensures { OnOk result
-        (Appends (W.contents writer.old) (W.contents writer.new) (path_text from to)) }
-{
-    let (x1, y1, x2, y2) = (from.x, from.y, to.x, to.y);
-    match write!(writer, "</title>\n<path d=\"M{x1} {y1}L{x2} {y2}\"/>") {
-        Ok(()) => Ok(()),
-        Err(_) => Err(PictureError::WriterFailed),
-    }
 }
 
 // Draws the tick, and ends the element.

@@ -4,11 +4,10 @@ ghost use Rattle.std.specs.Option.{option_map_or};
 ghost use Rattle.std.specs.Io.KnownBytes.{Appends};
 ghost use Rattle.lv_picture.specs.Numbers.{anchor_text, beside_text, bounds, line_number, longer, longest_line, number_text, sector_number, sector_shift, squared_len, up_right, vertex_number};
 
-use crate::error::PictureError;
 use crate::items::{sector_of, vertex_of};
-use crate::places::{Shift, Spot, middle_of, right_of, spot_of};
 use lv_lumps::{Line, Vertex, squared_distance};
 use lv_maptables::{Kind, Map};
+use lv_svg::{PictureError, Shift, Spot, middle_of, right_of, spot_of};
 use std::io::Write;
 
 // Begins the text of a number: its class, and the place beside which it stands.

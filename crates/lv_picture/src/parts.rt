@@ -1,6 +1,6 @@
 //! The parts of the picture, in their order.
 ghost use Rattle.std.specs.Prelude.{◌≡◌};
-ghost use Rattle.lv_picture.specs.Picture.{kind_of, parts_of};
+ghost use Rattle.lv_picture.specs.Picture.{part_kind, picture_parts};
 
 use lv_maptables::Kind;
 
@@ -30,14 +30,14 @@ const NUMBERED: [Part; 6] = [
 
 /// The parts of a picture, with numbers or without.
 pub(crate) fn parts_of(numbers: bool) -> &'static [Part]
-    ensures { result.now ≡ parts_of numbers }
+    ensures { result.now ≡ picture_parts numbers }
 {
     if numbers { &NUMBERED } else { &DRAWN }
 }
 
 /// The table whose items a part shows.
 pub(crate) fn kind_of(part: Part) -> Kind
-    ensures { result ≡ kind_of part }
+    ensures { result ≡ part_kind part }
 {
     match part {
         Part::Lines | Part::LineNumbers => Kind::Line,

@@ -1,19 +1,18 @@
 //! The call that writes a picture.
 ghost use Rattle.std.specs.Prelude.{◌≡◌, ◌≤◌, OnOk, flat_map};
 ghost use Rattle.std.specs.Io.KnownBytes.{Appends};
-ghost use Rattle.lv_picture.specs.Picture.{element, head_text, opening_text, page_text, paper_text, part_text, picture_of, style_text, title_text};
+ghost use Rattle.lv_picture.specs.Picture.{element, head_text, opening_text, page_text, paper_text, page_corner, part_text, picture_of, style_text, map_title};
 
-use crate::error::PictureError;
 use crate::lines::write_line;
 use crate::numbers::{write_line_number, write_sector_number, write_vertex_number};
 use crate::parts::{Part, kind_of, parts_of};
 use crate::style::STYLE;
-use crate::text::write_bytes;
 use crate::things::write_thing;
 use crate::vertices::write_vertex;
 use crate::view::{View, view_of};
 use lv_lumps::Name8;
 use lv_maptables::Map;
+use lv_svg::{Overlay, PictureError, Spot, write_bytes, write_overlay};
 use std::io::Write;
 
 /// What a picture shows besides the map itself.
@@ -37,7 +36,7 @@ fn write_opening<W: Write>(view: &View, writer: &mut W) -> Result<(), PictureErr
     );
     let written = write!(
         writer,
-        "<svg xmlns=\"http://www.w3.org/2000/svg\" version=\"1.1\" width=\"100%\"
+        "<svg class=\"leveled\" xmlns=\"http://www.w3.org/2000/svg\" version=\"1.1\" width=\"100%\"
 viewBox=\"{left} {top} {width} {height}\" font-size=\"{step}\">
 <title>"
     );
@@ -64,10 +63,10 @@ fn write_page<W: Write>(view: &View, writer: &mut W) -> Result<(), PictureError>
 }
 
 // Writes the map's name, and ends the title.
-#[tactic(auto, unfolding(crate::specs::Picture::title_text))]
+#[tactic(auto, unfolding(crate::specs::Picture::map_title))]
 fn write_name<W: Write>(name: Name8, writer: &mut W) -> Result<(), PictureError>
     ensures { OnOk result
-        (Appends (W.contents writer.old) (W.contents writer.new) (title_text name)) }
+        (Appends (W.contents writer.old) (W.contents writer.new) (map_title name)) }
 {
     write_bytes(name.text(), writer)?;
     write_bytes(b"</title>\n", writer)
@@ -178,9 +177,19 @@ fn write_parts<W: Write>(
     Ok(())
 }
 
+// The upper left corner of the page.
+fn page_corner(view: &View) -> Spot
+    ensures { result ≡ page_corner view.now }
+{
+    Spot {
+        x: view.left,
+        y: view.top,
+    }
+}
+
 /// Writes the map as a picture in SVG 1.1: a title and a style, then an element for each line, for each thing and for
-/// each vertex, and the numbers where the options ask for them. It asks for no memory. Where the writer is a file, put
-/// a buffer round it.
+/// each vertex, the numbers where the options ask for them, and what is laid over the map. It asks for no memory. Where
+/// the writer is a file, put a buffer round it.
 ///
 /// # Errors
 ///
@@ -188,13 +197,15 @@ fn write_parts<W: Write>(
 pub fn write_picture<W: Write>(
     map: &Map,
     options: PictureOptions,
+    overlay: &Overlay,
     writer: &mut W,
 ) -> Result<(), PictureError>
     ensures { OnOk result (Appends (W.contents writer.old) (W.contents writer.new)
-        (picture_of options map.now.tables)) }
+        (picture_of options map.now.tables overlay.now)) }
 {
     let view = view_of(map);
     write_head(map.name(), &view, writer)?;
     write_parts(map, view.step, parts_of(options.numbers), writer)?;
+    write_overlay(overlay, view.step, page_corner(&view), writer)?;
     write_bytes(b"</svg>\n", writer)
 }

@@ -1,6 +1,7 @@
 //! The style of the picture.
 
-/// How the classes of the picture look, in a light and in a dark scheme. It holds no `<` and no `&`.
+/// How the classes of the picture look, in a light and in a dark scheme, wide and on a phone. It holds no `<` and no
+/// `&`.
 pub const STYLE: &str = "<style type=\"text/css\">
 svg{color-scheme:light dark}
 .page{fill:#fff}
@@ -11,6 +12,15 @@ path{fill:none;stroke-width:2px;stroke-linecap:round;stroke-linejoin:round;vecto
 .special{stroke:#c2410c}
 .one .tick,.two .tick{stroke-width:1.5px}
 .vertex{stroke:#1d4ed8;stroke-width:6px}
+[id^=sub] path{stroke-width:3px}
+.sub0{stroke:#e11d48}
+.sub1{stroke:#2563eb}
+.sub2{stroke:#16a34a}
+.sub3{stroke:#d97706}
+.sub4{stroke:#9333ea}
+.sub5{stroke:#0891b2}
+.node path{stroke:#0f766e;stroke-width:1px;stroke-dasharray:6 4}
+.lint path{stroke:#ef4444;stroke-width:14px;stroke-opacity:.5}
 .player path{fill:#15803d;stroke:#14532d}
 .deathmatch path{fill:#a855f7;stroke:#581c87}
 .monster path{fill:#dc2626;stroke:#7f1d1d}
@@ -20,13 +30,28 @@ text{font-family:sans-serif;font-size:1.4em;text-anchor:middle;dominant-baseline
 text{stroke:#fff;stroke-width:.2em;paint-order:stroke}
 .of-vertex{fill:#1d4ed8}
 .of-line{fill:#222}
-.of-sector{fill:#15803d;font-size:2em;font-weight:bold}
+.of-sector{fill:#15803d;fill-opacity:.6;stroke:none;font-size:2em;font-weight:bold}
+@media (max-width:600px){
+text{font-size:2.4em}
+.of-sector{font-size:3.2em}
+.vertex{stroke-width:4px}
+.one path,[id^=sub] path{stroke-width:2px}
+.lint path{stroke-width:10px}
+}
 @media (prefers-color-scheme:dark){
 .page{fill:#111}
 .one{stroke:#eee}
 .two{stroke:#888}
 .special{stroke:#fb923c}
 .vertex{stroke:#60a5fa}
+.sub0{stroke:#fb7185}
+.sub1{stroke:#93c5fd}
+.sub2{stroke:#86efac}
+.sub3{stroke:#fcd34d}
+.sub4{stroke:#d8b4fe}
+.sub5{stroke:#67e8f9}
+.node path{stroke:#2dd4bf}
+.lint path{stroke:#f87171}
 .player path{stroke:#4ade80}
 .deathmatch path{stroke:#d8b4fe}
 .monster path{stroke:#fca5a5}

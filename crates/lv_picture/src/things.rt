@@ -3,11 +3,10 @@ ghost use Rattle.std.specs.Prelude.{◌≡◌, OnOk, neg_ℤ};
 ghost use Rattle.std.specs.Io.KnownBytes.{Appends};
 ghost use Rattle.lv_picture.specs.Things.{mark_text, shape_text, thing_text};
 
-use crate::error::PictureError;
 use crate::groups::{class_of, group_of, shape_of};
-use crate::places::{Spot, spot_of};
 use crate::view::place_of;
 use lv_lumps::Thing;
+use lv_svg::{PictureError, Spot, spot_of};
 use std::io::Write;
 
 // Begins the element: its name and class, and where the thing is and faces.

@@ -1,11 +1,10 @@
 //! A vertex of the map as an element of the picture.
 ghost use Rattle.std.specs.Prelude.{OnOk};
 ghost use Rattle.std.specs.Io.KnownBytes.{Appends};
-ghost use Rattle.lv_picture.specs.Vertices.{dot_text, place_text, vertex_text};
+ghost use Rattle.lv_picture.specs.Vertices.{dot_text, vertex_title, vertex_text};
 
-use crate::error::PictureError;
-use crate::places::{Spot, spot_of};
 use lv_lumps::Vertex;
+use lv_svg::{PictureError, Spot, spot_of};
 use std::io::Write;
 
 // Begins the element: its name and the dot.
@@ -27,7 +26,7 @@ fn write_dot<W: Write>(n: u32, place: Spot, writer: &mut W) -> Result<(), Pictur
 // Writes the title, and ends the element.
 fn write_place<W: Write>(n: u32, vertex: Vertex, writer: &mut W) -> Result<(), PictureError>
     ensures { OnOk result
-        (Appends (W.contents writer.old) (W.contents writer.new) (place_text n vertex)) }
+        (Appends (W.contents writer.old) (W.contents writer.new) (vertex_title n vertex)) }
 {
     let (x, y) = (vertex.x, vertex.y);
     let written = write!(writer, "<title>vertex {n}: {x} {y}</title></path>\n");

@@ -1,11 +1,11 @@
 //! What part of the plane the picture shows.
 ghost use Rattle.std.specs.Prelude.{◌≡◌, ◌≤◌, ◌-ℤ◌, pos, neg_ℤ, slice_get};
 ghost use Rattle.std.specs.Option.{option_map_or};
-ghost use Rattle.std.specs.Int.{int_max, int_min};
-ghost use Rattle.lv_picture.specs.View.{box_at, box_of, box_of_vertices, box_with, grown, grown_by, place_of, side_of, step_of, view_of, view_of_box};
+ghost use Rattle.lv_picture.specs.View.{box_at, picture_box, box_of_vertices, box_with, grown, grown_by, thing_place, picture_side, step_of, view_of, view_of_box};
 
 use lv_lumps::{Bounds, Thing, Vertex};
 use lv_maptables::{Kind, Map};
+use lv_svg::box_round;
 
 /// What the picture shows: its left and upper edges, its size, and how long the ticks are.
 #[derive(Clone, Copy)]
@@ -19,7 +19,7 @@ pub(crate) struct View {
 
 /// The place of a thing.
 pub(crate) fn place_of(thing: &Thing) -> Vertex
-    ensures { result ≡ place_of thing.now }
+    ensures { result ≡ thing_place thing.now }
 {
     Vertex {
         x: thing.x,
@@ -39,30 +39,11 @@ fn box_at(place: Vertex) -> Bounds
     }
 }
 
-// The greater of two coordinates.
-fn greater(a: i16, b: i16) -> i16
-    ensures { result ≡ int_max a b }
-{
-    if a < b { b } else { a }
-}
-
-// The lesser of two coordinates.
-fn lesser(a: i16, b: i16) -> i16
-    ensures { result ≡ int_min a b }
-{
-    if b < a { b } else { a }
-}
-
 // The least box that holds a box and a place.
 fn box_with(bounds: Bounds, place: Vertex) -> Bounds
     ensures { result ≡ box_with bounds place }
 {
-    Bounds {
-        top: greater(bounds.top, place.y),
-        bottom: lesser(bounds.bottom, place.y),
-        left: lesser(bounds.left, place.x),
-        right: greater(bounds.right, place.x),
-    }
+    box_round(bounds, box_at(place))
 }
 
 // The least box that holds what a box does, if there is one, and a place.
@@ -108,7 +89,7 @@ fn box_of_vertices(map: &Map) -> Option<Bounds>
 
 // The least box round the vertices and the things.
 fn box_of(map: &Map) -> Option<Bounds>
-    ensures { result ≡ box_of map.now.tables }
+    ensures { result ≡ picture_box map.now.tables }
 {
     let mut bounds = box_of_vertices(map);
     for n in 0..map.count(Kind::Thing) {
@@ -119,7 +100,7 @@ fn box_of(map: &Map) -> Option<Bounds>
 
 // How long a side of a box is on the picture, with the margins.
 fn side_of(low: i16, high: i16) -> u32
-    ensures length { result ≡ side_of low high }
+    ensures length { result ≡ picture_side low high }
     ensures bound { result ≤ 65663 }
 {
     (i32::from(high) - i32::from(low)).unsigned_abs() + 128

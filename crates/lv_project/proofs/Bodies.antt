@@ -15,7 +15,7 @@ project_size p bytes w (inl e) =
     let parts = parts_size p.maps w.maps in
     omega (arith, whole, parts)
 project_size p bytes w (inr (is, e)) =
-    let whole : length bytes ≡ of_one.body_len (current_map p) = ap length (sym e) ∙ body_size (current_map p) (current_fine p w) in
+    let whole : length bytes ≡ of_one.body_len_of_one (current_map p) = ap length (sym e) ∙ body_size (current_map p) (current_fine p w) in
     let one = sum_by-cons part_len (current_map p) [] in
     let len = ap body_len is in
     omega (arith, whole, one, len)

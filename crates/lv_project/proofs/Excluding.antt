@@ -10,9 +10,9 @@ use Rattle.lv_maptables.specs.Projects.{ProjectMaps, WellFormedProject}
 use Rattle.lv_maptables.specs.ProjectBody.{HasBody}
 use Rattle.lv_maptables.proofs.BodyLaws.{one_project}
 use Rattle.lv_commands.specs.ProjectLines.{Leads, LeadsTo}
-use Rattle.lv_project.specs.Places.{IsAllowed, IsLaidOut, cap_of, header_bytes, parts_of}
+use Rattle.lv_project.specs.Places.{IsAllowed, AreLaidOut, cap_of, header_bytes, which_parts}
 use Rattle.lv_project.specs.Stands.{HasGeometry, Stands, StandsAt}
-use Rattle.lv_project.specs.Damage.{HasBadGeometry, IsBadChain, IsBadLine, IsBadPart, IsBlank, IsDamagedAt, IsForeign, IsGateFault, IsLeastGateFault}
+use Rattle.lv_project.specs.Damage.{HasBadGeometry, IsBadChain, IsBadLine, IsBadPart, IsBlank, IsProjectDamagedAt, IsForeign, IsGateFault, IsLeastGateFault}
 use Rattle.lv_project.specs.declared.geometry.Geometry.{Geometry}
 use Rattle.lv_project.specs.declared.places.Places.{Places}
 use Rattle.lv_project.specs.declared.places.Parts.{Parts}
@@ -38,7 +38,7 @@ module _ (g : Geometry) (p : Places) (file : List ℕ) (has : HasGeometry g p fi
   pub here : (P : Geometry → Places → Type 0) (h : Geometry) (q : Places) → HasGeometry h q file → P h q → P g p
   here P h q other is =
       let same : g ≡ h = one_geometry g h p q file has other in
-      let laid : IsLaidOut g q = subst (λ (x : Geometry). IsLaidOut x q) (sym same) other.laid_out in
+      let laid : AreLaidOut g q = subst (λ (x : Geometry). AreLaidOut x q) (sym same) other.laid_out in
       subst (λ (y : Places). P g y) (sym (one_layout g p q has.laid_out laid)) (subst (λ (x : Geometry). P x q) (sym same) is)
 
 -- ---- the first line that is no accepted command
@@ -61,7 +61,8 @@ one_front cap base (x ∷ f) l b m (y ∷ g) k c n is first bad second worse =
     ap (λ (z : List ℕ). z ∷ f) same ∙ ap (λ (ls : List (List ℕ)). y ∷ ls) rest
 
 -- a line in a list that is accepted whole is accepted
-in_turn : (cap : ℕ) (base : ProjectMaps) (f : List (List ℕ)) (l : List ℕ) (b : List (List ℕ)) (m n : ProjectMaps) → Leads cap base (f ++ l ∷ b) n → Leads cap base f m → (new : ProjectMaps) × LeadsTo cap m l new
+in_turn : (cap : ℕ) (base : ProjectMaps) (f : List (List ℕ)) (l : List ℕ) (b : List (List ℕ)) (m n : ProjectMaps)
+    → Leads cap base (f ++ l ∷ b) n → Leads cap base f m → (new : ProjectMaps) × LeadsTo cap m l new
 in_turn cap base [] l b m n all front = (all.0, subst (λ (t : ProjectMaps). LeadsTo cap t l all.0) (sym front) all.1)
 in_turn cap base (x ∷ f) l b m n all front =
     in_turn cap front.0 f l b m n (subst (λ (t : ProjectMaps). Leads cap t (f ++ l ∷ b) n) (one_step cap base x all.0 front.0 all.1 front.1) all.2) front.2
@@ -76,7 +77,8 @@ module _ (cap : ℕ) (q : Parts) (file : List ℕ) where
   no_gate_fault lines place journal other (inl bad) = gates.not_both q.journal file lines place journal bad
   no_gate_fault lines place journal other (inr (there, short)) = omega (arith, other, short)
 
-  no_bad_line : (base other_base : ProjectMaps) (m : ProjectMaps) (lines : List (List ℕ)) (place : ℕ) → base ≡ other_base → IsJournal q.journal lines file → Leads cap base lines m → IsBadLine cap q other_base place file → ⊥
+  no_bad_line : (base other_base : ProjectMaps) (m : ProjectMaps) (lines : List (List ℕ)) (place : ℕ) → base
+      ≡ other_base → IsJournal q.journal lines file → Leads cap base lines m → IsBadLine cap q other_base place file → ⊥
   no_bad_line base other_base m lines place same journal leads bad =
       let one : lines ≡ bad.front ++ bad.line ∷ bad.back = gates.one_journal q.journal file lines (bad.front ++ bad.line ∷ bad.back) journal bad.journal in
       let all : Leads cap base (bad.front ++ bad.line ∷ bad.back) m = subst (λ (ls : List (List ℕ)). Leads cap base ls m) one leads in
@@ -96,7 +98,9 @@ module _ (cap : ℕ) (q : Parts) (file : List ℕ) where
 
   line_place : (base other_base : ProjectMaps) (x y : ℕ) → base ≡ other_base → IsBadLine cap q base x file → IsBadLine cap q other_base y file → x ≡ y
   line_place base other_base x y same first second =
-      let one : first.front ++ first.line ∷ first.back ≡ second.front ++ second.line ∷ second.back = gates.one_journal q.journal file (first.front ++ first.line ∷ first.back) (second.front ++ second.line ∷ second.back) first.journal second.journal in
+      let one : first.front ++ first.line ∷ first.back ≡ second.front ++ second.line ∷ second.back =
+      gates.one_journal q.journal file (first.front ++ first.line ∷ first.back)
+      (second.front ++ second.line ∷ second.back) first.journal second.journal in
       let front : first.front ≡ second.front = one_front cap base first.front first.line first.back first.map second.front second.line second.back second.map one first.leads first.refused
       (subst (λ (t : ProjectMaps). Leads cap t second.front second.map) (sym same) second.leads) second.refused in
       first.there ∙ ap (λ (ls : List (List ℕ)). q.journal.base + length (records_bytes ls)) front ∙ sym second.there
@@ -117,7 +121,7 @@ module _ (g : Geometry) (p : Places) (file : List ℕ) where
   picked t = cond t (record { live = p.a; other = p.b; journal = p.first; other_journal = p.second }) (record { live = p.b; other = p.a; journal = p.second; other_journal = p.first })
 
   -- a slot that is live is at no fault as a slot
-  live_slot : (t : Bool) (h : ℕ) (bytes : List ℕ) (place : ℕ) → IsLive (picked t).live (picked t).other h bytes file → slots.IsDamagedAt p.a p.b place file → ⊥
+  live_slot : (t : Bool) (h : ℕ) (bytes : List ℕ) (place : ℕ) → IsLive (picked t).live (picked t).other h bytes file → slots.AreSlotsDamagedAt p.a p.b place file → ⊥
   live_slot true h bytes place live bad = bodies.not_damaged p.a p.b file h place bytes live bad
   live_slot false h bytes place live bad = bodies.nor_damaged p.a p.b file h place bytes live bad
 
@@ -131,14 +135,14 @@ module _ (g : Geometry) (p : Places) (file : List ℕ) where
   one_pick true false h k x y first second = absurd (bodies.one_slot p.a p.b h k x y file first second)
   one_pick false true h k x y first second = absurd (bodies.one_slot p.b p.a h k x y file first second)
 
-  pub stands_whole : (s : ℕ) (m : ProjectMaps) (k place : ℕ) → StandsAt (cap_of g) (parts_of p s) m k file → IsBadPart g p place file → ⊥
+  pub stands_whole : (s : ℕ) (m : ProjectMaps) (k place : ℕ) → StandsAt (cap_of g) (which_parts p s) m k file → IsBadPart g p place file → ⊥
   stands_whole s m k place st (inl bad) = live_slot (eqb s 0) k st.bytes place st.live bad
   stands_whole s m k place st (inr (slot, h, bytes, which, live, chain)) =
       let same : eqb slot 0 ≡ eqb s 0 = one_pick (eqb slot 0) (eqb s 0) h k bytes st.bytes live st.live in
-      no_bad_chain (cap_of g) (parts_of p s) file m k h bytes place st (subst (λ (t : Bool). IsLive (picked t).live (picked t).other h bytes file) same live)
+      no_bad_chain (cap_of g) (which_parts p s) file m k h bytes place st (subst (λ (t : Bool). IsLive (picked t).live (picked t).other h bytes file) same live)
       (subst (λ (t : Bool). IsBadChain (cap_of g) (picked t) bytes place file) same chain)
 
-  pub stands_open : (s : ℕ) (m : ProjectMaps) (k : ℕ) → StandsAt (cap_of g) (parts_of p s) m k file → slots.AreBlank p.a p.b file → ⊥
+  pub stands_open : (s : ℕ) (m : ProjectMaps) (k : ℕ) → StandsAt (cap_of g) (which_parts p s) m k file → slots.AreBlank p.a p.b file → ⊥
   stands_open s m k st blank = live_blank (eqb s 0) k st.bytes st.live blank
 
   pub blank_whole : (place : ℕ) → slots.AreBlank p.a p.b file → IsBadPart g p place file → ⊥
@@ -158,8 +162,8 @@ module _ (g : Geometry) (p : Places) (file : List ℕ) where
 
 -- ---- whole files
 
-at_own : (cap : ℕ) (m : ProjectMaps) (k : ℕ) (file : List ℕ) (st : Stands cap m k file) → StandsAt (cap_of st.geometry) (parts_of st.places st.slot) m k file
-at_own cap m k file st = subst (λ (c : ℕ). StandsAt c (parts_of st.places st.slot) m k file) (sym st.cap_is) st.at
+at_own : (cap : ℕ) (m : ProjectMaps) (k : ℕ) (file : List ℕ) (st : Stands cap m k file) → StandsAt (cap_of st.geometry) (which_parts st.places st.slot) m k file
+at_own cap m k file st = subst (λ (c : ℕ). StandsAt c (which_parts st.places st.slot) m k file) (sym st.cap_is) st.at
 
 pub stands_foreign : (cap : ℕ) (m : ProjectMaps) (k : ℕ) (file : List ℕ) → Stands cap m k file → IsForeign file → ⊥
 stands_foreign cap m k file st foreign = foreign_none st.geometry st.places file st.has foreign
@@ -171,7 +175,7 @@ pub stands_blank : (cap : ℕ) (m : ProjectMaps) (k : ℕ) (file : List ℕ) →
 stands_blank cap m k file st (h, q, has, blank) =
     stands_open st.geometry st.places file st.slot m k (at_own cap m k file st) (here st.geometry st.places file st.has (λ g p. slots.AreBlank p.a p.b file) h q has blank)
 
-pub stands_damaged : (cap : ℕ) (m : ProjectMaps) (k place : ℕ) (file : List ℕ) → Stands cap m k file → IsDamagedAt place file → ⊥
+pub stands_damaged : (cap : ℕ) (m : ProjectMaps) (k place : ℕ) (file : List ℕ) → Stands cap m k file → IsProjectDamagedAt place file → ⊥
 stands_damaged cap m k place file st (h, q, has, bad) =
     stands_whole st.geometry st.places file st.slot m k place (at_own cap m k file st) (here st.geometry st.places file st.has (λ g p. IsBadPart g p place file) h q has bad)
 
@@ -181,14 +185,14 @@ blank_foreign file (h, q, has, blank) foreign = foreign_none h q file has foreig
 pub blank_bad : (file : List ℕ) → IsBlank file → HasBadGeometry file → ⊥
 blank_bad file (h, q, has, blank) bad = bad_none h q file has bad
 
-pub blank_damaged : (place : ℕ) (file : List ℕ) → IsBlank file → IsDamagedAt place file → ⊥
+pub blank_damaged : (place : ℕ) (file : List ℕ) → IsBlank file → IsProjectDamagedAt place file → ⊥
 blank_damaged place file (h, q, has, blank) (g, p, other, bad) = blank_whole h q file place blank (here h q file has (λ x y. IsBadPart x y place file) g p other bad)
 
-pub damaged_foreign : (place : ℕ) (file : List ℕ) → IsDamagedAt place file → IsForeign file → ⊥
+pub damaged_foreign : (place : ℕ) (file : List ℕ) → IsProjectDamagedAt place file → IsForeign file → ⊥
 damaged_foreign place file (h, q, has, bad) foreign = foreign_none h q file has foreign
 
-pub damaged_bad : (place : ℕ) (file : List ℕ) → IsDamagedAt place file → HasBadGeometry file → ⊥
+pub damaged_bad : (place : ℕ) (file : List ℕ) → IsProjectDamagedAt place file → HasBadGeometry file → ⊥
 damaged_bad place file (h, q, has, bad) worse = bad_none h q file has worse
 
-pub damaged_once : (x y : ℕ) (file : List ℕ) → IsDamagedAt x file → IsDamagedAt y file → x ≡ y
+pub damaged_once : (x y : ℕ) (file : List ℕ) → IsProjectDamagedAt x file → IsProjectDamagedAt y file → x ≡ y
 damaged_once x y file (h, q, has, bad) (g, p, other, worse) = part_place h q file x y bad (here h q file has (λ a b. IsBadPart a b y file) g p other worse)

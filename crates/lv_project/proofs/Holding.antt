@@ -9,16 +9,16 @@ use Rattle.lv_disk.proofs.Moments.{started, weaker, and_then}
 use Rattle.lv_maptables.specs.Projects.{empty_project, ProjectMaps, project_of}
 use Rattle.lv_project.specs.Stands.{IsOutcome, StandsFor}
 use Rattle.lv_commands.specs.ProjectLines.{Leads, LeadsTo}
-use Rattle.lv_project.specs.States.{State, IsKept}
+use Rattle.lv_project.specs.States.{State, IsProjectKept}
 use Rattle.lv_project.specs.Outcomes.{RefusesApply, RefusesCheckpoint}
 use Rattle.lv_project.specs.declared.error.ProjectError.{ProjectError}
 use Rattle.lv_project.specs.declared.error.ProjectError.TheVariants.{Device, OutOfMemory, Reopen, GenerationsSpent, Refused, Damaged, Blank, NotAProject, NotEmpty, BadGeometry}
 use Rattle.lv_project.proofs.Fronts.{begins_with}
 use Rattle.lv_project.proofs.Recording.{leads_push}
 use Rattle.lv_project.specs.Sessions.{HoldsEach, KeepEach, KeepsAcknowledged, Opens, Passes, PassInTurn, Session}
-use Rattle.lv_project.specs.Calls.{Call, acknowledged, accepted, begins, AllMade}
+use Rattle.lv_project.specs.Calls.{ProjectCall, acknowledged, accepted, begins, AllMade}
 
-accepted_append : (xs ys : List Call) → accepted (xs ++ ys) ≡ accepted xs ++ accepted ys
+accepted_append : (xs ys : List ProjectCall) → accepted (xs ++ ys) ≡ accepted xs ++ accepted ys
 accepted_append [] ys = refl
 accepted_append ((None, answer) ∷ xs) ys = accepted_append xs ys
 accepted_append ((Some line, answer) ∷ xs) ys = at (begins answer) (accepted_append xs ys)
@@ -69,7 +69,7 @@ module _ {D : Type 0} (facts : Ghosts D) (old new : State D) (line : List ℕ) w
 module _ {D : Type 0} (facts : Ghosts D)
     (only_now : (d : D) (file : List ℕ) → facts.left_since d (facts.moment d) file → facts.may_leave d file)
     (counts_now : (d : D) (t : ℕ) (file : List ℕ) → t ≤ facts.moment d → facts.may_leave d file → facts.left_since d t file) where
-  stuck : (calls : List Call) (old new : State D) → old.must_reopen ≡ true → AllMade facts old calls new → new ≡ old
+  stuck : (calls : List ProjectCall) (old new : State D) → old.must_reopen ≡ true → AllMade facts old calls new → new ≡ old
   stuck [] old new reopen same = same
   stuck ((Some line, Ok n) ∷ calls) old new reopen (mid, made, more) = absurd (true≢false (sym reopen ∙ made.ends.0))
   stuck ((Some line, Err e) ∷ calls) old new reopen (mid, made, more) =
@@ -80,7 +80,7 @@ module _ {D : Type 0} (facts : Ghosts D)
       let same : mid ≡ old = no_checkpoint facts old mid [] e reopen made.ends in
       stuck calls mid new (ap (λ (s : State D). s.must_reopen) same ∙ reopen) more ∙ same
 
-  unacknowledged : (calls : List Call) (old new : State D) → old.must_reopen ≡ true → AllMade facts old calls new → acknowledged calls ≡ []
+  unacknowledged : (calls : List ProjectCall) (old new : State D) → old.must_reopen ≡ true → AllMade facts old calls new → acknowledged calls ≡ []
   unacknowledged [] old new reopen same = refl
   unacknowledged ((Some line, Ok n) ∷ calls) old new reopen (mid, made, more) = absurd (true≢false (sym reopen ∙ made.ends.0))
   unacknowledged ((Some line, Err e) ∷ calls) old new reopen (mid, made, more) =
@@ -90,7 +90,7 @@ module _ {D : Type 0} (facts : Ghosts D)
       unacknowledged calls mid new (ap (λ (s : State D). s.must_reopen) (no_checkpoint facts old mid [] e reopen made.ends) ∙ reopen) more
 
   -- the accepted lines begin with the acknowledged ones, since behind a line that was begun and refused there are none
-  acknowledged_first : (calls : List Call) (old new : State D) → AllMade facts old calls new
+  acknowledged_first : (calls : List ProjectCall) (old new : State D) → AllMade facts old calls new
       → (more : List (List ℕ)) × (accepted calls ≡ acknowledged calls ++ more)
   acknowledged_first [] old new same = ([], refl)
   acknowledged_first ((None, answer) ∷ calls) old new (mid, made, more) = acknowledged_first calls mid new more
@@ -110,7 +110,7 @@ module _ {D : Type 0} (facts : Ghosts D)
       at behind false is = behind
 
   -- the calls behind the first
-  go_on : (old mid new : State D) (calls : List Call) (P : List ℕ → Type 0) → AllMade facts mid calls new → LeavesOnly facts old.disk mid.disk P
+  go_on : (old mid new : State D) (calls : List ProjectCall) (P : List ℕ → Type 0) → AllMade facts mid calls new → LeavesOnly facts old.disk mid.disk P
       → (mid.must_reopen ≡ false → LeavesOnly facts mid.disk new.disk P) → LeavesOnly facts old.disk new.disk P
   go_on old mid new calls P more first second = elim (cases_Bool mid.must_reopen) [
     | inl reopen ↦ subst (λ (s : State D). LeavesOnly facts old.disk s.disk P) (sym (stuck calls mid new reopen more)) first
@@ -132,7 +132,7 @@ module _ {D : Type 0} (facts : Ghosts D)
     pub record Known (done : List (List ℕ)) (now : State D) : Type 0 where
       pub cap_is : now.cap ≡ limit
       pub leads : Leads limit base done (project_of now.maps)
-      pub kept : IsKept facts now
+      pub kept : IsProjectKept facts now
 
     here : (done rest all : List (List ℕ)) (now : State D) → Known done now → all ≡ done ++ rest → (file : List ℕ) → StandsFor now.cap (project_of now.maps) file → Holds all (length done) file
     here done rest all now known is file stands = record {
@@ -148,7 +148,9 @@ module _ {D : Type 0} (facts : Ghosts D)
     led : (done : List (List ℕ)) (line : List ℕ) (now : State D) (next : ProjectMaps) → Known done now → LeadsTo now.cap (project_of now.maps) line next → Leads limit base (done ++ line ∷ []) next
     led done line now next known leads = leads_push limit base done line (project_of now.maps) next known.leads (subst (λ (k : ℕ). LeadsTo k (project_of now.maps) line next) known.cap_is leads)
 
-    outcome : (done : List (List ℕ)) (line : List ℕ) (rest all : List (List ℕ)) (now : State D) → Known done now → all ≡ done ++ line ∷ rest → (file : List ℕ) → IsOutcome now.cap (project_of now.maps) line file → Holds all (length done) file
+    outcome : (done : List (List ℕ)) (line : List ℕ) (rest all : List (List ℕ)) (now : State D) → Known done now → all
+        ≡ done ++ line ∷ rest → (file : List ℕ) → IsOutcome now.cap (project_of now.maps) line file
+        → Holds all (length done) file
     outcome done line rest all now known is file (inl stands) = here done (line ∷ rest) all now known is file stands
     outcome done line rest all now known is file (inr (next, leads, stands)) = record {
       lines = done ++ line ∷ [];
@@ -160,21 +162,23 @@ module _ {D : Type 0} (facts : Ghosts D)
       stands = subst (λ (k : ℕ). StandsFor k next file) known.cap_is stands;
     }
 
-    same_map : (done : List (List ℕ)) (old mid : State D) → Known done old → mid.cap ≡ old.cap → (project_of mid.maps) ≡ (project_of old.maps) → IsKept facts mid → Known done mid
+    same_map : (done : List (List ℕ)) (old mid : State D) → Known done old → mid.cap ≡ old.cap → (project_of mid.maps) ≡ (project_of old.maps) → IsProjectKept facts mid → Known done mid
     same_map done old mid known cap_is map_is kept = record {
       cap_is = cap_is ∙ known.cap_is;
       leads = subst (λ (t : ProjectMaps). Leads limit base done t) (sym map_is) known.leads;
       kept = kept;
     }
 
-    pub moves : (calls : List Call) (done : List (List ℕ)) (old new : State D) → Known done old → old.must_reopen ≡ false → AllMade facts old calls new
+    pub moves : (calls : List ProjectCall) (done : List (List ℕ)) (old new : State D) → Known done old → old.must_reopen ≡ false → AllMade facts old calls new
         → LeavesOnly facts old.disk new.disk (Holds (done ++ accepted calls) (length done))
     moves [] done old new known ready same =
         subst (λ (s : State D). LeavesOnly facts old.disk s.disk (Holds (done ++ []) (length done))) (sym same)
         (started facts old.disk (Holds (done ++ []) (length done)) (λ file left. here done [] (done ++ []) old known refl file (old.generation, known.kept ready file (only_now old.disk file left))))
     moves ((None, answer) ∷ calls) done old new known ready (mid, made, more) =
         go_on old mid new calls (Holds (done ++ accepted calls) (length done)) more
-        (weaker facts old.disk mid.disk (StandsFor old.cap (project_of old.maps)) (Holds (done ++ accepted calls) (length done)) (made.any_moment ready) (here done (accepted calls) (done ++ accepted calls) old known refl))
+        (weaker facts old.disk mid.disk (StandsFor old.cap (project_of old.maps))
+        (Holds (done ++ accepted calls) (length done)) (made.any_moment ready)
+        (here done (accepted calls) (done ++ accepted calls) old known refl))
         (λ still. moves calls done mid new (same_map done old mid known made.same_cap (ap project_of made.maps) made.kept) still more)
     moves ((Some line, Ok n) ∷ calls) done old new known ready (mid, made, more) =
         let all = done ++ line ∷ accepted calls in
@@ -212,7 +216,9 @@ module _ {D : Type 0} (facts : Ghosts D)
             (λ still. absurd (true≢false (sym (faulted facts old mid line e is made.ends.1) ∙ still)))
         at behind false is = go_on old mid new calls (Holds (done ++ accepted calls) (length done)) more
             (⊎_elim (λ device. absurd (true≢false (sym (ap (λ (x : ProjectError). begins (Err x)) device) ∙ is)))
-            (λ quiet. weaker facts old.disk mid.disk (StandsFor old.cap (project_of old.maps)) (Holds (done ++ accepted calls) (length done)) quiet (here done (accepted calls) (done ++ accepted calls) old known refl))
+            (λ quiet. weaker facts old.disk mid.disk (StandsFor old.cap (project_of old.maps))
+            (Holds (done ++ accepted calls) (length done)) quiet
+            (here done (accepted calls) (done ++ accepted calls) old known refl))
             (made.refused_moment ready))
             (λ still. behind stays still)
 
@@ -221,7 +227,7 @@ module _ {D : Type 0} (facts : Ghosts D)
     AfterOf done acc ack new = ((new.must_reopen ≡ false) × Known (done ++ ack) new × (acc ≡ ack))
         ⊎ ((new.must_reopen ≡ true) × Each (facts.may_leave new.disk) (Holds (done ++ acc) (length (done ++ ack))))
 
-    broken : (done all : List (List ℕ)) (calls : List Call) (old mid new : State D) → mid.must_reopen ≡ true → AllMade facts mid calls new
+    broken : (done all : List (List ℕ)) (calls : List ProjectCall) (old mid new : State D) → mid.must_reopen ≡ true → AllMade facts mid calls new
         → LeavesOnly facts old.disk mid.disk (Holds all (length done)) → (new.must_reopen ≡ true) × Each (facts.may_leave new.disk) (Holds all (length (done ++ acknowledged calls)))
     broken done all calls old mid new reopen more first =
         let same : new ≡ mid = stuck calls mid new reopen more in
@@ -240,13 +246,20 @@ module _ {D : Type 0} (facts : Ghosts D)
               },
         )
 
-    pub fronts : (calls : List Call) (done : List (List ℕ)) (old new : State D) → Known done old → old.must_reopen ≡ false → AllMade facts old calls new
+    pub fronts : (calls : List ProjectCall) (done : List (List ℕ)) (old new : State D) → Known done old → old.must_reopen ≡ false → AllMade facts old calls new
         → AfterOf done (accepted calls) (acknowledged calls) new
     fronts [] done old new known ready same =
-        inl (ap (λ (s : State D). s.must_reopen) same ∙ ready, subst (λ (s : State D). Known (done ++ []) s) (sym same) (subst (λ (l : List (List ℕ)). Known l old) (sym (append-nil done)) known), refl)
+        inl (
+          ap (λ (s : State D). s.must_reopen) same ∙ ready,
+          subst (λ (s : State D). Known (done ++ []) s) (sym same)
+              (subst (λ (l : List (List ℕ)). Known l old) (sym (append-nil done)) known),
+          refl,
+        )
     fronts ((None, answer) ∷ calls) done old new known ready (mid, made, more) = elim (cases_Bool mid.must_reopen) [
       | inl reopen ↦ inr (broken done (done ++ accepted calls) calls old mid new reopen more
-          (weaker facts old.disk mid.disk (StandsFor old.cap (project_of old.maps)) (Holds (done ++ accepted calls) (length done)) (made.any_moment ready) (here done (accepted calls) (done ++ accepted calls) old known refl)))
+          (weaker facts old.disk mid.disk (StandsFor old.cap (project_of old.maps))
+          (Holds (done ++ accepted calls) (length done)) (made.any_moment ready)
+          (here done (accepted calls) (done ++ accepted calls) old known refl)))
       | inr still ↦ fronts calls done mid new (same_map done old mid known made.same_cap (ap project_of made.maps) made.kept) still more
     ]
     fronts ((Some line, Ok n) ∷ calls) done old new known ready (mid, made, more) =
@@ -279,7 +292,9 @@ module _ {D : Type 0} (facts : Ghosts D)
         at behind false is = elim (cases_Bool mid.must_reopen) [
           | inl reopen ↦ inr (broken done (done ++ accepted calls) calls old mid new reopen more
               (⊎_elim (λ device. absurd (true≢false (sym (ap (λ (x : ProjectError). begins (Err x)) device) ∙ is)))
-              (λ quiet. weaker facts old.disk mid.disk (StandsFor old.cap (project_of old.maps)) (Holds (done ++ accepted calls) (length done)) quiet (here done (accepted calls) (done ++ accepted calls) old known refl))
+              (λ quiet. weaker facts old.disk mid.disk (StandsFor old.cap (project_of old.maps))
+              (Holds (done ++ accepted calls) (length done)) quiet
+              (here done (accepted calls) (done ++ accepted calls) old known refl))
               (made.refused_moment ready)))
           | inr still ↦ behind stays still
         ]
@@ -290,7 +305,7 @@ module _ {D : Type 0} (facts : Ghosts D)
   abbrev StandsAfter : ℕ → ProjectMaps → Session → List ℕ → Type 0
   StandsAfter cap base s file = (map : ProjectMaps) × KeepsAcknowledged cap base s map × StandsFor cap map file
 
-  session_moments : (cap : ℕ) (s : Session) (first mid last : State D) → first.cap ≡ cap → first.must_reopen ≡ false → IsKept facts first
+  session_moments : (cap : ℕ) (s : Session) (first mid last : State D) → first.cap ≡ cap → first.must_reopen ≡ false → IsProjectKept facts first
       → AllMade facts first s.front mid → AllMade facts mid s.back last
       → LeavesOnly facts mid.disk last.disk (StandsAfter cap (project_of first.maps) s)
   session_moments cap s first mid last cap_is ready kept front back =
@@ -325,14 +340,15 @@ module _ {D : Type 0} (facts : Ghosts D)
       (fronts cap (project_of first.maps) s.front [] first mid (record { cap_is = cap_is; leads = refl; kept = kept }) ready front)
 
   -- one session more
-  keep_push : (cap : ℕ) (base : ProjectMaps) (done : List Session) (mid : ProjectMaps) (s : Session) (map : ProjectMaps) → KeepEach cap base done mid → KeepsAcknowledged cap mid s map → KeepEach cap base (done ++ s ∷ []) map
+  keep_push : (cap : ℕ) (base : ProjectMaps) (done : List Session) (mid : ProjectMaps) (s : Session) (map : ProjectMaps)
+      → KeepEach cap base done mid → KeepsAcknowledged cap mid s map → KeepEach cap base (done ++ s ∷ []) map
   keep_push cap base [] mid s map held more = (map, subst (λ (t : ProjectMaps). KeepsAcknowledged cap t s map) held more, refl)
   keep_push cap base (q ∷ done) mid s map (next, first, held) more = (next, first, keep_push cap next done mid s map held more)
 
   -- a state to which the sessions before lead
   pub record Reaches (cap : ℕ) (done : List Session) (f : State D) : Type 0 where
     pub ready : f.must_reopen ≡ false
-    pub kept : IsKept facts f
+    pub kept : IsProjectKept facts f
     pub cap_is : f.cap ≡ cap
     pub held : KeepEach cap empty_project done (project_of f.maps)
 
@@ -350,7 +366,9 @@ module _ {D : Type 0} (facts : Ghosts D)
 
   module _ (reads_an_image : (d : D) (file : List ℕ) → facts.reads d file → facts.may_leave d file) where
     -- what the next session opens to
-    pub opens_well : (cap : ℕ) (done : List Session) (m l : State D) (next : D) → LeavesOnly facts m.disk l.disk (HoldsEach cap done) → Each (facts.may_leave next) (facts.left_since l.disk (facts.moment m.disk))
+    pub opens_well : (cap : ℕ) (done : List Session) (m l : State D) (next : D)
+        → LeavesOnly facts m.disk l.disk (HoldsEach cap done)
+        → Each (facts.may_leave next) (facts.left_since l.disk (facts.moment m.disk))
         → Good cap done (Opens facts next)
     opens_well cap done m l next leaves images f o =
         let file = o.told.0 in

@@ -5,9 +5,9 @@ use Rattle.lv_lumps.specs.Names.{is_marker}
 use Rattle.lv_commands.specs.CommandRanges.{last_of}
 use Rattle.lv_commands.specs.Grammar.{drop_fault, fault_behind, flat_fault, head_fault, head_of, kind_fault, kind_of, command_fault, or_else, parts}
 use Rattle.lv_commands.specs.ProjectGrammar as of_project
-use Rattle.lv_commands.specs.ProjectGrammar.{fault_by_head, fault_of, map_head_of}
+use Rattle.lv_commands.specs.ProjectGrammar.{fault_by_head, project_fault_of, map_head_of}
 use Rattle.lv_commands.specs.declared.project.command.MapHead.{MapHead}
-use Rattle.lv_commands.specs.Places.{Place, Number, NumberOrNone, Named, fault_at, first_of, has_form, is_form_fault, item, line_places, place_fault, places_fault, range_fault, room_places, sector_item, sector_places, side_places, thing_places, vertex_places}
+use Rattle.lv_commands.specs.Places.{Place, Number, NumberOrNone, Named, fault_at, prior_fault, has_form, is_form_fault, item, line_places, place_fault, places_fault, range_fault, room_places, sector_item, sector_places, side_places, thing_places, vertex_places}
 use Rattle.lv_commands.specs.Words.{is_numeral, numeral_value}
 use Rattle.lv_maptables.specs.declared.kind.Kind.{Kind}
 use Rattle.lv_commands.specs.declared.head.Head.{Head}
@@ -36,7 +36,7 @@ at_low (Named test) w = either (test w) None (Some 15) tt (omega arith)
 place_low : (p : Place) (w : List ℕ) → IsLow (place_fault p w)
 place_low p w = either (has_form p w) (fault_at p w) (Some 1) (at_low p w) one
 
-first_low : (a b : Option ℕ) → IsLow a → IsLow b → IsLow (first_of a b)
+first_low : (a b : Option ℕ) → IsLow a → IsLow b → IsLow (prior_fault a b)
 first_low None b low other = other
 first_low (Some code) b low other = either (is_form_fault b) (Some 1) (Some code) one low
 
@@ -94,13 +94,13 @@ map_head_low : (h : Option MapHead) (w : List ℕ) (ws : List (List ℕ)) → Is
 map_head_low (Some h) w ws = places_low (Named is_marker ∷ []) ws
 map_head_low None w ws = words_low (w ∷ ws)
 
-project_words_low : (ws : List (List ℕ)) → IsLow (of_project.command_fault ws)
+project_words_low : (ws : List (List ℕ)) → IsLow (of_project.project_command_fault ws)
 project_words_low [] = one
 project_words_low (w ∷ ws) = map_head_low (map_head_of w) w ws
 
-line_low : (line : List ℕ) → IsLow (fault_of line)
+line_low : (line : List ℕ) → IsLow (project_fault_of line)
 line_low line =
-    either (nat_lt 256 (length line)) (Some 1) (of_project.command_fault (parts line)) one (project_words_low (parts line))
+    either (nat_lt 256 (length line)) (Some 1) (of_project.project_command_fault (parts line)) one (project_words_low (parts line))
 
-pub low_fault : (line : List ℕ) (code : ℕ) → fault_of line ≡ Some code → code ≤ 15
+pub low_fault : (line : List ℕ) (code : ℕ) → project_fault_of line ≡ Some code → code ≤ 15
 low_fault line code is = subst IsLow is (line_low line)

@@ -13,8 +13,8 @@ use Rattle.lv_maptables.specs.ProjectBody.{HasBody}
 use Rattle.lv_maptables.proofs.BodyLaws.{one_project}
 use Rattle.lv_commands.specs.ProjectStep.{step}
 use Rattle.lv_commands.specs.declared.project.command.ProjectCommand.{ProjectCommand}
-use Rattle.lv_commands.proofs.ProjectWords.{spelling-one}
-use Rattle.lv_project.specs.Places.{IsLaidOut, cap_of, header_bytes, parts_of}
+use Rattle.lv_commands.proofs.ProjectWords.{project_spelling-one}
+use Rattle.lv_project.specs.Places.{AreLaidOut, cap_of, header_bytes, which_parts}
 use Rattle.lv_project.specs.Stands.{HasGeometry, Stands, StandsAt}
 use Rattle.lv_commands.specs.ProjectLines.{Leads, LeadsTo}
 use Rattle.lv_project.specs.declared.geometry.Geometry.{Geometry}
@@ -29,7 +29,7 @@ map_in d (Err e) = d
 
 pub one_step : (cap : ℕ) (old : ProjectMaps) (line : List ℕ) (m n : ProjectMaps) → LeadsTo cap old line m → LeadsTo cap old line n → m ≡ n
 one_step cap old line m n (k, a) (l, b) =
-    let same : a.command ≡ b.command = spelling-one a.command b.command a.range b.range (sym a.line_is ∙ b.line_is) in
+    let same : a.command ≡ b.command = project_spelling-one a.command b.command a.range b.range (sym a.line_is ∙ b.line_is) in
     ap (map_in old) (sym a.stepped ∙ ap (λ (c : ProjectCommand). step old c cap) same ∙ b.stepped)
 
 pub one_replay : (cap : ℕ) (old : ProjectMaps) (lines : List (List ℕ)) (m n : ProjectMaps) → Leads cap old lines m → Leads cap old lines n → m ≡ n
@@ -57,7 +57,7 @@ one_geometry g h p q file a b =
     let journal : g.journal ≡ h.journal = journal_told g.slot h.slot g.journal h.journal (omega (arith, a.allowed.journal_high)) (omega (arith, b.allowed.journal_high)) same in
     λ i. record { slot = slot i; journal = journal i }
 
-pub one_layout : (g : Geometry) (p q : Places) → IsLaidOut g p → IsLaidOut g q → p ≡ q
+pub one_layout : (g : Geometry) (p q : Places) → AreLaidOut g p → AreLaidOut g q → p ≡ q
 one_layout g p q a b =
     let first : p.a ≡ q.a = one_area p.a q.a (a.a_base ∙ sym b.a_base) (a.a_length ∙ sym b.a_length) in
     let second : p.b ≡ q.b = one_area p.b q.b (a.b_base ∙ sym b.b_base) (a.b_length ∙ sym b.b_length) in
@@ -88,16 +88,16 @@ module _ (cap : ℕ) (file : List ℕ) where
     either true false m n k l a b = absurd (one_slot p.a p.b k l a.bytes b.bytes file a.live b.live)
     either false true m n k l a b = absurd (one_slot p.b p.a k l a.bytes b.bytes file a.live b.live)
 
-    pub one_map_at : (s t : ℕ) (m n : ProjectMaps) (k l : ℕ) → StandsAt cap (parts_of p s) m k file → StandsAt cap (parts_of p t) n l file → (m ≡ n) × (k ≡ l)
+    pub one_map_at : (s t : ℕ) (m n : ProjectMaps) (k l : ℕ) → StandsAt cap (which_parts p s) m k file → StandsAt cap (which_parts p t) n l file → (m ≡ n) × (k ≡ l)
     one_map_at s t m n k l a b = either (eqb s 0) (eqb t 0) m n k l a b
 
 pub one_map : (c d : ℕ) (m n : ProjectMaps) (k l : ℕ) (file : List ℕ) → Stands c m k file → Stands d n l file → (c ≡ d) × (m ≡ n) × (k ≡ l)
 one_map c d m n k l file a b =
     let g : a.geometry ≡ b.geometry = one_geometry a.geometry b.geometry a.places b.places file a.has b.has in
-    let laid : IsLaidOut a.geometry b.places = subst (λ (x : Geometry). IsLaidOut x b.places) (sym g) b.has.laid_out in
+    let laid : AreLaidOut a.geometry b.places = subst (λ (x : Geometry). AreLaidOut x b.places) (sym g) b.has.laid_out in
     let p : a.places ≡ b.places = one_layout a.geometry a.places b.places a.has.laid_out laid in
     let limit : c ≡ d = sym a.cap_is ∙ ap cap_of g ∙ b.cap_is in
     let both = one_map_at c file a.places a.slot b.slot m n k l a.at
-    (subst (λ (x : ℕ). StandsAt x (parts_of a.places b.slot) n l file) (sym limit)
-    (subst (λ (y : Places). StandsAt d (parts_of y b.slot) n l file) (sym p) b.at)) in
+    (subst (λ (x : ℕ). StandsAt x (which_parts a.places b.slot) n l file) (sym limit)
+    (subst (λ (y : Places). StandsAt d (which_parts y b.slot) n l file) (sym p) b.at)) in
     (limit, both.0, both.1)

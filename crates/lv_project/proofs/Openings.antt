@@ -10,7 +10,7 @@ use Rattle.lv_journal.specs.State as journal
 use Rattle.lv_checkpoint.specs.Bodies.{IsLive, IsOpen, IsOlder}
 use Rattle.lv_checkpoint.specs.Damage as damage
 use Rattle.lv_checkpoint.specs.Refusals as checkpoint
-use Rattle.lv_checkpoint.specs.Handles.{first_of, second_of, slot_of, generation_of, finds_open, live_of, HasSlots}
+use Rattle.lv_checkpoint.specs.Handles.{first_area, second_of, slot_of, generation_of, finds_open, live_of, HasSlots}
 use Rattle.lv_checkpoint.specs.declared.slots.Slots.{Slots}
 use Rattle.lv_checkpoint.specs.declared.error.CheckpointError.{CheckpointError}
 use Rattle.lv_checkpoint.specs.declared.error.CheckpointError.TheVariants as slot
@@ -19,7 +19,7 @@ use Rattle.lv_maptables.specs.ProjectBody.{NoProjectHas, IsProjectOf, RefusesPro
 use Rattle.lv_maptables.specs.declared.error.MapError.{MapError}
 use Rattle.lv_maptables.specs.declared.error.MapError.TheVariants as map
 use Rattle.lv_project.proofs.Bodies.{project_size}
-use Rattle.lv_project.specs.Places.{IsAllowed, IsLaidOut, cap_of, parts_of}
+use Rattle.lv_project.specs.Places.{IsAllowed, AreLaidOut, cap_of, which_parts}
 use Rattle.lv_project.specs.Stands.{HasGeometry, Stands}
 use Rattle.lv_project.specs.Damage.{IsBadPart}
 use Rattle.lv_project.specs.Opening.{HoldsMap, IsOpened, IsOfBody, IsOfSlots, IsRefusedRead, RefusesGates, RefusesHeader, RefusesLines, RefusesReplay, RefusesSlots}
@@ -58,21 +58,21 @@ live_from s q x file tells has = record {
   ];
 }
 
-spent : (e : CheckpointError) → checkpoint.code_of e ≡ 33 → checkpoint.RefusesOpen e → ⊥
+spent : (e : CheckpointError) → checkpoint.code_of e ≡ 33 → checkpoint.RefusesToOpenSlots e → ⊥
 spent e is (inl a) = let n : 33 ≡ 30 = sym is ∙ ap checkpoint.code_of a in omega (arith, n)
 spent e is (inr (inl a)) = let n : 33 ≡ 31 = sym is ∙ ap checkpoint.code_of a in omega (arith, n)
 spent e is (inr (inr (inl a))) = let n : 33 ≡ 41 = sym is ∙ ap checkpoint.code_of a in omega (arith, n)
 spent e is (inr (inr (inr (place, a)))) = let n : 33 ≡ 40 = sym is ∙ ap checkpoint.code_of a in omega (arith, n)
 
-full : (e : CheckpointError) → checkpoint.code_of e ≡ 35 → checkpoint.RefusesOpen e → ⊥
+full : (e : CheckpointError) → checkpoint.code_of e ≡ 35 → checkpoint.RefusesToOpenSlots e → ⊥
 full e is (inl a) = let n : 35 ≡ 30 = sym is ∙ ap checkpoint.code_of a in omega (arith, n)
 full e is (inr (inl a)) = let n : 35 ≡ 31 = sym is ∙ ap checkpoint.code_of a in omega (arith, n)
 full e is (inr (inr (inl a))) = let n : 35 ≡ 41 = sym is ∙ ap checkpoint.code_of a in omega (arith, n)
 full e is (inr (inr (inr (place, a)))) = let n : 35 ≡ 40 = sym is ∙ ap checkpoint.code_of a in omega (arith, n)
 
 module _ (reads : List ℕ → Type 0) (g : Geometry) (p : Places) where
-  pub slots_refused : (e : CheckpointError) (r : ProjectError) → IsOfSlots e r → checkpoint.RefusesOpen e
-      → ((place : ℕ) → e ≡ slot.Damaged place → Each reads (damage.IsDamagedAt p.a p.b place)) → (e ≡ slot.Blank → Each reads (damage.AreBlank p.a p.b)) → RefusesSlots reads g p r
+  pub slots_refused : (e : CheckpointError) (r : ProjectError) → IsOfSlots e r → checkpoint.RefusesToOpenSlots e
+      → ((place : ℕ) → e ≡ slot.Damaged place → Each reads (damage.AreSlotsDamagedAt p.a p.b place)) → (e ≡ slot.Blank → Each reads (damage.AreBlank p.a p.b)) → RefusesSlots reads g p r
   slots_refused slot.Device r is only damaged blank = subst (RefusesSlots reads g p) (sym is) tt
   slots_refused slot.OutOfMemory r is only damaged blank = subst (RefusesSlots reads g p) (sym is) tt
   slots_refused slot.Blank r is only damaged blank = subst (RefusesSlots reads g p) (sym is) (blank refl)
@@ -81,15 +81,16 @@ module _ (reads : List ℕ → Type 0) (g : Geometry) (p : Places) where
   slots_refused slot.SlotFull r is only damaged blank = absurd (full slot.SlotFull refl only)
 
   -- a body that no map has
-  bad_body : (s : Slots) (x : List ℕ) → IsAllowed g.slot g.journal → IsLaidOut g p → first_of s ≡ p.a → second_of s ≡ p.b → slot_of s ≤ 1 → Each reads (HasSlots s x) → NoProjectHas x
-      → (place : ℕ) → place ≡ (parts_of p (slot_of s)).live.base → Each reads (IsBadPart g p place)
+  bad_body : (s : Slots) (x : List ℕ) → IsAllowed g.slot g.journal → AreLaidOut g p → first_area s ≡ p.a → second_of s ≡ p.b → slot_of s ≤ 1 → Each reads (HasSlots s x) → NoProjectHas x
+      → (place : ℕ) → place ≡ (which_parts p (slot_of s)).live.base → Each reads (IsBadPart g p place)
   bad_body s x allowed laid first second which has none place there file read =
-      inr (slot_of s, generation_of s, x, which, live_from s (parts_of p (slot_of s)) x file (tells_parts g p allowed laid s first second) (has file read), inl (none, there))
+      inr (slot_of s, generation_of s, x, which, live_from s (which_parts p (slot_of s)) x file (tells_parts g p allowed laid s first second) (has file read), inl (none, there))
 
-  pub body_refused : (s : Slots) (x : List ℕ) → IsAllowed g.slot g.journal → IsLaidOut g p → first_of s ≡ p.a → second_of s ≡ p.b → slot_of s ≤ 1 → Each reads (HasSlots s x)
-      → (place : ℕ) → place ≡ (parts_of p (slot_of s)).live.base → (e : MapError) (r : ProjectError) → IsOfBody e place r → RefusesProject x e → RefusesSlots reads g p r
+  pub body_refused : (s : Slots) (x : List ℕ) → IsAllowed g.slot g.journal → AreLaidOut g p → first_area s ≡ p.a → second_of s ≡ p.b → slot_of s ≤ 1 → Each reads (HasSlots s x)
+      → (place : ℕ) → place ≡ (which_parts p (slot_of s)).live.base → (e : MapError) (r : ProjectError) → IsOfBody e place r → RefusesProject x e → RefusesSlots reads g p r
   body_refused s x allowed laid first second which has place there map.OutOfMemory r is refuses = subst (RefusesSlots reads g p) (sym is) tt
-  body_refused s x allowed laid first second which has place there (map.Damaged at) r is refuses = subst (RefusesSlots reads g p) (sym is) (bad_body s x allowed laid first second which has refuses.1 place there)
+  body_refused s x allowed laid first second which has place there (map.Damaged at) r is refuses =
+      subst (RefusesSlots reads g p) (sym is) (bad_body s x allowed laid first second which has refuses.1 place there)
   body_refused s x allowed laid first second which has place there map.NoVertex r is refuses = absurd refuses
   body_refused s x allowed laid first second which has place there map.NoSector r is refuses = absurd refuses
   body_refused s x allowed laid first second which has place there map.NoSide r is refuses = absurd refuses
@@ -107,13 +108,13 @@ module _ (reads : List ℕ → Type 0) (g : Geometry) (p : Places) where
   body_refused s x allowed laid first second which has place there map.CurrentMap r is refuses = absurd refuses
 
   -- the map of the live body
-  pub holds : (s : Slots) (x : List ℕ) (m : ProjectMaps) → IsAllowed g.slot g.journal → IsLaidOut g p → first_of s ≡ p.a → second_of s ≡ p.b → Each reads (HasSlots s x) → IsProjectOf x m
-      → Each reads (HoldsMap (parts_of p (slot_of s)) (generation_of s) m)
+  pub holds : (s : Slots) (x : List ℕ) (m : ProjectMaps) → IsAllowed g.slot g.journal → AreLaidOut g p → first_area s ≡ p.a → second_of s ≡ p.b → Each reads (HasSlots s x) → IsProjectOf x m
+      → Each reads (HoldsMap (which_parts p (slot_of s)) (generation_of s) m)
   holds s x m allowed laid first second has is file read = record {
     bytes = x;
     well_formed = is.well_formed;
     body = is.encoded;
-    live = live_from s (parts_of p (slot_of s)) x file (tells_parts g p allowed laid s first second) (has file read);
+    live = live_from s (which_parts p (slot_of s)) x file (tells_parts g p allowed laid s first second) (has file read);
   }
 
   pub of_slots : Each reads (HasGeometry g p) → (e : ProjectError) → RefusesSlots reads g p e → IsRefusedRead reads e
@@ -141,7 +142,9 @@ module _ (reads : List ℕ → Type 0) (g : Geometry) (p : Places) where
   slots_later later still NotEmpty r = absurd r
   slots_later later still BadGeometry r = absurd r
 
-  pub of_lines : Each reads (HasGeometry g p) → (n k : ℕ) (base : ProjectMaps) → n ≤ 1 → Each reads (HoldsMap (parts_of p n) k base) → (e : ProjectError) → RefusesLines reads (cap_of g) (parts_of p n) base e → IsRefusedRead reads e
+  pub of_lines : Each reads (HasGeometry g p) → (n k : ℕ) (base : ProjectMaps) → n ≤ 1
+      → Each reads (HoldsMap (which_parts p n) k base) → (e : ProjectError)
+      → RefusesLines reads (cap_of g) (which_parts p n) base e → IsRefusedRead reads e
   of_lines has n k base which held Device r = r
   of_lines has n k base which held OutOfMemory r = r
   of_lines has n k base which held (Damaged place) r = λ file read.
@@ -181,7 +184,7 @@ module _ (reads : List ℕ → Type 0) (cap : ℕ) (q : Parts) (base : ProjectMa
   lines_later later still NotEmpty r = absurd r
   lines_later later still BadGeometry r = absurd r
 
-  pub of_replay : (j : journal.State) → j ≡ journal.opened q.journal j.records → Each reads (IsJournal q.journal j.records) → Each reads (λ file. q.other_journal.base < length file)
+  pub of_replay : (j : journal.JournalState) → j ≡ journal.opened q.journal j.records → Each reads (IsJournal q.journal j.records) → Each reads (λ file. q.other_journal.base < length file)
       → (e : ProjectError) → RefusesReplay cap base j e → RefusesLines reads cap q base e
   of_replay j is sound other OutOfMemory r = r
   of_replay j is sound other (Damaged place) (front, line, back, split, m, leads, refused, there) = λ file read. inr (record {
@@ -193,7 +196,7 @@ module _ (reads : List ℕ → Type 0) (cap : ℕ) (q : Parts) (base : ProjectMa
     map = m;
     leads = leads;
     refused = refused;
-    there = there ∙ ap (λ (k : journal.State). k.area.base + length (records_bytes front)) is;
+    there = there ∙ ap (λ (k : journal.JournalState). k.area.base + length (records_bytes front)) is;
   })
   of_replay j is sound other Device r = absurd r
   of_replay j is sound other Blank r = absurd r
@@ -209,7 +212,8 @@ module _ (reads : List ℕ → Type 0) (cap : ℕ) (q : Parts) (base : ProjectMa
 abbrev items_of : Vec ℕ Global → List ℕ
 items_of payload = payload.items
 
-module _ (xs : List (Vec ℕ Global)) (rs : List (List ℕ)) (is : map_list items_of xs ≡ rs) (n : ℕ) (x : Vec ℕ Global) (line : List ℕ) (lt : n < length xs) (item : x ≡ get_or xs n x) (line_is : line ≡ x.items) where
+module _ (xs : List (Vec ℕ Global)) (rs : List (List ℕ)) (is : map_list items_of xs ≡ rs) (n : ℕ) (x : Vec ℕ Global)
+    (line : List ℕ) (lt : n < length xs) (item : x ≡ get_or xs n x) (line_is : line ≡ x.items) where
   there_is : n < length rs
   there_is = omega (arith, lt, ap length is, length-map xs items_of)
 
@@ -226,7 +230,7 @@ abbrev value_in : Option ℕ → ℕ
 value_in None = 0
 value_in (Some n) = n
 
-pub place_is : (j : journal.State) (n place : ℕ) → Some place ≡ journal.gate_of j n → place ≡ j.area.base + length (records_bytes (take n j.records))
+pub place_is : (j : journal.JournalState) (n place : ℕ) → Some place ≡ journal.gate_of j n → place ≡ j.area.base + length (records_bytes (take n j.records))
 place_is j n place is = at (nat_lt n (length j.records)) (j.area.base + length (records_bytes (take n j.records))) is
   where
     at : (t : Bool) (k : ℕ) → Some place ≡ cond t (Some k) None → place ≡ k
@@ -235,7 +239,8 @@ place_is j n place is = at (nat_lt n (length j.records)) (j.area.base + length (
 
 -- ---- the map fits
 
-pub map_fits : (g : Geometry) (p : Places) (s : Slots) (x : List ℕ) (m : ProjectMaps) → IsLaidOut g p → first_of s ≡ p.a → second_of s ≡ p.b → 13 + length x ≤ (live_of s).length → IsProjectOf x m → body_len m ≤ cap_of g
+pub map_fits : (g : Geometry) (p : Places) (s : Slots) (x : List ℕ) (m : ProjectMaps) → AreLaidOut g p → first_area s
+    ≡ p.a → second_of s ≡ p.b → 13 + length x ≤ (live_of s).length → IsProjectOf x m → body_len m ≤ cap_of g
 map_fits g p s x m laid first second fits is =
     let size : length x ≡ body_len m = project_size m x is.well_formed is.encoded in
     let len : (live_of s).length ≡ g.slot = at (eqb (slot_of s) 0) in

@@ -3,9 +3,9 @@ use Rattle.std.proofs.Common.{◌≡◌, inl, inr, ◌≤◌, ◌+◌, ℕ, Bool
 use Rattle.lv_disk.specs.Files.{KeepsOutside}
 use Rattle.lv_disk.specs.declared.area.Area.{Area}
 use Rattle.lv_disk.proofs.Bytes.{has_kept}
-use Rattle.lv_checkpoint.specs.Handles.{live_of, other_of, first_of, second_of, slot_of}
+use Rattle.lv_checkpoint.specs.Handles.{live_of, other_of, first_area, second_of, slot_of}
 use Rattle.lv_checkpoint.specs.declared.slots.Slots.{Slots}
-use Rattle.lv_project.specs.Places.{IsAllowed, IsLaidOut, IsInOrder, header_bytes, parts_of}
+use Rattle.lv_project.specs.Places.{IsAllowed, AreLaidOut, IsInOrder, header_bytes, which_parts}
 use Rattle.lv_project.specs.Stands.{HasGeometry}
 use Rattle.lv_project.specs.Turns.{KeepsHeader}
 use Rattle.lv_project.specs.declared.geometry.Geometry.{Geometry}
@@ -17,7 +17,7 @@ pub record TellsParts (s : Slots) (q : Parts) : Type 0 where
   pub live_is : live_of s ≡ q.live
   pub other_is : other_of s ≡ q.other
 
-module _ (g : Geometry) (p : Places) (allowed : IsAllowed g.slot g.journal) (laid : IsLaidOut g p) where
+module _ (g : Geometry) (p : Places) (allowed : IsAllowed g.slot g.journal) (laid : AreLaidOut g p) where
   abbrev picked : Bool → Parts
   picked true = record { live = p.a; other = p.b; journal = p.first; other_journal = p.second }
   picked false = record { live = p.b; other = p.a; journal = p.second; other_journal = p.first }
@@ -26,7 +26,7 @@ module _ (g : Geometry) (p : Places) (allowed : IsAllowed g.slot g.journal) (lai
   is_picked true = refl
   is_picked false = refl
 
-  pub in_order : (slot : ℕ) → IsInOrder (parts_of p slot)
+  pub in_order : (slot : ℕ) → IsInOrder (which_parts p slot)
   in_order slot = subst IsInOrder (is_picked (eqb slot 0)) (at (eqb slot 0))
     where
       at : (t : Bool) → IsInOrder (picked t)
@@ -55,7 +55,7 @@ module _ (g : Geometry) (p : Places) (allowed : IsAllowed g.slot g.journal) (lai
         other_room = omega (arith, laid.first_length, allowed.journal_low);
       }
 
-  pub tells_parts : (s : Slots) → first_of s ≡ p.a → second_of s ≡ p.b → TellsParts s (parts_of p (slot_of s))
+  pub tells_parts : (s : Slots) → first_area s ≡ p.a → second_of s ≡ p.b → TellsParts s (which_parts p (slot_of s))
   tells_parts s first second = subst (λ (q : Parts). TellsParts s q) (is_picked (eqb (slot_of s) 0)) (let both = at (eqb (slot_of s) 0) in record { live_is = both.0; other_is = both.1 })
     where
       at : (t : Bool) → (cond t s.a s.b ≡ (picked t).live)
@@ -63,7 +63,7 @@ module _ (g : Geometry) (p : Places) (allowed : IsAllowed g.slot g.journal) (lai
       at true = (first, second)
       at false = (second, first)
 
-  pub behind_slots : (s : Slots) (slot : ℕ) → second_of s ≡ p.b → (second_of s).base + (second_of s).length ≤ (parts_of p slot).other_journal.base
+  pub behind_slots : (s : Slots) (slot : ℕ) → second_of s ≡ p.b → (second_of s).base + (second_of s).length ≤ (which_parts p slot).other_journal.base
   behind_slots s slot second =
       let base : (second_of s).base ≡ p.b.base = ap (λ (a : Area). a.base) second in
       let len : (second_of s).length ≡ p.b.length = ap (λ (a : Area). a.length) second in
@@ -73,7 +73,7 @@ module _ (g : Geometry) (p : Places) (allowed : IsAllowed g.slot g.journal) (lai
       at true base len = omega (arith, base, len, laid.b_base, laid.b_length, laid.second_base)
       at false base len = omega (arith, base, len, laid.b_base, laid.b_length, laid.first_base)
 
-  pub other_length : (slot : ℕ) → (parts_of p slot).other.length ≡ g.slot
+  pub other_length : (slot : ℕ) → (which_parts p slot).other.length ≡ g.slot
   other_length slot = subst (λ (q : Parts). q.other.length ≡ g.slot) (is_picked (eqb slot 0)) (at (eqb slot 0))
     where
       at : (t : Bool) → (picked t).other.length ≡ g.slot

@@ -18,7 +18,8 @@ use Rattle.lv_project.specs.Turns.{KeepsHeader}
 use Rattle.lv_project.specs.declared.places.Parts.{Parts}
 use Rattle.lv_project.proofs.Placing.{header_kept}
 
-pub leads_push : (cap : ℕ) (old : ProjectMaps) (lines : List (List ℕ)) (line : List ℕ) (mid new : ProjectMaps) → Leads cap old lines mid → LeadsTo cap mid line new → Leads cap old (lines ++ line ∷ []) new
+pub leads_push : (cap : ℕ) (old : ProjectMaps) (lines : List (List ℕ)) (line : List ℕ) (mid new : ProjectMaps)
+    → Leads cap old lines mid → LeadsTo cap mid line new → Leads cap old (lines ++ line ∷ []) new
 leads_push cap old [] line mid new leads more = (new, subst (λ (m : ProjectMaps). LeadsTo cap m line new) leads more, refl)
 leads_push cap old (l ∷ lines) line mid new leads more = (leads.0, leads.1, leads_push cap leads.0 lines line mid new leads.2 more)
 
@@ -46,7 +47,8 @@ module _ (cap g : ℕ) (q : Parts) (order : IsInOrder q) (area : Area) (is : are
   appended map next old new leads step st =
       stands_with map next old new step.keeps st (st.lines ++ line ∷ []) (step.journal st.lines (of_journal st.lines old st.journal)) (leads_push cap st.base st.lines line map next st.leads leads)
 
-  pub may_append : (map next : ProjectMaps) (old new : List ℕ) → LeadsTo cap map line next → MayAppend area line old new → StandsAt cap q map g old → StandsAt cap q map g new ⊎ StandsAt cap q next g new
+  pub may_append : (map next : ProjectMaps) (old new : List ℕ) → LeadsTo cap map line next → MayAppend area line old new
+      → StandsAt cap q map g old → StandsAt cap q map g new ⊎ StandsAt cap q next g new
   may_append map next old new leads step st =
       ⊎_elim (λ same. inl (stands_with map map old new step.keeps st st.lines same st.leads))
       (λ more. inr (stands_with map next old new step.keeps st (st.lines ++ line ∷ []) more (leads_push cap st.base st.lines line map next st.leads leads)))

@@ -9,20 +9,20 @@ use Rattle.lv_disk.proofs.Moments.{weaker, started, and_then}
 use Rattle.lv_disk.specs.declared.area.Area.{Area}
 use Rattle.lv_journal.specs.Append.{Appends, MayAppend}
 use Rattle.lv_journal.specs.State as journal
-use Rattle.lv_checkpoint.specs.Handles.{live_of, other_of, other_slot, first_of, second_of, slot_of, generation_of, HasSomeSlots}
+use Rattle.lv_checkpoint.specs.Handles.{live_of, other_of, other_slot, first_area, second_of, slot_of, generation_of, HasSomeSlots}
 use Rattle.lv_checkpoint.specs.declared.slots.Slots.{Slots}
 use Rattle.lv_maptables.specs.Projects.{ProjectMaps, MapsView, WellFormedProject, body_len, project_of}
 use Rattle.lv_maptables.specs.Outcomes.{least, unless}
 use Rattle.lv_maptables.specs.ProjectBody.{project_body}
-use Rattle.lv_commands.specs.ProjectStep.{step, after, current_faults, faults, is_full, map_faults, number_of}
+use Rattle.lv_commands.specs.ProjectStep.{step, project_after, current_faults, project_faults, is_full, map_faults, project_number_of}
 use Rattle.lv_commands.specs.declared.project.command.ProjectCommand.{ProjectCommand}
 use Rattle.lv_commands.proofs.ProjectSteps.{none-of-both}
-use Rattle.lv_project.specs.Places.{IsInOrder, cap_of, parts_of}
+use Rattle.lv_project.specs.Places.{IsInOrder, cap_of, which_parts}
 use Rattle.lv_project.specs.Stands.{HasGeometry, Stands, StandsAt, StandsFor, IsOutcome}
 use Rattle.lv_commands.specs.ProjectLines.{LeadsTo}
-use Rattle.lv_project.specs.States.{State, IsKept}
+use Rattle.lv_project.specs.States.{State, IsProjectKept}
 use Rattle.lv_project.specs.Turns.{turned, KeepsHeader, MayTurn, Turns}
-use Rattle.lv_project.specs.Fields.{state_of, parts_in, IsFramed, IsReady, IsSound}
+use Rattle.lv_project.specs.Fields.{project_state, parts_in, IsProjectFramed, IsReady, IsProjectSound}
 use Rattle.lv_project.specs.declared.places.Places.{Places}
 use Rattle.lv_project.specs.declared.places.Parts.{Parts}
 use Rattle.lv_project.specs.declared.project.Project.TheInside.{Inside}
@@ -34,7 +34,7 @@ use Rattle.lv_disk.specs.Areas as areas
 use Rattle.lv_disk.specs.declared.disk.Disk.{Ghosts}
 
 -- the parts where the other slot is live
-pub flipped : (p : Places) (n : ℕ) → parts_of p (other_slot n) ≡ turned (parts_of p n)
+pub flipped : (p : Places) (n : ℕ) → which_parts p (other_slot n) ≡ turned (which_parts p n)
 flipped p n = at (eqb n 0)
   where
     A : Parts
@@ -83,14 +83,14 @@ none_of (Some code) m n x is = absurd (true≢false (sym (ap is_good is)))
 
 pub step_fits : (m : ProjectMaps) (c : ProjectCommand) (cap : ℕ) (new : ProjectMaps) (n : ℕ) → step m c cap ≡ Ok (new, n) → body_len new ≤ cap
 step_fits m c cap new n is =
-    let none = none_of (least (faults m c cap)) (after m c) (number_of m c) (new, n) is in
+    let none = none_of (least (project_faults m c cap)) (project_after m c) (project_number_of m c) (new, n) is in
     let all = none-of-both (current_faults m c) ((14, is_full m c cap) ∷ map_faults m c) none.0 in
     let last = head_none 14 (is_full m c cap) (map_faults m c) all.1 in
-    let short : nat_lt cap (body_len (after m c)) ≡ false = not_long (least (map_faults m c)) (nat_lt cap (body_len (after m c))) last.1 last.0 in
-    let le : body_len (after m c) ≤ cap = grind (arith, nat_tests, short) in
+    let short : nat_lt cap (body_len (project_after m c)) ≡ false = not_long (least (map_faults m c)) (nat_lt cap (body_len (project_after m c))) last.1 last.0 in
+    let le : body_len (project_after m c) ≤ cap = grind (arith, nat_tests, short) in
     subst (λ (t : ProjectMaps). body_len t ≤ cap) none.1 le
 
-module _ {D : Type 0} (facts : Ghosts D) (p : Inside D) (framed : IsFramed p) where
+module _ {D : Type 0} (facts : Ghosts D) (p : Inside D) (framed : IsProjectFramed p) where
   abbrev cap : ℕ
   cap = cap_of p.geometry
 
@@ -130,20 +130,22 @@ module _ {D : Type 0} (facts : Ghosts D) (p : Inside D) (framed : IsFramed p) wh
   kept_header : (old new : List ℕ) → KeepsHeader old new → HasGeometry p.geometry p.places old → HasGeometry p.geometry p.places new
   kept_header old new keeps has = geometry_kept p.geometry p.places framed.allowed framed.laid_out old new keeps has
 
-  pub is_kept : (p.must_reopen ≡ false → IsReady facts p) → IsKept facts (state_of p)
+  pub is_kept : (p.must_reopen ≡ false → IsReady facts p) → IsProjectKept facts (project_state p)
   is_kept ready go file left = stands_here (project_of p.maps) file ((ready go).geometry file left) ((ready go).stands file left)
 
   -- as a contract sees it
-  pub kept_view : (v : State D) → state_of p ≡ v → (p.must_reopen ≡ false → IsReady facts p) → IsKept facts v
-  kept_view v is ready = subst (λ (w : State D). IsKept facts w) is (is_kept ready)
+  pub kept_view : (v : State D) → project_state p ≡ v → (p.must_reopen ≡ false → IsReady facts p) → IsProjectKept facts v
+  kept_view v is ready = subst (λ (w : State D). IsProjectKept facts w) is (is_kept ready)
 
   -- a call that leaves the disk alone
-  pub no_moment : (v : State D) → state_of p ≡ v → (p.must_reopen ≡ false → IsReady facts p)
-      → ((file : List ℕ) → facts.left_since v.disk (facts.moment v.disk) file → facts.may_leave v.disk file) → v.must_reopen ≡ false → LeavesOnly facts v.disk v.disk (StandsFor v.cap (project_of v.maps))
+  pub no_moment : (v : State D) → project_state p ≡ v → (p.must_reopen ≡ false → IsReady facts p)
+      → ((file : List ℕ) → facts.left_since v.disk (facts.moment v.disk) file → facts.may_leave v.disk file)
+      → v.must_reopen ≡ false → LeavesOnly facts v.disk v.disk (StandsFor v.cap (project_of v.maps))
   no_moment v is ready only go = started facts v.disk (StandsFor v.cap (project_of v.maps)) (λ file left. (v.generation, kept_view v is ready go file (only file left)))
 
-  pub no_outcome : (v : State D) (line : List ℕ) → state_of p ≡ v → (p.must_reopen ≡ false → IsReady facts p)
-      → ((file : List ℕ) → facts.left_since v.disk (facts.moment v.disk) file → facts.may_leave v.disk file) → v.must_reopen ≡ false → LeavesOnly facts v.disk v.disk (IsOutcome v.cap (project_of v.maps) line)
+  pub no_outcome : (v : State D) (line : List ℕ) → project_state p ≡ v → (p.must_reopen ≡ false → IsReady facts p)
+      → ((file : List ℕ) → facts.left_since v.disk (facts.moment v.disk) file → facts.may_leave v.disk file)
+      → v.must_reopen ≡ false → LeavesOnly facts v.disk v.disk (IsOutcome v.cap (project_of v.maps) line)
   no_outcome v line is ready only go = weaker facts v.disk v.disk (StandsFor v.cap (project_of v.maps)) (IsOutcome v.cap (project_of v.maps) line) (no_moment v is ready only go) (λ file st. inl st)
 
   -- the map's body fits the other slot
@@ -164,14 +166,14 @@ module _ {D : Type 0} (facts : Ghosts D) (p : Inside D) (framed : IsFramed p) wh
         (from.2.stands (project_of p.maps) formed (sym is) (ready.stands from.0 from.1)))
 
     -- and after it
-    pub sound_turned : (new : D) (s : Slots) (j : journal.State) (bytes : List ℕ) → bytes ≡ project_body (project_of p.maps) → WellFormedProject (project_of p.maps)
+    pub sound_turned : (new : D) (s : Slots) (j : journal.JournalState) (bytes : List ℕ) → bytes ≡ project_body (project_of p.maps) → WellFormedProject (project_of p.maps)
         → Follows (Turns cap g q bytes) (facts.may_leave p.disk) (facts.may_leave new) → Each (facts.may_leave new) (HasSomeSlots s)
-        → (first_of s ≡ first_of p.slots) × (second_of s ≡ second_of p.slots) → slot_of s ≡ other_slot (slot_of p.slots) → generation_of s ≡ g + 1
+        → (first_area s ≡ first_area p.slots) × (second_of s ≡ second_of p.slots) → slot_of s ≡ other_slot (slot_of p.slots) → generation_of s ≡ g + 1
         → j ≡ journal.opened q.other_journal [] → journal.IsReadyIn j (facts.may_leave new)
-        → IsSound facts (record p { disk = new; slots = s; journal = j })
+        → IsProjectSound facts (record p { disk = new; slots = s; journal = j })
     sound_turned new s j bytes is formed turns slots areas slot_is generation_is journal_is ends =
-        let parts : parts_of p.places (slot_of s) ≡ turned q = ap (parts_of p.places) slot_is ∙ flipped p.places (slot_of p.slots) in
-        let area : j.area ≡ (parts_of p.places (slot_of s)).journal = ap (λ (k : journal.State). k.area) journal_is ∙ sym (ap (λ (r : Parts). r.journal) parts) in
+        let parts : which_parts p.places (slot_of s) ≡ turned q = ap (which_parts p.places) slot_is ∙ flipped p.places (slot_of p.slots) in
+        let area : j.area ≡ (which_parts p.places (slot_of s)).journal = ap (λ (k : journal.JournalState). k.area) journal_is ∙ sym (ap (λ (r : Parts). r.journal) parts) in
         record {
           framed = record {
             allowed = framed.allowed;
@@ -183,14 +185,14 @@ module _ {D : Type 0} (facts : Ghosts D) (p : Inside D) (framed : IsFramed p) wh
             fits = framed.fits;
           };
           ready = λ _. record {
-            journal = ap (λ (k : journal.State). k.must_reopen) journal_is;
+            journal = ap (λ (k : journal.JournalState). k.must_reopen) journal_is;
             geometry = λ file left. let from = turns file left in kept_header from.0 file from.2.header (ready.geometry from.0 from.1);
             stands = λ file left.
                 let from = turns file left in
                 subst (λ (r : Parts). StandsAt cap r (project_of p.maps) (generation_of s) file) (sym parts)
                 (subst (λ (k : ℕ). StandsAt cap (turned q) (project_of p.maps) k file) (sym generation_is) (from.2.stands (project_of p.maps) formed (sym is) (ready.stands from.0 from.1)));
             slots = slots;
-            ends = ends (ap (λ (k : journal.State). k.must_reopen) journal_is);
+            ends = ends (ap (λ (k : journal.JournalState). k.must_reopen) journal_is);
           };
         }
 
@@ -204,12 +206,14 @@ module _ {D : Type 0} (facts : Ghosts D) (p : Inside D) (framed : IsFramed p) wh
         (may_append cap g q order p.journal.area framed.journal line (project_of p.maps) next from.0 file leads from.2 (ready.stands from.0 from.1)))
 
     -- and after it
-    pub sound_recorded : (new : D) (j : journal.State) (m : MapsView) (line : List ℕ) (next : ProjectMaps) → LeadsTo cap (project_of p.maps) line next → project_of m ≡ next → body_len next ≤ cap
-        → Follows (Appends p.journal.area line) (facts.may_leave p.disk) (facts.may_leave new) → j ≡ record p.journal { next = p.journal.next + 5 + length line; must_reopen = false } → journal.IsReadyIn j (facts.may_leave new)
-        → IsSound facts (record p { disk = new; journal = j; maps = m })
+    pub sound_recorded : (new : D) (j : journal.JournalState) (m : MapsView) (line : List ℕ) (next : ProjectMaps) → LeadsTo cap (project_of p.maps) line next → project_of m ≡ next → body_len next ≤ cap
+        → Follows (Appends p.journal.area line) (facts.may_leave p.disk) (facts.may_leave new) → j
+        ≡ record p.journal { next = p.journal.next + 5 + length line; must_reopen = false }
+        → journal.IsReadyIn j (facts.may_leave new)
+        → IsProjectSound facts (record p { disk = new; journal = j; maps = m })
     sound_recorded new j m line next leads map_is short appends journal_is ends =
-        let area : j.area ≡ p.journal.area = ap (λ (k : journal.State). k.area) journal_is in
-        let go : j.must_reopen ≡ false = ap (λ (k : journal.State). k.must_reopen) journal_is in
+        let area : j.area ≡ p.journal.area = ap (λ (k : journal.JournalState). k.area) journal_is in
+        let go : j.must_reopen ≡ false = ap (λ (k : journal.JournalState). k.must_reopen) journal_is in
         record {
           framed = record {
             allowed = framed.allowed;
@@ -243,7 +247,7 @@ module _ {D : Type 0} (facts : Ghosts D) (p : Inside D) (framed : IsFramed p) wh
         }
 
 -- a call that leaves the disk alone, as a contract sees it
-module _ {D : Type 0} (facts : Ghosts D) (v : State D) (kept : IsKept facts v)
+module _ {D : Type 0} (facts : Ghosts D) (v : State D) (kept : IsProjectKept facts v)
     (only : (file : List ℕ) → facts.left_since v.disk (facts.moment v.disk) file → facts.may_leave v.disk file) where
   pub still_moment : v.must_reopen ≡ false → LeavesOnly facts v.disk v.disk (StandsFor v.cap (project_of v.maps))
   still_moment go = started facts v.disk (StandsFor v.cap (project_of v.maps)) (λ file left. (v.generation, kept go file (only file left)))

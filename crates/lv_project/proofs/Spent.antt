@@ -2,14 +2,14 @@
 use Rattle.std.proofs.Common.{◌≡◌, ◌⊎◌, inl, inr, ℕ, Bool, true, false, List, Result, Ok, Err, IfErr, IsOk, sym, ◌∙◌, ap, subst, arith}
 use Rattle.std.proofs.lemmas.Bool.{true≢false}
 use Rattle.lv_maptables.specs.Projects.{ProjectMaps}
-use Rattle.lv_commands.specs.ProjectCommands.{InRange}
-use Rattle.lv_commands.specs.ProjectCommands.{spelling}
+use Rattle.lv_commands.specs.ProjectCommands.{InProjectRange}
+use Rattle.lv_commands.specs.ProjectCommands.{project_spelling}
 use Rattle.lv_commands.specs.ProjectStep.{step}
 use Rattle.lv_commands.specs.Errors as commands
 use Rattle.lv_commands.specs.ProjectReadiness as readiness
 use Rattle.lv_commands.specs.declared.project.command.ProjectCommand.{ProjectCommand}
 use Rattle.lv_commands.specs.declared.error.CommandError.{CommandError}
-use Rattle.lv_commands.proofs.ProjectWords.{spelling-one}
+use Rattle.lv_commands.proofs.ProjectWords.{project_spelling-one}
 use Rattle.lv_commands.specs.ProjectLines.{LeadsTo}
 use Rattle.lv_project.specs.Refusals.{code_of, IsRefusalOf}
 use Rattle.lv_project.specs.declared.error.ProjectError.{ProjectError}
@@ -41,17 +41,21 @@ only_device {T = T} r device is =
     omega (arith, codes)
 
 -- a line that leads on isn't refused, but for lack of memory
-pub not_refused : {T : Type 0} (m : ProjectMaps) (n : ℕ) (line : List ℕ) (c : ProjectCommand) (e : CommandError) (r : ProjectError) → IsRefusalOf r e → readiness.RefusesStep e (step m c n) → line ≡ spelling c → InRange c
+pub not_refused : {T : Type 0} (m : ProjectMaps) (n : ℕ) (line : List ℕ) (c : ProjectCommand) (e : CommandError)
+    (r : ProjectError) → IsRefusalOf r e → readiness.RefusesStep e (step m c n) → line ≡ project_spelling c
+    → InProjectRange c
     → (new : ProjectMaps) → LeadsTo n m line new → (◌≡◌ {A = Result T ProjectError} (Err r) (Err GenerationsSpent)) ⊎ (◌≡◌ {A = Result T ProjectError} (Err r) (Err OutOfMemory))
 not_refused {T = T} m n line c e r is by line_is range new (k, a) = at (split e r (step m c n) is by)
   where
     the_err : ProjectError → Result T ProjectError
     the_err x = Err x
 
-    at : ((r ≡ OutOfMemory) × IsOk (step m c n)) ⊎ ((r ≡ Refused e) × (step m c n ≡ Err (commands.code_of e))) → (◌≡◌ {A = Result T ProjectError} (Err r) (Err GenerationsSpent)) ⊎ (◌≡◌ {A = Result T ProjectError} (Err r) (Err OutOfMemory))
+    at : ((r ≡ OutOfMemory) × IsOk (step m c n)) ⊎ ((r ≡ Refused e) × (step m c n ≡ Err (commands.code_of e)))
+        → (◌≡◌ {A = Result T ProjectError} (Err r) (Err GenerationsSpent))
+        ⊎ (◌≡◌ {A = Result T ProjectError} (Err r) (Err OutOfMemory))
     at (inl (memory, ok)) = inr (ap (λ (x : ProjectError). the_err x) memory)
     at (inr (refused, bad)) =
-        let same : c ≡ a.command = spelling-one c a.command range a.range (sym line_is ∙ a.line_is) in
+        let same : c ≡ a.command = project_spelling-one c a.command range a.range (sym line_is ∙ a.line_is) in
         absurd (err_ok (commands.code_of e) (new, k) (step m c n) bad (ap (λ (d : ProjectCommand). step m d n) same ∙ a.stepped))
 
 -- a call that is refused by the device alone

@@ -27,7 +27,9 @@ module _ {D : Type 0} (facts : Ghosts D) (s s1 : Slots) (same1 : s1 ≡ s) (q : 
 
   module _ (closed : Follows (ClosesOther s) (facts.may_leave d0) (facts.may_leave d1)) where
     module _ (d2 : D) where
-      pub filling : LeavesOnly facts d0 d1 (From (facts.may_leave d0) (KeepsLive s)) → LeavesOnly facts d1 d2 (From (facts.may_leave d1) (MayFill s1 q.other_journal)) → (cap : ℕ) → LeavesOnly facts d0 d2 (May cap)
+      pub filling : LeavesOnly facts d0 d1 (From (facts.may_leave d0) (KeepsLive s))
+          → LeavesOnly facts d1 d2 (From (facts.may_leave d1) (MayFill s1 q.other_journal)) → (cap : ℕ)
+          → LeavesOnly facts d0 d2 (May cap)
       filling first second cap = and_then facts d0 d1 d2 (May cap) (closing first cap)
           (weaker facts d1 d2 (From (facts.may_leave d1) (MayFill s1 q.other_journal)) (May cap) second
           (λ file left.
@@ -38,26 +40,40 @@ module _ {D : Type 0} (facts : Ghosts D) (s s1 : Slots) (same1 : s1 ≡ s) (q : 
         fills_here : (old new : List ℕ) → Fills s1 bytes q.other_journal old new → Fills s bytes q.other_journal old new
         fills_here old new fills = subst (λ (t : Slots). Fills t bytes q.other_journal old new) same1 fills
 
-        pub opening : (d3 : D) → LeavesOnly facts d0 d1 (From (facts.may_leave d0) (KeepsLive s)) → LeavesOnly facts d1 d2 (From (facts.may_leave d1) (MayFill s1 q.other_journal)) → LeavesOnly facts d2 d3 (From (facts.may_leave d2) (MayOpenOther s2))
+        pub opening : (d3 : D) → LeavesOnly facts d0 d1 (From (facts.may_leave d0) (KeepsLive s))
+            → LeavesOnly facts d1 d2 (From (facts.may_leave d1) (MayFill s1 q.other_journal))
+            → LeavesOnly facts d2 d3 (From (facts.may_leave d2) (MayOpenOther s2))
             → (cap : ℕ) → LeavesOnly facts d0 d3 (May cap)
         opening d3 first second third cap = and_then facts d0 d2 d3 (May cap) (filling first second cap)
             (weaker facts d2 d3 (From (facts.may_leave d2) (MayOpenOther s2)) (May cap) third
             (λ file left.
             let last = filled left.0 left.1 in
-            let was = closed last.0 last.1 in
-            (was.0, was.1, turn_opening s q order live_is other_is cap bytes was.0 last.0 left.0 file was.2.keeps (fills_here last.0 left.0 last.2) (subst (λ (t : Slots). MayOpenOther t left.0 file) (same2 ∙ same1) left.2))))
+            let was = closed last.0 last.1 in (
+              was.0,
+              was.1,
+              turn_opening s q order live_is other_is cap bytes was.0 last.0 left.0 file was.2.keeps
+                  (fills_here last.0 left.0 last.2) (subst (λ (t : Slots). MayOpenOther t left.0 file)
+                  (same2 ∙ same1) left.2),
+            )))
 
         pub opened : (d3 : D) → Follows (OpensOther s2) (facts.may_leave d2) (facts.may_leave d3) → (cap : ℕ) → Follows (Turns cap (generation_of s) q bytes) (facts.may_leave d0) (facts.may_leave d3)
         opened d3 opens cap file left =
             let from = opens file left in
             let last = filled from.0 from.1 in
-            let was = closed last.0 last.1 in
-            (was.0, was.1, turn_opened s q order live_is other_is cap bytes was.0 last.0 from.0 file was.2.keeps (fills_here last.0 from.0 last.2) (subst (λ (t : Slots). OpensOther t from.0 file) (same2 ∙ same1) from.2))
+            let was = closed last.0 last.1 in (
+              was.0,
+              was.1,
+              turn_opened s q order live_is other_is cap bytes was.0 last.0 from.0 file was.2.keeps
+                  (fills_here last.0 from.0 last.2) (subst (λ (t : Slots). OpensOther t from.0 file)
+                  (same2 ∙ same1) from.2),
+            )
 
         pub begun : (d3 : D) → Follows (OpensOther s2) (facts.may_leave d2) (facts.may_leave d3) → Each (facts.may_leave d3) (IsClosedAt q.other_journal.base)
         begun d3 opens file left =
             let from = opens file left in
             let last = filled from.0 from.1 in
-            let keeps : KeepsOutside q.other.base q.other.length from.0 file = subst (λ (a : Area). KeepsOutside a.base a.length from.0 file) other_is (subst (λ (t : Slots). OpensOther t from.0 file) (same2 ∙ same1) from.2).keeps in
+            let keeps : KeepsOutside q.other.base q.other.length from.0 file =
+            subst (λ (a : Area). KeepsOutside a.base a.length from.0 file) other_is
+            (subst (λ (t : Slots). OpensOther t from.0 file) (same2 ∙ same1) from.2).keeps in
             let has : HasAt q.other_journal.base (0 ∷ []) file = has_kept q.other.base q.other.length q.other_journal.base (0 ∷ []) from.0 file (inr order.other_behind) keeps last.2.begins in
             record { within = omega (arith, has.within); closed = λ is_open. absurd (omega (arith, sym (one_has q.other_journal.base 0 [] file has) ∙ is_open)) }

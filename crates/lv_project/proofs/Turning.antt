@@ -77,11 +77,17 @@ module _ (s : Slots) (q : Parts) (order : IsInOrder q) (live_is : live_of s ≡ 
   fill_header old new may bytes short has = mark_header may.middle new may.second bytes short (slot_header old may.middle may.first bytes short has)
 
   -- it is opened: the new live slot has the map, and a journal without records
-  turned_stands : (map : ProjectMaps) (old new : List ℕ) → KeepsOutside (other_of s).base (other_of s).length old new → HasAt q.other_journal.base (0 ∷ []) old → WellFormedProject map → (st : StandsAt cap q map g old)
+  turned_stands : (map : ProjectMaps) (old new : List ℕ) → KeepsOutside (other_of s).base (other_of s).length old new
+      → HasAt q.other_journal.base (0 ∷ []) old → WellFormedProject map → (st : StandsAt cap q map g old)
       → IsNextBy s (project_body map) new → StandsAt cap (turned q) map (g + 1) new
   turned_stands map old new keeps begins formed st next =
       let begun : HasAt q.other_journal.base (0 ∷ []) new = has_kept q.other.base q.other.length q.other_journal.base (0 ∷ []) old new (inr order.other_behind) (slot_keeps old new keeps) begins in
-      let shut : IsClosedAt q.other_journal.base new = record { within = omega (arith, begun.within); closed = λ is_open. absurd (omega (arith, sym (one_has q.other_journal.base 0 [] new begun) ∙ is_open)) } in
+      let shut : IsClosedAt q.other_journal.base new =
+      record {
+        within = omega (arith, begun.within);
+        closed = λ is_open.
+            absurd (omega (arith, sym (one_has q.other_journal.base 0 [] new begun) ∙ is_open));
+      } in
       let journal = slot_journal old new keeps st.lines st.journal in
       record {
         base = map;

@@ -5,9 +5,9 @@ use Rattle.lv_maptables.specs.Outcomes.{Covers}
 use Rattle.lv_maptables.specs.Tables.{Counts}
 use Rattle.lv_maptables.specs.declared.map.Need.{Need}
 use Rattle.lv_commands.specs.Errors as commands
-use Rattle.lv_commands.specs.ProjectCommands.{InRange, spelling}
-use Rattle.lv_commands.specs.ProjectGrammar.{fault_of}
-use Rattle.lv_commands.specs.ProjectReadiness.{need_of}
+use Rattle.lv_commands.specs.ProjectCommands.{InProjectRange, project_spelling}
+use Rattle.lv_commands.specs.ProjectGrammar.{project_fault_of}
+use Rattle.lv_commands.specs.ProjectReadiness.{project_need_of}
 use Rattle.lv_commands.specs.Readiness.{no_need}
 use Rattle.lv_commands.specs.declared.error.CommandError.{CommandError}
 use Rattle.lv_commands.specs.declared.error.CommandError.TheVariants as command
@@ -61,7 +61,7 @@ the_error : {T : Type 0} (r : ProjectError) → ◌≡◌ {A = Result T ProjectE
 the_error {T = T} r is = ap (λ (x : Result T ProjectError). error_in Device x) is
 
 -- a line that is no command lacks no memory
-pub no_command : {T : Type 0} (line : List ℕ) (e : CommandError) (r : ProjectError) → IsRefusalOf r e → fault_of line ≡ Some (commands.code_of e)
+pub no_command : {T : Type 0} (line : List ℕ) (e : CommandError) (r : ProjectError) → IsRefusalOf r e → project_fault_of line ≡ Some (commands.code_of e)
     → ◌≡◌ {A = Result T ProjectError} (Err r) (Err OutOfMemory) → ⊥
 no_command line e r refused fault is =
     let low = low_fault line (commands.code_of e) fault in
@@ -74,14 +74,14 @@ covers_none spare need none =
     (record { vertices = omega arith; sectors = omega arith; sides = omega arith; lines = omega arith; things = omega arith })
 
 -- a command that lacks memory adds items
-pub adds_items : {T U : Type 0} (line : List ℕ) (c : ProjectCommand) (spare : Counts) (e : CommandError) (r : ProjectError) → InRange c → line ≡ spelling c → IsRefusalOf r e
-    → (Covers spare (need_of c) → ◌≡◌ {A = Result U CommandError} (Err e) (Err command.OutOfMemory) → ⊥)
+pub adds_items : {T U : Type 0} (line : List ℕ) (c : ProjectCommand) (spare : Counts) (e : CommandError) (r : ProjectError) → InProjectRange c → line ≡ project_spelling c → IsRefusalOf r e
+    → (Covers spare (project_need_of c) → ◌≡◌ {A = Result U CommandError} (Err e) (Err command.OutOfMemory) → ⊥)
     → ◌≡◌ {A = Result T ProjectError} (Err r) (Err OutOfMemory) → IsAddition line
 adds_items {T = T} {U = U} line c spare e r range line_is refused promised is = record {
   command = c;
   range = range;
   line_is = line_is;
-  adds = λ nothing. promised (covers_none spare (need_of c) nothing) (ap (λ (x : CommandError). the_err x) (of_command e r refused (the_error r is)));
+  adds = λ nothing. promised (covers_none spare (project_need_of c) nothing) (ap (λ (x : CommandError). the_err x) (of_command e r refused (the_error r is)));
 }
   where
     the_err : CommandError → Result U CommandError

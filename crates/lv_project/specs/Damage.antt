@@ -7,7 +7,7 @@ use Rattle.lv_checkpoint.specs.Bodies.{IsLive}
 use Rattle.lv_checkpoint.specs.Damage as slots
 use Rattle.lv_maptables.specs.Projects.{ProjectMaps, WellFormedProject}
 use Rattle.lv_maptables.specs.ProjectBody.{HasBody, NoProjectHas}
-use Rattle.lv_project.specs.Places.{IsAllowed, header_bytes, parts_of, cap_of}
+use Rattle.lv_project.specs.Places.{IsAllowed, header_bytes, which_parts, cap_of}
 use Rattle.lv_project.specs.Stands.{HasGeometry}
 use Rattle.lv_commands.specs.ProjectLines.{Leads, LeadsTo}
 use Rattle.lv_project.specs.declared.geometry.Geometry.{Geometry}
@@ -16,7 +16,8 @@ use Rattle.lv_project.specs.declared.places.Parts.{Parts}
 
 -- no project file: no lengths make its first bytes a header
 abbrev pub IsForeign : List ℕ → Type 0
-IsForeign file = (slot journal : ℕ) → slot < 2 ^ 32 → journal < 2 ^ 32 → ¬ HasAt 0 (header_bytes slot journal) file
+IsForeign file = (slot journal : ℕ) → slot < 2 ^ 32 → journal < 2 ^ 32
+    → ¬ HasAt 0 (header_bytes slot journal) file
 
 -- its header has lengths outside the limits
 abbrev pub HasBadGeometry : List ℕ → Type 0
@@ -27,9 +28,10 @@ HasBadGeometry file = (slot : ℕ) × (journal : ℕ) × (slot < 2 ^ 32) × (jou
 abbrev pub IsBlank : List ℕ → Type 0
 IsBlank file = (g : Geometry) × (p : Places) × HasGeometry g p file × slots.AreBlank p.a p.b file
 
--- a gate's place at which the live journal is damaged, or at which the other journal's first gate isn't there
+-- a gate's place at which the live journal is damaged, or at which the other journal's first gate
+-- isn't there
 abbrev pub IsGateFault : Parts → ℕ → List ℕ → Type 0
-IsGateFault parts place file = journal.IsDamagedAt parts.journal place file
+IsGateFault parts place file = journal.IsJournalDamagedAt parts.journal place file
     ⊎ ((place ≡ parts.other_journal.base) × (length file ≤ parts.other_journal.base))
 
 -- the least such place
@@ -38,7 +40,8 @@ pub record IsLeastGateFault (parts : Parts) (place : ℕ) (file : List ℕ) : Ty
   pub least : (other : ℕ) → IsGateFault parts other file → place ≤ other
 
 -- the gate of the first payload that is no accepted command stands here
-pub record IsBadLine (cap : ℕ) (parts : Parts) (base : ProjectMaps) (place : ℕ) (file : List ℕ) : Type 0 where
+pub record IsBadLine (cap : ℕ) (parts : Parts) (base : ProjectMaps) (place : ℕ) (file : List ℕ) :
+    Type 0 where
   pub front : List (List ℕ)
   pub line : List ℕ
   pub back : List (List ℕ)
@@ -57,11 +60,12 @@ IsBadChain cap parts bytes place file = (NoProjectHas bytes × (place ≡ parts.
 
 -- a slot is damaged; or one is live, and what hangs on it is at fault
 abbrev pub IsBadPart : Geometry → Places → ℕ → List ℕ → Type 0
-IsBadPart g p place file = slots.IsDamagedAt p.a p.b place file
+IsBadPart g p place file = slots.AreSlotsDamagedAt p.a p.b place file
     ⊎ ((slot : ℕ) × (generation : ℕ) × (bytes : List ℕ) × (slot ≤ 1)
-    × IsLive (parts_of p slot).live (parts_of p slot).other generation bytes file
-    × IsBadChain (cap_of g) (parts_of p slot) bytes place file)
+    × IsLive (which_parts p slot).live (which_parts p slot).other generation bytes file
+    × IsBadChain (cap_of g) (which_parts p slot) bytes place file)
 
 -- the bytes are a project's by their header, and damaged at this place
-abbrev pub IsDamagedAt : ℕ → List ℕ → Type 0
-IsDamagedAt place file = (g : Geometry) × (p : Places) × HasGeometry g p file × IsBadPart g p place file
+abbrev pub IsProjectDamagedAt : ℕ → List ℕ → Type 0
+IsProjectDamagedAt place file = (g : Geometry) × (p : Places) × HasGeometry g p file
+    × IsBadPart g p place file

@@ -4,17 +4,17 @@ use Rattle.lv_disk.specs.Stops.{Each}
 use Rattle.lv_disk.specs.declared.disk.Disk.{Ghosts}
 use Rattle.lv_journal.specs.Records.{EndsAt}
 use Rattle.lv_journal.specs.State.{room_of}
-use Rattle.lv_checkpoint.specs.Handles.{first_of, second_of, slot_of, generation_of, HasSomeSlots}
+use Rattle.lv_checkpoint.specs.Handles.{first_area, second_of, slot_of, generation_of, HasSomeSlots}
 use Rattle.lv_maptables.specs.Projects.{body_len, project_of}
-use Rattle.lv_project.specs.Places.{IsAllowed, IsLaidOut, cap_of, parts_of}
+use Rattle.lv_project.specs.Places.{IsAllowed, AreLaidOut, cap_of, which_parts}
 use Rattle.lv_project.specs.Stands.{HasGeometry, StandsAt}
 use Rattle.lv_project.specs.States.{State}
 use Rattle.lv_project.specs.declared.places.Parts.{Parts}
 use Rattle.lv_project.specs.declared.project.Project.TheInside.{Inside}
 
 -- what a contract sees of the fields
-abbrev pub state_of : {D : Type 0} → Inside D → State D
-state_of p = record {
+abbrev pub project_state : {D : Type 0} → Inside D → State D
+project_state p = record {
   disk = p.disk;
   maps = p.maps;
   generation = generation_of p.slots;
@@ -25,13 +25,13 @@ state_of p = record {
 
 -- the live slot and the other one, each with its journal
 abbrev pub parts_in : {D : Type 0} → Inside D → Parts
-parts_in p = parts_of p.places (slot_of p.slots)
+parts_in p = which_parts p.places (slot_of p.slots)
 
 -- what holds of each project: its parts stand where its geometry says, and its map's body fits
-pub record IsFramed {D : Type 0} (p : Inside D) : Type 0 where
+pub record IsProjectFramed {D : Type 0} (p : Inside D) : Type 0 where
   pub allowed : IsAllowed p.geometry.slot p.geometry.journal
-  pub laid_out : IsLaidOut p.geometry p.places
-  pub first : first_of p.slots ≡ p.places.a
+  pub laid_out : AreLaidOut p.geometry p.places
+  pub first : first_area p.slots ≡ p.places.a
   pub second : second_of p.slots ≡ p.places.b
   pub which : slot_of p.slots ≤ 1
   pub journal : p.journal.area ≡ (parts_in p).journal
@@ -41,11 +41,12 @@ pub record IsFramed {D : Type 0} (p : Inside D) : Type 0 where
 pub record IsReady {D : Type 0} (facts : Ghosts D) (p : Inside D) : Type 0 where
   pub journal : p.journal.must_reopen ≡ false
   pub geometry : Each (facts.may_leave p.disk) (HasGeometry p.geometry p.places)
-  pub stands : Each (facts.may_leave p.disk) (StandsAt (cap_of p.geometry) (parts_in p) (project_of p.maps) (generation_of p.slots))
+  pub stands : Each (facts.may_leave p.disk)
+      (StandsAt (cap_of p.geometry) (parts_in p) (project_of p.maps) (generation_of p.slots))
   pub slots : Each (facts.may_leave p.disk) (HasSomeSlots p.slots)
   pub ends : Each (facts.may_leave p.disk) (EndsAt p.journal.area p.journal.next)
 
 -- what each project keeps
-pub record IsSound {D : Type 0} (facts : Ghosts D) (p : Inside D) : Type 0 where
-  pub framed : IsFramed p
+pub record IsProjectSound {D : Type 0} (facts : Ghosts D) (p : Inside D) : Type 0 where
+  pub framed : IsProjectFramed p
   pub ready : p.must_reopen ≡ false → IsReady facts p

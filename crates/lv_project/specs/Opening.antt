@@ -12,10 +12,10 @@ use Rattle.lv_maptables.specs.Projects.{ProjectMaps, WellFormedProject, project_
 use Rattle.lv_maptables.specs.declared.error.MapError.{MapError}
 use Rattle.lv_maptables.specs.declared.error.MapError.TheVariants as map
 use Rattle.lv_maptables.specs.ProjectBody.{HasBody}
-use Rattle.lv_project.specs.Places.{cap_of, parts_of, IsAllowed}
+use Rattle.lv_project.specs.Places.{cap_of, which_parts, IsAllowed}
 use Rattle.lv_project.specs.Stands.{HasGeometry, Stands, StandsAt}
 use Rattle.lv_commands.specs.ProjectLines.{Leads, LeadsTo}
-use Rattle.lv_project.specs.Damage.{HasBadGeometry, IsBadLine, IsBadPart, IsBlank, IsDamagedAt, IsForeign, IsLeastGateFault}
+use Rattle.lv_project.specs.Damage.{HasBadGeometry, IsBadLine, IsBadPart, IsBlank, IsProjectDamagedAt, IsForeign, IsLeastGateFault}
 use Rattle.lv_project.specs.declared.opening.Opened.{Opened}
 use Rattle.lv_project.specs.declared.geometry.Geometry.{Geometry}
 use Rattle.lv_project.specs.declared.places.Places.{Places}
@@ -26,12 +26,14 @@ use Rattle.lv_project.specs.declared.error.ProjectError.TheVariants.{Device, Out
 -- the file stands for what was opened
 pub record IsOpened (o : Opened) (file : List ℕ) : Type 0 where
   pub has : HasGeometry o.geometry o.places file
-  pub stands : StandsAt (cap_of o.geometry) (parts_of o.places (slot_of o.slots)) (project_of o.maps) (generation_of o.slots) file
+  pub stands : StandsAt (cap_of o.geometry) (which_parts o.places (slot_of o.slots))
+      (project_of o.maps) (generation_of o.slots) file
   pub slots : HasSomeSlots o.slots file
-  pub journal : IsJournal (parts_of o.places (slot_of o.slots)).journal o.journal.records file
+  pub journal : IsJournal (which_parts o.places (slot_of o.slots)).journal o.journal.records file
 
 -- the live slot of the parts holds this map, with this generation
-pub record HoldsMap (parts : Parts) (generation : ℕ) (base : ProjectMaps) (file : List ℕ) : Type 0 where
+pub record HoldsMap (parts : Parts) (generation : ℕ) (base : ProjectMaps) (file : List ℕ) :
+    Type 0 where
   pub bytes : List ℕ
   pub well_formed : WellFormedProject base
   pub body : HasBody base bytes
@@ -52,11 +54,13 @@ RefusesGates reads parts (Damaged place) = Each reads (IsLeastGateFault parts pl
 RefusesGates reads parts _ = ⊥
 
 -- the lines are refused at the first that is no accepted command
-abbrev pub RefusesReplay : ℕ → ProjectMaps → journal.State → ProjectError → Type 0
+abbrev pub RefusesReplay : ℕ → ProjectMaps → journal.JournalState → ProjectError → Type 0
 RefusesReplay cap base j OutOfMemory = Unit {0}
 RefusesReplay cap base j (Damaged place) =
-    (front : List (List ℕ)) × (line : List ℕ) × (back : List (List ℕ)) × (j.records ≡ front ++ line ∷ back)
-    × (map : ProjectMaps) × Leads cap base front map × ((new : ProjectMaps) → ¬ LeadsTo cap map line new)
+    (front : List (List ℕ)) × (line : List ℕ) × (back : List (List ℕ))
+    × (j.records ≡ front ++ line ∷ back)
+    × (map : ProjectMaps) × Leads cap base front map
+    × ((new : ProjectMaps) → ¬ LeadsTo cap map line new)
     × (place ≡ j.area.base + length (records_bytes front))
 RefusesReplay cap base j _ = ⊥
 
@@ -72,15 +76,19 @@ RefusesSlots reads g p _ = ⊥
 abbrev pub RefusesLines : (List ℕ → Type 0) → ℕ → Parts → ProjectMaps → ProjectError → Type 0
 RefusesLines reads cap parts base Device = Unit {0}
 RefusesLines reads cap parts base OutOfMemory = Unit {0}
-RefusesLines reads cap parts base (Damaged place) = Each reads (λ file. IsLeastGateFault parts place file ⊎ IsBadLine cap parts base place file)
+RefusesLines reads cap parts base (Damaged place) =
+    Each reads (λ file. IsLeastGateFault parts place file ⊎ IsBadLine cap parts base place file)
 RefusesLines reads cap parts base _ = ⊥
 
 -- the file stands for this map with this generation, and for no other
-pub record StandsOnlyFor (cap : ℕ) (map : ProjectMaps) (generation : ℕ) (file : List ℕ) : Type 0 where
+pub record StandsOnlyFor (cap : ℕ) (map : ProjectMaps) (generation : ℕ) (file : List ℕ) :
+    Type 0 where
   pub stands : Stands cap map generation file
-  pub only : (c : ℕ) (other : ProjectMaps) (g : ℕ) → Stands c other g file → (c ≡ cap) × (other ≡ map) × (g ≡ generation)
+  pub only : (c : ℕ) (other : ProjectMaps) (g : ℕ) → Stands c other g file → (c ≡ cap)
+      × (other ≡ map) × (g ≡ generation)
 
--- why no project is made: the geometry is outside the limits, the file isn't empty, or the device failed
+-- why no project is made: the geometry is outside the limits, the file isn't empty, or the device
+-- failed
 abbrev pub RefusesCreate : (List ℕ → Type 0) → Geometry → ProjectError → Type 0
 RefusesCreate reads g Device = IsAllowed g.slot g.journal
 RefusesCreate reads g NotEmpty = IsAllowed g.slot g.journal × Each reads (λ file. 0 < length file)
@@ -94,7 +102,7 @@ IsRefusedRead reads OutOfMemory = Unit {0}
 IsRefusedRead reads NotAProject = Each reads IsForeign
 IsRefusedRead reads BadGeometry = Each reads HasBadGeometry
 IsRefusedRead reads Blank = Each reads IsBlank
-IsRefusedRead reads (Damaged place) = Each reads (IsDamagedAt place)
+IsRefusedRead reads (Damaged place) = Each reads (IsProjectDamagedAt place)
 IsRefusedRead reads _ = ⊥
 
 -- a refusal of the slots as a project answers it

@@ -6,13 +6,14 @@ use Rattle.lv_checkpoint.specs.Bodies.{IsLive}
 use Rattle.lv_maptables.specs.Projects.{ProjectMaps, WellFormedProject}
 use Rattle.lv_maptables.specs.ProjectBody.{HasBody}
 use Rattle.lv_commands.specs.ProjectLines.{Leads, LeadsTo}
-use Rattle.lv_project.specs.Places.{IsAllowed, IsLaidOut, header_bytes, parts_of, cap_of}
+use Rattle.lv_project.specs.Places.{IsAllowed, AreLaidOut, header_bytes, which_parts, cap_of}
 use Rattle.lv_project.specs.declared.geometry.Geometry.{Geometry}
 use Rattle.lv_project.specs.declared.places.Places.{Places}
 use Rattle.lv_project.specs.declared.places.Parts.{Parts}
 
 -- the parts stand for a map: the live body's, after the commands in its journal
-pub record StandsAt (cap : ℕ) (parts : Parts) (map : ProjectMaps) (generation : ℕ) (file : List ℕ) : Type 0 where
+pub record StandsAt (cap : ℕ) (parts : Parts) (map : ProjectMaps) (generation : ℕ) (file : List ℕ) :
+    Type 0 where
   pub base : ProjectMaps
   pub bytes : List ℕ
   pub lines : List (List ℕ)
@@ -31,10 +32,10 @@ TellsLengths geometry file = HasAt 0 (header_bytes geometry.slot geometry.journa
 pub record HasGeometry (geometry : Geometry) (places : Places) (file : List ℕ) : Type 0 where
   pub allowed : IsAllowed geometry.slot geometry.journal
   pub header : TellsLengths geometry file
-  pub laid_out : IsLaidOut geometry places
+  pub laid_out : AreLaidOut geometry places
 
--- The bytes have the form of a project file whose bodies have at most so many bytes, and stand for this map with this
--- generation.
+-- The bytes have the form of a project file whose bodies have at most so many bytes, and stand for
+-- this map with this generation.
 pub record Stands (cap : ℕ) (map : ProjectMaps) (generation : ℕ) (file : List ℕ) : Type 0 where
   pub geometry : Geometry
   pub places : Places
@@ -42,7 +43,7 @@ pub record Stands (cap : ℕ) (map : ProjectMaps) (generation : ℕ) (file : Lis
   pub cap_is : cap_of geometry ≡ cap
   pub slot : ℕ
   pub which : slot ≤ 1
-  pub at : StandsAt cap (parts_of places slot) map generation file
+  pub at : StandsAt cap (which_parts places slot) map generation file
 
 -- the same with some generation
 abbrev pub StandsFor : ℕ → ProjectMaps → List ℕ → Type 0
@@ -50,4 +51,5 @@ StandsFor cap map file = (generation : ℕ) × Stands cap map generation file
 
 -- the file is an outcome of a line: it stands for the map, or for the one that the line leads to
 abbrev pub IsOutcome : ℕ → ProjectMaps → List ℕ → List ℕ → Type 0
-IsOutcome cap map line file = StandsFor cap map file ⊎ ((new : ProjectMaps) × LeadsTo cap map line new × StandsFor cap new file)
+IsOutcome cap map line file = StandsFor cap map file
+    ⊎ ((new : ProjectMaps) × LeadsTo cap map line new × StandsFor cap new file)

@@ -1,7 +1,7 @@
 //! Laws on what the bytes of a project file stand for. The functions have no bodies: their contracts are the laws.
 ghost use Rattle.std.specs.Prelude.{◌≡◌, List, ℕ};
 ghost use Rattle.lv_maptables.specs.Projects.{ProjectMaps};
-ghost use Rattle.lv_project.specs.Damage.{HasBadGeometry, IsBlank, IsDamagedAt, IsForeign};
+ghost use Rattle.lv_project.specs.Damage.{HasBadGeometry, IsBlank, IsProjectDamagedAt, IsForeign};
 ghost use Rattle.lv_project.specs.Stands.{Stands};
 
 /// The bytes of a file stand for one map with one generation at most, and tell how long a body may be.
@@ -17,19 +17,20 @@ pub fn exclude_one_another()
     ensures stands_blank { (file : List ℕ) (cap : ℕ) (map : ProjectMaps) (g : ℕ)
         → Stands cap map g file → ¬ IsBlank file }
     ensures stands_damaged { (file : List ℕ) (cap : ℕ) (map : ProjectMaps) (g place : ℕ)
-        → Stands cap map g file → ¬ IsDamagedAt place file }
+        → Stands cap map g file → ¬ IsProjectDamagedAt place file }
     ensures stands_bad { (file : List ℕ) (cap : ℕ) (map : ProjectMaps) (g : ℕ)
         → Stands cap map g file → ¬ HasBadGeometry file }
     ensures stands_foreign { (file : List ℕ) (cap : ℕ) (map : ProjectMaps) (g : ℕ)
         → Stands cap map g file → ¬ IsForeign file }
-    ensures blank_damaged { (file : List ℕ) (place : ℕ) → IsBlank file → ¬ IsDamagedAt place file }
+    ensures blank_damaged { (file : List ℕ) (place : ℕ) → IsBlank file
+        → ¬ IsProjectDamagedAt place file }
     ensures blank_bad { (file : List ℕ) → IsBlank file → ¬ HasBadGeometry file }
     ensures blank_foreign { (file : List ℕ) → IsBlank file → ¬ IsForeign file }
     ensures damaged_once { (file : List ℕ) (p q : ℕ)
-        → IsDamagedAt p file → IsDamagedAt q file → p ≡ q }
-    ensures damaged_bad { (file : List ℕ) (place : ℕ) → IsDamagedAt place file
+        → IsProjectDamagedAt p file → IsProjectDamagedAt q file → p ≡ q }
+    ensures damaged_bad { (file : List ℕ) (place : ℕ) → IsProjectDamagedAt place file
         → ¬ HasBadGeometry file }
     ensures damaged_foreign { (file : List ℕ) (place : ℕ)
-        → IsDamagedAt place file → ¬ IsForeign file }
+        → IsProjectDamagedAt place file → ¬ IsForeign file }
     ensures bad_foreign { (file : List ℕ) → HasBadGeometry file → ¬ IsForeign file }
 {}

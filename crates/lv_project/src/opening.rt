@@ -4,11 +4,11 @@ ghost use Rattle.lv_disk.specs.Moments.{LeavesOnly};
 ghost use Rattle.lv_disk.specs.Stops.{Each};
 ghost use Rattle.lv_journal.specs.Records.{IsJournal};
 ghost use Rattle.lv_journal.specs.State as journal;
-ghost use Rattle.lv_checkpoint.specs.Handles.{first_of, generation_of, second_of, slot_of, HasSomeSlots};
+ghost use Rattle.lv_checkpoint.specs.Handles.{first_area, generation_of, second_of, slot_of, HasSomeSlots};
 ghost use Rattle.lv_disk.specs.Stops.{CountsFaults};
 ghost use Rattle.lv_disk.specs.Reading.{OnlyReads};
 ghost use Rattle.lv_maptables.specs.Projects.{body_len, empty_project, project_of};
-ghost use Rattle.lv_project.specs.Places.{cap_of, parts_of, IsAllowed, IsInOrder, IsLaidOut};
+ghost use Rattle.lv_project.specs.Places.{cap_of, which_parts, IsAllowed, IsInOrder, AreLaidOut};
 ghost use Rattle.lv_project.specs.Stands.{HasGeometry, StandsAt};
 ghost use Rattle.lv_commands.specs.ProjectLines.{Leads, LeadsTo};
 ghost use Rattle.lv_project.specs.Opening.{HoldsMap, IsOfBody, IsOfSlots, IsOpened, IsRefusedRead, RefusesCreate, RefusesGates, RefusesLines, RefusesReplay, RefusesSlots};
@@ -134,12 +134,12 @@ fn read_slots<D: Disk>(
     places: Places,
 ) -> Result<(Slots, Maps), ProjectError>
     requires allowed { IsAllowed geometry.slot geometry.journal }
-    requires laid_out { IsLaidOut geometry places }
+    requires laid_out { AreLaidOut geometry places }
     requires only { Each (D.may_leave disk.old) (D.reads disk.old) }
     ensures holds { IfOk result (λ r. Each (D.reads disk.old)
-        (HoldsMap (parts_of places (slot_of r.0)) (generation_of r.0) (project_of r.1))) }
+        (HoldsMap (which_parts places (slot_of r.0)) (generation_of r.0) (project_of r.1))) }
     ensures slots { IfOk result (λ r. Each (D.reads disk.old) (HasSomeSlots r.0)) }
-    ensures areas { IfOk result (λ r. (first_of r.0 ≡ places.a) × (second_of r.0 ≡ places.b)
+    ensures areas { IfOk result (λ r. (first_area r.0 ≡ places.a) × (second_of r.0 ≡ places.b)
         × (slot_of r.0 ≤ 1)) }
     ensures fits { IfOk result (λ r. body_len (project_of r.1) ≤ cap_of geometry) }
     ensures refused { IfErr result (RefusesSlots (D.reads disk.old) geometry places) }
@@ -196,11 +196,11 @@ fn read_synced<D: Disk>(alloc: Global, disk: &mut D) -> Result<Opened, ProjectEr
     requires only { Each (D.may_leave disk.old) (D.reads disk.old) }
     ensures opened { IfOk result (λ o. Each (D.reads disk.old) (IsOpened o)) }
     ensures journal { IfOk result (λ o. o.journal
-        ≡ journal.opened (parts_of o.places (slot_of o.slots)).journal o.journal.records) }
+        ≡ journal.opened (which_parts o.places (slot_of o.slots)).journal o.journal.records) }
     ensures places { IfOk result (λ o. IsAllowed o.geometry.slot o.geometry.journal
-        × IsLaidOut o.geometry o.places) }
+        × AreLaidOut o.geometry o.places) }
     ensures areas { IfOk result
-        (λ o. (first_of o.slots ≡ o.places.a) × (second_of o.slots ≡ o.places.b)
+        (λ o. (first_area o.slots ≡ o.places.a) × (second_of o.slots ≡ o.places.b)
         × (slot_of o.slots ≤ 1)) }
     ensures fits { IfOk result (λ o. body_len (project_of o.maps) ≤ cap_of o.geometry) }
     ensures refused { IfErr result (IsRefusedRead (D.reads disk.old)) }
@@ -235,11 +235,11 @@ fn read_synced<D: Disk>(alloc: Global, disk: &mut D) -> Result<Opened, ProjectEr
 pub fn read_project<D: Disk>(alloc: Global, disk: &mut D) -> Result<Opened, ProjectError>
     ensures opened { IfOk result (λ o. Each (D.reads disk.new) (IsOpened o)) }
     ensures journal { IfOk result (λ o. o.journal
-        ≡ journal.opened (parts_of o.places (slot_of o.slots)).journal o.journal.records) }
+        ≡ journal.opened (which_parts o.places (slot_of o.slots)).journal o.journal.records) }
     ensures places { IfOk result (λ o. IsAllowed o.geometry.slot o.geometry.journal
-        × IsLaidOut o.geometry o.places) }
+        × AreLaidOut o.geometry o.places) }
     ensures areas { IfOk result
-        (λ o. (first_of o.slots ≡ o.places.a) × (second_of o.slots ≡ o.places.b)
+        (λ o. (first_area o.slots ≡ o.places.a) × (second_of o.slots ≡ o.places.b)
         × (slot_of o.slots ≤ 1)) }
     ensures fits { IfOk result (λ o. body_len (project_of o.maps) ≤ cap_of o.geometry) }
     ensures refused { IfErr result (IsRefusedRead (D.reads disk.new)) }
@@ -263,15 +263,15 @@ pub fn write_new<D: Disk>(
 ) -> Result<(Places, Slots, Journal), ProjectError>
     ensures made { IfOk result (λ r. Each (D.may_leave disk.new)
         (λ file. HasGeometry geometry r.0 file
-        × StandsAt (cap_of geometry) (parts_of r.0 0) empty_project 1 file)) }
+        × StandsAt (cap_of geometry) (which_parts r.0 0) empty_project 1 file)) }
     ensures slots { IfOk result (λ r. Each (D.may_leave disk.new) (HasSomeSlots r.1)) }
     ensures none { IfOk result (λ r. Each (D.may_leave disk.new) (IsJournal r.0.first [])) }
     ensures handle { IfOk result
-        (λ r. (slot_of r.1 ≡ 0) × (generation_of r.1 ≡ 1) × (first_of r.1 ≡ r.0.a)
+        (λ r. (slot_of r.1 ≡ 0) × (generation_of r.1 ≡ 1) × (first_area r.1 ≡ r.0.a)
         × (second_of r.1 ≡ r.0.b)) }
     ensures journal { IfOk result (λ r. r.2 ≡ journal.opened r.0.first []) }
     ensures places { IfOk result
-        (λ r. IsAllowed geometry.slot geometry.journal × IsLaidOut geometry r.0) }
+        (λ r. IsAllowed geometry.slot geometry.journal × AreLaidOut geometry r.0) }
     ensures empty { OnOk result (Each (D.reads disk.old) (λ file. length file ≡ 0)) }
     ensures refused { IfErr result (RefusesCreate (D.reads disk.old) geometry) }
     // But for a `Device` it has only read.

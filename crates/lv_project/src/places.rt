@@ -1,6 +1,6 @@
 //! Where the parts of a project file stand.
 ghost use Rattle.std.specs.Prelude.{◌≡◌, ◌≤◌, ◌↔◌, IsTrue};
-ghost use Rattle.lv_project.specs.Places.{IsAllowed, IsLaidOut, cap_of, parts_of};
+ghost use Rattle.lv_project.specs.Places.{IsAllowed, AreLaidOut, cap_of, which_parts};
 
 use crate::geometry::Geometry;
 use lv_disk::Area;
@@ -34,7 +34,7 @@ impl Geometry {
     // Where the parts of a file stand.
     pub fn places(self) -> Places
         requires { IsAllowed self.slot self.journal }
-        ensures laid_out { IsLaidOut self result }
+        ensures laid_out { AreLaidOut self result }
         ensures allowed { IsAllowed self.slot self.journal }
     {
         let slot = self.slot as u64;
@@ -78,7 +78,7 @@ fn is_within(length: u32, low: u32, high: u32) -> bool
 impl Places {
     // Which is which, where this slot is live.
     pub fn parts(self, slot: u8) -> Parts
-        ensures { result ≡ parts_of self slot }
+        ensures { result ≡ which_parts self slot }
     {
         if slot == 0 {
             Parts {

@@ -5,8 +5,8 @@ ghost use Rattle.lv_disk.specs.Stops.{Each};
 ghost use Rattle.lv_journal.specs.State.{IsAbove};
 ghost use Rattle.lv_maptables.specs.Projects.{body_len, project_of};
 ghost use Rattle.lv_commands.specs.ProjectReadiness as readiness;
-ghost use Rattle.lv_commands.specs.ProjectCommands.{spelling};
-ghost use Rattle.lv_commands.specs.ProjectStep.{after, number_of, step};
+ghost use Rattle.lv_commands.specs.ProjectCommands.{project_spelling};
+ghost use Rattle.lv_commands.specs.ProjectStep.{project_after, project_number_of, step};
 
 use crate::ProjectError;
 use crate::change::turn;
@@ -62,11 +62,11 @@ impl<D: Disk> Model for Project<D> {
 
     ghost Value = { State D };
 
-    ghost use Rattle.lv_project.specs.Fields.{state_of, IsSound};
+    ghost use Rattle.lv_project.specs.Fields.{project_state, IsProjectSound};
 
-    ghost view = { state_of };
+    ghost view = { project_state };
 
-    ghost invariant = { IsSound D.Disk };
+    ghost invariant = { IsProjectSound D.Disk };
 }
 
 impl<D: Disk> Project<D> {
@@ -79,7 +79,7 @@ impl<D: Disk> Project<D> {
     ghost use Rattle.lv_commands.specs.ProjectLines.{LeadsTo};
     ghost use Rattle.lv_checkpoint.specs.Handles.{body_in, generation_in};
     ghost use Rattle.lv_maptables.specs.ProjectBody.{project_body};
-    ghost use Rattle.lv_project.specs.States.{IsKept};
+    ghost use Rattle.lv_project.specs.States.{IsProjectKept};
     ghost use Rattle.lv_project.specs.Outcomes.{CanLack, EndsApply, EndsCheckpoint, EndsRoom, IsFresh, TurnsWhereFull};
 
     /// The maps.
@@ -106,7 +106,7 @@ impl<D: Disk> Project<D> {
     /// Whether a device fault has left the disk in doubt, so that the project must be opened again.
     pub fn must_reopen(&self) -> bool
         ensures reopen { result ≡ self.now.must_reopen }
-        ensures kept { IsKept D.Disk self.now }
+        ensures kept { IsProjectKept D.Disk self.now }
     {
         self.must_reopen
     }
@@ -114,7 +114,7 @@ impl<D: Disk> Project<D> {
     /// The disk.
     pub fn into_disk(self) -> D
         ensures disk { result ≡ self.disk }
-        ensures kept { IsKept D.Disk self }
+        ensures kept { IsProjectKept D.Disk self }
     {
         let Project {
             alloc: _,
@@ -133,7 +133,7 @@ impl<D: Disk> Project<D> {
     pub fn create(alloc: Global, disk: D, geometry: Geometry) -> Result<Project<D>, Refused<D>>
         ensures made { IfOk result (λ p. ((project_of p.maps) ≡ empty_project) × (p.generation ≡ 1)
             × (p.must_reopen ≡ false) × (p.cap ≡ cap_of geometry)) }
-        ensures kept { IfOk result (λ p. IsKept D.Disk p) }
+        ensures kept { IfOk result (λ p. IsProjectKept D.Disk p) }
         // It has these very lengths, which are allowed, and it writes over no file.
         ensures lengths { IfOk result (λ p. Each (D.may_leave p.disk) (TellsLengths geometry)) }
         ensures allowed { OnOk result (IsAllowed geometry.slot geometry.journal) }
@@ -171,7 +171,7 @@ impl<D: Disk> Project<D> {
         ensures opened { IfOk result (λ p. (p.must_reopen ≡ false)
             × Each (D.reads p.disk) (StandsOnlyFor p.cap (project_of p.maps) p.generation)) }
         // Each image now stands for the map, and no stop within the call left a new image.
-        ensures kept { IfOk result (λ p. IsKept D.Disk p) }
+        ensures kept { IfOk result (λ p. IsProjectKept D.Disk p) }
         ensures any_moment { MatchResult result
             (λ p. LeavesOnly D.Disk disk p.disk (D.may_leave disk))
             (λ r. LeavesOnly D.Disk disk r.disk (D.may_leave disk)) }
@@ -209,7 +209,7 @@ impl<D: Disk> Project<D> {
     fn has_room(&self, len: usize) -> bool
         ensures full { result ≡ false → IsAbove self.now.room len }
         ensures room { result ≡ true → ¬ IsAbove self.now.room len }
-        ensures kept { IsKept D.Disk self.now }
+        ensures kept { IsProjectKept D.Disk self.now }
     {
         match self.journal.room() {
             Some(room) => len <= room as usize,
@@ -232,7 +232,7 @@ impl<D: Disk> Project<D> {
         ensures room { OnOk result (IsFresh self.new.room) }
         ensures cap { self.new.cap ≡ self.old.cap }
         ensures later { D.failures self.old.disk ≤ D.failures self.new.disk }
-        ensures kept { IsKept D.Disk self.new }
+        ensures kept { IsProjectKept D.Disk self.new }
     {
         let parts = self.places.parts(self.slots.slot());
         match turn(&mut self.disk, self.slots, parts, image) {
@@ -264,7 +264,7 @@ impl<D: Disk> Project<D> {
         ensures room { OnOk result (IsFresh self.new.room) }
         ensures cap { self.new.cap ≡ self.old.cap }
         ensures later { D.failures self.old.disk ≤ D.failures self.new.disk }
-        ensures kept { IsKept D.Disk self.new }
+        ensures kept { IsProjectKept D.Disk self.new }
     {
         if self.must_reopen {
             return Err(ProjectError::Reopen);
@@ -296,7 +296,7 @@ impl<D: Disk> Project<D> {
         ensures any_moment { LeavesOnly D.Disk self.old.disk self.new.disk
             (StandsFor self.old.cap (project_of self.old.maps)) }
         ensures cap { self.new.cap ≡ self.old.cap }
-        ensures kept { IsKept D.Disk self.new }
+        ensures kept { IsProjectKept D.Disk self.new }
     {
         if self.has_room(len) {
             return Ok(());
@@ -312,12 +312,12 @@ impl<D: Disk> Project<D> {
         requires reopen { self.old.must_reopen ≡ false }
         requires short { length line.now ≤ 256 }
         requires room { ¬ IsAbove self.old.room (length line.now) }
-        requires line { line.now ≡ spelling ready.command }
+        requires line { line.now ≡ project_spelling ready.command }
         requires ready { readiness.CanCommit self.old.maps ready.command }
         requires accepted { step (project_of self.old.maps) ready.command self.old.cap
             ≡ Ok (
-              after (project_of self.old.maps) ready.command,
-              number_of (project_of self.old.maps) ready.command,
+              project_after (project_of self.old.maps) ready.command,
+              project_number_of (project_of self.old.maps) ready.command,
             ) }
         ensures device { IfErr result (λ e. e ≡ ProjectError.Device) }
         ensures ends { EndsApply D.Disk result self.old self.new line.now }
@@ -326,7 +326,7 @@ impl<D: Disk> Project<D> {
         ensures any_moment { LeavesOnly D.Disk self.old.disk self.new.disk
             (IsOutcome self.old.cap (project_of self.old.maps) line.now) }
         ensures cap { self.new.cap ≡ self.old.cap }
-        ensures kept { IsKept D.Disk self.new }
+        ensures kept { IsProjectKept D.Disk self.new }
     {
         match self.journal.append(&mut self.disk, line) {
             Ok(()) => Ok(commit(&mut self.maps, ready)),
@@ -371,7 +371,7 @@ impl<D: Disk> Project<D> {
         ensures turned { OnOk result (TurnsWhereFull self.old self.new (length line.now)) }
 
         // Each image now stands for the map, unless the project must be opened again.
-        ensures kept { IsKept D.Disk self.new }
+        ensures kept { IsProjectKept D.Disk self.new }
         ensures cap { self.new.cap ≡ self.old.cap }
     {
         if self.must_reopen {

@@ -13,13 +13,13 @@ use Rattle.lv_lumps.specs.declared.records.Seg.{Seg}
 use Rattle.lv_lumps.specs.declared.records.Sub.{Sub}
 use Rattle.lv_lumps.specs.declared.records.Node.{Node}
 use Rattle.lv_pwad.specs.Words.{words}
-use Rattle.lv_blockmap.specs.Layout.{list_end, greatest_offset, StandsAt}
-use Rattle.lv_pwad.specs.Levels.{Lumps}
+use Rattle.lv_blockmap.specs.Layout.{list_end, greatest_offset, HasWordsAt}
+use Rattle.lv_levels.specs.Levels.{Lumps}
 use Rattle.lv_lumps.specs.Sides.{no_side, is_two_sided}
 use Rattle.lv_pwad.specs.Endings.{is_line, ends_in_lines}
 use Rattle.lv_pwad.specs.Reject.{reject_size}
 use Rattle.lv_nodes.specs.InRange.{IsIn, HasSide, SegInRange, Tiles, ChildInRange, greatest_number, sub_bit, times_sub, times_node}
-use Rattle.lv_pwad.specs.Range.{LineInRange, ListInRange, InRange, blocks_in}
+use Rattle.lv_pwad.specs.Range.{LineInRange, ListInRange, IsInRange, blocks_in}
 use Rattle.lv_pwad.specs.Audit.{first_wrong, is_in_range, line_vertices, line_sides, line_of_seg, seg_vertices, seg_side, sub_range, after_counts, child_right, node_children, block_list, level_faults, first_fault}
 use Rattle.lv_pwad.proofs.Nones.{no_wrong, map_none, unless_none, first_some-none, Decides-leb, Decides-is_in}
 
@@ -143,7 +143,7 @@ children_in l p = Decides-and _ _ (child_in l p.0 p.1.right) (child_in l p.0 p.1
 -- ---- the words of a block's list
 record Ending (l : Lumps) (xs : List ℕ) : Type 0 where
   list : List ℕ
-  stands : StandsAt xs 0 (list ++ list_end ∷ [])
+  stands : HasWordsAt xs 0 (list ++ list_end ∷ [])
   lines : All (IsIn l.lines) list
 
 or_true : (b c : Bool) → b ≡ true → (b || c) ≡ true
@@ -222,7 +222,7 @@ listed fault right P each xs =
     (λ h. n.0 (m.0 h), λ a. m.1 (n.1 a))
 
 -- ---- the law
-pub no_fault-in_range : (l : Lumps) → first_fault l ≡ None → InRange l
+pub no_fault-in_range : (l : Lumps) → first_fault l ≡ None → IsInRange l
 no_fault-in_range l h =
     let n = (first_some-none (level_faults l)).0 h in
     let lv = (listed _ (line_vertices l) (VerticesIn l) (vertices_in l) l.lines).0 n.0 in
@@ -267,7 +267,7 @@ no_fault-in_range l h =
       lists = bl;
     }
 
-pub in_range-no_fault : (l : Lumps) → InRange l → first_fault l ≡ None
+pub in_range-no_fault : (l : Lumps) → IsInRange l → first_fault l ≡ None
 in_range-no_fault l r =
     let t = in_tiles 0 l.subs (length l.segs) r.tree.tiles in
     let e = t.1 in

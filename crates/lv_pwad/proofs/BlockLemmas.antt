@@ -11,7 +11,7 @@ use Rattle.lv_blockmap.specs.declared.grid.Grid.{Grid}
 use Rattle.lv_blockmap.specs.Blocks.{grid_of, block_count}
 use Rattle.lv_blockmap.specs.Layout.{list_end, list_words, offset_of, offsets, once, blockmap_words, greatest_offset, word_bytes, BlockStands}
 use Rattle.lv_blockmap.specs.Lump.{IsBlockmapOver}
-use Rattle.lv_pwad.specs.Levels.{Lumps}
+use Rattle.lv_levels.specs.Levels.{Lumps}
 use Rattle.lv_nodes.specs.InRange.{IsIn}
 use Rattle.lv_pwad.specs.Range.{ListInRange, blocks_in}
 use Rattle.lv_pwad.specs.Words.{words}

@@ -5,7 +5,7 @@ use Rattle.std.proofs.Math.ListN.{set}
 use Rattle.std.proofs.lemmas.List.{get_or-set_same, get_or-set_other}
 use Rattle.std.proofs.lemmas.List.Sums.{count_by_more_no, count_by_more_yes}
 use Rattle.std.proofs.lemmas.Bool.Decides.{nat_tests}
-use Rattle.lv_pwad.specs.Counts.{times_among, AreCounts}
+use Rattle.lv_pwad.specs.Counts.{times_among, AreChildCounts}
 
 -- the child is the number base + n, and counts
 abbrev pub hits : ℕ → ℕ → ℕ → ℕ → Bool
@@ -29,7 +29,7 @@ pub record Counts (hit : Type 0) (old new : ℕ) : Type 0 where
 
 pub count_step :
     (base end child k : ℕ) (children old new : List ℕ) → k < length children → get_or children k 0 ≡ child → length new ≡ length old
-    → ((n : ℕ) → n < length old → Counts (IsHit base end child n) (get_or old n 0) (get_or new n 0)) → AreCounts base end (take k children) old → AreCounts base end (take (k + 1) children) new
+    → ((n : ℕ) → n < length old → Counts (IsHit base end child n) (get_or old n 0) (get_or new n 0)) → AreChildCounts base end (take k children) old → AreChildCounts base end (take (k + 1) children) new
 count_step base end child k children old new h is len step a =
     record { each = λ n b. by n (subst (λ (m : ℕ). n < m) len b) (hit_or base end child n) }
   where

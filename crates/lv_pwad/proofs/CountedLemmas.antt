@@ -6,10 +6,10 @@ use Rattle.std.proofs.lemmas.List.Sums.{sum_by_more}
 use Rattle.lv_lumps.specs.Names.{name_text}
 use Rattle.lv_lumps.specs.declared.records.Name8.{Name8}
 use Rattle.lv_maptables.specs.Tables.{Tables}
-use Rattle.lv_pwad.specs.Counted.{CountsLevels, CountsMore, IsCounted, level_of}
-use Rattle.lv_pwad.specs.Levels.{IsLevel, Lumps, lumps_behind, marker_at}
+use Rattle.lv_pwad.specs.Counted.{CountsLevels, CountsMore, IsBuildCounted, level_of}
+use Rattle.lv_levels.specs.Levels.{IsLevel, Lumps, lumps_behind, marker_at}
 use Rattle.lv_pwad.specs.Projects.{AreLevelsOf, IsSoundBuildOfAll}
-use Rattle.lv_pwad.specs.Views.{view}
+use Rattle.lv_levels.specs.Views.{view}
 use Rattle.lv_pwad.specs.declared.counted.BuildCounts.{BuildCounts}
 use Rattle.lv_pwad.specs.declared.levels.NamedLevel.{NamedLevel}
 
@@ -50,7 +50,7 @@ levels_back wad (m ∷ ms) (x ∷ xs) a r =
 
 pub is_counted : (wad : List ℕ) (ms : List Tables) (xs : List NamedLevel) (c : BuildCounts) → AreLevelsOf ms xs
     → All (λ (x : NamedLevel). IsLevel wad (name_text x.name) (view x.level)) xs → IsSoundBuildOfAll ms wad
-    → CountsLevels (views_in xs) (length wad) c → IsCounted ms wad c
+    → CountsLevels (views_in xs) (length wad) c → IsBuildCounted ms wad c
 is_counted wad ms xs c a r sound counts =
     record {
       build = sound;

@@ -12,7 +12,7 @@ use Rattle.lv_lumps.specs.declared.records.Bounds.{Bounds}
 use Rattle.lv_pwad.specs.Counts.{times_among}
 use Rattle.lv_pwad.specs.Endings.{AreEndings, ends_in_lines}
 use Rattle.lv_nodes.specs.InRange.{children, times_sub, times_node}
-use Rattle.lv_pwad.specs.Range.{blocks_in, InRange}
+use Rattle.lv_pwad.specs.Range.{blocks_in, IsInRange}
 use Rattle.lv_pwad.specs.Words.{words}
 use Rattle.lv_pwad.proofs.AuditLemmas.{no_fault-in_range, in_range-no_fault}
 use Rattle.std.proofs.lemmas.Bool.Decides.{nat_tests}
@@ -21,7 +21,7 @@ use Rattle.std.proofs.lemmas.List.{take_more, take_all, get_or_past}
 use Rattle.lv_lumps.specs.declared.records.Sub.{Sub}
 use Rattle.lv_pwad.specs.declared.fault.Fault.{Fault}
 use Rattle.lv_pwad.specs.declared.fault.Fault.TheVariants.{SubRange, SubTotal, BlockList}
-use Rattle.lv_pwad.specs.Levels.{Lumps}
+use Rattle.lv_levels.specs.Levels.{Lumps}
 use Rattle.lv_pwad.specs.Audit.{first_some, first_wrong, fault_unless, sub_faults, sub_range, after_counts, node_children, list_faults, once_faults, lump_faults, first_fault, block_list, block_faults}
 
 pub one_of : {X : Type 0} (o : Option X) → first_some (o ∷ []) ≡ o
@@ -244,7 +244,7 @@ pub in_lumps : (l : Lumps) (o : Option Fault) → first_some (list_faults l) ≡
 in_lumps l o n m e =
     e ∙ sym (not_first (list_faults l ++ once_faults l) (lump_faults l) (not_first (list_faults l) (once_faults l) n ∙ m))
 
-pub sound_by : (l : Lumps) (o : Option Fault) → o ≡ first_fault l → (o ≡ None) ↔ InRange l
+pub sound_by : (l : Lumps) (o : Option Fault) → o ≡ first_fault l → (o ≡ None) ↔ IsInRange l
 sound_by l o e = (λ h. no_fault-in_range l (sym e ∙ h), λ r. e ∙ in_range-no_fault l r)
 
 -- ---- numbers of children

@@ -9,7 +9,7 @@ use Rattle.lv_lumps.specs.declared.records.Name8.{Name8}
 use Rattle.lv_lumps.specs.declared.records.Side.{Side}
 use Rattle.lv_lumps.specs.declared.records.Sector.{Sector}
 use Rattle.lv_maptables.specs.Ranges.{IsSide, IsSector}
-use Rattle.lv_pwad.specs.Levels.{Lumps, record_sizes}
+use Rattle.lv_levels.specs.Levels.{Lumps, record_sizes}
 use Rattle.lv_pwad.specs.Wad.{IsPart, AreParts, all_bytes, all_lumps, lumps_of, level_part, wad_size}
 use Rattle.lv_pwad.proofs.NameLemmas.{marker_free, marker_size, texture_size}
 

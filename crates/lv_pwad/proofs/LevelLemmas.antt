@@ -10,9 +10,10 @@ use Rattle.lv_lumps.specs.declared.records.Name8.{Name8}
 use Rattle.lv_lumps.specs.Lumps.{records_of}
 use Rattle.lv_lumps.specs.Records.{thing_at, line_at, side_at, vertex_at, seg_at, sub_at, node_at, sector_at}
 use Rattle.lv_pwad.specs.declared.levels.NamedLevel.{NamedLevel}
-use Rattle.lv_pwad.specs.Levels.{Lumps, IsLevel, lump, lumps_behind, marker_at}
+use Rattle.lv_levels.specs.Levels.{Lumps, IsLevel, lump, lumps_behind, marker_at}
 use Rattle.lv_pwad.specs.Wad.{Lump, Part, AreParts, IsCoded, IsReadBack, all_lumps, lumps_of, level_part, wad_bytes}
-use Rattle.lv_pwad.specs.Views.{view, level_parts}
+use Rattle.lv_levels.specs.Views.{view}
+use Rattle.lv_pwad.specs.Views.{level_parts}
 use Rattle.lv_pwad.proofs.PartLemmas.{reads_back}
 
 one_more : (levels : List NamedLevel) (n : ℕ) (x : NamedLevel) → n < length levels → get_or levels n x ≡ x → take (n + 1) levels ≡ take n levels ++ (x ∷ [])

@@ -1,4 +1,3 @@
-pub mod ReadLemmas
 pub mod CountLemmas
 pub mod Nones
 pub mod AuditLemmas

@@ -7,12 +7,15 @@ use Rattle.lv_lumps.specs.Names.{name_of, name_text, is_marker, IsNamed}
 use Rattle.lv_lumps.specs.declared.records.Name8.{Name8}
 use Rattle.lv_maptables.specs.Tables.{Tables}
 use Rattle.lv_maptables.specs.Projects.{ProjectMaps, WellFormedProject}
-use Rattle.lv_pwad.specs.Levels.{IsLevel, Lumps}
+use Rattle.lv_levels.specs.Levels.{IsLevel, Lumps}
 use Rattle.lv_pwad.specs.Wad.{Part, AreParts, IsPart, all_bytes, all_lumps, lumps_of, level_part, wad_bytes}
-use Rattle.lv_pwad.specs.Views.{view, level_parts}
-use Rattle.lv_pwad.specs.Sound.{IsBuildable, IsBuildRefusal, IsSoundBuild}
-use Rattle.lv_pwad.specs.Projects.{IsLevelOf, AreLevelsOf, AreSoundLevels, HoldsOnly, IsSoundBuildOfAll, IsRefusalOfAll, parts_under}
+use Rattle.lv_levels.specs.Views.{view}
+use Rattle.lv_pwad.specs.Views.{level_parts}
+use Rattle.lv_pwad.specs.Sound.{CanBeBuilt, IsBuildRefusal, IsSoundBuild}
+use Rattle.lv_pwad.specs.Projects.{IsLevelOf, AreLevelsOf, AreSoundLevels, HoldsOnly, IsSoundBuildOfAll, IsRefusalOfAll, Blames, parts_under}
+use Rattle.lv_pwad.specs.Errors.{blamed}
 use Rattle.lv_pwad.specs.declared.levels.NamedLevel.{NamedLevel}
+use Rattle.lv_pwad.specs.declared.error.Unbuilt.{Unbuilt}
 use Rattle.lv_pwad.specs.declared.error.BuildError.{BuildError}
 use Rattle.lv_pwad.specs.declared.error.BuildError.TheVariants.{NothingToBuild, TooManyVertices, TooManySegs, TooManySubsectors, TooDeep, BlockmapTooLarge, OutOfMemory}
 use Rattle.lv_pwad.proofs.CopyLemmas.{item_more}
@@ -62,22 +65,56 @@ first_is ms n k m none here first empty =
     let same : m ≡ k = cc in
     subst (λ (t : Tables). length t.lines ≡ 0) same empty
 
+pub first_map : (ms : List Tables) (n : ℕ) (k m : Tables) → NoneYet ms n → slice_get ms n ≡ Some k → slice_get ms 0 ≡ Some m → length m.lines ≡ 0 → k ≡ m
+first_map ms n k m none here first empty =
+    let zero_is : n ≡ 0 = none m first empty in
+    let at : slice_get ms 0 ≡ Some k = subst (λ (i : ℕ). slice_get ms i ≡ Some k) zero_is here in
+    cc
+
+abbrev unbuilt_in : (X : Type 0) → Unbuilt → Result X Unbuilt
+unbuilt_in X u = Err u
+
+-- it is named
+pub first_blamed : {X Y : Type 0} (e : BuildError) (k m : Tables) (u : Unbuilt) → u ≡ blamed e k.name → k ≡ m → refusal_in X e ≡ refusal_in X NothingToBuild
+    → unbuilt_in Y u ≡ unbuilt_in Y (blamed NothingToBuild m.name)
+first_blamed {X} {Y} e k m u is first none =
+    let error : e ≡ NothingToBuild = cc in
+    ap (unbuilt_in Y) (is ∙ ap (λ (x : BuildError). blamed x k.name) error ∙ ap (λ (t : Tables). blamed NothingToBuild t.name) first)
+
+-- so it is after a call that hands the refusal on
+pub unbuilt_too : {X Y : Type 0} (u v : Unbuilt) → unbuilt_in X u ≡ unbuilt_in X v → unbuilt_in Y u ≡ unbuilt_in Y v
+unbuilt_too {X} {Y} u v same = let is : u ≡ v = cc in ap (unbuilt_in Y) is
+
+pub error_too : {X Y : Type 0} (u : Unbuilt) (name : Name8) → unbuilt_in X u ≡ unbuilt_in X (blamed NothingToBuild name) → refusal_in Y u.error ≡ refusal_in Y NothingToBuild
+error_too {X} {Y} u name same = let is : u ≡ blamed NothingToBuild name = cc in ap (λ (v : Unbuilt). refusal_in Y v.error) is
+
 -- ---- what the levels tell of the maps
 
-pub all_buildable : (ms : List Tables) (xs : List NamedLevel) → AreLevelsOf ms xs → All IsBuildable ms
-all_buildable [] [] a = All-nil IsBuildable
+pub all_buildable : (ms : List Tables) (xs : List NamedLevel) → AreLevelsOf ms xs → All CanBeBuilt ms
+all_buildable [] [] a = All-nil CanBeBuilt
 all_buildable [] (x ∷ xs) a = absurd a
 all_buildable (m ∷ ms) [] a = absurd a
-all_buildable (m ∷ ms) (x ∷ xs) a = All-cons IsBuildable m ms (buildable m (view x.level) a.0.level) (all_buildable ms xs a.1)
+all_buildable (m ∷ ms) (x ∷ xs) a = All-cons CanBeBuilt m ms (buildable m (view x.level) a.0.level) (all_buildable ms xs a.1)
 
-pub first_refused : (ms : List Tables) (n : ℕ) (m : Tables) (xs : List NamedLevel) (e : BuildError) → slice_get ms n ≡ Some m → AreLevelsOf (take n ms) xs → IsBuildRefusal m e → IsRefusalOfAll ms e
-first_refused ms n m xs OutOfMemory at a h = tt
-first_refused ms n m xs NothingToBuild at a h = record { number = n; refused = m; is_refused = at; before = all_buildable (take n ms) xs a; cause = h }
-first_refused ms n m xs TooManyVertices at a h = record { number = n; refused = m; is_refused = at; before = all_buildable (take n ms) xs a; cause = h }
-first_refused ms n m xs TooManySegs at a h = record { number = n; refused = m; is_refused = at; before = all_buildable (take n ms) xs a; cause = h }
-first_refused ms n m xs TooManySubsectors at a h = record { number = n; refused = m; is_refused = at; before = all_buildable (take n ms) xs a; cause = h }
-first_refused ms n m xs TooDeep at a h = record { number = n; refused = m; is_refused = at; before = all_buildable (take n ms) xs a; cause = h }
-first_refused ms n m xs BlockmapTooLarge at a h = record { number = n; refused = m; is_refused = at; before = all_buildable (take n ms) xs a; cause = h }
+pub first_refused : (ms : List Tables) (n : ℕ) (m : Tables) (xs : List NamedLevel) (e : BuildError) → slice_get ms n ≡ Some m → AreLevelsOf (take n ms) xs → IsBuildRefusal m e
+    → Blames ms (blamed e m.name).error (blamed e m.name).map
+first_refused ms n m xs OutOfMemory at a h = refl
+first_refused ms n m xs NothingToBuild at a h = (record { number = n; refused = m; is_refused = at; before = all_buildable (take n ms) xs a; cause = h }, refl)
+first_refused ms n m xs TooManyVertices at a h = (record { number = n; refused = m; is_refused = at; before = all_buildable (take n ms) xs a; cause = h }, refl)
+first_refused ms n m xs TooManySegs at a h = (record { number = n; refused = m; is_refused = at; before = all_buildable (take n ms) xs a; cause = h }, refl)
+first_refused ms n m xs TooManySubsectors at a h = (record { number = n; refused = m; is_refused = at; before = all_buildable (take n ms) xs a; cause = h }, refl)
+first_refused ms n m xs TooDeep at a h = (record { number = n; refused = m; is_refused = at; before = all_buildable (take n ms) xs a; cause = h }, refl)
+first_refused ms n m xs BlockmapTooLarge at a h = (record { number = n; refused = m; is_refused = at; before = all_buildable (take n ms) xs a; cause = h }, refl)
+
+-- the refusal that names a map is that of all maps
+pub of_all : (ms : List Tables) (e : BuildError) (name : Option Name8) → Blames ms e name → IsRefusalOfAll ms e
+of_all ms OutOfMemory name h = tt
+of_all ms NothingToBuild name h = h.0
+of_all ms TooManyVertices name h = h.0
+of_all ms TooManySegs name h = h.0
+of_all ms TooManySubsectors name h = h.0
+of_all ms TooDeep name h = h.0
+of_all ms BlockmapTooLarge name h = h.0
 
 pub all_sound : (wad : List ℕ) (ms : List Tables) (xs : List NamedLevel) → AreLevelsOf ms xs → All (λ (l : NamedLevel). IsLevel wad (name_text l.name) (view l.level)) xs → IsSoundBuildOfAll ms wad
 all_sound wad [] [] a r = All-nil (λ (m : Tables). IsSoundBuild m wad)

@@ -5,11 +5,11 @@ use Rattle.std.proofs.Math.Seq.{take-suc}
 use Rattle.std.proofs.lemmas.List.{map-append}
 use Rattle.std.proofs.lemmas.Grind.{flat_map-append}
 use Rattle.lv_lumps.specs.declared.records.Name8.{Name8}
-use Rattle.lv_pwad.specs.declared.directory.Entry.{Entry}
+use Rattle.lv_levels.specs.declared.directory.Entry.{Entry}
 use Rattle.lv_pwad.specs.declared.wad.NamedLump.{NamedLump}
 use Rattle.lv_pwad.specs.Wad.{Lump, all_bytes, entries_from, entry_bytes, long, wad_bytes, wad_head}
 use Rattle.lv_pwad.specs.Views.{views}
-use Rattle.lv_pwad.proofs.ReadLemmas.{add_zero}
+use Rattle.lv_levels.proofs.ReadLemmas.{add_zero}
 use Rattle.lv_pwad.proofs.WrittenLemmas.{length_head}
 
 entries-append : (at : ℕ) (xs ys : List Lump) → entries_from at (xs ++ ys) ≡ entries_from at xs ++ entries_from (at + length (all_bytes xs)) ys

@@ -2,10 +2,10 @@
 use Rattle.std.proofs.Common.{◌≡◌, ◌∙◌, refl, sym, subst, ℕ, List, Option, Some, None}
 use Rattle.lv_lumps.specs.Names.{name_text}
 use Rattle.lv_maptables.specs.Tables.{Tables}
-use Rattle.lv_pwad.specs.Levels.{Lumps, IsLevel, refusal}
-use Rattle.lv_pwad.specs.Views.{RefusesLevel}
-use Rattle.lv_pwad.specs.declared.error.ReadError.{ReadError}
-use Rattle.lv_pwad.specs.declared.error.ReadError.TheVariants.{LumpLength, NotAWad, DirectoryOutside, NoSuchLevel, LumpMissing, LumpOutside, HexenLevel, OutOfMemory}
+use Rattle.lv_levels.specs.Levels.{Lumps, IsLevel, refusal}
+use Rattle.lv_levels.specs.Views.{RefusesLevel}
+use Rattle.lv_levels.specs.declared.error.ReadError.{ReadError}
+use Rattle.lv_levels.specs.declared.error.ReadError.TheVariants.{LumpLength, NotAWad, DirectoryOutside, NoSuchLevel, LumpMissing, LumpOutside, HexenLevel, TextureLump, OutOfMemory}
 use Rattle.lv_pwad.specs.Sound.{IsSoundBuild, IsSoundLevel}
 
 pub read_is_sound : (m : Tables) (wad : List ℕ) (level : Lumps) → IsSoundBuild m wad → IsLevel wad (name_text m.name) level → IsSoundLevel m level
@@ -26,4 +26,5 @@ never_refused m wad NoSuchLevel s r = absurd (none_some (refusal wad (name_text 
 never_refused m wad LumpMissing s r = absurd (none_some (refusal wad (name_text m.name)) LumpMissing s.reads.accepted r)
 never_refused m wad LumpOutside s r = absurd (none_some (refusal wad (name_text m.name)) LumpOutside s.reads.accepted r)
 never_refused m wad HexenLevel s r = absurd (none_some (refusal wad (name_text m.name)) HexenLevel s.reads.accepted r)
+never_refused m wad TextureLump s r = absurd (none_some (refusal wad (name_text m.name)) TextureLump s.reads.accepted r)
 never_refused m wad OutOfMemory s r = refl

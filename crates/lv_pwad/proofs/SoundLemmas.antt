@@ -1,5 +1,5 @@
 -- A map with its tree and its blocks is a sound level.
-use Rattle.std.proofs.Common.{◌≡◌, ◌∙◌, refl, sym, ap, subst, ℕ, ◌*◌, ◌<◌, ◌≤◌, List, [], ◌∷◌, ◌++◌, length, get_or, arith, length-append}
+use Rattle.std.proofs.Common.{◌≡◌, ◌∙◌, refl, sym, ap, subst, ℕ, ◌*◌, ◌<◌, ◌≤◌, List, [], ◌∷◌, ◌++◌, length, get_or, arith, length-append, All}
 use Rattle.std.specs.Prelude.{◌↔◌, Result, Ok, Err}
 use Rattle.std.proofs.Math.Nat.{mul-le-mul}
 use Rattle.std.proofs.lemmas.List.{length-replicate, length-map}
@@ -7,25 +7,34 @@ use Rattle.lv_lumps.specs.Names.{name_text, is_marker, IsNamed}
 use Rattle.lv_lumps.specs.declared.records.Name8.{Name8}
 use Rattle.lv_lumps.specs.declared.records.Line.{Line}
 use Rattle.lv_lumps.specs.declared.records.Vertex.{Vertex}
+use Rattle.lv_lumps.specs.declared.records.Seg.{Seg}
+use Rattle.lv_lumps.specs.declared.records.Sub.{Sub}
+use Rattle.lv_lumps.specs.declared.records.Node.{Node}
 use Rattle.lv_maptables.specs.Tables.{Tables}
 use Rattle.lv_maptables.specs.WellFormed.{WellFormed}
+use Rattle.lv_segs.specs.Edges.{edge_between, edges_in, edges_of}
+use Rattle.lv_segs.specs.Segs.{RunAlong, HasFields, IsConvexSub}
+use Rattle.lv_segs.specs.Nodes.{IsParting}
 use Rattle.lv_blockmap.proofs.SizeLemmas.{one_lists}
 use Rattle.lv_blockmap.specs.Layout.{OffsetsFit}
-use Rattle.lv_blockmap.specs.Blocks.{ends_in, map_ends, grid_of}
-use Rattle.lv_blockmap.specs.Lump.{IsBlockmap, IsTooLarge, RefusesBlockmap}
+use Rattle.lv_blockmap.specs.Blocks.{ends_in, ends_over, map_ends, grid_of}
+use Rattle.lv_blockmap.specs.Lump.{IsBlockmap, IsBlockmapOver, IsTooLarge, RefusesBlockmap}
 use Rattle.lv_blockmap.specs.declared.error.BlockmapError.{BlockmapError}
 use Rattle.lv_blockmap.specs.declared.error.BlockmapError.TheVariants as blocks
-use Rattle.lv_nodes.specs.Built.{IsBuilt, IsTreeRefusal}
+use Rattle.lv_nodes.specs.InRange.{TreeInRange}
+use Rattle.lv_nodes.specs.Sound.{AddsEnds, AllDiffer}
+use Rattle.lv_nodes.specs.Built.{IsBuilt, IsBuiltOver, IsTreeRefusal}
+use Rattle.lv_nodes.proofs.RangeLemmas.{all_differ, new_differ, tree_in_range}
 use Rattle.lv_nodes.specs.declared.error.TreeError.{TreeError}
 use Rattle.lv_nodes.specs.declared.error.TreeError.TheVariants as tree
 use Rattle.lv_nodes.specs.declared.built.Built.{Built}
 use Rattle.lv_pwad.specs.declared.error.BuildError.{BuildError}
 use Rattle.lv_pwad.specs.declared.error.BuildError.TheVariants as build
-use Rattle.lv_pwad.specs.Levels.{Lumps, IsLevel}
-use Rattle.lv_pwad.specs.Range.{LineInRange, InRange}
+use Rattle.lv_levels.specs.Levels.{Lumps, IsLevel}
+use Rattle.lv_pwad.specs.Range.{LineInRange, IsInRange}
 use Rattle.lv_pwad.specs.Reject.{reject_size}
 use Rattle.lv_pwad.specs.Words.{words}
-use Rattle.lv_pwad.specs.Sound.{IsBuildable, IsBuildRefusal, IsBuiltLevel, IsSoundBuild, IsSoundLevel, level_over, no_rejects, of_blockmap, of_tree}
+use Rattle.lv_pwad.specs.Sound.{CanBeBuilt, IsBuildRefusal, IsBuiltLevel, IsSoundBuild, IsSoundLevel, IsSoundOver, HasTree, level_over, no_rejects, of_blockmap, of_tree}
 use Rattle.lv_pwad.specs.Wad.{AreParts, IsPart, all_lumps, level_part, wad_bytes}
 use Rattle.lv_pwad.specs.Projects.{HoldsOnly}
 use Rattle.lv_pwad.proofs.LengthLemmas.{IsWritable, is_part, one_part}
@@ -52,39 +61,87 @@ line_in m l added w v s k d h =
       two_sided = λ q. sides.two_sided q;
     }
 
-level_in_range : (m : Tables) (b : Built) (bytes : List ℕ) → WellFormed m → IsBuilt m b → IsBlockmap m bytes → InRange (level_over m b bytes)
-level_in_range m b bytes w t k =
+-- as many lines are built as the map has
+many : (m : Tables) → length (edges_of m) ≡ length m.lines
+many m = length-map m.lines (edge_between m.vertices)
+
+level_in_range : (m : Tables) (b : Built) (bytes : List ℕ) → WellFormed m → IsBuilt m b → IsSoundOver m.vertices (level_over m b bytes) → IsInRange (level_over m b bytes)
+level_in_range m b bytes w t s =
     let l = level_over m b bytes in
-    let some = t.some_line in
-    let few = w.line_count in
-    let long = length-map m.lines (ends_in m.vertices) in
-    let same : words bytes ≡ k.words = ap words k.bytes_are ∙ words_back k.words k.sixteen_bits in
-    let blocks = blocks_in_range l (map_ends m) bytes k long (omega (arith, long, some)) (omega (arith, long, few)) in
+    let a = t.sound.added_ends in
     record {
-      lines = λ i d h. line_in m l t.added.added w t.added.all refl i d h;
+      lines = λ i d h. line_in m l a.added w a.all refl i d h;
       sides = λ i d h. let s = w.side_sectors i d h in let c = w.sector_count in record { among = s; small = omega (arith, s, c) };
-      tree = t.in_range;
+      tree = s.tree;
       reject = let e : length (no_rejects (length m.sectors)) ≡ reject_size (length m.sectors) = length-replicate (reject_size (length m.sectors)) 0 in omega (arith, e);
+      header = s.header;
+      lists = s.lists;
+    }
+
+-- ---- a level with a tree and blocks of its own lines
+
+module _ (drawn : List Vertex) (lines : List Line) where
+  -- what a built tree says of its lists
+  record AreSound (vs : List Vertex) (ss : List Seg) (us : List Sub) (ns : List Node) : Type 0 where
+    added : AddsEnds drawn vs ss
+    tree : TreeInRange vs lines ss us ns
+    along : RunAlong (edges_in drawn lines) vs ss
+    fields : All (HasFields (edges_in drawn lines) vs) ss
+    convex : All (IsConvexSub (edges_in drawn lines) vs ss) us
+    partings : All (IsParting (edges_in drawn lines) vs ss us ns) ns
+
+  built_sound : (b : Built) → IsBuiltOver (edges_in drawn lines) drawn b → AreSound b.vertices.items b.segs.items b.subs.items b.nodes.items
+  built_sound b t = record {
+    added = t.sound.added_ends;
+    tree = tree_in_range drawn lines b.vertices.items b.segs.items b.subs.items b.nodes.items t.sound;
+    along = t.sound.run_along;
+    fields = t.sound.fields;
+    convex = t.sound.convex;
+    partings = t.sound.partings;
+  }
+
+  has_sound : (b : Built) (l : Lumps) → HasTree b l → AreSound b.vertices.items b.segs.items b.subs.items b.nodes.items → AreSound l.vertices l.segs l.subs l.nodes
+  has_sound b l h s =
+      let vs = subst (λ (x : List Vertex). AreSound x b.segs.items b.subs.items b.nodes.items) (sym h.vertices) s in
+      let ss = subst (λ (x : List Seg). AreSound l.vertices x b.subs.items b.nodes.items) (sym h.segs) vs in
+      let us = subst (λ (x : List Sub). AreSound l.vertices l.segs x b.nodes.items) (sym h.subs) ss in
+      subst (λ (x : List Node). AreSound l.vertices l.segs l.subs x) (sym h.nodes) us
+
+pub sound_over : (drawn : List Vertex) (b : Built) (l : Lumps) → HasTree b l → IsBuiltOver (edges_in drawn l.lines) drawn b → IsBlockmapOver (ends_over drawn l.lines) l.blockmap → IsSoundOver drawn l
+sound_over drawn b l h t k =
+    let s = has_sound drawn l.lines b l h (built_sound drawn l.lines b t) in
+    let n = length-map l.lines (edge_between drawn) in
+    let long = length-map l.lines (ends_in drawn) in
+    let some = t.some_line in
+    let few = t.few_lines in
+    let same : words l.blockmap ≡ k.words = ap words k.bytes_are ∙ words_back k.words k.sixteen_bits in
+    let blocks = blocks_in_range l (ends_over drawn l.lines) l.blockmap k long (omega (arith, long, n, some)) (omega (arith, long, n, few)) in
+    record {
+      added = s.added;
+      tree = s.tree;
+      along = s.along;
+      fields = s.fields;
+      convex = s.convex;
+      partings = s.partings;
+      blocks = rw same k.lists;
       header = rw same blocks.header;
       lists = rw same blocks.lists;
     }
 
 pub sound_level : (m : Tables) (b : Built) (bytes : List ℕ) → WellFormed m → IsBuilt m b → IsBlockmap m bytes → IsSoundLevel m (level_over m b bytes)
 sound_level m b bytes w t k =
-    let same : words bytes ≡ k.words = ap words k.bytes_are ∙ words_back k.words k.sixteen_bits in
+    let l = level_over m b bytes in
+    let s = sound_over m.vertices b l (record { vertices = refl; segs = refl; subs = refl; nodes = refl }) t k in
+    let a = t.sound.added_ends in
     record {
       things = refl;
       lines = refl;
       sides = refl;
       sectors = refl;
-      added = t.added;
       reject = refl;
-      in_range = level_in_range m b bytes w t k;
-      along = t.along;
-      fields = t.fields;
-      convex = t.convex;
-      partings = t.partings;
-      blocks = rw same k.lists;
+      in_range = level_in_range m b bytes w t s;
+      sound = s;
+      differ = subst AllDiffer (sym a.all) (new_differ m.vertices a.added (all_differ m.vertices w.places) a.new);
     }
 
 -- ---- it can be written
@@ -157,14 +214,14 @@ never_both m bytes k t =
     let same : o.lists ≡ t.lists = one_lists (map_ends m) (grid_of (map_ends m)) o.lists t.lists o.are_lists t.are_lists in
     t.too_large (subst (λ (x : List (List ℕ)). OffsetsFit x) same o.fit)
 
-pub buildable : (m : Tables) (l : Lumps) → IsBuiltLevel m l → IsBuildable m
+pub buildable : (m : Tables) (l : Lumps) → IsBuiltLevel m l → CanBeBuilt m
 buildable m l b = record { tree = b.tree; built = b.built; fits = never_both m b.blockmap b.is_blockmap }
 
 -- ---- the refusals
 
 pub tree_cause : (m : Tables) (e : TreeError) → IsTreeRefusal m e → IsBuildRefusal m (of_tree e)
 tree_cause m tree.OutOfMemory h = tt
-tree_cause m tree.NothingToBuild h = h
+tree_cause m tree.NothingToBuild h = sym (many m) ∙ h
 tree_cause m tree.TooManyVertices h = h
 tree_cause m tree.TooManySegs h = h
 tree_cause m tree.TooManySubsectors h = h
@@ -192,13 +249,13 @@ tree_nothing r tree.TooManySubsectors b n is e h = (λ q. cc, λ z. let w = h.1 
 tree_nothing r tree.TooDeep b n is e h = (λ q. cc, λ z. let w = h.1 z in cc)
 
 pub blockmap_nothing : (m : Tables) (t : Built) (e : BlockmapError) (b : BuildError) → IsBuilt m t → RefusesBlockmap m e → b ≡ of_blockmap e → (b ≡ build.NothingToBuild ↔ length m.lines ≡ 0)
-blockmap_nothing m t blocks.OutOfMemory b k h e = (λ q. cc, λ z. let s = k.some_line in absurd (omega (arith, s, z)))
+blockmap_nothing m t blocks.OutOfMemory b k h e = (λ q. cc, λ z. let s = k.some_line in let n = many m in absurd (omega (arith, s, n, z)))
 blockmap_nothing m t blocks.NothingToBuild b k h e = (λ q. blockmap_cause m t blocks.NothingToBuild k h, λ z. e)
-blockmap_nothing m t blocks.BlockmapTooLarge b k h e = (λ q. cc, λ z. let s = k.some_line in absurd (omega (arith, s, z)))
+blockmap_nothing m t blocks.BlockmapTooLarge b k h e = (λ q. cc, λ z. let s = k.some_line in let n = many m in absurd (omega (arith, s, n, z)))
 
 -- a map that was built has one
 pub built_some : {E : Type 0} {X : Type 0} (m : Tables) (t : Built) (x : X) (e : E) → IsBuilt m t → (Ok x ≡ Err e ↔ length m.lines ≡ 0)
-built_some m t x e k = (λ q. cc, λ z. let s = k.some_line in absurd (omega (arith, s, z)))
+built_some m t x e k = (λ q. cc, λ z. let s = k.some_line in let n = many m in absurd (omega (arith, s, n, z)))
 
 pub memory_some : {X : Type 0} (m : Tables) (t : Built) → IsBuilt m t → (refused X BuildError build.OutOfMemory ≡ refused X BuildError build.NothingToBuild ↔ length m.lines ≡ 0)
-memory_some m t k = (λ q. cc, λ z. let s = k.some_line in absurd (omega (arith, s, z)))
+memory_some m t k = (λ q. cc, λ z. let s = k.some_line in let n = many m in absurd (omega (arith, s, n, z)))

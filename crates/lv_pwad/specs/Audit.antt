@@ -8,7 +8,7 @@ use Rattle.lv_lumps.specs.declared.records.Sub.{Sub}
 use Rattle.lv_lumps.specs.declared.records.Node.{Node}
 use Rattle.lv_pwad.specs.Words.{words}
 use Rattle.lv_blockmap.specs.Layout.{greatest_offset}
-use Rattle.lv_pwad.specs.Levels.{Lumps}
+use Rattle.lv_levels.specs.Levels.{Lumps}
 use Rattle.lv_lumps.specs.Sides.{no_side, is_two_sided}
 use Rattle.lv_pwad.specs.Endings.{ends_in_lines}
 use Rattle.lv_pwad.specs.Reject.{reject_size}

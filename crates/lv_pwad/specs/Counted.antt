@@ -2,7 +2,7 @@
 use Rattle.std.specs.Prelude.{◌≡◌, ℕ, ◌+◌, List, length, map, sum_by}
 use Rattle.lv_lumps.specs.Names.{name_text}
 use Rattle.lv_maptables.specs.Tables.{Tables}
-use Rattle.lv_pwad.specs.Levels.{Lumps, lumps_behind, marker_at}
+use Rattle.lv_levels.specs.Levels.{Lumps, lumps_behind, marker_at}
 use Rattle.lv_pwad.specs.Projects.{IsSoundBuildOfAll}
 use Rattle.lv_pwad.specs.declared.counted.BuildCounts.{BuildCounts}
 
@@ -28,6 +28,6 @@ level_of wad m = lumps_behind wad (marker_at wad (name_text m.name))
 
 -- the bytes are a sound build of each map, and these are their counts: those of the levels that
 -- they are read back to
-pub record IsCounted (ms : List Tables) (wad : List ℕ) (c : BuildCounts) : Type 0 where
+pub record IsBuildCounted (ms : List Tables) (wad : List ℕ) (c : BuildCounts) : Type 0 where
   pub build : IsSoundBuildOfAll ms wad
   pub counts : CountsLevels (map (level_of wad) ms) (length wad) c

@@ -1,20 +1,9 @@
 -- The numbers of the refusals, as docs/FORMAT.md lists them ("Numbers of the refusals").
-use Rattle.std.specs.Prelude.{ℕ}
+use Rattle.std.specs.Prelude.{ℕ, None, Some}
+use Rattle.lv_lumps.specs.declared.records.Name8.{Name8}
 use Rattle.lv_pwad.specs.declared.error.BuildError.{BuildError}
 use Rattle.lv_pwad.specs.declared.error.BuildError.TheVariants as build
-use Rattle.lv_pwad.specs.declared.error.ReadError.{ReadError}
-use Rattle.lv_pwad.specs.declared.error.ReadError.TheVariants.{LumpLength, NotAWad, DirectoryOutside, NoSuchLevel, LumpMissing, LumpOutside, HexenLevel, OutOfMemory}
-
--- the number that a refusal to read is known by
-abbrev pub code_of : ReadError → ℕ
-code_of LumpLength = 50
-code_of NotAWad = 70
-code_of DirectoryOutside = 71
-code_of NoSuchLevel = 72
-code_of LumpMissing = 73
-code_of LumpOutside = 74
-code_of HexenLevel = 75
-code_of OutOfMemory = 31
+use Rattle.lv_pwad.specs.declared.error.Unbuilt.{Unbuilt}
 
 -- the number that a refusal to build is known by
 abbrev pub build_code_of : BuildError → ℕ
@@ -25,3 +14,8 @@ build_code_of build.TooManySubsectors = 63
 build_code_of build.TooDeep = 64
 build_code_of build.BlockmapTooLarge = 66
 build_code_of build.OutOfMemory = 31
+
+-- the refusal of the map of this name; lack of memory is no map's
+abbrev pub blamed : BuildError → Name8 → Unbuilt
+blamed build.OutOfMemory name = record { error = build.OutOfMemory; map = None }
+blamed e name = record { error = e; map = Some name }

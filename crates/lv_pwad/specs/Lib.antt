@@ -1,5 +1,4 @@
 pub mod Errors
-pub mod Levels
 pub mod Wad
 pub mod Views
 pub mod Reject
@@ -11,4 +10,3 @@ pub mod Audit
 pub mod Sound
 pub mod Projects
 pub mod Counted
-pub mod Listing

@@ -1,9 +1,10 @@
 -- The PWAD of a project's maps, and why there is none.
-use Rattle.std.specs.Prelude.{◌≡◌, ℕ, List, [], ◌∷◌, take, slice_get, Some, All}
+use Rattle.std.specs.Prelude.{◌≡◌, ℕ, List, [], ◌∷◌, take, slice_get, Option, None, Some, All}
+use Rattle.lv_lumps.specs.declared.records.Name8.{Name8}
 use Rattle.lv_maptables.specs.Tables.{Tables}
-use Rattle.lv_pwad.specs.Levels.{Lumps}
-use Rattle.lv_pwad.specs.Sound.{IsBuildable, IsBuildRefusal, IsBuiltLevel, IsSoundBuild, IsSoundLevel}
-use Rattle.lv_pwad.specs.Views.{view}
+use Rattle.lv_levels.specs.Levels.{Lumps}
+use Rattle.lv_pwad.specs.Sound.{CanBeBuilt, IsBuildRefusal, IsBuiltLevel, IsSoundBuild, IsSoundLevel}
+use Rattle.lv_levels.specs.Views.{view}
 use Rattle.lv_pwad.specs.Wad.{Part, all_lumps, level_part, wad_bytes}
 use Rattle.lv_pwad.specs.declared.levels.NamedLevel.{NamedLevel}
 use Rattle.lv_pwad.specs.declared.error.BuildError.{BuildError}
@@ -50,9 +51,15 @@ pub record IsFirstRefusal (ms : List Tables) (e : BuildError) : Type 0 where
   pub number : ℕ
   pub refused : Tables
   pub is_refused : slice_get ms number ≡ Some refused
-  pub before : All IsBuildable (take number ms)
+  pub before : All CanBeBuilt (take number ms)
   pub cause : IsBuildRefusal refused e
 
 abbrev pub IsRefusalOfAll : List Tables → BuildError → Type 0
 IsRefusalOfAll ms OutOfMemory = Unit {0}
 IsRefusalOfAll ms e = IsFirstRefusal ms e
+
+-- the refusal is that of the first map by number that can't be built, and the name is this map's;
+-- where memory lacks no map is named
+abbrev pub Blames : List Tables → BuildError → Option Name8 → Type 0
+Blames ms OutOfMemory name = name ≡ None
+Blames ms e name = (first : IsFirstRefusal ms e) × (name ≡ Some first.refused.name)

@@ -4,8 +4,8 @@ use Rattle.lv_lumps.specs.Sides.{no_side, is_two_sided}
 use Rattle.lv_lumps.specs.declared.records.Line.{Line}
 use Rattle.lv_nodes.specs.InRange.{IsIn, TreeInRange}
 use Rattle.lv_pwad.specs.Words.{words}
-use Rattle.lv_blockmap.specs.Layout.{list_end, greatest_offset, StandsAt}
-use Rattle.lv_pwad.specs.Levels.{Lumps}
+use Rattle.lv_blockmap.specs.Layout.{list_end, greatest_offset, HasWordsAt}
+use Rattle.lv_levels.specs.Levels.{Lumps}
 use Rattle.lv_pwad.specs.Reject.{reject_size}
 
 -- the line's ends are vertices and its sides are sides; only a line that isn't two-sided may lack
@@ -26,11 +26,11 @@ pub record ListInRange (l : Lumps) (ws : List ℕ) (at : ℕ) : Type 0 where
   pub inside : at < length ws
   pub small : at ≤ greatest_offset
   pub list : List ℕ
-  pub stands : StandsAt ws at (list ++ list_end ∷ [])
+  pub stands : HasWordsAt ws at (list ++ list_end ∷ [])
   pub lines : All (IsIn l.lines) list
 
 -- each reference of what was drawn, of the tree, and of the blocks' lists lies in its list
-pub record InRange (l : Lumps) : Type 0 where
+pub record IsInRange (l : Lumps) : Type 0 where
   pub lines : All (LineInRange l) l.lines
   pub sides : All (λ s. IsIn l.sectors s.sector) l.sides
   pub tree : TreeInRange l.vertices l.lines l.segs l.subs l.nodes

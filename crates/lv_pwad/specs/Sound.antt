@@ -1,23 +1,25 @@
 -- A PWAD that is a sound build of a map, and why there is none.
-use Rattle.std.specs.Prelude.{◌≡◌, ℕ, List, length, replicate, All}
+use Rattle.std.specs.Prelude.{◌≡◌, ℕ, ◌+◌, ◌≤◌, List, length, replicate, take, drop, All}
 use Rattle.lv_lumps.specs.Names.{name_text}
+use Rattle.lv_lumps.specs.declared.records.Vertex.{Vertex}
 use Rattle.lv_maptables.specs.Tables.{Tables}
 use Rattle.lv_maptables.specs.WellFormed.{WellFormed}
-use Rattle.lv_blockmap.specs.Blocks.{map_ends}
+use Rattle.lv_blockmap.specs.Blocks.{ends_over, map_ends}
 use Rattle.lv_blockmap.specs.Layout.{ListsBlocks}
 use Rattle.lv_blockmap.specs.Lump.{IsBlockmap, IsTooLarge}
 use Rattle.lv_segs.specs.Segs.{RunAlong, HasFields, IsConvexSub}
 use Rattle.lv_segs.specs.Nodes.{IsParting}
-use Rattle.lv_segs.specs.Edges.{edges_of}
-use Rattle.lv_nodes.specs.Sound.{AddsEnds, HasTooManyVertices, HasTooManySegs, HasTooManySubsectors, IsTooDeep}
+use Rattle.lv_segs.specs.Edges.{edges_in, edges_of}
+use Rattle.lv_nodes.specs.Sound.{AddsEnds, AllDiffer, HasTooManyVertices, HasTooManySegs, HasTooManySubsectors, IsTooDeep}
+use Rattle.lv_nodes.specs.InRange.{TreeInRange}
 use Rattle.lv_nodes.specs.Built.{IsBuilt}
 use Rattle.lv_nodes.specs.declared.built.Built.{Built}
 use Rattle.lv_nodes.specs.declared.error.TreeError.{TreeError}
 use Rattle.lv_nodes.specs.declared.error.TreeError.TheVariants as tree
 use Rattle.lv_blockmap.specs.declared.error.BlockmapError.{BlockmapError}
 use Rattle.lv_blockmap.specs.declared.error.BlockmapError.TheVariants as blocks
-use Rattle.lv_pwad.specs.Levels.{Lumps, IsLevel}
-use Rattle.lv_pwad.specs.Range.{InRange}
+use Rattle.lv_levels.specs.Levels.{Lumps, IsLevel}
+use Rattle.lv_pwad.specs.Range.{IsInRange, ListInRange, blocks_in}
 use Rattle.lv_pwad.specs.Reject.{reject_size}
 use Rattle.lv_pwad.specs.Words.{words}
 use Rattle.lv_pwad.specs.declared.error.BuildError.{BuildError}
@@ -53,20 +55,39 @@ pub record IsBuiltLevel (m : Tables) (l : Lumps) : Type 0 where
   pub is_blockmap : IsBlockmap m blockmap
   pub is_over : l ≡ level_over m tree blockmap
 
--- a level that holds the map as drawn, and a sound tree and the blocks of it
+-- ---- sound
+-- the level has a sound tree of its own lines behind the drawn vertices, and the blocks of these lines; each reference
+-- of what was built lies in its list
+pub record IsSoundOver (drawn : List Vertex) (l : Lumps) : Type 0 where
+  pub added : AddsEnds drawn l.vertices l.segs
+  pub tree : TreeInRange l.vertices l.lines l.segs l.subs l.nodes
+  pub along : RunAlong (edges_in drawn l.lines) l.vertices l.segs
+  pub fields : All (HasFields (edges_in drawn l.lines) l.vertices) l.segs
+  pub convex : All (IsConvexSub (edges_in drawn l.lines) l.vertices l.segs) l.subs
+  pub partings :
+      All (IsParting (edges_in drawn l.lines) l.vertices l.segs l.subs l.nodes) l.nodes
+  pub blocks : ListsBlocks (ends_over drawn l.lines) (words l.blockmap)
+  pub header : 4 + blocks_in (words l.blockmap) ≤ length (words l.blockmap)
+  pub lists : All (ListInRange l (words l.blockmap))
+      (take (blocks_in (words l.blockmap)) (drop 4 (words l.blockmap)))
+
+-- the level has the lists of this tree
+pub record HasTree (b : Built) (l : Lumps) : Type 0 where
+  pub vertices : l.vertices ≡ b.vertices.items
+  pub segs : l.segs ≡ b.segs.items
+  pub subs : l.subs ≡ b.subs.items
+  pub nodes : l.nodes ≡ b.nodes.items
+
+-- a level that holds the map as drawn, and is sound over its lines; no two vertices have one place
 pub record IsSoundLevel (m : Tables) (l : Lumps) : Type 0 where
   pub things : l.things ≡ m.things
   pub lines : l.lines ≡ m.lines
   pub sides : l.sides ≡ m.sides
   pub sectors : l.sectors ≡ m.sectors
-  pub added : AddsEnds m.vertices l.vertices l.segs
   pub reject : l.reject ≡ no_rejects (length m.sectors)
-  pub in_range : InRange l
-  pub along : RunAlong (edges_of m) l.vertices l.segs
-  pub fields : All (HasFields (edges_of m) l.vertices) l.segs
-  pub convex : All (IsConvexSub (edges_of m) l.vertices l.segs) l.subs
-  pub partings : All (IsParting (edges_of m) l.vertices l.segs l.subs l.nodes) l.nodes
-  pub blocks : ListsBlocks (map_ends m) (words l.blockmap)
+  pub in_range : IsInRange l
+  pub sound : IsSoundOver m.vertices l
+  pub differ : AllDiffer l.vertices
 
 -- under the map's name the bytes hold a sound level of the map
 pub record IsSoundBuild (m : Tables) (wad : List ℕ) : Type 0 where
@@ -75,7 +96,7 @@ pub record IsSoundBuild (m : Tables) (wad : List ℕ) : Type 0 where
   pub sound : IsSoundLevel m level
 
 -- the map has a tree, and the layout of its blocks' lists has no offset that is too great
-pub record IsBuildable (m : Tables) : Type 0 where
+pub record CanBeBuilt (m : Tables) : Type 0 where
   pub tree : Built
   pub built : IsBuilt m tree
   pub fits : ¬ IsTooLarge (map_ends m)

@@ -4,10 +4,10 @@ use Rattle.std.specs.List.{list_any}
 use Rattle.std.specs.Int.{w32, to_le_bytes}
 use Rattle.lv_lumps.specs.Names.{name_text}
 use Rattle.lv_lumps.specs.declared.records.Name8.{Name8}
-use Rattle.lv_pwad.specs.declared.directory.Entry.{Entry}
+use Rattle.lv_levels.specs.declared.directory.Entry.{Entry}
 use Rattle.lv_lumps.specs.Lumps.{records_of}
 use Rattle.lv_lumps.specs.Records.{thing_record, line_record, side_record, vertex_record, seg_record, sub_record, node_record, sector_record, thing_at, line_at, side_at, vertex_at, seg_at, sub_at, node_at, sector_at}
-use Rattle.lv_pwad.specs.Levels.{Lumps, lump_names, record_sizes, lump, marker_at, refusal, same_bytes}
+use Rattle.lv_levels.specs.Levels.{Lumps, lump_names, record_sizes, lump, marker_at, refusal, same_bytes}
 
 -- 32 bits, the lower bytes first
 abbrev pub long : ℕ → List ℕ

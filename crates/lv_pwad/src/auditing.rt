@@ -1,16 +1,15 @@
 //! The audit of a level: its first fault.
 ghost use Rattle.std.specs.Prelude.{◌≡◌, ◌↔◌, None, IfOk, IsOkUnless};
 ghost use Rattle.lv_pwad.specs.Audit.{first_fault, first_some, list_faults};
-ghost use Rattle.lv_pwad.specs.Range.{InRange};
-ghost use Rattle.lv_pwad.specs.Views.{view};
+ghost use Rattle.lv_pwad.specs.Range.{IsInRange};
+ghost use Rattle.lv_levels.specs.Views.{view};
 
 use crate::blocks::lump_fault;
 use crate::children::{child_fault, once_fault};
-use crate::error::ReadError;
 use crate::fault::Fault;
-use crate::level::Level;
 use crate::ranges::{drawn_fault, first_of, seg_fault};
 use crate::subs::sub_fault;
+use lv_levels::{Level, ReadError};
 use std::alloc::Global;
 
 // The first fault of the lists as they stand, for which no memory is needed.
@@ -26,7 +25,7 @@ fn list_fault(level: &Level) -> Option<Fault>
 /// reference of the level is in range. It is refused for lack of memory alone.
 pub fn audit(alloc: Global, level: &Level) -> Result<Option<Fault>, ReadError>
     ensures first { IfOk result (λ fault. fault ≡ first_fault (view level.now)) }
-    ensures sound { IfOk result (λ fault. (fault ≡ None) ↔ InRange (view level.now)) }
+    ensures sound { IfOk result (λ fault. (fault ≡ None) ↔ IsInRange (view level.now)) }
     ensures memory { IsOkUnless result ReadError.OutOfMemory }
 {
     if let Some(fault) = list_fault(level) {

@@ -2,13 +2,12 @@
 ghost use Rattle.std.specs.Prelude.{◌≡◌, ◌≤◌, ◌+◌, false, get_or, length, IfOk, IsOkUnless};
 ghost use Rattle.lv_pwad.specs.Audit.{block_faults, first_some, first_wrong, lump_faults, size_faults};
 ghost use Rattle.lv_pwad.specs.Range.{blocks_in};
-ghost use Rattle.lv_pwad.specs.Views.{view};
+ghost use Rattle.lv_levels.specs.Views.{view};
 ghost use Rattle.lv_pwad.specs.Words.{words};
 
 use crate::endings::flags_of;
-use crate::error::ReadError;
 use crate::fault::Fault;
-use crate::level::Level;
+use lv_levels::{Level, ReadError};
 use std::alloc::Global;
 
 // The words of sixteen bits that the bytes hold.

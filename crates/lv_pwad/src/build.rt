@@ -1,20 +1,26 @@
 //! A map's level and its PWAD.
-ghost use Rattle.std.specs.Prelude.{◌≡◌, ◌↔◌, [], ◌∷◌, length, Err, IfOk, IfErr, OnOk, IsOkUnless};
+ghost use Rattle.std.specs.Prelude.{◌≡◌, ◌↔◌, List, [], ◌∷◌, length, Err, IfOk, IfErr, OnOk, IsOkUnless};
 ghost use Rattle.lv_lumps.specs.Names.{name_text};
+ghost use Rattle.lv_lumps.specs.declared.records.Vertex.{Vertex};
 ghost use Rattle.lv_maptables.specs.WellFormed.{WellFormed};
-ghost use Rattle.lv_pwad.specs.Levels.{IsLevel};
+ghost use Rattle.lv_segs.specs.Edges.{edges_in};
+ghost use Rattle.lv_nodes.specs.declared.built.Built.{Built};
+ghost use Rattle.lv_nodes.specs.Built.{IsBuiltOver};
+ghost use Rattle.lv_blockmap.specs.Blocks.{ends_over};
+ghost use Rattle.lv_blockmap.specs.Lump.{IsBlockmapOver};
+ghost use Rattle.lv_levels.specs.Levels.{IsLevel, Lumps};
 ghost use Rattle.lv_pwad.specs.Projects.{HoldsOnly};
-ghost use Rattle.lv_pwad.specs.Sound.{IsBuildable, IsBuildRefusal, IsBuiltLevel, IsSoundBuild};
-ghost use Rattle.lv_pwad.specs.Sound.{level_over, of_blockmap, of_tree};
-ghost use Rattle.lv_pwad.specs.Views.{view};
+ghost use Rattle.lv_pwad.specs.Sound.{CanBeBuilt, IsBuildRefusal, IsBuiltLevel, IsSoundBuild};
+ghost use Rattle.lv_pwad.specs.Sound.{HasTree, IsSoundOver, level_over, of_blockmap, of_tree};
+ghost use Rattle.lv_levels.specs.Views.{view};
 ghost use Rattle.lv_pwad.specs.Wad.{AreParts, all_lumps, level_part, wad_bytes};
 
 use crate::drawn::{lines_of, sectors_of, sides_of, things_of};
 use crate::error::BuildError;
-use crate::level::Level;
 use crate::levels::{NamedLevel, wad_of_levels};
 use crate::visibility::reject;
 use lv_blockmap::{BlockmapError, blockmap};
+use lv_levels::Level;
 use lv_lumps::Name8;
 use lv_maptables::{Kind, Map};
 use lv_nodes::{Built, TreeError, build_tree};
@@ -111,7 +117,7 @@ pub fn level_of_map(alloc: Global, map: &Map) -> Result<Level, BuildError>
 pub fn build_wad(alloc: Global, map: &Map) -> Result<Vec<u8>, BuildError>
     ensures sound { IfOk result (λ wad. IsSoundBuild map.now.tables wad.items) }
     ensures whole { IfOk result (λ wad. HoldsOnly (map.now.tables ∷ []) wad.items) }
-    ensures buildable { OnOk result (IsBuildable map.now.tables) }
+    ensures buildable { OnOk result (CanBeBuilt map.now.tables) }
     ensures refused { IfErr result (IsBuildRefusal map.now.tables) }
     ensures nothing { result ≡ Err BuildError.NothingToBuild ↔ length map.now.tables.lines ≡ 0 }
 {
@@ -124,3 +130,12 @@ pub fn build_wad(alloc: Global, map: &Map) -> Result<Vec<u8>, BuildError>
         Err(_) => Err(BuildError::OutOfMemory),
     }
 }
+
+/// A tree and a blockmap that were built over a level's own lines, behind the vertices that were drawn, make the level
+/// sound over them. The function has no body: its contract is the law.
+pub fn built_levels_are_sound()
+    ensures { (drawn : List Vertex) (tree : Built) (level : Lumps) → HasTree tree level
+        → IsBuiltOver (edges_in drawn level.lines) drawn tree
+        → IsBlockmapOver (ends_over drawn level.lines) level.blockmap
+        → IsSoundOver drawn level }
+{}

@@ -5,14 +5,13 @@ ghost use Rattle.std.specs.List.{enumerate_from, range_with_len};
 ghost use Rattle.lv_pwad.specs.Audit.{child_faults, child_right, first_some, first_wrong, node_children, once_faults};
 ghost use Rattle.lv_pwad.specs.Counts.{times_among};
 ghost use Rattle.lv_nodes.specs.InRange.{children, times_node, times_sub};
-ghost use Rattle.lv_pwad.specs.Views.{view};
+ghost use Rattle.lv_levels.specs.Views.{view};
 ghost use Rattle.lv_pwad.specs.declared.fault.Fault.TheVariants.{SubOnce, NodeOnce};
 
 use crate::counts::count_children;
-use crate::error::ReadError;
 use crate::fault::Fault;
-use crate::level::Level;
 use crate::ranges::{first_of, is_among};
+use lv_levels::{Level, ReadError};
 use lv_lumps::Node;
 use std::alloc::Global;
 

@@ -2,13 +2,14 @@
 ghost use Rattle.std.specs.Prelude.{◌≡◌, ◌+◌, All, length, map, IfOk, IsOkUnless};
 ghost use Rattle.lv_lumps.specs.Names.{name_text};
 ghost use Rattle.lv_pwad.specs.Counted.{CountsLevels, CountsMore};
-ghost use Rattle.lv_pwad.specs.Levels.{IsLevel};
-ghost use Rattle.lv_pwad.specs.Views.{level_parts, view};
+ghost use Rattle.lv_levels.specs.Levels.{IsLevel};
+ghost use Rattle.lv_levels.specs.Views.{view};
+ghost use Rattle.lv_pwad.specs.Views.{level_parts};
 ghost use Rattle.lv_pwad.specs.Wad.{AreParts, all_lumps, wad_bytes};
 
 use crate::error::BuildError;
-use crate::level::Level;
 use crate::levels::{NamedLevel, wad_of_levels};
+use lv_levels::Level;
 use std::alloc::Global;
 
 /// How many records of each list a build made for the tree, and how many bytes its PWAD has.

@@ -2,7 +2,7 @@
 ghost use Rattle.std.specs.Prelude.{◌≡◌, ◌≤◌, ◌<◌, ◌+◌, ◌||◌, ◌&&◌, ◌==◌, IfOk, IsOkUnless, length, min};
 ghost use Rattle.lv_pwad.specs.Endings.{AreEndings, is_line};
 
-use crate::error::ReadError;
+use lv_levels::ReadError;
 use std::alloc::Global;
 
 // The greatest offset of a block's list.

@@ -1,77 +1,12 @@
-//! Why bytes hold no level, and why a map is not built.
-ghost use Rattle.std.specs.Prelude.{◌≡◌};
-ghost use Rattle.lv_pwad.specs.Errors.{build_code_of, code_of};
+//! Why a map is not built, and which map of a project.
+ghost use Rattle.std.specs.Prelude.{◌≡◌, None};
+ghost use Rattle.lv_pwad.specs.Errors.{build_code_of};
 ghost use Rattle.lv_pwad.specs.declared.error.BuildError.TheVariants as build;
-ghost use Rattle.lv_pwad.specs.declared.error.ReadError.TheVariants.{OutOfMemory};
 
-use lv_lumps::LumpError;
+use lv_lumps::{LumpError, Name8};
 use std::alloc::{AllocError, AllocFailed};
 use std::fmt;
 use thiserror::Error;
-
-/// Why bytes hold no level of a name.
-#[derive(Clone, Copy, Debug, PartialEq, Eq, Error)]
-pub enum ReadError {
-    LumpLength,
-    NotAWad,
-    DirectoryOutside,
-    NoSuchLevel,
-    LumpMissing,
-    LumpOutside,
-    HexenLevel,
-    OutOfMemory,
-}
-
-// One call writes each fixed text, so that the proof has one call to follow.
-impl fmt::Display for ReadError {
-    fn fmt<W: fmt::Write>(&self, f: &mut fmt::Formatter<W>) -> fmt::Result {
-        let text = match self {
-            ReadError::LumpLength => "a lump is no whole number of records",
-            ReadError::NotAWad => "the file is no WAD",
-            ReadError::DirectoryOutside => "the directory ends beyond the file",
-            ReadError::NoSuchLevel => "the WAD has no level of this name",
-            ReadError::LumpMissing => "a lump of the level is missing, or stands in another place",
-            ReadError::LumpOutside => "a lump of the level ends beyond the file",
-            ReadError::HexenLevel => "the level is one of Hexen",
-            ReadError::OutOfMemory => "out of memory",
-        };
-        f.write_str(text)
-    }
-}
-
-impl ReadError {
-    /// The refusal's number: 50, 70 to 75, or 31.
-    pub fn code(&self) -> u16
-        ensures { result ≡ code_of self.now }
-    {
-        match self {
-            ReadError::LumpLength => 50,
-            ReadError::NotAWad => 70,
-            ReadError::DirectoryOutside => 71,
-            ReadError::NoSuchLevel => 72,
-            ReadError::LumpMissing => 73,
-            ReadError::LumpOutside => 74,
-            ReadError::HexenLevel => 75,
-            ReadError::OutOfMemory => 31,
-        }
-    }
-}
-
-impl From<AllocError> for ReadError {
-    ghost from_gives = { λ _ e. e ≡ OutOfMemory };
-
-    fn from(_e: AllocError) -> ReadError {
-        ReadError::OutOfMemory
-    }
-}
-
-impl<T: Drop> From<AllocFailed<T>> for ReadError {
-    ghost from_gives = { λ _ e. e ≡ OutOfMemory };
-
-    fn from(_e: AllocFailed<T>) -> ReadError {
-        ReadError::OutOfMemory
-    }
-}
 
 /// Why a map is not built.
 #[derive(Clone, Copy, Debug, PartialEq, Eq, Error)]
@@ -140,5 +75,25 @@ impl From<LumpError> for BuildError {
 
     fn from(_e: LumpError) -> BuildError {
         BuildError::OutOfMemory
+    }
+}
+
+/// Why the maps of a project are not built, and for which one.
+#[derive(Clone, Copy, Debug, PartialEq, Eq, Error)]
+#[error("{error}")]
+pub struct Unbuilt {
+    pub error: BuildError,
+    /// The name of the first map by number that can't be built; none for lack of memory.
+    pub map: Option<Name8>,
+}
+
+impl<T: Drop> From<AllocFailed<T>> for Unbuilt {
+    ghost from_gives = { λ _ u. (u.error ≡ build.OutOfMemory) × (u.map ≡ None) };
+
+    fn from(_e: AllocFailed<T>) -> Unbuilt {
+        Unbuilt {
+            error: BuildError::OutOfMemory,
+            map: None,
+        }
     }
 }

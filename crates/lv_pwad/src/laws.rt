@@ -3,10 +3,10 @@ ghost use Rattle.std.specs.Prelude.{◌≡◌, ℕ, List, None};
 ghost use Rattle.lv_lumps.specs.Names.{name_text};
 ghost use Rattle.lv_maptables.specs.Tables.{Tables};
 ghost use Rattle.lv_pwad.specs.Audit.{first_fault};
-ghost use Rattle.lv_pwad.specs.Levels.{IsLevel, Lumps};
+ghost use Rattle.lv_levels.specs.Levels.{IsLevel, Lumps};
 ghost use Rattle.lv_pwad.specs.Sound.{IsSoundBuild, IsSoundLevel};
-ghost use Rattle.lv_pwad.specs.Views.{RefusesLevel};
-ghost use Rattle.lv_pwad.specs.declared.error.ReadError.{ReadError};
+ghost use Rattle.lv_levels.specs.Views.{RefusesLevel};
+ghost use Rattle.lv_levels.specs.declared.error.ReadError.{ReadError};
 
 /// `read_level` of the bytes of a sound build gives a sound level of the map, or lacks memory; `audit` finds no fault
 /// in that level.

@@ -1,15 +1,15 @@
 //! Levels as lumps, and a PWAD of them.
 ghost use Rattle.std.specs.Prelude.{◌≡◌, ◌++◌, [], ◌∷◌, All, OnOk, IfOk, IsOkUnless};
 ghost use Rattle.lv_lumps.specs.Names.{name_text};
-ghost use Rattle.lv_pwad.specs.Levels.{IsLevel};
+ghost use Rattle.lv_levels.specs.Levels.{IsLevel};
 ghost use Rattle.lv_pwad.specs.Wad.{AreParts, IsCoded, IsDrawnCoded, IsTreeCoded, IsLastCoded};
 ghost use Rattle.lv_pwad.specs.Wad.{all_lumps, drawn_lumps, tree_lumps, last_lumps, lumps_of, level_part, wad_bytes};
-ghost use Rattle.lv_pwad.specs.Views.{level_parts, view, views};
+ghost use Rattle.lv_levels.specs.Views.{view};
+ghost use Rattle.lv_pwad.specs.Views.{level_parts, views};
 
-use crate::directory::LUMP_NAMES;
 use crate::error::BuildError;
-use crate::level::Level;
 use crate::wad::{NamedLump, wad_of};
+use lv_levels::{LUMP_NAMES, Level};
 use lv_lumps::{
     Name8, encode_lines, encode_nodes, encode_sectors, encode_segs, encode_sides, encode_subs,
     encode_things, encode_vertices,

@@ -2,16 +2,32 @@
 ghost use Rattle.std.specs.Prelude.{◌≡◌, ◌↔◌, All, Err, Some, IfOk, IfErr, OnOk, length, slice_get};
 ghost use Rattle.lv_maptables.specs.Projects.{WellFormedProject, project_of};
 ghost use Rattle.lv_maptables.specs.Tables.{Tables};
-ghost use Rattle.lv_pwad.specs.Counted.{IsCounted};
-ghost use Rattle.lv_pwad.specs.Projects.{AreLevelsOf, HoldsOnly, IsLevelOf, IsRefusalOfAll, IsSoundBuildOfAll};
-ghost use Rattle.lv_pwad.specs.Sound.{IsBuildable, IsBuildRefusal};
+ghost use Rattle.lv_pwad.specs.Counted.{IsBuildCounted};
+ghost use Rattle.lv_pwad.specs.Errors.{blamed};
+ghost use Rattle.lv_pwad.specs.Projects.{AreLevelsOf, Blames, HoldsOnly, IsLevelOf, IsRefusalOfAll, IsSoundBuildOfAll};
+ghost use Rattle.lv_pwad.specs.Sound.{CanBeBuilt, IsBuildRefusal};
+ghost use Rattle.lv_pwad.specs.declared.error.BuildError.TheVariants.{NothingToBuild};
 
 use crate::build::level_of_map;
 use crate::counted::{BuiltWad, counted_wad};
-use crate::error::BuildError;
+use crate::error::{BuildError, Unbuilt};
 use crate::levels::NamedLevel;
+use lv_lumps::Name8;
 use lv_maptables::{Map, Maps};
 use std::alloc::Global;
+
+// The refusal of the map of the name; lack of memory is no map's.
+fn blamed(error: BuildError, name: Name8) -> Unbuilt
+    ensures { result ≡ blamed error name }
+{
+    match error {
+        BuildError::OutOfMemory => Unbuilt { error, map: None },
+        _ => Unbuilt {
+            error,
+            map: Some(name),
+        },
+    }
+}
 
 // The level of a map, with its name.
 fn named_level(alloc: Global, map: &Map) -> Result<NamedLevel, BuildError>
@@ -27,19 +43,19 @@ fn named_level(alloc: Global, map: &Map) -> Result<NamedLevel, BuildError>
 }
 
 // The levels of the maps, by number.
-fn levels_of(alloc: Global, maps: &Maps) -> Result<Vec<NamedLevel>, BuildError>
+fn levels_of(alloc: Global, maps: &Maps) -> Result<Vec<NamedLevel>, Unbuilt>
     ensures levels { IfOk result (λ v. AreLevelsOf (project_of maps.now).maps v.items) }
     ensures well_formed { OnOk result (WellFormedProject (project_of maps.now)) }
-    ensures refused { IfErr result (IsRefusalOfAll (project_of maps.now).maps) }
+    ensures refused { IfErr result (λ u. Blames (project_of maps.now).maps u.error u.map) }
     ensures nothing { (m : Tables) → slice_get (project_of maps.now).maps 0 ≡ Some m
-        → length m.lines ≡ 0 → result ≡ Err BuildError.NothingToBuild }
+        → length m.lines ≡ 0 → result ≡ Err (blamed NothingToBuild m.name) }
 {
     let mut levels = Vec::new(alloc);
     for n in 0..maps.len() {
         if let Some(map) = maps.at(n) {
             let level = match named_level(alloc, map) {
                 Ok(level) => level,
-                Err(error) => return Err(error),
+                Err(error) => return Err(blamed(error, map.name())),
             };
             levels.push(level)?;
         }
@@ -52,23 +68,26 @@ fn levels_of(alloc: Global, maps: &Maps) -> Result<Vec<NamedLevel>, BuildError>
 ///
 /// # Errors
 ///
-/// Those of `build_all`.
-pub fn build_counted(alloc: Global, maps: &Maps) -> Result<BuiltWad, BuildError>
+/// Those of `build_all`, with the name of the map that can't be built.
+pub fn build_counted(alloc: Global, maps: &Maps) -> Result<BuiltWad, Unbuilt>
     ensures counted { IfOk result (λ built.
-        IsCounted (project_of maps.now).maps built.bytes.items built.counts) }
+        IsBuildCounted (project_of maps.now).maps built.bytes.items built.counts) }
     ensures whole { IfOk result (λ built. HoldsOnly (project_of maps.now).maps built.bytes.items) }
-    ensures buildable { OnOk result (All IsBuildable (project_of maps.now).maps) }
-    ensures refused { IfErr result (IsRefusalOfAll (project_of maps.now).maps) }
+    ensures buildable { OnOk result (All CanBeBuilt (project_of maps.now).maps) }
+    ensures refused { IfErr result (λ u. Blames (project_of maps.now).maps u.error u.map) }
     ensures nothing { (m : Tables) → slice_get (project_of maps.now).maps 0 ≡ Some m
-        → length m.lines ≡ 0 → result ≡ Err BuildError.NothingToBuild }
+        → length m.lines ≡ 0 → result ≡ Err (blamed NothingToBuild m.name) }
 {
     let levels = match levels_of(alloc, maps) {
         Ok(levels) => levels,
-        Err(error) => return Err(error),
+        Err(unbuilt) => return Err(unbuilt),
     };
     match counted_wad(alloc, &levels) {
         Ok(built) => Ok(built),
-        Err(_) => Err(BuildError::OutOfMemory),
+        Err(_) => Err(Unbuilt {
+            error: BuildError::OutOfMemory,
+            map: None,
+        }),
     }
 }
 
@@ -81,13 +100,13 @@ pub fn build_counted(alloc: Global, maps: &Maps) -> Result<BuiltWad, BuildError>
 pub fn build_all(alloc: Global, maps: &Maps) -> Result<Vec<u8>, BuildError>
     ensures sound { IfOk result (λ wad. IsSoundBuildOfAll (project_of maps.now).maps wad.items) }
     ensures whole { IfOk result (λ wad. HoldsOnly (project_of maps.now).maps wad.items) }
-    ensures buildable { OnOk result (All IsBuildable (project_of maps.now).maps) }
+    ensures buildable { OnOk result (All CanBeBuilt (project_of maps.now).maps) }
     ensures refused { IfErr result (IsRefusalOfAll (project_of maps.now).maps) }
     ensures nothing { (m : Tables) → slice_get (project_of maps.now).maps 0 ≡ Some m
         → length m.lines ≡ 0 → result ≡ Err BuildError.NothingToBuild }
 {
     match build_counted(alloc, maps) {
         Ok(built) => Ok(built.bytes),
-        Err(error) => Err(error),
+        Err(unbuilt) => Err(unbuilt.error),
     }
 }

@@ -1,13 +1,13 @@
 //! The audit of lines, sides and segs: each reference in range.
 ghost use Rattle.std.specs.Prelude.{◌≡◌, ◌∷◌, [], ◌&&◌, ◌==◌, not, nat_lt, nat_le};
 ghost use Rattle.std.specs.Option.{option_map};
-ghost use Rattle.lv_pwad.specs.Views.{view};
+ghost use Rattle.lv_levels.specs.Views.{view};
 ghost use Rattle.lv_lumps.specs.Sides.{no_side};
 ghost use Rattle.lv_pwad.specs.Audit.{drawn_faults, first_some, first_wrong, is_in_range, left_side, line_of_seg, seg_faults, line_sides, line_vertices, seg_side, seg_vertices};
 ghost use Rattle.lv_pwad.specs.declared.fault.Fault.TheVariants.{LineVertex, LineSide, SideSector, SegVertex, SegLine, SegSide};
 
 use crate::fault::Fault;
-use crate::level::Level;
+use lv_levels::Level;
 use lv_lumps::{Line, NO_SIDE, Seg};
 
 /// Whether the number is that of one of so many items, and at most 32,767.

@@ -1,10 +1,10 @@
 //! The audit of subsectors: they tile the segs.
 ghost use Rattle.std.specs.Prelude.{◌≡◌};
 ghost use Rattle.lv_pwad.specs.Audit.{first_some, sub_faults, sub_range};
-ghost use Rattle.lv_pwad.specs.Views.{view};
+ghost use Rattle.lv_levels.specs.Views.{view};
 
 use crate::fault::Fault;
-use crate::level::Level;
+use lv_levels::Level;
 use lv_lumps::Sub;
 
 // Whether the subsector has a seg, and its segs begin at this one.

@@ -2,7 +2,7 @@
 ghost use Rattle.std.specs.Prelude.{◌≡◌, replicate, IfOk, IsOkUnless};
 ghost use Rattle.lv_pwad.specs.Reject.{reject_size};
 
-use crate::error::ReadError;
+use lv_levels::ReadError;
 use std::alloc::Global;
 
 /// The bytes of REJECT of so many sectors: no sector is out of sight of another, so that the engine tests sight itself

@@ -3,9 +3,9 @@ ghost use Rattle.std.specs.Prelude.{◌≡◌, ◌++◌, ◌+◌, ◌<◌, ◌^�
 ghost use Rattle.lv_pwad.specs.Wad.{all_bytes, entries_from, entry_bytes, long, wad_bytes, wad_size};
 ghost use Rattle.lv_pwad.specs.Views.{views};
 
-use crate::directory::Entry;
 use crate::error::BuildError;
 use byteorder::{ByteOrder, LittleEndian};
+use lv_levels::Entry;
 use lv_lumps::Name8;
 use std::alloc::Global;
 

@@ -4,7 +4,7 @@ use Rattle.clap.specs.Words.{AddsArg, AddsSubcommand, App, Rule, rule_of, with_r
 use Rattle.clap.specs.declared.builder.arg.Arg.{Arg}
 use Rattle.clap.specs.declared.builder.command.Command.{Command}
 use Rattle.clap.specs.declared.builder.value_parser.ValueParser.{ValueParser}
-use Rattle.lv_requests.specs.Request.{IsArg, IsCommand}
+use Rattle.lv_requests.specs.App.{IsArg, IsCommand}
 
 pub arg_added : (old new : Command) (x : Arg) (a : App) (r : Rule) → AddsArg old x new → IsCommand old a → IsArg x r → IsCommand new (with_rule a r)
 arg_added old new x a r adds before arg = record {

@@ -18,7 +18,8 @@ use Rattle.clap.proofs.OnLiterals.{clap_on_literals}
 use Rattle.std.specs.Str.Parse.{ParsesUnsigned}
 use Rattle.clap.specs.declared.parser.matches.Found.{Found}
 use Rattle.clap.proofs.WalkLemmas.{one_text-rows}
-use Rattle.lv_requests.specs.Request.{HasNumber, IsSubcommand, LacksNumber, LacksValue, RefusesRead, RefusesValues, leveled_app}
+use Rattle.lv_requests.specs.App.{leveled_app}
+use Rattle.lv_requests.specs.Request.{HasNumber, IsSubcommand, LacksNumber, LacksValue, RefusesRead, RefusesValues}
 use Rattle.lv_requests.specs.declared.asked.RequestError.{RequestError}
 use Rattle.lv_requests.specs.declared.asked.RequestError.TheVariants.{Words, Codes, Number, Memory}
 
@@ -70,7 +71,7 @@ of_found test (s ∷ subs) words name rows e = go (test s) (of_found test subs w
     go false behind d = inr (behind d)
 
 of_all : (name : Text)
-    → IsAmong (codes "scratch" ∷ codes "create" ∷ codes "edit" ∷ codes "check" ∷ codes "lint" ∷ codes "dump" ∷ codes "inspect" ∷ codes "build" ∷ []) name
+    → IsAmong (codes "scratch" ∷ codes "create" ∷ codes "edit" ∷ codes "check" ∷ codes "lint" ∷ codes "dump" ∷ codes "picture" ∷ codes "inspect" ∷ codes "build" ∷ []) name
     → IsSubcommand name
 of_all name (inl is) = inl is
 of_all name (inr (inl is)) = inr (inl is)
@@ -79,8 +80,9 @@ of_all name (inr (inr (inr (inl is)))) = inr (inr (inr (inl is)))
 of_all name (inr (inr (inr (inr (inl is))))) = inr (inr (inr (inr (inl is))))
 of_all name (inr (inr (inr (inr (inr (inl is)))))) = inr (inr (inr (inr (inr (inl is)))))
 of_all name (inr (inr (inr (inr (inr (inr (inl is))))))) = inr (inr (inr (inr (inr (inr (inl is))))))
-of_all name (inr (inr (inr (inr (inr (inr (inr (inl is)))))))) = inr (inr (inr (inr (inr (inr (inr is))))))
-of_all name (inr (inr (inr (inr (inr (inr (inr (inr never)))))))) = absurd never
+of_all name (inr (inr (inr (inr (inr (inr (inr (inl is)))))))) = inr (inr (inr (inr (inr (inr (inr (inl is)))))))
+of_all name (inr (inr (inr (inr (inr (inr (inr (inr (inl is))))))))) = inr (inr (inr (inr (inr (inr (inr (inr is)))))))
+of_all name (inr (inr (inr (inr (inr (inr (inr (inr (inr never))))))))) = absurd never
 
 only_these : (stop : Option (Text × List Text)) (name : Text) (rows : List Row) → entered (built leveled_app) stop ≡ Some (name, rows) → IsSubcommand name
 only_these None name rows e = cc

@@ -28,6 +28,16 @@ pub enum Request {
     Dump {
         file: String,
     },
+    /// Draw a map of a project as a picture: the one of this name, or the current one; into a file, or onto the output.
+    /// With numbers, with the built tree and with what `lint` tells, or without.
+    Picture {
+        file: String,
+        map: Option<String>,
+        out: Option<String>,
+        numbers: bool,
+        nodes: bool,
+        lint: bool,
+    },
     /// Build the maps of a project into a PWAD.
     Build {
         file: String,

@@ -1,191 +1,14 @@
-//! The words of the program: the command line that clap reads, and what the words ask for.
+//! What the words of the program ask for, as clap reads them.
 ghost use Rattle.std.specs.Prelude.{◌≡◌, ◌≤◌, ◌∷◌, [], IfOk, IfErr, IfSome, IfNone, IsSomeAnd, Some, codes, map, option_map, string_bytes};
-ghost use Rattle.clap.specs.Words.{App, app_of, first_of, found_of, new_app, rows_of, subcommand_of, with_subcommand};
+ghost use Rattle.clap.specs.Words.{first_of, found_of, rows_of, subcommand_of};
 ghost use Rattle.lv_requests.specs.Help.{IsRefusal, help_option, without_help};
-ghost use Rattle.lv_requests.specs.Request.{AsksFor, HasNumber, IsArg, IsCommand, IsSubcommand, LacksNumber, RefusesRead, RefusesText, RefusesValues, build_app, create_app, inspect_app, journal_rule, last_rule, leveled_app, option_rule, slot_rule, with_subcommands, with_word, word_rule};
+ghost use Rattle.lv_requests.specs.App.{leveled_app};
+ghost use Rattle.lv_requests.specs.Request.{AsksFor, HasNumber, IsSubcommand, LacksNumber, RefusesRead, RefusesText, RefusesValues, is_given};
 
+use crate::app::leveled;
 use crate::asked::{Request, RequestError};
-use crate::help;
-use clap::{Arg, ArgMatches, Command, value_parser};
-use std::alloc::{AllocError, Global};
-
-// A word that has to be there, and what help calls it.
-fn word<'a>(alloc: Global, id: &'a str, name: &'a str) -> Arg<'a>
-    ensures { IsArg result (word_rule id.now) }
-{
-    Arg::new(alloc, id).required(true).value_name(name)
-}
-
-// A subcommand without arguments.
-fn named<'a>(alloc: Global, name: &'a str, about: &'a str, help: &'a str) -> Command<'a>
-    ensures { IsCommand result (new_app name.now) }
-{
-    Command::new(alloc, name).about(about).after_help(help)
-}
-
-// A subcommand over a file.
-fn over_file<'a>(
-    alloc: Global,
-    name: &'a str,
-    about: &'a str,
-    help: &'a str,
-) -> Result<Command<'a>, AllocError>
-    ensures { IfOk result (λ c. IsCommand c (with_word name.now (codes "file"))) }
-{
-    named(alloc, name, about, help).arg(word(alloc, "file", "FILE"))
-}
-
-// A word that may be left out, and what help calls it.
-fn last_word<'a>(alloc: Global, id: &'a str, name: &'a str) -> Arg<'a>
-    ensures { IsArg result (last_rule id.now) }
-{
-    Arg::new(alloc, id).value_name(name)
-}
-
-// `--ID N`, with the N that is taken where there is none.
-fn option<'a>(alloc: Global, id: &'a str, default: &'a str) -> Arg<'a>
-    ensures { IsArg result (option_rule id.now default.now) }
-{
-    Arg::new(alloc, id)
-        .long(id)
-        .default_value(default)
-        .value_name("N")
-}
-
-// `--slot N`.
-fn slot<'a>(alloc: Global) -> Arg<'a>
-    ensures { IsArg result slot_rule }
-{
-    option(alloc, "slot", "262144").value_parser(value_parser!(u32).range(33..=2007015))
-}
-
-// `--journal N`.
-fn journal<'a>(alloc: Global) -> Arg<'a>
-    ensures { IsArg result journal_rule }
-{
-    option(alloc, "journal", "65536").value_parser(value_parser!(u32).range(512..=1048576))
-}
-
-// `create`.
-fn create<'a>(alloc: Global) -> Result<Command<'a>, AllocError>
-    ensures { IfOk result (λ c. IsCommand c create_app) }
-{
-    over_file(alloc, "create", "Makes a project file", help::CREATE)?
-        .arg(slot(alloc))?
-        .arg(journal(alloc))
-}
-
-// `lint`.
-fn lint<'a>(alloc: Global) -> Result<Command<'a>, AllocError>
-    ensures { IfOk result (λ c. IsCommand c (with_word (codes "lint") (codes "file"))) }
-{
-    let about = "Says what is wrong or doubtful in each map of a project";
-    over_file(alloc, "lint", about, help::LINT)
-}
-
-// `dump`.
-fn dump<'a>(alloc: Global) -> Result<Command<'a>, AllocError>
-    ensures { IfOk result (λ c. IsCommand c (with_word (codes "dump") (codes "file"))) }
-{
-    let about = "Prints lines that draw a project's maps again";
-    over_file(alloc, "dump", about, help::DUMP)
-}
-
-// `build`.
-fn build<'a>(alloc: Global) -> Result<Command<'a>, AllocError>
-    ensures { IfOk result (λ c. IsCommand c build_app) }
-{
-    let about = "Builds a project's maps into a PWAD";
-    over_file(alloc, "build", about, help::BUILD)?.arg(word(alloc, "out", "OUT"))
-}
-
-// `inspect`.
-fn inspect<'a>(alloc: Global) -> Result<Command<'a>, AllocError>
-    ensures { IfOk result (λ c. IsCommand c inspect_app) }
-{
-    let about = "Says whether a level of a WAD is sound";
-    named(alloc, "inspect", about, help::INSPECT)
-        .arg(word(alloc, "wad", "WAD"))?
-        .arg(last_word(alloc, "name", "NAME"))
-}
-
-// The program with one subcommand more, where memory was found for both.
-fn with<'a>(
-    program: Result<Command<'a>, AllocError>,
-    subcommand: Result<Command<'a>, AllocError>,
-) -> Result<Command<'a>, AllocError>
-    ensures { (a s : App) → IfOk program.entry (λ c. IsCommand c a)
-        → IfOk subcommand.entry (λ c. IsCommand c s)
-        → IfOk result (λ c. IsCommand c (with_subcommand a s.top)) }
-{
-    match program {
-        Ok(program) => match subcommand {
-            Ok(subcommand) => program.subcommand(subcommand),
-            Err(error) => {
-                // By a call: what a command is let go by is long where it is written out.
-                drop(program);
-                Err(error)
-            }
-        },
-        Err(error) => {
-            drop(subcommand);
-            Err(error)
-        }
-    }
-}
-
-// The program with its subcommands.
-fn with_subcommands<'a>(alloc: Global) -> Result<Command<'a>, AllocError>
-    ensures { IfOk result (λ c. IsCommand c with_subcommands) }
-{
-    let program = named(
-        alloc,
-        "leveled",
-        "Draws Doom maps by command lines",
-        help::PROGRAM,
-    );
-    let scratch = named(
-        alloc,
-        "scratch",
-        "Answers lines over maps in memory",
-        help::SCRATCH,
-    );
-    let edit = over_file(
-        alloc,
-        "edit",
-        "Answers lines over a project file",
-        help::EDIT,
-    );
-    let check = over_file(
-        alloc,
-        "check",
-        "Says what is wrong in a project's current map",
-        help::CHECK,
-    );
-    let program = program.subcommand(scratch);
-    let program = with(program, create(alloc));
-    let program = with(program, edit);
-    let program = with(program, check);
-    let program = with(program, lint(alloc));
-    let program = with(program, dump(alloc));
-    let program = with(program, inspect(alloc));
-    with(program, build(alloc))
-}
-
-// The program's command line.
-fn leveled<'a>(alloc: Global) -> Result<Command<'a>, AllocError>
-    ensures { IfOk result (λ c. app_of c ≡ leveled_app) }
-{
-    match with_subcommands(alloc) {
-        Ok(program) => Ok(
-            program
-                .version("0.1.0")
-                .subcommand_required(true)
-                .disable_help_subcommand(true),
-        ),
-        Err(error) => Err(error),
-    }
-}
+use clap::ArgMatches;
+use std::alloc::Global;
 
 // A text of the request's own.
 fn owned(alloc: Global, text: &str) -> Result<String, RequestError>
@@ -284,6 +107,42 @@ fn last_text(
     }
 }
 
+// Whether a flag is given.
+fn is_given(found: &ArgMatches<'_>, id: &str) -> bool
+    ensures { result ≡ is_given id.now (rows_of (found_of found.now)) }
+{
+    match found.get_str(id) {
+        Some(text) => text == "true",
+        None => false,
+    }
+}
+
+// The request to draw a map.
+fn asked_picture(alloc: Global, found: &ArgMatches<'_>) -> Result<Request, RequestError>
+    ensures asked { IfOk result (λ r. AsksFor r (codes "picture", rows_of (found_of found.now))) }
+    ensures refused { IfErr result (RefusesValues (codes "picture", rows_of (found_of found.now))) }
+{
+    let file = match text(alloc, found, "file") {
+        Ok(file) => file,
+        Err(error) => return Err(error),
+    };
+    let map = match last_text(alloc, found, "map") {
+        Ok(map) => map,
+        Err(error) => return Err(error),
+    };
+    match last_text(alloc, found, "out") {
+        Ok(out) => Ok(Request::Picture {
+            file,
+            map,
+            out,
+            numbers: is_given(found, "numbers"),
+            nodes: is_given(found, "nodes"),
+            lint: is_given(found, "lint"),
+        }),
+        Err(error) => Err(error),
+    }
+}
+
 // The request to inspect a level, or without its name to list the levels.
 fn asked_inspect(alloc: Global, found: &ArgMatches<'_>) -> Result<Request, RequestError>
     ensures asked { IfOk result (λ r. AsksFor r (codes "inspect", rows_of (found_of found.now))) }
@@ -325,6 +184,7 @@ fn asked(alloc: Global, name: &str, found: &ArgMatches<'_>) -> Result<Request, R
             Ok(file) => Ok(Request::Dump { file }),
             Err(error) => Err(error),
         },
+        "picture" => asked_picture(alloc, found),
         "inspect" => asked_inspect(alloc, found),
         "build" => asked_build(alloc, found),
         _ => unreachable!(),

@@ -67,11 +67,22 @@ Prints command lines that draw all maps of FILE again, with the same numbers, fr
 project: `leveled dump a.lv | leveled edit b.lv` takes the maps into another file. FILE
 isn't changed.";
 
+/// `picture`.
+pub const PICTURE: &str = "\
+Draws a map of FILE as SVG, which a browser shows: the map MAP, or the current one. Each
+line has a tick on its right side, and tells its fields under the pointer, as things do.
+The picture goes to standard output, or into OUT, where nothing, an empty file or a
+picture of this kind may stand. --numbers: with the numbers of vertices, lines and
+sectors. --nodes: with the partitions and the subsectors that `build` makes of the map.
+--lint: with a red mark at each place that `lint` tells of, which says what under the
+pointer. `leveled: 18 NoSuchMap` says that FILE has no MAP. FILE isn't changed.";
+
 /// `build`.
 pub const BUILD: &str = "\
 Builds all maps of FILE, writes the PWAD to OUT and prints how long its lists are. Where a
-map can't be built, OUT keeps what it held: `leveled: 60 NothingToBuild` is a map without
-lines. An OUT that is a project is refused. FILE isn't changed.";
+map can't be built, OUT keeps what it held, and a second line names the map: with
+`leveled: 60 NothingToBuild` it has no line. An OUT that is a project is refused. FILE
+isn't changed.";
 
 /// `inspect`.
 pub const INSPECT: &str = "\

@@ -1,6 +1,7 @@
 //! The words of the program: the command line that clap reads, and what the words ask for.
 #![tactic(auto)]
 
+mod app;
 mod asked;
 mod command_line;
 mod help;

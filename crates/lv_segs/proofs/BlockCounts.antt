@@ -55,8 +55,10 @@ module _ (lines : List Edge) (p : Piece) where
       record { right = omega arith; left = omega arith; splits = omega arith }
 
   -- the whole block on one side
-  pub block_right : (block : List Piece) (b : Bounds) → All (IsPiece lines) block → All (HoldsPiece lines b) block → pos 0 <ℤ least_value (ray_of lines p) b → Contributes lines p block (length block) 0
+  pub block_right : (block : List Piece) (b : Bounds) → All (IsPiece lines) block → All (HoldsPiece lines b) block
+      → pos 0 <ℤ least_value (ray_of lines p) b → Contributes lines p block (length block) 0
   block_right block b ok holds h = all_right block (λ k d l. box_right lines p _ b (ok k d l) (holds k d l) h)
 
-  pub block_left : (block : List Piece) (b : Bounds) → All (IsPiece lines) block → All (HoldsPiece lines b) block → greatest_value (ray_of lines p) b <ℤ pos 0 → Contributes lines p block 0 (length block)
+  pub block_left : (block : List Piece) (b : Bounds) → All (IsPiece lines) block → All (HoldsPiece lines b) block
+      → greatest_value (ray_of lines p) b <ℤ pos 0 → Contributes lines p block 0 (length block)
   block_left block b ok holds h = all_left block (λ k d l. box_left lines p _ b (ok k d l) (holds k d l) h)

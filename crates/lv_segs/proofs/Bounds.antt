@@ -59,4 +59,6 @@ value_within r v h d =
 
 -- a part of a fraction's denominator by such a value
 pub scaled_within : (a b : ℤ) → pos 0 ≤ℤ a → a ≤ℤ pos 1073676289 → neg_ℤ (pos 2147483648) ≤ℤ b → b ≤ℤ pos 2147483648 → IsWithin (pos 2305702273872822272) (a *ℤ b)
-scaled_within a b la ha lb hb = product_within a b (pos 1073676289) (pos 2147483648) (omega (arith, ints)) (omega (arith, ints)) (record { low = omega (arith, ints); high = ha }) (record { low = lb; high = hb })
+scaled_within a b la ha lb hb =
+    product_within a b (pos 1073676289) (pos 2147483648) (omega (arith, ints)) (omega (arith, ints))
+    (record { low = omega (arith, ints); high = ha }) (record { low = lb; high = hb })

@@ -69,7 +69,8 @@ spread_out : (d a b c : ℤ) → d *ℤ (a -ℤ b -ℤ c) ≡ d *ℤ a -ℤ d *�
 spread_out d a b c = by_ring (d ∷ a ∷ b ∷ c ∷ []) _ _ (search quotes depth 20) (search quotes depth 20) tt
 
 -- the exact value at a point whose rounded place lies well in a box
-pub value_in_box : (r : Ray) (e : Edge) (t : Frac) (b : Bounds) → IsFraction t → IsWellIn b (point_at e t) → ((t.d *ℤ least_value r b) ≤ℤ exact_value r e t) × (exact_value r e t ≤ℤ (t.d *ℤ greatest_value r b))
+pub value_in_box : (r : Ray) (e : Edge) (t : Frac) (b : Bounds) → IsFraction t → IsWellIn b (point_at e t)
+    → ((t.d *ℤ least_value r b) ≤ℤ exact_value r e t) × (exact_value r e t ≤ℤ (t.d *ℤ greatest_value r b))
 value_in_box r e t b f w =
     let xl = exact_above e.v1.x e.v2.x b.left t f w.left in
     let xh = exact_below e.v1.x e.v2.x b.right t f w.right in
@@ -95,7 +96,9 @@ left_by_signs : (u w z : ℤ) → u <ℤ pos 0 → w <ℤ pos 0 → place_by u w
 left_by_signs u w z h k = grind (arith, ints)
 
 -- a box on the right: the piece goes right whole
-pub box_right : (lines : List Edge) (partition p : Piece) (b : Bounds) → IsPiece lines p → HoldsPiece lines b p → pos 0 <ℤ least_value (ray_of lines partition) b → parts_of lines partition p ≡ record { right = Some p; left = None }
+pub box_right : (lines : List Edge) (partition p : Piece) (b : Bounds) → IsPiece lines p → HoldsPiece lines b p
+    → pos 0 <ℤ least_value (ray_of lines partition) b → parts_of lines partition p
+    ≡ record { right = Some p; left = None }
 box_right lines partition p b ok holds h =
     let r = ray_of lines partition in
     let e = edge_of lines p in
@@ -109,7 +112,9 @@ box_right lines partition p b ok holds h =
     ap (parts_by lines partition p) s
 
 -- a box on the left: the piece goes left whole
-pub box_left : (lines : List Edge) (partition p : Piece) (b : Bounds) → IsPiece lines p → HoldsPiece lines b p → greatest_value (ray_of lines partition) b <ℤ pos 0 → parts_of lines partition p ≡ record { right = None; left = Some p }
+pub box_left : (lines : List Edge) (partition p : Piece) (b : Bounds) → IsPiece lines p → HoldsPiece lines b p
+    → greatest_value (ray_of lines partition) b <ℤ pos 0 → parts_of lines partition p
+    ≡ record { right = None; left = Some p }
 box_left lines partition p b ok holds h =
     let r = ray_of lines partition in
     let e = edge_of lines p in

@@ -70,7 +70,9 @@ pub record IsDrawn (code z : ℤ) : Type 0 where
   pub low : neg_ℤ (pos 16384) ≤ℤ to_z w16 (of_z w16 code)
   pub high : to_z w16 (of_z w16 code) ≤ℤ pos 16383
 
-pub drawn_by : (code from to : ℤ) (t : Frac) → IsFraction t → neg_ℤ (pos 16384) ≤ℤ from → from ≤ℤ pos 16383 → neg_ℤ (pos 16384) ≤ℤ to → to ≤ℤ pos 16383 → code ≡ rounded (to_z w16 (of_z w16 from)) (to_z w16 (of_z w16 to)) t → IsDrawn code (rounded from to t)
+pub drawn_by : (code from to : ℤ) (t : Frac) → IsFraction t → neg_ℤ (pos 16384) ≤ℤ from → from ≤ℤ pos 16383
+    → neg_ℤ (pos 16384) ≤ℤ to → to ≤ℤ pos 16383 → code ≡ rounded (to_z w16 (of_z w16 from)) (to_z w16 (of_z w16 to)) t
+    → IsDrawn code (rounded from to t)
 drawn_by code from to t f fl fh tl th e =
     let r = rounded_in (neg_ℤ (pos 16384)) (pos 16383) from to t f.positive f.at_least_zero f.at_most_one fl tl fh th in
     let s = e ∙ ap (λ (x : ℤ). rounded x (to_z w16 (of_z w16 to)) t) (drawn_back from fl fh) ∙ ap (λ (x : ℤ). rounded from x t) (drawn_back to tl th) in

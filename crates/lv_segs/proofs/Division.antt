@@ -15,7 +15,7 @@ use Rattle.lv_lumps.specs.declared.plane.Ray.{Ray}
 use Rattle.lv_segs.specs.Plane.{vertex_value, dot, IsEdge}
 use Rattle.lv_segs.specs.Fractions.{between, crossing, IsFraction, AtMost, point_at, steps_between, step_within}
 use Rattle.lv_segs.specs.Pieces.{edge_of, ray_of, first_end, last_end, same_place, IsPiece, covers, cover, same_side}
-use Rattle.lv_segs.specs.Division.{value_by, LiesAlong, place_of, kept, cut_at, parts_by, parts_of, IsPartOf, IsDivided}
+use Rattle.lv_segs.specs.Division.{value_by, LiesAlong, place_of_piece, kept, cut_at, parts_by, parts_of, IsPartOf, IsDivided}
 use Rattle.lv_lumps.proofs.Signs.{linear}
 use Rattle.lv_segs.proofs.Rounding.{steps_rise}
 use Rattle.lv_segs.proofs.Crossing.{zero_everywhere, zero_there, zero_falling, zero_rising, IsCrossing, crossing_down, crossing_up, crossing_in}
@@ -65,7 +65,10 @@ kept_cover lines line side k p = by_test (same_place (first_end lines p) (last_e
     by_test false e = refl
 
 -- a piece cut at a fraction between its ends
-cut_cover : (lines : List Edge) (line : ℕ) (side : Facing) (k : ℕ) (p : Piece) (c : Frac) → IsFraction p.from → pos 1 ≤ℤ p.to.d → IsFraction c → AtMost p.from c → AtMost c p.to → cover lines line side k (record p { to = c } ∷ []) + cover lines line side k (record p { from = c } ∷ []) ≡ cover lines line side k (p ∷ [])
+cut_cover : (lines : List Edge) (line : ℕ) (side : Facing) (k : ℕ) (p : Piece) (c : Frac) → IsFraction p.from
+    → pos 1 ≤ℤ p.to.d → IsFraction c → AtMost p.from c → AtMost c p.to
+    → cover lines line side k (record p { to = c } ∷ []) + cover lines line side k (record p { from = c } ∷ [])
+    ≡ cover lines line side k (p ∷ [])
 cut_cover lines line side k p c from to frac h l =
     let e = edge_of lines p in
     let x = steps_rise e p.from c from.positive frac.positive from.at_least_zero h in
@@ -101,16 +104,35 @@ module _ (lines : List Edge) (partition p : Piece) (may : MayDivide lines partit
   on_it : (t : Frac) → LiesAlong lines partition p → value_by lines partition p t ≡ pos 0
   on_it t on = ap (λ (x : ℤ). between x (vertex_value (ray_of lines partition) (edge_of lines p).v2) t) on.0 ∙ ap (λ (x : ℤ). between (pos 0) x t) on.1 ∙ zero_everywhere t
 
-  cut : (c : Frac) → IsFraction c → IsCrossing p.from c p.to → (same_place (first_end lines (record p { to = c })) (last_end lines (record p { to = c })) ≡ false → IsPartOf lines p (record p { to = c })) × (same_place (first_end lines (record p { from = c })) (last_end lines (record p { from = c })) ≡ false → IsPartOf lines p (record p { from = c }))
+  cut : (c : Frac) → IsFraction c → IsCrossing p.from c p.to
+      → (same_place (first_end lines (record p { to = c })) (last_end lines (record p { to = c })) ≡ false
+      → IsPartOf lines p (record p { to = c })) × (same_place (first_end lines (record p { from = c }))
+      (last_end lines (record p { from = c })) ≡ false → IsPartOf lines p (record p { from = c }))
   cut c frac k =
       let a = k.after in
       let b = k.before in
       let q = may.piece in (
-        λ h. record { piece = record { line_in = q.line_in; from_in = q.from_in; to_in = frac; rising = a; ends_differ = h }; line = refl; side = refl; from = at_most_self p.from; to = omega (arith, linear) },
-        λ h. record { piece = record { line_in = q.line_in; from_in = frac; to_in = q.to_in; rising = b; ends_differ = h }; line = refl; side = refl; from = omega (arith, linear); to = at_most_self p.to },
+        λ h. record {
+          piece =
+              record { line_in = q.line_in; from_in = q.from_in; to_in = frac; rising = a; ends_differ = h };
+          line = refl;
+          side = refl;
+          from = at_most_self p.from;
+          to = omega (arith, linear);
+        },
+        λ h. record {
+          piece =
+              record { line_in = q.line_in; from_in = frac; to_in = q.to_in; rising = b; ends_differ = h };
+          line = refl;
+          side = refl;
+          from = omega (arith, linear);
+          to = at_most_self p.to;
+        },
       )
 
-  two_parts : (c : Frac) → IsFraction c → IsCrossing p.from c p.to → (line : ℕ) (side : Facing) (k : ℕ) → cover lines line side k (option_to_list (kept lines (record p { to = c })) ++ option_to_list (kept lines (record p { from = c }))) ≡ cover lines line side k (p ∷ [])
+  two_parts : (c : Frac) → IsFraction c → IsCrossing p.from c p.to → (line : ℕ) (side : Facing) (k : ℕ)
+      → cover lines line side k (option_to_list (kept lines (record p { to = c }))
+      ++ option_to_list (kept lines (record p { from = c }))) ≡ cover lines line side k (p ∷ [])
   two_parts c frac x line side k =
       let a = x.after in
       let b = x.before in
@@ -120,7 +142,9 @@ module _ (lines : List Edge) (partition p : Piece) (may : MayDivide lines partit
       let j = sum_by-append (λ (q : Piece). cond (covers lines line side k q) 1 0) (option_to_list (kept lines (record p { to = c }))) (option_to_list (kept lines (record p { from = c }))) in
       omega arith
 
-  two_parts_turned : (c : Frac) → IsFraction c → IsCrossing p.from c p.to → (line : ℕ) (side : Facing) (k : ℕ) → cover lines line side k (option_to_list (kept lines (record p { from = c })) ++ option_to_list (kept lines (record p { to = c }))) ≡ cover lines line side k (p ∷ [])
+  two_parts_turned : (c : Frac) → IsFraction c → IsCrossing p.from c p.to → (line : ℕ) (side : Facing) (k : ℕ)
+      → cover lines line side k (option_to_list (kept lines (record p { from = c }))
+      ++ option_to_list (kept lines (record p { to = c }))) ≡ cover lines line side k (p ∷ [])
   two_parts_turned c frac x line side k =
       let a = x.after in
       let b = x.before in
@@ -147,8 +171,24 @@ module _ (lines : List Edge) (partition p : Piece) (may : MayDivide lines partit
           let frac = crossing_in p.from c p.to may.piece.from_in may.piece.to_in k (crossing_small r (edge_of lines p) may.short may.line) in
           let z = zero_there a b in
           record {
-            right = kept_if lines (record p { to = c }) _ (λ h. ((cut c frac k).0 h, record { from = omega (arith, linear); to = omega (arith, linear); direction = λ on. let o = on_it p.from on in absurd (omega (arith, linear)) }));
-            left = kept_if lines (record p { from = c }) _ (λ h. ((cut c frac k).1 h, record { from = omega (arith, linear); to = omega (arith, linear); direction = λ on. let o = on_it p.from on in absurd (omega (arith, linear)) }));
+            right = kept_if lines (record p { to = c }) _
+                (λ h. (
+                  (cut c frac k).0 h,
+                  record {
+                    from = omega (arith, linear);
+                    to = omega (arith, linear);
+                    direction = λ on. let o = on_it p.from on in absurd (omega (arith, linear));
+                  },
+                ));
+            left = kept_if lines (record p { from = c }) _
+                (λ h. (
+                  (cut c frac k).1 h,
+                  record {
+                    from = omega (arith, linear);
+                    to = omega (arith, linear);
+                    direction = λ on. let o = on_it p.from on in absurd (omega (arith, linear));
+                  },
+                ));
             cover = two_parts c frac k;
           }
 
@@ -168,12 +208,30 @@ module _ (lines : List Edge) (partition p : Piece) (may : MayDivide lines partit
           let frac = crossing_in p.from c p.to may.piece.from_in may.piece.to_in k (crossing_small r (edge_of lines p) may.short may.line) in
           let z = zero_there a b in
           record {
-            right = kept_if lines (record p { from = c }) _ (λ h. ((cut c frac k).1 h, record { from = omega (arith, linear); to = omega (arith, linear); direction = λ on. let o = on_it p.from on in absurd (omega (arith, linear)) }));
-            left = kept_if lines (record p { to = c }) _ (λ h. ((cut c frac k).0 h, record { from = omega (arith, linear); to = omega (arith, linear); direction = λ on. let o = on_it p.from on in absurd (omega (arith, linear)) }));
+            right = kept_if lines (record p { from = c }) _
+                (λ h. (
+                  (cut c frac k).1 h,
+                  record {
+                    from = omega (arith, linear);
+                    to = omega (arith, linear);
+                    direction = λ on. let o = on_it p.from on in absurd (omega (arith, linear));
+                  },
+                ));
+            left = kept_if lines (record p { to = c }) _
+                (λ h. (
+                  (cut c frac k).0 h,
+                  record {
+                    from = omega (arith, linear);
+                    to = omega (arith, linear);
+                    direction = λ on. let o = on_it p.from on in absurd (omega (arith, linear));
+                  },
+                ));
             cover = two_parts_turned c frac k;
           }
 
-  by_place : (place : Place) → Means (value_by lines partition p p.from) (value_by lines partition p p.to) (dot (ray_of lines partition) (ray_of lines p)) place → IsDivided lines partition p (parts_by lines partition p place)
+  by_place : (place : Place) → Means (value_by lines partition p p.from) (value_by lines partition p p.to)
+      (dot (ray_of lines partition) (ray_of lines p)) place
+      → IsDivided lines partition p (parts_by lines partition p place)
   by_place Right m = record {
     right = (whole, record { from = m.from; to = m.to; direction = λ on. m.direction (on_it p.from on) (on_it p.to on) });
     left = tt;
@@ -181,11 +239,21 @@ module _ (lines : List Edge) (partition p : Piece) (may : MayDivide lines partit
   }
   by_place Left m = record {
     right = tt;
-    left = (whole, record { from = m.from; to = m.to; direction = λ on. let h = m.direction (on_it p.from on) (on_it p.to on) in by_lt_z (dot (ray_of lines partition) (ray_of lines p)) (pos 0) (λ l. l) (λ l. absurd (dot_not_zero (ray_of lines partition) (edge_of lines p) p.side may.long may.line on (omega (arith, linear)))) });
+    left = (
+      whole,
+      record {
+        from = m.from;
+        to = m.to;
+        direction = λ on. let h =
+            m.direction (on_it p.from on) (on_it p.to on) in by_lt_z (dot (ray_of lines partition) (ray_of lines p)) (pos 0)
+            (λ l. l) (λ l. absurd (dot_not_zero (ray_of lines partition) (edge_of lines p) p.side may.long may.line on
+            (omega (arith, linear))));
+      },
+    );
     cover = λ line side k. refl;
   }
   by_place Across m = ⊎_elim across_down across_up m
 
   -- the whole rule of division
   pub divided : IsDivided lines partition p (parts_of lines partition p)
-  divided = by_place (place_of lines partition p) (place_means (value_by lines partition p p.from) (value_by lines partition p p.to) (dot (ray_of lines partition) (ray_of lines p)))
+  divided = by_place (place_of_piece lines partition p) (place_means (value_by lines partition p p.from) (value_by lines partition p p.to) (dot (ray_of lines partition) (ray_of lines p)))

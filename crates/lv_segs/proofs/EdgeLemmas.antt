@@ -1,11 +1,12 @@
--- The lines of a well-formed map may be drawn.
-use Rattle.std.proofs.Common.{◌≡◌, ◌≢◌, refl, sym, ap, ◌∙◌, ℕ, zero, suc, ◌*◌, ◌<◌, ⊎_elim, List, [], ◌∷◌, length, arith, All}
+-- The lines of a well-formed map may be drawn, and those of a list that can be built.
+use Rattle.std.proofs.Common.{◌≡◌, ◌≢◌, refl, sym, ap, ◌∙◌, ℕ, zero, suc, ◌+◌, ◌*◌, ◌<◌, ⊎_elim, List, [], ◌∷◌, ◌++◌, length, map, take, Some, slice_get, subst, add-one, arith, All}
 use Rattle.std.specs.Prelude.{ℤ, pos, negsuc, ◌+ℤ◌, ◌-ℤ◌, ◌*ℤ◌, ◌<ℤ◌, unsigned_abs, AllPairs}
 use Rattle.std.proofs.lemmas.Int.{ints}
 use Rattle.std.proofs.lemmas.Bool.{cases_lt}
 use Rattle.std.proofs.lemmas.List.{length-map}
-use Rattle.std.proofs.lemmas.List.Elements.{All-map, All-get_or, All-nil, All-cons, All-head, All-tail}
+use Rattle.std.proofs.lemmas.List.Elements.{All-map, All-get_or, All-nil, All-cons, All-append, All-head, All-tail}
 use Rattle.lv_lumps.specs.declared.records.Line.{Line}
+use Rattle.lv_lumps.specs.declared.records.Side.{Side}
 use Rattle.lv_lumps.specs.declared.records.Vertex.{Vertex}
 use Rattle.lv_lumps.specs.Drawing.{IsDrawable, squared_distance}
 use Rattle.lv_maptables.specs.Tables.{Tables}
@@ -14,7 +15,8 @@ use Rattle.lv_segs.specs.declared.edge.Edge.{Edge}
 use Rattle.lv_segs.specs.declared.piece.Piece.{Piece}
 use Rattle.lv_segs.specs.Plane.{IsEdge}
 use Rattle.lv_segs.specs.Pieces.{IsPiece, edge_of, no_edge}
-use Rattle.lv_segs.specs.Edges.{edge_between, edges_of}
+use Rattle.lv_segs.specs.Edges.{edge_between, edges_in, edges_of, IsBuildable}
+use Rattle.lv_segs.proofs.ItemReads.{one_more, mapped}
 use Rattle.lv_segs.proofs.Lengths.{square_not_negative}
 use Rattle.lv_lumps.proofs.Signs.{linear}
 
@@ -98,3 +100,25 @@ edge_drawn lines p all h = All-get_or IsEdge lines p.line no_edge h.line_in all
 -- a map has as many edges as lines
 pub as_many : (m : Tables) → length (edges_of m) ≡ length m.lines
 as_many m = length-map m.lines (edge_between m.vertices)
+
+-- ---- the lines of a list
+-- lines that can be built may be drawn
+pub buildable_drawn : (vs : List Vertex) (sides : List Side) (ls : List Line) → All (IsBuildable vs sides) ls → All IsEdge (edges_in vs ls)
+buildable_drawn vs sides ls a = All-map IsEdge (edge_between vs) ls (λ k d l. (a k d l).edge)
+
+pub buildable_more : (vs : List Vertex) (sides : List Side) (ls : List Line) (n : ℕ) (l : Line)
+    → All (IsBuildable vs sides) (take n ls) → slice_get ls n ≡ Some l → IsBuildable vs sides l
+    → All (IsBuildable vs sides) (take (n + 1) ls)
+buildable_more vs sides ls n l a at h =
+    subst (All (IsBuildable vs sides)) (one_more ls n l at)
+    (All-append (IsBuildable vs sides) (take n ls) (l ∷ []) a (All-cons (IsBuildable vs sides) l [] h (All-nil (IsBuildable vs sides))))
+
+pub edges_more : (vs : List Vertex) (ls : List Line) (n : ℕ) (l : Line) (es new : List Edge) (e : Edge) → es
+    ≡ map (edge_between vs) (take n ls) → slice_get ls n ≡ Some l → e ≡ edge_between vs l → new ≡ es ++ e ∷ [] → new
+    ≡ map (edge_between vs) (take (n + 1) ls)
+edges_more vs ls n l es new e so_far at is pushed =
+    pushed
+    ∙ ap (λ (xs : List Edge). xs ++ e ∷ []) so_far
+    ∙ ap (λ (x : Edge). map (edge_between vs) (take n ls) ++ x ∷ []) is
+    ∙ mapped (edge_between vs) ls n l at
+    ∙ ap (λ (i : ℕ). map (edge_between vs) (take i ls)) (sym (add-one n))

@@ -44,10 +44,14 @@ stops a b =
     omega (arith, linear)
 
 pub starts_at : (e : Edge) → point_at e (fraction (pos 0) (pos 1)) ≡ e.v1
-starts_at e = ap (λ (x : ℤ). let v : Vertex = record { x = x; y = rounded e.v1.y e.v2.y (fraction (pos 0) (pos 1)) } in v) (starts e.v1.x e.v2.x) ∙ ap (λ (y : ℤ). let v : Vertex = record { x = e.v1.x; y = y } in v) (starts e.v1.y e.v2.y)
+starts_at e = ap (λ (x : ℤ). let v : Vertex =
+    record { x = x; y = rounded e.v1.y e.v2.y (fraction (pos 0) (pos 1)) } in v) (starts e.v1.x e.v2.x)
+    ∙ ap (λ (y : ℤ). let v : Vertex = record { x = e.v1.x; y = y } in v) (starts e.v1.y e.v2.y)
 
 pub stops_at : (e : Edge) → point_at e (fraction (pos 1) (pos 1)) ≡ e.v2
-stops_at e = ap (λ (x : ℤ). let v : Vertex = record { x = x; y = rounded e.v1.y e.v2.y (fraction (pos 1) (pos 1)) } in v) (stops e.v1.x e.v2.x) ∙ ap (λ (y : ℤ). let v : Vertex = record { x = e.v2.x; y = y } in v) (stops e.v1.y e.v2.y)
+stops_at e = ap (λ (x : ℤ). let v : Vertex =
+    record { x = x; y = rounded e.v1.y e.v2.y (fraction (pos 1) (pos 1)) } in v) (stops e.v1.x e.v2.x)
+    ∙ ap (λ (y : ℤ). let v : Vertex = record { x = e.v2.x; y = y } in v) (stops e.v1.y e.v2.y)
 
 no_steps : (v : Vertex) → steps_between v v ≡ 0
 no_steps v = ap (λ (z : ℤ). unsigned_abs z + unsigned_abs (v.y -ℤ v.y)) (none v.x) ∙ ap (λ (z : ℤ). unsigned_abs (pos 0) + unsigned_abs z) (none v.y)
@@ -84,7 +88,9 @@ module _ (lines : List Edge) (line k : ℕ) (side : Facing) where
       by_bool false = refl
 
   two_pieces : (p q : Piece) (b c : Bool) → covers lines line side k p ≡ b → covers lines line side k q ≡ c → cover lines line side k (p ∷ q ∷ []) ≡ cond b 1 0 + cond c 1 0
-  two_pieces p q b c e f = sum_by-cons (λ (q : Piece). cond (covers lines line side k q) 1 0) p (q ∷ []) ∙ ap (λ (c : Bool). cond c 1 0 + cover lines line side k (q ∷ [])) e ∙ ap (λ (n : ℕ). cond b 1 0 + n) (one_piece q c f)
+  two_pieces p q b c e f = sum_by-cons (λ (q : Piece). cond (covers lines line side k q) 1 0) p (q ∷ [])
+      ∙ ap (λ (c : Bool). cond c 1 0 + cover lines line side k (q ∷ [])) e
+      ∙ ap (λ (n : ℕ). cond b 1 0 + n) (one_piece q c f)
 
   other : (n : ℕ) (f : Facing) → (n ≡ line → ⊥) → covers lines line side k (whole n f) ≡ false
   other n f ne = ap (λ (b : Bool). b && same_side f side && step_within (edge_at lines n) (first_end lines (whole n f)) (last_end lines (whole n f)) k) (ne_eqb n line ne)
@@ -98,9 +104,14 @@ module _ (lines : List Edge) (line k : ℕ) (side : Facing) where
 
   after : (es : List Edge) (n : ℕ) → line < n → cover lines line side k (pieces_from n es) ≡ 0
   after [] n l = refl
-  after (e ∷ es) n l = joined (sides_of n e) (pieces_from (n + 1) es) ∙ ap (λ (c : ℕ). c + cover lines line side k (pieces_from (n + 1) es)) (other_sides n e.has_left (λ s. omega arith)) ∙ zero_and (cover lines line side k (pieces_from (n + 1) es)) ∙ after es (n + 1) (omega arith)
+  after (e ∷ es) n l = joined (sides_of n e) (pieces_from (n + 1) es)
+      ∙ ap (λ (c : ℕ). c + cover lines line side k (pieces_from (n + 1) es))
+      (other_sides n e.has_left (λ s. omega arith)) ∙ zero_and (cover lines line side k (pieces_from (n + 1) es))
+      ∙ after es (n + 1) (omega arith)
 
-  pub found : (es : List Edge) (n : ℕ) → n ≤ line → line < n + length es → StandsAt es lines n → cover lines line side k (sides_of line (edge_at lines line)) ≡ 1 → cover lines line side k (pieces_from n es) ≡ 1
+  pub found : (es : List Edge) (n : ℕ) → n ≤ line → line < n + length es → StandsAt es lines n
+      → cover lines line side k (sides_of line (edge_at lines line)) ≡ 1 → cover lines line side k (pieces_from n es)
+      ≡ 1
   found [] n lo hi at own = absurd (omega arith)
   found (e ∷ es) n lo hi at own =
       let rest = found es (n + 1) in
@@ -127,8 +138,10 @@ module _ (lines : List Edge) (line k : ℕ) (side : Facing) where
 
 module _ (lines : List Edge) (line k : ℕ) (l : line < length lines) (h : k < steps_between (edge_at lines line).v1 (edge_at lines line).v2) where
   own : (f : Facing) → covers lines line f k (whole line f) ≡ true
-  own Along = ap (λ (b : Bool). b && true && step_within (edge_at lines line) (first_end lines (whole line Along)) (last_end lines (whole line Along)) k) (eq-eqb line line refl) ∙ step_there (edge_at lines line) k h
-  own Against = ap (λ (b : Bool). b && true && step_within (edge_at lines line) (first_end lines (whole line Against)) (last_end lines (whole line Against)) k) (eq-eqb line line refl) ∙ step_there (edge_at lines line) k h
+  own Along = ap (λ (b : Bool). b && true && step_within (edge_at lines line) (first_end lines (whole line Along))
+      (last_end lines (whole line Along)) k) (eq-eqb line line refl) ∙ step_there (edge_at lines line) k h
+  own Against = ap (λ (b : Bool). b && true && step_within (edge_at lines line) (first_end lines (whole line Against))
+      (last_end lines (whole line Against)) k) (eq-eqb line line refl) ∙ step_there (edge_at lines line) k h
 
   not_along : covers lines line Along k (whole line Against) ≡ false
   not_along = ap (λ (b : Bool). b && false && step_within (edge_at lines line) (first_end lines (whole line Against)) (last_end lines (whole line Against)) k) (eq-eqb line line refl)

@@ -1,5 +1,5 @@
 -- What reading an item of a list by its number gives, and the items before it.
-use Rattle.std.proofs.Common.{◌≡◌, ◌≢◌, ℕ, zero, suc, ◌+◌, ◌<◌, ◌≤◌, List, [], ◌∷◌, ◌++◌, length, map, take, drop, get_or, append_assoc, Option, Some, IfSome, refl, sym, ap, ◌∙◌, subst, arith}
+use Rattle.std.proofs.Common.{◌≡◌, ◌≢◌, ℕ, zero, suc, ◌+◌, ◌<◌, ◌≤◌, List, [], ◌∷◌, ◌++◌, length, map, take, drop, get_or, append_assoc, Option, Some, IfSome, refl, sym, ap, ◌∙◌, subst, add-one, arith}
 use Rattle.std.proofs.lemmas.List.{append-nil, at_drop_more, at_drop_all}
 use Rattle.std.specs.Prelude.{AllPairs}
 use Rattle.std.specs.Bool.{⊤}
@@ -22,6 +22,9 @@ taken [] n x e = cc
 taken (y ∷ xs) zero x e = let s : y ≡ x = cc in ap (λ z. z ∷ []) (sym s)
 taken (y ∷ xs) (suc n) x e = ap (λ zs. y ∷ zs) (taken xs n x e)
 
+pub one_more : {A : Type 0} (xs : List A) (n : ℕ) (x : A) → slice_get xs n ≡ Some x → take n xs ++ x ∷ [] ≡ take (n + 1) xs
+one_more xs n x e = taken xs n x e ∙ ap (λ (i : ℕ). take i xs) (sym (add-one n))
+
 pub mapped : {A B : Type 0} (f : A → B) (xs : List A) (n : ℕ) (x : A) → slice_get xs n ≡ Some x → map f (take n xs) ++ f x ∷ [] ≡ map f (take (suc n) xs)
 mapped f [] n x e = cc
 mapped f (y ∷ xs) zero x e = let s : y ≡ x = cc in ap (λ z. f z ∷ []) (sym s)
@@ -40,7 +43,8 @@ one_place xs all i j x l a b =
     all i j x l (slice_get_within xs j x b) (get_or_from_slice_get xs i x x a ∙ sym (get_or_from_slice_get xs j x x b))
 
 -- what is made of the first items, and of the others, is made of all
-pub map_more : {A B : Type 0} (f : A → B) (xs : List A) (ys : List B) (n : ℕ) (d : A) → n < length xs → ys ++ map f (drop n xs) ≡ map f xs → (ys ++ f (get_or xs n d) ∷ []) ++ map f (drop (n + 1) xs) ≡ map f xs
+pub map_more : {A B : Type 0} (f : A → B) (xs : List A) (ys : List B) (n : ℕ) (d : A) → n < length xs → ys
+    ++ map f (drop n xs) ≡ map f xs → (ys ++ f (get_or xs n d) ∷ []) ++ map f (drop (n + 1) xs) ≡ map f xs
 map_more f xs ys n d h e = append_assoc ys (f (get_or xs n d) ∷ []) (map f (drop (n + 1) xs)) ∙ ap (λ zs. ys ++ zs) (sym (at_drop_more (map f) xs n d h)) ∙ e
 
 pub map_all : {A B : Type 0} (f : A → B) (xs : List A) (ys : List B) (n : ℕ) → length xs ≤ n → ys ++ map f (drop n xs) ≡ map f xs → ys ≡ map f xs

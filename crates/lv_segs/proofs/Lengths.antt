@@ -57,7 +57,9 @@ cross_is : (r : Ray) (e : Edge) → vertex_value r e.v1 -ℤ vertex_value r e.v2
 cross_is r e = by_ring (r.dx ∷ r.dy ∷ r.start.x ∷ r.start.y ∷ e.v1.x ∷ e.v1.y ∷ e.v2.x ∷ e.v2.y ∷ []) _ _ (search quotes depth 40 fits 40000) (search quotes depth 40 fits 40000) tt
 
 -- the side values of a line's ends differ by at most the square of the greatest length
-pub side_values_near : (r : Ray) (e : Edge) → dot r r ≤ℤ pos 1073676289 → IsEdge e → ((vertex_value r e.v1 -ℤ vertex_value r e.v2) ≤ℤ pos 1073676289) × ((vertex_value r e.v2 -ℤ vertex_value r e.v1) ≤ℤ pos 1073676289)
+pub side_values_near : (r : Ray) (e : Edge) → dot r r ≤ℤ pos 1073676289 → IsEdge e
+    → ((vertex_value r e.v1 -ℤ vertex_value r e.v2) ≤ℤ pos 1073676289)
+    × ((vertex_value r e.v2 -ℤ vertex_value r e.v1) ≤ℤ pos 1073676289)
 side_values_near r e h l =
     let E = ray e Along in
     let c = cross_is r e in
@@ -73,7 +75,10 @@ pub lies_crossed : (r : Ray) (e : Edge) → LiesOn r e → (f : Facing) → r.dx
 lies_crossed r e on Along = let c = cross_is r e in let a = on.0 in let b = on.1 in omega (arith, linear)
 lies_crossed r e on Against =
     let c = cross_is r e in let a = on.0 in let b = on.1 in
-    let t : r.dx *ℤ (ray e Against).dy -ℤ r.dy *ℤ (ray e Against).dx ≡ neg_ℤ (r.dx *ℤ (ray e Along).dy -ℤ r.dy *ℤ (ray e Along).dx) = by_ring (r.dx ∷ r.dy ∷ e.v1.x ∷ e.v1.y ∷ e.v2.x ∷ e.v2.y ∷ []) _ _ (search quotes depth 30 fits 20000) (search quotes depth 30 fits 20000) tt in
+    let t : r.dx *ℤ (ray e Against).dy -ℤ r.dy *ℤ (ray e Against).dx
+    ≡ neg_ℤ (r.dx *ℤ (ray e Along).dy -ℤ r.dy *ℤ (ray e Along).dx) =
+    by_ring (r.dx ∷ r.dy ∷ e.v1.x ∷ e.v1.y ∷ e.v2.x ∷ e.v2.y ∷ []) _ _ (search quotes depth 30 fits 20000)
+    (search quotes depth 30 fits 20000) tt in
     omega (arith, linear)
 
 -- two lines on one straight line have a product that isn't 0

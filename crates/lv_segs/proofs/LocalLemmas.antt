@@ -10,7 +10,7 @@ use Rattle.lv_segs.specs.declared.piece.Place.TheVariants.{Right, Left, Across}
 use Rattle.lv_segs.specs.Plane.{ray, vertex_value, dot, IsEdge}
 use Rattle.lv_segs.specs.Fractions.{crossing, exact_value, IsFraction}
 use Rattle.lv_segs.specs.Pieces.{edge_of, ray_of}
-use Rattle.lv_segs.specs.Division.{value_by, cut_at, parts_by, parts_of, place_of}
+use Rattle.lv_segs.specs.Division.{value_by, cut_at, parts_by, parts_of, place_of_piece}
 use Rattle.lv_segs.specs.Local.{IsLineRay, HasFractions, place_on, cut_on, parts_at, parts_on}
 use Rattle.lv_segs.proofs.Placing.{Means, place_means}
 use Rattle.lv_segs.proofs.Crossing.{crossing_down, crossing_up, crossing_in}
@@ -26,7 +26,7 @@ parts_same lines partition p Left = refl
 parts_same lines partition p Across = cut_same lines p (crossing (ray_of lines partition) (edge_of lines p)) (int_lt (pos 0) (value_by lines partition p p.from))
 
 pub parts_on_is : (lines : List Edge) (partition p : Piece) → parts_on (ray_of lines partition) (edge_of lines p) p ≡ parts_of lines partition p
-parts_on_is lines partition p = parts_same lines partition p (place_of lines partition p)
+parts_on_is lines partition p = parts_same lines partition p (place_of_piece lines partition p)
 
 pub crossing_fraction : (r : Ray) (e : Edge) (p : Piece) → IsLineRay r → IsEdge e → HasFractions p → place_on r e p ≡ Across → IsFraction (crossing r e)
 crossing_fraction r e p hr he f a =

@@ -2,7 +2,7 @@
 use Rattle.std.proofs.Common.{◌≡◌, sym, ap, ◌∙◌, subst, arith}
 use Rattle.std.proofs.lemmas.Int.{ints, to_z-of_z}
 use Rattle.std.specs.Prelude.{ℤ, pos, neg_ℤ, ◌+ℤ◌, ◌-ℤ◌, ◌*ℤ◌, ◌≤ℤ◌, FitsSigned}
-use mir.Syntax.{w32, w64, w128}
+use mir.Syntax.{w32, w64}
 use mir.Val.{to_z, of_z}
 use Rattle.lv_lumps.proofs.Signs.{linear}
 use Rattle.lv_lumps.proofs.Wide.{IsWithin, product_within}
@@ -10,7 +10,7 @@ use Rattle.lv_segs.specs.declared.frac.Frac.{Frac}
 use Rattle.lv_segs.specs.Fractions.{IsFraction}
 use Rattle.lv_segs.specs.Local.{IsShare, IsSideValue}
 use Rattle.lv_segs.proofs.Bounds.{scaled_within}
-use Rattle.lv_segs.proofs.Wide.{n_within, d_within, narrowed, back_add}
+use Rattle.lv_segs.proofs.Wide.{n_within, d_within, lengthened, back_add}
 
 -- ---- numbers that went to bits and came back
 pub side_back : (z : ℤ) → IsSideValue z → to_z w64 (of_z w64 z) ≡ z
@@ -37,17 +37,17 @@ product_fits a b f g =
     within z f = record { low = omega (arith, ints); high = omega (arith, ints) }
 
 -- ---- the shares of a fraction
-pub n_share : (t : Frac) → IsFraction t → IsShare (to_z w64 (of_z w64 (to_z w128 (of_z w128 t.n))))
+pub n_share : (t : Frac) → IsFraction t → IsShare (to_z w64 (of_z w64 (to_z w32 (of_z w32 t.n))))
 n_share t f =
     let w = n_within t f in
     let s : IsShare t.n = record { low = f.at_least_zero; high = w.high } in
-    subst IsShare (sym (narrowed t.n w)) s
+    subst IsShare (sym (lengthened t.n w)) s
 
 -- what is left to the denominator
 pub record HasRest (t : Frac) : Type 0 where
-  pub fits : FitsSigned w64 (to_z w64 (of_z w64 (to_z w128 (of_z w128 t.d))) -ℤ to_z w64 (of_z w64 (to_z w128 (of_z w128 t.n))))
-  pub is : to_z w64 (of_z w64 (to_z w64 (of_z w64 (to_z w128 (of_z w128 t.d))) -ℤ to_z w64 (of_z w64 (to_z w128 (of_z w128 t.n))))) ≡ t.d -ℤ t.n
-  pub share : IsShare (to_z w64 (of_z w64 (to_z w64 (of_z w64 (to_z w128 (of_z w128 t.d))) -ℤ to_z w64 (of_z w64 (to_z w128 (of_z w128 t.n))))))
+  pub fits : FitsSigned w64 (to_z w64 (of_z w64 (to_z w32 (of_z w32 t.d))) -ℤ to_z w64 (of_z w64 (to_z w32 (of_z w32 t.n))))
+  pub is : to_z w64 (of_z w64 (to_z w64 (of_z w64 (to_z w32 (of_z w32 t.d))) -ℤ to_z w64 (of_z w64 (to_z w32 (of_z w32 t.n))))) ≡ t.d -ℤ t.n
+  pub share : IsShare (to_z w64 (of_z w64 (to_z w64 (of_z w64 (to_z w32 (of_z w32 t.d))) -ℤ to_z w64 (of_z w64 (to_z w32 (of_z w32 t.n))))))
 
 pub rest_of : (t : Frac) → IsFraction t → HasRest t
 rest_of t f =
@@ -56,8 +56,8 @@ rest_of t f =
     let k = f.small in
     let s : IsShare (t.d -ℤ t.n) = record { low = omega (arith, linear); high = omega (arith, linear) } in
     let g : FitsSigned w64 (t.d -ℤ t.n) = let l = s.low in let h = s.high in omega (arith, ints) in
-    let e = narrowed t.d (d_within t f) in
-    let i = narrowed t.n (n_within t f) in
+    let e = lengthened t.d (d_within t f) in
+    let i = lengthened t.n (n_within t f) in
     let b = to_z-of_z w64 (t.d -ℤ t.n) g in
     record { fits = rw (e, i) g; is = rw (e, i) b; share = rw (e, i, b) s }
 

@@ -7,7 +7,7 @@ use Rattle.std.proofs.Math.Nat.{pow-le-pow_right, le-div_iff_mul-le, max-eq_left
 use Rattle.std.proofs.lemmas.Nat.{pow_pos, pow-add, leading_length, leading_top, shr_below}
 use Rattle.std.proofs.lemmas.Bool.{cases_lt}
 use Rattle.std.proofs.lemmas.Int.{ints}
-use Rattle.lv_segs.specs.Angle.{IsSmall}
+use Rattle.lv_segs.specs.Angle.{IsIn62Bits}
 
 -- 62 bits more than a shift
 room : (less j : ℕ) → less + 62 ≤ j → 4611686018427387904 * 2 ^ less ≤ 2 ^ j
@@ -31,7 +31,7 @@ left_below a less j h k =
     (le-div_iff_mul-le {k = 2 ^ less} {x = 4611686018427387903} {y = a} (pow_pos less)).1 l
 
 -- a number of more than 62 bits behind a shift isn't small after it
-pub not_small : (z : ℤ) (less j : ℕ) → less + 62 ≤ j → 2 ^ j ≤ unsigned_abs z → IsSmall (int_shr z less) → ⊥
+pub not_small : (z : ℤ) (less j : ℕ) → less + 62 ≤ j → 2 ^ j ≤ unsigned_abs z → IsIn62Bits (int_shr z less) → ⊥
 not_small (pos a) less j h k s =
     let l = left_over a less j h k in
     let high : pos (a / 2 ^ less) <ℤ pos 4611686018427387904 = s.1 in
@@ -98,24 +98,24 @@ nearly_small (negsuc a) k h =
     record { low = omega (arith, ints); high = omega (arith, ints) }
 
 -- and in 61
-pub small_behind : (z : ℤ) (k : ℕ) → unsigned_abs z < 2 ^ (62 + k) → IsSmall (int_shr z (k + 1))
+pub small_behind : (z : ℤ) (k : ℕ) → unsigned_abs z < 2 ^ (62 + k) → IsIn62Bits (int_shr z (k + 1))
 small_behind z k h = by_sign z (subst (λ (n : ℕ). unsigned_abs z < 2 ^ n) (regroup k) h)
   where
     regroup : (m : ℕ) → 62 + m ≡ 61 + (m + 1)
     regroup m = omega arith
 
-    by_sign : (w : ℤ) → unsigned_abs w < 2 ^ (61 + (k + 1)) → IsSmall (int_shr w (k + 1))
+    by_sign : (w : ℤ) → unsigned_abs w < 2 ^ (61 + (k + 1)) → IsIn62Bits (int_shr w (k + 1))
     by_sign (pos a) g = let l : a / 2 ^ (k + 1) < 2 ^ 61 = shr_below a 61 (k + 1) g in (omega (arith, ints), omega (arith, ints))
     by_sign (negsuc a) g =
         let l : a / 2 ^ (k + 1) < 2 ^ 61 = shr_below a 61 (k + 1) (omega arith) in
         (omega (arith, ints), omega (arith, ints))
 
 -- a size of 62 bits is small where it isn't below zero
-pub small_size : (a k : ℕ) → a < 2 ^ (62 + k) → IsSmall (int_shr (pos a) k)
+pub small_size : (a k : ℕ) → a < 2 ^ (62 + k) → IsIn62Bits (int_shr (pos a) k)
 small_size a k h = let l : a / 2 ^ k < 2 ^ 62 = shr_below a 62 k h in (omega (arith, ints), omega (arith, ints))
 
 -- where the greater of two sizes has more than 62 bits behind a shift, one of the two isn't small after it
-pub one_not_small : (x y : ℤ) (less : ℕ) → 2 ^ (less + 62) ≤ max (unsigned_abs x) (unsigned_abs y) → IsSmall (int_shr x less) → IsSmall (int_shr y less) → ⊥
+pub one_not_small : (x y : ℤ) (less : ℕ) → 2 ^ (less + 62) ≤ max (unsigned_abs x) (unsigned_abs y) → IsIn62Bits (int_shr x less) → IsIn62Bits (int_shr y less) → ⊥
 one_not_small x y less h sx sy =
     ⊎_elim
     (λ l. not_small y less (less + 62) (omega arith) (subst (λ (n : ℕ). 2 ^ (less + 62) ≤ n) (max-eq_right (omega (arith, l))) h) sy)

@@ -66,7 +66,9 @@ not_above : (x y : ℤ) → HasSign x y → x ≤ℤ pos 0 → y ≤ℤ pos 0
 not_above x y s h = by_lt_z x (pos 0) (λ l. let t = s.below l in omega (arith, linear)) (λ l. let t = s.zero (omega (arith, linear)) in omega (arith, linear))
 
 zero_back : (x y : ℤ) → HasSign x y → y ≡ pos 0 → x ≡ pos 0
-zero_back x y s e = by_lt_z x (pos 0) (λ l. let t = s.below l in absurd (omega (arith, linear))) (λ l. by_lt_z (pos 0) x (λ k. let t = s.above k in absurd (omega (arith, linear))) (λ k. omega (arith, linear)))
+zero_back x y s e =
+    by_lt_z x (pos 0) (λ l. let t = s.below l in absurd (omega (arith, linear)))
+    (λ l. by_lt_z (pos 0) x (λ k. let t = s.above k in absurd (omega (arith, linear))) (λ k. omega (arith, linear)))
 
 -- the places agree where the signs do
 pub same_place_by : (u w z u' w' z' : ℤ) → HasSign u u' → HasSign w w' → HasSign z z' → place_by u w z ≡ place_by u' w' z'
@@ -90,13 +92,21 @@ above_or_zero : (x y : ℤ) → HasOther x y → x ≤ℤ pos 0 → pos 0 ≤ℤ
 above_or_zero x y s h = by_lt_z x (pos 0) (λ l. let t = s.below l in omega (arith, linear)) (λ l. let t = s.zero (omega (arith, linear)) in omega (arith, linear))
 
 other_back : (x y : ℤ) → HasOther x y → y ≡ pos 0 → x ≡ pos 0
-other_back x y s e = by_lt_z x (pos 0) (λ l. let t = s.below l in absurd (omega (arith, linear))) (λ l. by_lt_z (pos 0) x (λ k. let t = s.above k in absurd (omega (arith, linear))) (λ k. omega (arith, linear)))
+other_back x y s e =
+    by_lt_z x (pos 0) (λ l. let t = s.below l in absurd (omega (arith, linear)))
+    (λ l. by_lt_z (pos 0) x (λ k. let t = s.above k in absurd (omega (arith, linear))) (λ k. omega (arith, linear)))
 
 -- and are exchanged where the signs are, unless all three are 0
 pub turned_place_by : (u w z u' w' z' : ℤ) → HasOther u u' → HasOther w w' → HasOther z z' → (u ≡ pos 0 → w ≡ pos 0 → z ≡ pos 0 → ⊥) → turned (place_by u w z) ≡ place_by u' w' z'
 turned_place_by u w z u' w' z' su sw sz nz = by_place (place_by u w z) (place_means u w z)
   where
     by_place : (place : Place) → Means u w z place → turned place ≡ place_by u' w' z'
-    by_place Right m = sym (left_if u' w' z' (below_or_zero u u' su m.from) (below_or_zero w w' sw m.to) (λ e f. below_or_zero z z' sz (let d = m.direction (other_back u u' su e) (other_back w w' sw f) in omega (arith, linear))))
-    by_place Left m = sym (right_if u' w' z' (above_or_zero u u' su m.from) (above_or_zero w w' sw m.to) (λ e f. let ze = other_back u u' su e in let zf = other_back w w' sw f in let d = m.direction ze zf in by_lt_z z (pos 0) sz.below (λ l. absurd (nz ze zf (omega (arith, linear))))))
+    by_place Right m =
+        sym (left_if u' w' z' (below_or_zero u u' su m.from) (below_or_zero w w' sw m.to)
+        (λ e f. below_or_zero z z' sz (let d =
+        m.direction (other_back u u' su e) (other_back w w' sw f) in omega (arith, linear))))
+    by_place Left m =
+        sym (right_if u' w' z' (above_or_zero u u' su m.from) (above_or_zero w w' sw m.to)
+        (λ e f. let ze = other_back u u' su e in let zf = other_back w w' sw f in let d =
+        m.direction ze zf in by_lt_z z (pos 0) sz.below (λ l. absurd (nz ze zf (omega (arith, linear))))))
     by_place Across m = sym (⊎_elim (λ d. across_up u' w' z' (su.above d.0) (sw.below d.1)) (λ d. across_down u' w' z' (su.below d.0) (sw.above d.1)) m)

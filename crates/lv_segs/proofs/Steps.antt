@@ -59,8 +59,12 @@ point_in_box e t h =
     let b = int_max_is e.v1.x e.v2.x in
     let c = int_min_is e.v1.y e.v2.y in
     let d = int_max_is e.v1.y e.v2.y in
-    let x = rounded_in (int_min e.v1.x e.v2.x) (int_max e.v1.x e.v2.x) e.v1.x e.v2.x t h.positive h.at_least_zero h.at_most_one (omega (arith, ints)) (omega (arith, ints)) (omega (arith, ints)) (omega (arith, ints)) in
-    let y = rounded_in (int_min e.v1.y e.v2.y) (int_max e.v1.y e.v2.y) e.v1.y e.v2.y t h.positive h.at_least_zero h.at_most_one (omega (arith, ints)) (omega (arith, ints)) (omega (arith, ints)) (omega (arith, ints)) in
+    let x = rounded_in (int_min e.v1.x e.v2.x)
+    (int_max e.v1.x e.v2.x) e.v1.x e.v2.x t h.positive h.at_least_zero h.at_most_one (omega (arith, ints))
+    (omega (arith, ints)) (omega (arith, ints)) (omega (arith, ints)) in
+    let y = rounded_in (int_min e.v1.y e.v2.y)
+    (int_max e.v1.y e.v2.y) e.v1.y e.v2.y t h.positive h.at_least_zero h.at_most_one (omega (arith, ints))
+    (omega (arith, ints)) (omega (arith, ints)) (omega (arith, ints)) in
     record { left = x.0; right = x.1; bottom = y.0; top = y.1 }
 
 least_below : (a b : ℤ) → ((int_min a b -ℤ pos 1) <ℤ a) × ((int_min a b -ℤ pos 1) <ℤ b)

@@ -22,7 +22,9 @@ kept_append : {X Y : Type 0} (f : X → Option Y) (xs ys : List X) → length (f
 kept_append f [] ys = omega arith
 kept_append {X} {Y} f (x ∷ xs) ys = by_head (f x) (kept_append f xs ys)
   where
-    by_head : (o : Option Y) → length (filter_map f (xs ++ ys)) ≡ length (filter_map f xs) + length (filter_map f ys) → length (cons_option o (filter_map f (xs ++ ys))) ≡ length (cons_option o (filter_map f xs)) + length (filter_map f ys)
+    by_head : (o : Option Y) → length (filter_map f (xs ++ ys)) ≡ length (filter_map f xs) + length (filter_map f ys)
+        → length (cons_option o (filter_map f (xs ++ ys))) ≡ length (cons_option o (filter_map f xs))
+        + length (filter_map f ys)
     by_head None e = e
     by_head (Some y) e = omega arith
 
@@ -41,7 +43,8 @@ at_most_each : {X Y : Type 0} (f g : X → Option Y) (xs : List X) → length (f
 at_most_each f g [] = omega arith
 at_most_each {X} {Y} f g (x ∷ xs) = by_heads (f x) (g x) (at_most_each f g xs)
   where
-    by_heads : (o u : Option Y) → length (filter_map f xs) ≤ length (filter_map g xs) + length xs → length (cons_option o (filter_map f xs)) ≤ length (cons_option u (filter_map g xs)) + suc (length xs)
+    by_heads : (o u : Option Y) → length (filter_map f xs) ≤ length (filter_map g xs) + length xs
+        → length (cons_option o (filter_map f xs)) ≤ length (cons_option u (filter_map g xs)) + suc (length xs)
     by_heads None None h = omega arith
     by_heads None (Some z) h = omega arith
     by_heads (Some y) None h = omega arith
@@ -63,7 +66,9 @@ pub nothing_counted : (lines : List Edge) (p : Piece) (ps : List Piece) → Coun
 nothing_counted lines p ps = record { right = omega arith; left = omega arith; splits = omega arith }
 
 -- the next block is counted
-pub block_counted : (lines : List Edge) (p : Piece) (ps block qs : List Piece) (r l s a b c : ℕ) → Counted lines p ps (block ++ qs) r l s → rights lines p block ≡ a → lefts lines p block ≡ b → splits lines p block ≡ c → Counted lines p ps qs (r + a) (l + b) (s + c)
+pub block_counted : (lines : List Edge) (p : Piece) (ps block qs : List Piece) (r l s a b c : ℕ)
+    → Counted lines p ps (block ++ qs) r l s → rights lines p block ≡ a → lefts lines p block ≡ b → splits lines p block
+    ≡ c → Counted lines p ps qs (r + a) (l + b) (s + c)
 block_counted lines p ps block qs r l s a b c k x y z =
     let e = k.right in
     let f = k.left in

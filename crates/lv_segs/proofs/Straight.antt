@@ -19,7 +19,7 @@ use Rattle.lv_segs.specs.declared.piece.Place.TheVariants.{Right, Left, Across}
 use Rattle.lv_segs.specs.Plane.{ray, vertex_value, dot, IsEdge, LiesOn, RunsWith, RunsAgainst}
 use Rattle.lv_segs.specs.Fractions.{between, exact_value, zero_between, crossing, point_at, IsFraction}
 use Rattle.lv_segs.specs.Pieces.{edge_of, ray_of, first_end, last_end, same_place, IsPiece}
-use Rattle.lv_segs.specs.Division.{value_by, LiesAlong, place_by, place_of, kept, cut_at, parts_by, parts_of}
+use Rattle.lv_segs.specs.Division.{value_by, LiesAlong, place_by, place_of_piece, kept, cut_at, parts_by, parts_of}
 use Rattle.lv_segs.specs.Tree.{is_split, cost, Separates, IsCandidate, IsBestAt}
 use Rattle.lv_lumps.proofs.Ring.{by_ring, quotes}
 use Rattle.lv_lumps.proofs.Signs.{linear, zero_product, factor_at_most}
@@ -72,7 +72,9 @@ scaled_line r e Against on = scaled r (ray e Against) (lies_crossed r e on Again
 
 scaled_between : (k m a b a' b' : ℤ) (t : Frac) → k *ℤ a' ≡ m *ℤ a → k *ℤ b' ≡ m *ℤ b → k *ℤ between a' b' t ≡ m *ℤ between a b t
 scaled_between k m a b a' b' t e f =
-    let g : k *ℤ between a' b' t ≡ (t.d -ℤ t.n) *ℤ (k *ℤ a') +ℤ t.n *ℤ (k *ℤ b') = by_ring (k ∷ a' ∷ b' ∷ t.n ∷ t.d ∷ []) _ _ (search quotes depth 30 fits 20000) (search quotes depth 30 fits 20000) tt in
+    let g : k *ℤ between a' b' t ≡ (t.d -ℤ t.n) *ℤ (k *ℤ a') +ℤ t.n *ℤ (k *ℤ b') =
+    by_ring (k ∷ a' ∷ b' ∷ t.n ∷ t.d ∷ []) _ _ (search quotes depth 30 fits 20000)
+    (search quotes depth 30 fits 20000) tt in
     let h : m *ℤ between a b t ≡ (t.d -ℤ t.n) *ℤ (m *ℤ a) +ℤ t.n *ℤ (m *ℤ b) = by_ring (m ∷ a ∷ b ∷ t.n ∷ t.d ∷ []) _ _ (search quotes depth 30 fits 20000) (search quotes depth 30 fits 20000) tt in
     g ∙ ap (λ (x : ℤ). (t.d -ℤ t.n) *ℤ x +ℤ t.n *ℤ (k *ℤ b')) e ∙ ap (λ (x : ℤ). (t.d -ℤ t.n) *ℤ (m *ℤ a) +ℤ t.n *ℤ x) f ∙ sym h
 
@@ -130,7 +132,7 @@ same_point e s t fs ft v =
     one_point e s t fs ft (omega arith)
 
 -- a crossing is a fraction
-across_fraction : (lines : List Edge) (h p : Piece) → MayDivide lines h p → place_of lines h p ≡ Across → IsFraction (crossing (ray_of lines h) (edge_of lines p))
+across_fraction : (lines : List Edge) (h p : Piece) → MayDivide lines h p → place_of_piece lines h p ≡ Across → IsFraction (crossing (ray_of lines h) (edge_of lines p))
 across_fraction lines h p may a =
     let r = ray_of lines h in
     let e = edge_of lines p in
@@ -155,13 +157,15 @@ kept_some : (b : Bool) (x : Piece) → is_some (if b then None else Some x) ≡ 
 kept_some true x = refl
 kept_some false x = refl
 
-first_kept : (lines : List Edge) (p : Piece) (c d : Frac) → point_at (edge_of lines p) c ≡ point_at (edge_of lines p) d → is_some (kept lines (record p { to = c })) ≡ is_some (kept lines (record p { to = d }))
+first_kept : (lines : List Edge) (p : Piece) (c d : Frac) → point_at (edge_of lines p) c ≡ point_at (edge_of lines p) d
+    → is_some (kept lines (record p { to = c })) ≡ is_some (kept lines (record p { to = d }))
 first_kept lines p c d e =
     kept_some (same_place (first_end lines p) (point_at (edge_of lines p) c)) (record p { to = c })
     ∙ ap (λ (v : Vertex). negated (same_place (first_end lines p) v)) e
     ∙ sym (kept_some (same_place (first_end lines p) (point_at (edge_of lines p) d)) (record p { to = d }))
 
-last_kept : (lines : List Edge) (p : Piece) (c d : Frac) → point_at (edge_of lines p) c ≡ point_at (edge_of lines p) d → is_some (kept lines (record p { from = c })) ≡ is_some (kept lines (record p { from = d }))
+last_kept : (lines : List Edge) (p : Piece) (c d : Frac) → point_at (edge_of lines p) c ≡ point_at (edge_of lines p) d
+    → is_some (kept lines (record p { from = c })) ≡ is_some (kept lines (record p { from = d }))
 last_kept lines p c d e =
     kept_some (same_place (point_at (edge_of lines p) c) (last_end lines p)) (record p { from = c })
     ∙ ap (λ (v : Vertex). negated (same_place v (last_end lines p))) e
@@ -214,14 +218,18 @@ module _ (lines : List Edge) (a b : Piece) (on : OnOneLine lines a b) where
 
   -- the exact values at a fraction of a line
   values : (e : Edge) (t : Frac) → dot (ray_of lines a) (ray_of lines a) *ℤ exact_value (ray_of lines b) e t ≡ dot (ray_of lines a) (ray_of lines b) *ℤ exact_value (ray_of lines a) e t
-  values e t = scaled_between _ _ (vertex_value (ray_of lines a) e.v1) (vertex_value (ray_of lines a) e.v2) (vertex_value (ray_of lines b) e.v1) (vertex_value (ray_of lines b) e.v2) t (by_two.value e.v1) (by_two.value e.v2)
+  values e t = scaled_between _ _ (vertex_value (ray_of lines a) e.v1) (vertex_value (ray_of lines a) e.v2)
+      (vertex_value (ray_of lines b) e.v1) (vertex_value (ray_of lines b) e.v2) t (by_two.value e.v1)
+      (by_two.value e.v2)
 
   crossings : (e : Edge) → SameValue (crossing (ray_of lines a) e) (crossing (ray_of lines b) e)
   crossings e =
       zeros_same (vertex_value (ray_of lines a) e.v1) (vertex_value (ray_of lines a) e.v2) (vertex_value (ray_of lines b) e.v1) (vertex_value (ray_of lines b) e.v2)
       (cross_same (dot (ray_of lines a) (ray_of lines a)) (dot (ray_of lines a) (ray_of lines b)) _ _ _ _ long (by_two.value e.v1) (by_two.value e.v2))
 
-  points : (q : Piece) → IsPiece lines q → place_of lines a q ≡ Across → place_of lines b q ≡ Across → point_at (edge_of lines q) (crossing (ray_of lines a) (edge_of lines q)) ≡ point_at (edge_of lines q) (crossing (ray_of lines b) (edge_of lines q))
+  points : (q : Piece) → IsPiece lines q → place_of_piece lines a q ≡ Across → place_of_piece lines b q ≡ Across
+      → point_at (edge_of lines q) (crossing (ray_of lines a) (edge_of lines q))
+      ≡ point_at (edge_of lines q) (crossing (ray_of lines b) (edge_of lines q))
   points q h x y = same_point (edge_of lines q) _ _ (across_fraction lines a q (may_first q h) x) (across_fraction lines b q (may_second q h) y) (crossings (edge_of lines q))
 
   -- ---- in one direction
@@ -229,24 +237,33 @@ module _ (lines : List Edge) (a b : Piece) (on : OnOneLine lines a b) where
     sign_at : (e : Edge) (t : Frac) → HasSign (exact_value (ray_of lines a) e t) (exact_value (ray_of lines b) e t)
     sign_at e t = has_sign _ _ _ _ long with (values e t)
 
-    pub same_place_of : (q : Piece) → place_of lines a q ≡ place_of lines b q
+    pub same_place_of : (q : Piece) → place_of_piece lines a q ≡ place_of_piece lines b q
     same_place_of q = same_place_by _ _ _ _ _ _ (sign_at (edge_of lines q) q.from) (sign_at (edge_of lines q) q.to) (has_sign _ _ _ _ long with (by_two.dot (ray_of lines q)))
 
     same_start : (x y : ℤ) → HasSign x y → int_lt (pos 0) x ≡ int_lt (pos 0) y
-    same_start x y s = by_lt_z (pos 0) x (λ h. is_above x h ∙ sym (is_above y (s.above h))) (λ h. not_at x h ∙ sym (not_at y (by_lt_z x (pos 0) (λ k. let t = s.below k in omega (arith, linear)) (λ k. let t = s.zero (omega (arith, linear)) in omega (arith, linear)))))
+    same_start x y s =
+        by_lt_z (pos 0) x (λ h. is_above x h ∙ sym (is_above y (s.above h)))
+        (λ h. not_at x h ∙ sym (not_at y (by_lt_z x (pos 0) (λ k. let t = s.below k in omega (arith, linear))
+        (λ k. let t = s.zero (omega (arith, linear)) in omega (arith, linear)))))
 
     pub same_kept : (q : Piece) → IsPiece lines q → KeepsSame (parts_of lines a q) (parts_of lines b q)
-    same_kept q h = by_place (place_of lines a q) refl
+    same_kept q h = by_place (place_of_piece lines a q) refl
       where
-        moved : (place : Place) → place_of lines a q ≡ place → KeepsSame (parts_by lines a q place) (parts_by lines b q place) → KeepsSame (parts_of lines a q) (parts_of lines b q)
-        moved place e k = subst (λ (x : Place). KeepsSame (parts_by lines a q x) (parts_of lines b q)) (sym e) (subst (λ (x : Place). KeepsSame (parts_by lines a q place) (parts_by lines b q x)) (sym e ∙ same_place_of q) k)
+        moved : (place : Place) → place_of_piece lines a q ≡ place → KeepsSame (parts_by lines a q place) (parts_by lines b q place) → KeepsSame (parts_of lines a q) (parts_of lines b q)
+        moved place e k =
+            subst (λ (x : Place). KeepsSame (parts_by lines a q x) (parts_of lines b q)) (sym e)
+            (subst (λ (x : Place). KeepsSame (parts_by lines a q place) (parts_by lines b q x))
+            (sym e ∙ same_place_of q) k)
 
-        by_place : (place : Place) → place_of lines a q ≡ place → KeepsSame (parts_of lines a q) (parts_of lines b q)
+        by_place : (place : Place) → place_of_piece lines a q ≡ place → KeepsSame (parts_of lines a q) (parts_of lines b q)
         by_place Right e = moved Right e (record { right = refl; left = refl })
         by_place Left e = moved Left e (record { right = refl; left = refl })
         by_place Across e =
             let s = same_start _ _ (sign_at (edge_of lines q) q.from) in
-            moved Across e (subst (λ (x : Bool). KeepsSame (parts_by lines a q Across) (cut_at lines q (crossing (ray_of lines b) (edge_of lines q)) x)) s (cut_same lines q _ _ (int_lt (pos 0) (value_by lines a q q.from)) (points q h e (sym (same_place_of q) ∙ e))))
+            moved Across e (subst (λ (x : Bool). KeepsSame (parts_by lines a q Across)
+            (cut_at lines q (crossing (ray_of lines b) (edge_of lines q)) x)) s
+            (cut_same lines q _ _ (int_lt (pos 0) (value_by lines a q q.from))
+            (points q h e (sym (same_place_of q) ∙ e))))
 
   -- ---- in opposite directions
   module _ (against : RunsAgainst (ray_of lines a) (ray_of lines b)) where
@@ -257,13 +274,20 @@ module _ (lines : List Edge) (a b : Piece) (on : OnOneLine lines a b) where
     not_none : (q : Piece) → IsPiece lines q → value_by lines a q q.from ≡ pos 0 → value_by lines a q q.to ≡ pos 0 → dot (ray_of lines a) (ray_of lines q) ≡ pos 0 → ⊥
     not_none q h u w z =
         let e = edge_of lines q in
-        dot_not_zero (ray_of lines a) e q.side long (may_first q h).line (zero_at_ends (vertex_value (ray_of lines a) e.v1) (vertex_value (ray_of lines a) e.v2) q.from q.to h.from_in.positive h.to_in.positive h.rising u w) z
+        dot_not_zero (ray_of lines a) e q.side long (may_first q h).line
+        (zero_at_ends (vertex_value (ray_of lines a) e.v1)
+        (vertex_value (ray_of lines a) e.v2) q.from q.to h.from_in.positive h.to_in.positive h.rising u w) z
 
-    pub turned_place_of : (q : Piece) → IsPiece lines q → turned (place_of lines a q) ≡ place_of lines b q
-    turned_place_of q h = turned_place_by _ _ _ _ _ _ (other_at (edge_of lines q) q.from) (other_at (edge_of lines q) q.to) (has_other _ _ _ _ long against (by_two.dot (ray_of lines q))) (not_none q h)
+    pub turned_place_of : (q : Piece) → IsPiece lines q → turned (place_of_piece lines a q) ≡ place_of_piece lines b q
+    turned_place_of q h =
+        turned_place_by _ _ _ _ _ _ (other_at (edge_of lines q) q.from) (other_at (edge_of lines q) q.to)
+        (has_other _ _ _ _ long against (by_two.dot (ray_of lines q))) (not_none q h)
 
     turned_start : (x y : ℤ) → HasOther x y → (x ≡ pos 0 → ⊥) → negated (int_lt (pos 0) x) ≡ int_lt (pos 0) y
-    turned_start x y s nz = by_lt_z (pos 0) x (λ h. ap negated (is_above x h) ∙ sym (not_at y (let t = s.above h in omega (arith, linear)))) (λ h. ap negated (not_at x h) ∙ sym (is_above y (by_lt_z x (pos 0) s.below (λ k. absurd (nz (omega (arith, linear)))))))
+    turned_start x y s nz =
+        by_lt_z (pos 0) x (λ h. ap negated (is_above x h) ∙ sym (not_at y (let t = s.above h in omega (arith, linear))))
+        (λ h. ap negated (not_at x h) ∙ sym (is_above y
+        (by_lt_z x (pos 0) s.below (λ k. absurd (nz (omega (arith, linear)))))))
 
     across_not_zero : (u w z : ℤ) → place_by u w z ≡ Across → u ≡ pos 0 → ⊥
     across_not_zero u w z e k =
@@ -271,17 +295,23 @@ module _ (lines : List Edge) (a b : Piece) (on : OnOneLine lines a b) where
         ⊎_elim (λ d. let x = d.0 in omega (arith, linear)) (λ d. let x = d.0 in omega (arith, linear)) m
 
     pub turned_kept : (q : Piece) → IsPiece lines q → KeepsTurned (parts_of lines a q) (parts_of lines b q)
-    turned_kept q h = by_place (place_of lines a q) refl
+    turned_kept q h = by_place (place_of_piece lines a q) refl
       where
-        moved : (place : Place) → place_of lines a q ≡ place → KeepsTurned (parts_by lines a q place) (parts_by lines b q (turned place)) → KeepsTurned (parts_of lines a q) (parts_of lines b q)
-        moved place e k = subst (λ (x : Place). KeepsTurned (parts_by lines a q x) (parts_of lines b q)) (sym e) (subst (λ (x : Place). KeepsTurned (parts_by lines a q place) (parts_by lines b q x)) (ap turned (sym e) ∙ turned_place_of q h) k)
+        moved : (place : Place) → place_of_piece lines a q ≡ place → KeepsTurned (parts_by lines a q place) (parts_by lines b q (turned place)) → KeepsTurned (parts_of lines a q) (parts_of lines b q)
+        moved place e k =
+            subst (λ (x : Place). KeepsTurned (parts_by lines a q x) (parts_of lines b q)) (sym e)
+            (subst (λ (x : Place). KeepsTurned (parts_by lines a q place) (parts_by lines b q x))
+            (ap turned (sym e) ∙ turned_place_of q h) k)
 
-        by_place : (place : Place) → place_of lines a q ≡ place → KeepsTurned (parts_of lines a q) (parts_of lines b q)
+        by_place : (place : Place) → place_of_piece lines a q ≡ place → KeepsTurned (parts_of lines a q) (parts_of lines b q)
         by_place Right e = moved Right e (record { right = refl; left = refl })
         by_place Left e = moved Left e (record { right = refl; left = refl })
         by_place Across e =
             let s = turned_start _ _ (other_at (edge_of lines q) q.from) (across_not_zero _ (value_by lines a q q.to) (dot (ray_of lines a) (ray_of lines q)) e) in
-            moved Across e (subst (λ (x : Bool). KeepsTurned (parts_by lines a q Across) (cut_at lines q (crossing (ray_of lines b) (edge_of lines q)) x)) s (cut_turned lines q _ _ (int_lt (pos 0) (value_by lines a q q.from)) (points q h e (sym (turned_place_of q h) ∙ ap turned e))))
+            moved Across e (subst (λ (x : Bool). KeepsTurned (parts_by lines a q Across)
+            (cut_at lines q (crossing (ray_of lines b) (edge_of lines q)) x)) s
+            (cut_turned lines q _ _ (int_lt (pos 0) (value_by lines a q q.from))
+            (points q h e (sym (turned_place_of q h) ∙ ap turned e))))
 
 -- ---- whole lists
 kept_as_many : {X Y Z : Type 0} (f : X → Option Y) (g : X → Option Z) (xs : List X) → All (λ x. is_some (f x) ≡ is_some (g x)) xs → length (filter_map f xs) ≡ length (filter_map g xs)
@@ -289,7 +319,8 @@ kept_as_many f g [] h = refl
 kept_as_many {X} {Y} {Z} f g (x ∷ xs) h =
     by_heads (f x) (g x) (All-head (λ x. is_some (f x) ≡ is_some (g x)) x xs h) (kept_as_many f g xs (All-tail (λ x. is_some (f x) ≡ is_some (g x)) x xs h))
   where
-    by_heads : (o : Option Y) (u : Option Z) → is_some o ≡ is_some u → length (filter_map f xs) ≡ length (filter_map g xs) → length (cons_option o (filter_map f xs)) ≡ length (cons_option u (filter_map g xs))
+    by_heads : (o : Option Y) (u : Option Z) → is_some o ≡ is_some u → length (filter_map f xs)
+        ≡ length (filter_map g xs) → length (cons_option o (filter_map f xs)) ≡ length (cons_option u (filter_map g xs))
     by_heads None None e k = k
     by_heads None (Some z) e k = cc
     by_heads (Some y) None e k = cc
@@ -371,7 +402,9 @@ goes_left : (lines : List Edge) (a b : Piece) → LiesAlong lines a b → RunsAg
 goes_left lines a b on against =
     let u = at_zero b.from in
     let w = at_zero b.to in
-    ap (parts_by lines a b) (left_if (value_by lines a b b.from) (value_by lines a b b.to) (dot (ray_of lines a) (ray_of lines b)) (omega (arith, linear)) (omega (arith, linear)) (λ e f. omega (arith, linear)))
+    ap (parts_by lines a b) (left_if (value_by lines a b b.from) (value_by lines a b b.to)
+    (dot (ray_of lines a) (ray_of lines b)) (omega (arith, linear)) (omega (arith, linear))
+    (λ e f. omega (arith, linear)))
   where
     at_zero : (t : Frac) → value_by lines a b t ≡ pos 0
     at_zero t = ap (λ (x : ℤ). between x (vertex_value (ray_of lines a) (edge_of lines b).v2) t) on.0 ∙ ap (λ (x : ℤ). between (pos 0) x t) on.1 ∙ zero_everywhere t
@@ -387,11 +420,15 @@ separates_too lines a b ps n on each at s = ⊎_elim
     none e f = let g = ap (λ (x : Parts). x.left) e in cc
 
 -- what may be chosen on a straight line: the earlier one too, where its line is unused
-pub candidate_too : (lines : List Edge) (used : List Bool) (a b : Piece) (ps : List Piece) (n : ℕ) → OnOneLine lines a b → All (IsPiece lines) ps → slice_get ps n ≡ Some b → slice_get used a.line ≡ Some false → IsCandidate lines ps used b → IsCandidate lines ps used a
+pub candidate_too : (lines : List Edge) (used : List Bool) (a b : Piece) (ps : List Piece) (n : ℕ) → OnOneLine lines a b
+    → All (IsPiece lines) ps → slice_get ps n ≡ Some b → slice_get used a.line ≡ Some false
+    → IsCandidate lines ps used b → IsCandidate lines ps used a
 candidate_too lines used a b ps n on each at free can = (free, separates_too lines a b ps n on each at can.1)
 
 -- so a piece on the straight line of an earlier one of an unused line is never the first best
-pub never_best : (lines : List Edge) (used : List Bool) (a b : Piece) (ps : List Piece) (k n : ℕ) → OnOneLine lines a b → All (IsPiece lines) ps → k < n → slice_get ps k ≡ Some a → slice_get used a.line ≡ Some false → IsBestAt lines ps used n b → ⊥
+pub never_best : (lines : List Edge) (used : List Bool) (a b : Piece) (ps : List Piece) (k n : ℕ) → OnOneLine lines a b
+    → All (IsPiece lines) ps → k < n → slice_get ps k ≡ Some a → slice_get used a.line ≡ Some false
+    → IsBestAt lines ps used n b → ⊥
 never_best lines used a b ps k n on each before at free best =
     let c = candidate_too lines used a b ps n on each best.stands free best.candidate in
     let f = best.first k a before at c in

@@ -9,7 +9,14 @@ use Rattle.std.specs.Prelude.{pos}
 
 -- the whole of a side of the line n
 abbrev pub whole : ℕ → Facing → Piece
-whole n facing = record { line = n; side = facing; from = fraction (pos 0) (pos 1); to = fraction (pos 1) (pos 1) }
+whole n facing =
+    record {
+      line = n;
+      side = facing;
+      from = fraction (pos 0) (pos 1);
+      to =
+          fraction (pos 1) (pos 1);
+    }
 
 -- the sides of the line n: the right one, and then the left one where there is one
 abbrev pub sides_of : ℕ → Edge → List Piece

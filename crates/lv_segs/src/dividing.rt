@@ -4,7 +4,7 @@ ghost use Rattle.lv_lumps.specs.Drawing.{IsDrawable};
 ghost use Rattle.lv_segs.specs.Plane.{IsEdge, dot};
 ghost use Rattle.lv_segs.specs.Fractions.{IsFraction};
 ghost use Rattle.lv_segs.specs.Pieces.{IsPiece, same_place};
-ghost use Rattle.lv_segs.specs.Division.{place_of, parts_of, IsDivided, LiesAlong};
+ghost use Rattle.lv_segs.specs.Division.{place_of_piece, parts_of, IsDivided, LiesAlong};
 ghost use Rattle.lv_segs.specs.Edges.{edges_of};
 ghost use Rattle.lv_segs.specs.Local.{IsLineRay, HasFractions, place_on, parts_on, cut_on};
 
@@ -150,7 +150,7 @@ pub fn side_of(map: &Map, partition: &Piece, piece: &Piece) -> Place
     requires line { piece.now.line < length (edges_of map.now.tables) }
     requires from { IsFraction piece.now.from }
     requires to { IsFraction piece.now.to }
-    ensures { result ≡ place_of (edges_of map.now.tables) partition.now piece.now }
+    ensures { result ≡ place_of_piece (edges_of map.now.tables) partition.now piece.now }
 {
     let along = edge_of(map, partition.line);
     let own = edge_of(map, piece.line);

@@ -11,6 +11,8 @@ mod first;
 mod frac;
 mod laws;
 mod line_angles;
+mod line_fault;
+mod line_list;
 mod line_points;
 mod map_lines;
 mod numbered;
@@ -32,6 +34,8 @@ pub use laws::{
     trees_keep_their_list,
 };
 pub use line_angles::angles_in;
+pub use line_fault::{LineFault, LinesError};
+pub use line_list::edges_in;
 pub use line_points::point;
 pub use map_lines::{edges_of, lines_are_drawn};
 pub use numbered::Points;

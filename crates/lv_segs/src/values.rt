@@ -2,7 +2,7 @@
 ghost use Rattle.std.specs.Prelude.{◌≡◌, pos, neg_ℤ, ◌≤ℤ◌, ◌*ℤ◌};
 ghost use Rattle.lv_lumps.specs.Drawing.{IsDrawable};
 ghost use Rattle.lv_segs.specs.Plane.{vertex_value, ray, IsEdge, dot};
-ghost use Rattle.lv_segs.specs.Fractions.{zero_between};
+ghost use Rattle.lv_segs.specs.Fractions.{zero_between, IsFraction};
 ghost use Rattle.lv_segs.specs.Local.{IsLineRay, IsSideValue};
 
 use crate::edge::{Edge, Facing};
@@ -36,17 +36,18 @@ pub fn value_at(ray: Ray, place: Vertex) -> i64
 pub(crate) fn zero_of(first: i64, last: i64) -> Frac
     requires first { IsSideValue first }
     requires last { IsSideValue last }
+    requires fraction { IsFraction (zero_between first last) }
     ensures { result ≡ zero_between first last }
 {
     if first < last {
         Frac {
-            n: -first as i128,
-            d: (last - first) as i128,
+            n: -first as i32,
+            d: (last - first) as i32,
         }
     } else {
         Frac {
-            n: first as i128,
-            d: (first - last) as i128,
+            n: first as i32,
+            d: (first - last) as i32,
         }
     }
 }

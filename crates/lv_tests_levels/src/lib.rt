@@ -4,6 +4,12 @@
 #[cfg(test)]
 mod expect;
 #[cfg(test)]
+mod foreign;
+#[cfg(test)]
+mod graphics;
+#[cfg(test)]
+mod lines;
+#[cfg(test)]
 mod listing;
 #[cfg(test)]
 mod nodes;
@@ -11,6 +17,8 @@ mod nodes;
 mod partition;
 #[cfg(test)]
 mod pwad;
+#[cfg(test)]
+mod rebuilt;
 #[cfg(test)]
 mod segs;
 #[cfg(test)]

@@ -2,9 +2,10 @@
 
 use crate::expect::{holds, same};
 use lv_blockmap::{BlockmapError, blockmap, touches};
-use lv_lumps::Vertex;
+use lv_lumps::{Name8, Vertex};
 use lv_pwad::{
-    BuildError, Fault, ReadError, audit, build_all, build_counted, build_wad, read_level, reject,
+    BuildError, Fault, ReadError, Unbuilt, audit, build_all, build_counted, build_wad, read_level,
+    reject,
 };
 use lv_tests_maps::drawing::{CUT, L, ROOM, SECTOR, SIDE, SLIVER, TWO_ROOMS, drawn};
 use std::alloc::Global;
@@ -318,19 +319,31 @@ const TWO_REFUSED: [&[u8]; 6] = [
     b"map MAP02",
 ];
 
-// Lines, and the refusal of the build of all maps that they leave.
+// Lines, the refusal of the build of all maps that they leave, and the name of the map that is refused.
 #[rattlefmt::skip]
-const REFUSED: &[(&[&[u8]], BuildError)] = &[
-    (&[ROOM, b"map MAP02"], BuildError::NothingToBuild),
-    (&TWO_REFUSED, BuildError::BlockmapTooLarge),
+const REFUSED: &[(&[&[u8]], BuildError, [u8; 8])] = &[
+    (&[ROOM, b"map MAP02"], BuildError::NothingToBuild, *b"MAP02\0\0\0"),
+    (&[ROOM, b"map MAP02", b"map MAP03"], BuildError::NothingToBuild, *b"MAP02\0\0\0"),
+    (&TWO_REFUSED, BuildError::BlockmapTooLarge, *b"MAP01\0\0\0"),
 ];
 
 #[test]
 fn the_first_refusal_of_a_map_is_told(rt: HostRuntime) -> Result<(), Fail> {
-    for &(lines, error) in REFUSED {
+    for &(lines, error, _) in REFUSED {
         let maps = drawn(rt.alloc(), lines)?;
         let found = build_all(rt.alloc(), &maps).err();
         same(&rt, &found, &Some(error));
+    }
+    Ok(())
+}
+
+#[test]
+fn the_map_that_is_refused_is_named(rt: HostRuntime) -> Result<(), Fail> {
+    for &(lines, error, bytes) in REFUSED {
+        let maps = drawn(rt.alloc(), lines)?;
+        let found = build_counted(rt.alloc(), &maps).err();
+        let map = Some(Name8 { bytes });
+        same(&rt, &found, &Some(Unbuilt { error, map }));
     }
     Ok(())
 }

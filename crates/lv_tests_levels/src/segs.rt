@@ -74,7 +74,7 @@ fn offsets(rt: HostRuntime) {
 }
 
 // A piece's line and side, and the numerators and denominators of where it begins and ends.
-type Fields = (u16, Facing, [i128; 4]);
+type Fields = (u16, Facing, [i32; 4]);
 
 // Lines, and of the pieces of their map's sides which one is cut, by which, how it lies, and its parts on the right
 // and on the left.

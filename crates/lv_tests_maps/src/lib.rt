@@ -1,4 +1,5 @@
-//! The tests of lumps, maps, commands, findings, warnings, dumps and pictures: worked examples, and what lines draw.
+//! The tests of lumps, maps, commands, findings, warnings, dumps, scripts and pictures: worked examples, and what
+//! lines draw.
 #![tactic(auto)]
 
 #[cfg(test)]
@@ -7,6 +8,8 @@ mod bodies;
 mod checks;
 #[cfg(test)]
 mod commands;
+#[cfg(test)]
+mod draw;
 pub mod drawing;
 #[cfg(test)]
 mod dump;

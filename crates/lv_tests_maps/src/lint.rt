@@ -2,7 +2,8 @@
 
 use crate::drawing::{ROOM, SECTOR, TWO_ROOMS, draw, drawn};
 use crate::expect::same;
-use lv_lint::{Rule, Warning, lint};
+use lv_lint::{Rule, Warning, Whereabouts, lint, lint_graphics};
+use lv_lumps::{Name8, Vertex};
 use lv_maptables::Map;
 use std::alloc::Global;
 use std::test::Fail;
@@ -61,48 +62,70 @@ const ACROSS: [&[u8]; 7] = [
     b"line 4 5 4 0 0 0 0", b"line 6 7 4 0 0 0 0",
 ];
 
-// Lines that draw a map, further lines, and its warnings.
+// A second sector in a room, and the corners of a triangle, counterclockwise from vertex 4 on.
+#[rattlefmt::skip]
+const TRIANGLE: [&[u8]; 6] = [
+    ROOM, START, SECTOR, b"vertex 32 32", b"vertex 96 32", b"vertex 96 64",
+];
+
+// Lines that draw a map, further lines, and its warnings. Line 0 of a room goes from (0,0) to (0,128), and so on
+// clockwise.
 #[rattlefmt::skip]
 const REPORTS: &[(&[&[u8]], &[&[u8]], &str)] = &[
     (&[ROOM], &[START], ""),
     (&TWO_ROOMS, &[START], ""),
     (&[ROOM], &[], "no-start 1\n"),
-    (&[ROOM], &STARTS, "start-twice 2\nfew-deathmatch-starts 1\n"),
+    (&[ROOM], &STARTS, "start-twice 1 at (64,32)\nstart-twice 2 at (32,64)\nfew-deathmatch-starts 1\n"),
     (&[ROOM], &[START, b"set-sector 0 64 63 FLOOR4_8 CEIL3_5 160 0 0"], "ceiling-below-floor 0\n"),
     (&[ROOM], &[START, b"set-sector 0 64 64 FLOOR4_8 CEIL3_5 160 0 0"], ""),
-    (&[ROOM], &LIFTS, "tag-missing 1\ntag-of-no-sector 2\n"),
+    (&[ROOM], &LIFTS, "tag-missing 1 at (0,128) (128,128)\ntag-of-no-sector 2 at (128,128) (128,0)\n"),
     (&[ROOM], &[START, b"set-sector 0 0 128 FLOOR4_8 CEIL3_5 160 0 9"], "tag-of-no-line 0\n"),
     (&[ROOM], &[START, b"set-sector 0 0 128 FLOOR4_8 CEIL3_5 160 9 666"], ""),
     (&[ROOM], &[START, b"set-line 3 3 0 1 78 0 3 -", b"set-line 2 2 3 1 142 0 2 -", b"set-line 1 1 2 1 48 0 1 -"],
-        "line-special-unknown 2\nline-special-unknown 3\n"),
+        "line-special-unknown 2 at (128,128) (128,0)\nline-special-unknown 3 at (128,0) (0,0)\n"),
     (&[ROOM], &[START, b"set-sector 0 0 128 FLOOR4_8 CEIL3_5 160 6 0"], "sector-special-unknown 0\n"),
     (&[ROOM], &[START, b"thing 64 32 90 2009 7", b"thing 64 32 90 3006 7", b"thing 64 32 90 0 7"],
-        "thing-type-unknown 1\nthing-type-unknown 3\n"),
-    (&TWO_ROOMS, &[START, b"set-side 4 0 0 - STEP1 - 0"], "texture-hidden 2\n"),
+        "thing-type-unknown 1 at (64,32)\nthing-type-unknown 3 at (64,32)\n"),
+    (&TWO_ROOMS, &[START, b"set-side 4 0 0 - STEP1 - 0"],
+        "texture-hidden 2 at (128,128) (128,0)\n"),
     (&TWO_ROOMS, &[START, b"set-side 4 0 0 - - MIDGRATE 0"], ""),
-    (&[ROOM], &REVERSED, "sector-inside-out 0\nthing-outside 0\n"),
-    (&[ROOM], &[START, SECTOR], "sector-inside-out 1\n"),
+    (&[ROOM], &REVERSED, "sector-inside-out 0\nthing-outside 0 at (64,64)\n"),
+    // without a line, with each line on both sides, inside out, and the right way round
+    (&[ROOM], &[START, SECTOR], ""),
+    (&TRIANGLE, &[b"side 0 0 - - - 1", b"line 4 5 4 0 0 4 4", b"line 5 6 4 0 0 4 4", b"line 6 4 4 0 0 4 4"], ""),
+    (&TRIANGLE, &[b"side 0 0 - - - 1", b"line 4 5 4 0 0 4 0", b"line 5 6 4 0 0 4 0", b"line 6 4 4 0 0 4 0"],
+        "sector-inside-out 1\n"),
+    (&TRIANGLE, &[b"side 0 0 - - - 1", b"line 4 5 4 0 0 0 4", b"line 5 6 4 0 0 0 4", b"line 6 4 4 0 0 0 4"], ""),
     // in the middle of both
     (&PLACES, &[b"vertex 48 64", b"line 4 6 4 0 0 0 0", b"vertex 80 16", b"line 9 10 4 0 0 0 0"],
-        "line-crossed 4\nline-crossed 5\n"),
-    (&[ROOM], &ACROSS, "line-crossed 4\nline-crossed 5\n"),
+        "line-crossed 4 at (32,32) (96,32)\nline-crossed 5 at (48,64) (80,16)\n"),
+    (&[ROOM], &ACROSS, "line-crossed 4 at (200,-1000) (200,1000)\nline-crossed 5 at (150,700) (300,900)\n"),
     // an end on a wall, between its ends
-    (&PLACES, &[b"line 8 4 4 0 0 0 0"], "line-crossed 0\nline-crossed 4\n"),
-    (&PLACES, &[b"line 4 8 4 0 0 0 0"], "line-crossed 0\nline-crossed 4\n"),
+    (&PLACES, &[b"line 8 4 4 0 0 0 0"],
+        "line-crossed 0 at (0,0) (0,128)\nline-crossed 4 at (0,64) (32,32)\n"),
+    (&PLACES, &[b"line 4 8 4 0 0 0 0"],
+        "line-crossed 0 at (0,0) (0,128)\nline-crossed 4 at (32,32) (0,64)\n"),
     // along each other: in part, from a common end, all the way
-    (&PLACES, &[b"line 4 6 4 0 0 0 0", b"line 5 7 4 0 0 0 0"], "line-crossed 4\nline-crossed 5\n"),
-    (&PLACES, &[b"line 4 5 4 0 0 0 0", b"line 4 6 4 0 0 0 0"], "line-crossed 4\nline-crossed 5\n"),
-    (&PLACES, &[b"line 4 5 4 0 0 0 0", b"line 5 4 4 0 0 0 0"], "line-crossed 4\nline-crossed 5\n"),
+    (&PLACES, &[b"line 4 6 4 0 0 0 0", b"line 5 7 4 0 0 0 0"],
+        "line-crossed 4 at (32,32) (96,32)\nline-crossed 5 at (64,32) (112,32)\n"),
+    (&PLACES, &[b"line 4 5 4 0 0 0 0", b"line 4 6 4 0 0 0 0"],
+        "line-crossed 4 at (32,32) (64,32)\nline-crossed 5 at (32,32) (96,32)\n"),
+    (&PLACES, &[b"line 4 5 4 0 0 0 0", b"line 5 4 4 0 0 0 0"],
+        "line-crossed 4 at (32,32) (64,32)\nline-crossed 5 at (64,32) (32,32)\n"),
+    // an end of two lines on a third one
+    (&PLACES, &[b"vertex 48 64", b"line 4 6 4 0 0 0 0", b"line 5 8 4 0 0 0 0", b"line 5 9 4 0 0 0 0"],
+        "line-crossed 0 at (0,0) (0,128)\nline-crossed 4 at (32,32) (96,32)\n\
+         line-crossed 5 at (64,32) (0,64)\nline-crossed 6 at (64,32) (48,64)\n"),
     // with a common end alone, apart on one straight line, and apart with boxes that meet
     (&PLACES, &[b"line 4 5 4 0 0 0 0", b"line 5 6 4 0 0 0 0"], ""),
     (&PLACES, &[b"line 4 5 4 0 0 0 0", b"line 6 7 4 0 0 0 0"], ""),
     (&PLACES, &[b"vertex 96 96", b"line 4 9 4 0 0 0 0", b"vertex 80 48", b"line 5 10 4 0 0 0 0"], ""),
     // outside the walls, in a hole, on a wall, and on a two-sided line
     (&[ROOM], &[START, b"thing 200 64 90 2001 7", b"thing -8 64 90 2001 7", b"thing 64 129 90 2001 7"],
-        "thing-outside 1\nthing-outside 2\nthing-outside 3\n"),
-    (&[ROOM], &PILLAR, "thing-outside 1\n"),
+        "thing-outside 1 at (200,64)\nthing-outside 2 at (-8,64)\nthing-outside 3 at (64,129)\n"),
+    (&[ROOM], &PILLAR, "thing-outside 1 at (40,40)\n"),
     (&[ROOM], &[START, b"thing 128 64 90 2001 7", b"thing 64 0 90 2001 7", b"thing 127 127 90 2001 7"],
-        "thing-outside 1\nthing-outside 2\n"),
+        "thing-outside 1 at (128,64)\nthing-outside 2 at (64,0)\n"),
     (&TWO_ROOMS, &[START, b"thing 128 64 90 2001 7"], ""),
 ];
 
@@ -122,22 +145,74 @@ fn maps_have_their_warnings(rt: HostRuntime) -> Result<(), Fail> {
     Ok(())
 }
 
-// The warnings of an empty map with a sector.
+// The warnings of a room that has a thing outside it, and no start.
 const FOUND: [Warning; 2] = [
     Warning {
         rule: Rule::PlayerStart,
         number: 1,
+        whereabouts: Whereabouts::Unplaced,
     },
     Warning {
-        rule: Rule::SectorInside,
+        rule: Rule::ThingInside,
         number: 0,
+        whereabouts: Whereabouts::At(Vertex { x: 200, y: 64 }),
     },
 ];
 
 #[test]
-fn a_warning_has_its_rule_and_number(rt: HostRuntime) -> Result<(), Fail> {
-    let maps = drawn(rt.alloc(), &[SECTOR])?;
+fn a_warning_has_its_rule_number_and_place(rt: HostRuntime) -> Result<(), Fail> {
+    let maps = drawn(rt.alloc(), &[ROOM, b"thing 200 64 90 2001 7"])?;
     let found = lint(rt.alloc(), maps.current())?;
     assert_eq!(rt; found.as_slice(), FOUND.as_slice());
+    Ok(())
+}
+
+const FLOOR: Name8 = Name8 {
+    bytes: *b"FLOOR4_8",
+};
+
+const CEILING: Name8 = Name8 {
+    bytes: *b"CEIL3_5\0",
+};
+
+const WALL: Name8 = Name8 {
+    bytes: *b"STARTAN3",
+};
+
+// What is drawn further in a room, the flats and textures of a WAD, and what the room has beyond them. The sky needs no
+// flat, and `-` no texture.
+#[rattlefmt::skip]
+const BEYOND: &[(&[&[u8]], &[Name8], &[Name8], &str)] = &[
+    (&[], &[CEILING, FLOOR], &[WALL], ""),
+    (&[], &[FLOOR], &[WALL], "flat-unknown 0\n"),
+    (&[], &[CEILING], &[WALL], "flat-unknown 0\n"),
+    (&[b"set-sector 0 0 128 FLOOR4_8 F_SKY1 160 0 0"], &[FLOOR], &[WALL], ""),
+    (&[b"set-side 2 0 0 - - BRICK1 0"], &[CEILING, FLOOR], &[WALL], "texture-unknown 2 at (128,128) (128,0)\n"),
+    (&[b"set-side 2 0 0 - BRICK1 - 0"], &[CEILING, FLOOR], &[WALL], "texture-unknown 2 at (128,128) (128,0)\n"),
+    (&[b"set-side 2 0 0 - - - 0"], &[CEILING, FLOOR], &[WALL], ""),
+];
+
+// The warnings of names in the map that a room and further lines draw.
+fn beyond(
+    alloc: Global,
+    further: &[&[u8]],
+    flats: &[Name8],
+    textures: &[Name8],
+) -> Result<String, Fail> {
+    let mut maps = drawn(alloc, &[ROOM])?;
+    draw(&mut maps, further)?;
+    let mut text = String::new(alloc);
+    for warning in &lint_graphics(alloc, maps.current(), flats, textures)? {
+        writeln!(text, "{warning}")?;
+    }
+    Ok(text)
+}
+
+#[test]
+fn a_map_may_have_names_that_a_wad_lacks(rt: HostRuntime) -> Result<(), Fail> {
+    for &(further, flats, textures, warnings) in BEYOND {
+        let found = beyond(rt.alloc(), further, flats, textures)?;
+        same(&rt, &found.as_str(), &warnings);
+    }
     Ok(())
 }

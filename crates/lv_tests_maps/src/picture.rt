@@ -2,7 +2,9 @@
 
 use crate::drawing::{ROOM, SECTOR, SIDE, drawn};
 use crate::expect::same;
-use lv_picture::{PictureError, PictureOptions, STYLE, write_picture};
+use lv_lumps::{Bounds, Node, Seg, Sub, Vertex};
+use lv_picture::{PictureOptions, STYLE, write_picture};
+use lv_svg::{Mark, MarkPlace, Overlay, PictureError};
 use std::alloc::Global;
 use std::io;
 use std::io::Write;
@@ -13,7 +15,8 @@ const DRAWING: [&[u8]; 3] = [b"name E1M1", ROOM, b"thing 64 64 90 1 7"];
 
 // Its picture up to the style, worked by hand: the room and 64 on each side. y grows downwards, so the upper edge is
 // 64 above -128.
-const FRONT: &[u8] = br#"<svg xmlns="http://www.w3.org/2000/svg" version="1.1" width="100%"
+const FRONT: &[u8] =
+    br#"<svg class="leveled" xmlns="http://www.w3.org/2000/svg" version="1.1" width="100%"
 viewBox="-64 -192 256 256" font-size="8">
 <title>E1M1</title>
 "#;
@@ -62,7 +65,8 @@ const SLANT: [&[u8]; 11] = [
     b"thing 50 -10 45 11 7", b"thing 51 -11 0 3001 7", b"thing 52 -12 270 2001 7", b"thing 53 -13 180 2035 0",
 ];
 
-const SLANT_FRONT: &[u8] = br#"<svg xmlns="http://www.w3.org/2000/svg" version="1.1" width="100%"
+const SLANT_FRONT: &[u8] =
+    br#"<svg class="leveled" xmlns="http://www.w3.org/2000/svg" version="1.1" width="100%"
 viewBox="-64 -64 229 158" font-size="8">
 <title>MAP01</title>
 "#;
@@ -98,12 +102,108 @@ const SLANT_NUMBERS: &[u8] = br#"<text class="of-vertex" x="0" y="0" dx="8" dy="
 
 const END: &[u8] = b"</svg>\n";
 
-// The picture of what these lines draw.
-fn picture(alloc: Global, lines: &[&[u8]], numbers: bool) -> Result<Vec<u8>, Fail> {
+// A tree that is no room's: two subsectors, of two segs and of one, and a node whose partition runs from (32,0) by 0
+// and 64, past the boxes of its children, which reach from 0 to 128 and from -16 to 100.
+#[rattlefmt::skip]
+const SEGS: [Seg; 3] = [
+    Seg { first: 0, second: 1, angle: 0, line: 0, side: 0, offset: 0 },
+    Seg { first: 1, second: 2, angle: 0, line: 1, side: 0, offset: 0 },
+    Seg { first: 2, second: 0, angle: 0, line: 2, side: 0, offset: 0 },
+];
+
+#[rattlefmt::skip]
+const NODE: Node = Node {
+    x: 32, y: 0, dx: 0, dy: 64, right: 0x8000, left: 0x8001,
+    right_box: Bounds { top: 100, bottom: 0, left: 32, right: 128 },
+    left_box: Bounds { top: 64, bottom: -16, left: 0, right: 32 },
+};
+
+// What is laid over with it, worked by hand. A seg stands 8 / 3 = 2 to its right: that of the first, which goes north,
+// is east; of the second, which goes east, south; the third goes by -128 and -128, so that it is 2 to the west and, on
+// the picture, 2 up. The partition's greater number becomes 65,536. The text of a mark is XML's.
+const LAID_OVER: &[u8] = br#"<g id="sub0" class="sub0">
+<title>subsector 0: first seg 0, count 2</title>
+<path d="M0 0m2 0l0 -128M0 -128m0 2l128 0"/></g>
+<g id="sub1" class="sub1">
+<title>subsector 1: first seg 2, count 1</title>
+<path d="M128 -128m-2 -2l-128 128"/></g>
+<g id="node0" class="node">
+<title>node 0: from 32 0 by 0 64</title>
+<clipPath id="box0">
+<rect x="0" y="-100" width="128" height="116"/></clipPath>
+<path clip-path="url(#box0)" d="M32 0l0 -65536M32 0l0 65536"/></g>
+<g id="lint0" class="lint">
+<title>a &lt;b&gt; &amp; c</title>
+<path d="M-64 -192m32 32h0"/></g>
+<g id="lint1" class="lint">
+<title>thing 0</title>
+<path d="M64 -64L64 -64"/></g>
+<g id="lint2" class="lint">
+<title></title>
+<path d="M0 0L0 -128"/></g>
+"#;
+
+// Nothing to lay over a picture.
+fn nothing(alloc: Global) -> Overlay {
+    Overlay {
+        vertices: Vec::new(alloc),
+        segs: Vec::new(alloc),
+        subs: Vec::new(alloc),
+        nodes: Vec::new(alloc),
+        marks: Vec::new(alloc),
+    }
+}
+
+// A mark of this text.
+fn mark(alloc: Global, place: MarkPlace, text: &str) -> Result<Mark, Fail> {
+    let text = String::from_str(alloc, text)?;
+    Ok(Mark { place, text })
+}
+
+// The tree above, and marks of each kind.
+fn tree_and_marks(alloc: Global) -> Result<Overlay, Fail> {
+    let corner = Vertex { x: 0, y: 0 };
+    let north = Vertex { x: 0, y: 128 };
+    let mut overlay = nothing(alloc);
+    overlay.vertices.push(corner)?;
+    overlay.vertices.push(north)?;
+    overlay.vertices.push(Vertex { x: 128, y: 128 })?;
+    overlay.segs.extend_from_slice(&SEGS)?;
+    overlay.subs.push(Sub { count: 2, first: 0 })?;
+    overlay.subs.push(Sub { count: 1, first: 2 })?;
+    overlay.nodes.push(NODE)?;
+    overlay
+        .marks
+        .push(mark(alloc, MarkPlace::Corner, "a <b> & c")?)?;
+    let thing = MarkPlace::At(Vertex { x: 64, y: 64 });
+    overlay.marks.push(mark(alloc, thing, "thing 0")?)?;
+    overlay
+        .marks
+        .push(mark(alloc, MarkPlace::Along(corner, north), "")?)?;
+    Ok(overlay)
+}
+
+// The picture of what these lines draw, with this laid over it.
+fn laid_over(
+    alloc: Global,
+    lines: &[&[u8]],
+    numbers: bool,
+    overlay: &Overlay,
+) -> Result<Vec<u8>, Fail> {
     let maps = drawn(alloc, lines)?;
     let mut text = Vec::new(alloc);
-    write_picture(maps.current(), PictureOptions { numbers }, &mut text)?;
+    write_picture(
+        maps.current(),
+        PictureOptions { numbers },
+        overlay,
+        &mut text,
+    )?;
     Ok(text)
+}
+
+// The picture of what these lines draw.
+fn picture(alloc: Global, lines: &[&[u8]], numbers: bool) -> Result<Vec<u8>, Fail> {
+    laid_over(alloc, lines, numbers, &nothing(alloc))
 }
 
 // These texts in a row, the style behind the first.
@@ -145,6 +245,18 @@ fn draws_a_slanting_line(rt: HostRuntime) -> Result<(), Fail> {
     Ok(())
 }
 
+#[test]
+fn lays_a_tree_and_marks_over_a_room(rt: HostRuntime) -> Result<(), Fail> {
+    let overlay = tree_and_marks(rt.alloc())?;
+    let found = laid_over(rt.alloc(), &DRAWING, true, &overlay)?;
+    same(
+        &rt,
+        &found,
+        &joined(rt.alloc(), FRONT, &[BACK, NUMBERS, LAID_OVER, END])?,
+    );
+    Ok(())
+}
+
 // A writer that takes nothing.
 #[derive(Drop)]
 struct Full;
@@ -162,7 +274,9 @@ impl Write for Full {
 #[test]
 fn tells_of_a_full_writer(rt: HostRuntime) -> Result<(), Fail> {
     let maps = drawn(rt.alloc(), &DRAWING)?;
-    let told = write_picture(maps.current(), PictureOptions { numbers: false }, &mut Full);
+    let overlay = nothing(rt.alloc());
+    let options = PictureOptions { numbers: false };
+    let told = write_picture(maps.current(), options, &overlay, &mut Full);
     same(&rt, &told, &Err(PictureError::WriterFailed));
     same(&rt, &PictureError::WriterFailed.code(), &38);
     Ok(())

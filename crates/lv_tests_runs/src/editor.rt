@@ -2,8 +2,9 @@
 
 use crate::expect::same;
 use crate::streams::{Drip, Endless, Held, Narrow};
-use lv_editor::{EditorError, perform, run_in_memory, write_findings};
+use lv_editor::{EditorError, run_in_memory, write_findings};
 use lv_maptables::Map;
+use lv_program::perform;
 use lv_requests::{Request, RequestError, request};
 use std::alloc::Global;
 use std::io::{Read, Write};

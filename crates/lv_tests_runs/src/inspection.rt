@@ -1,7 +1,8 @@
 //! The inspection of a level: a worked room as a WAD, and the same with one byte changed.
 
 use crate::expect::same;
-use lv_editor::{InspectError, inspect, perform};
+use lv_editor::{InspectError, inspect};
+use lv_program::perform;
 use lv_pwad::ReadError;
 use lv_requests::request;
 use std::alloc::{AllocError, Global};
@@ -119,7 +120,7 @@ const CALLS: &[Call] = &[
         b"",
         1,
         b"",
-        b"leveled: 60 NothingToBuild\n",
+        b"leveled: 60 NothingToBuild\n  MAP01: has no line\n",
     ),
     (&["leveled", "edit", "room.lv"], ROOM, 0, b"ok 0\n", b""),
     (
@@ -176,8 +177,8 @@ const CALLS: &[Call] = &[
 // What is told of the room as it is built.
 const ROOM_BUILT: &[u8] = b"built vertices 4 segs 4 subsectors 1 nodes 0 bytes 515\n";
 
-// What the program does for these words: the status, the output, and what it says of a refusal.
-fn performed(
+/// What the program does for these words: the status, the output, and what it says of a refusal.
+pub fn performed(
     rt: &HostRuntime,
     words: &[&str],
     input: &[u8],

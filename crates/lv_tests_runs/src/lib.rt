@@ -14,6 +14,8 @@ mod inspection;
 #[cfg(test)]
 mod lints;
 #[cfg(test)]
+mod pictures;
+#[cfg(test)]
 mod project_run;
 #[cfg(test)]
 mod streams;

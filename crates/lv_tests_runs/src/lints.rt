@@ -17,7 +17,7 @@ const ROWS: &[(&[u8], u8, &[u8])] = &[
         b"room 0 0 256 256 0 128 FLOOR4_8 CEIL3_5 STARTAN3 160\nthing 64 64 0 1 7\n\
           thing 192 192 0 9999 7\nvertex 512 0\n",
         3,
-        b"MAP01 vertex 4 unused\nMAP01 thing-type-unknown 1\nfindings 2\n",
+        b"MAP01 vertex 4 unused\nMAP01 thing-type-unknown 1 at (192,192)\nfindings 2\n",
     ),
     (
         b"room 0 0 256 256 0 128 FLOOR4_8 CEIL3_5 STARTAN3 160\nthing 64 64 0 1 7\n\

@@ -3,7 +3,8 @@
 use crate::expect::same;
 use crate::streams::Narrow;
 use lv_disk::{Disk, FaultDisk, FileDisk, MemoryDisk};
-use lv_editor::{EditorError, answer, build_after_any_stop, perform, run};
+use lv_editor::{EditorError, answer, build_after_any_stop, run};
+use lv_program::perform;
 use lv_project::{Geometry, Project};
 use lv_requests::{RequestError, request};
 use lv_tests_store::small::{SMALL, created, empty_disk, found, vertices};

@@ -3,9 +3,9 @@ ghost use Rattle.std.specs.Prelude.{◌≡◌, ◌≤◌, ◌+◌, None, IfOk, I
 ghost use Rattle.lv_maptables.specs.Outcomes.{Covers, EndsExactly, least, unless};
 ghost use Rattle.lv_maptables.specs.Projects.{body_len, project_of};
 ghost use Rattle.lv_commands.specs.CommandRanges as of_one;
-ghost use Rattle.lv_commands.specs.ProjectCommands.{InRange};
-ghost use Rattle.lv_commands.specs.ProjectReadiness.{CanCommit, EndsStep, RefusesStep, growth_of, need_of};
-ghost use Rattle.lv_commands.specs.ProjectStep.{after, naming_faults, number_of, step};
+ghost use Rattle.lv_commands.specs.ProjectCommands.{InProjectRange};
+ghost use Rattle.lv_commands.specs.ProjectReadiness.{CanCommit, EndsStep, RefusesStep, project_growth_of, project_need_of};
+ghost use Rattle.lv_commands.specs.ProjectStep.{project_after, naming_faults, project_number_of, step};
 ghost use Rattle.lv_commands.specs.Readiness as of_one_map;
 ghost use Rattle.lv_commands.specs.Step as step_of_one_map;
 ghost use Rattle.lv_commands.specs.Step.{drop_faults, faults, without};
@@ -22,7 +22,7 @@ use lv_maptables::{Kind, MapError, Maps};
 // Whether the new body would be longer than `cap`, where nothing else refuses the command.
 fn is_full(maps: &Maps, command: &ProjectCommand, cap: u32) -> bool
     ensures { let p = project_of maps.now in result
-        ≡ nat_lt cap (body_len p + growth_of p command.now) }
+        ≡ nat_lt cap (body_len p + project_growth_of p command.now) }
 {
     u64::from(maps.body_len()) + growth_of(maps, command) > u64::from(cap)
 }
@@ -32,18 +32,19 @@ fn is_full(maps: &Maps, command: &ProjectCommand, cap: u32) -> bool
 /// body may have, and where one of 16 to 19 holds there is none. A command that adds nothing to a table never lacks
 /// memory.
 pub fn ready(maps: &mut Maps, command: &ProjectCommand, cap: u32) -> Result<Ready, CommandError>
-    requires range { InRange command.now }
+    requires range { InProjectRange command.now }
     requires fits { body_len (project_of maps.old) ≤ cap }
     ensures project { project_of maps.new ≡ project_of maps.old }
     ensures same { IfOk result (λ r. r.command ≡ command.now) }
     ensures accepted { let p = project_of maps.old in
         IfOk result (λ _. step p command.now cap
-        ≡ Ok (after p command.now, number_of p command.now)) }
-    ensures fits { IfOk result (λ _. body_len (after (project_of maps.old) command.now) ≤ cap) }
+        ≡ Ok (project_after p command.now, project_number_of p command.now)) }
+    ensures fits { IfOk result
+        (λ _. body_len (project_after (project_of maps.old) command.now) ≤ cap) }
     ensures ready { IfOk result (λ r. CanCommit maps.new r.command) }
     ensures refused { IfErr result
         (λ e. RefusesStep e (step (project_of maps.old) command.now cap)) }
-    ensures promised { Covers maps.old.spare (need_of command.now)
+    ensures promised { Covers maps.old.spare (project_need_of command.now)
         → IsErrOf result CommandError.OutOfMemory → ⊥ }
 {
     if let Err(error) = can_do(maps, command) {
@@ -118,8 +119,9 @@ fn edit(maps: &mut Maps, command: Command) -> u32
 fn commit_edit(maps: &mut Maps, command: Command) -> u32
     requires { CanCommit maps.old (ProjectCommand.Edit command) }
     ensures project { project_of maps.new
-        ≡ after (project_of maps.old) (ProjectCommand.Edit command) }
-    ensures number { result ≡ number_of (project_of maps.old) (ProjectCommand.Edit command) }
+        ≡ project_after (project_of maps.old) (ProjectCommand.Edit command) }
+    ensures number { result
+        ≡ project_number_of (project_of maps.old) (ProjectCommand.Edit command) }
 {
     edit(maps, command)
 }
@@ -127,8 +129,8 @@ fn commit_edit(maps: &mut Maps, command: Command) -> u32
 /// Makes the change that `ready` has decided on, and answers its number. It takes no memory and can't be refused.
 pub fn commit(maps: &mut Maps, ready: Ready) -> u32
     requires { CanCommit maps.old ready.command }
-    ensures project { project_of maps.new ≡ after (project_of maps.old) ready.command }
-    ensures number { result ≡ number_of (project_of maps.old) ready.command }
+    ensures project { project_of maps.new ≡ project_after (project_of maps.old) ready.command }
+    ensures number { result ≡ project_number_of (project_of maps.old) ready.command }
 {
     match ready.command {
         ProjectCommand::Edit(command) => commit_edit(maps, command),
@@ -140,12 +142,12 @@ pub fn commit(maps: &mut Maps, ready: Ready) -> u32
 /// Makes the change that a command asks for, and answers its number: `ready`, then `commit`. Where it is refused the
 /// project stays.
 pub fn apply(maps: &mut Maps, command: &ProjectCommand, cap: u32) -> Result<u32, CommandError>
-    requires range { InRange command.now }
+    requires range { InProjectRange command.now }
     requires fits { body_len (project_of maps.old) ≤ cap }
     ensures ends { let p = project_of maps.old in
         EndsStep result (step p command.now cap) p (project_of maps.new) }
     ensures fits { body_len (project_of maps.new) ≤ cap }
-    ensures promised { Covers maps.old.spare (need_of command.now)
+    ensures promised { Covers maps.old.spare (project_need_of command.now)
         → IsErrOf result CommandError.OutOfMemory → ⊥ }
 {
     let ready = ready(maps, command, cap)?;

@@ -3,7 +3,7 @@ ghost use Rattle.std.specs.Prelude.{◌≡◌, ◌++◌};
 ghost use Rattle.lv_maptables.specs.Outcomes.{Tells};
 ghost use Rattle.lv_maptables.specs.Projects.{current_map, has_map, project_of};
 ghost use Rattle.lv_commands.specs.ProjectStep.{current_faults, map_faults, naming_faults};
-ghost use Rattle.lv_commands.specs.ProjectReadiness.{growth_of, need_of};
+ghost use Rattle.lv_commands.specs.ProjectReadiness.{project_growth_of, project_need_of};
 ghost use Rattle.lv_commands.specs.Step.{faults};
 
 use crate::command::Command;
@@ -54,7 +54,7 @@ pub fn can_do(maps: &Maps, command: &ProjectCommand) -> Result<(), MapError>
 
 /// How many items a command adds to each table of the current map.
 pub fn need_of(command: &ProjectCommand) -> Need
-    ensures { result ≡ need_of command.now }
+    ensures { result ≡ project_need_of command.now }
 {
     match command {
         ProjectCommand::Edit(edit) => growth::need_of(edit),
@@ -71,7 +71,7 @@ fn has_map(maps: &Maps, name: Name8) -> bool
 
 /// By how many bytes a command lengthens a body at most.
 pub fn growth_of(maps: &Maps, command: &ProjectCommand) -> u64
-    ensures { result ≡ growth_of (project_of maps.now) command.now }
+    ensures { result ≡ project_growth_of (project_of maps.now) command.now }
 {
     match command {
         ProjectCommand::Edit(edit) => growth::growth_of(growth::need_of(edit)),

@@ -4,8 +4,8 @@ ghost use Rattle.lv_lumps.specs.Names.{is_marker};
 ghost use Rattle.lv_commands.specs.Errors.{TellsFault};
 ghost use Rattle.lv_commands.specs.Grammar as of_one_map;
 ghost use Rattle.lv_commands.specs.Places.{Named, places_fault};
-ghost use Rattle.lv_commands.specs.ProjectCommands.{InRange, map_word, spelling, words_of};
-ghost use Rattle.lv_commands.specs.ProjectGrammar.{fault_of, map_head_of};
+ghost use Rattle.lv_commands.specs.ProjectCommands.{InProjectRange, map_word, project_spelling, project_words_of};
+ghost use Rattle.lv_commands.specs.ProjectGrammar.{project_fault_of, map_head_of};
 ghost use Rattle.lv_commands.specs.declared.project.command.ProjectCommand.{ProjectCommand};
 ghost use Rattle.lv_commands.specs.Views.{reading};
 ghost use Rattle.lv_commands.specs.Words.{parts_behind};
@@ -47,7 +47,8 @@ fn map_head_in(word: &[u8]) -> Option<MapHead>
 fn map_command(head: MapHead, words: UnreadWords) -> Result<ProjectCommand, CommandError>
     requires { (reading words).fault ≡ None }
     ensures ok { IfOk result
-        (λ c. (map_word head ∷ (reading words.entry).words ≡ words_of c) × InRange c) }
+        (λ c. (map_word head ∷ (reading words.entry).words ≡ project_words_of c)
+        × InProjectRange c) }
     ensures fault { TellsFault result
         (places_fault (Named is_marker ∷ []) (reading words.entry).words) }
 {
@@ -63,7 +64,8 @@ fn map_command(head: MapHead, words: UnreadWords) -> Result<ProjectCommand, Comm
 // The command of the current map that a first word and what stands behind it are.
 fn edit(word: &[u8], rest: Option<&[u8]>) -> Result<ProjectCommand, CommandError>
     ensures ok { IfOk result
-        (λ c. (word.now ∷ parts_behind (option_copied rest.entry) ≡ words_of c) × InRange c) }
+        (λ c. (word.now ∷ parts_behind (option_copied rest.entry) ≡ project_words_of c)
+        × InProjectRange c) }
     ensures fault { TellsFault result
         (of_one_map.command_fault (word.now ∷ parts_behind (option_copied rest.entry))) }
 {
@@ -75,8 +77,8 @@ fn edit(word: &[u8], rest: Option<&[u8]>) -> Result<ProjectCommand, CommandError
 
 // The command that a line is, or what is wrong with it.
 fn read(line: &[u8]) -> Result<ProjectCommand, CommandError>
-    ensures ok { IfOk result (λ c. (line.now ≡ spelling c) × InRange c) }
-    ensures fault { TellsFault result (fault_of line.now) }
+    ensures ok { IfOk result (λ c. (line.now ≡ project_spelling c) × InProjectRange c) }
+    ensures fault { TellsFault result (project_fault_of line.now) }
 {
     if line.len() > LONGEST_LINE {
         return Err(CommandError::NotACommand);
@@ -90,9 +92,10 @@ fn read(line: &[u8]) -> Result<ProjectCommand, CommandError>
 
 /// The command that a line is. Where it is none the answer is 1, or the leftmost of 2 and 15. Takes no memory.
 pub fn parse(line: &[u8]) -> Result<ProjectCommand, CommandError>
-    ensures ok { IfOk result (λ c. (line.now ≡ spelling c) × InRange c) }
-    ensures all { (c : ProjectCommand) → InRange c → line.now ≡ spelling c → result ≡ Ok c }
-    ensures fault { TellsFault result (fault_of line.now) }
+    ensures ok { IfOk result (λ c. (line.now ≡ project_spelling c) × InProjectRange c) }
+    ensures all { (c : ProjectCommand) → InProjectRange c → line.now ≡ project_spelling c
+        → result ≡ Ok c }
+    ensures fault { TellsFault result (project_fault_of line.now) }
     ensures short { IfOk result (λ _. length line.now ≤ 256) }
 {
     read(line)

@@ -2,7 +2,7 @@
 ghost use Rattle.std.specs.Prelude.{◌≡◌, [], ◌∷◌, IfOk, IsOkUnless};
 ghost use Rattle.std.specs.List.{join_with_byte};
 ghost use Rattle.lv_lumps.specs.Names.{IsNamed, is_marker, name_text};
-ghost use Rattle.lv_commands.specs.ProjectCommands.{InRange, map_word, spelling};
+ghost use Rattle.lv_commands.specs.ProjectCommands.{InProjectRange, map_word, project_spelling};
 
 use crate::error::CommandError;
 use crate::project::command::{MapHead, ProjectCommand};
@@ -26,8 +26,8 @@ fn line(alloc: Global, head: MapHead, name: &Name8) -> Result<Vec<u8>, CommandEr
 
 /// The line that is the command, without an end of line. It is the one line that `parse` takes for it.
 pub fn print(alloc: Global, command: &ProjectCommand) -> Result<Vec<u8>, CommandError>
-    requires { InRange command.now }
-    ensures spelling { IfOk result (λ v. v.items ≡ spelling command.now) }
+    requires { InProjectRange command.now }
+    ensures spelling { IfOk result (λ v. v.items ≡ project_spelling command.now) }
     ensures memory { IsOkUnless result CommandError.OutOfMemory }
 {
     match command {

@@ -31,11 +31,11 @@ impl<T: Copy> Model for Table<T> {
 
     ghost Value = { TableView T };
 
-    ghost use Rattle.lv_maptables.specs.TableFields.{view_of, Keeps};
+    ghost use Rattle.lv_maptables.specs.TableFields.{view_of_table, KeepsTable};
 
-    ghost view = { view_of };
+    ghost view = { view_of_table };
 
-    ghost invariant = { Keeps };
+    ghost invariant = { KeepsTable };
 }
 
 // Lowers the ranks behind one that is gone.

@@ -3,7 +3,7 @@ ghost use Rattle.std.specs.Prelude.{◌≡◌, ◌≢◌, ◌≤◌, ◌<◌, fa
 ghost use Rattle.lv_maptables.specs.Ranges.{IsNamed, is_marker};
 ghost use Rattle.lv_maptables.specs.Outcomes.{EndsExactly, Tells};
 ghost use Rattle.lv_maptables.specs.WellFormed.{WellFormed};
-ghost use Rattle.lv_maptables.specs.Projects.{WellFormedProject, project_of, current_map, is_named, number_of, has_map, map_limit};
+ghost use Rattle.lv_maptables.specs.Projects.{WellFormedProject, project_of, current_map, is_named, map_number_of, has_map, map_limit};
 ghost use Rattle.lv_maptables.specs.ProjectBody.{with_last};
 ghost use Rattle.lv_maptables.specs.ProjectEdits.{name_faults, select_faults, drop_map_faults, named_map, selected_map, dropped_map, with_selected};
 ghost use Rattle.lv_maptables.specs.Edits.{lowered};
@@ -24,7 +24,7 @@ fn has_name(map: &Map, name: Name8) -> bool
 impl Maps {
     // The number of the map of the name, and how many maps there are where none has it.
     fn number_of(&self, name: Name8) -> u32
-        ensures value { result ≡ number_of (project_of self.now) name }
+        ensures value { result ≡ map_number_of (project_of self.now) name }
         ensures limit { result ≤ length (project_of self.now).maps }
     {
         let len = self.len();

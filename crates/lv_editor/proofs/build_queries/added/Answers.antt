@@ -3,7 +3,7 @@ use Rattle.std.specs.Prelude.{flat_map}
 use Rattle.std.proofs.lemmas.Result.{IfOk-weaker}
 use Rattle.lv_lumps.specs.Records.{vertex_record}
 use Rattle.lv_lumps.specs.declared.records.Vertex.{Vertex}
-use Rattle.lv_pwad.specs.Views.{view}
+use Rattle.lv_levels.specs.Views.{view}
 use Rattle.lv_editor.proofs.build_queries.added.Goals as goal
 
 pub returns : goal.returns

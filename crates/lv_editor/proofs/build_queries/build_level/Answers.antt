@@ -1,8 +1,8 @@
 use Rattle.std.proofs.Common.{◌∙◌, List, ℕ, ap, subst}
 use Rattle.lv_lumps.specs.Names.{name_text}
 use Rattle.lv_lumps.specs.declared.records.Name8.{Name8}
-use Rattle.lv_pwad.specs.Levels.{IsLevel}
-use Rattle.lv_pwad.specs.Views.{view}
+use Rattle.lv_levels.specs.Levels.{IsLevel}
+use Rattle.lv_levels.specs.Views.{view}
 use Rattle.lv_editor.proofs.build_queries.build_level.Goals as goal
 
 pub returns-in-Ok-clause-level : goal.returns-in-Ok-clause-level

@@ -1,5 +1,6 @@
 use Rattle.std.proofs.Common.{inl, inr, refl}
 use Rattle.lv_maptables.specs.Projects.{project_of}
+use Rattle.lv_pwad.proofs.ProjectLemmas.{of_all}
 use Rattle.lv_pwad.specs.Projects.{IsRefusalOfAll}
 use Rattle.lv_editor.specs.Building.{built_text}
 use Rattle.lv_editor.specs.Queries.{TellsBuild}
@@ -16,5 +17,5 @@ returns-in-Ok g c =
 pub returns-in-Err : goal.returns-in-Err
 returns-in-Err g c =
     let ms = (project_of c.args.maps.now).maps in
-    refusal_told c.write_refusal.result (λ text. TellsBuild ms text) (Unit {0}) (IsRefusalOfAll ms) c.in-Err.error (g.W.Write.contents c.args.writer.now)
-    (g.W.Write.contents c.write_refusal.new.writer) c.in-Err.ensures.refused (λ text told. inr told) tt c.write_refusal.ensures
+    refusal_told c.write_refusal.result (λ text. TellsBuild ms text) (Unit {0}) (IsRefusalOfAll ms) c.in-Err.unbuilt.error (g.W.Write.contents c.args.writer.now)
+    (g.W.Write.contents c.write_refusal.new.writer) (of_all ms c.in-Err.unbuilt.error c.in-Err.unbuilt.map c.in-Err.ensures.refused) (λ text told. inr told) tt c.write_refusal.ensures

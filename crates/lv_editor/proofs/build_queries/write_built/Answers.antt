@@ -1,6 +1,6 @@
 use Rattle.std.proofs.Common.{inl, inr, refl}
 use Rattle.lv_pwad.specs.Sound.{IsBuildRefusal}
-use Rattle.lv_pwad.specs.Views.{view}
+use Rattle.lv_levels.specs.Views.{view}
 use Rattle.lv_editor.specs.Queries.{TellsBuilt, built_lump_of}
 use Rattle.lv_editor.specs.Texts.{hex_text}
 use Rattle.lv_editor.proofs.Telling.{refusal_told, text_told}

@@ -1,5 +1,5 @@
 use Rattle.std.proofs.Common.{◌∙◌}
-use Rattle.lv_pwad.specs.Views.{view}
+use Rattle.lv_levels.specs.Views.{view}
 use Rattle.lv_editor.proofs.Inspecting.{lengths_written}
 use Rattle.lv_editor.proofs.inspection.write_lengths.Goals as goal
 

@@ -1,5 +1,5 @@
 use Rattle.std.proofs.Common.{◌≡◌}
-use Rattle.lv_pwad.specs.Views.{view}
+use Rattle.lv_levels.specs.Views.{view}
 use Rattle.std.proofs.Common.{is_none}
 use Rattle.lv_editor.specs.Inspections.{lengths_text, verdict_text}
 use Rattle.lv_editor.proofs.Inspecting.{then_told}

@@ -1,6 +1,6 @@
 use Rattle.std.specs.Prelude.{slice_get}
 use Rattle.lv_maptables.specs.Projects.{project_of}
-use Rattle.lv_editor.proofs.Counting.{no_nth}
+use Rattle.lv_editor.proofs.MapLines.{no_nth}
 use Rattle.lv_editor.proofs.MapLines.{nth_told}
 use Rattle.lv_editor.proofs.listing.write_nth.Goals as goal
 

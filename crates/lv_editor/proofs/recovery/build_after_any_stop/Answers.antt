@@ -3,7 +3,7 @@ use Rattle.std.proofs.lemmas.Result.{MatchResult-weaker}
 use Rattle.lv_maptables.specs.Projects.{MapsView, empty_project, project_of}
 use Rattle.lv_project.specs.Sessions.{KeepEach}
 use Rattle.lv_project.specs.Stands.{StandsFor}
-use Rattle.lv_editor.proofs.Sources.{refused_kept, stands_for}
+use Rattle.lv_editor.proofs.Recovering.{refused_kept, stands_for}
 use Rattle.lv_editor.proofs.recovery.build_after_any_stop.Goals as goal
 
 pub returns-in-Err-clause-built : goal.returns-in-Err-clause-built

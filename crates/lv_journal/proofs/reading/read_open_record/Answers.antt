@@ -8,7 +8,9 @@ use Rattle.lv_journal.specs.Records.{record_bytes}
 use Rattle.lv_journal.proofs.reading.read_open_record.Goals as goal
 
 -- a record from its three parts
-whole : (place n : ℕ) (payload file : List ℕ) → length payload ≡ n → HasAt place (165 ∷ []) file → HasAt (place + 1) (to_le_bytes w32 n) file → HasAt (place + 5) payload file → HasAt place (record_bytes payload) file
+whole : (place n : ℕ) (payload file : List ℕ) → length payload ≡ n → HasAt place (165 ∷ []) file
+    → HasAt (place + 1) (to_le_bytes w32 n) file → HasAt (place + 5) payload file
+    → HasAt place (record_bytes payload) file
 whole place n payload file is_long has_gate has_len has_payload =
     let le = to_le_bytes w32 (length payload) in
     let len : HasAt (place + 1) le file = subst (λ (k : ℕ). HasAt (place + 1) (to_le_bytes w32 k) file) (sym is_long) has_len in

@@ -5,7 +5,12 @@ use Rattle.lv_journal.proofs.reading.read_records.Goals as goal
 
 pub returns-then-end-area-clause-damaged : goal.returns-then-end-area-clause-damaged
 returns-then-end-area-clause-damaged g c place is file reads =
-    inl (cc, no_gate c.args.area c.min-end.result file (c.min-end.ensures ∙ ap (λ (k : ℕ). Prim.Native.Nat.min k (c.args.area.base + c.args.area.length)) (c.in_ok-len.ensures.told file reads)) c.if-end-area.true)
+    inl (
+      cc,
+      no_gate c.args.area c.min-end.result file
+          (c.min-end.ensures ∙ ap (λ (k : ℕ). Prim.Native.Nat.min k (c.args.area.base + c.args.area.length))
+          (c.in_ok-len.ensures.told file reads)) c.if-end-area.true,
+    )
 
 pub returns-clause-reads : goal.returns-clause-reads
 returns-clause-reads g c =

@@ -11,9 +11,21 @@ block_is old head payload four long short =
     let n = length payload in
     let mid = put_mid 4 (4 + n - 4) (head ++ drop 4 old) payload in
     let front : take (n + 4) mid ≡ head ++ payload =
-    take-put_mid 4 (4 + n - 4) (head ++ drop 4 old) payload (n + 4) (omega arith) (omega (arith, four, length-append head (drop 4 old))) ∙ ap (λ (l : List ℕ). l ++ payload) (take_at head (drop 4 old) 4 four) in
+    take-put_mid 4 (4 + n - 4) (head ++ drop 4 old) payload (n + 4) (omega arith)
+    (omega (arith, four, length-append head (drop 4 old)))
+    ∙ ap (λ (l : List ℕ). l ++ payload) (take_at head (drop 4 old) 4 four) in
     let size : n + 4 < length mid =
-    omega (arith, length-append (take 4 (head ++ drop 4 old)) (payload ++ drop (4 + n - 4) (drop 4 (head ++ drop 4 old))), length-append payload (drop (4 + n - 4) (drop 4 (head ++ drop 4 old))), length-drop (4 + n - 4) (drop 4 (head ++ drop 4 old)), length-drop 4 (head ++ drop 4 old), length-append head (drop 4 old), length-drop 4 old, length-take 4 (head ++ drop 4 old)) in
+    omega (
+      arith,
+      length-append (take 4 (head ++ drop 4 old))
+          (payload ++ drop (4 + n - 4) (drop 4 (head ++ drop 4 old))),
+      length-append payload (drop (4 + n - 4) (drop 4 (head ++ drop 4 old))),
+      length-drop (4 + n - 4) (drop 4 (head ++ drop 4 old)),
+      length-drop 4 (head ++ drop 4 old),
+      length-append head (drop 4 old),
+      length-drop 4 old,
+      length-take 4 (head ++ drop 4 old),
+    ) in
     let at : 4 + n ≡ n + 4 = omega arith in
     let last : n + 5 ≡ n + 4 + 1 = omega arith in
     ap (λ (k : ℕ). take (n + 5) (set mid k 0)) at ∙ ap (λ (k : ℕ). take k (set mid (n + 4) 0)) last ∙ take_more_set mid (n + 4) 0 size ∙ ap (λ (l : List ℕ). l ++ 0 ∷ []) front

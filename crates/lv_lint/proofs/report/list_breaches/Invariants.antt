@@ -5,4 +5,4 @@ use Rattle.lv_lint.proofs.report.list_breaches.Given as goal
 
 abbrev pub invariant-loop-n : goal.invariant-loop-n
 invariant-loop-n l =
-    l.found.items ≡ l.initial.found.items ++ map (warning_of l.rule) (filter (breaks l.map.tables l.rule) (range_with_len 0 l.n))
+    l.found.items ≡ l.initial.found.items ++ map (warning_of l.map.tables l.rule) (filter (breaks l.map.tables l.rule) (range_with_len 0 l.n))

@@ -11,5 +11,7 @@ use Rattle.lv_maptables.proofs.form.are_apart.Goals as goal
 pub returns-clause-apart : goal.returns-clause-apart
 returns-clause-apart c =
     let given = YieldsList-from_copied (YieldsList-from_slice c.args.vertices.now cc) in
-    let made : bag.IsFromIterResult same c.args.vertices.now c.in_ok-places.places = fact_from_collect {E = ℕ} (bag.IsFromIterResult same) (Ok c.in_ok-places.places) c.in_ok-places.ensures.ran given in
+    let made : bag.IsFromIterResult same c.args.vertices.now c.in_ok-places.places =
+    fact_from_collect {E = ℕ} (bag.IsFromIterResult same)
+    (Ok c.in_ok-places.places) c.in_ok-places.ensures.ran given in
     rw c.len.ensures.len (hash_set_len-Decides same_decides same_equiv c.args.vertices.now c.in_ok-places.places made)

@@ -1,19 +1,33 @@
-use Rattle.std.proofs.Common.{◌<◌, ◌∙◌, sym, subst, length, All, arith}
+use Rattle.std.proofs.Common.{◌<◌, ◌∙◌, sym, ap, subst, length, All, arith}
+use Rattle.std.proofs.lemmas.List.{length-map}
 use Rattle.lv_segs.specs.Plane.{IsEdge}
+use Rattle.lv_segs.specs.Edges.{edge_between}
 use Rattle.lv_nodes.specs.Sound.{AllDiffer}
-use Rattle.lv_nodes.proofs.RangeLemmas.{all_differ, built_result, refused_result}
+use Rattle.lv_nodes.proofs.RangeLemmas.{all_differ, built_result, differ_result, never_nothing, refused_result}
 use Rattle.lv_nodes.proofs.built.build_tree.Goals as goal
 
 pub build_over-requires-clause-lines : goal.build_over-requires-clause-lines
 build_over-requires-clause-lines c = subst (All IsEdge) (sym (c.deref.ensures.value ∙ c.in-Ok.ensures.edges)) c.edges_of.ensures.drawn
 
-pub build_over-requires-clause-differ : goal.build_over-requires-clause-differ
-build_over-requires-clause-differ c = subst AllDiffer (sym c.in-Ok-new.ensures.drawn) (all_differ c.args.map.now.tables.vertices c.count.ensures.well_formed.places)
-
 pub returns-clause-built : goal.returns-clause-built
 returns-clause-built c =
-    let some : 0 < length c.args.map.now.tables.lines = omega (arith, c.if-count-eq0.false, c.count.ensures.number) in
-    built_result c.args.map.now.tables c.deref.result.now c.in-Ok-new.points c.build_over.result (c.deref.ensures.value ∙ c.in-Ok.ensures.edges) c.in-Ok-new.ensures.drawn some c.build_over.ensures.sound c.build_over.ensures.built c.build_over.ensures.small
+    built_result c.args.map.now.tables c.deref.result.now c.in-Ok-new.points c.build_over.result (c.deref.ensures.value ∙ c.in-Ok.ensures.edges) c.in-Ok-new.ensures.drawn c.build_over.ensures.built
+
+pub returns-clause-differ : goal.returns-clause-differ
+returns-clause-differ c =
+    differ_result c.in-Ok-new.points c.deref.result.now c.build_over.result
+    (subst AllDiffer (sym c.in-Ok-new.ensures.drawn) (all_differ c.args.map.now.tables.vertices c.count.ensures.well_formed.places))
+    c.build_over.ensures.built
 
 pub returns-clause-refused : goal.returns-clause-refused
-returns-clause-refused c = refused_result c.args.map.now.tables c.deref.result.now c.in-Ok-new.points c.build_over.result (c.deref.ensures.value ∙ c.in-Ok.ensures.edges) c.in-Ok-new.ensures.drawn c.build_over.ensures.refused
+returns-clause-refused c =
+    refused_result c.args.map.now.tables c.deref.result.now c.in-Ok-new.points c.build_over.result
+    (c.deref.ensures.value ∙ c.in-Ok.ensures.edges) c.in-Ok-new.ensures.drawn c.build_over.ensures.refused
+
+pub returns-clause-nothing : goal.returns-clause-nothing
+returns-clause-nothing c =
+    let m = c.args.map.now.tables in
+    let some : 0 < length m.lines = omega (arith, c.if-count-eq0.false, c.count.ensures.number) in
+    let l = ap length (c.deref.ensures.value ∙ c.in-Ok.ensures.edges) in
+    let n = length-map m.lines (edge_between m.vertices) in
+    (λ e. absurd (never_nothing c.deref.result.now c.in-Ok-new.points c.build_over.result (omega (arith, l, n, some)) c.build_over.ensures.refused e), λ z. absurd (omega (arith, some, z)))

@@ -14,7 +14,9 @@ firsts : (c : In-Ok-of) → c.in-Ok-of.list.pieces.items ≡ first_pieces c.args
 firsts c = c.in-Ok-of.ensures.pieces ∙ c.in-Ok.ensures
 
 pub grow-requires-clause-reached : goal.grow-requires-clause-reached
-grow-requires-clause-reached c = reached_at c.args.lines.now c.requires.lines c.in-Ok-of.list.pieces.items c.deref_mut.result.now (firsts (goal.at.grow-requires-clause-reached c).In-Ok-of) (c.deref_mut.ensures.value ∙ c.in-Ok-no_flags.ensures)
+grow-requires-clause-reached c =
+    reached_at c.args.lines.now c.requires.lines c.in-Ok-of.list.pieces.items c.deref_mut.result.now
+    (firsts (goal.at.grow-requires-clause-reached c).In-Ok-of) (c.deref_mut.ensures.value ∙ c.in-Ok-no_flags.ensures)
 
 pub grow-requires-clause-some : goal.grow-requires-clause-some
 grow-requires-clause-some c =
@@ -35,5 +37,7 @@ returns-in-Err-grow-clause-refused c =
 
 pub returns-clause-lists : goal.returns-clause-lists
 returns-clause-lists c =
-    lists_at c.args.lines.now c.requires.lines c.in-Ok-of.list.pieces.items c.deref_mut.result.now _ (lists_of c.grow.new.grown) c.in-Ok-grow.field-0 (firsts (goal.at.returns-clause-lists c).In-Ok-of) (c.deref_mut.ensures.value ∙ c.in-Ok-no_flags.ensures)
+    lists_at c.args.lines.now c.requires.lines c.in-Ok-of.list.pieces.items c.deref_mut.result.now _
+    (lists_of c.grow.new.grown) c.in-Ok-grow.field-0 (firsts (goal.at.returns-clause-lists c).In-Ok-of)
+    (c.deref_mut.ensures.value ∙ c.in-Ok-no_flags.ensures)
     (no_lists_yet c.new-2.result.items c.new-3.result.items c.new-4.result.items c.new-2.ensures.items c.new-3.ensures.items c.new-4.ensures.items) c.in-Ok-grow.ensures.ok

@@ -11,7 +11,10 @@ pub bounds-boxes-n : goal.bounds-boxes-n
 bounds-boxes-n c = let l = boxes_length c.args.lines.now c.args.pieces.now c.args.boxes.now c.requires.boxes in omega arith
 
 pub put_parts-requires-clause-bounds : goal.put_parts-requires-clause-bounds
-put_parts-requires-clause-bounds c = subst (λ (bs : List Bounds). get_or bs c.loop-n.n no_box ≡ box_of c.args.lines.now (get_or c.args.pieces.now c.loop-n.n no_piece)) (sym c.requires.boxes) (box_there c.args.lines.now c.args.pieces.now c.loop-n.n no_box no_piece c.loop-n-test.true)
+put_parts-requires-clause-bounds c =
+    subst (λ (bs : List Bounds). get_or bs c.loop-n.n no_box
+    ≡ box_of c.args.lines.now (get_or c.args.pieces.now c.loop-n.n no_piece)) (sym c.requires.boxes)
+    (box_there c.args.lines.now c.args.pieces.now c.loop-n.n no_box no_piece c.loop-n-test.true)
 
 pub loop-n-preserved : goal.loop-n-preserved
 loop-n-preserved c =

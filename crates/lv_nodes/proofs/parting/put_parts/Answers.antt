@@ -33,12 +33,15 @@ returns-in-Right-clause-right c =
 pub returns-in-Right-clause-left : goal.returns-in-Right-clause-left
 returns-in-Right-clause-left c =
     let e = whole_right (goal.at.returns-in-Right-clause-left c).In-Right in
-    subst (λ (x : Parts). OnOk c.put_part.result (c.args.left.now.pieces.items ≡ c.args.left.now.pieces.items ++ cons_option x.left [])) (sym e) (nothing_more c.put_part.result c.args.left.now.pieces.items)
+    subst (λ (x : Parts). OnOk c.put_part.result (c.args.left.now.pieces.items ≡ c.args.left.now.pieces.items
+    ++ cons_option x.left [])) (sym e) (nothing_more c.put_part.result c.args.left.now.pieces.items)
 
 pub returns-in-Left-clause-right : goal.returns-in-Left-clause-right
 returns-in-Left-clause-right c =
     let e = whole_left (goal.at.returns-in-Left-clause-right c).In-Left in
-    subst (λ (x : Parts). OnOk c.put_part-in-Left.result (c.args.right.now.pieces.items ≡ c.args.right.now.pieces.items ++ cons_option x.right [])) (sym e) (nothing_more c.put_part-in-Left.result c.args.right.now.pieces.items)
+    subst (λ (x : Parts). OnOk c.put_part-in-Left.result
+    (c.args.right.now.pieces.items ≡ c.args.right.now.pieces.items ++ cons_option x.right [])) (sym e)
+    (nothing_more c.put_part-in-Left.result c.args.right.now.pieces.items)
 
 pub returns-in-Left-clause-left : goal.returns-in-Left-clause-left
 returns-in-Left-clause-left c =

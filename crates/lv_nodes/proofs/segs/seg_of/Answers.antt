@@ -8,7 +8,8 @@ use Rattle.lv_nodes.proofs.segs.seg_of.Goals as goal
 pub returns-in-Err-clause-refused : goal.returns-in-Err-clause-refused
 returns-in-Err-clause-refused c =
     let s = c.shape_of-shape in
-    first_refused c.args.lines.now c.args.points.now c.args.piece.now s.result.start c.in-Err.error (start_one c.args.lines.now c.args.piece.now.side c.args.piece.now s.result.start s.ensures.start) c.in-Err.ensures.refused
+    first_refused c.args.lines.now c.args.points.now c.args.piece.now s.result.start c.in-Err.error
+    (start_one c.args.lines.now c.args.piece.now.side c.args.piece.now s.result.start s.ensures.start) c.in-Err.ensures.refused
 
 pub returns-in-Err-number_of-clause-refused : goal.returns-in-Err-number_of-clause-refused
 returns-in-Err-number_of-clause-refused c =

@@ -3,8 +3,19 @@ use Rattle.std.proofs.lemmas.Option.{slice_get-get_or}
 use Rattle.std.proofs.lemmas.List.{length-append}
 use Rattle.lv_lumps.specs.declared.records.Seg.{Seg}
 use Rattle.lv_nodes.specs.Numbers.{AreNumbered}
-use Rattle.lv_nodes.proofs.Numbering.{segs_refused, next_numbered}
+use Rattle.lv_nodes.proofs.Numbering.{none_numbered, segs_refused, next_numbered}
 use Rattle.lv_nodes.proofs.segs.segs_of.Goals as goal
+
+pub loop-piece-init : goal.loop-piece-init
+loop-piece-init c =
+    let e = c.new-segs.ensures.items in
+    record {
+      numbered =
+          subst (λ (xs : List Seg).
+          AreNumbered c.args.lines.now c.args.points.now c.args.points.now c.args.pieces.now xs) (sym e)
+          (none_numbered c.args.lines.now c.args.points.now c.args.pieces.now c.requires.few);
+      many = ap length e;
+    }
 
 pub returns-in-Err-clause-refused : goal.returns-in-Err-clause-refused
 returns-in-Err-clause-refused c =

@@ -1,4 +1,4 @@
-use Rattle.std.proofs.Common.{◌≡◌, ◌+◌, ◌*◌, ◌-◌, ◌≤◌, ℕ, List, [], ◌∷◌, length, take, drop, ◌∙◌, sym, subst, ap, arith, All}
+use Rattle.std.proofs.Common.{◌≡◌, ◌+◌, ◌*◌, ◌-◌, ℕ, List, [], ◌∷◌, length, take, drop, sym, subst, ap, arith, All}
 use Rattle.std.proofs.lemmas.List.{length-append}
 use Rattle.lv_lumps.specs.declared.records.Bounds.{Bounds}
 use Rattle.lv_partition.specs.Blocks.{IsWithinBox, AreGroups}

@@ -12,7 +12,9 @@ difference c =
     let e = c.least_times-across.ensures in
     let f = c.least_times-upward.ensures in
     let o = c.requires in
-    sub_three c.least_times-across.result c.least_times-upward.result c.args.sight.offset (record { low = e.low; high = e.high }) (record { low = f.low; high = f.high }) (record { low = o.offset_low; high = o.offset_high })
+    sub_three c.least_times-across.result c.least_times-upward.result c.args.sight.offset
+    (record { low = e.low; high = e.high }) (record { low = f.low; high = f.high })
+    (record { low = o.offset_low; high = o.offset_high })
 
 pub overflow_sub-result : goal.overflow_sub-result
 overflow_sub-result c =
@@ -33,8 +35,18 @@ returns c =
     let fr : FitsSigned w16 b.right = search rules in
     let fb : FitsSigned w16 b.bottom = search rules in
     let ft : FitsSigned w16 b.top = search rules in
-    let across : c.least_times-across.result ≡ least_times r.dy b.left b.right = simp (to_z-of_z w32 r.dy fy, to_z-of_z w16 b.left fl, to_z-of_z w16 b.right fr) at c.least_times-across.ensures.value in
-    let upward : c.least_times-upward.result ≡ greatest_times r.dx b.bottom b.top = simp (to_z-of_z w32 r.dx fx, to_z-of_z w16 b.bottom fb, to_z-of_z w16 b.top ft) at c.least_times-upward.ensures.value in
+    let across : c.least_times-across.result ≡ least_times r.dy b.left b.right =
+    simp (
+      to_z-of_z w32 r.dy fy,
+      to_z-of_z w16 b.left fl,
+      to_z-of_z w16 b.right fr,
+    ) at c.least_times-across.ensures.value in
+    let upward : c.least_times-upward.result ≡ greatest_times r.dx b.bottom b.top =
+    simp (
+      to_z-of_z w32 r.dx fx,
+      to_z-of_z w16 b.bottom fb,
+      to_z-of_z w16 b.top ft,
+    ) at c.least_times-upward.ensures.value in
     (difference (goal.at.returns c).After-least_times-upward).is
     ∙ ap (λ (x : ℤ). x -ℤ c.least_times-upward.result -ℤ c.args.sight.offset) across
     ∙ ap (λ (x : ℤ). least_times r.dy b.left b.right -ℤ x -ℤ c.args.sight.offset) upward

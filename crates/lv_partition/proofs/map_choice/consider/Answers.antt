@@ -37,4 +37,5 @@ returns-then-used-piece c =
     let m = c.args.map.now.tables in
     let used = c.args.used.now in
     let p = c.args.piece.now in
-    used_stays (edges_of m) c.args.pieces.now used c.args.at p c.requires.stands c.args.best c.requires.few (within_used m used p c.requires.piece c.requires.known) c.if-used-piece.true c.requires.so_far
+    used_stays (edges_of m) c.args.pieces.now used c.args.at p c.requires.stands c.args.best c.requires.few
+    (within_used m used p c.requires.piece c.requires.known) c.if-used-piece.true c.requires.so_far

@@ -24,4 +24,5 @@ returns-then-value-sight-clause-left c = λ _.
     let v = c.place_value-value.result in
     let f : FitsSigned w64 h = search rules in
     let g : FitsSigned w64 v = search rules in
-    subst (λ (x : ℤ). (pos 2 *ℤ x) <ℤ neg_ℤ (pos (blur c.args.sight.ray))) c.place_value-value.ensures (beyond_left h v (pos (blur c.args.sight.ray)) f g c.requires.half_low c.requires.enough c.if-value-sight.true)
+    subst (λ (x : ℤ). (pos 2 *ℤ x) <ℤ neg_ℤ (pos (blur c.args.sight.ray))) c.place_value-value.ensures
+    (beyond_left h v (pos (blur c.args.sight.ray)) f g c.requires.half_low c.requires.enough c.if-value-sight.true)

@@ -1,4 +1,4 @@
-use Rattle.std.proofs.Common.{◌≡◌, ◌*◌, length}
+use Rattle.std.proofs.Common.{◌*◌}
 use Rattle.lv_partition.specs.Sorting.{IsSorted}
 use Rattle.lv_partition.proofs.sorting.sort_blocks.Given as goal
 

@@ -1,4 +1,4 @@
-use Rattle.std.proofs.Common.{◌≡◌, refl, ◌+◌, ◌*◌, length, take, drop, subst, arith, All, ℕ}
+use Rattle.std.proofs.Common.{◌≡◌, refl, ◌+◌, ◌*◌, length, take, drop, subst, arith, All}
 use Rattle.std.proofs.lemmas.List.{length-take, length-drop}
 use Rattle.std.proofs.lemmas.List.Elements.{All-take, All-drop}
 use Rattle.std.specs.Prelude.{pos, ◌<ℤ◌}
@@ -6,8 +6,6 @@ use Rattle.lv_lumps.specs.declared.plane.Ray.{Ray}
 use Rattle.lv_segs.specs.Pieces.{IsPiece}
 use Rattle.lv_segs.specs.Boxes.{least_value, greatest_value}
 use Rattle.lv_segs.proofs.BlockCounts.{block_right, block_left}
-use Rattle.lv_partition.specs.Sorting.{IsSorted}
-use Rattle.lv_partition.proofs.BoxLemmas.{blocks_within}
 use Rattle.lv_partition.proofs.OpenBlocks.{same_sorted, part_sorted}
 use Rattle.lv_partition.proofs.sorting.sort_group.Goals as goal
 

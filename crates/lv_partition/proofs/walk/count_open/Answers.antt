@@ -1,4 +1,4 @@
-use Rattle.std.proofs.Common.{◌≡◌, ◌+◌, ◌*◌, ◌-◌, ◌^◌, ◌<◌, ◌≤◌, ap, sym, ◌∙◌, subst, length, take, drop, min, get_or, arith, ℕ, List}
+use Rattle.std.proofs.Common.{◌≡◌, ◌+◌, ◌*◌, ◌-◌, ◌^◌, ◌<◌, ◌≤◌, ap, ◌∙◌, subst, length, take, drop, get_or, arith, List}
 use Rattle.std.proofs.lemmas.List.{length-take, length-drop}
 use Rattle.std.proofs.lemmas.List.Elements.{All-take, All-drop}
 use Rattle.lv_segs.specs.declared.piece.Piece.{Piece}
@@ -8,7 +8,7 @@ use Rattle.lv_partition.specs.declared.ends.Ends.{Ends}
 use Rattle.lv_partition.specs.Counts.{AreCounts}
 use Rattle.lv_partition.specs.Sorting.{pieces_in}
 use Rattle.lv_partition.proofs.BoxLemmas.{block_is}
-use Rattle.lv_partition.proofs.EndLemmas.{part_ends, ends_length}
+use Rattle.lv_partition.proofs.EndLemmas.{part_ends}
 use Rattle.lv_partition.proofs.OneMore.{counted_all}
 use Rattle.lv_partition.proofs.OpenBlocks.{open_left, all_length, counted_few, begins, open_counted, open_rest, none_open}
 use Rattle.lv_partition.proofs.walk.count_open.Goals as goal
@@ -74,7 +74,10 @@ count_list-more-requires-clause-ends c =
 
 -- what is known once the next open block is counted
 record Next (c : After-count_list-more) : Type 0 where
-  counted : Counted c.args.lines.now c.args.partition.now c.args.pieces.now (pieces_in c.args.pieces.now (drop (c.loop-n.n + 1) (take c.args.sorted.count c.args.noted.now))) (c.loop-n.counts.right + c.count_list-more.result.right) (c.loop-n.counts.left + c.count_list-more.result.left) (c.loop-n.counts.splits + c.count_list-more.result.splits)
+  counted : Counted c.args.lines.now c.args.partition.now c.args.pieces.now
+      (pieces_in c.args.pieces.now (drop (c.loop-n.n + 1) (take c.args.sorted.count c.args.noted.now)))
+      (c.loop-n.counts.right + c.count_list-more.result.right) (c.loop-n.counts.left + c.count_list-more.result.left)
+      (c.loop-n.counts.splits + c.count_list-more.result.splits)
   right : c.loop-n.counts.right + c.count_list-more.result.right < 2 ^ 32
   left : c.loop-n.counts.left + c.count_list-more.result.left < 2 ^ 32
   splits : c.loop-n.counts.splits + c.count_list-more.result.splits < 2 ^ 32
@@ -155,5 +158,6 @@ loop-n-preserved c =
 pub returns : goal.returns
 returns c =
     let f = c.loop-n-test.false in
-    let a = counted_all c.args.lines.now c.args.partition.now c.args.pieces.now _ _ _ _ (none_open c.args.lines.now c.args.partition.now c.args.pieces.now c.args.sorted.count c.loop-n.n c.args.noted.now (omega arith)) c.loop-n.invariant.counted in
+    let a = counted_all c.args.lines.now c.args.partition.now c.args.pieces.now _ _ _ _
+    (none_open c.args.lines.now c.args.partition.now c.args.pieces.now c.args.sorted.count c.loop-n.n c.args.noted.now (omega arith)) c.loop-n.invariant.counted in
     record { splits = a.0; right = a.1; left = a.2 }

@@ -9,16 +9,21 @@ use Rattle.lv_partition.proofs.walk.count_piece.Goals as goal
 use Rattle.lv_partition.proofs.walk.count_piece.Goals.{After-side_of_place-last}
 
 first_right : (c : After-side_of_place-last) → c.side_of_place-first.result ≡ Right → IsWellRight (ray_of c.args.lines.now c.args.partition.now) (first_end c.args.lines.now c.args.piece.now)
-first_right c e = subst (λ (r : Ray). IsWellRight r (first_end c.args.lines.now c.args.piece.now)) c.requires.ray (subst (λ (x : Ends). IsWellRight c.args.sight.ray x.first) c.requires.ends (c.side_of_place-first.ensures.right e))
+first_right c e =
+    subst (λ (r : Ray). IsWellRight r (first_end c.args.lines.now c.args.piece.now)) c.requires.ray
+    (subst (λ (x : Ends). IsWellRight c.args.sight.ray x.first) c.requires.ends (c.side_of_place-first.ensures.right e))
 
 first_left : (c : After-side_of_place-last) → c.side_of_place-first.result ≡ Left → IsWellLeft (ray_of c.args.lines.now c.args.partition.now) (first_end c.args.lines.now c.args.piece.now)
-first_left c e = subst (λ (r : Ray). IsWellLeft r (first_end c.args.lines.now c.args.piece.now)) c.requires.ray (subst (λ (x : Ends). IsWellLeft c.args.sight.ray x.first) c.requires.ends (c.side_of_place-first.ensures.left e))
+first_left c e = subst (λ (r : Ray). IsWellLeft r (first_end c.args.lines.now c.args.piece.now)) c.requires.ray
+    (subst (λ (x : Ends). IsWellLeft c.args.sight.ray x.first) c.requires.ends (c.side_of_place-first.ensures.left e))
 
 last_right : (c : After-side_of_place-last) → c.side_of_place-last.result ≡ Right → IsWellRight (ray_of c.args.lines.now c.args.partition.now) (last_end c.args.lines.now c.args.piece.now)
-last_right c e = subst (λ (r : Ray). IsWellRight r (last_end c.args.lines.now c.args.piece.now)) c.requires.ray (subst (λ (x : Ends). IsWellRight c.args.sight.ray x.last) c.requires.ends (c.side_of_place-last.ensures.right e))
+last_right c e = subst (λ (r : Ray). IsWellRight r (last_end c.args.lines.now c.args.piece.now)) c.requires.ray
+    (subst (λ (x : Ends). IsWellRight c.args.sight.ray x.last) c.requires.ends (c.side_of_place-last.ensures.right e))
 
 last_left : (c : After-side_of_place-last) → c.side_of_place-last.result ≡ Left → IsWellLeft (ray_of c.args.lines.now c.args.partition.now) (last_end c.args.lines.now c.args.piece.now)
-last_left c e = subst (λ (r : Ray). IsWellLeft r (last_end c.args.lines.now c.args.piece.now)) c.requires.ray (subst (λ (x : Ends). IsWellLeft c.args.sight.ray x.last) c.requires.ends (c.side_of_place-last.ensures.left e))
+last_left c e = subst (λ (r : Ray). IsWellLeft r (last_end c.args.lines.now c.args.piece.now)) c.requires.ray
+    (subst (λ (x : Ends). IsWellLeft c.args.sight.ray x.last) c.requires.ends (c.side_of_place-last.ensures.left e))
 
 pub returns-in-Right-Right : goal.returns-in-Right-Right
 returns-in-Right-Right c =

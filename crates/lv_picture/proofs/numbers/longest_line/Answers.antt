@@ -1,6 +1,6 @@
 use Rattle.std.proofs.Common.{◌∙◌, ◌<◌, None, length, arith}
 use Rattle.lv_picture.specs.Numbers.{longer}
-use Rattle.lv_picture.proofs.Growing.{folded_more}
+use Rattle.lv_svg.proofs.Growing.{folded_more}
 use Rattle.lv_picture.proofs.numbers.longest_line.Goals as goal
 
 pub loop-n-preserved : goal.loop-n-preserved

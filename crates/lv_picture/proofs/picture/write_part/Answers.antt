@@ -4,7 +4,7 @@ use Rattle.std.specs.List.{range_with_len}
 use Rattle.std.specs.Io.KnownBytes.{Appends}
 use Rattle.std.proofs.KnownBytes.{Appends-nil, Appends-trans}
 use Rattle.lv_picture.specs.Picture.{element}
-use Rattle.lv_picture.proofs.Growing.{numbered_more}
+use Rattle.lv_svg.proofs.Growing.{numbered_more}
 use Rattle.lv_picture.proofs.picture.write_part.Goals as goal
 
 pub loop-n-init : goal.loop-n-init

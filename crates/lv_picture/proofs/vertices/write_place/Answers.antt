@@ -2,11 +2,11 @@ use Rattle.std.proofs.Common.{rules}
 use Rattle.std.proofs.lemmas.Int.{to_z-of_z}
 use Rattle.std.specs.Prelude.{FitsSigned}
 use Rattle.std.specs.Int.{w16}
-use Rattle.lv_picture.specs.Vertices.{place_text}
+use Rattle.lv_picture.specs.Vertices.{vertex_title}
 use Rattle.lv_picture.proofs.vertices.write_place.Goals as goal
 
 pub returns-in-Ok : goal.returns-in-Ok
-unfolding place_text
+unfolding vertex_title
 returns-in-Ok g c =
     let f1 : FitsSigned w16 c.args.vertex.x = search rules in
     let f2 : FitsSigned w16 c.args.vertex.y = search rules in

@@ -1,6 +1,6 @@
 use Rattle.std.proofs.Common.{◌∙◌, ◌<◌, length, arith, pos}
 use Rattle.lv_picture.specs.View.{box_of_vertices, grown_by}
-use Rattle.lv_picture.proofs.Growing.{folded_more}
+use Rattle.lv_svg.proofs.Growing.{folded_more}
 use Rattle.lv_picture.proofs.view.box_of.Goals as goal
 
 pub loop-n-preserved : goal.loop-n-preserved

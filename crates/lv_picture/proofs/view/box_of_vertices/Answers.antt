@@ -1,6 +1,6 @@
 use Rattle.std.proofs.Common.{◌∙◌, ◌<◌, None, length, arith, pos}
 use Rattle.lv_picture.specs.View.{grown}
-use Rattle.lv_picture.proofs.Growing.{folded_more}
+use Rattle.lv_svg.proofs.Growing.{folded_more}
 use Rattle.lv_picture.proofs.view.box_of_vertices.Goals as goal
 
 pub loop-n-preserved : goal.loop-n-preserved

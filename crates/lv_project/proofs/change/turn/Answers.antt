@@ -16,18 +16,23 @@ returns-in_err-filled-clause-any_moment g c =
 
 pub returns-clause-turned : goal.returns-clause-turned
 returns-clause-turned g c = on_ok_weaker c.open_other.result
-    (λ opens cap. opened g.D.Disk c.args.slots (closed_of c.in_ok-closed.closed) c.in_ok-closed.ensures.slots c.args.parts c.requires.order c.requires.live_is c.requires.other_is (body_in c.args.image.now)
-    c.args.disk.now c.close_other.new.disk c.in_ok-closed.ensures.closed c.fill.new.disk (filled_of c.in_ok-filled.filled) c.in_ok-filled.ensures.slots c.in_ok-filled.ensures.filled c.open_other.new.disk opens cap)
+    (λ opens cap.
+    opened g.D.Disk c.args.slots
+    (closed_of c.in_ok-closed.closed) c.in_ok-closed.ensures.slots c.args.parts c.requires.order c.requires.live_is c.requires.other_is (body_in c.args.image.now)
+    c.args.disk.now c.close_other.new.disk c.in_ok-closed.ensures.closed c.fill.new.disk
+    (filled_of c.in_ok-filled.filled) c.in_ok-filled.ensures.slots c.in_ok-filled.ensures.filled c.open_other.new.disk opens cap)
     c.open_other.ensures.opened
 
 pub returns-clause-begins : goal.returns-clause-begins
 returns-clause-begins g c = on_ok_weaker c.open_other.result
     (λ opens. begun g.D.Disk c.args.slots (closed_of c.in_ok-closed.closed) c.in_ok-closed.ensures.slots c.args.parts c.requires.order c.requires.live_is c.requires.other_is (body_in c.args.image.now)
-    c.args.disk.now c.close_other.new.disk c.in_ok-closed.ensures.closed c.fill.new.disk (filled_of c.in_ok-filled.filled) c.in_ok-filled.ensures.slots c.in_ok-filled.ensures.filled c.open_other.new.disk opens)
+    c.args.disk.now c.close_other.new.disk c.in_ok-closed.ensures.closed c.fill.new.disk
+    (filled_of c.in_ok-filled.filled) c.in_ok-filled.ensures.slots c.in_ok-filled.ensures.filled c.open_other.new.disk opens)
     c.open_other.ensures.opened
 
 pub returns-clause-any_moment : goal.returns-clause-any_moment
 returns-clause-any_moment g c =
     opening g.D.Disk c.args.slots (closed_of c.in_ok-closed.closed) c.in_ok-closed.ensures.slots c.args.parts c.requires.order c.requires.live_is c.requires.other_is (body_in c.args.image.now)
-    c.args.disk.now c.close_other.new.disk c.in_ok-closed.ensures.closed c.fill.new.disk (filled_of c.in_ok-filled.filled) c.in_ok-filled.ensures.slots c.in_ok-filled.ensures.filled c.open_other.new.disk
+    c.args.disk.now c.close_other.new.disk c.in_ok-closed.ensures.closed c.fill.new.disk
+    (filled_of c.in_ok-filled.filled) c.in_ok-filled.ensures.slots c.in_ok-filled.ensures.filled c.open_other.new.disk
     c.close_other.ensures.any_moment c.fill.ensures.any_moment c.open_other.ensures.any_moment

@@ -5,7 +5,7 @@ use Rattle.lv_journal.specs.Records.{IsJournal}
 use Rattle.lv_commands.specs.ProjectLines.{Leads}
 use Rattle.lv_checkpoint.specs.Handles.{generation_of, slot_of}
 use Rattle.lv_project.specs.Opening.{RefusesLines}
-use Rattle.lv_project.specs.Places.{cap_of, parts_of}
+use Rattle.lv_project.specs.Places.{cap_of, which_parts}
 use Rattle.lv_project.specs.declared.places.Parts.{Parts}
 use Rattle.lv_project.proofs.Counts.{none_failed, passed_on, went_well}
 use Rattle.lv_project.proofs.Openings.{lines_later, of_lines, of_slots, slots_later}
@@ -28,11 +28,11 @@ returns-in-Err-read_lines-clause-refused g c =
     let places = c.places-places.result in
     let r = c.in-Ok-read_slots.found in
     let error = c.in-Err-read_lines.error in
-    let parts : c.parts-parts.result ≡ parts_of places (slot_of r.0) = c.parts-parts.ensures ∙ ap (parts_of places) c.slot.ensures in
+    let parts : c.parts-parts.result ≡ which_parts places (slot_of r.0) = c.parts-parts.ensures ∙ ap (which_parts places) c.slot.ensures in
     of_lines reads geometry places (λ file read. record { allowed = c.in-Ok.ensures.allowed; header = c.in-Ok.ensures.header file read; laid_out = c.places-places.ensures.laid_out })
     (slot_of r.0) (generation_of r.0) (project_of r.1) c.in-Ok-read_slots.ensures.areas.2 (λ file read. c.in-Ok-read_slots.ensures.holds file (c.in-Ok.ensures.reads.still file read))
     error
-    (lines_later reads (cap_of geometry) (parts_of places (slot_of r.0)) (project_of r.1) later
+    (lines_later reads (cap_of geometry) (which_parts places (slot_of r.0)) (project_of r.1) later
     (λ file read. c.in-Ok-read_slots.ensures.reads.still file (c.in-Ok.ensures.reads.still file read)) error
     (subst (λ (q : Parts). RefusesLines later (cap_of geometry) q (project_of r.1) error) parts
     (subst (λ (n : ℕ). RefusesLines later n c.parts-parts.result (project_of r.1) error) c.cap.ensures c.in-Err-read_lines.ensures.refused)))
@@ -42,7 +42,7 @@ returns-in-Ok-read_lines-clause-opened g c file read =
     let places = c.places-places.result in
     let r = c.in-Ok-read_slots.found in
     let j = c.in-Ok-read_lines.journal in
-    let parts : c.parts-parts.result ≡ parts_of places (slot_of r.0) = c.parts-parts.ensures ∙ ap (parts_of places) c.slot.ensures in
+    let parts : c.parts-parts.result ≡ which_parts places (slot_of r.0) = c.parts-parts.ensures ∙ ap (which_parts places) c.slot.ensures in
     let later = c.in-Ok.ensures.reads.still file read in
     let last = c.in-Ok-read_slots.ensures.reads.still file later in
     let holds = c.in-Ok-read_slots.ensures.holds file later in

@@ -24,6 +24,8 @@ loop-n-preserved c =
     record {
       led = subst (λ (ls : List (List ℕ)). Leads c.args.cap (project_of c.args.maps.now) ls (project_of c.advance.new.maps))
           (sym (taken c.records-records.result.now rs c.records-records.ensures c.loop-n.n c.index-records-n.result c.deref.result.now c.loop-n-test.true c.index-records-n.is c.deref.ensures.value))
-          (leads_push c.args.cap (project_of c.args.maps.now) (take c.loop-n.n rs) c.deref.result.now (project_of c.loop-n.maps) (project_of c.advance.new.maps) c.loop-n.invariant.led (c.in_ok-advance.ensures.led (ap Ok c.if-not-branch.false)));
+          (leads_push c.args.cap (project_of c.args.maps.now) (take c.loop-n.n rs) c.deref.result.now
+          (project_of c.loop-n.maps) (project_of c.advance.new.maps) c.loop-n.invariant.led
+          (c.in_ok-advance.ensures.led (ap Ok c.if-not-branch.false)));
       fits = c.advance.ensures.fits;
     }

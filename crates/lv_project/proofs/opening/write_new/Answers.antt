@@ -11,7 +11,8 @@ returns-clause-made g c file left =
     let w3 = c.in-Ok.ensures.written w4.0 w4.1 in
     let f2 = c.in_ok-slots.ensures.first w3.0 w3.1 in
     let w1 = c.in_ok-write_at.ensures.written f2.0 f2.1 in
-    let all = made c.args.geometry c.places-places.result c.places-places.ensures.allowed c.places-places.ensures.laid_out c.empty_body.ensures.well_formed c.header.result w1.0 f2.0 w3.0 w4.0 file c.header.ensures w1.2
+    let all =
+    made c.args.geometry c.places-places.result c.places-places.ensures.allowed c.places-places.ensures.laid_out c.empty_body.ensures.well_formed c.header.result w1.0 f2.0 w3.0 w4.0 file c.header.ensures w1.2
     (subst (λ (x : List ℕ). IsFirst c.places-places.result.a c.places-places.result.b x f2.0 w3.0) c.empty_body.ensures.bytes f2.2) w3.2 w4.2 in
     (all.0, all.1)
 
@@ -22,7 +23,8 @@ returns-clause-slots g c file left =
     let w3 = c.in-Ok.ensures.written w4.0 w4.1 in
     let f2 = c.in_ok-slots.ensures.first w3.0 w3.1 in
     let w1 = c.in_ok-write_at.ensures.written f2.0 f2.1 in
-    let all = made c.args.geometry c.places-places.result c.places-places.ensures.allowed c.places-places.ensures.laid_out c.empty_body.ensures.well_formed c.header.result w1.0 f2.0 w3.0 w4.0 file c.header.ensures w1.2
+    let all =
+    made c.args.geometry c.places-places.result c.places-places.ensures.allowed c.places-places.ensures.laid_out c.empty_body.ensures.well_formed c.header.result w1.0 f2.0 w3.0 w4.0 file c.header.ensures w1.2
     (subst (λ (x : List ℕ). IsFirst c.places-places.result.a c.places-places.result.b x f2.0 w3.0) c.empty_body.ensures.bytes f2.2) w3.2 w4.2 in
     slots_made c.in_ok-slots.slots c.places-places.result.a c.places-places.result.b all.1.bytes file c.in_ok-slots.ensures.live.0 c.in_ok-slots.ensures.live.1 c.in_ok-slots.ensures.which.1 c.in_ok-slots.ensures.which.2 all.1.live all.2
 
@@ -33,7 +35,8 @@ returns-clause-none g c file left =
     let w3 = c.in-Ok.ensures.written w4.0 w4.1 in
     let f2 = c.in_ok-slots.ensures.first w3.0 w3.1 in
     let w1 = c.in_ok-write_at.ensures.written f2.0 f2.1 in
-    let all = made c.args.geometry c.places-places.result c.places-places.ensures.allowed c.places-places.ensures.laid_out c.empty_body.ensures.well_formed c.header.result w1.0 f2.0 w3.0 w4.0 file c.header.ensures w1.2
+    let all =
+    made c.args.geometry c.places-places.result c.places-places.ensures.allowed c.places-places.ensures.laid_out c.empty_body.ensures.well_formed c.header.result w1.0 f2.0 w3.0 w4.0 file c.header.ensures w1.2
     (subst (λ (x : List ℕ). IsFirst c.places-places.result.a c.places-places.result.b x f2.0 w3.0) c.empty_body.ensures.bytes f2.2) w3.2 w4.2 in
     all.3
 

@@ -1,5 +1,5 @@
 use Rattle.std.proofs.Common.{◌∙◌, sym}
-use Rattle.lv_pwad.specs.Views.{view}
+use Rattle.lv_levels.specs.Views.{view}
 use Rattle.lv_pwad.proofs.FirstLemmas.{in_lists, in_once, in_lumps, sound_by}
 use Rattle.lv_pwad.proofs.auditing.audit.Goals as goal
 

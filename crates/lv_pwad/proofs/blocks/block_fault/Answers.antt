@@ -1,5 +1,5 @@
 use Rattle.std.proofs.Common.{◌∙◌, sym}
-use Rattle.lv_pwad.specs.Views.{view}
+use Rattle.lv_levels.specs.Views.{view}
 use Rattle.lv_pwad.proofs.FirstLemmas.{block_first}
 use Rattle.lv_pwad.proofs.blocks.block_fault.Goals as goal
 

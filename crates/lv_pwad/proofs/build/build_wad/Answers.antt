@@ -1,4 +1,4 @@
-use Rattle.lv_pwad.specs.Views.{view}
+use Rattle.lv_levels.specs.Views.{view}
 use Rattle.lv_pwad.specs.declared.error.BuildError.TheVariants as build
 use Rattle.lv_pwad.proofs.SoundLemmas.{sound_build, holds_one, parts_of_level, buildable, built_some, memory_some}
 use Rattle.lv_pwad.proofs.build.build_wad.Goals as goal

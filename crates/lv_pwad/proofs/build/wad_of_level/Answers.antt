@@ -1,8 +1,8 @@
 use Rattle.std.proofs.Common.{[]}
 use Rattle.std.proofs.lemmas.List.Elements.{All-head}
 use Rattle.lv_lumps.specs.Names.{name_text}
-use Rattle.lv_pwad.specs.Levels.{IsLevel}
-use Rattle.lv_pwad.specs.Views.{view}
+use Rattle.lv_levels.specs.Levels.{IsLevel}
+use Rattle.lv_levels.specs.Views.{view}
 use Rattle.lv_pwad.specs.declared.levels.NamedLevel.{NamedLevel}
 use Rattle.lv_pwad.proofs.build.wad_of_level.Goals as goal
 

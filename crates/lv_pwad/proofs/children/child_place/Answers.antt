@@ -1,7 +1,7 @@
 use Rattle.std.proofs.Common.{◌∙◌, ◌<◌, ◌≤◌, sym, length, arith}
 use Rattle.std.proofs.lemmas.List.{get_or_default}
 use Rattle.lv_lumps.specs.declared.records.Node.{Node}
-use Rattle.lv_pwad.specs.Views.{view}
+use Rattle.lv_levels.specs.Views.{view}
 use Rattle.lv_pwad.proofs.FirstLemmas.{child_wrong, child_more, child_none, no_node}
 use Rattle.lv_pwad.proofs.children.child_place.Goals as goal
 

@@ -1,7 +1,7 @@
 -- The nodes so far have their children in range.
 use Rattle.std.specs.List.{enumerate_from}
 use Rattle.lv_pwad.specs.Audit.{node_children}
-use Rattle.lv_pwad.specs.Views.{view}
+use Rattle.lv_levels.specs.Views.{view}
 use Rattle.lv_pwad.proofs.FirstLemmas.{IsBelow}
 use Rattle.lv_pwad.proofs.children.child_place.Given as goal
 

@@ -4,7 +4,7 @@ use Rattle.std.specs.Option.{option_map}
 use Rattle.std.specs.List.{range_with_len}
 use Rattle.lv_pwad.specs.Audit.{first_wrong}
 use Rattle.lv_nodes.specs.InRange.{times_node}
-use Rattle.lv_pwad.specs.Views.{view}
+use Rattle.lv_levels.specs.Views.{view}
 use Rattle.lv_pwad.specs.declared.fault.Fault.TheVariants.{NodeOnce}
 use Rattle.lv_pwad.proofs.FirstLemmas.{node_same}
 use Rattle.lv_pwad.proofs.children.node_once.Goals as goal

@@ -4,7 +4,7 @@ use Rattle.std.specs.Option.{option_map}
 use Rattle.std.specs.List.{range_with_len}
 use Rattle.lv_pwad.specs.Audit.{first_wrong}
 use Rattle.lv_nodes.specs.InRange.{times_sub}
-use Rattle.lv_pwad.specs.Views.{view}
+use Rattle.lv_levels.specs.Views.{view}
 use Rattle.lv_pwad.specs.declared.fault.Fault.TheVariants.{SubOnce}
 use Rattle.lv_pwad.proofs.FirstLemmas.{sub_same}
 use Rattle.lv_pwad.proofs.children.sub_once.Goals as goal

@@ -1,8 +1,8 @@
 use Rattle.std.proofs.Common.{◌≡◌, ◌∙◌, ◌<◌, ◌≤◌, List, arith, ap, sym, subst, length, get_or}
 use Rattle.std.proofs.lemmas.List.{get_or-map, length-map, take_all}
 use Rattle.lv_pwad.specs.Counted.{CountsLevels}
-use Rattle.lv_pwad.specs.Levels.{Lumps}
-use Rattle.lv_pwad.specs.Views.{view}
+use Rattle.lv_levels.specs.Levels.{Lumps}
+use Rattle.lv_levels.specs.Views.{view}
 use Rattle.lv_pwad.specs.declared.levels.NamedLevel.{NamedLevel}
 use Rattle.lv_pwad.proofs.CountedLemmas.{counts_more, views_in}
 use Rattle.lv_pwad.proofs.counted.counts_of.Goals as goal

@@ -1,7 +1,8 @@
 -- The lumps of the levels so far.
 use Rattle.std.specs.Prelude.{◌≡◌, take, All}
 use Rattle.lv_pwad.specs.Wad.{all_lumps, IsCoded}
-use Rattle.lv_pwad.specs.Views.{views, view, level_parts}
+use Rattle.lv_levels.specs.Views.{view}
+use Rattle.lv_pwad.specs.Views.{views, level_parts}
 use Rattle.lv_pwad.proofs.levels.lumps_of.Given as goal
 
 abbrev pub invariant-loop-n : goal.invariant-loop-n

@@ -1,4 +1,5 @@
-use Rattle.lv_pwad.specs.Views.{view, views}
+use Rattle.lv_levels.specs.Views.{view}
+use Rattle.lv_pwad.specs.Views.{views}
 use Rattle.lv_pwad.specs.Wad.{drawn_lumps, tree_lumps, last_lumps}
 use Rattle.lv_pwad.proofs.LevelLemmas.{first_lump, level_lumps}
 use Rattle.lv_pwad.proofs.levels.push_level.Goals as goal

@@ -5,12 +5,14 @@ use Rattle.lv_maptables.specs.Tables.{empty_tables}
 use Rattle.lv_maptables.specs.Projects.{project_of}
 use Rattle.lv_pwad.specs.declared.levels.NamedLevel.{NamedLevel}
 use Rattle.lv_pwad.specs.Counted.{CountsLevels}
-use Rattle.lv_pwad.specs.Levels.{IsLevel}
-use Rattle.lv_pwad.specs.Views.{view, level_parts}
+use Rattle.lv_levels.specs.Levels.{IsLevel}
+use Rattle.lv_levels.specs.Views.{view}
+use Rattle.lv_pwad.specs.Views.{level_parts}
 use Rattle.lv_pwad.specs.Wad.{AreParts, all_lumps, wad_bytes}
+use Rattle.lv_pwad.specs.Errors.{blamed}
 use Rattle.lv_pwad.specs.declared.error.BuildError.TheVariants as build
 use Rattle.lv_pwad.proofs.CountedLemmas.{is_counted, views_in}
-use Rattle.lv_pwad.proofs.ProjectLemmas.{err_too, one_wad, all_sound, all_buildable, holds_only}
+use Rattle.lv_pwad.proofs.ProjectLemmas.{unbuilt_too, one_wad, all_sound, all_buildable, holds_only}
 use Rattle.lv_pwad.proofs.projects.build_counted.Goals as goal
 
 pub counted_wad-requires : goal.counted_wad-requires
@@ -40,7 +42,7 @@ returns-in-Ok-counted_wad-clause-buildable c =
     all_buildable (project_of c.args.maps.now).maps c.in-Ok.levels.items c.in-Ok.ensures.levels
 
 pub returns-in-Err-clause-nothing : goal.returns-in-Err-clause-nothing
-returns-in-Err-clause-nothing c = λ m at empty. err_too c.in-Err.error build.NothingToBuild (c.in-Err.ensures.nothing m at empty)
+returns-in-Err-clause-nothing c = λ m at empty. unbuilt_too c.in-Err.unbuilt (blamed build.NothingToBuild m.name) (c.in-Err.ensures.nothing m at empty)
 
 pub returns-in-Ok-counted_wad-clause-nothing : goal.returns-in-Ok-counted_wad-clause-nothing
 returns-in-Ok-counted_wad-clause-nothing c = λ m at empty.

@@ -1,13 +1,14 @@
-use Rattle.std.proofs.Common.{◌≡◌, ◌+◌, refl, sym, subst, List, length, take, ◌<◌, ◌≤◌, arith, rules}
+use Rattle.std.proofs.Common.{◌≡◌, ◌∙◌, ◌+◌, ap, refl, sym, subst, List, length, take, ◌<◌, ◌≤◌, arith, rules}
 use Rattle.std.specs.Prelude.{slice_get, None}
 use Rattle.std.proofs.lemmas.Option.{slice_get_within}
 use Rattle.lv_maptables.specs.Tables.{Tables}
 use Rattle.lv_maptables.specs.Projects.{project_of}
-use Rattle.lv_pwad.specs.declared.error.BuildError.TheVariants as build
+use Rattle.lv_pwad.specs.Errors.{blamed}
+use Rattle.lv_pwad.specs.declared.error.Unbuilt.{Unbuilt}
 use Rattle.lv_pwad.specs.declared.levels.NamedLevel.{NamedLevel}
-use Rattle.lv_pwad.specs.Projects.{AreLevelsOf}
+use Rattle.lv_pwad.specs.Projects.{AreLevelsOf, Blames}
 use Rattle.lv_pwad.proofs.CopyLemmas.{no_gap, all_items}
-use Rattle.lv_pwad.proofs.ProjectLemmas.{err_too, first_is, none_there, levels_more, first_refused}
+use Rattle.lv_pwad.proofs.ProjectLemmas.{first_blamed, first_is, first_map, none_there, levels_more, first_refused}
 use Rattle.lv_pwad.proofs.projects.levels_of.Goals.{in-Some+in-Ok+in_ok-push, in_default}
 use Rattle.lv_pwad.proofs.projects.levels_of.Goals as goal
 
@@ -49,12 +50,18 @@ returns-clause-nothing c = λ m at empty.
 
 pub returns-in-Err-clause-refused : goal.returns-in-Err-clause-refused
 returns-in-Err-clause-refused c =
-    first_refused (project_of c.args.maps.now).maps c.loop-n.n c.in-Some.map.now.tables c.loop-n.levels.items c.in-Err.error c.in-Some.ensures c.loop-n.invariant.levels c.in-Err.ensures.refused
+    let ms : List Tables = (project_of c.args.maps.now).maps in
+    let name : c.name.result ≡ c.in-Some.map.now.tables.name = c.name.ensures in
+    subst (λ (u : Unbuilt). Blames ms u.error u.map) (sym (c.blamed.ensures ∙ ap (blamed c.in-Err.error) name))
+    (first_refused ms c.loop-n.n c.in-Some.map.now.tables c.loop-n.levels.items c.in-Err.error c.in-Some.ensures c.loop-n.invariant.levels c.in-Err.ensures.refused)
 
 pub returns-in-Err-clause-nothing : goal.returns-in-Err-clause-nothing
 returns-in-Err-clause-nothing c = λ m at empty.
-    err_too c.in-Err.error build.NothingToBuild
-    (c.in-Err.ensures.nothing.1 (first_is (project_of c.args.maps.now).maps c.loop-n.n c.in-Some.map.now.tables m c.loop-n.invariant.first c.in-Some.ensures at empty))
+    let ms : List Tables = (project_of c.args.maps.now).maps in
+    let k : Tables = c.in-Some.map.now.tables in
+    first_blamed c.in-Err.error k m c.blamed.result (c.blamed.ensures ∙ ap (blamed c.in-Err.error) c.name.ensures)
+    (first_map ms c.loop-n.n k m c.loop-n.invariant.first c.in-Some.ensures at empty)
+    (c.in-Err.ensures.nothing.1 (first_is ms c.loop-n.n k m c.loop-n.invariant.first c.in-Some.ensures at empty))
 
 pub returns-in_err-push-clause-nothing : goal.returns-in_err-push-clause-nothing
 returns-in_err-push-clause-nothing c = λ m at empty.

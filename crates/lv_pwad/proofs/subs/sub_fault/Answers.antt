@@ -1,7 +1,7 @@
 use Rattle.std.proofs.Common.{◌∙◌, ◌<◌, ◌≤◌, sym, length, arith, rules}
 use Rattle.std.proofs.lemmas.List.{get_or_default}
 use Rattle.lv_lumps.specs.declared.records.Sub.{Sub}
-use Rattle.lv_pwad.specs.Views.{view}
+use Rattle.lv_levels.specs.Views.{view}
 use Rattle.lv_pwad.proofs.FirstLemmas.{subs_more, sub_wrong, total_wrong, subs_right}
 use Rattle.lv_pwad.proofs.subs.sub_fault.Goals as goal
 

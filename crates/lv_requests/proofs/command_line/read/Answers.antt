@@ -2,7 +2,8 @@ use Rattle.std.proofs.Common.{◌≡◌, true, subst, map, []}
 use Rattle.std.proofs.lemmas.Result.{IfErr-weaker, IfOk-weaker}
 use Rattle.clap.specs.Words.{App, HasKind, HasMatchesOf, fault_of, found_of, is_simple_and_free, kind_of, rows_of, subcommand_of, takes}
 use Rattle.clap.specs.declared.error.kind.ErrorKind.TheVariants.{OutOfMemory}
-use Rattle.lv_requests.specs.Request.{AsksFor, leveled_app}
+use Rattle.lv_requests.specs.App.{leveled_app}
+use Rattle.lv_requests.specs.Request.{AsksFor}
 use Rattle.lv_requests.proofs.FromMatches.{asks, is_simple_and_free-leveled, is_subcommand, met, refuses, words_name}
 use Rattle.lv_requests.proofs.command_line.read.Goals as goal
 

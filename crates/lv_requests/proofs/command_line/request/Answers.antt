@@ -2,7 +2,8 @@ use Rattle.std.proofs.Common.{◌≡◌, ◌∙◌, Bor, List, [], ◌∷◌, If
 use Rattle.std.proofs.lemmas.Result.{IfErr-weaker}
 use Rattle.clap.specs.Words.{Text, subcommand_of}
 use Rattle.lv_requests.specs.Help.{without_help}
-use Rattle.lv_requests.specs.Request.{AsksFor, leveled_app}
+use Rattle.lv_requests.specs.App.{leveled_app}
+use Rattle.lv_requests.specs.Request.{AsksFor}
 use Rattle.lv_requests.proofs.WithoutHelp.{others, others_no_codes, refused_as, two}
 use Rattle.lv_requests.proofs.command_line.request.Goals as goal
 

@@ -2,6 +2,7 @@ use Rattle.std.proofs.Common.{◌≡◌, sym, ap, ◌∙◌, subst, rules}
 use Rattle.std.proofs.lemmas.Int.{to_z-of_z}
 use Rattle.std.specs.Prelude.{ℤ, pos, int_lt, FitsSigned}
 use Rattle.std.specs.Int.{w64}
+use mir.Val.{to_z, of_z}
 use Rattle.lv_segs.specs.declared.frac.Frac.{Frac}
 use Rattle.lv_segs.specs.declared.piece.Place.TheVariants.{Across}
 use Rattle.lv_segs.specs.Plane.{vertex_value}
@@ -23,6 +24,19 @@ zero_of-at-requires-clause-first c = let v = c.value_at-first.ensures in side_va
 
 pub zero_of-at-requires-clause-last : goal.zero_of-at-requires-clause-last
 zero_of-at-requires-clause-last c = let v = c.value_at-last.ensures in side_value_back c.value_at-last.result v.low v.high
+
+-- a piece that lies across is cut at a fraction
+pub zero_of-at-requires-clause-fraction : goal.zero_of-at-requires-clause-fraction
+zero_of-at-requires-clause-fraction c =
+    let r = c.args.ray in
+    let e = c.args.edge in
+    let ff : FitsSigned w64 c.value_at-first.result = search rules in
+    let fl : FitsSigned w64 c.value_at-last.result = search rules in
+    let first = to_z-of_z w64 c.value_at-first.result ff ∙ c.value_at-first.ensures.value in
+    let last = to_z-of_z w64 c.value_at-last.result fl ∙ c.value_at-last.ensures.value in
+    let f = crossing_fraction r e c.args.piece.now c.requires.ray c.requires.line c.requires.fractions (sym c.place_on-place.ensures ∙ c.in-Across.is) in
+    subst (λ (x : ℤ). IsFraction (zero_between x (to_z w64 (of_z w64 c.value_at-last.result)))) (sym first)
+    (subst (λ (x : ℤ). IsFraction (zero_between (vertex_value r e.v1) x)) (sym last) f)
 
 record Facts (c : After-zero_of-at) : Type 0 where
   place : place_on c.args.ray c.args.edge c.args.piece.now ≡ Across

@@ -20,7 +20,9 @@ loop-edge-preserved c =
     let a = c.line_angle.result in
     let lines = c.args.lines.now in
     let pushed = c.in_ok-push.ensures.items in
-    let earlier : (line : ℕ) → line < n → IsRayAngle (ray (edge_at lines line) Along) (get_or (xs ++ a ∷ []) line 0) = λ line l. subst (IsRayAngle (ray (edge_at lines line) Along)) (sym (get_or-append xs (a ∷ []) 0 line (omega (arith, i.as_many)))) (i.each line l) in
+    let earlier : (line : ℕ) → line < n → IsRayAngle (ray (edge_at lines line) Along) (get_or (xs ++ a ∷ []) line 0) =
+    λ line l. subst (IsRayAngle (ray (edge_at lines line) Along))
+    (sym (get_or-append xs (a ∷ []) 0 line (omega (arith, i.as_many)))) (i.each line l) in
     let there : get_or (xs ++ a ∷ []) n 0 ≡ a = ap (λ (k : ℕ). get_or (xs ++ a ∷ []) k 0) (sym i.as_many) ∙ get_or-append_seam xs a [] 0 in
     let newest = subst (IsRayAngle (ray (edge_at lines n) Along)) (sym there) c.line_angle.ensures in
     record {

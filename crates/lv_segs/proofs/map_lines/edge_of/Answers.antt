@@ -11,7 +11,8 @@ use Rattle.lv_segs.proofs.map_lines.edge_of.Goals as goal
 use Rattle.lv_segs.proofs.map_lines.edge_of.Goals.{After-edge_between}
 
 pub unwrap-line-requires : goal.unwrap-line-requires
-unwrap-line-requires c = let e = c.from.ensures in let h = c.requires in let m = as_many c.args.map.now.tables in is_there c.args.map.now.tables.lines c.from.result c.line.result c.line.ensures.item (omega arith)
+unwrap-line-requires c = let e = c.from.ensures in let h = c.requires in let m =
+    as_many c.args.map.now.tables in is_there c.args.map.now.tables.lines c.from.result c.line.result c.line.ensures.item (omega arith)
 
 pub edge_between-requires : goal.edge_between-requires
 edge_between-requires c = at_some (HasEnds c.args.map.now.tables.vertices) c.unwrap-line.result c.unwrap-line.ensures c.line.ensures.ends

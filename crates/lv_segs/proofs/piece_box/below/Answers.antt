@@ -7,7 +7,8 @@ use Rattle.lv_segs.proofs.piece_box.below.Goals as goal
 use Rattle.lv_segs.proofs.piece_box.below.Goals.{After-min-lesser}
 
 -- the lesser one, which is in range
-lesser_is : (c : After-min-lesser) → (to_z w16 (of_z w16 c.min-lesser.result) ≡ int_min c.args.a c.args.b) × FitsSigned w16 (int_min c.args.a c.args.b) × (neg_ℤ (pos 16384) ≤ℤ int_min c.args.a c.args.b)
+lesser_is : (c : After-min-lesser) → (to_z w16 (of_z w16 c.min-lesser.result) ≡ int_min c.args.a c.args.b)
+    × FitsSigned w16 (int_min c.args.a c.args.b) × (neg_ℤ (pos 16384) ≤ℤ int_min c.args.a c.args.b)
 lesser_is c =
     let ra = c.requires.a in
     let rb = c.requires.b in

@@ -1,6 +1,6 @@
 use Rattle.std.proofs.Common.{◌≡◌, ap, ◌∙◌}
 use Rattle.std.specs.Prelude.{ℤ, ◌+ℤ◌, ◌-ℤ◌, ◌*ℤ◌}
-use Rattle.lv_segs.proofs.Wide.{n_within, narrowed}
+use Rattle.lv_segs.proofs.Wide.{n_within, lengthened}
 use Rattle.lv_segs.proofs.Shares.{side_back, side_value_back, n_share, rest_of, IsSum, sum_by}
 use Rattle.lv_segs.proofs.signs.value_between.Goals as goal
 use Rattle.lv_segs.proofs.signs.value_between.Goals.{After-scaled-far}
@@ -34,5 +34,5 @@ returns c =
     let t = c.args.at in
     let f = c.requires.fraction in
     let near : c.scaled-near.result ≡ (t.d -ℤ t.n) *ℤ c.args.first = rw ((rest_of t f).is, side_back c.args.first c.requires.first) at c.scaled-near.ensures.value in
-    let far : c.scaled-far.result ≡ t.n *ℤ c.args.last = rw (narrowed t.n (n_within t f), side_back c.args.last c.requires.last) at c.scaled-far.ensures.value in
+    let far : c.scaled-far.result ≡ t.n *ℤ c.args.last = rw (lengthened t.n (n_within t f), side_back c.args.last c.requires.last) at c.scaled-far.ensures.value in
     (sum (goal.at.returns c).After-scaled-far).is ∙ ap (λ (x : ℤ). x +ℤ c.scaled-far.result) near ∙ ap (λ (x : ℤ). (t.d -ℤ t.n) *ℤ c.args.first +ℤ x) far

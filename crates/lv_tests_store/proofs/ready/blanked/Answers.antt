@@ -1,7 +1,7 @@
 use Rattle.std.proofs.Common.{[], sym, ap, subst}
 use Rattle.lv_disk.specs.declared.area.Area.{Area}
 use Rattle.lv_journal.specs.Records.{IsJournal}
-use Rattle.lv_journal.specs.State.{State}
+use Rattle.lv_journal.specs.State.{JournalState}
 use Rattle.lv_tests_store.proofs.ready.blanked.Goals as goal
 
 pub returns : goal.returns
@@ -9,5 +9,5 @@ returns g c = record {
   ready = λ is file left.
       let read = c.in_ok-sync.ensures.reads file (c.in_ok-sync.ensures.durable file left) in
       let empty = c.in_ok-journal.ensures.empty in
-      ([], subst (λ (a : Area). IsJournal a [] file) (sym (ap (λ (s : State). s.area) empty)) (c.in_ok-journal.ensures.none file read), sym (ap (λ (s : State). s.next) empty));
+      ([], subst (λ (a : Area). IsJournal a [] file) (sym (ap (λ (s : JournalState). s.area) empty)) (c.in_ok-journal.ensures.none file read), sym (ap (λ (s : JournalState). s.next) empty));
 }

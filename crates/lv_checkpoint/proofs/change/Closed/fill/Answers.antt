@@ -45,4 +45,6 @@ returns-clause-filled g c =
     (λ file is. g.met.D.Disk.reads_an_image c.args.disk.now file is) c.in_ok-write_at.ensures.written c.in_ok-write_through.ensures.written c.in_ok-write_through.ensures.durable
 
 pub returns-clause-ready : goal.returns-clause-ready
-returns-clause-ready g c = fill_ready c.args.self.slots (body_in c.args.image.now) c.args.journal (g.D.Disk.may_leave c.args.disk.now) (g.D.Disk.may_leave c.write_through.new.disk) c.requires.ready (returns-clause-filled g c)
+returns-clause-ready g c =
+    fill_ready c.args.self.slots (body_in c.args.image.now) c.args.journal (g.D.Disk.may_leave c.args.disk.now)
+    (g.D.Disk.may_leave c.write_through.new.disk) c.requires.ready (returns-clause-filled g c)

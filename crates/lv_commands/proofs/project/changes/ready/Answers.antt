@@ -3,7 +3,7 @@ use Rattle.std.specs.Prelude.{Err, IsOk}
 use Rattle.std.proofs.lemmas.Bool.{ltb-false}
 use Rattle.lv_maptables.specs.Outcomes.{Covers}
 use Rattle.lv_maptables.specs.Projects.{body_len, project_of}
-use Rattle.lv_commands.specs.ProjectStep.{after}
+use Rattle.lv_commands.specs.ProjectStep.{project_after}
 use Rattle.lv_commands.proofs.ProjectSteps.{can-commit, code-is-low, fullness, refused-by, same-project, step-accepts, step-is-full, step-refuses}
 use Rattle.lv_commands.proofs.Steps.{not-memory}
 use Rattle.lv_commands.proofs.project.changes.ready.Goals as goal
@@ -39,7 +39,7 @@ returns-in-Ok-clause-accepted c =
 
 pub returns-in-Ok-clause-fits : goal.returns-in-Ok-clause-fits
 returns-in-Ok-clause-fits c =
-    ltb-false c.args.cap (body_len (after (project_of c.args.maps.now) c.args.command.now))
+    ltb-false c.args.cap (body_len (project_after (project_of c.args.maps.now) c.args.command.now))
     (fullness c.args.maps.now c.args.command.now c.args.cap c.requires.fits ∙ sym c.is_full.ensures ∙ c.if-is_full.false)
 
 pub returns-in-Ok-clause-ready : goal.returns-in-Ok-clause-ready

@@ -1,5 +1,5 @@
-use Rattle.lv_commands.proofs.ProjectWords.{spelling-accepted}
+use Rattle.lv_commands.proofs.ProjectWords.{project_spelling-accepted}
 use Rattle.lv_commands.proofs.project.laws.accept_each_spelling.Goals as goal
 
 pub returns : goal.returns
-returns c = spelling-accepted
+returns c = project_spelling-accepted

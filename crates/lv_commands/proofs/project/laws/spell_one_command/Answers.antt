@@ -1,5 +1,5 @@
-use Rattle.lv_commands.proofs.ProjectWords.{spelling-one}
+use Rattle.lv_commands.proofs.ProjectWords.{project_spelling-one}
 use Rattle.lv_commands.proofs.project.laws.spell_one_command.Goals as goal
 
 pub returns : goal.returns
-returns c = spelling-one
+returns c = project_spelling-one

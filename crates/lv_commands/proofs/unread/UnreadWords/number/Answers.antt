@@ -2,7 +2,7 @@ use Rattle.std.proofs.Common.{◌∙◌, ◌∷◌, sym, ap, Some}
 use Rattle.std.specs.Int.{w16}
 use Rattle.std.proofs.lemmas.Int.{to_z-of_z}
 use Rattle.lv_commands.specs.Errors.{code_of}
-use Rattle.lv_commands.specs.Places.{first_of, place_fault, Number}
+use Rattle.lv_commands.specs.Places.{prior_fault, place_fault, Number}
 use Rattle.lv_commands.proofs.Readings.{reads-fault}
 use Rattle.lv_commands.proofs.unread.UnreadWords.number.Goals as goal
 
@@ -10,5 +10,5 @@ pub returns-in-Err-clause-reads : goal.returns-in-Err-clause-reads
 returns-in-Err-clause-reads c =
     reads-fault _ _ _ _ c.in-Some.word.now (code_of c.in-Err.error)
     (c.in-Some.ensures.words ∙ ap (λ ws. c.in-Some.word.now ∷ ws) (sym c.note-in-Err.ensures.words))
-    (c.note-in-Err.ensures.fault ∙ ap (λ f. first_of f (Some (code_of c.in-Err.error))) c.in-Some.ensures.fault)
+    (c.note-in-Err.ensures.fault ∙ ap (λ f. prior_fault f (Some (code_of c.in-Err.error))) c.in-Some.ensures.fault)
     (sym (λ i. place_fault (Number (to_z-of_z w16 c.args.low c.ranges.low i) (to_z-of_z w16 c.args.high c.ranges.high i)) c.in-Some.word.now) ∙ c.in-Err.ensures.fault)

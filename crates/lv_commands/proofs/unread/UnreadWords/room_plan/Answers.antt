@@ -32,5 +32,12 @@ returns-clause-fault c =
 
 pub returns-clause-ok : goal.returns-clause-ok
 returns-clause-ok c =
-    let t = took _ _ _ _ _ c.number-west.ensures.reads (took _ _ _ _ _ c.number-south.ensures.reads (took _ _ _ _ _ c.number-east.ensures.reads (took _ _ _ _ _ c.number-north.ensures.reads (took _ _ _ _ _ c.number-floor.ensures.reads (took _ _ _ _ _ c.number-ceiling.ensures.reads (took _ _ _ _ _ c.name-floor_name.ensures.reads (took _ _ _ _ _ c.name-ceiling_name.ensures.reads (took _ _ _ _ _ c.name-wall.ensures.reads (took _ _ _ _ _ c.number-light.ensures.reads (c.in_ok-finish.ensures.ok)))))))))) in
+    let t = took _ _ _ _ _ c.number-west.ensures.reads
+    (took _ _ _ _ _ c.number-south.ensures.reads (took _ _ _ _ _ c.number-east.ensures.reads
+    (took _ _ _ _ _ c.number-north.ensures.reads (took _ _ _ _ _ c.number-floor.ensures.reads
+    (took _ _ _ _ _ c.number-ceiling.ensures.reads
+    (took _ _ _ _ _ c.name-floor_name.ensures.reads
+    (took _ _ _ _ _ c.name-ceiling_name.ensures.reads
+    (took _ _ _ _ _ c.name-wall.ensures.reads (took _ _ _ _ _ c.number-light.ensures.reads
+    (c.in_ok-finish.ensures.ok)))))))))) in
     search (rules, t)

@@ -1,7 +1,7 @@
 use Rattle.std.proofs.Common.{◌≡◌, ◌≤◌, ◌<◌, ℕ, List, Vec, Global, length, map, take, arith, sym, ◌∙◌, ap}
 use Rattle.std.proofs.lemmas.List.{length-map, take-map}
 use Rattle.lv_journal.specs.Records.{records_bytes}
-use Rattle.lv_journal.specs.State.{State}
+use Rattle.lv_journal.specs.State.{JournalState}
 use Rattle.lv_journal.proofs.Lengths.{length-map_take, place-found}
 use Rattle.lv_journal.proofs.journal.Journal.place.Goals as goal
 
@@ -24,5 +24,6 @@ pub returns-then-n-records : goal.returns-then-n-records
 returns-then-n-records c =
     let found : map items_of c.records-records.result.now ≡ c.args.self.now.records = c.records-records.ensures in
     let lt : c.args.n < length c.args.self.now.records = omega (arith, ap length found, length-map c.records-records.result.now items_of, c.if-n-records.true) in
-    let first : map items_of (take c.args.n c.records-records.result.now) ≡ take c.args.n c.args.self.now.records = sym (take-map items_of c.args.n c.records-records.result.now) ∙ ap (take c.args.n) found in
-    place-found c.args.self.now c.args.n _ _ lt (ap (λ (v : State). v.area.base) c.self.view_is) (c.records_len.ensures ∙ ap (λ (ps : List (List ℕ)). length (records_bytes ps)) first)
+    let first : map items_of (take c.args.n c.records-records.result.now) ≡ take c.args.n c.args.self.now.records =
+    sym (take-map items_of c.args.n c.records-records.result.now) ∙ ap (take c.args.n) found in
+    place-found c.args.self.now c.args.n _ _ lt (ap (λ (v : JournalState). v.area.base) c.self.view_is) (c.records_len.ensures ∙ ap (λ (ps : List (List ℕ)). length (records_bytes ps)) first)

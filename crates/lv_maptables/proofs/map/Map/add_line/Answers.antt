@@ -26,7 +26,14 @@ pub returns-clause-edit : goal.returns-clause-edit
 returns-clause-edit c =
     let fine = rw (← c.self.view_is) at c.in_ok-can_add_line.ensures in
     let lines = map-push (line_of c.self.inside.vertices.keys c.self.inside.sides.keys) c.self.inside.lines.items c.keyed_line-keyed.result c.args.line c.keyed_line-keyed.ensures in
-    rw (← c.self.view_is) (done _ (with_line (tables_of c.self.inside) c.args.line) _ _ _ fine (rw (c.in_ok-push.ensures.items, lines) refl) (omega (arith, c.len-number.ensures, length-map c.self.inside.lines.items (line_of c.self.inside.vertices.keys c.self.inside.sides.keys))))
+    rw (← c.self.view_is) (done _ (with_line (tables_of c.self.inside) c.args.line) _ _ _ fine
+    (rw (c.in_ok-push.ensures.items, lines) refl)
+    (omega (
+      arith,
+      c.len-number.ensures,
+      length-map c.self.inside.lines.items
+          (line_of c.self.inside.vertices.keys c.self.inside.sides.keys),
+    )))
 
 pub push-requires : goal.push-requires
 push-requires c =

@@ -17,7 +17,8 @@ invariant_of-self-2 c =
     let sides = map-push (side_of c.self.inside.sectors.keys) c.self.inside.sides.items c.keyed_side-keyed.result c.args.side c.keyed_side-keyed.ensures in
     let many = length-map c.self.inside.sides.items (side_of c.self.inside.sectors.keys) in
     let few : length c.self.inside.sides.items ≤ 32767 = omega (arith, many, c.self.invariant.side_count) in
-    let lines = lines_push_side c.self.inside.vertices.keys c.self.inside.sides c.push.new.self (tables_of c.self.inside).sides c.self.inside.lines.items c.in_ok-push.ensures.ranks c.in_ok-push.ensures.count few many c.self.invariant.line_sides in
+    let lines = lines_push_side c.self.inside.vertices.keys c.self.inside.sides c.push.new.self
+    (tables_of c.self.inside).sides c.self.inside.lines.items c.in_ok-push.ensures.ranks c.in_ok-push.ensures.count few many c.self.invariant.line_sides in
     rw (c.in_ok-push.ensures.items, sides, lines) (with_side-keeps _ c.args.side c.self.invariant c.requires fine)
 
 pub returns-clause-edit : goal.returns-clause-edit
@@ -26,7 +27,8 @@ returns-clause-edit c =
     let sides = map-push (side_of c.self.inside.sectors.keys) c.self.inside.sides.items c.keyed_side-keyed.result c.args.side c.keyed_side-keyed.ensures in
     let many = length-map c.self.inside.sides.items (side_of c.self.inside.sectors.keys) in
     let few : length c.self.inside.sides.items ≤ 32767 = omega (arith, many, c.self.invariant.side_count) in
-    let lines = lines_push_side c.self.inside.vertices.keys c.self.inside.sides c.push.new.self (tables_of c.self.inside).sides c.self.inside.lines.items c.in_ok-push.ensures.ranks c.in_ok-push.ensures.count few many c.self.invariant.line_sides in
+    let lines = lines_push_side c.self.inside.vertices.keys c.self.inside.sides c.push.new.self
+    (tables_of c.self.inside).sides c.self.inside.lines.items c.in_ok-push.ensures.ranks c.in_ok-push.ensures.count few many c.self.invariant.line_sides in
     let number = c.len-number.ensures in
     rw (← c.self.view_is) (done _ (with_side (tables_of c.self.inside) c.args.side) _ _ _ fine (rw (c.in_ok-push.ensures.items, sides, lines) refl) (omega (arith, number, many)))
 
@@ -34,14 +36,16 @@ pub invariant_of-self : goal.invariant_of-self
 invariant_of-self c =
     let many = length-map c.self.inside.sides.items (side_of c.self.inside.sectors.keys) in
     let few : length c.self.inside.sides.items ≤ 32767 = omega (arith, many, c.self.invariant.side_count) in
-    let lines = lines_push_side c.self.inside.vertices.keys c.self.inside.sides c.push.new.self (tables_of c.self.inside).sides c.self.inside.lines.items c.in_err-push.ensures.ranks c.in_err-push.ensures.count few many c.self.invariant.line_sides in
+    let lines = lines_push_side c.self.inside.vertices.keys c.self.inside.sides c.push.new.self
+    (tables_of c.self.inside).sides c.self.inside.lines.items c.in_err-push.ensures.ranks c.in_err-push.ensures.count few many c.self.invariant.line_sides in
     rw (c.in_err-push.ensures.items, lines) c.self.invariant
 
 pub returns-in_err-push-clause-edit : goal.returns-in_err-push-clause-edit
 returns-in_err-push-clause-edit c =
     let many = length-map c.self.inside.sides.items (side_of c.self.inside.sectors.keys) in
     let few : length c.self.inside.sides.items ≤ 32767 = omega (arith, many, c.self.invariant.side_count) in
-    let lines = lines_push_side c.self.inside.vertices.keys c.self.inside.sides c.push.new.self (tables_of c.self.inside).sides c.self.inside.lines.items c.in_err-push.ensures.ranks c.in_err-push.ensures.count few many c.self.invariant.line_sides in
+    let lines = lines_push_side c.self.inside.vertices.keys c.self.inside.sides c.push.new.self
+    (tables_of c.self.inside).sides c.self.inside.lines.items c.in_err-push.ensures.ranks c.in_err-push.ensures.count few many c.self.invariant.line_sides in
     let same : tables_of (record c.self.inside { sides = c.push.new.self }) ≡ c.args.self.now.tables = (rw (c.in_err-push.ensures.items, lines) refl) ∙ ap (λ v. v.tables) c.self.view_is in
     search (rules, same)
 

@@ -17,7 +17,12 @@ invariant_of-self c =
 pub returns-clause-edit : goal.returns-clause-edit
 returns-clause-edit c =
     let fine = rw (← c.self.view_is) at c.in_ok-can_drop_line.ensures in
-    rw (← c.self.view_is) (done _ (without_line (tables_of c.self.inside) c.args.n) _ tt tt fine (rw (c.remove.ensures.items, map-remove (line_of c.self.inside.vertices.keys c.self.inside.sides.keys) c.self.inside.lines.items c.args.n) refl) refl)
+    rw (← c.self.view_is) (done _ (without_line (tables_of c.self.inside) c.args.n) _ tt tt fine
+    (rw (
+      c.remove.ensures.items,
+      map-remove
+          (line_of c.self.inside.vertices.keys c.self.inside.sides.keys) c.self.inside.lines.items c.args.n,
+    ) refl) refl)
 
 pub remove-requires-clause-few : goal.remove-requires-clause-few
 remove-requires-clause-few c = omega (arith, length-map c.self.inside.lines.items (line_of c.self.inside.vertices.keys c.self.inside.sides.keys), c.self.invariant.line_count)

@@ -16,7 +16,8 @@ invariant_of-self c =
     let fine = rw (← c.self.view_is) at c.in_ok-can_drop_side.ensures in
     let many = length-map c.self.inside.sides.items (side_of c.self.inside.sectors.keys) in
     let few : length c.self.inside.sides.items ≤ 32767 = omega (arith, many, c.self.invariant.side_count) in
-    let lines = lines_drop_side c.self.inside.vertices.keys c.self.inside.sides c.remove.new.self c.args.n (tables_of c.self.inside).sides c.self.inside.lines.items c.remove.ensures.ranks c.remove.ensures.count few many c.self.invariant.line_sides (none_with (tables_of c.self.inside) c.args.n fine) in
+    let lines = lines_drop_side c.self.inside.vertices.keys c.self.inside.sides c.remove.new.self c.args.n
+    (tables_of c.self.inside).sides c.self.inside.lines.items c.remove.ensures.ranks c.remove.ensures.count few many c.self.invariant.line_sides (none_with (tables_of c.self.inside) c.args.n fine) in
     rw (c.remove.ensures.items, map-remove (side_of c.self.inside.sectors.keys) c.self.inside.sides.items c.args.n, lines) (without_side-keeps _ c.args.n c.self.invariant fine)
 
 pub returns-clause-edit : goal.returns-clause-edit
@@ -24,8 +25,14 @@ returns-clause-edit c =
     let fine = rw (← c.self.view_is) at c.in_ok-can_drop_side.ensures in
     let many = length-map c.self.inside.sides.items (side_of c.self.inside.sectors.keys) in
     let few : length c.self.inside.sides.items ≤ 32767 = omega (arith, many, c.self.invariant.side_count) in
-    let lines = lines_drop_side c.self.inside.vertices.keys c.self.inside.sides c.remove.new.self c.args.n (tables_of c.self.inside).sides c.self.inside.lines.items c.remove.ensures.ranks c.remove.ensures.count few many c.self.invariant.line_sides (none_with (tables_of c.self.inside) c.args.n fine) in
-    rw (← c.self.view_is) (done _ (without_side (tables_of c.self.inside) c.args.n) _ tt tt fine (rw (c.remove.ensures.items, map-remove (side_of c.self.inside.sectors.keys) c.self.inside.sides.items c.args.n, lines) refl) refl)
+    let lines = lines_drop_side c.self.inside.vertices.keys c.self.inside.sides c.remove.new.self c.args.n
+    (tables_of c.self.inside).sides c.self.inside.lines.items c.remove.ensures.ranks c.remove.ensures.count few many c.self.invariant.line_sides (none_with (tables_of c.self.inside) c.args.n fine) in
+    rw (← c.self.view_is) (done _ (without_side (tables_of c.self.inside) c.args.n) _ tt tt fine
+    (rw (
+      c.remove.ensures.items,
+      map-remove (side_of c.self.inside.sectors.keys) c.self.inside.sides.items c.args.n,
+      lines,
+    ) refl) refl)
 
 pub remove-requires-clause-few : goal.remove-requires-clause-few
 remove-requires-clause-few c = omega (arith, length-map c.self.inside.sides.items (side_of c.self.inside.sectors.keys), c.self.invariant.side_count)

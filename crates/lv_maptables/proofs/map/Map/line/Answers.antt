@@ -25,7 +25,8 @@ pub returns-clause-sides : goal.returns-clause-sides
 returns-clause-sides c =
     let there : slice_get c.self.inside.lines.items c.args.n ≡ Some c.in_ok-line.line = search rules in
     rw (← c.self.view_is, c.numbered_line.ensures)
-    (given_holds (HasSides (tables_of c.self.inside).sides) (line_of c.self.inside.vertices.keys c.self.inside.sides.keys) c.self.inside.lines.items c.args.n c.in_ok-line.line there c.self.invariant.line_sides)
+    (given_holds (HasSides (tables_of c.self.inside).sides)
+    (line_of c.self.inside.vertices.keys c.self.inside.sides.keys) c.self.inside.lines.items c.args.n c.in_ok-line.line there c.self.invariant.line_sides)
 
 pub numbered_line-requires : goal.numbered_line-requires
 numbered_line-requires c =

@@ -11,8 +11,11 @@ joined z a p q r s t = simp append_assoc
 pub returns-clause-bytes : goal.returns-clause-bytes
 returns-clause-bytes c =
     let m = c.args.self.now.tables in
-    let is : c.put_lump-5.new.bytes.items ≡ (((((c.args.bytes.now.items ++ part_head m) ++ flat_map thing_record m.things) ++ flat_map line_record m.lines) ++ flat_map side_record m.sides) ++ flat_map vertex_record m.vertices) ++ flat_map sector_record m.sectors = search rules in
-    is ∙ joined c.args.bytes.now.items (part_head m) (flat_map thing_record m.things) (flat_map line_record m.lines) (flat_map side_record m.sides) (flat_map vertex_record m.vertices) (flat_map sector_record m.sectors)
+    let is : c.put_lump-5.new.bytes.items ≡ (((((c.args.bytes.now.items ++ part_head m)
+    ++ flat_map thing_record m.things) ++ flat_map line_record m.lines) ++ flat_map side_record m.sides)
+    ++ flat_map vertex_record m.vertices) ++ flat_map sector_record m.sectors = search rules in
+    is ∙ joined c.args.bytes.now.items (part_head m) (flat_map thing_record m.things) (flat_map line_record m.lines)
+    (flat_map side_record m.sides) (flat_map vertex_record m.vertices) (flat_map sector_record m.sectors)
 
 pub returns-clause-well_formed : goal.returns-clause-well_formed
 returns-clause-well_formed c = c.in_ok-put_head.ensures.well_formed

@@ -10,5 +10,7 @@ use Rattle.lv_maptables.proofs.map.Map.stretches_line.Goals as goal
 pub returns : goal.returns
 returns c =
     c.has_line_stretched.ensures
-    ∙ sym (any-map (λ l. uses_vertex c.args.n l && is_too_long (slice_set c.self.inside.vertices.items c.args.n c.args.to) l) (line_of c.self.inside.vertices.keys c.self.inside.sides.keys) c.self.inside.lines.items)
+    ∙ sym (any-map (λ l. uses_vertex c.args.n l && is_too_long
+    (slice_set c.self.inside.vertices.items c.args.n c.args.to) l)
+    (line_of c.self.inside.vertices.keys c.self.inside.sides.keys) c.self.inside.lines.items)
     ∙ ap (λ v. list_any (λ l. uses_vertex c.args.n l && is_too_long (slice_set v.tables.vertices c.args.n c.args.to) l) v.tables.lines) c.self.view_is

@@ -10,4 +10,5 @@ returns-then-has_key c =
 
 pub loop-n-preserved : goal.loop-n-preserved
 loop-n-preserved c =
-    none_yet (λ l. (l.right == c.args.key) || is_left l.left c.args.key) c.args.lines.now.items c.loop-n.n c.at.result (omega arith) c.at.ensures c.loop-n.invariant (sym c.has_key.ensures ∙ c.if-has_key.false)
+    none_yet (λ l. (l.right == c.args.key) || is_left l.left c.args.key) c.args.lines.now.items c.loop-n.n c.at.result
+    (omega arith) c.at.ensures c.loop-n.invariant (sym c.has_key.ensures ∙ c.if-has_key.false)

@@ -9,4 +9,5 @@ returns-then-has_end c =
 
 pub loop-n-preserved : goal.loop-n-preserved
 loop-n-preserved c =
-    none_yet (λ l. (l.v1 == c.args.key) || (l.v2 == c.args.key)) c.args.lines.now.items c.loop-n.n c.at.result (omega arith) c.at.ensures c.loop-n.invariant (sym c.has_end.ensures ∙ c.if-has_end.false)
+    none_yet (λ l. (l.v1 == c.args.key) || (l.v2 == c.args.key)) c.args.lines.now.items c.loop-n.n c.at.result
+    (omega arith) c.at.ensures c.loop-n.invariant (sym c.has_end.ensures ∙ c.if-has_end.false)

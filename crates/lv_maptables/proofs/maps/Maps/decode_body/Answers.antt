@@ -9,7 +9,8 @@ use Rattle.lv_maptables.proofs.maps.Maps.decode_body.Goals as goal
 pub returns-in_err-map-clause-refused : goal.returns-in_err-map-clause-refused
 returns-in_err-map-clause-refused c =
     let bs = c.args.bytes.now in
-    refused_by (no_old_project bs (λ is. both_ways c.has_version_2.result c.if-has_version_2.false (c.has_version_2.ensures.1 is))) c.from_residual.result c.in_err-map.field-0.0 c.from_residual.ensures.1 c.in_err-map.ensures.refused
+    refused_by (no_old_project bs (λ is. both_ways c.has_version_2.result c.if-has_version_2.false
+    (c.has_version_2.ensures.1 is))) c.from_residual.result c.in_err-map.field-0.0 c.from_residual.ensures.1 c.in_err-map.ensures.refused
 
 pub returns-clause-project : goal.returns-clause-project
 returns-clause-project c =

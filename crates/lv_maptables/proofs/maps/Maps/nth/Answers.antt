@@ -12,7 +12,9 @@ returns c =
     let count = maps_count items a.number a.map c.self.invariant.number in
     let within : c.args.n < length (project_of (maps_view a)).maps = subst (λ (v : MapsView). c.args.n < length (project_of v).maps) (sym c.self.view_is) c.requires in
     let back : c.args.n - 1 + 1 ≡ c.args.n = omega arith in
-    let there : get_or items (c.args.n - 1) c.index-deref-n-2.result ≡ c.index-deref-n-2.result = ap (λ xs. get_or xs (c.args.n - 1) c.index-deref-n-2.result) (sym c.deref-2.ensures.0) ∙ sym c.index-deref-n-2.is in
+    let there : get_or items (c.args.n - 1) c.index-deref-n-2.result ≡ c.index-deref-n-2.result =
+    ap (λ xs. get_or xs (c.args.n - 1) c.index-deref-n-2.result) (sym c.deref-2.ensures.0)
+    ∙ sym c.index-deref-n-2.is in
     λ d. subst (λ (v : MapsView). get_or (project_of v).maps c.args.n d ≡ c.index-deref-n-2.result.tables) c.self.view_is
     (ap (λ k. get_or (project_of (maps_view a)).maps k d) (sym back) ∙ map_above items a.number (c.args.n - 1) a.map c.index-deref-n-2.result d (omega arith) (omega (arith, count, within)) there)
 

@@ -19,7 +19,10 @@ invariant_of-self c =
     let made : x ≡ c.args.map = c.replace-previous.ensures.after in
     record {
       number = omega (arith, c.len-self-inside.ensures.value);
-      project = added_keeps (project_of (maps_view a)) (tables_of_each (take c.len-self-inside.result items') ++ x.tables ∷ tables_of_each (drop c.len-self-inside.result items')) (length (take c.len-self-inside.result items')) c.args.map.tables.name x.tables both.0 both.1
+      project = added_keeps (project_of (maps_view a))
+          (tables_of_each (take c.len-self-inside.result items') ++ x.tables
+          ∷ tables_of_each (drop c.len-self-inside.result items'))
+          (length (take c.len-self-inside.result items')) c.args.map.tables.name x.tables both.0 both.1
           (ap (λ (m : MapView). m.tables.name) made) (subst (λ (m : MapView). WellFormed m.tables) (sym made) c.requires.well_formed)
           (subst (λ (v : MapsView). has_map (project_of v) c.args.map.tables.name ≡ false) (sym c.self.view_is) c.requires.new)
           (subst (λ (v : MapsView). length (project_of v).maps < map_limit) (sym c.self.view_is) c.requires.room) c.self.invariant.project;
@@ -44,7 +47,9 @@ returns-clause-well_formed c =
     let is : items' ≡ insert a.others.items a.number a.map = c.insert.ensures.items ∙ ap (λ (m : MapView). insert a.others.items a.number m) c.replace-previous.ensures.value in
     let both = added a.others.items items' a.number c.len-self-inside.result a.map x c.self.invariant.number is c.len-self-inside.ensures.value in
     let made : x ≡ c.args.map = c.replace-previous.ensures.after in
-    added_keeps (project_of (maps_view a)) (tables_of_each (take c.len-self-inside.result items') ++ x.tables ∷ tables_of_each (drop c.len-self-inside.result items')) (length (take c.len-self-inside.result items')) c.args.map.tables.name x.tables both.0 both.1
+    added_keeps (project_of (maps_view a)) (tables_of_each (take c.len-self-inside.result items') ++ x.tables
+    ∷ tables_of_each (drop c.len-self-inside.result items'))
+    (length (take c.len-self-inside.result items')) c.args.map.tables.name x.tables both.0 both.1
     (ap (λ (m : MapView). m.tables.name) made) (subst (λ (m : MapView). WellFormed m.tables) (sym made) c.requires.well_formed)
     (subst (λ (v : MapsView). has_map (project_of v) c.args.map.tables.name ≡ false) (sym c.self.view_is) c.requires.new)
     (subst (λ (v : MapsView). length (project_of v).maps < map_limit) (sym c.self.view_is) c.requires.room) c.self.invariant.project

@@ -19,4 +19,5 @@ returns-then-len-eq-MAP_LIMIT-clause-refused c = (refl, none_fits (project_of c.
 
 pub returns-clause-next : goal.returns-clause-next
 returns-clause-next c =
-    rw c.part_len-len.ensures.value (reads_next (project_of c.args.self.now) (project_of c.push.new.self) c.in_ok-map.map.tables c.args.bytes.now c.in_ok-map.ensures.map c.push.ensures.project c.push.ensures.well_formed)
+    rw c.part_len-len.ensures.value (reads_next (project_of c.args.self.now)
+    (project_of c.push.new.self) c.in_ok-map.map.tables c.args.bytes.now c.in_ok-map.ensures.map c.push.ensures.project c.push.ensures.well_formed)

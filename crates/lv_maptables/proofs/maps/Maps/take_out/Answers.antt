@@ -18,7 +18,13 @@ invariant_of-self c =
     let apart : c.args.n ≢ a.number = λ e. other (e ∙ sym size) in
     let all = out_below a.others.items items' a.number (a.number - 1) c.args.n a.map c.self.invariant.number (omega arith) (omega arith) c.remove.ensures.items in
     let is : length (take (a.number - 1) items') ≡ lowered c.args.n (length (take a.number a.others.items)) = all.1 ∙ ap (lowered c.args.n) (sym size) in
-    record { number = all.2; project = out_keeps (project_of (maps_view a)) (tables_of_each (take (a.number - 1) items') ++ a.map.tables ∷ tables_of_each (drop (a.number - 1) items')) c.args.n (length (take (a.number - 1) items')) all.0 is within other c.self.invariant.project }
+    record {
+      number = all.2;
+      project =
+          out_keeps (project_of (maps_view a)) (tables_of_each (take (a.number - 1) items') ++ a.map.tables
+          ∷ tables_of_each (drop (a.number - 1) items')) c.args.n
+          (length (take (a.number - 1) items')) all.0 is within other c.self.invariant.project;
+    }
 
 pub returns-then-n-self : goal.returns-then-n-self
 returns-then-n-self c =
@@ -31,7 +37,13 @@ returns-then-n-self c =
     let apart : c.args.n ≢ a.number = λ e. other (e ∙ sym size) in
     let all = out_below a.others.items items' a.number (a.number - 1) c.args.n a.map c.self.invariant.number (omega arith) (omega arith) c.remove.ensures.items in
     let is : length (take (a.number - 1) items') ≡ lowered c.args.n (length (take a.number a.others.items)) = all.1 ∙ ap (lowered c.args.n) (sym size) in
-    subst (λ (v : MapsView). project_of (maps_view (record { map = a.map; number = a.number - 1; others = c.remove.new.self })) ≡ record { maps = remove (project_of v).maps c.args.n; current = lowered c.args.n (project_of v).current }) c.self.view_is (λ i. record { maps = all.0 i; current = is i })
+    subst (λ (v : MapsView). project_of (maps_view
+    (record { map = a.map; number = a.number - 1; others = c.remove.new.self }))
+    ≡ record {
+      maps = remove (project_of v).maps c.args.n;
+      current =
+          lowered c.args.n (project_of v).current;
+    }) c.self.view_is (λ i. record { maps = all.0 i; current = is i })
 
 pub invariant_of-self-else-n-self : goal.invariant_of-self-else-n-self
 invariant_of-self-else-n-self c =
@@ -44,7 +56,13 @@ invariant_of-self-else-n-self c =
     let apart : c.args.n ≢ a.number = λ e. other (e ∙ sym size) in
     let all = out_above a.others.items items' a.number c.args.n (c.args.n - 1) a.map (omega arith) (omega arith) (omega (arith, count, within)) c.remove-else-n-self.ensures.items in
     let is : length (take a.number items') ≡ lowered c.args.n (length (take a.number a.others.items)) = all.1 ∙ ap (lowered c.args.n) (sym size) in
-    record { number = all.2; project = out_keeps (project_of (maps_view a)) (tables_of_each (take a.number items') ++ a.map.tables ∷ tables_of_each (drop a.number items')) c.args.n (length (take a.number items')) all.0 is within other c.self.invariant.project }
+    record {
+      number = all.2;
+      project =
+          out_keeps (project_of (maps_view a)) (tables_of_each (take a.number items') ++ a.map.tables
+          ∷ tables_of_each (drop a.number items')) c.args.n
+          (length (take a.number items')) all.0 is within other c.self.invariant.project;
+    }
 
 pub returns-else-n-self : goal.returns-else-n-self
 returns-else-n-self c =
@@ -57,4 +75,10 @@ returns-else-n-self c =
     let apart : c.args.n ≢ a.number = λ e. other (e ∙ sym size) in
     let all = out_above a.others.items items' a.number c.args.n (c.args.n - 1) a.map (omega arith) (omega arith) (omega (arith, count, within)) c.remove-else-n-self.ensures.items in
     let is : length (take a.number items') ≡ lowered c.args.n (length (take a.number a.others.items)) = all.1 ∙ ap (lowered c.args.n) (sym size) in
-    subst (λ (v : MapsView). project_of (maps_view (record { map = a.map; number = a.number; others = c.remove-else-n-self.new.self })) ≡ record { maps = remove (project_of v).maps c.args.n; current = lowered c.args.n (project_of v).current }) c.self.view_is (λ i. record { maps = all.0 i; current = is i })
+    subst (λ (v : MapsView). project_of (maps_view
+    (record { map = a.map; number = a.number; others = c.remove-else-n-self.new.self }))
+    ≡ record {
+      maps = remove (project_of v).maps c.args.n;
+      current =
+          lowered c.args.n (project_of v).current;
+    }) c.self.view_is (λ i. record { maps = all.0 i; current = is i })

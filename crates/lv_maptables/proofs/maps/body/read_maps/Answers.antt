@@ -45,7 +45,8 @@ loop-at-preserved c =
     let next = c.in_ok-at.ensures.next in (
       next.well_formed,
       omega (arith, inv.1, rest_size bs at inv.1, next.within),
-      next_behind (project_of c.loop-at.maps) (project_of c.read_next.new.self) at c.in_ok-at.field-0 (take (length bs - at) (drop at bs)) bs (rest_is bs at inv.1) inv.2 next (further bs at c.in_ok-at.field-0),
+      next_behind (project_of c.loop-at.maps) (project_of c.read_next.new.self) at c.in_ok-at.field-0
+          (take (length bs - at) (drop at bs)) bs (rest_is bs at inv.1) inv.2 next (further bs at c.in_ok-at.field-0),
     )
 
 pub loop-at-smaller : goal.loop-at-smaller

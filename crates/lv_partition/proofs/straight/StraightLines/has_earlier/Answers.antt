@@ -22,7 +22,8 @@ pub bounds-used-first : goal.bounds-used-first
 bounds-used-first c =
     let ps = c.args.pieces.now in
     let i = c.index-2.result.now in
-    line_known c.args.lines.now c.args.used.now (get_or ps i no_piece) (piece_before c.args.lines.now ps i c.args.at c.args.piece.now c.if-earlier-at.true c.requires.stands c.requires.pieces) c.requires.known
+    line_known c.args.lines.now c.args.used.now (get_or ps i no_piece)
+    (piece_before c.args.lines.now ps i c.args.at c.args.piece.now c.if-earlier-at.true c.requires.stands c.requires.pieces) c.requires.known
 
 pub lies_along-requires-clause-first : goal.lies_along-requires-clause-first
 lies_along-requires-clause-first c = piece_before c.args.lines.now c.args.pieces.now c.index-2.result.now c.args.at c.args.piece.now c.if-earlier-at.true c.requires.stands c.requires.pieces

@@ -3,8 +3,8 @@ use Rattle.lv_disk.specs.Moments.{LeavesOnly}
 use Rattle.lv_maptables.specs.Projects.{ProjectMaps, project_of}
 use Rattle.lv_commands.specs.ProjectReadiness as readiness
 use Rattle.lv_commands.specs.ProjectLines.{Accepts, LeadsTo}
-use Rattle.lv_commands.specs.ProjectStep.{after, number_of, step}
-use Rattle.lv_project.specs.Fields.{state_of}
+use Rattle.lv_commands.specs.ProjectStep.{project_after, project_number_of, step}
+use Rattle.lv_project.specs.Fields.{project_state}
 use Rattle.lv_project.specs.Outcomes.{EndsApply, TurnsWhereFull}
 use Rattle.lv_project.specs.Places.{cap_of}
 use Rattle.lv_project.specs.Stands.{IsOutcome, Stands, StandsFor}
@@ -47,24 +47,30 @@ returns-in-Err-ready-clause-kept g c go file left =
 pub returns-in-Err-ready-clause-any_moment : goal.returns-in-Err-ready-clause-any_moment
 returns-in-Err-ready-clause-any_moment g c =
     subst (λ (v : _). v.must_reopen ≡ false → LeavesOnly g.D.Disk v.disk c.self.inside.disk (IsOutcome v.cap (project_of v.maps) c.args.line.now)) c.self.view_is
-    (no_outcome g.D.Disk c.self.inside c.self.invariant.framed (state_of c.self.inside) c.args.line.now refl c.self.invariant.ready (λ file left. g.met.D.Disk.only_now c.self.inside.disk file left))
+    (no_outcome g.D.Disk c.self.inside c.self.invariant.framed
+    (project_state c.self.inside) c.args.line.now refl c.self.invariant.ready
+    (λ file left. g.met.D.Disk.only_now c.self.inside.disk file left))
 
 pub returns-in-Err-make_room-clause-any_moment : goal.returns-in-Err-make_room-clause-any_moment
 returns-in-Err-make_room-clause-any_moment g c =
     subst (λ (v : _). v.must_reopen ≡ false → LeavesOnly g.D.Disk v.disk c.make_room.new.self.disk (IsOutcome v.cap (project_of v.maps) c.args.line.now)) c.self.view_is
-    (λ go. room_moments g.D.Disk (cap_of c.self.inside.geometry) (project_of c.self.inside.maps) (project_of c.ready.new.maps) c.args.line.now c.self.inside.disk c.make_room.new.self.disk c.ready.ensures.project c.make_room.ensures.any_moment)
+    (λ go. room_moments g.D.Disk (cap_of c.self.inside.geometry) (project_of c.self.inside.maps)
+    (project_of c.ready.new.maps) c.args.line.now c.self.inside.disk c.make_room.new.self.disk c.ready.ensures.project c.make_room.ensures.any_moment)
 
 pub returns-clause-any_moment : goal.returns-clause-any_moment
 returns-clause-any_moment g c =
     subst (λ (v : _). v.must_reopen ≡ false → LeavesOnly g.D.Disk v.disk c.record.new.self.disk (IsOutcome v.cap (project_of v.maps) c.args.line.now)) c.self.view_is
     (λ go. both_moments g.D.Disk (cap_of c.self.inside.geometry) (project_of c.self.inside.maps) (project_of c.make_room.new.self.maps) c.make_room.new.self.cap c.args.line.now
     c.self.inside.disk c.make_room.new.self.disk c.record.new.self.disk (ap project_of c.make_room.ensures.maps ∙ c.ready.ensures.project) c.make_room.ensures.cap
-    (subst (λ (t : ProjectMaps). LeavesOnly g.D.Disk c.self.inside.disk c.make_room.new.self.disk (StandsFor (cap_of c.self.inside.geometry) t)) c.ready.ensures.project c.make_room.ensures.any_moment) c.record.ensures.any_moment)
+    (subst (λ (t : ProjectMaps). LeavesOnly g.D.Disk c.self.inside.disk c.make_room.new.self.disk
+    (StandsFor
+    (cap_of c.self.inside.geometry) t)) c.ready.ensures.project c.make_room.ensures.any_moment) c.record.ensures.any_moment)
 
 pub returns-clause-ends : goal.returns-clause-ends
 returns-clause-ends g c =
     subst (λ (v : _). v.must_reopen ≡ false → EndsApply g.D.Disk c.record.result v c.record.new.self c.args.line.now) c.self.view_is
-    (λ go. ends_from g.D.Disk (state_of c.self.inside) c.make_room.new.self c.record.new.self c.args.line.now (ap project_of c.make_room.ensures.maps ∙ c.ready.ensures.project) c.make_room.ensures.cap
+    (λ go. ends_from g.D.Disk (project_state c.self.inside) c.make_room.new.self c.record.new.self c.args.line.now
+    (ap project_of c.make_room.ensures.maps ∙ c.ready.ensures.project) c.make_room.ensures.cap
     go c.in-Ok-make_room.ensures.ends.0 c.make_room.ensures.later c.record.ensures.later c.in-Ok-make_room.ensures.ends.1 c.record.result c.record.ensures.ends)
     (sym (ap (λ (v : _). v.must_reopen) c.self.view_is) ∙ c.if-self.false)
 
@@ -105,32 +111,35 @@ returns-in-Err-clause-refused_moment g c go =
 pub returns-in-Err-ready-clause-refused_moment : goal.returns-in-Err-ready-clause-refused_moment
 returns-in-Err-ready-clause-refused_moment g c go =
     inr (subst (λ (v : _). v.must_reopen ≡ false → LeavesOnly g.D.Disk v.disk c.self.inside.disk (StandsFor v.cap (project_of v.maps))) c.self.view_is
-    (no_moment g.D.Disk c.self.inside c.self.invariant.framed (state_of c.self.inside) refl c.self.invariant.ready (λ file left. g.met.D.Disk.only_now c.self.inside.disk file left)) go)
+    (no_moment g.D.Disk c.self.inside c.self.invariant.framed (project_state c.self.inside) refl c.self.invariant.ready (λ file left. g.met.D.Disk.only_now c.self.inside.disk file left)) go)
 
 pub returns-in-Err-make_room-clause-refused_moment : goal.returns-in-Err-make_room-clause-refused_moment
 returns-in-Err-make_room-clause-refused_moment g c go =
     inr (subst (λ (v : _). LeavesOnly g.D.Disk v.disk c.make_room.new.self.disk (StandsFor v.cap (project_of v.maps))) c.self.view_is
-    (subst (λ (t : ProjectMaps). LeavesOnly g.D.Disk c.self.inside.disk c.make_room.new.self.disk (StandsFor (cap_of c.self.inside.geometry) t)) c.ready.ensures.project c.make_room.ensures.any_moment))
+    (subst (λ (t : ProjectMaps). LeavesOnly g.D.Disk c.self.inside.disk c.make_room.new.self.disk
+    (StandsFor (cap_of c.self.inside.geometry) t)) c.ready.ensures.project c.make_room.ensures.any_moment))
 
 pub returns-clause-refused_moment : goal.returns-clause-refused_moment
 returns-clause-refused_moment g c =
-    device_or (c.args.self.now.must_reopen ≡ false) (LeavesOnly g.D.Disk c.args.self.now.disk c.record.new.self.disk (StandsFor c.args.self.now.cap (project_of c.args.self.now.maps))) c.record.result c.record.ensures.device
+    device_or (c.args.self.now.must_reopen ≡ false)
+    (LeavesOnly g.D.Disk c.args.self.now.disk c.record.new.self.disk
+    (StandsFor c.args.self.now.cap (project_of c.args.self.now.maps))) c.record.result c.record.ensures.device
 
 pub returns-in-Err-make_room-clause-ends : goal.returns-in-Err-make_room-clause-ends
 returns-in-Err-make_room-clause-ends g c =
     let m = (project_of c.self.inside.maps) in
     let n = cap_of c.self.inside.geometry in
-    let accepts : Accepts n m c.args.line.now (after m c.in-Ok.command) (number_of m c.in-Ok.command) = record {
+    let accepts : Accepts n m c.args.line.now (project_after m c.in-Ok.command) (project_number_of m c.in-Ok.command) = record {
       command = c.in-Ok.command;
       range = c.in-Ok.ensures.ok.1;
       line_is = c.in-Ok.ensures.ok.0;
-      stepped = subst (λ (k : ℕ). step m c.in-Ok.command k ≡ Ok (after m c.in-Ok.command, number_of m c.in-Ok.command)) c.cap.ensures c.in-Ok-ready.ensures.accepted;
+      stepped = subst (λ (k : ℕ). step m c.in-Ok.command k ≡ Ok (project_after m c.in-Ok.command, project_number_of m c.in-Ok.command)) c.cap.ensures c.in-Ok-ready.ensures.accepted;
     } in
-    let leads : (next : ProjectMaps) × LeadsTo n m c.args.line.now next = (after m c.in-Ok.command, (number_of m c.in-Ok.command, accepts)) in
+    let leads : (next : ProjectMaps) × LeadsTo n m c.args.line.now next = (project_after m c.in-Ok.command, (project_number_of m c.in-Ok.command, accepts)) in
     subst (λ (v : _). v.must_reopen ≡ false → EndsApply g.D.Disk (Err c.in-Err-make_room.error) v c.make_room.new.self c.args.line.now) c.self.view_is
     (λ go. (
       ap project_of c.make_room.ensures.maps ∙ c.ready.ensures.project,
-      room_refused g.D.Disk (state_of c.self.inside) (record (state_of c.self.inside) { maps = c.ready.new.maps }) c.make_room.new.self c.args.line.now go refl refl refl refl leads
+      room_refused g.D.Disk (project_state c.self.inside) (record (project_state c.self.inside) { maps = c.ready.new.maps }) c.make_room.new.self c.args.line.now go refl refl refl refl leads
           c.in-Err-make_room.error c.in-Err-make_room.ensures.ends.0 c.in-Err-make_room.ensures.ends.1,
     ))
     (sym (ap (λ (v : _). v.must_reopen) c.self.view_is) ∙ c.if-self.false)
@@ -138,7 +147,7 @@ returns-in-Err-make_room-clause-ends g c =
 pub returns-clause-turned : goal.returns-clause-turned
 returns-clause-turned g c =
     subst (λ (v : _). OnOk c.record.result (TurnsWhereFull v c.record.new.self (length c.args.line.now))) c.self.view_is
-    (turned_then (state_of c.self.inside) c.make_room.new.self c.record.new.self (length c.args.line.now) c.record.result c.in-Ok-make_room.ensures.turned c.record.ensures.generation)
+    (turned_then (project_state c.self.inside) c.make_room.new.self c.record.new.self (length c.args.line.now) c.record.result c.in-Ok-make_room.ensures.turned c.record.ensures.generation)
 
 pub returns-in-Err-clause-ends : goal.returns-in-Err-clause-ends
 returns-in-Err-clause-ends g c = (

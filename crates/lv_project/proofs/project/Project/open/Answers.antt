@@ -17,5 +17,10 @@ returns-in-Ok-read-clause-opened g c = (
   λ file read.
       let was = subst (λ d. g.D.Disk.reads d file) c.into_inner-disk.ensures read in
       let stands = stands_opened c.in-Ok-read.opened file c.in-Ok-read.ensures.areas.2 (c.in-Ok-read.ensures.opened file was) in
-      record { stands = stands; only = λ limit other k is. one_map limit (cap_of c.in-Ok-read.opened.geometry) other (project_of c.in-Ok-read.opened.maps) k (generation_of c.in-Ok-read.opened.slots) file is stands },
+      record {
+        stands = stands;
+        only = λ limit other k is.
+            one_map limit (cap_of c.in-Ok-read.opened.geometry) other (project_of c.in-Ok-read.opened.maps) k
+            (generation_of c.in-Ok-read.opened.slots) file is stands;
+      },
 )

@@ -1,7 +1,7 @@
 use Rattle.std.proofs.Common.{◌∙◌, ap, sym, subst}
 use Rattle.lv_maptables.specs.Projects.{project_of}
 use Rattle.lv_disk.specs.Moments.{LeavesOnly}
-use Rattle.lv_commands.specs.ProjectStep.{after, number_of}
+use Rattle.lv_commands.specs.ProjectStep.{project_after, project_number_of}
 use Rattle.lv_project.specs.Places.{cap_of}
 use Rattle.lv_project.specs.Stands.{IsOutcome}
 use Rattle.lv_commands.specs.ProjectLines.{LeadsTo}
@@ -12,10 +12,18 @@ pub invariant_of-self : goal.invariant_of-self
 invariant_of-self g c =
     let p = c.self.inside in
     let ready = c.self.invariant.ready (ap (λ (v : _). v.must_reopen) c.self.view_is ∙ c.requires.reopen) in
-    let leads = subst (λ (v : _). LeadsTo v.cap (project_of v.maps) c.args.line.now (after (project_of v.maps) c.args.ready.command)) (sym c.self.view_is)
-    (number_of (project_of c.args.self.now.maps) c.args.ready.command, record { command = c.args.ready.command; range = c.requires.ready.range; line_is = c.requires.line; stepped = c.requires.accepted }) in
-    let short = step_fits (project_of p.maps) leads.1.command (cap_of p.geometry) (after (project_of p.maps) c.args.ready.command) leads.0 leads.1.stepped in
-    sound_recorded g.D.Disk p c.self.invariant.framed ready c.append.new.disk c.append.new.self c.commit.new.maps c.args.line.now (after (project_of p.maps) c.args.ready.command)
+    let leads = subst (λ (v : _). LeadsTo v.cap (project_of v.maps) c.args.line.now (project_after (project_of v.maps) c.args.ready.command)) (sym c.self.view_is) (
+      project_number_of (project_of c.args.self.now.maps) c.args.ready.command,
+      record {
+        command = c.args.ready.command;
+        range = c.requires.ready.range;
+        line_is = c.requires.line;
+        stepped =
+            c.requires.accepted;
+      },
+    ) in
+    let short = step_fits (project_of p.maps) leads.1.command (cap_of p.geometry) (project_after (project_of p.maps) c.args.ready.command) leads.0 leads.1.stepped in
+    sound_recorded g.D.Disk p c.self.invariant.framed ready c.append.new.disk c.append.new.self c.commit.new.maps c.args.line.now (project_after (project_of p.maps) c.args.ready.command)
     leads c.commit.ensures.project short c.in-Ok.ensures.appended c.in-Ok.ensures.next c.in-Ok.ensures.ready
 
 pub returns-in-Ok-clause-kept : goal.returns-in-Ok-clause-kept
@@ -27,16 +35,32 @@ pub returns-in-Ok-clause-any_moment : goal.returns-in-Ok-clause-any_moment
 returns-in-Ok-clause-any_moment g c =
     let p = c.self.inside in
     let ready = c.self.invariant.ready (ap (λ (v : _). v.must_reopen) c.self.view_is ∙ c.requires.reopen) in
-    let leads = subst (λ (v : _). LeadsTo v.cap (project_of v.maps) c.args.line.now (after (project_of v.maps) c.args.ready.command)) (sym c.self.view_is)
-    (number_of (project_of c.args.self.now.maps) c.args.ready.command, record { command = c.args.ready.command; range = c.requires.ready.range; line_is = c.requires.line; stepped = c.requires.accepted }) in
+    let leads = subst (λ (v : _). LeadsTo v.cap (project_of v.maps) c.args.line.now (project_after (project_of v.maps) c.args.ready.command)) (sym c.self.view_is) (
+      project_number_of (project_of c.args.self.now.maps) c.args.ready.command,
+      record {
+        command = c.args.ready.command;
+        range = c.requires.ready.range;
+        line_is = c.requires.line;
+        stepped =
+            c.requires.accepted;
+      },
+    ) in
     subst (λ (v : _). LeavesOnly g.D.Disk v.disk c.append.new.disk (IsOutcome v.cap (project_of v.maps) c.args.line.now)) c.self.view_is
-    (append_moments g.D.Disk p c.self.invariant.framed ready c.append.new.disk c.args.line.now (after (project_of p.maps) c.args.ready.command) leads c.append.ensures.any_moment)
+    (append_moments g.D.Disk p c.self.invariant.framed ready c.append.new.disk c.args.line.now (project_after (project_of p.maps) c.args.ready.command) leads c.append.ensures.any_moment)
 
 pub returns-in-Err-Device-clause-any_moment : goal.returns-in-Err-Device-clause-any_moment
 returns-in-Err-Device-clause-any_moment g c =
     let p = c.self.inside in
     let ready = c.self.invariant.ready (ap (λ (v : _). v.must_reopen) c.self.view_is ∙ c.requires.reopen) in
-    let leads = subst (λ (v : _). LeadsTo v.cap (project_of v.maps) c.args.line.now (after (project_of v.maps) c.args.ready.command)) (sym c.self.view_is)
-    (number_of (project_of c.args.self.now.maps) c.args.ready.command, record { command = c.args.ready.command; range = c.requires.ready.range; line_is = c.requires.line; stepped = c.requires.accepted }) in
+    let leads = subst (λ (v : _). LeadsTo v.cap (project_of v.maps) c.args.line.now (project_after (project_of v.maps) c.args.ready.command)) (sym c.self.view_is) (
+      project_number_of (project_of c.args.self.now.maps) c.args.ready.command,
+      record {
+        command = c.args.ready.command;
+        range = c.requires.ready.range;
+        line_is = c.requires.line;
+        stepped =
+            c.requires.accepted;
+      },
+    ) in
     subst (λ (v : _). LeavesOnly g.D.Disk v.disk c.append.new.disk (IsOutcome v.cap (project_of v.maps) c.args.line.now)) c.self.view_is
-    (append_moments g.D.Disk p c.self.invariant.framed ready c.append.new.disk c.args.line.now (after (project_of p.maps) c.args.ready.command) leads c.append.ensures.any_moment)
+    (append_moments g.D.Disk p c.self.invariant.framed ready c.append.new.disk c.args.line.now (project_after (project_of p.maps) c.args.ready.command) leads c.append.ensures.any_moment)

@@ -6,7 +6,7 @@ use Rattle.lv_checkpoint.specs.Handles.{body_in, generation_of}
 use Rattle.lv_maptables.specs.ProjectBody.{project_body}
 use Rattle.lv_maptables.specs.Projects.{WellFormedProject, project_of}
 use Rattle.lv_project.specs.Fields.{parts_in}
-use Rattle.lv_project.specs.Places.{cap_of, parts_of}
+use Rattle.lv_project.specs.Places.{cap_of, which_parts}
 use Rattle.lv_project.specs.Stands.{StandsFor}
 use Rattle.lv_project.specs.Turns.{MayTurn, Turns}
 use Rattle.lv_project.specs.declared.places.Parts.{Parts}
@@ -27,9 +27,11 @@ invariant_of-self g c =
     let ready = c.self.invariant.ready (ap (λ (v : _). v.must_reopen) c.self.view_is ∙ c.requires.ready) in
     let is : body_in c.args.image.now ≡ project_body (project_of p.maps) = subst (λ (v : _). body_in c.args.image.now ≡ project_body (project_of v.maps)) (sym c.self.view_is) c.requires.body in
     let formed : WellFormedProject (project_of p.maps) = subst (λ (v : _). WellFormedProject (project_of v.maps)) (sym c.self.view_is) c.requires.well_formed in
-    let parts : c.parts-parts.result ≡ parts_in p = c.parts-parts.ensures ∙ ap (parts_of p.places) c.slot.ensures in
+    let parts : c.parts-parts.result ≡ parts_in p = c.parts-parts.ensures ∙ ap (which_parts p.places) c.slot.ensures in
     sound_turned g.D.Disk p framed ready c.turn.new.disk c.in-Ok.slots c.fresh.result (body_in c.args.image.now) is formed
-    (subst (λ (q : Parts). Follows (Turns (cap_of p.geometry) (generation_of p.slots) q (body_in c.args.image.now)) (g.D.Disk.may_leave p.disk) (g.D.Disk.may_leave c.turn.new.disk)) parts (c.in-Ok.ensures.turned (cap_of p.geometry)))
+    (subst (λ (q : Parts). Follows (Turns (cap_of p.geometry) (generation_of p.slots) q (body_in c.args.image.now))
+    (g.D.Disk.may_leave p.disk) (g.D.Disk.may_leave c.turn.new.disk)) parts
+    (c.in-Ok.ensures.turned (cap_of p.geometry)))
     c.in-Ok.ensures.ready c.in-Ok.ensures.areas c.in-Ok.ensures.slot c.in-Ok.ensures.generation
     (c.fresh.ensures.empty ∙ ap (λ (q : Parts). journal.opened q.other_journal []) parts) c.fresh.ensures.ready
 
@@ -45,7 +47,7 @@ returns-in-Ok-clause-any_moment g c =
     let ready = c.self.invariant.ready (ap (λ (v : _). v.must_reopen) c.self.view_is ∙ c.requires.ready) in
     let is : body_in c.args.image.now ≡ project_body (project_of p.maps) = subst (λ (v : _). body_in c.args.image.now ≡ project_body (project_of v.maps)) (sym c.self.view_is) c.requires.body in
     let formed : WellFormedProject (project_of p.maps) = subst (λ (v : _). WellFormedProject (project_of v.maps)) (sym c.self.view_is) c.requires.well_formed in
-    let parts : c.parts-parts.result ≡ parts_in p = c.parts-parts.ensures ∙ ap (parts_of p.places) c.slot.ensures in
+    let parts : c.parts-parts.result ≡ parts_in p = c.parts-parts.ensures ∙ ap (which_parts p.places) c.slot.ensures in
     subst (λ (v : _). LeavesOnly g.D.Disk v.disk c.turn.new.disk (StandsFor v.cap (project_of v.maps))) c.self.view_is
     (turn_moments g.D.Disk p framed ready c.turn.new.disk (body_in c.args.image.now) is formed
     (subst (λ (q : Parts). LeavesOnly g.D.Disk p.disk c.turn.new.disk (From (g.D.Disk.may_leave p.disk) (MayTurn (cap_of p.geometry) (generation_of p.slots) q (body_in c.args.image.now)))) parts
@@ -58,7 +60,7 @@ returns-in-Err-clause-any_moment g c =
     let ready = c.self.invariant.ready (ap (λ (v : _). v.must_reopen) c.self.view_is ∙ c.requires.ready) in
     let is : body_in c.args.image.now ≡ project_body (project_of p.maps) = subst (λ (v : _). body_in c.args.image.now ≡ project_body (project_of v.maps)) (sym c.self.view_is) c.requires.body in
     let formed : WellFormedProject (project_of p.maps) = subst (λ (v : _). WellFormedProject (project_of v.maps)) (sym c.self.view_is) c.requires.well_formed in
-    let parts : c.parts-parts.result ≡ parts_in p = c.parts-parts.ensures ∙ ap (parts_of p.places) c.slot.ensures in
+    let parts : c.parts-parts.result ≡ parts_in p = c.parts-parts.ensures ∙ ap (which_parts p.places) c.slot.ensures in
     subst (λ (v : _). LeavesOnly g.D.Disk v.disk c.turn.new.disk (StandsFor v.cap (project_of v.maps))) c.self.view_is
     (turn_moments g.D.Disk p framed ready c.turn.new.disk (body_in c.args.image.now) is formed
     (subst (λ (q : Parts). LeavesOnly g.D.Disk p.disk c.turn.new.disk (From (g.D.Disk.may_leave p.disk) (MayTurn (cap_of p.geometry) (generation_of p.slots) q (body_in c.args.image.now)))) parts

@@ -2,7 +2,7 @@ use Rattle.std.proofs.Common.{◌≡◌, ℕ, ◌+◌, ◌<◌, ◌≤◌, ◌^�
 use Rattle.std.proofs.Math.Nat.{le-max_left, le-max_right}
 use Rattle.std.specs.Prelude.{unsigned_abs}
 use Rattle.std.specs.Int.{int_shr}
-use Rattle.lv_segs.specs.Angle.{IsSmall}
+use Rattle.lv_segs.specs.Angle.{IsIn62Bits}
 use Rattle.lv_segs.proofs.Shifts.{one_not_small, small_behind}
 use Rattle.lv_segs.proofs.angle.Square.shrunk.Goals as goal
 use Rattle.lv_segs.proofs.angle.Square.shrunk.Goals.{After-shifted-near}
@@ -22,7 +22,7 @@ y_enough c =
 one_higher : (a k : ℕ) → a < 2 ^ (62 + k) → a < 2 ^ (62 + (k + 1))
 one_higher a k h = let p = pow-suc 2 (62 + k) in let e : 62 + (k + 1) ≡ suc (62 + k) = omega arith in let q = ap (λ (n : ℕ). 2 ^ n) e in omega arith
 
-least : (c : After-shifted-near) → (less : ℕ) → less < c.excess-shift.result → IsSmall (int_shr c.args.self.x less) → IsSmall (int_shr c.args.self.y less) → ⊥
+least : (c : After-shifted-near) → (less : ℕ) → less < c.excess-shift.result → IsIn62Bits (int_shr c.args.self.x less) → IsIn62Bits (int_shr c.args.self.y less) → ⊥
 least c less h = one_not_small c.args.self.x c.args.self.y less (subst (λ (n : ℕ). 2 ^ (less + 62) ≤ n) c.size.ensures (c.excess-shift.ensures.none_less less h))
 
 pub shifted-requires-clause-x : goal.shifted-requires-clause-x
@@ -51,11 +51,11 @@ returns-else-is_small c =
       shift = k + 1;
       x_is = c.shifted.ensures.x;
       y_is = c.shifted.ensures.y;
-      x_small = subst IsSmall (sym c.shifted.ensures.x) (small_behind c.args.self.x k (x_enough before));
-      y_small = subst IsSmall (sym c.shifted.ensures.y) (small_behind c.args.self.y k (y_enough before));
-      least = below_more (λ less. IsSmall (int_shr c.args.self.x less) → IsSmall (int_shr c.args.self.y less) → ⊥) k (least before)
+      x_small = subst IsIn62Bits (sym c.shifted.ensures.x) (small_behind c.args.self.x k (x_enough before));
+      y_small = subst IsIn62Bits (sym c.shifted.ensures.y) (small_behind c.args.self.y k (y_enough before));
+      least = below_more (λ less. IsIn62Bits (int_shr c.args.self.x less) → IsIn62Bits (int_shr c.args.self.y less) → ⊥) k (least before)
           (λ sx sy.
-          let t : c.is_small.result ≡ true = c.is_small.ensures.1 (subst IsSmall (sym c.shifted-near.ensures.x) sx, subst IsSmall (sym c.shifted-near.ensures.y) sy) in
+          let t : c.is_small.result ≡ true = c.is_small.ensures.1 (subst IsIn62Bits (sym c.shifted-near.ensures.x) sx, subst IsIn62Bits (sym c.shifted-near.ensures.y) sy) in
           let f = c.if-is_small.false in
           let both : true ≡ false = sym t ∙ f in
           cc);

@@ -1,41 +1,51 @@
-use Rattle.std.proofs.Common.{◌≡◌, sym, refl, subst, inl, Some, slice_get, OnOk, ℕ, List, arith, Result}
+use Rattle.std.proofs.Common.{◌≡◌, List, Some, slice_get, sym, refl, subst, inl}
+use Rattle.std.specs.Map.{lookup}
 use Rattle.lv_lumps.specs.declared.records.Vertex.{Vertex}
-use Rattle.lv_segs.specs.Places.{ArePlaces, IsKnown, IsWithPlace}
-use Rattle.lv_segs.specs.declared.error.SegsError.{SegsError}
-use Rattle.lv_segs.proofs.Known.{found_stands, not_known, new_numbered, places_more}
+use Rattle.lv_lumps.specs.contracts.records.VertexPartialEq.TheImpl.{eq-value}
+use Rattle.lv_segs.specs.Places.{IsKnown, StandsFirst}
+use Rattle.lv_segs.proofs.Known.{number_known, number_new, pushed_number, pushed_first, pushed_places}
 use Rattle.lv_segs.proofs.numbered.Points.number.Goals as goal
-use Rattle.lv_segs.proofs.numbered.Points.number.Goals.{in-Ok, in-Err}
+use Rattle.lv_segs.proofs.numbered.Points.number.Goals.{In-Some, In_default}
+
+found : (c : In-Some) → lookup (eq-value.it c.args.place) c.self.inside.numbers.entries ≡ Some c.in-Some.n
+found c = cc (c.get.ensures.value, c.copied.ensures, c.in-Some.is)
+
+stands : (c : In-Some) → slice_get c.args.self.now c.in-Some.n ≡ Some c.args.place
+stands c = subst (λ (vs : List Vertex). slice_get vs c.in-Some.n ≡ Some c.args.place) c.self.view_is
+    (number_known c.self.inside.places.items c.self.inside.numbers.entries c.args.place c.in-Some.n c.self.invariant
+    (found c)).0
+
+unknown : (c : In_default) → IsKnown c.args.self.now c.args.place → ⊥
+unknown c k =
+    number_new c.self.inside.places.items c.self.inside.numbers.entries c.args.place c.self.invariant (cc (c.get.ensures.value, c.copied.ensures, c.in_default.is))
+    (subst (λ (vs : List Vertex). IsKnown vs c.args.place) (sym c.self.view_is) k)
 
 pub returns-in-Some-clause-number : goal.returns-in-Some-clause-number
-returns-in-Some-clause-number c = subst (λ (vs : List Vertex). slice_get vs c.in-Some.n ≡ Some c.args.place) c.self.view_is (found_stands c.args.place c.self.inside.places.keys c.in-Some.n c.in-Some.ensures.index)
+returns-in-Some-clause-number c = stands (goal.at.returns-in-Some-clause-number c).In-Some
+
+pub returns-in-Some-clause-first : goal.returns-in-Some-clause-first
+returns-in-Some-clause-first c =
+    subst (λ (vs : List Vertex). StandsFirst vs c.in-Some.n) c.self.view_is
+    (number_known c.self.inside.places.items c.self.inside.numbers.entries c.args.place c.in-Some.n c.self.invariant
+    (found (goal.at.returns-in-Some-clause-first c).In-Some)).1
 
 pub returns-in-Some-clause-places : goal.returns-in-Some-clause-places
-returns-in-Some-clause-places c = inl ((c.in-Some.n, subst (λ (vs : List Vertex). slice_get vs c.in-Some.n ≡ Some c.args.place) c.self.view_is (found_stands c.args.place c.self.inside.places.keys c.in-Some.n c.in-Some.ensures.index)), refl)
-
-pub returns-then-len-ge-ITEM_LIMIT-clause-new : goal.returns-then-len-ge-ITEM_LIMIT-clause-new
-returns-then-len-ge-ITEM_LIMIT-clause-new c = λ e k. not_known c.args.place c.self.inside.places.keys c.in_default.ensures.found (subst (λ (vs : List Vertex). IsKnown vs c.args.place) (sym c.self.view_is) k)
-
-pub returns-clause-places : goal.returns-clause-places
-returns-clause-places c =
-    elim c.match-insert_full.branch [
-      | in-Ok w ↦
-          let n = new_numbered c.args.place c.self.inside.places.keys c.insert_full.new.self.keys c.in_default.ensures.found w.in-Ok.ensures.keys in
-          let m = subst (λ (vs : List Vertex). IsWithPlace vs c.args.place c.insert_full.new.self.keys) c.self.view_is n in
-          subst (λ (r : Result ℕ SegsError). OnOk r (IsWithPlace c.args.self.now c.args.place c.insert_full.new.self.keys)) (sym w.result-is) m
-      | in-Err w ↦ subst (λ (r : Result ℕ SegsError). OnOk r (IsWithPlace c.args.self.now c.args.place c.insert_full.new.self.keys)) (sym w.result-is) tt
-    ]
+returns-in-Some-clause-places c = inl ((c.in-Some.n, stands (goal.at.returns-in-Some-clause-places c).In-Some), refl)
 
 pub returns-in-Some-clause-refused : goal.returns-in-Some-clause-refused
-returns-in-Some-clause-refused c = λ full new. absurd (new (c.in-Some.n, subst (λ (vs : List Vertex). slice_get vs c.in-Some.n ≡ Some c.args.place) c.self.view_is (found_stands c.args.place c.self.inside.places.keys c.in-Some.n c.in-Some.ensures.index)))
+returns-in-Some-clause-refused c = λ full new. absurd (new (c.in-Some.n, stands (goal.at.returns-in-Some-clause-refused c).In-Some))
 
-pub invariant_of-self : goal.invariant_of-self
-invariant_of-self c =
-    elim c.match-insert_full.branch [
-      | in-Ok w ↦
-          places_more c.args.place c.self.inside.places.keys c.insert_full.new.self.keys c.self.invariant (omega arith)
-          (new_numbered c.args.place c.self.inside.places.keys c.insert_full.new.self.keys c.in_default.ensures.found w.in-Ok.ensures.keys)
-      | in-Err w ↦ subst ArePlaces (sym w.in-Err.ensures.err) c.self.invariant
-    ]
+pub returns-then-len-ge-ITEM_LIMIT-clause-new : goal.returns-then-len-ge-ITEM_LIMIT-clause-new
+returns-then-len-ge-ITEM_LIMIT-clause-new c = λ e k. unknown (goal.at.returns-then-len-ge-ITEM_LIMIT-clause-new c).In_default k
+
+pub returns-clause-number : goal.returns-clause-number
+returns-clause-number c = pushed_number c.args.self.now c.push.new.self c.args.place c.push.result c.push.ensures.pushed c.push.ensures.number
+
+pub returns-clause-first : goal.returns-clause-first
+returns-clause-first c = pushed_first c.args.self.now c.push.new.self c.args.place c.push.result c.push.ensures.pushed c.push.ensures.number (unknown (goal.at.returns-clause-first c).In_default)
+
+pub returns-clause-places : goal.returns-clause-places
+returns-clause-places c = pushed_places c.args.self.now c.push.new.self c.args.place c.push.result c.push.ensures.pushed (unknown (goal.at.returns-clause-places c).In_default)
 
 pub returns-clause-memory : goal.returns-clause-memory
-returns-clause-memory c = λ e k. not_known c.args.place c.self.inside.places.keys c.in_default.ensures.found (subst (λ (vs : List Vertex). IsKnown vs c.args.place) (sym c.self.view_is) k)
+returns-clause-memory c = λ e k. unknown (goal.at.returns-clause-memory c).In_default k

@@ -9,7 +9,9 @@ use Rattle.lv_maptables.proofs.map.table.Table.rank.Goals as goal
 pub returns-then-index-key-clause-value : goal.returns-then-index-key-clause-value
 returns-then-index-key-clause-value g c =
     let at : c.index.result.now < length c.self.inside.order.items = omega arith in
-    sym (rank_at c.self.inside.order.items c.index.result.now c.args.key c.self.invariant.differ at (sym (get_or_default c.self.inside.order.items c.index.result.now _ 0 at) ∙ sym c.index-then-rank-len.ensures ∙ c.if-index-key.true))
+    sym (rank_at c.self.inside.order.items c.index.result.now c.args.key c.self.invariant.differ at
+    (sym (get_or_default c.self.inside.order.items c.index.result.now _ 0 at) ∙ sym c.index-then-rank-len.ensures
+    ∙ c.if-index-key.true))
     ∙ ap (λ v. rank_of v.keys c.args.key) c.self.view_is
 
 pub returns-in-None-clause-value : goal.returns-in-None-clause-value

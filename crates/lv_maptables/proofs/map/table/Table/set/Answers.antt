@@ -28,5 +28,7 @@ returns-clause-items g c =
     let key : c.index-key.result.now ≡ get_or c.self.inside.order.items c.args.n 0 = c.index-key.ensures ∙ get_or_default c.self.inside.order.items c.args.n _ 0 n in
     rw key
     (set_items c.self.inside.items _ c.self.inside.order.items c.args.n c.args.item n c.self.invariant
-    (with_value_updates c.self.inside.items (get_or c.self.inside.order.items c.args.n 0) c.args.item (All-get_or (ContainsKey c.self.inside.items) c.self.inside.order.items c.args.n 0 n c.self.invariant.held_each))
+    (with_value_updates c.self.inside.items (get_or c.self.inside.order.items c.args.n 0) c.args.item
+    (All-get_or
+    (ContainsKey c.self.inside.items) c.self.inside.order.items c.args.n 0 n c.self.invariant.held_each))
     ∙ ap (λ v. slice_set v.items c.args.n c.args.item) c.self.view_is)

@@ -9,14 +9,16 @@ use Rattle.lv_maptables.proofs.map.vertex_table.VertexTable.set.Goals as goal
 pub replace-requires-clause-apart : goal.replace-requires-clause-apart
 replace-requires-clause-apart c =
     let at : c.args.n < length c.self.inside.items.items = rw (← c.self.view_is) at c.requires.there in
-    let here : c.at-from.result ≡ get_or c.self.inside.items.items c.args.n c.at-from.result = sym (get_or_from_slice_get c.self.inside.items.items c.args.n c.at-from.result c.at-from.result c.at-from.ensures) in
+    let here : c.at-from.result ≡ get_or c.self.inside.items.items c.args.n c.at-from.result =
+    sym (get_or_from_slice_get c.self.inside.items.items c.args.n c.at-from.result c.at-from.result c.at-from.ensures) in
     let free : is_taken_beside c.self.inside.items.items c.args.n c.args.place ≡ false = rw (← c.self.view_is) at c.requires.free in
     rw c.set.ensures.items (apart_set c.self.inside.items.items c.args.n c.args.place at c.self.invariant.apart free)
 
 pub replace-requires-clause-free : goal.replace-requires-clause-free
 replace-requires-clause-free c =
     let at : c.args.n < length c.self.inside.items.items = rw (← c.self.view_is) at c.requires.there in
-    let here : c.at-from.result ≡ get_or c.self.inside.items.items c.args.n c.at-from.result = sym (get_or_from_slice_get c.self.inside.items.items c.args.n c.at-from.result c.at-from.result c.at-from.ensures) in
+    let here : c.at-from.result ≡ get_or c.self.inside.items.items c.args.n c.at-from.result =
+    sym (get_or_from_slice_get c.self.inside.items.items c.args.n c.at-from.result c.at-from.result c.at-from.ensures) in
     let free : is_taken_beside c.self.inside.items.items c.args.n c.args.place ≡ false = rw (← c.self.view_is) at c.requires.free in
     sym (beside_known c.self.inside.items.items c.self.inside.places.marked c.args.n c.at-from.result c.at-from.result c.args.place at c.self.invariant.apart c.self.invariant.marked.taken here)
     ∙ free
@@ -24,14 +26,16 @@ replace-requires-clause-free c =
 pub replace-requires-clause-left : goal.replace-requires-clause-left
 replace-requires-clause-left c =
     let at : c.args.n < length c.self.inside.items.items = rw (← c.self.view_is) at c.requires.there in
-    let here : c.at-from.result ≡ get_or c.self.inside.items.items c.args.n c.at-from.result = sym (get_or_from_slice_get c.self.inside.items.items c.args.n c.at-from.result c.at-from.result c.at-from.ensures) in
+    let here : c.at-from.result ≡ get_or c.self.inside.items.items c.args.n c.at-from.result =
+    sym (get_or_from_slice_get c.self.inside.items.items c.args.n c.at-from.result c.at-from.result c.at-from.ensures) in
     rw c.set.ensures.items
     (left_with c.self.inside.items.items c.self.inside.places.marked c.args.n c.at-from.result c.at-from.result c.args.place at c.self.invariant.apart c.self.invariant.marked.taken here)
 
 pub invariant_of-self : goal.invariant_of-self
 invariant_of-self c =
     let at : c.args.n < length c.self.inside.items.items = rw (← c.self.view_is) at c.requires.there in
-    let here : c.at-from.result ≡ get_or c.self.inside.items.items c.args.n c.at-from.result = sym (get_or_from_slice_get c.self.inside.items.items c.args.n c.at-from.result c.at-from.result c.at-from.ensures) in
+    let here : c.at-from.result ≡ get_or c.self.inside.items.items c.args.n c.at-from.result =
+    sym (get_or_from_slice_get c.self.inside.items.items c.args.n c.at-from.result c.at-from.result c.at-from.ensures) in
     let free : is_taken_beside c.self.inside.items.items c.args.n c.args.place ≡ false = rw (← c.self.view_is) at c.requires.free in
     let as_many = length-set c.self.inside.items.items c.args.n c.args.place in
     record {

@@ -1,0 +1,12 @@
+use Rattle.std.proofs.Common.{◌≡◌, drop, map}
+use Rattle.std.specs.List.{fold}
+use Rattle.lv_draw.specs.Known.{known_entry}
+use Rattle.lv_draw.specs.Names.{numbers_of}
+use Rattle.lv_draw.proofs.Replacing.{newer}
+use Rattle.lv_draw.proofs.names.Names.find.Given as goal
+
+-- what was found so far, unless the rest has the name again, is what the name keeps
+abbrev pub invariant-loop-entry : goal.invariant-loop-entry
+invariant-loop-entry l =
+    fold (newer l.name) l.found (map known_entry (drop l.entry-index l.self.entries.items))
+    ≡ numbers_of (map known_entry l.self.entries.items) l.name

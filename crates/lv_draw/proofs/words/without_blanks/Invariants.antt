@@ -1,0 +1,7 @@
+use Rattle.std.proofs.Common.{◌≡◌, drop}
+use Rattle.lv_draw.specs.Words.{text_words}
+use Rattle.lv_draw.proofs.words.without_blanks.Given as goal
+
+-- what stands in front is blank
+abbrev pub invariant-loop-i : goal.invariant-loop-i
+invariant-loop-i l = text_words (drop l.i l.text) ≡ text_words l.text

@@ -1,0 +1,13 @@
+-- What a contract sees of names.
+use Rattle.std.specs.Prelude.{ℕ, List, map}
+use Rattle.lv_draw.specs.declared.firsts.Numbers.{Numbers}
+use Rattle.lv_draw.specs.declared.names.Entry.{Entry}
+use Rattle.lv_draw.specs.declared.names.Names.{Names}
+
+-- a name and its numbers
+abbrev pub known_entry : Entry → List ℕ × Numbers
+known_entry entry = (entry.name.items, entry.numbers)
+
+-- the names and their numbers, the newest last
+abbrev pub known : Names → List (List ℕ × Numbers)
+known names = map known_entry names.entries.items

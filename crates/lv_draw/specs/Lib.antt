@@ -1,0 +1,9 @@
+pub mod Errors
+pub mod Firsts
+pub mod Known
+pub mod Lines
+pub mod Names
+pub mod Scripts
+pub mod Texts
+pub mod Views
+pub mod Words

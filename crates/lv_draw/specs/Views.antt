@@ -1,0 +1,25 @@
+-- What a contract sees of lines.
+use Rattle.std.specs.Prelude.{ℕ, ◌+◌, if◌then◌else◌, List, [], ◌∷◌, ◌++◌, length, Option, Some, None}
+use Rattle.std.specs.List.{slice_split}
+use Rattle.lv_draw.specs.Scripts.{cleaned, is_line_end}
+use Rattle.lv_draw.specs.Words.{is_some_text}
+use Rattle.lv_draw.specs.declared.script.ScriptLine.{ScriptLine}
+
+-- a line's number and its text
+abbrev pub seen : ScriptLine → ℕ × List ℕ
+seen line = (line.number, line.text.items)
+
+-- the lines of what stands behind an LF, if there is one
+abbrev pub lines_behind : Option (List ℕ) → List (List ℕ)
+lines_behind None = []
+lines_behind (Some text) = slice_split is_line_end text
+
+-- how long what stands behind an LF is, with the LF
+abbrev pub len_behind : Option (List ℕ) → ℕ
+len_behind None = 0
+len_behind (Some text) = length text + 1
+
+-- the lines with one more behind them, if it says something
+abbrev pub with_script_line : List (ℕ × List ℕ) → ℕ → List ℕ → List (ℕ × List ℕ)
+with_script_line lines number line =
+    if is_some_text (cleaned line) then lines ++ (number, cleaned line) ∷ [] else lines

@@ -1,0 +1,16 @@
+-- The words of a line.
+use Rattle.std.specs.Prelude.{ℕ, Bool, true, false, ◌||◌, ◌==◌, List, [], ◌∷◌, filter}
+use Rattle.std.specs.List.{slice_split}
+
+-- a space or a tab
+abbrev pub is_blank : ℕ → Bool
+is_blank b = (b == 32) || (b == 9)
+
+-- some bytes
+abbrev pub is_some_text : List ℕ → Bool
+is_some_text [] = false
+is_some_text (b ∷ bs) = true
+
+-- the words of a text: what stands between its blanks
+abbrev pub text_words : List ℕ → List (List ℕ)
+text_words text = filter is_some_text (slice_split is_blank text)

@@ -1,0 +1,74 @@
+//! Why a line of a script stands for no line of commands, and the number of the refusal.
+ghost use Rattle.std.specs.Prelude.{◌≡◌};
+ghost use Rattle.lv_draw.specs.declared.error.DrawError.TheVariants.{OutOfMemory};
+
+use std::alloc::{AllocError, AllocFailed};
+use std::fmt;
+use thiserror::Error;
+
+/// Why a line of a script stands for no line of commands.
+#[derive(Clone, Copy, Debug, PartialEq, Eq, Error)]
+pub enum DrawError {
+    /// In `NAME = COMMAND` the word before `=` is no name.
+    NotAName,
+    /// A word that begins with `$` isn't `$NAME` or `$NAME.KIND`, with or without `+N` behind.
+    NotAReference,
+    /// No earlier line has this name.
+    UnknownName,
+    /// The command of this name added no item of this kind.
+    NothingAdded,
+    /// The sum is greater than any number that may stand in a line.
+    NumberTooLarge,
+    OutOfMemory,
+}
+
+impl fmt::Display for DrawError {
+    fn fmt<W: fmt::Write>(&self, f: &mut fmt::Formatter<W>) -> fmt::Result {
+        let (_, text) = self.told();
+        f.write_str(text)
+    }
+}
+
+impl From<AllocError> for DrawError {
+    ghost from_gives = { λ _ e. e ≡ OutOfMemory };
+
+    fn from(_e: AllocError) -> DrawError {
+        DrawError::OutOfMemory
+    }
+}
+
+impl<T: Drop> From<AllocFailed<T>> for DrawError {
+    ghost from_gives = { λ _ e. e ≡ OutOfMemory };
+
+    fn from(_e: AllocFailed<T>) -> DrawError {
+        DrawError::OutOfMemory
+    }
+}
+
+impl DrawError {
+    ghost use Rattle.lv_draw.specs.Errors.{code_of};
+
+    /// The number of the refusal.
+    pub fn code(&self) -> u16
+        ensures { result ≡ code_of self.now }
+    {
+        self.told().0
+    }
+
+    // The number and the text.
+    fn told(&self) -> (u16, &'static str)
+        ensures { result.0 ≡ code_of self.now }
+    {
+        match self {
+            DrawError::NotAName => (20, "a name is a letter, then letters, digits and _"),
+            DrawError::NotAReference => (
+                21,
+                "a reference is $NAME or $NAME.KIND, with or without +N",
+            ),
+            DrawError::UnknownName => (22, "no line before has this name"),
+            DrawError::NothingAdded => (23, "the command of this name added no such item"),
+            DrawError::NumberTooLarge => (24, "the sum is greater than 32767"),
+            DrawError::OutOfMemory => (31, "out of memory"),
+        }
+    }
+}

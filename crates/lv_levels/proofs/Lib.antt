@@ -1,0 +1,4 @@
+pub mod ReadLemmas
+pub mod RunLemmas
+pub mod DrawnLemmas
+pub mod GraphicLemmas

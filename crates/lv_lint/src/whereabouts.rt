@@ -1,0 +1,60 @@
+//! Where on the map to look for what a warning tells of.
+ghost use Rattle.std.specs.Prelude.{◌≡◌};
+ghost use Rattle.lv_lint.specs.Whereabouts.{at_thing, along_line, whereabouts_of};
+
+use crate::places::{ends_of, place_of};
+use crate::warning::Rule;
+use lv_lumps::Vertex;
+use lv_maptables::Map;
+
+/// Where on the map to look. A sector goes by its number alone, and what is missing has no place.
+#[derive(Clone, Copy, Debug, PartialEq, Eq)]
+pub enum Whereabouts {
+    Unplaced,
+    /// At the place of a thing.
+    At(Vertex),
+    /// Between the ends of a line, the first of which is V1.
+    Between(Vertex, Vertex),
+}
+
+// Where the thing of the number stands.
+fn at_thing(map: &Map, n: u32) -> Whereabouts
+    ensures { result ≡ at_thing map.now.tables n }
+{
+    match map.thing(n) {
+        Some(thing) => Whereabouts::At(place_of(&thing)),
+        None => Whereabouts::Unplaced,
+    }
+}
+
+// Where the ends of the line of the number are.
+fn along_line(map: &Map, n: u32) -> Whereabouts
+    ensures { result ≡ along_line map.now.tables n }
+{
+    match map.line(n) {
+        Some(line) => {
+            let (from, to) = ends_of(map, &line);
+            Whereabouts::Between(from, to)
+        }
+        None => Whereabouts::Unplaced,
+    }
+}
+
+/// Where to look for the item of number n, which breaks the rule.
+#[tactic(auto, unfolding(crate::specs::Whereabouts::whereabouts_of))]
+pub(crate) fn whereabouts_of(map: &Map, rule: Rule, n: u32) -> Whereabouts
+    ensures { result ≡ whereabouts_of map.now.tables rule n }
+{
+    match rule {
+        Rule::OneStart => at_thing(map, n),
+        Rule::ThingKnown => at_thing(map, n),
+        Rule::ThingInside => at_thing(map, n),
+        Rule::TagGiven => along_line(map, n),
+        Rule::TagOfSector => along_line(map, n),
+        Rule::LineSpecialKnown => along_line(map, n),
+        Rule::TextureShows => along_line(map, n),
+        Rule::LinesApart => along_line(map, n),
+        Rule::TextureKnown => along_line(map, n),
+        _ => Whereabouts::Unplaced,
+    }
+}

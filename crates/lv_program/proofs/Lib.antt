@@ -1,0 +1,6 @@
+pub mod Counting
+pub mod Examined
+pub mod Linting
+pub mod MarkList
+pub mod Picturing
+pub mod Sources

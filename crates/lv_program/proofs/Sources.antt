@@ -1,0 +1,166 @@
+-- From what was done over a disk, or of a reader, to what a file leaves open.
+use Rattle.std.proofs.Common.{◌≡◌, inl, inr, ℕ, Bool, List, Option, Result, Ok, Err, IfErr, IfOk, refl, sym, subst}
+use Rattle.std.specs.Io.KnownBytes.{Appends}
+use Rattle.std.specs.Prelude.{codes, ◌++◌, ◌∷◌, []}
+use Rattle.lv_disk.specs.Stops.{Each}
+use Rattle.lv_disk.specs.declared.disk.Disk.{Ghosts}
+use Rattle.lv_maptables.specs.Projects.{MapsView, ProjectMaps, empty_project}
+use Rattle.lv_project.specs.Opening.{IsRefusedRead}
+use Rattle.lv_project.specs.Places.{cap_of}
+use Rattle.lv_project.specs.Stands.{Stands}
+use Rattle.lv_project.specs.declared.error.ProjectError.{ProjectError}
+use Rattle.lv_project.specs.declared.error.ProjectError.TheVariants.{Refused, Device, OutOfMemory, Reopen, GenerationsSpent, Damaged, Blank, NotAProject, NotEmpty, BadGeometry}
+use Rattle.lv_project.specs.declared.geometry.Geometry.{Geometry}
+use Rattle.lv_program.specs.Deeds.{IsBuiltInto, IsChecked, IsCreated, IsEdited, IsExamined}
+use Rattle.lv_program.specs.Dumping.{IsDumped, IsDumpedOf}
+use Rattle.lv_program.specs.Linting.{IsLinted, IsLintedOf}
+use Rattle.lv_program.specs.Picturing.{IsPictured, IsPicturedOf}
+use Rattle.lv_program.specs.declared.laid_over.Layers.{Layers}
+use Rattle.lv_program.specs.Refusals.{IsOfOpening}
+use Rattle.lv_program.specs.Sources.{IsBuiltFrom, IsCheckedOf, IsEditedOver, IsExaminedOf, IsMade, NotOpened, OverMaps}
+use Rattle.lv_editor.specs.declared.error.EditorError.TheVariants.{WriterFailed}
+use Rattle.lv_program.specs.declared.refusal.Refusal.{Refusal}
+use Rattle.lv_program.specs.declared.refusal.Refusal.TheVariants.{Build, Level, Lines, NoSuchMap, Project}
+
+-- ---- A disk
+
+-- why the bytes are refused that a read gives is why those are that it gave before
+pub refused_before : (before after : List ℕ → Type 0) (e : ProjectError) → Each before after → IsRefusedRead after e → IsRefusedRead before e
+refused_before before after Device same is = tt
+refused_before before after OutOfMemory same is = tt
+refused_before before after NotAProject same is = λ file reads. is file (same file reads)
+refused_before before after BadGeometry same is = λ file reads. is file (same file reads)
+refused_before before after Blank same is = λ file reads. is file (same file reads)
+refused_before before after (Damaged place) same is = λ file reads. is file (same file reads)
+refused_before before after NotEmpty same is = absurd is
+refused_before before after Reopen same is = absurd is
+refused_before before after GenerationsSpent same is = absurd is
+refused_before before after (Refused e) same is = absurd is
+
+of_opening : (reads : List ℕ → Type 0) (e : ProjectError) → IsRefusedRead reads e → IsOfOpening e
+of_opening reads Device is = tt
+of_opening reads OutOfMemory is = tt
+of_opening reads NotAProject is = tt
+of_opening reads BadGeometry is = tt
+of_opening reads Blank is = tt
+of_opening reads (Damaged place) is = tt
+of_opening reads NotEmpty is = absurd is
+of_opening reads Reopen is = absurd is
+of_opening reads GenerationsSpent is = absurd is
+of_opening reads (Refused e) is = absurd is
+
+-- what isn't opened has no status
+pub no_status : (reads : List ℕ → Type 0) (how : Result ℕ Refusal) (P : ℕ → Type 0) → NotOpened reads how → IfOk how P
+no_status reads how P (e, is, refused) = subst (λ (h : Result ℕ Refusal). IfOk h P) (sym is) tt
+
+-- ---- What was made
+
+pub made_told : {D : Type 0} (facts : Ghosts D) (g : Geometry)
+    (before after : D) (how : Result ℕ Refusal) → IfErr how (λ r. r ≡ Lines WriterFailed)
+    → Each (facts.may_leave after) (Stands (cap_of g) empty_project 1) → IsMade facts g before after how
+made_told facts g before after (Ok status) failed images = images
+made_told facts g before after (Err e) failed images =
+    subst (λ (r : Refusal). IsMade facts g before after (Err r)) (sym failed) images
+
+pub created_told : (slot journal : ℕ) (how : Result ℕ Refusal) (u w : Option (List ℕ))
+    → IfOk how (λ status. (status ≡ 0) × Appends u w (codes "created" ++ 10 ∷ [])) → IfErr how (λ r. r ≡ Lines WriterFailed)
+    → IsCreated slot journal how u w
+created_told slot journal (Ok status) u w said failed = said
+created_told slot journal (Err e) u w said failed = subst (λ (r : Refusal). IsCreated slot journal (Err r) u w) (sym failed) refl
+
+-- each image stands for the empty project, as the one that was made says
+pub images_empty : (files : List ℕ → Type 0) (g : Geometry) (cap generation : ℕ) (maps : ProjectMaps) → cap ≡ cap_of g → maps ≡ empty_project
+    → generation ≡ 1 → Each files (Stands cap maps generation) → Each files (Stands (cap_of g) empty_project 1)
+images_empty files g cap generation maps same empty first images = λ file may.
+    subst (λ (n : ℕ). Stands (cap_of g) empty_project n file) first
+    (subst (λ (m : ProjectMaps). Stands (cap_of g) m generation file) empty
+    (subst (λ (c : ℕ). Stands c maps generation file) same (images file may)))
+
+-- ---- What a file leaves open
+
+pub edited : {D : Type 0} (facts : Ghosts D) (before after : D)
+    (how : Result ℕ Refusal) (r s u w : Option (List ℕ)) → IsEditedOver facts before after how r s u w
+    → IsEdited facts how r s u w
+edited facts before after how r s u w (inl ((e, is, refused), only, unread, unwritten)) =
+    inl (e, is, of_opening (facts.reads before) e refused, unread, unwritten)
+edited facts before after how r s u w (inr (result, first, last, trace, opened, back, is, ran, over)) =
+    inr (result, first, last, trace, opened.reopen, is, ran, over)
+
+checked_of : (maps : MapsView) (how : Result ℕ Refusal) (u w : Option (List ℕ)) → IsCheckedOf maps.tables how u w → IsChecked how u w
+checked_of maps (Ok status) u w (is, told) = (maps.tables, is, told)
+checked_of maps (Err (Lines e)) u w lost = lost
+checked_of maps (Err (Project e)) u w never = absurd never
+checked_of maps (Err (Level e)) u w never = absurd never
+checked_of maps (Err (Build e)) u w never = absurd never
+checked_of maps (Err NoSuchMap) u w never = absurd never
+
+pub checked : (reads : List ℕ → Type 0) (how : Result ℕ Refusal) (u w : Option (List ℕ))
+    → OverMaps reads how u w (λ maps. IsCheckedOf maps.tables how u w) → IsChecked how u w
+checked reads how u w (inl ((e, is, refused), kept)) =
+    subst (λ (h : Result ℕ Refusal). IsChecked h u w) (sym is) (of_opening reads e refused, kept)
+checked reads how u w (inr (maps, has, done)) = checked_of maps how u w done
+
+dumped_of : (maps : MapsView) (how : Result ℕ Refusal) (u w : Option (List ℕ)) → IsDumpedOf maps how u w → IsDumped how u w
+dumped_of maps (Ok status) u w done = (maps, done)
+dumped_of maps (Err (Lines e)) u w done = (maps, done)
+dumped_of maps (Err (Project e)) u w never = absurd never
+dumped_of maps (Err (Level e)) u w never = absurd never
+dumped_of maps (Err (Build e)) u w never = absurd never
+dumped_of maps (Err NoSuchMap) u w never = absurd never
+
+pub dumped : (reads : List ℕ → Type 0) (how : Result ℕ Refusal) (u w : Option (List ℕ))
+    → OverMaps reads how u w (λ maps. IsDumpedOf maps how u w) → IsDumped how u w
+dumped reads how u w (inl ((e, is, refused), kept)) =
+    subst (λ (h : Result ℕ Refusal). IsDumped h u w) (sym is) (of_opening reads e refused, kept)
+dumped reads how u w (inr (maps, has, done)) = dumped_of maps how u w done
+
+linted_of : (maps : MapsView) (how : Result ℕ Refusal) (u w : Option (List ℕ)) → IsLintedOf maps how u w → IsLinted how u w
+linted_of maps (Ok status) u w done = (maps, done)
+linted_of maps (Err (Lines e)) u w done = (maps, done)
+linted_of maps (Err (Project e)) u w never = absurd never
+linted_of maps (Err (Level e)) u w never = absurd never
+linted_of maps (Err (Build e)) u w never = absurd never
+linted_of maps (Err NoSuchMap) u w never = absurd never
+
+pub linted : (reads : List ℕ → Type 0) (how : Result ℕ Refusal) (u w : Option (List ℕ))
+    → OverMaps reads how u w (λ maps. IsLintedOf maps how u w) → IsLinted how u w
+linted reads how u w (inl ((e, is, refused), kept)) =
+    subst (λ (h : Result ℕ Refusal). IsLinted h u w) (sym is) (of_opening reads e refused, kept)
+linted reads how u w (inr (maps, has, done)) = linted_of maps how u w done
+
+pictured_of : (layers : Layers) (name : Option (List ℕ)) (into : Bool) (maps : MapsView) (how : Result ℕ Refusal) (u w : Option (List ℕ))
+    → IsPicturedOf layers name into maps how u w → IsPictured layers name into how u w
+pictured_of layers name into maps (Ok status) u w done = (maps, done)
+pictured_of layers name into maps (Err (Lines e)) u w done = (maps, done)
+pictured_of layers name into maps (Err NoSuchMap) u w done = (maps, done)
+pictured_of layers name into maps (Err (Project e)) u w never = absurd never
+pictured_of layers name into maps (Err (Level e)) u w never = absurd never
+pictured_of layers name into maps (Err (Build e)) u w done = (maps, done)
+
+pub pictured : (layers : Layers) (name : Option (List ℕ)) (into : Bool) (reads : List ℕ → Type 0) (how : Result ℕ Refusal) (u w : Option (List ℕ))
+    → OverMaps reads how u w (λ maps. IsPicturedOf layers name into maps how u w) → IsPictured layers name into how u w
+pictured layers name into reads how u w (inl ((e, is, refused), kept)) =
+    subst (λ (h : Result ℕ Refusal). IsPictured layers name into h u w) (sym is) (of_opening reads e refused, kept)
+pictured layers name into reads how u w (inr (maps, has, done)) = pictured_of layers name into maps how u w done
+
+built_of : (maps : MapsView) (how : Result ℕ Refusal) (u w : Option (List ℕ)) → IsBuiltFrom maps how u w → IsBuiltInto how u w
+built_of maps (Ok status) u w (wad, c, is, counted, told) = (maps, wad, c, is, counted, told)
+built_of maps (Err (Lines e)) u w lost = lost
+built_of maps (Err (Build e)) u w (refused, kept) = ((maps, refused), kept)
+built_of maps (Err (Project e)) u w never = absurd never
+built_of maps (Err (Level e)) u w never = absurd never
+built_of maps (Err NoSuchMap) u w never = absurd never
+
+pub built : (reads : List ℕ → Type 0) (how : Result ℕ Refusal) (u w : Option (List ℕ))
+    → OverMaps reads how u w (λ maps. IsBuiltFrom maps how u w) → IsBuiltInto how u w
+built reads how u w (inl ((e, is, refused), kept)) =
+    subst (λ (h : Result ℕ Refusal). IsBuiltInto h u w) (sym is) (of_opening reads e refused, kept)
+built reads how u w (inr (maps, has, done)) = built_of maps how u w done
+
+pub examined_some : (name : List ℕ) (how : Result ℕ Refusal) (r s u w : Option (List ℕ)) → IsExaminedOf name how r s u w → IsExamined name how u w
+examined_some name (Ok status) r s u w (wad, all, sound, is, told) = (wad, sound, is, told)
+examined_some name (Err (Level e)) r s u w (wad, all, refused) = (wad, refused)
+examined_some name (Err (Lines e)) r s u w lost = lost
+examined_some name (Err (Project e)) r s u w never = absurd never
+examined_some name (Err (Build e)) r s u w never = absurd never
+examined_some name (Err NoSuchMap) r s u w never = absurd never

@@ -1,0 +1,25 @@
+use Rattle.std.proofs.Common.{inl, inr, subst}
+use Rattle.std.proofs.KnownBytes.{Keeps-refl}
+use Rattle.lv_maptables.specs.Projects.{MapsView}
+use Rattle.lv_program.specs.Dumping.{IsDumpedOf}
+use Rattle.lv_program.proofs.Sources.{no_status}
+use Rattle.lv_program.proofs.dump_request.dump.Goals as goal
+
+pub returns-in-Err-clause-small : goal.returns-in-Err-clause-small
+returns-in-Err-clause-small g c = no_status (g.D.Disk.reads c.args.disk) c.in-Err.refused.how _ c.in-Err.ensures.refused.0
+
+pub returns-in-Err-clause-dumped : goal.returns-in-Err-clause-dumped
+returns-in-Err-clause-dumped g c = inl (c.in-Err.ensures.refused.0, Keeps-refl (g.W.Write.contents c.args.writer.now))
+
+pub returns-clause-dumped : goal.returns-clause-dumped
+returns-clause-dumped g c =
+    let first = c.in-Ok.project in
+    inr (
+      first.maps,
+      (first.cap, first.generation, c.in-Ok.ensures.opened.stands),
+      subst (λ (m : MapsView). IsDumpedOf m c.tell_lines-how.result (g.W.Write.contents c.args.writer.now) (g.W.Write.contents c.tell_lines-how.new.writer))
+          c.maps.ensures c.tell_lines-how.ensures.told,
+    )
+
+pub returns-clause-only_read : goal.returns-clause-only_read
+returns-clause-only_read g c = rw c.into_disk.ensures.disk c.in-Ok.ensures.opened.only_read

@@ -1,0 +1,25 @@
+use Rattle.std.proofs.Common.{inl, inr, subst}
+use Rattle.std.proofs.KnownBytes.{Keeps-refl}
+use Rattle.lv_maptables.specs.Tables.{Tables}
+use Rattle.lv_program.specs.Sources.{IsCheckedOf}
+use Rattle.lv_program.proofs.Sources.{no_status}
+use Rattle.lv_program.proofs.over_disk.check.Goals as goal
+
+pub returns-in-Err-clause-small : goal.returns-in-Err-clause-small
+returns-in-Err-clause-small g c = no_status (g.D.Disk.reads c.args.disk) c.in-Err.refused.how _ c.in-Err.ensures.refused.0
+
+pub returns-in-Err-clause-found : goal.returns-in-Err-clause-found
+returns-in-Err-clause-found g c = inl (c.in-Err.ensures.refused.0, Keeps-refl (g.W.Write.contents c.args.writer.now))
+
+pub returns-clause-found : goal.returns-clause-found
+returns-clause-found g c =
+    let first = c.in-Ok.project in
+    inr (
+      first.maps,
+      (first.cap, first.generation, c.in-Ok.ensures.opened.stands),
+      subst (λ (m : Tables). IsCheckedOf m c.tell-how.result (g.W.Write.contents c.args.writer.now) (g.W.Write.contents c.tell-how.new.writer))
+          c.map.ensures c.tell-how.ensures.told,
+    )
+
+pub returns-clause-only_read : goal.returns-clause-only_read
+returns-clause-only_read g c = rw c.into_disk.ensures.disk c.in-Ok.ensures.opened.only_read

@@ -1,0 +1,27 @@
+use Rattle.std.proofs.Common.{inl, inr, subst}
+use Rattle.std.specs.Prelude.{is_some, option_map}
+use Rattle.std.proofs.KnownBytes.{Keeps-refl}
+use Rattle.lv_maptables.specs.Projects.{MapsView}
+use Rattle.lv_program.specs.Picturing.{IsPicturedOf}
+use Rattle.lv_program.proofs.Sources.{no_status}
+use Rattle.lv_program.proofs.picture_request.picture.Goals as goal
+
+pub returns-in-Err-clause-small : goal.returns-in-Err-clause-small
+returns-in-Err-clause-small g c = no_status (g.D.Disk.reads c.args.disk) c.in-Err.refused.how _ c.in-Err.ensures.refused.0
+
+pub returns-in-Err-clause-pictured : goal.returns-in-Err-clause-pictured
+returns-in-Err-clause-pictured g c = inl (c.in-Err.ensures.refused.0, Keeps-refl (g.W.Write.contents c.args.writer.now))
+
+pub returns-clause-pictured : goal.returns-clause-pictured
+returns-clause-pictured g c =
+    let first = c.in-Ok.project in
+    inr (
+      first.maps,
+      (first.cap, first.generation, c.in-Ok.ensures.opened.stands),
+      subst (λ (m : MapsView). IsPicturedOf c.args.wanted.layers (option_map (λ s. s.now) c.args.wanted.map) (is_some c.args.wanted.out) m
+          c.draw-how.result (g.W.Write.contents c.args.writer.now) (g.W.Write.contents c.draw-how.new.writer))
+          c.maps.ensures c.draw-how.ensures.drawn,
+    )
+
+pub returns-clause-only_read : goal.returns-clause-only_read
+returns-clause-only_read g c = rw c.into_disk.ensures.disk c.in-Ok.ensures.opened.only_read

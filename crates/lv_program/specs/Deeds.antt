@@ -1,0 +1,131 @@
+-- What was done for a request (docs/COMMANDS.md, "The program"). How it ended is a status, or the
+-- refusal. A file tells no bytes, so which project or WAD it was is left open.
+use Rattle.std.specs.Prelude.{◌≡◌, ◌⊎◌, ℕ, Bool, Option, Result, Ok, Err, List, [], ◌∷◌, ◌++◌, codes, string_bytes, false, is_some, length, option_map}
+use Rattle.std.specs.Io.KnownBytes.{Appends, Keeps}
+use Rattle.lv_disk.specs.declared.disk.Disk.{Ghosts}
+use Rattle.lv_maptables.specs.Projects.{MapsView, ProjectMaps, empty_project, project_of}
+use Rattle.lv_maptables.specs.Tables.{Tables}
+use Rattle.lv_checks.specs.Findings.{findings}
+use Rattle.lv_project.specs.States.{State}
+use Rattle.lv_project.specs.declared.error.ProjectError.{ProjectError}
+use Rattle.lv_editor.specs.Answers.{RepliesInMemory}
+use Rattle.lv_pwad.specs.Counted.{IsBuildCounted}
+use Rattle.lv_editor.specs.Building.{built_text}
+use Rattle.lv_program.specs.Dumping.{IsDumped}
+use Rattle.lv_editor.specs.Editing.{RepliesInProject}
+use Rattle.lv_editor.specs.Inspections.{IsInspected}
+use Rattle.lv_program.specs.LevelNames.{IsListed}
+use Rattle.lv_program.specs.Linting.{IsLinted}
+use Rattle.lv_program.specs.Picturing.{IsPictured}
+use Rattle.lv_program.specs.declared.laid_over.Layers.{Layers}
+use Rattle.lv_program.specs.Refusals.{IsOfOpening, NotBuilt, NotChecked, NotCreated, NotExamined}
+use Rattle.lv_editor.specs.Runs.{Exchange, Ran}
+use Rattle.lv_editor.specs.Sessions.{RunsOver}
+use Rattle.lv_program.specs.Statuses.{status_after, status_told}
+use Rattle.lv_editor.specs.Texts.{findings_text}
+use Rattle.lv_requests.specs.declared.asked.Request.{Request}
+use Rattle.lv_requests.specs.declared.asked.Request.TheVariants.{Scratch, Create, Edit, Check, Lint, Dump, Picture, Inspect, Levels, Build}
+use Rattle.lv_pwad.specs.declared.counted.BuildCounts.{BuildCounts}
+use Rattle.lv_editor.specs.declared.error.EditorError.{EditorError}
+use Rattle.lv_program.specs.declared.refusal.Refusal.{Refusal}
+use Rattle.lv_program.specs.declared.refusal.Refusal.TheVariants as of
+
+-- the length of the longest body of one map, in bytes: what the maps in memory have room for
+abbrev pub longest_body : ℕ
+longest_body = 2007002
+
+-- how many reads a run of the program makes at most
+abbrev pub turns : ℕ
+turns = 1048576
+
+-- the status where it is done, and 1 where it is refused
+abbrev pub status_in : Result ℕ Refusal → ℕ
+status_in (Ok status) = status
+status_in (Err refusal) = 1
+
+-- how a request ended that was a run: 0 where all lines were answered, and else refused as the run
+-- was
+abbrev pub run_end : Result ℕ EditorError → Result ℕ Refusal
+run_end (Ok n) = Ok 0
+run_end (Err e) = Err (of.Lines e)
+
+-- the lines of the input were answered over the empty project, and the answers written
+abbrev pub IsScratched : Result ℕ Refusal → Option (List ℕ) → Option (List ℕ) → Option (List ℕ)
+    → Option (List ℕ) → Type 0
+IsScratched how reader-old reader-new writer-old writer-new =
+    (result : Result ℕ EditorError) × (last : ProjectMaps) × (trace : List (Exchange ProjectMaps))
+    × (how ≡ run_end result)
+    × Ran (RepliesInMemory longest_body) empty_project last trace turns result reader-old reader-new
+    writer-old writer-new
+
+-- `created` was written, or it was refused
+abbrev pub IsCreated : ℕ → ℕ → Result ℕ Refusal → Option (List ℕ) → Option (List ℕ) → Type 0
+IsCreated slot journal (Ok status) writer-old writer-new =
+    (status ≡ 0) × Appends writer-old writer-new (codes "created" ++ 10 ∷ [])
+IsCreated slot journal (Err refusal) writer-old writer-new =
+    NotCreated slot journal refusal writer-old writer-new
+
+-- no project was opened and nothing read or written, or the lines of the input were answered over
+-- one, and the answers written
+abbrev pub IsEdited : {D : Type 0} → Ghosts D → Result ℕ Refusal → Option (List ℕ) → Option (List ℕ)
+    → Option (List ℕ) → Option (List ℕ) → Type 0
+IsEdited {D = D} facts how reader-old reader-new writer-old writer-new =
+    ((e : ProjectError) × (how ≡ Err (of.Project e)) × IsOfOpening e × Keeps reader-old reader-new
+    × Keeps writer-old writer-new)
+    ⊎ ((result : Result ℕ EditorError) × (first : State D) × (last : State D)
+    × (trace : List (Exchange (State D)))
+    × (first.must_reopen ≡ false) × (how ≡ run_end result)
+    × Ran (RepliesInProject facts) first last trace turns result
+    reader-old reader-new writer-old writer-new
+    × RunsOver facts first last trace)
+
+-- the findings of a map were written, and the status tells whether there are any; or it was refused
+abbrev pub IsChecked : Result ℕ Refusal → Option (List ℕ) → Option (List ℕ) → Type 0
+IsChecked (Ok status) writer-old writer-new =
+    (m : Tables) × (status ≡ status_after (length (findings m)))
+    × Appends writer-old writer-new (findings_text (findings m))
+IsChecked (Err refusal) writer-old writer-new = NotChecked refusal writer-old writer-new
+
+-- the level of the name in what was read of a WAD was inspected, and the status tells whether it is
+-- sound; or it was refused
+abbrev pub IsExamined : List ℕ → Result ℕ Refusal → Option (List ℕ) → Option (List ℕ) → Type 0
+IsExamined name (Ok status) writer-old writer-new =
+    (wad : List ℕ) × (sound : Bool) × (status ≡ status_told sound)
+    × IsInspected wad name sound writer-old writer-new
+IsExamined name (Err refusal) writer-old writer-new = NotExamined name refusal writer-old writer-new
+
+-- the counts of a sound build of some project's maps were told, or it was refused
+abbrev pub IsBuiltInto : Result ℕ Refusal → Option (List ℕ) → Option (List ℕ) → Type 0
+IsBuiltInto (Ok status) writer-old writer-new =
+    (maps : MapsView) × (wad : List ℕ) × (c : BuildCounts) × (status ≡ 0)
+    × IsBuildCounted (project_of maps).maps wad c
+    × Appends writer-old writer-new (built_text c)
+IsBuiltInto (Err refusal) writer-old writer-new = NotBuilt refusal writer-old writer-new
+
+-- what was done for a request that ended so; only a run reads the input
+abbrev pub IsPerformed : {D : Type 0} → Ghosts D → Request → Result ℕ Refusal → Option (List ℕ)
+    → Option (List ℕ) → Option (List ℕ) → Option (List ℕ) → Type 0
+IsPerformed facts Scratch how reader-old reader-new writer-old writer-new =
+    IsScratched how reader-old reader-new writer-old writer-new
+IsPerformed facts (Create file slot journal) how reader-old reader-new writer-old writer-new =
+    IsCreated slot journal how writer-old writer-new × Keeps reader-old reader-new
+IsPerformed facts (Edit file) how reader-old reader-new writer-old writer-new =
+    IsEdited facts how reader-old reader-new writer-old writer-new
+IsPerformed facts (Check file) how reader-old reader-new writer-old writer-new =
+    IsChecked how writer-old writer-new × Keeps reader-old reader-new
+IsPerformed facts (Lint file) how reader-old reader-new writer-old writer-new =
+    IsLinted how writer-old writer-new × Keeps reader-old reader-new
+IsPerformed facts (Dump file) how reader-old reader-new writer-old writer-new =
+    IsDumped how writer-old writer-new × Keeps reader-old reader-new
+IsPerformed facts (Picture file map out numbers nodes lint) how reader-old reader-new writer-old
+    writer-new =
+    IsPictured (record { numbers = numbers; nodes = nodes; lint = lint })
+    (option_map string_bytes map) (is_some out) how
+    writer-old writer-new
+    × Keeps reader-old reader-new
+IsPerformed facts (Inspect wad name) how reader-old reader-new writer-old writer-new =
+    IsExamined (string_bytes name) how writer-old writer-new × Keeps reader-old reader-new
+IsPerformed facts (Levels wad) how reader-old reader-new writer-old writer-new =
+    IsListed how writer-old writer-new × Keeps reader-old reader-new
+IsPerformed facts (Build file out) how reader-old reader-new writer-old writer-new =
+    IsBuiltInto how writer-old writer-new × Keeps reader-old reader-new

@@ -1,0 +1,41 @@
+-- What `inspect` tells of a WAD without a level's name: the names of its levels (docs/COMMANDS.md,
+-- "The program").
+use Rattle.std.specs.Prelude.{◌≡◌, ◌⊎◌, ℕ, nat_le, ◌&&◌, if◌then◌else◌, ◌++◌, List, [], ◌∷◌, map, flat_map, Option, None, Result, Ok, Err}
+use Rattle.std.specs.Io.KnownBytes.{Appends, Keeps}
+use Rattle.lv_lumps.specs.Names.{name_text}
+use Rattle.lv_lumps.specs.declared.records.Name8.{Name8}
+use Rattle.lv_levels.specs.Listing.{RefusesListing, level_names, listing_refusal}
+use Rattle.lv_editor.specs.declared.error.EditorError.TheVariants.{WriterFailed}
+use Rattle.lv_editor.specs.declared.error.InspectError.{InspectError}
+use Rattle.lv_editor.specs.declared.error.InspectError.TheVariants as inspecting
+use Rattle.lv_program.specs.declared.refusal.Refusal.{Refusal}
+use Rattle.lv_program.specs.declared.refusal.Refusal.TheVariants as of
+
+-- a byte of a name as it is shown: `?` where it is no visible character
+abbrev pub shown : ℕ → ℕ
+shown byte = if nat_le 33 byte && nat_le byte 126 then byte else 63
+
+-- the name of a level as a line
+abbrev pub level_line : Name8 → List ℕ
+level_line name = map shown (name_text name) ++ 10 ∷ []
+
+-- a line for each level
+abbrev pub levels_text : List ℕ → List ℕ
+levels_text wad = flat_map level_line (level_names wad)
+
+-- the names of a WAD's levels were not written: nothing was where they can't be listed, and else
+-- the writer failed
+abbrev pub RefusesNames : List ℕ → InspectError → Option (List ℕ) → Option (List ℕ) → Type 0
+RefusesNames wad (inspecting.Level e) writer-old writer-new =
+    RefusesListing wad e × Keeps writer-old writer-new
+RefusesNames wad inspecting.WriterFailed writer-old writer-new = listing_refusal wad ≡ None
+
+-- the names of the levels in some bytes were written, since a file tells none; or it was refused
+abbrev pub IsListed : Result ℕ Refusal → Option (List ℕ) → Option (List ℕ) → Type 0
+IsListed (Ok status) writer-old writer-new =
+    (wad : List ℕ) × (status ≡ 0) × (listing_refusal wad ≡ None)
+    × Appends writer-old writer-new (levels_text wad)
+IsListed (Err (of.Level e)) writer-old writer-new =
+    (wad : List ℕ) × RefusesNames wad e writer-old writer-new
+IsListed (Err (of.Lines e)) writer-old writer-new = (e ≡ WriterFailed) ⊎ Keeps writer-old writer-new
+IsListed _ writer-old writer-new = ⊥

@@ -1,0 +1,86 @@
+//! Inspecting a level of a file.
+ghost use Rattle.std.specs.Prelude.{◌≡◌, ◌≤◌, IfErr, IfOk, MatchResult};
+ghost use Rattle.std.specs.Io.KnownBytes.{Appends, Consumes, IsAtEnd, Keeps};
+ghost use Rattle.lv_program.specs.Refusals.{EndsReading};
+ghost use Rattle.lv_program.specs.Deeds.{IsExamined};
+ghost use Rattle.lv_program.specs.Sources.{IsExaminedOf};
+
+use crate::refusal::Refusal;
+use crate::status::status_told;
+use lv_editor::{EditorError, inspect};
+use lv_files::Cause;
+use std::alloc::Global;
+use std::fs::{self, Files};
+use std::io::{Read, Write};
+
+/// All that the reader gives, in at most `turns` reads of at most 4,096 bytes.
+pub fn read_whole<R: Read>(
+    alloc: Global,
+    reader: &mut R,
+    turns: u32,
+) -> Result<Vec<u8>, EditorError>
+    ensures whole { IfOk result (λ bytes.
+        Consumes (R.remaining reader.old) (R.remaining reader.new) bytes.items
+        × IsAtEnd (R.remaining reader.new)) }
+    ensures refused { IfErr result EndsReading }
+{
+    let mut bytes = Vec::new(alloc);
+    let mut buffer = [0; 4096];
+    for _ in 0..turns {
+        let count = match reader.read(&mut buffer) {
+            Ok(count) => count,
+            Err(_) => return Err(EditorError::ReaderFailed),
+        };
+        if count == 0 {
+            return Ok(bytes);
+        }
+        match bytes.extend_from_slice(&buffer[..count]) {
+            Ok(()) => {}
+            Err(_) => return Err(EditorError::OutOfMemory),
+        }
+    }
+    Err(EditorError::InputTooLong)
+}
+
+// Inspects the level of the name in all that the reader gives, hands on what is told, and answers the status.
+fn examine_read<R: Read, W: Write>(
+    alloc: Global,
+    reader: &mut R,
+    name: &[u8],
+    turns: u32,
+    writer: &mut W,
+) -> Result<u8, Refusal>
+    ensures small { IfOk result (λ s. s ≤ 3) }
+    ensures examined { IsExaminedOf name.now result
+        (R.remaining reader.old) (R.remaining reader.new)
+        (W.contents writer.old) (W.contents writer.new) }
+{
+    let wad = read_whole(alloc, reader, turns)?;
+    let sound = inspect(alloc, &wad, name, writer)?;
+    match writer.flush() {
+        Ok(()) => Ok(status_told(sound)),
+        Err(_) => Err(Refusal::Lines(EditorError::WriterFailed)),
+    }
+}
+
+/// Inspects the level of the name in the WAD at the path, and answers the status, or notes why it can't be opened.
+pub fn examine<E: AllocGlobal + Files, W: Write>(
+    rt: &E,
+    path: &str,
+    name: &str,
+    turns: u32,
+    writer: &mut W,
+    why: &mut Option<Cause>,
+) -> Result<u8, Refusal>
+    ensures small { IfOk result (λ s. s ≤ 3) }
+    ensures examined { IsExamined name.now result
+        (W.contents writer.old) (W.contents writer.new) }
+{
+    match fs::open(rt, path) {
+        Ok(mut file) => examine_read(rt.alloc(), &mut file, name.as_bytes(), turns, writer),
+        Err(error) => {
+            *why = Some(Cause::System(error));
+            Err(Refusal::Lines(EditorError::ReaderFailed))
+        }
+    }
+}

@@ -1,0 +1,137 @@
+//! The requests `create`, `edit` and `check`, over a disk that is handed over and handed back.
+ghost use Rattle.std.specs.Prelude.{◌≡◌, ◌≤◌, IfErr, IfOk};
+ghost use Rattle.std.specs.Io.KnownBytes.{Appends};
+ghost use Rattle.lv_project.specs.Opening.{IsRefusedRead};
+ghost use Rattle.lv_program.specs.Deeds.{IsCreated};
+ghost use Rattle.lv_editor.specs.Recovery.{IsOnlyRead};
+ghost use Rattle.lv_program.specs.Sources.{IsCheckedOf, IsEditedOver, IsMade, IsOpenedFrom, NotOpened, OverMaps};
+ghost use Rattle.lv_editor.specs.declared.error.EditorError.TheVariants.{WriterFailed};
+ghost use Rattle.lv_program.specs.declared.refusal.Refusal.{Refusal};
+
+use crate::limits::TURNS;
+use crate::refusal::Refusal;
+use crate::status::{DONE, ended, status_after};
+use lv_disk::Disk;
+use lv_editor::{EditorError, run, write_findings};
+use lv_maptables::Map;
+use lv_project::{Geometry, Project, Refused};
+use std::alloc::Global;
+use std::io::{Read, Write};
+
+/// How a request over a disk ended, and the disk.
+#[derive(Drop)]
+pub struct HandedBack<D> {
+    pub how: Result<u8, Refusal>,
+    pub disk: D,
+}
+
+/// The project that a disk's bytes stand for, or how a request ends that finds none.
+pub fn open_project<D: Disk>(alloc: Global, disk: D) -> Result<Project<D>, HandedBack<D>>
+    ensures opened { IfOk result (IsOpenedFrom D.Disk disk) }
+    ensures refused { IfErr result (λ r. NotOpened (D.reads disk) r.how
+        × IsOnlyRead D.Disk disk r.disk) }
+{
+    match Project::open(alloc, disk) {
+        Ok(project) => Ok(project),
+        Err(Refused { error, disk }) => Err(HandedBack {
+            how: Err(Refusal::Project(error)),
+            disk,
+        }),
+    }
+}
+
+// Writes a text and hands it on.
+fn say<W: Write>(text: &[u8], writer: &mut W) -> Result<u8, Refusal>
+    ensures said { IfOk result (λ status. (status ≡ 0)
+        × Appends (W.contents writer.old) (W.contents writer.new) text.now) }
+    ensures failed { IfErr result (λ r. r ≡ Refusal.Lines WriterFailed) }
+{
+    let written = match writer.write_all(text) {
+        Ok(()) => writer.flush(),
+        Err(error) => Err(error),
+    };
+    match written {
+        Ok(()) => Ok(DONE),
+        Err(_) => Err(Refusal::Lines(EditorError::WriterFailed)),
+    }
+}
+
+/// Makes a project on a disk, and says so.
+pub fn create<D: Disk, W: Write>(
+    alloc: Global,
+    disk: D,
+    geometry: Geometry,
+    writer: &mut W,
+) -> HandedBack<D>
+    ensures small { IfOk result.how (λ s. s ≤ 3) }
+    ensures created { IsCreated geometry.slot geometry.journal result.how
+        (W.contents writer.old) (W.contents writer.new) }
+    ensures made { IsMade D.Disk geometry disk result.disk result.how }
+{
+    match Project::create(alloc, disk, geometry) {
+        Ok(project) => HandedBack {
+            how: say(b"created\n", writer),
+            disk: project.into_disk(),
+        },
+        Err(Refused { error, disk }) => HandedBack {
+            how: Err(Refusal::Project(error)),
+            disk,
+        },
+    }
+}
+
+/// Answers the lines of the input over the project of a disk.
+pub fn edit<D: Disk, R: Read, W: Write>(
+    alloc: Global,
+    disk: D,
+    reader: &mut R,
+    writer: &mut W,
+) -> HandedBack<D>
+    ensures small { IfOk result.how (λ s. s ≤ 3) }
+    ensures answered { IsEditedOver D.Disk disk result.disk result.how
+        (R.remaining reader.old) (R.remaining reader.new)
+        (W.contents writer.old) (W.contents writer.new) }
+{
+    let mut project = match open_project(alloc, disk) {
+        Ok(project) => project,
+        Err(refused) => return refused,
+    };
+    let how = ended(run(alloc, &mut project, reader, writer, TURNS));
+    HandedBack {
+        how,
+        disk: project.into_disk(),
+    }
+}
+
+// Writes the findings of a map and hands them on.
+fn tell<W: Write>(alloc: Global, map: &Map, writer: &mut W) -> Result<u8, Refusal>
+    ensures small { IfOk result (λ s. s ≤ 3) }
+    ensures told { IsCheckedOf map.now.tables result
+        (W.contents writer.old) (W.contents writer.new) }
+{
+    let found = write_findings(alloc, map, writer)?;
+    match writer.flush() {
+        Ok(()) => Ok(status_after(found)),
+        Err(_) => Err(Refusal::Lines(EditorError::WriterFailed)),
+    }
+}
+
+/// Says what is wrong or unfinished in the current map of a disk's project. The disk is only read.
+pub fn check<D: Disk, W: Write>(alloc: Global, disk: D, writer: &mut W) -> HandedBack<D>
+    ensures small { IfOk result.how (λ s. s ≤ 3) }
+    ensures found { OverMaps (D.reads disk) result.how
+        (W.contents writer.old) (W.contents writer.new)
+        (λ maps. IsCheckedOf maps.tables result.how
+        (W.contents writer.old) (W.contents writer.new)) }
+    ensures only_read { IsOnlyRead D.Disk disk result.disk }
+{
+    let project = match open_project(alloc, disk) {
+        Ok(project) => project,
+        Err(refused) => return refused,
+    };
+    let how = tell(alloc, project.map(), writer);
+    HandedBack {
+        how,
+        disk: project.into_disk(),
+    }
+}

@@ -1,0 +1,133 @@
+//! The request `inspect` without a name: the names of the levels that a WAD holds.
+ghost use Rattle.std.specs.Prelude.{◌≡◌, ◌≤◌, ◌++◌, ◌∷◌, [], None, IfOk, MatchResult, flat_map, map};
+ghost use Rattle.std.specs.Io.KnownBytes.{Appends};
+ghost use Rattle.lv_program.specs.LevelNames.{IsListed, RefusesNames, level_line, levels_text, shown};
+ghost use Rattle.lv_program.specs.Sources.{IsListedOf};
+ghost use Rattle.lv_editor.specs.declared.error.EditorError.TheVariants.{WriterFailed};
+ghost use Rattle.lv_levels.specs.Listing.{listing_refusal};
+
+use crate::examining::read_whole;
+use crate::refusal::Refusal;
+use crate::status::DONE;
+use lv_editor::{EditorError, InspectError};
+use lv_files::Cause;
+use lv_lumps::Name8;
+use lv_pwad::level_names;
+use std::alloc::Global;
+use std::fs::{self, Files};
+use std::io::{Read, Write};
+
+// A byte of a name as it is shown: `?` where it is no visible character.
+fn shown(byte: u8) -> u8
+    ensures { result ≡ shown byte }
+{
+    if 33 <= byte && byte <= 126 {
+        byte
+    } else {
+        b'?'
+    }
+}
+
+// Writes the bytes of a name as they are shown.
+fn write_shown<W: Write>(name: &[u8], writer: &mut W) -> Result<(), EditorError>
+    ensures { MatchResult result
+        (λ _. Appends (W.contents writer.old) (W.contents writer.new) (map shown name.now))
+        (λ e. e ≡ WriterFailed) }
+{
+    for byte in name {
+        match writer.write_all(&[shown(*byte)]) {
+            Ok(()) => {}
+            Err(_) => return Err(EditorError::WriterFailed),
+        }
+    }
+    Ok(())
+}
+
+// Writes a name as a line.
+fn write_name<W: Write>(name: &Name8, writer: &mut W) -> Result<(), EditorError>
+    ensures { MatchResult result
+        (λ _. Appends (W.contents writer.old) (W.contents writer.new) (level_line name.now))
+        (λ e. e ≡ WriterFailed) }
+{
+    match write_shown(name.text(), writer) {
+        Ok(()) => {}
+        Err(error) => return Err(error),
+    }
+    match writer.write_all(b"\n") {
+        Ok(()) => Ok(()),
+        Err(_) => Err(EditorError::WriterFailed),
+    }
+}
+
+// Writes a line for each name.
+fn write_each<W: Write>(names: &[Name8], writer: &mut W) -> Result<(), EditorError>
+    ensures { MatchResult result
+        (λ _. Appends (W.contents writer.old) (W.contents writer.new)
+        (flat_map level_line names.now))
+        (λ e. e ≡ WriterFailed) }
+{
+    for name in names {
+        match write_name(name, writer) {
+            Ok(()) => {}
+            Err(error) => return Err(error),
+        }
+    }
+    Ok(())
+}
+
+// Writes the names of a WAD's levels.
+fn write_levels<W: Write>(alloc: Global, wad: &[u8], writer: &mut W) -> Result<(), InspectError>
+    ensures { MatchResult result
+        (λ _. (listing_refusal wad.now ≡ None)
+        × Appends (W.contents writer.old) (W.contents writer.new) (levels_text wad.now))
+        (λ e. RefusesNames wad.now e (W.contents writer.old) (W.contents writer.new)) }
+{
+    let names = match level_names(alloc, wad) {
+        Ok(names) => names,
+        Err(error) => return Err(InspectError::Level(error)),
+    };
+    match write_each(&names, writer) {
+        Ok(()) => Ok(()),
+        Err(_) => Err(InspectError::WriterFailed),
+    }
+}
+
+// Writes the names of the levels in all that the reader gives, and hands them on.
+fn list_read<R: Read, W: Write>(
+    alloc: Global,
+    reader: &mut R,
+    turns: u32,
+    writer: &mut W,
+) -> Result<u8, Refusal>
+    ensures small { IfOk result (λ s. s ≤ 3) }
+    ensures listed { IsListedOf result (R.remaining reader.old) (R.remaining reader.new)
+        (W.contents writer.old) (W.contents writer.new) }
+{
+    let wad = read_whole(alloc, reader, turns)?;
+    write_levels(alloc, &wad, writer)?;
+    match writer.flush() {
+        Ok(()) => Ok(DONE),
+        Err(_) => Err(Refusal::Lines(EditorError::WriterFailed)),
+    }
+}
+
+/// Writes the names of the levels of the WAD at the path, a line each, in the order of its directory,
+/// or notes why it can't be opened.
+pub fn list_levels<E: AllocGlobal + Files, W: Write>(
+    rt: &E,
+    path: &str,
+    turns: u32,
+    writer: &mut W,
+    why: &mut Option<Cause>,
+) -> Result<u8, Refusal>
+    ensures small { IfOk result (λ s. s ≤ 3) }
+    ensures listed { IsListed result (W.contents writer.old) (W.contents writer.new) }
+{
+    match fs::open(rt, path) {
+        Ok(mut file) => list_read(rt.alloc(), &mut file, turns, writer),
+        Err(error) => {
+            *why = Some(Cause::System(error));
+            Err(Refusal::Lines(EditorError::ReaderFailed))
+        }
+    }
+}

@@ -1,0 +1,91 @@
+//! The lumps that a build makes of a level, as bytes.
+ghost use Rattle.std.specs.Prelude.{◌≡◌, IfOk, IsOkUnless};
+ghost use Rattle.lv_rebuild.specs.Made.{HasRecords};
+ghost use Rattle.lv_pwad.specs.Reject.{reject_size};
+ghost use Rattle.lv_rebuild.specs.Remade.{reject_over};
+
+use crate::cause::Cause;
+use lv_lumps::{encode_nodes, encode_segs, encode_subs, encode_vertices};
+use lv_nodes::Built;
+use lv_pwad::reject;
+use std::alloc::Global;
+
+/// The lumps that a build makes of a level, as bytes: VERTEXES, SEGS, SSECTORS, NODES, REJECT, BLOCKMAP.
+pub struct MadeLumps {
+    pub vertices: Vec<u8>,
+    pub segs: Vec<u8>,
+    pub subs: Vec<u8>,
+    pub nodes: Vec<u8>,
+    pub reject: Vec<u8>,
+    pub blockmap: Vec<u8>,
+}
+
+// A call of its own, so that who owns the lumps lets them go by one step.
+impl Drop for MadeLumps {
+    fn drop(self) {
+        let MadeLumps {
+            vertices: _vertices,
+            segs: _segs,
+            subs: _subs,
+            nodes: _nodes,
+            reject: _reject,
+            blockmap: _blockmap,
+        } = self;
+    }
+}
+
+// How many bytes REJECT has of so many sectors.
+fn reject_size(sectors: u16) -> u64
+    ensures { result ≡ reject_size sectors }
+{
+    let pairs = u64::from(sectors) * u64::from(sectors);
+    (pairs + 7) / 8
+}
+
+// The bytes, copied.
+fn copied(alloc: Global, bytes: &[u8]) -> Result<Vec<u8>, Cause>
+    ensures bytes { IfOk result (λ v. v.items ≡ bytes.now) }
+    ensures memory { IsOkUnless result Cause.OutOfMemory }
+{
+    let mut copy = Vec::new(alloc);
+    match copy.extend_from_slice(bytes) {
+        Ok(()) => Ok(copy),
+        Err(_) => Err(Cause::OutOfMemory),
+    }
+}
+
+/// The bytes of REJECT: the given ones where they are enough for so many sectors, else zeros.
+pub fn reject_over(alloc: Global, sectors: u16, given: &[u8]) -> Result<Vec<u8>, Cause>
+    ensures bytes { IfOk result (λ v. v.items ≡ reject_over sectors given.now) }
+    ensures memory { IsOkUnless result Cause.OutOfMemory }
+{
+    if reject_size(sectors) <= given.len() as u64 {
+        return copied(alloc, given);
+    }
+    match reject(alloc, sectors) {
+        Ok(bytes) => Ok(bytes),
+        Err(_) => Err(Cause::OutOfMemory),
+    }
+}
+
+/// The lumps of a tree, and the bytes of REJECT and BLOCKMAP.
+pub fn lumps_of(
+    alloc: Global,
+    tree: &Built,
+    reject: Vec<u8>,
+    blockmap: Vec<u8>,
+) -> Result<MadeLumps, Cause>
+    ensures records { IfOk result (HasRecords tree.now) }
+    ensures reject { IfOk result (λ m. m.reject.items ≡ reject.items) }
+    ensures blockmap { IfOk result (λ m. m.blockmap.items ≡ blockmap.items) }
+    ensures memory { IsOkUnless result Cause.OutOfMemory }
+{
+    Ok(MadeLumps {
+        vertices: encode_vertices(alloc, &tree.vertices).map_err(|_| Cause::OutOfMemory)?,
+        segs: encode_segs(alloc, &tree.segs).map_err(|_| Cause::OutOfMemory)?,
+        subs: encode_subs(alloc, &tree.subs).map_err(|_| Cause::OutOfMemory)?,
+        nodes: encode_nodes(alloc, &tree.nodes).map_err(|_| Cause::OutOfMemory)?,
+        reject,
+        blockmap,
+    })
+}

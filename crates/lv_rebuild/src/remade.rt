@@ -1,0 +1,107 @@
+//! One level built anew of its own lines.
+ghost use Rattle.std.specs.Prelude.{◌≤◌, length, IfOk, IfErr, MatchResult};
+ghost use Rattle.lv_segs.specs.Edges.{edges_in};
+ghost use Rattle.lv_nodes.specs.Built.{IsBuiltOver};
+ghost use Rattle.lv_blockmap.specs.Blocks.{ends_over};
+ghost use Rattle.lv_blockmap.specs.Lump.{IsBlockmapOver};
+ghost use Rattle.lv_levels.specs.Drawn.{drawn_view};
+ghost use Rattle.lv_levels.specs.Entries.{IsLevelAt};
+ghost use Rattle.lv_levels.specs.Levels.{HasEntries};
+ghost use Rattle.lv_rebuild.specs.Causes.{IsBlockmapCause, IsTreeCause};
+ghost use Rattle.lv_rebuild.specs.Remade.{IsLeftFor, IsMadeAnew, IsRemade, IsUnmade};
+
+use crate::cause::Cause;
+use crate::front::front_of;
+use crate::made::{MadeLumps, lumps_of, reject_over};
+use lv_blockmap::{BlockmapError, blockmap_over, ends_over};
+use lv_levels::{Drawn, Hindrance, LevelEntries, read_drawn};
+use lv_lumps::{ITEM_LIMIT, Line, Side, Vertex};
+use lv_nodes::{Built, TreeError, build_lines};
+use lv_segs::edges_in;
+use std::alloc::Global;
+
+// The tree over the lines, which have what a build needs, so that only memory can be lacking for their list.
+fn tree_over(
+    alloc: Global,
+    front: &[Vertex],
+    sides: &[Side],
+    lines: &[Line],
+) -> Result<Built, Cause>
+    ensures built { IfOk result (IsBuiltOver (edges_in front.now lines.now) front.now) }
+    ensures refused { IfErr result (IsTreeCause (edges_in front.now lines.now) front.now) }
+{
+    let edges = match edges_in(alloc, front, sides, lines) {
+        Ok(edges) => edges,
+        Err(_) => return Err(Cause::OutOfMemory),
+    };
+    match build_lines(alloc, &edges, front) {
+        Ok(tree) => Ok(tree),
+        Err(TreeError::OutOfMemory) => Err(Cause::OutOfMemory),
+        Err(error) => Err(Cause::NoTree(error)),
+    }
+}
+
+// The blockmap over the lines.
+fn blocks_over(alloc: Global, front: &[Vertex], lines: &[Line]) -> Result<Vec<u8>, Cause>
+    requires { length lines.now ≤ 32767 }
+    ensures bytes { IfOk result (λ v. IsBlockmapOver (ends_over front.now lines.now) v.items) }
+    ensures refused { IfErr result (IsBlockmapCause (ends_over front.now lines.now)) }
+{
+    let ends = match ends_over(alloc, front, lines) {
+        Ok(ends) => ends,
+        Err(_) => return Err(Cause::OutOfMemory),
+    };
+    match blockmap_over(alloc, &ends) {
+        Ok(bytes) => Ok(bytes),
+        Err(BlockmapError::OutOfMemory) => Err(Cause::OutOfMemory),
+        Err(error) => Err(Cause::NoBlockmap(error)),
+    }
+}
+
+// The lumps of a level that has what a build needs.
+fn made_of(alloc: Global, drawn: Drawn) -> Result<MadeLumps, Cause>
+    ensures { MatchResult result (IsMadeAnew (drawn_view drawn)) (IsUnmade (drawn_view drawn)) }
+{
+    let sectors = drawn.sectors.len();
+    if sectors > ITEM_LIMIT {
+        return Err(Cause::TooManySectors);
+    }
+    let front = front_of(&drawn.vertices, &drawn.lines);
+    let tree = match tree_over(alloc, front, &drawn.sides, &drawn.lines) {
+        Ok(tree) => tree,
+        Err(cause) => return Err(cause),
+    };
+    let blockmap = match blocks_over(alloc, front, &drawn.lines) {
+        Ok(bytes) => bytes,
+        Err(cause) => return Err(cause),
+    };
+    let reject = match reject_over(alloc, sectors as u16, &drawn.reject) {
+        Ok(bytes) => bytes,
+        Err(_) => return Err(Cause::OutOfMemory),
+    };
+    match lumps_of(alloc, &tree, reject, blockmap) {
+        Ok(made) => Ok(made),
+        Err(_) => Err(Cause::OutOfMemory),
+    }
+}
+
+/// Builds a level anew of its own lines.
+///
+/// # Errors
+///
+/// The first cause why the level is left as it was, or `OutOfMemory`.
+pub fn remake(alloc: Global, wad: &[u8], level: LevelEntries) -> Result<MadeLumps, Cause>
+    requires directory { HasEntries wad.now }
+    requires level { IsLevelAt wad.now level }
+    ensures { MatchResult result (IsRemade wad.now level) (IsLeftFor wad.now level) }
+{
+    let drawn = match read_drawn(alloc, wad, level) {
+        Ok(drawn) => drawn,
+        Err(Hindrance::OutOfMemory) => return Err(Cause::OutOfMemory),
+        Err(hindrance) => return Err(Cause::Hindered(hindrance)),
+    };
+    match made_of(alloc, drawn) {
+        Ok(made) => Ok(made),
+        Err(cause) => Err(cause),
+    }
+}

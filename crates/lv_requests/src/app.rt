@@ -1,0 +1,214 @@
+//! The command line that clap reads: the program and its subcommands.
+ghost use Rattle.std.specs.Prelude.{◌≡◌, IfOk, codes};
+ghost use Rattle.clap.specs.Words.{App, app_of, new_app, with_subcommand};
+ghost use Rattle.lv_requests.specs.App.{IsArg, IsCommand, build_app, create_app, flag_rule, inspect_app, journal_rule, last_rule, leveled_app, option_rule, path_rule, picture_app, slot_rule, with_subcommands, with_one_word, word_rule};
+
+use crate::help;
+use clap::{Arg, ArgAction, Command, value_parser};
+use std::alloc::{AllocError, Global};
+
+// A word that has to be there, and what help calls it.
+fn word<'a>(alloc: Global, id: &'a str, name: &'a str) -> Arg<'a>
+    ensures { IsArg result (word_rule id.now) }
+{
+    Arg::new(alloc, id).required(true).value_name(name)
+}
+
+// A subcommand without arguments.
+fn named<'a>(alloc: Global, name: &'a str, about: &'a str, help: &'a str) -> Command<'a>
+    ensures { IsCommand result (new_app name.now) }
+{
+    Command::new(alloc, name).about(about).after_help(help)
+}
+
+// A subcommand over a file.
+fn over_file<'a>(
+    alloc: Global,
+    name: &'a str,
+    about: &'a str,
+    help: &'a str,
+) -> Result<Command<'a>, AllocError>
+    ensures { IfOk result (λ c. IsCommand c (with_one_word name.now (codes "file"))) }
+{
+    named(alloc, name, about, help).arg(word(alloc, "file", "FILE"))
+}
+
+// A word that may be left out, and what help calls it.
+fn last_word<'a>(alloc: Global, id: &'a str, name: &'a str) -> Arg<'a>
+    ensures { IsArg result (last_rule id.now) }
+{
+    Arg::new(alloc, id).value_name(name)
+}
+
+// `--ID N`, with the N that is taken where there is none.
+fn option<'a>(alloc: Global, id: &'a str, default: &'a str) -> Arg<'a>
+    ensures { IsArg result (option_rule id.now default.now) }
+{
+    Arg::new(alloc, id)
+        .long(id)
+        .default_value(default)
+        .value_name("N")
+}
+
+// `--ID`, which may be given.
+fn flag<'a>(alloc: Global, id: &'a str) -> Arg<'a>
+    ensures { IsArg result (flag_rule id.now) }
+{
+    Arg::new(alloc, id).long(id).action(ArgAction::SetTrue)
+}
+
+// `--ID NAME`, which may be left out.
+fn path<'a>(alloc: Global, id: &'a str, name: &'a str) -> Arg<'a>
+    ensures { IsArg result (path_rule id.now) }
+{
+    Arg::new(alloc, id).long(id).value_name(name)
+}
+
+// `--slot N`.
+fn slot<'a>(alloc: Global) -> Arg<'a>
+    ensures { IsArg result slot_rule }
+{
+    option(alloc, "slot", "262144").value_parser(value_parser!(u32).range(33..=2007015))
+}
+
+// `--journal N`.
+fn journal<'a>(alloc: Global) -> Arg<'a>
+    ensures { IsArg result journal_rule }
+{
+    option(alloc, "journal", "65536").value_parser(value_parser!(u32).range(512..=1048576))
+}
+
+// `create`.
+fn create<'a>(alloc: Global) -> Result<Command<'a>, AllocError>
+    ensures { IfOk result (λ c. IsCommand c create_app) }
+{
+    over_file(alloc, "create", "Makes a project file", help::CREATE)?
+        .arg(slot(alloc))?
+        .arg(journal(alloc))
+}
+
+// `lint`.
+fn lint<'a>(alloc: Global) -> Result<Command<'a>, AllocError>
+    ensures { IfOk result (λ c. IsCommand c (with_one_word (codes "lint") (codes "file"))) }
+{
+    let about = "Says what is wrong or doubtful in each map of a project";
+    over_file(alloc, "lint", about, help::LINT)
+}
+
+// `dump`.
+fn dump<'a>(alloc: Global) -> Result<Command<'a>, AllocError>
+    ensures { IfOk result (λ c. IsCommand c (with_one_word (codes "dump") (codes "file"))) }
+{
+    let about = "Prints lines that draw a project's maps again";
+    over_file(alloc, "dump", about, help::DUMP)
+}
+
+// `picture`.
+fn picture<'a>(alloc: Global) -> Result<Command<'a>, AllocError>
+    ensures { IfOk result (λ c. IsCommand c picture_app) }
+{
+    let about = "Draws a map of a project as a picture (SVG)";
+    over_file(alloc, "picture", about, help::PICTURE)?
+        .arg(last_word(alloc, "map", "MAP"))?
+        .arg(path(alloc, "out", "OUT"))?
+        .arg(flag(alloc, "numbers"))?
+        .arg(flag(alloc, "nodes"))?
+        .arg(flag(alloc, "lint"))
+}
+
+// `build`.
+fn build<'a>(alloc: Global) -> Result<Command<'a>, AllocError>
+    ensures { IfOk result (λ c. IsCommand c build_app) }
+{
+    let about = "Builds a project's maps into a PWAD";
+    over_file(alloc, "build", about, help::BUILD)?.arg(word(alloc, "out", "OUT"))
+}
+
+// `inspect`.
+fn inspect<'a>(alloc: Global) -> Result<Command<'a>, AllocError>
+    ensures { IfOk result (λ c. IsCommand c inspect_app) }
+{
+    let about = "Says whether a level of a WAD is sound";
+    named(alloc, "inspect", about, help::INSPECT)
+        .arg(word(alloc, "wad", "WAD"))?
+        .arg(last_word(alloc, "name", "NAME"))
+}
+
+// The program with one subcommand more, where memory was found for both.
+fn with<'a>(
+    program: Result<Command<'a>, AllocError>,
+    subcommand: Result<Command<'a>, AllocError>,
+) -> Result<Command<'a>, AllocError>
+    ensures { (a s : App) → IfOk program.entry (λ c. IsCommand c a)
+        → IfOk subcommand.entry (λ c. IsCommand c s)
+        → IfOk result (λ c. IsCommand c (with_subcommand a s.top)) }
+{
+    match program {
+        Ok(program) => match subcommand {
+            Ok(subcommand) => program.subcommand(subcommand),
+            Err(error) => {
+                // By a call: what a command is let go by is long where it is written out.
+                drop(program);
+                Err(error)
+            }
+        },
+        Err(error) => {
+            drop(subcommand);
+            Err(error)
+        }
+    }
+}
+
+// The program with its subcommands.
+fn with_subcommands<'a>(alloc: Global) -> Result<Command<'a>, AllocError>
+    ensures { IfOk result (λ c. IsCommand c with_subcommands) }
+{
+    let program = named(
+        alloc,
+        "leveled",
+        "Draws Doom maps by command lines",
+        help::PROGRAM,
+    );
+    let scratch = named(
+        alloc,
+        "scratch",
+        "Answers lines over maps in memory",
+        help::SCRATCH,
+    );
+    let edit = over_file(
+        alloc,
+        "edit",
+        "Answers lines over a project file",
+        help::EDIT,
+    );
+    let check = over_file(
+        alloc,
+        "check",
+        "Says what is wrong in a project's current map",
+        help::CHECK,
+    );
+    let program = program.subcommand(scratch);
+    let program = with(program, create(alloc));
+    let program = with(program, edit);
+    let program = with(program, check);
+    let program = with(program, lint(alloc));
+    let program = with(program, dump(alloc));
+    let program = with(program, picture(alloc));
+    let program = with(program, inspect(alloc));
+    with(program, build(alloc))
+}
+
+/// The program's command line.
+pub fn leveled<'a>(alloc: Global) -> Result<Command<'a>, AllocError>
+    ensures { IfOk result (λ c. app_of c ≡ leveled_app) }
+{
+    match with_subcommands(alloc) {
+        Ok(program) => Ok(
+            program
+                .version("0.1.0")
+                .subcommand_required(true)
+                .disable_help_subcommand(true),
+        ),
+        Err(error) => Err(error),
+    }
+}

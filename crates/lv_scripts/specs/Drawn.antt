@@ -1,0 +1,162 @@
+-- What a script draws, line by line (docs/COMMANDS.md, "Scripts").
+use Rattle.std.specs.Prelude.{◌≡◌, ◌⊎◌, ℕ, Bool, true, false, ◌&&◌, not, is_some, List, [], ◌∷◌, ◌++◌, Option, Some, None, Result, Ok, Err, MatchResult, codes, decimal, length}
+use Rattle.std.specs.Io.KnownBytes.{Appends, Keeps}
+use Rattle.lv_maptables.specs.Projects.{ProjectMaps, current_map}
+use Rattle.lv_commands.specs.ProjectCommands.{InProjectRange, project_spelling}
+use Rattle.lv_commands.specs.declared.project.command.ProjectCommand.{ProjectCommand}
+use Rattle.lv_draw.specs.Errors.{code_of}
+use Rattle.lv_draw.specs.Firsts.{firsts_of}
+use Rattle.lv_draw.specs.Lines.{line_for, name_in}
+use Rattle.lv_draw.specs.Words.{text_words}
+use Rattle.lv_draw.specs.declared.firsts.Firsts.{Firsts}
+use Rattle.lv_draw.specs.declared.firsts.Numbers.{Numbers}
+use Rattle.lv_scripts.specs.declared.canvas.Canvas.{Ghosts}
+use Rattle.lv_scripts.specs.declared.drawing.Stop.{Stop}
+use Rattle.lv_scripts.specs.declared.error.ScriptError.{ScriptError}
+use Rattle.lv_scripts.specs.declared.error.ScriptError.TheVariants.{OutOfMemory, WriterFailed}
+
+-- where the drawing of a script stands: what it is drawn onto, the names so far, and what the
+-- writer holds
+pub record Sketch (S : Type 0) : Type 0 where
+  pub canvas : S
+  pub names : List (List ℕ × Numbers)
+  pub written : Option (List ℕ)
+
+-- the sketch of a canvas, with these names, where the writer holds this
+abbrev pub sketch_of : {S : Type 0} → S → List (List ℕ × Numbers) → Option (List ℕ) → Sketch S
+sketch_of canvas names written = record { canvas = canvas; names = names; written = written }
+
+-- nothing has changed
+pub record Stays {S : Type 0} (old new : Sketch S) : Type 0 where
+  pub canvas : new.canvas ≡ old.canvas
+  pub names : new.names ≡ old.names
+  pub written : Keeps old.written new.written
+
+-- ---- A command
+
+-- these are the first items that a line adds to maps, if it is a command
+abbrev pub AddsFirst : List ℕ → ProjectMaps → Firsts → Type 0
+AddsFirst text p firsts =
+    (c : ProjectCommand) → InProjectRange c → text ≡ project_spelling c
+    → firsts ≡ firsts_of c (current_map p)
+
+-- the names, and the one that a line gives to its numbers
+abbrev pub with_given_name : Option (List ℕ) → Numbers → List (List ℕ × Numbers)
+    → List (List ℕ × Numbers)
+with_given_name None numbers names = names
+with_given_name (Some name) numbers names = names ++ (name, numbers) ∷ []
+
+-- `NUMBER: ok N`, where it is to be said
+abbrev pub noted_text : Bool → ℕ → ℕ → List ℕ
+noted_text true number n = decimal number ++ codes ": ok " ++ decimal n ++ 10 ∷ []
+noted_text false number n = []
+
+-- how a line ends whose command had this outcome: it is refused with its code, or its name keeps
+-- its numbers and the number is said
+abbrev pub EndsChange : {S : Type 0} → Bool → ℕ × List ℕ → List ℕ → ProjectMaps → Result ℕ ℕ
+    → Sketch S → Option ℕ → Sketch S → Type 0
+EndsChange verbose line text p (Err code) old refusal new =
+    (refusal ≡ Some code) × (new.names ≡ old.names) × Keeps old.written new.written
+EndsChange verbose line text p (Ok n) old refusal new =
+    (refusal ≡ None) × Appends old.written new.written (noted_text verbose line.0 n)
+    × ((firsts : Firsts) × AddsFirst text p firsts
+    × (new.names ≡ with_given_name (name_in (text_words line.1))
+    (record { answer = n; firsts = firsts }) old.names))
+
+-- a command of a line was tried, and it ended so
+abbrev pub IsTried : {S : Type 0} → Ghosts S → Bool → ℕ × List ℕ → List ℕ → Sketch S → Option ℕ
+    → Sketch S → Type 0
+IsTried facts verbose line text old refusal new =
+    (outcome : Result ℕ ℕ) × facts.changes old.canvas text outcome new.canvas
+    × EndsChange verbose line text (facts.maps_in old.canvas) outcome old refusal new
+
+-- ---- A line
+
+-- whether a line of a script, which stands for this text, is a query: it gives no name
+abbrev pub asks : {S : Type 0} → Ghosts S → List ℕ → List ℕ → Bool
+asks facts line text = not (is_some (name_in (text_words line))) && facts.is_query text
+
+-- a query was told or refused, and nothing else has changed
+abbrev pub IsQueryTold : {S : Type 0} → Ghosts S → List ℕ → Sketch S → Option ℕ → Sketch S → Type 0
+IsQueryTold facts text old refusal new =
+    facts.tells old.canvas text refusal old.written new.written
+    × (new.canvas ≡ old.canvas) × (new.names ≡ old.names)
+
+-- what is meant where a test holds, or where it doesn't
+abbrev pub OneOf : Bool → Type 0 → Type 0 → Type 0
+OneOf true P Q = P
+OneOf false P Q = Q
+
+-- a line, which stands for this text, was drawn, or refused with this code
+abbrev pub DrawsText : {S : Type 0} → Ghosts S → Bool → ℕ × List ℕ → Sketch S → Option ℕ → Sketch S
+    → List ℕ → Type 0
+DrawsText facts verbose line old refusal new text =
+    OneOf (asks facts line.1 text) (IsQueryTold facts text old refusal new)
+    (IsTried facts verbose line text old refusal new)
+
+-- A line of a script was drawn, or refused with this code: for what it stands for, because it
+-- stands for nothing, or since it found no memory.
+abbrev pub DrawsLine : {S : Type 0} → Ghosts S → Bool → ℕ × List ℕ → Sketch S → Option ℕ → Sketch S
+    → Type 0
+DrawsLine facts verbose line old refusal new =
+    MatchResult (line_for old.names line.1) (DrawsText facts verbose line old refusal new)
+    (λ fault. (refusal ≡ Some (code_of fault)) × Stays old new)
+    ⊎ ((refusal ≡ Some 31) × Stays old new)
+
+-- ---- A script
+
+-- each of these lines was drawn in turn, and none refused
+abbrev pub DrawsAll : {S : Type 0} → Ghosts S → Bool → Sketch S → List (ℕ × List ℕ) → Sketch S
+    → Type 0
+DrawsAll facts verbose old [] new = new ≡ old
+DrawsAll {S = S} facts verbose old (line ∷ lines) new =
+    (mid : Sketch S) × DrawsLine facts verbose line old None mid
+    × DrawsAll facts verbose mid lines new
+
+-- the first lines were drawn in turn, and none refused; these lines are left
+pub record DrawsFront {S : Type 0} (facts : Ghosts S) (verbose : Bool) (old : Sketch S)
+    (lines : List (ℕ × List ℕ)) (new : Sketch S) (left : List (ℕ × List ℕ)) : Type 0 where
+  pub front : List (ℕ × List ℕ)
+  pub split : lines ≡ front ++ left
+  pub drawn : DrawsAll facts verbose old front new
+
+-- the lines in front of one were drawn in turn, and that one was refused; its place is how many
+-- they are
+abbrev pub StopsAt : {S : Type 0} → Ghosts S → Bool → Sketch S → List (ℕ × List ℕ) → Stop
+    → Sketch S → Type 0
+StopsAt {S = S} facts verbose old lines stop new =
+    (mid : Sketch S) × (line : ℕ × List ℕ) × (back : List (ℕ × List ℕ))
+    × (drawn : DrawsFront facts verbose old lines mid (line ∷ back))
+    × (stop.place ≡ length drawn.front)
+    × DrawsLine facts verbose line mid (Some stop.code) new
+
+-- the lines that were drawn in turn before memory ran out or the writer failed led to this canvas
+abbrev pub IsCutOff : {S : Type 0} → Ghosts S → Bool → Sketch S → List (ℕ × List ℕ) → S → Type 0
+IsCutOff {S = S} facts verbose old lines canvas =
+    (new : Sketch S) × (left : List (ℕ × List ℕ))
+    × DrawsFront facts verbose old lines new left × (canvas ≡ new.canvas)
+
+-- ---- How a call ended
+
+-- no name yet
+abbrev pub first_sketch : {S : Type 0} → S → Option (List ℕ) → Sketch S
+first_sketch canvas written = sketch_of canvas [] written
+
+-- the sketch has this canvas, and its writer holds this
+abbrev pub Has : {S : Type 0} → Sketch S → S → Option (List ℕ) → Type 0
+Has sketch canvas written = (canvas ≡ sketch.canvas) × (written ≡ sketch.written)
+
+-- how a call ended that should draw these lines: all were drawn; or those in front of one that was
+-- refused; or those before memory ran out or the writer failed
+abbrev pub IsScriptDrawn : {S : Type 0} → Ghosts S → Bool → List (ℕ × List ℕ)
+    → Result (Option Stop) ScriptError → S → Option (List ℕ) → S → Option (List ℕ) → Type 0
+IsScriptDrawn {S = S} facts verbose lines (Ok None) canvas-old writer-old canvas-new writer-new =
+    (new : Sketch S) × DrawsAll facts verbose (first_sketch canvas-old writer-old) lines new
+    × Has new canvas-new writer-new
+IsScriptDrawn {S = S} facts verbose lines
+    (Ok (Some stop)) canvas-old writer-old canvas-new writer-new =
+    (new : Sketch S) × StopsAt facts verbose (first_sketch canvas-old writer-old) lines stop new
+    × Has new canvas-new writer-new
+IsScriptDrawn facts verbose lines (Err error) canvas-old writer-old canvas-new writer-new =
+    ((error ≡ OutOfMemory) ⊎ (error ≡ WriterFailed))
+    × IsCutOff facts verbose (first_sketch canvas-old writer-old) lines canvas-new

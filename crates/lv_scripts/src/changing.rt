@@ -1,0 +1,118 @@
+//! Commands in a script: what each changes, the name that keeps its numbers, and what is said of it.
+ghost use Rattle.std.specs.Prelude.{◌≡◌, ◌⊎◌, None, IfErr, IfOk, MatchResult};
+ghost use Rattle.std.specs.Option.{option_copied};
+ghost use Rattle.std.specs.Io.KnownBytes.{Appends};
+ghost use Rattle.lv_maptables.specs.Projects.{project_of};
+ghost use Rattle.lv_draw.specs.Known.{known};
+ghost use Rattle.lv_draw.specs.Views.{seen};
+ghost use Rattle.lv_scripts.specs.declared.error.ScriptError.TheVariants.{OutOfMemory, WriterFailed};
+ghost use Rattle.lv_scripts.specs.Drawn.{AddsFirst, IsTried, Sketch, noted_text, sketch_of, with_given_name};
+
+use crate::canvas::Canvas;
+use crate::error::ScriptError;
+use lv_commands::parse;
+use lv_draw::{Firsts, Names, Numbers, ScriptLine, defined_name, firsts_of};
+use lv_maptables::Maps;
+use std::alloc::Global;
+use std::io::Write;
+
+// No item is added.
+const NONE: Firsts = Firsts {
+    vertex: None,
+    sector: None,
+    side: None,
+    line: None,
+    thing: None,
+};
+
+// The first items that a line is about to add to the current map.
+fn added_by(maps: &Maps, text: &[u8]) -> Firsts
+    ensures { AddsFirst text.now (project_of maps.now) result }
+{
+    match parse(text) {
+        Ok(command) => firsts_of(&command, maps.current()),
+        Err(_) => NONE,
+    }
+}
+
+// Gives the name of a line, if it has one, to the numbers of its command.
+fn keep_name(
+    alloc: Global,
+    names: &mut Names,
+    name: Option<&[u8]>,
+    numbers: Numbers,
+) -> Result<(), ScriptError>
+    ensures ok { IfOk result (λ _.
+        known names.new ≡ with_given_name (option_copied name.entry) numbers (known names.old)) }
+    ensures refused { IfErr result (λ e. e ≡ OutOfMemory) }
+{
+    match name {
+        Some(name) => match names.define(alloc, name, numbers) {
+            Ok(()) => Ok(()),
+            Err(_) => Err(ScriptError::OutOfMemory),
+        },
+        None => Ok(()),
+    }
+}
+
+// Says what the command of a line answered, where it is to be said.
+fn note<W: Write>(
+    is_verbose: bool,
+    number: usize,
+    answer: u32,
+    writer: &mut W,
+) -> Result<(), ScriptError>
+    ensures { MatchResult result
+        (λ _. Appends (W.contents writer.old) (W.contents writer.new)
+        (noted_text is_verbose number answer))
+        (λ e. e ≡ WriterFailed) }
+{
+    if !is_verbose {
+        return Ok(());
+    }
+    match write!(writer, "{number}: ok {answer}\n") {
+        Ok(()) => Ok(()),
+        Err(_) => Err(ScriptError::WriterFailed),
+    }
+}
+
+/// Tries the command of a line, which stands for this text. Its name keeps the numbers, and what it answered is said
+/// where that is wanted. Gives the code of a refusal.
+///
+/// # Errors
+///
+/// `OutOfMemory` and `WriterFailed`, where the command was done.
+pub fn try_command<C: Canvas, W: Write>(
+    alloc: Global,
+    canvas: &mut C,
+    names: &mut Names,
+    line: &ScriptLine,
+    text: &[u8],
+    is_verbose: bool,
+    writer: &mut W,
+) -> Result<Option<u16>, ScriptError>
+    ensures { MatchResult result
+        (λ refusal. IsTried C.Canvas is_verbose (seen line.now) text.now
+        (sketch_of canvas.old (known names.old) (W.contents writer.old))
+        refusal
+        (sketch_of canvas.new (known names.new) (W.contents writer.new)))
+        (λ e. ((e ≡ OutOfMemory) ⊎ (e ≡ WriterFailed))
+        × ((new : Sketch C) × IsTried C.Canvas is_verbose (seen line.now) text.now
+        (sketch_of canvas.old (known names.old) (W.contents writer.old))
+        None new × (canvas.new ≡ new.canvas))) }
+{
+    let firsts = added_by(canvas.maps(), text);
+    let answer = match canvas.change(text) {
+        Ok(answer) => answer,
+        Err(code) => return Ok(Some(code)),
+    };
+    let numbers = Numbers { answer, firsts };
+    match keep_name(alloc, names, defined_name(&line.text), numbers) {
+        Ok(()) => {}
+        Err(error) => return Err(error),
+    }
+    match note(is_verbose, line.number, answer, writer) {
+        Ok(()) => Ok(None),
+        Err(error) => Err(error),
+    }
+}

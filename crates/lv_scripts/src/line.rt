@@ -1,0 +1,56 @@
+//! A line of a script: what it stands for is a query or a command.
+ghost use Rattle.std.specs.Prelude.{◌≡◌, ◌⊎◌, None, MatchResult};
+ghost use Rattle.lv_draw.specs.Known.{known};
+ghost use Rattle.lv_draw.specs.Views.{seen};
+ghost use Rattle.lv_scripts.specs.declared.error.ScriptError.TheVariants.{OutOfMemory, WriterFailed};
+ghost use Rattle.lv_scripts.specs.Drawn.{DrawsLine, Sketch, asks, sketch_of};
+
+use crate::canvas::Canvas;
+use crate::changing::try_command;
+use crate::error::ScriptError;
+use lv_draw::{Names, ScriptLine, defined_name, resolve};
+use std::alloc::Global;
+use std::io::Write;
+
+// Whether a line of a script, which stands for this text, is a query. One that gives a name is none.
+fn asks<C: Canvas>(line: &[u8], text: &[u8]) -> bool
+    ensures { result ≡ asks C.Canvas line.now text.now }
+{
+    match defined_name(line) {
+        Some(_) => false,
+        None => C::is_query(text),
+    }
+}
+
+/// Draws a line of a script, or gives the code that it is refused with.
+///
+/// # Errors
+///
+/// `OutOfMemory` and `WriterFailed`; a command is then done, or nothing is.
+pub fn draw_line<C: Canvas, W: Write>(
+    alloc: Global,
+    canvas: &mut C,
+    names: &mut Names,
+    line: &ScriptLine,
+    is_verbose: bool,
+    writer: &mut W,
+) -> Result<Option<u16>, ScriptError>
+    ensures { let old = sketch_of canvas.old (known names.old) (W.contents writer.old) in
+        MatchResult result
+        (λ refusal. DrawsLine C.Canvas is_verbose (seen line.now) old refusal
+        (sketch_of canvas.new (known names.new) (W.contents writer.new)))
+        (λ e. ((e ≡ OutOfMemory) ⊎ (e ≡ WriterFailed))
+        × ((canvas.new ≡ canvas.old) ⊎ ((new : Sketch C)
+        × DrawsLine C.Canvas is_verbose (seen line.now) old None new
+        × (canvas.new ≡ new.canvas)))) }
+{
+    let text = match resolve(alloc, names, &line.text) {
+        Ok(text) => text,
+        Err(error) => return Ok(Some(error.code())),
+    };
+    if asks::<C>(&line.text, &text) {
+        canvas.tell(alloc, &text, writer)
+    } else {
+        try_command(alloc, canvas, names, line, &text, is_verbose, writer)
+    }
+}

@@ -1,0 +1,8 @@
+-- The numbers of the refusals.
+use Rattle.std.specs.Prelude.{ℕ}
+use Rattle.lv_svg.specs.declared.error.PictureError.{PictureError}
+use Rattle.lv_svg.specs.declared.error.PictureError.TheVariants.{WriterFailed}
+
+-- the number by which a refusal goes
+abbrev pub code_of : PictureError → ℕ
+code_of WriterFailed = 38

@@ -1,0 +1,8 @@
+pub mod Boxes
+pub mod Errors
+pub mod Marks
+pub mod Nodes
+pub mod Overlays
+pub mod Places
+pub mod Subsectors
+pub mod Texts

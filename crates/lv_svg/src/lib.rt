@@ -1,0 +1,18 @@
+//! Elements of a picture in SVG that need no map: texts, places and ways, the tree of a level, and marks.
+#![tactic(auto)]
+
+mod boxes;
+mod error;
+mod marks;
+mod nodes;
+mod overlay;
+mod places;
+mod subsectors;
+mod text;
+
+pub use boxes::box_round;
+pub use error::PictureError;
+pub use marks::{Mark, MarkPlace};
+pub use overlay::{Overlay, write_overlay};
+pub use places::{Shift, Spot, middle_of, right_of, spot_of};
+pub use text::{write_bytes, write_escaped, write_path};

@@ -1,0 +1,92 @@
+//! The names of a WAD's flats and textures.
+
+use crate::expect::same;
+use crate::foreign::wad_of;
+use lv_levels::graphics_in;
+use lv_lumps::Name8;
+use std::alloc::Global;
+use std::io::Write;
+use std::test::Fail;
+
+// Two textures, whose names stand behind their offsets, 12 and 20; the second is in small letters, with more behind
+// a NUL.
+const TWO: &[u8] = b"\x02\0\0\0\x0c\0\0\0\x14\0\0\0BRICK1\0\0step2\0xx";
+
+// One texture, whose name stands behind its offset, 8; the name a byte further on; and a list without its second
+// offset.
+const ONE: &[u8] = b"\x01\0\0\0\x08\0\0\0SKY4\0\0\0\0";
+
+const PAST: &[u8] = b"\x01\0\0\0\x09\0\0\0SKY4\0\0\0\0";
+
+const CUT: &[u8] = b"\x02\0\0\0\x08\0\0\0";
+
+// The lumps of a WAD, and the names of its flats and of its textures, each with a blank behind it, or the refusal's
+// number.
+#[rattlefmt::skip]
+const NAMED: &[(&[(&[u8; 8], &[u8])], &[u8])] = &[
+    (&[], b"; "),
+    (
+        &[
+            (b"BEFORE\0\0", b"x"), (b"F_START\0", b""), (b"F1_START", b""), (b"FLOOR4_8", b"x"), (b"F1_END\0\0", b""),
+            (b"ceil3_5\0", b"x"), (b"F_END\0\0\0", b""), (b"AFTER\0\0\0", b"x"), (b"F_START\0", b""),
+            (b"NUKAGE1\0", b"x"),
+        ],
+        b"FLOOR4_8 CEIL3_5 NUKAGE1 ; ",
+    ),
+    (&[(b"TEXTURE1", TWO), (b"TEXTURE2", ONE)], b"; BRICK1 STEP2 SKY4 "),
+    (&[(b"TEXTURE2", TWO), (b"TEXTURE1", CUT), (b"TEXTURE1", ONE)], b"; SKY4 BRICK1 STEP2 "),
+    (&[(b"TEXTURE1", b""), (b"TEXTURE2", b"\0\0\0\0")], b"; "),
+    (&[(b"TEXTURE1", PAST)], b"76"),
+    (&[(b"TEXTURE1", CUT)], b"76"),
+    (&[(b"TEXTURE2", b"\0\0\0")], b"76"),
+];
+
+// Bytes that have no names, and the refusal's number: a lump of 100 bytes in a file of 28, a directory beyond the file,
+// and no WAD.
+const REFUSED: &[(&[u8], u16)] = &[
+    (b"IWAD\x01\0\0\0\x0c\0\0\0\x0c\0\0\0\x64\0\0\0TEXTURE1", 74),
+    (b"IWAD\x01\0\0\0\x0c\0\0\0", 71),
+    (b"PWAD\0\0\0\0\x0c\0\0", 70),
+];
+
+// The names, each with a blank behind it.
+fn put(names: &[Name8], text: &mut Vec<u8>) -> Result<(), Fail> {
+    for name in names {
+        text.extend_from_slice(name.text())?;
+        text.extend_from_slice(b" ")?;
+    }
+    Ok(())
+}
+
+// The names of flats and of textures, or the refusal's number.
+fn named(alloc: Global, wad: &[u8]) -> Result<Vec<u8>, Fail> {
+    let mut text = Vec::new(alloc);
+    match graphics_in(alloc, wad) {
+        Ok(graphics) => {
+            put(&graphics.flats, &mut text)?;
+            text.extend_from_slice(b"; ")?;
+            put(&graphics.textures, &mut text)?;
+        }
+        Err(error) => write!(text, "{}", error.code())?,
+    }
+    Ok(text)
+}
+
+#[test]
+fn names_flats_and_textures(rt: HostRuntime) -> Result<(), Fail> {
+    for &(lumps, wanted) in NAMED {
+        let wad = wad_of(rt.alloc(), lumps)?;
+        let found = named(rt.alloc(), &wad)?;
+        same(&rt, &found.as_slice(), &wanted);
+    }
+    Ok(())
+}
+
+#[test]
+fn refuses_bytes_without_names(rt: HostRuntime) -> Result<(), Fail> {
+    for &(wad, code) in REFUSED {
+        let refused = graphics_in(rt.alloc(), wad).err().map(|error| error.code());
+        same(&rt, &refused, &Some(code));
+    }
+    Ok(())
+}
