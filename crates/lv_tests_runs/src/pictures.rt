@@ -67,13 +67,7 @@ const ROWS: &[(&[&str], u8, &[u8], &[u8], &[u8])] = &[
         NUMBERED,
         b"",
     ),
-    (
-        &["pictures.lv", "MAP01", "--lint"],
-        0,
-        FRONT,
-        LINTED,
-        b"",
-    ),
+    (&["pictures.lv", "MAP01", "--lint"], 0, FRONT, LINTED, b""),
     (
         &["pictures.lv", "MAP01", "--nodes"],
         1,
