@@ -2,20 +2,22 @@
 _leveled() {
     local word=${COMP_WORDS[COMP_CWORD]} subcommand=${COMP_WORDS[1]}
     if [ "$COMP_CWORD" -eq 1 ]; then
-        mapfile -t COMPREPLY < <(compgen -W 'scratch create edit check lint dump picture build inspect help --help --version' -- "$word")
+        mapfile -t COMPREPLY < <(compgen -W 'scratch create edit check lint draw dump picture build inspect help --help --version' -- "$word")
         return
     fi
     case $word in
     -*)
         local flags=--help
         [ "$subcommand" = create ] && flags='--slot --journal --help'
+        [ "$subcommand" = lint ] && flags='--iwad --help'
+        [ "$subcommand" = draw ] && flags='--check --verbose --help'
         [ "$subcommand" = picture ] && flags='--out --numbers --nodes --lint --help'
         mapfile -t COMPREPLY < <(compgen -W "$flags" -- "$word")
         ;;
     *)
         case $subcommand in
-        help) mapfile -t COMPREPLY < <(compgen -W 'scratch create edit check lint dump picture build inspect codes' -- "$word") ;;
-        create | edit | check | lint | dump | picture | build | inspect) mapfile -t COMPREPLY < <(compgen -f -- "$word") ;;
+        help) mapfile -t COMPREPLY < <(compgen -W 'scratch create edit check lint draw dump picture build inspect codes' -- "$word") ;;
+        create | edit | check | lint | draw | dump | picture | build | inspect) mapfile -t COMPREPLY < <(compgen -f -- "$word") ;;
         esac
         ;;
     esac

@@ -1,10 +1,11 @@
 # Completes the words of leveled in fish.
-set -l subcommands scratch create edit check lint dump picture build inspect help
+set -l subcommands scratch create edit check lint draw dump picture build inspect help
 complete -c leveled -n "not __fish_seen_subcommand_from $subcommands" -f -a scratch -d 'Answer lines over maps in memory'
 complete -c leveled -n "not __fish_seen_subcommand_from $subcommands" -f -a create -d 'Make a project file'
 complete -c leveled -n "not __fish_seen_subcommand_from $subcommands" -f -a edit -d 'Answer lines over a project'
 complete -c leveled -n "not __fish_seen_subcommand_from $subcommands" -f -a check -d 'Say what is wrong or unfinished'
 complete -c leveled -n "not __fish_seen_subcommand_from $subcommands" -f -a lint -d 'Say what is wrong or doubtful in every map'
+complete -c leveled -n "not __fish_seen_subcommand_from $subcommands" -f -a draw -d 'Draw a script onto a project'
 complete -c leveled -n "not __fish_seen_subcommand_from $subcommands" -f -a dump -d 'Print lines that draw the maps again'
 complete -c leveled -n "not __fish_seen_subcommand_from $subcommands" -f -a picture -d 'Draw a map as SVG'
 complete -c leveled -n "not __fish_seen_subcommand_from $subcommands" -f -a build -d 'Build all maps into a PWAD'
@@ -14,9 +15,12 @@ complete -c leveled -n "not __fish_seen_subcommand_from $subcommands" -l version
 complete -c leveled -l help -d 'Print the help'
 complete -c leveled -n "__fish_seen_subcommand_from create" -l slot -x -d 'Length of a slot in bytes'
 complete -c leveled -n "__fish_seen_subcommand_from create" -l journal -x -d 'Length of a journal in bytes'
+complete -c leveled -n "__fish_seen_subcommand_from lint" -l iwad -r -d 'With the flats and textures that a WAD lacks'
+complete -c leveled -n "__fish_seen_subcommand_from draw" -l check -d 'Try a script in memory'
+complete -c leveled -n "__fish_seen_subcommand_from draw" -l verbose -d 'Tell what each command answered'
 complete -c leveled -n "__fish_seen_subcommand_from picture" -l out -r -d 'Put the picture into a file'
 complete -c leveled -n "__fish_seen_subcommand_from picture" -l numbers -d 'With the numbers of items'
 complete -c leveled -n "__fish_seen_subcommand_from picture" -l nodes -d 'With the built tree'
 complete -c leveled -n "__fish_seen_subcommand_from picture" -l lint -d 'With what lint tells'
 complete -c leveled -n "__fish_seen_subcommand_from scratch help" -f
-complete -c leveled -n "__fish_seen_subcommand_from help" -f -a 'scratch create edit check lint dump picture build inspect codes'
+complete -c leveled -n "__fish_seen_subcommand_from help" -f -a 'scratch create edit check lint draw dump picture build inspect codes'

@@ -20,11 +20,15 @@ mod reading;
 mod recovery;
 mod session;
 
+pub use answers::write_answer;
 pub use counted_wad::{write_counts, write_wad};
 pub use drawing::run_in_memory;
 pub use editing::{answer, run};
 pub use error::{EditorError, InspectError, RecoveryError, WriteError};
 pub use findings::{write_findings, write_total};
 pub use inspection::inspect;
+pub use limits::LONGEST_BODY;
+pub use lump::{BuiltLump, Lump};
 pub use lv_pwad::BuildCounts as Counts;
+pub use query::{Query, read_query};
 pub use recovery::{Recovery, build_after_any_stop, sessions_hold_runs};

@@ -3,4 +3,5 @@ pub mod Causes
 pub mod GaplessFile
 pub mod Names
 pub mod NewFile
+pub mod NotedFile
 pub mod Replaced

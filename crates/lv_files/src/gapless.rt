@@ -3,7 +3,7 @@ ghost use Rattle.std.specs.Fs.{metadata_len};
 ghost use Rattle.std.specs.Prelude.{◌≡◌, ◌↔◌, IsTrue, MatchResult};
 
 use crate::Cause;
-use std::cell::Cell;
+use crate::noted::NotedFile;
 use std::fs::{Metadata, OpenFile};
 use std::io;
 use std::os::unix::fs::FileExt;
@@ -15,9 +15,8 @@ const ZEROS: usize = 4096;
 /// would give there anyway: so the device has room for each byte, or refuses the write.
 #[derive(Drop)]
 pub struct GaplessFile<F> {
-    file: F,
+    file: NotedFile<F>,
     was_empty: bool,
-    fault: Cell<Option<io::Error>>,
 }
 
 // Whether the system says that a file is empty.
@@ -42,30 +41,21 @@ impl<F: OpenFile + Drop> GaplessFile<F> {
     {
         let was_empty = is_told_empty(&file.metadata());
         GaplessFile {
-            file,
+            file: NotedFile::new(file),
             was_empty,
-            fault: Cell::new(None),
         }
     }
 
-    /// Empties the file where it was empty, and says what the last call that failed was refused for.
+    /// Empties the file where it was empty, and says what the last call was refused for, if it failed.
     pub fn take_back(self) -> Option<Cause>
         ensures { IfSome result IsOfSystem }
     {
+        let fault = self.file.fault();
         if self.was_empty {
-            let _ = self.file.set_len(0);
+            let file = &self.file;
+            let _ = file.set_len(0);
         }
-        self.fault.get().map(Cause::System)
-    }
-
-    // Keeps why a call was refused.
-    fn noted<T>(&self, done: io::Result<T>) -> io::Result<T>
-        ensures { result ≡ done }
-    {
-        if let Err(error) = &done {
-            self.fault.set(Some(*error));
-        }
-        done
+        fault
     }
 }
 
@@ -85,29 +75,35 @@ impl<F: FileExt + OpenFile + Drop> FileExt for &GaplessFile<F> {
     ghost use Rattle.std.specs.Io.{ReadsAtMost, WritesAtMost};
 
     fn read_at(&self, buf: &mut [u8], offset: u64) -> io::Result<usize> {
-        self.noted(self.file.read_at(buf, offset))
+        let file = &self.file;
+        file.read_at(buf, offset)
     }
 
     fn write_at(&self, buf: &[u8], offset: u64) -> io::Result<usize> {
-        self.noted(fill_to(&self.file, offset))?;
-        self.noted(self.file.write_at(buf, offset))
+        let file = &self.file;
+        fill_to(&file, offset)?;
+        file.write_at(buf, offset)
     }
 }
 
 impl<F: OpenFile + Drop> OpenFile for &GaplessFile<F> {
     fn metadata(&self) -> io::Result<Metadata> {
-        self.noted(self.file.metadata())
+        let file = &self.file;
+        file.metadata()
     }
 
     fn set_len(&self, size: u64) -> io::Result<()> {
-        self.noted(self.file.set_len(size))
+        let file = &self.file;
+        file.set_len(size)
     }
 
     fn sync_all(&self) -> io::Result<()> {
-        self.noted(self.file.sync_all())
+        let file = &self.file;
+        file.sync_all()
     }
 
     fn sync_data(&self) -> io::Result<()> {
-        self.noted(self.file.sync_data())
+        let file = &self.file;
+        file.sync_data()
     }
 }

@@ -6,6 +6,7 @@ mod gapless;
 mod hold;
 mod name;
 mod new_file;
+mod noted;
 mod replaceable;
 mod target;
 
@@ -14,4 +15,5 @@ pub use gapless::GaplessFile;
 pub use hold::{Access, Hold, open_held};
 pub use name::beside;
 pub use new_file::{NewFile, open_new};
+pub use noted::NotedFile;
 pub use replaceable::{Form, may_be_replaced};

@@ -7,11 +7,11 @@ use Rattle.lv_maptables.specs.Projects.{MapsView, project_of}
 use Rattle.lv_pwad.specs.Counted.{IsBuildCounted}
 use Rattle.lv_pwad.specs.declared.counted.BuildCounts.{BuildCounts}
 use Rattle.lv_editor.specs.Building.{built_text}
-use Rattle.lv_program.specs.Refusals.{RefusesFile}
+use Rattle.lv_reports.specs.Refusals.{RefusesFile}
 use Rattle.lv_program.specs.Sources.{IsBuiltFrom}
 use Rattle.lv_editor.specs.declared.error.EditorError.TheVariants.{WriterFailed}
-use Rattle.lv_program.specs.declared.refusal.Refusal.{Refusal}
-use Rattle.lv_program.specs.declared.refusal.Refusal.TheVariants.{Build, Level, Lines, NoSuchMap, Project}
+use Rattle.lv_reports.specs.declared.refusal.Refusal.{Refusal}
+use Rattle.lv_reports.specs.declared.refusal.Refusal.TheVariants.{Build, Level, Lines, NoSuchMap, Project}
 
 pub built_told : (r : Result ℕ Refusal) (maps : MapsView) (wad : List ℕ) (c : BuildCounts) (u w : Option (List ℕ)) → IsBuildCounted (project_of maps).maps wad c
     → MatchResult r (λ status. (status ≡ 0) × Appends u w (built_text c)) (λ refusal. refusal ≡ Lines WriterFailed) → IsBuiltFrom maps r u w

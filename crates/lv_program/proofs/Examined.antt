@@ -1,8 +1,8 @@
 -- From what an inspection told to what the request `inspect` promises.
-use Rattle.std.proofs.Common.{◌≡◌, ◌++◌, ℕ, Bool, List, Option, Some, None, Ok, ◌∙◌}
+use Rattle.std.proofs.Common.{◌≡◌, ℕ, Bool, List, Option, Some, None, Ok, ◌∙◌}
 use Rattle.std.specs.Io.KnownBytes.{Appends, Keeps}
 use Rattle.lv_editor.specs.Inspections.{IsInspected}
-use Rattle.lv_program.specs.Statuses.{status_told}
+use Rattle.lv_reports.specs.Statuses.{status_told}
 use Rattle.lv_program.specs.Sources.{IsExaminedOf, ReadsAll}
 
 -- what is told stays when it is handed on

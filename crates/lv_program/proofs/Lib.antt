@@ -3,4 +3,5 @@ pub mod Examined
 pub mod Linting
 pub mod MarkList
 pub mod Picturing
+pub mod Scripts
 pub mod Sources

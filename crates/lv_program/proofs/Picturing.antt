@@ -7,14 +7,13 @@ use Rattle.std.proofs.lemmas.List.Folds.{find_at}
 use Rattle.std.proofs.lemmas.List.Sums.{position_or_len_is}
 use Rattle.std.proofs.lemmas.Option.{get_or_from_slice_get, slice_get_past}
 use Rattle.lv_editor.specs.declared.error.EditorError.TheVariants.{OutOfMemory, InputTooLong, ReaderFailed, WriterFailed}
-use Rattle.lv_editor.specs.declared.error.WriteError.TheVariants as writing
 use Rattle.lv_maptables.specs.Projects.{MapsView, project_of}
 use Rattle.lv_maptables.specs.Tables.{Tables, empty_tables}
 use Rattle.lv_program.specs.LaidOver.{IsLaidOver, NotLaidOver}
 use Rattle.lv_program.specs.Picturing.{IsDrawn, IsPicturedOf, drawn_map}
 use Rattle.lv_program.specs.declared.laid_over.Layers.{Layers}
-use Rattle.lv_program.specs.declared.refusal.Refusal.{Refusal}
-use Rattle.lv_program.specs.declared.refusal.Refusal.TheVariants.{Build, Level, Lines, NoSuchMap, Project}
+use Rattle.lv_reports.specs.declared.refusal.Refusal.{Refusal}
+use Rattle.lv_reports.specs.declared.refusal.Refusal.TheVariants.{Build, Level, Lines, NoSuchMap, Project}
 use Rattle.lv_svg.specs.declared.overlay.Overlay.{Overlay}
 
 -- the first map that passes

@@ -1,5 +1,5 @@
 -- From what was done over a disk, or of a reader, to what a file leaves open.
-use Rattle.std.proofs.Common.{◌≡◌, inl, inr, ℕ, Bool, List, Option, Result, Ok, Err, IfErr, IfOk, refl, sym, subst}
+use Rattle.std.proofs.Common.{◌≡◌, ◌⊎◌, inl, inr, ℕ, Bool, List, Option, Result, Ok, Err, IfErr, IfOk, refl, sym, subst}
 use Rattle.std.specs.Io.KnownBytes.{Appends}
 use Rattle.std.specs.Prelude.{codes, ◌++◌, ◌∷◌, []}
 use Rattle.lv_disk.specs.Stops.{Each}
@@ -12,15 +12,17 @@ use Rattle.lv_project.specs.declared.error.ProjectError.{ProjectError}
 use Rattle.lv_project.specs.declared.error.ProjectError.TheVariants.{Refused, Device, OutOfMemory, Reopen, GenerationsSpent, Damaged, Blank, NotAProject, NotEmpty, BadGeometry}
 use Rattle.lv_project.specs.declared.geometry.Geometry.{Geometry}
 use Rattle.lv_program.specs.Deeds.{IsBuiltInto, IsChecked, IsCreated, IsEdited, IsExamined}
+use Rattle.lv_program.specs.Drawing.{EndsUnopened, IsDrawnOntoSome}
+use Rattle.lv_program.specs.DrawnOver.{IsDrawnOver}
 use Rattle.lv_program.specs.Dumping.{IsDumped, IsDumpedOf}
-use Rattle.lv_program.specs.Linting.{IsLinted, IsLintedOf}
+use Rattle.lv_program.specs.Linting.{IsLinted, IsLintedBy}
 use Rattle.lv_program.specs.Picturing.{IsPictured, IsPicturedOf}
 use Rattle.lv_program.specs.declared.laid_over.Layers.{Layers}
-use Rattle.lv_program.specs.Refusals.{IsOfOpening}
+use Rattle.lv_reports.specs.Refusals.{IsOfOpening}
 use Rattle.lv_program.specs.Sources.{IsBuiltFrom, IsCheckedOf, IsEditedOver, IsExaminedOf, IsMade, NotOpened, OverMaps}
 use Rattle.lv_editor.specs.declared.error.EditorError.TheVariants.{WriterFailed}
-use Rattle.lv_program.specs.declared.refusal.Refusal.{Refusal}
-use Rattle.lv_program.specs.declared.refusal.Refusal.TheVariants.{Build, Level, Lines, NoSuchMap, Project}
+use Rattle.lv_reports.specs.declared.refusal.Refusal.{Refusal}
+use Rattle.lv_reports.specs.declared.refusal.Refusal.TheVariants.{Build, Level, Lines, NoSuchMap, Project}
 
 -- ---- A disk
 
@@ -86,6 +88,12 @@ edited facts before after how r s u w (inl ((e, is, refused), only, unread, unwr
 edited facts before after how r s u w (inr (result, first, last, trace, opened, back, is, ran, over)) =
     inr (result, first, last, trace, opened.reopen, is, ran, over)
 
+pub drawn_onto_some : {D : Type 0} (facts : Ghosts D) (before after : D) (verbose : Bool) (script : List ℕ) (how : Result ℕ Refusal) (u w : Option (List ℕ))
+    → IsDrawnOver facts before after verbose script how u w → EndsUnopened how u w ⊎ IsDrawnOntoSome facts verbose script how u w
+drawn_onto_some facts before after verbose script how u w (inl ((e, is, refused), only, unwritten)) =
+    inl (e, is, of_opening (facts.reads before) e refused, unwritten)
+drawn_onto_some facts before after verbose script how u w (inr (first, last, opened, back, done)) = inr (first, last, opened.reopen, done)
+
 checked_of : (maps : MapsView) (how : Result ℕ Refusal) (u w : Option (List ℕ)) → IsCheckedOf maps.tables how u w → IsChecked how u w
 checked_of maps (Ok status) u w (is, told) = (maps.tables, is, told)
 checked_of maps (Err (Lines e)) u w lost = lost
@@ -114,19 +122,20 @@ dumped reads how u w (inl ((e, is, refused), kept)) =
     subst (λ (h : Result ℕ Refusal). IsDumped h u w) (sym is) (of_opening reads e refused, kept)
 dumped reads how u w (inr (maps, has, done)) = dumped_of maps how u w done
 
-linted_of : (maps : MapsView) (how : Result ℕ Refusal) (u w : Option (List ℕ)) → IsLintedOf maps how u w → IsLinted how u w
-linted_of maps (Ok status) u w done = (maps, done)
-linted_of maps (Err (Lines e)) u w done = (maps, done)
-linted_of maps (Err (Project e)) u w never = absurd never
-linted_of maps (Err (Level e)) u w never = absurd never
-linted_of maps (Err (Build e)) u w never = absurd never
-linted_of maps (Err NoSuchMap) u w never = absurd never
+linted_of : (asked : Bool) (maps : MapsView) (how : Result ℕ Refusal) (u w : Option (List ℕ)) → IsLintedBy asked maps how u w → IsLinted asked how u w
+linted_of asked maps (Ok status) u w done = (maps, done)
+linted_of asked maps (Err (Lines e)) u w done = (maps, done)
+linted_of asked maps (Err (Project e)) u w (inl (is, never, kept)) = absurd never
+linted_of asked maps (Err (Project e)) u w (inr (names, are, never)) = absurd never
+linted_of asked maps (Err (Level e)) u w done = (maps, done)
+linted_of asked maps (Err (Build e)) u w done = (maps, done)
+linted_of asked maps (Err NoSuchMap) u w done = (maps, done)
 
-pub linted : (reads : List ℕ → Type 0) (how : Result ℕ Refusal) (u w : Option (List ℕ))
-    → OverMaps reads how u w (λ maps. IsLintedOf maps how u w) → IsLinted how u w
-linted reads how u w (inl ((e, is, refused), kept)) =
-    subst (λ (h : Result ℕ Refusal). IsLinted h u w) (sym is) (of_opening reads e refused, kept)
-linted reads how u w (inr (maps, has, done)) = linted_of maps how u w done
+pub linted : (asked : Bool) (reads : List ℕ → Type 0) (how : Result ℕ Refusal) (u w : Option (List ℕ))
+    → OverMaps reads how u w (λ maps. IsLintedBy asked maps how u w) → IsLinted asked how u w
+linted asked reads how u w (inl ((e, is, refused), kept)) =
+    subst (λ (h : Result ℕ Refusal). IsLinted asked h u w) (sym is) (of_opening reads e refused, kept)
+linted asked reads how u w (inr (maps, has, done)) = linted_of asked maps how u w done
 
 pictured_of : (layers : Layers) (name : Option (List ℕ)) (into : Bool) (maps : MapsView) (how : Result ℕ Refusal) (u w : Option (List ℕ))
     → IsPicturedOf layers name into maps how u w → IsPictured layers name into how u w

@@ -1,6 +1,6 @@
 -- What was done for a request (docs/COMMANDS.md, "The program"). How it ended is a status, or the
 -- refusal. A file tells no bytes, so which project or WAD it was is left open.
-use Rattle.std.specs.Prelude.{◌≡◌, ◌⊎◌, ℕ, Bool, Option, Result, Ok, Err, List, [], ◌∷◌, ◌++◌, codes, string_bytes, false, is_some, length, option_map}
+use Rattle.std.specs.Prelude.{◌≡◌, ◌⊎◌, ℕ, Bool, Option, Result, Ok, Err, List, [], ◌∷◌, ◌++◌, codes, string_bytes, true, false, is_some, length, option_map}
 use Rattle.std.specs.Io.KnownBytes.{Appends, Keeps}
 use Rattle.lv_disk.specs.declared.disk.Disk.{Ghosts}
 use Rattle.lv_maptables.specs.Projects.{MapsView, ProjectMaps, empty_project, project_of}
@@ -11,24 +11,24 @@ use Rattle.lv_project.specs.declared.error.ProjectError.{ProjectError}
 use Rattle.lv_editor.specs.Answers.{RepliesInMemory}
 use Rattle.lv_pwad.specs.Counted.{IsBuildCounted}
 use Rattle.lv_editor.specs.Building.{built_text}
+use Rattle.lv_program.specs.Drawing.{IsDrawnInto, IsScriptTried}
 use Rattle.lv_program.specs.Dumping.{IsDumped}
 use Rattle.lv_editor.specs.Editing.{RepliesInProject}
 use Rattle.lv_editor.specs.Inspections.{IsInspected}
 use Rattle.lv_program.specs.LevelNames.{IsListed}
 use Rattle.lv_program.specs.Linting.{IsLinted}
 use Rattle.lv_program.specs.Picturing.{IsPictured}
-use Rattle.lv_program.specs.declared.laid_over.Layers.{Layers}
-use Rattle.lv_program.specs.Refusals.{IsOfOpening, NotBuilt, NotChecked, NotCreated, NotExamined}
+use Rattle.lv_reports.specs.Refusals.{IsOfOpening, NotBuilt, NotChecked, NotCreated, NotExamined}
 use Rattle.lv_editor.specs.Runs.{Exchange, Ran}
 use Rattle.lv_editor.specs.Sessions.{RunsOver}
-use Rattle.lv_program.specs.Statuses.{status_after, status_told}
+use Rattle.lv_reports.specs.Statuses.{run_end, status_after, status_told}
 use Rattle.lv_editor.specs.Texts.{findings_text}
 use Rattle.lv_requests.specs.declared.asked.Request.{Request}
-use Rattle.lv_requests.specs.declared.asked.Request.TheVariants.{Scratch, Create, Edit, Check, Lint, Dump, Picture, Inspect, Levels, Build}
+use Rattle.lv_requests.specs.declared.asked.Request.TheVariants.{Scratch, Create, Edit, Check, Lint, Draw, TryScript, Dump, Picture, Inspect, Levels, Build}
 use Rattle.lv_pwad.specs.declared.counted.BuildCounts.{BuildCounts}
 use Rattle.lv_editor.specs.declared.error.EditorError.{EditorError}
-use Rattle.lv_program.specs.declared.refusal.Refusal.{Refusal}
-use Rattle.lv_program.specs.declared.refusal.Refusal.TheVariants as of
+use Rattle.lv_reports.specs.declared.refusal.Refusal.{Refusal}
+use Rattle.lv_reports.specs.declared.refusal.Refusal.TheVariants as of
 
 -- the length of the longest body of one map, in bytes: what the maps in memory have room for
 abbrev pub longest_body : ℕ
@@ -37,17 +37,6 @@ longest_body = 2007002
 -- how many reads a run of the program makes at most
 abbrev pub turns : ℕ
 turns = 1048576
-
--- the status where it is done, and 1 where it is refused
-abbrev pub status_in : Result ℕ Refusal → ℕ
-status_in (Ok status) = status
-status_in (Err refusal) = 1
-
--- how a request ended that was a run: 0 where all lines were answered, and else refused as the run
--- was
-abbrev pub run_end : Result ℕ EditorError → Result ℕ Refusal
-run_end (Ok n) = Ok 0
-run_end (Err e) = Err (of.Lines e)
 
 -- the lines of the input were answered over the empty project, and the answers written
 abbrev pub IsScratched : Result ℕ Refusal → Option (List ℕ) → Option (List ℕ) → Option (List ℕ)
@@ -113,8 +102,12 @@ IsPerformed facts (Edit file) how reader-old reader-new writer-old writer-new =
     IsEdited facts how reader-old reader-new writer-old writer-new
 IsPerformed facts (Check file) how reader-old reader-new writer-old writer-new =
     IsChecked how writer-old writer-new × Keeps reader-old reader-new
-IsPerformed facts (Lint file) how reader-old reader-new writer-old writer-new =
-    IsLinted how writer-old writer-new × Keeps reader-old reader-new
+IsPerformed facts (Lint file iwad) how reader-old reader-new writer-old writer-new =
+    IsLinted (is_some iwad) how writer-old writer-new × Keeps reader-old reader-new
+IsPerformed facts (Draw file script verbose) how reader-old reader-new writer-old writer-new =
+    IsDrawnInto facts (is_some script) verbose how reader-old reader-new writer-old writer-new
+IsPerformed facts (TryScript script verbose) how reader-old reader-new writer-old writer-new =
+    IsScriptTried verbose how writer-old writer-new × Keeps reader-old reader-new
 IsPerformed facts (Dump file) how reader-old reader-new writer-old writer-new =
     IsDumped how writer-old writer-new × Keeps reader-old reader-new
 IsPerformed facts (Picture file map out numbers nodes lint) how reader-old reader-new writer-old
@@ -129,3 +122,15 @@ IsPerformed facts (Levels wad) how reader-old reader-new writer-old writer-new =
     IsListed how writer-old writer-new × Keeps reader-old reader-new
 IsPerformed facts (Build file out) how reader-old reader-new writer-old writer-new =
     IsBuiltInto how writer-old writer-new × Keeps reader-old reader-new
+
+-- the request is about a script
+abbrev pub is_of_script : Request → Bool
+is_of_script (Draw file script verbose) = true
+is_of_script (TryScript script verbose) = true
+is_of_script request = false
+
+-- the statuses that leave standard error alone: all but 1, and of a script 0 alone
+abbrev pub IsQuiet : Request → ℕ → Type 0
+IsQuiet (Draw file script verbose) status = status ≡ 0
+IsQuiet (TryScript script verbose) status = status ≡ 0
+IsQuiet request status = ¬ (status ≡ 1)

@@ -4,10 +4,10 @@ use Rattle.std.specs.Io.KnownBytes.{Appends, Keeps}
 use Rattle.lv_maptables.specs.Projects.{MapsView, project_of}
 use Rattle.lv_dump.specs.Dump.{dump_of}
 use Rattle.lv_dump.specs.Texts.{WritesFront, text_of}
-use Rattle.lv_program.specs.Refusals.{IsOfOpening}
+use Rattle.lv_reports.specs.Refusals.{IsOfOpening}
 use Rattle.lv_editor.specs.declared.error.EditorError.TheVariants.{OutOfMemory, WriterFailed}
-use Rattle.lv_program.specs.declared.refusal.Refusal.{Refusal}
-use Rattle.lv_program.specs.declared.refusal.Refusal.TheVariants as of
+use Rattle.lv_reports.specs.declared.refusal.Refusal.{Refusal}
+use Rattle.lv_reports.specs.declared.refusal.Refusal.TheVariants as of
 
 -- the lines that draw these maps again were written, each with LF behind it; or those before one
 -- that found no memory; or the writer failed

@@ -10,8 +10,8 @@ use Rattle.lv_program.specs.Marking.{marks_of, said_at}
 use Rattle.lv_program.specs.declared.laid_over.Layers.{Layers}
 use Rattle.lv_editor.specs.declared.error.EditorError.TheVariants.{OutOfMemory}
 use Rattle.lv_editor.specs.declared.error.WriteError.TheVariants as writing
-use Rattle.lv_program.specs.declared.refusal.Refusal.{Refusal}
-use Rattle.lv_program.specs.declared.refusal.Refusal.TheVariants as of
+use Rattle.lv_reports.specs.declared.refusal.Refusal.{Refusal}
+use Rattle.lv_reports.specs.declared.refusal.Refusal.TheVariants as of
 
 -- the tree that is shown: one that is built of the map, where it is wanted, and else none
 abbrev pub IsTreeShown : Bool → Tables → Overlay → Type 0

@@ -8,8 +8,8 @@ use Rattle.lv_levels.specs.Listing.{RefusesListing, level_names, listing_refusal
 use Rattle.lv_editor.specs.declared.error.EditorError.TheVariants.{WriterFailed}
 use Rattle.lv_editor.specs.declared.error.InspectError.{InspectError}
 use Rattle.lv_editor.specs.declared.error.InspectError.TheVariants as inspecting
-use Rattle.lv_program.specs.declared.refusal.Refusal.{Refusal}
-use Rattle.lv_program.specs.declared.refusal.Refusal.TheVariants as of
+use Rattle.lv_reports.specs.declared.refusal.Refusal.{Refusal}
+use Rattle.lv_reports.specs.declared.refusal.Refusal.TheVariants as of
 
 -- a byte of a name as it is shown: `?` where it is no visible character
 abbrev pub shown : ℕ → ℕ

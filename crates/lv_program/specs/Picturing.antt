@@ -9,10 +9,10 @@ use Rattle.lv_picture.specs.Picture.{picture_of}
 use Rattle.lv_svg.specs.declared.overlay.Overlay.{Overlay}
 use Rattle.lv_program.specs.LaidOver.{IsLaidOver, NotLaidOver}
 use Rattle.lv_program.specs.declared.laid_over.Layers.{Layers}
-use Rattle.lv_program.specs.Refusals.{IsOfOpening}
+use Rattle.lv_reports.specs.Refusals.{IsOfOpening}
 use Rattle.lv_editor.specs.declared.error.EditorError.TheVariants.{OutOfMemory, WriterFailed}
-use Rattle.lv_program.specs.declared.refusal.Refusal.{Refusal}
-use Rattle.lv_program.specs.declared.refusal.Refusal.TheVariants as of
+use Rattle.lv_reports.specs.declared.refusal.Refusal.{Refusal}
+use Rattle.lv_reports.specs.declared.refusal.Refusal.TheVariants as of
 
 -- the map is called so
 abbrev pub is_called : List ℕ → Tables → Bool

@@ -3,7 +3,6 @@
 use Rattle.std.specs.Prelude.{◌≡◌, ◌⊎◌, ℕ, Bool, false, Option, None, Result, Ok, Err, List, length}
 use Rattle.std.specs.Io.KnownBytes.{Appends, Consumes, IsAtEnd, Keeps}
 use Rattle.lv_disk.specs.Reading.{OnlyReads}
-use Rattle.lv_disk.specs.Moments.{LeavesOnly}
 use Rattle.lv_disk.specs.Stops.{Each}
 use Rattle.lv_disk.specs.declared.disk.Disk.{Ghosts}
 use Rattle.lv_maptables.specs.Projects.{MapsView, empty_project, project_of}
@@ -17,23 +16,26 @@ use Rattle.lv_project.specs.declared.error.ProjectError.{ProjectError}
 use Rattle.lv_project.specs.declared.error.ProjectError.TheVariants.{Device}
 use Rattle.lv_project.specs.declared.geometry.Geometry.{Geometry}
 use Rattle.lv_pwad.specs.Counted.{IsBuildCounted}
+use Rattle.lv_levels.specs.Graphics.{RefusesGraphics, graphics, graphics_refusal, graphics_view}
 use Rattle.lv_levels.specs.Listing.{listing_refusal}
+use Rattle.lv_levels.specs.declared.graphics.Graphics.{Graphics}
 use Rattle.lv_editor.specs.Building.{built_text}
-use Rattle.lv_program.specs.Deeds.{run_end, turns}
+use Rattle.lv_program.specs.Deeds.{turns}
 use Rattle.lv_editor.specs.Editing.{RepliesInProject}
 use Rattle.lv_editor.specs.Inspections.{IsInspected, RefusesInspection}
 use Rattle.lv_editor.specs.Recovery.{IsOnlyRead}
 use Rattle.lv_program.specs.LevelNames.{RefusesNames, levels_text}
-use Rattle.lv_program.specs.Refusals.{RefusesFile}
+use Rattle.lv_reports.specs.Refusals.{EndsReading, RefusesFile}
 use Rattle.lv_editor.specs.Runs.{Exchange, Ran, Unwritten}
 use Rattle.lv_editor.specs.Sessions.{RunsOver}
-use Rattle.lv_program.specs.Statuses.{status_after, status_told}
+use Rattle.lv_reports.specs.Statuses.{run_end, status_after, status_told}
 use Rattle.lv_editor.specs.Texts.{findings_text}
 use Rattle.lv_pwad.specs.declared.counted.BuildCounts.{BuildCounts}
 use Rattle.lv_editor.specs.declared.error.EditorError.{EditorError}
 use Rattle.lv_editor.specs.declared.error.EditorError.TheVariants.{WriterFailed}
-use Rattle.lv_program.specs.declared.refusal.Refusal.{Refusal}
-use Rattle.lv_program.specs.declared.refusal.Refusal.TheVariants as of
+use Rattle.lv_editor.specs.declared.error.InspectError.TheVariants as inspecting
+use Rattle.lv_reports.specs.declared.refusal.Refusal.{Refusal}
+use Rattle.lv_reports.specs.declared.refusal.Refusal.TheVariants as of
 
 -- ---- A disk
 
@@ -136,3 +138,14 @@ IsListedOf (Err (of.Level e)) reader-old reader-new writer-old writer-new =
 IsListedOf (Err (of.Lines e)) reader-old reader-new writer-old writer-new =
     (e ≡ WriterFailed) ⊎ Keeps writer-old writer-new
 IsListedOf _ reader-old reader-new writer-old writer-new = ⊥
+
+-- the flats and textures of the WAD that is all that the reader gave are named; or it was not read
+-- to its end, or is refused
+abbrev pub IsNamedOf : Result Graphics Refusal → Option (List ℕ) → Option (List ℕ) → Type 0
+IsNamedOf (Ok g) reader-old reader-new =
+    (wad : List ℕ) × ReadsAll reader-old reader-new wad
+    × (graphics_refusal wad ≡ None) × (graphics_view g ≡ graphics wad)
+IsNamedOf (Err (of.Lines e)) reader-old reader-new = EndsReading e
+IsNamedOf (Err (of.Level (inspecting.Level e))) reader-old reader-new =
+    (wad : List ℕ) × ReadsAll reader-old reader-new wad × RefusesGraphics wad e
+IsNamedOf _ reader-old reader-new = ⊥

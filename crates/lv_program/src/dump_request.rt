@@ -5,12 +5,11 @@ ghost use Rattle.lv_editor.specs.Recovery.{IsOnlyRead};
 ghost use Rattle.lv_program.specs.Sources.{OverMaps};
 
 use crate::over_disk::{HandedBack, open_project};
-use crate::refusal::Refusal;
-use crate::status::DONE;
 use lv_disk::Disk;
 use lv_dump::{DumpError, write_dump};
 use lv_editor::EditorError;
 use lv_maptables::Maps;
+use lv_reports::{DONE, Refusal};
 use std::alloc::Global;
 use std::io::Write;
 

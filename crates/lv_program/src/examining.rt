@@ -1,14 +1,14 @@
 //! Inspecting a level of a file.
 ghost use Rattle.std.specs.Prelude.{◌≡◌, ◌≤◌, IfErr, IfOk, MatchResult};
 ghost use Rattle.std.specs.Io.KnownBytes.{Appends, Consumes, IsAtEnd, Keeps};
-ghost use Rattle.lv_program.specs.Refusals.{EndsReading};
+ghost use Rattle.lv_reports.specs.Refusals.{EndsReading};
 ghost use Rattle.lv_program.specs.Deeds.{IsExamined};
 ghost use Rattle.lv_program.specs.Sources.{IsExaminedOf};
 
-use crate::refusal::Refusal;
-use crate::status::status_told;
+use crate::limits::TURNS;
 use lv_editor::{EditorError, inspect};
 use lv_files::Cause;
+use lv_reports::{Refusal, status_told};
 use std::alloc::Global;
 use std::fs::{self, Files};
 use std::io::{Read, Write};
@@ -68,7 +68,6 @@ pub fn examine<E: AllocGlobal + Files, W: Write>(
     rt: &E,
     path: &str,
     name: &str,
-    turns: u32,
     writer: &mut W,
     why: &mut Option<Cause>,
 ) -> Result<u8, Refusal>
@@ -77,7 +76,7 @@ pub fn examine<E: AllocGlobal + Files, W: Write>(
         (W.contents writer.old) (W.contents writer.new) }
 {
     match fs::open(rt, path) {
-        Ok(mut file) => examine_read(rt.alloc(), &mut file, name.as_bytes(), turns, writer),
+        Ok(mut file) => examine_read(rt.alloc(), &mut file, name.as_bytes(), TURNS, writer),
         Err(error) => {
             *why = Some(Cause::System(error));
             Err(Refusal::Lines(EditorError::ReaderFailed))

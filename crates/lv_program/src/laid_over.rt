@@ -5,11 +5,11 @@ ghost use Rattle.lv_program.specs.LaidOver.{IsLaidOver, IsTreeShown, NotLaidOver
 ghost use Rattle.lv_program.specs.Marking.{said_at};
 
 use crate::marking::marks_of;
-use crate::refusal::Refusal;
 use lv_editor::WriteError;
 use lv_maptables::Map;
 use lv_nodes::{Built, TreeError, build_tree};
 use lv_pwad::{BuildError, Unbuilt};
+use lv_reports::Refusal;
 use lv_svg::{Mark, Overlay};
 use std::alloc::Global;
 

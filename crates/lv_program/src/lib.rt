@@ -2,6 +2,7 @@
 #![tactic(auto)]
 
 mod build_request;
+mod draw_request;
 mod dump_request;
 mod examining;
 mod laid_over;
@@ -9,11 +10,11 @@ mod limits;
 mod lint_request;
 mod marking;
 mod over_disk;
+mod over_file;
 mod picture_request;
 mod program;
-mod refusal;
-mod status;
-mod unbuilt;
+mod script_file;
+mod wad_graphics;
 mod wad_levels;
 
 pub use program::perform;

@@ -1,26 +1,32 @@
-//! The request `lint`: what there is to say of each map of a disk's project.
-ghost use Rattle.std.specs.Prelude.{◌≡◌, ◌≤◌, ◌+◌, ◌++◌, List, ℕ, IfErr, IfOk, MatchResult, Some, flat_map, length, slice_get};
+//! The request `lint`: what there is to say of each map of a disk's project, perhaps beside a WAD.
+ghost use Rattle.std.specs.Prelude.{◌≡◌, ◌≤◌, ◌+◌, ◌++◌, List, ℕ, IfErr, IfOk, MatchResult, Some, flat_map, is_some, length, option_map, slice_get};
+ghost use Rattle.std.specs.Option.{option_copied};
 ghost use Rattle.std.specs.Io.KnownBytes.{Appends};
 ghost use Rattle.lv_checks.specs.Texts.{finding_text};
 ghost use Rattle.lv_dump.specs.Texts.{with_lf};
+ghost use Rattle.lv_levels.specs.Graphics.{graphics_view};
+ghost use Rattle.lv_lint.specs.Rules.{warnings};
 ghost use Rattle.lv_lint.specs.Texts.{warning_text};
 ghost use Rattle.lv_maptables.specs.Projects.{project_of};
 ghost use Rattle.lv_maptables.specs.Tables.{Tables};
-ghost use Rattle.lv_program.specs.Linting.{IsLintedOf, WritesRemarks, behind, lint_of, remarks};
+ghost use Rattle.lv_program.specs.Linting.{IsLintedBy, IsLintedOf, WritesRemarks, behind, lint_of, remarks, warned_by};
 ghost use Rattle.lv_editor.specs.Recovery.{IsOnlyRead};
 ghost use Rattle.lv_program.specs.Sources.{OverMaps};
 ghost use Rattle.lv_editor.specs.declared.error.EditorError.TheVariants.{OutOfMemory, WriterFailed};
 
 use crate::over_disk::{HandedBack, open_project};
-use crate::refusal::Refusal;
-use crate::status::status_after;
+use crate::wad_graphics::graphics_given;
 use lv_checks::{Finding, check};
 use lv_disk::Disk;
 use lv_editor::{EditorError, write_total};
-use lv_lint::Warning;
+use lv_files::Cause;
+use lv_levels::Graphics;
+use lv_lint::{Warning, lint_graphics};
 use lv_maptables::{Map, Maps};
+use lv_reports::{Refusal, status_after};
 use std::alloc::Global;
 use std::fmt::Display;
+use std::fs::Files;
 use std::io::Write;
 
 // Writes a line: the name, a space and the remark.
@@ -97,22 +103,61 @@ fn write_both<W: Write>(
     }
 }
 
+// The warnings of a map's flats and textures, where a WAD's names are given.
+fn warned_by(
+    alloc: Global,
+    map: &Map,
+    names: Option<&Graphics>,
+) -> Result<Vec<Warning>, EditorError>
+    ensures found { IfOk result (λ found. found.items
+        ≡ warned_by (option_map graphics_view (option_copied names.entry)) map.now.tables) }
+    ensures memory { IfErr result (λ e. e ≡ OutOfMemory) }
+{
+    let Some(names) = names else {
+        return Ok(Vec::new(alloc));
+    };
+    match lint_graphics(alloc, map, &names.flats, &names.textures) {
+        Ok(found) => Ok(found),
+        Err(_) => Err(EditorError::OutOfMemory),
+    }
+}
+
+// The warnings of a map, and behind them those of its flats and textures.
+fn warnings_of(
+    alloc: Global,
+    map: &Map,
+    names: Option<&Graphics>,
+) -> Result<Vec<Warning>, EditorError>
+    ensures found { IfOk result (λ found. found.items ≡ warnings map.now.tables
+        ++ warned_by (option_map graphics_view (option_copied names.entry)) map.now.tables) }
+    ensures memory { IfErr result (λ e. e ≡ OutOfMemory) }
+{
+    let Ok(mut warned) = lv_lint::lint(alloc, map) else {
+        return Err(EditorError::OutOfMemory);
+    };
+    let mut more = warned_by(alloc, map, names)?;
+    match warned.append(&mut more) {
+        Ok(()) => Ok(warned),
+        Err(_) => Err(EditorError::OutOfMemory),
+    }
+}
+
 // Writes what there is to say of a map, and counts the lines on.
 fn write_map<W: Write>(
     alloc: Global,
     map: &Map,
+    names: Option<&Graphics>,
     before: u32,
     writer: &mut W,
 ) -> Result<u32, EditorError>
-    ensures { WritesRemarks result before (remarks map.now.tables)
+    ensures { WritesRemarks result before
+        (remarks (option_map graphics_view (option_copied names.entry)) map.now.tables)
         (W.contents writer.old) (W.contents writer.new) }
 {
     let Ok(found) = check(alloc, map) else {
         return Err(EditorError::OutOfMemory);
     };
-    let Ok(warned) = lv_lint::lint(alloc, map) else {
-        return Err(EditorError::OutOfMemory);
-    };
+    let warned = warnings_of(alloc, map, names)?;
     let with_findings = plus(before, found.len())?;
     let count = plus(with_findings, warned.len())?;
     let name = map.name();
@@ -126,28 +171,36 @@ fn write_map<W: Write>(
 fn write_nth<W: Write>(
     alloc: Global,
     maps: &Maps,
+    names: Option<&Graphics>,
     n: u32,
     before: u32,
     writer: &mut W,
 ) -> Result<u32, EditorError>
     ensures { (m : Tables) → slice_get (project_of maps.now).maps n ≡ Some m
-        → WritesRemarks result before (remarks m)
+        → WritesRemarks result before
+        (remarks (option_map graphics_view (option_copied names.entry)) m)
         (W.contents writer.old) (W.contents writer.new) }
 {
     match maps.at(n) {
-        Some(map) => write_map(alloc, map, before, writer),
+        Some(map) => write_map(alloc, map, names, before, writer),
         None => Ok(before),
     }
 }
 
 // Writes what there is to say of each map, and counts the lines.
-fn write_maps<W: Write>(alloc: Global, maps: &Maps, writer: &mut W) -> Result<u32, EditorError>
-    ensures { WritesRemarks result 0 (lint_of (project_of maps.now).maps)
+fn write_maps<W: Write>(
+    alloc: Global,
+    maps: &Maps,
+    names: Option<&Graphics>,
+    writer: &mut W,
+) -> Result<u32, EditorError>
+    ensures { WritesRemarks result 0
+        (lint_of (option_map graphics_view (option_copied names.entry)) (project_of maps.now).maps)
         (W.contents writer.old) (W.contents writer.new) }
 {
     let mut count = 0;
     for n in 0..maps.len() {
-        match write_nth(alloc, maps, n, count, writer) {
+        match write_nth(alloc, maps, names, n, count, writer) {
             Ok(sum) => count = sum,
             Err(error) => return Err(error),
         }
@@ -156,11 +209,17 @@ fn write_maps<W: Write>(alloc: Global, maps: &Maps, writer: &mut W) -> Result<u3
 }
 
 // Writes what there is to say of the maps, then how many lines these are, and hands it on.
-fn tell_remarks<W: Write>(alloc: Global, maps: &Maps, writer: &mut W) -> Result<u8, Refusal>
+fn tell_remarks<W: Write>(
+    alloc: Global,
+    maps: &Maps,
+    names: Option<&Graphics>,
+    writer: &mut W,
+) -> Result<u8, Refusal>
     ensures small { IfOk result (λ s. s ≤ 3) }
-    ensures told { IsLintedOf maps.now result (W.contents writer.old) (W.contents writer.new) }
+    ensures told { IsLintedOf (option_map graphics_view (option_copied names.entry)) maps.now result
+        (W.contents writer.old) (W.contents writer.new) }
 {
-    let count = write_maps(alloc, maps, writer)?;
+    let count = write_maps(alloc, maps, names, writer)?;
     write_total(count, writer)?;
     match writer.flush() {
         Ok(()) => Ok(status_after(count)),
@@ -168,20 +227,44 @@ fn tell_remarks<W: Write>(alloc: Global, maps: &Maps, writer: &mut W) -> Result<
     }
 }
 
+// Takes the names of a WAD's flats and textures, if one is given, and tells what there is to say of the maps.
+fn tell_beside<E: AllocGlobal + Files, W: Write>(
+    rt: &E,
+    maps: &Maps,
+    iwad: Option<&str>,
+    writer: &mut W,
+    why: &mut Option<Cause>,
+) -> Result<u8, Refusal>
+    ensures small { IfOk result (λ s. s ≤ 3) }
+    ensures told { IsLintedBy (is_some iwad.entry) maps.now result
+        (W.contents writer.old) (W.contents writer.new) }
+{
+    let names = graphics_given(rt, iwad, why)?;
+    tell_remarks(rt.alloc(), maps, names.as_ref(), writer)
+}
+
 /// Writes what there is to say of each map of a disk's project: the findings of `check`, then the warnings of
-/// `lv_lint`, each behind the map's name, and last how many lines these are. The disk is only read.
-pub fn lint<D: Disk, W: Write>(alloc: Global, disk: D, writer: &mut W) -> HandedBack<D>
+/// `lv_lint`, then those of flats and textures that the WAD at the path `iwad` lacks, if one is given, each behind the
+/// map's name, and last how many lines these are; or notes why the WAD can't be opened. The disk is only read.
+pub fn lint<E: AllocGlobal + Files, D: Disk, W: Write>(
+    rt: &E,
+    disk: D,
+    iwad: Option<&str>,
+    writer: &mut W,
+    why: &mut Option<Cause>,
+) -> HandedBack<D>
     ensures small { IfOk result.how (λ s. s ≤ 3) }
     ensures linted { OverMaps (D.reads disk) result.how
         (W.contents writer.old) (W.contents writer.new)
-        (λ maps. IsLintedOf maps result.how (W.contents writer.old) (W.contents writer.new)) }
+        (λ maps. IsLintedBy (is_some iwad.entry) maps result.how
+        (W.contents writer.old) (W.contents writer.new)) }
     ensures only_read { IsOnlyRead D.Disk disk result.disk }
 {
-    let project = match open_project(alloc, disk) {
+    let project = match open_project(rt.alloc(), disk) {
         Ok(project) => project,
         Err(refused) => return refused,
     };
-    let how = tell_remarks(alloc, project.maps(), writer);
+    let how = tell_beside(rt, project.maps(), iwad, writer, why);
     HandedBack {
         how,
         disk: project.into_disk(),

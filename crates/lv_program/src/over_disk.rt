@@ -6,15 +6,14 @@ ghost use Rattle.lv_program.specs.Deeds.{IsCreated};
 ghost use Rattle.lv_editor.specs.Recovery.{IsOnlyRead};
 ghost use Rattle.lv_program.specs.Sources.{IsCheckedOf, IsEditedOver, IsMade, IsOpenedFrom, NotOpened, OverMaps};
 ghost use Rattle.lv_editor.specs.declared.error.EditorError.TheVariants.{WriterFailed};
-ghost use Rattle.lv_program.specs.declared.refusal.Refusal.{Refusal};
+ghost use Rattle.lv_reports.specs.declared.refusal.Refusal.{Refusal};
 
 use crate::limits::TURNS;
-use crate::refusal::Refusal;
-use crate::status::{DONE, ended, status_after};
 use lv_disk::Disk;
 use lv_editor::{EditorError, run, write_findings};
 use lv_maptables::Map;
 use lv_project::{Geometry, Project, Refused};
+use lv_reports::{DONE, Refusal, ended, status_after};
 use std::alloc::Global;
 use std::io::{Read, Write};
 

@@ -7,12 +7,12 @@ ghost use Rattle.lv_editor.specs.declared.error.EditorError.TheVariants.{WriterF
 ghost use Rattle.lv_levels.specs.Listing.{listing_refusal};
 
 use crate::examining::read_whole;
-use crate::refusal::Refusal;
-use crate::status::DONE;
+use crate::limits::TURNS;
 use lv_editor::{EditorError, InspectError};
 use lv_files::Cause;
 use lv_lumps::Name8;
 use lv_pwad::level_names;
+use lv_reports::{DONE, Refusal};
 use std::alloc::Global;
 use std::fs::{self, Files};
 use std::io::{Read, Write};
@@ -116,7 +116,6 @@ fn list_read<R: Read, W: Write>(
 pub fn list_levels<E: AllocGlobal + Files, W: Write>(
     rt: &E,
     path: &str,
-    turns: u32,
     writer: &mut W,
     why: &mut Option<Cause>,
 ) -> Result<u8, Refusal>
@@ -124,7 +123,7 @@ pub fn list_levels<E: AllocGlobal + Files, W: Write>(
     ensures listed { IsListed result (W.contents writer.old) (W.contents writer.new) }
 {
     match fs::open(rt, path) {
-        Ok(mut file) => list_read(rt.alloc(), &mut file, turns, writer),
+        Ok(mut file) => list_read(rt.alloc(), &mut file, TURNS, writer),
         Err(error) => {
             *why = Some(Cause::System(error));
             Err(Refusal::Lines(EditorError::ReaderFailed))

@@ -1,1 +1,5 @@
 pub mod MadeLemmas
+pub mod WritingLemmas
+pub mod ReadingLemmas
+pub mod PartLemmas
+pub mod WholeLemmas

@@ -1,11 +1,20 @@
-//! A level of any WAD built anew of its own lines.
+//! The levels of any WAD built anew, each of its own lines.
 #![tactic(auto)]
 
 mod cause;
+mod directory;
+mod error;
 mod front;
+mod levels;
 mod made;
+mod parts;
 mod remade;
+mod whole;
+mod writing;
 
 pub use cause::Cause;
+pub use error::RebuildError;
+pub use levels::{Fate, RebuiltLevel};
 pub use made::MadeLumps;
 pub use remade::remake;
+pub use whole::{RebuiltWad, rebuild_wad};

@@ -19,9 +19,9 @@ use Rattle.std.specs.Str.Parse.{ParsesUnsigned}
 use Rattle.clap.specs.declared.parser.matches.Found.{Found}
 use Rattle.clap.proofs.WalkLemmas.{one_text-rows}
 use Rattle.lv_requests.specs.App.{leveled_app}
-use Rattle.lv_requests.specs.Request.{HasNumber, IsSubcommand, LacksNumber, LacksValue, RefusesRead, RefusesValues}
+use Rattle.lv_requests.specs.Request.{HasNumber, HasSurplus, IsSubcommand, LacksNumber, LacksValue, RefusesRead, RefusesValues}
 use Rattle.lv_requests.specs.declared.asked.RequestError.{RequestError}
-use Rattle.lv_requests.specs.declared.asked.RequestError.TheVariants.{Words, Codes, Number, Memory}
+use Rattle.lv_requests.specs.declared.asked.RequestError.TheVariants.{Words, Codes, Number, Surplus, Memory}
 
 pub is_simple-leveled : is_simple leveled_app ≡ true
 unfolding clap_on_literals
@@ -71,7 +71,7 @@ of_found test (s ∷ subs) words name rows e = go (test s) (of_found test subs w
     go false behind d = inr (behind d)
 
 of_all : (name : Text)
-    → IsAmong (codes "scratch" ∷ codes "create" ∷ codes "edit" ∷ codes "check" ∷ codes "lint" ∷ codes "dump" ∷ codes "picture" ∷ codes "inspect" ∷ codes "build" ∷ []) name
+    → IsAmong (codes "scratch" ∷ codes "create" ∷ codes "edit" ∷ codes "check" ∷ codes "lint" ∷ codes "draw" ∷ codes "dump" ∷ codes "picture" ∷ codes "inspect" ∷ codes "build" ∷ []) name
     → IsSubcommand name
 of_all name (inl is) = inl is
 of_all name (inr (inl is)) = inr (inl is)
@@ -81,8 +81,9 @@ of_all name (inr (inr (inr (inr (inl is))))) = inr (inr (inr (inr (inl is))))
 of_all name (inr (inr (inr (inr (inr (inl is)))))) = inr (inr (inr (inr (inr (inl is)))))
 of_all name (inr (inr (inr (inr (inr (inr (inl is))))))) = inr (inr (inr (inr (inr (inr (inl is))))))
 of_all name (inr (inr (inr (inr (inr (inr (inr (inl is)))))))) = inr (inr (inr (inr (inr (inr (inr (inl is)))))))
-of_all name (inr (inr (inr (inr (inr (inr (inr (inr (inl is))))))))) = inr (inr (inr (inr (inr (inr (inr (inr is)))))))
-of_all name (inr (inr (inr (inr (inr (inr (inr (inr (inr never))))))))) = absurd never
+of_all name (inr (inr (inr (inr (inr (inr (inr (inr (inl is))))))))) = inr (inr (inr (inr (inr (inr (inr (inr (inl is))))))))
+of_all name (inr (inr (inr (inr (inr (inr (inr (inr (inr (inl is)))))))))) = inr (inr (inr (inr (inr (inr (inr (inr (inr is))))))))
+of_all name (inr (inr (inr (inr (inr (inr (inr (inr (inr (inr never)))))))))) = absurd never
 
 only_these : (stop : Option (Text × List Text)) (name : Text) (rows : List Row) → entered (built leveled_app) stop ≡ Some (name, rows) → IsSubcommand name
 only_these None name rows e = cc
@@ -146,6 +147,7 @@ pub refuses : (words : List Text) (name : Text) (rows : List Row) (e : RequestEr
 refuses words name rows (Words error) is never = absurd never
 refuses words name rows Codes is never = absurd never
 refuses words name rows Number is lacks = asks (subcommand_of leveled_app words) name rows LacksValue is lacks
+refuses words name rows Surplus is has = asks (subcommand_of leveled_app words) name rows HasSurplus is has
 refuses words name rows Memory is told = tt
 
 -- ---- The values

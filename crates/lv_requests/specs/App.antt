@@ -60,9 +60,21 @@ abbrev pub create_app : App
 create_app =
     with_rule (with_rule (with_one_word (codes "create") (codes "file")) slot_rule) journal_rule
 
+-- `lint FILE [--iwad WAD]`
+abbrev pub lint_app : App
+lint_app = with_rule (with_one_word (codes "lint") (codes "file")) (path_rule (codes "iwad"))
+
 -- `build FILE OUT`
 abbrev pub build_app : App
 build_app = with_rule (with_one_word (codes "build") (codes "file")) (word_rule (codes "out"))
+
+-- `draw FILE [SCRIPT] [--check] [--verbose]`
+abbrev pub draw_app : App
+draw_app =
+    with_rule (with_rule (with_rule (with_one_word (codes "draw") (codes "file"))
+    (last_rule (codes "script")))
+    (flag_rule (codes "check")))
+    (flag_rule (codes "verbose"))
 
 -- `picture FILE [MAP] [--out OUT] [--numbers] [--nodes] [--lint]`
 abbrev pub picture_app : App
@@ -83,12 +95,14 @@ inspect_app = with_rule (with_one_word (codes "inspect") (codes "wad")) (last_ru
 abbrev pub with_subcommands : App
 with_subcommands =
     with_subcommand (with_subcommand (with_subcommand (with_subcommand (with_subcommand
-    (with_subcommand (with_subcommand (with_subcommand (with_subcommand (new_app (codes "leveled"))
+    (with_subcommand (with_subcommand (with_subcommand (with_subcommand (with_subcommand
+    (new_app (codes "leveled"))
     (new_app (codes "scratch")).top)
     create_app.top)
     (with_one_word (codes "edit") (codes "file")).top)
     (with_one_word (codes "check") (codes "file")).top)
-    (with_one_word (codes "lint") (codes "file")).top)
+    lint_app.top)
+    draw_app.top)
     (with_one_word (codes "dump") (codes "file")).top)
     picture_app.top)
     inspect_app.top)

@@ -1,5 +1,5 @@
 -- What the words of the program ask for (docs/COMMANDS.md, "The program").
-use Rattle.std.specs.Prelude.{◌≡◌, ◌≤◌, ◌⊎◌, ℕ, Bool, Some, None, List, codes, option_map, string_bytes, true, false, IsSomeAnd}
+use Rattle.std.specs.Prelude.{◌≡◌, ◌≤◌, ◌⊎◌, ℕ, Bool, Some, None, List, codes, is_some, option_map, string_bytes, true, false, IsSomeAnd}
 use Rattle.std.specs.Option.{option_map_or}
 use Rattle.std.specs.Str.{bytes_eq}
 use Rattle.std.specs.Str.Parse.{IsNumeral, digits_value, without_leading_plus}
@@ -9,8 +9,8 @@ use Rattle.clap.specs.declared.error.kind.ErrorKind.TheVariants.{OutOfMemory}
 use Rattle.lv_requests.specs.App.{leveled_app}
 use Rattle.lv_requests.specs.declared.asked.Request.{Request}
 use Rattle.lv_requests.specs.declared.asked.RequestError.{RequestError}
-use Rattle.lv_requests.specs.declared.asked.RequestError.TheVariants.{Words, Codes, Number, Memory}
-use Rattle.lv_requests.specs.declared.asked.Request.TheVariants.{Scratch, Create, Edit, Check, Lint, Dump, Picture, Inspect, Levels, Build}
+use Rattle.lv_requests.specs.declared.asked.RequestError.TheVariants.{Words, Codes, Number, Surplus, Memory}
+use Rattle.lv_requests.specs.declared.asked.Request.TheVariants.{Scratch, Create, Edit, Check, Lint, Draw, TryScript, Dump, Picture, Inspect, Levels, Build}
 
 -- the number that the argument's text is in decimal digits, within its limits
 pub record HasNumber (id : Text) (rows : List Row) (low high n : ℕ) : Type 0 where
@@ -40,8 +40,19 @@ AsksFor (Edit file) asked =
     (asked.0 ≡ codes "edit") × (first_of (codes "file") asked.1 ≡ Some (string_bytes file))
 AsksFor (Check file) asked =
     (asked.0 ≡ codes "check") × (first_of (codes "file") asked.1 ≡ Some (string_bytes file))
-AsksFor (Lint file) asked =
-    (asked.0 ≡ codes "lint") × (first_of (codes "file") asked.1 ≡ Some (string_bytes file))
+AsksFor (Lint file iwad) asked = (asked.0 ≡ codes "lint")
+    × (first_of (codes "file") asked.1 ≡ Some (string_bytes file))
+    × (first_of (codes "iwad") asked.1 ≡ option_map string_bytes iwad)
+AsksFor (Draw file script verbose) asked = (asked.0 ≡ codes "draw")
+    × (is_given (codes "check") asked.1 ≡ false)
+    × (first_of (codes "file") asked.1 ≡ Some (string_bytes file))
+    × (first_of (codes "script") asked.1 ≡ option_map string_bytes script)
+    × (verbose ≡ is_given (codes "verbose") asked.1)
+AsksFor (TryScript script verbose) asked = (asked.0 ≡ codes "draw")
+    × (is_given (codes "check") asked.1 ≡ true)
+    × (first_of (codes "file") asked.1 ≡ Some (string_bytes script))
+    × (first_of (codes "script") asked.1 ≡ None)
+    × (verbose ≡ is_given (codes "verbose") asked.1)
 AsksFor (Dump file) asked =
     (asked.0 ≡ codes "dump") × (first_of (codes "file") asked.1 ≡ Some (string_bytes file))
 AsksFor (Picture file map out numbers nodes lint) asked = (asked.0 ≡ codes "picture")
@@ -65,10 +76,11 @@ AsksFor (Levels wad) asked = (asked.0 ≡ codes "inspect")
 abbrev pub IsSubcommand : Text → Type 0
 IsSubcommand name =
     (name ≡ codes "scratch") ⊎ (name ≡ codes "create") ⊎ (name ≡ codes "edit")
-    ⊎ (name ≡ codes "check") ⊎ (name ≡ codes "lint") ⊎ (name ≡ codes "dump")
-    ⊎ (name ≡ codes "picture") ⊎ (name ≡ codes "inspect") ⊎ (name ≡ codes "build")
+    ⊎ (name ≡ codes "check") ⊎ (name ≡ codes "lint") ⊎ (name ≡ codes "draw")
+    ⊎ (name ≡ codes "dump") ⊎ (name ≡ codes "picture") ⊎ (name ≡ codes "inspect")
+    ⊎ (name ≡ codes "build")
 
--- the subcommand is over a project file
+-- the subcommand is over a project file, or, where a script is to be tried, over this script
 abbrev pub IsOverFile : Text → Type 0
 IsOverFile name = (¬ (name ≡ codes "scratch")) × (¬ (name ≡ codes "inspect"))
 
@@ -76,6 +88,7 @@ IsOverFile name = (¬ (name ≡ codes "scratch")) × (¬ (name ≡ codes "inspec
 abbrev pub RefusesText : Text → List Row → RequestError → Type 0
 RefusesText id rows (Words error) = ⊥
 RefusesText id rows Codes = ⊥
+RefusesText id rows Surplus = ⊥
 RefusesText id rows Number = first_of id rows ≡ None
 RefusesText id rows Memory = Unit {0}
 
@@ -89,11 +102,18 @@ LacksValue asked = (IsOverFile asked.0 × (first_of (codes "file") asked.1 ≡ N
     × (LacksNumber (codes "slot") asked.1 33 2007015
     ⊎ LacksNumber (codes "journal") asked.1 512 1048576))
 
+-- a script is to be tried, and another word stands behind it
+abbrev pub HasSurplus : Text × List Row → Type 0
+HasSurplus asked =
+    (asked.0 ≡ codes "draw") × (is_given (codes "check") asked.1 ≡ true)
+    × (is_some (first_of (codes "script") asked.1) ≡ true)
+
 -- the values of a subcommand are refused
 abbrev pub RefusesValues : Text × List Row → RequestError → Type 0
 RefusesValues asked (Words error) = ⊥
 RefusesValues asked Codes = ⊥
 RefusesValues asked Number = LacksValue asked
+RefusesValues asked Surplus = HasSurplus asked
 RefusesValues asked Memory = Unit {0}
 
 -- clap refuses words that its simple command takes only where memory ran out, and else by a fault
@@ -105,4 +125,5 @@ RefusesRead words (Words error) =
     × (takes leveled_app words ≡ true → kind_of error ≡ OutOfMemory)
 RefusesRead words Codes = ⊥
 RefusesRead words Number = IsSomeAnd (subcommand_of leveled_app words) LacksValue
+RefusesRead words Surplus = IsSomeAnd (subcommand_of leveled_app words) HasSurplus
 RefusesRead words Memory = Unit {0}

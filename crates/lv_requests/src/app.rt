@@ -1,7 +1,7 @@
 //! The command line that clap reads: the program and its subcommands.
 ghost use Rattle.std.specs.Prelude.{◌≡◌, IfOk, codes};
 ghost use Rattle.clap.specs.Words.{App, app_of, new_app, with_subcommand};
-ghost use Rattle.lv_requests.specs.App.{IsArg, IsCommand, build_app, create_app, flag_rule, inspect_app, journal_rule, last_rule, leveled_app, option_rule, path_rule, picture_app, slot_rule, with_subcommands, with_one_word, word_rule};
+ghost use Rattle.lv_requests.specs.App.{IsArg, IsCommand, build_app, create_app, draw_app, flag_rule, inspect_app, journal_rule, last_rule, leveled_app, lint_app, option_rule, path_rule, picture_app, slot_rule, with_subcommands, with_one_word, word_rule};
 
 use crate::help;
 use clap::{Arg, ArgAction, Command, value_parser};
@@ -89,10 +89,21 @@ fn create<'a>(alloc: Global) -> Result<Command<'a>, AllocError>
 
 // `lint`.
 fn lint<'a>(alloc: Global) -> Result<Command<'a>, AllocError>
-    ensures { IfOk result (λ c. IsCommand c (with_one_word (codes "lint") (codes "file"))) }
+    ensures { IfOk result (λ c. IsCommand c lint_app) }
 {
     let about = "Says what is wrong or doubtful in each map of a project";
-    over_file(alloc, "lint", about, help::LINT)
+    over_file(alloc, "lint", about, help::LINT)?.arg(path(alloc, "iwad", "WAD"))
+}
+
+// `draw`.
+fn draw<'a>(alloc: Global) -> Result<Command<'a>, AllocError>
+    ensures { IfOk result (λ c. IsCommand c draw_app) }
+{
+    let about = "Draws a script onto a project, up to the first line that is refused";
+    over_file(alloc, "draw", about, help::DRAW)?
+        .arg(last_word(alloc, "script", "SCRIPT"))?
+        .arg(flag(alloc, "check"))?
+        .arg(flag(alloc, "verbose"))
 }
 
 // `dump`.
@@ -192,6 +203,7 @@ fn with_subcommands<'a>(alloc: Global) -> Result<Command<'a>, AllocError>
     let program = with(program, edit);
     let program = with(program, check);
     let program = with(program, lint(alloc));
+    let program = with(program, draw(alloc));
     let program = with(program, dump(alloc));
     let program = with(program, picture(alloc));
     let program = with(program, inspect(alloc));

@@ -20,9 +20,23 @@ pub enum Request {
     Check {
         file: String,
     },
-    /// Say what is wrong, unfinished or doubtful in each map of a project.
+    /// Say what is wrong, unfinished or doubtful in each map of a project, and which flats and textures a WAD lacks, if
+    /// one is given.
     Lint {
         file: String,
+        iwad: Option<String>,
+    },
+    /// Draw the lines of a script onto the maps of a project: of the file SCRIPT, or of the input. What each command
+    /// answered is told, or only what queries answer.
+    Draw {
+        file: String,
+        script: Option<String>,
+        verbose: bool,
+    },
+    /// Try the lines of a script over maps in memory.
+    TryScript {
+        script: String,
+        verbose: bool,
     },
     /// Write the lines that draw the maps of a project again.
     Dump {
@@ -66,6 +80,9 @@ pub enum RequestError {
     /// An argument without a value within its limits, which clap let pass.
     #[error("a number is outside its limits")]
     Number,
+    /// A script is to be tried, and another word stands behind it.
+    #[error("with --check there is one word, the script")]
+    Surplus,
     /// No memory for a text of the request.
     #[error("out of memory")]
     Memory,

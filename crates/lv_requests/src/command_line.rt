@@ -107,6 +107,21 @@ fn last_text(
     }
 }
 
+// The request to look at the maps of a project.
+fn asked_lint(alloc: Global, found: &ArgMatches<'_>) -> Result<Request, RequestError>
+    ensures asked { IfOk result (λ r. AsksFor r (codes "lint", rows_of (found_of found.now))) }
+    ensures refused { IfErr result (RefusesValues (codes "lint", rows_of (found_of found.now))) }
+{
+    let file = match text(alloc, found, "file") {
+        Ok(file) => file,
+        Err(error) => return Err(error),
+    };
+    match last_text(alloc, found, "iwad") {
+        Ok(iwad) => Ok(Request::Lint { file, iwad }),
+        Err(error) => Err(error),
+    }
+}
+
 // Whether a flag is given.
 fn is_given(found: &ArgMatches<'_>, id: &str) -> bool
     ensures { result ≡ is_given id.now (rows_of (found_of found.now)) }
@@ -114,6 +129,36 @@ fn is_given(found: &ArgMatches<'_>, id: &str) -> bool
     match found.get_str(id) {
         Some(text) => text == "true",
         None => false,
+    }
+}
+
+// The request to draw a script onto a project, or to try it.
+fn asked_draw(alloc: Global, found: &ArgMatches<'_>) -> Result<Request, RequestError>
+    ensures asked { IfOk result (λ r. AsksFor r (codes "draw", rows_of (found_of found.now))) }
+    ensures refused { IfErr result (RefusesValues (codes "draw", rows_of (found_of found.now))) }
+{
+    let file = match text(alloc, found, "file") {
+        Ok(file) => file,
+        Err(error) => return Err(error),
+    };
+    let script = match last_text(alloc, found, "script") {
+        Ok(script) => script,
+        Err(error) => return Err(error),
+    };
+    let verbose = is_given(found, "verbose");
+    if !is_given(found, "check") {
+        return Ok(Request::Draw {
+            file,
+            script,
+            verbose,
+        });
+    }
+    match script {
+        None => Ok(Request::TryScript {
+            script: file,
+            verbose,
+        }),
+        Some(_) => Err(RequestError::Surplus),
     }
 }
 
@@ -176,14 +221,12 @@ fn asked(alloc: Global, name: &str, found: &ArgMatches<'_>) -> Result<Request, R
             Ok(file) => Ok(Request::Check { file }),
             Err(error) => Err(error),
         },
-        "lint" => match text(alloc, found, "file") {
-            Ok(file) => Ok(Request::Lint { file }),
-            Err(error) => Err(error),
-        },
+        "lint" => asked_lint(alloc, found),
         "dump" => match text(alloc, found, "file") {
             Ok(file) => Ok(Request::Dump { file }),
             Err(error) => Err(error),
         },
+        "draw" => asked_draw(alloc, found),
         "picture" => asked_picture(alloc, found),
         "inspect" => asked_inspect(alloc, found),
         "build" => asked_build(alloc, found),
@@ -240,7 +283,8 @@ fn read_two(alloc: Global, program: &str, word: &str, name: &str) -> Result<Requ
 ///
 /// `Words` where clap refuses the words, or answers them itself: help and the version. clap's error
 /// has the text, and says where it goes and with which status. `Codes` where they are `help codes`.
-/// `Number` where clap let an argument without a value within its limits pass. `Memory` where there is none.
+/// `Number` where clap let an argument without a value within its limits pass. `Surplus` where a
+/// script is to be tried and another word stands behind it. `Memory` where there is none.
 pub fn request(alloc: Global, words: &[&str]) -> Result<Request, RequestError>
     ensures asked { IfOk result (λ r. IsSomeAnd
         (subcommand_of leveled_app (without_help (map (λ w. w.now) words.now))) (AsksFor r)) }

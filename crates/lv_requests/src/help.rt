@@ -24,7 +24,8 @@ Queries, which change nothing:
 The end of the input ends the program; a last line without its end is answered too.
 
 Status: 0 done; 1 refused, with `leveled: CODE NAME` on standard error; 2 no such
-words; 3 `check` or `lint` has findings, or `inspect` found a fault.
+words; 3 `check` or `lint` has findings, `inspect` found a fault, or `draw` a line that is
+refused.
 
 `leveled help SUBCOMMAND` says more of one. The manual page leveled(1) and, in
 share/doc/leveled, COMMANDS.md (every line and refusal) and FIRST_LEVEL.md (a first
@@ -58,8 +59,19 @@ where there are any. FILE isn't changed.";
 pub const LINT: &str = "\
 Looks at every map of FILE. Prints what `check` finds in it, and what is unlikely to play
 as it was meant, each line behind the map's name, as `MAP01 tag-of-no-sector 7`; then
-`findings N`. Status 3 where there are any. COMMANDS.md says what to do about each line.
-FILE isn't changed.";
+`findings N`. Status 3 where there are any. --iwad: also which flats and textures of the
+map WAD lacks, an IWAD as doom2.wad. COMMANDS.md says what to do about each line. FILE
+isn't changed.";
+
+/// `draw`.
+pub const DRAW: &str = "\
+Draws the lines of SCRIPT, or of standard input, in turn; each that was drawn is on the
+disk, as with `edit`. In a script blank lines, spaces and tabs at either end, and all from
+a word that begins with # to the end of its line are passed over. `hall = room ..` keeps
+the numbers of what was drawn: `$hall.line+2` stands for the third of its lines. At the
+first line that is refused it stops with status 3, and says which line, and what is wrong
+with it. --verbose tells what each command answered. `draw --check SCRIPT` tries a script
+over a new project in memory, and makes no file.";
 
 /// `dump`.
 pub const DUMP: &str = "\
@@ -113,6 +125,11 @@ Answered as `no CODE` to a line, or as `leveled: CODE NAME`. A refusal changes n
 17 MapNameTaken        choose another name
 18 NoSuchMap           `maps` tells the names
 19 CurrentMap          make another map the current one first
+20 NotAName            in a script: a letter, then letters, digits and _
+21 NotAReference       in a script: $NAME or $NAME.KIND, perhaps with +N behind
+22 UnknownName         in a script: look at the name's spelling
+23 NothingAdded        in a script: name an item that the command adds
+24 NumberTooLarge      in a script: the sum is above 32767
 30 Device              the disk failed, or FILE can't be opened: look, then open it again
 31 Memory              free some, and give the line again
 32 Reopen              open FILE again; every acknowledged command is there
@@ -140,4 +157,5 @@ Answered as `no CODE` to a line, or as `leveled: CODE NAME`. A refusal changes n
 72 NoSuchLevel         look at NAME: MAP01, E1M1
 73 LumpMissing         the WAD's level was never built
 74 LumpOutside         the WAD is cut off
-75 HexenLevel          nothing: a level in the form of Hexen isn't read";
+75 HexenLevel          nothing: a level in the form of Hexen isn't read
+76 TextureLump         the WAD is damaged";

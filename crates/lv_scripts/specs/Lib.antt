@@ -1,2 +1,4 @@
+pub mod Canvases
 pub mod Drawn
 pub mod Errors
+pub mod Refused

@@ -1,5 +1,6 @@
 //! A script, drawn line by line up to the first line that is refused.
-ghost use Rattle.std.specs.Prelude.{◌<◌, length, map, IfOk, IfSome};
+ghost use Rattle.std.specs.Prelude.{◌≡◌, ◌<◌, [], length, map, IfOk, IfSome};
+ghost use Rattle.lv_draw.specs.Known.{known};
 ghost use Rattle.lv_draw.specs.Views.{seen};
 ghost use Rattle.lv_scripts.specs.Drawn.{IsScriptDrawn};
 
@@ -21,7 +22,8 @@ pub struct Stop {
 
 /// Draws the lines of a script onto a project, or onto maps in memory: each as it is resolved, in turn, up to the first
 /// one that is refused. A command of a project is on the disk before the next line is looked at. Answers of queries
-/// are written, and of commands `NUMBER: ok N` where that is wanted.
+/// are written, and of commands `NUMBER: ok N` where that is wanted. There is no name before; behind the call the
+/// names are those of the lines that were drawn.
 ///
 /// # Errors
 ///
@@ -29,18 +31,19 @@ pub struct Stop {
 pub fn draw<C: Canvas, W: Write>(
     alloc: Global,
     canvas: &mut C,
+    names: &mut Names,
     lines: &[ScriptLine],
     is_verbose: bool,
     writer: &mut W,
 ) -> Result<Option<Stop>, ScriptError>
+    requires { known names.old ≡ [] }
     ensures drawn { IsScriptDrawn C.Canvas is_verbose (map seen lines.now) result
         canvas.old (W.contents writer.old) canvas.new (W.contents writer.new) }
     ensures place { IfOk result (λ stop. IfSome stop (λ s. s.place < length lines.now)) }
 {
-    let mut names = Names::new(alloc);
     for place in 0..lines.len() {
         let line = &lines[place];
-        match draw_line(alloc, canvas, &mut names, line, is_verbose, writer) {
+        match draw_line(alloc, canvas, names, line, is_verbose, writer) {
             Ok(None) => {}
             Ok(Some(code)) => return Ok(Some(Stop { place, code })),
             Err(error) => return Err(error),

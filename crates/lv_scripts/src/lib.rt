@@ -1,12 +1,21 @@
 //! Scripts that people write, drawn line by line onto whatever takes their commands and queries.
 #![tactic(auto)]
 
+mod asking;
+mod calling;
 mod canvas;
 mod changing;
+mod draft;
 mod drawing;
 mod error;
+mod forms;
 mod line;
+mod project_canvas;
+mod reasons;
+mod refused;
 
 pub use canvas::Canvas;
+pub use draft::Draft;
 pub use drawing::{Stop, draw};
 pub use error::ScriptError;
+pub use refused::write_refused;

@@ -8,6 +8,8 @@ mod foreign;
 #[cfg(test)]
 mod graphics;
 #[cfg(test)]
+mod imports;
+#[cfg(test)]
 mod lines;
 #[cfg(test)]
 mod listing;

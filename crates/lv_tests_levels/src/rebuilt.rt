@@ -3,7 +3,7 @@
 use crate::expect::same;
 use crate::foreign::wad_of;
 use lv_levels::levels_in;
-use lv_rebuild::{MadeLumps, remake};
+use lv_rebuild::{Fate, MadeLumps, RebuiltLevel, rebuild_wad, remake};
 use std::alloc::Global;
 use std::test::Fail;
 
@@ -94,6 +94,194 @@ fn builds_levels_anew(rt: HostRuntime) -> Result<(), Fail> {
         same(&rt, &told.as_str(), &says);
         same(&rt, &found_segs.as_slice(), &segs);
         same(&rt, &found_reject.as_slice(), &reject);
+    }
+    Ok(())
+}
+
+// A lump of a WAD: its name and its bytes.
+type Lump = (&'static [u8; 8], &'static [u8]);
+
+// A level without a builder's lumps, between others.
+const BARE_WAD: &[Lump] = &[
+    (b"DEMO1\0\0\0", b"demo"),
+    (b"MAP01\0\0\0", b"marker"),
+    (b"THINGS\0\0", b""),
+    (b"LINEDEFS", LINES),
+    (b"SIDEDEFS", SIDES),
+    (b"VERTEXES", VERTICES),
+    (b"SECTORS\0", SECTORS),
+    (b"WADCSRC\0", b"source"),
+];
+
+// The same with them.
+const BUILT_WAD: &[Lump] = &[
+    (b"DEMO1\0\0\0", b"demo"),
+    (b"MAP01\0\0\0", b"marker"),
+    (b"THINGS\0\0", b""),
+    (b"LINEDEFS", LINES),
+    (b"SIDEDEFS", SIDES),
+    (b"VERTEXES", FRONT),
+    (b"SEGS\0\0\0\0", SEGS),
+    (b"SSECTORS", SUBS),
+    (b"NODES\0\0\0", b""),
+    (b"SECTORS\0", SECTORS),
+    (b"REJECT\0\0", b"\0"),
+    (b"BLOCKMAP", BLOCKS),
+    (b"WADCSRC\0", b"source"),
+];
+
+// A level that has no right side, with stale lumps, and two of one name, one of them with another builder's nodes.
+const THREE_LEVELS: &[Lump] = &[
+    (b"E1M1\0\0\0\0", b""),
+    (b"THINGS\0\0", b""),
+    (b"LINEDEFS", BARE),
+    (b"SIDEDEFS", SIDES),
+    (b"VERTEXES", VERTICES),
+    (b"SEGS\0\0\0\0", b"stale"),
+    (b"SECTORS\0", SECTORS),
+    (b"GL_E1M1\0", b"gl"),
+    (b"MAP02\0\0\0", b""),
+    (b"THINGS\0\0", b""),
+    (b"LINEDEFS", LINES),
+    (b"SIDEDEFS", SIDES),
+    (b"VERTEXES", VERTICES),
+    (b"SECTORS\0", SECTORS),
+    (b"MAP02\0\0\0", b""),
+    (b"THINGS\0\0", b""),
+    (b"LINEDEFS", TURNED),
+    (b"SIDEDEFS", SIDES),
+    (b"VERTEXES", VERTICES),
+    (b"SECTORS\0", SECTORS),
+    (b"GL_MAP02", b"gl"),
+    (b"GL_VERT\0", b"gl"),
+];
+
+// The same with both of this name built anew.
+const TWO_BUILT: &[Lump] = &[
+    (b"E1M1\0\0\0\0", b""),
+    (b"THINGS\0\0", b""),
+    (b"LINEDEFS", BARE),
+    (b"SIDEDEFS", SIDES),
+    (b"VERTEXES", VERTICES),
+    (b"SEGS\0\0\0\0", b"stale"),
+    (b"SECTORS\0", SECTORS),
+    (b"GL_E1M1\0", b"gl"),
+    (b"MAP02\0\0\0", b""),
+    (b"THINGS\0\0", b""),
+    (b"LINEDEFS", LINES),
+    (b"SIDEDEFS", SIDES),
+    (b"VERTEXES", FRONT),
+    (b"SEGS\0\0\0\0", SEGS),
+    (b"SSECTORS", SUBS),
+    (b"NODES\0\0\0", b""),
+    (b"SECTORS\0", SECTORS),
+    (b"REJECT\0\0", b"\0"),
+    (b"BLOCKMAP", BLOCKS),
+    (b"MAP02\0\0\0", b""),
+    (b"THINGS\0\0", b""),
+    (b"LINEDEFS", TURNED),
+    (b"SIDEDEFS", SIDES),
+    (b"VERTEXES", FRONT),
+    (b"SEGS\0\0\0\0", TURNED_SEGS),
+    (b"SSECTORS", SUBS),
+    (b"NODES\0\0\0", b""),
+    (b"SECTORS\0", SECTORS),
+    (b"REJECT\0\0", b"\0"),
+    (b"BLOCKMAP", BLOCKS),
+];
+
+// The lumps of a WAD, the name that is asked for (none: all), the lumps afterwards, and what became of each level.
+const WHOLE: &[(&[Lump], &str, &[Lump], &str)] = &[
+    (BARE_WAD, "", BUILT_WAD, "made;"),
+    (
+        THREE_LEVELS,
+        "",
+        TWO_BUILT,
+        "line 0 has no right side;made;made;",
+    ),
+    (THREE_LEVELS, "MAP02", TWO_BUILT, "not asked;made;made;"),
+    (
+        THREE_LEVELS,
+        "E1M1",
+        THREE_LEVELS,
+        "line 0 has no right side;not asked;not asked;",
+    ),
+    (
+        THREE_LEVELS,
+        "MAP2",
+        &[],
+        "the WAD has no level of this name",
+    ),
+];
+
+// What became of the levels.
+fn fates(alloc: Global, levels: &[RebuiltLevel]) -> Result<String, Fail> {
+    let mut told = String::new(alloc);
+    for n in 0..levels.len() {
+        let level = &levels[n];
+        match &level.fate {
+            Fate::NotAsked => write!(told, "not asked;")?,
+            Fate::Made(_) => write!(told, "made;")?,
+            Fate::Left(cause) => write!(told, "{cause};")?,
+        }
+    }
+    Ok(told)
+}
+
+// The bytes of a WAD that is built anew, and what became of its levels, or why it is refused.
+fn whole(alloc: Global, wad: &[u8], name: &str) -> Result<(Vec<u8>, String), Fail> {
+    let mut names = Vec::new(alloc);
+    if !name.is_empty() {
+        names.push(String::from_str(alloc, name)?)?;
+    }
+    match rebuild_wad(alloc, wad, &names) {
+        Ok(rebuilt) => {
+            let told = fates(alloc, &rebuilt.levels)?;
+            Ok((rebuilt.bytes, told))
+        }
+        Err(error) => Ok((Vec::new(alloc), format!(in alloc; "{error}")?)),
+    }
+}
+
+#[test]
+fn builds_wads_anew(rt: HostRuntime) -> Result<(), Fail> {
+    for &(lumps, name, after, says) in WHOLE {
+        let wad = wad_of(rt.alloc(), lumps)?;
+        let wanted = wad_of(rt.alloc(), after)?;
+        let (bytes, told) = whole(rt.alloc(), &wad, name)?;
+        same(&rt, &told.as_str(), &says);
+        if !after.is_empty() {
+            same(&rt, &bytes.as_slice(), &wanted.as_slice());
+        }
+    }
+    Ok(())
+}
+
+// A WAD that is refused as a whole: its bytes, and the number of the refusal.
+const REFUSED: &[(&[u8], u16)] = &[
+    (b"PWAD", 70),
+    (b"WADP\0\0\0\0\x0c\0\0\0", 70),
+    (b"PWAD\x01\0\0\0\x0c\0\0\0", 71),
+    (
+        b"PWAD\x01\0\0\0\x0c\0\0\0\0\0\0\0\x1d\0\0\0LUMP\0\0\0\0",
+        74,
+    ),
+    (
+        b"PWAD\x06\0\0\0\x0c\0\0\0\0\0\0\0\x6c\0\0\0LUMP\0\0\0\0\0\0\0\0\x6c\0\0\0LUMP\0\0\0\0\
+          \0\0\0\0\x6c\0\0\0LUMP\0\0\0\0\0\0\0\0\x6c\0\0\0LUMP\0\0\0\0\0\0\0\0\x6c\0\0\0LUMP\0\0\0\0\
+          \0\0\0\0\x6c\0\0\0LUMP\0\0\0\0",
+        36,
+    ),
+];
+
+#[test]
+fn refuses_wads(rt: HostRuntime) -> Result<(), Fail> {
+    for &(wad, wanted) in REFUSED {
+        let code = match rebuild_wad(rt.alloc(), wad, &[]) {
+            Ok(_) => 0,
+            Err(error) => error.code(),
+        };
+        same(&rt, &code, &wanted);
     }
     Ok(())
 }

@@ -284,7 +284,7 @@ fn reads_a_request(rt: HostRuntime) {
 const WORDS: &[(&[&str], i32, &str)] = &[
     (&["leveled"], 2, "requires a subcommand"),
     (&["leveled", "help"], 0, "Usage: leveled <COMMAND>"),
-    (&["leveled", "help", "lint"], 0, "Usage: leveled lint <FILE>"),
+    (&["leveled", "help", "lint"], 0, "Usage: leveled lint [OPTIONS] <FILE>"),
     (&["leveled", "help", "bogus"], 2, "unrecognized subcommand 'bogus'"),
     (&["leveled", "scratch", "x"], 2, "unexpected argument 'x'"),
     (&["leveled", "--slot"], 2, "unexpected argument '--slot'"),

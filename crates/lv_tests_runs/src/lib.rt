@@ -10,6 +10,8 @@ mod editor;
 #[cfg(test)]
 mod expect;
 #[cfg(test)]
+mod file_faults;
+#[cfg(test)]
 mod inspection;
 #[cfg(test)]
 mod lints;
@@ -17,6 +19,8 @@ mod lints;
 mod pictures;
 #[cfg(test)]
 mod project_run;
+#[cfg(test)]
+mod scripts;
 #[cfg(test)]
 mod streams;
 #[cfg(test)]

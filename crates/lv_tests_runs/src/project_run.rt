@@ -163,7 +163,7 @@ fn builds_what_a_disk_holds(rt: HostRuntime) -> Result<(), Fail> {
 }
 
 // The status of the program with these words over this input, and what it writes as its faults.
-fn status_of<W: Write>(
+pub fn status_of<W: Write>(
     rt: &HostRuntime,
     words: &[&str],
     input: &[u8],

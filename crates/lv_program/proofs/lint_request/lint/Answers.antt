@@ -1,7 +1,8 @@
 use Rattle.std.proofs.Common.{inl, inr, subst}
 use Rattle.std.proofs.KnownBytes.{Keeps-refl}
 use Rattle.lv_maptables.specs.Projects.{MapsView}
-use Rattle.lv_program.specs.Linting.{IsLintedOf}
+use Rattle.std.specs.Prelude.{is_some}
+use Rattle.lv_program.specs.Linting.{IsLintedBy}
 use Rattle.lv_program.proofs.Sources.{no_status}
 use Rattle.lv_program.proofs.lint_request.lint.Goals as goal
 
@@ -17,8 +18,8 @@ returns-clause-linted g c =
     inr (
       first.maps,
       (first.cap, first.generation, c.in-Ok.ensures.opened.stands),
-      subst (λ (m : MapsView). IsLintedOf m c.tell_remarks-how.result (g.W.Write.contents c.args.writer.now) (g.W.Write.contents c.tell_remarks-how.new.writer))
-          c.maps.ensures c.tell_remarks-how.ensures.told,
+      subst (λ (m : MapsView). IsLintedBy (is_some c.args.iwad) m c.tell_beside-how.result (g.W.Write.contents c.args.writer.now) (g.W.Write.contents c.tell_beside-how.new.writer))
+          c.maps.ensures c.tell_beside-how.ensures.told,
     )
 
 pub returns-clause-only_read : goal.returns-clause-only_read

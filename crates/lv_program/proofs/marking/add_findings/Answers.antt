@@ -1,5 +1,4 @@
-use Rattle.std.proofs.Common.{◌≡◌, ◌∙◌, arith, map, sym, ap, append-nil, ◌++◌}
-use Rattle.std.proofs.lemmas.List.{take_all}
+use Rattle.std.proofs.Common.{◌∙◌, arith, map, sym, append-nil}
 use Rattle.lv_program.specs.Marking.{finding_mark, said_at}
 use Rattle.lv_program.proofs.MarkList.{marked_more}
 use Rattle.lv_program.proofs.marking.add_findings.Goals as goal

@@ -1,9 +1,9 @@
-use Rattle.std.proofs.Common.{◌≡◌, ◌∙◌, ◌<◌, ℕ, Some, None, false, get_or, sym, arith}
+use Rattle.std.proofs.Common.{◌≡◌, ◌∙◌, ℕ, None, false, get_or, sym, arith}
 use Rattle.std.specs.Prelude.{slice_get}
 use Rattle.std.proofs.lemmas.Option.{slice_get-get_or}
 use borrow.Author.Count.{below_more}
 use Rattle.lv_maptables.specs.Projects.{project_of}
-use Rattle.lv_maptables.specs.Tables.{Tables, empty_tables}
+use Rattle.lv_maptables.specs.Tables.{Tables}
 use Rattle.lv_program.specs.Picturing.{is_called}
 use Rattle.lv_program.proofs.Picturing.{fails_here, found, none_found}
 use Rattle.lv_program.proofs.picture_request.map_called.Goals as goal

@@ -1,12 +1,6 @@
-use Rattle.std.proofs.Common.{List, ℕ, subst}
-use Rattle.std.proofs.KnownBytes.{Keeps-refl}
-use Rattle.lv_program.specs.Deeds.{IsExamined}
+use Rattle.lv_program.proofs.Scripts.{drawn_into_as}
 use Rattle.lv_program.proofs.program.done.Goals as goal
 
-pub returns-in-Inspect-clause-performed : goal.returns-in-Inspect-clause-performed
-returns-in-Inspect-clause-performed g c =
-    rw c.in-Inspect.is (
-      subst (λ (name : List ℕ). IsExamined name c.examine.result (g.W.Write.contents c.args.writer.now) (g.W.Write.contents c.examine.new.writer))
-          c.as_str-in-Inspect-2.ensures.value c.examine.ensures.examined,
-      Keeps-refl (g.R.Read.remaining c.args.reader.now),
-    )
+pub returns-in-Draw-clause-performed : goal.returns-in-Draw-clause-performed
+returns-in-Draw-clause-performed g c =
+    rw c.in-Draw.is (drawn_into_as _ _ _ _ _ _ _ _ _ c.as_deref-script.ensures.variant c.draw_file.ensures.drawn)

@@ -9,7 +9,8 @@ returns c =
     let s3 = c.with-program-2.ensures _ _ s2 c.over_file-edit.ensures in
     let s4 = c.with-program-3.ensures _ _ s3 c.over_file-check.ensures in
     let s5 = c.with-program-4.ensures _ _ s4 c.lint.ensures in
-    let s6 = c.with-program-5.ensures _ _ s5 c.dump.ensures in
-    let s7 = c.with-program-6.ensures _ _ s6 c.picture.ensures in
-    let s8 = c.with-program-7.ensures _ _ s7 c.inspect.ensures in
-    c.with.ensures _ _ s8 c.build.ensures
+    let s6 = c.with-program-5.ensures _ _ s5 c.draw.ensures in
+    let s7 = c.with-program-6.ensures _ _ s6 c.dump.ensures in
+    let s8 = c.with-program-7.ensures _ _ s7 c.picture.ensures in
+    let s9 = c.with-program-8.ensures _ _ s8 c.inspect.ensures in
+    c.with.ensures _ _ s9 c.build.ensures

@@ -1,4 +1,4 @@
-use Rattle.std.proofs.Common.{◌≡◌, ◌∙◌, rules, Bool, Option, ap, false, sym}
+use Rattle.std.proofs.Common.{◌≡◌, ◌∙◌, rules, Option, ap, false, sym}
 use Rattle.std.specs.Prelude.{codes}
 use Rattle.std.specs.Option.{option_map_or}
 use Rattle.std.specs.Str.{bytes_eq}

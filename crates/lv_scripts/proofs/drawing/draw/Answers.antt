@@ -1,7 +1,8 @@
-use Rattle.std.proofs.Common.{◌≤◌, ◌+◌, List, ◌++◌, ◌∷◌, [], ℕ, map, length, take, drop, arith, refl, subst}
+use Rattle.std.proofs.Common.{◌≤◌, ◌+◌, List, ◌++◌, ◌∷◌, [], ℕ, map, length, take, drop, arith, refl, ap, subst}
 use Rattle.std.proofs.lemmas.List.{take_all}
 use Rattle.lv_draw.specs.Known.{known}
 use Rattle.lv_draw.specs.Views.{seen}
+use Rattle.lv_draw.specs.declared.firsts.Numbers.{Numbers}
 use Rattle.lv_draw.specs.declared.script.ScriptLine.{ScriptLine}
 use Rattle.lv_scripts.specs.Drawn.{DrawsAll, first_sketch, sketch_of}
 use Rattle.lv_scripts.proofs.Sketches.{DrawsAll-more, cut_off_at, front_len, map_more, map_parts}
@@ -59,3 +60,7 @@ returns-clause-drawn g c =
           (take_all c.loop-place.place lines whole) c.loop-place.invariant,
       (refl, refl),
     )
+
+pub loop-place-init : goal.loop-place-init
+loop-place-init g c =
+    ap (λ (names : List (List ℕ × Numbers)). sketch_of c.args.canvas.now names (g.W.Write.contents c.args.writer.now)) c.requires

@@ -1,0 +1,4 @@
+pub mod NextLemmas
+pub mod NameFacts
+pub mod FineLemmas
+pub mod ProjectFacts

@@ -1,0 +1,104 @@
+-- What refuses a level of which a map is to be made, whatever is changed of it (docs/FORMAT.md,
+-- "A map of a WAD's level").
+use Rattle.std.specs.Prelude.{◌≡◌, ◌⊎◌, ℕ, pos, int_le, Bool, if◌then◌else◌, not, ◌&&◌, nat_lt, nat_le, List, length, find, take, position, Option, Some, None}
+use Rattle.std.specs.List.{range_with_len}
+use Rattle.std.specs.Option.{option_map, option_or}
+use Rattle.lv_lumps.specs.Limits.{item_limit, sector_limit}
+use Rattle.lv_lumps.specs.Names.{is_name, is_marker, name_of, name_text}
+use Rattle.lv_lumps.specs.declared.records.Name8.{Name8}
+use Rattle.lv_lumps.specs.declared.records.Line.{Line}
+use Rattle.lv_lumps.specs.declared.records.Side.{Side}
+use Rattle.lv_lumps.specs.declared.records.Vertex.{Vertex}
+use Rattle.lv_lumps.specs.declared.records.Sector.{Sector}
+use Rattle.lv_levels.specs.Drawn.{DrawnLists, drawn_lists, hindrance, is_drawable}
+use Rattle.lv_levels.specs.declared.entries.LevelEntries.{LevelEntries}
+use Rattle.lv_maptables.specs.Faults.{is_taken}
+use Rattle.lv_maptables.specs.WellFormed.{nth_vertex}
+use Rattle.lv_maptables.specs.declared.kind.Kind.{Kind}
+use Rattle.lv_maptables.specs.declared.kind.Kind.TheVariants as kind
+use Rattle.lv_import.specs.Mended.{mended_name}
+use Rattle.lv_import.specs.Imported.{kept_things, reached_vertices, same_name}
+use Rattle.lv_import.specs.declared.error.ImportError.{ImportError}
+use Rattle.lv_import.specs.declared.error.ImportError.TheVariants.{Hindered, NoMarker, TooMany, VertexOutside, VertexTaken, SectorName, SectorNumber, SideName, LineNumber, OutOfMemory}
+
+-- the changed name is one of a texture or a flat
+abbrev pub is_nameable : Name8 → Bool
+is_nameable name = is_name (name_text (mended_name name))
+
+abbrev pub has_flat_names : Sector → Bool
+has_flat_names s = is_nameable s.floor_name && is_nameable s.ceiling_name
+
+abbrev pub has_texture_names : Side → Bool
+has_texture_names s = is_nameable s.upper && is_nameable s.lower && is_nameable s.middle
+
+-- neither special nor tag is below 0
+abbrev pub has_sector_codes : Sector → Bool
+has_sector_codes s = int_le (pos 0) s.special && int_le (pos 0) s.tag
+
+-- flags, special and tag are at most 32,767
+abbrev pub has_line_codes : Line → Bool
+has_line_codes x = nat_le x.flags 32767 && nat_le x.special 32767 && nat_le x.tag 32767
+
+-- the name is a map's, as a map keeps it
+abbrev pub is_map_name : Name8 → Bool
+is_map_name name = same_name (name_of (name_text name)) name && is_marker (name_text name)
+
+-- there are too many items of the kind
+abbrev pub excess : Kind → ℕ → ℕ → Option ImportError
+excess kind limit count = if nat_lt limit count then Some (TooMany kind) else None
+
+-- the first table with too many items
+abbrev pub count_refusal : DrawnLists → Option ImportError
+count_refusal d =
+    option_or (excess kind.Vertex item_limit (length (reached_vertices d)))
+    (option_or (excess kind.Sector sector_limit (length d.sectors))
+    (option_or (excess kind.Side item_limit (length d.sides))
+    (option_or (excess kind.Line item_limit (length d.lines))
+    (excess kind.Thing item_limit (length (kept_things d))))))
+
+-- the number of the first item that doesn't pass the test, in a refusal
+abbrev pub first_without :
+    {X : Type 0} → (ℕ → ImportError) → (X → Bool) → List X → Option ImportError
+first_without error test xs = option_map error (position (λ x. not (test x)) xs)
+
+-- the first item, kind by kind, of which a map may have none
+abbrev pub item_refusal : DrawnLists → Option ImportError
+item_refusal d =
+    option_or (first_without VertexOutside is_drawable (reached_vertices d))
+    (option_or (first_without SectorName has_flat_names d.sectors)
+    (option_or (first_without SectorNumber has_sector_codes d.sectors)
+    (option_or (first_without SideName has_texture_names d.sides)
+    (first_without LineNumber has_line_codes d.lines))))
+
+-- the first refusal but that of vertices at one place
+abbrev pub lists_refusal : Name8 → DrawnLists → Option ImportError
+lists_refusal name d =
+    option_or (if is_map_name name then None else Some NoMarker)
+    (option_or (count_refusal d) (item_refusal d))
+
+-- a vertex stands at the place of one before it
+abbrev pub comes_again : List Vertex → ℕ → Bool
+comes_again vs n = is_taken (take n vs) (nth_vertex vs n)
+
+-- the number of the first such vertex
+abbrev pub taken_number : List Vertex → Option ℕ
+taken_number vs = find (comes_again vs) (range_with_len 0 (length vs))
+
+-- the first refusal of a level that nothing hinders
+abbrev pub import_refusal : Name8 → DrawnLists → Option ImportError
+import_refusal name d =
+    option_or (lists_refusal name d)
+    (option_map VertexTaken (taken_number (reached_vertices d)))
+
+-- that refusal, or lack of memory
+abbrev pub RefusesImport : Name8 → DrawnLists → ImportError → Type 0
+RefusesImport name d e = (e ≡ OutOfMemory) ⊎ (import_refusal name d ≡ Some e)
+
+-- the first refusal of a level of a WAD
+abbrev pub level_refusal : List ℕ → LevelEntries → Name8 → Option ImportError
+level_refusal wad l name =
+    option_or (option_map Hindered (hindrance wad l)) (import_refusal name (drawn_lists wad l))
+
+-- that refusal, or lack of memory
+abbrev pub RefusesLevelImport : List ℕ → LevelEntries → Name8 → ImportError → Type 0
+RefusesLevelImport wad l name e = (e ≡ OutOfMemory) ⊎ (level_refusal wad l name ≡ Some e)

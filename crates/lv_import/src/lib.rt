@@ -1,0 +1,16 @@
+//! A map of a level that another editor drew.
+#![tactic(auto)]
+
+mod change;
+mod changes;
+mod counts;
+mod error;
+mod import;
+mod lists;
+mod mended;
+mod needs;
+mod tables;
+
+pub use change::Change;
+pub use error::ImportError;
+pub use import::{Imported, import_drawn, import_level};

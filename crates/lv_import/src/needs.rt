@@ -1,0 +1,173 @@
+//! The first refusal of a level.
+ghost use Rattle.std.specs.Prelude.{◌≡◌, not, position, Some, None, if◌then◌else◌};
+ghost use Rattle.lv_levels.specs.Drawn.{drawn_view, is_drawable};
+ghost use Rattle.lv_import.specs.Refused.{first_without, has_flat_names, has_line_codes, has_sector_codes, has_texture_names, is_map_name, is_nameable, item_refusal, lists_refusal};
+
+use crate::counts::{count_refusal, first_of, reached_vertices};
+use crate::error::ImportError;
+use crate::mended::{is_coordinate, mended_name};
+use lv_levels::Drawn;
+use lv_lumps::{Line, Name8, Sector, Side, Vertex, is_marker, is_name};
+
+// Whether the changed name is one of a texture or a flat.
+fn is_nameable(name: Name8) -> bool
+    ensures { result ≡ is_nameable name }
+{
+    is_name(mended_name(name).text())
+}
+
+// Whether the changed names of the sector are ones of flats.
+fn has_flat_names(sector: &Sector) -> bool
+    ensures { result ≡ has_flat_names sector.now }
+{
+    is_nameable(sector.floor_name) && is_nameable(sector.ceiling_name)
+}
+
+// Whether the changed names of the side are ones of textures.
+fn has_texture_names(side: &Side) -> bool
+    ensures { result ≡ has_texture_names side.now }
+{
+    is_nameable(side.upper) && is_nameable(side.lower) && is_nameable(side.middle)
+}
+
+// Whether neither special nor tag of the sector is below 0.
+fn has_sector_codes(sector: &Sector) -> bool
+    ensures { result ≡ has_sector_codes sector.now }
+{
+    0 <= sector.special && 0 <= sector.tag
+}
+
+// Whether flags, special and tag of the line are at most 32,767.
+fn has_line_codes(line: &Line) -> bool
+    ensures { result ≡ has_line_codes line.now }
+{
+    line.flags <= 32767 && line.special <= 32767 && line.tag <= 32767
+}
+
+// Whether both coordinates of the vertex are ones that maps may have.
+fn is_drawable(vertex: &Vertex) -> bool
+    ensures { result ≡ is_drawable vertex.now }
+{
+    is_coordinate(vertex.x) && is_coordinate(vertex.y)
+}
+
+// The number of the first vertex outside the coordinates.
+fn vertex_outside(vertices: &[Vertex]) -> Option<usize>
+    ensures { result ≡ position (λ x. not (is_drawable x)) vertices.now }
+{
+    vertices.iter().position(|vertex| !is_drawable(vertex))
+}
+
+// The refusal of the first vertex outside the coordinates.
+fn vertex_refusal(vertices: &[Vertex]) -> Option<ImportError>
+    ensures { result ≡ first_without ImportError.VertexOutside is_drawable vertices.now }
+{
+    match vertex_outside(vertices) {
+        Some(n) => Some(ImportError::VertexOutside(n)),
+        None => None,
+    }
+}
+
+// The number of the first sector with a name that no flat has.
+fn sector_without_flat(sectors: &[Sector]) -> Option<usize>
+    ensures { result ≡ position (λ x. not (has_flat_names x)) sectors.now }
+{
+    sectors.iter().position(|sector| !has_flat_names(sector))
+}
+
+// The refusal of the first sector with a name that no flat has.
+fn flat_refusal(sectors: &[Sector]) -> Option<ImportError>
+    ensures { result ≡ first_without ImportError.SectorName has_flat_names sectors.now }
+{
+    match sector_without_flat(sectors) {
+        Some(n) => Some(ImportError::SectorName(n)),
+        None => None,
+    }
+}
+
+// The number of the first sector with a special or tag below 0.
+fn sector_below(sectors: &[Sector]) -> Option<usize>
+    ensures { result ≡ position (λ x. not (has_sector_codes x)) sectors.now }
+{
+    sectors.iter().position(|sector| !has_sector_codes(sector))
+}
+
+// The refusal of the first sector with a special or tag below 0.
+fn sector_refusal(sectors: &[Sector]) -> Option<ImportError>
+    ensures { result ≡ first_without ImportError.SectorNumber has_sector_codes sectors.now }
+{
+    match sector_below(sectors) {
+        Some(n) => Some(ImportError::SectorNumber(n)),
+        None => None,
+    }
+}
+
+// The number of the first side with a name that no texture has.
+fn side_without_texture(sides: &[Side]) -> Option<usize>
+    ensures { result ≡ position (λ x. not (has_texture_names x)) sides.now }
+{
+    sides.iter().position(|side| !has_texture_names(side))
+}
+
+// The refusal of the first side with a name that no texture has.
+fn side_refusal(sides: &[Side]) -> Option<ImportError>
+    ensures { result ≡ first_without ImportError.SideName has_texture_names sides.now }
+{
+    match side_without_texture(sides) {
+        Some(n) => Some(ImportError::SideName(n)),
+        None => None,
+    }
+}
+
+// The number of the first line with flags, special or tag above 32,767.
+fn line_above(lines: &[Line]) -> Option<usize>
+    ensures { result ≡ position (λ x. not (has_line_codes x)) lines.now }
+{
+    lines.iter().position(|line| !has_line_codes(line))
+}
+
+// The refusal of the first line with flags, special or tag above 32,767.
+fn line_refusal(lines: &[Line]) -> Option<ImportError>
+    ensures { result ≡ first_without ImportError.LineNumber has_line_codes lines.now }
+{
+    match line_above(lines) {
+        Some(n) => Some(ImportError::LineNumber(n)),
+        None => None,
+    }
+}
+
+// The first item, kind by kind, of which a map may have none.
+fn item_refusal(drawn: &Drawn) -> Option<ImportError>
+    ensures { result ≡ item_refusal (drawn_view drawn.now) }
+{
+    let sides = first_of(side_refusal(&drawn.sides), line_refusal(&drawn.lines));
+    let sectors = first_of(sector_refusal(&drawn.sectors), sides);
+    let flats = first_of(flat_refusal(&drawn.sectors), sectors);
+    first_of(vertex_refusal(reached_vertices(drawn)), flats)
+}
+
+// Whether the name is a map's, as a map keeps it.
+fn is_map_name(name: Name8) -> bool
+    ensures { result ≡ is_map_name name }
+{
+    let padded = Name8::from_text(name.text());
+    padded.bytes.as_slice() == name.bytes.as_slice() && is_marker(name.text())
+}
+
+// A name that no map may have.
+fn name_refusal(name: Name8) -> Option<ImportError>
+    ensures { result ≡ (if is_map_name name then None else Some ImportError.NoMarker) }
+{
+    if is_map_name(name) {
+        return None;
+    }
+    Some(ImportError::NoMarker)
+}
+
+/// The first refusal but that of vertices at one place.
+pub fn lists_refusal(drawn: &Drawn, name: Name8) -> Option<ImportError>
+    ensures { result ≡ lists_refusal name (drawn_view drawn.now) }
+{
+    let items = first_of(count_refusal(drawn), item_refusal(drawn));
+    first_of(name_refusal(name), items)
+}

@@ -1,0 +1,261 @@
+//! Each request over a project, in the file at a path.
+ghost use Rattle.std.specs.Prelude.{◌≡◌, ◌≤◌, Ok, IfErr, IfOk, is_some, option_map};
+ghost use Rattle.std.specs.Io.KnownBytes.{Keeps};
+ghost use Rattle.lv_program.specs.Drawing.{IsDrawnInto};
+ghost use Rattle.lv_program.specs.Dumping.{IsDumped};
+ghost use Rattle.lv_program.specs.Linting.{IsLinted};
+ghost use Rattle.lv_program.specs.Picturing.{IsPictured};
+ghost use Rattle.lv_program.specs.Deeds.{IsBuiltInto, IsChecked, IsCreated, IsEdited};
+ghost use Rattle.lv_reports.specs.declared.refusal.Refusal.{Refusal};
+
+use crate::build_request::build;
+use crate::draw_request::{Script, draw};
+use crate::dump_request::dump;
+use crate::lint_request::lint;
+use crate::over_disk::{check, create, edit};
+use crate::picture_request::{Wanted, picture};
+use crate::script_file::{read_script, script_name};
+use lv_disk::{Disk, FileDisk};
+use lv_files::{Access, GaplessFile, Hold, NotedFile, open_held};
+use lv_project::{Geometry, ProjectError};
+use lv_reports::{Causes, Refusal};
+use std::io::{Read, Write};
+use std::os::unix::fs::FileExt;
+use std::rt::Files;
+
+// Opens a request's file and holds it until it is closed, or notes why it can't.
+fn open_at<E: Files>(
+    rt: &E,
+    path: &str,
+    access: Access,
+    why: &mut Causes,
+) -> Result<E::File, Refusal>
+where
+    E::File: Hold,
+    ensures { IfErr result (λ r. r ≡ Refusal.Project ProjectError.Device) }
+{
+    match open_held(rt, path, access) {
+        Ok(file) => Ok(file),
+        Err(cause) => {
+            why.file = Some(cause);
+            Err(Refusal::Project(ProjectError::Device))
+        }
+    }
+}
+
+// The file of a request, held until it is let go, which knows why its last call failed; or notes why it can't be
+// opened.
+fn file_at<E: Files>(
+    rt: &E,
+    path: &str,
+    access: Access,
+    why: &mut Causes,
+) -> Result<NotedFile<E::File>, Refusal>
+where
+    E::File: Hold,
+    ensures { IfErr result (λ r. r ≡ Refusal.Project ProjectError.Device) }
+{
+    let file = open_at(rt, path, access, why)?;
+    Ok(NotedFile::new(file))
+}
+
+// How a request over a file ended; where the file failed, notes why.
+fn ended_over<F>(
+    file: &NotedFile<F>,
+    how: Result<u8, Refusal>,
+    why: &mut Causes,
+) -> Result<u8, Refusal>
+    ensures { result ≡ how }
+{
+    if let Err(Refusal::Project(ProjectError::Device)) = &how {
+        why.file = file.fault();
+    }
+    how
+}
+
+/// Makes a project in the file at the path.
+pub fn create_file<E, W>(
+    rt: &E,
+    path: &str,
+    slot: u32,
+    journal: u32,
+    writer: &mut W,
+    why: &mut Causes,
+) -> Result<u8, Refusal>
+where
+    E: AllocGlobal + Files,
+    E::File: FileExt + Hold,
+    W: Write,
+    ensures small { IfOk result (λ s. s ≤ 3) }
+    ensures created { IsCreated slot journal result
+        (W.contents writer.old) (W.contents writer.new) }
+{
+    let geometry = Geometry { slot, journal };
+    let file = GaplessFile::new(open_at(rt, path, Access::Making, why)?);
+    let how = create(rt.alloc(), FileDisk::new(&file, true), geometry, writer).how;
+    if let Err(Refusal::Project(ProjectError::Device)) = how {
+        why.file = file.take_back();
+    }
+    how
+}
+
+/// Answers the lines of the input over the project in the file at the path.
+pub fn edit_file<E, R, W>(
+    rt: &E,
+    path: &str,
+    reader: &mut R,
+    writer: &mut W,
+    why: &mut Causes,
+) -> Result<u8, Refusal>
+where
+    E: AllocGlobal + Files,
+    E::File: FileExt + Hold,
+    R: Read,
+    W: Write,
+    ensures small { IfOk result (λ s. s ≤ 3) }
+    ensures answered { IsEdited ⟦<FileDisk<&'static NotedFile<E::File>> as Disk>⟧ result
+        (R.remaining reader.old) (R.remaining reader.new)
+        (W.contents writer.old) (W.contents writer.new) }
+{
+    let file = file_at(rt, path, Access::Writes, why)?;
+    let disk = FileDisk::new(&file, true);
+    let how = edit(rt.alloc(), disk, reader, writer).how;
+    ended_over(&file, how, why)
+}
+
+/// Says what is wrong or unfinished in the current map of the project in the file at the path.
+pub fn check_file<E, W>(rt: &E, path: &str, writer: &mut W, why: &mut Causes) -> Result<u8, Refusal>
+where
+    E: AllocGlobal + Files,
+    E::File: FileExt + Hold,
+    W: Write,
+    ensures small { IfOk result (λ s. s ≤ 3) }
+    ensures found { IsChecked result (W.contents writer.old) (W.contents writer.new) }
+{
+    let file = file_at(rt, path, Access::Reads, why)?;
+    let disk = FileDisk::new(&file, false);
+    let how = check(rt.alloc(), disk, writer).how;
+    ended_over(&file, how, why)
+}
+
+/// Says what is wrong, unfinished or doubtful in each map of the project in the file at the path, and which flats and
+/// textures the WAD at the path `iwad` lacks, if one is given.
+pub fn lint_file<E, W>(
+    rt: &E,
+    path: &str,
+    iwad: Option<&str>,
+    writer: &mut W,
+    why: &mut Causes,
+) -> Result<u8, Refusal>
+where
+    E: AllocGlobal + Files,
+    E::File: FileExt + Hold,
+    W: Write,
+    ensures small { IfOk result (λ s. s ≤ 3) }
+    ensures linted { IsLinted (is_some iwad.entry) result
+        (W.contents writer.old) (W.contents writer.new) }
+{
+    let file = file_at(rt, path, Access::Reads, why)?;
+    let disk = FileDisk::new(&file, false);
+    let how = lint(rt, disk, iwad, writer, &mut why.beside).how;
+    ended_over(&file, how, why)
+}
+
+/// Draws a script onto the project in the file at the path: the one in the file at `script`, or else the input.
+pub fn draw_file<E, R, W, F>(
+    rt: &E,
+    path: &str,
+    script: Option<&str>,
+    is_verbose: bool,
+    reader: &mut R,
+    writer: &mut W,
+    faults: &mut F,
+    why: &mut Causes,
+) -> Result<u8, Refusal>
+where
+    E: AllocGlobal + Files,
+    E::File: FileExt + Hold,
+    R: Read,
+    W: Write,
+    F: Write,
+    ensures small { IfOk result (λ s. s ≤ 3) }
+    ensures drawn { IsDrawnInto ⟦<FileDisk<&'static NotedFile<E::File>> as Disk>⟧
+        (is_some script.entry) is_verbose result (R.remaining reader.old) (R.remaining reader.new)
+        (W.contents writer.old) (W.contents writer.new) }
+    ensures quiet { result ≡ Ok 0 → Keeps (F.contents faults.old) (F.contents faults.new) }
+{
+    let text = match read_script(rt, script, reader, &mut why.beside) {
+        Ok(text) => text,
+        Err(refusal) => return Err(refusal),
+    };
+    let file = match file_at(rt, path, Access::Writes, why) {
+        Ok(file) => file,
+        Err(refusal) => return Err(refusal),
+    };
+    let disk = FileDisk::new(&file, true);
+    let script = Script {
+        name: script_name(script),
+        text: &text,
+        is_verbose,
+    };
+    let how = draw(rt.alloc(), disk, script, writer, faults).how;
+    ended_over(&file, how, why)
+}
+
+/// Writes the lines that draw the maps of the project in the file at the path again.
+pub fn dump_file<E, W>(rt: &E, path: &str, writer: &mut W, why: &mut Causes) -> Result<u8, Refusal>
+where
+    E: AllocGlobal + Files,
+    E::File: FileExt + Hold,
+    W: Write,
+    ensures small { IfOk result (λ s. s ≤ 3) }
+    ensures dumped { IsDumped result (W.contents writer.old) (W.contents writer.new) }
+{
+    let file = file_at(rt, path, Access::Reads, why)?;
+    let disk = FileDisk::new(&file, false);
+    let how = dump(rt.alloc(), disk, writer).how;
+    ended_over(&file, how, why)
+}
+
+/// Draws a map of the project in the file at the path.
+pub fn picture_file<E, W>(
+    rt: &E,
+    path: &str,
+    wanted: Wanted<'_>,
+    writer: &mut W,
+    why: &mut Causes,
+) -> Result<u8, Refusal>
+where
+    E: AllocGlobal + Files,
+    E::File: FileExt + Hold,
+    W: Write,
+    ensures small { IfOk result (λ s. s ≤ 3) }
+    ensures pictured { IsPictured wanted.entry.layers (option_map (λ s. s.now) wanted.entry.map)
+        (is_some wanted.entry.out) result (W.contents writer.old) (W.contents writer.new) }
+{
+    let file = file_at(rt, path, Access::Reads, why)?;
+    let disk = FileDisk::new(&file, false);
+    let how = picture(rt.alloc(), rt, disk, wanted, writer, &mut why.out).how;
+    ended_over(&file, how, why)
+}
+
+/// Builds the maps of the project in the file at the path into the file at `out`.
+pub fn build_file<E, W>(
+    rt: &E,
+    path: &str,
+    out: &str,
+    writer: &mut W,
+    why: &mut Causes,
+) -> Result<u8, Refusal>
+where
+    E: AllocGlobal + Files,
+    E::File: FileExt + Hold,
+    W: Write,
+    ensures small { IfOk result (λ s. s ≤ 3) }
+    ensures built { IsBuiltInto result (W.contents writer.old) (W.contents writer.new) }
+{
+    let file = file_at(rt, path, Access::Reads, why)?;
+    let disk = FileDisk::new(&file, false);
+    let how = build(rt.alloc(), rt, disk, out, writer, &mut why.out).how;
+    ended_over(&file, how, why)
+}

@@ -1,0 +1,94 @@
+//! Scripts in files, or in the input: drawn onto the project in a file, or tried.
+ghost use Rattle.std.specs.Prelude.{◌≡◌, ◌≤◌, false, Ok, IfErr, IfOk, is_some};
+ghost use Rattle.std.specs.Io.KnownBytes.{Keeps};
+ghost use Rattle.lv_program.specs.Drawing.{IsInput, IsScriptTried, IsUnread};
+
+use crate::draw_request::{Script, try_script};
+use crate::examining::read_whole;
+use crate::limits::TURNS;
+use lv_editor::EditorError;
+use lv_files::Cause;
+use lv_reports::Refusal;
+use std::alloc::Global;
+use std::fs::{self, Files};
+use std::io::{Read, Write};
+
+// All that the reader gives.
+fn read_all<R: Read>(alloc: Global, reader: &mut R) -> Result<Vec<u8>, Refusal>
+    ensures whole { IfOk result (λ bytes. IsInput false bytes.items (R.remaining reader.old)
+        (R.remaining reader.new)) }
+    ensures refused { IfErr result IsUnread }
+{
+    match read_whole(alloc, reader, TURNS) {
+        Ok(bytes) => Ok(bytes),
+        Err(error) => Err(Refusal::Lines(error)),
+    }
+}
+
+// All that the file at the path gives, or notes why it can't be opened.
+fn read_file<E: AllocGlobal + Files>(
+    rt: &E,
+    path: &str,
+    why: &mut Option<Cause>,
+) -> Result<Vec<u8>, Refusal>
+    ensures refused { IfErr result IsUnread }
+{
+    match fs::open(rt, path) {
+        Ok(mut file) => read_all(rt.alloc(), &mut file),
+        Err(error) => {
+            *why = Some(Cause::System(error));
+            Err(Refusal::Lines(EditorError::ReaderFailed))
+        }
+    }
+}
+
+/// A script: all that the file at the path gives, or else the input; or notes why the file can't be opened.
+pub fn read_script<E: AllocGlobal + Files, R: Read>(
+    rt: &E,
+    path: Option<&str>,
+    reader: &mut R,
+    why: &mut Option<Cause>,
+) -> Result<Vec<u8>, Refusal>
+    ensures whole { IfOk result (λ bytes. IsInput (is_some path.entry) bytes.items
+        (R.remaining reader.old) (R.remaining reader.new)) }
+    ensures refused { IfErr result IsUnread }
+{
+    match path {
+        Some(path) => read_file(rt, path, why),
+        None => read_all(rt.alloc(), reader),
+    }
+}
+
+/// What a script is called where a line is refused: its path, and `-` for the input.
+pub fn script_name<'a>(path: Option<&'a str>) -> &'a str {
+    match path {
+        Some(path) => path,
+        None => "-",
+    }
+}
+
+/// Tries the script in the file at the path over the empty project in memory, or notes why the file can't be opened.
+pub fn try_file<E: AllocGlobal + Files, W: Write, F: Write>(
+    rt: &E,
+    path: &str,
+    is_verbose: bool,
+    writer: &mut W,
+    faults: &mut F,
+    why: &mut Option<Cause>,
+) -> Result<u8, Refusal>
+    ensures small { IfOk result (λ s. s ≤ 3) }
+    ensures tried { IsScriptTried is_verbose result
+        (W.contents writer.old) (W.contents writer.new) }
+    ensures quiet { result ≡ Ok 0 → Keeps (F.contents faults.old) (F.contents faults.new) }
+{
+    let text = match read_file(rt, path, why) {
+        Ok(text) => text,
+        Err(refusal) => return Err(refusal),
+    };
+    let script = Script {
+        name: path,
+        text: &text,
+        is_verbose,
+    };
+    try_script(rt.alloc(), script, writer, faults)
+}

@@ -1,0 +1,173 @@
+//! The lumps of a WAD, those of its levels after what became of each, appended in their order.
+ghost use Rattle.std.specs.Prelude.{◌≡◌, ◌<◌, ◌≤◌, [], ◌∷◌, All, MatchResult, get_or};
+ghost use Rattle.lv_levels.specs.Entries.{IsLevelAt};
+ghost use Rattle.lv_levels.specs.Levels.{lump_count};
+ghost use Rattle.lv_rebuild.specs.Parts.{HasLumps, lumps_up_to};
+ghost use Rattle.lv_rebuild.specs.Rebuilt.{lump_at, lumps_after, lumps_between, made_lumps, rebuilt_lumps, ten_bytes, ten_lumps};
+ghost use Rattle.lv_rebuild.specs.Writing.{Fits, Puts, RefusesPut};
+
+use crate::directory::{entry_of, lump_count, lump_of};
+use crate::error::RebuildError;
+use crate::levels::{Fate, RebuiltLevel};
+use crate::made::MadeLumps;
+use crate::writing::Writing;
+use lv_levels::{LUMP_NAMES, LevelEntries, level_lump};
+
+// Appends the lump of the k-th entry.
+fn put_kept(wad: &[u8], k: u32, to: &mut Writing) -> Result<(), RebuildError>
+    requires wad { HasLumps wad.now }
+    requires among { k < lump_count wad.now }
+    requires fits { Fits to.old }
+    ensures { MatchResult result
+        (λ _. Puts to.old to.new (lump_at wad.now k ∷ []))
+        (RefusesPut to.old (lump_at wad.now k ∷ [])) }
+{
+    let entry = entry_of(wad, k);
+    to.push(entry.name, lump_of(wad, k))
+}
+
+// Appends the lumps of the entries from one on up to another.
+fn put_between(wad: &[u8], from: u32, end: u32, to: &mut Writing) -> Result<(), RebuildError>
+    requires wad { HasLumps wad.now }
+    requires among { end ≤ lump_count wad.now }
+    requires fits { Fits to.old }
+    ensures { MatchResult result
+        (λ _. Puts to.old to.new (lumps_between wad.now from end))
+        (RefusesPut to.old (lumps_between wad.now from end)) }
+{
+    for k in from..end {
+        match put_kept(wad, k, to) {
+            Ok(()) => {}
+            Err(error) => return Err(error),
+        }
+    }
+    Ok(())
+}
+
+// The bytes of a lump of a level that is built anew, by its number in the order of `LUMP_NAMES`.
+fn made_lump<'a>(wad: &'a [u8], level: LevelEntries, made: &'a MadeLumps, n: usize) -> &'a [u8]
+    requires wad { HasLumps wad.now }
+    requires level { IsLevelAt wad.now level }
+    requires number { n < 10 }
+    ensures { result.now ≡ get_or (ten_bytes wad.now level made.now) n [] }
+{
+    match n {
+        3 => &made.vertices,
+        4 => &made.segs,
+        5 => &made.subs,
+        6 => &made.nodes,
+        8 => &made.reject,
+        9 => &made.blockmap,
+        _ => level_lump(wad, level, n),
+    }
+}
+
+// Appends the ten lumps of a level that is built anew.
+fn put_ten(
+    wad: &[u8],
+    level: LevelEntries,
+    made: &MadeLumps,
+    to: &mut Writing,
+) -> Result<(), RebuildError>
+    requires wad { HasLumps wad.now }
+    requires level { IsLevelAt wad.now level }
+    requires fits { Fits to.old }
+    ensures { MatchResult result
+        (λ _. Puts to.old to.new (ten_lumps wad.now level made.now))
+        (RefusesPut to.old (ten_lumps wad.now level made.now)) }
+{
+    for n in 0..LUMP_NAMES.len() {
+        match to.push(LUMP_NAMES[n], made_lump(wad, level, made, n)) {
+            Ok(()) => {}
+            Err(error) => return Err(error),
+        }
+    }
+    Ok(())
+}
+
+// Appends the lumps of a level that is built anew.
+fn put_made(
+    wad: &[u8],
+    level: LevelEntries,
+    made: &MadeLumps,
+    to: &mut Writing,
+) -> Result<(), RebuildError>
+    requires wad { HasLumps wad.now }
+    requires level { IsLevelAt wad.now level }
+    requires fits { Fits to.old }
+    ensures { MatchResult result
+        (λ _. Puts to.old to.new (made_lumps wad.now level made.now))
+        (RefusesPut to.old (made_lumps wad.now level made.now)) }
+{
+    match put_kept(wad, level.marker, to) {
+        Ok(()) => {}
+        Err(error) => return Err(error),
+    }
+    match put_ten(wad, level, made, to) {
+        Ok(()) => Ok(()),
+        Err(error) => Err(error),
+    }
+}
+
+// Appends the lumps that stand in place of a level's.
+fn put_level(wad: &[u8], level: &RebuiltLevel, to: &mut Writing) -> Result<(), RebuildError>
+    requires wad { HasLumps wad.now }
+    requires level { IsLevelAt wad.now level.now.entries }
+    requires fits { Fits to.old }
+    ensures { MatchResult result
+        (λ _. Puts to.old to.new (lumps_after wad.now level.now.entries level.now.fate))
+        (RefusesPut to.old (lumps_after wad.now level.now.entries level.now.fate)) }
+{
+    match &level.fate {
+        Fate::Made(made) => put_made(wad, level.entries, made, to),
+        Fate::NotAsked => put_between(wad, level.entries.marker, level.entries.gl_end, to),
+        Fate::Left(_) => put_between(wad, level.entries.marker, level.entries.gl_end, to),
+    }
+}
+
+// Appends the lumps from the k-th entry on up to a level, and those in place of the level's.
+fn put_up_to(wad: &[u8], k: u32, level: &RebuiltLevel, to: &mut Writing) -> Result<(), RebuildError>
+    requires wad { HasLumps wad.now }
+    requires level { IsLevelAt wad.now level.now.entries }
+    requires fits { Fits to.old }
+    ensures { MatchResult result
+        (λ _. Puts to.old to.new (lumps_up_to wad.now k level.now))
+        (RefusesPut to.old (lumps_up_to wad.now k level.now)) }
+{
+    match put_between(wad, k, level.entries.marker, to) {
+        Ok(()) => {}
+        Err(error) => return Err(error),
+    }
+    match put_level(wad, level, to) {
+        Ok(()) => Ok(()),
+        Err(error) => Err(error),
+    }
+}
+
+/// Appends the lumps of a WAD after what became of its levels.
+pub fn put_rebuilt(
+    wad: &[u8],
+    levels: &[RebuiltLevel],
+    to: &mut Writing,
+) -> Result<(), RebuildError>
+    requires wad { HasLumps wad.now }
+    requires levels { All (λ l. IsLevelAt wad.now l.entries) levels.now }
+    requires fits { Fits to.old }
+    ensures { MatchResult result
+        (λ _. Puts to.old to.new (rebuilt_lumps wad.now levels.now))
+        (RefusesPut to.old (rebuilt_lumps wad.now levels.now)) }
+{
+    let mut next = 0;
+    for n in 0..levels.len() {
+        let level = &levels[n];
+        match put_up_to(wad, next, level, to) {
+            Ok(()) => {}
+            Err(error) => return Err(error),
+        }
+        next = level.entries.gl_end;
+    }
+    match put_between(wad, next, lump_count(wad), to) {
+        Ok(()) => Ok(()),
+        Err(error) => Err(error),
+    }
+}

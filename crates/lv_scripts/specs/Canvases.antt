@@ -1,0 +1,74 @@
+-- What is drawn onto: a project in a file, or maps in memory. What each promises of a command and
+-- of a query (docs/COMMANDS.md, "Answers and queries").
+use Rattle.std.specs.Prelude.{◌≡◌, ℕ, Bool, List, Option, Some, None, Result, MatchOption, is_some}
+use Rattle.std.specs.Io.KnownBytes.{Appends, Keeps}
+use Rattle.lv_disk.specs.declared.disk.Disk.{Ghosts}
+use Rattle.lv_maptables.specs.Projects.{ProjectMaps, project_of}
+use Rattle.lv_project.specs.Calls.{Applies}
+use Rattle.lv_project.specs.States.{State}
+use Rattle.lv_project.specs.declared.error.ProjectError.{ProjectError}
+use Rattle.lv_editor.specs.Answers.{ChangesBy}
+use Rattle.lv_editor.specs.Editing.{outcome_in}
+use Rattle.lv_editor.specs.Queries.{IsAnswer, TakesMemory, query_of}
+use Rattle.lv_editor.specs.declared.limits.TheConstants.{LONGEST_BODY}
+use Rattle.lv_editor.specs.declared.query.Query.{Query}
+use Rattle.lv_scripts.specs.Drawn.{OneOf}
+use Rattle.lv_scripts.specs.declared.canvas.Canvas as canvas
+
+-- ---- Commands
+
+-- a line over a project in a file: `apply` kept its promises of it, and the outcome is what it
+-- answered
+abbrev pub ChangesProject : {D : Type 0} → Ghosts D → State D → List ℕ → Result ℕ ℕ → State D
+    → Type 0
+ChangesProject facts old line outcome new =
+    (answer : Result ℕ ProjectError) × Applies facts old line answer new
+    × (outcome ≡ outcome_in answer)
+
+-- ---- Queries
+
+-- whether a line is a query of `edit`
+abbrev pub is_query_line : List ℕ → Bool
+is_query_line line = is_some (query_of line)
+
+-- an answer to a query of these maps was written; or it was refused for lack of memory, which an
+-- answer takes, and nothing was written
+abbrev pub TellsQuery : ProjectMaps → Query → Option ℕ → Option (List ℕ) → Option (List ℕ) → Type 0
+TellsQuery p query None writer-old writer-new =
+    (text : List ℕ) × IsAnswer p query text × Appends writer-old writer-new text
+TellsQuery p query (Some code) writer-old writer-new =
+    (code ≡ 31) × TakesMemory query × Keeps writer-old writer-new
+
+-- a line was told that asks of these maps; one that is no query is refused
+abbrev pub TellsOfMaps : ProjectMaps → List ℕ → Option ℕ → Option (List ℕ) → Option (List ℕ)
+    → Type 0
+TellsOfMaps p line refusal writer-old writer-new =
+    MatchOption (query_of line) ((refusal ≡ Some 1) × Keeps writer-old writer-new)
+    (λ q. TellsQuery p q.1 refusal writer-old writer-new)
+
+-- the same of a project, which refuses each where it must be opened again
+abbrev pub TellsOfProject : {D : Type 0} → State D → List ℕ → Option ℕ → Option (List ℕ)
+    → Option (List ℕ) → Type 0
+TellsOfProject project line refusal writer-old writer-new =
+    OneOf project.must_reopen ((refusal ≡ Some 32) × Keeps writer-old writer-new)
+    (TellsOfMaps (project_of project.maps) line refusal writer-old writer-new)
+
+-- ---- Canvases
+
+-- a project over a disk
+abbrev pub project_canvas : {D : Type 0} → Ghosts D → canvas.Ghosts (State D)
+project_canvas facts = record {
+  changes = ChangesProject facts;
+  maps_in = λ s. project_of s.maps;
+  is_query = is_query_line;
+  tells = TellsOfProject;
+}
+
+-- maps in memory, as long as those of any file
+abbrev pub draft_canvas : canvas.Ghosts ProjectMaps
+draft_canvas = record {
+  changes = ChangesBy LONGEST_BODY;
+  maps_in = λ p. p;
+  is_query = is_query_line;
+  tells = TellsOfMaps;
+}

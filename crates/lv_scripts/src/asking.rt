@@ -1,0 +1,60 @@
+//! Queries in a script, answered as `edit` answers them.
+ghost use Rattle.std.specs.Prelude.{◌≡◌, MatchResult};
+ghost use Rattle.lv_maptables.specs.Projects.{project_of};
+ghost use Rattle.lv_scripts.specs.Canvases.{TellsOfMaps, TellsQuery, is_query_line};
+ghost use Rattle.lv_scripts.specs.declared.error.ScriptError.TheVariants.{WriterFailed};
+
+use crate::error::ScriptError;
+use lv_commands::CommandError;
+use lv_editor::{EditorError, Query, read_query, write_answer};
+use lv_maptables::Maps;
+use std::alloc::Global;
+use std::io::Write;
+
+/// Whether a line is a query.
+pub fn is_query_line(line: &[u8]) -> bool
+    ensures { result ≡ is_query_line line.now }
+{
+    read_query(line).is_some()
+}
+
+// Tells the answer to a query of the maps, or gives the code of its refusal.
+fn tell_query<W: Write>(
+    alloc: Global,
+    maps: &Maps,
+    query: Query,
+    writer: &mut W,
+) -> Result<Option<u16>, ScriptError>
+    ensures { MatchResult result
+        (λ refusal. TellsQuery (project_of maps.now) query refusal (W.contents writer.old)
+        (W.contents writer.new))
+        (λ e. e ≡ WriterFailed) }
+{
+    match write_answer(alloc, maps, query, writer) {
+        Ok(()) => Ok(None),
+        Err(EditorError::OutOfMemory) => Ok(Some(CommandError::OutOfMemory.code())),
+        Err(_) => Err(ScriptError::WriterFailed),
+    }
+}
+
+/// Tells the answer to a line that asks of the maps, or gives the code of its refusal. One that is no query is refused.
+///
+/// # Errors
+///
+/// `WriterFailed` alone.
+pub fn tell_of<W: Write>(
+    alloc: Global,
+    maps: &Maps,
+    line: &[u8],
+    writer: &mut W,
+) -> Result<Option<u16>, ScriptError>
+    ensures { MatchResult result
+        (λ refusal. TellsOfMaps (project_of maps.now) line.now refusal (W.contents writer.old)
+        (W.contents writer.new))
+        (λ e. e ≡ WriterFailed) }
+{
+    match read_query(line) {
+        Some(query) => tell_query(alloc, maps, query, writer),
+        None => Ok(Some(CommandError::NotACommand.code())),
+    }
+}

@@ -1,0 +1,86 @@
+//! Maps in memory, onto which a script is drawn to try it.
+ghost use Rattle.std.specs.Prelude.{◌≡◌, ◌≤◌};
+ghost use Rattle.lv_editor.specs.declared.limits.TheConstants.{LONGEST_BODY};
+ghost use Rattle.lv_editor.specs.Answers.{ChangesBy, outcome_of};
+ghost use Rattle.lv_maptables.specs.Projects.{ProjectMaps, body_len, empty_project, project_of};
+ghost use Rattle.lv_scripts.specs.Canvases.{TellsOfMaps, is_query_line};
+
+use crate::asking::{is_query_line, tell_of};
+use crate::canvas::Canvas;
+use crate::error::ScriptError;
+use lv_commands::{CommandError, apply, parse};
+use lv_editor::LONGEST_BODY;
+use lv_maptables::Maps;
+use std::alloc::Global;
+use std::io::Write;
+use std::marker::Model;
+
+/// The maps of a project in memory, at first the empty map MAP01 alone. They may be as long as those of any file.
+#[derive(Drop)]
+pub struct Draft {
+    maps: Maps,
+}
+
+impl Model for Draft {
+    ghost Value = { ProjectMaps };
+
+    ghost view = { λ d. project_of d.maps };
+
+    ghost invariant = { λ d. body_len (project_of d.maps) ≤ 2007002 };
+}
+
+impl Draft {
+    /// The empty map MAP01 alone. It takes no memory.
+    pub fn new(alloc: Global) -> Self
+        ensures { result ≡ empty_project }
+    {
+        Draft {
+            maps: Maps::new(alloc),
+        }
+    }
+}
+
+// The outcome of a command: its number, or the refusal's code.
+fn outcome_of(ended: Result<u32, CommandError>) -> Result<u32, u16>
+    ensures { result ≡ outcome_of ended }
+{
+    match ended {
+        Ok(number) => Ok(number),
+        Err(error) => Err(error.code()),
+    }
+}
+
+impl Canvas for Draft {
+    ghost changes = { ChangesBy LONGEST_BODY };
+
+    ghost maps_in = { λ p. p };
+
+    ghost is_query = { is_query_line };
+
+    ghost tells = { TellsOfMaps };
+
+    fn change(&mut self, line: &[u8]) -> Result<u32, u16> {
+        let command = match parse(line) {
+            Ok(command) => command,
+            Err(error) => return Err(error.code()),
+        };
+        outcome_of(apply(&mut self.maps, &command, LONGEST_BODY))
+    }
+
+    fn maps(&self) -> &Maps {
+        &self.maps
+    }
+
+    fn is_query(line: &[u8]) -> bool {
+        is_query_line(line)
+    }
+
+    fn tell<W: Write>(
+        &self,
+        alloc: Global,
+        line: &[u8],
+        writer: &mut W,
+    ) -> Result<Option<u16>, ScriptError> {
+        tell_of(alloc, &self.maps, line, writer)
+    }
+}

@@ -1,0 +1,125 @@
+//! The commands and queries of a line, and what may stand in it, as a person reads them.
+
+/// Each command and each query: its first word, and behind it what may stand there, as docs/COMMANDS.md names it.
+const FORMS: &[&str] = &[
+    "name MARKER",
+    "map MARKER",
+    "drop-map MARKER",
+    "vertex X Y",
+    "sector F C FN CN LIGHT SPECIAL TAG",
+    "side XO YO UP LOW MID SECTOR",
+    "line V1 V2 FLAGS SPECIAL TAG RIGHT LEFT",
+    "thing X Y ANGLE TYPE OPTIONS",
+    "move-vertex VERTEX X Y",
+    "set-sector SECTOR F C FN CN LIGHT SPECIAL TAG",
+    "set-side SIDE XO YO UP LOW MID SECTOR",
+    "set-line LINE V1 V2 FLAGS SPECIAL TAG RIGHT LEFT",
+    "set-thing THING X Y ANGLE TYPE OPTIONS",
+    "drop KIND NUMBER",
+    "room X1 Y1 X2 Y2 F C FN CN WALL LIGHT",
+    "split LINE X Y",
+    "check",
+    "count",
+    "maps",
+    "build",
+    "hex LUMP",
+];
+
+/// The least and the greatest number of each place for one.
+const RANGES: &[(&str, i32, i32)] = &[
+    ("X", -16384, 16383),
+    ("Y", -16384, 16383),
+    ("X1", -16384, 16383),
+    ("Y1", -16384, 16383),
+    ("X2", -16384, 16383),
+    ("Y2", -16384, 16383),
+    ("F", -32768, 32767),
+    ("C", -32768, 32767),
+    ("XO", -32768, 32767),
+    ("YO", -32768, 32767),
+    ("FLAGS", 0, 32767),
+    ("SPECIAL", 0, 32767),
+    ("TAG", 0, 32767),
+    ("TYPE", 0, 32767),
+    ("OPTIONS", 0, 32767),
+    ("LIGHT", 0, 255),
+    ("ANGLE", 0, 359),
+    ("SECTOR", 0, 4095),
+    ("SIDE", 0, 32766),
+    ("LINE", 0, 32766),
+    ("THING", 0, 32766),
+    ("VERTEX", 0, 32766),
+    ("V1", 0, 32766),
+    ("V2", 0, 32766),
+    ("RIGHT", 0, 32766),
+    ("LEFT", 0, 32766),
+    ("NUMBER", 0, 32766),
+];
+
+/// The first word of a text.
+pub fn first_word(text: &str) -> &str {
+    match text.split_once(' ') {
+        Some((first, _)) => first,
+        None => text,
+    }
+}
+
+/// How many words a text has, with one space between each two.
+pub fn count_words(text: &str) -> usize {
+    text.split(' ').count()
+}
+
+/// The command or query that a first word begins.
+pub fn form_of(first: &str) -> Option<&'static str> {
+    for form in FORMS {
+        if first_word(form) == first {
+            return Some(*form);
+        }
+    }
+    None
+}
+
+// How many bytes two words have in common at their fronts.
+fn common_front(one: &[u8], other: &[u8]) -> usize {
+    one.iter()
+        .zip(other)
+        .take_while(|(a, b)| **a == **b)
+        .count()
+}
+
+// How many bytes two words have in common at their ends.
+fn common_back(one: &[u8], other: &[u8]) -> usize {
+    one.iter()
+        .rev()
+        .zip(other.iter().rev())
+        .take_while(|(a, b)| **a == **b)
+        .count()
+}
+
+// Whether the words differ by one letter at most: one that is another, that is missing or that is too many.
+fn is_near(one: &[u8], other: &[u8]) -> bool {
+    let longest = one.len().max(other.len());
+    let shortest = one.len().min(other.len());
+    let common = common_front(one, other).saturating_add(common_back(one, other));
+    longest - shortest <= 1 && longest <= common.saturating_add(1)
+}
+
+/// The command or query that is meant by a first word which is none, where one letter is off.
+pub fn form_near(first: &str) -> Option<&'static str> {
+    for form in FORMS {
+        if is_near(first.as_bytes(), first_word(form).as_bytes()) {
+            return Some(*form);
+        }
+    }
+    None
+}
+
+/// The least and the greatest number at a place of this name, if numbers stand there.
+pub fn range_at(place: &str) -> Option<(i32, i32)> {
+    for &(name, low, high) in RANGES {
+        if name == place {
+            return Some((low, high));
+        }
+    }
+    None
+}

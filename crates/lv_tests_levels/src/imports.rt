@@ -1,0 +1,159 @@
+//! Maps of levels that another editor drew: what is changed of them, and why one is no map.
+
+use crate::expect::same;
+use crate::foreign::wad_of;
+use lv_import::{Imported, import_level};
+use lv_levels::levels_in;
+use lv_lumps::Name8;
+use lv_maptables::Kind;
+use std::alloc::Global;
+use std::test::Fail;
+
+// A line from (0, 0) to (64, 0) with a right side in the only sector, and flag 1; and with flag 4 instead.
+const LINES: &[u8] = &[0, 0, 1, 0, 1, 0, 0, 0, 0, 0, 0, 0, 0xff, 0xff];
+
+const TWO_SIDED: &[u8] = &[0, 0, 1, 0, 4, 0, 0, 0, 0, 0, 0, 0, 0xff, 0xff];
+
+// (0, 0), (64, 0); and (7, 7) behind them, which no line uses.
+const VERTICES: &[u8] = &[0, 0, 0, 0, 64, 0, 0, 0];
+
+const VERTICES_MORE: &[u8] = &[0, 0, 0, 0, 64, 0, 0, 0, 7, 0, 7, 0];
+
+// Two vertices at one place, and a line from the last to (64, 0).
+const VERTICES_TWICE: &[u8] = &[0, 0, 0, 0, 64, 0, 0, 0, 0, 0, 0, 0];
+
+const LINES_TWICE: &[u8] = &[2, 0, 1, 0, 1, 0, 0, 0, 0, 0, 0, 0, 0xff, 0xff];
+
+// A side in sector 0: offsets, upper, lower, middle.
+const SIDES: &[u8] = b"\0\0\0\0-\0\0\0\0\0\0\0-\0\0\0\0\0\0\0STONE\0\0\0\0\0";
+
+const SMALL_SIDES: &[u8] = b"\0\0\0\0-\0\0\0\0\0\0\0\0more\0\0\0stone\0\0\0\0\0";
+
+const STARRED_SIDES: &[u8] = b"\0\0\0\0-\0\0\0\0\0\0\0-\0\0\0\0\0\0\0ST*NE\0\0\0\0\0";
+
+// A sector from 0 to 128 with light 160; and with light 300.
+const SECTORS: &[u8] = b"\0\0\x80\0FLAT1\0\0\0FLAT1\0\0\0\xa0\0\0\0\0\0";
+
+const BRIGHT: &[u8] = b"\0\0\x80\0FLAT1\0\0\0FLAT1\0\0\0\x2c\x01\0\0\0\0";
+
+const TAGGED: &[u8] = b"\0\0\x80\0FLAT1\0\0\0FLAT1\0\0\0\xa0\0\0\0\xff\xff";
+
+// Player 1 at (8, 8) with angle 90; a thing of type -1; and one with angle 360.
+const THINGS: &[u8] = &[8, 0, 8, 0, 90, 0, 1, 0, 7, 0];
+
+const ODD_THINGS: &[u8] = &[
+    8, 0, 8, 0, 90, 0, 0xff, 0xff, 7, 0, 8, 0, 8, 0, 0x68, 1, 1, 0, 7, 0,
+];
+
+// THINGS, LINEDEFS, SIDEDEFS, VERTEXES and SECTORS of a level, and what is told of it: how many vertices and things its
+// map has, and what is changed; or what refuses it.
+const IMPORTED: &[(&[u8], &[u8], &[u8], &[u8], &[u8], &str)] = &[
+    (
+        THINGS,
+        LINES,
+        SIDES,
+        VERTICES,
+        SECTORS,
+        "2 vertices, 1 things",
+    ),
+    (
+        THINGS,
+        LINES,
+        SIDES,
+        VERTICES_MORE,
+        SECTORS,
+        "2 vertices, 1 things; vertices 1: left out behind the last that a line uses",
+    ),
+    (
+        THINGS,
+        TWO_SIDED,
+        SMALL_SIDES,
+        VERTICES,
+        BRIGHT,
+        "2 vertices, 1 things; sector 0: light 300 is 255; side 0: textures named in capitals, up to a NUL; \
+         line 0: without flag 4, since it has no left side",
+    ),
+    (
+        ODD_THINGS,
+        LINES,
+        SIDES,
+        VERTICES,
+        SECTORS,
+        "2 vertices, 1 things; thing 0: left out; thing 1: angle 360 is 0",
+    ),
+    (
+        THINGS,
+        LINES,
+        STARRED_SIDES,
+        VERTICES,
+        SECTORS,
+        "side 0 has a name that no texture may have",
+    ),
+    (
+        THINGS,
+        LINES,
+        SIDES,
+        VERTICES,
+        TAGGED,
+        "sector 0 has a special or tag below 0",
+    ),
+    (
+        THINGS,
+        LINES_TWICE,
+        SIDES,
+        VERTICES_TWICE,
+        SECTORS,
+        "vertex 2 has the place of another",
+    ),
+    (
+        THINGS,
+        b"",
+        SIDES,
+        VERTICES,
+        SECTORS,
+        "the level has no line",
+    ),
+];
+
+// What is told of a level that is a map.
+fn told_of(alloc: Global, imported: &Imported) -> Result<String, Fail> {
+    let map = imported.maps.current();
+    let vertices = map.count(Kind::Vertex);
+    let things = map.count(Kind::Thing);
+    let mut told = format!(in alloc; "{vertices} vertices, {things} things")?;
+    for change in &imported.changes {
+        let more = format!(in alloc; "; {change}")?;
+        told.push_str(&more)?;
+    }
+    Ok(told)
+}
+
+// What is told of the first level of a WAD.
+fn told(alloc: Global, wad: &[u8]) -> Result<String, Fail> {
+    let levels = levels_in(alloc, wad)?;
+    let Some(level) = levels.first() else {
+        return Ok(format!(in alloc; "no level")?);
+    };
+    match import_level(alloc, wad, *level, Name8::from_text(b"MAP01")) {
+        Ok(imported) => told_of(alloc, &imported),
+        Err(error) => Ok(format!(in alloc; "{error}")?),
+    }
+}
+
+#[test]
+fn imports_levels(rt: HostRuntime) -> Result<(), Fail> {
+    for &(things, lines, sides, vertices, sectors, wanted) in IMPORTED {
+        let lumps: [(&[u8; 8], &[u8]); 6] = [
+            (b"MAP01\0\0\0", b""),
+            (b"THINGS\0\0", things),
+            (b"LINEDEFS", lines),
+            (b"SIDEDEFS", sides),
+            (b"VERTEXES", vertices),
+            (b"SECTORS\0", sectors),
+        ];
+        let wad = wad_of(rt.alloc(), &lumps)?;
+        let says = told(rt.alloc(), &wad)?;
+        same(&rt, &says.as_str(), &wanted);
+    }
+    Ok(())
+}
