@@ -2,7 +2,7 @@
 _leveled() {
     local word=${COMP_WORDS[COMP_CWORD]} subcommand=${COMP_WORDS[1]}
     if [ "$COMP_CWORD" -eq 1 ]; then
-        mapfile -t COMPREPLY < <(compgen -W 'scratch create edit check lint draw dump picture build inspect help --help --version' -- "$word")
+        mapfile -t COMPREPLY < <(compgen -W 'scratch create edit check lint draw dump picture build rebuild inspect help --help --version' -- "$word")
         return
     fi
     case $word in
@@ -16,8 +16,8 @@ _leveled() {
         ;;
     *)
         case $subcommand in
-        help) mapfile -t COMPREPLY < <(compgen -W 'scratch create edit check lint draw dump picture build inspect codes' -- "$word") ;;
-        create | edit | check | lint | draw | dump | picture | build | inspect) mapfile -t COMPREPLY < <(compgen -f -- "$word") ;;
+        help) mapfile -t COMPREPLY < <(compgen -W 'scratch create edit check lint draw dump picture build rebuild inspect codes' -- "$word") ;;
+        create | edit | check | lint | draw | dump | picture | build | rebuild | inspect) mapfile -t COMPREPLY < <(compgen -f -- "$word") ;;
         esac
         ;;
     esac

@@ -1,5 +1,5 @@
 # Completes the words of leveled in fish.
-set -l subcommands scratch create edit check lint draw dump picture build inspect help
+set -l subcommands scratch create edit check lint draw dump picture build rebuild inspect help
 complete -c leveled -n "not __fish_seen_subcommand_from $subcommands" -f -a scratch -d 'Answer lines over maps in memory'
 complete -c leveled -n "not __fish_seen_subcommand_from $subcommands" -f -a create -d 'Make a project file'
 complete -c leveled -n "not __fish_seen_subcommand_from $subcommands" -f -a edit -d 'Answer lines over a project'
@@ -9,6 +9,7 @@ complete -c leveled -n "not __fish_seen_subcommand_from $subcommands" -f -a draw
 complete -c leveled -n "not __fish_seen_subcommand_from $subcommands" -f -a dump -d 'Print lines that draw the maps again'
 complete -c leveled -n "not __fish_seen_subcommand_from $subcommands" -f -a picture -d 'Draw a map as SVG'
 complete -c leveled -n "not __fish_seen_subcommand_from $subcommands" -f -a build -d 'Build all maps into a PWAD'
+complete -c leveled -n "not __fish_seen_subcommand_from $subcommands" -f -a rebuild -d 'Build the levels of a WAD anew'
 complete -c leveled -n "not __fish_seen_subcommand_from $subcommands" -f -a inspect -d 'Audit a level of a WAD'
 complete -c leveled -n "not __fish_seen_subcommand_from $subcommands" -f -a help -d 'Print the help'
 complete -c leveled -n "not __fish_seen_subcommand_from $subcommands" -l version -d 'Print the version'
@@ -23,4 +24,4 @@ complete -c leveled -n "__fish_seen_subcommand_from picture" -l numbers -d 'With
 complete -c leveled -n "__fish_seen_subcommand_from picture" -l nodes -d 'With the built tree'
 complete -c leveled -n "__fish_seen_subcommand_from picture" -l lint -d 'With what lint tells'
 complete -c leveled -n "__fish_seen_subcommand_from scratch help" -f
-complete -c leveled -n "__fish_seen_subcommand_from help" -f -a 'scratch create edit check lint draw dump picture build inspect codes'
+complete -c leveled -n "__fish_seen_subcommand_from help" -f -a 'scratch create edit check lint draw dump picture build rebuild inspect codes'

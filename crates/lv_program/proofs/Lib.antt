@@ -3,5 +3,6 @@ pub mod Examined
 pub mod Linting
 pub mod MarkList
 pub mod Picturing
+pub mod Rebuilding
 pub mod Scripts
 pub mod Sources

@@ -1,7 +1,7 @@
 -- Requests about scripts, and how loud each request is.
 use Rattle.std.proofs.Common.{◌≡◌, ℕ, Bool, List, Option, None, Some, Result, Ok, Err, inl, inr, refl, ap, arith, subst}
 use Rattle.lv_requests.specs.declared.asked.Request.{Request}
-use Rattle.lv_requests.specs.declared.asked.Request.TheVariants.{Scratch, Create, Edit, Check, Lint, Draw, TryScript, Dump, Picture, Inspect, Levels, Build}
+use Rattle.lv_requests.specs.declared.asked.Request.TheVariants.{Scratch, Create, Edit, Check, Lint, Draw, TryScript, Dump, Picture, Inspect, Levels, Build, Rebuild}
 use Rattle.lv_reports.specs.Statuses.{status_in}
 use Rattle.lv_reports.specs.declared.refusal.Refusal.{Refusal}
 use Rattle.lv_scripts.specs.declared.drawing.Stop.{Stop}
@@ -25,6 +25,7 @@ loud (Picture file map out numbers nodes lint) quiet = quiet refl
 loud (Inspect wad name) quiet = quiet refl
 loud (Levels wad) quiet = quiet refl
 loud (Build file out) quiet = quiet refl
+loud (Rebuild wad out maps) quiet = quiet refl
 
 -- the status 0 is an answer
 pub quiet_end : (how : Result ℕ Refusal) → status_in how ≡ 0 → how ≡ Ok 0

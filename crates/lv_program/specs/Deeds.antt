@@ -1,6 +1,6 @@
 -- What was done for a request (docs/COMMANDS.md, "The program"). How it ended is a status, or the
 -- refusal. A file tells no bytes, so which project or WAD it was is left open.
-use Rattle.std.specs.Prelude.{◌≡◌, ◌⊎◌, ℕ, Bool, Option, Result, Ok, Err, List, [], ◌∷◌, ◌++◌, codes, string_bytes, true, false, is_some, length, option_map}
+use Rattle.std.specs.Prelude.{◌≡◌, ◌⊎◌, ℕ, Bool, Option, Result, Ok, Err, List, [], ◌∷◌, ◌++◌, codes, string_bytes, true, false, is_some, length, map, option_map}
 use Rattle.std.specs.Io.KnownBytes.{Appends, Keeps}
 use Rattle.lv_disk.specs.declared.disk.Disk.{Ghosts}
 use Rattle.lv_maptables.specs.Projects.{MapsView, ProjectMaps, empty_project, project_of}
@@ -18,13 +18,15 @@ use Rattle.lv_editor.specs.Inspections.{IsInspected}
 use Rattle.lv_program.specs.LevelNames.{IsListed}
 use Rattle.lv_program.specs.Linting.{IsLinted}
 use Rattle.lv_program.specs.Picturing.{IsPictured}
+use Rattle.lv_program.specs.Rebuilding.{IsRebuiltInto}
+use Rattle.lv_program.specs.declared.laid_over.Layers.{Layers}
 use Rattle.lv_reports.specs.Refusals.{IsOfOpening, NotBuilt, NotChecked, NotCreated, NotExamined}
 use Rattle.lv_editor.specs.Runs.{Exchange, Ran}
 use Rattle.lv_editor.specs.Sessions.{RunsOver}
 use Rattle.lv_reports.specs.Statuses.{run_end, status_after, status_told}
 use Rattle.lv_editor.specs.Texts.{findings_text}
 use Rattle.lv_requests.specs.declared.asked.Request.{Request}
-use Rattle.lv_requests.specs.declared.asked.Request.TheVariants.{Scratch, Create, Edit, Check, Lint, Draw, TryScript, Dump, Picture, Inspect, Levels, Build}
+use Rattle.lv_requests.specs.declared.asked.Request.TheVariants.{Scratch, Create, Edit, Check, Lint, Draw, TryScript, Dump, Picture, Inspect, Levels, Build, Rebuild}
 use Rattle.lv_pwad.specs.declared.counted.BuildCounts.{BuildCounts}
 use Rattle.lv_editor.specs.declared.error.EditorError.{EditorError}
 use Rattle.lv_reports.specs.declared.refusal.Refusal.{Refusal}
@@ -122,6 +124,9 @@ IsPerformed facts (Levels wad) how reader-old reader-new writer-old writer-new =
     IsListed how writer-old writer-new × Keeps reader-old reader-new
 IsPerformed facts (Build file out) how reader-old reader-new writer-old writer-new =
     IsBuiltInto how writer-old writer-new × Keeps reader-old reader-new
+IsPerformed facts (Rebuild wad out maps) how reader-old reader-new writer-old writer-new =
+    IsRebuiltInto (map string_bytes maps.items) how writer-old writer-new
+    × Keeps reader-old reader-new
 
 -- the request is about a script
 abbrev pub is_of_script : Request → Bool

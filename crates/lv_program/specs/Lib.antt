@@ -7,4 +7,5 @@ pub mod LevelNames
 pub mod Linting
 pub mod Marking
 pub mod Picturing
+pub mod Rebuilding
 pub mod Sources

@@ -12,6 +12,7 @@ use crate::over_file::{
     build_file, check_file, create_file, draw_file, dump_file, edit_file, lint_file, picture_file,
 };
 use crate::picture_request::Wanted;
+use crate::rebuild_request::rebuild;
 use crate::script_file::try_file;
 use crate::wad_levels::list_levels;
 use lv_disk::{Disk, FileDisk};
@@ -82,6 +83,9 @@ where
             picture_file(rt, file.as_str(), wanted, writer, why)
         }
         Request::Build { file, out } => build_file(rt, file.as_str(), out.as_str(), writer, why),
+        Request::Rebuild { wad, out, maps } => {
+            rebuild(rt, wad.as_str(), out.as_str(), maps, writer, why)
+        }
         Request::Inspect { wad, name } => {
             examine(rt, wad.as_str(), name.as_str(), writer, &mut why.file)
         }

@@ -28,8 +28,8 @@ fn shown(byte: u8) -> u8
     }
 }
 
-// Writes the bytes of a name as they are shown.
-fn write_shown<W: Write>(name: &[u8], writer: &mut W) -> Result<(), EditorError>
+/// Writes the bytes of a name as they are shown.
+pub fn write_shown<W: Write>(name: &[u8], writer: &mut W) -> Result<(), EditorError>
     ensures { MatchResult result
         (λ _. Appends (W.contents writer.old) (W.contents writer.new) (map shown name.now))
         (λ e. e ≡ WriterFailed) }

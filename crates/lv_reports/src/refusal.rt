@@ -167,6 +167,7 @@ fn paths_of(request: &Request) -> (&str, &str) {
         Request::Inspect { wad, .. } | Request::Levels { wad } => (wad.as_str(), ""),
         Request::TryScript { script, .. } => (script.as_str(), ""),
         Request::Build { file, out } => (file.as_str(), out.as_str()),
+        Request::Rebuild { wad, out, .. } => (wad.as_str(), out.as_str()),
         Request::Picture {
             file,
             out: other,

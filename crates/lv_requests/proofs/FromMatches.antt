@@ -71,7 +71,7 @@ of_found test (s ∷ subs) words name rows e = go (test s) (of_found test subs w
     go false behind d = inr (behind d)
 
 of_all : (name : Text)
-    → IsAmong (codes "scratch" ∷ codes "create" ∷ codes "edit" ∷ codes "check" ∷ codes "lint" ∷ codes "draw" ∷ codes "dump" ∷ codes "picture" ∷ codes "inspect" ∷ codes "build" ∷ []) name
+    → IsAmong (codes "scratch" ∷ codes "create" ∷ codes "edit" ∷ codes "check" ∷ codes "lint" ∷ codes "draw" ∷ codes "dump" ∷ codes "picture" ∷ codes "inspect" ∷ codes "build" ∷ codes "rebuild" ∷ []) name
     → IsSubcommand name
 of_all name (inl is) = inl is
 of_all name (inr (inl is)) = inr (inl is)
@@ -82,8 +82,9 @@ of_all name (inr (inr (inr (inr (inr (inl is)))))) = inr (inr (inr (inr (inr (in
 of_all name (inr (inr (inr (inr (inr (inr (inl is))))))) = inr (inr (inr (inr (inr (inr (inl is))))))
 of_all name (inr (inr (inr (inr (inr (inr (inr (inl is)))))))) = inr (inr (inr (inr (inr (inr (inr (inl is)))))))
 of_all name (inr (inr (inr (inr (inr (inr (inr (inr (inl is))))))))) = inr (inr (inr (inr (inr (inr (inr (inr (inl is))))))))
-of_all name (inr (inr (inr (inr (inr (inr (inr (inr (inr (inl is)))))))))) = inr (inr (inr (inr (inr (inr (inr (inr (inr is))))))))
-of_all name (inr (inr (inr (inr (inr (inr (inr (inr (inr (inr never)))))))))) = absurd never
+of_all name (inr (inr (inr (inr (inr (inr (inr (inr (inr (inl is)))))))))) = inr (inr (inr (inr (inr (inr (inr (inr (inr (inl is)))))))))
+of_all name (inr (inr (inr (inr (inr (inr (inr (inr (inr (inr (inl is))))))))))) = inr (inr (inr (inr (inr (inr (inr (inr (inr (inr is)))))))))
+of_all name (inr (inr (inr (inr (inr (inr (inr (inr (inr (inr (inr never))))))))))) = absurd never
 
 only_these : (stop : Option (Text × List Text)) (name : Text) (rows : List Row) → entered (built leveled_app) stop ≡ Some (name, rows) → IsSubcommand name
 only_these None name rows e = cc

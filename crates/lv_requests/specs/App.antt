@@ -2,7 +2,7 @@
 use Rattle.std.specs.Prelude.{◌≡◌, ℕ, pos, Some, [], ◌∷◌, codes, true, false}
 use Rattle.clap.specs.Words.{App, Rule, app_of, Text, new_app, new_rule, rule_of, with_rule, with_subcommand}
 use Rattle.clap.specs.Simple.{on_top}
-use Rattle.clap.specs.declared.builder.action.ArgAction.TheVariants.{SetTrue}
+use Rattle.clap.specs.declared.builder.action.ArgAction.TheVariants.{Append, SetTrue}
 use Rattle.clap.specs.declared.builder.arg.Arg.{Arg}
 use Rattle.clap.specs.declared.builder.command.Command.{Command}
 use Rattle.clap.specs.declared.builder.command.Command.TheViews.{out-Command}
@@ -34,6 +34,10 @@ option_rule id default =
 -- `--ID NAME`, which may be left out
 abbrev pub path_rule : Text → Rule
 path_rule id = record (new_rule id) { long = Some id; value_names = 1 }
+
+-- `--ID NAME`, which may be given any number of times
+abbrev pub repeated_rule : Text → Rule
+repeated_rule id = record (path_rule id) { action = Some Append }
 
 -- `--ID`, which may be given
 abbrev pub flag_rule : Text → Rule
@@ -91,12 +95,18 @@ picture_app =
 abbrev pub inspect_app : App
 inspect_app = with_rule (with_one_word (codes "inspect") (codes "wad")) (last_rule (codes "name"))
 
+-- `rebuild IN OUT [--map NAME]..`
+abbrev pub rebuild_app : App
+rebuild_app =
+    with_rule (with_rule (with_one_word (codes "rebuild") (codes "wad")) (word_rule (codes "out")))
+    (repeated_rule (codes "map"))
+
 -- the program with its subcommands
 abbrev pub with_subcommands : App
 with_subcommands =
     with_subcommand (with_subcommand (with_subcommand (with_subcommand (with_subcommand
     (with_subcommand (with_subcommand (with_subcommand (with_subcommand (with_subcommand
-    (new_app (codes "leveled"))
+    (with_subcommand (new_app (codes "leveled"))
     (new_app (codes "scratch")).top)
     create_app.top)
     (with_one_word (codes "edit") (codes "file")).top)
@@ -106,7 +116,8 @@ with_subcommands =
     (with_one_word (codes "dump") (codes "file")).top)
     picture_app.top)
     inspect_app.top)
-    build_app.top
+    build_app.top)
+    rebuild_app.top
 
 -- the program's command line: a subcommand has to be there, and `help` is none
 abbrev pub leveled_app : App

@@ -1,16 +1,16 @@
 -- What the words of the program ask for (docs/COMMANDS.md, "The program").
-use Rattle.std.specs.Prelude.{◌≡◌, ◌≤◌, ◌⊎◌, ℕ, Bool, Some, None, List, codes, is_some, option_map, string_bytes, true, false, IsSomeAnd}
+use Rattle.std.specs.Prelude.{◌≡◌, ◌≤◌, ◌⊎◌, ℕ, Bool, Some, None, List, [], codes, is_some, map, option_map, unwrap_or, string_bytes, true, false, IsSomeAnd}
 use Rattle.std.specs.Option.{option_map_or}
 use Rattle.std.specs.Str.{bytes_eq}
 use Rattle.std.specs.Str.Parse.{IsNumeral, digits_value, without_leading_plus}
-use Rattle.clap.specs.Words.{HasKind, fault_of, first_of, Row, Text, one_of, subcommand_of, takes}
+use Rattle.clap.specs.Words.{HasKind, all_of, fault_of, first_of, Row, Text, one_of, subcommand_of, takes}
 use Rattle.clap.specs.Values.{kind_of}
 use Rattle.clap.specs.declared.error.kind.ErrorKind.TheVariants.{OutOfMemory}
 use Rattle.lv_requests.specs.App.{leveled_app}
 use Rattle.lv_requests.specs.declared.asked.Request.{Request}
 use Rattle.lv_requests.specs.declared.asked.RequestError.{RequestError}
 use Rattle.lv_requests.specs.declared.asked.RequestError.TheVariants.{Words, Codes, Number, Surplus, Memory}
-use Rattle.lv_requests.specs.declared.asked.Request.TheVariants.{Scratch, Create, Edit, Check, Lint, Draw, TryScript, Dump, Picture, Inspect, Levels, Build}
+use Rattle.lv_requests.specs.declared.asked.Request.TheVariants.{Scratch, Create, Edit, Check, Lint, Draw, TryScript, Dump, Picture, Inspect, Levels, Build, Rebuild}
 
 -- the number that the argument's text is in decimal digits, within its limits
 pub record HasNumber (id : Text) (rows : List Row) (low high n : ℕ) : Type 0 where
@@ -65,6 +65,10 @@ AsksFor (Picture file map out numbers nodes lint) asked = (asked.0 ≡ codes "pi
 AsksFor (Build file out) asked = (asked.0 ≡ codes "build")
     × (first_of (codes "file") asked.1 ≡ Some (string_bytes file))
     × (first_of (codes "out") asked.1 ≡ Some (string_bytes out))
+AsksFor (Rebuild wad out maps) asked = (asked.0 ≡ codes "rebuild")
+    × (first_of (codes "wad") asked.1 ≡ Some (string_bytes wad))
+    × (first_of (codes "out") asked.1 ≡ Some (string_bytes out))
+    × (map string_bytes maps.items ≡ unwrap_or (all_of (codes "map") asked.1) [])
 AsksFor (Inspect wad name) asked = (asked.0 ≡ codes "inspect")
     × (first_of (codes "wad") asked.1 ≡ Some (string_bytes wad))
     × (first_of (codes "name") asked.1 ≡ Some (string_bytes name))
@@ -78,11 +82,19 @@ IsSubcommand name =
     (name ≡ codes "scratch") ⊎ (name ≡ codes "create") ⊎ (name ≡ codes "edit")
     ⊎ (name ≡ codes "check") ⊎ (name ≡ codes "lint") ⊎ (name ≡ codes "draw")
     ⊎ (name ≡ codes "dump") ⊎ (name ≡ codes "picture") ⊎ (name ≡ codes "inspect")
-    ⊎ (name ≡ codes "build")
+    ⊎ (name ≡ codes "build") ⊎ (name ≡ codes "rebuild")
+
+-- the subcommand is over a WAD
+abbrev pub IsOverWad : Text → Type 0
+IsOverWad name = (name ≡ codes "inspect") ⊎ (name ≡ codes "rebuild")
 
 -- the subcommand is over a project file, or, where a script is to be tried, over this script
 abbrev pub IsOverFile : Text → Type 0
-IsOverFile name = (¬ (name ≡ codes "scratch")) × (¬ (name ≡ codes "inspect"))
+IsOverFile name = (¬ (name ≡ codes "scratch")) × (¬ IsOverWad name)
+
+-- the subcommand makes a WAD
+abbrev pub IsIntoWad : Text → Type 0
+IsIntoWad name = (name ≡ codes "build") ⊎ (name ≡ codes "rebuild")
 
 -- the text of an argument is refused: it has none, or there is no memory for it
 abbrev pub RefusesText : Text → List Row → RequestError → Type 0
@@ -96,8 +108,8 @@ RefusesText id rows Memory = Unit {0}
 -- limits of `create`
 abbrev pub LacksValue : Text × List Row → Type 0
 LacksValue asked = (IsOverFile asked.0 × (first_of (codes "file") asked.1 ≡ None))
-    ⊎ ((asked.0 ≡ codes "inspect") × (first_of (codes "wad") asked.1 ≡ None))
-    ⊎ ((asked.0 ≡ codes "build") × (first_of (codes "out") asked.1 ≡ None))
+    ⊎ (IsOverWad asked.0 × (first_of (codes "wad") asked.1 ≡ None))
+    ⊎ (IsIntoWad asked.0 × (first_of (codes "out") asked.1 ≡ None))
     ⊎ ((asked.0 ≡ codes "create")
     × (LacksNumber (codes "slot") asked.1 33 2007015
     ⊎ LacksNumber (codes "journal") asked.1 512 1048576))

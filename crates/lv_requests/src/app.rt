@@ -1,7 +1,7 @@
 //! The command line that clap reads: the program and its subcommands.
 ghost use Rattle.std.specs.Prelude.{◌≡◌, IfOk, codes};
 ghost use Rattle.clap.specs.Words.{App, app_of, new_app, with_subcommand};
-ghost use Rattle.lv_requests.specs.App.{IsArg, IsCommand, build_app, create_app, draw_app, flag_rule, inspect_app, journal_rule, last_rule, leveled_app, lint_app, option_rule, path_rule, picture_app, slot_rule, with_subcommands, with_one_word, word_rule};
+ghost use Rattle.lv_requests.specs.App.{IsArg, IsCommand, build_app, create_app, draw_app, flag_rule, inspect_app, journal_rule, last_rule, leveled_app, lint_app, option_rule, path_rule, picture_app, rebuild_app, repeated_rule, slot_rule, with_subcommands, with_one_word, word_rule};
 
 use crate::help;
 use clap::{Arg, ArgAction, Command, value_parser};
@@ -62,6 +62,13 @@ fn path<'a>(alloc: Global, id: &'a str, name: &'a str) -> Arg<'a>
     ensures { IsArg result (path_rule id.now) }
 {
     Arg::new(alloc, id).long(id).value_name(name)
+}
+
+// `--ID NAME`, which may be given any number of times.
+fn repeated<'a>(alloc: Global, id: &'a str, name: &'a str) -> Arg<'a>
+    ensures { IsArg result (repeated_rule id.now) }
+{
+    path(alloc, id, name).action(ArgAction::Append)
 }
 
 // `--slot N`.
@@ -133,6 +140,17 @@ fn build<'a>(alloc: Global) -> Result<Command<'a>, AllocError>
 {
     let about = "Builds a project's maps into a PWAD";
     over_file(alloc, "build", about, help::BUILD)?.arg(word(alloc, "out", "OUT"))
+}
+
+// `rebuild`.
+fn rebuild<'a>(alloc: Global) -> Result<Command<'a>, AllocError>
+    ensures { IfOk result (λ c. IsCommand c rebuild_app) }
+{
+    let about = "Builds the nodes of a WAD's levels anew";
+    named(alloc, "rebuild", about, help::REBUILD)
+        .arg(word(alloc, "wad", "IN"))?
+        .arg(word(alloc, "out", "OUT"))?
+        .arg(repeated(alloc, "map", "NAME"))
 }
 
 // `inspect`.
@@ -207,7 +225,8 @@ fn with_subcommands<'a>(alloc: Global) -> Result<Command<'a>, AllocError>
     let program = with(program, dump(alloc));
     let program = with(program, picture(alloc));
     let program = with(program, inspect(alloc));
-    with(program, build(alloc))
+    let program = with(program, build(alloc));
+    with(program, rebuild(alloc))
 }
 
 /// The program's command line.

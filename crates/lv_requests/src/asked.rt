@@ -57,6 +57,13 @@ pub enum Request {
         file: String,
         out: String,
     },
+    /// Build the nodes of a WAD's levels anew into another WAD: of the levels of these names, or of
+    /// all where there is no name.
+    Rebuild {
+        wad: String,
+        out: String,
+        maps: Vec<String>,
+    },
     /// Say how long the lumps of a level are, and whether the level is sound.
     Inspect {
         wad: String,

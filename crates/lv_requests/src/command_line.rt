@@ -1,6 +1,6 @@
 //! What the words of the program ask for, as clap reads them.
-ghost use Rattle.std.specs.Prelude.{◌≡◌, ◌≤◌, ◌∷◌, [], IfOk, IfErr, IfSome, IfNone, IsSomeAnd, Some, codes, map, option_map, string_bytes};
-ghost use Rattle.clap.specs.Words.{first_of, found_of, rows_of, subcommand_of};
+ghost use Rattle.std.specs.Prelude.{◌≡◌, ◌≤◌, ◌∷◌, [], IfOk, IfErr, IfSome, IfNone, IsSomeAnd, Some, codes, map, option_map, string_bytes, unwrap_or};
+ghost use Rattle.clap.specs.Words.{all_of, first_of, found_of, rows_of, subcommand_of};
 ghost use Rattle.lv_requests.specs.Help.{IsRefusal, help_option, without_help};
 ghost use Rattle.lv_requests.specs.App.{leveled_app};
 ghost use Rattle.lv_requests.specs.Request.{AsksFor, HasNumber, IsSubcommand, LacksNumber, RefusesRead, RefusesText, RefusesValues, is_given};
@@ -132,6 +132,37 @@ fn is_given(found: &ArgMatches<'_>, id: &str) -> bool
     }
 }
 
+// Texts of the request's own.
+fn owned_all(alloc: Global, given: &[&str]) -> Result<Vec<String>, RequestError>
+    ensures same { IfOk result (λ texts.
+        map string_bytes texts.items ≡ map (λ t. t.now) given.now) }
+    ensures refused { IfErr result (λ e. e ≡ RequestError.Memory) }
+{
+    let mut texts = Vec::new(alloc);
+    for text in given {
+        let text = match owned(alloc, text) {
+            Ok(text) => text,
+            Err(error) => return Err(error),
+        };
+        if texts.push(text).is_err() {
+            return Err(RequestError::Memory);
+        }
+    }
+    Ok(texts)
+}
+
+// The texts of an argument that may be given any number of times.
+fn texts(alloc: Global, found: &ArgMatches<'_>, id: &str) -> Result<Vec<String>, RequestError>
+    ensures given { IfOk result (λ texts. map string_bytes texts.items
+        ≡ unwrap_or (all_of id.now (rows_of (found_of found.now))) []) }
+    ensures refused { IfErr result (λ e. e ≡ RequestError.Memory) }
+{
+    match found.get_strs(id) {
+        Some(given) => owned_all(alloc, given),
+        None => Ok(Vec::new(alloc)),
+    }
+}
+
 // The request to draw a script onto a project, or to try it.
 fn asked_draw(alloc: Global, found: &ArgMatches<'_>) -> Result<Request, RequestError>
     ensures asked { IfOk result (λ r. AsksFor r (codes "draw", rows_of (found_of found.now))) }
@@ -159,6 +190,25 @@ fn asked_draw(alloc: Global, found: &ArgMatches<'_>) -> Result<Request, RequestE
             verbose,
         }),
         Some(_) => Err(RequestError::Surplus),
+    }
+}
+
+// The request to build the nodes of a WAD's levels anew.
+fn asked_rebuild(alloc: Global, found: &ArgMatches<'_>) -> Result<Request, RequestError>
+    ensures asked { IfOk result (λ r. AsksFor r (codes "rebuild", rows_of (found_of found.now))) }
+    ensures refused { IfErr result (RefusesValues (codes "rebuild", rows_of (found_of found.now))) }
+{
+    let wad = match text(alloc, found, "wad") {
+        Ok(wad) => wad,
+        Err(error) => return Err(error),
+    };
+    let out = match text(alloc, found, "out") {
+        Ok(out) => out,
+        Err(error) => return Err(error),
+    };
+    match texts(alloc, found, "map") {
+        Ok(maps) => Ok(Request::Rebuild { wad, out, maps }),
+        Err(error) => Err(error),
     }
 }
 
@@ -230,6 +280,7 @@ fn asked(alloc: Global, name: &str, found: &ArgMatches<'_>) -> Result<Request, R
         "picture" => asked_picture(alloc, found),
         "inspect" => asked_inspect(alloc, found),
         "build" => asked_build(alloc, found),
+        "rebuild" => asked_rebuild(alloc, found),
         _ => unreachable!(),
     }
 }

@@ -96,6 +96,13 @@ map can't be built, OUT keeps what it held, and a second line names the map: wit
 `leveled: 60 NothingToBuild` it has no line. An OUT that is a project is refused. FILE
 isn't changed.";
 
+/// `rebuild`.
+pub const REBUILD: &str = "\
+Builds the nodes, the reject table and the blockmap of each level of IN anew, or of the
+levels NAME, and writes the WAD to OUT; all other lumps stay as they are. OUT may be IN
+where that is a PWAD: an IWAD is never replaced. Prints a line for each level. A level
+that can't be built is left as it was, with the reason, and the status is 3.";
+
 /// `inspect`.
 pub const INSPECT: &str = "\
 Reads the level NAME (as MAP01 or E1M1) of a PWAD or an IWAD, prints how long its lumps

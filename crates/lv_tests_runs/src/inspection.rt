@@ -152,6 +152,34 @@ const CALLS: &[Call] = &[
         b"",
     ),
     (
+        &["leveled", "rebuild", "room.wad", "again.wad"],
+        b"",
+        0,
+        b"MAP01 rebuilt vertices 4 segs 4 subsectors 1 nodes 0\nrebuilt 1 of 1 levels, 515 bytes\n",
+        b"",
+    ),
+    (
+        &[
+            "leveled",
+            "rebuild",
+            "room.wad",
+            "again.wad",
+            "--map",
+            "MAP02",
+        ],
+        b"",
+        1,
+        b"",
+        b"leveled: 72 NoSuchLevel\n",
+    ),
+    (
+        &["leveled", "rebuild", "room.wad", "./room.lv"],
+        b"",
+        1,
+        b"",
+        b"leveled: 38 WriterFailed\n  ./room.lv: is no PWAD; it is left alone\n",
+    ),
+    (
         &["leveled", "inspect", "room.wad", "MAP01"],
         b"",
         0,
@@ -214,7 +242,8 @@ fn builds_and_inspects_a_room(rt: HostRuntime) -> Result<(), Fail> {
         same(&rt, &(call, found), &(call, (call.2, [true, true])));
     }
     let is_room = has_bytes(&rt, "room.wad", ROOM_WAD)?;
-    assert!(rt; is_room);
+    let is_again = has_bytes(&rt, "again.wad", ROOM_WAD)?;
+    assert!(rt; is_room && is_again);
     Ok(())
 }
 
@@ -230,6 +259,26 @@ fn tells_a_fault_by_the_status(rt: HostRuntime) -> Result<(), Fail> {
     )?;
     let end = out.ends_with(b"fault LineVertex 0\n");
     assert_eq!(rt; (ended, end, faults.is_empty()), (3, true, true));
+    Ok(())
+}
+
+// What is told of a level that can't be built anew: its first line has vertex 4 of four.
+const LEFT: &[u8] =
+    b"MAP01 left: line 0 has a vertex that isn't there\nrebuilt 0 of 1 levels, 515 bytes\n";
+
+#[test]
+fn leaves_a_level_with_a_fault(rt: HostRuntime) -> Result<(), Fail> {
+    let wad = changed(rt.alloc(), 12, 0x04)?;
+    fs::write(&rt, "faulty.wad", &wad)?;
+    let (ended, out, faults) = performed(
+        &rt,
+        &["leveled", "rebuild", "faulty.wad", "left.wad"],
+        b"",
+    )?;
+    let told = (ended, out.as_slice(), faults.as_slice());
+    same(&rt, &told, &(3, LEFT, b"".as_slice()));
+    let is_same = has_bytes(&rt, "left.wad", &wad)?;
+    assert!(rt; is_same);
     Ok(())
 }
 

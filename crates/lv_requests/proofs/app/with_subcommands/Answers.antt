@@ -13,4 +13,5 @@ returns c =
     let s7 = c.with-program-6.ensures _ _ s6 c.dump.ensures in
     let s8 = c.with-program-7.ensures _ _ s7 c.picture.ensures in
     let s9 = c.with-program-8.ensures _ _ s8 c.inspect.ensures in
-    c.with.ensures _ _ s9 c.build.ensures
+    let s10 = c.with-program-9.ensures _ _ s9 c.build.ensures in
+    c.with.ensures _ _ s10 c.rebuild.ensures

@@ -1,0 +1,115 @@
+-- What `rebuild` tells and answers (docs/COMMANDS.md, "The program").
+use Rattle.std.specs.Prelude.{◌≡◌, ◌⊎◌, ℕ, ◌+◌, ◌/◌, List, [], ◌∷◌, ◌++◌, Option, Result, Ok, Err, codes, count_by, decimal, length, map, ◌==◌, Bool, true, false}
+use Rattle.std.specs.Io.KnownBytes.{Appends, Keeps}
+use Rattle.lv_editor.specs.declared.error.EditorError.TheVariants.{InputTooLong, WriterFailed}
+use Rattle.lv_editor.specs.declared.error.InspectError.TheVariants as inspecting
+use Rattle.lv_levels.specs.declared.error.ReadError.TheVariants as reading
+use Rattle.lv_lumps.specs.Names.{name_text}
+use Rattle.lv_lumps.specs.declared.records.Name8.{Name8}
+use Rattle.lv_program.specs.Drawing.{EndsUnread}
+use Rattle.lv_program.specs.LevelNames.{shown}
+use Rattle.lv_rebuild.specs.Rebuilt.{IsRebuiltWad, RefusesRebuild}
+use Rattle.lv_rebuild.specs.declared.error.RebuildError.{RebuildError}
+use Rattle.lv_rebuild.specs.declared.error.RebuildError.TheVariants as rebuilding
+use Rattle.lv_rebuild.specs.declared.levels.Fate.{Fate}
+use Rattle.lv_rebuild.specs.declared.levels.Fate.TheVariants.{NotAsked, Made, Left}
+use Rattle.lv_rebuild.specs.declared.levels.RebuiltLevel.{RebuiltLevel}
+use Rattle.lv_rebuild.specs.declared.made.MadeLumps.{MadeLumps}
+use Rattle.lv_rebuild.specs.declared.whole.RebuiltWad.{RebuiltWad}
+use Rattle.lv_reports.specs.Statuses.{status_told}
+use Rattle.lv_reports.specs.declared.refusal.Refusal.{Refusal}
+use Rattle.lv_reports.specs.declared.refusal.Refusal.TheVariants as of
+
+-- behind a level's name: that it was built anew, and how many items it has
+abbrev pub items_text : ℕ → ℕ → ℕ → ℕ → List ℕ
+items_text vertices segs subs nodes =
+    codes " rebuilt vertices " ++ decimal vertices ++ codes " segs " ++ decimal segs
+    ++ codes " subsectors " ++ decimal subs ++ codes " nodes " ++ decimal nodes ++ 10 ∷ []
+
+-- the same of the lumps that were made: a vertex has 4 bytes, a seg 12, a subsector 4, a node 28
+abbrev pub made_text : MadeLumps → List ℕ
+made_text m =
+    items_text (length m.vertices.items / 4) (length m.segs.items / 12)
+    (length m.subs.items / 4) (length m.nodes.items / 28)
+
+-- behind a level's name: that it was left, and why
+abbrev pub left_as_text : List ℕ → List ℕ
+left_as_text reason = codes " left: " ++ reason ++ 10 ∷ []
+
+-- what is told of a level: nothing where it isn't asked for; else a line, with some reason why it
+-- is left
+abbrev pub IsFateText : Name8 → Fate → List ℕ → Type 0
+IsFateText name NotAsked text = text ≡ []
+IsFateText name (Made m) text = text ≡ map shown (name_text name) ++ made_text m
+IsFateText name (Left c) text =
+    (reason : List ℕ) × (text ≡ map shown (name_text name) ++ left_as_text reason)
+
+-- what is told of levels, of one behind another
+abbrev pub AreFateTexts : List RebuiltLevel → List ℕ → Type 0
+AreFateTexts [] text = text ≡ []
+AreFateTexts (l ∷ levels) text =
+    (first : List ℕ) × (rest : List ℕ) × (text ≡ first ++ rest)
+    × IsFateText l.name l.fate first × AreFateTexts levels rest
+
+-- the level was built anew; it was left
+abbrev pub was_made : Fate → Bool
+was_made NotAsked = false
+was_made (Made m) = true
+was_made (Left c) = false
+
+abbrev pub was_left : Fate → Bool
+was_left NotAsked = false
+was_left (Made m) = false
+was_left (Left c) = true
+
+-- `rebuilt K of N levels, B bytes`
+abbrev pub rebuilt_text : ℕ → ℕ → ℕ → List ℕ
+rebuilt_text made asked bytes =
+    codes "rebuilt " ++ decimal made ++ codes " of " ++ decimal asked ++ codes " levels, "
+    ++ decimal bytes ++ codes " bytes" ++ 10 ∷ []
+
+-- how many levels were built anew, and how many were left
+abbrev pub made_count : RebuiltWad → ℕ
+made_count r = count_by (λ l. was_made l.fate) r.levels.items
+
+abbrev pub left_count : RebuiltWad → ℕ
+left_count r = count_by (λ l. was_left l.fate) r.levels.items
+
+-- what became of the levels was told, and behind it how many were built anew
+abbrev pub IsToldOf : RebuiltWad → Option (List ℕ) → Option (List ℕ) → Type 0
+IsToldOf r writer-old writer-new =
+    (texts : List ℕ) × AreFateTexts r.levels.items texts
+    × Appends writer-old writer-new
+    (texts ++ rebuilt_text (made_count r) (made_count r + left_count r) (length r.bytes.items))
+
+-- the status that tells whether no level was left
+abbrev pub status_rebuilt : RebuiltWad → ℕ
+status_rebuilt r = status_told (left_count r == 0)
+
+-- the refusal of a WAD whose levels aren't built anew
+abbrev pub refusal_for : RebuildError → Refusal
+refusal_for rebuilding.TooLong = of.Lines InputTooLong
+refusal_for rebuilding.NotAWad = of.Level (inspecting.Level reading.NotAWad)
+refusal_for rebuilding.DirectoryOutside = of.Level (inspecting.Level reading.DirectoryOutside)
+refusal_for rebuilding.NoSuchLevel = of.Level (inspecting.Level reading.NoSuchLevel)
+refusal_for rebuilding.LumpOutside = of.Level (inspecting.Level reading.LumpOutside)
+refusal_for rebuilding.OutOfMemory = of.Level (inspecting.Level reading.OutOfMemory)
+
+-- what became of this WAD was told, and the status tells whether a level was left; or nothing was
+-- told where it is refused, or else a file or the writer failed
+abbrev pub IsRebuiltOf : List ℕ → List (List ℕ) → Result ℕ Refusal → Option (List ℕ)
+    → Option (List ℕ) → Type 0
+IsRebuiltOf wad names (Ok status) writer-old writer-new =
+    (r : RebuiltWad) × IsRebuiltWad wad names r × (status ≡ status_rebuilt r)
+    × IsToldOf r writer-old writer-new
+IsRebuiltOf wad names (Err refusal) writer-old writer-new =
+    ((e : RebuildError) × (refusal ≡ refusal_for e) × RefusesRebuild wad names e
+    × Keeps writer-old writer-new)
+    ⊎ (refusal ≡ of.Lines WriterFailed)
+
+-- the WAD was not read to its end, and nothing was told; or this was done with what was read
+abbrev pub IsRebuiltInto : List (List ℕ) → Result ℕ Refusal → Option (List ℕ) → Option (List ℕ)
+    → Type 0
+IsRebuiltInto names how writer-old writer-new =
+    EndsUnread how writer-old writer-new
+    ⊎ ((wad : List ℕ) × IsRebuiltOf wad names how writer-old writer-new)
