@@ -14,6 +14,6 @@ pub use cause::{Cause, write_cause, write_reason};
 pub use gapless::GaplessFile;
 pub use hold::{Access, Hold, open_held};
 pub use name::beside;
-pub use new_file::{NewFile, open_new};
+pub use new_file::{NewFile, open_new, open_new_of};
 pub use noted::NotedFile;
 pub use replaceable::{Form, may_be_replaced};

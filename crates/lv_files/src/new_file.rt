@@ -90,9 +90,17 @@ where
     }
 }
 
-// Refuses a file that may not be written, or that is neither empty nor of the form.
-fn check_replaceable<E: Files>(alloc: Global, rt: &E, path: &str, form: Form) -> Result<(), Cause> {
+// Refuses a file that may not be written, or that is neither empty nor of the form, where one is asked for.
+fn check_replaceable<E: Files>(
+    alloc: Global,
+    rt: &E,
+    path: &str,
+    form: Option<Form>,
+) -> Result<(), Cause> {
     let file = OpenOptions::new().read(true).write(true).open(rt, path)?;
+    let Some(form) = form else {
+        return Ok(());
+    };
     if may_be_replaced(alloc, form, file)? {
         return Ok(());
     }
@@ -107,7 +115,7 @@ fn open_beside<E: Files>(
     alloc: Global,
     rt: &E,
     path: &str,
-    form: Form,
+    form: Option<Form>,
     permissions: Option<Permissions>,
 ) -> Result<NewFile<E::File>, Cause>
 where
@@ -142,6 +150,28 @@ fn open_itself<E: Files>(rt: &E, path: &str) -> Result<NewFile<E::File>, Cause> 
     })
 }
 
+// Opens a new file for a path, at which there may be a file of the form, or any file where no form is asked for.
+fn open_for<E: Files>(
+    alloc: Global,
+    rt: &E,
+    path: &str,
+    form: Option<Form>,
+) -> Result<NewFile<E::File>, Cause>
+where
+    E::File: Hold,
+{
+    match rt.metadata(path) {
+        Ok(found) if found.is_file() => {
+            open_beside(alloc, rt, path, form, Some(found.permissions()))
+        }
+        Ok(_) => open_itself(rt, path),
+        Err(error) if error.kind() == ErrorKind::NotFound => {
+            open_beside(alloc, rt, path, form, None)
+        }
+        Err(error) => Err(Cause::System(error)),
+    }
+}
+
 /// Opens a new file of the form for a path at which there is nothing, an empty file or one of the form; what stands
 /// there stays until `put`. A link is followed. A pipe or a device is opened itself.
 ///
@@ -158,15 +188,35 @@ pub fn open_new<E: Files>(
 where
     E::File: Hold,
 {
-    match rt.metadata(path) {
-        Ok(found) if found.is_file() => {
-            open_beside(alloc, rt, path, form, Some(found.permissions()))
-        }
-        Ok(_) => open_itself(rt, path),
-        Err(error) if error.kind() == ErrorKind::NotFound => {
-            open_beside(alloc, rt, path, form, None)
-        }
-        Err(error) => Err(Cause::System(error)),
+    open_for(alloc, rt, path, Some(form))
+}
+
+// Whether both paths lead to one file that is there.
+fn lead_to_one<E: Files>(rt: &E, one: &str, other: &str) -> io::Result<bool> {
+    let one = rt.metadata(one)?;
+    let other = rt.metadata(other)?;
+    Ok(one.dev() == other.dev() && one.ino() == other.ino())
+}
+
+/// Opens a new file as `open_new` does, for what is made of the file at `read`: where the path leads to that very file,
+/// it may be of any form.
+///
+/// # Errors
+///
+/// As of `open_new`.
+pub fn open_new_of<E: Files>(
+    alloc: Global,
+    rt: &E,
+    read: &str,
+    path: &str,
+    form: Form,
+) -> Result<NewFile<E::File>, Cause>
+where
+    E::File: Hold,
+{
+    match lead_to_one(rt, read, path) {
+        Ok(true) => open_for(alloc, rt, path, None),
+        _ => open_for(alloc, rt, path, Some(form)),
     }
 }
 
