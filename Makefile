@@ -30,14 +30,15 @@ prove:
 	rt ci
 
 # what the gate can't look at: kills at any moment, edits at once, closed and full outputs, full disks, files that are no
-# project or can't be read, damaged projects and PWADs, trees of maps just at each limit and just above it, and each allocation
-# refused in turn
+# project or can't be read, damaged projects and PWADs, projects drawn again from their dumps, trees of maps just at each limit
+# and just above it, and each allocation refused in turn
 stress: all
 	bench/stops bin/leveled 200
 	sh crates/leveled/edges.sh bin/leveled
 	sh bench/faults bin/leveled
 	bench/full bin/leveled
 	bench/damage bin/leveled
+	bench/round bin/leveled
 	bench/limits
 	bench/memory
 
