@@ -1,26 +1,24 @@
 -- Lines that share a row share a band, so a search of the bands misses none.
-use Rattle.std.proofs.Common.{◌≡◌, ℕ, ◌+◌, ◌-◌, ◌/◌, ◌<◌, ◌≤◌, Bool, true, false, cond, ◌&&◌, ◌||◌, List, [], ◌∷◌, ◌++◌, get_or, filter, count_by, refl, sym, ap, ◌∙◌, ◌⊎◌, ⊎_elim, ℤ, pos, negsuc, neg_ℤ, ◌-ℤ◌, ◌≤ℤ◌, not, below_more, length-append, zero-add, arith}
-use Rattle.std.specs.Prelude.{int_le, int_lt, nat_le, Vec, ◌==◌}
+use Rattle.std.proofs.Common.{◌≡◌, ℕ, ◌+◌, ◌-◌, ◌/◌, ◌<◌, ◌≤◌, Bool, true, false, cond, ◌&&◌, ◌||◌, List, [], ◌∷◌, filter, count_by, refl, sym, ap, ◌∙◌, ◌⊎◌, ⊎_elim, ℤ, pos, negsuc, neg_ℤ, ◌-ℤ◌, ◌≤ℤ◌, not, zero-add, arith}
+use Rattle.std.specs.Prelude.{int_le, int_lt, nat_le, ◌==◌}
 use Rattle.std.specs.Int.{int_min, int_max}
 use Rattle.std.specs.List.{list_any}
-use Rattle.std.specs.declared.alloc.Global.{Global}
 use Rattle.std.proofs.lemmas.Bool.{cases_Bool}
 use Rattle.std.proofs.lemmas.Int.{ints, clamps, by_lt_z}
 use Rattle.std.specs.Ordering.{int_eq}
-use Rattle.std.proofs.lemmas.List.{get_or_append_left, get_or_push}
 use Rattle.std.proofs.lemmas.List.Sums.{sum_by-cons}
 use Rattle.std.proofs.lemmas.Map.Views.{any-filter_same}
 use Rattle.lv_lumps.specs.declared.records.Vertex.{Vertex}
 use Rattle.lv_lint.specs.declared.places.PlacedLine.{PlacedLine}
 use Rattle.lv_lint.specs.Meeting.{is_under, spans_meet, boxes_meet, is_on, side_value_at, share, meets}
 use Rattle.lv_lint.specs.Outside.{is_on_wall, comes_down, faces, turns_away, is_place_outside}
-use Rattle.lv_lint.specs.Bands.{band_bottom, band_top, is_in_band, IsBandOf, AreBands}
+use Rattle.lv_lint.specs.Bands.{band_bottom, band_top, is_in_band, IsBandOf}
 use Rattle.lv_lint.proofs.Tests.{and_both, or_either, or_left, or_right, or_none, le_says, le_is, lt_says, both, under_says}
 
 -- ---- spans
 
 -- a row between a and b, in the band from c to d
-under_top : (a b c d y : ℤ) → int_min a b ≤ℤ y → y ≤ℤ d → is_under a b c d ≡ true
+pub under_top : (a b c d y : ℤ) → int_min a b ≤ℤ y → y ≤ℤ d → is_under a b c d ≡ true
 unfolding is_under
 under_top a b c d y h k =
     by_lt_z a b
@@ -29,7 +27,7 @@ under_top a b c d y h k =
     (or_right (int_le a c) (int_le a d) (le_is a d (omega (arith, ints, clamps))))))
     (λ ge. or_right (int_le a c || int_le a d || int_le b c) (int_le b d) (le_is b d (omega (arith, ints, clamps))))
 
-under_bottom : (a b c d y : ℤ) → c ≤ℤ y → y ≤ℤ int_max a b → is_under c d a b ≡ true
+pub under_bottom : (a b c d y : ℤ) → c ≤ℤ y → y ≤ℤ int_max a b → is_under c d a b ≡ true
 unfolding is_under
 under_bottom a b c d y h k =
     or_left (int_le c a || int_le c b || int_le d a) (int_le d b)
@@ -47,13 +45,13 @@ row_in_band l y n low high band =
     (under_bottom l.from.y l.to.y (band_bottom n) (band_top n) y band.low high)
 
 -- the row where two spans begin to meet
-record Begins (a b c d y : ℤ) : Type 0 where
-  first_low : int_min a b ≤ℤ y
-  first_high : y ≤ℤ int_max a b
-  second_low : int_min c d ≤ℤ y
-  second_high : y ≤ℤ int_max c d
+pub record Begins (a b c d y : ℤ) : Type 0 where
+  pub first_low : int_min a b ≤ℤ y
+  pub first_high : y ≤ℤ int_max a b
+  pub second_low : int_min c d ≤ℤ y
+  pub second_high : y ≤ℤ int_max c d
 
-spans_begin : (a b c d : ℤ) → spans_meet a b c d ≡ true → (y : ℤ) × Begins a b c d y
+pub spans_begin : (a b c d : ℤ) → spans_meet a b c d ≡ true → (y : ℤ) × Begins a b c d y
 unfolding spans_meet
 spans_begin a b c d h =
     let two = and_both (is_under a b c d) (is_under c d a b) h in
@@ -199,17 +197,3 @@ outside_in_band ls p n band =
     let facing = count_of_filtered (faces p) (is_in_band n) (faces_near p n band) ls in
     let turned = count_of_filtered (turns_away p) (is_in_band n) (turned_near p n band) ls in
     λ i. walls i || nat_le (facing i) (turned i)
-
--- ---- filing
-
--- one band more
-pub bands_more : (ls : List PlacedLine) (n : ℕ) (bands : List (Vec PlacedLine Global)) (v : Vec PlacedLine Global) → AreBands ls n bands
-    → v.items ≡ filter (is_in_band n) ls → AreBands ls (n + 1) (bands ++ v ∷ [])
-bands_more ls n bands v a is = record {
-  count = omega (arith, length-append bands (v ∷ []), a.count);
-  filed = λ b d.
-      below_more (λ k. (get_or (bands ++ v ∷ []) k d).items ≡ filter (is_in_band k) ls) n
-      (λ k lt. ap (λ (w : Vec PlacedLine Global). w.items) (get_or_append_left bands (v ∷ []) d k (omega (arith, a.count))) ∙ a.filed k d lt)
-      (ap (λ (w : Vec PlacedLine Global). w.items) (get_or_push bands v d n a.count) ∙ is)
-      b;
-}

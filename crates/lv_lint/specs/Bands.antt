@@ -1,6 +1,5 @@
 -- Lines filed by bands of 128 rows, so that a line or a thing is compared with those near it alone.
-use Rattle.std.specs.Prelude.{◌≡◌, ℕ, ◌*◌, ◌<◌, Bool, List, length, filter, get_or, ℤ, pos, ◌+ℤ◌, ◌-ℤ◌, ◌≤ℤ◌, Vec}
-use Rattle.std.specs.declared.alloc.Global.{Global}
+use Rattle.std.specs.Prelude.{◌≡◌, ℕ, ◌*◌, ◌<◌, Bool, List, [], ◌∷◌, ◌++◌, length, filter, get_or, ℤ, pos, ◌+ℤ◌, ◌-ℤ◌, ◌≤ℤ◌}
 use Rattle.lv_lint.specs.declared.places.PlacedLine.{PlacedLine}
 use Rattle.lv_lint.specs.declared.bands.FiledLines.{FiledLines}
 use Rattle.lv_maptables.specs.Tables.{Tables}
@@ -24,16 +23,20 @@ pub record IsBandOf (y : ℤ) (b : ℕ) : Type 0 where
   pub low : band_bottom b ≤ℤ y
   pub high : y ≤ℤ band_top b
 
--- the first n bands hold the lines whose boxes have a row in them
-pub record AreBands (ls : List PlacedLine) (n : ℕ) (bands : List (Vec PlacedLine Global)) :
-    Type 0 where
-  pub count : length bands ≡ n
-  pub filed : (b : ℕ) (d : Vec PlacedLine Global) → b < n → (get_or bands b d).items
-      ≡ filter (is_in_band b) ls
+-- each band holds the lines whose boxes have a row in it
+pub record AreBands (ls : List PlacedLine) (bands : List (List PlacedLine)) : Type 0 where
+  pub count : length bands ≡ 512
+  pub filed : (b : ℕ) → b < 512 → get_or bands b [] ≡ filter (is_in_band b) ls
+
+-- each band got the line at its end where the line's box has a row in it
+pub record FilesLine (l : PlacedLine) (old new : List (List PlacedLine)) : Type 0 where
+  pub count : length new ≡ length old
+  pub each : (b : ℕ) → b < 512
+      → get_or new b [] ≡ get_or old b [] ++ filter (is_in_band b) (l ∷ [])
 
 -- the lines are filed
 abbrev pub AreFiled : FiledLines → Type 0
-AreFiled f = AreBands f.lines.items 512 f.bands.items
+AreFiled f = AreBands f.lines.items f.bands.items
 
 -- they are the map's lines, filed
 pub record AreFiledLines (m : Tables) (f : FiledLines) : Type 0 where

@@ -4,6 +4,7 @@ pub mod Meeting
 pub mod Segments
 pub mod Outside
 pub mod Bands
+pub mod Boxes
 pub mod Texts
 pub mod Known
 pub mod Starts

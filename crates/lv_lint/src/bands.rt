@@ -1,13 +1,13 @@
 //! The lines of a map, filed by bands of 128 rows.
-ghost use Rattle.std.specs.Prelude.{◌≡◌, ◌<◌, filter, IfOk};
+ghost use Rattle.std.specs.Prelude.{◌≡◌, [], length, IfOk, OnOk};
 ghost use Rattle.std.specs.Int.{int_min, int_max};
 ghost use Rattle.std.specs.List.{list_any};
 ghost use Rattle.lv_lint.specs.Meeting.{meets, meets_another};
 ghost use Rattle.lv_lint.specs.Outside.{is_place_outside};
-ghost use Rattle.lv_lint.specs.Bands.{IsBandOf, band_bottom, band_top, is_in_band, AreBands, AreFiled, AreFiledLines};
+ghost use Rattle.lv_lint.specs.Bands.{IsBandOf, FilesLine, AreBands, AreFiled, AreFiledLines};
 
+use crate::band::Band;
 use crate::error::LintError;
-use crate::meeting::{meets_any, spans_meet};
 use crate::outside::is_outside;
 use crate::places::{PlacedLine, placed_lines};
 use lv_lumps::Vertex;
@@ -18,7 +18,7 @@ use std::alloc::Global;
 #[derive(Drop)]
 pub(crate) struct FiledLines {
     pub lines: Vec<PlacedLine>,
-    pub bands: Vec<Vec<PlacedLine>>,
+    pub bands: Vec<Band>,
 }
 
 // The band of a row.
@@ -36,68 +36,6 @@ fn band_at(place: Vertex) -> usize
     band_of(place.y)
 }
 
-// The lowest row of the band.
-fn band_bottom(band: usize) -> i16
-    requires { band < 512 }
-    ensures { result ≡ band_bottom band }
-{
-    (band as i32 * 128 - 32_768) as i16
-}
-
-// The highest row of the band.
-fn band_top(band: usize) -> i16
-    requires { band < 512 }
-    ensures { result ≡ band_top band }
-{
-    (band as i32 * 128 - 32_641) as i16
-}
-
-// Whether the line's box has a row in the band.
-#[tactic(auto, unfolding(crate::specs::Bands::is_in_band))]
-fn is_in_band(band: usize, line: &PlacedLine) -> bool
-    requires { band < 512 }
-    ensures { result ≡ is_in_band band line.now }
-{
-    spans_meet(line.from.y, line.to.y, band_bottom(band), band_top(band))
-}
-
-// The lines whose boxes have a row in the band.
-fn lines_in_band(
-    alloc: Global,
-    lines: &[PlacedLine],
-    band: usize,
-) -> Result<Vec<PlacedLine>, LintError>
-    requires { band < 512 }
-    ensures { IfOk result (λ filed. filed.items ≡ filter (is_in_band band) lines.now) }
-{
-    let filed = lines
-        .iter()
-        .filter(|line| is_in_band(band, line))
-        .copied()
-        .collect(alloc)?;
-    Ok(filed)
-}
-
-// The lines of each band.
-fn bands_of(alloc: Global, lines: &[PlacedLine]) -> Result<Vec<Vec<PlacedLine>>, LintError>
-    ensures { IfOk result (λ bands. AreBands lines.now 512 bands.items) }
-{
-    let mut bands = Vec::new(alloc);
-    for band in 0..512 {
-        bands.push(lines_in_band(alloc, lines, band)?)?;
-    }
-    Ok(bands)
-}
-
-/// The lines of the map, and those of each band.
-pub(crate) fn file_lines(alloc: Global, map: &Map) -> Result<FiledLines, LintError>
-    ensures { IfOk result (AreFiledLines map.now.tables) }
-{
-    let lines = placed_lines(alloc, map)?;
-    let bands = bands_of(alloc, &lines)?;
-    Ok(FiledLines { lines, bands })
-}
-
 // The first band in which the line's box has a row.
 fn first_band(line: &PlacedLine) -> usize
     ensures { IsBandOf (int_min line.now.from.y line.now.to.y) result }
@@ -112,6 +50,50 @@ fn last_band(line: &PlacedLine) -> usize
     band_of(line.from.y.max(line.to.y))
 }
 
+// Puts the line at the end of the bands in which its box has a row.
+fn file_line(bands: &mut [Band], line: PlacedLine) -> Result<(), LintError>
+    requires { length bands.old ≡ 512 }
+    ensures { OnOk result (FilesLine line bands.old bands.new) }
+{
+    let first = first_band(&line);
+    let last = last_band(&line);
+    for band in first..last + 1 {
+        bands[band].push(line)?;
+    }
+    Ok(())
+}
+
+// The bands without a line.
+fn empty_bands(alloc: Global) -> Result<Vec<Band>, LintError>
+    ensures { IfOk result (λ bands. AreBands [] bands.items) }
+{
+    let mut bands = Vec::with_capacity(alloc, 512)?;
+    for _band in 0..512usize {
+        bands.push(Band::new(alloc))?;
+    }
+    Ok(bands)
+}
+
+// The lines of each band.
+fn bands_of(alloc: Global, lines: &[PlacedLine]) -> Result<Vec<Band>, LintError>
+    ensures { IfOk result (λ bands. AreBands lines.now bands.items) }
+{
+    let mut bands = empty_bands(alloc)?;
+    for line in lines {
+        file_line(&mut bands, *line)?;
+    }
+    Ok(bands)
+}
+
+/// The lines of the map, and those of each band.
+pub(crate) fn file_lines(alloc: Global, map: &Map) -> Result<FiledLines, LintError>
+    ensures { IfOk result (AreFiledLines map.now.tables) }
+{
+    let lines = placed_lines(alloc, map)?;
+    let bands = bands_of(alloc, &lines)?;
+    Ok(FiledLines { lines, bands })
+}
+
 // Whether the line meets another one, which then has a row in one of the line's bands.
 fn meets_near(filed: &FiledLines, line: &PlacedLine) -> bool
     requires { AreFiled filed.now }
@@ -120,7 +102,7 @@ fn meets_near(filed: &FiledLines, line: &PlacedLine) -> bool
     let first = first_band(line);
     let last = last_band(line);
     for band in first..last + 1 {
-        if meets_any(line, &filed.bands[band]) {
+        if filed.bands[band].meets_any(line) {
             return true;
         }
     }
@@ -143,5 +125,5 @@ pub(crate) fn is_in_no_sector(filed: &FiledLines, place: Vertex) -> bool
     requires { AreFiled filed.now }
     ensures { result ≡ is_place_outside filed.now.lines.items place }
 {
-    is_outside(&filed.bands[band_at(place)], place)
+    is_outside(filed.bands[band_at(place)].lines(), place)
 }

@@ -2,6 +2,7 @@
 #![tactic(auto)]
 
 mod areas;
+mod band;
 mod bands;
 mod borders;
 mod error;

@@ -1,6 +1,5 @@
 //! Whether two lines have a point in common that isn't an end of both.
 ghost use Rattle.std.specs.Prelude.{◌≡◌};
-ghost use Rattle.std.specs.List.{list_any};
 ghost use Rattle.lv_lint.specs.Meeting.{is_under, spans_meet, boxes_meet, side_value_at, is_on, is_at, ends_at, abuts, has_on_both_sides, doubles, share, meets};
 
 use crate::places::PlacedLine;
@@ -98,17 +97,10 @@ fn share(l: &PlacedLine, k: &PlacedLine) -> bool
     parts(l, k) && parts(k, l) || abuts(k, l) || abuts(l, k) || doubles(l, k)
 }
 
-// Whether line k is another line than l, their boxes meet, and a point of both isn't an end of both.
+/// Whether line k is another line than l, their boxes meet, and a point of both isn't an end of both.
 #[tactic(auto, unfolding(crate::specs::Meeting::meets))]
-fn meets(l: &PlacedLine, k: &PlacedLine) -> bool
+pub(crate) fn meets(l: &PlacedLine, k: &PlacedLine) -> bool
     ensures { result ≡ meets l.now k.now }
 {
     l.number != k.number && boxes_meet(l, k) && share(l, k)
-}
-
-/// Whether the line meets one of the others so.
-pub(crate) fn meets_any(line: &PlacedLine, others: &[PlacedLine]) -> bool
-    ensures { result ≡ list_any (meets line.now) others.now }
-{
-    others.iter().any(|other| meets(line, other))
 }

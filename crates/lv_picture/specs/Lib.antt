@@ -6,3 +6,4 @@ pub mod Picture
 pub mod Things
 pub mod Vertices
 pub mod View
+pub mod Longest

@@ -4,6 +4,7 @@
 mod groups;
 mod items;
 mod lines;
+mod longest;
 mod numbers;
 mod parts;
 mod picture;

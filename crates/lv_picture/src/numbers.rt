@@ -1,11 +1,13 @@
 //! The numbers of vertices, lines and sectors as texts of the picture.
-ghost use Rattle.std.specs.Prelude.{◌≡◌, ◌≤◌, OnOk, slice_get};
-ghost use Rattle.std.specs.Option.{option_map_or};
+ghost use Rattle.std.specs.Prelude.{◌≡◌, ◌≤◌, OnOk};
 ghost use Rattle.std.specs.Io.KnownBytes.{Appends};
-ghost use Rattle.lv_picture.specs.Numbers.{anchor_text, beside_text, bounds, line_number, longer, longest_line, number_text, sector_number, sector_shift, squared_len, up_right, vertex_number};
+ghost use Rattle.lv_picture.specs.Numbers.{anchor_text, beside_text, line_number, longest_line, number_text, sector_number, sector_shift, up_right, vertex_number};
+ghost use Rattle.lv_picture.specs.Picture.{part_text};
+ghost use Rattle.lv_picture.specs.declared.parts.Part.{Part};
 
 use crate::items::{sector_of, vertex_of};
-use lv_lumps::{Line, Vertex, squared_distance};
+use crate::longest::find_longest;
+use lv_lumps::{Line, Vertex};
 use lv_maptables::{Kind, Map};
 use lv_svg::{PictureError, Shift, Spot, middle_of, right_of, spot_of};
 use std::io::Write;
@@ -92,59 +94,6 @@ pub(crate) fn write_line_number<W: Write>(
     write_number("of-line", middle_of(from, to), shift, n, writer)
 }
 
-// Whether the line has the sector on a side.
-fn bounds(map: &Map, sector: u32, line: &Line) -> bool
-    ensures { result ≡ bounds map.now.tables sector line.now }
-{
-    u32::from(sector_of(map, line.right)) == sector
-        || (line.has_left() && u32::from(sector_of(map, line.left)) == sector)
-}
-
-// The squared length of the line, in squared map units.
-fn squared_len(map: &Map, line: &Line) -> u64
-    ensures { result ≡ squared_len map.now.tables line.now }
-{
-    squared_distance(vertex_of(map, line.v1), vertex_of(map, line.v2))
-}
-
-// The longest line so far of the sector, after one line more.
-fn longer(map: &Map, sector: u32, longest: Option<Line>, line: Line) -> Option<Line>
-    ensures { result ≡ longer map.now.tables sector longest line }
-{
-    let len = match longest {
-        Some(longest) => squared_len(map, &longest),
-        None => 0,
-    };
-    if bounds(map, sector, &line) && len < squared_len(map, &line) {
-        Some(line)
-    } else {
-        longest
-    }
-}
-
-// The same with the line of a number, if there is one.
-fn with_line(map: &Map, sector: u32, n: u32, longest: Option<Line>) -> Option<Line>
-    ensures { result ≡ option_map_or (longer map.now.tables sector longest)
-        (slice_get map.now.tables.lines n)
-        longest }
-{
-    match map.line(n) {
-        Some(line) => longer(map, sector, longest, line),
-        None => longest,
-    }
-}
-
-// The longest of the sector's lines, the first of them where several are.
-fn longest_line(map: &Map, sector: u32) -> Option<Line>
-    ensures { result ≡ longest_line map.now.tables sector }
-{
-    let mut longest = None;
-    for n in 0..map.count(Kind::Line) {
-        longest = with_line(map, sector, n, longest);
-    }
-    longest
-}
-
 // The way from the line's middle into the sector.
 fn sector_shift(map: &Map, step: u32, sector: u32, line: &Line) -> Shift
     requires { step ≤ 1000 }
@@ -159,19 +108,21 @@ fn sector_shift(map: &Map, step: u32, sector: u32, line: &Line) -> Shift
     }
 }
 
-/// Writes the number of a sector beside the longest of its lines, if it has one.
+// Writes the number of a sector beside the longest of its lines, if it has one.
 #[tactic(auto, unfolding(crate::specs::Numbers::sector_number))]
-pub(crate) fn write_sector_number<W: Write>(
+fn write_sector_number<W: Write>(
     map: &Map,
     step: u32,
     n: u32,
+    longest: Option<Line>,
     writer: &mut W,
 ) -> Result<(), PictureError>
-    requires { step ≤ 1000 }
+    requires step { step ≤ 1000 }
+    requires longest { longest ≡ longest_line map.now.tables n }
     ensures { OnOk result (Appends (W.contents writer.old) (W.contents writer.new)
         (sector_number map.now.tables step n)) }
 {
-    match longest_line(map, n) {
+    match longest {
         Some(line) => {
             let middle = middle_of(vertex_of(map, line.v1), vertex_of(map, line.v2));
             let shift = sector_shift(map, step, n, &line);
@@ -179,4 +130,27 @@ pub(crate) fn write_sector_number<W: Write>(
         }
         None => Ok(()),
     }
+}
+
+/// Writes the numbers of the sectors. The lines are looked at once for each 256 sectors.
+pub(crate) fn write_sector_numbers<W: Write>(
+    map: &Map,
+    step: u32,
+    writer: &mut W,
+) -> Result<(), PictureError>
+    requires { step ≤ 1000 }
+    ensures { OnOk result (Appends (W.contents writer.old) (W.contents writer.new)
+        (part_text map.now.tables step Part.SectorNumbers)) }
+{
+    let mut longest = [None; 256];
+    for n in 0..map.count(Kind::Sector) {
+        if n % 256 == 0 {
+            find_longest(&mut longest, map, n);
+        }
+        match write_sector_number(map, step, n, longest[(n % 256) as usize], writer) {
+            Ok(()) => {}
+            Err(error) => return Err(error),
+        }
+    }
+    Ok(())
 }

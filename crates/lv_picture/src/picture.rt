@@ -1,10 +1,10 @@
 //! The call that writes a picture.
-ghost use Rattle.std.specs.Prelude.{◌≡◌, ◌≤◌, OnOk, flat_map};
+ghost use Rattle.std.specs.Prelude.{◌≡◌, ◌≢◌, ◌≤◌, OnOk, flat_map};
 ghost use Rattle.std.specs.Io.KnownBytes.{Appends};
 ghost use Rattle.lv_picture.specs.Picture.{element, head_text, opening_text, page_text, paper_text, page_corner, part_text, picture_of, style_text, map_title};
 
 use crate::lines::write_line;
-use crate::numbers::{write_line_number, write_sector_number, write_vertex_number};
+use crate::numbers::{write_line_number, write_sector_numbers, write_vertex_number};
 use crate::parts::{Part, kind_of, parts_of};
 use crate::style::STYLE;
 use crate::things::write_thing;
@@ -108,7 +108,7 @@ fn write_element<W: Write>(
     n: u32,
     writer: &mut W,
 ) -> Result<(), PictureError>
-    requires { step ≤ 1000 }
+    requires { part ≢ Part.SectorNumbers }
     ensures { OnOk result (Appends (W.contents writer.old) (W.contents writer.new)
         (element map.now.tables step part n)) }
 {
@@ -133,8 +133,28 @@ fn write_element<W: Write>(
             Some(line) => write_line_number(map, step, n, &line, writer),
             None => Ok(()),
         },
-        Part::SectorNumbers => write_sector_number(map, step, n, writer),
+        Part::SectorNumbers => unreachable!(),
     }
+}
+
+// Writes the elements of a part, item by item.
+fn write_items<W: Write>(
+    map: &Map,
+    step: u32,
+    part: Part,
+    writer: &mut W,
+) -> Result<(), PictureError>
+    requires { part ≢ Part.SectorNumbers }
+    ensures { OnOk result (Appends (W.contents writer.old) (W.contents writer.new)
+        (part_text map.now.tables step part)) }
+{
+    for n in 0..map.count(kind_of(part)) {
+        match write_element(map, step, part, n, writer) {
+            Ok(()) => {}
+            Err(error) => return Err(error),
+        }
+    }
+    Ok(())
 }
 
 // Writes the elements of a part.
@@ -148,13 +168,10 @@ fn write_part<W: Write>(
     ensures { OnOk result (Appends (W.contents writer.old) (W.contents writer.new)
         (part_text map.now.tables step part)) }
 {
-    for n in 0..map.count(kind_of(part)) {
-        match write_element(map, step, part, n, writer) {
-            Ok(()) => {}
-            Err(error) => return Err(error),
-        }
+    match part {
+        Part::SectorNumbers => write_sector_numbers(map, step, writer),
+        _ => write_items(map, step, part, writer),
     }
-    Ok(())
 }
 
 // Writes the parts.

@@ -1,6 +1,7 @@
+use Rattle.std.proofs.Common.{take}
 use Rattle.lv_lint.specs.Bands.{AreBands}
 use Rattle.lv_lint.proofs.bands.bands_of.Given as goal
 
--- the bands so far
-abbrev pub invariant-loop-band : goal.invariant-loop-band
-invariant-loop-band l = AreBands l.lines l.band l.bands.items
+-- the lines so far are filed
+abbrev pub invariant-loop-line : goal.invariant-loop-line
+invariant-loop-line l = AreBands (take l.line-index l.lines) l.bands.items

@@ -1,5 +1,5 @@
-use Rattle.std.proofs.Common.{List, Vec, ap, ◌∙◌}
-use Rattle.std.specs.declared.alloc.Global.{Global}
+use Rattle.std.proofs.Common.{List, [], ap, ◌∙◌, arith}
+use Rattle.std.proofs.lemmas.List.{get_or_default}
 use Rattle.lv_lint.specs.declared.places.PlacedLine.{PlacedLine}
 use Rattle.lv_lint.specs.Outside.{is_place_outside}
 use Rattle.lv_lint.proofs.BandLemmas.{outside_in_band}
@@ -11,6 +11,7 @@ returns c =
     let band = c.band_at.result in
     c.is_outside.ensures
     ∙ ap (λ (ls : List PlacedLine). is_place_outside ls place)
-    (c.deref.ensures.value ∙ ap (λ (v : Vec PlacedLine Global). v.items) c.index.ensures
-    ∙ c.requires.filed band c.index.result.now c.band_at.ensures.among)
+    (c.lines.ensures ∙ c.index.ensures
+    ∙ get_or_default c.args.filed.now.bands.items band c.index.result.now [] (omega (arith, c.band_at.ensures.among, c.requires.count))
+    ∙ c.requires.filed band c.band_at.ensures.among)
     ∙ outside_in_band c.args.filed.now.lines.items place band c.band_at.ensures

@@ -1,7 +1,6 @@
-use Rattle.std.proofs.Common.{◌≡◌, ◌∙◌, List, [], ◌∷◌, ap, flat_map, arith}
+use Rattle.std.proofs.Common.{◌≡◌, ◌∙◌, [], ◌∷◌, ap, flat_map, arith}
 use Rattle.std.proofs.lemmas.List.{take_all}
 use Rattle.lv_lint.specs.Graphics.{graphic_breaches, graphic_warnings}
-use Rattle.lv_lint.specs.declared.warning.Rule.{Rule}
 use Rattle.lv_lint.specs.declared.warning.Rule.TheVariants.{FlatKnown, TextureKnown}
 use Rattle.lv_lint.proofs.RuleSteps.{parts_more}
 use Rattle.lv_lint.proofs.graphics.lint_graphics.Goals as goal

@@ -5,7 +5,7 @@ use Rattle.std.specs.Io.KnownBytes.{Appends}
 use Rattle.std.proofs.KnownBytes.{Appends-nil, Appends-trans}
 use Rattle.lv_picture.specs.Picture.{element}
 use Rattle.lv_svg.proofs.Growing.{numbered_more}
-use Rattle.lv_picture.proofs.picture.write_part.Goals as goal
+use Rattle.lv_picture.proofs.picture.write_items.Goals as goal
 
 pub loop-n-init : goal.loop-n-init
 loop-n-init g c = Appends-nil (g.W.Write.contents c.args.writer.now)

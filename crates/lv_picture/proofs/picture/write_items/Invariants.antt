@@ -2,7 +2,7 @@ use Rattle.std.specs.Prelude.{flat_map}
 use Rattle.std.specs.List.{range_with_len}
 use Rattle.std.specs.Io.KnownBytes.{Appends}
 use Rattle.lv_picture.specs.Picture.{element}
-use Rattle.lv_picture.proofs.picture.write_part.Given as goal
+use Rattle.lv_picture.proofs.picture.write_items.Given as goal
 
 -- the elements so far have been written
 abbrev pub invariant-loop-n : goal.invariant-loop-n

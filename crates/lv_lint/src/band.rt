@@ -1,0 +1,153 @@
+//! The lines of a band, with a box round each sixteen of them.
+ghost use Rattle.std.specs.Prelude.{◌≡◌, ◌≤◌, ◌*◌, length, OnOk};
+ghost use Rattle.std.specs.Int.{int_max, int_min};
+ghost use Rattle.std.specs.List.{list_any};
+ghost use Rattle.lv_lint.specs.Boxes.{GrowsBoxes, HasBox, KeepsBoxes, may_meet, round_line, with_line};
+ghost use Rattle.lv_lint.specs.Meeting.{meets};
+
+use crate::error::LintError;
+use crate::meeting::{meets, spans_meet};
+use crate::places::PlacedLine;
+use lv_lumps::Bounds;
+use std::alloc::Global;
+use std::marker::Model;
+
+/// Lines in the order in which they were filed, and the boxes round the first sixteen of them, the next sixteen, and
+/// so on. Lines that were drawn one after the other mostly lie near each other, so few boxes meet that of a line.
+#[derive(Drop)]
+pub(crate) struct Band {
+    lines: Vec<PlacedLine>,
+    boxes: Vec<Bounds>,
+}
+
+impl Model for Band {
+    ghost use Rattle.std.specs.Prelude.{List};
+    ghost use Rattle.lv_lint.specs.declared.places.PlacedLine.{PlacedLine};
+    ghost use Rattle.lv_lint.specs.Boxes.{KeepsBoxes};
+
+    ghost Value = { List PlacedLine };
+
+    ghost view = { λ b. b.lines.items };
+
+    ghost invariant = { λ b. KeepsBoxes b.lines.items b.boxes.items };
+}
+
+// The higher one of two numbers.
+fn higher(a: i16, b: i16) -> i16
+    ensures { result ≡ int_max a b }
+{
+    a.max(b)
+}
+
+// The lower one.
+fn lower(a: i16, b: i16) -> i16
+    ensures { result ≡ int_min a b }
+{
+    a.min(b)
+}
+
+// The box round a line.
+fn round_line(line: &PlacedLine) -> Bounds
+    ensures { result ≡ round_line line.now }
+{
+    Bounds {
+        top: higher(line.from.y, line.to.y),
+        bottom: lower(line.from.y, line.to.y),
+        left: lower(line.from.x, line.to.x),
+        right: higher(line.from.x, line.to.x),
+    }
+}
+
+// The box round what a box holds and a line.
+fn with_line(bounds: Bounds, line: &PlacedLine) -> Bounds
+    ensures { result ≡ with_line bounds line.now }
+{
+    let own = round_line(line);
+    Bounds {
+        top: higher(bounds.top, own.top),
+        bottom: lower(bounds.bottom, own.bottom),
+        left: lower(bounds.left, own.left),
+        right: higher(bounds.right, own.right),
+    }
+}
+
+// Whether the line's box and the bounds have a point in common.
+#[tactic(auto, unfolding(crate::specs::Boxes::may_meet))]
+fn may_meet(line: &PlacedLine, bounds: Bounds) -> bool
+    ensures { result ≡ may_meet line.now bounds }
+{
+    spans_meet(line.from.x, line.to.x, bounds.left, bounds.right)
+        && spans_meet(line.from.y, line.to.y, bounds.bottom, bounds.top)
+}
+
+// Makes the box of the n-th line hold the line.
+fn note_box(boxes: &mut Vec<Bounds>, n: usize, line: &PlacedLine) -> Result<(), LintError>
+    requires { n ≤ 16 * length boxes.old.items }
+    ensures grows { GrowsBoxes boxes.old.items boxes.new.items }
+    ensures ok { OnOk result (HasBox boxes.new.items n line.now) }
+{
+    let place = n / 16;
+    if place < boxes.len() {
+        boxes[place] = with_line(boxes[place], line);
+    } else {
+        boxes.push(round_line(line))?;
+    }
+    Ok(())
+}
+
+// Whether the line meets one of these. Where the box round sixteen of them doesn't meet that of the line, none of the
+// sixteen does.
+fn meets_boxed(line: &PlacedLine, lines: &[PlacedLine], boxes: &[Bounds]) -> bool
+    requires { KeepsBoxes lines.now boxes.now }
+    ensures { result ≡ list_any (meets line.now) lines.now }
+{
+    let mut n = 0usize;
+    while n < lines.len() {
+        if n % 16 == 0 && !may_meet(line, boxes[n / 16]) {
+            n = n.saturating_add(16);
+        } else {
+            if meets(line, &lines[n]) {
+                return true;
+            }
+            n += 1;
+        }
+    }
+    false
+}
+
+impl Band {
+    ghost use Rattle.std.specs.Prelude.{◌≡◌, [], ◌∷◌, ◌++◌, OnOk};
+
+    /// The band without a line. It takes no memory.
+    pub(crate) fn new(alloc: Global) -> Band
+        ensures { result ≡ [] }
+    {
+        Band {
+            lines: Vec::new(alloc),
+            boxes: Vec::new(alloc),
+        }
+    }
+
+    /// Puts a line at the end.
+    pub(crate) fn push(&mut self, line: PlacedLine) -> Result<(), LintError>
+        ensures { OnOk result (self.new ≡ self.old ++ line ∷ []) }
+    {
+        note_box(&mut self.boxes, self.lines.len(), &line)?;
+        self.lines.push(line)?;
+        Ok(())
+    }
+
+    /// The lines.
+    pub(crate) fn lines(&self) -> &[PlacedLine]
+        ensures { result.now ≡ self.now }
+    {
+        &self.lines
+    }
+
+    /// Whether the line meets one of them.
+    pub(crate) fn meets_any(&self, line: &PlacedLine) -> bool
+        ensures { result ≡ list_any (meets line.now) self.now }
+    {
+        meets_boxed(line, &self.lines, &self.boxes)
+    }
+}
