@@ -1,6 +1,6 @@
 -- The text of a dump is cut into its lines at each LF, and into no others.
-use Rattle.std.proofs.Common.{◌≡◌, ◌∙◌, ℕ, ◌<◌, suc, zero, Bool, true, false, cond, ◌&&◌, ◌||◌, List, [], ◌∷◌, ◌++◌, length, Option, Some, None, refl, sym, ap, subst, arith, nat_eq, get_or, map}
-use Rattle.std.specs.Prelude.{bytes_eq, codes, flat_map, nat_lt, not}
+use Rattle.std.proofs.Common.{◌≡◌, ◌∙◌, ℕ, suc, zero, Bool, true, false, cond, ◌&&◌, ◌||◌, List, [], ◌∷◌, ◌++◌, length, Option, Some, None, refl, sym, ap, subst, arith, nat_eq, map}
+use Rattle.std.specs.Prelude.{bytes_eq, codes, nat_lt, not}
 use Rattle.std.specs.List.{All, join_with_byte, list_all}
 use Rattle.std.proofs.lemmas.Bool.{eqb-true}
 use Rattle.std.proofs.lemmas.List.{map-append}
@@ -22,7 +22,7 @@ use Rattle.lv_commands.specs.ProjectCommands.{project_spelling}
 use Rattle.lv_commands.specs.Spelling.{line_words, sector_words, side_words, thing_words, vertex_words}
 use Rattle.lv_commands.specs.Words.{is_natural, is_numeral, is_printable, is_word}
 use Rattle.lv_commands.specs.declared.command.Command.{Command}
-use Rattle.lv_commands.specs.declared.command.Command.TheVariants.{Name, AddVertex, AddSector, AddSide, AddLine, AddThing}
+use Rattle.lv_commands.specs.declared.command.Command.TheVariants.{AddVertex, AddSector, AddSide, AddLine, AddThing}
 use Rattle.lv_commands.specs.declared.project.command.ProjectCommand.{ProjectCommand}
 use Rattle.lv_commands.specs.declared.project.command.ProjectCommand.TheVariants.{Edit, SelectMap}
 use Rattle.lv_commands.proofs.Accepted.{marker-ok}
@@ -30,9 +30,9 @@ use Rattle.lv_commands.proofs.Numerals.{both}
 use Rattle.lv_commands.proofs.Padding.{apart}
 use Rattle.lv_commands.proofs.RecordWords.{line-ok, sector-ok, side-ok, thing-ok, vertex-ok}
 use Rattle.lv_commands.proofs.Wordings.{all-of, both-back}
-use Rattle.lv_dump.specs.Dump.{commands_from, commands_of, commands_of_map, dump_of, items_of, naming_of}
-use Rattle.lv_dump.specs.Laws.{DumpsAreCutIntoLines, HoldsItsLines}
-use Rattle.lv_dump.specs.Texts.{IsCutInto, with_lf, is_one_line, text_of}
+use Rattle.lv_dump.specs.Dump.{commands_from, commands_of_map, dump_of, items_of, naming_of}
+use Rattle.lv_dump.specs.Laws.{DumpsAreCutIntoLines}
+use Rattle.lv_dump.specs.Texts.{with_lf, is_one_line, text_of}
 
 -- a byte that isn't LF
 abbrev is_inside : ℕ → Bool
