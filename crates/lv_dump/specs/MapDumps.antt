@@ -8,6 +8,7 @@ use Rattle.lv_maptables.specs.Projects.{ProjectMaps, body_len, current_map, empt
 use Rattle.lv_maptables.specs.ProjectEdits.{with_selected}
 use Rattle.lv_commands.specs.ProjectLines.{Leads}
 use Rattle.lv_dump.specs.Dump.{map_dump_of}
+use Rattle.lv_dump.specs.Laws.{HoldsItsLines}
 
 -- ---- one map
 
@@ -76,3 +77,7 @@ MapDumpsDrawAll =
     (ms : List Tables) → AreOfOneProject ms
     → (p : ProjectMaps) × HoldsMaps ms p × ((cap : ℕ) → body_len p ≤ cap
     → Leads cap empty_project (map_dumps_of ms) p)
+
+-- the text of well-formed maps' dumps is cut into the lines of the dumps
+abbrev pub MapDumpsAreCutIntoLines : Type 0
+MapDumpsAreCutIntoLines = (ms : List Tables) → All WellFormed ms → HoldsItsLines (map_dumps_of ms)

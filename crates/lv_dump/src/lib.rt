@@ -9,5 +9,6 @@ mod line;
 pub use dump::{write_dump, write_map_dump};
 pub use error::DumpError;
 pub use laws::{
-    are_cut_into_lines, draw_again, draw_maps_in_turn, draw_maps_over, tell_projects_apart,
+    are_cut_into_lines, draw_again, draw_maps_in_turn, draw_maps_over,
+    map_dumps_are_cut_into_lines, tell_projects_apart,
 };
