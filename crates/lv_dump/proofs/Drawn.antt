@@ -30,14 +30,14 @@ use Rattle.lv_dump.proofs.Items.{Draws, Draws-append, drawing, leads_items, lead
 
 -- ---- Names
 
-other_name : (name : Name8) (m : Tables) → m.name ≢ name → is_named name m ≡ false
+pub other_name : (name : Name8) (m : Tables) → m.name ≢ name → is_named name m ≡ false
 other_name name m other = false_from_ne_true (is_named name m) (λ t. other (λ i. record { bytes = (bytes_eq-Decides m.name.bytes name.bytes).0 t i }))
 
-own_name : (name : Name8) (m : Tables) → m.name ≡ name → is_named name m ≡ true
+pub own_name : (name : Name8) (m : Tables) → m.name ≡ name → is_named name m ≡ true
 own_name name m e = (bytes_eq-Decides m.name.bytes name.bytes).1 (ap (λ n. n.bytes) e)
 
 -- where each map has another name, none has it
-none_named : (p : ProjectMaps) (name : Name8) → ((k : ℕ) (d : Tables) → k < length p.maps → is_named name (get_or p.maps k d) ≡ false) → has_map p name ≡ false
+pub none_named : (p : ProjectMaps) (name : Name8) → ((k : ℕ) (d : Tables) → k < length p.maps → is_named name (get_or p.maps k d) ≡ false) → has_map p name ≡ false
 none_named p name others =
     let past : project.map_number_of p name ≡ length p.maps =
     position_or_len_is (is_named name) p.maps (length p.maps) empty_tables (omega arith)
@@ -64,7 +64,7 @@ rename_free m name = by (is_named name m) refl
 
 leads_name : (cap : ℕ) (m : Tables) → WellFormed m → body_len (drawing [] m) ≤ cap → LeadsTo cap empty_project (project_spelling (Edit (Name m.name))) (drawing [] (with_name empty_tables m.name))
 leads_name cap m w fits =
-    leads_one cap [] m empty_tables (with_name empty_tables m.name) (Name m.name) (record { range = w.name; free = refl; made = refl; short = omega arith }) (rename_free empty_tables m.name) fits
+    leads_one cap [] [] m empty_tables (with_name empty_tables m.name) (Name m.name) (record { range = w.name; free = refl; made = refl; short = omega arith }) (rename_free empty_tables m.name) fits
 
 leads_new : (cap : ℕ) (p : ProjectMaps) (name : Name8) → IsNamed is_marker name → has_map p name ≡ false → length p.maps < 32 → body_len p + 18 ≤ cap
     → LeadsTo cap p (project_spelling (SelectMap name)) (record { maps = p.maps ++ with_name empty_tables name ∷ []; current = length p.maps })
@@ -116,7 +116,7 @@ leads_maps cap p k done m (x ∷ ms) w fits e =
         leads_new cap (drawing done m) x.name fine.name new room short,
         Draws-append cap (drawing front (with_name empty_tables x.name)) (drawing front x)
             (record { maps = p.maps; current = rest.0 }) (map Edit (items_of x)) (commands_from (suc (suc k)) ms)
-            (leads_items cap front x fine part) rest.1,
+            (leads_items cap front [] x fine part) rest.1,
       ),
     )
 
@@ -159,7 +159,7 @@ draws_maps cap p m ms w fits e =
         leads_name cap m fine part,
         Draws-append cap (drawing [] (with_name empty_tables m.name)) (drawing [] m)
             (record { maps = p.maps; current = rest.0 }) (map Edit (items_of m)) (commands_from 1 ms)
-            (leads_items cap [] m fine part) rest.1,
+            (leads_items cap [] [] m fine part) rest.1,
       ),
     )
 

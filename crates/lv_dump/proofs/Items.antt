@@ -2,7 +2,7 @@
 use Rattle.std.proofs.Common.{◌≡◌, ℕ, ◌≤◌, List, [], ◌∷◌, ◌++◌, length, map, None, Ok, refl, sym, subst, ◌∙◌, ap, arith, append_assoc, append-nil, false, length-append, nat_lt}
 use Rattle.std.specs.List.{All}
 use Rattle.std.proofs.lemmas.Bool.{le-ltb}
-use Rattle.std.proofs.lemmas.List.Sums.{sum_by_push}
+use Rattle.std.proofs.lemmas.List.Sums.{sum_by-append, sum_by-cons}
 use Rattle.lv_lumps.specs.declared.records.Thing.{Thing}
 use Rattle.lv_lumps.specs.declared.records.Line.{Line}
 use Rattle.lv_lumps.specs.declared.records.Side.{Side}
@@ -43,11 +43,15 @@ edits-append : (cap : ℕ) (old mid new : ProjectMaps) (cs ds : List Command) �
 edits-append cap old mid new [] ds f g = subst (λ p. Draws cap p (map Edit ds) new) f g
 edits-append cap old mid new (c ∷ cs) ds f g = (f.0, f.1, edits-append cap f.0 mid new cs ds f.2 g)
 
--- ---- The last map is drawn
+-- ---- The current map is drawn
 
--- maps that are done, and the current one behind them
+-- the current map, between others
+abbrev pub between : List Tables → Tables → List Tables → ProjectMaps
+between done m behind = record { maps = done ++ m ∷ behind; current = length done }
+
+-- the same, where none is behind it
 abbrev pub drawing : List Tables → Tables → ProjectMaps
-drawing done m = record { maps = done ++ m ∷ []; current = length done }
+drawing done m = between done m []
 
 -- a command makes one map of another, and the new one is no longer than the whole
 pub record Adds (whole old : Tables) (c : Command) (new : Tables) : Type 0 where
@@ -56,17 +60,17 @@ pub record Adds (whole old : Tables) (c : Command) (new : Tables) : Type 0 where
   pub made : of_one_map.after old c ≡ new
   pub short : part_len new ≤ part_len whole
 
-pub leads_one : (cap : ℕ) (done : List Tables) (whole old new : Tables) (c : Command) → Adds whole old c new
-    → least (naming_faults (drawing done old) c) ≡ None → body_len (drawing done whole) ≤ cap → LeadsTo cap (drawing done old) (project_spelling (Edit c)) (drawing done new)
-leads_one cap done whole old new c a naming fits =
-    let p = drawing done old in
-    let here : current_map p ≡ old = get_middle done [] old empty_tables in
+pub leads_one : (cap : ℕ) (done behind : List Tables) (whole old new : Tables) (c : Command) → Adds whole old c new
+    → least (naming_faults (between done old behind) c) ≡ None → body_len (between done whole behind) ≤ cap → LeadsTo cap (between done old behind) (project_spelling (Edit c)) (between done new behind)
+leads_one cap done behind whole old new c a naming fits =
+    let p = between done old behind in
+    let here : current_map p ≡ old = get_middle done behind old empty_tables in
     let none = least-none (of_one_map.faults (current_map p) c) (naming_faults p c) (ap (λ m. least (of_one_map.faults m c)) here ∙ a.free) ∙ naming in
-    let is : project_after p (Edit c) ≡ drawing done new =
+    let is : project_after p (Edit c) ≡ between done new behind =
     ap (λ m. with_current p (of_one_map.after m c)) here ∙ ap (with_current p) a.made
-    ∙ (λ i. record { maps = set_middle done [] old new i; current = length done }) in
-    let few : body_len (drawing done new) ≤ cap = omega (arith, fits, a.short, sum_by_push part_len done new, sum_by_push part_len done whole) in
-    let short : nat_lt cap (body_len (project_after p (Edit c))) ≡ false = ap (λ q. nat_lt cap (body_len q)) is ∙ le-ltb cap (body_len (drawing done new)) few in (
+    ∙ (λ i. record { maps = set_middle done behind old new i; current = length done }) in
+    let few : body_len (between done new behind) ≤ cap = omega (arith, fits, a.short, sum_by-append part_len done (new ∷ behind), sum_by-cons part_len new behind, sum_by-append part_len done (whole ∷ behind), sum_by-cons part_len whole behind) in
+    let short : nat_lt cap (body_len (project_after p (Edit c))) ≡ false = ap (λ q. nat_lt cap (body_len q)) is ∙ le-ltb cap (body_len (between done new behind)) few in (
       project_number_of p (Edit c),
       record {
         command = Edit c;
@@ -84,16 +88,16 @@ EachAdds {X} whole make stage all =
     (front back : List X) (x : X) → all ≡ front ++ x ∷ back
     → Adds whole (stage front) (make x) (stage (front ++ x ∷ [])) × ((p : ProjectMaps) → naming_faults p (make x) ≡ [])
 
-leads_table : {X : Type 0} (cap : ℕ) (done : List Tables) (whole : Tables) (make : X → Command) (stage : List X → Tables) (all front back : List X)
-    → body_len (drawing done whole) ≤ cap → all ≡ front ++ back → EachAdds whole make stage all
-    → Draws cap (drawing done (stage front)) (map Edit (map make back)) (drawing done (stage all))
-leads_table cap done whole make stage all front [] fits e each = ap (λ xs. drawing done (stage xs)) (e ∙ append-nil front)
-leads_table {X} cap done whole make stage all front (x ∷ back) fits e each =
+leads_table : {X : Type 0} (cap : ℕ) (done behind : List Tables) (whole : Tables) (make : X → Command) (stage : List X → Tables) (all front back : List X)
+    → body_len (between done whole behind) ≤ cap → all ≡ front ++ back → EachAdds whole make stage all
+    → Draws cap (between done (stage front) behind) (map Edit (map make back)) (between done (stage all) behind)
+leads_table cap done behind whole make stage all front [] fits e each = ap (λ xs. between done (stage xs) behind) (e ∙ append-nil front)
+leads_table {X} cap done behind whole make stage all front (x ∷ back) fits e each =
     let one = each front back x e in
     let next : all ≡ (front ++ x ∷ []) ++ back = e ∙ sym (append_assoc front (x ∷ []) back) in (
-      drawing done (stage (front ++ x ∷ [])),
-      leads_one cap done whole (stage front) (stage (front ++ x ∷ [])) (make x) one.0 (ap least (one.1 (drawing done (stage front)))) fits,
-      leads_table cap done whole make stage all (front ++ x ∷ []) back fits next each,
+      between done (stage (front ++ x ∷ [])) behind,
+      leads_one cap done behind whole (stage front) (stage (front ++ x ∷ [])) (make x) one.0 (ap least (one.1 (between done (stage front) behind))) fits,
+      leads_table cap done behind whole make stage all (front ++ x ∷ []) back fits next each,
     )
 
 -- ---- The five tables, each up to an item
@@ -179,20 +183,20 @@ thing_adds m w front back t e =
 -- ---- All items
 
 -- the items of a map make it of the empty map of its name
-pub leads_items : (cap : ℕ) (done : List Tables) (m : Tables) → WellFormed m → body_len (drawing done m) ≤ cap
-    → Draws cap (drawing done (with_name empty_tables m.name)) (map Edit (items_of m)) (drawing done m)
-leads_items cap done m w fits =
-    let vertices = leads_table cap done m AddVertex (to_vertices m) m.vertices [] m.vertices fits refl (vertex_adds m w) in
-    let sectors = leads_table cap done m AddSector (to_sectors m) m.sectors [] m.sectors fits refl (sector_adds m w) in
-    let sides = leads_table cap done m AddSide (to_sides m) m.sides [] m.sides fits refl (side_adds m w) in
-    let lines = leads_table cap done m AddLine (to_lines m) m.lines [] m.lines fits refl (line_adds m w) in
-    let things = leads_table cap done m AddThing (to_things m) m.things [] m.things fits refl (thing_adds m w) in
-    let start = drawing done (with_name empty_tables m.name) in
-    let to_one = drawing done (to_vertices m m.vertices) in
-    let to_two = drawing done (to_sectors m m.sectors) in
-    let to_three = drawing done (to_sides m m.sides) in
-    let to_four = drawing done (to_lines m m.lines) in
-    let end = drawing done m in
+pub leads_items : (cap : ℕ) (done behind : List Tables) (m : Tables) → WellFormed m → body_len (between done m behind) ≤ cap
+    → Draws cap (between done (with_name empty_tables m.name) behind) (map Edit (items_of m)) (between done m behind)
+leads_items cap done behind m w fits =
+    let vertices = leads_table cap done behind m AddVertex (to_vertices m) m.vertices [] m.vertices fits refl (vertex_adds m w) in
+    let sectors = leads_table cap done behind m AddSector (to_sectors m) m.sectors [] m.sectors fits refl (sector_adds m w) in
+    let sides = leads_table cap done behind m AddSide (to_sides m) m.sides [] m.sides fits refl (side_adds m w) in
+    let lines = leads_table cap done behind m AddLine (to_lines m) m.lines [] m.lines fits refl (line_adds m w) in
+    let things = leads_table cap done behind m AddThing (to_things m) m.things [] m.things fits refl (thing_adds m w) in
+    let start = between done (with_name empty_tables m.name) behind in
+    let to_one = between done (to_vertices m m.vertices) behind in
+    let to_two = between done (to_sectors m m.sectors) behind in
+    let to_three = between done (to_sides m m.sides) behind in
+    let to_four = between done (to_lines m m.lines) behind in
+    let end = between done m behind in
     let behind_four = map AddThing m.things ++ [] in
     let behind_three = map AddLine m.lines ++ behind_four in
     let behind_two = map AddSide m.sides ++ behind_three in

@@ -1,6 +1,6 @@
 -- The text of a dump is cut into its lines at each LF, and into no others.
-use Rattle.std.proofs.Common.{◌≡◌, ◌∙◌, ℕ, ◌<◌, suc, zero, Bool, true, false, cond, ◌&&◌, ◌||◌, List, [], ◌∷◌, ◌++◌, length, Option, Some, None, refl, sym, ap, subst, arith, nat_eq, get_or, map}
-use Rattle.std.specs.Prelude.{bytes_eq, codes, flat_map, nat_lt, not}
+use Rattle.std.proofs.Common.{◌≡◌, ◌∙◌, ℕ, suc, zero, Bool, true, false, cond, ◌&&◌, ◌||◌, List, [], ◌∷◌, ◌++◌, length, Option, Some, None, refl, sym, ap, subst, arith, nat_eq, map}
+use Rattle.std.specs.Prelude.{bytes_eq, codes, nat_lt, not}
 use Rattle.std.specs.List.{All, join_with_byte, list_all}
 use Rattle.std.proofs.lemmas.Bool.{eqb-true}
 use Rattle.std.proofs.lemmas.List.{map-append}
@@ -22,7 +22,7 @@ use Rattle.lv_commands.specs.ProjectCommands.{project_spelling}
 use Rattle.lv_commands.specs.Spelling.{line_words, sector_words, side_words, thing_words, vertex_words}
 use Rattle.lv_commands.specs.Words.{is_natural, is_numeral, is_printable, is_word}
 use Rattle.lv_commands.specs.declared.command.Command.{Command}
-use Rattle.lv_commands.specs.declared.command.Command.TheVariants.{Name, AddVertex, AddSector, AddSide, AddLine, AddThing}
+use Rattle.lv_commands.specs.declared.command.Command.TheVariants.{AddVertex, AddSector, AddSide, AddLine, AddThing}
 use Rattle.lv_commands.specs.declared.project.command.ProjectCommand.{ProjectCommand}
 use Rattle.lv_commands.specs.declared.project.command.ProjectCommand.TheVariants.{Edit, SelectMap}
 use Rattle.lv_commands.proofs.Accepted.{marker-ok}
@@ -30,9 +30,10 @@ use Rattle.lv_commands.proofs.Numerals.{both}
 use Rattle.lv_commands.proofs.Padding.{apart}
 use Rattle.lv_commands.proofs.RecordWords.{line-ok, sector-ok, side-ok, thing-ok, vertex-ok}
 use Rattle.lv_commands.proofs.Wordings.{all-of, both-back}
-use Rattle.lv_dump.specs.Dump.{commands_from, commands_of, commands_of_map, dump_of, items_of, naming_of}
+use Rattle.lv_dump.specs.Dump.{commands_from, commands_of_map, dump_of, items_of, map_dump_of, naming_of}
 use Rattle.lv_dump.specs.Laws.{DumpsAreCutIntoLines, HoldsItsLines}
-use Rattle.lv_dump.specs.Texts.{IsCutInto, with_lf, is_one_line, text_of}
+use Rattle.lv_dump.specs.MapDumps.{MapDumpsAreCutIntoLines, map_dumps_of}
+use Rattle.lv_dump.specs.Texts.{with_lf, is_one_line, text_of}
 
 -- a byte that isn't LF
 abbrev is_inside : ℕ → Bool
@@ -210,10 +211,22 @@ cut-once (x ∷ xs) (y ∷ ys) e f same =
     let rest = cut-once xs ys g.1 h.1 one.1 in
     λ i. one.0 i ∷ rest i
 
-pub are_cut : DumpsAreCutIntoLines
-are_cut p w =
-    let lines = dump-lines p w in
+holds_lines : (lines : List (List ℕ)) → list_all is_one_line lines ≡ true → HoldsItsLines lines
+holds_lines lines all =
     record {
-      cut = record { joined = refl; cut = lines };
-      only = λ ls c. sym (cut-once (dump_of p) ls lines c.cut c.joined);
+      cut = record { joined = refl; cut = all };
+      only = λ others c. sym (cut-once lines others all c.cut c.joined);
     }
+
+pub are_cut : DumpsAreCutIntoLines
+are_cut p w = holds_lines (dump_of p) (dump-lines p w)
+
+-- ---- Dumps of single maps
+
+map_dumps-lines : (ms : List Tables) → All WellFormed ms → list_all is_one_line (map_dumps_of ms) ≡ true
+map_dumps-lines [] all = refl
+map_dumps-lines (m ∷ ms) all =
+    all-append is_one_line (map_dump_of m) (map_dumps_of ms) (map-lines 1 m (all 0 m (omega arith))) (map_dumps-lines ms (λ k d h. all (suc k) d (omega arith)))
+
+pub map_dumps_are_cut : MapDumpsAreCutIntoLines
+map_dumps_are_cut ms w = holds_lines (map_dumps_of ms) (map_dumps-lines ms w)

@@ -51,3 +51,12 @@ commands_of p = commands_from 0 p.maps ++ SelectMap (current_map p).name ∷ []
 -- the dump: the line of each of these commands
 abbrev pub dump_of : ProjectMaps → List (List ℕ)
 dump_of p = map project_spelling (commands_of p)
+
+-- the commands that draw a map whatever was drawn before: the map of its name is made current, or
+-- added, and then its items are
+abbrev pub commands_of_one : Tables → List ProjectCommand
+commands_of_one m = SelectMap m.name ∷ edits_of (items_of m)
+
+-- the dump of one map: the line of each of these commands
+abbrev pub map_dump_of : Tables → List (List ℕ)
+map_dump_of m = map project_spelling (commands_of_one m)

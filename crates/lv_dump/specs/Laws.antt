@@ -19,11 +19,11 @@ abbrev pub DumpsTellProjectsApart : Type 0
 DumpsTellProjectsApart =
     (p q : ProjectMaps) → WellFormedProject p → WellFormedProject q → dump_of p ≡ dump_of q → p ≡ q
 
--- the text of the project's dump is cut into the lines of the dump, and into no others
-pub record HoldsItsLines (p : ProjectMaps) : Type 0 where
-  pub cut : IsCutInto (text_of (dump_of p)) (dump_of p)
-  pub only : (lines : List (List ℕ)) → IsCutInto (text_of (dump_of p)) lines → lines ≡ dump_of p
+-- the text of the lines is cut into these lines, and into no others
+pub record HoldsItsLines (lines : List (List ℕ)) : Type 0 where
+  pub cut : IsCutInto (text_of lines) lines
+  pub only : (others : List (List ℕ)) → IsCutInto (text_of lines) others → others ≡ lines
 
--- so is the text of every well-formed project's dump
+-- the text of every well-formed project's dump is cut into the lines of the dump
 abbrev pub DumpsAreCutIntoLines : Type 0
-DumpsAreCutIntoLines = (p : ProjectMaps) → WellFormedProject p → HoldsItsLines p
+DumpsAreCutIntoLines = (p : ProjectMaps) → WellFormedProject p → HoldsItsLines (dump_of p)

@@ -1,4 +1,5 @@
 pub mod Dump
 pub mod Errors
 pub mod Laws
+pub mod MapDumps
 pub mod Texts

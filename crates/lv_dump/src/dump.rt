@@ -2,7 +2,7 @@
 ghost use Rattle.std.specs.Prelude.{◌≡◌, ◌∷◌, [], Some, slice_get};
 ghost use Rattle.lv_commands.specs.declared.command.Command.{Command};
 ghost use Rattle.lv_commands.specs.declared.project.command.ProjectCommand.TheVariants.{Edit, SelectMap};
-ghost use Rattle.lv_dump.specs.Dump.{additions_of, commands_from, commands_of_map, dump_of, edits_of, items_of};
+ghost use Rattle.lv_dump.specs.Dump.{additions_of, commands_from, commands_of_map, dump_of, edits_of, items_of, map_dump_of};
 ghost use Rattle.lv_dump.specs.Texts.{Writes, WritesLines};
 ghost use Rattle.lv_lumps.specs.Names.{IsNamed, is_marker};
 ghost use Rattle.lv_maptables.specs.Projects.{WellFormedProject, project_of};
@@ -141,4 +141,26 @@ pub fn write_dump<W: Write>(alloc: Global, maps: &Maps, writer: &mut W) -> Resul
         Ok(()) => write_selection(alloc, maps.current().name(), writer),
         Err(error) => Err(error),
     }
+}
+
+// A map's name is one of a marker.
+fn has_marker_name(map: &Map)
+    ensures { IsNamed is_marker map.now.tables.name }
+{
+    let _ = map.count(Kind::Vertex);
+}
+
+/// Writes the lines that draw the map whatever was drawn before them, LF behind each: the one that makes the map of its
+/// name current, or adds it, and those that add its items. Each line is handed to the writer at once, and the memory
+/// that it takes is given back.
+///
+/// # Errors
+///
+/// As `write_dump`.
+pub fn write_map_dump<W: Write>(alloc: Global, map: &Map, writer: &mut W) -> Result<(), DumpError>
+    ensures { WritesLines result (map_dump_of map.now.tables) (W.contents writer.old)
+        (W.contents writer.new) }
+{
+    has_marker_name(map);
+    write_map(alloc, 1, map, writer)
 }

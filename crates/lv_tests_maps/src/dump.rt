@@ -2,7 +2,7 @@
 
 use crate::drawing::{ROOM, drawn};
 use crate::expect::same;
-use lv_dump::{DumpError, write_dump};
+use lv_dump::{DumpError, write_dump, write_map_dump};
 use lv_maptables::Maps;
 use std::io;
 use std::io::Write;
@@ -35,6 +35,26 @@ vertex -3 4
 map E1M1
 ";
 
+// The dumps of its two maps, one behind the other.
+const MAP_TEXTS: &[u8] = b"map E1M1
+vertex 0 0
+vertex 0 128
+vertex 128 128
+vertex 128 0
+sector 0 128 FLOOR4_8 CEIL3_5 160 0 0
+side 0 0 - - STARTAN3 0
+side 0 0 - - STARTAN3 0
+side 0 0 - - STARTAN3 0
+side 0 0 - - STARTAN3 0
+line 0 1 1 0 0 0 -
+line 1 2 1 0 0 1 -
+line 2 3 1 0 0 2 -
+line 3 0 1 0 0 3 -
+thing 64 64 90 1 7
+map MAP02
+vertex -3 4
+";
+
 // A writer that fails where it has no room for a line.
 #[derive(Drop)]
 struct Full {
@@ -61,6 +81,19 @@ fn writes_two_maps(rt: HostRuntime) -> Result<(), Fail> {
     let mut text = Vec::new(rt.alloc());
     same(&rt, &write_dump(rt.alloc(), &maps, &mut text), &Ok(()));
     same(&rt, &text.as_slice(), &TEXT);
+    Ok(())
+}
+
+#[test]
+fn writes_each_map_alone(rt: HostRuntime) -> Result<(), Fail> {
+    let maps = drawn(rt.alloc(), &DRAWING)?;
+    let mut text = Vec::new(rt.alloc());
+    for n in 0..maps.len() {
+        if let Some(map) = maps.at(n) {
+            same(&rt, &write_map_dump(rt.alloc(), map, &mut text), &Ok(()));
+        }
+    }
+    same(&rt, &text.as_slice(), &MAP_TEXTS);
     Ok(())
 }
 

@@ -1,7 +1,7 @@
-use Rattle.std.proofs.Common.{◌≡◌, ◌∙◌, ◌<◌, ◌≤◌, List, arith, get_or, length, refl, subst}
+use Rattle.std.proofs.Common.{◌<◌, ◌≤◌, List, arith, length, subst}
 use Rattle.std.proofs.KnownBytes.{Appends-nil}
 use Rattle.std.proofs.lemmas.List.{take_all}
-use Rattle.std.specs.Prelude.{Err, Ok, flat_map}
+use Rattle.std.specs.Prelude.{Err, flat_map}
 use Rattle.std.specs.Io.KnownBytes.{Appends}
 use Rattle.lv_commands.specs.Grammar.{kinds}
 use Rattle.lv_commands.specs.declared.project.command.ProjectCommand.{ProjectCommand}
