@@ -96,7 +96,8 @@ fn note_box(boxes: &mut Vec<Bounds>, n: usize, line: &PlacedLine) -> Result<(), 
 }
 
 // Whether the line meets one of these. Where the box round sixteen of them doesn't meet that of the line, none of the
-// sixteen does.
+// sixteen does. A call of its own, so that the walk has the registers to itself.
+#[inline(never)]
 fn meets_boxed(line: &PlacedLine, lines: &[PlacedLine], boxes: &[Bounds]) -> bool
     requires { KeepsBoxes lines.now boxes.now }
     ensures { result ≡ list_any (meets line.now) lines.now }
