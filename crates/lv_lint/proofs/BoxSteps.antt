@@ -10,7 +10,7 @@ use Rattle.std.proofs.lemmas.List.{get_or_append_left, get_or_push, get_or_defau
 use Rattle.lv_lumps.specs.declared.records.Bounds.{Bounds}
 use Rattle.lv_lint.specs.declared.places.PlacedLine.{PlacedLine}
 use Rattle.lv_lint.specs.Meeting.{is_under, spans_meet, boxes_meet, share, meets}
-use Rattle.lv_lint.specs.Boxes.{round_line, with_line, may_meet, IsWithin, KeepsBoxes, GrowsBoxes, HasBox}
+use Rattle.lv_lint.specs.Boxes.{round_line, widened_by, may_meet, IsWithin, KeepsBoxes, GrowsBoxes, HasBox}
 use Rattle.lv_lint.proofs.Tests.{and_both, both}
 use Rattle.lv_lint.proofs.BandLemmas.{under_top, under_bottom, spans_begin}
 
@@ -55,11 +55,11 @@ lt_or_le (suc m) (suc n) = elim (lt_or_le m n) [ inl e ↦ inl (omega arith) | i
 pub within_round : (l : PlacedLine) → IsWithin l (round_line l)
 within_round l = record { top = omega (arith, ints); bottom = omega (arith, ints); left = omega (arith, ints); right = omega (arith, ints) }
 
-pub within_with : (b : Bounds) (l : PlacedLine) → IsWithin l (with_line b l)
+pub within_with : (b : Bounds) (l : PlacedLine) → IsWithin l (widened_by b l)
 within_with b l =
     record { top = omega (arith, ints, clamps); bottom = omega (arith, ints, clamps); left = omega (arith, ints, clamps); right = omega (arith, ints, clamps) }
 
-pub within_still : (b : Bounds) (l k : PlacedLine) → IsWithin k b → IsWithin k (with_line b l)
+pub within_still : (b : Bounds) (l k : PlacedLine) → IsWithin k b → IsWithin k (widened_by b l)
 within_still b l k w = record {
   top = omega (arith, ints, clamps, w.top);
   bottom = omega (arith, ints, clamps, w.bottom);
@@ -99,7 +99,7 @@ none_found p (x ∷ xs) none = neither (p x) (list_any p xs) (none 0 x (omega ar
     neither a b h k = grind arith
 
 -- a box was noted for a line that had its place among the boxes
-pub grown_at : (boxes : List Bounds) (n : ℕ) (l : PlacedLine) (b : Bounds) → n / 16 < length boxes → b ≡ with_line (get_or boxes (n / 16) b) l
+pub grown_at : (boxes : List Bounds) (n : ℕ) (l : PlacedLine) (b : Bounds) → n / 16 < length boxes → b ≡ widened_by (get_or boxes (n / 16) b) l
     → GrowsBoxes boxes (set boxes (n / 16) b)
 grown_at boxes n l b there is = record {
   count = omega (arith, length-set boxes (n / 16) b);
@@ -114,7 +114,7 @@ grown_at boxes n l b there is = record {
       (same_or_not i (n / 16));
 }
 
-pub box_at : (boxes : List Bounds) (n : ℕ) (l : PlacedLine) (b : Bounds) → n / 16 < length boxes → b ≡ with_line (get_or boxes (n / 16) b) l
+pub box_at : (boxes : List Bounds) (n : ℕ) (l : PlacedLine) (b : Bounds) → n / 16 < length boxes → b ≡ widened_by (get_or boxes (n / 16) b) l
     → HasBox (set boxes (n / 16) b) n l
 box_at boxes n l b there is = record {
   count = omega (arith, length-set boxes (n / 16) b);

@@ -15,8 +15,8 @@ round_line l = record {
 }
 
 -- the least box that holds a box and a line
-abbrev pub with_line : Bounds → PlacedLine → Bounds
-with_line b l = record {
+abbrev pub widened_by : Bounds → PlacedLine → Bounds
+widened_by b l = record {
   top = int_max b.top (round_line l).top;
   bottom = int_min b.bottom (round_line l).bottom;
   left = int_min b.left (round_line l).left;

@@ -2,7 +2,7 @@
 ghost use Rattle.std.specs.Prelude.{◌≡◌, ◌≤◌, ◌*◌, length, OnOk};
 ghost use Rattle.std.specs.Int.{int_max, int_min};
 ghost use Rattle.std.specs.List.{list_any};
-ghost use Rattle.lv_lint.specs.Boxes.{GrowsBoxes, HasBox, KeepsBoxes, may_meet, round_line, with_line};
+ghost use Rattle.lv_lint.specs.Boxes.{GrowsBoxes, HasBox, KeepsBoxes, may_meet, round_line, widened_by};
 ghost use Rattle.lv_lint.specs.Meeting.{meets};
 
 use crate::error::LintError;
@@ -59,8 +59,8 @@ fn round_line(line: &PlacedLine) -> Bounds
 }
 
 // The box round what a box holds and a line.
-fn with_line(bounds: Bounds, line: &PlacedLine) -> Bounds
-    ensures { result ≡ with_line bounds line.now }
+fn widened_by(bounds: Bounds, line: &PlacedLine) -> Bounds
+    ensures { result ≡ widened_by bounds line.now }
 {
     let own = round_line(line);
     Bounds {
@@ -88,7 +88,7 @@ fn note_box(boxes: &mut Vec<Bounds>, n: usize, line: &PlacedLine) -> Result<(), 
 {
     let place = n / 16;
     if place < boxes.len() {
-        boxes[place] = with_line(boxes[place], line);
+        boxes[place] = widened_by(boxes[place], line);
     } else {
         boxes.push(round_line(line))?;
     }
@@ -96,7 +96,8 @@ fn note_box(boxes: &mut Vec<Bounds>, n: usize, line: &PlacedLine) -> Result<(), 
 }
 
 // Whether the line meets one of these. Where the box round sixteen of them doesn't meet that of the line, none of the
-// sixteen does.
+// sixteen does. A call of its own, so that the walk has the registers to itself.
+#[inline(never)]
 fn meets_boxed(line: &PlacedLine, lines: &[PlacedLine], boxes: &[Bounds]) -> bool
     requires { KeepsBoxes lines.now boxes.now }
     ensures { result ≡ list_any (meets line.now) lines.now }

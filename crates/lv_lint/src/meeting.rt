@@ -89,7 +89,8 @@ fn doubles(l: &PlacedLine, k: &PlacedLine) -> bool
     ends_at(l, k.from) && ends_at(l, k.to)
 }
 
-// Whether a point of both lines isn't an end of both.
+// Whether a point of both lines isn't an end of both. Few boxes meet, so it stays out of the walk over the lines.
+#[inline(never)]
 #[tactic(auto, unfolding(crate::specs::Meeting::share))]
 fn share(l: &PlacedLine, k: &PlacedLine) -> bool
     ensures { result ≡ share l.now k.now }

@@ -1,7 +1,7 @@
 use Rattle.std.proofs.Common.{◌/◌, ◌<◌, ap, length, ◌∙◌, arith}
 use Rattle.std.proofs.lemmas.List.{get_or_default}
 use Rattle.lv_lumps.specs.declared.records.Bounds.{Bounds}
-use Rattle.lv_lint.specs.Boxes.{with_line}
+use Rattle.lv_lint.specs.Boxes.{widened_by}
 use Rattle.lv_lint.proofs.BoxSteps.{grown_at, box_at}
 use Rattle.lv_lint.proofs.band.note_box.Goals as goal
 
@@ -11,9 +11,9 @@ returns-then-place-len-clause-grows c =
     let n = c.args.n in
     let line = c.args.line.now in
     let there : n / 16 < length boxes = omega (arith, c.if-place-len.true, c.len.ensures) in
-    grown_at boxes n line c.with_line.result there
-    (c.with_line.ensures
-    ∙ ap (λ (b : Bounds). with_line b line) (c.index.ensures ∙ get_or_default boxes (n / 16) c.index.result.now c.with_line.result there))
+    grown_at boxes n line c.widened_by.result there
+    (c.widened_by.ensures
+    ∙ ap (λ (b : Bounds). widened_by b line) (c.index.ensures ∙ get_or_default boxes (n / 16) c.index.result.now c.widened_by.result there))
 
 pub returns-then-place-len-clause-ok : goal.returns-then-place-len-clause-ok
 returns-then-place-len-clause-ok c =
@@ -21,6 +21,6 @@ returns-then-place-len-clause-ok c =
     let n = c.args.n in
     let line = c.args.line.now in
     let there : n / 16 < length boxes = omega (arith, c.if-place-len.true, c.len.ensures) in
-    box_at boxes n line c.with_line.result there
-    (c.with_line.ensures
-    ∙ ap (λ (b : Bounds). with_line b line) (c.index.ensures ∙ get_or_default boxes (n / 16) c.index.result.now c.with_line.result there))
+    box_at boxes n line c.widened_by.result there
+    (c.widened_by.ensures
+    ∙ ap (λ (b : Bounds). widened_by b line) (c.index.ensures ∙ get_or_default boxes (n / 16) c.index.result.now c.widened_by.result there))

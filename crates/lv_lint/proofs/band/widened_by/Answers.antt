@@ -4,7 +4,7 @@ use Rattle.std.specs.Int.{w16, int_max, int_min}
 use Rattle.std.proofs.lemmas.Int.{to_z-of_z}
 use Rattle.lv_lumps.specs.declared.records.Bounds.{Bounds}
 use Rattle.lv_lint.specs.Boxes.{round_line}
-use Rattle.lv_lint.proofs.band.with_line.Goals as goal
+use Rattle.lv_lint.proofs.band.widened_by.Goals as goal
 
 pub returns : goal.returns
 returns c =
