@@ -1,4 +1,5 @@
 pub mod Mended
+pub mod Once
 pub mod Imported
 pub mod Refused
 pub mod Outcome

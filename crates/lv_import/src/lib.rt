@@ -10,6 +10,7 @@ mod lists;
 mod mended;
 mod needs;
 mod tables;
+mod vertices;
 
 pub use change::Change;
 pub use error::ImportError;
