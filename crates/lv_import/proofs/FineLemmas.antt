@@ -21,7 +21,7 @@ use Rattle.std.proofs.Math.Nat.{le-max_left, le-max_right}
 use Rattle.lv_import.specs.Mended.{is_kept, lacks_left_side, mended_sector, mended_side, mended_thing}
 use Rattle.lv_import.specs.Imported.{kept_things, reached_vertices, same_name, vertex_reach}
 use Rattle.lv_import.specs.Refused.{count_refusal, excess, first_without, has_flat_names, has_line_codes, has_sector_codes, has_texture_names, is_map_name, item_refusal, import_refusal}
-use Rattle.lv_import.specs.Added.{HasSectorRanges, HasSideRanges, HasThingRanges, IsFine}
+use Rattle.lv_import.specs.Added.{IsBetweenSome, HasSectorRanges, HasSideRanges, HasThingRanges, IsFine}
 use Rattle.lv_import.specs.Added.{imported_lines, imported_vertices}
 use Rattle.lv_import.specs.Once.{kept_number}
 use Rattle.lv_import.specs.Mended.{linked_line}
@@ -159,6 +159,15 @@ sides_face d all = All-map (HasSector (map mended_sector d.sectors)) mended_side
 things_fit : (d : DrawnLists) → All HasThingRanges (map mended_thing (kept_things d))
 things_fit d = All-map HasThingRanges mended_thing (kept_things d) (λ k e h. thing_is (get_or (kept_things d) k e) (filter_passes is_kept d.things k e h))
 
+-- each line runs between two of the vertices that are reached
+pub ends_reached : (d : DrawnLists) → lists_hindrance d ≡ None → All (IsBetweenSome (length (reached_vertices d))) d.lines
+ends_reached d hindered =
+    let all = all_linked d hindered in
+    λ k e h.
+    let x = get_or d.lines k e in
+    let link = all.lines k e h in
+    record { v1 = among d x.v1 (v1_reached d k e h) link.v1; v2 = among d x.v2 (v2_reached d k e h) link.v2 }
+
 pub fine : (name : Name8) (d : DrawnLists) → lists_hindrance d ≡ None → import_refusal name d ≡ None → IsFine d
 fine name d hindered refused =
     let rest = (both_none (cond (is_map_name name) None (Some NoMarker)) (option_or (count_refusal d) (item_refusal d)) refused).1 in
@@ -169,10 +178,7 @@ fine name d hindered refused =
     let drawn : All IsVertex (reached_vertices d) = All-weaker (λ v. is_drawable v ≡ true) IsVertex drawn_vertex_is (reached_vertices d) sound.vertices in
     record {
       drawn = drawn;
-      reached = λ k e h.
-          let x = get_or d.lines k e in
-          let link = all.lines k e h in
-          record { v1 = among d x.v1 (v1_reached d k e h) link.v1; v2 = among d x.v2 (v2_reached d k e h) link.v2 };
+      reached = ends_reached d hindered;
       sectors = All-map HasSectorRanges mended_sector d.sectors (λ k e h. sector_is (get_or d.sectors k e) (sound.flats k e h) (sound.sectors k e h));
       sides = sides_fit d all count sound;
       lines = lines_fit d all count sound;

@@ -5,4 +5,5 @@ pub mod OnceLemmas
 pub mod ItemLemmas
 pub mod LineLemmas
 pub mod FineLemmas
+pub mod UntoldLemmas
 pub mod ProjectFacts

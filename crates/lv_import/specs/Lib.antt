@@ -4,3 +4,4 @@ pub mod Imported
 pub mod Refused
 pub mod Outcome
 pub mod Added
+pub mod Unchanged
