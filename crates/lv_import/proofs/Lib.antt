@@ -1,4 +1,9 @@
 pub mod NextLemmas
 pub mod NameFacts
+pub mod RefusalLemmas
+pub mod OnceLemmas
+pub mod ItemLemmas
+pub mod LineLemmas
 pub mod FineLemmas
+pub mod UntoldLemmas
 pub mod ProjectFacts

@@ -1,8 +1,8 @@
--- What is added to a map without an item, and why vertices aren't.
-use Rattle.std.specs.Prelude.{◌≡◌, ◌⊎◌, ◌≤◌, ◌≤ℤ◌, pos, All, List, [], Some, length, map}
-use Rattle.std.specs.Option.{option_map}
+-- What is added to a map without an item.
+use Rattle.std.specs.Prelude.{ℕ, ◌<◌, ◌≤◌, ◌≤ℤ◌, pos, All, List, [], length, map}
 use Rattle.lv_lumps.specs.declared.records.Thing.{Thing}
 use Rattle.lv_lumps.specs.declared.records.Side.{Side}
+use Rattle.lv_lumps.specs.declared.records.Line.{Line}
 use Rattle.lv_lumps.specs.declared.records.Vertex.{Vertex}
 use Rattle.lv_lumps.specs.declared.records.Sector.{Sector}
 use Rattle.lv_lumps.specs.Limits.{item_limit, sector_limit}
@@ -11,14 +11,8 @@ use Rattle.lv_maptables.specs.Projects.{Others}
 use Rattle.lv_maptables.specs.Ranges.{IsBetween, IsCoordinate, IsLine, IsNamed, IsVertex, is_name}
 use Rattle.lv_maptables.specs.WellFormed.{HasEnds, HasSector, HasSides}
 use Rattle.lv_import.specs.Imported.{kept_things, reached_vertices}
-use Rattle.lv_import.specs.Refused.{taken_number}
-use Rattle.lv_import.specs.Mended.{mended_line, mended_sector, mended_side, mended_thing}
-use Rattle.lv_import.specs.declared.error.ImportError.{ImportError}
-use Rattle.lv_import.specs.declared.error.ImportError.TheVariants.{VertexTaken, OutOfMemory}
-
--- there is no memory, or this is the first that stands at the place of one before it
-abbrev pub RefusesVertices : List Vertex → ImportError → Type 0
-RefusesVertices vs e = (e ≡ OutOfMemory) ⊎ (option_map VertexTaken (taken_number vs) ≡ Some e)
+use Rattle.lv_import.specs.Once.{each_once, kept_number}
+use Rattle.lv_import.specs.Mended.{linked_line, mended_sector, mended_side, mended_thing}
 
 -- no map beside the current one
 abbrev pub no_others : Others
@@ -46,19 +40,32 @@ pub record HasThingRanges (t : Thing) : Type 0 where
   pub kind : pos 0 ≤ℤ t.kind
   pub options : pos 0 ≤ℤ t.options
 
+-- the line runs between two of so many vertices
+pub record IsBetweenSome (count : ℕ) (x : Line) : Type 0 where
+  pub v1 : x.v1 < count
+  pub v2 : x.v2 < count
+
+-- the vertices and lines of the map that a level is
+abbrev pub imported_vertices : DrawnLists → List Vertex
+imported_vertices d = each_once (reached_vertices d)
+
+abbrev pub imported_lines : DrawnLists → List Line
+imported_lines d = map (linked_line (kept_number (reached_vertices d))) d.lines
+
 -- after the changes the items of a level's lists are ones of a map, each names what is there, and
 -- no table has too many
 pub record IsFine (d : DrawnLists) : Type 0 where
-  pub vertices : All IsVertex (reached_vertices d)
+  pub drawn : All IsVertex (reached_vertices d)
+  pub reached : All (IsBetweenSome (length (reached_vertices d))) d.lines
   pub sectors : All HasSectorRanges (map mended_sector d.sectors)
   pub sides : All HasSideRanges (map mended_side d.sides)
-  pub lines : All IsLine (map mended_line d.lines)
+  pub lines : All IsLine (imported_lines d)
   pub things : All HasThingRanges (map mended_thing (kept_things d))
-  pub ends : All (HasEnds (reached_vertices d)) (map mended_line d.lines)
-  pub line_sides : All (HasSides (map mended_side d.sides)) (map mended_line d.lines)
+  pub ends : All (HasEnds (imported_vertices d)) (imported_lines d)
+  pub line_sides : All (HasSides (map mended_side d.sides)) (imported_lines d)
   pub side_sectors : All (HasSector (map mended_sector d.sectors)) (map mended_side d.sides)
   pub vertex_count : length (reached_vertices d) ≤ item_limit
   pub sector_count : length (map mended_sector d.sectors) ≤ sector_limit
   pub side_count : length (map mended_side d.sides) ≤ item_limit
-  pub line_count : length (map mended_line d.lines) ≤ item_limit
+  pub line_count : length (imported_lines d) ≤ item_limit
   pub thing_count : length (map mended_thing (kept_things d)) ≤ item_limit

@@ -11,7 +11,8 @@ use Rattle.lv_lumps.specs.declared.records.Vertex.{Vertex}
 use Rattle.lv_lumps.specs.declared.records.Sector.{Sector}
 use Rattle.lv_levels.specs.Drawn.{DrawnLists}
 use Rattle.lv_maptables.specs.Tables.{Tables}
-use Rattle.lv_import.specs.Mended.{is_kept, lacks_left_side, mended_angle, mended_light, mended_line, mended_name, mended_sector, mended_side, mended_thing}
+use Rattle.lv_import.specs.Mended.{is_kept, linked_line, lacks_left_side, mended_angle, mended_light, mended_name, mended_sector, mended_side, mended_thing}
+use Rattle.lv_import.specs.Once.{each_once, kept_number, place_changes}
 use Rattle.lv_import.specs.declared.change.Change.{Change}
 use Rattle.lv_import.specs.declared.change.Change.TheVariants.{VerticesBehind, Light, Flats, Textures, TwoSided, ThingOut, Angle}
 
@@ -35,10 +36,10 @@ abbrev pub imported : Name8 → DrawnLists → Tables
 imported name d =
     record {
       name = name;
-      vertices = reached_vertices d;
+      vertices = each_once (reached_vertices d);
       sectors = map mended_sector d.sectors;
       sides = map mended_side d.sides;
-      lines = map mended_line d.lines;
+      lines = map (linked_line (kept_number (reached_vertices d))) d.lines;
       things = map mended_thing (kept_things d);
     }
 
@@ -47,7 +48,7 @@ imported name d =
 abbrev pub same_name : Name8 → Name8 → Bool
 same_name a b = bytes_eq a.bytes b.bytes
 
--- the vertices that are left out
+-- the vertices that are left out behind the last that a line uses
 abbrev pub vertex_changes : DrawnLists → List Change
 vertex_changes d =
     let behind = length d.vertices - length (reached_vertices d) in
@@ -90,7 +91,9 @@ changes_among change xs = filter_map change (enumerate_from 0 xs)
 -- all that is changed: of vertices, of sectors, of sides, of lines, of things
 abbrev pub changes : DrawnLists → List Change
 changes d =
-    vertex_changes d ++ changes_among light_change d.sectors ++ changes_among flat_change d.sectors
+    vertex_changes d ++ place_changes (reached_vertices d)
+    ++ changes_among light_change d.sectors
+    ++ changes_among flat_change d.sectors
     ++ changes_among texture_change d.sides
     ++ changes_among line_change d.lines
     ++ changes_among thing_change d.things

@@ -1,6 +1,6 @@
 -- What each item of a level is after the changes that make the level a map (docs/FORMAT.md,
 -- "A map of a WAD's level").
-use Rattle.std.specs.Prelude.{◌-◌, ℤ, pos, negsuc, int_le, int_lt, Bool, if◌then◌else◌, not, ◌&&◌, ◌==◌, length, codes}
+use Rattle.std.specs.Prelude.{ℕ, ◌-◌, ℤ, pos, negsuc, int_le, int_lt, Bool, if◌then◌else◌, not, ◌&&◌, ◌==◌, length, codes}
 use Rattle.std.specs.Int.{int_rem_euclid}
 use Rattle.lv_lumps.specs.Names.{name_of, name_text}
 use Rattle.lv_lumps.specs.Sides.{has_left, is_two_sided}
@@ -48,6 +48,10 @@ lacks_left_side x = is_two_sided x && not (has_left x)
 -- the line, without that flag where it has no left side
 abbrev pub mended_line : Line → Line
 mended_line x = if lacks_left_side x then record x { flags = x.flags - 4 } else x
+
+-- the line after the changes, between the vertices that have these numbers in the map
+abbrev pub linked_line : (ℕ → ℕ) → Line → Line
+linked_line number x = record (mended_line x) { v1 = number x.v1; v2 = number x.v2 }
 
 -- the thing stands at coordinates, and neither its type nor its options are negative
 abbrev pub is_kept : Thing → Bool

@@ -1,25 +1,21 @@
 -- What refuses a level of which a map is to be made, whatever is changed of it (docs/FORMAT.md,
 -- "A map of a WAD's level").
-use Rattle.std.specs.Prelude.{◌≡◌, ◌⊎◌, ℕ, pos, int_le, Bool, if◌then◌else◌, not, ◌&&◌, nat_lt, nat_le, List, length, find, take, position, Option, Some, None}
-use Rattle.std.specs.List.{range_with_len}
+use Rattle.std.specs.Prelude.{◌≡◌, ◌⊎◌, ℕ, pos, int_le, Bool, if◌then◌else◌, not, ◌&&◌, nat_lt, nat_le, List, length, position, Option, Some, None}
 use Rattle.std.specs.Option.{option_map, option_or}
 use Rattle.lv_lumps.specs.Limits.{item_limit, sector_limit}
 use Rattle.lv_lumps.specs.Names.{is_name, is_marker, name_of, name_text}
 use Rattle.lv_lumps.specs.declared.records.Name8.{Name8}
 use Rattle.lv_lumps.specs.declared.records.Line.{Line}
 use Rattle.lv_lumps.specs.declared.records.Side.{Side}
-use Rattle.lv_lumps.specs.declared.records.Vertex.{Vertex}
 use Rattle.lv_lumps.specs.declared.records.Sector.{Sector}
 use Rattle.lv_levels.specs.Drawn.{DrawnLists, drawn_lists, hindrance, is_drawable}
 use Rattle.lv_levels.specs.declared.entries.LevelEntries.{LevelEntries}
-use Rattle.lv_maptables.specs.Faults.{is_taken}
-use Rattle.lv_maptables.specs.WellFormed.{nth_vertex}
 use Rattle.lv_maptables.specs.declared.kind.Kind.{Kind}
 use Rattle.lv_maptables.specs.declared.kind.Kind.TheVariants as kind
 use Rattle.lv_import.specs.Mended.{mended_name}
 use Rattle.lv_import.specs.Imported.{kept_things, reached_vertices, same_name}
 use Rattle.lv_import.specs.declared.error.ImportError.{ImportError}
-use Rattle.lv_import.specs.declared.error.ImportError.TheVariants.{Hindered, NoMarker, TooMany, VertexOutside, VertexTaken, SectorName, SectorNumber, SideName, LineNumber, OutOfMemory}
+use Rattle.lv_import.specs.declared.error.ImportError.TheVariants.{Hindered, NoMarker, TooMany, VertexOutside, SectorName, SectorNumber, SideName, LineNumber, OutOfMemory}
 
 -- the changed name is one of a texture or a flat
 abbrev pub is_nameable : Name8 → Bool
@@ -70,25 +66,11 @@ item_refusal d =
     (option_or (first_without SideName has_texture_names d.sides)
     (first_without LineNumber has_line_codes d.lines))))
 
--- the first refusal but that of vertices at one place
-abbrev pub lists_refusal : Name8 → DrawnLists → Option ImportError
-lists_refusal name d =
-    option_or (if is_map_name name then None else Some NoMarker)
-    (option_or (count_refusal d) (item_refusal d))
-
--- a vertex stands at the place of one before it
-abbrev pub comes_again : List Vertex → ℕ → Bool
-comes_again vs n = is_taken (take n vs) (nth_vertex vs n)
-
--- the number of the first such vertex
-abbrev pub taken_number : List Vertex → Option ℕ
-taken_number vs = find (comes_again vs) (range_with_len 0 (length vs))
-
 -- the first refusal of a level that nothing hinders
 abbrev pub import_refusal : Name8 → DrawnLists → Option ImportError
 import_refusal name d =
-    option_or (lists_refusal name d)
-    (option_map VertexTaken (taken_number (reached_vertices d)))
+    option_or (if is_map_name name then None else Some NoMarker)
+    (option_or (count_refusal d) (item_refusal d))
 
 -- that refusal, or lack of memory
 abbrev pub RefusesImport : Name8 → DrawnLists → ImportError → Type 0

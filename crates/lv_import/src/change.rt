@@ -8,6 +8,8 @@ use std::fmt;
 pub enum Change {
     /// So many vertices behind the last that a line uses are left out.
     VerticesBehind(usize),
+    /// A vertex at the place of one before it is left out, and lines name the first at the place, which stands last.
+    VertexAgain(usize, usize),
     /// A sector's light is the nearer end of 0 to 255.
     Light(usize, i16, i16),
     /// A flat of a sector is in capitals, up to its first NUL, and `-` where that leaves nothing.
@@ -26,6 +28,7 @@ pub enum Change {
 fn parts_of(change: Change) -> (&'static str, usize, &'static str) {
     match change {
         Change::VerticesBehind(n) => ("vertices", n, "left out behind the last that a line uses"),
+        Change::VertexAgain(n, _) => ("vertex", n, "is at the place of vertex"),
         Change::Light(n, _, _) => ("sector", n, "light"),
         Change::Flats(n) => ("sector", n, "flats named in capitals, up to a NUL"),
         Change::Textures(n) => ("side", n, "textures named in capitals, up to a NUL"),
@@ -47,6 +50,9 @@ fn numbers_of(change: Change) -> Option<(i16, i16)> {
 impl fmt::Display for Change {
     fn fmt<W: fmt::Write>(&self, f: &mut fmt::Formatter<W>) -> fmt::Result {
         let (what, n, how) = parts_of(*self);
+        if let Change::VertexAgain(_, first) = self {
+            return write!(f, "{what} {n}: {how} {first}");
+        }
         match numbers_of(*self) {
             Some((old, new)) => write!(f, "{what} {n}: {how} {old} is {new}"),
             None => write!(f, "{what} {n}: {how}"),

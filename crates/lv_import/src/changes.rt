@@ -2,7 +2,8 @@
 ghost use Rattle.std.specs.Prelude.{◌≡◌, ◌++◌, IfOk, IsOkUnless};
 ghost use Rattle.lv_levels.specs.Drawn.{drawn_view};
 ghost use Rattle.lv_import.specs.Mended.{mended_name};
-ghost use Rattle.lv_import.specs.Imported.{changes, changes_among, flat_change, light_change, line_change, same_name, texture_change, thing_change, vertex_changes};
+ghost use Rattle.lv_import.specs.Once.{place_changes};
+ghost use Rattle.lv_import.specs.Imported.{changes, changes_among, flat_change, light_change, line_change, reached_vertices, same_name, texture_change, thing_change, vertex_changes};
 
 use crate::change::Change;
 use crate::counts::reached_vertices;
@@ -152,12 +153,19 @@ fn thing_changes(alloc: Global, things: &[Thing]) -> Result<Vec<Change>, ImportE
     Ok(list)
 }
 
-/// All that is changed of a level: of vertices, of sectors, of sides, of lines, of things.
-pub fn changes_of(alloc: Global, drawn: &Drawn) -> Result<Vec<Change>, ImportError>
+/// All that is changed of a level: of vertices, of sectors, of sides, of lines, of things. The vertices at the place of
+/// another are known.
+pub fn changes_of(
+    alloc: Global,
+    drawn: &Drawn,
+    again: &[Change],
+) -> Result<Vec<Change>, ImportError>
+    requires { again.now ≡ place_changes (reached_vertices (drawn_view drawn.now)) }
     ensures list { IfOk result (λ list. list.items ≡ changes (drawn_view drawn.now)) }
     ensures memory { IsOkUnless result ImportError.OutOfMemory }
 {
     let mut list = vertex_changes(alloc, drawn)?;
+    list.extend_from_slice(again)?;
     list.extend_from_slice(&light_changes(alloc, &drawn.sectors)?)?;
     list.extend_from_slice(&flat_changes(alloc, &drawn.sectors)?)?;
     list.extend_from_slice(&texture_changes(alloc, &drawn.sides)?)?;

@@ -1,25 +1,28 @@
 //! A map of a level of any WAD.
-ghost use Rattle.std.specs.Prelude.{◌≡◌, MatchResult, None, OnOk};
+ghost use Rattle.std.specs.Prelude.{◌≡◌, IfOk, IsOkUnless, MatchResult, None, OnOk, length, map};
+ghost use Rattle.std.specs.List.{range_with_len};
 ghost use Rattle.lv_levels.specs.Levels.{HasEntries};
 ghost use Rattle.lv_levels.specs.Entries.{IsLevelAt};
 ghost use Rattle.lv_levels.specs.Drawn.{drawn_lists, drawn_view, lists_hindrance};
 ghost use Rattle.lv_maptables.specs.Ranges.{IsNamed, is_marker};
 ghost use Rattle.lv_maptables.specs.Tables.{empty_tables};
 ghost use Rattle.lv_maptables.specs.Edits.{with_name};
-ghost use Rattle.lv_import.specs.Added.{IsFine, RefusesVertices, no_others};
+ghost use Rattle.lv_import.specs.Added.{IsFine, imported_lines, no_others};
 ghost use Rattle.lv_import.specs.Imported.{imported, reached_vertices};
+ghost use Rattle.lv_import.specs.Once.{kept_number, place_changes};
 ghost use Rattle.lv_import.specs.Outcome.{IsImported};
-ghost use Rattle.lv_import.specs.Refused.{RefusesImport, RefusesLevelImport, taken_number};
+ghost use Rattle.lv_import.specs.Refused.{RefusesImport, RefusesLevelImport};
 
 use crate::change::Change;
 use crate::changes::changes_of;
 use crate::counts::reached_vertices;
 use crate::error::ImportError;
-use crate::lists::{mended_lines, mended_sectors, mended_sides, mended_things};
-use crate::needs::lists_refusal;
-use crate::tables::{add_lines, add_sectors, add_sides, add_things, add_vertices};
+use crate::lists::{linked_lines, mended_sectors, mended_sides, mended_things};
+use crate::needs::import_refusal;
+use crate::tables::{add_lines, add_sectors, add_sides, add_things};
+use crate::vertices::{Numbered, add_vertices};
 use lv_levels::{Drawn, Hindrance, LevelEntries, read_drawn};
-use lv_lumps::Name8;
+use lv_lumps::{Line, Name8};
 use lv_maptables::Maps;
 use std::alloc::Global;
 
@@ -50,22 +53,35 @@ fn named_maps(alloc: Global, name: Name8) -> Maps
     maps
 }
 
-// Adds the level's lists after the changes to an empty map.
-fn fill(alloc: Global, maps: &mut Maps, drawn: &Drawn) -> Result<(), ImportError>
+// The level's lines after the changes, between the vertices that have these numbers.
+fn lines_of(alloc: Global, drawn: &Drawn, numbers: &[u16]) -> Result<Vec<Line>, ImportError>
+    requires fine { IsFine (drawn_view drawn.now) }
+    requires numbers { let vs = reached_vertices (drawn_view drawn.now) in
+        numbers.now ≡ map (kept_number vs) (range_with_len 0 (length vs)) }
+    ensures list { IfOk result (λ list. list.items ≡ imported_lines (drawn_view drawn.now)) }
+    ensures memory { IsOkUnless result ImportError.OutOfMemory }
+{
+    let list = linked_lines(alloc, &drawn.lines, numbers)?;
+    Ok(list)
+}
+
+// Adds the level's lists after the changes to an empty map, and tells the vertices that are left out.
+fn fill(alloc: Global, maps: &mut Maps, drawn: &Drawn) -> Result<Vec<Change>, ImportError>
     requires fine { IsFine (drawn_view drawn.now) }
     requires empty { maps.old.tables ≡ with_name empty_tables maps.old.tables.name }
-    ensures refusal { MatchResult result
-        (λ _. taken_number (reached_vertices (drawn_view drawn.now)) ≡ None)
-        (RefusesVertices (reached_vertices (drawn_view drawn.now))) }
+    ensures memory { IsOkUnless result ImportError.OutOfMemory }
+    ensures told { IfOk result (λ again. again.items ≡
+        place_changes (reached_vertices (drawn_view drawn.now))) }
     ensures tables { OnOk result
         (maps.new.tables ≡ imported maps.old.tables.name (drawn_view drawn.now)) }
     ensures others { maps.new.others ≡ maps.old.others }
 {
-    add_vertices(maps, reached_vertices(drawn))?;
+    let Numbered { numbers, changes } = add_vertices(alloc, maps, reached_vertices(drawn))?;
     add_sectors(maps, &mended_sectors(alloc, &drawn.sectors)?)?;
     add_sides(maps, &mended_sides(alloc, &drawn.sides)?)?;
-    add_lines(maps, &mended_lines(alloc, &drawn.lines)?)?;
-    add_things(maps, &mended_things(alloc, &drawn.things)?)
+    add_lines(maps, &lines_of(alloc, drawn, &numbers)?)?;
+    add_things(maps, &mended_things(alloc, &drawn.things)?)?;
+    Ok(changes)
 }
 
 /// The map of this name that a level is after the changes, which are told. The level is one that `read_drawn` gives,
@@ -79,15 +95,15 @@ pub fn import_drawn(alloc: Global, drawn: &Drawn, name: Name8) -> Result<Importe
     ensures { MatchResult result (IsImported name (drawn_view drawn.now))
         (RefusesImport name (drawn_view drawn.now)) }
 {
-    if let Some(error) = lists_refusal(drawn, name) {
+    if let Some(error) = import_refusal(drawn, name) {
         return Err(error);
     }
     let mut maps = named_maps(alloc, name);
-    match fill(alloc, &mut maps, drawn) {
-        Ok(()) => {}
+    let again = match fill(alloc, &mut maps, drawn) {
+        Ok(again) => again,
         Err(error) => return Err(error),
-    }
-    match changes_of(alloc, drawn) {
+    };
+    match changes_of(alloc, drawn, &again) {
         Ok(changes) => Ok(Imported { maps, changes }),
         Err(_) => Err(ImportError::OutOfMemory),
     }

@@ -6,11 +6,14 @@ mod changes;
 mod counts;
 mod error;
 mod import;
+mod laws;
 mod lists;
 mod mended;
 mod needs;
 mod tables;
+mod vertices;
 
 pub use change::Change;
 pub use error::ImportError;
 pub use import::{Imported, import_drawn, import_level};
+pub use laws::keep_untold_lists;

@@ -1,6 +1,7 @@
 //! The lists of a level after the changes.
-ghost use Rattle.std.specs.Prelude.{◌≡◌, IfOk, IsOkUnless, filter, map};
-ghost use Rattle.lv_import.specs.Mended.{is_kept, mended_line, mended_sector, mended_side, mended_thing};
+ghost use Rattle.std.specs.Prelude.{◌≡◌, All, IfOk, IsOkUnless, filter, length, map, slice_index};
+ghost use Rattle.lv_import.specs.Added.{IsBetweenSome};
+ghost use Rattle.lv_import.specs.Mended.{is_kept, linked_line, mended_sector, mended_side, mended_thing};
 
 use crate::error::ImportError;
 use crate::mended::{is_kept, mended_line, mended_sector, mended_side, mended_thing};
@@ -25,12 +26,32 @@ pub fn mended_sides(alloc: Global, sides: &[Side]) -> Result<Vec<Side>, ImportEr
     Ok(list)
 }
 
-/// The lines after the changes.
-pub fn mended_lines(alloc: Global, lines: &[Line]) -> Result<Vec<Line>, ImportError>
-    ensures list { IfOk result (λ list. list.items ≡ map mended_line lines.now) }
+// The line after the changes, between the vertices of these numbers.
+fn linked_line(line: &Line, numbers: &[u16]) -> Line
+    requires { IsBetweenSome (length numbers.now) line.now }
+    ensures { result ≡ linked_line (slice_index numbers.now) line.now }
+{
+    let mut linked = mended_line(line);
+    linked.v1 = numbers[usize::from(line.v1)];
+    linked.v2 = numbers[usize::from(line.v2)];
+    linked
+}
+
+/// The lines after the changes, between the vertices of these numbers.
+pub fn linked_lines(
+    alloc: Global,
+    lines: &[Line],
+    numbers: &[u16],
+) -> Result<Vec<Line>, ImportError>
+    requires { All (IsBetweenSome (length numbers.now)) lines.now }
+    ensures list { IfOk result (λ list. list.items ≡
+        map (linked_line (slice_index numbers.now)) lines.now) }
     ensures memory { IsOkUnless result ImportError.OutOfMemory }
 {
-    let list = lines.iter().map(mended_line).collect(alloc)?;
+    let mut list = Vec::with_capacity(alloc, lines.len())?;
+    for line in lines {
+        list.push(linked_line(line, numbers))?;
+    }
     Ok(list)
 }
 

@@ -1,7 +1,7 @@
 //! The first refusal of a level.
 ghost use Rattle.std.specs.Prelude.{◌≡◌, not, position, Some, None, if◌then◌else◌};
 ghost use Rattle.lv_levels.specs.Drawn.{drawn_view, is_drawable};
-ghost use Rattle.lv_import.specs.Refused.{first_without, has_flat_names, has_line_codes, has_sector_codes, has_texture_names, is_map_name, is_nameable, item_refusal, lists_refusal};
+ghost use Rattle.lv_import.specs.Refused.{first_without, has_flat_names, has_line_codes, has_sector_codes, has_texture_names, is_map_name, is_nameable, import_refusal, item_refusal};
 
 use crate::counts::{count_refusal, first_of, reached_vertices};
 use crate::error::ImportError;
@@ -164,9 +164,9 @@ fn name_refusal(name: Name8) -> Option<ImportError>
     Some(ImportError::NoMarker)
 }
 
-/// The first refusal but that of vertices at one place.
-pub fn lists_refusal(drawn: &Drawn, name: Name8) -> Option<ImportError>
-    ensures { result ≡ lists_refusal name (drawn_view drawn.now) }
+/// The first refusal of a level that nothing hinders.
+pub fn import_refusal(drawn: &Drawn, name: Name8) -> Option<ImportError>
+    ensures { result ≡ import_refusal name (drawn_view drawn.now) }
 {
     let items = first_of(count_refusal(drawn), item_refusal(drawn));
     first_of(name_refusal(name), items)

@@ -1,17 +1,16 @@
 //! Lists of items added to a map, item by item.
-ghost use Rattle.std.specs.Prelude.{◌≡◌, ◌≤◌, [], All, IsOkUnless, MatchResult, None, OnOk, Some, length};
+ghost use Rattle.std.specs.Prelude.{◌≡◌, ◌≤◌, [], All, IsOkUnless, OnOk, length};
 ghost use Rattle.lv_lumps.specs.Limits.{item_limit, sector_limit};
-ghost use Rattle.lv_maptables.specs.Ranges.{IsLine, IsSector, IsShort, IsSide, IsThing, IsVertex};
+ghost use Rattle.lv_maptables.specs.Ranges.{IsLine, IsSector, IsShort, IsSide, IsThing};
 ghost use Rattle.lv_maptables.specs.WellFormed.{HasEnds, HasSector, HasSides};
-ghost use Rattle.lv_import.specs.Refused.{taken_number};
-ghost use Rattle.lv_import.specs.Added.{HasSectorRanges, HasSideRanges, HasThingRanges, RefusesVertices};
+ghost use Rattle.lv_import.specs.Added.{HasSectorRanges, HasSideRanges, HasThingRanges};
 
 use crate::error::ImportError;
-use lv_lumps::{Line, Sector, Side, Thing, Vertex};
+use lv_lumps::{Line, Sector, Side, Thing};
 use lv_maptables::{MapError, Maps};
 
-// Why an item isn't added that can be: there is no memory.
-fn lack_of(error: MapError) -> ImportError
+/// Why an item isn't added that can be: there is no memory.
+pub fn lack_of(error: MapError) -> ImportError
     requires { error ≡ MapError.OutOfMemory }
     ensures { result ≡ ImportError.OutOfMemory }
 {
@@ -53,30 +52,6 @@ fn is_thing(thing: &Thing)
 {
     is_short(thing.kind);
     is_short(thing.options);
-}
-
-/// Adds vertices to a current map without one: `VertexTaken`, where one stands at the place of one before it.
-pub fn add_vertices(maps: &mut Maps, vertices: &[Vertex]) -> Result<(), ImportError>
-    requires empty { maps.old.tables.vertices ≡ [] }
-    requires range { All IsVertex vertices.now }
-    requires room { length vertices.now ≤ item_limit }
-    ensures refusal { MatchResult result (λ _. taken_number vertices.now ≡ None)
-        (RefusesVertices vertices.now) }
-    ensures tables { OnOk result
-        (maps.new.tables ≡ record maps.old.tables { vertices = vertices.now }) }
-    ensures others { maps.new.others ≡ maps.old.others }
-{
-    for n in 0..vertices.len() {
-        let vertex = vertices[n];
-        if maps.current().has_place(vertex) {
-            return Err(ImportError::VertexTaken(n));
-        }
-        match maps.add_vertex(vertex) {
-            Ok(_) => {}
-            Err(error) => return Err(lack_of(error)),
-        }
-    }
-    Ok(())
 }
 
 /// Adds sectors to a current map without one.

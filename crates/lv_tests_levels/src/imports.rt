@@ -2,7 +2,7 @@
 
 use crate::expect::same;
 use crate::foreign::wad_of;
-use lv_import::{Imported, import_level};
+use lv_import::{ImportError, Imported, import_level};
 use lv_levels::levels_in;
 use lv_lumps::Name8;
 use lv_maptables::Kind;
@@ -23,6 +23,22 @@ const VERTICES_MORE: &[u8] = &[0, 0, 0, 0, 64, 0, 0, 0, 7, 0, 7, 0];
 const VERTICES_TWICE: &[u8] = &[0, 0, 0, 0, 64, 0, 0, 0, 0, 0, 0, 0];
 
 const LINES_TWICE: &[u8] = &[2, 0, 1, 0, 1, 0, 0, 0, 0, 0, 0, 0, 0xff, 0xff];
+
+// (0, 0), (64, 0), (0, 0), (64, 64), (64, 0); and lines from 2 to 1, from 1 to 3, and from 3 to 4.
+const CORNERS: &[u8] = &[
+    0, 0, 0, 0, 64, 0, 0, 0, 0, 0, 0, 0, 64, 0, 64, 0, 64, 0, 0, 0,
+];
+
+#[rattlefmt::skip]
+const THREE_LINES: &[u8] = &[
+    2, 0, 1, 0, 1, 0, 0, 0, 0, 0, 0, 0, 0xff, 0xff,
+    1, 0, 3, 0, 1, 0, 0, 0, 0, 0, 0, 0, 0xff, 0xff,
+    3, 0, 4, 0, 1, 0, 0, 0, 0, 0, 0, 0, 0xff, 0xff,
+];
+
+// What is told of that level, and of its map: vertices 2 and 4 are left out, so that vertex 3 is the map's vertex 2.
+const CORNERS_TOLD: &str = "3 vertices, 1 things; vertex 2: is at the place of vertex 0; \
+    vertex 4: is at the place of vertex 1; line 0 1; line 1 2; line 2 1";
 
 // A side in sector 0: offsets, upper, lower, middle.
 const SIDES: &[u8] = b"\0\0\0\0-\0\0\0\0\0\0\0-\0\0\0\0\0\0\0STONE\0\0\0\0\0";
@@ -103,7 +119,7 @@ const IMPORTED: &[(&[u8], &[u8], &[u8], &[u8], &[u8], &str)] = &[
         SIDES,
         VERTICES_TWICE,
         SECTORS,
-        "vertex 2 has the place of another",
+        "2 vertices, 1 things; vertex 2: is at the place of vertex 0",
     ),
     (
         THINGS,
@@ -128,16 +144,58 @@ fn told_of(alloc: Global, imported: &Imported) -> Result<String, Fail> {
     Ok(told)
 }
 
-// What is told of the first level of a WAD.
-fn told(alloc: Global, wad: &[u8]) -> Result<String, Fail> {
+// What is told of a level that is a map, and between which vertices each of its lines runs.
+fn lines_told_of(alloc: Global, imported: &Imported) -> Result<String, Fail> {
+    let mut told = told_of(alloc, imported)?;
+    let map = imported.maps.current();
+    for n in 0..map.count(Kind::Line) {
+        if let Some(line) = map.line(n) {
+            let more = format!(in alloc; "; line {} {}", line.v1, line.v2)?;
+            told.push_str(&more)?;
+        }
+    }
+    Ok(told)
+}
+
+// The map of the first level of a WAD, if it has one.
+fn imported(alloc: Global, wad: &[u8]) -> Result<Result<Imported, ImportError>, Fail> {
     let levels = levels_in(alloc, wad)?;
     let Some(level) = levels.first() else {
-        return Ok(format!(in alloc; "no level")?);
+        return Ok(Err(ImportError::NoMarker));
     };
-    match import_level(alloc, wad, *level, Name8::from_text(b"MAP01")) {
+    Ok(import_level(alloc, wad, *level, Name8::from_text(b"MAP01")))
+}
+
+// What is told of the first level of a WAD.
+fn told(alloc: Global, wad: &[u8]) -> Result<String, Fail> {
+    match imported(alloc, wad)? {
         Ok(imported) => told_of(alloc, &imported),
         Err(error) => Ok(format!(in alloc; "{error}")?),
     }
+}
+
+// The same, with the lines of the map.
+fn lines_told(alloc: Global, wad: &[u8]) -> Result<String, Fail> {
+    match imported(alloc, wad)? {
+        Ok(imported) => lines_told_of(alloc, &imported),
+        Err(error) => Ok(format!(in alloc; "{error}")?),
+    }
+}
+
+#[test]
+fn names_the_first_vertex_at_a_place(rt: HostRuntime) -> Result<(), Fail> {
+    let lumps: [(&[u8; 8], &[u8]); 6] = [
+        (b"MAP01\0\0\0", b""),
+        (b"THINGS\0\0", THINGS),
+        (b"LINEDEFS", THREE_LINES),
+        (b"SIDEDEFS", SIDES),
+        (b"VERTEXES", CORNERS),
+        (b"SECTORS\0", SECTORS),
+    ];
+    let wad = wad_of(rt.alloc(), &lumps)?;
+    let says = lines_told(rt.alloc(), &wad)?;
+    same(&rt, &says.as_str(), &CORNERS_TOLD);
+    Ok(())
 }
 
 #[test]

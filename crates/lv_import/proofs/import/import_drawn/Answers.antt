@@ -4,7 +4,7 @@ use Rattle.lv_import.proofs.FineLemmas.{fine, map_named}
 use Rattle.lv_import.proofs.import.import_drawn.Goals as goal
 
 pub named_maps-maps-requires : goal.named_maps-maps-requires
-named_maps-maps-requires c = map_named c.args.name (drawn_view c.args.drawn.now) (sym c.lists_refusal.ensures ∙ c.in_default.is)
+named_maps-maps-requires c = map_named c.args.name (drawn_view c.args.drawn.now) (sym c.import_refusal.ensures ∙ c.in_default.is)
 
 pub fill-requires-clause-fine : goal.fill-requires-clause-fine
-fill-requires-clause-fine c = fine c.args.name (drawn_view c.args.drawn.now) c.requires (sym c.lists_refusal.ensures ∙ c.in_default.is)
+fill-requires-clause-fine c = fine c.args.name (drawn_view c.args.drawn.now) c.requires (sym c.import_refusal.ensures ∙ c.in_default.is)
