@@ -6,4 +6,5 @@ pub mod ItemLemmas
 pub mod LineLemmas
 pub mod FineLemmas
 pub mod UntoldLemmas
+pub mod StayLemmas
 pub mod ProjectFacts

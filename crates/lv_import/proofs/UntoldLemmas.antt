@@ -15,12 +15,12 @@ use Rattle.lv_lumps.specs.declared.records.Line.{Line}
 use Rattle.lv_lumps.specs.declared.records.Side.{Side}
 use Rattle.lv_lumps.specs.declared.records.Vertex.{Vertex}
 use Rattle.lv_lumps.specs.declared.records.Sector.{Sector}
-use Rattle.lv_levels.specs.Drawn.{DrawnLists}
+use Rattle.lv_levels.specs.Drawn.{DrawnLists, lists_hindrance}
 use Rattle.lv_maptables.specs.WellFormed.{nth_vertex}
 use Rattle.lv_import.specs.Mended.{is_kept, lacks_left_side, linked_line, mended_angle, mended_light, mended_line, mended_name, mended_sector, mended_side, mended_thing}
 use Rattle.lv_import.specs.Once.{comes_again, each_once, kept_number, kept_vertex, number_at, place_change, place_changes}
-use Rattle.lv_import.specs.Imported.{changes_among, flat_change, light_change, line_change, changes, reached_vertices, same_name, texture_change, thing_change, vertex_changes, vertex_reach}
-use Rattle.lv_import.specs.Unchanged.{UntoldLevelsStay}
+use Rattle.lv_import.specs.Imported.{changes_among, flat_change, imported, light_change, line_change, changes, reached_vertices, same_name, texture_change, thing_change, vertex_changes, vertex_reach}
+use Rattle.lv_import.specs.Unchanged.{HasLists}
 use Rattle.lv_import.specs.declared.change.Change.{Change}
 use Rattle.lv_import.specs.declared.change.Change.TheVariants.{Angle, Flats, Light, Textures, ThingOut, TwoSided, VertexAgain, VerticesBehind}
 use Rattle.lv_import.proofs.FineLemmas.{ends_reached}
@@ -59,7 +59,7 @@ map-stays f (x ∷ xs) all =
     let rest = map-stays f xs (λ k d h. all (suc k) d (omega arith)) in
     λ i. first i ∷ rest i
 
-filter-stays : {X : Type 0} (p : X → Bool) (xs : List X) → All (λ x. p x ≡ true) xs → filter p xs ≡ xs
+pub filter-stays : {X : Type 0} (p : X → Bool) (xs : List X) → All (λ x. p x ≡ true) xs → filter p xs ≡ xs
 filter-stays p [] all = refl
 filter-stays p (x ∷ xs) all =
     ap (λ t. cond t (x ∷ filter p xs) (filter p xs)) (all 0 x (omega arith))
@@ -130,7 +130,7 @@ all_reached d h =
     take_all (vertex_reach d.lines) d.vertices (omega (arith, none, length-take (vertex_reach d.lines) d.vertices))
 
 -- no vertex comes again
-abbrev AreApart : List Vertex → Type 0
+abbrev pub AreApart : List Vertex → Type 0
 AreApart vs = (n : ℕ) → n < length vs → comes_again vs n ≡ false
 
 none_again : (vs : List Vertex) → place_changes vs ≡ [] → AreApart vs
@@ -185,7 +185,7 @@ all_untold d e =
     let one = both_empty v p two.0 in
     record { behind = one.0; places = one.1; lights = two.1; flats = three.1; textures = four.1; lines = five.1; things = six.1 }
 
-pub untold_stay : UntoldLevelsStay
+pub untold_stay : (name : Name8) (d : DrawnLists) → lists_hindrance d ≡ None → changes d ≡ [] → HasLists d (imported name d)
 untold_stay name d hindered e =
     let all = all_untold d e in
     let apart = none_again (reached_vertices d) all.places in

@@ -1,5 +1,5 @@
 -- A level of which nothing is changed.
-use Rattle.std.specs.Prelude.{◌≡◌, [], None}
+use Rattle.std.specs.Prelude.{◌≡◌, ◌↔◌, [], None}
 use Rattle.lv_lumps.specs.declared.records.Name8.{Name8}
 use Rattle.lv_levels.specs.Drawn.{DrawnLists, lists_hindrance}
 use Rattle.lv_maptables.specs.Tables.{Tables}
@@ -13,8 +13,8 @@ pub record HasLists (d : DrawnLists) (m : Tables) : Type 0 where
   pub lines : m.lines ≡ d.lines
   pub things : m.things ≡ d.things
 
--- where nothing is told, a level that nothing hinders is its map, list by list
+-- nothing is told of a level that nothing hinders exactly where it is its map, list by list
 abbrev pub UntoldLevelsStay : Type 0
 UntoldLevelsStay =
-    (name : Name8) (d : DrawnLists) → lists_hindrance d ≡ None → changes d ≡ []
-    → HasLists d (imported name d)
+    (name : Name8) (d : DrawnLists) → lists_hindrance d ≡ None
+    → (changes d ≡ [] ↔ HasLists d (imported name d))

@@ -1,5 +1,5 @@
-use Rattle.lv_import.proofs.UntoldLemmas.{untold_stay}
+use Rattle.lv_import.proofs.StayLemmas.{told_exactly}
 use Rattle.lv_import.proofs.laws.keep_untold_lists.Goals as goal
 
 pub returns : goal.returns
-returns c = untold_stay
+returns c = told_exactly
