@@ -17,11 +17,11 @@ use Rattle.lv_segs.proofs.Choice.{one_tree, one_best}
 use Rattle.lv_segs.proofs.Trees.{right_reached, left_reached}
 use Rattle.lv_nodes.specs.InRange.{greatest_number}
 use Rattle.lv_nodes.specs.TreeLists.{leaf_count, branch_count, child_of, IsEndOf, HasNodes}
-use Rattle.lv_nodes.specs.Boxed.{IsBoxed}
+use Rattle.lv_nodes.specs.Boxed.{IsPlacedList}
 use Rattle.lv_nodes.specs.Growth.{Lists, IsListStep, HasBoxes, IsGrown, IsRefused, IsDivision, IsLeafPut, IsLeafRefused, IsNodePut}
 use Rattle.lv_nodes.specs.declared.error.TreeError.{TreeError}
 use Rattle.lv_nodes.specs.declared.error.TreeError.TheVariants.{OutOfMemory, NothingToBuild, TooManyVertices, TooManySegs, TooManySubsectors, TooDeep}
-use Rattle.lv_nodes.specs.declared.boxed.BoxedPieces.{BoxedPieces}
+use Rattle.lv_nodes.specs.declared.boxed.PlacedPieces.{PlacedPieces}
 use Rattle.lv_nodes.specs.declared.growth.Child.{Child}
 use Rattle.lv_nodes.specs.declared.step.Step.{Step}
 use Rattle.lv_nodes.specs.declared.step.Step.TheVariants.{Leaf as StepLeaf, Parts as StepParts}
@@ -238,11 +238,11 @@ module _ (lines : List Edge) (ps : List Piece) (used : List Bool) (p : Piece) (r
 
 -- ---- what a step says
 pub division_of : (lines : List Edge) (ps : List Piece) (used : List Bool) (s : Step) (p : Piece)
-    (right left : BoxedPieces) → s ≡ StepParts p right left → IsListStep lines ps used s
+    (right left : PlacedPieces) → s ≡ StepParts p right left → IsListStep lines ps used s
     → IsDivision lines ps used p right.pieces.items left.pieces.items
 division_of lines ps used s p right left f h = subst (IsListStep lines ps used) f h
 
-pub boxes_are : (lines : List Edge) (s : Step) (p : Piece) (right left : BoxedPieces) → s ≡ StepParts p right left → HasBoxes lines s → IsBoxed lines right × IsBoxed lines left
+pub boxes_are : (lines : List Edge) (s : Step) (p : Piece) (right left : PlacedPieces) → s ≡ StepParts p right left → HasBoxes lines s → IsPlacedList lines right × IsPlacedList lines left
 boxes_are lines s p right left f h = subst (HasBoxes lines) f h
 
 pub leaf_of : (lines : List Edge) (ps : List Piece) (used : List Bool) (s : Step) (leaf : Vec Piece Global) → s ≡ StepLeaf leaf → IsListStep lines ps used s → (leaf.items ≡ ps) × HasNoChoice lines ps used

@@ -17,3 +17,4 @@ pub mod Numbering
 pub mod NodeLemmas
 pub mod Building
 pub mod RangeLemmas
+pub mod Orders

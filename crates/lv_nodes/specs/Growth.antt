@@ -17,7 +17,7 @@ use Rattle.lv_nodes.specs.InRange.{greatest_number}
 use Rattle.lv_nodes.specs.References.{subsector}
 use Rattle.lv_nodes.specs.TreeLists.{child_of, IsEndOf, HasNodes}
 use Rattle.lv_nodes.specs.Corners.{IsJoined}
-use Rattle.lv_nodes.specs.Boxed.{IsBoxed}
+use Rattle.lv_nodes.specs.Boxed.{IsPlacedList}
 
 -- ---- one step
 -- a division of a list: its best candidate, and the parts on its two sides
@@ -37,7 +37,7 @@ IsListStep lines ps used (StepParts partition right left) =
 -- each part of it has its box
 abbrev pub HasBoxes : List Edge → Step → Type 0
 HasBoxes lines (StepLeaf leaf) = Unit {0}
-HasBoxes lines (StepParts partition right left) = IsBoxed lines right × IsBoxed lines left
+HasBoxes lines (StepParts partition right left) = IsPlacedList lines right × IsPlacedList lines left
 
 -- ---- the lists
 -- the pieces, the count of each leaf, and the nodes that were put down

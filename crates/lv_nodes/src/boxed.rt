@@ -1,8 +1,8 @@
-//! A list of pieces with the box of each.
+//! A list of pieces with the box of each, and the same pieces in an order by their places.
 ghost use Rattle.std.specs.Prelude.{◌≡◌, [], All, IfOk};
 ghost use Rattle.lv_segs.specs.Plane.{IsEdge};
 ghost use Rattle.lv_segs.specs.Pieces.{IsPiece};
-ghost use Rattle.lv_nodes.specs.Boxed.{IsBoxed};
+ghost use Rattle.lv_nodes.specs.Boxed.{IsBoxed, IsPlacedList};
 
 use lv_lumps::Bounds;
 use lv_segs::{Edge, Piece, boxes_in};
@@ -39,5 +39,46 @@ impl BoxedPieces {
     {
         let boxes = boxes_in(alloc, lines, &pieces)?;
         Ok(BoxedPieces { pieces, boxes })
+    }
+
+    /// The same list, with this order beside it.
+    pub(crate) fn with_order(self, placed: Option<BoxedPieces>) -> PlacedPieces
+        ensures { result ≡ record { pieces = self.pieces; boxes = self.boxes; placed = placed } }
+    {
+        let BoxedPieces { pieces, boxes } = self;
+        PlacedPieces {
+            pieces,
+            boxes,
+            placed,
+        }
+    }
+}
+
+/// A list of pieces, in its order the box of each, and maybe the same pieces with theirs in an order by places.
+#[derive(Drop)]
+pub(crate) struct PlacedPieces {
+    pub pieces: Vec<Piece>,
+    pub boxes: Vec<Bounds>,
+    pub placed: Option<BoxedPieces>,
+}
+
+impl PlacedPieces {
+    /// These pieces, each with its box, in no other order.
+    pub(crate) fn of(
+        alloc: Global,
+        lines: &[Edge],
+        pieces: Vec<Piece>,
+    ) -> Result<PlacedPieces, AllocError>
+        requires lines { All IsEdge lines.now }
+        requires pieces { All (IsPiece lines.now) pieces.items }
+        ensures pieces { IfOk result (λ list. list.pieces.items ≡ pieces.items) }
+        ensures listed { IfOk result (IsPlacedList lines.now) }
+    {
+        let boxes = boxes_in(alloc, lines, &pieces)?;
+        Ok(PlacedPieces {
+            pieces,
+            boxes,
+            placed: None,
+        })
     }
 }

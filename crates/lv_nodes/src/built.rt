@@ -6,7 +6,7 @@ ghost use Rattle.lv_nodes.specs.Sound.{AllDiffer};
 ghost use Rattle.lv_nodes.specs.Built.{IsBuilt, IsBuiltOver, IsRefusalOver, IsTreeRefusal};
 ghost use Rattle.lv_nodes.specs.Refusals.{AreTreeLists, IsTreeRefused};
 
-use crate::boxed::BoxedPieces;
+use crate::boxed::PlacedPieces;
 use crate::error::TreeError;
 use crate::growth::{Grown, grow};
 use crate::segs::segs_of;
@@ -48,7 +48,7 @@ fn grown_of(alloc: Global, lines: &[Edge]) -> Result<Grown, TreeError>
         Err(_) => return Err(TreeError::OutOfMemory),
         Ok(pieces) => pieces,
     };
-    let list = match BoxedPieces::of(alloc, lines, pieces) {
+    let list = match PlacedPieces::of(alloc, lines, pieces) {
         Err(_) => return Err(TreeError::OutOfMemory),
         Ok(list) => list,
     };

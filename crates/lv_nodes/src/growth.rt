@@ -5,10 +5,10 @@ ghost use Rattle.lv_segs.specs.Pieces.{IsPiece};
 ghost use Rattle.lv_segs.specs.Tree.{IsReached};
 ghost use Rattle.lv_segs.specs.Local.{IsLineRay};
 ghost use Rattle.lv_segs.specs.Nodes.{node_ray};
-ghost use Rattle.lv_nodes.specs.Boxed.{IsBoxed};
+ghost use Rattle.lv_nodes.specs.Boxed.{IsPlacedList};
 ghost use Rattle.lv_nodes.specs.Growth.{lists_of, IsGrown, IsRefused, IsLeafPut, IsLeafRefused, IsNodePut};
 
-use crate::boxed::BoxedPieces;
+use crate::boxed::PlacedPieces;
 use crate::corners::{bounds_of, joined};
 use crate::error::TreeError;
 use crate::step::{Step, step_in};
@@ -116,7 +116,7 @@ fn put_node(
 pub(crate) fn grow(
     alloc: Global,
     lines: &[Edge],
-    list: BoxedPieces,
+    list: PlacedPieces,
     used: &mut [bool],
     straight: &mut StraightLines,
     room: u32,
@@ -124,7 +124,7 @@ pub(crate) fn grow(
 ) -> Result<Child, TreeError>
     requires lines { All IsEdge lines.now }
     requires reached { IsReached lines.now used.old list.pieces.items }
-    requires boxed { IsBoxed lines.now list }
+    requires boxed { IsPlacedList lines.now list }
     requires some { 0 < length list.pieces.items }
     requires few { vec_len list.pieces < 2 ^ 31 }
     requires fewer { length grown.old.nodes.items ≤ length grown.old.counts.items }

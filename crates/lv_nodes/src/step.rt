@@ -1,21 +1,22 @@
 //! One step of the division: a leaf, or a partition and two lists. Which choice is asked costs time alone.
-ghost use Rattle.std.specs.Prelude.{◌≡◌, ◌<◌, ◌^◌, length, vec_len, All, IfOk, MatchOption};
+ghost use Rattle.std.specs.Prelude.{◌≡◌, ◌<◌, ◌^◌, length, vec_len, All, IfOk, IfSome, MatchOption};
 ghost use Rattle.lv_segs.specs.Plane.{IsEdge};
 ghost use Rattle.lv_segs.specs.Pieces.{IsPiece};
 ghost use Rattle.lv_segs.specs.Boxes.{boxes_of};
+ghost use Rattle.lv_segs.specs.Division.{right_parts, left_parts};
 ghost use Rattle.lv_segs.specs.Tree.{HasNoChoice};
 ghost use Rattle.lv_partition.specs.Choices.{IsChoice};
-ghost use Rattle.lv_nodes.specs.Boxed.{IsBoxed};
+ghost use Rattle.lv_nodes.specs.Boxed.{IsPlaced, IsPlacedList};
 ghost use Rattle.lv_nodes.specs.Growth.{IsListStep, HasBoxes};
 
-use crate::boxed::BoxedPieces;
+use crate::boxed::{BoxedPieces, PlacedPieces};
 use crate::parting::{Sides, part_list};
 use lv_lumps::Bounds;
 use lv_partition::{Choice, StraightLines, blocks_of, by_place, choose_in_boxes, choose_ordered};
-use lv_segs::{Edge, Piece, boxes_in};
+use lv_segs::{Edge, Piece};
 use std::alloc::{AllocError, Global};
 
-// The boxes of more pieces than these are made in an order by their places.
+// More pieces than these have an order by their places.
 const LONG: usize = 256;
 
 /// What comes of a list of pieces: a leaf, or a partition and the two lists of the parts with their boxes.
@@ -24,9 +25,123 @@ pub(crate) enum Step {
     Leaf(Vec<Piece>),
     Parts {
         partition: Piece,
-        right: BoxedPieces,
-        left: BoxedPieces,
+        right: PlacedPieces,
+        left: PlacedPieces,
     },
+}
+
+/// The orders of the parts on the two sides of a partition, where they have one.
+#[derive(Drop)]
+struct Orders {
+    right: Option<BoxedPieces>,
+    left: Option<BoxedPieces>,
+}
+
+/// The parts of a list on the two sides of a partition, with their orders where they have one.
+#[derive(Drop)]
+struct PlacedSides {
+    right: PlacedPieces,
+    left: PlacedPieces,
+}
+
+// The order by places of a long list: the one that came with it, or else a new one.
+fn order_of(
+    alloc: Global,
+    lines: &[Edge],
+    list: &[Piece],
+    placed: Option<BoxedPieces>,
+) -> Result<Option<BoxedPieces>, AllocError>
+    requires lines { All IsEdge lines.now }
+    requires pieces { All (IsPiece lines.now) list.now }
+    requires placed { IfSome placed (IsPlaced lines.now list.now) }
+    ensures { IfOk result (λ order. IfSome order (IsPlaced lines.now list.now)) }
+{
+    if list.len() <= LONG {
+        return Ok(None);
+    }
+    match placed {
+        Some(order) => Ok(Some(order)),
+        None => {
+            let ordered = by_place(alloc, lines, list)?;
+            let order = BoxedPieces::of(alloc, lines, ordered)?;
+            Ok(Some(order))
+        }
+    }
+}
+
+// The orders of the parts, parted from the list's own one, which is quicker than to sort them. `choice` tells how many
+// parts there are; where they are few, there is no order.
+fn parted_order(
+    alloc: Global,
+    lines: &[Edge],
+    partition: &Piece,
+    choice: Choice,
+    list: &[Piece],
+    placed: Option<BoxedPieces>,
+) -> Result<Orders, AllocError>
+    requires lines { All IsEdge lines.now }
+    requires partition { IsPiece lines.now partition.now }
+    requires pieces { All (IsPiece lines.now) list.now }
+    requires placed { IfSome placed (IsPlaced lines.now list.now) }
+    ensures right { IfOk result (λ orders. IfSome orders.right
+        (IsPlaced lines.now (right_parts lines.now partition.now list.now))) }
+    ensures left { IfOk result (λ orders. IfSome orders.left
+        (IsPlaced lines.now (left_parts lines.now partition.now list.now))) }
+{
+    let none = Orders {
+        right: None,
+        left: None,
+    };
+    if choice.right.max(choice.left) as usize <= LONG {
+        return Ok(none);
+    }
+    match placed {
+        None => Ok(none),
+        Some(order) => {
+            let Sides { right, left } = part_list(
+                alloc,
+                lines,
+                partition,
+                choice,
+                &order.pieces,
+                &order.boxes,
+            )?;
+            Ok(Orders {
+                right: Some(right),
+                left: Some(left),
+            })
+        }
+    }
+}
+
+// The parts of a list, with their boxes and their orders.
+fn part_placed(
+    alloc: Global,
+    lines: &[Edge],
+    partition: &Piece,
+    choice: Choice,
+    list: &[Piece],
+    boxes: &[Bounds],
+    placed: Option<BoxedPieces>,
+) -> Result<PlacedSides, AllocError>
+    requires lines { All IsEdge lines.now }
+    requires partition { IsPiece lines.now partition.now }
+    requires pieces { All (IsPiece lines.now) list.now }
+    requires boxes { boxes.now ≡ boxes_of lines.now list.now }
+    requires placed { IfSome placed (IsPlaced lines.now list.now) }
+    ensures right { IfOk result
+        (λ sides. sides.right.pieces.items ≡ right_parts lines.now partition.now list.now) }
+    ensures left { IfOk result
+        (λ sides. sides.left.pieces.items ≡ left_parts lines.now partition.now list.now) }
+    ensures right_boxed { IfOk result (λ sides. IsPlacedList lines.now sides.right) }
+    ensures left_boxed { IfOk result (λ sides. IsPlacedList lines.now sides.left) }
+{
+    let Sides { right, left } = part_list(alloc, lines, partition, choice, list, boxes)?;
+    let orders = parted_order(alloc, lines, partition, choice, list, placed)?;
+    Ok(PlacedSides {
+        right: right.with_order(orders.right),
+        left: left.with_order(orders.left),
+    })
 }
 
 // The best candidate of a list, by boxes of its pieces in an order by their places.
@@ -34,69 +149,88 @@ fn choice_by_place(
     alloc: Global,
     lines: &[Edge],
     list: &[Piece],
+    order: &BoxedPieces,
     used: &[bool],
     straight: &mut StraightLines,
 ) -> Result<Option<Choice>, AllocError>
     requires lines { All IsEdge lines.now }
     requires pieces { All (IsPiece lines.now) list.now }
+    requires order { IsPlaced lines.now list.now order.now }
     requires known { length used.now ≡ length lines.now }
     requires few { length list.now < 2 ^ 31 }
     ensures { IfOk result (λ choice. MatchOption choice (HasNoChoice lines.now list.now used.now)
         (λ c. IsChoice lines.now list.now used.now c)) }
 {
-    let ordered = by_place(alloc, lines, list)?;
-    let boxes = boxes_in(alloc, lines, &ordered)?;
-    let blocks = blocks_of(alloc, &boxes)?;
-    Ok(choose_ordered(lines, list, &ordered, &boxes, &blocks, used, straight))
+    let blocks = blocks_of(alloc, &order.boxes)?;
+    Ok(choose_ordered(
+        lines,
+        list,
+        &order.pieces,
+        &order.boxes,
+        &blocks,
+        used,
+        straight,
+    ))
 }
 
-// The best candidate of a list: by the boxes that it has, or by others where it is long.
+// The best candidate of a list: by the boxes that it has, or by those of its order where it has one.
 fn choice_of(
     alloc: Global,
     lines: &[Edge],
     list: &[Piece],
     boxes: &[Bounds],
+    placed: &Option<BoxedPieces>,
     used: &[bool],
     straight: &mut StraightLines,
 ) -> Result<Option<Choice>, AllocError>
     requires lines { All IsEdge lines.now }
     requires pieces { All (IsPiece lines.now) list.now }
     requires boxes { boxes.now ≡ boxes_of lines.now list.now }
+    requires placed { IfSome placed.now (IsPlaced lines.now list.now) }
     requires known { length used.now ≡ length lines.now }
     requires few { length list.now < 2 ^ 31 }
     ensures { IfOk result (λ choice. MatchOption choice (HasNoChoice lines.now list.now used.now)
         (λ c. IsChoice lines.now list.now used.now c)) }
 {
-    if list.len() > LONG {
-        return choice_by_place(alloc, lines, list, used, straight);
+    match placed {
+        Some(order) => choice_by_place(alloc, lines, list, order, used, straight),
+        None => {
+            let blocks = blocks_of(alloc, boxes)?;
+            Ok(choose_in_boxes(lines, list, boxes, &blocks, used, straight))
+        }
     }
-    let blocks = blocks_of(alloc, boxes)?;
-    Ok(choose_in_boxes(lines, list, boxes, &blocks, used, straight))
 }
 
 /// What comes of a list of pieces: a leaf where it has no choice, else the parts by the best one.
 pub(crate) fn step_in(
     alloc: Global,
     lines: &[Edge],
-    list: BoxedPieces,
+    list: PlacedPieces,
     used: &[bool],
     straight: &mut StraightLines,
 ) -> Result<Step, AllocError>
     requires lines { All IsEdge lines.now }
     requires pieces { All (IsPiece lines.now) list.pieces.items }
-    requires boxed { IsBoxed lines.now list }
+    requires boxed { IsPlacedList lines.now list }
     requires known { length used.now ≡ length lines.now }
     requires few { vec_len list.pieces < 2 ^ 31 }
     ensures step { IfOk result (λ step. IsListStep lines.now list.pieces.items used.now step) }
     ensures boxed { IfOk result (HasBoxes lines.now) }
 {
-    let BoxedPieces { pieces, boxes } = list;
-    let choice = match choice_of(alloc, lines, &pieces, &boxes, used, straight)? {
+    let PlacedPieces {
+        pieces,
+        boxes,
+        placed,
+    } = list;
+    let order = order_of(alloc, lines, &pieces, placed)?;
+    let choice = match choice_of(alloc, lines, &pieces, &boxes, &order, used, straight)? {
         None => return Ok(Step::Leaf(pieces)),
         Some(choice) => choice,
     };
     let partition = pieces[choice.at as usize];
-    let Sides { right, left } = part_list(alloc, lines, &partition, choice, &pieces, &boxes)?;
+    let PlacedSides { right, left } = part_placed(
+        alloc, lines, &partition, choice, &pieces, &boxes, order,
+    )?;
     Ok(Step::Parts {
         partition,
         right,

@@ -57,22 +57,6 @@ sub_two a b p q =
     let fab : FitsSigned w64 (a -ℤ b) = omega (arith, ints) in
     record { is = back_sub w64 a b fa fb fab; fits = rw (to_z-of_z w64 a fa, to_z-of_z w64 b fb) fab; within = w }
 
--- and of two of twice that size
-pub record WideDifference (a b : ℤ) : Type 0 where
-  pub is : to_z w64 (of_z w64 (to_z w64 (of_z w64 a) -ℤ to_z w64 (of_z w64 b))) ≡ a -ℤ b
-  pub fits : FitsSigned w64 (to_z w64 (of_z w64 a) -ℤ to_z w64 (of_z w64 b))
-
-pub sub_wide : (a b : ℤ) → IsWithin (pos 140737488355328) a → IsWithin (pos 140737488355328) b → WideDifference a b
-sub_wide a b p q =
-    let al = p.low in
-    let ah = p.high in
-    let bl = q.low in
-    let bh = q.high in
-    let fa : FitsSigned w64 a = omega (arith, ints) in
-    let fb : FitsSigned w64 b = omega (arith, ints) in
-    let fab : FitsSigned w64 (a -ℤ b) = omega (arith, ints) in
-    record { is = back_sub w64 a b fa fb fab; fits = rw (to_z-of_z w64 a fa, to_z-of_z w64 b fb) fab }
-
 -- and of three
 pub record Difference3 (a b c : ℤ) : Type 0 where
   pub is : to_z w64 (of_z w64 (to_z w64 (of_z w64 (to_z w64 (of_z w64 a) -ℤ to_z w64 (of_z w64 b))) -ℤ to_z w64 (of_z w64 c))) ≡ a -ℤ b -ℤ c
@@ -96,30 +80,6 @@ above_zero z e = grind (arith, ints)
 
 pub below_zero : (z : ℤ) → int_lt z (pos 0) ≡ true → z <ℤ pos 0
 below_zero z e = grind (arith, ints)
-
--- a test of a value by half of the blur
-less : (a b : ℤ) → int_lt a b ≡ true → a <ℤ b
-less a b e = grind (arith, ints)
-
-pub beyond : (h v b : ℤ) → FitsSigned w64 h → FitsSigned w64 v → b ≤ℤ (pos 2 *ℤ h +ℤ pos 1) → int_lt (to_z w64 (of_z w64 h)) (to_z w64 (of_z w64 v)) ≡ true → b <ℤ (pos 2 *ℤ v)
-beyond h v b f g k t =
-    let u = rw (to_z-of_z w64 h f, to_z-of_z w64 v g) at t in
-    let l = less h v u in
-    omega (arith, ints)
-
-negated : (h : ℤ) → FitsSigned w64 h → pos 0 ≤ℤ h → FitsSigned w64 (pos 0 -ℤ h)
-negated h f l = omega (arith, ints)
-
-pub negation_fits : (h : ℤ) → FitsSigned w64 h → pos 0 ≤ℤ h → FitsSigned w64 (pos 0 -ℤ to_z w64 (of_z w64 h))
-negation_fits h f l = rw (to_z-of_z w64 h f) (negated h f l)
-
-pub beyond_left : (h v b : ℤ) → FitsSigned w64 h → FitsSigned w64 v → pos 0 ≤ℤ h → b ≤ℤ (pos 2 *ℤ h +ℤ pos 1)
-    → int_lt (to_z w64 (of_z w64 v)) (to_z w64 (of_z w64 (pos 0 -ℤ to_z w64 (of_z w64 h)))) ≡ true
-    → (pos 2 *ℤ v) <ℤ neg_ℤ b
-beyond_left h v b f g l k t =
-    let u = rw (to_z-of_z w64 v g, to_z-of_z w64 h f, to_z-of_z w64 (pos 0 -ℤ h) (negated h f l)) at t in
-    let m = less v (pos 0 -ℤ h) u in
-    omega (arith, ints)
 
 -- an order of numbers that went to 16 bits and came back
 pub up_16 : (x m : ℤ) → FitsSigned w16 x → FitsSigned w16 m → to_z w16 (of_z w16 x) ≤ℤ m → x ≤ℤ to_z w16 (of_z w16 m)

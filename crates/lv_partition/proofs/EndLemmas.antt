@@ -1,8 +1,8 @@
 -- What rounded ends that lie well off a partition's straight line say of a piece.
 use Rattle.std.proofs.Common.{◌≡◌, refl, sym, ap, ◌∙◌, ℕ, zero, suc, ◌<◌, Bool, true, false, ◌&&◌, List, [], ◌∷◌, length, take, drop, get_or, set, ◌+◌, ◌≤◌, ◌++◌, Some, None, arith}
 use Rattle.std.proofs.lemmas.Int.{ints, by_lt_z}
-use Rattle.std.proofs.lemmas.List.{take-map, drop-map, length-map, map-append, take_more, take_more_set, take_all}
-use Rattle.std.specs.Prelude.{ℤ, pos, neg_ℤ, ◌*ℤ◌, ◌≤ℤ◌, ◌<ℤ◌, is_some, int_lt, if◌then◌else◌}
+use Rattle.std.proofs.lemmas.List.{take-map, drop-map, length-map, map-append, take_more, take_more_set, take_all, length-take}
+use Rattle.std.specs.Prelude.{map, ℤ, pos, neg_ℤ, ◌*ℤ◌, ◌≤ℤ◌, ◌<ℤ◌, is_some, int_lt, if◌then◌else◌}
 use Rattle.lv_lumps.specs.declared.records.Vertex.{Vertex}
 use Rattle.lv_lumps.specs.declared.plane.Ray.{Ray}
 use Rattle.lv_lumps.proofs.Signs.{linear}
@@ -21,7 +21,6 @@ use Rattle.lv_segs.proofs.Division.{same_vertex_is}
 use Rattle.lv_partition.specs.declared.counts.Counts.{Counts}
 use Rattle.lv_partition.specs.declared.ends.Ends.{Ends}
 use Rattle.lv_partition.specs.Counts.{AreCounts}
-use Rattle.lv_partition.specs.Sights.{ends_of, all_ends}
 use Rattle.lv_partition.proofs.OneMore.{one, piece_counts}
 
 -- a place lies farther from a ray's straight line than rounding may move it
@@ -179,34 +178,40 @@ module _ (lines : List Edge) (partition p : Piece) (ok : IsPiece lines p) where
       both true false e f = cc
       both false y e f = cc
 
--- ---- the ends of a list
--- what is read where a list has no element
-abbrev pub no_ends : Ends
-no_ends = let origin : Vertex = record { x = pos 0; y = pos 0 } in record { first = origin; last = origin }
+-- ---- a column of a list
+module _ (f : Piece → ℤ) where
+  pub column_at : (ps : List Piece) (n : ℕ) (d : ℤ) (e : Piece) → n < length ps → get_or (map f ps) n d ≡ f (get_or ps n e)
+  column_at [] n d e h = absurd (omega arith)
+  column_at (p ∷ ps) zero d e h = refl
+  column_at (p ∷ ps) (suc n) d e h = column_at ps n d e (omega arith)
 
-module _ (lines : List Edge) where
-  pub ends_at : (ps : List Piece) (n : ℕ) (d : Ends) (e : Piece) → n < length ps → get_or (all_ends lines ps) n d ≡ ends_of lines (get_or ps n e)
-  ends_at [] n d e h = absurd (omega arith)
-  ends_at (p ∷ ps) zero d e h = refl
-  ends_at (p ∷ ps) (suc n) d e h = ends_at ps n d e (omega arith)
+  pub column_length : (ps : List Piece) (xs : List ℤ) → xs ≡ map f ps → length xs ≡ length ps
+  column_length ps xs e = ap length e ∙ length-map ps f
 
-  pub ends_length : (ps : List Piece) (ends : List Ends) → ends ≡ all_ends lines ps → length ends ≡ length ps
-  ends_length ps ends e = ap length e ∙ length-map ps (ends_of lines)
+  -- the head of a column has a place for each piece
+  pub column_room : (ps : List Piece) (xs : List ℤ) → take (length ps) xs ≡ map f ps → length ps ≤ length xs
+  column_room ps xs e = let l = column_length ps (take (length ps) xs) e in let t = length-take (length ps) xs in omega arith
 
-  -- the ends of a part of a list are that part of its ends
-  pub part_ends : (ps : List Piece) (n j : ℕ) → take n (drop j (all_ends lines ps)) ≡ all_ends lines (take n (drop j ps))
-  part_ends ps n j = ap (take n) (drop-map (ends_of lines) j ps) ∙ take-map (ends_of lines) n (drop j ps)
+  -- what is noted of a part of a list is that part of its column
+  pub part_column : (ps : List Piece) (xs : List ℤ) (n j : ℕ) → xs ≡ map f ps → take n (drop j xs) ≡ map f (take n (drop j ps))
+  part_column ps xs n j e = ap (λ (ys : List ℤ). take n (drop j ys)) e ∙ ap (take n) (drop-map f j ps) ∙ take-map f n (drop j ps)
 
-  -- the ends of one more piece are noted
-  pub noted_more : (ps : List Piece) (es : List Ends) (n : ℕ) (e : Ends) (d : Piece) → n < length ps → n < length es
-      → take n es ≡ all_ends lines (take n ps) → e ≡ ends_of lines (get_or ps n d) → take (n + 1) (set es n e)
-      ≡ all_ends lines (take (n + 1) ps)
-  noted_more ps es n e d h k same one =
-      take_more_set es n e k ∙ ap (λ (xs : List Ends). xs ++ (e ∷ [])) same ∙ ap (λ (x : Ends). all_ends lines (take n ps) ++ (x ∷ [])) one
-      ∙ sym (ap (all_ends lines) (take_more ps n d h) ∙ map-append (ends_of lines) (take n ps) (get_or ps n d ∷ []))
+  -- one more piece is noted
+  pub noted_more : (ps : List Piece) (xs : List ℤ) (n : ℕ) (x : ℤ) (d : Piece) → n < length ps → n < length xs
+      → take n xs ≡ map f (take n ps) → x ≡ f (get_or ps n d) → take (n + 1) (set xs n x) ≡ map f (take (n + 1) ps)
+  noted_more ps xs n x d h k same one =
+      take_more_set xs n x k ∙ ap (λ (ys : List ℤ). ys ++ (x ∷ [])) same ∙ ap (λ (y : ℤ). map f (take n ps) ++ (y ∷ [])) one
+      ∙ sym (ap (map f) (take_more ps n d h) ∙ map-append f (take n ps) (get_or ps n d ∷ []))
 
-  -- and of all
-  pub noted_all : (ps : List Piece) (es : List Ends) (n : ℕ) → n ≤ length ps → length ps ≤ n → take n es ≡ all_ends lines (take n ps) → take (length ps) es ≡ all_ends lines ps
-  noted_all ps es n h k same =
+  -- and all
+  pub noted_all : (ps : List Piece) (xs : List ℤ) (n : ℕ) → n ≤ length ps → length ps ≤ n → take n xs ≡ map f (take n ps) → take (length ps) xs ≡ map f ps
+  noted_all ps xs n h k same =
       let e : length ps ≡ n = omega arith in
-      ap (λ (i : ℕ). take i es) e ∙ same ∙ ap (all_ends lines) (take_all n ps k)
+      ap (λ (i : ℕ). take i xs) e ∙ same ∙ ap (map f) (take_all n ps k)
+
+-- the ends of a piece by their four coordinates
+pub ends_by : (a b u v : ℤ) (e : Ends) → a ≡ e.first.x → b ≡ e.first.y → u ≡ e.last.x → v ≡ e.last.y
+    → record { first = record { x = a; y = b }; last = record { x = u; y = v } } ≡ e
+ends_by a b u v e p q r s =
+    let made : ℤ → ℤ → ℤ → ℤ → Ends = λ x y z w. record { first = record { x = x; y = y }; last = record { x = z; y = w } } in
+    ap (λ (x : ℤ). made x b u v) p ∙ ap (λ (y : ℤ). made e.first.x y u v) q ∙ ap (λ (z : ℤ). made e.first.x e.first.y z v) r ∙ ap (λ (w : ℤ). made e.first.x e.first.y e.last.x w) s

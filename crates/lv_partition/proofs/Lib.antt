@@ -1,4 +1,5 @@
 pub mod OneMore
+pub mod FarPlaces
 pub mod Best
 pub mod Casts
 pub mod BlockSteps
@@ -6,3 +7,4 @@ pub mod BoxLemmas
 pub mod OpenBlocks
 pub mod Reordered
 pub mod EndLemmas
+pub mod ClearLemmas

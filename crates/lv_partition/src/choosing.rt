@@ -1,5 +1,5 @@
 //! The choice by boxes and rounded ends, in the list's order or in one by places.
-ghost use Rattle.std.specs.Prelude.{◌≡◌, ◌+◌, ◌≤◌, ◌<◌, ◌^◌, length, All, MatchOption, Some, slice_get, take, false};
+ghost use Rattle.std.specs.Prelude.{◌≡◌, ◌+◌, ◌≤◌, ◌<◌, ◌^◌, length, All, MatchOption, Some, slice_get, false};
 ghost use Rattle.std.specs.List.Sorted.{IsPermutation};
 ghost use Rattle.lv_segs.specs.Plane.{IsEdge};
 ghost use Rattle.lv_segs.specs.Pieces.{IsPiece};
@@ -9,12 +9,11 @@ ghost use Rattle.lv_partition.specs.Blocks.{AreBlocks, AreGroups};
 ghost use Rattle.lv_partition.specs.Counts.{AreCounts};
 ghost use Rattle.lv_partition.specs.Choices.{IsChoice};
 ghost use Rattle.lv_partition.specs.SoFar.{SoFar};
-ghost use Rattle.lv_partition.specs.Sights.{all_ends};
+ghost use Rattle.lv_partition.specs.Columns.{HoldsEnds};
 
 use crate::block_boxes::note_groups;
 use crate::choice::{Choice, limit_of, take_in};
 use crate::counts::count_below;
-use crate::ends::note_ends;
 use crate::straight::StraightLines;
 use crate::walk::count_by_boxes;
 use lv_lumps::Bounds;
@@ -82,8 +81,7 @@ fn consider_ordered(
     requires few { length pieces.now < 2 ^ 32 }
     requires piece { IsPiece lines.now piece.now }
     requires stands { slice_get pieces.now at ≡ Some piece.now }
-    requires noted { take (length ordered.now) straight.old.ends.items
-        ≡ all_ends lines.now ordered.now }
+    requires noted { HoldsEnds lines.now ordered.now straight.old.ends }
     requires groups { AreGroups (boxes_of lines.now ordered.now) straight.old.groups.items }
     requires room { length blocks.now ≤ length straight.old.noted.items }
     requires so_far { SoFar lines.now pieces.now used.now at best }
@@ -99,12 +97,11 @@ fn consider_ordered(
         return best;
     }
     let limit = limit_of(best);
-    let ends = &straight.ends[..ordered.len()];
     let counted = count_by_boxes(
         lines,
         piece,
         ordered,
-        ends,
+        &straight.ends,
         blocks,
         &straight.groups,
         &mut straight.noted,
@@ -135,10 +132,10 @@ pub fn choose_ordered(
     ensures { MatchOption result (HasNoChoice lines.now pieces.now used.now)
         (λ c. IsChoice lines.now pieces.now used.now c) }
 {
-    if straight.ends.len() < ordered.len() || straight.noted.len() < blocks.len() {
+    if !straight.ends.has_room(ordered.len()) || straight.noted.len() < blocks.len() {
         return choose_in(lines, pieces, used);
     }
-    note_ends(lines, ordered, &mut straight.ends);
+    straight.ends.note(lines, ordered);
     note_groups(boxes, &mut straight.groups);
     let mut best = None;
     for (at, piece) in pieces.iter().enumerate() {

@@ -1,17 +1,28 @@
-//! The rounded ends of pieces, noted once for all candidates of a list.
-ghost use Rattle.std.specs.Prelude.{◌≡◌, ◌≤◌, length, take, drop, All};
+//! The coordinates of the rounded ends of pieces, noted once for all candidates of a list.
+ghost use Rattle.std.specs.Prelude.{◌≡◌, ◌≤◌, length, take, drop, All, true};
 ghost use Rattle.lv_segs.specs.Plane.{IsEdge};
 ghost use Rattle.lv_segs.specs.Pieces.{IsPiece};
-ghost use Rattle.lv_partition.specs.Sights.{ends_of, all_ends};
+ghost use Rattle.lv_partition.specs.Sights.{ends_of};
 
 use lv_lumps::Vertex;
 use lv_segs::{Edge, Piece, point};
+use std::alloc::{AllocError, Global};
 
 /// The rounded ends of a piece, in the order of its line.
 #[derive(Clone, Copy)]
 pub(crate) struct Ends {
     pub first: Vertex,
     pub last: Vertex,
+}
+
+/// The rounded ends of pieces, each of their four coordinates in a column of its own, so that a machine can look at
+/// several pieces at once.
+#[derive(Drop)]
+pub(crate) struct EndColumns {
+    pub first_x: Vec<i16>,
+    pub first_y: Vec<i16>,
+    pub last_x: Vec<i16>,
+    pub last_y: Vec<i16>,
 }
 
 // The rounded ends of one piece.
@@ -27,14 +38,46 @@ fn ends_of(lines: &[Edge], piece: &Piece) -> Ends
     }
 }
 
-/// Notes the rounded ends of each piece of a list at the head of what has room for them.
-pub(crate) fn note_ends(lines: &[Edge], pieces: &[Piece], ends: &mut [Ends])
-    requires lines { All IsEdge lines.now }
-    requires pieces { All (IsPiece lines.now) pieces.now }
-    requires room { length pieces.now ≤ length ends.old }
-    ensures { take (length pieces.now) ends.new ≡ all_ends lines.now pieces.now }
-{
-    for (n, piece) in pieces.iter().enumerate() {
-        ends[n] = ends_of(lines, piece);
+impl EndColumns {
+    ghost use Rattle.lv_partition.specs.Columns.{IsWideEnough, HoldsEnds};
+
+    /// Room for the ends of so many pieces.
+    pub(crate) fn with_room(alloc: Global, count: usize) -> Result<EndColumns, AllocError> {
+        let first_x = Vec::from_elem(alloc, 0, count)?;
+        let first_y = Vec::from_elem(alloc, 0, count)?;
+        let last_x = Vec::from_elem(alloc, 0, count)?;
+        let last_y = Vec::from_elem(alloc, 0, count)?;
+        Ok(EndColumns {
+            first_x,
+            first_y,
+            last_x,
+            last_y,
+        })
+    }
+
+    /// There is room for the ends of so many pieces.
+    pub(crate) fn has_room(&self, count: usize) -> bool
+        ensures { result ≡ true → IsWideEnough self.now count }
+    {
+        count <= self.first_x.len()
+            && count <= self.first_y.len()
+            && count <= self.last_x.len()
+            && count <= self.last_y.len()
+    }
+
+    /// Notes the rounded ends of each piece of a list at the head of the columns.
+    pub(crate) fn note(&mut self, lines: &[Edge], pieces: &[Piece])
+        requires lines { All IsEdge lines.now }
+        requires pieces { All (IsPiece lines.now) pieces.now }
+        requires room { IsWideEnough self.old (length pieces.now) }
+        ensures { HoldsEnds lines.now pieces.now self.new }
+    {
+        for (n, piece) in pieces.iter().enumerate() {
+            let ends = ends_of(lines, piece);
+            self.first_x[n] = ends.first.x;
+            self.first_y[n] = ends.first.y;
+            self.last_x[n] = ends.last.x;
+            self.last_y[n] = ends.last.y;
+        }
     }
 }

@@ -8,6 +8,7 @@ mod choosing;
 mod counts;
 mod ends;
 mod map_choice;
+mod margins;
 mod sight;
 mod sorting;
 mod straight;

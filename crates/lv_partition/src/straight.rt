@@ -4,9 +4,9 @@ ghost use Rattle.std.specs.Prelude.{◌≡◌, ◌<◌, ◌^◌, length, All, So
 ghost use Rattle.lv_segs.specs.Plane.{IsEdge};
 ghost use Rattle.lv_segs.specs.Pieces.{IsPiece};
 
-use crate::ends::Ends;
+use crate::ends::EndColumns;
 use indexmap::IndexSet;
-use lv_lumps::{Bounds, Vertex};
+use lv_lumps::Bounds;
 use lv_segs::{Edge, Facing, Piece, lies_along, ray_of};
 use std::alloc::{AllocError, Global};
 
@@ -19,7 +19,7 @@ use std::alloc::{AllocError, Global};
 pub struct StraightLines {
     numbers: Vec<u16>,
     met: Vec<u32>,
-    pub(crate) ends: Vec<Ends>,
+    pub(crate) ends: EndColumns,
     pub(crate) groups: Vec<Bounds>,
     pub(crate) noted: Vec<u32>,
 }
@@ -65,21 +65,6 @@ fn common_measure(mut a: u32, mut b: u32) -> u32 {
     a
 }
 
-// Room for the ends of two pieces a line.
-fn room_for_ends(alloc: Global, lines: usize) -> Result<Vec<Ends>, AllocError> {
-    let origin = Vertex { x: 0, y: 0 };
-    let none = Ends {
-        first: origin,
-        last: origin,
-    };
-    let mut ends = Vec::new(alloc);
-    for _ in 0..lines {
-        ends.push(none)?;
-        ends.push(none)?;
-    }
-    Ok(ends)
-}
-
 impl StraightLines {
     ghost use Rattle.lv_partition.specs.Choices.{HasEarlier};
 
@@ -97,7 +82,7 @@ impl StraightLines {
             }
             numbers.push(u16::try_from(number).unwrap_or(u16::MAX))?;
         }
-        let ends = room_for_ends(alloc, lines.len())?;
+        let ends = EndColumns::with_room(alloc, lines.len().saturating_mul(2))?;
         let groups = Vec::with_capacity(alloc, lines.len() / 128 + 1)?;
         let noted = Vec::from_elem(alloc, 0, lines.len() / 8 + 1)?;
         Ok(StraightLines {

@@ -1,66 +1,157 @@
 //! The counts of a list: blocks whole on one side by their boxes, the pieces of open ones by their rounded ends.
-ghost use Rattle.std.specs.Prelude.{◌≡◌, ℕ, ◌≤◌, ◌<◌, ◌^◌, [], ◌∷◌, length, All, MatchOption};
+ghost use Rattle.std.specs.Prelude.{◌≡◌, ℕ, ◌≤◌, ◌<◌, ◌^◌, ◌&&◌, ◌||◌, if◌then◌else◌, length, All, MatchOption};
 ghost use Rattle.lv_segs.specs.Plane.{IsEdge};
 ghost use Rattle.lv_segs.specs.Pieces.{IsPiece, ray_of};
 ghost use Rattle.lv_segs.specs.Tree.{cost};
 ghost use Rattle.lv_segs.specs.Boxes.{boxes_of};
 ghost use Rattle.lv_partition.specs.Counts.{AreCounts};
 ghost use Rattle.lv_partition.specs.Blocks.{AreBlocks, AreGroups};
-ghost use Rattle.lv_partition.specs.Sights.{IsSight, ends_of, all_ends};
+ghost use Rattle.lv_partition.specs.Sights.{AreMargins, ends_of};
+ghost use Rattle.lv_partition.specs.Columns.{AreEnds, HoldsEnds};
 ghost use Rattle.lv_partition.specs.Sorting.{IsSorted};
+ghost use Rattle.lv_partition.specs.Clear.{AreCountsBut, flagged, IsClear};
 
 use crate::block_boxes::BLOCK;
 use crate::counts::Counts;
-use crate::ends::Ends;
-use crate::sight::{Sight, side_of_place, sight_of};
+use crate::ends::{EndColumns, Ends};
+use crate::margins::{Margins, PlaceSides, margins_of, sides_of_place};
+use crate::sight::sight_of;
 use crate::sorting::{Sorted, sort_all};
-use lv_lumps::Bounds;
-use lv_segs::{Edge, Piece, Place, divide_in, ray_of};
+use lv_lumps::{Bounds, Vertex};
+use lv_segs::{Edge, Piece, divide_in, ray_of};
 
-// The counts of one piece: by its rounded ends where both lie well off the partition's straight line.
-fn count_piece(lines: &[Edge], partition: &Piece, sight: Sight, piece: &Piece, ends: Ends) -> Counts
-    requires lines { All IsEdge lines.now }
-    requires partition { IsPiece lines.now partition.now }
-    requires ray { sight.ray ≡ ray_of lines.now partition.now }
-    requires sight { IsSight sight }
-    requires piece { IsPiece lines.now piece.now }
-    requires ends { ends ≡ ends_of lines.now piece.now }
-    ensures { AreCounts lines.now partition.now (piece.now ∷ []) result }
+// What the sides of its two ends tell of a piece: its counts, or none where they leave it open.
+fn counts_by_sides(first: PlaceSides, last: PlaceSides) -> Counts
+    ensures right { result.right ≡ (if (first.right && last.right) ||
+        ((first.right && last.left) || (first.left && last.right)) then 1 else 0) }
+    ensures left { result.left ≡ (if (first.left && last.left) ||
+        ((first.right && last.left) || (first.left && last.right)) then 1 else 0) }
+    ensures splits { result.splits ≡
+        (if (first.right && last.left) || (first.left && last.right) then 1 else 0) }
 {
-    let first = side_of_place(sight, ends.first);
-    let last = side_of_place(sight, ends.last);
-    match (first, last) {
-        (Place::Right, Place::Right) => Counts::ON_RIGHT,
-        (Place::Left, Place::Left) => Counts::ON_LEFT,
-        (Place::Right, Place::Left) => Counts::SPLIT,
-        (Place::Left, Place::Right) => Counts::SPLIT,
-        _ => Counts::of_parts(&divide_in(lines, partition, piece)),
+    let right = first.right & last.right;
+    let left = first.left & last.left;
+    let split = (first.right & last.left) | (first.left & last.right);
+    Counts {
+        splits: split as u32,
+        right: (right | split) as u32,
+        left: (left | split) as u32,
     }
 }
 
-// The counts of a list, piece by piece.
-fn count_list(
+// The counts of a piece by its rounded ends; none where these don't both lie well off the partition's straight line.
+fn count_clear(
     lines: &[Edge],
     partition: &Piece,
-    sight: Sight,
-    pieces: &[Piece],
-    ends: &[Ends],
+    margins: Margins,
+    piece: &Piece,
+    ends: Ends,
 ) -> Counts
-    requires lines { All IsEdge lines.now }
-    requires partition { IsPiece lines.now partition.now }
-    requires ray { sight.ray ≡ ray_of lines.now partition.now }
-    requires sight { IsSight sight }
+    requires ray { margins.ray ≡ ray_of lines.now partition.now }
+    requires margins { AreMargins margins }
+    requires piece { IsPiece lines.now piece.now }
+    requires ends { ends ≡ ends_of lines.now piece.now }
+    ensures { IsClear lines.now partition.now piece.now result }
+{
+    let first = sides_of_place(margins, ends.first);
+    let last = sides_of_place(margins, ends.last);
+    counts_by_sides(first, last)
+}
+
+// The counts of the pieces of a short list that their rounded ends decide; the others are flagged as open. It has no
+// branch, so that a machine does it for several pieces at once.
+fn count_clear_ones(
+    lines: &[Edge],
+    partition: &Piece,
+    margins: Margins,
+    pieces: &[Piece],
+    first_x: &[i16],
+    first_y: &[i16],
+    last_x: &[i16],
+    last_y: &[i16],
+    flags: &mut [bool],
+) -> Counts
+    requires ray { margins.ray ≡ ray_of lines.now partition.now }
+    requires margins { AreMargins margins }
     requires pieces { All (IsPiece lines.now) pieces.now }
-    requires ends { ends.now ≡ all_ends lines.now pieces.now }
+    requires ends { AreEnds lines.now pieces.now first_x.now first_y.now last_x.now last_y.now }
     requires few { length pieces.now < 2 ^ 32 }
-    ensures { AreCounts lines.now partition.now pieces.now result }
+    requires room { length flags.old ≡ length pieces.now }
+    ensures { AreCountsBut lines.now partition.now pieces.now (flagged flags.new pieces.now)
+        result }
 {
     let mut counts = Counts::NONE;
     for (n, piece) in pieces.iter().enumerate() {
-        let more = count_piece(lines, partition, sight, piece, ends[n]);
+        let ends = Ends {
+            first: Vertex {
+                x: first_x[n],
+                y: first_y[n],
+            },
+            last: Vertex {
+                x: last_x[n],
+                y: last_y[n],
+            },
+        };
+        let more = count_clear(lines, partition, margins, piece, ends);
         counts = counts.plus(more);
+        flags[n] = (more.right == 0) & (more.left == 0);
     }
     counts
+}
+
+// The counts of a short list of which all but the flagged pieces are counted.
+fn count_open_ones(
+    lines: &[Edge],
+    partition: &Piece,
+    pieces: &[Piece],
+    flags: &[bool],
+    clear: Counts,
+) -> Counts
+    requires lines { All IsEdge lines.now }
+    requires partition { IsPiece lines.now partition.now }
+    requires pieces { All (IsPiece lines.now) pieces.now }
+    requires few { length pieces.now < 2 ^ 32 }
+    requires room { length flags.now ≡ length pieces.now }
+    requires clear { AreCountsBut lines.now partition.now pieces.now (flagged flags.now pieces.now)
+        clear }
+    ensures { AreCounts lines.now partition.now pieces.now result }
+{
+    let mut counts = clear;
+    for (n, piece) in pieces.iter().enumerate() {
+        if flags[n] {
+            let parts = divide_in(lines, partition, piece);
+            counts = counts.plus(Counts::of_parts(&parts));
+        }
+    }
+    counts
+}
+
+// The counts of a block, first of the pieces that their rounded ends decide, and then of the others.
+fn count_list(
+    lines: &[Edge],
+    partition: &Piece,
+    margins: Margins,
+    pieces: &[Piece],
+    first_x: &[i16],
+    first_y: &[i16],
+    last_x: &[i16],
+    last_y: &[i16],
+) -> Counts
+    requires lines { All IsEdge lines.now }
+    requires partition { IsPiece lines.now partition.now }
+    requires ray { margins.ray ≡ ray_of lines.now partition.now }
+    requires margins { AreMargins margins }
+    requires pieces { All (IsPiece lines.now) pieces.now }
+    requires ends { AreEnds lines.now pieces.now first_x.now first_y.now last_x.now last_y.now }
+    requires few { length pieces.now ≤ 16 }
+    ensures { AreCounts lines.now partition.now pieces.now result }
+{
+    let mut all_flags = [false; BLOCK];
+    let flags = &mut all_flags[..pieces.len()];
+    let clear = count_clear_ones(
+        lines, partition, margins, pieces, first_x, first_y, last_x, last_y, flags,
+    );
+    count_open_ones(lines, partition, pieces, flags, clear)
 }
 
 // The counts of a list whose blocks are sorted, open block by open block, or None where the cost is found to be the
@@ -68,19 +159,22 @@ fn count_list(
 fn count_open(
     lines: &[Edge],
     partition: &Piece,
-    sight: Sight,
+    margins: Margins,
     pieces: &[Piece],
-    ends: &[Ends],
+    first_x: &[i16],
+    first_y: &[i16],
+    last_x: &[i16],
+    last_y: &[i16],
     sorted: Sorted,
     noted: &[u32],
     limit: u64,
 ) -> Option<Counts>
     requires lines { All IsEdge lines.now }
     requires partition { IsPiece lines.now partition.now }
-    requires ray { sight.ray ≡ ray_of lines.now partition.now }
-    requires sight { IsSight sight }
+    requires ray { margins.ray ≡ ray_of lines.now partition.now }
+    requires margins { AreMargins margins }
     requires pieces { All (IsPiece lines.now) pieces.now }
-    requires ends { ends.now ≡ all_ends lines.now pieces.now }
+    requires ends { AreEnds lines.now pieces.now first_x.now first_y.now last_x.now last_y.now }
     requires few { length pieces.now < 2 ^ 32 }
     requires is { IsSorted lines.now partition.now pieces.now (length pieces.now) sorted noted.now }
     ensures { MatchOption result (limit ≤ cost lines.now partition.now pieces.now)
@@ -101,9 +195,12 @@ fn count_open(
         let more = count_list(
             lines,
             partition,
-            sight,
+            margins,
             &pieces[from..end],
-            &ends[from..end],
+            &first_x[from..end],
+            &first_y[from..end],
+            &last_x[from..end],
+            &last_y[from..end],
         );
         counts = counts.plus(more);
         rest -= end - from;
@@ -121,7 +218,7 @@ pub(crate) fn count_by_boxes(
     lines: &[Edge],
     partition: &Piece,
     pieces: &[Piece],
-    ends: &[Ends],
+    ends: &EndColumns,
     blocks: &[Bounds],
     groups: &[Bounds],
     noted: &mut [u32],
@@ -130,7 +227,7 @@ pub(crate) fn count_by_boxes(
     requires lines { All IsEdge lines.now }
     requires partition { IsPiece lines.now partition.now }
     requires pieces { All (IsPiece lines.now) pieces.now }
-    requires ends { ends.now ≡ all_ends lines.now pieces.now }
+    requires ends { HoldsEnds lines.now pieces.now ends.now }
     requires blocks { AreBlocks (boxes_of lines.now pieces.now) blocks.now }
     requires groups { AreGroups (boxes_of lines.now pieces.now) groups.now }
     requires few { length pieces.now < 2 ^ 32 }
@@ -140,10 +237,27 @@ pub(crate) fn count_by_boxes(
     ensures room { length noted.new ≡ length noted.old }
 {
     let along = lines[partition.line as usize];
-    let sight = sight_of(ray_of(along, partition.side));
+    let ray = ray_of(along, partition.side);
+    let margins = margins_of(ray);
+    let first_x = &ends.first_x[..pieces.len()];
+    let first_y = &ends.first_y[..pieces.len()];
+    let last_x = &ends.last_x[..pieces.len()];
+    let last_y = &ends.last_y[..pieces.len()];
     if pieces.len() <= BLOCK {
-        return Some(count_list(lines, partition, sight, pieces, ends));
+        return Some(count_list(
+            lines, partition, margins, pieces, first_x, first_y, last_x, last_y,
+        ));
     }
-    let sorted = sort_all(lines, partition, sight, pieces, blocks, groups, noted);
-    count_open(lines, partition, sight, pieces, ends, sorted, noted, limit)
+    let sorted = sort_all(
+        lines,
+        partition,
+        sight_of(ray),
+        pieces,
+        blocks,
+        groups,
+        noted,
+    );
+    count_open(
+        lines, partition, margins, pieces, first_x, first_y, last_x, last_y, sorted, noted, limit,
+    )
 }

@@ -6,9 +6,8 @@ use Rattle.lv_nodes.proofs.step.choice_by_place.Goals as goal
 
 pub blocks_of-requires : goal.blocks_of-requires
 blocks_of-requires c =
-    let l = length_permutation c.args.list.now c.in_ok-ordered.ordered.items c.in_ok-ordered.ensures.order in
-    let e = c.deref-2.ensures.value ∙ c.in_ok-boxes.ensures in
-    let m : length c.deref-2.result.now ≡ length c.deref.result.now = ap length e ∙ length-map c.deref.result.now (box_of c.args.lines.now) in
-    let d = ap length c.deref.ensures.value in
+    let o = c.args.order.now in
+    let l = length_permutation c.args.list.now o.pieces.items c.requires.order.order in
+    let m : length c.deref.result.now ≡ length o.pieces.items = ap length (c.deref.ensures.value ∙ c.requires.order.boxed) ∙ length-map o.pieces.items (box_of c.args.lines.now) in
     let f = c.requires.few in
-    omega (arith, l, m, d, f)
+    omega (arith, l, m, f)

@@ -44,4 +44,4 @@ returns-then-used-piece-clause-so_far c =
     used_stays lines c.args.pieces.now used c.args.at p c.requires.stands c.args.best c.requires.few (line_known lines used p c.requires.piece c.requires.known) c.if-used-piece.true c.requires.so_far
 
 pub count_by_boxes-counted-requires-clause-ends : goal.count_by_boxes-counted-requires-clause-ends
-count_by_boxes-counted-requires-clause-ends c = rw (c.deref.ensures.value, c.has_earlier.ensures.ends) c.requires.noted
+count_by_boxes-counted-requires-clause-ends c = rw c.has_earlier.ensures.ends c.requires.noted

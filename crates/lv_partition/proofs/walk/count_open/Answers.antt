@@ -2,13 +2,12 @@ use Rattle.std.proofs.Common.{◌≡◌, ◌+◌, ◌*◌, ◌-◌, ◌^◌, ◌
 use Rattle.std.proofs.lemmas.List.{length-take, length-drop}
 use Rattle.std.proofs.lemmas.List.Elements.{All-take, All-drop}
 use Rattle.lv_segs.specs.declared.piece.Piece.{Piece}
-use Rattle.lv_segs.specs.Pieces.{IsPiece}
+use Rattle.lv_segs.specs.Pieces.{IsPiece, first_end, last_end}
 use Rattle.lv_segs.proofs.Stops.{Counted, cost_at_least}
-use Rattle.lv_partition.specs.declared.ends.Ends.{Ends}
 use Rattle.lv_partition.specs.Counts.{AreCounts}
 use Rattle.lv_partition.specs.Sorting.{pieces_in}
 use Rattle.lv_partition.proofs.BoxLemmas.{block_is}
-use Rattle.lv_partition.proofs.EndLemmas.{part_ends}
+use Rattle.lv_partition.proofs.EndLemmas.{part_column, column_length}
 use Rattle.lv_partition.proofs.OneMore.{counted_all}
 use Rattle.lv_partition.proofs.OpenBlocks.{open_left, all_length, counted_few, begins, open_counted, open_rest, none_open}
 use Rattle.lv_partition.proofs.walk.count_open.Goals as goal
@@ -31,12 +30,56 @@ pub slice_bounds-count_list-count-in-loop-n : goal.slice_bounds-count_list-count
 slice_bounds-count_list-count-in-loop-n c =
     let b = begins c.args.lines.now c.args.partition.now c.args.pieces.now c.loop-n.n c.args.sorted c.args.noted.now c.requires.is c.loop-n-test.true in
     let e = c.min-end.ensures in
+    let l = column_length (λ p. (first_end c.args.lines.now p).x) c.args.pieces.now c.args.first_x.now c.requires.ends.first_x in
     omega arith
 
 pub slice_bounds-count_list-start-in-loop-n : goal.slice_bounds-count_list-start-in-loop-n
 slice_bounds-count_list-start-in-loop-n c =
     let b = begins c.args.lines.now c.args.partition.now c.args.pieces.now c.loop-n.n c.args.sorted c.args.noted.now c.requires.is c.loop-n-test.true in
     let e = c.min-end.ensures in
+    let l = column_length (λ p. (first_end c.args.lines.now p).x) c.args.pieces.now c.args.first_x.now c.requires.ends.first_x in
+    omega arith
+
+pub slice_bounds-count_list-count-in-loop-n-2 : goal.slice_bounds-count_list-count-in-loop-n-2
+slice_bounds-count_list-count-in-loop-n-2 c =
+    let b = begins c.args.lines.now c.args.partition.now c.args.pieces.now c.loop-n.n c.args.sorted c.args.noted.now c.requires.is c.loop-n-test.true in
+    let e = c.min-end.ensures in
+    let l = column_length (λ p. (first_end c.args.lines.now p).y) c.args.pieces.now c.args.first_y.now c.requires.ends.first_y in
+    omega arith
+
+pub slice_bounds-count_list-start-in-loop-n-2 : goal.slice_bounds-count_list-start-in-loop-n-2
+slice_bounds-count_list-start-in-loop-n-2 c =
+    let b = begins c.args.lines.now c.args.partition.now c.args.pieces.now c.loop-n.n c.args.sorted c.args.noted.now c.requires.is c.loop-n-test.true in
+    let e = c.min-end.ensures in
+    let l = column_length (λ p. (first_end c.args.lines.now p).y) c.args.pieces.now c.args.first_y.now c.requires.ends.first_y in
+    omega arith
+
+pub slice_bounds-count_list-count-in-loop-n-3 : goal.slice_bounds-count_list-count-in-loop-n-3
+slice_bounds-count_list-count-in-loop-n-3 c =
+    let b = begins c.args.lines.now c.args.partition.now c.args.pieces.now c.loop-n.n c.args.sorted c.args.noted.now c.requires.is c.loop-n-test.true in
+    let e = c.min-end.ensures in
+    let l = column_length (λ p. (last_end c.args.lines.now p).x) c.args.pieces.now c.args.last_x.now c.requires.ends.last_x in
+    omega arith
+
+pub slice_bounds-count_list-start-in-loop-n-3 : goal.slice_bounds-count_list-start-in-loop-n-3
+slice_bounds-count_list-start-in-loop-n-3 c =
+    let b = begins c.args.lines.now c.args.partition.now c.args.pieces.now c.loop-n.n c.args.sorted c.args.noted.now c.requires.is c.loop-n-test.true in
+    let e = c.min-end.ensures in
+    let l = column_length (λ p. (last_end c.args.lines.now p).x) c.args.pieces.now c.args.last_x.now c.requires.ends.last_x in
+    omega arith
+
+pub slice_bounds-count_list-count-in-loop-n-4 : goal.slice_bounds-count_list-count-in-loop-n-4
+slice_bounds-count_list-count-in-loop-n-4 c =
+    let b = begins c.args.lines.now c.args.partition.now c.args.pieces.now c.loop-n.n c.args.sorted c.args.noted.now c.requires.is c.loop-n-test.true in
+    let e = c.min-end.ensures in
+    let l = column_length (λ p. (last_end c.args.lines.now p).y) c.args.pieces.now c.args.last_y.now c.requires.ends.last_y in
+    omega arith
+
+pub slice_bounds-count_list-start-in-loop-n-4 : goal.slice_bounds-count_list-start-in-loop-n-4
+slice_bounds-count_list-start-in-loop-n-4 c =
+    let b = begins c.args.lines.now c.args.partition.now c.args.pieces.now c.loop-n.n c.args.sorted c.args.noted.now c.requires.is c.loop-n-test.true in
+    let e = c.min-end.ensures in
+    let l = column_length (λ p. (last_end c.args.lines.now p).y) c.args.pieces.now c.args.last_y.now c.requires.ends.last_y in
     omega arith
 
 pub returns-then-limit-least_cost : goal.returns-then-limit-least_cost
@@ -69,8 +112,17 @@ count_list-more-requires-clause-pieces c =
 
 pub count_list-more-requires-clause-ends : goal.count_list-more-requires-clause-ends
 count_list-more-requires-clause-ends c =
+    let lines = c.args.lines.now in
+    let ps = c.args.pieces.now in
     let from = 16 * get_or c.args.noted.now c.loop-n.n 0 in
-    ap (λ (es : List Ends). take (c.min-end.result - from) (drop from es)) c.requires.ends ∙ part_ends c.args.lines.now c.args.pieces.now (c.min-end.result - from) from
+    let n = c.min-end.result - from in
+    let e = c.requires.ends in
+    record {
+      first_x = part_column (λ p. (first_end lines p).x) ps c.args.first_x.now n from e.first_x;
+      first_y = part_column (λ p. (first_end lines p).y) ps c.args.first_y.now n from e.first_y;
+      last_x = part_column (λ p. (last_end lines p).x) ps c.args.last_x.now n from e.last_x;
+      last_y = part_column (λ p. (last_end lines p).y) ps c.args.last_y.now n from e.last_y;
+    }
 
 -- what is known once the next open block is counted
 record Next (c : After-count_list-more) : Type 0 where

@@ -1,0 +1,167 @@
+-- The pieces that their rounded ends decide are counted, and then those that these leave flags.
+use Rattle.std.proofs.Common.{◌≡◌, refl, sym, ap, ◌∙◌, subst, ℕ, zero, suc, ◌+◌, ◌<◌, ◌≤◌, Bool, true, false, ◌&&◌, ◌||◌, List, [], ◌∷◌, ◌++◌, length, take, drop, set, get_or, drop-cons, arith}
+use Rattle.std.proofs.lemmas.List.{length-take, append-nil, append_assoc, take_more, take_more_set, take_all, drop_all}
+use Rattle.std.proofs.lemmas.Bool.Decides.{nat_tests}
+use Rattle.std.specs.Prelude.{nat_eq}
+use Rattle.lv_segs.specs.declared.edge.Edge.{Edge}
+use Rattle.lv_segs.specs.declared.piece.Piece.{Piece}
+use Rattle.lv_segs.specs.Pieces.{ray_of, first_end, last_end, IsPiece}
+use Rattle.lv_segs.proofs.Stops.{rights, lefts, splits, rights_append, lefts_append, splits_append, Counted, block_counted}
+use Rattle.lv_partition.specs.declared.counts.Counts.{Counts}
+use Rattle.lv_partition.specs.Counts.{AreCounts}
+use Rattle.lv_partition.specs.Clear.{flagged, IsClear}
+use Rattle.lv_partition.proofs.OneMore.{one, piece_counts}
+use Rattle.lv_partition.proofs.EndLemmas.{IsWellRight, IsWellLeft, ends_right, ends_left, ends_down, ends_up, parted_counts}
+
+-- what the sides of its two ends say of a piece
+module _ (lines : List Edge) (p q : Piece) (ok : IsPiece lines q) where
+  undecided : (c : Counts) → c.right ≡ 0 → c.left ≡ 0 → c.splits ≡ 0 → IsClear lines p q c
+  undecided c r l s = record { counts = λ h. absurd (omega arith); none = λ h. s }
+
+  decided : (c : Counts) → AreCounts lines p (q ∷ []) c → 0 < c.right + c.left → IsClear lines p q c
+  decided c a h = record { counts = λ k. a; none = λ k. absurd (omega arith) }
+
+  pub by_sides : (fr fl lr ll : Bool) → (fr && fl) ≡ false → (lr && ll) ≡ false
+      → (fr ≡ true → IsWellRight (ray_of lines p) (first_end lines q)) → (fl ≡ true → IsWellLeft (ray_of lines p) (first_end lines q))
+      → (lr ≡ true → IsWellRight (ray_of lines p) (last_end lines q)) → (ll ≡ true → IsWellLeft (ray_of lines p) (last_end lines q))
+      → (c : Counts) → c.right ≡ one ((fr && lr) || ((fr && ll) || (fl && lr))) → c.left ≡ one ((fl && ll) || ((fr && ll) || (fl && lr)))
+      → c.splits ≡ one ((fr && ll) || (fl && lr)) → IsClear lines p q c
+  by_sides true true lr ll a b hr hl kr kl c r l s = absurd (cc)
+  by_sides true false true true a b hr hl kr kl c r l s = absurd (cc)
+  by_sides true false true false a b hr hl kr kl c r l s =
+      decided c (piece_counts lines p q _ c (sym (ends_right lines p q ok (hr refl) (kr refl))) r l s) (omega arith)
+  by_sides true false false true a b hr hl kr kl c r l s =
+      decided c (parted_counts lines p q ok c (ends_down lines p q ok (hr refl) (kl refl)) r l s) (omega arith)
+  by_sides true false false false a b hr hl kr kl c r l s = undecided c r l s
+  by_sides false true true true a b hr hl kr kl c r l s = absurd (cc)
+  by_sides false true true false a b hr hl kr kl c r l s =
+      decided c (parted_counts lines p q ok c (ends_up lines p q ok (hl refl) (kr refl)) r l s) (omega arith)
+  by_sides false true false true a b hr hl kr kl c r l s =
+      decided c (piece_counts lines p q _ c (sym (ends_left lines p q ok (hl refl) (kl refl))) r l s) (omega arith)
+  by_sides false true false false a b hr hl kr kl c r l s = undecided c r l s
+  by_sides false false lr ll a b hr hl kr kl c r l s = undecided c r l s
+
+-- one more flag, and one more piece
+flagged_more : (fs : List Bool) (ps : List Piece) (f : Bool) (q : Piece) → length fs ≡ length ps
+    → flagged (fs ++ (f ∷ [])) (ps ++ (q ∷ [])) ≡ flagged fs ps ++ flagged (f ∷ []) (q ∷ [])
+flagged_more [] [] f q e = refl
+flagged_more [] (p ∷ ps) f q e = absurd (omega arith)
+flagged_more (g ∷ fs) [] f q e = absurd (omega arith)
+flagged_more (true ∷ fs) (p ∷ ps) f q e = ap (λ (xs : List Piece). p ∷ xs) (flagged_more fs ps f q (omega arith))
+flagged_more (false ∷ fs) (p ∷ ps) f q e = flagged_more fs ps f q (omega arith)
+
+next_of : {X : Type 0} (xs : List X) (n : ℕ) (d : X) → n < length xs → drop n xs ≡ get_or xs n d ∷ drop (n + 1) xs
+next_of {X} xs n d h = let e : suc n ≡ n + 1 = omega arith in drop-cons xs n d h ∙ ap (λ (i : ℕ). get_or xs n d ∷ drop i xs) e
+
+both_zero : (a b : ℕ) → (nat_eq a 0 && nat_eq b 0) ≡ true → a + b ≡ 0
+both_zero a b e = grind (arith, nat_tests)
+
+not_zero : (a b : ℕ) → (nat_eq a 0 && nat_eq b 0) ≡ false → 0 < a + b
+not_zero a b e = grind (arith, nat_tests)
+
+-- the pieces that aren't counted yet: the flagged ones among the first n, and all behind them
+abbrev pub uncounted : List Bool → List Piece → ℕ → List Piece
+uncounted flags ps n = flagged (take n flags) (take n ps) ++ drop n ps
+
+module _ (lines : List Edge) (p : Piece) where
+  -- a piece is counted, or else it is flagged
+  one_flagged : (q : Piece) (c : Counts) (f : Bool) → IsClear lines p q c → (nat_eq c.right 0 && nat_eq c.left 0) ≡ f
+      → Counted lines p (q ∷ []) (flagged (f ∷ []) (q ∷ [])) c.right c.left c.splits
+  one_flagged q c true k e =
+      let z = both_zero c.right c.left e in
+      let s = k.none z in
+      record { right = omega arith; left = omega arith; splits = omega arith }
+  one_flagged q c false k e =
+      let a = k.counts (not_zero c.right c.left e) in
+      let ar = a.right in
+      let al = a.left in
+      let as' = a.splits in
+      record { right = omega arith; left = omega arith; splits = omega arith }
+
+  pub clear_step : (ps : List Piece) (flags : List Bool) (n : ℕ) (d : Piece) (r l s : ℕ) (c : Counts) → n < length ps → length flags ≡ length ps
+      → Counted lines p ps (uncounted flags ps n) r l s → IsClear lines p (get_or ps n d) c
+      → Counted lines p ps (uncounted (set flags n (nat_eq c.right 0 && nat_eq c.left 0)) ps (n + 1)) (r + c.right) (l + c.left) (s + c.splits)
+  clear_step ps flags n d r l s c h same k clear =
+      let f = nat_eq c.right 0 && nat_eq c.left 0 in
+      let q = get_or ps n d in
+      let before = flagged (take n flags) (take n ps) in
+      let left' = flagged (f ∷ []) (q ∷ []) in
+      let rest = drop (n + 1) ps in
+      let lo = length-take n flags in
+      let lp = length-take n ps in
+      let w : n < length flags = omega arith in
+      let e : flagged (take (n + 1) (set flags n f)) (take (n + 1) ps) ≡ before ++ left' =
+      ap (λ (fs : List Bool). flagged fs (take (n + 1) ps)) (take_more_set flags n f w)
+      ∙ ap (flagged (take n flags ++ (f ∷ []))) (take_more ps n d h)
+      ∙ flagged_more (take n flags) (take n ps) f q (omega arith) in
+      let new : uncounted (set flags n f) ps (n + 1) ≡ (before ++ left') ++ rest = ap (λ (xs : List Piece). xs ++ rest) e in
+      let old : uncounted flags ps n ≡ before ++ ((q ∷ []) ++ rest) = ap (λ (xs : List Piece). before ++ xs) (next_of ps n d h) in
+      let o = one_flagged q c f clear refl in
+      let k' = subst (λ (xs : List Piece). Counted lines p ps xs r l s) old k in
+      subst (λ (xs : List Piece). Counted lines p ps xs (r + c.right) (l + c.left) (s + c.splits)) (sym new)
+      (by_sums before left' (q ∷ []) rest k' o)
+    where
+      by_sums : (before left' one' rest : List Piece) → Counted lines p ps (before ++ (one' ++ rest)) r l s
+          → Counted lines p one' left' c.right c.left c.splits
+          → Counted lines p ps ((before ++ left') ++ rest) (r + c.right) (l + c.left) (s + c.splits)
+      by_sums before left' one' rest k o =
+          let a1 = rights_append lines p before (one' ++ rest) in
+          let a2 = rights_append lines p one' rest in
+          let a3 = rights_append lines p (before ++ left') rest in
+          let a4 = rights_append lines p before left' in
+          let b1 = lefts_append lines p before (one' ++ rest) in
+          let b2 = lefts_append lines p one' rest in
+          let b3 = lefts_append lines p (before ++ left') rest in
+          let b4 = lefts_append lines p before left' in
+          let c1 = splits_append lines p before (one' ++ rest) in
+          let c2 = splits_append lines p one' rest in
+          let c3 = splits_append lines p (before ++ left') rest in
+          let c4 = splits_append lines p before left' in
+          let kr = k.right in
+          let kl = k.left in
+          let ks = k.splits in
+          let or' = o.right in
+          let ol = o.left in
+          let os = o.splits in
+          record { right = omega arith; left = omega arith; splits = omega arith }
+
+  -- behind the last piece the flagged ones are left
+  pub clear_all : (ps : List Piece) (flags : List Bool) (n : ℕ) (r l s : ℕ) → length ps ≤ n → length flags ≡ length ps
+      → Counted lines p ps (uncounted flags ps n) r l s → Counted lines p ps (flagged flags ps) r l s
+  clear_all ps flags n r l s h same k =
+      let e : uncounted flags ps n ≡ flagged flags ps =
+      ap (λ (xs : List Piece). flagged (take n flags) (take n ps) ++ xs) (drop_all n ps h)
+      ∙ append-nil (flagged (take n flags) (take n ps))
+      ∙ ap (λ (fs : List Bool). flagged fs (take n ps)) (take_all n flags (omega arith))
+      ∙ ap (flagged flags) (take_all n ps h) in
+      subst (λ (xs : List Piece). Counted lines p ps xs r l s) e k
+
+  -- ---- the flagged ones
+  next_flagged : (ps : List Piece) (flags : List Bool) (n : ℕ) (d : Piece) (f : Bool) → n < length ps → length flags ≡ length ps → get_or flags n false ≡ f
+      → flagged (drop n flags) (drop n ps) ≡ flagged (f ∷ drop (n + 1) flags) (get_or ps n d ∷ drop (n + 1) ps)
+  next_flagged ps flags n d f h same e =
+      let w : n < length flags = omega arith in
+      ap (λ (fs : List Bool). flagged fs (drop n ps)) (next_of flags n false w ∙ ap (λ (x : Bool). x ∷ drop (n + 1) flags) e)
+      ∙ ap (flagged (f ∷ drop (n + 1) flags)) (next_of ps n d h)
+
+  pub open_step : (ps : List Piece) (flags : List Bool) (n : ℕ) (d : Piece) (r l s : ℕ) (c : Counts) → n < length ps → length flags ≡ length ps
+      → get_or flags n false ≡ true → Counted lines p ps (flagged (drop n flags) (drop n ps)) r l s → AreCounts lines p (get_or ps n d ∷ []) c
+      → Counted lines p ps (flagged (drop (n + 1) flags) (drop (n + 1) ps)) (r + c.right) (l + c.left) (s + c.splits)
+  open_step ps flags n d r l s c h same e k a =
+      let k' = subst (λ (xs : List Piece). Counted lines p ps xs r l s) (next_flagged ps flags n d true h same e) k in
+      block_counted lines p ps (get_or ps n d ∷ []) (flagged (drop (n + 1) flags) (drop (n + 1) ps)) r l s c.right c.left c.splits k' (sym a.right) (sym a.left) (sym a.splits)
+
+  pub closed_step : (ps : List Piece) (flags : List Bool) (n : ℕ) (d : Piece) (r l s : ℕ) → n < length ps → length flags ≡ length ps
+      → get_or flags n false ≡ false → Counted lines p ps (flagged (drop n flags) (drop n ps)) r l s
+      → Counted lines p ps (flagged (drop (n + 1) flags) (drop (n + 1) ps)) r l s
+  closed_step ps flags n d r l s h same e k = subst (λ (xs : List Piece). Counted lines p ps xs r l s) (next_flagged ps flags n d false h same e) k
+
+  pub open_all : (ps : List Piece) (flags : List Bool) (n : ℕ) (c : Counts) → length ps ≤ n → length flags ≡ length ps
+      → Counted lines p ps (flagged (drop n flags) (drop n ps)) c.right c.left c.splits → AreCounts lines p ps c
+  open_all ps flags n c h same k =
+      let e : flagged (drop n flags) (drop n ps) ≡ [] = ap (λ (fs : List Bool). flagged fs (drop n ps)) (drop_all n flags (omega arith)) in
+      let k' = subst (λ (xs : List Piece). Counted lines p ps xs c.right c.left c.splits) e k in
+      let kr = k'.right in
+      let kl = k'.left in
+      let ks = k'.splits in
+      record { right = omega arith; left = omega arith; splits = omega arith }

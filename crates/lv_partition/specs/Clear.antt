@@ -1,0 +1,30 @@
+-- What the rounded ends of pieces decide of a list, and the pieces that they leave open.
+use Rattle.std.specs.Prelude.{◌≡◌, ℕ, ◌+◌, ◌<◌, Bool, true, false, List, [], ◌∷◌, length, count_by}
+use Rattle.lv_segs.specs.declared.edge.Edge.{Edge}
+use Rattle.lv_segs.specs.declared.piece.Piece.{Piece}
+use Rattle.lv_segs.specs.Division.{right_parts, left_parts}
+use Rattle.lv_segs.specs.Tree.{is_split}
+use Rattle.lv_partition.specs.declared.counts.Counts.{Counts}
+use Rattle.lv_partition.specs.Counts.{AreCounts}
+
+-- the pieces at whose places the flags say yes
+abbrev pub flagged : List Bool → List Piece → List Piece
+flagged [] ps = []
+flagged (f ∷ fs) [] = []
+flagged (true ∷ fs) (p ∷ ps) = p ∷ flagged fs ps
+flagged (false ∷ fs) (p ∷ ps) = flagged fs ps
+
+-- the counts are those of the list but for the rest
+pub record AreCountsBut (lines : List Edge) (partition : Piece) (ps rest : List Piece)
+    (c : Counts) : Type 0 where
+  pub splits : count_by (is_split lines partition) ps
+      ≡ c.splits + count_by (is_split lines partition) rest
+  pub right : length (right_parts lines partition ps)
+      ≡ c.right + length (right_parts lines partition rest)
+  pub left : length (left_parts lines partition ps)
+      ≡ c.left + length (left_parts lines partition rest)
+
+-- the counts are those of the piece, or else they are none, and the piece is left open
+pub record IsClear (lines : List Edge) (partition p : Piece) (c : Counts) : Type 0 where
+  pub counts : 0 < c.right + c.left → AreCounts lines partition (p ∷ []) c
+  pub none : c.right + c.left ≡ 0 → c.splits ≡ 0
