@@ -3,7 +3,8 @@ use Rattle.std.proofs.Common.{◌≡◌, ℕ, Bool, List, Option, Some, None, Ok
 use Rattle.std.specs.Io.KnownBytes.{Appends, Keeps}
 use Rattle.lv_editor.specs.Inspections.{IsInspected}
 use Rattle.lv_reports.specs.Statuses.{status_told}
-use Rattle.lv_program.specs.Sources.{IsExaminedOf, ReadsAll}
+use Rattle.lv_views.specs.Reading.{ReadsAll}
+use Rattle.lv_program.specs.Sources.{IsExaminedOf}
 
 -- what is told stays when it is handed on
 kept_on : (u w x : Option (List ℕ)) (text : List ℕ) → Appends u w text → Keeps w x → Appends u x text

@@ -6,7 +6,7 @@ use Rattle.std.proofs.KnownBytes.{Appends-trans}
 use Rattle.std.proofs.lemmas.List.{take_more}
 use Rattle.lv_lumps.specs.Names.{name_text}
 use Rattle.lv_lumps.specs.declared.records.Name8.{Name8}
-use Rattle.lv_program.specs.LevelNames.{shown}
+use Rattle.lv_views.specs.ShownNames.{shown}
 use Rattle.lv_program.specs.Rebuilding.{AreFateTexts, IsFateText, IsRebuiltOf, IsToldOf, left_as_text, made_text, status_rebuilt}
 use Rattle.lv_editor.specs.declared.error.EditorError.TheVariants.{WriterFailed}
 use Rattle.lv_rebuild.specs.Rebuilt.{IsRebuiltWad}

@@ -14,12 +14,16 @@ use Rattle.lv_project.specs.declared.geometry.Geometry.{Geometry}
 use Rattle.lv_program.specs.Deeds.{IsBuiltInto, IsChecked, IsCreated, IsEdited, IsExamined}
 use Rattle.lv_program.specs.Drawing.{EndsUnopened, IsDrawnOntoSome}
 use Rattle.lv_program.specs.DrawnOver.{IsDrawnOver}
-use Rattle.lv_program.specs.Dumping.{IsDumped, IsDumpedOf}
-use Rattle.lv_program.specs.Linting.{IsLinted, IsLintedBy}
-use Rattle.lv_program.specs.Picturing.{IsPictured, IsPicturedOf}
-use Rattle.lv_program.specs.declared.laid_over.Layers.{Layers}
+use Rattle.lv_program.specs.SomeProject.{IsDumped}
+use Rattle.lv_views.specs.Dumping.{IsDumpedOf}
+use Rattle.lv_program.specs.SomeProject.{IsLinted}
+use Rattle.lv_views.specs.Linting.{IsLintedBy}
+use Rattle.lv_program.specs.SomeProject.{IsPictured}
+use Rattle.lv_views.specs.Picturing.{IsPicturedOf}
+use Rattle.lv_views.specs.declared.laid_over.Layers.{Layers}
 use Rattle.lv_reports.specs.Refusals.{IsOfOpening}
-use Rattle.lv_program.specs.Sources.{IsBuiltFrom, IsCheckedOf, IsEditedOver, IsExaminedOf, IsMade, NotOpened, OverMaps}
+use Rattle.lv_views.specs.Checking.{IsCheckedOf}
+use Rattle.lv_program.specs.Sources.{IsBuiltFrom, IsEditedOver, IsExaminedOf, IsMade, NotOpened, OverMaps}
 use Rattle.lv_editor.specs.declared.error.EditorError.TheVariants.{WriterFailed}
 use Rattle.lv_reports.specs.declared.refusal.Refusal.{Refusal}
 use Rattle.lv_reports.specs.declared.refusal.Refusal.TheVariants.{Build, Level, Lines, NoSuchMap, Project}

@@ -12,14 +12,14 @@ use Rattle.lv_editor.specs.Answers.{RepliesInMemory}
 use Rattle.lv_pwad.specs.Counted.{IsBuildCounted}
 use Rattle.lv_editor.specs.Building.{built_text}
 use Rattle.lv_program.specs.Drawing.{IsDrawnInto, IsScriptTried}
-use Rattle.lv_program.specs.Dumping.{IsDumped}
+use Rattle.lv_program.specs.SomeProject.{IsDumped}
 use Rattle.lv_editor.specs.Editing.{RepliesInProject}
 use Rattle.lv_editor.specs.Inspections.{IsInspected}
 use Rattle.lv_program.specs.LevelNames.{IsListed}
-use Rattle.lv_program.specs.Linting.{IsLinted}
-use Rattle.lv_program.specs.Picturing.{IsPictured}
+use Rattle.lv_program.specs.SomeProject.{IsLinted}
+use Rattle.lv_program.specs.SomeProject.{IsPictured}
 use Rattle.lv_program.specs.Rebuilding.{IsRebuiltInto}
-use Rattle.lv_program.specs.declared.laid_over.Layers.{Layers}
+use Rattle.lv_views.specs.declared.laid_over.Layers.{Layers}
 use Rattle.lv_reports.specs.Refusals.{IsOfOpening, NotBuilt, NotChecked, NotCreated, NotExamined}
 use Rattle.lv_editor.specs.Runs.{Exchange, Ran}
 use Rattle.lv_editor.specs.Sessions.{RunsOver}

@@ -1,19 +1,16 @@
 -- What `inspect` tells of a WAD without a level's name: the names of its levels (docs/COMMANDS.md,
 -- "The program").
-use Rattle.std.specs.Prelude.{◌≡◌, ◌⊎◌, ℕ, nat_le, ◌&&◌, if◌then◌else◌, ◌++◌, List, [], ◌∷◌, map, flat_map, Option, None, Result, Ok, Err}
+use Rattle.std.specs.Prelude.{◌≡◌, ◌⊎◌, ℕ, ◌++◌, List, [], ◌∷◌, map, flat_map, Option, None, Result, Ok, Err}
 use Rattle.std.specs.Io.KnownBytes.{Appends, Keeps}
 use Rattle.lv_lumps.specs.Names.{name_text}
 use Rattle.lv_lumps.specs.declared.records.Name8.{Name8}
 use Rattle.lv_levels.specs.Listing.{RefusesListing, level_names, listing_refusal}
+use Rattle.lv_views.specs.ShownNames.{shown}
 use Rattle.lv_editor.specs.declared.error.EditorError.TheVariants.{WriterFailed}
 use Rattle.lv_editor.specs.declared.error.InspectError.{InspectError}
 use Rattle.lv_editor.specs.declared.error.InspectError.TheVariants as inspecting
 use Rattle.lv_reports.specs.declared.refusal.Refusal.{Refusal}
 use Rattle.lv_reports.specs.declared.refusal.Refusal.TheVariants as of
-
--- a byte of a name as it is shown: `?` where it is no visible character
-abbrev pub shown : ℕ → ℕ
-shown byte = if nat_le 33 byte && nat_le byte 126 then byte else 63
 
 -- the name of a level as a line
 abbrev pub level_line : Name8 → List ℕ

@@ -1,11 +1,7 @@
 pub mod Deeds
 pub mod Drawing
 pub mod DrawnOver
-pub mod Dumping
-pub mod LaidOver
 pub mod LevelNames
-pub mod Linting
-pub mod Marking
-pub mod Picturing
 pub mod Rebuilding
+pub mod SomeProject
 pub mod Sources

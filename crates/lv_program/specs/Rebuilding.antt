@@ -7,7 +7,7 @@ use Rattle.lv_levels.specs.declared.error.ReadError.TheVariants as reading
 use Rattle.lv_lumps.specs.Names.{name_text}
 use Rattle.lv_lumps.specs.declared.records.Name8.{Name8}
 use Rattle.lv_program.specs.Drawing.{EndsUnread}
-use Rattle.lv_program.specs.LevelNames.{shown}
+use Rattle.lv_views.specs.ShownNames.{shown}
 use Rattle.lv_rebuild.specs.Rebuilt.{IsRebuiltWad, RefusesRebuild}
 use Rattle.lv_rebuild.specs.declared.error.RebuildError.{RebuildError}
 use Rattle.lv_rebuild.specs.declared.error.RebuildError.TheVariants as rebuilding

@@ -1,13 +1,11 @@
 -- Whose maps and whose level it was: what was done over a disk, or of a reader, that is handed over
 -- and tells its bytes. A real file tells none, so that `Deeds` leaves it open.
-use Rattle.std.specs.Prelude.{◌≡◌, ◌⊎◌, ℕ, Bool, false, Option, None, Result, Ok, Err, List, length}
-use Rattle.std.specs.Io.KnownBytes.{Appends, Consumes, IsAtEnd, Keeps}
+use Rattle.std.specs.Prelude.{◌≡◌, ◌⊎◌, ℕ, Bool, false, Option, None, Result, Ok, Err, List}
+use Rattle.std.specs.Io.KnownBytes.{Appends, Keeps}
 use Rattle.lv_disk.specs.Reading.{OnlyReads}
 use Rattle.lv_disk.specs.Stops.{Each}
 use Rattle.lv_disk.specs.declared.disk.Disk.{Ghosts}
 use Rattle.lv_maptables.specs.Projects.{MapsView, empty_project, project_of}
-use Rattle.lv_maptables.specs.Tables.{Tables}
-use Rattle.lv_checks.specs.Findings.{findings}
 use Rattle.lv_project.specs.Opening.{IsRefusedRead, RefusesCreate, StandsOnlyFor}
 use Rattle.lv_project.specs.Places.{cap_of}
 use Rattle.lv_project.specs.Stands.{Stands}
@@ -16,20 +14,18 @@ use Rattle.lv_project.specs.declared.error.ProjectError.{ProjectError}
 use Rattle.lv_project.specs.declared.error.ProjectError.TheVariants.{Device}
 use Rattle.lv_project.specs.declared.geometry.Geometry.{Geometry}
 use Rattle.lv_pwad.specs.Counted.{IsBuildCounted}
-use Rattle.lv_levels.specs.Graphics.{RefusesGraphics, graphics, graphics_refusal, graphics_view}
 use Rattle.lv_levels.specs.Listing.{listing_refusal}
-use Rattle.lv_levels.specs.declared.graphics.Graphics.{Graphics}
 use Rattle.lv_editor.specs.Building.{built_text}
+use Rattle.lv_views.specs.Reading.{ReadsAll}
 use Rattle.lv_program.specs.Deeds.{turns}
 use Rattle.lv_editor.specs.Editing.{RepliesInProject}
 use Rattle.lv_editor.specs.Inspections.{IsInspected, RefusesInspection}
 use Rattle.lv_editor.specs.Recovery.{IsOnlyRead}
 use Rattle.lv_program.specs.LevelNames.{RefusesNames, levels_text}
-use Rattle.lv_reports.specs.Refusals.{EndsReading, RefusesFile}
-use Rattle.lv_editor.specs.Runs.{Exchange, Ran, Unwritten}
+use Rattle.lv_reports.specs.Refusals.{RefusesFile}
+use Rattle.lv_editor.specs.Runs.{Exchange, Ran}
 use Rattle.lv_editor.specs.Sessions.{RunsOver}
-use Rattle.lv_reports.specs.Statuses.{run_end, status_after, status_told}
-use Rattle.lv_editor.specs.Texts.{findings_text}
+use Rattle.lv_reports.specs.Statuses.{run_end, status_told}
 use Rattle.lv_pwad.specs.declared.counted.BuildCounts.{BuildCounts}
 use Rattle.lv_editor.specs.declared.error.EditorError.{EditorError}
 use Rattle.lv_editor.specs.declared.error.EditorError.TheVariants.{WriterFailed}
@@ -88,15 +84,6 @@ IsEditedOver {D = D} facts before after how reader-old reader-new writer-old wri
     reader-old reader-new writer-old writer-new
     × RunsOver facts first last trace)
 
--- the findings of this map were written, and the status tells whether there are any; or it was
--- refused
-abbrev pub IsCheckedOf : Tables → Result ℕ Refusal → Option (List ℕ) → Option (List ℕ) → Type 0
-IsCheckedOf m (Ok status) writer-old writer-new =
-    (status ≡ status_after (length (findings m)))
-    × Appends writer-old writer-new (findings_text (findings m))
-IsCheckedOf m (Err (of.Lines e)) writer-old writer-new = Unwritten e writer-old writer-new
-IsCheckedOf m _ writer-old writer-new = ⊥
-
 -- the counts of a sound build of these maps were told; or they were not built into the file and
 -- nothing was told; or the file to be made can't be opened or holds a project, or the writer failed
 abbrev pub IsBuiltFrom : MapsView → Result ℕ Refusal → Option (List ℕ) → Option (List ℕ) → Type 0
@@ -107,10 +94,6 @@ IsBuiltFrom maps (Err (of.Build e)) writer-old writer-new =
     RefusesFile (project_of maps).maps (of.Build e) × Keeps writer-old writer-new
 IsBuiltFrom maps (Err (of.Lines e)) writer-old writer-new = e ≡ WriterFailed
 IsBuiltFrom maps _ writer-old writer-new = ⊥
-
--- these are all bytes that the reader gave
-abbrev pub ReadsAll : Option (List ℕ) → Option (List ℕ) → List ℕ → Type 0
-ReadsAll reader-old reader-new bytes = Consumes reader-old reader-new bytes × IsAtEnd reader-new
 
 -- the level of the name in all that the reader gave was inspected, and the status tells whether it
 -- is sound; or it was refused
@@ -138,14 +121,3 @@ IsListedOf (Err (of.Level e)) reader-old reader-new writer-old writer-new =
 IsListedOf (Err (of.Lines e)) reader-old reader-new writer-old writer-new =
     (e ≡ WriterFailed) ⊎ Keeps writer-old writer-new
 IsListedOf _ reader-old reader-new writer-old writer-new = ⊥
-
--- the flats and textures of the WAD that is all that the reader gave are named; or it was not read
--- to its end, or is refused
-abbrev pub IsNamedOf : Result Graphics Refusal → Option (List ℕ) → Option (List ℕ) → Type 0
-IsNamedOf (Ok g) reader-old reader-new =
-    (wad : List ℕ) × ReadsAll reader-old reader-new wad
-    × (graphics_refusal wad ≡ None) × (graphics_view g ≡ graphics wad)
-IsNamedOf (Err (of.Lines e)) reader-old reader-new = EndsReading e
-IsNamedOf (Err (of.Level (inspecting.Level e))) reader-old reader-new =
-    (wad : List ℕ) × ReadsAll reader-old reader-new wad × RefusesGraphics wad e
-IsNamedOf _ reader-old reader-new = ⊥

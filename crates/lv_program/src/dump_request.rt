@@ -1,33 +1,14 @@
 //! The request `dump`: the lines that draw the maps of a disk's project again.
 ghost use Rattle.std.specs.Prelude.{◌≡◌, ◌≤◌, IfOk};
-ghost use Rattle.lv_program.specs.Dumping.{IsDumpedOf};
+ghost use Rattle.lv_views.specs.Dumping.{IsDumpedOf};
 ghost use Rattle.lv_editor.specs.Recovery.{IsOnlyRead};
 ghost use Rattle.lv_program.specs.Sources.{OverMaps};
 
 use crate::over_disk::{HandedBack, open_project};
 use lv_disk::Disk;
-use lv_dump::{DumpError, write_dump};
-use lv_editor::EditorError;
-use lv_maptables::Maps;
-use lv_reports::{DONE, Refusal};
+use lv_views::tell_lines;
 use std::alloc::Global;
 use std::io::Write;
-
-// Writes the lines that draw the maps again and hands them on.
-fn tell_lines<W: Write>(alloc: Global, maps: &Maps, writer: &mut W) -> Result<u8, Refusal>
-    ensures small { IfOk result (λ s. s ≤ 3) }
-    ensures told { IsDumpedOf maps.now result (W.contents writer.old) (W.contents writer.new) }
-{
-    match write_dump(alloc, maps, writer) {
-        Ok(()) => {}
-        Err(DumpError::OutOfMemory) => return Err(Refusal::Lines(EditorError::OutOfMemory)),
-        Err(DumpError::WriterFailed) => return Err(Refusal::Lines(EditorError::WriterFailed)),
-    }
-    match writer.flush() {
-        Ok(()) => Ok(DONE),
-        Err(_) => Err(Refusal::Lines(EditorError::WriterFailed)),
-    }
-}
 
 /// Writes the lines that draw the maps of a disk's project again, from the empty project. The disk is only read.
 pub fn dump<D: Disk, W: Write>(alloc: Global, disk: D, writer: &mut W) -> HandedBack<D>

@@ -1,46 +1,15 @@
 //! Inspecting a level of a file.
-ghost use Rattle.std.specs.Prelude.{◌≡◌, ◌≤◌, IfErr, IfOk, MatchResult};
-ghost use Rattle.std.specs.Io.KnownBytes.{Appends, Consumes, IsAtEnd, Keeps};
-ghost use Rattle.lv_reports.specs.Refusals.{EndsReading};
+ghost use Rattle.std.specs.Prelude.{◌≡◌, ◌≤◌, IfOk};
 ghost use Rattle.lv_program.specs.Deeds.{IsExamined};
 ghost use Rattle.lv_program.specs.Sources.{IsExaminedOf};
 
-use crate::limits::TURNS;
 use lv_editor::{EditorError, inspect};
 use lv_files::Cause;
 use lv_reports::{Refusal, status_told};
+use lv_views::{TURNS, read_whole};
 use std::alloc::Global;
 use std::fs::{self, Files};
 use std::io::{Read, Write};
-
-/// All that the reader gives, in at most `turns` reads of at most 4,096 bytes.
-pub fn read_whole<R: Read>(
-    alloc: Global,
-    reader: &mut R,
-    turns: u32,
-) -> Result<Vec<u8>, EditorError>
-    ensures whole { IfOk result (λ bytes.
-        Consumes (R.remaining reader.old) (R.remaining reader.new) bytes.items
-        × IsAtEnd (R.remaining reader.new)) }
-    ensures refused { IfErr result EndsReading }
-{
-    let mut bytes = Vec::new(alloc);
-    let mut buffer = [0; 4096];
-    for _ in 0..turns {
-        let count = match reader.read(&mut buffer) {
-            Ok(count) => count,
-            Err(_) => return Err(EditorError::ReaderFailed),
-        };
-        if count == 0 {
-            return Ok(bytes);
-        }
-        match bytes.extend_from_slice(&buffer[..count]) {
-            Ok(()) => {}
-            Err(_) => return Err(EditorError::OutOfMemory),
-        }
-    }
-    Err(EditorError::InputTooLong)
-}
 
 // Inspects the level of the name in all that the reader gives, hands on what is told, and answers the status.
 fn examine_read<R: Read, W: Write>(

@@ -5,17 +5,13 @@ mod build_request;
 mod draw_request;
 mod dump_request;
 mod examining;
-mod laid_over;
-mod limits;
 mod lint_request;
-mod marking;
 mod over_disk;
 mod over_file;
 mod picture_request;
 mod program;
 mod rebuild_request;
 mod script_file;
-mod wad_graphics;
 mod wad_levels;
 
 pub use program::perform;

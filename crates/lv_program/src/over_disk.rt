@@ -4,16 +4,16 @@ ghost use Rattle.std.specs.Io.KnownBytes.{Appends};
 ghost use Rattle.lv_project.specs.Opening.{IsRefusedRead};
 ghost use Rattle.lv_program.specs.Deeds.{IsCreated};
 ghost use Rattle.lv_editor.specs.Recovery.{IsOnlyRead};
-ghost use Rattle.lv_program.specs.Sources.{IsCheckedOf, IsEditedOver, IsMade, IsOpenedFrom, NotOpened, OverMaps};
+ghost use Rattle.lv_views.specs.Checking.{IsCheckedOf};
+ghost use Rattle.lv_program.specs.Sources.{IsEditedOver, IsMade, IsOpenedFrom, NotOpened, OverMaps};
 ghost use Rattle.lv_editor.specs.declared.error.EditorError.TheVariants.{WriterFailed};
 ghost use Rattle.lv_reports.specs.declared.refusal.Refusal.{Refusal};
 
-use crate::limits::TURNS;
 use lv_disk::Disk;
-use lv_editor::{EditorError, run, write_findings};
-use lv_maptables::Map;
+use lv_editor::{EditorError, run};
 use lv_project::{Geometry, Project, Refused};
-use lv_reports::{DONE, Refusal, ended, status_after};
+use lv_reports::{DONE, Refusal, ended};
+use lv_views::{TURNS, tell_findings};
 use std::alloc::Global;
 use std::io::{Read, Write};
 
@@ -102,19 +102,6 @@ pub fn edit<D: Disk, R: Read, W: Write>(
     }
 }
 
-// Writes the findings of a map and hands them on.
-fn tell<W: Write>(alloc: Global, map: &Map, writer: &mut W) -> Result<u8, Refusal>
-    ensures small { IfOk result (λ s. s ≤ 3) }
-    ensures told { IsCheckedOf map.now.tables result
-        (W.contents writer.old) (W.contents writer.new) }
-{
-    let found = write_findings(alloc, map, writer)?;
-    match writer.flush() {
-        Ok(()) => Ok(status_after(found)),
-        Err(_) => Err(Refusal::Lines(EditorError::WriterFailed)),
-    }
-}
-
 /// Says what is wrong or unfinished in the current map of a disk's project. The disk is only read.
 pub fn check<D: Disk, W: Write>(alloc: Global, disk: D, writer: &mut W) -> HandedBack<D>
     ensures small { IfOk result.how (λ s. s ≤ 3) }
@@ -128,7 +115,7 @@ pub fn check<D: Disk, W: Write>(alloc: Global, disk: D, writer: &mut W) -> Hande
         Ok(project) => project,
         Err(refused) => return refused,
     };
-    let how = tell(alloc, project.map(), writer);
+    let how = tell_findings(alloc, project.map(), writer);
     HandedBack {
         how,
         disk: project.into_disk(),

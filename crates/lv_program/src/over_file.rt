@@ -2,9 +2,9 @@
 ghost use Rattle.std.specs.Prelude.{◌≡◌, ◌≤◌, Ok, IfErr, IfOk, is_some, option_map};
 ghost use Rattle.std.specs.Io.KnownBytes.{Keeps};
 ghost use Rattle.lv_program.specs.Drawing.{IsDrawnInto};
-ghost use Rattle.lv_program.specs.Dumping.{IsDumped};
-ghost use Rattle.lv_program.specs.Linting.{IsLinted};
-ghost use Rattle.lv_program.specs.Picturing.{IsPictured};
+ghost use Rattle.lv_program.specs.SomeProject.{IsDumped};
+ghost use Rattle.lv_program.specs.SomeProject.{IsLinted};
+ghost use Rattle.lv_program.specs.SomeProject.{IsPictured};
 ghost use Rattle.lv_program.specs.Deeds.{IsBuiltInto, IsChecked, IsCreated, IsEdited};
 ghost use Rattle.lv_reports.specs.declared.refusal.Refusal.{Refusal};
 
@@ -13,12 +13,13 @@ use crate::draw_request::{Script, draw};
 use crate::dump_request::dump;
 use crate::lint_request::lint;
 use crate::over_disk::{check, create, edit};
-use crate::picture_request::{Wanted, picture};
+use crate::picture_request::picture;
 use crate::script_file::{read_script, script_name};
 use lv_disk::{Disk, FileDisk};
 use lv_files::{Access, GaplessFile, Hold, NotedFile, open_held};
 use lv_project::{Geometry, ProjectError};
 use lv_reports::{Causes, Refusal};
+use lv_views::Wanted;
 use std::io::{Read, Write};
 use std::os::unix::fs::FileExt;
 use std::rt::Files;

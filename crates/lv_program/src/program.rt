@@ -6,12 +6,9 @@ ghost use Rattle.lv_reports.specs.Statuses.{status_in};
 ghost use Rattle.lv_reports.specs.declared.refusal.Refusal.{Refusal};
 
 use crate::examining::examine;
-use crate::laid_over::layers_of;
-use crate::limits::TURNS;
 use crate::over_file::{
     build_file, check_file, create_file, draw_file, dump_file, edit_file, lint_file, picture_file,
 };
-use crate::picture_request::Wanted;
 use crate::rebuild_request::rebuild;
 use crate::script_file::try_file;
 use crate::wad_levels::list_levels;
@@ -20,6 +17,7 @@ use lv_editor::run_in_memory;
 use lv_files::{Hold, NotedFile};
 use lv_reports::{Causes, Refusal, ended, report, report_causes, status_in};
 use lv_requests::Request;
+use lv_views::{TURNS, Wanted, layers_of};
 use std::alloc::Global;
 use std::io::{Read, Write};
 use std::os::unix::fs::FileExt;

@@ -6,14 +6,12 @@ ghost use Rattle.lv_program.specs.Drawing.{IsUnread};
 ghost use Rattle.lv_program.specs.Rebuilding.{AreFateTexts, IsFateText, IsRebuiltInto, IsRebuiltOf, IsToldOf, items_text, left_as_text, made_text, rebuilt_text, refusal_for, status_rebuilt, was_left, was_made};
 ghost use Rattle.lv_reports.specs.declared.refusal.Refusal.{Refusal};
 
-use crate::examining::read_whole;
-use crate::limits::TURNS;
-use crate::wad_levels::write_shown;
 use lv_editor::{EditorError, InspectError};
 use lv_files::{Cause, Form, Hold, NewFile, open_new};
 use lv_levels::ReadError;
 use lv_rebuild::{Fate, MadeLumps, RebuildError, RebuiltLevel, RebuiltWad, rebuild_wad};
 use lv_reports::{Causes, Refusal, status_told};
+use lv_views::{TURNS, read_whole, write_shown};
 use std::fmt::InlineText;
 use std::fs::{self, Files, OpenFile};
 use std::io::Write;

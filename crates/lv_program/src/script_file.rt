@@ -4,11 +4,10 @@ ghost use Rattle.std.specs.Io.KnownBytes.{Keeps};
 ghost use Rattle.lv_program.specs.Drawing.{IsInput, IsScriptTried, IsUnread};
 
 use crate::draw_request::{Script, try_script};
-use crate::examining::read_whole;
-use crate::limits::TURNS;
 use lv_editor::EditorError;
 use lv_files::Cause;
 use lv_reports::Refusal;
+use lv_views::{TURNS, read_whole};
 use std::alloc::Global;
 use std::fs::{self, Files};
 use std::io::{Read, Write};

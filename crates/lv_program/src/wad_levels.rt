@@ -1,47 +1,20 @@
 //! The request `inspect` without a name: the names of the levels that a WAD holds.
-ghost use Rattle.std.specs.Prelude.{◌≡◌, ◌≤◌, ◌++◌, ◌∷◌, [], None, IfOk, MatchResult, flat_map, map};
+ghost use Rattle.std.specs.Prelude.{◌≡◌, ◌≤◌, ◌++◌, ◌∷◌, [], None, IfOk, MatchResult, flat_map};
 ghost use Rattle.std.specs.Io.KnownBytes.{Appends};
-ghost use Rattle.lv_program.specs.LevelNames.{IsListed, RefusesNames, level_line, levels_text, shown};
+ghost use Rattle.lv_program.specs.LevelNames.{IsListed, RefusesNames, level_line, levels_text};
 ghost use Rattle.lv_program.specs.Sources.{IsListedOf};
 ghost use Rattle.lv_editor.specs.declared.error.EditorError.TheVariants.{WriterFailed};
 ghost use Rattle.lv_levels.specs.Listing.{listing_refusal};
 
-use crate::examining::read_whole;
-use crate::limits::TURNS;
 use lv_editor::{EditorError, InspectError};
 use lv_files::Cause;
 use lv_lumps::Name8;
 use lv_pwad::level_names;
 use lv_reports::{DONE, Refusal};
+use lv_views::{TURNS, read_whole, write_shown};
 use std::alloc::Global;
 use std::fs::{self, Files};
 use std::io::{Read, Write};
-
-// A byte of a name as it is shown: `?` where it is no visible character.
-fn shown(byte: u8) -> u8
-    ensures { result ≡ shown byte }
-{
-    if 33 <= byte && byte <= 126 {
-        byte
-    } else {
-        b'?'
-    }
-}
-
-/// Writes the bytes of a name as they are shown.
-pub fn write_shown<W: Write>(name: &[u8], writer: &mut W) -> Result<(), EditorError>
-    ensures { MatchResult result
-        (λ _. Appends (W.contents writer.old) (W.contents writer.new) (map shown name.now))
-        (λ e. e ≡ WriterFailed) }
-{
-    for byte in name {
-        match writer.write_all(&[shown(*byte)]) {
-            Ok(()) => {}
-            Err(_) => return Err(EditorError::WriterFailed),
-        }
-    }
-    Ok(())
-}
 
 // Writes a name as a line.
 fn write_name<W: Write>(name: &Name8, writer: &mut W) -> Result<(), EditorError>

@@ -2,7 +2,7 @@ use Rattle.std.proofs.Common.{inl, inr, subst}
 use Rattle.std.proofs.KnownBytes.{Keeps-refl}
 use Rattle.lv_maptables.specs.Projects.{MapsView}
 use Rattle.std.specs.Prelude.{is_some}
-use Rattle.lv_program.specs.Linting.{IsLintedBy}
+use Rattle.lv_views.specs.Linting.{IsLintedBy}
 use Rattle.lv_program.proofs.Sources.{no_status}
 use Rattle.lv_program.proofs.lint_request.lint.Goals as goal
 

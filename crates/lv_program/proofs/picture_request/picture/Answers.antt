@@ -2,7 +2,7 @@ use Rattle.std.proofs.Common.{inl, inr, subst}
 use Rattle.std.specs.Prelude.{is_some, option_map}
 use Rattle.std.proofs.KnownBytes.{Keeps-refl}
 use Rattle.lv_maptables.specs.Projects.{MapsView}
-use Rattle.lv_program.specs.Picturing.{IsPicturedOf}
+use Rattle.lv_views.specs.Picturing.{IsPicturedOf}
 use Rattle.lv_program.proofs.Sources.{no_status}
 use Rattle.lv_program.proofs.picture_request.picture.Goals as goal
 

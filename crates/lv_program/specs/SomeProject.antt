@@ -1,0 +1,32 @@
+-- What was told and shown of the maps of some project: a file tells no bytes, so which one is open.
+use Rattle.std.specs.Prelude.{ℕ, Bool, Option, Result, Err, List}
+use Rattle.std.specs.Io.KnownBytes.{Keeps}
+use Rattle.lv_maptables.specs.Projects.{MapsView}
+use Rattle.lv_reports.specs.Refusals.{IsOfOpening}
+use Rattle.lv_reports.specs.declared.refusal.Refusal.{Refusal}
+use Rattle.lv_reports.specs.declared.refusal.Refusal.TheVariants as of
+use Rattle.lv_views.specs.Dumping.{IsDumpedOf}
+use Rattle.lv_views.specs.Linting.{IsLintedBy}
+use Rattle.lv_views.specs.Picturing.{IsPicturedOf}
+use Rattle.lv_views.specs.declared.laid_over.Layers.{Layers}
+
+-- no project was opened and nothing written, or this was done with the maps of some project
+abbrev pub IsLinted : Bool → Result ℕ Refusal → Option (List ℕ) → Option (List ℕ) → Type 0
+IsLinted asked (Err (of.Project e)) writer-old writer-new =
+    IsOfOpening e × Keeps writer-old writer-new
+IsLinted asked how writer-old writer-new =
+    (maps : MapsView) × IsLintedBy asked maps how writer-old writer-new
+
+-- no project was opened and nothing written, or this was done with the maps of some project
+abbrev pub IsPictured : Layers → Option (List ℕ) → Bool → Result ℕ Refusal
+    → Option (List ℕ) → Option (List ℕ) → Type 0
+IsPictured layers name into (Err (of.Project e)) writer-old writer-new =
+    IsOfOpening e × Keeps writer-old writer-new
+IsPictured layers name into how writer-old writer-new =
+    (maps : MapsView) × IsPicturedOf layers name into maps how writer-old writer-new
+
+-- no project was opened and nothing written, or this was done with the maps of some project
+abbrev pub IsDumped : Result ℕ Refusal → Option (List ℕ) → Option (List ℕ) → Type 0
+IsDumped (Err (of.Project e)) writer-old writer-new = IsOfOpening e × Keeps writer-old writer-new
+IsDumped how writer-old writer-new =
+    (maps : MapsView) × IsDumpedOf maps how writer-old writer-new

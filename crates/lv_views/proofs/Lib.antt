@@ -1,0 +1,3 @@
+pub mod Linting
+pub mod MarkList
+pub mod Picturing

@@ -1,0 +1,19 @@
+-- What `check` writes of a map (docs/COMMANDS.md, "The program").
+use Rattle.std.specs.Prelude.{◌≡◌, ℕ, Option, Result, Ok, Err, List, length}
+use Rattle.std.specs.Io.KnownBytes.{Appends}
+use Rattle.lv_maptables.specs.Tables.{Tables}
+use Rattle.lv_checks.specs.Findings.{findings}
+use Rattle.lv_editor.specs.Runs.{Unwritten}
+use Rattle.lv_editor.specs.Texts.{findings_text}
+use Rattle.lv_reports.specs.Statuses.{status_after}
+use Rattle.lv_reports.specs.declared.refusal.Refusal.{Refusal}
+use Rattle.lv_reports.specs.declared.refusal.Refusal.TheVariants as of
+
+-- the findings of this map were written, and the status tells whether there are any; or it was
+-- refused
+abbrev pub IsCheckedOf : Tables → Result ℕ Refusal → Option (List ℕ) → Option (List ℕ) → Type 0
+IsCheckedOf m (Ok status) writer-old writer-new =
+    (status ≡ status_after (length (findings m)))
+    × Appends writer-old writer-new (findings_text (findings m))
+IsCheckedOf m (Err (of.Lines e)) writer-old writer-new = Unwritten e writer-old writer-new
+IsCheckedOf m _ writer-old writer-new = ⊥

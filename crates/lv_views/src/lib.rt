@@ -1,0 +1,22 @@
+//! What is told and shown of maps in memory, wherever they come from.
+#![tactic(auto)]
+
+mod dump_lines;
+mod findings;
+mod laid_over;
+mod limits;
+mod marking;
+mod pictures;
+mod reading;
+mod remarks;
+mod shown_names;
+mod wad_graphics;
+
+pub use dump_lines::tell_lines;
+pub use findings::tell_findings;
+pub use laid_over::{Layers, layers_of};
+pub use limits::TURNS;
+pub use pictures::{Wanted, draw};
+pub use reading::read_whole;
+pub use remarks::tell_beside;
+pub use shown_names::write_shown;

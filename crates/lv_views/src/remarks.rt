@@ -1,0 +1,242 @@
+//! What `lint` writes: what there is to say of each map, perhaps beside a WAD.
+ghost use Rattle.std.specs.Prelude.{◌≡◌, ◌≤◌, ◌+◌, ◌++◌, List, ℕ, IfErr, IfOk, MatchResult, Some, flat_map, is_some, length, option_map, slice_get};
+ghost use Rattle.std.specs.Option.{option_copied};
+ghost use Rattle.std.specs.Io.KnownBytes.{Appends};
+ghost use Rattle.lv_checks.specs.Texts.{finding_text};
+ghost use Rattle.lv_dump.specs.Texts.{with_lf};
+ghost use Rattle.lv_levels.specs.Graphics.{graphics_view};
+ghost use Rattle.lv_lint.specs.Rules.{warnings};
+ghost use Rattle.lv_lint.specs.Texts.{warning_text};
+ghost use Rattle.lv_maptables.specs.Projects.{project_of};
+ghost use Rattle.lv_maptables.specs.Tables.{Tables};
+ghost use Rattle.lv_views.specs.Linting.{IsLintedBy, IsLintedOf, WritesRemarks, behind, lint_of, remarks, warned_by};
+ghost use Rattle.lv_editor.specs.declared.error.EditorError.TheVariants.{OutOfMemory, WriterFailed};
+
+use crate::wad_graphics::graphics_given;
+use lv_checks::{Finding, check};
+use lv_editor::{EditorError, write_total};
+use lv_files::Cause;
+use lv_levels::Graphics;
+use lv_lint::{Warning, lint_graphics};
+use lv_maptables::{Map, Maps};
+use lv_reports::{Refusal, status_after};
+use std::alloc::Global;
+use std::fmt::Display;
+use std::fs::Files;
+use std::io::Write;
+
+// Writes a line: the name, a space and the remark.
+fn write_remark<T: Display, W: Write>(
+    name: &[u8],
+    remark: &T,
+    writer: &mut W,
+) -> Result<(), EditorError>
+    ensures { (text : List ℕ) → T.output remark.now ≡ Some text → MatchResult result
+        (λ _. Appends (W.contents writer.old) (W.contents writer.new)
+        (with_lf (behind name.now text)))
+        (λ e. e ≡ WriterFailed) }
+{
+    match writer.write_all(name) {
+        Ok(()) => {}
+        Err(_) => return Err(EditorError::WriterFailed),
+    }
+    match write!(writer, " {remark}\n") {
+        Ok(()) => Ok(()),
+        Err(_) => Err(EditorError::WriterFailed),
+    }
+}
+
+// Writes a line for each remark.
+fn write_each<T: Display, W: Write>(
+    name: &[u8],
+    found: &[T],
+    writer: &mut W,
+) -> Result<(), EditorError>
+    ensures { (text : T → List ℕ) → ((t : T) → T.output t ≡ Some (text t)) → MatchResult result
+        (λ _. Appends (W.contents writer.old) (W.contents writer.new)
+        (flat_map (λ t. with_lf (behind name.now (text t))) found.now))
+        (λ e. e ≡ WriterFailed) }
+{
+    for remark in found {
+        match write_remark(name, remark, writer) {
+            Ok(()) => {}
+            Err(error) => return Err(error),
+        }
+    }
+    Ok(())
+}
+
+// The sum, where a number of 32 bits holds it. No memory holds more findings than that.
+fn plus(count: u32, more: usize) -> Result<u32, EditorError>
+    ensures sum { IfOk result (λ n. n ≡ count + more) }
+    ensures memory { IfErr result (λ e. e ≡ OutOfMemory) }
+{
+    let Ok(more) = u32::try_from(more) else {
+        return Err(EditorError::OutOfMemory);
+    };
+    match count.checked_add(more) {
+        Some(sum) => Ok(sum),
+        None => Err(EditorError::OutOfMemory),
+    }
+}
+
+// Writes a line for each finding, and then for each warning.
+fn write_both<W: Write>(
+    name: &[u8],
+    found: &[Finding],
+    warned: &[Warning],
+    writer: &mut W,
+) -> Result<(), EditorError>
+    ensures { MatchResult result
+        (λ _. Appends (W.contents writer.old) (W.contents writer.new)
+        (flat_map (λ f. with_lf (behind name.now (finding_text f))) found.now
+        ++ flat_map (λ w. with_lf (behind name.now (warning_text w))) warned.now))
+        (λ e. e ≡ WriterFailed) }
+{
+    match write_each(name, found, writer) {
+        Ok(()) => write_each(name, warned, writer),
+        Err(error) => Err(error),
+    }
+}
+
+// The warnings of a map's flats and textures, where a WAD's names are given.
+fn warned_by(
+    alloc: Global,
+    map: &Map,
+    names: Option<&Graphics>,
+) -> Result<Vec<Warning>, EditorError>
+    ensures found { IfOk result (λ found. found.items
+        ≡ warned_by (option_map graphics_view (option_copied names.entry)) map.now.tables) }
+    ensures memory { IfErr result (λ e. e ≡ OutOfMemory) }
+{
+    let Some(names) = names else {
+        return Ok(Vec::new(alloc));
+    };
+    match lint_graphics(alloc, map, &names.flats, &names.textures) {
+        Ok(found) => Ok(found),
+        Err(_) => Err(EditorError::OutOfMemory),
+    }
+}
+
+// The warnings of a map, and behind them those of its flats and textures.
+fn warnings_of(
+    alloc: Global,
+    map: &Map,
+    names: Option<&Graphics>,
+) -> Result<Vec<Warning>, EditorError>
+    ensures found { IfOk result (λ found. found.items ≡ warnings map.now.tables
+        ++ warned_by (option_map graphics_view (option_copied names.entry)) map.now.tables) }
+    ensures memory { IfErr result (λ e. e ≡ OutOfMemory) }
+{
+    let Ok(mut warned) = lv_lint::lint(alloc, map) else {
+        return Err(EditorError::OutOfMemory);
+    };
+    let mut more = warned_by(alloc, map, names)?;
+    match warned.append(&mut more) {
+        Ok(()) => Ok(warned),
+        Err(_) => Err(EditorError::OutOfMemory),
+    }
+}
+
+// Writes what there is to say of a map, and counts the lines on.
+fn write_map<W: Write>(
+    alloc: Global,
+    map: &Map,
+    names: Option<&Graphics>,
+    before: u32,
+    writer: &mut W,
+) -> Result<u32, EditorError>
+    ensures { WritesRemarks result before
+        (remarks (option_map graphics_view (option_copied names.entry)) map.now.tables)
+        (W.contents writer.old) (W.contents writer.new) }
+{
+    let Ok(found) = check(alloc, map) else {
+        return Err(EditorError::OutOfMemory);
+    };
+    let warned = warnings_of(alloc, map, names)?;
+    let with_findings = plus(before, found.len())?;
+    let count = plus(with_findings, warned.len())?;
+    let name = map.name();
+    match write_both(name.text(), &found, &warned, writer) {
+        Ok(()) => Ok(count),
+        Err(error) => Err(error),
+    }
+}
+
+// Writes what there is to say of the map of the number, if there is one.
+fn write_nth<W: Write>(
+    alloc: Global,
+    maps: &Maps,
+    names: Option<&Graphics>,
+    n: u32,
+    before: u32,
+    writer: &mut W,
+) -> Result<u32, EditorError>
+    ensures { (m : Tables) → slice_get (project_of maps.now).maps n ≡ Some m
+        → WritesRemarks result before
+        (remarks (option_map graphics_view (option_copied names.entry)) m)
+        (W.contents writer.old) (W.contents writer.new) }
+{
+    match maps.at(n) {
+        Some(map) => write_map(alloc, map, names, before, writer),
+        None => Ok(before),
+    }
+}
+
+// Writes what there is to say of each map, and counts the lines.
+fn write_maps<W: Write>(
+    alloc: Global,
+    maps: &Maps,
+    names: Option<&Graphics>,
+    writer: &mut W,
+) -> Result<u32, EditorError>
+    ensures { WritesRemarks result 0
+        (lint_of (option_map graphics_view (option_copied names.entry)) (project_of maps.now).maps)
+        (W.contents writer.old) (W.contents writer.new) }
+{
+    let mut count = 0;
+    for n in 0..maps.len() {
+        match write_nth(alloc, maps, names, n, count, writer) {
+            Ok(sum) => count = sum,
+            Err(error) => return Err(error),
+        }
+    }
+    Ok(count)
+}
+
+// Writes what there is to say of the maps, then how many lines these are, and hands it on.
+fn tell_remarks<W: Write>(
+    alloc: Global,
+    maps: &Maps,
+    names: Option<&Graphics>,
+    writer: &mut W,
+) -> Result<u8, Refusal>
+    ensures small { IfOk result (λ s. s ≤ 3) }
+    ensures told { IsLintedOf (option_map graphics_view (option_copied names.entry)) maps.now result
+        (W.contents writer.old) (W.contents writer.new) }
+{
+    let count = write_maps(alloc, maps, names, writer)?;
+    write_total(count, writer)?;
+    match writer.flush() {
+        Ok(()) => Ok(status_after(count)),
+        Err(_) => Err(Refusal::Lines(EditorError::WriterFailed)),
+    }
+}
+
+/// Takes the names of a WAD's flats and textures, if one is given, and tells what there is to say of the maps:
+/// of each, by number, the findings of `check`, then the warnings of `lv_lint`, then those of flats and textures that
+/// the WAD lacks, each behind the map's name, and last how many lines these are; or notes why the WAD can't be opened.
+pub fn tell_beside<E: AllocGlobal + Files, W: Write>(
+    rt: &E,
+    maps: &Maps,
+    iwad: Option<&str>,
+    writer: &mut W,
+    why: &mut Option<Cause>,
+) -> Result<u8, Refusal>
+    ensures small { IfOk result (λ s. s ≤ 3) }
+    ensures told { IsLintedBy (is_some iwad.entry) maps.now result
+        (W.contents writer.old) (W.contents writer.new) }
+{
+    let names = graphics_given(rt, iwad, why)?;
+    tell_remarks(rt.alloc(), maps, names.as_ref(), writer)
+}
