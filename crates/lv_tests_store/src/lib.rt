@@ -23,5 +23,7 @@ mod project_stops;
 mod read_ahead;
 mod ready;
 #[cfg(test)]
+mod salvage;
+#[cfg(test)]
 mod slots;
 pub mod small;

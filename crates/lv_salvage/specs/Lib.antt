@@ -1,0 +1,5 @@
+pub mod Live
+pub mod Records
+pub mod Replays
+pub mod Refusals
+pub mod Salvages

@@ -1,0 +1,46 @@
+-- What is salvaged of a file.
+use Rattle.std.specs.Prelude.{◌≡◌, ◌≤◌, ℕ, List, ◌++◌, length, None, Result, Ok, Err}
+use Rattle.lv_checkpoint.specs.Bodies.{IsLive}
+use Rattle.lv_maptables.specs.Projects.{ProjectMaps, WellFormedProject, project_of}
+use Rattle.lv_maptables.specs.ProjectBody.{HasBody}
+use Rattle.lv_commands.specs.ProjectLines.{Leads}
+use Rattle.lv_project.specs.Places.{cap_of, which_parts}
+use Rattle.lv_project.specs.Stands.{HasGeometry, StandsFor}
+use Rattle.lv_project.specs.declared.geometry.Geometry.{Geometry}
+use Rattle.lv_project.specs.declared.places.Places.{Places}
+use Rattle.lv_salvage.specs.Records.{AreRecordsOf, RefusesFirst}
+use Rattle.lv_salvage.specs.declared.error.SalvageError.{SalvageError}
+use Rattle.lv_salvage.specs.declared.error.SalvageError.TheVariants.{OutOfMemory}
+use Rattle.lv_salvage.specs.declared.salvaging.Salvaged.{Salvaged}
+
+-- The maps are those of the live body after the longest prefix of its journal's whole records that
+-- it accepts in turn: so many records, with so many whole ones behind them.
+pub record IsSalvaged (maps : ProjectMaps) (records behind : ℕ) (file : List ℕ) : Type 0 where
+  pub geometry : Geometry
+  pub places : Places
+  pub has : HasGeometry geometry places file
+  pub slot : ℕ
+  pub which : slot ≤ 1
+  pub generation : ℕ
+  pub body : List ℕ
+  pub live : IsLive (which_parts places slot).live (which_parts places slot).other generation body
+      file
+  pub base : ProjectMaps
+  pub well_formed : WellFormedProject base
+  pub has_body : HasBody base body
+  pub kept : List (List ℕ)
+  pub lost : List (List ℕ)
+  pub all : AreRecordsOf (which_parts places slot).journal (kept ++ lost) file
+  pub leads : Leads (cap_of geometry) base kept maps
+  pub refused : RefusesFirst (cap_of geometry) maps lost
+  pub kept_count : records ≡ length kept
+  pub lost_count : behind ≡ length lost
+
+-- the file stands for these maps, with some generation and some longest body
+abbrev pub StandsForMaps : ProjectMaps → List ℕ → Type 0
+StandsForMaps maps file = (cap : ℕ) × StandsFor cap maps file
+
+-- all of the maps were salvaged, or memory was lacking
+abbrev pub GivesAll : Result Salvaged SalvageError → ProjectMaps → Type 0
+GivesAll (Ok s) map = (project_of s.maps ≡ map) × (s.damage ≡ None) × (s.behind ≡ 0)
+GivesAll (Err e) map = e ≡ OutOfMemory

@@ -1,0 +1,46 @@
+//! Why nothing can be salvaged, and the number that each refusal is answered by.
+use std::fmt;
+use thiserror::Error;
+
+/// Why no maps can be read off a file.
+#[derive(Clone, Copy, Debug, PartialEq, Eq, Error)]
+pub enum SalvageError {
+    /// The place in the file of the slot that can't be read.
+    Damaged { place: u64 },
+    Blank,
+    NotAProject,
+    BadGeometry,
+    OutOfMemory,
+}
+
+// One call writes each fixed text, so that the proof has one call to follow.
+impl fmt::Display for SalvageError {
+    fn fmt<W: fmt::Write>(&self, f: &mut fmt::Formatter<W>) -> fmt::Result {
+        let text = match self {
+            SalvageError::Damaged { place } => return write!(f, "damaged at {place}"),
+            SalvageError::Blank => "no slot is open",
+            SalvageError::NotAProject => "not a project",
+            SalvageError::BadGeometry => "a length is outside its limits",
+            SalvageError::OutOfMemory => "out of memory",
+        };
+        f.write_str(text)
+    }
+}
+
+impl SalvageError {
+    ghost use Rattle.std.specs.Prelude.{◌≡◌};
+    ghost use Rattle.lv_salvage.specs.Refusals.{code_of};
+
+    /// The number of the refusal.
+    pub fn code(&self) -> u16
+        ensures { result ≡ code_of self.now }
+    {
+        match self {
+            SalvageError::Damaged { .. } => 40,
+            SalvageError::Blank => 41,
+            SalvageError::NotAProject => 42,
+            SalvageError::BadGeometry => 44,
+            SalvageError::OutOfMemory => 31,
+        }
+    }
+}
