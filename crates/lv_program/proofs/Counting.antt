@@ -11,7 +11,7 @@ use Rattle.lv_reports.specs.Refusals.{RefusesFile}
 use Rattle.lv_program.specs.Sources.{IsBuiltFrom}
 use Rattle.lv_editor.specs.declared.error.EditorError.TheVariants.{WriterFailed}
 use Rattle.lv_reports.specs.declared.refusal.Refusal.{Refusal}
-use Rattle.lv_reports.specs.declared.refusal.Refusal.TheVariants.{Build, Level, Lines, NoSuchMap, Project}
+use Rattle.lv_reports.specs.declared.refusal.Refusal.TheVariants.{Build, Level, Lines, NoSuchMap, NotAMap, Project, TreeOutside}
 
 pub built_told : (r : Result ℕ Refusal) (maps : MapsView) (wad : List ℕ) (c : BuildCounts) (u w : Option (List ℕ)) → IsBuildCounted (project_of maps).maps wad c
     → MatchResult r (λ status. (status ≡ 0) × Appends u w (built_text c)) (λ refusal. refusal ≡ Lines WriterFailed) → IsBuiltFrom maps r u w
@@ -25,3 +25,5 @@ file_refused maps (Lines e) u is = absurd is
 file_refused maps (Project e) u is = absurd is
 file_refused maps (Level e) u is = absurd is
 file_refused maps NoSuchMap u is = absurd is
+file_refused maps (NotAMap e) u is = absurd is
+file_refused maps TreeOutside u is = absurd is

@@ -16,8 +16,8 @@ pub loud : (r : Request) → IsQuiet r 1 → ⊥
 loud Scratch quiet = quiet refl
 loud (Create file slot journal) quiet = quiet refl
 loud (Edit file) quiet = quiet refl
-loud (Check file) quiet = quiet refl
-loud (Lint file iwad) quiet = quiet refl
+loud (Check file map) quiet = quiet refl
+loud (Lint file map iwad) quiet = quiet refl
 loud (Draw file script verbose) quiet = cc
 loud (TryScript script verbose) quiet = cc
 loud (Dump file) quiet = quiet refl

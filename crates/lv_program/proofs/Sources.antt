@@ -1,32 +1,35 @@
 -- From what was done over a disk, or of a reader, to what a file leaves open.
-use Rattle.std.proofs.Common.{◌≡◌, ◌⊎◌, inl, inr, ℕ, Bool, List, Option, Result, Ok, Err, IfErr, IfOk, refl, sym, subst}
+use Rattle.std.proofs.Common.{◌≡◌, ◌⊎◌, inl, inr, ℕ, Bool, List, Option, None, Some, Result, Ok, Err, IfErr, IfOk, refl, sym, subst}
 use Rattle.std.specs.Io.KnownBytes.{Appends}
 use Rattle.std.specs.Prelude.{codes, ◌++◌, ◌∷◌, []}
 use Rattle.lv_disk.specs.Stops.{Each}
 use Rattle.lv_disk.specs.declared.disk.Disk.{Ghosts}
 use Rattle.lv_maptables.specs.Projects.{MapsView, ProjectMaps, empty_project}
+use Rattle.lv_maptables.specs.Tables.{Tables}
 use Rattle.lv_project.specs.Opening.{IsRefusedRead}
 use Rattle.lv_project.specs.Places.{cap_of}
 use Rattle.lv_project.specs.Stands.{Stands}
 use Rattle.lv_project.specs.declared.error.ProjectError.{ProjectError}
 use Rattle.lv_project.specs.declared.error.ProjectError.TheVariants.{Refused, Device, OutOfMemory, Reopen, GenerationsSpent, Damaged, Blank, NotAProject, NotEmpty, BadGeometry}
 use Rattle.lv_project.specs.declared.geometry.Geometry.{Geometry}
-use Rattle.lv_program.specs.Deeds.{IsBuiltInto, IsChecked, IsCreated, IsEdited, IsExamined}
+use Rattle.lv_levels.specs.Graphics.{GraphicNames}
+use Rattle.lv_program.specs.Deeds.{IsBuiltInto, IsChecked, IsCheckedAt, IsCreated, IsEdited, IsExamined, IsLintedAt, IsPicturedAt}
 use Rattle.lv_program.specs.Drawing.{EndsUnopened, IsDrawnOntoSome}
 use Rattle.lv_program.specs.DrawnOver.{IsDrawnOver}
 use Rattle.lv_program.specs.SomeProject.{IsDumped}
 use Rattle.lv_views.specs.Dumping.{IsDumpedOf}
 use Rattle.lv_program.specs.SomeProject.{IsLinted}
-use Rattle.lv_views.specs.Linting.{IsLintedBy}
+use Rattle.lv_views.specs.Linting.{IsLintedBy, IsLintedIn}
 use Rattle.lv_program.specs.SomeProject.{IsPictured}
 use Rattle.lv_views.specs.Picturing.{IsPicturedOf}
 use Rattle.lv_views.specs.declared.laid_over.Layers.{Layers}
+use Rattle.lv_program.specs.Wads.{OverSomeWad, OverWad}
 use Rattle.lv_reports.specs.Refusals.{IsOfOpening}
-use Rattle.lv_views.specs.Checking.{IsCheckedOf}
+use Rattle.lv_views.specs.Checking.{IsCheckedIn, IsCheckedOf}
 use Rattle.lv_program.specs.Sources.{IsBuiltFrom, IsEditedOver, IsExaminedOf, IsMade, NotOpened, OverMaps}
 use Rattle.lv_editor.specs.declared.error.EditorError.TheVariants.{WriterFailed}
 use Rattle.lv_reports.specs.declared.refusal.Refusal.{Refusal}
-use Rattle.lv_reports.specs.declared.refusal.Refusal.TheVariants.{Build, Level, Lines, NoSuchMap, Project}
+use Rattle.lv_reports.specs.declared.refusal.Refusal.TheVariants.{Build, Level, Lines, NoSuchMap, NotAMap, Project, TreeOutside}
 
 -- ---- A disk
 
@@ -98,19 +101,26 @@ drawn_onto_some facts before after verbose script how u w (inl ((e, is, refused)
     inl (e, is, of_opening (facts.reads before) e refused, unwritten)
 drawn_onto_some facts before after verbose script how u w (inr (first, last, opened, back, done)) = inr (first, last, opened.reopen, done)
 
-checked_of : (maps : MapsView) (how : Result ℕ Refusal) (u w : Option (List ℕ)) → IsCheckedOf maps.tables how u w → IsChecked how u w
-checked_of maps (Ok status) u w (is, told) = (maps.tables, is, told)
-checked_of maps (Err (Lines e)) u w lost = lost
-checked_of maps (Err (Project e)) u w never = absurd never
-checked_of maps (Err (Level e)) u w never = absurd never
-checked_of maps (Err (Build e)) u w never = absurd never
-checked_of maps (Err NoSuchMap) u w never = absurd never
+checked_of : (m : Tables) (how : Result ℕ Refusal) (u w : Option (List ℕ)) → IsCheckedOf m how u w → IsChecked how u w
+checked_of m (Ok status) u w (is, told) = (m, is, told)
+checked_of m (Err (Lines e)) u w lost = lost
+checked_of m (Err (Project e)) u w never = absurd never
+checked_of m (Err (Level e)) u w never = absurd never
+checked_of m (Err (Build e)) u w never = absurd never
+checked_of m (Err NoSuchMap) u w never = absurd never
+checked_of m (Err (NotAMap e)) u w never = absurd never
+checked_of m (Err TreeOutside) u w never = absurd never
 
-pub checked : (reads : List ℕ → Type 0) (how : Result ℕ Refusal) (u w : Option (List ℕ))
-    → OverMaps reads how u w (λ maps. IsCheckedOf maps.tables how u w) → IsChecked how u w
-checked reads how u w (inl ((e, is, refused), kept)) =
-    subst (λ (h : Result ℕ Refusal). IsChecked h u w) (sym is) (of_opening reads e refused, kept)
-checked reads how u w (inr (maps, has, done)) = checked_of maps how u w done
+checked_in : (name : Option (List ℕ)) (maps : MapsView) (how : Result ℕ Refusal) (u w : Option (List ℕ)) → IsCheckedIn name maps how u w → IsCheckedAt name how u w
+checked_in None maps how u w done = inl (checked_of maps.tables how u w done)
+checked_in (Some name) maps how u w (inl (is, none, kept)) = inr (inl (refl, is, kept))
+checked_in (Some name) maps how u w (inr (m, at, done)) = inl (checked_of m how u w done)
+
+pub checked : (name : Option (List ℕ)) (reads : List ℕ → Type 0) (how : Result ℕ Refusal) (u w : Option (List ℕ))
+    → OverMaps reads how u w (λ maps. IsCheckedIn name maps how u w) → IsCheckedAt name how u w
+checked name reads how u w (inl ((e, is, refused), kept)) =
+    subst (λ (h : Result ℕ Refusal). IsCheckedAt name h u w) (sym is) (inl (of_opening reads e refused, kept))
+checked name reads how u w (inr (maps, has, done)) = checked_in name maps how u w done
 
 dumped_of : (maps : MapsView) (how : Result ℕ Refusal) (u w : Option (List ℕ)) → IsDumpedOf maps how u w → IsDumped how u w
 dumped_of maps (Ok status) u w done = (maps, done)
@@ -119,6 +129,8 @@ dumped_of maps (Err (Project e)) u w never = absurd never
 dumped_of maps (Err (Level e)) u w never = absurd never
 dumped_of maps (Err (Build e)) u w never = absurd never
 dumped_of maps (Err NoSuchMap) u w never = absurd never
+dumped_of maps (Err (NotAMap e)) u w never = absurd never
+dumped_of maps (Err TreeOutside) u w never = absurd never
 
 pub dumped : (reads : List ℕ → Type 0) (how : Result ℕ Refusal) (u w : Option (List ℕ))
     → OverMaps reads how u w (λ maps. IsDumpedOf maps how u w) → IsDumped how u w
@@ -126,35 +138,52 @@ dumped reads how u w (inl ((e, is, refused), kept)) =
     subst (λ (h : Result ℕ Refusal). IsDumped h u w) (sym is) (of_opening reads e refused, kept)
 dumped reads how u w (inr (maps, has, done)) = dumped_of maps how u w done
 
-linted_of : (asked : Bool) (maps : MapsView) (how : Result ℕ Refusal) (u w : Option (List ℕ)) → IsLintedBy asked maps how u w → IsLinted asked how u w
-linted_of asked maps (Ok status) u w done = (maps, done)
-linted_of asked maps (Err (Lines e)) u w done = (maps, done)
-linted_of asked maps (Err (Project e)) u w (inl (is, never, kept)) = absurd never
-linted_of asked maps (Err (Project e)) u w (inr (names, are, never)) = absurd never
-linted_of asked maps (Err (Level e)) u w done = (maps, done)
-linted_of asked maps (Err (Build e)) u w done = (maps, done)
-linted_of asked maps (Err NoSuchMap) u w done = (maps, done)
+not_opened : (name : Option (List ℕ)) (names : Option GraphicNames) (maps : MapsView) (e : ProjectError) (u w : Option (List ℕ)) → IsLintedIn name names maps (Err (Project e)) u w → ⊥
+not_opened None names maps e u w never = never
+not_opened (Some name) names maps e u w (inl (is, none, kept)) = cc
+not_opened (Some name) names maps e u w (inr (m, at, never)) = never
 
-pub linted : (asked : Bool) (reads : List ℕ → Type 0) (how : Result ℕ Refusal) (u w : Option (List ℕ))
-    → OverMaps reads how u w (λ maps. IsLintedBy asked maps how u w) → IsLinted asked how u w
-linted asked reads how u w (inl ((e, is, refused), kept)) =
-    subst (λ (h : Result ℕ Refusal). IsLinted asked h u w) (sym is) (of_opening reads e refused, kept)
-linted asked reads how u w (inr (maps, has, done)) = linted_of asked maps how u w done
+linted_of : (asked : Bool) (name : Option (List ℕ)) (maps : MapsView) (how : Result ℕ Refusal) (u w : Option (List ℕ)) → IsLintedBy asked name maps how u w → IsLinted asked name how u w
+linted_of asked name maps (Ok status) u w done = (maps, done)
+linted_of asked name maps (Err (Lines e)) u w done = (maps, done)
+linted_of asked name maps (Err (Project e)) u w (inl (is, never, kept)) = absurd never
+linted_of asked name maps (Err (Project e)) u w (inr (names, are, done)) = absurd (not_opened name names maps e u w done)
+linted_of asked name maps (Err (Level e)) u w done = (maps, done)
+linted_of asked name maps (Err (Build e)) u w done = (maps, done)
+linted_of asked name maps (Err NoSuchMap) u w done = (maps, done)
+linted_of asked name maps (Err (NotAMap e)) u w done = (maps, done)
+linted_of asked name maps (Err TreeOutside) u w done = (maps, done)
+
+linted_some : (asked : Bool) (name : Option (List ℕ)) (reads : List ℕ → Type 0) (how : Result ℕ Refusal) (u w : Option (List ℕ))
+    → OverMaps reads how u w (λ maps. IsLintedBy asked name maps how u w) → IsLinted asked name how u w
+linted_some asked name reads how u w (inl ((e, is, refused), kept)) =
+    subst (λ (h : Result ℕ Refusal). IsLinted asked name h u w) (sym is) (of_opening reads e refused, kept)
+linted_some asked name reads how u w (inr (maps, has, done)) = linted_of asked name maps how u w done
+
+pub linted : (asked : Bool) (name : Option (List ℕ)) (reads : List ℕ → Type 0) (how : Result ℕ Refusal) (u w : Option (List ℕ))
+    → OverMaps reads how u w (λ maps. IsLintedBy asked name maps how u w) → IsLintedAt asked name how u w
+linted asked name reads how u w done = inl (linted_some asked name reads how u w done)
 
 pictured_of : (layers : Layers) (name : Option (List ℕ)) (into : Bool) (maps : MapsView) (how : Result ℕ Refusal) (u w : Option (List ℕ))
     → IsPicturedOf layers name into maps how u w → IsPictured layers name into how u w
 pictured_of layers name into maps (Ok status) u w done = (maps, done)
 pictured_of layers name into maps (Err (Lines e)) u w done = (maps, done)
 pictured_of layers name into maps (Err NoSuchMap) u w done = (maps, done)
+pictured_of layers name into maps (Err (NotAMap e)) u w never = absurd never
+pictured_of layers name into maps (Err TreeOutside) u w never = absurd never
 pictured_of layers name into maps (Err (Project e)) u w never = absurd never
 pictured_of layers name into maps (Err (Level e)) u w never = absurd never
 pictured_of layers name into maps (Err (Build e)) u w done = (maps, done)
 
-pub pictured : (layers : Layers) (name : Option (List ℕ)) (into : Bool) (reads : List ℕ → Type 0) (how : Result ℕ Refusal) (u w : Option (List ℕ))
+pictured_some : (layers : Layers) (name : Option (List ℕ)) (into : Bool) (reads : List ℕ → Type 0) (how : Result ℕ Refusal) (u w : Option (List ℕ))
     → OverMaps reads how u w (λ maps. IsPicturedOf layers name into maps how u w) → IsPictured layers name into how u w
-pictured layers name into reads how u w (inl ((e, is, refused), kept)) =
+pictured_some layers name into reads how u w (inl ((e, is, refused), kept)) =
     subst (λ (h : Result ℕ Refusal). IsPictured layers name into h u w) (sym is) (of_opening reads e refused, kept)
-pictured layers name into reads how u w (inr (maps, has, done)) = pictured_of layers name into maps how u w done
+pictured_some layers name into reads how u w (inr (maps, has, done)) = pictured_of layers name into maps how u w done
+
+pub pictured : (layers : Layers) (name : Option (List ℕ)) (into : Bool) (reads : List ℕ → Type 0) (how : Result ℕ Refusal) (u w : Option (List ℕ))
+    → OverMaps reads how u w (λ maps. IsPicturedOf layers name into maps how u w) → IsPicturedAt layers name into how u w
+pictured layers name into reads how u w done = inl (pictured_some layers name into reads how u w done)
 
 built_of : (maps : MapsView) (how : Result ℕ Refusal) (u w : Option (List ℕ)) → IsBuiltFrom maps how u w → IsBuiltInto how u w
 built_of maps (Ok status) u w (wad, c, is, counted, told) = (maps, wad, c, is, counted, told)
@@ -163,6 +192,8 @@ built_of maps (Err (Build e)) u w (refused, kept) = ((maps, refused), kept)
 built_of maps (Err (Project e)) u w never = absurd never
 built_of maps (Err (Level e)) u w never = absurd never
 built_of maps (Err NoSuchMap) u w never = absurd never
+built_of maps (Err (NotAMap e)) u w never = absurd never
+built_of maps (Err TreeOutside) u w never = absurd never
 
 pub built : (reads : List ℕ → Type 0) (how : Result ℕ Refusal) (u w : Option (List ℕ))
     → OverMaps reads how u w (λ maps. IsBuiltFrom maps how u w) → IsBuiltInto how u w
@@ -177,3 +208,12 @@ examined_some name (Err (Lines e)) r s u w lost = lost
 examined_some name (Err (Project e)) r s u w never = absurd never
 examined_some name (Err (Build e)) r s u w never = absurd never
 examined_some name (Err NoSuchMap) r s u w never = absurd never
+examined_some name (Err (NotAMap e)) r s u w never = absurd never
+examined_some name (Err TreeOutside) r s u w never = absurd never
+
+-- ---- A WAD
+
+-- what was done with all that a reader gave was done with some bytes
+pub of_some_wad : (r s u w : Option (List ℕ)) (how : Result ℕ Refusal) (does : List ℕ → Type 0) → OverWad r s how u w does → OverSomeWad how u w does
+of_some_wad r s u w how does (inl unread) = inl unread
+of_some_wad r s u w how does (inr (wad, all, done)) = inr (wad, done)

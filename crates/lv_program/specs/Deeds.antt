@@ -18,6 +18,9 @@ use Rattle.lv_editor.specs.Inspections.{IsInspected}
 use Rattle.lv_program.specs.LevelNames.{IsListed}
 use Rattle.lv_program.specs.SomeProject.{IsLinted}
 use Rattle.lv_program.specs.SomeProject.{IsPictured}
+use Rattle.lv_program.specs.Wads.{OverSomeWad}
+use Rattle.lv_views.specs.LevelLines.{IsWadChecked, IsWadLintedBy}
+use Rattle.lv_views.specs.LevelPicture.{IsLevelPicturedOf}
 use Rattle.lv_program.specs.Rebuilding.{IsRebuiltInto}
 use Rattle.lv_views.specs.declared.laid_over.Layers.{Layers}
 use Rattle.lv_reports.specs.Refusals.{IsOfOpening, NotBuilt, NotChecked, NotCreated, NotExamined}
@@ -77,6 +80,32 @@ IsChecked (Ok status) writer-old writer-new =
     × Appends writer-old writer-new (findings_text (findings m))
 IsChecked (Err refusal) writer-old writer-new = NotChecked refusal writer-old writer-new
 
+-- this was done with a map of some project, the one of the name where one is asked for; or there is
+-- none of this name, and nothing was written; or it was done with a level of some WAD
+abbrev pub IsCheckedAt : Option (List ℕ) → Result ℕ Refusal → Option (List ℕ) → Option (List ℕ)
+    → Type 0
+IsCheckedAt name how writer-old writer-new =
+    IsChecked how writer-old writer-new
+    ⊎ ((is_some name ≡ true) × (how ≡ Err of.NoSuchMap) × Keeps writer-old writer-new)
+    ⊎ OverSomeWad how writer-old writer-new
+    (λ wad. IsWadChecked wad name how writer-old writer-new)
+
+-- what there is to say of the maps of some project, or of the levels of some WAD, was told
+abbrev pub IsLintedAt : Bool → Option (List ℕ) → Result ℕ Refusal → Option (List ℕ)
+    → Option (List ℕ) → Type 0
+IsLintedAt asked name how writer-old writer-new =
+    IsLinted asked name how writer-old writer-new
+    ⊎ OverSomeWad how writer-old writer-new
+    (λ wad. IsWadLintedBy asked wad name how writer-old writer-new)
+
+-- a map of some project, or a level of some WAD, was drawn
+abbrev pub IsPicturedAt : Layers → Option (List ℕ) → Bool → Result ℕ Refusal → Option (List ℕ)
+    → Option (List ℕ) → Type 0
+IsPicturedAt layers name into how writer-old writer-new =
+    IsPictured layers name into how writer-old writer-new
+    ⊎ OverSomeWad how writer-old writer-new
+    (λ wad. IsLevelPicturedOf layers name into wad how writer-old writer-new)
+
 -- the level of the name in what was read of a WAD was inspected, and the status tells whether it is
 -- sound; or it was refused
 abbrev pub IsExamined : List ℕ → Result ℕ Refusal → Option (List ℕ) → Option (List ℕ) → Type 0
@@ -102,10 +131,12 @@ IsPerformed facts (Create file slot journal) how reader-old reader-new writer-ol
     IsCreated slot journal how writer-old writer-new × Keeps reader-old reader-new
 IsPerformed facts (Edit file) how reader-old reader-new writer-old writer-new =
     IsEdited facts how reader-old reader-new writer-old writer-new
-IsPerformed facts (Check file) how reader-old reader-new writer-old writer-new =
-    IsChecked how writer-old writer-new × Keeps reader-old reader-new
-IsPerformed facts (Lint file iwad) how reader-old reader-new writer-old writer-new =
-    IsLinted (is_some iwad) how writer-old writer-new × Keeps reader-old reader-new
+IsPerformed facts (Check file map) how reader-old reader-new writer-old writer-new =
+    IsCheckedAt (option_map string_bytes map) how writer-old writer-new
+    × Keeps reader-old reader-new
+IsPerformed facts (Lint file map iwad) how reader-old reader-new writer-old writer-new =
+    IsLintedAt (is_some iwad) (option_map string_bytes map) how writer-old writer-new
+    × Keeps reader-old reader-new
 IsPerformed facts (Draw file script verbose) how reader-old reader-new writer-old writer-new =
     IsDrawnInto facts (is_some script) verbose how reader-old reader-new writer-old writer-new
 IsPerformed facts (TryScript script verbose) how reader-old reader-new writer-old writer-new =
@@ -114,7 +145,7 @@ IsPerformed facts (Dump file) how reader-old reader-new writer-old writer-new =
     IsDumped how writer-old writer-new × Keeps reader-old reader-new
 IsPerformed facts (Picture file map out numbers nodes lint) how reader-old reader-new writer-old
     writer-new =
-    IsPictured (record { numbers = numbers; nodes = nodes; lint = lint })
+    IsPicturedAt (record { numbers = numbers; nodes = nodes; lint = lint })
     (option_map string_bytes map) (is_some out) how
     writer-old writer-new
     × Keeps reader-old reader-new
@@ -133,6 +164,13 @@ abbrev pub is_of_script : Request → Bool
 is_of_script (Draw file script verbose) = true
 is_of_script (TryScript script verbose) = true
 is_of_script request = false
+
+-- the request is over a WAD and no project
+abbrev pub is_over_wad : Request → Bool
+is_over_wad (Inspect wad name) = true
+is_over_wad (Levels wad) = true
+is_over_wad (Rebuild wad out maps) = true
+is_over_wad request = false
 
 -- the statuses that leave standard error alone: all but 1, and of a script 0 alone
 abbrev pub IsQuiet : Request → ℕ → Type 0

@@ -5,3 +5,4 @@ pub mod LevelNames
 pub mod Rebuilding
 pub mod SomeProject
 pub mod Sources
+pub mod Wads

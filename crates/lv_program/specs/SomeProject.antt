@@ -11,11 +11,12 @@ use Rattle.lv_views.specs.Picturing.{IsPicturedOf}
 use Rattle.lv_views.specs.declared.laid_over.Layers.{Layers}
 
 -- no project was opened and nothing written, or this was done with the maps of some project
-abbrev pub IsLinted : Bool → Result ℕ Refusal → Option (List ℕ) → Option (List ℕ) → Type 0
-IsLinted asked (Err (of.Project e)) writer-old writer-new =
+abbrev pub IsLinted : Bool → Option (List ℕ) → Result ℕ Refusal → Option (List ℕ)
+    → Option (List ℕ) → Type 0
+IsLinted asked name (Err (of.Project e)) writer-old writer-new =
     IsOfOpening e × Keeps writer-old writer-new
-IsLinted asked how writer-old writer-new =
-    (maps : MapsView) × IsLintedBy asked maps how writer-old writer-new
+IsLinted asked name how writer-old writer-new =
+    (maps : MapsView) × IsLintedBy asked name maps how writer-old writer-new
 
 -- no project was opened and nothing written, or this was done with the maps of some project
 abbrev pub IsPictured : Layers → Option (List ℕ) → Bool → Result ℕ Refusal

@@ -12,6 +12,7 @@ mod picture_request;
 mod program;
 mod rebuild_request;
 mod script_file;
+mod wad_file;
 mod wad_levels;
 
 pub use program::perform;

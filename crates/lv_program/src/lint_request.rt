@@ -1,22 +1,28 @@
-//! The request `lint`: what there is to say of each map of a disk's project, perhaps beside a WAD.
-ghost use Rattle.std.specs.Prelude.{◌≡◌, ◌≤◌, IfOk, is_some};
+//! The request `lint`: what there is to say of each map of a disk's project, or of each level of a WAD, perhaps beside
+//! another WAD.
+ghost use Rattle.std.specs.Prelude.{◌≡◌, ◌≤◌, IfOk, is_some, option_map};
+ghost use Rattle.lv_views.specs.LevelLines.{IsWadLintedBy};
 ghost use Rattle.lv_views.specs.Linting.{IsLintedBy};
 ghost use Rattle.lv_editor.specs.Recovery.{IsOnlyRead};
 ghost use Rattle.lv_program.specs.Sources.{OverMaps};
+ghost use Rattle.lv_program.specs.Wads.{OverWad};
 
 use crate::over_disk::{HandedBack, open_project};
 use lv_disk::Disk;
 use lv_files::Cause;
-use lv_views::tell_beside;
+use lv_reports::Refusal;
+use lv_views::{TURNS, read_whole, tell_beside, tell_levels_beside};
 use std::fs::Files;
-use std::io::Write;
+use std::io::{Read, Write};
 
-/// Writes what there is to say of each map of a disk's project: the findings of `check`, then the warnings of
-/// `lv_lint`, then those of flats and textures that the WAD at the path `iwad` lacks, if one is given, each behind the
-/// map's name, and last how many lines these are; or notes why the WAD can't be opened. The disk is only read.
+/// Writes what there is to say of each map of a disk's project, or of the one of the name alone: the findings of
+/// `check`, then the warnings of `lv_lint`, then those of flats and textures that the WAD at the path `iwad` lacks, if
+/// one is given, each behind the map's name, and last how many lines these are; or notes why the WAD can't be opened.
+/// The disk is only read.
 pub fn lint<E: AllocGlobal + Files, D: Disk, W: Write>(
     rt: &E,
     disk: D,
+    name: Option<&str>,
     iwad: Option<&str>,
     writer: &mut W,
     why: &mut Option<Cause>,
@@ -24,17 +30,36 @@ pub fn lint<E: AllocGlobal + Files, D: Disk, W: Write>(
     ensures small { IfOk result.how (λ s. s ≤ 3) }
     ensures linted { OverMaps (D.reads disk) result.how
         (W.contents writer.old) (W.contents writer.new)
-        (λ maps. IsLintedBy (is_some iwad.entry) maps result.how
-        (W.contents writer.old) (W.contents writer.new)) }
+        (λ maps. IsLintedBy (is_some iwad.entry) (option_map (λ s. s.now) name.entry) maps
+        result.how (W.contents writer.old) (W.contents writer.new)) }
     ensures only_read { IsOnlyRead D.Disk disk result.disk }
 {
     let project = match open_project(rt.alloc(), disk) {
         Ok(project) => project,
         Err(refused) => return refused,
     };
-    let how = tell_beside(rt, project.maps(), iwad, writer, why);
+    let how = tell_beside(rt, project.maps(), name, iwad, writer, why);
     HandedBack {
         how,
         disk: project.into_disk(),
     }
+}
+
+/// The same of the levels of the WAD that is all that the reader gives.
+pub fn lint_wad<E: AllocGlobal + Files, R: Read, W: Write>(
+    rt: &E,
+    reader: &mut R,
+    name: Option<&str>,
+    iwad: Option<&str>,
+    writer: &mut W,
+    why: &mut Option<Cause>,
+) -> Result<u8, Refusal>
+    ensures small { IfOk result (λ s. s ≤ 3) }
+    ensures linted { OverWad (R.remaining reader.old) (R.remaining reader.new) result
+        (W.contents writer.old) (W.contents writer.new)
+        (λ wad. IsWadLintedBy (is_some iwad.entry) wad (option_map (λ s. s.now) name.entry)
+        result (W.contents writer.old) (W.contents writer.new)) }
+{
+    let wad = read_whole(rt.alloc(), reader, TURNS)?;
+    tell_levels_beside(rt, &wad, name, iwad, writer, why)
 }

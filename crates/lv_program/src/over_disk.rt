@@ -1,10 +1,10 @@
 //! The requests `create`, `edit` and `check`, over a disk that is handed over and handed back.
-ghost use Rattle.std.specs.Prelude.{◌≡◌, ◌≤◌, IfErr, IfOk};
+ghost use Rattle.std.specs.Prelude.{◌≡◌, ◌≤◌, IfErr, IfOk, option_map};
 ghost use Rattle.std.specs.Io.KnownBytes.{Appends};
 ghost use Rattle.lv_project.specs.Opening.{IsRefusedRead};
 ghost use Rattle.lv_program.specs.Deeds.{IsCreated};
 ghost use Rattle.lv_editor.specs.Recovery.{IsOnlyRead};
-ghost use Rattle.lv_views.specs.Checking.{IsCheckedOf};
+ghost use Rattle.lv_views.specs.Checking.{IsCheckedIn};
 ghost use Rattle.lv_program.specs.Sources.{IsEditedOver, IsMade, IsOpenedFrom, NotOpened, OverMaps};
 ghost use Rattle.lv_editor.specs.declared.error.EditorError.TheVariants.{WriterFailed};
 ghost use Rattle.lv_reports.specs.declared.refusal.Refusal.{Refusal};
@@ -102,12 +102,18 @@ pub fn edit<D: Disk, R: Read, W: Write>(
     }
 }
 
-/// Says what is wrong or unfinished in the current map of a disk's project. The disk is only read.
-pub fn check<D: Disk, W: Write>(alloc: Global, disk: D, writer: &mut W) -> HandedBack<D>
+/// Says what is wrong or unfinished in the map of the name of a disk's project, or in the current one. The disk is only
+/// read.
+pub fn check<D: Disk, W: Write>(
+    alloc: Global,
+    disk: D,
+    name: Option<&str>,
+    writer: &mut W,
+) -> HandedBack<D>
     ensures small { IfOk result.how (λ s. s ≤ 3) }
     ensures found { OverMaps (D.reads disk) result.how
         (W.contents writer.old) (W.contents writer.new)
-        (λ maps. IsCheckedOf maps.tables result.how
+        (λ maps. IsCheckedIn (option_map (λ s. s.now) name.entry) maps result.how
         (W.contents writer.old) (W.contents writer.new)) }
     ensures only_read { IsOnlyRead D.Disk disk result.disk }
 {
@@ -115,7 +121,7 @@ pub fn check<D: Disk, W: Write>(alloc: Global, disk: D, writer: &mut W) -> Hande
         Ok(project) => project,
         Err(refused) => return refused,
     };
-    let how = tell_findings(alloc, project.map(), writer);
+    let how = tell_findings(alloc, project.maps(), name, writer);
     HandedBack {
         how,
         disk: project.into_disk(),

@@ -3,18 +3,17 @@ ghost use Rattle.std.specs.Prelude.{◌≡◌, ◌≤◌, Ok, IfErr, IfOk, is_so
 ghost use Rattle.std.specs.Io.KnownBytes.{Keeps};
 ghost use Rattle.lv_program.specs.Drawing.{IsDrawnInto};
 ghost use Rattle.lv_program.specs.SomeProject.{IsDumped};
-ghost use Rattle.lv_program.specs.SomeProject.{IsLinted};
-ghost use Rattle.lv_program.specs.SomeProject.{IsPictured};
-ghost use Rattle.lv_program.specs.Deeds.{IsBuiltInto, IsChecked, IsCreated, IsEdited};
+ghost use Rattle.lv_program.specs.Deeds.{IsBuiltInto, IsCheckedAt, IsCreated, IsEdited, IsLintedAt, IsPicturedAt};
 ghost use Rattle.lv_reports.specs.declared.refusal.Refusal.{Refusal};
 
 use crate::build_request::build;
 use crate::draw_request::{Script, draw};
 use crate::dump_request::dump;
-use crate::lint_request::lint;
+use crate::lint_request::{lint, lint_wad};
 use crate::over_disk::{check, create, edit};
-use crate::picture_request::picture;
+use crate::picture_request::{picture, picture_wad};
 use crate::script_file::{read_script, script_name};
+use crate::wad_file::{begins_as_wad, check_wad};
 use lv_disk::{Disk, FileDisk};
 use lv_files::{Access, GaplessFile, Hold, NotedFile, open_held};
 use lv_project::{Geometry, ProjectError};
@@ -124,26 +123,40 @@ where
     ended_over(&file, how, why)
 }
 
-/// Says what is wrong or unfinished in the current map of the project in the file at the path.
-pub fn check_file<E, W>(rt: &E, path: &str, writer: &mut W, why: &mut Causes) -> Result<u8, Refusal>
+/// Says what is wrong or unfinished in the map of the name of the project in the file at the path, or in the current
+/// one; or in the level of the name of the WAD there, or in the first one.
+pub fn check_file<E, W>(
+    rt: &E,
+    path: &str,
+    name: Option<&str>,
+    writer: &mut W,
+    why: &mut Causes,
+) -> Result<u8, Refusal>
 where
     E: AllocGlobal + Files,
     E::File: FileExt + Hold,
     W: Write,
     ensures small { IfOk result (λ s. s ≤ 3) }
-    ensures found { IsChecked result (W.contents writer.old) (W.contents writer.new) }
+    ensures found { IsCheckedAt (option_map (λ s. s.now) name.entry) result
+        (W.contents writer.old) (W.contents writer.new) }
 {
-    let file = file_at(rt, path, Access::Reads, why)?;
+    let mut file = open_at(rt, path, Access::Reads, why)?;
+    if begins_as_wad(&file) {
+        return check_wad(rt.alloc(), &mut file, name, writer);
+    }
+    let file = NotedFile::new(file);
     let disk = FileDisk::new(&file, false);
-    let how = check(rt.alloc(), disk, writer).how;
+    let how = check(rt.alloc(), disk, name, writer).how;
     ended_over(&file, how, why)
 }
 
-/// Says what is wrong, unfinished or doubtful in each map of the project in the file at the path, and which flats and
-/// textures the WAD at the path `iwad` lacks, if one is given.
+/// Says what is wrong, unfinished or doubtful in each map of the project in the file at the path, or in each level of
+/// the WAD there, or in the one of the name alone, and which flats and textures the WAD at the path `iwad` lacks, if
+/// one is given.
 pub fn lint_file<E, W>(
     rt: &E,
     path: &str,
+    name: Option<&str>,
     iwad: Option<&str>,
     writer: &mut W,
     why: &mut Causes,
@@ -153,12 +166,16 @@ where
     E::File: FileExt + Hold,
     W: Write,
     ensures small { IfOk result (λ s. s ≤ 3) }
-    ensures linted { IsLinted (is_some iwad.entry) result
+    ensures linted { IsLintedAt (is_some iwad.entry) (option_map (λ s. s.now) name.entry) result
         (W.contents writer.old) (W.contents writer.new) }
 {
-    let file = file_at(rt, path, Access::Reads, why)?;
+    let mut file = open_at(rt, path, Access::Reads, why)?;
+    if begins_as_wad(&file) {
+        return lint_wad(rt, &mut file, name, iwad, writer, &mut why.beside);
+    }
+    let file = NotedFile::new(file);
     let disk = FileDisk::new(&file, false);
-    let how = lint(rt, disk, iwad, writer, &mut why.beside).how;
+    let how = lint(rt, disk, name, iwad, writer, &mut why.beside).how;
     ended_over(&file, how, why)
 }
 
@@ -218,7 +235,7 @@ where
     ended_over(&file, how, why)
 }
 
-/// Draws a map of the project in the file at the path.
+/// Draws a map of the project in the file at the path, or a level of the WAD there.
 pub fn picture_file<E, W>(
     rt: &E,
     path: &str,
@@ -231,10 +248,14 @@ where
     E::File: FileExt + Hold,
     W: Write,
     ensures small { IfOk result (λ s. s ≤ 3) }
-    ensures pictured { IsPictured wanted.entry.layers (option_map (λ s. s.now) wanted.entry.map)
+    ensures pictured { IsPicturedAt wanted.entry.layers (option_map (λ s. s.now) wanted.entry.map)
         (is_some wanted.entry.out) result (W.contents writer.old) (W.contents writer.new) }
 {
-    let file = file_at(rt, path, Access::Reads, why)?;
+    let mut file = open_at(rt, path, Access::Reads, why)?;
+    if begins_as_wad(&file) {
+        return picture_wad(rt.alloc(), rt, &mut file, wanted, writer, &mut why.out);
+    }
+    let file = NotedFile::new(file);
     let disk = FileDisk::new(&file, false);
     let how = picture(rt.alloc(), rt, disk, wanted, writer, &mut why.out).how;
     ended_over(&file, how, why)

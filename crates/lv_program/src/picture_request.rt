@@ -1,16 +1,19 @@
-//! The request `picture`: a map of a disk's project as SVG.
+//! The request `picture`: a map of a disk's project, or a level of a WAD, as SVG.
 ghost use Rattle.std.specs.Prelude.{◌≡◌, ◌≤◌, IfOk, is_some, option_map};
 ghost use Rattle.lv_editor.specs.Recovery.{IsOnlyRead};
 ghost use Rattle.lv_views.specs.Picturing.{IsPicturedOf};
 ghost use Rattle.lv_program.specs.Sources.{OverMaps};
+ghost use Rattle.lv_program.specs.Wads.{OverWad};
+ghost use Rattle.lv_views.specs.LevelPicture.{IsLevelPicturedOf};
 
 use crate::over_disk::{HandedBack, open_project};
 use lv_disk::Disk;
 use lv_files::{Cause, Hold};
-use lv_views::{Wanted, draw};
+use lv_reports::Refusal;
+use lv_views::{TURNS, Wanted, draw, draw_level, read_whole};
 use std::alloc::Global;
 use std::fs::Files;
-use std::io::Write;
+use std::io::{Read, Write};
 
 /// Draws a map of a disk's project as a picture, onto the output or into a file, or notes why the file can't be made.
 /// The file is whole or as it was; only nothing, an empty file or a picture of a map is replaced. The disk is only
@@ -42,4 +45,25 @@ where
         how,
         disk: project.into_disk(),
     }
+}
+
+/// Draws a level of the WAD that is all that the reader gives, in the same way.
+pub fn picture_wad<E: Files, R: Read, W: Write>(
+    alloc: Global,
+    rt: &E,
+    reader: &mut R,
+    wanted: Wanted<'_>,
+    writer: &mut W,
+    why: &mut Option<Cause>,
+) -> Result<u8, Refusal>
+where
+    E::File: Hold,
+    ensures small { IfOk result (λ s. s ≤ 3) }
+    ensures pictured { OverWad (R.remaining reader.old) (R.remaining reader.new) result
+        (W.contents writer.old) (W.contents writer.new)
+        (λ wad. IsLevelPicturedOf wanted.entry.layers (option_map (λ s. s.now) wanted.entry.map)
+        (is_some wanted.entry.out) wad result (W.contents writer.old) (W.contents writer.new)) }
+{
+    let wad = read_whole(alloc, reader, TURNS)?;
+    draw_level(alloc, rt, &wad, wanted, writer, why)
 }

@@ -1,7 +1,7 @@
 //! `perform`: does what a request asks for and answers the program's status.
-ghost use Rattle.std.specs.Prelude.{◌≡◌, ◌≤◌, ℕ, false, IfOk, Result};
+ghost use Rattle.std.specs.Prelude.{◌≡◌, ◌≤◌, ℕ, false, true, IfOk, List, Option, Result};
 ghost use Rattle.std.specs.Io.KnownBytes.{Keeps};
-ghost use Rattle.lv_program.specs.Deeds.{IsPerformed, IsQuiet, IsScratched, is_of_script};
+ghost use Rattle.lv_program.specs.Deeds.{IsPerformed, IsQuiet, IsScratched, is_of_script, is_over_wad};
 ghost use Rattle.lv_reports.specs.Statuses.{status_in};
 ghost use Rattle.lv_reports.specs.declared.refusal.Refusal.{Refusal};
 
@@ -32,6 +32,35 @@ fn scratch<R: Read, W: Write>(alloc: Global, reader: &mut R, writer: &mut W) -> 
     ended(run_in_memory(alloc, reader, writer, TURNS))
 }
 
+// Does what a request over a WAD alone asks for.
+fn done_with_wad<E, W>(
+    rt: &E,
+    request: &Request,
+    writer: &mut W,
+    why: &mut Causes,
+) -> Result<u8, Refusal>
+where
+    E: AllocGlobal + Files,
+    E::File: FileExt + Hold,
+    W: Write,
+    requires { is_over_wad request.now ≡ true }
+    ensures performed { (reader : Option (List ℕ))
+        → IsPerformed ⟦<FileDisk<&'static NotedFile<E::File>> as Disk>⟧ request.now result
+        reader reader (W.contents writer.old) (W.contents writer.new) }
+    ensures small { IfOk result (λ s. s ≤ 3) }
+{
+    match request {
+        Request::Rebuild { wad, out, maps } => {
+            rebuild(rt, wad.as_str(), out.as_str(), maps, writer, why)
+        }
+        Request::Inspect { wad, name } => {
+            examine(rt, wad.as_str(), name.as_str(), writer, &mut why.file)
+        }
+        Request::Levels { wad } => list_levels(rt, wad.as_str(), writer, &mut why.file),
+        _ => unreachable!(),
+    }
+}
+
 // Does what a request asks for that draws no script, and answers the status where it isn't refused.
 fn done_quietly<E, R, W>(
     rt: &E,
@@ -59,9 +88,14 @@ where
             journal,
         } => create_file(rt, file.as_str(), *slot, *journal, writer, why),
         Request::Edit { file } => edit_file(rt, file.as_str(), reader, writer, why),
-        Request::Check { file } => check_file(rt, file.as_str(), writer, why),
-        Request::Lint { file, iwad } => {
-            lint_file(rt, file.as_str(), iwad.as_deref(), writer, why)
+        Request::Check { file, map } => {
+            let map = map.as_deref();
+            check_file(rt, file.as_str(), map, writer, why)
+        }
+        Request::Lint { file, map, iwad } => {
+            let map = map.as_deref();
+            let iwad = iwad.as_deref();
+            lint_file(rt, file.as_str(), map, iwad, writer, why)
         }
         Request::Draw { .. } | Request::TryScript { .. } => unreachable!(),
         Request::Dump { file } => dump_file(rt, file.as_str(), writer, why),
@@ -81,13 +115,7 @@ where
             picture_file(rt, file.as_str(), wanted, writer, why)
         }
         Request::Build { file, out } => build_file(rt, file.as_str(), out.as_str(), writer, why),
-        Request::Rebuild { wad, out, maps } => {
-            rebuild(rt, wad.as_str(), out.as_str(), maps, writer, why)
-        }
-        Request::Inspect { wad, name } => {
-            examine(rt, wad.as_str(), name.as_str(), writer, &mut why.file)
-        }
-        Request::Levels { wad } => list_levels(rt, wad.as_str(), writer, &mut why.file),
+        _ => done_with_wad(rt, request, writer, why),
     }
 }
 

@@ -62,7 +62,7 @@ NotBuilt (of.Build e) writer-old writer-new =
     × Keeps writer-old writer-new
 NotBuilt (of.Lines e) writer-old writer-new = e ≡ WriterFailed
 NotBuilt (of.Level e) writer-old writer-new = ⊥
-NotBuilt of.NoSuchMap writer-old writer-new = ⊥
+NotBuilt _ writer-old writer-new = ⊥
 
 -- the WAD was not read to its end, and then nothing was written; or what was read of it was not
 -- inspected; or the writer failed

@@ -5,6 +5,7 @@ ghost use Rattle.lv_reports.specs.declared.refusal.Refusal.TheVariants.{Build, L
 use crate::unbuilt::write_unbuilt;
 use lv_editor::{EditorError, InspectError, WriteError};
 use lv_files::{Cause, write_cause};
+use lv_import::ImportError;
 use lv_project::ProjectError;
 use lv_pwad::{BuildError, ReadError};
 use lv_requests::Request;
@@ -24,6 +25,10 @@ pub enum Refusal {
     Build(WriteError),
     /// The project has no map of the name.
     NoSuchMap,
+    /// The level of a WAD is no map, whatever is changed of it.
+    NotAMap(ImportError),
+    /// What the level's own tree names isn't there.
+    TreeOutside,
 }
 
 /// Why a request's files can't be opened or made, where that is known; of `out` and `beside` one at most.
@@ -70,6 +75,8 @@ impl Refusal {
             Refusal::Level(error) => error.code(),
             Refusal::Build(error) => error.code(),
             Refusal::NoSuchMap => 18,
+            Refusal::NotAMap(_) => 77,
+            Refusal::TreeOutside => 78,
         }
     }
 
@@ -82,6 +89,8 @@ impl Refusal {
             Refusal::Build(WriteError::Build(unbuilt)) => name_of_build(unbuilt.error),
             Refusal::Build(WriteError::WriterFailed) => "WriterFailed",
             Refusal::NoSuchMap => "NoSuchMap",
+            Refusal::NotAMap(_) => "NotAMap",
+            Refusal::TreeOutside => "TreeOutside",
         }
     }
 }
@@ -141,7 +150,8 @@ fn name_of_build(error: BuildError) -> &'static str {
     }
 }
 
-/// Says why a request was refused, as `leveled: CODE NAME`, and where a file is damaged or which map can't be built.
+/// Says why a request was refused, as `leveled: CODE NAME`, and where a file is damaged, which map can't be
+/// built, or why a level is no map.
 pub fn report<F: Write>(refusal: &Refusal, faults: &mut F) {
     let code = refusal.code();
     let name = refusal.name();
@@ -154,6 +164,9 @@ pub fn report<F: Write>(refusal: &Refusal, faults: &mut F) {
     if let Refusal::Build(WriteError::Build(unbuilt)) = refusal {
         let _ = write_unbuilt(*unbuilt, faults);
     }
+    if let Refusal::NotAMap(error) = refusal {
+        let _ = writeln!(faults, "  {error}");
+    }
 }
 
 // The file that a request opens, and the one that it makes, or reads beside it.
@@ -162,7 +175,7 @@ fn paths_of(request: &Request) -> (&str, &str) {
         Request::Scratch => ("", ""),
         Request::Create { file, .. }
         | Request::Edit { file }
-        | Request::Check { file }
+        | Request::Check { file, .. }
         | Request::Dump { file } => (file.as_str(), ""),
         Request::Inspect { wad, .. } | Request::Levels { wad } => (wad.as_str(), ""),
         Request::TryScript { script, .. } => (script.as_str(), ""),
@@ -178,7 +191,11 @@ fn paths_of(request: &Request) -> (&str, &str) {
             script: other,
             ..
         }
-        | Request::Lint { file, iwad: other } => match other {
+        | Request::Lint {
+            file,
+            iwad: other,
+            ..
+        } => match other {
             Some(other) => (file.as_str(), other.as_str()),
             None => (file.as_str(), ""),
         },

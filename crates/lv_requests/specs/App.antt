@@ -64,9 +64,15 @@ abbrev pub create_app : App
 create_app =
     with_rule (with_rule (with_one_word (codes "create") (codes "file")) slot_rule) journal_rule
 
--- `lint FILE [--iwad WAD]`
+-- `check FILE [MAP]`
+abbrev pub check_app : App
+check_app = with_rule (with_one_word (codes "check") (codes "file")) (last_rule (codes "map"))
+
+-- `lint FILE [MAP] [--iwad WAD]`
 abbrev pub lint_app : App
-lint_app = with_rule (with_one_word (codes "lint") (codes "file")) (path_rule (codes "iwad"))
+lint_app =
+    with_rule (with_rule (with_one_word (codes "lint") (codes "file")) (last_rule (codes "map")))
+    (path_rule (codes "iwad"))
 
 -- `build FILE OUT`
 abbrev pub build_app : App
@@ -110,7 +116,7 @@ with_subcommands =
     (new_app (codes "scratch")).top)
     create_app.top)
     (with_one_word (codes "edit") (codes "file")).top)
-    (with_one_word (codes "check") (codes "file")).top)
+    check_app.top)
     lint_app.top)
     draw_app.top)
     (with_one_word (codes "dump") (codes "file")).top)

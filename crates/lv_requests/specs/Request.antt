@@ -38,10 +38,12 @@ AsksFor (Create file slot journal) asked = (asked.0 ≡ codes "create")
     × HasNumber (codes "journal") asked.1 512 1048576 journal
 AsksFor (Edit file) asked =
     (asked.0 ≡ codes "edit") × (first_of (codes "file") asked.1 ≡ Some (string_bytes file))
-AsksFor (Check file) asked =
-    (asked.0 ≡ codes "check") × (first_of (codes "file") asked.1 ≡ Some (string_bytes file))
-AsksFor (Lint file iwad) asked = (asked.0 ≡ codes "lint")
+AsksFor (Check file map) asked = (asked.0 ≡ codes "check")
     × (first_of (codes "file") asked.1 ≡ Some (string_bytes file))
+    × (first_of (codes "map") asked.1 ≡ option_map string_bytes map)
+AsksFor (Lint file map iwad) asked = (asked.0 ≡ codes "lint")
+    × (first_of (codes "file") asked.1 ≡ Some (string_bytes file))
+    × (first_of (codes "map") asked.1 ≡ option_map string_bytes map)
     × (first_of (codes "iwad") asked.1 ≡ option_map string_bytes iwad)
 AsksFor (Draw file script verbose) asked = (asked.0 ≡ codes "draw")
     × (is_given (codes "check") asked.1 ≡ false)

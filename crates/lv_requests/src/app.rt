@@ -1,7 +1,7 @@
 //! The command line that clap reads: the program and its subcommands.
 ghost use Rattle.std.specs.Prelude.{◌≡◌, IfOk, codes};
 ghost use Rattle.clap.specs.Words.{App, app_of, new_app, with_subcommand};
-ghost use Rattle.lv_requests.specs.App.{IsArg, IsCommand, build_app, create_app, draw_app, flag_rule, inspect_app, journal_rule, last_rule, leveled_app, lint_app, option_rule, path_rule, picture_app, rebuild_app, repeated_rule, slot_rule, with_subcommands, with_one_word, word_rule};
+ghost use Rattle.lv_requests.specs.App.{IsArg, IsCommand, build_app, check_app, create_app, draw_app, flag_rule, inspect_app, journal_rule, last_rule, leveled_app, lint_app, option_rule, path_rule, picture_app, rebuild_app, repeated_rule, slot_rule, with_subcommands, with_one_word, word_rule};
 
 use crate::help;
 use clap::{Arg, ArgAction, Command, value_parser};
@@ -94,12 +94,22 @@ fn create<'a>(alloc: Global) -> Result<Command<'a>, AllocError>
         .arg(journal(alloc))
 }
 
+// `check`.
+fn check<'a>(alloc: Global) -> Result<Command<'a>, AllocError>
+    ensures { IfOk result (λ c. IsCommand c check_app) }
+{
+    let about = "Says what is wrong in a map of a project or a level of a WAD";
+    over_file(alloc, "check", about, help::CHECK)?.arg(last_word(alloc, "map", "MAP"))
+}
+
 // `lint`.
 fn lint<'a>(alloc: Global) -> Result<Command<'a>, AllocError>
     ensures { IfOk result (λ c. IsCommand c lint_app) }
 {
-    let about = "Says what is wrong or doubtful in each map of a project";
-    over_file(alloc, "lint", about, help::LINT)?.arg(path(alloc, "iwad", "WAD"))
+    let about = "Says what is wrong or doubtful in the maps of a project or the levels of a WAD";
+    over_file(alloc, "lint", about, help::LINT)?
+        .arg(last_word(alloc, "map", "MAP"))?
+        .arg(path(alloc, "iwad", "WAD"))
 }
 
 // `draw`.
@@ -125,7 +135,7 @@ fn dump<'a>(alloc: Global) -> Result<Command<'a>, AllocError>
 fn picture<'a>(alloc: Global) -> Result<Command<'a>, AllocError>
     ensures { IfOk result (λ c. IsCommand c picture_app) }
 {
-    let about = "Draws a map of a project as a picture (SVG)";
+    let about = "Draws a map of a project or a level of a WAD as a picture (SVG)";
     over_file(alloc, "picture", about, help::PICTURE)?
         .arg(last_word(alloc, "map", "MAP"))?
         .arg(path(alloc, "out", "OUT"))?
@@ -210,16 +220,10 @@ fn with_subcommands<'a>(alloc: Global) -> Result<Command<'a>, AllocError>
         "Answers lines over a project file",
         help::EDIT,
     );
-    let check = over_file(
-        alloc,
-        "check",
-        "Says what is wrong in a project's current map",
-        help::CHECK,
-    );
     let program = program.subcommand(scratch);
     let program = with(program, create(alloc));
     let program = with(program, edit);
-    let program = with(program, check);
+    let program = with(program, check(alloc));
     let program = with(program, lint(alloc));
     let program = with(program, draw(alloc));
     let program = with(program, dump(alloc));

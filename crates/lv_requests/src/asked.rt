@@ -16,14 +16,17 @@ pub enum Request {
     Edit {
         file: String,
     },
-    /// Say what is wrong or unfinished in the current map of a project.
+    /// Say what is wrong or unfinished in a map of a project or a level of a WAD: the one of this name, or the current
+    /// map or the first level.
     Check {
         file: String,
+        map: Option<String>,
     },
-    /// Say what is wrong, unfinished or doubtful in each map of a project, and which flats and textures a WAD lacks, if
-    /// one is given.
+    /// Say what is wrong, unfinished or doubtful in each map of a project or level of a WAD, or in the one of this
+    /// name, and which flats and textures another WAD lacks, if one is given.
     Lint {
         file: String,
+        map: Option<String>,
         iwad: Option<String>,
     },
     /// Draw the lines of a script onto the maps of a project: of the file SCRIPT, or of the input. What each command
@@ -42,8 +45,9 @@ pub enum Request {
     Dump {
         file: String,
     },
-    /// Draw a map of a project as a picture: the one of this name, or the current one; into a file, or onto the output.
-    /// With numbers, with the built tree and with what `lint` tells, or without.
+    /// Draw a map of a project or a level of a WAD as a picture: the one of this name, or the current map or the
+    /// first level; into a file, or onto the output. With numbers, with the built tree and with what `lint` tells, or
+    /// without.
     Picture {
         file: String,
         map: Option<String>,

@@ -107,7 +107,22 @@ fn last_text(
     }
 }
 
-// The request to look at the maps of a project.
+// The request to look for what is wrong in a map.
+fn asked_check(alloc: Global, found: &ArgMatches<'_>) -> Result<Request, RequestError>
+    ensures asked { IfOk result (λ r. AsksFor r (codes "check", rows_of (found_of found.now))) }
+    ensures refused { IfErr result (RefusesValues (codes "check", rows_of (found_of found.now))) }
+{
+    let file = match text(alloc, found, "file") {
+        Ok(file) => file,
+        Err(error) => return Err(error),
+    };
+    match last_text(alloc, found, "map") {
+        Ok(map) => Ok(Request::Check { file, map }),
+        Err(error) => Err(error),
+    }
+}
+
+// The request to look at maps.
 fn asked_lint(alloc: Global, found: &ArgMatches<'_>) -> Result<Request, RequestError>
     ensures asked { IfOk result (λ r. AsksFor r (codes "lint", rows_of (found_of found.now))) }
     ensures refused { IfErr result (RefusesValues (codes "lint", rows_of (found_of found.now))) }
@@ -116,8 +131,12 @@ fn asked_lint(alloc: Global, found: &ArgMatches<'_>) -> Result<Request, RequestE
         Ok(file) => file,
         Err(error) => return Err(error),
     };
+    let map = match last_text(alloc, found, "map") {
+        Ok(map) => map,
+        Err(error) => return Err(error),
+    };
     match last_text(alloc, found, "iwad") {
-        Ok(iwad) => Ok(Request::Lint { file, iwad }),
+        Ok(iwad) => Ok(Request::Lint { file, map, iwad }),
         Err(error) => Err(error),
     }
 }
@@ -267,10 +286,7 @@ fn asked(alloc: Global, name: &str, found: &ArgMatches<'_>) -> Result<Request, R
             Ok(file) => Ok(Request::Edit { file }),
             Err(error) => Err(error),
         },
-        "check" => match text(alloc, found, "file") {
-            Ok(file) => Ok(Request::Check { file }),
-            Err(error) => Err(error),
-        },
+        "check" => asked_check(alloc, found),
         "lint" => asked_lint(alloc, found),
         "dump" => match text(alloc, found, "file") {
             Ok(file) => Ok(Request::Dump { file }),

@@ -52,16 +52,18 @@ failed: nothing more is kept until FILE is opened again. `leveled --help` lists 
 
 /// `check`.
 pub const CHECK: &str = "\
-Prints a line for each thing that is wrong or unfinished, then `findings N`. Status 3
-where there are any. FILE isn't changed.";
+Prints a line for each thing that is wrong or unfinished in the map MAP of FILE, or in the
+current one; then `findings N`. Status 3 where there are any. FILE may be a WAD: MAP is
+then one of its levels, and where none is named, the first. FILE isn't changed.";
 
 /// `lint`.
 pub const LINT: &str = "\
-Looks at every map of FILE. Prints what `check` finds in it, and what is unlikely to play
-as it was meant, each line behind the map's name, as `MAP01 tag-of-no-sector 7`; then
-`findings N`. Status 3 where there are any. --iwad: also which flats and textures of the
-map WAD lacks, an IWAD as doom2.wad. COMMANDS.md says what to do about each line. FILE
-isn't changed.";
+Looks at every map of FILE, or at MAP alone. Prints what `check` finds in it, and what is
+unlikely to play as it was meant, each line behind the map's name, as
+`MAP01 tag-of-no-sector 7`; then `findings N`. Status 3 where there are any. FILE may be a
+WAD: its levels are looked at, and `E1M1 no-map REASON` says that one is no map of ours.
+--iwad: also which flats and textures of the map WAD lacks, an IWAD as doom2.wad.
+COMMANDS.md says what to do about each line. FILE isn't changed.";
 
 /// `draw`.
 pub const DRAW: &str = "\
@@ -81,13 +83,16 @@ isn't changed.";
 
 /// `picture`.
 pub const PICTURE: &str = "\
-Draws a map of FILE as SVG, which a browser shows: the map MAP, or the current one. Each
-line has a tick on its right side, and tells its fields under the pointer, as things do.
+Draws a map of FILE as SVG, which a browser shows: the map MAP, or the current one; of a
+WAD the level MAP, or the first. Each line has a tick on its right side, and tells its
+fields under the pointer, as things do.
 The picture goes to standard output, or into OUT, where nothing, an empty file or a
 picture of this kind may stand. --numbers: with the numbers of vertices, lines and
-sectors. --nodes: with the partitions and the subsectors that `build` makes of the map.
+sectors. --nodes: with the partitions and the subsectors that `build` makes of the map; of
+a level, with those that the WAD has of it.
 --lint: with a red mark at each place that `lint` tells of, which says what under the
-pointer. `leveled: 18 NoSuchMap` says that FILE has no MAP. FILE isn't changed.";
+pointer. `leveled: 18 NoSuchMap` says that FILE has no MAP, of a WAD
+`leveled: 72 NoSuchLevel`. FILE isn't changed.";
 
 /// `build`.
 pub const BUILD: &str = "\
@@ -165,4 +170,6 @@ Answered as `no CODE` to a line, or as `leveled: CODE NAME`. A refusal changes n
 73 LumpMissing         the WAD's level was never built
 74 LumpOutside         the WAD is cut off
 75 HexenLevel          nothing: a level in the form of Hexen isn't read
-76 TextureLump         the WAD is damaged";
+76 TextureLump         the WAD is damaged
+77 NotAMap             look at the second line: what the level has that no map may have
+78 TreeOutside         build its nodes anew: `leveled rebuild`";

@@ -25,3 +25,5 @@ mod scripts;
 mod streams;
 #[cfg(test)]
 mod sweeps;
+#[cfg(test)]
+mod wads;

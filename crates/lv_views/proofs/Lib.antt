@@ -1,3 +1,5 @@
+pub mod LevelLines
+pub mod LevelPicture
 pub mod Linting
 pub mod MarkList
 pub mod Picturing

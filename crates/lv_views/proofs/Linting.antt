@@ -7,7 +7,6 @@ use Rattle.std.proofs.KnownBytes.{Appends-kept, Appends-nil, Appends-trans}
 use Rattle.std.proofs.lemmas.Grind.{flat_map-append}
 use Rattle.std.proofs.lemmas.List.{length-map, map-append, take-append-drop, take_more}
 use Rattle.lv_lumps.specs.Names.{name_text}
-use Rattle.lv_maptables.specs.Projects.{MapsView, project_of}
 use Rattle.lv_maptables.specs.Tables.{Tables, empty_tables}
 use Rattle.lv_checks.specs.Findings.{findings}
 use Rattle.lv_checks.specs.Texts.{finding_text}
@@ -17,7 +16,7 @@ use Rattle.lv_lint.specs.Texts.{warning_text}
 use Rattle.lv_lint.specs.declared.warning.Warning.{Warning}
 use Rattle.lv_dump.specs.Texts.{WritesFront, with_lf, text_of}
 use Rattle.lv_levels.specs.Graphics.{GraphicNames}
-use Rattle.lv_views.specs.Linting.{IsLintedOf, WritesRemarks, behind, lint_of, remarks, warned_by}
+use Rattle.lv_views.specs.Linting.{AreTold, WritesRemarks, behind, lint_of, remarks, warned_by}
 use Rattle.lv_reports.specs.Statuses.{status_after}
 use Rattle.lv_editor.specs.Texts.{total_text}
 use Rattle.lv_editor.specs.declared.error.EditorError.{EditorError}
@@ -140,21 +139,19 @@ maps_stopped names ms n before OutOfMemory u v w within (count, said) told =
           (Appends-trans u v w (text_of done) (text_of told.front) said told.written);
     }
 
--- ---- The request
+-- ---- Lines and their number
 
-pub total_told : (names : Option GraphicNames) (maps : MapsView) (count status : ℕ) (u v w x : Option (List ℕ)) → status ≡ status_after count
-    → WritesRemarks (Ok count) 0 (lint_of names (project_of maps).maps) u v → Appends v w (total_text count) → Keeps w x → IsLintedOf names maps (Ok status) u x
-total_told names maps count status u v w x is (sum, told) total kept =
-    let lines = lint_of names (project_of maps).maps in
+pub total_told : (lines : List (List ℕ)) (count status : ℕ) (u v w x : Option (List ℕ)) → status ≡ status_after count
+    → WritesRemarks (Ok count) 0 lines u v → Appends v w (total_text count) → Keeps w x → AreTold lines (Ok status) u x
+total_told lines count status u v w x is (sum, told) total kept =
     let same : count ≡ length lines = omega (arith, sum) in
     let all = Appends-trans u v w (text_of lines) (total_text count) told total in (
       is ∙ ap status_after same,
       subst (λ (n : ℕ). Appends u x (text_of lines ++ total_text n)) same (Appends-kept u w x (text_of lines ++ total_text count) all kept),
     )
 
-pub remarks_stopped : (names : Option GraphicNames) (maps : MapsView) (e : EditorError) (u w : Option (List ℕ)) → WritesRemarks (Err e) 0 (lint_of names (project_of maps).maps) u w
-    → IsLintedOf names maps (Err (Lines e)) u w
-remarks_stopped names maps OutOfMemory u w told = told
-remarks_stopped names maps WriterFailed u w told = tt
-remarks_stopped names maps InputTooLong u w told = absurd told
-remarks_stopped names maps ReaderFailed u w told = absurd told
+pub lines_stopped : (lines : List (List ℕ)) (e : EditorError) (u w : Option (List ℕ)) → WritesRemarks (Err e) 0 lines u w → AreTold lines (Err (Lines e)) u w
+lines_stopped lines OutOfMemory u w told = told
+lines_stopped lines WriterFailed u w told = tt
+lines_stopped lines InputTooLong u w told = absurd told
+lines_stopped lines ReaderFailed u w told = absurd told

@@ -13,7 +13,7 @@ use Rattle.lv_views.specs.LaidOver.{IsLaidOver, NotLaidOver}
 use Rattle.lv_views.specs.Picturing.{IsDrawn, IsPicturedOf, drawn_map}
 use Rattle.lv_views.specs.declared.laid_over.Layers.{Layers}
 use Rattle.lv_reports.specs.declared.refusal.Refusal.{Refusal}
-use Rattle.lv_reports.specs.declared.refusal.Refusal.TheVariants.{Build, Level, Lines, NoSuchMap, Project}
+use Rattle.lv_reports.specs.declared.refusal.Refusal.TheVariants.{Build, Level, Lines, NoSuchMap, NotAMap, Project, TreeOutside}
 use Rattle.lv_svg.specs.declared.overlay.Overlay.{Overlay}
 
 -- the first map that passes
@@ -46,6 +46,8 @@ drawn_to layers name into maps (Err (Project e)) u w m o at laid never = absurd 
 drawn_to layers name into maps (Err (Level e)) u w m o at laid never = absurd never
 drawn_to layers name into maps (Err (Build e)) u w m o at laid never = absurd never
 drawn_to layers name into maps (Err NoSuchMap) u w m o at laid never = absurd never
+drawn_to layers name into maps (Err (NotAMap e)) u w m o at laid never = absurd never
+drawn_to layers name into maps (Err TreeOutside) u w m o at laid never = absurd never
 
 -- nothing could be laid over the map that was wanted
 pub not_laid : (layers : Layers) (name : Option (List ℕ)) (into : Bool) (maps : MapsView) (r : Refusal) (u w : Option (List ℕ)) (m : Tables)
@@ -58,3 +60,5 @@ not_laid layers name into maps (Lines ReaderFailed) u w m at never kept = absurd
 not_laid layers name into maps (Project e) u w m at never kept = absurd never
 not_laid layers name into maps (Level e) u w m at never kept = absurd never
 not_laid layers name into maps NoSuchMap u w m at never kept = absurd never
+not_laid layers name into maps (NotAMap e) u w m at never kept = absurd never
+not_laid layers name into maps TreeOutside u w m at never kept = absurd never

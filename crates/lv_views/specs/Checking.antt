@@ -1,10 +1,12 @@
 -- What `check` writes of a map (docs/COMMANDS.md, "The program").
-use Rattle.std.specs.Prelude.{◌≡◌, ℕ, Option, Result, Ok, Err, List, length}
-use Rattle.std.specs.Io.KnownBytes.{Appends}
+use Rattle.std.specs.Prelude.{◌≡◌, ◌⊎◌, ℕ, Option, None, Some, Result, Ok, Err, List, find, length}
+use Rattle.std.specs.Io.KnownBytes.{Appends, Keeps}
+use Rattle.lv_maptables.specs.Projects.{MapsView, project_of}
 use Rattle.lv_maptables.specs.Tables.{Tables}
 use Rattle.lv_checks.specs.Findings.{findings}
 use Rattle.lv_editor.specs.Runs.{Unwritten}
 use Rattle.lv_editor.specs.Texts.{findings_text}
+use Rattle.lv_views.specs.Picturing.{is_called}
 use Rattle.lv_reports.specs.Statuses.{status_after}
 use Rattle.lv_reports.specs.declared.refusal.Refusal.{Refusal}
 use Rattle.lv_reports.specs.declared.refusal.Refusal.TheVariants as of
@@ -17,3 +19,14 @@ IsCheckedOf m (Ok status) writer-old writer-new =
     × Appends writer-old writer-new (findings_text (findings m))
 IsCheckedOf m (Err (of.Lines e)) writer-old writer-new = Unwritten e writer-old writer-new
 IsCheckedOf m _ writer-old writer-new = ⊥
+
+-- the same of the current map; or of the map of the name, or the project has none
+abbrev pub IsCheckedIn : Option (List ℕ) → MapsView → Result ℕ Refusal → Option (List ℕ)
+    → Option (List ℕ) → Type 0
+IsCheckedIn None maps how writer-old writer-new =
+    IsCheckedOf maps.tables how writer-old writer-new
+IsCheckedIn (Some name) maps how writer-old writer-new =
+    ((how ≡ Err of.NoSuchMap) × (find (is_called name) (project_of maps).maps ≡ None)
+    × Keeps writer-old writer-new)
+    ⊎ ((m : Tables) × (find (is_called name) (project_of maps).maps ≡ Some m)
+    × IsCheckedOf m how writer-old writer-new)

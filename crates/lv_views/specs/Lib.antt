@@ -1,8 +1,12 @@
 pub mod Checking
 pub mod Dumping
 pub mod LaidOver
+pub mod LevelLines
+pub mod LevelPicture
+pub mod LevelTree
 pub mod Linting
 pub mod Marking
 pub mod Picturing
 pub mod Reading
 pub mod ShownNames
+pub mod WantedLevels

@@ -1,5 +1,5 @@
 -- What `lint` writes of maps (docs/COMMANDS.md, "The program").
-use Rattle.std.specs.Prelude.{◌≡◌, ◌⊎◌, ℕ, ◌+◌, Bool, false, true, MatchResult, Option, None, Some, Result, Ok, Err, List, [], ◌∷◌, ◌++◌, length, map, flat_map}
+use Rattle.std.specs.Prelude.{◌≡◌, ◌⊎◌, ℕ, ◌+◌, Bool, false, true, MatchResult, Option, None, Some, Result, Ok, Err, List, [], ◌∷◌, ◌++◌, find, length, map, flat_map}
 use Rattle.std.specs.Io.KnownBytes.{Appends, Keeps}
 use Rattle.lv_lumps.specs.Names.{name_text}
 use Rattle.lv_maptables.specs.Projects.{MapsView, project_of}
@@ -15,6 +15,7 @@ use Rattle.lv_lint.specs.declared.warning.Warning.{Warning}
 use Rattle.lv_dump.specs.Texts.{WritesFront, text_of}
 use Rattle.lv_reports.specs.Refusals.{EndsReading}
 use Rattle.lv_reports.specs.Statuses.{status_after}
+use Rattle.lv_views.specs.Picturing.{is_called}
 use Rattle.lv_views.specs.Reading.{ReadsAll}
 use Rattle.lv_editor.specs.Texts.{total_text}
 use Rattle.lv_editor.specs.declared.error.EditorError.{EditorError}
@@ -58,18 +59,32 @@ WritesRemarks (Err OutOfMemory) before lines old new = WritesFront lines old new
 WritesRemarks (Err WriterFailed) before lines old new = Unit {0}
 WritesRemarks (Err _) before lines old new = ⊥
 
--- what there is to say of these maps was written, each with LF behind it, and how many lines these
--- are, and the status tells whether there are any; or the lines before one that found no memory; or
--- the writer failed
+-- these lines were written, each with LF behind it, and how many lines these are, and the status
+-- tells whether there are any; or those before one that found no memory; or the writer failed
+abbrev pub AreTold : List (List ℕ) → Result ℕ Refusal → Option (List ℕ) → Option (List ℕ) → Type 0
+AreTold lines (Ok status) writer-old writer-new =
+    (status ≡ status_after (length lines)) × Appends writer-old writer-new (lint_text lines)
+AreTold lines (Err (of.Lines OutOfMemory)) writer-old writer-new =
+    WritesFront lines writer-old writer-new
+AreTold lines (Err (of.Lines WriterFailed)) writer-old writer-new = Unit {0}
+AreTold lines _ writer-old writer-new = ⊥
+
+-- what there is to say of these maps was told
 abbrev pub IsLintedOf : Option GraphicNames → MapsView → Result ℕ Refusal → Option (List ℕ)
     → Option (List ℕ) → Type 0
-IsLintedOf names maps (Ok status) writer-old writer-new =
-    (status ≡ status_after (length (lint_of names (project_of maps).maps)))
-    × Appends writer-old writer-new (lint_text (lint_of names (project_of maps).maps))
-IsLintedOf names maps (Err (of.Lines OutOfMemory)) writer-old writer-new =
-    WritesFront (lint_of names (project_of maps).maps) writer-old writer-new
-IsLintedOf names maps (Err (of.Lines WriterFailed)) writer-old writer-new = Unit {0}
-IsLintedOf names maps _ writer-old writer-new = ⊥
+IsLintedOf names maps how writer-old writer-new =
+    AreTold (lint_of names (project_of maps).maps) how writer-old writer-new
+
+-- the same of the map of the name alone, or the project has none; or of all where none is named
+abbrev pub IsLintedIn : Option (List ℕ) → Option GraphicNames → MapsView → Result ℕ Refusal
+    → Option (List ℕ) → Option (List ℕ) → Type 0
+IsLintedIn None names maps how writer-old writer-new =
+    IsLintedOf names maps how writer-old writer-new
+IsLintedIn (Some name) names maps how writer-old writer-new =
+    ((how ≡ Err of.NoSuchMap) × (find (is_called name) (project_of maps).maps ≡ None)
+    × Keeps writer-old writer-new)
+    ⊎ ((m : Tables) × (find (is_called name) (project_of maps).maps ≡ Some m)
+    × AreTold (remarks names m) how writer-old writer-new)
 
 -- these are the names of the flats and textures of some WAD, where one is asked for, and else none
 abbrev pub IsNamedBy : Bool → Option GraphicNames → Type 0
@@ -85,12 +100,12 @@ RefusesNaming _ = ⊥
 
 -- the flats and textures of the WAD that is asked for are not named, and nothing was written; or
 -- this was done with the maps and the names of some WAD, where one is asked for
-abbrev pub IsLintedBy : Bool → MapsView → Result ℕ Refusal → Option (List ℕ) → Option (List ℕ)
-    → Type 0
-IsLintedBy asked maps how writer-old writer-new =
+abbrev pub IsLintedBy : Bool → Option (List ℕ) → MapsView → Result ℕ Refusal → Option (List ℕ)
+    → Option (List ℕ) → Type 0
+IsLintedBy asked name maps how writer-old writer-new =
     ((asked ≡ true) × MatchResult how (λ status. ⊥) RefusesNaming × Keeps writer-old writer-new)
     ⊎ ((names : Option GraphicNames) × IsNamedBy asked names
-    × IsLintedOf names maps how writer-old writer-new)
+    × IsLintedIn name names maps how writer-old writer-new)
 
 -- the flats and textures of the WAD that is all that the reader gave are named; or it was not read
 -- to its end, or is refused

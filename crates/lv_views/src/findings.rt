@@ -1,15 +1,16 @@
 //! What `check` writes: the findings of a map.
-ghost use Rattle.std.specs.Prelude.{◌≡◌, ◌≤◌, IfOk};
-ghost use Rattle.lv_views.specs.Checking.{IsCheckedOf};
+ghost use Rattle.std.specs.Prelude.{◌≡◌, ◌≤◌, IfOk, option_map};
+ghost use Rattle.lv_views.specs.Checking.{IsCheckedIn, IsCheckedOf};
 
+use crate::pictures::map_called;
 use lv_editor::{EditorError, write_findings};
-use lv_maptables::Map;
+use lv_maptables::{Map, Maps};
 use lv_reports::{Refusal, status_after};
 use std::alloc::Global;
 use std::io::Write;
 
 /// Writes the findings of a map and hands them on.
-pub fn tell_findings<W: Write>(alloc: Global, map: &Map, writer: &mut W) -> Result<u8, Refusal>
+pub(crate) fn tell<W: Write>(alloc: Global, map: &Map, writer: &mut W) -> Result<u8, Refusal>
     ensures small { IfOk result (λ s. s ≤ 3) }
     ensures told { IsCheckedOf map.now.tables result
         (W.contents writer.old) (W.contents writer.new) }
@@ -18,5 +19,25 @@ pub fn tell_findings<W: Write>(alloc: Global, map: &Map, writer: &mut W) -> Resu
     match writer.flush() {
         Ok(()) => Ok(status_after(found)),
         Err(_) => Err(Refusal::Lines(EditorError::WriterFailed)),
+    }
+}
+
+/// Writes the findings of the map of the name, or of the current one, and hands them on.
+pub fn tell_findings<W: Write>(
+    alloc: Global,
+    maps: &Maps,
+    name: Option<&str>,
+    writer: &mut W,
+) -> Result<u8, Refusal>
+    ensures small { IfOk result (λ s. s ≤ 3) }
+    ensures told { IsCheckedIn (option_map (λ s. s.now) name.entry) maps.now result
+        (W.contents writer.old) (W.contents writer.new) }
+{
+    let Some(name) = name else {
+        return tell(alloc, maps.current(), writer);
+    };
+    match map_called(maps, name.as_bytes()) {
+        Some(map) => tell(alloc, map, writer),
+        None => Err(Refusal::NoSuchMap),
     }
 }

@@ -47,8 +47,8 @@ fn tree_refusal(error: TreeError) -> BuildError
     }
 }
 
-// The marks of the map, where they are wanted.
-fn marks_shown(alloc: Global, drawn: &Map, lint: bool) -> Result<Vec<Mark>, Refusal>
+/// The marks of the map, where they are wanted.
+pub(crate) fn marks_shown(alloc: Global, drawn: &Map, lint: bool) -> Result<Vec<Mark>, Refusal>
     ensures shown { IfOk result (λ marks.
         map said_at marks.items ≡ marks_shown lint drawn.now.tables) }
     ensures refused { IfErr result (NotLaidOver false lint drawn.now.tables) }
@@ -92,8 +92,8 @@ fn with_tree(alloc: Global, drawn: &Map, marks: Vec<Mark>) -> Result<Overlay, Re
     }
 }
 
-// These marks alone.
-fn without_tree(alloc: Global, marks: Vec<Mark>) -> Overlay
+/// These marks alone.
+pub(crate) fn without_tree(alloc: Global, marks: Vec<Mark>) -> Overlay
     ensures laid { (result.subs.items ≡ []) × (result.nodes.items ≡ []) }
     ensures marks { result.marks ≡ marks }
 {

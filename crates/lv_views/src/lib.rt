@@ -4,6 +4,10 @@
 mod dump_lines;
 mod findings;
 mod laid_over;
+mod level_maps;
+mod level_picture;
+mod level_remarks;
+mod level_tree;
 mod limits;
 mod marking;
 mod pictures;
@@ -11,10 +15,14 @@ mod reading;
 mod remarks;
 mod shown_names;
 mod wad_graphics;
+mod wanted;
 
 pub use dump_lines::tell_lines;
 pub use findings::tell_findings;
 pub use laid_over::{Layers, layers_of};
+pub use level_maps::tell_level_findings;
+pub use level_picture::draw_level;
+pub use level_remarks::tell_levels_beside;
 pub use limits::TURNS;
 pub use pictures::{Wanted, draw};
 pub use reading::read_whole;

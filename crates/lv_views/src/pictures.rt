@@ -35,8 +35,8 @@ fn is_called(map: &Map, name: &[u8]) -> bool
     own.text() == name
 }
 
-// The map that is called so.
-fn map_called<'a>(maps: &'a Maps, name: &[u8]) -> Option<&'a Map>
+/// The map that is called so, the first of several.
+pub(crate) fn map_called<'a>(maps: &'a Maps, name: &[u8]) -> Option<&'a Map>
     ensures { MatchOption result (find (is_called name.now) (project_of maps.now).maps ≡ None)
         (λ m. find (is_called name.now) (project_of maps.now).maps ≡ Some m.now.tables) }
 {
@@ -139,8 +139,8 @@ fn show<W: Write>(
     }
 }
 
-// Draws a map, with what is laid over it, onto the output, or into a file.
-fn draw_laid<E: Files, W: Write>(
+/// Draws a map, with what is laid over it, onto the output, or into a file.
+pub(crate) fn draw_laid<E: Files, W: Write>(
     alloc: Global,
     rt: &E,
     map: &Map,

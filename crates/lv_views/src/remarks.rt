@@ -9,9 +9,10 @@ ghost use Rattle.lv_lint.specs.Rules.{warnings};
 ghost use Rattle.lv_lint.specs.Texts.{warning_text};
 ghost use Rattle.lv_maptables.specs.Projects.{project_of};
 ghost use Rattle.lv_maptables.specs.Tables.{Tables};
-ghost use Rattle.lv_views.specs.Linting.{IsLintedBy, IsLintedOf, WritesRemarks, behind, lint_of, remarks, warned_by};
+ghost use Rattle.lv_views.specs.Linting.{AreTold, IsLintedBy, IsLintedIn, IsLintedOf, WritesRemarks, behind, lint_of, remarks, warned_by};
 ghost use Rattle.lv_editor.specs.declared.error.EditorError.TheVariants.{OutOfMemory, WriterFailed};
 
+use crate::pictures::map_called;
 use crate::wad_graphics::graphics_given;
 use lv_checks::{Finding, check};
 use lv_editor::{EditorError, write_total};
@@ -66,8 +67,8 @@ fn write_each<T: Display, W: Write>(
     Ok(())
 }
 
-// The sum, where a number of 32 bits holds it. No memory holds more findings than that.
-fn plus(count: u32, more: usize) -> Result<u32, EditorError>
+/// The sum, where a number of 32 bits holds it. No memory holds more findings than that.
+pub(crate) fn plus(count: u32, more: usize) -> Result<u32, EditorError>
     ensures sum { IfOk result (λ n. n ≡ count + more) }
     ensures memory { IfErr result (λ e. e ≡ OutOfMemory) }
 {
@@ -138,8 +139,8 @@ fn warnings_of(
     }
 }
 
-// Writes what there is to say of a map, and counts the lines on.
-fn write_map<W: Write>(
+/// Writes what there is to say of a map, and counts the lines on.
+pub(crate) fn write_map<W: Write>(
     alloc: Global,
     map: &Map,
     names: Option<&Graphics>,
@@ -223,20 +224,64 @@ fn tell_remarks<W: Write>(
     }
 }
 
-/// Takes the names of a WAD's flats and textures, if one is given, and tells what there is to say of the maps:
-/// of each, by number, the findings of `check`, then the warnings of `lv_lint`, then those of flats and textures that
-/// the WAD lacks, each behind the map's name, and last how many lines these are; or notes why the WAD can't be opened.
+// Writes what there is to say of a map, then how many lines these are, and hands it on.
+fn tell_map<W: Write>(
+    alloc: Global,
+    map: &Map,
+    names: Option<&Graphics>,
+    writer: &mut W,
+) -> Result<u8, Refusal>
+    ensures small { IfOk result (λ s. s ≤ 3) }
+    ensures told { AreTold
+        (remarks (option_map graphics_view (option_copied names.entry)) map.now.tables) result
+        (W.contents writer.old) (W.contents writer.new) }
+{
+    let count = write_map(alloc, map, names, 0, writer)?;
+    write_total(count, writer)?;
+    match writer.flush() {
+        Ok(()) => Ok(status_after(count)),
+        Err(_) => Err(Refusal::Lines(EditorError::WriterFailed)),
+    }
+}
+
+// Tells what there is to say of the map of the name, or of all maps.
+fn tell_wanted<W: Write>(
+    alloc: Global,
+    maps: &Maps,
+    name: Option<&str>,
+    names: Option<&Graphics>,
+    writer: &mut W,
+) -> Result<u8, Refusal>
+    ensures small { IfOk result (λ s. s ≤ 3) }
+    ensures told { IsLintedIn (option_map (λ s. s.now) name.entry)
+        (option_map graphics_view (option_copied names.entry)) maps.now result
+        (W.contents writer.old) (W.contents writer.new) }
+{
+    let Some(name) = name else {
+        return tell_remarks(alloc, maps, names, writer);
+    };
+    match map_called(maps, name.as_bytes()) {
+        Some(map) => tell_map(alloc, map, names, writer),
+        None => Err(Refusal::NoSuchMap),
+    }
+}
+
+/// Takes the names of a WAD's flats and textures, if one is given, and tells what there is to say of the maps, or of
+/// the one of the name alone: of each, by number, the findings of `check`, then the warnings of `lv_lint`, then those
+/// of flats and textures that the WAD lacks, each behind the map's name, and last how many lines these are; or notes
+/// why the WAD can't be opened.
 pub fn tell_beside<E: AllocGlobal + Files, W: Write>(
     rt: &E,
     maps: &Maps,
+    name: Option<&str>,
     iwad: Option<&str>,
     writer: &mut W,
     why: &mut Option<Cause>,
 ) -> Result<u8, Refusal>
     ensures small { IfOk result (λ s. s ≤ 3) }
-    ensures told { IsLintedBy (is_some iwad.entry) maps.now result
-        (W.contents writer.old) (W.contents writer.new) }
+    ensures told { IsLintedBy (is_some iwad.entry) (option_map (λ s. s.now) name.entry) maps.now
+        result (W.contents writer.old) (W.contents writer.new) }
 {
     let names = graphics_given(rt, iwad, why)?;
-    tell_remarks(rt.alloc(), maps, names.as_ref(), writer)
+    tell_wanted(rt.alloc(), maps, name, names.as_ref(), writer)
 }

@@ -1,7 +1,7 @@
 use Rattle.std.proofs.Common.{inl, inr, subst}
 use Rattle.std.proofs.KnownBytes.{Keeps-refl}
 use Rattle.lv_maptables.specs.Projects.{MapsView}
-use Rattle.std.specs.Prelude.{is_some}
+use Rattle.std.specs.Prelude.{is_some, option_map}
 use Rattle.lv_views.specs.Linting.{IsLintedBy}
 use Rattle.lv_program.proofs.Sources.{no_status}
 use Rattle.lv_program.proofs.lint_request.lint.Goals as goal
@@ -18,7 +18,7 @@ returns-clause-linted g c =
     inr (
       first.maps,
       (first.cap, first.generation, c.in-Ok.ensures.opened.stands),
-      subst (λ (m : MapsView). IsLintedBy (is_some c.args.iwad) m c.tell_beside-how.result (g.W.Write.contents c.args.writer.now) (g.W.Write.contents c.tell_beside-how.new.writer))
+      subst (λ (m : MapsView). IsLintedBy (is_some c.args.iwad) (option_map (λ s. s.now) c.args.name) m c.tell_beside-how.result (g.W.Write.contents c.args.writer.now) (g.W.Write.contents c.tell_beside-how.new.writer))
           c.maps.ensures c.tell_beside-how.ensures.told,
     )
 

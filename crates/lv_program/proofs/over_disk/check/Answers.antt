@@ -1,7 +1,8 @@
 use Rattle.std.proofs.Common.{inl, inr, subst}
 use Rattle.std.proofs.KnownBytes.{Keeps-refl}
-use Rattle.lv_maptables.specs.Tables.{Tables}
-use Rattle.lv_views.specs.Checking.{IsCheckedOf}
+use Rattle.std.specs.Prelude.{option_map}
+use Rattle.lv_maptables.specs.Projects.{MapsView}
+use Rattle.lv_views.specs.Checking.{IsCheckedIn}
 use Rattle.lv_program.proofs.Sources.{no_status}
 use Rattle.lv_program.proofs.over_disk.check.Goals as goal
 
@@ -17,8 +18,8 @@ returns-clause-found g c =
     inr (
       first.maps,
       (first.cap, first.generation, c.in-Ok.ensures.opened.stands),
-      subst (λ (m : Tables). IsCheckedOf m c.tell_findings-how.result (g.W.Write.contents c.args.writer.now) (g.W.Write.contents c.tell_findings-how.new.writer))
-          c.map.ensures c.tell_findings-how.ensures.told,
+      subst (λ (m : MapsView). IsCheckedIn (option_map (λ s. s.now) c.args.name) m c.tell_findings-how.result (g.W.Write.contents c.args.writer.now) (g.W.Write.contents c.tell_findings-how.new.writer))
+          c.maps.ensures c.tell_findings-how.ensures.told,
     )
 
 pub returns-clause-only_read : goal.returns-clause-only_read

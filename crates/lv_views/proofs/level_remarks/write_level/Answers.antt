@@ -1,0 +1,9 @@
+use Rattle.std.specs.Prelude.{option_map}
+use Rattle.std.specs.Option.{option_copied}
+use Rattle.lv_levels.specs.Graphics.{graphics_view}
+use Rattle.lv_views.proofs.LevelLines.{level_lost}
+use Rattle.lv_views.proofs.level_remarks.write_level.Goals as goal
+
+pub returns-in-Err-OutOfMemory : goal.returns-in-Err-OutOfMemory
+returns-in-Err-OutOfMemory g c =
+    level_lost (option_map graphics_view (option_copied c.args.names)) c.args.wad.now c.args.level c.args.before (g.W.Write.contents c.args.writer.now)
