@@ -4,5 +4,6 @@ pub mod Linting
 pub mod MarkList
 pub mod Picturing
 pub mod Rebuilding
+pub mod Salvaging
 pub mod Scripts
 pub mod Sources

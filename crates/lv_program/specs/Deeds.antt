@@ -19,6 +19,7 @@ use Rattle.lv_program.specs.LevelNames.{IsListed}
 use Rattle.lv_program.specs.Linting.{IsLinted}
 use Rattle.lv_program.specs.Picturing.{IsPictured}
 use Rattle.lv_program.specs.Rebuilding.{IsRebuiltInto}
+use Rattle.lv_program.specs.Salvaging.{IsSalvagedInto}
 use Rattle.lv_program.specs.declared.laid_over.Layers.{Layers}
 use Rattle.lv_reports.specs.Refusals.{IsOfOpening, NotBuilt, NotChecked, NotCreated, NotExamined}
 use Rattle.lv_editor.specs.Runs.{Exchange, Ran}
@@ -26,7 +27,7 @@ use Rattle.lv_editor.specs.Sessions.{RunsOver}
 use Rattle.lv_reports.specs.Statuses.{run_end, status_after, status_told}
 use Rattle.lv_editor.specs.Texts.{findings_text}
 use Rattle.lv_requests.specs.declared.asked.Request.{Request}
-use Rattle.lv_requests.specs.declared.asked.Request.TheVariants.{Scratch, Create, Edit, Check, Lint, Draw, TryScript, Dump, Picture, Inspect, Levels, Build, Rebuild}
+use Rattle.lv_requests.specs.declared.asked.Request.TheVariants.{Scratch, Create, Edit, Check, Lint, Draw, TryScript, Dump, Salvage, Picture, Inspect, Levels, Build, Rebuild}
 use Rattle.lv_pwad.specs.declared.counted.BuildCounts.{BuildCounts}
 use Rattle.lv_editor.specs.declared.error.EditorError.{EditorError}
 use Rattle.lv_reports.specs.declared.refusal.Refusal.{Refusal}
@@ -112,6 +113,8 @@ IsPerformed facts (TryScript script verbose) how reader-old reader-new writer-ol
     IsScriptTried verbose how writer-old writer-new × Keeps reader-old reader-new
 IsPerformed facts (Dump file) how reader-old reader-new writer-old writer-new =
     IsDumped how writer-old writer-new × Keeps reader-old reader-new
+IsPerformed facts (Salvage file) how reader-old reader-new writer-old writer-new =
+    IsSalvagedInto how writer-old writer-new × Keeps reader-old reader-new
 IsPerformed facts (Picture file map out numbers nodes lint) how reader-old reader-new writer-old
     writer-new =
     IsPictured (record { numbers = numbers; nodes = nodes; lint = lint })
@@ -128,14 +131,17 @@ IsPerformed facts (Rebuild wad out maps) how reader-old reader-new writer-old wr
     IsRebuiltInto (map string_bytes maps.items) how writer-old writer-new
     × Keeps reader-old reader-new
 
--- the request is about a script
-abbrev pub is_of_script : Request → Bool
-is_of_script (Draw file script verbose) = true
-is_of_script (TryScript script verbose) = true
-is_of_script request = false
+-- the request tells something on standard error that is no refusal: it is about a script, or about
+-- what can be salvaged
+abbrev pub tells_beside : Request → Bool
+tells_beside (Draw file script verbose) = true
+tells_beside (TryScript script verbose) = true
+tells_beside (Salvage file) = true
+tells_beside request = false
 
--- the statuses that leave standard error alone: all but 1, and of a script 0 alone
+-- the statuses that leave standard error alone: all but 1, of a script 0 alone, of a salvage none
 abbrev pub IsQuiet : Request → ℕ → Type 0
 IsQuiet (Draw file script verbose) status = status ≡ 0
 IsQuiet (TryScript script verbose) status = status ≡ 0
+IsQuiet (Salvage file) status = ⊥
 IsQuiet request status = ¬ (status ≡ 1)

@@ -8,4 +8,5 @@ pub mod Linting
 pub mod Marking
 pub mod Picturing
 pub mod Rebuilding
+pub mod Salvaging
 pub mod Sources

@@ -13,8 +13,8 @@ use lv_reports::{DONE, Refusal};
 use std::alloc::Global;
 use std::io::Write;
 
-// Writes the lines that draw the maps again and hands them on.
-fn tell_lines<W: Write>(alloc: Global, maps: &Maps, writer: &mut W) -> Result<u8, Refusal>
+/// Writes the lines that draw the maps again and hands them on.
+pub fn tell_lines<W: Write>(alloc: Global, maps: &Maps, writer: &mut W) -> Result<u8, Refusal>
     ensures small { IfOk result (λ s. s ≤ 3) }
     ensures told { IsDumpedOf maps.now result (W.contents writer.old) (W.contents writer.new) }
 {

@@ -14,6 +14,7 @@ mod over_file;
 mod picture_request;
 mod program;
 mod rebuild_request;
+mod salvage_request;
 mod script_file;
 mod wad_graphics;
 mod wad_levels;

@@ -5,6 +5,7 @@ ghost use Rattle.lv_program.specs.Drawing.{IsDrawnInto};
 ghost use Rattle.lv_program.specs.Dumping.{IsDumped};
 ghost use Rattle.lv_program.specs.Linting.{IsLinted};
 ghost use Rattle.lv_program.specs.Picturing.{IsPictured};
+ghost use Rattle.lv_program.specs.Salvaging.{IsSalvagedInto};
 ghost use Rattle.lv_program.specs.Deeds.{IsBuiltInto, IsChecked, IsCreated, IsEdited};
 ghost use Rattle.lv_reports.specs.declared.refusal.Refusal.{Refusal};
 
@@ -14,6 +15,7 @@ use crate::dump_request::dump;
 use crate::lint_request::lint;
 use crate::over_disk::{check, create, edit};
 use crate::picture_request::{Wanted, picture};
+use crate::salvage_request::salvage_lines;
 use crate::script_file::{read_script, script_name};
 use lv_disk::{Disk, FileDisk};
 use lv_files::{Access, GaplessFile, Hold, NotedFile, open_held};
@@ -214,6 +216,29 @@ where
     let file = file_at(rt, path, Access::Reads, why)?;
     let disk = FileDisk::new(&file, false);
     let how = dump(rt.alloc(), disk, writer).how;
+    ended_over(&file, how, why)
+}
+
+/// Writes the lines that draw the maps again that can be read of the project in the file at the path, be it damaged or
+/// not, and says where it is damaged.
+pub fn salvage_file<E, W, F>(
+    rt: &E,
+    path: &str,
+    writer: &mut W,
+    faults: &mut F,
+    why: &mut Causes,
+) -> Result<u8, Refusal>
+where
+    E: AllocGlobal + Files,
+    E::File: FileExt + Hold,
+    W: Write,
+    F: Write,
+    ensures small { IfOk result (λ s. s ≤ 3) }
+    ensures salvaged { IsSalvagedInto result (W.contents writer.old) (W.contents writer.new) }
+{
+    let file = file_at(rt, path, Access::Reads, why)?;
+    let disk = FileDisk::new(&file, false);
+    let how = salvage_lines(rt.alloc(), disk, writer, faults).how;
     ended_over(&file, how, why)
 }
 

@@ -1,7 +1,7 @@
 //! `perform`: does what a request asks for and answers the program's status.
 ghost use Rattle.std.specs.Prelude.{◌≡◌, ◌≤◌, ℕ, false, IfOk, Result};
 ghost use Rattle.std.specs.Io.KnownBytes.{Keeps};
-ghost use Rattle.lv_program.specs.Deeds.{IsPerformed, IsQuiet, IsScratched, is_of_script};
+ghost use Rattle.lv_program.specs.Deeds.{IsPerformed, IsQuiet, IsScratched, tells_beside};
 ghost use Rattle.lv_reports.specs.Statuses.{status_in};
 ghost use Rattle.lv_reports.specs.declared.refusal.Refusal.{Refusal};
 
@@ -10,6 +10,7 @@ use crate::laid_over::layers_of;
 use crate::limits::TURNS;
 use crate::over_file::{
     build_file, check_file, create_file, draw_file, dump_file, edit_file, lint_file, picture_file,
+    salvage_file,
 };
 use crate::picture_request::Wanted;
 use crate::rebuild_request::rebuild;
@@ -34,7 +35,8 @@ fn scratch<R: Read, W: Write>(alloc: Global, reader: &mut R, writer: &mut W) -> 
     ended(run_in_memory(alloc, reader, writer, TURNS))
 }
 
-// Does what a request asks for that draws no script, and answers the status where it isn't refused.
+// Does what a request asks for that tells nothing but a refusal on standard error, and answers the status where it isn't
+// refused.
 fn done_quietly<E, R, W>(
     rt: &E,
     request: &Request,
@@ -47,7 +49,7 @@ where
     E::File: FileExt + Hold,
     R: Read,
     W: Write,
-    requires { is_of_script request.now ≡ false }
+    requires { tells_beside request.now ≡ false }
     ensures performed { IsPerformed ⟦<FileDisk<&'static NotedFile<E::File>> as Disk>⟧
         request.now result (R.remaining reader.old) (R.remaining reader.new)
         (W.contents writer.old) (W.contents writer.new) }
@@ -65,7 +67,9 @@ where
         Request::Lint { file, iwad } => {
             lint_file(rt, file.as_str(), iwad.as_deref(), writer, why)
         }
-        Request::Draw { .. } | Request::TryScript { .. } => unreachable!(),
+        Request::Draw { .. } | Request::TryScript { .. } | Request::Salvage { .. } => {
+            unreachable!()
+        }
         Request::Dump { file } => dump_file(rt, file.as_str(), writer, why),
         Request::Picture {
             file,
@@ -137,6 +141,7 @@ where
             let path = script.as_str();
             try_file(rt, path, *verbose, writer, faults, &mut why.file)
         }
+        Request::Salvage { file } => salvage_file(rt, file.as_str(), writer, faults, why),
         _ => done_quietly(rt, request, reader, writer, why),
     }
 }
