@@ -1,13 +1,13 @@
 -- Requests about scripts, and how loud each request is.
 use Rattle.std.proofs.Common.{◌≡◌, ℕ, Bool, List, Option, None, Some, Result, Ok, Err, inl, inr, refl, ap, arith, subst}
 use Rattle.lv_requests.specs.declared.asked.Request.{Request}
-use Rattle.lv_requests.specs.declared.asked.Request.TheVariants.{Scratch, Create, Edit, Check, Lint, Draw, TryScript, Dump, Picture, Inspect, Levels, Build, Rebuild}
+use Rattle.lv_requests.specs.declared.asked.Request.TheVariants.{Scratch, Create, Edit, Check, Lint, Draw, TryScript, Dump, Salvage, Picture, Inspect, Levels, Build, Rebuild}
 use Rattle.lv_reports.specs.Statuses.{status_in}
 use Rattle.lv_reports.specs.declared.refusal.Refusal.{Refusal}
 use Rattle.lv_scripts.specs.declared.drawing.Stop.{Stop}
 use Rattle.lv_scripts.specs.declared.error.ScriptError.{ScriptError}
 use Rattle.lv_scripts.specs.declared.error.ScriptError.TheVariants as cut
-use Rattle.lv_program.specs.Deeds.{IsQuiet}
+use Rattle.lv_program.specs.Kinds.{IsQuiet}
 use Rattle.lv_disk.specs.declared.disk.Disk.{Ghosts}
 use Rattle.lv_program.specs.Drawing.{IsDrawnInto, IsHandedOn}
 
@@ -21,6 +21,7 @@ loud (Lint file map iwad) quiet = quiet refl
 loud (Draw file script verbose) quiet = cc
 loud (TryScript script verbose) quiet = cc
 loud (Dump file) quiet = quiet refl
+loud (Salvage file) quiet = quiet
 loud (Picture file map out numbers nodes lint) quiet = quiet refl
 loud (Inspect wad name) quiet = quiet refl
 loud (Levels wad) quiet = quiet refl

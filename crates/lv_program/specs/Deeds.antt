@@ -22,6 +22,7 @@ use Rattle.lv_program.specs.Wads.{OverSomeWad}
 use Rattle.lv_views.specs.LevelLines.{IsWadChecked, IsWadLintedBy}
 use Rattle.lv_views.specs.LevelPicture.{IsLevelPicturedOf}
 use Rattle.lv_program.specs.Rebuilding.{IsRebuiltInto}
+use Rattle.lv_program.specs.Salvaging.{IsSalvagedInto}
 use Rattle.lv_views.specs.declared.laid_over.Layers.{Layers}
 use Rattle.lv_reports.specs.Refusals.{IsOfOpening, NotBuilt, NotChecked, NotCreated, NotExamined}
 use Rattle.lv_editor.specs.Runs.{Exchange, Ran}
@@ -29,7 +30,7 @@ use Rattle.lv_editor.specs.Sessions.{RunsOver}
 use Rattle.lv_reports.specs.Statuses.{run_end, status_after, status_told}
 use Rattle.lv_editor.specs.Texts.{findings_text}
 use Rattle.lv_requests.specs.declared.asked.Request.{Request}
-use Rattle.lv_requests.specs.declared.asked.Request.TheVariants.{Scratch, Create, Edit, Check, Lint, Draw, TryScript, Dump, Picture, Inspect, Levels, Build, Rebuild}
+use Rattle.lv_requests.specs.declared.asked.Request.TheVariants.{Scratch, Create, Edit, Check, Lint, Draw, TryScript, Dump, Salvage, Picture, Inspect, Levels, Build, Rebuild}
 use Rattle.lv_pwad.specs.declared.counted.BuildCounts.{BuildCounts}
 use Rattle.lv_editor.specs.declared.error.EditorError.{EditorError}
 use Rattle.lv_reports.specs.declared.refusal.Refusal.{Refusal}
@@ -143,6 +144,8 @@ IsPerformed facts (TryScript script verbose) how reader-old reader-new writer-ol
     IsScriptTried verbose how writer-old writer-new × Keeps reader-old reader-new
 IsPerformed facts (Dump file) how reader-old reader-new writer-old writer-new =
     IsDumped how writer-old writer-new × Keeps reader-old reader-new
+IsPerformed facts (Salvage file) how reader-old reader-new writer-old writer-new =
+    IsSalvagedInto how writer-old writer-new × Keeps reader-old reader-new
 IsPerformed facts (Picture file map out numbers nodes lint) how reader-old reader-new writer-old
     writer-new =
     IsPicturedAt (record { numbers = numbers; nodes = nodes; lint = lint })
@@ -158,22 +161,3 @@ IsPerformed facts (Build file out) how reader-old reader-new writer-old writer-n
 IsPerformed facts (Rebuild wad out maps) how reader-old reader-new writer-old writer-new =
     IsRebuiltInto (map string_bytes maps.items) how writer-old writer-new
     × Keeps reader-old reader-new
-
--- the request is about a script
-abbrev pub is_of_script : Request → Bool
-is_of_script (Draw file script verbose) = true
-is_of_script (TryScript script verbose) = true
-is_of_script request = false
-
--- the request is over a WAD and no project
-abbrev pub is_over_wad : Request → Bool
-is_over_wad (Inspect wad name) = true
-is_over_wad (Levels wad) = true
-is_over_wad (Rebuild wad out maps) = true
-is_over_wad request = false
-
--- the statuses that leave standard error alone: all but 1, and of a script 0 alone
-abbrev pub IsQuiet : Request → ℕ → Type 0
-IsQuiet (Draw file script verbose) status = status ≡ 0
-IsQuiet (TryScript script verbose) status = status ≡ 0
-IsQuiet request status = ¬ (status ≡ 1)

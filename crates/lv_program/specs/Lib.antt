@@ -1,8 +1,10 @@
 pub mod Deeds
 pub mod Drawing
 pub mod DrawnOver
+pub mod Kinds
 pub mod LevelNames
 pub mod Rebuilding
+pub mod Salvaging
 pub mod SomeProject
 pub mod Sources
 pub mod Wads

@@ -11,6 +11,7 @@ mod over_file;
 mod picture_request;
 mod program;
 mod rebuild_request;
+mod salvage_request;
 mod script_file;
 mod wad_file;
 mod wad_levels;

@@ -3,6 +3,7 @@ ghost use Rattle.std.specs.Prelude.{◌≡◌, ◌≤◌, Ok, IfErr, IfOk, is_so
 ghost use Rattle.std.specs.Io.KnownBytes.{Keeps};
 ghost use Rattle.lv_program.specs.Drawing.{IsDrawnInto};
 ghost use Rattle.lv_program.specs.SomeProject.{IsDumped};
+ghost use Rattle.lv_program.specs.Salvaging.{IsSalvagedInto};
 ghost use Rattle.lv_program.specs.Deeds.{IsBuiltInto, IsCheckedAt, IsCreated, IsEdited, IsLintedAt, IsPicturedAt};
 ghost use Rattle.lv_reports.specs.declared.refusal.Refusal.{Refusal};
 
@@ -12,6 +13,7 @@ use crate::dump_request::dump;
 use crate::lint_request::{lint, lint_wad};
 use crate::over_disk::{check, create, edit};
 use crate::picture_request::{picture, picture_wad};
+use crate::salvage_request::salvage_lines;
 use crate::script_file::{read_script, script_name};
 use crate::wad_file::{begins_as_wad, check_wad};
 use lv_disk::{Disk, FileDisk};
@@ -232,6 +234,29 @@ where
     let file = file_at(rt, path, Access::Reads, why)?;
     let disk = FileDisk::new(&file, false);
     let how = dump(rt.alloc(), disk, writer).how;
+    ended_over(&file, how, why)
+}
+
+/// Writes the lines that draw the maps again that can be read of the project in the file at the path, be it damaged or
+/// not, and says where it is damaged.
+pub fn salvage_file<E, W, F>(
+    rt: &E,
+    path: &str,
+    writer: &mut W,
+    faults: &mut F,
+    why: &mut Causes,
+) -> Result<u8, Refusal>
+where
+    E: AllocGlobal + Files,
+    E::File: FileExt + Hold,
+    W: Write,
+    F: Write,
+    ensures small { IfOk result (λ s. s ≤ 3) }
+    ensures salvaged { IsSalvagedInto result (W.contents writer.old) (W.contents writer.new) }
+{
+    let file = file_at(rt, path, Access::Reads, why)?;
+    let disk = FileDisk::new(&file, false);
+    let how = salvage_lines(rt.alloc(), disk, writer, faults).how;
     ended_over(&file, how, why)
 }
 

@@ -1,13 +1,15 @@
 //! `perform`: does what a request asks for and answers the program's status.
 ghost use Rattle.std.specs.Prelude.{◌≡◌, ◌≤◌, ℕ, false, true, IfOk, List, Option, Result};
 ghost use Rattle.std.specs.Io.KnownBytes.{Keeps};
-ghost use Rattle.lv_program.specs.Deeds.{IsPerformed, IsQuiet, IsScratched, is_of_script, is_over_wad};
+ghost use Rattle.lv_program.specs.Deeds.{IsPerformed, IsScratched};
+ghost use Rattle.lv_program.specs.Kinds.{IsQuiet, is_over_wad, tells_beside};
 ghost use Rattle.lv_reports.specs.Statuses.{status_in};
 ghost use Rattle.lv_reports.specs.declared.refusal.Refusal.{Refusal};
 
 use crate::examining::examine;
 use crate::over_file::{
     build_file, check_file, create_file, draw_file, dump_file, edit_file, lint_file, picture_file,
+    salvage_file,
 };
 use crate::rebuild_request::rebuild;
 use crate::script_file::try_file;
@@ -61,7 +63,7 @@ where
     }
 }
 
-// Does what a request asks for that draws no script, and answers the status where it isn't refused.
+// Does what a request asks for that tells nothing but a refusal on standard error, and answers the status.
 fn done_quietly<E, R, W>(
     rt: &E,
     request: &Request,
@@ -74,7 +76,7 @@ where
     E::File: FileExt + Hold,
     R: Read,
     W: Write,
-    requires { is_of_script request.now ≡ false }
+    requires { tells_beside request.now ≡ false }
     ensures performed { IsPerformed ⟦<FileDisk<&'static NotedFile<E::File>> as Disk>⟧
         request.now result (R.remaining reader.old) (R.remaining reader.new)
         (W.contents writer.old) (W.contents writer.new) }
@@ -97,7 +99,9 @@ where
             let iwad = iwad.as_deref();
             lint_file(rt, file.as_str(), map, iwad, writer, why)
         }
-        Request::Draw { .. } | Request::TryScript { .. } => unreachable!(),
+        Request::Draw { .. } | Request::TryScript { .. } | Request::Salvage { .. } => {
+            unreachable!()
+        }
         Request::Dump { file } => dump_file(rt, file.as_str(), writer, why),
         Request::Picture {
             file,
@@ -163,6 +167,7 @@ where
             let path = script.as_str();
             try_file(rt, path, *verbose, writer, faults, &mut why.file)
         }
+        Request::Salvage { file } => salvage_file(rt, file.as_str(), writer, faults, why),
         _ => done_quietly(rt, request, reader, writer, why),
     }
 }

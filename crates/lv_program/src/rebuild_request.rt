@@ -7,7 +7,7 @@ ghost use Rattle.lv_program.specs.Rebuilding.{AreFateTexts, IsFateText, IsRebuil
 ghost use Rattle.lv_reports.specs.declared.refusal.Refusal.{Refusal};
 
 use lv_editor::{EditorError, InspectError};
-use lv_files::{Cause, Form, Hold, NewFile, open_new};
+use lv_files::{Cause, Form, Hold, NewFile, open_new_of};
 use lv_levels::ReadError;
 use lv_rebuild::{Fate, MadeLumps, RebuildError, RebuiltLevel, RebuiltWad, rebuild_wad};
 use lv_reports::{Causes, Refusal, status_told};
@@ -235,9 +235,10 @@ fn put_wad<E: Files, F: Write + OpenFile + Drop>(
     }
 }
 
-// Builds the levels of a WAD anew into the file at `out`, and tells what became of each.
+// Builds the levels of the WAD that was read at the path anew into the file at `out`, and tells what became of each.
 fn rebuild_into<E, W>(
     rt: &E,
+    path: &str,
     wad: &[u8],
     out: &str,
     names: &[String],
@@ -256,7 +257,7 @@ where
         Ok(rebuilt) => rebuilt,
         Err(error) => return Err(refusal_of(error)),
     };
-    let new = match open_new(rt.alloc(), rt, out, Form::Pwad) {
+    let new = match open_new_of(rt.alloc(), rt, path, out, Form::Pwad) {
         Ok(new) => new,
         Err(cause) => {
             *why = Some(cause);
@@ -291,7 +292,7 @@ fn read_at<E: AllocGlobal + Files>(
 
 /// Builds the levels of the WAD at the path anew, those of the names or all, into the file at `out`, and tells what
 /// became of each, or notes why a file can't be opened or made. The WAD is read whole before, so that `out` may be its
-/// path; that file is whole or as it was, and only nothing, an empty file or a PWAD is replaced.
+/// path; that file is whole or as it was, and only nothing, an empty file, a PWAD or what was read is replaced.
 pub fn rebuild<E, W>(
     rt: &E,
     path: &str,
@@ -312,5 +313,5 @@ where
         Ok(wad) => wad,
         Err(refusal) => return Err(refusal),
     };
-    rebuild_into(rt, &wad, out, names, writer, &mut why.out)
+    rebuild_into(rt, path, &wad, out, names, writer, &mut why.out)
 }

@@ -176,7 +176,8 @@ fn paths_of(request: &Request) -> (&str, &str) {
         Request::Create { file, .. }
         | Request::Edit { file }
         | Request::Check { file, .. }
-        | Request::Dump { file } => (file.as_str(), ""),
+        | Request::Dump { file }
+        | Request::Salvage { file } => (file.as_str(), ""),
         Request::Inspect { wad, .. } | Request::Levels { wad } => (wad.as_str(), ""),
         Request::TryScript { script, .. } => (script.as_str(), ""),
         Request::Build { file, out } => (file.as_str(), out.as_str()),

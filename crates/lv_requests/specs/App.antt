@@ -86,6 +86,10 @@ draw_app =
     (flag_rule (codes "check")))
     (flag_rule (codes "verbose"))
 
+-- `dump FILE [--salvage]`
+abbrev pub dump_app : App
+dump_app = with_rule (with_one_word (codes "dump") (codes "file")) (flag_rule (codes "salvage"))
+
 -- `picture FILE [MAP] [--out OUT] [--numbers] [--nodes] [--lint]`
 abbrev pub picture_app : App
 picture_app =
@@ -119,7 +123,7 @@ with_subcommands =
     check_app.top)
     lint_app.top)
     draw_app.top)
-    (with_one_word (codes "dump") (codes "file")).top)
+    dump_app.top)
     picture_app.top)
     inspect_app.top)
     build_app.top)

@@ -10,7 +10,7 @@ use Rattle.lv_requests.specs.App.{leveled_app}
 use Rattle.lv_requests.specs.declared.asked.Request.{Request}
 use Rattle.lv_requests.specs.declared.asked.RequestError.{RequestError}
 use Rattle.lv_requests.specs.declared.asked.RequestError.TheVariants.{Words, Codes, Number, Surplus, Memory}
-use Rattle.lv_requests.specs.declared.asked.Request.TheVariants.{Scratch, Create, Edit, Check, Lint, Draw, TryScript, Dump, Picture, Inspect, Levels, Build, Rebuild}
+use Rattle.lv_requests.specs.declared.asked.Request.TheVariants.{Scratch, Create, Edit, Check, Lint, Draw, TryScript, Dump, Salvage, Picture, Inspect, Levels, Build, Rebuild}
 
 -- the number that the argument's text is in decimal digits, within its limits
 pub record HasNumber (id : Text) (rows : List Row) (low high n : ℕ) : Type 0 where
@@ -55,8 +55,12 @@ AsksFor (TryScript script verbose) asked = (asked.0 ≡ codes "draw")
     × (first_of (codes "file") asked.1 ≡ Some (string_bytes script))
     × (first_of (codes "script") asked.1 ≡ None)
     × (verbose ≡ is_given (codes "verbose") asked.1)
-AsksFor (Dump file) asked =
-    (asked.0 ≡ codes "dump") × (first_of (codes "file") asked.1 ≡ Some (string_bytes file))
+AsksFor (Dump file) asked = (asked.0 ≡ codes "dump")
+    × (is_given (codes "salvage") asked.1 ≡ false)
+    × (first_of (codes "file") asked.1 ≡ Some (string_bytes file))
+AsksFor (Salvage file) asked = (asked.0 ≡ codes "dump")
+    × (is_given (codes "salvage") asked.1 ≡ true)
+    × (first_of (codes "file") asked.1 ≡ Some (string_bytes file))
 AsksFor (Picture file map out numbers nodes lint) asked = (asked.0 ≡ codes "picture")
     × (first_of (codes "file") asked.1 ≡ Some (string_bytes file))
     × (first_of (codes "map") asked.1 ≡ option_map string_bytes map)

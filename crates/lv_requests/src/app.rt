@@ -1,7 +1,7 @@
 //! The command line that clap reads: the program and its subcommands.
 ghost use Rattle.std.specs.Prelude.{◌≡◌, IfOk, codes};
 ghost use Rattle.clap.specs.Words.{App, app_of, new_app, with_subcommand};
-ghost use Rattle.lv_requests.specs.App.{IsArg, IsCommand, build_app, check_app, create_app, draw_app, flag_rule, inspect_app, journal_rule, last_rule, leveled_app, lint_app, option_rule, path_rule, picture_app, rebuild_app, repeated_rule, slot_rule, with_subcommands, with_one_word, word_rule};
+ghost use Rattle.lv_requests.specs.App.{IsArg, IsCommand, build_app, check_app, create_app, draw_app, dump_app, flag_rule, inspect_app, journal_rule, last_rule, leveled_app, lint_app, option_rule, path_rule, picture_app, rebuild_app, repeated_rule, slot_rule, with_subcommands, with_one_word, word_rule};
 
 use crate::help;
 use clap::{Arg, ArgAction, Command, value_parser};
@@ -125,10 +125,10 @@ fn draw<'a>(alloc: Global) -> Result<Command<'a>, AllocError>
 
 // `dump`.
 fn dump<'a>(alloc: Global) -> Result<Command<'a>, AllocError>
-    ensures { IfOk result (λ c. IsCommand c (with_one_word (codes "dump") (codes "file"))) }
+    ensures { IfOk result (λ c. IsCommand c dump_app) }
 {
     let about = "Prints lines that draw a project's maps again";
-    over_file(alloc, "dump", about, help::DUMP)
+    over_file(alloc, "dump", about, help::DUMP)?.arg(flag(alloc, "salvage"))
 }
 
 // `picture`.

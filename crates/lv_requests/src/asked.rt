@@ -45,6 +45,10 @@ pub enum Request {
     Dump {
         file: String,
     },
+    /// Write the lines that draw the maps again that can be read of a damaged project.
+    Salvage {
+        file: String,
+    },
     /// Draw a map of a project or a level of a WAD as a picture: the one of this name, or the current map or the
     /// first level; into a file, or onto the output. With numbers, with the built tree and with what `lint` tells, or
     /// without.

@@ -212,6 +212,22 @@ fn asked_draw(alloc: Global, found: &ArgMatches<'_>) -> Result<Request, RequestE
     }
 }
 
+// The request to write the lines of a project's maps, or of those that can be read of a damaged one.
+fn asked_dump(alloc: Global, found: &ArgMatches<'_>) -> Result<Request, RequestError>
+    ensures asked { IfOk result (λ r. AsksFor r (codes "dump", rows_of (found_of found.now))) }
+    ensures refused { IfErr result (RefusesValues (codes "dump", rows_of (found_of found.now))) }
+{
+    let file = match text(alloc, found, "file") {
+        Ok(file) => file,
+        Err(error) => return Err(error),
+    };
+    if is_given(found, "salvage") {
+        Ok(Request::Salvage { file })
+    } else {
+        Ok(Request::Dump { file })
+    }
+}
+
 // The request to build the nodes of a WAD's levels anew.
 fn asked_rebuild(alloc: Global, found: &ArgMatches<'_>) -> Result<Request, RequestError>
     ensures asked { IfOk result (λ r. AsksFor r (codes "rebuild", rows_of (found_of found.now))) }
@@ -288,10 +304,7 @@ fn asked(alloc: Global, name: &str, found: &ArgMatches<'_>) -> Result<Request, R
         },
         "check" => asked_check(alloc, found),
         "lint" => asked_lint(alloc, found),
-        "dump" => match text(alloc, found, "file") {
-            Ok(file) => Ok(Request::Dump { file }),
-            Err(error) => Err(error),
-        },
+        "dump" => asked_dump(alloc, found),
         "draw" => asked_draw(alloc, found),
         "picture" => asked_picture(alloc, found),
         "inspect" => asked_inspect(alloc, found),

@@ -78,7 +78,9 @@ over a new project in memory, and makes no file.";
 /// `dump`.
 pub const DUMP: &str = "\
 Prints command lines that draw all maps of FILE again, with the same numbers, from a new
-project: `leveled dump a.lv | leveled edit b.lv` takes the maps into another file. FILE
+project: `leveled dump a.lv | leveled edit b.lv` takes the maps into another file.
+--salvage: the maps of a damaged FILE, as far as its commands can be read; where it is
+damaged, how many commands are kept and how many are not goes to standard error. FILE
 isn't changed.";
 
 /// `picture`.
