@@ -35,8 +35,8 @@ fn scratch<R: Read, W: Write>(alloc: Global, reader: &mut R, writer: &mut W) -> 
     ended(run_in_memory(alloc, reader, writer, TURNS))
 }
 
-// Does what a request asks for that tells nothing but a refusal on standard error, and answers the status where it isn't
-// refused.
+// Does what a request asks for that tells nothing but a refusal on standard error, and answers the status where it
+// isn't refused.
 fn done_quietly<E, R, W>(
     rt: &E,
     request: &Request,
