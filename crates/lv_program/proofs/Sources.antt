@@ -217,3 +217,7 @@ examined_some name (Err TreeOutside) r s u w never = absurd never
 pub of_some_wad : (r s u w : Option (List ℕ)) (how : Result ℕ Refusal) (does : List ℕ → Type 0) → OverWad r s how u w does → OverSomeWad how u w does
 of_some_wad r s u w how does (inl unread) = inl unread
 of_some_wad r s u w how does (inr (wad, all, done)) = inr (wad, done)
+
+-- where a WAD is asked for beside it, or not, for the same reason
+pub linted_as : (a b : Bool) (name : Option (List ℕ)) (how : Result ℕ Refusal) (u w : Option (List ℕ)) → a ≡ b → IsLintedAt a name how u w → IsLintedAt b name how u w
+linted_as a b name how u w same done = subst (λ (t : Bool). IsLintedAt t name how u w) same done
