@@ -218,6 +218,9 @@ pub of_some_wad : (r s u w : Option (List ℕ)) (how : Result ℕ Refusal) (does
 of_some_wad r s u w how does (inl unread) = inl unread
 of_some_wad r s u w how does (inr (wad, all, done)) = inr (wad, done)
 
--- where a WAD is asked for beside it, or not, for the same reason
-pub linted_as : (a b : Bool) (name : Option (List ℕ)) (how : Result ℕ Refusal) (u w : Option (List ℕ)) → a ≡ b → IsLintedAt a name how u w → IsLintedAt b name how u w
-linted_as a b name how u w same done = subst (λ (t : Bool). IsLintedAt t name how u w) same done
+-- where a WAD is asked for beside it, or not, for the same reason, and the same map
+pub linted_as : (a b : Bool) (m n : Option (List ℕ)) (how : Result ℕ Refusal) (u w : Option (List ℕ)) → a ≡ b → m ≡ n
+    → IsLintedAt a m how u w → IsLintedAt b n how u w
+linted_as a b m n how u w same named done =
+    subst (λ (t : Bool). IsLintedAt t n how u w) same
+        (subst (λ (t : Option (List ℕ)). IsLintedAt a t how u w) named done)
