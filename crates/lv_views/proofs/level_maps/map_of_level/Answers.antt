@@ -1,6 +1,6 @@
 use Rattle.std.proofs.Common.{◌∙◌, ap}
 use Rattle.lv_levels.specs.Drawn.{drawn_lists, entries_hindrance, lists_hindrance}
-use Rattle.lv_import.proofs.FineLemmas.{both_none}
+use Rattle.lv_import.proofs.RefusalLemmas.{both_none}
 use Rattle.lv_views.proofs.level_maps.map_of_level.Goals as goal
 
 pub import_drawn-requires : goal.import_drawn-requires
