@@ -6,7 +6,7 @@ use Rattle.lv_maptables.specs.Projects.{MapsView, project_of}
 use Rattle.lv_project.specs.declared.error.ProjectError.{ProjectError}
 use Rattle.lv_project.specs.declared.error.ProjectError.TheVariants as opening
 use Rattle.lv_reports.specs.declared.refusal.Refusal.{Refusal}
-use Rattle.lv_reports.specs.declared.refusal.Refusal.TheVariants.{Project, Lines, Level, Build, NoSuchMap}
+use Rattle.lv_reports.specs.declared.refusal.Refusal.TheVariants.{Project, Lines, Level, Build, NoSuchMap, NotAMap, TreeOutside}
 use Rattle.lv_salvage.specs.Salvages.{IsSalvaged}
 use Rattle.lv_views.specs.Dumping.{IsDumpedOf}
 use Rattle.lv_program.specs.Salvaging.{IsSalvagedFrom, IsSalvagedInto, IsSalvagedOver}
@@ -19,6 +19,8 @@ salvaged_from file maps records behind (Err (Project e)) u w is never = absurd n
 salvaged_from file maps records behind (Err (Level e)) u w is never = absurd never
 salvaged_from file maps records behind (Err (Build e)) u w is never = absurd never
 salvaged_from file maps records behind (Err NoSuchMap) u w is never = absurd never
+salvaged_from file maps records behind (Err (NotAMap e)) u w is never = absurd never
+salvaged_from file maps records behind (Err TreeOutside) u w is never = absurd never
 
 -- a file that wasn't read
 pub unread : (reads : List ℕ → Type 0) (e : ProjectError) (u : Option (List ℕ)) → (e ≡ opening.Device) ⊎ (e ≡ opening.OutOfMemory) → IsSalvagedOver reads (Err (Project e)) u u
