@@ -223,4 +223,4 @@ pub linted_as : (a b : Bool) (m n : Option (List ℕ)) (how : Result ℕ Refusal
     → IsLintedAt a m how u w → IsLintedAt b n how u w
 linted_as a b m n how u w same named done =
     subst (λ (t : Bool). IsLintedAt t n how u w) same
-        (subst (λ (t : Option (List ℕ)). IsLintedAt a t how u w) named done)
+    (subst (λ (t : Option (List ℕ)). IsLintedAt a t how u w) named done)
