@@ -103,10 +103,19 @@ fn refuse(rt: &HostRuntime, error: &RequestError) -> u8
     }
 }
 
+// Whether the request answers lines of the input.
+fn reads_lines(request: &Request) -> bool {
+    matches!(request, Request::Scratch | Request::Edit { .. })
+}
+
+// Whether a person types the input and sees what is said beside the output.
+fn is_at_terminal(rt: &HostRuntime) -> bool {
+    rt.stdin().is_terminal() && rt.stderr().is_terminal()
+}
+
 // Tells a person at a terminal how lines are given, before the first one is read.
 fn greet(rt: &HostRuntime, request: &Request) {
-    let reads_lines = matches!(request, Request::Scratch | Request::Edit { .. });
-    if reads_lines && rt.stdin().is_terminal() && rt.stderr().is_terminal() {
+    if reads_lines(request) && is_at_terminal(rt) {
         let _ = eprintln!(rt; "one command a line; Ctrl-D ends; man leveled");
     }
 }
