@@ -1,5 +1,5 @@
 //! Records as they are read.
-ghost use Rattle.std.specs.Prelude.{◌≡◌, ◌≤◌, ◌<◌, ◌⊎◌, ◌+◌, [], ◌∷◌, drop, length, min, None, IfOk, IfErr, IfNone, IfSome, OnOk};
+ghost use Rattle.std.specs.Prelude.{◌≡◌, ◌≤◌, ◌<◌, ◌⊎◌, ◌+◌, [], ◌∷◌, drop, take, length, min, None, IfOk, IfErr, IfNone, IfSome, OnOk};
 ghost use Rattle.std.specs.Int.{to_le_bytes, w32};
 ghost use Rattle.lv_disk.specs.Files.{HasAt};
 ghost use Rattle.lv_disk.specs.Stops.{Counted, CountsFaults, Each};
@@ -7,33 +7,30 @@ ghost use Rattle.lv_disk.specs.Gates.{open_gate, IsClosedAt};
 ghost use Rattle.lv_journal.specs.Damage.{IsBadRecord, IsJournalDamagedAt};
 ghost use Rattle.lv_journal.specs.Refusals.{IfGateDamaged, RefusesToOpenJournal};
 ghost use Rattle.lv_disk.specs.Reading.{OnlyReads};
-ghost use Rattle.lv_journal.specs.Records.{record_bytes, records_bytes, payloads_of, IsJournal};
+ghost use Rattle.lv_journal.specs.Records.{record_bytes, records_bytes, IsJournal};
 
 use crate::JournalError;
-use crate::record::{HEAD, LEAST, LONGEST, record_len};
+use crate::payloads::Payloads;
+use crate::record::{HEAD, LEAST, LONGEST};
 use byteorder::{ByteOrder, LittleEndian};
 use lv_disk::{Area, DeviceFault, Disk, OPEN_GATE, read_gate};
 use std::alloc::Global;
 
-// So many bytes from a place on.
+// Reads so many bytes from a place on into the first ones.
 fn read_payload<D: Disk>(
-    alloc: Global,
     disk: &mut D,
     at: u64,
     len: usize,
-) -> Result<Vec<u8>, JournalError>
-    requires { Each (D.reads disk.old) (λ file. at + len ≤ length file) }
-    ensures len { IfOk result (λ payload. length payload.items ≡ len) }
-    ensures told { IfOk result (λ payload. Each (D.reads disk.old) (HasAt at payload.items)) }
+    into: &mut [u8],
+) -> Result<(), DeviceFault>
+    requires short { len ≤ length into.old }
+    requires within { Each (D.reads disk.old) (λ file. at + len ≤ length file) }
+    ensures told { OnOk result (Each (D.reads disk.old) (HasAt at (take len into.new))) }
+    ensures len { length into.new ≡ length into.old }
     ensures reads { OnlyReads D.Disk disk.old disk.new }
-    ensures count { CountsFaults JournalError.Device (D.failures disk.old)
-        (D.failures disk.new) result }
-    ensures no_other { IfErr result
-        (λ e. (e ≡ JournalError.Device) ⊎ (e ≡ JournalError.OutOfMemory)) }
+    ensures count { Counted (D.failures disk.old) (D.failures disk.new) result }
 {
-    let mut payload = vec![in alloc; 0; len]?;
-    disk.read(at, &mut payload)?;
-    Ok(payload)
+    disk.read(at, &mut into[..len])
 }
 
 // The number that the four bytes behind the first are, the lowest first.
@@ -52,7 +49,7 @@ fn read_head<D: Disk>(disk: &mut D, at: u64) -> Result<(u8, u32), DeviceFault>
     ensures reads { OnlyReads D.Disk disk.old disk.new }
     ensures count { Counted (D.failures disk.old) (D.failures disk.new) result }
 {
-    let mut head = [0; HEAD as usize];
+    let mut head = [0; 5];
     disk.read(at, &mut head)?;
     Ok((head[0], length_in(head)))
 }
@@ -122,24 +119,26 @@ fn read_record_len<D: Disk>(
     Ok(Some(len))
 }
 
-// The payload of the record whose gate stands at `place`, none where that gate is closed. The file or the area ends at
-// `end`.
+// Reads the payload of the record whose gate stands at `place` into the first bytes, and answers how many they are; none
+// where that gate is closed. The file or the area ends at `end`.
 fn read_record<D: Disk>(
-    alloc: Global,
     disk: &mut D,
     area: Area,
     place: u64,
     end: u64,
-) -> Result<Option<Vec<u8>>, JournalError>
+    into: &mut [u8],
+) -> Result<Option<usize>, JournalError>
+    requires room { length into.old ≡ 256 }
     requires inside { place < end }
     requires ends { Each (D.reads disk.old)
         (λ file. end ≡ min (length file) (area.base + area.length)) }
     ensures closed { IfOk result
         (λ found. IfNone found (Each (D.reads disk.old) (IsClosedAt place))) }
-    ensures found { IfOk result (λ found. IfSome found (λ payload.
-        Each (D.reads disk.old) (HasAt place (record_bytes payload.items)))) }
-    ensures fits { IfOk result (λ found. IfSome found (λ payload.
-        (length payload.items ≤ 256) × (place + 6 + length payload.items ≤ end))) }
+    ensures found { IfOk result (λ found. IfSome found (λ len.
+        Each (D.reads disk.old) (HasAt place (record_bytes (take len into.new))))) }
+    ensures fits { IfOk result (λ found. IfSome found (λ len.
+        (len ≤ 256) × (place + 6 + len ≤ end))) }
+    ensures len { length into.new ≡ length into.old }
     ensures damaged { IfErr result (λ e. IfGateDamaged e (λ at.
         (at ≡ place) × Each (D.reads disk.old) (IsBadRecord area place))) }
     ensures reads { OnlyReads D.Disk disk.old disk.new }
@@ -149,8 +148,8 @@ fn read_record<D: Disk>(
 {
     match read_record_len(disk, area, place, end)? {
         Some(len) => {
-            let payload = read_payload(alloc, disk, place + HEAD, len as usize)?;
-            Ok(Some(payload))
+            read_payload(disk, place + HEAD, len as usize, into)?;
+            Ok(Some(len as usize))
         }
         None => Ok(None),
     }
@@ -162,15 +161,13 @@ fn read_up_to<D: Disk>(
     disk: &mut D,
     area: Area,
     end: u64,
-) -> Result<Vec<Vec<u8>>, JournalError>
+) -> Result<Payloads, JournalError>
     requires inside { area.base < end }
     requires ends { Each (D.reads disk.old)
         (λ file. end ≡ min (length file) (area.base + area.length)) }
     requires within { end ≤ area.base + area.length }
-    ensures sound { IfOk result (λ records. Each (D.reads disk.old)
-        (IsJournal area (payloads_of records.items))) }
-    ensures room { IfOk result
-        (λ records. length (records_bytes (payloads_of records.items)) < area.length) }
+    ensures sound { IfOk result (λ records. Each (D.reads disk.old) (IsJournal area records)) }
+    ensures room { IfOk result (λ records. length (records_bytes records) < area.length) }
     ensures damaged { IfErr result (λ e. IfGateDamaged e
         (λ place. Each (D.reads disk.old) (IsJournalDamagedAt area place))) }
     ensures reads { OnlyReads D.Disk disk.old disk.new }
@@ -178,11 +175,12 @@ fn read_up_to<D: Disk>(
         (D.failures disk.new) result }
     ensures no_other { IfErr result RefusesToOpenJournal }
 {
-    let mut records = Vec::new(alloc);
+    let mut records = Payloads::new(alloc);
+    let mut payload = [0; LONGEST];
     let mut next = 0;
-    while let Some(payload) = read_record(alloc, disk, area, area.base + next, end)? {
-        next += record_len(&payload);
-        records.push(payload)?;
+    while let Some(len) = read_record(disk, area, area.base + next, end, &mut payload)? {
+        records.push(&payload[..len])?;
+        next += HEAD + len as u64;
     }
     Ok(records)
 }
@@ -192,11 +190,9 @@ pub fn read_records<D: Disk>(
     alloc: Global,
     disk: &mut D,
     area: Area,
-) -> Result<Vec<Vec<u8>>, JournalError>
-    ensures sound { IfOk result (λ records. Each (D.reads disk.old)
-        (IsJournal area (payloads_of records.items))) }
-    ensures room { IfOk result
-        (λ records. length (records_bytes (payloads_of records.items)) < area.length) }
+) -> Result<Payloads, JournalError>
+    ensures sound { IfOk result (λ records. Each (D.reads disk.old) (IsJournal area records)) }
+    ensures room { IfOk result (λ records. length (records_bytes records) < area.length) }
     ensures damaged { IfErr result (λ e. IfGateDamaged e
         (λ place. Each (D.reads disk.old) (IsJournalDamagedAt area place))) }
     ensures reads { OnlyReads D.Disk disk.old disk.new }
