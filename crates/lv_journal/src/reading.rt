@@ -119,8 +119,8 @@ fn read_record_len<D: Disk>(
     Ok(Some(len))
 }
 
-// Reads the payload of the record whose gate stands at `place` into the first bytes, and answers how many they are; none
-// where that gate is closed. The file or the area ends at `end`.
+// Reads the payload of the record whose gate stands at `place` into the first bytes, and answers how many they are;
+// none where that gate is closed. The file or the area ends at `end`.
 fn read_record<D: Disk>(
     disk: &mut D,
     area: Area,
