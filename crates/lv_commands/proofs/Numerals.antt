@@ -1,15 +1,19 @@
 -- A word that is a numeral, as `parse` reads it.
-use Rattle.std.proofs.Common.{◌≡◌, ℕ, suc, zero, ◌≤◌, ◌<◌, ◌^◌, Bool, true, false, cond, ◌&&◌, List, [], ◌∷◌, length, get_or, refl, sym, ◌∙◌, ap, arith, ℤ, pos, negsuc, nat_eq, FitsSigned, Option, Some, None, subst, drop, lit<}
+use Rattle.std.proofs.Common.{◌≡◌, ℕ, suc, zero, ◌≤◌, ◌<◌, ◌^◌, Bool, true, false, cond, ◌&&◌, List, [], ◌∷◌, length, get_or, refl, sym, ◌∙◌, ap, arith, ℤ, pos, negsuc, nat_eq, FitsSigned, Option, Some, None, subst, drop, take, ◌+◌, ◌*◌, ◌-◌, ◌-ℤ◌, to_z, of_z, eq-eqb, length-drop, lit<}
 use Rattle.std.specs.Prelude.{decimal, neg_ℤ, int_le, nat_le, not, bytes_eq, codes}
-use Rattle.std.specs.Int.{w16}
+use Rattle.std.specs.Int.{w16, w32}
 use Rattle.std.specs.Fmt.{signed_decimal, digits}
 use Rattle.std.specs.List.{list_all}
 use Rattle.std.specs.Str.{all_ascii_digits, IsAscii, IsUtf8}
 use Rattle.std.specs.Str.Parse.{digits_value, IsNumeral, without_leading_sign}
 use Rattle.std.proofs.lemmas.Grind.{common_steps}
 use Rattle.std.proofs.lemmas.Bool.{and_from, eqb-true, le-leb, leb-true, ne_eqb}
-use Rattle.std.proofs.lemmas.Str.{IsUtf8-from_ascii}
-use Rattle.std.proofs.lemmas.Str.Parse.{IsNumeralModel, numerals_by_value, tells_all_ascii_digits}
+use Rattle.std.proofs.lemmas.Str.{IsUtf8-from_ascii, digit_value_digit}
+use Rattle.std.proofs.lemmas.Int.Digits.{digits_value_more}
+use Rattle.std.proofs.lemmas.Str.Parse.{IsNumeralModel, numerals_by_value, tells_all_ascii_digits, digit_at, digits_value-take-le}
+use Rattle.std.specs.Int.{IsInRange}
+use Rattle.std.proofs.lemmas.List.{take_all}
+use Rattle.std.proofs.lemmas.Int.{ints}
 use Rattle.std.proofs.lemmas.Fmt.{decimal-digits_value, digits_decimal, digits_value-decimal, decimal_nonempty, first_decimal}
 use Rattle.lv_lumps.specs.Names.{is_digit, is_nonzero_digit}
 use Rattle.lv_commands.specs.Words.{is_numeral, is_natural, numeral_value}
@@ -17,6 +21,20 @@ use Rattle.lv_commands.specs.Places.{place_fault, Number}
 
 own : IsNumeralModel (λ ds. all_ascii_digits ds ≡ true) (digits_value 10)
 own = numerals_by_value _ tells_all_ascii_digits
+
+-- a digit at each place
+pub digit_in : (w : List ℕ) (i : ℕ) → all_ascii_digits w ≡ true → i < length w → IsInRange 48 57 (get_or w i 0)
+digit_in w i d h = digit_at w i (own.to w d) h
+
+-- the number of one digit more
+pub value-more : (w : List ℕ) (i : ℕ) → all_ascii_digits w ≡ true → i < length w → digits_value 10 (take (i + 1) w) + 48 ≡ digits_value 10 (take i w) * 10 + get_or w i 0
+value-more w i d h =
+    let value = digit_value_digit (get_or w i 0) (digit_in w i d h) in
+    omega (arith, digits_value_more 10 w i h, value)
+
+-- the number of the first digits isn't greater
+pub value-front : (w : List ℕ) (i : ℕ) → digits_value 10 (take i w) ≤ digits_value 10 w
+value-front w i = digits_value-take-le 10 w i (omega arith)
 
 -- what a natural's digits are
 pub record IsPlain (w : List ℕ) : Type 0 where
@@ -156,6 +174,17 @@ faulted true true true e f = absurd (f refl refl)
 faulted true true false e f = refl
 faulted true false b e f = refl
 faulted false a b e f = absurd cc
+
+-- what the digits behind a minus stand for
+pub minus-value : (w : List ℕ) → get_or w 0 0 ≡ 45 → numeral_value w ≡ neg_ℤ (pos (digits_value 10 (take (length w - 1) (drop 1 w))))
+minus-value w h =
+    let minus = eq-eqb (get_or w 0 0) 45 h in
+    let all : take (length w - 1) (drop 1 w) ≡ drop 1 w = take_all (length w - 1) (drop 1 w) (omega (arith, length-drop 1 w)) in
+    (λ i. cond (minus i) (neg_ℤ (pos (digits_value 10 (cond (minus i) (drop 1 w) (drop (cond (nat_eq (get_or w 0 0) 43) 1 0) w))))) (pos (digits_value 10 (cond (minus i) (drop 1 w) (drop (cond (nat_eq (get_or w 0 0) 43) 1 0) w)))))
+    ∙ ap (λ ds. neg_ℤ (pos (digits_value 10 ds))) (sym all)
+
+pub negated : (n : ℕ) → n ≤ 32768 → to_z w16 (of_z w16 (to_z w32 (of_z w32 (pos 0 -ℤ to_z w32 n)))) ≡ neg_ℤ (pos n)
+negated n h = omega (arith, ints)
 
 -- a numeral of no sixteen bits is out of each range
 pub fault-out : (w : List ℕ) (low high : ℤ) → is_numeral w ≡ true → FitsSigned w16 low → FitsSigned w16 high → (FitsSigned w16 (numeral_value w) → ⊥) → place_fault (Number low high) w ≡ Some 2

@@ -1,14 +1,15 @@
 -- A name filled up with NUL, and its text.
-use Rattle.std.proofs.Common.{◌≡◌, ℕ, Bool, true, false, cond, List, [], ◌∷◌, ◌++◌, length, refl, ◌∙◌, ap, arith, zero, suc, ◌-◌, nat_eq, nat_le, ◌≤◌, ◌&&◌, sym, subst, lit≤}
+use Rattle.std.proofs.Common.{◌≡◌, ℕ, Bool, true, false, cond, List, [], ◌∷◌, ◌++◌, length, refl, ◌∙◌, ap, arith, zero, suc, ◌-◌, nat_eq, nat_le, nat_lt, ◌≤◌, ◌&&◌, sym, subst, lit≤}
 use Rattle.std.specs.Prelude.{◌||◌, take_while, replicate, not}
 use Rattle.std.specs.List.{list_all}
 use Rattle.std.specs.Str.{IsAscii, IsUtf8}
 use Rattle.std.proofs.lemmas.Grind.{common_steps}
 use Rattle.std.proofs.lemmas.Str.{IsUtf8-from_ascii}
 use Rattle.std.proofs.lemmas.List.Sums.{take_while-cons}
-use Rattle.std.proofs.lemmas.Bool.{both_ways, eqb-true, le-leb, leb-true, ne_eqb, or_left, or_right}
+use Rattle.std.proofs.lemmas.Bool.{both_ways, eqb-true, le-leb, leb-true, lt-ltb, ne_eqb, or_left, or_right}
 use Rattle.lv_lumps.specs.declared.records.Name8.{Name8}
 use Rattle.lv_lumps.specs.Names.{IsNamed, is_digit, is_marker, is_name, is_name_byte, is_nonzero_digit, name_of, name_text}
+use Rattle.lv_commands.specs.Words.{is_printable, is_word}
 use Rattle.lv_commands.proofs.Numerals.{both}
 
 abbrev pub is_set : ℕ → Bool
@@ -73,6 +74,20 @@ name-range b e =
     (λ h. exactly 91 b h (lit≤ tt) (lit≤ tt)))
     (λ h. exactly 93 b h (lit≤ tt) (lit≤ tt)))
     (λ h. exactly 92 b h (lit≤ tt) (lit≤ tt))
+
+printable : (w : List ℕ) → list_all is_name_byte w ≡ true → list_all is_printable w ≡ true
+printable [] e = refl
+printable (b ∷ bs) e =
+    let h = both (is_name_byte b) (list_all is_name_byte bs) e in
+    let range = name-range b h.0 in
+    and (is_printable b) (list_all is_printable bs) (and (nat_le 33 b) (nat_le b 126) (le-leb 33 b (omega (arith, range.0))) (le-leb b 126 (omega (arith, range.1)))) (printable bs h.1)
+
+-- a name is a word
+pub name-word : (w : List ℕ) → is_name w ≡ true → is_word w ≡ true
+name-word w e =
+    let h = both (nat_le 1 (length w) && nat_le (length w) 8) (list_all is_name_byte w) e in
+    let some = leb-true 1 (length w) (both (nat_le 1 (length w)) (nat_le (length w) 8) h.0).0 in
+    and (nat_lt 0 (length w)) (list_all is_printable w) (lt-ltb 0 (length w) (omega (arith, some))) (printable w h.1)
 
 letter : (k b : ℕ) → is_name_byte k ≡ true → nat_eq b k ≡ true → is_name_byte b ≡ true
 letter k b is e = ap is_name_byte (eqb-true b k e) ∙ is

@@ -25,13 +25,14 @@ pub fn name_in(word: &[u8]) -> Result<Name8, CommandError>
     ensures found { IfOk result (λ n. (name_text n ≡ word.now) × IsNamed is_name n) }
     ensures fault { TellsFault result (place_fault (Named is_name) word.now) }
 {
-    if !has_word_form(word) {
-        return Err(CommandError::NotACommand);
-    }
+    // A name is a word, so that only what is none is looked at twice.
     if is_name(word) {
-        Ok(Name8::from_text(word))
-    } else {
+        return Ok(Name8::from_text(word));
+    }
+    if has_word_form(word) {
         Err(CommandError::BadName)
+    } else {
+        Err(CommandError::NotACommand)
     }
 }
 

@@ -1,5 +1,8 @@
 //! Parts of a line between spaces, and the numbers that they are.
-ghost use Rattle.std.specs.Prelude.{◌≡◌, ◌∷◌, IfOk, None, Some, option_copied};
+ghost use Rattle.std.specs.Prelude.{◌≡◌, ◌≤◌, ◌<◌, ◌∷◌, IfOk, IfNone, IfSome, None, Some, option_copied, true, FitsSigned};
+ghost use Rattle.std.specs.Int.{w16};
+ghost use Rattle.std.specs.Str.{all_ascii_digits};
+ghost use Rattle.std.specs.Str.Parse.{digits_value};
 ghost use Rattle.std.specs.Fmt.{signed_decimal};
 ghost use Rattle.std.specs.List.{list_all};
 ghost use Rattle.lv_commands.specs.Errors.{TellsFault};
@@ -9,7 +12,6 @@ ghost use Rattle.lv_lumps.specs.Drawing.{IsBetween};
 ghost use Rattle.lv_lumps.specs.Names.{is_digit};
 
 use crate::error::CommandError;
-use std::str;
 
 // Whether each byte prints and is no space.
 fn are_printable(bytes: &[u8]) -> bool
@@ -66,6 +68,40 @@ pub fn next_part(line: &[u8]) -> (&[u8], Option<&[u8]>)
     (line, None)
 }
 
+// The number that digits write, none where it is above 32,768.
+fn natural_of(digits: &[u8]) -> Option<u32>
+    requires { all_ascii_digits digits.now ≡ true }
+    ensures few { IfSome result (λ n. (n ≡ digits_value 10 digits.now) × (n ≤ 32768)) }
+    ensures none { IfNone result (32768 < digits_value 10 digits.now) }
+{
+    let mut value = 0;
+    for digit in digits {
+        value = 10 * value + u32::from(*digit - b'0');
+        if value > 32_768 {
+            return None;
+        }
+    }
+    Some(value)
+}
+
+// The number that a numeral writes, none where it hasn't sixteen bits.
+fn value_of(word: &[u8]) -> Option<i16>
+    requires { is_numeral word.now ≡ true }
+    ensures found { IfSome result (λ n. n ≡ numeral_value word.now) }
+    ensures none { IfNone result (¬ FitsSigned w16 (numeral_value word.now)) }
+{
+    match word {
+        [b'-', digits @ ..] => match natural_of(digits) {
+            Some(n) => Some((-(n as i32)) as i16),
+            None => None,
+        },
+        _ => match natural_of(word) {
+            Some(n) if n < 32_768 => Some(n as i16),
+            _ => None,
+        },
+    }
+}
+
 /// The number that a word stands for, between two bounds.
 pub fn number_in(word: &[u8], low: i16, high: i16) -> Result<i16, CommandError>
     ensures found { IfOk result (λ n. (numeral_value word.now ≡ n)
@@ -75,15 +111,8 @@ pub fn number_in(word: &[u8], low: i16, high: i16) -> Result<i16, CommandError>
     if !has_numeral_form(word) {
         return Err(CommandError::NotACommand);
     }
-    match str::from_utf8(word) {
-        Ok(text) => match text.parse::<i16>() {
-            Ok(n) => if low <= n && n <= high {
-                Ok(n)
-            } else {
-                Err(CommandError::OutOfRange)
-            },
-            Err(_) => Err(CommandError::OutOfRange),
-        },
-        Err(_) => unreachable!(),
+    match value_of(word) {
+        Some(n) if low <= n && n <= high => Ok(n),
+        _ => Err(CommandError::OutOfRange),
     }
 }

@@ -1,6 +1,5 @@
 -- What the bytes of an area of a file stand for: a list of payloads.
-use Rattle.std.specs.Prelude.{◌≡◌, ◌<◌, ◌≤◌, ◌+◌, ℕ, List, [], ◌∷◌, ◌++◌, length, map, Vec}
-use Rattle.std.specs.declared.alloc.Global.{Global}
+use Rattle.std.specs.Prelude.{◌≡◌, ◌<◌, ◌≤◌, ◌+◌, ℕ, List, [], ◌∷◌, ◌++◌, length}
 use Rattle.std.specs.List.{All}
 use Rattle.std.specs.Int.{to_le_bytes, w32}
 use Rattle.lv_disk.specs.Files.{HasAt}
@@ -28,7 +27,3 @@ abbrev pub EndsAt : Area → ℕ → List ℕ → Type 0
 EndsAt area end file =
     (payloads : List (List ℕ)) × IsJournal area payloads file
     × (length (records_bytes payloads) ≡ end)
-
--- the payloads, each in a vector
-abbrev pub payloads_of : List (Vec ℕ Global) → List (List ℕ)
-payloads_of payloads = map (λ payload. payload.items) payloads

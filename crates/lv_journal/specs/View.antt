@@ -1,14 +1,13 @@
 -- What the fields of a journal tell of.
-use Rattle.std.specs.Prelude.{◌<◌, ◌≤◌, ℕ, List, [], length, Option, Some, None, Vec}
-use Rattle.std.specs.declared.alloc.Global.{Global}
-use Rattle.lv_journal.specs.Records.{records_bytes, payloads_of}
+use Rattle.std.specs.Prelude.{◌<◌, ◌≤◌, ℕ, List, [], length, Option, Some, None}
+use Rattle.lv_journal.specs.Records.{records_bytes}
 use Rattle.lv_journal.specs.State.{JournalState}
 use Rattle.lv_journal.specs.declared.journal.Journal.TheInside.{Inside}
 
 -- the payloads that the journal was opened with, none where it was not opened
-abbrev pub found_in : Option (Vec (Vec ℕ Global) Global) → List (List ℕ)
+abbrev pub found_in : Option (List (List ℕ)) → List (List ℕ)
 found_in None = []
-found_in (Some records) = payloads_of records.items
+found_in (Some records) = records
 
 abbrev pub journal_state : Inside → JournalState
 journal_state fields = record {

@@ -1,6 +1,6 @@
 //! A journal: a record counts where its gate is open, and a closed gate stands behind the last one, on the disk before
 //! anything is written behind it.
-ghost use Rattle.std.specs.Prelude.{◌≡◌, ◌≤◌, ◌<◌, ◌⊎◌, ◌↔◌, ◌+◌, [], ◌∷◌, length, true, false, OnOk, OnErr, IsErrOf, IfErr, IfOk};
+ghost use Rattle.std.specs.Prelude.{◌≡◌, ◌≤◌, ◌<◌, ◌⊎◌, ◌↔◌, ◌+◌, [], ◌∷◌, length, slice_get, option_copied, true, false, OnOk, OnErr, IsErrOf, IfErr, IfOk};
 ghost use Rattle.lv_disk.specs.Moments.{LeavesOnly};
 ghost use Rattle.lv_disk.specs.Stops.{CountsFaults, From, Follows, Each, LeadsBy};
 ghost use Rattle.lv_disk.specs.Gates.{IsClosedAt};
@@ -9,12 +9,13 @@ ghost use Rattle.lv_journal.specs.Append.{Appends, MayAppend};
 ghost use Rattle.lv_journal.specs.Damage.{IsJournalDamagedAt};
 ghost use Rattle.lv_journal.specs.Refusals.{IfGateDamaged, RefusesAppend, RefusesToOpenJournal};
 ghost use Rattle.lv_disk.specs.Reading.{OnlyReads};
-ghost use Rattle.lv_journal.specs.Records.{payloads_of, IsJournal};
+ghost use Rattle.lv_journal.specs.Records.{IsJournal};
 ghost use Rattle.lv_journal.specs.State.{opened, room_of, gate_of, IsAbove, IsReadyIn};
 
 use crate::JournalError;
+use crate::payloads::Payloads;
 use crate::reading::read_records;
-use crate::record::{LEAST, record_len, records_len, write_record};
+use crate::record::{LEAST, record_len, write_record};
 use lv_disk::{Area, CLOSED_GATE, Disk};
 use std::alloc::Global;
 use std::marker::Model;
@@ -25,7 +26,7 @@ pub struct Journal {
     // Where in the area the next gate stands.
     next: u32,
     must_reopen: bool,
-    records: Option<Vec<Vec<u8>>>,
+    records: Option<Payloads>,
 }
 
 // A call of its own, so that who owns a journal lets its records go by one step.
@@ -80,7 +81,7 @@ impl Journal {
         let records = read_records(alloc, disk, area)?;
         Ok(Journal {
             area,
-            next: records_len(&records) as u32,
+            next: records.len_of_first(records.len()) as u32,
             must_reopen: false,
             records: Some(records),
         })
@@ -111,25 +112,33 @@ impl Journal {
         Journal::empty(area)
     }
 
-    /// The payloads that `open` found, in order.
-    pub fn records(&self) -> &[Vec<u8>]
-        ensures { payloads_of result.now ≡ self.now.records }
+    /// How many payloads `open` found.
+    pub fn count(&self) -> usize
+        ensures { result ≡ length self.now.records }
     {
         match &self.records {
-            Some(records) => records,
-            None => &[],
+            Some(records) => records.len(),
+            None => 0,
         }
     }
 
-    /// Where in the file the gate of the n-th of `records` stands.
+    /// The n-th payload that `open` found.
+    pub fn payload(&self, n: usize) -> Option<&[u8]>
+        ensures { option_copied result ≡ slice_get self.now.records n }
+    {
+        match &self.records {
+            Some(records) => records.get(n),
+            None => None,
+        }
+    }
+
+    /// Where in the file the gate of the n-th payload stands that `open` found.
     pub fn place(&self, n: usize) -> Option<u64>
         ensures { result ≡ gate_of self.now n }
     {
-        let records = self.records();
-        if n < records.len() {
-            Some(self.area.base + records_len(&records[..n]))
-        } else {
-            None
+        match &self.records {
+            Some(records) if n < records.len() => Some(self.area.base + records.len_of_first(n)),
+            _ => None,
         }
     }
 

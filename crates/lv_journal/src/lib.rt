@@ -4,6 +4,7 @@
 mod error;
 mod journal;
 mod law;
+mod payloads;
 mod reading;
 mod record;
 

@@ -3,7 +3,7 @@ ghost use Rattle.std.specs.Prelude.{◌≡◌, ◌≤◌, ◌<◌, ◌+◌, ◌+
 ghost use Rattle.std.specs.Int.{to_le_bytes, w32};
 ghost use Rattle.lv_disk.specs.Moments.{LeavesOnly};
 ghost use Rattle.lv_disk.specs.Stops.{From, Follows, Each, Counted};
-ghost use Rattle.lv_journal.specs.Records.{records_bytes, payloads_of, EndsAt};
+ghost use Rattle.lv_journal.specs.Records.{EndsAt};
 ghost use Rattle.lv_journal.specs.Append.{Appends, MayAppend};
 
 use byteorder::{ByteOrder, LittleEndian};
@@ -66,16 +66,4 @@ pub fn record_len(payload: &[u8]) -> u64
     ensures { result ≡ 5 + length payload.now }
 {
     HEAD + payload.len() as u64
-}
-
-/// How many bytes the records of the payloads take.
-pub fn records_len(payloads: &[Vec<u8>]) -> u64
-    requires { length (records_bytes (payloads_of payloads.now)) < 2 ^ 64 }
-    ensures { result ≡ length (records_bytes (payloads_of payloads.now)) }
-{
-    let mut len = 0;
-    for payload in payloads {
-        len += record_len(payload);
-    }
-    len
 }

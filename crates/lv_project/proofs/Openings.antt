@@ -1,7 +1,9 @@
 -- What is read when a project is opened, and why it is refused.
-use Rattle.std.proofs.Common.{◌≡◌, inl, inr, ◌<◌, ◌≤◌, ◌+◌, ℕ, Bool, true, false, List, [], ◌∷◌, ◌++◌, length, map as map_list, take, drop, get_or, eqb, cond, nat_lt, Option, None, Some, Result, Ok, Err, IfErr, Vec, Global, refl, sym, ◌∙◌, ap, subst, arith}
+use Rattle.std.proofs.Common.{◌≡◌, inl, inr, ◌<◌, ◌≤◌, ◌+◌, ℕ, Bool, true, false, List, [], ◌∷◌, ◌++◌, length, take, drop, get_or, eqb, cond, nat_lt, Option, None, Some, Result, Ok, Err, IfErr, refl, sym, ◌∙◌, ap, subst, arith}
+use Rattle.std.specs.Prelude.{slice_get}
 use Rattle.std.proofs.lemmas.Bool.{cases_Bool}
-use Rattle.std.proofs.lemmas.List.{take-append-drop, take_more, length-map, get_or-map, append_assoc}
+use Rattle.std.proofs.lemmas.Option.{get_or_from_slice_get}
+use Rattle.std.proofs.lemmas.List.{take-append-drop, take_more, append_assoc}
 use Rattle.lv_disk.specs.Gates.{IsClosedAt}
 use Rattle.lv_disk.specs.Stops.{Each}
 use Rattle.lv_disk.specs.declared.area.Area.{Area}
@@ -209,19 +211,12 @@ module _ (reads : List ℕ → Type 0) (cap : ℕ) (q : Parts) (base : ProjectMa
 
 -- ---- the lines, one by one
 
-abbrev items_of : Vec ℕ Global → List ℕ
-items_of payload = payload.items
-
-module _ (xs : List (Vec ℕ Global)) (rs : List (List ℕ)) (is : map_list items_of xs ≡ rs) (n : ℕ) (x : Vec ℕ Global)
-    (line : List ℕ) (lt : n < length xs) (item : x ≡ get_or xs n x) (line_is : line ≡ x.items) where
-  there_is : n < length rs
-  there_is = omega (arith, lt, ap length is, length-map xs items_of)
-
+module _ (rs : List (List ℕ)) (n : ℕ) (line : List ℕ) (lt : n < length rs) (is : Some line ≡ slice_get rs n) where
   found_line : get_or rs n [] ≡ line
-  found_line = ap (λ (l : List (List ℕ)). get_or l n []) (sym is) ∙ get_or-map items_of xs n x [] lt ∙ sym (line_is ∙ ap items_of item)
+  found_line = get_or_from_slice_get rs n line [] (sym is)
 
   pub taken : take (n + 1) rs ≡ take n rs ++ line ∷ []
-  taken = take_more rs n [] there_is ∙ ap (λ (l : List ℕ). take n rs ++ l ∷ []) found_line
+  taken = take_more rs n [] lt ∙ ap (λ (l : List ℕ). take n rs ++ l ∷ []) found_line
 
   pub split_at : rs ≡ take n rs ++ line ∷ drop (n + 1) rs
   split_at = sym (take-append-drop (n + 1) rs) ∙ ap (λ (l : List (List ℕ)). l ++ drop (n + 1) rs) taken ∙ append_assoc (take n rs) (line ∷ []) (drop (n + 1) rs)

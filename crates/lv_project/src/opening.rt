@@ -62,9 +62,9 @@ fn replay(maps: &mut Maps, journal: &Journal, cap: u32) -> Result<(), ProjectErr
     ensures refused { IfErr result (RefusesReplay cap (project_of maps.old) journal.now) }
     ensures fits { body_len (project_of maps.new) ≤ cap }
 {
-    let records = journal.records();
-    for n in 0..records.len() {
-        if !advance(maps, &records[n], cap)? {
+    for n in 0..journal.count() {
+        let line = journal.payload(n).unwrap();
+        if !advance(maps, line, cap)? {
             return match journal.place(n) {
                 Some(place) => Err(ProjectError::Damaged { place }),
                 None => unreachable!(),

@@ -27,12 +27,12 @@ fn disk_with(alloc: Global, bytes: &[u8]) -> Result<MemoryDisk, Fail> {
 
 // Whether the journal was opened with these payloads.
 fn holds(journal: &Journal, payloads: &[&[u8]]) -> bool {
-    let records = journal.records();
-    records.len() == payloads.len()
-        && records
+    journal.count() == payloads.len()
+        && payloads
             .iter()
-            .zip(payloads)
-            .all(|(record, payload)| record.as_slice() == *payload)
+            .enumerate()
+            .all(|(n, payload)| journal.payload(n) == Some(*payload))
+        && journal.payload(payloads.len()) == None
 }
 
 /// Whether the disk's journal is opened with these payloads.
@@ -51,7 +51,7 @@ pub fn append<D: Disk>(alloc: Global, disk: &mut D, payload: &[u8]) -> Result<us
 {
     let mut journal = opened(alloc, disk)?;
     journal.append(disk, payload)?;
-    Ok(journal.records().len())
+    Ok(journal.count())
 }
 
 // What a read of the disk gives, from a place on.
@@ -190,7 +190,7 @@ fn fill(rt: &impl Abort, alloc: Global, disk: &mut MemoryDisk) -> Result<(), Jou
 fn expect_full(rt: &impl Abort, alloc: Global, disk: &mut MemoryDisk) -> Result<(), JournalError> {
     let mut journal = opened(alloc, disk)?;
     let places = [journal.place(33), journal.place(34)];
-    let found = (journal.records().len(), journal.room(), places);
+    let found = (journal.count(), journal.room(), places);
     same(rt, &found, &(34, None, [Some(639), None]));
     let full = Err(JournalError::JournalFull);
     same(rt, &journal.append(disk, b"name MAP01"), &full);
@@ -273,9 +273,9 @@ fn failing_with_record(alloc: Global, k: u64) -> Result<Failing, Fail> {
 
 #[test]
 fn opens_by_its_reads_alone(rt: HostRuntime) -> Result<(), Fail> {
-    // The length, for the one record its gate, its length and its payload, and the last gate, behind the test's own
-    // sync.
-    let mut disk = failing_with_record(rt.alloc(), 7)?;
+    // The length, for the one record its gate with its length and its payload, and the last gate, behind the test's
+    // own sync.
+    let mut disk = failing_with_record(rt.alloc(), 6)?;
     let is_a = is_opened_with(rt.alloc(), &mut disk, &[b"a"])?;
     assert_eq!(rt; (is_a, disk.len().is_err()), (true, true));
     Ok(())
@@ -291,8 +291,8 @@ fn blanks_by_one_device_call(rt: HostRuntime) -> Result<(), Fail> {
 
 #[test]
 fn answers_a_device_that_fails(rt: HostRuntime) -> Result<(), Fail> {
-    // A sync, the length, and for each record its gate, its length and its payload; then the last gate.
-    for k in 1..7 {
+    // A sync, the length, and for each record its gate with its length and its payload; then the last gate.
+    for k in 1..6 {
         let mut disk = failing_with_record(rt.alloc(), k)?;
         let refused = refusal_of(rt.alloc(), &mut disk);
         let is_a = is_opened_with(rt.alloc(), &mut disk, &[b"a"])?;

@@ -91,9 +91,9 @@ fn expect_stops(
 }
 
 // A disk with a journal of one record, of which the k-th call behind its opening fails. Its making takes six calls, an
-// append four, and the opening six.
+// append four, and the opening five.
 fn disk_with_first(alloc: Global, k: u64, part: u32) -> Result<Failing, Fail> {
-    let call = if k == 0 { 0 } else { k.saturating_add(12) };
+    let call = if k == 0 { 0 } else { k.saturating_add(11) };
     let mut disk = failing(alloc, call, part)?;
     begin(&mut disk)?;
     Ok(disk)

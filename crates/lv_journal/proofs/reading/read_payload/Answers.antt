@@ -1,16 +1,6 @@
 use Rattle.lv_disk.proofs.ReadingCalls.{one_call}
 use Rattle.lv_journal.proofs.reading.read_payload.Goals as goal
 
-pub returns-in_err-read-clause-reads : goal.returns-in_err-read-clause-reads
-returns-in_err-read-clause-reads g c =
-    let e = c.read.ensures in
-    one_call g.D.Disk g.met.D.Disk.only_now c.args.disk.now c.read.new.self e.reads e.still e.images e.kept e.time
-
-pub returns-in_err-to_vec-clause-reads : goal.returns-in_err-to_vec-clause-reads
-returns-in_err-to_vec-clause-reads g c =
-    let e = c.read.ensures in
-    one_call g.D.Disk g.met.D.Disk.only_now c.args.disk.now c.read.new.self e.reads e.still e.images e.kept e.time
-
 pub returns-clause-reads : goal.returns-clause-reads
 returns-clause-reads g c =
     let e = c.read.ensures in

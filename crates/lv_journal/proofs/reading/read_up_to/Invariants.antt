@@ -1,11 +1,11 @@
-use Rattle.std.proofs.Common.{◌≡◌, ◌-◌, map}
+use Rattle.std.proofs.Common.{◌≡◌, ◌-◌}
 use Rattle.lv_disk.specs.Reading.{OnlyReads}
 use Rattle.lv_journal.proofs.ReadingLoop.{HasRead}
 use Rattle.lv_journal.proofs.reading.read_up_to.Given as goal
 
 abbrev pub invariant-loop-records : goal.invariant-loop-records
 invariant-loop-records g l = record {
-  found : HasRead l.area l.end l.next (map (λ payload. payload.items) l.records.items) (g.D.Disk.reads l.fn.disk);
+  found : HasRead l.area l.end l.next l.records (g.D.Disk.reads l.fn.disk);
   only : OnlyReads g.D.Disk l.fn.disk l.disk;
   count : g.D.Disk.failures l.disk ≡ g.D.Disk.failures l.fn.disk;
 }

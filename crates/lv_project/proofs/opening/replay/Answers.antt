@@ -1,4 +1,5 @@
-use Rattle.std.proofs.Common.{◌+◌, ℕ, List, take, drop, Ok, ap, sym, subst}
+use Rattle.std.proofs.Common.{◌≡◌, ◌+◌, ℕ, List, Some, take, drop, Ok, ap, sym, subst, rules, arith}
+use Rattle.std.specs.Prelude.{slice_get}
 use Rattle.lv_maptables.specs.Projects.{project_of}
 use Rattle.lv_commands.specs.ProjectLines.{Leads}
 use Rattle.lv_project.proofs.Recording.{leads_push}
@@ -7,11 +8,13 @@ use Rattle.lv_project.proofs.opening.replay.Goals as goal
 
 pub returns-then-not-branch-clause-refused : goal.returns-then-not-branch-clause-refused
 returns-then-not-branch-clause-refused c =
-    let rs = c.args.journal.now.records in (
+    let rs = c.args.journal.now.records in
+    let line = c.unwrap-line.result.now in
+    let is : Some line ≡ slice_get rs c.loop-n.n = search rules in (
       take c.loop-n.n rs,
-      c.deref.result.now,
+      line,
       drop (c.loop-n.n + 1) rs,
-      split_at c.records-records.result.now rs c.records-records.ensures c.loop-n.n c.index-records-n.result c.deref.result.now c.loop-n-test.true c.index-records-n.is c.deref.ensures.value,
+      split_at rs c.loop-n.n line (omega (arith, c.loop-n-test.true, c.count-n-end.ensures)) is,
       (project_of c.loop-n.maps),
       c.loop-n.invariant.led,
       c.in_ok-advance.ensures.not_led (ap Ok c.if-not-branch.true),
@@ -21,10 +24,12 @@ returns-then-not-branch-clause-refused c =
 pub loop-n-preserved : goal.loop-n-preserved
 loop-n-preserved c =
     let rs = c.args.journal.now.records in
+    let line = c.unwrap-line.result.now in
+    let is : Some line ≡ slice_get rs c.loop-n.n = search rules in
     record {
       led = subst (λ (ls : List (List ℕ)). Leads c.args.cap (project_of c.args.maps.now) ls (project_of c.advance.new.maps))
-          (sym (taken c.records-records.result.now rs c.records-records.ensures c.loop-n.n c.index-records-n.result c.deref.result.now c.loop-n-test.true c.index-records-n.is c.deref.ensures.value))
-          (leads_push c.args.cap (project_of c.args.maps.now) (take c.loop-n.n rs) c.deref.result.now
+          (sym (taken rs c.loop-n.n line (omega (arith, c.loop-n-test.true, c.count-n-end.ensures)) is))
+          (leads_push c.args.cap (project_of c.args.maps.now) (take c.loop-n.n rs) line
           (project_of c.loop-n.maps) (project_of c.advance.new.maps) c.loop-n.invariant.led
           (c.in_ok-advance.ensures.led (ap Ok c.if-not-branch.false)));
       fits = c.advance.ensures.fits;
