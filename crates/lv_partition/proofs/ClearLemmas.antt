@@ -1,12 +1,12 @@
 -- The pieces that their rounded ends decide are counted, and then those that these leave flags.
-use Rattle.std.proofs.Common.{◌≡◌, refl, sym, ap, ◌∙◌, subst, ℕ, zero, suc, ◌+◌, ◌<◌, ◌≤◌, Bool, true, false, ◌&&◌, ◌||◌, List, [], ◌∷◌, ◌++◌, length, take, drop, set, get_or, drop-cons, arith}
-use Rattle.std.proofs.lemmas.List.{length-take, append-nil, append_assoc, take_more, take_more_set, take_all, drop_all}
+use Rattle.std.proofs.Common.{◌≡◌, refl, sym, ap, ◌∙◌, subst, ℕ, suc, ◌+◌, ◌<◌, ◌≤◌, Bool, true, false, ◌&&◌, ◌||◌, List, [], ◌∷◌, ◌++◌, length, take, drop, set, get_or, drop-cons, arith}
+use Rattle.std.proofs.lemmas.List.{length-take, append-nil, take_more, take_more_set, take_all, drop_all}
 use Rattle.std.proofs.lemmas.Bool.Decides.{nat_tests}
 use Rattle.std.specs.Prelude.{nat_eq}
 use Rattle.lv_segs.specs.declared.edge.Edge.{Edge}
 use Rattle.lv_segs.specs.declared.piece.Piece.{Piece}
 use Rattle.lv_segs.specs.Pieces.{ray_of, first_end, last_end, IsPiece}
-use Rattle.lv_segs.proofs.Stops.{rights, lefts, splits, rights_append, lefts_append, splits_append, Counted, block_counted}
+use Rattle.lv_segs.proofs.Stops.{rights_append, lefts_append, splits_append, Counted, block_counted}
 use Rattle.lv_partition.specs.declared.counts.Counts.{Counts}
 use Rattle.lv_partition.specs.Counts.{AreCounts}
 use Rattle.lv_partition.specs.Clear.{flagged, IsClear}

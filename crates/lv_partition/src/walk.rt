@@ -7,15 +7,15 @@ ghost use Rattle.lv_segs.specs.Boxes.{boxes_of};
 ghost use Rattle.lv_partition.specs.Counts.{AreCounts};
 ghost use Rattle.lv_partition.specs.Blocks.{AreBlocks, AreGroups};
 ghost use Rattle.lv_partition.specs.Sights.{AreMargins, ends_of};
-ghost use Rattle.lv_partition.specs.Columns.{AreEnds, HoldsEnds};
+ghost use Rattle.lv_partition.specs.Columns.{AreEnds, HoldsEnds, HoldsBoxes};
 ghost use Rattle.lv_partition.specs.Sorting.{IsSorted};
 ghost use Rattle.lv_partition.specs.Clear.{AreCountsBut, flagged, IsClear};
 
 use crate::block_boxes::BLOCK;
+use crate::corner_columns::BoxColumns;
 use crate::counts::Counts;
 use crate::ends::{EndColumns, Ends};
 use crate::margins::{Margins, PlaceSides, margins_of, sides_of_place};
-use crate::sight::sight_of;
 use crate::sorting::{Sorted, sort_all};
 use lv_lumps::{Bounds, Vertex};
 use lv_segs::{Edge, Piece, divide_in, ray_of};
@@ -220,6 +220,7 @@ pub(crate) fn count_by_boxes(
     pieces: &[Piece],
     ends: &EndColumns,
     blocks: &[Bounds],
+    sides: &BoxColumns,
     groups: &[Bounds],
     noted: &mut [u32],
     limit: u64,
@@ -229,6 +230,7 @@ pub(crate) fn count_by_boxes(
     requires pieces { All (IsPiece lines.now) pieces.now }
     requires ends { HoldsEnds lines.now pieces.now ends.now }
     requires blocks { AreBlocks (boxes_of lines.now pieces.now) blocks.now }
+    requires sides { HoldsBoxes blocks.now sides.now }
     requires groups { AreGroups (boxes_of lines.now pieces.now) groups.now }
     requires few { length pieces.now < 2 ^ 32 }
     requires room { length blocks.now ≤ length noted.old }
@@ -249,13 +251,7 @@ pub(crate) fn count_by_boxes(
         ));
     }
     let sorted = sort_all(
-        lines,
-        partition,
-        sight_of(ray),
-        pieces,
-        blocks,
-        groups,
-        noted,
+        lines, partition, margins, pieces, blocks, sides, groups, noted,
     );
     count_open(
         lines, partition, margins, pieces, first_x, first_y, last_x, last_y, sorted, noted, limit,

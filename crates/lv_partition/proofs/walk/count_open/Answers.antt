@@ -1,4 +1,4 @@
-use Rattle.std.proofs.Common.{◌≡◌, ◌+◌, ◌*◌, ◌-◌, ◌^◌, ◌<◌, ◌≤◌, ap, ◌∙◌, subst, length, take, drop, get_or, arith, List}
+use Rattle.std.proofs.Common.{◌≡◌, ◌+◌, ◌*◌, ◌-◌, ◌^◌, ◌<◌, ◌≤◌, subst, length, take, drop, get_or, arith, List}
 use Rattle.std.proofs.lemmas.List.{length-take, length-drop}
 use Rattle.std.proofs.lemmas.List.Elements.{All-take, All-drop}
 use Rattle.lv_segs.specs.declared.piece.Piece.{Piece}
@@ -7,7 +7,7 @@ use Rattle.lv_segs.proofs.Stops.{Counted, cost_at_least}
 use Rattle.lv_partition.specs.Counts.{AreCounts}
 use Rattle.lv_partition.specs.Sorting.{pieces_in}
 use Rattle.lv_partition.proofs.BoxLemmas.{block_is}
-use Rattle.lv_partition.proofs.EndLemmas.{part_column, column_length}
+use Rattle.lv_partition.proofs.Columns.{part_column, column_length}
 use Rattle.lv_partition.proofs.OneMore.{counted_all}
 use Rattle.lv_partition.proofs.OpenBlocks.{open_left, all_length, counted_few, begins, open_counted, open_rest, none_open}
 use Rattle.lv_partition.proofs.walk.count_open.Goals as goal
