@@ -1,25 +1,26 @@
 -- The pieces that their rounded ends decide are counted, and then those that these leave flags.
-use Rattle.std.proofs.Common.{◌≡◌, refl, sym, ap, ◌∙◌, subst, ℕ, suc, ◌+◌, ◌<◌, ◌≤◌, Bool, true, false, ◌&&◌, ◌||◌, List, [], ◌∷◌, ◌++◌, length, take, drop, set, get_or, drop-cons, arith}
-use Rattle.std.proofs.lemmas.List.{length-take, append-nil, take_more, take_more_set, take_all, drop_all}
+use Rattle.std.proofs.Common.{◌≡◌, refl, sym, ap, ◌∙◌, subst, ℕ, suc, ◌+◌, ◌-◌, ◌*◌, ◌<◌, ◌≤◌, Bool, true, false, ◌&&◌, ◌||◌, List, [], ◌∷◌, ◌++◌, length, take, drop, set, get_or, drop-cons, arith}
+use Rattle.std.proofs.lemmas.List.{length-take, length-append, append-nil, take_more, take_more_set, take_all, drop_all}
 use Rattle.std.proofs.lemmas.Bool.Decides.{nat_tests}
 use Rattle.std.specs.Prelude.{nat_eq}
 use Rattle.lv_segs.specs.declared.edge.Edge.{Edge}
 use Rattle.lv_segs.specs.declared.piece.Piece.{Piece}
 use Rattle.lv_segs.specs.Pieces.{ray_of, first_end, last_end, IsPiece}
-use Rattle.lv_segs.proofs.Stops.{rights_append, lefts_append, splits_append, Counted, block_counted}
+use Rattle.lv_segs.specs.Tree.{cost}
+use Rattle.lv_segs.proofs.Stops.{cost_at_least, rights_append, lefts_append, splits_append, Counted, block_counted}
 use Rattle.lv_partition.specs.declared.counts.Counts.{Counts}
 use Rattle.lv_partition.specs.Counts.{AreCounts}
-use Rattle.lv_partition.specs.Clear.{flagged, IsClear}
+use Rattle.lv_partition.specs.Clear.{flagged, IsClear, AreCountsBut}
 use Rattle.lv_partition.proofs.OneMore.{one, piece_counts}
 use Rattle.lv_partition.proofs.EndLemmas.{IsWellRight, IsWellLeft, ends_right, ends_left, ends_down, ends_up, parted_counts}
 
 -- what the sides of its two ends say of a piece
 module _ (lines : List Edge) (p q : Piece) (ok : IsPiece lines q) where
   undecided : (c : Counts) → c.right ≡ 0 → c.left ≡ 0 → c.splits ≡ 0 → IsClear lines p q c
-  undecided c r l s = record { counts = λ h. absurd (omega arith); none = λ h. s }
+  undecided c r l s = record { counts = λ h. absurd (omega arith); none = λ h. s; one = λ h. absurd (omega arith) }
 
-  decided : (c : Counts) → AreCounts lines p (q ∷ []) c → 0 < c.right + c.left → IsClear lines p q c
-  decided c a h = record { counts = λ k. a; none = λ k. absurd (omega arith) }
+  decided : (c : Counts) → AreCounts lines p (q ∷ []) c → 0 < c.right + c.left → c.right + c.left ≡ 1 + c.splits → IsClear lines p q c
+  decided c a h e = record { counts = λ k. a; none = λ k. absurd (omega arith); one = λ k. e }
 
   pub by_sides : (fr fl lr ll : Bool) → (fr && fl) ≡ false → (lr && ll) ≡ false
       → (fr ≡ true → IsWellRight (ray_of lines p) (first_end lines q)) → (fl ≡ true → IsWellLeft (ray_of lines p) (first_end lines q))
@@ -29,15 +30,15 @@ module _ (lines : List Edge) (p q : Piece) (ok : IsPiece lines q) where
   by_sides true true lr ll a b hr hl kr kl c r l s = absurd (cc)
   by_sides true false true true a b hr hl kr kl c r l s = absurd (cc)
   by_sides true false true false a b hr hl kr kl c r l s =
-      decided c (piece_counts lines p q _ c (sym (ends_right lines p q ok (hr refl) (kr refl))) r l s) (omega arith)
+      decided c (piece_counts lines p q _ c (sym (ends_right lines p q ok (hr refl) (kr refl))) r l s) (omega arith) (omega arith)
   by_sides true false false true a b hr hl kr kl c r l s =
-      decided c (parted_counts lines p q ok c (ends_down lines p q ok (hr refl) (kl refl)) r l s) (omega arith)
+      decided c (parted_counts lines p q ok c (ends_down lines p q ok (hr refl) (kl refl)) r l s) (omega arith) (omega arith)
   by_sides true false false false a b hr hl kr kl c r l s = undecided c r l s
   by_sides false true true true a b hr hl kr kl c r l s = absurd (cc)
   by_sides false true true false a b hr hl kr kl c r l s =
-      decided c (parted_counts lines p q ok c (ends_up lines p q ok (hl refl) (kr refl)) r l s) (omega arith)
+      decided c (parted_counts lines p q ok c (ends_up lines p q ok (hl refl) (kr refl)) r l s) (omega arith) (omega arith)
   by_sides false true false true a b hr hl kr kl c r l s =
-      decided c (piece_counts lines p q _ c (sym (ends_left lines p q ok (hl refl) (kl refl))) r l s) (omega arith)
+      decided c (piece_counts lines p q _ c (sym (ends_left lines p q ok (hl refl) (kl refl))) r l s) (omega arith) (omega arith)
   by_sides false true false false a b hr hl kr kl c r l s = undecided c r l s
   by_sides false false lr ll a b hr hl kr kl c r l s = undecided c r l s
 
@@ -49,6 +50,10 @@ flagged_more [] (p ∷ ps) f q e = absurd (omega arith)
 flagged_more (g ∷ fs) [] f q e = absurd (omega arith)
 flagged_more (true ∷ fs) (p ∷ ps) f q e = ap (λ (xs : List Piece). p ∷ xs) (flagged_more fs ps f q (omega arith))
 flagged_more (false ∷ fs) (p ∷ ps) f q e = flagged_more fs ps f q (omega arith)
+
+pub all_flags : (fs : List Bool) (ps : List Piece) (n : ℕ) → length ps ≤ n → length fs ≡ length ps → length (flagged (take n fs) (take n ps)) ≡ length (flagged fs ps)
+all_flags fs ps n h same =
+    ap (λ (xs : List Bool). length (flagged xs (take n ps))) (take_all n fs (omega arith)) ∙ ap (λ (xs : List Piece). length (flagged fs xs)) (take_all n ps h)
 
 next_of : {X : Type 0} (xs : List X) (n : ℕ) (d : X) → n < length xs → drop n xs ≡ get_or xs n d ∷ drop (n + 1) xs
 next_of {X} xs n d h = let e : suc n ≡ n + 1 = omega arith in drop-cons xs n d h ∙ ap (λ (i : ℕ). get_or xs n d ∷ drop i xs) e
@@ -124,6 +129,61 @@ module _ (lines : List Edge) (p : Piece) where
           let ol = o.left in
           let os = o.splits in
           record { right = omega arith; left = omega arith; splits = omega arith }
+
+  -- how many of the first n pieces are flagged
+  pub flags_step : (ps : List Piece) (flags : List Bool) (n : ℕ) (d : Piece) (r l s : ℕ) (c : Counts) → n < length ps → length flags ≡ length ps
+      → n + s ≡ r + l + length (flagged (take n flags) (take n ps)) → IsClear lines p (get_or ps n d) c
+      → (n + 1) + (s + c.splits) ≡ (r + c.right) + (l + c.left)
+      + length (flagged (take (n + 1) (set flags n (nat_eq c.right 0 && nat_eq c.left 0))) (take (n + 1) ps))
+  flags_step ps flags n d r l s c h same k clear =
+      let f = nat_eq c.right 0 && nat_eq c.left 0 in
+      let q = get_or ps n d in
+      let before = flagged (take n flags) (take n ps) in
+      let lo = length-take n flags in
+      let lp = length-take n ps in
+      let w : n < length flags = omega arith in
+      let e : flagged (take (n + 1) (set flags n f)) (take (n + 1) ps) ≡ before ++ flagged (f ∷ []) (q ∷ []) =
+      ap (λ (fs : List Bool). flagged fs (take (n + 1) ps)) (take_more_set flags n f w)
+      ∙ ap (flagged (take n flags ++ (f ∷ []))) (take_more ps n d h)
+      ∙ flagged_more (take n flags) (take n ps) f q (omega arith) in
+      let m = ap (λ (xs : List Piece). length xs) e ∙ length-append before (flagged (f ∷ []) (q ∷ [])) in
+      let o = by_flag q c f clear refl in
+      omega arith
+    where
+      by_flag : (q : Piece) (c : Counts) (f : Bool) → IsClear lines p q c → (nat_eq c.right 0 && nat_eq c.left 0) ≡ f
+          → 1 + c.splits ≡ c.right + c.left + length (flagged (f ∷ []) (q ∷ []))
+      by_flag q c true k e =
+          let z = both_zero c.right c.left e in
+          let s = k.none z in
+          let one' : length (flagged (true ∷ []) (q ∷ [])) ≡ 1 = refl in
+          omega arith
+      by_flag q c false k e =
+          let a = k.one (not_zero c.right c.left e) in
+          let none' : length (flagged (false ∷ []) (q ∷ [])) ≡ 0 = refl in
+          omega arith
+
+  -- what is counted may tell that the cost is the limit or more
+  pub dear_by_clear : (ps rest : List Piece) (c : Counts) (limit : ℕ) → AreCountsBut lines p ps rest c
+      → limit ≤ 8 * c.splits + ((c.right - c.left - (length ps + c.splits - c.right - c.left)) + (c.left - c.right - (length ps + c.splits - c.right - c.left)))
+      → limit ≤ cost lines p ps
+  dear_by_clear ps rest c limit k h =
+      let o = k.others in
+      let d = cost_at_least lines p ps rest c.right c.left c.splits (record { right = k.right; left = k.left; splits = k.splits }) in
+      let e : length ps + c.splits - c.right - c.left ≡ length rest = omega arith in
+      let g = rw e at h in
+      omega arith
+
+  -- where none is flagged, all are counted
+  pub none_flagged : (ps : List Piece) (flags : List Bool) (c : Counts) → AreCountsBut lines p ps (flagged flags ps) c → length (flagged flags ps) ≡ 0 → AreCounts lines p ps c
+  none_flagged ps flags c k e = by_list (flagged flags ps) k e
+    where
+      by_list : (rest : List Piece) → AreCountsBut lines p ps rest c → length rest ≡ 0 → AreCounts lines p ps c
+      by_list [] k e =
+          let kr = k.right in
+          let kl = k.left in
+          let ks = k.splits in
+          record { right = omega arith; left = omega arith; splits = omega arith }
+      by_list (q ∷ qs) k e = absurd (omega arith)
 
   -- behind the last piece the flagged ones are left
   pub clear_all : (ps : List Piece) (flags : List Bool) (n : ℕ) (r l s : ℕ) → length ps ≤ n → length flags ≡ length ps

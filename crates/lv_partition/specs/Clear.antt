@@ -23,8 +23,10 @@ pub record AreCountsBut (lines : List Edge) (partition : Piece) (ps rest : List 
       ≡ c.right + length (right_parts lines partition rest)
   pub left : length (left_parts lines partition ps)
       ≡ c.left + length (left_parts lines partition rest)
+  pub others : length ps + c.splits ≡ c.right + c.left + length rest
 
 -- the counts are those of the piece, or else they are none, and the piece is left open
 pub record IsClear (lines : List Edge) (partition p : Piece) (c : Counts) : Type 0 where
   pub counts : 0 < c.right + c.left → AreCounts lines partition (p ∷ []) c
   pub none : c.right + c.left ≡ 0 → c.splits ≡ 0
+  pub one : 0 < c.right + c.left → c.right + c.left ≡ 1 + c.splits

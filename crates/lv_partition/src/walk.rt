@@ -1,6 +1,7 @@
 //! The counts of a list: blocks whole on one side by their boxes, the pieces of open ones by their rounded ends.
-ghost use Rattle.std.specs.Prelude.{◌≡◌, ℕ, ◌≤◌, ◌<◌, ◌^◌, ◌&&◌, ◌||◌, if◌then◌else◌, length, All, MatchOption};
+ghost use Rattle.std.specs.Prelude.{◌≡◌, ℕ, ◌≤◌, ◌<◌, ◌^◌, ◌&&◌, ◌||◌, if◌then◌else◌, ◌∷◌, [], length, All, MatchOption};
 ghost use Rattle.lv_segs.specs.Plane.{IsEdge};
+ghost use Rattle.lv_segs.specs.Local.{IsLineRay};
 ghost use Rattle.lv_segs.specs.Pieces.{IsPiece, ray_of};
 ghost use Rattle.lv_segs.specs.Tree.{cost};
 ghost use Rattle.lv_segs.specs.Boxes.{boxes_of};
@@ -17,8 +18,8 @@ use crate::counts::Counts;
 use crate::ends::{EndColumns, Ends};
 use crate::margins::{Margins, PlaceSides, margins_of, sides_of_place};
 use crate::sorting::{Sorted, sort_all};
-use lv_lumps::{Bounds, Vertex};
-use lv_segs::{Edge, Piece, divide_in, ray_of};
+use lv_lumps::{Bounds, Ray, Vertex};
+use lv_segs::{Edge, Piece, Place, divide_on, place_on, ray_of};
 
 // What the sides of its two ends tell of a piece: its counts, or none where they leave it open.
 fn counts_by_sides(first: PlaceSides, last: PlaceSides) -> Counts
@@ -99,16 +100,37 @@ fn count_clear_ones(
     counts
 }
 
+// The counts of one piece, by its exact place: only one that lies across the partition is divided.
+fn count_piece(lines: &[Edge], partition: &Piece, ray: Ray, piece: &Piece) -> Counts
+    requires lines { All IsEdge lines.now }
+    requires ray { ray ≡ ray_of lines.now partition.now }
+    requires line { IsLineRay ray }
+    requires piece { IsPiece lines.now piece.now }
+    ensures { AreCounts lines.now partition.now (piece.now ∷ []) result }
+{
+    let edge = lines[piece.line as usize];
+    match place_on(ray, edge, piece) {
+        Place::Right => Counts::ON_RIGHT,
+        Place::Left => Counts::ON_LEFT,
+        Place::Across => {
+            let parts = divide_on(ray, edge, piece);
+            Counts::of_parts(&parts)
+        }
+    }
+}
+
 // The counts of a short list of which all but the flagged pieces are counted.
 fn count_open_ones(
     lines: &[Edge],
     partition: &Piece,
+    ray: Ray,
     pieces: &[Piece],
     flags: &[bool],
     clear: Counts,
 ) -> Counts
     requires lines { All IsEdge lines.now }
-    requires partition { IsPiece lines.now partition.now }
+    requires ray { ray ≡ ray_of lines.now partition.now }
+    requires line { IsLineRay ray }
     requires pieces { All (IsPiece lines.now) pieces.now }
     requires few { length pieces.now < 2 ^ 32 }
     requires room { length flags.now ≡ length pieces.now }
@@ -119,14 +141,15 @@ fn count_open_ones(
     let mut counts = clear;
     for (n, piece) in pieces.iter().enumerate() {
         if flags[n] {
-            let parts = divide_in(lines, partition, piece);
-            counts = counts.plus(Counts::of_parts(&parts));
+            let more = count_piece(lines, partition, ray, piece);
+            counts = counts.plus(more);
         }
     }
     counts
 }
 
-// The counts of a block, first of the pieces that their rounded ends decide, and then of the others.
+// The counts of a block, first of the pieces that their rounded ends decide, and then of the others, or None where the
+// first ones already tell that the cost is the limit or more.
 fn count_list(
     lines: &[Edge],
     partition: &Piece,
@@ -136,22 +159,31 @@ fn count_list(
     first_y: &[i16],
     last_x: &[i16],
     last_y: &[i16],
-) -> Counts
+    limit: u64,
+) -> Option<Counts>
     requires lines { All IsEdge lines.now }
-    requires partition { IsPiece lines.now partition.now }
     requires ray { margins.ray ≡ ray_of lines.now partition.now }
     requires margins { AreMargins margins }
     requires pieces { All (IsPiece lines.now) pieces.now }
     requires ends { AreEnds lines.now pieces.now first_x.now first_y.now last_x.now last_y.now }
     requires few { length pieces.now ≤ 16 }
-    ensures { AreCounts lines.now partition.now pieces.now result }
+    ensures { MatchOption result (limit ≤ cost lines.now partition.now pieces.now)
+        (λ c. AreCounts lines.now partition.now pieces.now c) }
 {
     let mut all_flags = [false; BLOCK];
     let flags = &mut all_flags[..pieces.len()];
     let clear = count_clear_ones(
         lines, partition, margins, pieces, first_x, first_y, last_x, last_y, flags,
     );
-    count_open_ones(lines, partition, pieces, flags, clear)
+    let all = pieces.len() as u32 + clear.splits;
+    let rest = all - clear.right - clear.left;
+    if limit <= clear.least_cost(rest) {
+        return None;
+    }
+    if rest == 0 {
+        return Some(clear);
+    }
+    Some(count_open_ones(lines, partition, margins.ray, pieces, flags, clear))
 }
 
 // The counts of a list whose blocks are sorted, open block by open block, or None where the cost is found to be the
@@ -192,7 +224,7 @@ fn count_open(
     for n in 0..sorted.count {
         let from = BLOCK * noted[n] as usize;
         let end = (from + BLOCK).min(pieces.len());
-        let more = count_list(
+        let more = match count_list(
             lines,
             partition,
             margins,
@@ -201,7 +233,11 @@ fn count_open(
             &first_y[from..end],
             &last_x[from..end],
             &last_y[from..end],
-        );
+            u64::MAX,
+        ) {
+            None => return None,
+            Some(more) => more,
+        };
         counts = counts.plus(more);
         rest -= end - from;
         if limit <= counts.least_cost(rest as u32) {
@@ -246,9 +282,9 @@ pub(crate) fn count_by_boxes(
     let last_x = &ends.last_x[..pieces.len()];
     let last_y = &ends.last_y[..pieces.len()];
     if pieces.len() <= BLOCK {
-        return Some(count_list(
-            lines, partition, margins, pieces, first_x, first_y, last_x, last_y,
-        ));
+        return count_list(
+            lines, partition, margins, pieces, first_x, first_y, last_x, last_y, limit,
+        );
     }
     let sorted = sort_all(
         lines, partition, margins, pieces, blocks, sides, groups, noted,

@@ -8,7 +8,7 @@ use Rattle.lv_partition.specs.Sights.{ends_of}
 use Rattle.lv_partition.proofs.Columns.{column_length, read}
 use Rattle.lv_partition.proofs.EndLemmas.{ends_by}
 use Rattle.lv_partition.proofs.OpenBlocks.{counted_few}
-use Rattle.lv_partition.proofs.ClearLemmas.{uncounted, clear_step, clear_all}
+use Rattle.lv_partition.proofs.ClearLemmas.{uncounted, clear_step, clear_all, flags_step, all_flags}
 use Rattle.lv_partition.proofs.walk.count_clear_ones.Goals as goal
 use Rattle.lv_partition.proofs.walk.count_clear_ones.Goals.{After-count_clear-more}
 
@@ -49,7 +49,7 @@ step c =
     let r = c.requires.room in
     let a = c.loop-n.auto.flags in
     clear_step c.args.lines.now c.args.partition.now c.args.pieces.now c.loop-n.flags c.loop-n.n no_piece c.loop-n.counts.right c.loop-n.counts.left c.loop-n.counts.splits c.count_clear-more.result
-    c.loop-n-test.true (omega arith) c.loop-n.invariant c.count_clear-more.ensures
+    c.loop-n-test.true (omega arith) c.loop-n.invariant.counted c.count_clear-more.ensures
 
 pub plus-counts-requires-clause-right : goal.plus-counts-requires-clause-right
 plus-counts-requires-clause-right c =
@@ -79,12 +79,20 @@ loop-n-preserved c =
     let kr = s.right in
     let kl = s.left in
     let ks = s.splits in
-    record { right = omega arith; left = omega arith; splits = omega arith }
+    let r = c.requires.room in
+    let a = c.loop-n.auto.flags in
+    let f = flags_step c.args.lines.now c.args.partition.now c.args.pieces.now c.loop-n.flags c.loop-n.n no_piece c.loop-n.counts.right c.loop-n.counts.left c.loop-n.counts.splits c.count_clear-more.result
+    c.loop-n-test.true (omega arith) c.loop-n.invariant.flags c.count_clear-more.ensures in
+    record { counted = record { right = omega arith; left = omega arith; splits = omega arith }; flags = omega arith }
 
 pub returns : goal.returns
 returns c =
     let r = c.requires.room in
     let a = c.loop-n.auto.flags in
     let k = clear_all c.args.lines.now c.args.partition.now c.args.pieces.now c.loop-n.flags c.loop-n.n c.loop-n.counts.right c.loop-n.counts.left c.loop-n.counts.splits
-    c.loop-n-test.false (omega arith) c.loop-n.invariant in
-    record { splits = k.splits; right = k.right; left = k.left }
+    c.loop-n-test.false (omega arith) c.loop-n.invariant.counted in
+    let f = c.loop-n-test.false in
+    let n = c.loop-n.auto.n-end in
+    let e = all_flags c.loop-n.flags c.args.pieces.now c.loop-n.n f (omega arith) in
+    let i = c.loop-n.invariant.flags in
+    record { splits = k.splits; right = k.right; left = k.left; others = omega arith }
