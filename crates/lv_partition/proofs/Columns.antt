@@ -1,7 +1,9 @@
 -- A column of a list: a number of each of its elements.
-use Rattle.std.proofs.Common.{◌≡◌, refl, sym, ap, ◌∙◌, ℕ, zero, suc, ◌<◌, List, [], ◌∷◌, length, take, drop, get_or, set, ◌+◌, ◌≤◌, ◌++◌, arith}
+use Rattle.std.proofs.Common.{◌≡◌, refl, sym, ap, ◌∙◌, subst, ⊎_elim, ℕ, zero, suc, ◌<◌, Bool, true, false, List, [], ◌∷◌, length, take, drop, get_or, set, ◌+◌, ◌≤◌, ◌++◌, arith}
 use Rattle.std.proofs.lemmas.Int.{to_z-of_z}
-use Rattle.std.proofs.lemmas.List.{take-map, drop-map, length-map, map-append, take_more, take_more_set, take_all, length-take}
+use Rattle.std.proofs.lemmas.List.{take-map, drop-map, length-map, map-append, take_more, take_more_set, take_all, length-take, get_or-set_other, get_or_past}
+use Rattle.std.proofs.lemmas.Bool.{cases_lt}
+use Rattle.std.proofs.lemmas.Grind.{get_or-set_at}
 use Rattle.std.specs.Prelude.{map, ℤ, pos, FitsSigned}
 use Rattle.std.specs.Int.{w16}
 use mir.Val.{to_z, of_z}
@@ -36,7 +38,23 @@ module _ {X : Type 0} (f : X → ℤ) where
       let e : length ps ≡ n = omega arith in
       ap (λ (i : ℕ). take i xs) e ∙ same ∙ ap (map f) (take_all n ps k)
 
+  pub plain : (ps : List X) (xs : List ℤ) (n : ℕ) (d : X) → n < length ps → xs ≡ map f ps → get_or xs n (pos 0) ≡ f (get_or ps n d)
+  plain ps xs n d h e = ap (λ (ys : List ℤ). get_or ys n (pos 0)) e ∙ column_at ps n (pos 0) d h
+
   -- a coordinate as it is read from its column
   pub read : (ps : List X) (xs : List ℤ) (n : ℕ) (d : X) → n < length ps → xs ≡ map f ps → FitsSigned w16 (get_or xs n (pos 0))
       → to_z w16 (of_z w16 (get_or xs n (pos 0))) ≡ f (get_or ps n d)
-  read ps xs n d h e k = to_z-of_z w16 (get_or xs n (pos 0)) k ∙ ap (λ (ys : List ℤ). get_or ys n (pos 0)) e ∙ column_at ps n (pos 0) d h
+  read ps xs n d h e k = to_z-of_z w16 (get_or xs n (pos 0)) k ∙ plain ps xs n d h e
+
+-- ---- flags of the places of a list
+-- one more flag is noted
+pub one_more_flag : (P : ℕ → Type 0) (flags : List Bool) (n : ℕ) (b : Bool) → n < length flags → ((k : ℕ) → k < n → get_or flags k false ≡ true → P k)
+    → (b ≡ true → P n) → (k : ℕ) → k < n + 1 → get_or (set flags n b) k false ≡ true → P k
+one_more_flag P flags n b w before here k h e =
+    ⊎_elim (λ l. before k l (sym (get_or-set_other flags n k b false (omega arith)) ∙ e))
+    (λ l. let s : n ≡ k = omega arith in subst P s (here (sym (get_or-set_at flags n k b false (omega arith) w) ∙ e))) (cases_lt k n)
+
+-- and all
+pub all_flags_noted : (P : ℕ → Type 0) (flags : List Bool) (n : ℕ) → length flags ≤ n → ((k : ℕ) → k < n → get_or flags k false ≡ true → P k)
+    → (k : ℕ) → get_or flags k false ≡ true → P k
+all_flags_noted P flags n w f k e = ⊎_elim (λ l. f k l e) (λ l. let z = get_or_past flags k false (omega arith) in cc) (cases_lt k n)

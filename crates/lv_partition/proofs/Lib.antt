@@ -10,3 +10,4 @@ pub mod Columns
 pub mod EndLemmas
 pub mod ClearLemmas
 pub mod Corners
+pub mod WholeLines

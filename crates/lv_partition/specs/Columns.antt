@@ -1,10 +1,12 @@
 -- The rounded ends of the pieces of a list, and the sides of boxes, each coordinate in a column of its own.
-use Rattle.std.specs.Prelude.{◌≡◌, ◌≤◌, ℕ, ℤ, List, length, map, take}
+use Rattle.std.specs.Prelude.{◌≡◌, ◌≤◌, ◌+◌, ◌<ℤ◌, ℕ, ℤ, pos, List, Bool, true, false, length, map, take, get_or}
 use Rattle.lv_lumps.specs.declared.records.Bounds.{Bounds}
+use Rattle.lv_lumps.specs.declared.records.Vertex.{Vertex}
 use Rattle.lv_lumps.specs.declared.plane.Ray.{Ray}
 use Rattle.lv_segs.specs.declared.edge.Edge.{Edge}
 use Rattle.lv_segs.specs.declared.piece.Piece.{Piece}
 use Rattle.lv_segs.specs.Pieces.{first_end, last_end}
+use Rattle.lv_segs.specs.Plane.{vertex_value}
 use Rattle.lv_partition.specs.Sights.{low_corner, high_corner}
 use Rattle.lv_partition.specs.declared.corner_columns.BoxColumns.{BoxColumns}
 use Rattle.lv_partition.specs.declared.ends.EndColumns.{EndColumns}
@@ -52,3 +54,17 @@ pub record AreCorners (r : Ray) (boxes : List Bounds) (xs ys us vs : List ℤ) :
   pub low_y : ys ≡ map (λ b. (low_corner r b).y) boxes
   pub high_x : us ≡ map (λ b. (high_corner r b).x) boxes
   pub high_y : vs ≡ map (λ b. (high_corner r b).y) boxes
+
+-- the corner at a place of two columns
+abbrev pub corner_at : List ℤ → List ℤ → ℕ → Vertex
+corner_at xs ys n = record { x = get_or xs n (pos 0); y = get_or ys n (pos 0) }
+
+-- the flags say yes only where a corner, from a place of the columns on, lies on the right of the ray
+abbrev pub AreAbove : Ray → List ℤ → List ℤ → ℕ → List Bool → Type 0
+AreAbove r xs ys from flags =
+    (n : ℕ) → get_or flags n false ≡ true → pos 0 <ℤ vertex_value r (corner_at xs ys (from + n))
+
+-- and on the left
+abbrev pub AreBelow : Ray → List ℤ → List ℤ → ℕ → List Bool → Type 0
+AreBelow r xs ys from flags =
+    (n : ℕ) → get_or flags n false ≡ true → vertex_value r (corner_at xs ys (from + n)) <ℤ pos 0

@@ -5,7 +5,7 @@ ghost use Rattle.lv_segs.specs.Pieces.{IsPiece, ray_of};
 ghost use Rattle.lv_segs.specs.Boxes.{HoldsPiece, boxes_of};
 ghost use Rattle.lv_partition.specs.Blocks.{AreBlocks, AreGroups};
 ghost use Rattle.lv_partition.specs.Counts.{AreCounts};
-ghost use Rattle.lv_partition.specs.Columns.{AreCorners, HoldsBoxes};
+ghost use Rattle.lv_partition.specs.Columns.{AreCorners, HoldsBoxes, AreAbove, AreBelow};
 ghost use Rattle.lv_partition.specs.Sights.{AreMargins};
 ghost use Rattle.lv_partition.specs.Sorting.{IsSorted};
 
@@ -73,7 +73,44 @@ fn add_block(
     }
 }
 
-// Sorts the whole blocks from one to another, each by the corners of its box.
+// Notes for some blocks of a list, from one on, whether their boxes lie on the right, and whether on the left. It has no
+// branch, so that a machine does it for several blocks at once.
+fn note_sides(
+    margins: Margins,
+    low_x: &[i16],
+    low_y: &[i16],
+    high_x: &[i16],
+    high_y: &[i16],
+    from: usize,
+    right: &mut [bool],
+    left: &mut [bool],
+)
+    requires margins { AreMargins margins }
+    requires low_x { from + length right.old ≤ length low_x.now }
+    requires low_y { from + length right.old ≤ length low_y.now }
+    requires high_x { from + length right.old ≤ length high_x.now }
+    requires high_y { from + length right.old ≤ length high_y.now }
+    requires same { length left.old ≡ length right.old }
+    ensures right { AreAbove margins.ray low_x.now low_y.now from right.new }
+    ensures left { AreBelow margins.ray high_x.now high_y.now from left.new }
+{
+    for n in 0..right.len() {
+        let k = from + n;
+        let low = Vertex {
+            x: low_x[k],
+            y: low_y[k],
+        };
+        let high = Vertex {
+            x: high_x[k],
+            y: high_y[k],
+        };
+        let sides = sides_of_corners(margins, low, high);
+        right[n] = sides.right;
+        left[n] = sides.left;
+    }
+}
+
+// Sorts the whole blocks from one to another, sixteen at most, each by the corners of its box.
 fn sort_blocks(
     lines: &[Edge],
     partition: &Piece,
@@ -97,23 +134,24 @@ fn sort_blocks(
     requires corners { AreCorners margins.ray blocks.now low_x.now low_y.now high_x.now high_y.now }
     requires few { length pieces.now < 2 ^ 32 }
     requires forward { from ≤ to }
+    requires sixteen { to ≤ from + 16 }
     requires whole { 16 * to ≤ length pieces.now }
     requires room { length blocks.now ≤ length noted.old }
     requires before { IsSorted lines.now partition.now pieces.now (16 * from) before noted.old }
     ensures is { IsSorted lines.now partition.now pieces.now (16 * to) result noted.new }
     ensures room { length noted.new ≡ length noted.old }
 {
+    let mut all_right = [false; BLOCK];
+    let mut all_left = [false; BLOCK];
+    let right = &mut all_right[..to - from];
+    let left = &mut all_left[..to - from];
+    note_sides(margins, low_x, low_y, high_x, high_y, from, right, left);
     let mut sorted = before;
     for k in from..to {
-        let low = Vertex {
-            x: low_x[k],
-            y: low_y[k],
+        let sides = BoxSides {
+            right: right[k - from],
+            left: left[k - from],
         };
-        let high = Vertex {
-            x: high_x[k],
-            y: high_y[k],
-        };
-        let sides = sides_of_corners(margins, low, high);
         sorted = add_block(lines, partition, pieces, k, BLOCK, sides, sorted, noted);
     }
     sorted
@@ -247,12 +285,15 @@ pub(crate) fn sort_all(
             sorted, noted,
         );
     }
-    let from = BLOCK * groups.len();
     let whole = pieces.len() / BLOCK;
-    sorted = sort_blocks(
-        lines, partition, margins, pieces, blocks, low_x, low_y, high_x, high_y, from, whole,
-        sorted, noted,
-    );
+    for g in groups.len()..whole.div_ceil(BLOCK) {
+        let from = BLOCK * g;
+        let to = (from + BLOCK).min(whole);
+        sorted = sort_blocks(
+            lines, partition, margins, pieces, blocks, low_x, low_y, high_x, high_y, from, to,
+            sorted, noted,
+        );
+    }
     sort_last(
         lines, partition, margins, pieces, blocks, whole, sorted, noted,
     )

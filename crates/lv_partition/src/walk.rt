@@ -19,7 +19,7 @@ use crate::ends::{EndColumns, Ends};
 use crate::margins::{Margins, PlaceSides, margins_of, sides_of_place};
 use crate::sorting::{Sorted, sort_all};
 use lv_lumps::{Bounds, Ray, Vertex};
-use lv_segs::{Edge, Piece, Place, divide_on, place_on, ray_of};
+use lv_segs::{Edge, Piece, Place, divide_on, place_on, ray_of, value_at};
 
 // What the sides of its two ends tell of a piece: its counts, or none where they leave it open.
 fn counts_by_sides(first: PlaceSides, last: PlaceSides) -> Counts
@@ -100,7 +100,8 @@ fn count_clear_ones(
     counts
 }
 
-// The counts of one piece, by its exact place: only one that lies across the partition is divided.
+// The counts of one piece: by the sides of its line's ends, where these lie on one side and not both on the partition's
+// straight line; else by its exact place. Only one that lies across the partition is divided.
 fn count_piece(lines: &[Edge], partition: &Piece, ray: Ray, piece: &Piece) -> Counts
     requires lines { All IsEdge lines.now }
     requires ray { ray ≡ ray_of lines.now partition.now }
@@ -109,6 +110,15 @@ fn count_piece(lines: &[Edge], partition: &Piece, ray: Ray, piece: &Piece) -> Co
     ensures { AreCounts lines.now partition.now (piece.now ∷ []) result }
 {
     let edge = lines[piece.line as usize];
+    let first = value_at(ray, edge.v1);
+    let last = value_at(ray, edge.v2);
+    let sum = first + last;
+    if 0 <= first && 0 <= last && 0 < sum {
+        return Counts::ON_RIGHT;
+    }
+    if first <= 0 && last <= 0 && sum < 0 {
+        return Counts::ON_LEFT;
+    }
     match place_on(ray, edge, piece) {
         Place::Right => Counts::ON_RIGHT,
         Place::Left => Counts::ON_LEFT,

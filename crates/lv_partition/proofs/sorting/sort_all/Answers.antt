@@ -1,10 +1,11 @@
-use Rattle.std.proofs.Common.{rules, ◌*◌, refl, ap, ◌∙◌, take, length, arith}
+use Rattle.std.proofs.Common.{rules, ◌+◌, ◌*◌, ◌/◌, min, refl, ap, ◌∙◌, take, length, arith}
 use Rattle.std.proofs.lemmas.Int.{to_z-of_z}
 use Rattle.std.specs.Prelude.{pos, int_le, FitsSigned}
 use Rattle.std.specs.Int.{w32}
 use Rattle.lv_partition.specs.Columns.{AreCorners}
+use Rattle.lv_segs.specs.Boxes.{boxes_of}
 use Rattle.lv_partition.proofs.Best.{stands_at}
-use Rattle.lv_partition.proofs.BoxLemmas.{no_box, group_holds}
+use Rattle.lv_partition.proofs.BoxLemmas.{no_box, group_holds, boxes_length}
 use Rattle.lv_partition.proofs.Corners.{chosen}
 use Rattle.lv_partition.proofs.OpenBlocks.{same_sorted}
 use Rattle.lv_partition.proofs.sorting.sort_all.Goals as goal
@@ -44,8 +45,36 @@ sort_blocks-sorted-requires-clause-corners c = corners (goal.at.sort_blocks-sort
 
 pub sort_blocks-sorted-requires-clause-before : goal.sort_blocks-sorted-requires-clause-before
 sort_blocks-sorted-requires-clause-before c =
+    let s = c.loop-g-2.sorted in
+    let t = c.loop-g-2-test.true in
+    let d = c.div_ceil-g-end.ensures in
+    same_sorted c.args.lines.now c.args.partition.now c.args.pieces.now (16 * min (16 * c.loop-g-2.g) (length c.args.pieces.now / 16)) (16 * (16 * c.loop-g-2.g))
+    s.right s.right s.left s.left s.count s.count c.loop-g-2.noted c.loop-g-2.noted c.loop-g-2.invariant (omega arith) refl refl refl refl
+
+pub loop-g-2-init : goal.loop-g-2-init
+loop-g-2-init c =
+    let ps = c.args.pieces.now in
     let s = c.loop-g.sorted in
     let f = c.loop-g-test.false in
     let e = c.loop-g.auto.g-end in
-    same_sorted c.args.lines.now c.args.partition.now c.args.pieces.now (256 * c.loop-g.g) (16 * (16 * length c.args.groups.now))
+    let w = c.requires.groups.within in
+    let same = boxes_length c.args.lines.now ps (boxes_of c.args.lines.now ps) refl in
+    same_sorted c.args.lines.now c.args.partition.now ps (256 * c.loop-g.g) (16 * min (16 * length c.args.groups.now) (length ps / 16))
     s.right s.right s.left s.left s.count s.count c.loop-g.noted c.loop-g.noted c.loop-g.invariant (omega arith) refl refl refl refl
+
+pub loop-g-2-preserved : goal.loop-g-2-preserved
+loop-g-2-preserved c =
+    let ps = c.args.pieces.now in
+    let s = c.sort_blocks-sorted.result in
+    let e = c.min-to.ensures in
+    same_sorted c.args.lines.now c.args.partition.now ps (16 * c.min-to.result) (16 * min (16 * (c.loop-g-2.g + 1)) (length ps / 16))
+    s.right s.right s.left s.left s.count s.count c.sort_blocks-sorted.new.noted c.sort_blocks-sorted.new.noted c.sort_blocks-sorted.ensures.is (omega arith) refl refl refl refl
+
+pub sort_last-requires-clause-before : goal.sort_last-requires-clause-before
+sort_last-requires-clause-before c =
+    let ps = c.args.pieces.now in
+    let s = c.loop-g-2.sorted in
+    let f = c.loop-g-2-test.false in
+    let d = c.div_ceil-g-end.ensures in
+    same_sorted c.args.lines.now c.args.partition.now ps (16 * min (16 * c.loop-g-2.g) (length ps / 16)) (16 * (length ps / 16))
+    s.right s.right s.left s.left s.count s.count c.loop-g-2.noted c.loop-g-2.noted c.loop-g-2.invariant (omega arith) refl refl refl refl
