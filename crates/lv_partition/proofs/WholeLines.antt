@@ -1,9 +1,7 @@
 -- A line whose ends lie on one side of a ray, and not both on it: each piece of it lies on that side.
-use Rattle.std.proofs.Common.{◌≡◌, true, ap, ◌∙◌, subst, arith}
-use Rattle.std.proofs.lemmas.Int.{ints, to_z-of_z}
-use Rattle.std.specs.Prelude.{ℤ, pos, neg_ℤ, ◌+ℤ◌, ◌-ℤ◌, ◌≤ℤ◌, ◌<ℤ◌, int_le, int_lt, FitsSigned}
-use Rattle.std.specs.Int.{w64}
-use mir.Val.{to_z, of_z}
+use Rattle.std.proofs.Common.{◌≡◌, true, false, ◌&&◌, ◌||◌, subst, arith}
+use Rattle.std.proofs.lemmas.Int.{ints}
+use Rattle.std.specs.Prelude.{ℤ, pos, ◌+ℤ◌, ◌-ℤ◌, ◌≤ℤ◌, ◌<ℤ◌, int_le, int_lt}
 use Rattle.lv_lumps.specs.declared.plane.Ray.{Ray}
 use Rattle.lv_lumps.proofs.Signs.{linear, times_at_most, zero_product}
 use Rattle.lv_segs.specs.declared.frac.Frac.{Frac}
@@ -65,32 +63,14 @@ module _ (r : Ray) (e : Edge) (q : Piece) (ok : HasFractions q) (a b : ℤ) (fir
   whole_left h k n = by_ends Left (line_left a b (dot r (ray e q.side)) q.from q.to ok.from ok.to ok.rising h k n)
 
 -- ---- tests
-pub at_least : (z : ℤ) → int_le (pos 0) z ≡ true → pos 0 ≤ℤ z
-at_least z e = grind (arith, ints)
+pub right_tests : (a b : ℤ) → ((int_le (pos 0) a && int_le (pos 0) b) && (int_lt (pos 0) a || int_lt (pos 0) b)) ≡ true
+    → (pos 0 ≤ℤ a) × (pos 0 ≤ℤ b) × (pos 0 <ℤ (a +ℤ b))
+right_tests a b e = grind (arith, ints)
 
-pub at_most : (z : ℤ) → int_le z (pos 0) ≡ true → z ≤ℤ pos 0
-at_most z e = grind (arith, ints)
+pub left_tests : (a b : ℤ) → ((int_le a (pos 0) && int_le b (pos 0)) && (int_lt a (pos 0) || int_lt b (pos 0))) ≡ true
+    → (a ≤ℤ pos 0) × (b ≤ℤ pos 0) × ((a +ℤ b) <ℤ pos 0)
+left_tests a b e = grind (arith, ints)
 
-pub above_zero : (z : ℤ) → int_lt (pos 0) z ≡ true → pos 0 <ℤ z
-above_zero z e = grind (arith, ints)
-
-pub below_zero : (z : ℤ) → int_lt z (pos 0) ≡ true → z <ℤ pos 0
-below_zero z e = grind (arith, ints)
-
-pub record IsSum (a b : ℤ) : Type 0 where
-  pub first : to_z w64 (of_z w64 a) ≡ a
-  pub last : to_z w64 (of_z w64 b) ≡ b
-  pub fits : FitsSigned w64 (to_z w64 (of_z w64 a) +ℤ to_z w64 (of_z w64 b))
-  pub sum : to_z w64 (of_z w64 (to_z w64 (of_z w64 a) +ℤ to_z w64 (of_z w64 b))) ≡ a +ℤ b
-
--- the sum of two side values
-pub sum_of : (a b : ℤ) → FitsSigned w64 a → FitsSigned w64 b → neg_ℤ (pos 2147483648) ≤ℤ to_z w64 (of_z w64 a) → to_z w64 (of_z w64 a) ≤ℤ pos 2147483648
-    → neg_ℤ (pos 2147483648) ≤ℤ to_z w64 (of_z w64 b) → to_z w64 (of_z w64 b) ≤ℤ pos 2147483648 → IsSum a b
-sum_of a b fa fb al ah bl bh =
-    let ea = to_z-of_z w64 a fa in
-    let eb = to_z-of_z w64 b fb in
-    let f : FitsSigned w64 (to_z w64 (of_z w64 a) +ℤ to_z w64 (of_z w64 b)) = fits_by (to_z w64 (of_z w64 a)) (to_z w64 (of_z w64 b)) al ah bl bh in
-    record { first = ea; last = eb; fits = f; sum = to_z-of_z w64 (to_z w64 (of_z w64 a) +ℤ to_z w64 (of_z w64 b)) f ∙ ap (λ (x : ℤ). x +ℤ to_z w64 (of_z w64 b)) ea ∙ ap (λ (y : ℤ). a +ℤ y) eb }
-  where
-    fits_by : (x y : ℤ) → neg_ℤ (pos 2147483648) ≤ℤ x → x ≤ℤ pos 2147483648 → neg_ℤ (pos 2147483648) ≤ℤ y → y ≤ℤ pos 2147483648 → FitsSigned w64 (x +ℤ y)
-    fits_by x y xl xh yl yh = omega (arith, ints)
+pub one_test : (a b : ℤ) → (((int_le (pos 0) a && int_le (pos 0) b) && (int_lt (pos 0) a || int_lt (pos 0) b))
+    && ((int_le a (pos 0) && int_le b (pos 0)) && (int_lt a (pos 0) || int_lt b (pos 0)))) ≡ false
+one_test a b = grind (arith, ints)

@@ -1,5 +1,5 @@
 //! The counts of a list: blocks whole on one side by their boxes, the pieces of open ones by their rounded ends.
-ghost use Rattle.std.specs.Prelude.{◌≡◌, ℕ, ◌≤◌, ◌<◌, ◌^◌, ◌&&◌, ◌||◌, if◌then◌else◌, ◌∷◌, [], length, All, MatchOption};
+ghost use Rattle.std.specs.Prelude.{◌≡◌, ℕ, ◌≤◌, ◌<◌, ◌^◌, ◌&&◌, ◌||◌, if◌then◌else◌, ◌∷◌, [], true, false, pos, ◌+ℤ◌, ◌≤ℤ◌, ◌<ℤ◌, length, All, MatchOption};
 ghost use Rattle.lv_segs.specs.Plane.{IsEdge};
 ghost use Rattle.lv_segs.specs.Local.{IsLineRay};
 ghost use Rattle.lv_segs.specs.Pieces.{IsPiece, ray_of};
@@ -100,6 +100,20 @@ fn count_clear_ones(
     counts
 }
 
+// The side on which a line lies by the values of its ends, found without a branch; neither where the ends lie on two
+// sides, and where both are 0.
+fn sides_of_line(first: i64, last: i64) -> PlaceSides
+    ensures right { result.right ≡ true →
+        (pos 0 ≤ℤ first) × (pos 0 ≤ℤ last) × (pos 0 <ℤ (first +ℤ last)) }
+    ensures left { result.left ≡ true →
+        (first ≤ℤ pos 0) × (last ≤ℤ pos 0) × ((first +ℤ last) <ℤ pos 0) }
+    ensures one { (result.right && result.left) ≡ false }
+{
+    let right = (0 <= first) & (0 <= last) & ((0 < first) | (0 < last));
+    let left = (first <= 0) & (last <= 0) & ((first < 0) | (last < 0));
+    PlaceSides { right, left }
+}
+
 // The counts of one piece: by the sides of its line's ends, where these lie on one side and not both on the partition's
 // straight line; else by its exact place. Only one that lies across the partition is divided.
 fn count_piece(lines: &[Edge], partition: &Piece, ray: Ray, piece: &Piece) -> Counts
@@ -112,12 +126,13 @@ fn count_piece(lines: &[Edge], partition: &Piece, ray: Ray, piece: &Piece) -> Co
     let edge = lines[piece.line as usize];
     let first = value_at(ray, edge.v1);
     let last = value_at(ray, edge.v2);
-    let sum = first + last;
-    if 0 <= first && 0 <= last && 0 < sum {
-        return Counts::ON_RIGHT;
-    }
-    if first <= 0 && last <= 0 && sum < 0 {
-        return Counts::ON_LEFT;
+    let sides = sides_of_line(first, last);
+    if sides.right | sides.left {
+        return Counts {
+            splits: 0,
+            right: sides.right as u32,
+            left: sides.left as u32,
+        };
     }
     match place_on(ray, edge, piece) {
         Place::Right => Counts::ON_RIGHT,
