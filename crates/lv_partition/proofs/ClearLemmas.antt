@@ -1,6 +1,9 @@
 -- The pieces that their rounded ends decide are counted, and then those that these leave flags.
-use Rattle.std.proofs.Common.{◌≡◌, refl, sym, ap, ◌∙◌, subst, ℕ, suc, ◌+◌, ◌-◌, ◌*◌, ◌<◌, ◌≤◌, Bool, true, false, ◌&&◌, ◌||◌, List, [], ◌∷◌, ◌++◌, length, take, drop, set, get_or, drop-cons, arith}
+use Rattle.std.proofs.Common.{◌≡◌, refl, sym, ap, ◌∙◌, subst, ℕ, suc, ◌+◌, ◌-◌, ◌*◌, ◌<◌, ◌≤◌, Bool, true, false, ◌&&◌, ◌||◌, List, [], ◌∷◌, ◌++◌, length, take, drop, set, get_or, drop-cons, arith, All}
 use Rattle.std.proofs.lemmas.List.{length-take, length-append, append-nil, take_more, take_more_set, take_all, drop_all}
+use mir.Val.{bool_byte}
+use Rattle.std.proofs.lemmas.List.{take-set, append_assoc}
+use Rattle.std.proofs.lemmas.List.Elements.{All-nil, All-cons, All-append, All-get_or}
 use Rattle.std.proofs.lemmas.Bool.Decides.{nat_tests}
 use Rattle.std.specs.Prelude.{nat_eq}
 use Rattle.lv_segs.specs.declared.edge.Edge.{Edge}
@@ -10,7 +13,7 @@ use Rattle.lv_segs.specs.Tree.{cost}
 use Rattle.lv_segs.proofs.Stops.{cost_at_least, rights_append, lefts_append, splits_append, Counted, block_counted}
 use Rattle.lv_partition.specs.declared.counts.Counts.{Counts}
 use Rattle.lv_partition.specs.Counts.{AreCounts}
-use Rattle.lv_partition.specs.Clear.{flagged, IsClear, AreCountsBut}
+use Rattle.lv_partition.specs.Clear.{flagged, pieces_at, IsClear, AreCountsBut}
 use Rattle.lv_partition.proofs.OneMore.{one, piece_counts}
 use Rattle.lv_partition.proofs.EndLemmas.{IsWellRight, IsWellLeft, ends_right, ends_left, ends_down, ends_up, parted_counts}
 
@@ -63,6 +66,47 @@ both_zero a b e = grind (arith, nat_tests)
 
 not_zero : (a b : ℕ) → (nat_eq a 0 && nat_eq b 0) ≡ false → 0 < a + b
 not_zero a b e = grind (arith, nat_tests)
+
+-- ---- the places of flagged pieces
+at_place : (ps : List Piece) (k : ℕ) (d : Piece) → k < length ps → take 1 (drop k ps) ≡ get_or ps k d ∷ []
+at_place ps k d h = ap (take 1) (next_of ps k d h)
+
+one_more_at : (ps : List Piece) (ks : List ℕ) (k : ℕ) → pieces_at ps (ks ++ (k ∷ [])) ≡ pieces_at ps ks ++ take 1 (drop k ps)
+one_more_at ps [] k = append-nil (take 1 (drop k ps))
+one_more_at ps (j ∷ ks) k = ap (λ (qs : List Piece). take 1 (drop j ps) ++ qs) (one_more_at ps ks k) ∙ sym (append_assoc (take 1 (drop j ps)) (pieces_at ps ks) (take 1 (drop k ps)))
+
+pub place_step : (ps : List Piece) (flags : List Bool) (places : List ℕ) (n count : ℕ) (d : Piece) (b : Bool) → n < length ps → length flags ≡ length ps
+    → get_or flags n false ≡ b → count < length places → pieces_at ps (take count places) ≡ flagged (take n flags) (take n ps)
+    → pieces_at ps (take (count + bool_byte b) (set places count n)) ≡ flagged (take (n + 1) flags) (take (n + 1) ps)
+place_step ps flags places n count d b h same e room is = by_flag b e
+  where
+    whole : flagged (take (n + 1) flags) (take (n + 1) ps) ≡ flagged (take n flags) (take n ps) ++ flagged (get_or flags n false ∷ []) (get_or ps n d ∷ [])
+    whole =
+        let lo = length-take n flags in
+        let lp = length-take n ps in
+        let w : n < length flags = omega arith in
+        ap (λ (fs : List Bool). flagged fs (take (n + 1) ps)) (take_more flags n false w)
+        ∙ ap (flagged (take n flags ++ (get_or flags n false ∷ []))) (take_more ps n d h)
+        ∙ flagged_more (take n flags) (take n ps) (get_or flags n false) (get_or ps n d) (omega arith)
+
+    by_flag : (b : Bool) → get_or flags n false ≡ b → pieces_at ps (take (count + bool_byte b) (set places count n)) ≡ flagged (take (n + 1) flags) (take (n + 1) ps)
+    by_flag true f =
+        ap (pieces_at ps) (take_more_set places count n room) ∙ one_more_at ps (take count places) n
+        ∙ ap (λ (qs : List Piece). pieces_at ps (take count places) ++ qs) (at_place ps n d h)
+        ∙ ap (λ (qs : List Piece). qs ++ (get_or ps n d ∷ [])) is
+        ∙ sym (whole ∙ ap (λ (x : Bool). flagged (take n flags) (take n ps) ++ flagged (x ∷ []) (get_or ps n d ∷ [])) f)
+    by_flag false f =
+        let z : count + 0 ≡ count = omega arith in
+        ap (λ (i : ℕ). pieces_at ps (take i (set places count n))) z ∙ ap (pieces_at ps) (take-set places count n) ∙ is
+        ∙ sym (whole ∙ ap (λ (x : Bool). flagged (take n flags) (take n ps) ++ flagged (x ∷ []) (get_or ps n d ∷ [])) f ∙ append-nil (flagged (take n flags) (take n ps)))
+
+pub place_within : (m : ℕ) (places : List ℕ) (n count : ℕ) (b : Bool) → n < m → count < length places → All (λ k. k < m) (take count places)
+    → All (λ k. k < m) (take (count + bool_byte b) (set places count n))
+place_within m places n count true h room all =
+    subst (All (λ (k : ℕ). k < m)) (sym (take_more_set places count n room)) (All-append (λ (k : ℕ). k < m) (take count places) (n ∷ []) all (All-cons (λ (k : ℕ). k < m) n [] h (All-nil (λ (k : ℕ). k < m))))
+place_within m places n count false h room all =
+    let z : count ≡ count + 0 = omega arith in
+    subst (λ (i : ℕ). All (λ k. k < m) (take i (set places count n))) z (subst (All (λ (k : ℕ). k < m)) (sym (take-set places count n)) all)
 
 -- the pieces that aren't counted yet: the flagged ones among the first n, and all behind them
 abbrev pub uncounted : List Bool → List Piece → ℕ → List Piece
@@ -196,31 +240,22 @@ module _ (lines : List Edge) (p : Piece) where
       ∙ ap (flagged flags) (take_all n ps h) in
       subst (λ (xs : List Piece). Counted lines p ps xs r l s) e k
 
-  -- ---- the flagged ones
-  next_flagged : (ps : List Piece) (flags : List Bool) (n : ℕ) (d : Piece) (f : Bool) → n < length ps → length flags ≡ length ps → get_or flags n false ≡ f
-      → flagged (drop n flags) (drop n ps) ≡ flagged (f ∷ drop (n + 1) flags) (get_or ps n d ∷ drop (n + 1) ps)
-  next_flagged ps flags n d f h same e =
-      let w : n < length flags = omega arith in
-      ap (λ (fs : List Bool). flagged fs (drop n ps)) (next_of flags n false w ∙ ap (λ (x : Bool). x ∷ drop (n + 1) flags) e)
-      ∙ ap (flagged (f ∷ drop (n + 1) flags)) (next_of ps n d h)
+  -- ---- the pieces at noted places
+  pub place_counted : (ps : List Piece) (places : List ℕ) (n : ℕ) (d : Piece) (r l s : ℕ) (c : Counts) → n < length places → All (λ k. k < length ps) places
+      → Counted lines p ps (pieces_at ps (drop n places)) r l s → AreCounts lines p (get_or ps (get_or places n 0) d ∷ []) c
+      → Counted lines p ps (pieces_at ps (drop (n + 1) places)) (r + c.right) (l + c.left) (s + c.splits)
+  place_counted ps places n d r l s c h within k a =
+      let q = get_or ps (get_or places n 0) d in
+      let e : pieces_at ps (drop n places) ≡ (q ∷ []) ++ pieces_at ps (drop (n + 1) places) =
+      ap (pieces_at ps) (next_of places n 0 h)
+      ∙ ap (λ (qs : List Piece). qs ++ pieces_at ps (drop (n + 1) places)) (at_place ps (get_or places n 0) d (All-get_or (λ (j : ℕ). j < length ps) places n 0 h within)) in
+      let k' = subst (λ (xs : List Piece). Counted lines p ps xs r l s) e k in
+      block_counted lines p ps (q ∷ []) (pieces_at ps (drop (n + 1) places)) r l s c.right c.left c.splits k' (sym a.right) (sym a.left) (sym a.splits)
 
-  pub open_step : (ps : List Piece) (flags : List Bool) (n : ℕ) (d : Piece) (r l s : ℕ) (c : Counts) → n < length ps → length flags ≡ length ps
-      → get_or flags n false ≡ true → Counted lines p ps (flagged (drop n flags) (drop n ps)) r l s → AreCounts lines p (get_or ps n d ∷ []) c
-      → Counted lines p ps (flagged (drop (n + 1) flags) (drop (n + 1) ps)) (r + c.right) (l + c.left) (s + c.splits)
-  open_step ps flags n d r l s c h same e k a =
-      let k' = subst (λ (xs : List Piece). Counted lines p ps xs r l s) (next_flagged ps flags n d true h same e) k in
-      block_counted lines p ps (get_or ps n d ∷ []) (flagged (drop (n + 1) flags) (drop (n + 1) ps)) r l s c.right c.left c.splits k' (sym a.right) (sym a.left) (sym a.splits)
-
-  pub closed_step : (ps : List Piece) (flags : List Bool) (n : ℕ) (d : Piece) (r l s : ℕ) → n < length ps → length flags ≡ length ps
-      → get_or flags n false ≡ false → Counted lines p ps (flagged (drop n flags) (drop n ps)) r l s
-      → Counted lines p ps (flagged (drop (n + 1) flags) (drop (n + 1) ps)) r l s
-  closed_step ps flags n d r l s h same e k = subst (λ (xs : List Piece). Counted lines p ps xs r l s) (next_flagged ps flags n d false h same e) k
-
-  pub open_all : (ps : List Piece) (flags : List Bool) (n : ℕ) (c : Counts) → length ps ≤ n → length flags ≡ length ps
-      → Counted lines p ps (flagged (drop n flags) (drop n ps)) c.right c.left c.splits → AreCounts lines p ps c
-  open_all ps flags n c h same k =
-      let e : flagged (drop n flags) (drop n ps) ≡ [] = ap (λ (fs : List Bool). flagged fs (drop n ps)) (drop_all n flags (omega arith)) in
-      let k' = subst (λ (xs : List Piece). Counted lines p ps xs c.right c.left c.splits) e k in
+  pub places_counted : (ps : List Piece) (places : List ℕ) (n : ℕ) (c : Counts) → length places ≤ n
+      → Counted lines p ps (pieces_at ps (drop n places)) c.right c.left c.splits → AreCounts lines p ps c
+  places_counted ps places n c h k =
+      let k' = subst (λ (xs : List ℕ). Counted lines p ps (pieces_at ps xs) c.right c.left c.splits) (drop_all n places h) k in
       let kr = k'.right in
       let kl = k'.left in
       let ks = k'.splits in

@@ -1,5 +1,5 @@
 -- What the rounded ends of pieces decide of a list, and the pieces that they leave open.
-use Rattle.std.specs.Prelude.{◌≡◌, ◌+◌, ◌<◌, Bool, true, false, List, [], ◌∷◌, length, count_by}
+use Rattle.std.specs.Prelude.{◌≡◌, ℕ, ◌+◌, ◌<◌, Bool, true, false, List, [], ◌∷◌, flat_map, length, take, drop, count_by}
 use Rattle.lv_segs.specs.declared.edge.Edge.{Edge}
 use Rattle.lv_segs.specs.declared.piece.Piece.{Piece}
 use Rattle.lv_segs.specs.Division.{right_parts, left_parts}
@@ -13,6 +13,10 @@ flagged [] ps = []
 flagged (f ∷ fs) [] = []
 flagged (true ∷ fs) (p ∷ ps) = p ∷ flagged fs ps
 flagged (false ∷ fs) (p ∷ ps) = flagged fs ps
+
+-- the pieces at these places
+abbrev pub pieces_at : List Piece → List ℕ → List Piece
+pieces_at ps ks = flat_map (λ k. take 1 (drop k ps)) ks
 
 -- the counts are those of the list but for the rest
 pub record AreCountsBut (lines : List Edge) (partition : Piece) (ps rest : List Piece)

@@ -1,5 +1,5 @@
 //! The counts of a list: blocks whole on one side by their boxes, the pieces of open ones by their rounded ends.
-ghost use Rattle.std.specs.Prelude.{◌≡◌, ℕ, ◌≤◌, ◌<◌, ◌^◌, ◌&&◌, ◌||◌, if◌then◌else◌, ◌∷◌, [], true, false, pos, ◌+ℤ◌, ◌≤ℤ◌, ◌<ℤ◌, length, All, MatchOption};
+ghost use Rattle.std.specs.Prelude.{◌≡◌, ℕ, ◌≤◌, ◌<◌, ◌^◌, ◌&&◌, ◌||◌, if◌then◌else◌, ◌∷◌, [], true, false, pos, ◌+ℤ◌, ◌≤ℤ◌, ◌<ℤ◌, length, take, All, MatchOption};
 ghost use Rattle.lv_segs.specs.Plane.{IsEdge};
 ghost use Rattle.lv_segs.specs.Local.{IsLineRay};
 ghost use Rattle.lv_segs.specs.Pieces.{IsPiece, ray_of};
@@ -10,7 +10,7 @@ ghost use Rattle.lv_partition.specs.Blocks.{AreBlocks, AreGroups};
 ghost use Rattle.lv_partition.specs.Sights.{AreMargins, ends_of};
 ghost use Rattle.lv_partition.specs.Columns.{AreEnds, HoldsEnds, HoldsBoxes};
 ghost use Rattle.lv_partition.specs.Sorting.{IsSorted};
-ghost use Rattle.lv_partition.specs.Clear.{AreCountsBut, flagged, IsClear};
+ghost use Rattle.lv_partition.specs.Clear.{AreCountsBut, flagged, pieces_at, IsClear};
 
 use crate::block_boxes::BLOCK;
 use crate::corner_columns::BoxColumns;
@@ -144,13 +144,33 @@ fn count_piece(lines: &[Edge], partition: &Piece, ray: Ray, piece: &Piece) -> Co
     }
 }
 
-// The counts of a short list of which all but the flagged pieces are counted.
+// Notes the places of the flagged pieces of a block, and answers how many there are. It has no branch, since no machine
+// foresees which pieces are flagged.
+fn note_open(pieces: &[Piece], flags: &[bool], places: &mut [u8]) -> usize
+    requires few { length pieces.now ≤ 16 }
+    requires same { length flags.now ≡ length pieces.now }
+    requires room { length places.old ≡ 16 }
+    ensures is { pieces_at pieces.now (take result places.new) ≡ flagged flags.now pieces.now }
+    ensures each { All (λ k. k < length pieces.now) (take result places.new) }
+    ensures few { result ≤ 16 }
+    ensures room { length places.new ≡ 16 }
+{
+    let mut count = 0;
+    for n in 0..pieces.len() {
+        // where the piece isn't flagged, the next one's place is written over its own
+        places[count] = n as u8;
+        count += flags[n] as usize;
+    }
+    count
+}
+
+// The counts of a short list of which all but the pieces at some places are counted.
 fn count_open_ones(
     lines: &[Edge],
     partition: &Piece,
     ray: Ray,
     pieces: &[Piece],
-    flags: &[bool],
+    places: &[u8],
     clear: Counts,
 ) -> Counts
     requires lines { All IsEdge lines.now }
@@ -158,17 +178,16 @@ fn count_open_ones(
     requires line { IsLineRay ray }
     requires pieces { All (IsPiece lines.now) pieces.now }
     requires few { length pieces.now < 2 ^ 32 }
-    requires room { length flags.now ≡ length pieces.now }
-    requires clear { AreCountsBut lines.now partition.now pieces.now (flagged flags.now pieces.now)
-        clear }
+    requires each { All (λ k. k < length pieces.now) places.now }
+    requires clear { AreCountsBut lines.now partition.now pieces.now
+        (pieces_at pieces.now places.now) clear }
     ensures { AreCounts lines.now partition.now pieces.now result }
 {
     let mut counts = clear;
-    for (n, piece) in pieces.iter().enumerate() {
-        if flags[n] {
-            let more = count_piece(lines, partition, ray, piece);
-            counts = counts.plus(more);
-        }
+    for place in places {
+        let piece = &pieces[*place as usize];
+        let more = count_piece(lines, partition, ray, piece);
+        counts = counts.plus(more);
     }
     counts
 }
@@ -208,7 +227,16 @@ fn count_list(
     if rest == 0 {
         return Some(clear);
     }
-    Some(count_open_ones(lines, partition, margins.ray, pieces, flags, clear))
+    let mut places = [0; BLOCK];
+    let count = note_open(pieces, flags, &mut places);
+    Some(count_open_ones(
+        lines,
+        partition,
+        margins.ray,
+        pieces,
+        &places[..count],
+        clear,
+    ))
 }
 
 // The counts of a list whose blocks are sorted, open block by open block, or None where the cost is found to be the
