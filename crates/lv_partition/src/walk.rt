@@ -127,7 +127,8 @@ fn count_piece(lines: &[Edge], partition: &Piece, ray: Ray, piece: &Piece) -> Co
     let first = value_at(ray, edge.v1);
     let last = value_at(ray, edge.v2);
     let sides = sides_of_line(first, last);
-    if sides.right | sides.left {
+    // never both, and one test is easier to foresee than two
+    if sides.right != sides.left {
         return Counts {
             splits: 0,
             right: sides.right as u32,

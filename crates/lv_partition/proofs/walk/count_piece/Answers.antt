@@ -1,5 +1,7 @@
+use Rattle.std.specs.Prelude.{not}
+use mathlib.Core.Bool.{beq}
 use mir.Val.{bool_byte}
-use Rattle.std.proofs.Common.{refl, Bool, true, false, ◌&&◌, ◌||◌, ◌∷◌, [], Some, None}
+use Rattle.std.proofs.Common.{refl, Bool, true, false, ◌&&◌, ◌∷◌, [], Some, None}
 use Rattle.lv_partition.specs.declared.counts.Counts.{Counts}
 use Rattle.lv_partition.specs.Counts.{AreCounts}
 use Rattle.std.proofs.Common.{rules, ◌≡◌, sym, ap, ◌∙◌, List, arith}
@@ -31,7 +33,7 @@ byte_one true = refl
 byte_one false = refl
 
 -- a piece of a line on one side
-by_side : (lines : List Edge) (h q : Piece) (fr fl : Bool) → (fr && fl) ≡ false → (fr || fl) ≡ true
+by_side : (lines : List Edge) (h q : Piece) (fr fl : Bool) → (fr && fl) ≡ false → not (beq fr fl) ≡ true
     → (fr ≡ true → record { right = Some q; left = None } ≡ parts_of lines h q) → (fl ≡ true → record { right = None; left = Some q } ≡ parts_of lines h q)
     → (c : Counts) → c.splits ≡ 0 → c.right ≡ one fr → c.left ≡ one fl → AreCounts lines h (q ∷ []) c
 by_side lines h q true true a b f g c s r l = absurd (cc)
