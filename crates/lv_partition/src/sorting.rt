@@ -73,8 +73,8 @@ fn add_block(
     }
 }
 
-// Notes for some blocks of a list, from one on, whether their boxes lie on the right, and whether on the left. It has no
-// branch, so that a machine does it for several blocks at once.
+// Notes for some blocks of a list, from one on, whether their boxes lie on the right, and whether on the left. It has
+// no branch, so that a machine does it for several blocks at once.
 fn note_sides(
     margins: Margins,
     low_x: &[i16],
