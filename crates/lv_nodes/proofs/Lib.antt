@@ -18,3 +18,4 @@ pub mod NodeLemmas
 pub mod Building
 pub mod RangeLemmas
 pub mod Orders
+pub mod Everywhere

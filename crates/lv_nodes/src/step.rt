@@ -1,5 +1,5 @@
 //! One step of the division: a leaf, or a partition and two lists. Which choice is asked costs time alone.
-ghost use Rattle.std.specs.Prelude.{◌≡◌, ◌<◌, ◌^◌, length, vec_len, All, IfOk, IfSome, MatchOption};
+ghost use Rattle.std.specs.Prelude.{◌≡◌, ◌<◌, ◌≤◌, ◌^◌, length, vec_len, All, IfOk, IfSome, MatchOption};
 ghost use Rattle.lv_segs.specs.Plane.{IsEdge};
 ghost use Rattle.lv_segs.specs.Pieces.{IsPiece};
 ghost use Rattle.lv_segs.specs.Boxes.{boxes_of};
@@ -15,6 +15,17 @@ use lv_lumps::Bounds;
 use lv_partition::{Choice, StraightLines, blocks_of, by_place, choose_in_boxes, choose_ordered};
 use lv_segs::{Edge, Piece};
 use std::alloc::{AllocError, Global};
+
+// As many pieces as these are one block.
+const FEW: usize = 16;
+
+// A box round all places.
+const EVERYWHERE: Bounds = Bounds {
+    top: i16::MAX,
+    bottom: i16::MIN,
+    left: i16::MIN,
+    right: i16::MAX,
+};
 
 // More pieces than these have an order by their places.
 const LONG: usize = 256;
@@ -173,6 +184,26 @@ fn choice_by_place(
     ))
 }
 
+// The best candidate of a list of one block. Its pieces are looked at one by one whatever its box is.
+fn choice_of_few(
+    lines: &[Edge],
+    list: &[Piece],
+    boxes: &[Bounds],
+    used: &[bool],
+    straight: &mut StraightLines,
+) -> Option<Choice>
+    requires lines { All IsEdge lines.now }
+    requires pieces { All (IsPiece lines.now) list.now }
+    requires boxes { boxes.now ≡ boxes_of lines.now list.now }
+    requires known { length used.now ≡ length lines.now }
+    requires some { 0 < length list.now }
+    requires few { length list.now ≤ 16 }
+    ensures { MatchOption result (HasNoChoice lines.now list.now used.now)
+        (λ c. IsChoice lines.now list.now used.now c) }
+{
+    choose_in_boxes(lines, list, boxes, &[EVERYWHERE], used, straight)
+}
+
 // The best candidate of a list: by the boxes that it has, or by those of its order where it has one.
 fn choice_of(
     alloc: Global,
@@ -195,6 +226,9 @@ fn choice_of(
     match placed {
         Some(order) => choice_by_place(alloc, lines, list, order, used, straight),
         None => {
+            if 0 < list.len() && list.len() <= FEW {
+                return Ok(choice_of_few(lines, list, boxes, used, straight));
+            }
             let blocks = blocks_of(alloc, boxes)?;
             Ok(choose_in_boxes(lines, list, boxes, &blocks, used, straight))
         }

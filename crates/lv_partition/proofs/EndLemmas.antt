@@ -1,8 +1,7 @@
 -- What rounded ends that lie well off a partition's straight line say of a piece.
-use Rattle.std.proofs.Common.{◌≡◌, refl, sym, ap, ◌∙◌, ℕ, zero, suc, ◌<◌, Bool, true, false, ◌&&◌, List, [], ◌∷◌, length, take, drop, get_or, set, ◌+◌, ◌≤◌, ◌++◌, Some, None, arith}
+use Rattle.std.proofs.Common.{◌≡◌, refl, sym, ap, ◌∙◌, Bool, true, false, ◌&&◌, List, [], ◌∷◌, Some, None, arith}
 use Rattle.std.proofs.lemmas.Int.{ints, by_lt_z}
-use Rattle.std.proofs.lemmas.List.{take-map, drop-map, length-map, map-append, take_more, take_more_set, take_all, length-take}
-use Rattle.std.specs.Prelude.{map, ℤ, pos, neg_ℤ, ◌*ℤ◌, ◌≤ℤ◌, ◌<ℤ◌, is_some, int_lt, if◌then◌else◌}
+use Rattle.std.specs.Prelude.{ℤ, pos, neg_ℤ, ◌*ℤ◌, ◌≤ℤ◌, ◌<ℤ◌, is_some, int_lt, if◌then◌else◌}
 use Rattle.lv_lumps.specs.declared.records.Vertex.{Vertex}
 use Rattle.lv_lumps.specs.declared.plane.Ray.{Ray}
 use Rattle.lv_lumps.proofs.Signs.{linear}
@@ -177,37 +176,6 @@ module _ (lines : List Edge) (partition p : Piece) (ok : IsPiece lines p) where
       both true true e f = refl
       both true false e f = cc
       both false y e f = cc
-
--- ---- a column of a list
-module _ (f : Piece → ℤ) where
-  pub column_at : (ps : List Piece) (n : ℕ) (d : ℤ) (e : Piece) → n < length ps → get_or (map f ps) n d ≡ f (get_or ps n e)
-  column_at [] n d e h = absurd (omega arith)
-  column_at (p ∷ ps) zero d e h = refl
-  column_at (p ∷ ps) (suc n) d e h = column_at ps n d e (omega arith)
-
-  pub column_length : (ps : List Piece) (xs : List ℤ) → xs ≡ map f ps → length xs ≡ length ps
-  column_length ps xs e = ap length e ∙ length-map ps f
-
-  -- the head of a column has a place for each piece
-  pub column_room : (ps : List Piece) (xs : List ℤ) → take (length ps) xs ≡ map f ps → length ps ≤ length xs
-  column_room ps xs e = let l = column_length ps (take (length ps) xs) e in let t = length-take (length ps) xs in omega arith
-
-  -- what is noted of a part of a list is that part of its column
-  pub part_column : (ps : List Piece) (xs : List ℤ) (n j : ℕ) → xs ≡ map f ps → take n (drop j xs) ≡ map f (take n (drop j ps))
-  part_column ps xs n j e = ap (λ (ys : List ℤ). take n (drop j ys)) e ∙ ap (take n) (drop-map f j ps) ∙ take-map f n (drop j ps)
-
-  -- one more piece is noted
-  pub noted_more : (ps : List Piece) (xs : List ℤ) (n : ℕ) (x : ℤ) (d : Piece) → n < length ps → n < length xs
-      → take n xs ≡ map f (take n ps) → x ≡ f (get_or ps n d) → take (n + 1) (set xs n x) ≡ map f (take (n + 1) ps)
-  noted_more ps xs n x d h k same one =
-      take_more_set xs n x k ∙ ap (λ (ys : List ℤ). ys ++ (x ∷ [])) same ∙ ap (λ (y : ℤ). map f (take n ps) ++ (y ∷ [])) one
-      ∙ sym (ap (map f) (take_more ps n d h) ∙ map-append f (take n ps) (get_or ps n d ∷ []))
-
-  -- and all
-  pub noted_all : (ps : List Piece) (xs : List ℤ) (n : ℕ) → n ≤ length ps → length ps ≤ n → take n xs ≡ map f (take n ps) → take (length ps) xs ≡ map f ps
-  noted_all ps xs n h k same =
-      let e : length ps ≡ n = omega arith in
-      ap (λ (i : ℕ). take i xs) e ∙ same ∙ ap (map f) (take_all n ps k)
 
 -- the ends of a piece by their four coordinates
 pub ends_by : (a b u v : ℤ) (e : Ends) → a ≡ e.first.x → b ≡ e.first.y → u ≡ e.last.x → v ≡ e.last.y

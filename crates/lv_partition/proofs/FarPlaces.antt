@@ -1,5 +1,5 @@
 -- Side values by the rays of lines, in 32 bits.
-use Rattle.std.proofs.Common.{◌≡◌, refl, sym, ◌∙◌, ap, subst, ℕ, ◌+◌, ◌/◌, ◌≤◌, Bool, true, false, ◌&&◌, arith, [], ◌∷◌}
+use Rattle.std.proofs.Common.{◌≡◌, refl, ◌∙◌, ap, subst, ◌≤◌, Bool, true, false, ◌&&◌, arith, [], ◌∷◌}
 use Rattle.std.proofs.lemmas.Int.{ints, to_z-of_z}
 use Rattle.std.specs.Prelude.{ℤ, pos, neg_ℤ, ◌+ℤ◌, ◌-ℤ◌, ◌*ℤ◌, ◌≤ℤ◌, ◌<ℤ◌, int_lt, unsigned_abs, FitsSigned}
 use Rattle.std.specs.Int.{w16, w32}
@@ -97,7 +97,7 @@ are_margins r o h line e w enough l k =
     }
 
 -- the sides of a place
-offset_off : (r : Ray) (v : Vertex) → r.dy *ℤ v.x -ℤ r.dx *ℤ v.y -ℤ ray_offset r ≡ vertex_value r v
+pub offset_off : (r : Ray) (v : Vertex) → r.dy *ℤ v.x -ℤ r.dx *ℤ v.y -ℤ ray_offset r ≡ vertex_value r v
 offset_off r v = by_ring (r.dx ∷ r.dy ∷ r.start.x ∷ r.start.y ∷ v.x ∷ v.y ∷ []) _ _ (search quotes depth 30 fits 20000) (search quotes depth 30 fits 20000) tt
 
 less : (a b : ℤ) → int_lt a b ≡ true → a <ℤ b

@@ -6,5 +6,8 @@ pub mod BlockSteps
 pub mod BoxLemmas
 pub mod OpenBlocks
 pub mod Reordered
+pub mod Columns
 pub mod EndLemmas
 pub mod ClearLemmas
+pub mod Corners
+pub mod WholeLines

@@ -28,6 +28,14 @@ one_more_in ps [] k = append-nil (take 16 (drop (16 * k) ps))
 one_more_in ps (j ∷ ks) k = ap (λ (qs : List Piece). take 16 (drop (16 * j) ps) ++ qs) (one_more_in ps ks k)
     ∙ sym (append_assoc (take 16 (drop (16 * j) ps)) (pieces_in ps ks) (take 16 (drop (16 * k) ps)))
 
+module _ (lines : List Edge) (p : Piece) where
+  -- the counts of a block that lies whole on one side
+  pub counts_are : (block : List Piece) (a a' b b' : ℕ) → Contributes lines p block a b → a ≡ a' → b ≡ b' → AreCounts lines p block (record { splits = 0; right = a'; left = b' })
+  counts_are block a a' b b' k e f = record { splits = sym k.splits; right = sym (k.right ∙ e); left = sym (k.left ∙ f) }
+
+  pub contributes : (block : List Piece) (a b : ℕ) → AreCounts lines p block (record { splits = 0; right = a; left = b }) → Contributes lines p block a b
+  contributes block a b k = record { right = sym k.right; left = sym k.left; splits = sym k.splits }
+
 module _ (lines : List Edge) (p : Piece) (ps : List Piece) where
   -- the same by equal numbers
   pub same_sorted : (n n' : ℕ) (r r' l l' m m' : ℕ) (noted noted' : List ℕ)

@@ -1,5 +1,5 @@
 -- What the rounded ends of pieces decide of a list, and the pieces that they leave open.
-use Rattle.std.specs.Prelude.{◌≡◌, ℕ, ◌+◌, ◌<◌, Bool, true, false, List, [], ◌∷◌, length, count_by}
+use Rattle.std.specs.Prelude.{◌≡◌, ℕ, ◌+◌, ◌<◌, Bool, true, false, List, [], ◌∷◌, flat_map, length, take, drop, count_by}
 use Rattle.lv_segs.specs.declared.edge.Edge.{Edge}
 use Rattle.lv_segs.specs.declared.piece.Piece.{Piece}
 use Rattle.lv_segs.specs.Division.{right_parts, left_parts}
@@ -14,6 +14,10 @@ flagged (f ∷ fs) [] = []
 flagged (true ∷ fs) (p ∷ ps) = p ∷ flagged fs ps
 flagged (false ∷ fs) (p ∷ ps) = flagged fs ps
 
+-- the pieces at these places
+abbrev pub pieces_at : List Piece → List ℕ → List Piece
+pieces_at ps ks = flat_map (λ k. take 1 (drop k ps)) ks
+
 -- the counts are those of the list but for the rest
 pub record AreCountsBut (lines : List Edge) (partition : Piece) (ps rest : List Piece)
     (c : Counts) : Type 0 where
@@ -23,8 +27,10 @@ pub record AreCountsBut (lines : List Edge) (partition : Piece) (ps rest : List 
       ≡ c.right + length (right_parts lines partition rest)
   pub left : length (left_parts lines partition ps)
       ≡ c.left + length (left_parts lines partition rest)
+  pub others : length ps + c.splits ≡ c.right + c.left + length rest
 
 -- the counts are those of the piece, or else they are none, and the piece is left open
 pub record IsClear (lines : List Edge) (partition p : Piece) (c : Counts) : Type 0 where
   pub counts : 0 < c.right + c.left → AreCounts lines partition (p ∷ []) c
   pub none : c.right + c.left ≡ 0 → c.splits ≡ 0
+  pub one : 0 < c.right + c.left → c.right + c.left ≡ 1 + c.splits

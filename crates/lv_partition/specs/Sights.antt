@@ -1,20 +1,16 @@
--- What a candidate's ray is asked again and again, and the rounded ends of pieces.
-use Rattle.std.specs.Prelude.{◌≡◌, List, pos, neg_ℤ, ◌+ℤ◌, ◌-ℤ◌, ◌*ℤ◌, ◌≤ℤ◌}
+-- What a candidate's ray is asked again and again, the rounded ends of pieces, and the corners of boxes.
+use Rattle.std.specs.Prelude.{List, if◌then◌else◌, pos, ◌+ℤ◌, ◌-ℤ◌, ◌*ℤ◌, ◌≤ℤ◌, int_le}
+use Rattle.lv_lumps.specs.declared.records.Vertex.{Vertex}
+use Rattle.lv_lumps.specs.declared.records.Bounds.{Bounds}
+use Rattle.lv_lumps.specs.declared.plane.Ray.{Ray}
 use Rattle.lv_segs.specs.declared.edge.Edge.{Edge}
 use Rattle.lv_segs.specs.declared.piece.Piece.{Piece}
 use Rattle.lv_segs.specs.Plane.{blur}
 use Rattle.lv_segs.specs.Local.{IsLineRay}
 use Rattle.lv_segs.specs.Pieces.{first_end, last_end}
 use Rattle.lv_segs.specs.Boxes.{ray_offset}
-use Rattle.lv_partition.specs.declared.sight.Sight.{Sight}
 use Rattle.lv_partition.specs.declared.margins.Margins.{Margins}
 use Rattle.lv_partition.specs.declared.ends.Ends.{Ends}
-
--- the number beside the ray is the value of its origin
-pub record IsSight (s : Sight) : Type 0 where
-  pub offset : s.offset ≡ ray_offset s.ray
-  pub offset_low : neg_ℤ (pos 140737488355328) ≤ℤ s.offset
-  pub offset_high : s.offset ≤ℤ pos 140737488355328
 
 -- the margins of the ray of a line are at least half of its blur, rounded down, above and below the
 -- value of its origin
@@ -27,3 +23,18 @@ pub record AreMargins (m : Margins) : Type 0 where
 -- the rounded ends of a piece
 abbrev pub ends_of : List Edge → Piece → Ends
 ends_of lines p = record { first = first_end lines p; last = last_end lines p }
+
+-- the corners of a box with the least and with the greatest side value by a ray
+abbrev pub low_corner : Ray → Bounds → Vertex
+low_corner r b =
+    record {
+      x = (if int_le (pos 0) r.dy then b.left else b.right);
+      y = (if int_le (pos 0) r.dx then b.top else b.bottom);
+    }
+
+abbrev pub high_corner : Ray → Bounds → Vertex
+high_corner r b =
+    record {
+      x = (if int_le (pos 0) r.dy then b.right else b.left);
+      y = (if int_le (pos 0) r.dx then b.bottom else b.top);
+    }

@@ -9,7 +9,7 @@ ghost use Rattle.lv_partition.specs.Blocks.{AreBlocks, AreGroups};
 ghost use Rattle.lv_partition.specs.Counts.{AreCounts};
 ghost use Rattle.lv_partition.specs.Choices.{IsChoice};
 ghost use Rattle.lv_partition.specs.SoFar.{SoFar};
-ghost use Rattle.lv_partition.specs.Columns.{HoldsEnds};
+ghost use Rattle.lv_partition.specs.Columns.{HoldsEnds, HoldsBoxes};
 
 use crate::block_boxes::note_groups;
 use crate::choice::{Choice, limit_of, take_in};
@@ -82,11 +82,13 @@ fn consider_ordered(
     requires piece { IsPiece lines.now piece.now }
     requires stands { slice_get pieces.now at ≡ Some piece.now }
     requires noted { HoldsEnds lines.now ordered.now straight.old.ends }
+    requires sides { HoldsBoxes blocks.now straight.old.sides }
     requires groups { AreGroups (boxes_of lines.now ordered.now) straight.old.groups.items }
     requires room { length blocks.now ≤ length straight.old.noted.items }
     requires so_far { SoFar lines.now pieces.now used.now at best }
     ensures so_far { SoFar lines.now pieces.now used.now (at + 1) result }
     ensures ends { straight.new.ends ≡ straight.old.ends }
+    ensures sides { straight.new.sides ≡ straight.old.sides }
     ensures groups { straight.new.groups ≡ straight.old.groups }
     ensures room { length straight.new.noted.items ≡ length straight.old.noted.items }
 {
@@ -103,6 +105,7 @@ fn consider_ordered(
         ordered,
         &straight.ends,
         blocks,
+        &straight.sides,
         &straight.groups,
         &mut straight.noted,
         limit,
@@ -132,10 +135,14 @@ pub fn choose_ordered(
     ensures { MatchOption result (HasNoChoice lines.now pieces.now used.now)
         (λ c. IsChoice lines.now pieces.now used.now c) }
 {
-    if !straight.ends.has_room(ordered.len()) || straight.noted.len() < blocks.len() {
+    if !straight.ends.has_room(ordered.len())
+        || !straight.sides.has_room(blocks.len())
+        || straight.noted.len() < blocks.len()
+    {
         return choose_in(lines, pieces, used);
     }
     straight.ends.note(lines, ordered);
+    straight.sides.note(blocks);
     note_groups(boxes, &mut straight.groups);
     let mut best = None;
     for (at, piece) in pieces.iter().enumerate() {

@@ -4,6 +4,7 @@ ghost use Rattle.std.specs.Prelude.{◌≡◌, ◌<◌, ◌^◌, length, All, So
 ghost use Rattle.lv_segs.specs.Plane.{IsEdge};
 ghost use Rattle.lv_segs.specs.Pieces.{IsPiece};
 
+use crate::corner_columns::BoxColumns;
 use crate::ends::EndColumns;
 use indexmap::IndexSet;
 use lv_lumps::Bounds;
@@ -14,12 +15,13 @@ use std::alloc::{AllocError, Global};
 /// place where a piece on that straight line was met last. What they say is tested before it is
 /// used, so a choice is right whatever stands here, and old or wrong hints cost time alone. Beside
 /// them there is room for what a choice notes of as many pieces as the lines have sides: rounded
-/// ends, boxes of groups, and the numbers of open blocks.
+/// ends, the sides of the boxes of blocks, boxes of groups, and the numbers of open blocks.
 #[derive(Drop)]
 pub struct StraightLines {
     numbers: Vec<u16>,
     met: Vec<u32>,
     pub(crate) ends: EndColumns,
+    pub(crate) sides: BoxColumns,
     pub(crate) groups: Vec<Bounds>,
     pub(crate) noted: Vec<u32>,
 }
@@ -83,12 +85,14 @@ impl StraightLines {
             numbers.push(u16::try_from(number).unwrap_or(u16::MAX))?;
         }
         let ends = EndColumns::with_room(alloc, lines.len().saturating_mul(2))?;
+        let sides = BoxColumns::with_room(alloc, lines.len() / 8 + 1)?;
         let groups = Vec::with_capacity(alloc, lines.len() / 128 + 1)?;
         let noted = Vec::from_elem(alloc, 0, lines.len() / 8 + 1)?;
         Ok(StraightLines {
             numbers,
             met,
             ends,
+            sides,
             groups,
             noted,
         })
@@ -112,6 +116,7 @@ impl StraightLines {
         requires stands { slice_get pieces.now at ≡ Some piece.now }
         ensures earlier { result ≡ true → HasEarlier lines.now pieces.now used.now at piece.now }
         ensures ends { self.new.ends ≡ self.old.ends }
+        ensures sides { self.new.sides ≡ self.old.sides }
         ensures groups { self.new.groups ≡ self.old.groups }
         ensures noted { self.new.noted ≡ self.old.noted }
     {

@@ -1,16 +1,15 @@
-use Rattle.std.proofs.Common.{subst, rules}
-use Rattle.std.proofs.lemmas.Int.{to_z-of_z}
-use Rattle.std.specs.Prelude.{ℤ, pos, ◌<ℤ◌, FitsSigned}
-use Rattle.std.specs.Int.{w64}
-use Rattle.lv_partition.proofs.Casts.{above_zero, below_zero}
+use Rattle.std.proofs.Common.{ap, ◌∙◌, subst}
+use Rattle.std.specs.Prelude.{ℤ, pos, ◌<ℤ◌}
+use Rattle.lv_segs.specs.Plane.{vertex_value}
+use Rattle.lv_partition.proofs.Corners.{low_is, high_is}
 use Rattle.lv_partition.proofs.box_place.sides_of_box.Goals as goal
 
 pub returns-clause-right : goal.returns-clause-right
 returns-clause-right c = λ h.
-    let f : FitsSigned w64 c.least_in-least.result = search rules in
-    subst (λ (z : ℤ). pos 0 <ℤ z) c.least_in-least.ensures (above_zero c.least_in-least.result (rw (to_z-of_z w64 c.least_in-least.result f) at h))
+    let r = c.args.margins.ray in
+    subst (λ (z : ℤ). pos 0 <ℤ z) (ap (vertex_value r) c.corners_of-corners.ensures.low ∙ low_is r c.args.bounds) (c.sides_of_corners.ensures.right h)
 
 pub returns-clause-left : goal.returns-clause-left
 returns-clause-left c = λ h.
-    let f : FitsSigned w64 c.greatest_in-greatest.result = search rules in
-    subst (λ (z : ℤ). z <ℤ pos 0) c.greatest_in-greatest.ensures (below_zero c.greatest_in-greatest.result (rw (to_z-of_z w64 c.greatest_in-greatest.result f) at h))
+    let r = c.args.margins.ray in
+    subst (λ (z : ℤ). z <ℤ pos 0) (ap (vertex_value r) c.corners_of-corners.ensures.high ∙ high_is r c.args.bounds) (c.sides_of_corners.ensures.left h)

@@ -2,13 +2,14 @@ use Rattle.std.proofs.Common.{◌≤◌, length}
 use Rattle.lv_segs.specs.Boxes.{boxes_of}
 use Rattle.lv_partition.specs.Blocks.{AreGroups}
 use Rattle.lv_partition.specs.SoFar.{SoFar}
-use Rattle.lv_partition.specs.Columns.{HoldsEnds}
+use Rattle.lv_partition.specs.Columns.{HoldsEnds, HoldsBoxes}
 use Rattle.lv_partition.proofs.choosing.choose_ordered.Given as goal
 
 abbrev pub invariant-loop-at : goal.invariant-loop-at
 invariant-loop-at l = record {
   so_far : SoFar l.lines l.pieces l.used l.at l.best;
   noted : HoldsEnds l.lines l.ordered l.straight.ends;
+  sides : HoldsBoxes l.blocks l.straight.sides;
   groups : AreGroups (boxes_of l.lines l.ordered) l.straight.groups.items;
   room : length l.blocks ≤ length l.straight.noted.items;
 }

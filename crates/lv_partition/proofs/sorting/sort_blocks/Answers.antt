@@ -1,85 +1,136 @@
-use Rattle.std.proofs.Common.{◌≡◌, refl, ◌+◌, ◌*◌, Bool, true, false, length, take, drop, set, get_or, subst, arith, All}
+use Rattle.std.proofs.Common.{◌≡◌, refl, ◌+◌, ◌-◌, ◌*◌, ◌<◌, ◌≤◌, ℕ, Bool, List, length, take, drop, get_or, subst, ap, ◌∙◌, arith, All}
 use Rattle.std.proofs.lemmas.List.{length-take, length-drop}
 use Rattle.std.proofs.lemmas.List.Elements.{All-take, All-drop}
-use Rattle.std.specs.Prelude.{pos, ◌<ℤ◌}
+use Rattle.std.specs.Prelude.{ℤ, pos, ◌<ℤ◌}
 use Rattle.lv_lumps.specs.declared.plane.Ray.{Ray}
+use Rattle.lv_segs.specs.Plane.{vertex_value}
 use Rattle.lv_segs.specs.Pieces.{IsPiece}
 use Rattle.lv_segs.specs.Boxes.{least_value, greatest_value, boxes_of}
 use Rattle.lv_segs.proofs.BlockCounts.{block_right, block_left}
-use Rattle.lv_partition.specs.Sorting.{IsSorted}
+use Rattle.lv_partition.specs.Sights.{low_corner, high_corner}
+use Rattle.lv_partition.specs.Columns.{corner_at}
 use Rattle.lv_partition.proofs.Best.{stands_at}
 use Rattle.lv_partition.proofs.BoxLemmas.{no_box, block_holds, boxes_length}
-use Rattle.lv_partition.proofs.OpenBlocks.{same_sorted, spare_sorted, part_sorted, open_sorted}
+use Rattle.lv_partition.proofs.Columns.{column_length, plain}
+use Rattle.lv_partition.proofs.Corners.{low_is, high_is, corner_by}
+use Rattle.lv_partition.proofs.OpenBlocks.{same_sorted, counts_are}
 use Rattle.lv_partition.proofs.sorting.sort_blocks.Goals as goal
+use Rattle.lv_partition.proofs.sorting.sort_blocks.Goals.{In-loop-k, Start}
 
--- a block lies on the right, or else on the left, or else it is open
-by_sides : (a b : Bool) (X : Type 0) → (a ≡ true → X) → (a ≡ false → b ≡ true → X) → (a ≡ false → b ≡ false → X) → X
-by_sides true b X f g h = f refl
-by_sides false true X f g h = g refl refl
-by_sides false false X f g h = h refl refl
+-- what holds of a place counted from one on
+at_block : (P : ℕ → Type 0) (from k : ℕ) → from ≤ k → P (from + (k - from)) → P k
+at_block P from k h p = let e : from + (k - from) ≡ k = omega arith in subst P e p
 
-pub loop-k-preserved : goal.loop-k-preserved
-loop-k-preserved c =
+-- the block begins, and is whole
+record Whole (c : In-loop-k) : Type 0 where
+  block : c.loop-k.k < length c.args.blocks.now
+  size : length (take 16 (drop (16 * c.loop-k.k) c.args.pieces.now)) ≡ 16
+
+whole : (c : In-loop-k) → Whole c
+whole c =
+    let ps = c.args.pieces.now in
+    let k = c.loop-k.k in
+    let t = c.loop-k-test.true in
+    let w = c.requires.whole in
+    let n = c.requires.blocks.enough in
+    let same = boxes_length c.args.lines.now ps (boxes_of c.args.lines.now ps) refl in
+    let lt = length-take 16 (drop (16 * k) ps) in
+    let ld = length-drop (16 * k) ps in
+    record { block = omega arith; size = omega arith }
+
+front_within : (fs : List Bool) (n from m : ℕ) → from + n ≤ m → from + length (take n fs) ≤ m
+front_within fs n from m h = let t = length-take n fs in omega arith
+
+-- each block of the range has a place in the columns
+in_range : (c : Start) → c.args.from + (c.args.to - c.args.from) ≤ length c.args.blocks.now
+in_range c =
+    let ps = c.args.pieces.now in
+    let f = c.requires.forward in
+    let w = c.requires.whole in
+    let n = c.requires.blocks.enough in
+    let same = boxes_length c.args.lines.now ps (boxes_of c.args.lines.now ps) refl in
+    omega arith
+
+pub note_sides-requires-clause-low_x : goal.note_sides-requires-clause-low_x
+note_sides-requires-clause-low_x c =
+    let w = in_range (goal.at.note_sides-requires-clause-low_x c).Start in
+    let l = column_length (λ b. (low_corner c.args.margins.ray b).x) c.args.blocks.now c.args.low_x.now c.requires.corners.low_x in
+    front_within _ (c.args.to - c.args.from) c.args.from (length c.args.low_x.now) (omega arith)
+
+pub note_sides-requires-clause-low_y : goal.note_sides-requires-clause-low_y
+note_sides-requires-clause-low_y c =
+    let w = in_range (goal.at.note_sides-requires-clause-low_y c).Start in
+    let l = column_length (λ b. (low_corner c.args.margins.ray b).y) c.args.blocks.now c.args.low_y.now c.requires.corners.low_y in
+    front_within _ (c.args.to - c.args.from) c.args.from (length c.args.low_y.now) (omega arith)
+
+pub note_sides-requires-clause-high_x : goal.note_sides-requires-clause-high_x
+note_sides-requires-clause-high_x c =
+    let w = in_range (goal.at.note_sides-requires-clause-high_x c).Start in
+    let l = column_length (λ b. (high_corner c.args.margins.ray b).x) c.args.blocks.now c.args.high_x.now c.requires.corners.high_x in
+    front_within _ (c.args.to - c.args.from) c.args.from (length c.args.high_x.now) (omega arith)
+
+pub note_sides-requires-clause-high_y : goal.note_sides-requires-clause-high_y
+note_sides-requires-clause-high_y c =
+    let w = in_range (goal.at.note_sides-requires-clause-high_y c).Start in
+    let l = column_length (λ b. (high_corner c.args.margins.ray b).y) c.args.blocks.now c.args.high_y.now c.requires.corners.high_y in
+    front_within _ (c.args.to - c.args.from) c.args.from (length c.args.high_y.now) (omega arith)
+
+pub add_block-sorted-requires-clause-size : goal.add_block-sorted-requires-clause-size
+add_block-sorted-requires-clause-size c = let s = (whole (goal.at.add_block-sorted-requires-clause-size c).In-loop-k).size in omega arith
+
+pub add_block-sorted-requires-clause-right : goal.add_block-sorted-requires-clause-right
+add_block-sorted-requires-clause-right c = λ h.
     let lines = c.args.lines.now in
     let p = c.args.partition.now in
     let ps = c.args.pieces.now in
     let blocks = c.args.blocks.now in
     let k = c.loop-k.k in
-    let r = c.loop-k.right in
-    let l = c.loop-k.left in
-    let m = c.loop-k.count in
-    let noted = c.loop-k.noted in
-    let inv = c.loop-k.invariant in
-    let f = inv.fewer in
-    let auto = c.loop-k.auto.noted in
-    let room = c.requires.room in
-    let within = c.requires.within in
-    let test = c.loop-k-test.true in
+    let r = c.args.margins.ray in
+    let b = get_or blocks k no_box in
+    let w = whole (goal.at.add_block-sorted-requires-clause-right c).In-loop-k in
     let block = take 16 (drop (16 * k) ps) in
-    let bounds = get_or blocks k no_box in
-    let lt = length-take 16 (drop (16 * k) ps) in
-    let ld = length-drop (16 * k) ps in
-    let e = c.min-size.ensures in
-    let size : length block ≡ c.min-size.result = omega arith in
-    let needed = c.requires.blocks.each_needed in
-    let same_length = boxes_length lines ps (boxes_of lines ps) refl in
     let ok : All (IsPiece lines) block = All-take (IsPiece lines) 16 (drop (16 * k) ps) (All-drop (IsPiece lines) (16 * k) ps c.requires.pieces) in
-    let holds = block_holds lines ps blocks k bounds c.requires.blocks (stands_at blocks k no_box (omega arith)) in
-    let sides = c.sides_of_box.result in
-    let more = c.added-more.result in
-    let er = c.added-more.ensures.right in
-    let el = c.added-more.ensures.left in
-    let en = c.added-more.ensures.count in
-    let spare = spare_sorted lines p ps (16 * k) r l m k noted inv in
-    by_sides sides.right sides.left (IsSorted lines p ps (16 * (k + 1)) (record { right = r + more.right; left = l + more.left; count = m + more.count }) (set noted m k))
-    (λ a.
-    let h = subst (λ (x : Ray). pos 0 <ℤ least_value x bounds) c.requires.ray (c.sides_of_box.ensures.right a) in
-    let x : more.right ≡ c.min-size.result = rw a at er in
-    let y : more.left ≡ 0 = rw a at el in
-    let z : more.count ≡ 0 = rw a at en in
-    same_sorted lines p ps (16 * k + 16) (16 * (k + 1)) (r + length block) (r + more.right) (l + 0) (l + more.left) m (m + more.count) (set noted m k) (set noted m k)
-    (part_sorted lines p ps (16 * k) 16 r l m (length block) 0 (set noted m k) spare (block_right lines p block bounds ok holds h) (omega arith))
-    (omega arith) (omega arith) (omega arith) (omega arith) refl)
-    (λ a b.
-    let h = subst (λ (x : Ray). greatest_value x bounds <ℤ pos 0) c.requires.ray (c.sides_of_box.ensures.left b) in
-    let x : more.right ≡ 0 = rw a at er in
-    let y : more.left ≡ c.min-size.result = rw (a, b) at el in
-    let z : more.count ≡ 0 = rw (a, b) at en in
-    same_sorted lines p ps (16 * k + 16) (16 * (k + 1)) (r + 0) (r + more.right) (l + length block) (l + more.left) m (m + more.count) (set noted m k) (set noted m k)
-    (part_sorted lines p ps (16 * k) 16 r l m 0 (length block) (set noted m k) spare (block_left lines p block bounds ok holds h) (omega arith))
-    (omega arith) (omega arith) (omega arith) (omega arith) refl)
-    (λ a b.
-    let x : more.right ≡ 0 = rw a at er in
-    let y : more.left ≡ 0 = rw (a, b) at el in
-    let z : more.count ≡ 1 = rw (a, b) at en in
-    same_sorted lines p ps (16 * k + 16) (16 * (k + 1)) r (r + more.right) l (l + more.left) (m + 1) (m + more.count) (set noted m k) (set noted m k)
-    (open_sorted lines p ps k r l m noted inv (omega arith) (omega arith))
-    (omega arith) (omega arith) (omega arith) (omega arith) refl)
+    let holds = block_holds lines ps blocks k b c.requires.blocks (stands_at blocks k no_box w.block) in
+    let e = ap (vertex_value r)
+    (corner_by _ _ (low_corner r b)
+    (plain (λ x. (low_corner r x).x) blocks c.args.low_x.now k no_box w.block c.requires.corners.low_x)
+    (plain (λ x. (low_corner r x).y) blocks c.args.low_y.now k no_box w.block c.requires.corners.low_y)) ∙ low_is r b in
+    let least = subst (λ (x : Ray). pos 0 <ℤ least_value x b) c.requires.ray (subst (λ (z : ℤ). pos 0 <ℤ z) e (at_block (λ n. pos 0 <ℤ vertex_value r (corner_at c.args.low_x.now c.args.low_y.now n)) c.args.from k c.loop-k.auto.k (c.note_sides.ensures.right (k - c.args.from) h))) in
+    counts_are lines p block (length block) 16 0 0 (block_right lines p block b ok holds least) w.size refl
+
+pub add_block-sorted-requires-clause-left : goal.add_block-sorted-requires-clause-left
+add_block-sorted-requires-clause-left c = λ h.
+    let lines = c.args.lines.now in
+    let p = c.args.partition.now in
+    let ps = c.args.pieces.now in
+    let blocks = c.args.blocks.now in
+    let k = c.loop-k.k in
+    let r = c.args.margins.ray in
+    let b = get_or blocks k no_box in
+    let w = whole (goal.at.add_block-sorted-requires-clause-left c).In-loop-k in
+    let block = take 16 (drop (16 * k) ps) in
+    let ok : All (IsPiece lines) block = All-take (IsPiece lines) 16 (drop (16 * k) ps) (All-drop (IsPiece lines) (16 * k) ps c.requires.pieces) in
+    let holds = block_holds lines ps blocks k b c.requires.blocks (stands_at blocks k no_box w.block) in
+    let e = ap (vertex_value r)
+    (corner_by _ _ (high_corner r b)
+    (plain (λ x. (high_corner r x).x) blocks c.args.high_x.now k no_box w.block c.requires.corners.high_x)
+    (plain (λ x. (high_corner r x).y) blocks c.args.high_y.now k no_box w.block c.requires.corners.high_y)) ∙ high_is r b in
+    let greatest = subst (λ (x : Ray). greatest_value x b <ℤ pos 0) c.requires.ray (subst (λ (z : ℤ). z <ℤ pos 0) e (at_block (λ n. vertex_value r (corner_at c.args.high_x.now c.args.high_y.now n) <ℤ pos 0) c.args.from k c.loop-k.auto.k (c.note_sides.ensures.left (k - c.args.from) h))) in
+    counts_are lines p block 0 0 (length block) 16 (block_left lines p block b ok holds greatest) refl w.size
+
+pub add_block-sorted-requires-clause-room : goal.add_block-sorted-requires-clause-room
+add_block-sorted-requires-clause-room c =
+    let w = (whole (goal.at.add_block-sorted-requires-clause-room c).In-loop-k).block in
+    let f = c.loop-k.invariant.fewer in
+    let room = c.requires.room in
+    let same = c.loop-k.auto.noted in
+    omega arith
 
 pub returns-clause-is : goal.returns-clause-is
 returns-clause-is c =
     let f = c.loop-k-test.false in
     let e = c.loop-k.auto.k-end in
     let w = c.requires.forward in
-    same_sorted c.args.lines.now c.args.partition.now c.args.pieces.now (16 * c.loop-k.k)
-    (16 * c.args.to) c.loop-k.right c.loop-k.right c.loop-k.left c.loop-k.left c.loop-k.count c.loop-k.count c.loop-k.noted c.loop-k.noted c.loop-k.invariant (omega arith) refl refl refl refl
+    let s = c.loop-k.sorted in
+    same_sorted c.args.lines.now c.args.partition.now c.args.pieces.now (16 * c.loop-k.k) (16 * c.args.to)
+    s.right s.right s.left s.left s.count s.count c.loop-k.noted c.loop-k.noted c.loop-k.invariant (omega arith) refl refl refl refl

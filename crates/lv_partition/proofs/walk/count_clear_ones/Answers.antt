@@ -1,16 +1,14 @@
-use Rattle.std.proofs.Common.{rules, ℕ, ◌<◌, ◌≡◌, ◌+◌, ◌&&◌, ap, ◌∙◌, set, get_or, length, arith, List}
-use Rattle.std.proofs.lemmas.Int.{to_z-of_z}
-use Rattle.std.specs.Prelude.{nat_eq, map, ℤ, pos, FitsSigned}
+use Rattle.std.proofs.Common.{rules, ◌+◌, ◌&&◌, set, get_or, arith}
+use Rattle.std.specs.Prelude.{nat_eq, pos, FitsSigned}
 use Rattle.std.specs.Int.{w16}
-use mir.Val.{to_z, of_z}
-use Rattle.lv_segs.specs.declared.piece.Piece.{Piece}
 use Rattle.lv_segs.proofs.Stops.{Counted}
 use Rattle.lv_segs.specs.Pieces.{first_end, last_end}
 use Rattle.lv_partition.proofs.BoxLemmas.{no_piece}
 use Rattle.lv_partition.specs.Sights.{ends_of}
-use Rattle.lv_partition.proofs.EndLemmas.{column_at, column_length, ends_by}
+use Rattle.lv_partition.proofs.Columns.{column_length, read}
+use Rattle.lv_partition.proofs.EndLemmas.{ends_by}
 use Rattle.lv_partition.proofs.OpenBlocks.{counted_few}
-use Rattle.lv_partition.proofs.ClearLemmas.{uncounted, clear_step, clear_all}
+use Rattle.lv_partition.proofs.ClearLemmas.{uncounted, clear_step, clear_all, flags_step, all_flags}
 use Rattle.lv_partition.proofs.walk.count_clear_ones.Goals as goal
 use Rattle.lv_partition.proofs.walk.count_clear_ones.Goals.{After-count_clear-more}
 
@@ -26,11 +24,6 @@ bounds-last_x-n c = let l = column_length (λ p. (last_end c.args.lines.now p).x
 pub bounds-last_y-n : goal.bounds-last_y-n
 bounds-last_y-n c = let l = column_length (λ p. (last_end c.args.lines.now p).y) c.args.pieces.now c.args.last_y.now c.requires.ends.last_y in omega arith
 
--- a coordinate as it is read from its column
-read : (f : Piece → ℤ) (ps : List Piece) (xs : List ℤ) (n : ℕ) → n < length ps → xs ≡ map f ps → FitsSigned w16 (get_or xs n (pos 0))
-    → to_z w16 (of_z w16 (get_or xs n (pos 0))) ≡ f (get_or ps n no_piece)
-read f ps xs n h e k = to_z-of_z w16 (get_or xs n (pos 0)) k ∙ ap (λ (ys : List ℤ). get_or ys n (pos 0)) e ∙ column_at f ps n (pos 0) no_piece h
-
 pub count_clear-more-requires-clause-ends : goal.count_clear-more-requires-clause-ends
 count_clear-more-requires-clause-ends c =
     let lines = c.args.lines.now in
@@ -43,10 +36,10 @@ count_clear-more-requires-clause-ends c =
     let ku : FitsSigned w16 (get_or c.args.last_x.now n (pos 0)) = search rules in
     let kv : FitsSigned w16 (get_or c.args.last_y.now n (pos 0)) = search rules in
     ends_by _ _ _ _ (ends_of lines (get_or ps n no_piece))
-    (read (λ p. (first_end lines p).x) ps c.args.first_x.now n h e.first_x ka)
-    (read (λ p. (first_end lines p).y) ps c.args.first_y.now n h e.first_y kb)
-    (read (λ p. (last_end lines p).x) ps c.args.last_x.now n h e.last_x ku)
-    (read (λ p. (last_end lines p).y) ps c.args.last_y.now n h e.last_y kv)
+    (read (λ p. (first_end lines p).x) ps c.args.first_x.now n no_piece h e.first_x ka)
+    (read (λ p. (first_end lines p).y) ps c.args.first_y.now n no_piece h e.first_y kb)
+    (read (λ p. (last_end lines p).x) ps c.args.last_x.now n no_piece h e.last_x ku)
+    (read (λ p. (last_end lines p).y) ps c.args.last_y.now n no_piece h e.last_y kv)
 
 -- one more piece is counted or flagged
 step : (c : After-count_clear-more) → Counted c.args.lines.now c.args.partition.now c.args.pieces.now
@@ -56,7 +49,7 @@ step c =
     let r = c.requires.room in
     let a = c.loop-n.auto.flags in
     clear_step c.args.lines.now c.args.partition.now c.args.pieces.now c.loop-n.flags c.loop-n.n no_piece c.loop-n.counts.right c.loop-n.counts.left c.loop-n.counts.splits c.count_clear-more.result
-    c.loop-n-test.true (omega arith) c.loop-n.invariant c.count_clear-more.ensures
+    c.loop-n-test.true (omega arith) c.loop-n.invariant.counted c.count_clear-more.ensures
 
 pub plus-counts-requires-clause-right : goal.plus-counts-requires-clause-right
 plus-counts-requires-clause-right c =
@@ -86,12 +79,20 @@ loop-n-preserved c =
     let kr = s.right in
     let kl = s.left in
     let ks = s.splits in
-    record { right = omega arith; left = omega arith; splits = omega arith }
+    let r = c.requires.room in
+    let a = c.loop-n.auto.flags in
+    let f = flags_step c.args.lines.now c.args.partition.now c.args.pieces.now c.loop-n.flags c.loop-n.n no_piece c.loop-n.counts.right c.loop-n.counts.left c.loop-n.counts.splits c.count_clear-more.result
+    c.loop-n-test.true (omega arith) c.loop-n.invariant.flags c.count_clear-more.ensures in
+    record { counted = record { right = omega arith; left = omega arith; splits = omega arith }; flags = omega arith }
 
 pub returns : goal.returns
 returns c =
     let r = c.requires.room in
     let a = c.loop-n.auto.flags in
     let k = clear_all c.args.lines.now c.args.partition.now c.args.pieces.now c.loop-n.flags c.loop-n.n c.loop-n.counts.right c.loop-n.counts.left c.loop-n.counts.splits
-    c.loop-n-test.false (omega arith) c.loop-n.invariant in
-    record { splits = k.splits; right = k.right; left = k.left }
+    c.loop-n-test.false (omega arith) c.loop-n.invariant.counted in
+    let f = c.loop-n-test.false in
+    let n = c.loop-n.auto.n-end in
+    let e = all_flags c.loop-n.flags c.args.pieces.now c.loop-n.n f (omega arith) in
+    let i = c.loop-n.invariant.flags in
+    record { splits = k.splits; right = k.right; left = k.left; others = omega arith }

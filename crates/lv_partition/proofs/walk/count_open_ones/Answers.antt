@@ -1,79 +1,51 @@
-use Rattle.std.proofs.Common.{◌≡◌, ℕ, ◌+◌, ◌<◌, ◌&&◌, Bool, true, false, length, drop, get_or, arith, List}
-use Rattle.std.specs.Prelude.{is_some}
-use Rattle.lv_segs.specs.declared.edge.Edge.{Edge}
-use Rattle.lv_segs.specs.declared.piece.Piece.{Piece}
-use Rattle.lv_segs.specs.declared.piece.Parts.{Parts}
-use Rattle.lv_segs.specs.Division.{parts_of}
+use Rattle.std.proofs.Common.{◌+◌, drop, arith}
 use Rattle.lv_segs.proofs.Stops.{Counted}
-use Rattle.lv_partition.specs.declared.counts.Counts.{Counts}
-use Rattle.lv_partition.specs.Clear.{flagged}
+use Rattle.lv_partition.specs.Clear.{pieces_at}
 use Rattle.lv_partition.proofs.BoxLemmas.{no_piece}
-use Rattle.lv_partition.proofs.OneMore.{one, piece_counts}
 use Rattle.lv_partition.proofs.OpenBlocks.{counted_few}
-use Rattle.lv_partition.proofs.ClearLemmas.{open_step, closed_step, open_all}
+use Rattle.lv_partition.proofs.ClearLemmas.{place_counted, places_counted}
 use Rattle.lv_partition.proofs.walk.count_open_ones.Goals as goal
-use Rattle.lv_partition.proofs.walk.count_open_ones.Goals.{then-flags-n, else-flags-n}
+use Rattle.lv_partition.proofs.walk.count_open_ones.Goals.{After-count_piece-more}
 
--- a flagged piece is counted by its parts
-module _ (lines : List Edge) (p : Piece) (ps : List Piece) (flags : List Bool) (n r l s : ℕ) where
-  taken : (parts : Parts) (c : Counts) → n < length ps → length flags ≡ length ps → get_or flags n false ≡ true
-      → Counted lines p ps (flagged (drop n flags) (drop n ps)) r l s → parts ≡ parts_of lines p (get_or ps n no_piece)
-      → c.right ≡ one (is_some parts.right) → c.left ≡ one (is_some parts.left) → c.splits ≡ one (is_some parts.right && is_some parts.left)
-      → Counted lines p ps (flagged (drop (n + 1) flags) (drop (n + 1) ps)) (r + c.right) (l + c.left) (s + c.splits)
-  taken parts c h same e k exact cr cl cs =
-      open_step lines p ps flags n no_piece r l s c h same e k (piece_counts lines p (get_or ps n no_piece) parts c exact cr cl cs)
+-- one more piece is counted
+next : (c : After-count_piece-more) → Counted c.args.lines.now c.args.partition.now c.args.pieces.now
+    (pieces_at c.args.pieces.now (drop (c.loop-place.place-index + 1) c.args.places.now))
+    (c.loop-place.counts.right + c.count_piece-more.result.right) (c.loop-place.counts.left + c.count_piece-more.result.left)
+    (c.loop-place.counts.splits + c.count_piece-more.result.splits)
+next c =
+    place_counted c.args.lines.now c.args.partition.now c.args.pieces.now c.args.places.now c.loop-place.place-index no_piece
+    c.loop-place.counts.right c.loop-place.counts.left c.loop-place.counts.splits c.count_piece-more.result
+    c.loop-place-test.true c.requires.each c.loop-place.invariant c.count_piece-more.ensures
 
 pub plus-counts-requires-clause-right : goal.plus-counts-requires-clause-right
 plus-counts-requires-clause-right c =
-    let o = c.of_parts.ensures in
-    let k = taken c.args.lines.now c.args.partition.now c.args.pieces.now c.args.flags.now c.loop-n.n c.loop-n.counts.right c.loop-n.counts.left c.loop-n.counts.splits
-    c.divide_in-parts.result c.of_parts.result c.loop-n-test.true c.requires.room c.if-flags-n.true c.loop-n.invariant c.divide_in-parts.ensures.exact o.right o.left o.splits in
-    let f = (counted_few c.args.lines.now c.args.partition.now c.args.pieces.now _ _ _ _ k).right in
+    let f = (counted_few c.args.lines.now c.args.partition.now c.args.pieces.now _ _ _ _ (next (goal.at.plus-counts-requires-clause-right c).After-count_piece-more)).right in
     let all = c.requires.few in
     omega arith
 
 pub plus-counts-requires-clause-left : goal.plus-counts-requires-clause-left
 plus-counts-requires-clause-left c =
-    let o = c.of_parts.ensures in
-    let k = taken c.args.lines.now c.args.partition.now c.args.pieces.now c.args.flags.now c.loop-n.n c.loop-n.counts.right c.loop-n.counts.left c.loop-n.counts.splits
-    c.divide_in-parts.result c.of_parts.result c.loop-n-test.true c.requires.room c.if-flags-n.true c.loop-n.invariant c.divide_in-parts.ensures.exact o.right o.left o.splits in
-    let f = (counted_few c.args.lines.now c.args.partition.now c.args.pieces.now _ _ _ _ k).left in
+    let f = (counted_few c.args.lines.now c.args.partition.now c.args.pieces.now _ _ _ _ (next (goal.at.plus-counts-requires-clause-left c).After-count_piece-more)).left in
     let all = c.requires.few in
     omega arith
 
 pub plus-counts-requires-clause-splits : goal.plus-counts-requires-clause-splits
 plus-counts-requires-clause-splits c =
-    let o = c.of_parts.ensures in
-    let k = taken c.args.lines.now c.args.partition.now c.args.pieces.now c.args.flags.now c.loop-n.n c.loop-n.counts.right c.loop-n.counts.left c.loop-n.counts.splits
-    c.divide_in-parts.result c.of_parts.result c.loop-n-test.true c.requires.room c.if-flags-n.true c.loop-n.invariant c.divide_in-parts.ensures.exact o.right o.left o.splits in
-    let f = (counted_few c.args.lines.now c.args.partition.now c.args.pieces.now _ _ _ _ k).splits in
+    let f = (counted_few c.args.lines.now c.args.partition.now c.args.pieces.now _ _ _ _ (next (goal.at.plus-counts-requires-clause-splits c).After-count_piece-more)).splits in
     let all = c.requires.few in
     omega arith
 
-pub loop-n-preserved : goal.loop-n-preserved
-loop-n-preserved c =
-    let lines = c.args.lines.now in
-    let p = c.args.partition.now in
-    let ps = c.args.pieces.now in
-    let flags = c.args.flags.now in
-    let n = c.loop-n.n in
-    let old = c.loop-n.counts in
-    elim c.if-flags-n.branch [
-      | then-flags-n w ↦
-          let o = w.of_parts.ensures in
-          let k = taken lines p ps flags n old.right old.left old.splits w.divide_in-parts.result w.of_parts.result c.loop-n-test.true c.requires.room w.if-flags-n.true c.loop-n.invariant
-          w.divide_in-parts.ensures.exact o.right o.left o.splits in
-          let e = w.plus-counts.ensures in
-          let er = e.right in
-          let el = e.left in
-          let es = e.splits in
-          let kr = k.right in
-          let kl = k.left in
-          let ks = k.splits in
-          rw w.counts-is (record { right = omega arith; left = omega arith; splits = omega arith })
-      | else-flags-n w ↦
-          rw w.counts-is (closed_step lines p ps flags n no_piece old.right old.left old.splits c.loop-n-test.true c.requires.room w.if-flags-n.false c.loop-n.invariant)
-    ]
+pub loop-place-preserved : goal.loop-place-preserved
+loop-place-preserved c =
+    let k = next (goal.at.loop-place-preserved c).After-count_piece-more in
+    let e = c.plus-counts.ensures in
+    let er = e.right in
+    let el = e.left in
+    let es = e.splits in
+    let kr = k.right in
+    let kl = k.left in
+    let ks = k.splits in
+    record { right = omega arith; left = omega arith; splits = omega arith }
 
 pub returns : goal.returns
-returns c = open_all c.args.lines.now c.args.partition.now c.args.pieces.now c.args.flags.now c.loop-n.n c.loop-n.counts c.loop-n-test.false c.requires.room c.loop-n.invariant
+returns c = places_counted c.args.lines.now c.args.partition.now c.args.pieces.now c.args.places.now c.loop-place.place-index c.loop-place.counts c.loop-place-test.false c.loop-place.invariant
