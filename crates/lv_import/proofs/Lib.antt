@@ -3,8 +3,10 @@ pub mod NameFacts
 pub mod RefusalLemmas
 pub mod OnceLemmas
 pub mod ItemLemmas
+pub mod CountLemmas
 pub mod LineLemmas
 pub mod FineLemmas
 pub mod UntoldLemmas
 pub mod StayLemmas
 pub mod ProjectFacts
+pub mod LevelLemmas

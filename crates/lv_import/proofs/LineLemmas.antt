@@ -17,7 +17,7 @@ use Rattle.lv_levels.specs.declared.hindrance.LineNeed.TheVariants.{Vertices, Ri
 use Rattle.lv_maptables.specs.Ranges.{IsLine}
 use Rattle.lv_maptables.specs.WellFormed.{HasEnds, HasSides, nth_vertex}
 use Rattle.lv_import.specs.Mended.{lacks_left_side, mended_side}
-use Rattle.lv_import.specs.Imported.{reached_vertices, vertex_reach}
+use Rattle.lv_import.specs.Imported.{kept_lines, reached_vertices, vertex_reach}
 use Rattle.lv_import.specs.Refused.{has_line_codes}
 
 -- ---- Lines
@@ -48,14 +48,14 @@ linked d x vs right left some short =
     }
 
 -- a line's vertices are among those that are reached
-pub reached : (d : DrawnLists) (k n : ℕ) (e : Line) → k < length d.lines → (let x = get_or d.lines k e in n + 1 ≤ max (x.v1 + 1) (x.v2 + 1))
-    → n < vertex_reach d.lines
+pub reached : (d : DrawnLists) (k n : ℕ) (e : Line) → k < length (kept_lines d) → (let x = get_or (kept_lines d) k e in n + 1 ≤ max (x.v1 + 1) (x.v2 + 1))
+    → n < vertex_reach (kept_lines d)
 reached d k n e h at =
-    let most = max_bounds vertex_reach (λ (x : Line). max (x.v1 + 1) (x.v2 + 1)) refl (λ _ _. refl) d.lines k e h in
+    let most = max_bounds vertex_reach (λ (x : Line). max (x.v1 + 1) (x.v2 + 1)) refl (λ _ _. refl) (kept_lines d) k e h in
     omega (arith, most, at)
 
-pub among : (d : DrawnLists) (n : ℕ) → n < vertex_reach d.lines → n < length d.vertices → n < length (reached_vertices d)
-among d n h there = let count = length-take (vertex_reach d.lines) d.vertices in omega (arith, count, h, there)
+pub among : (d : DrawnLists) (n : ℕ) → n < vertex_reach (kept_lines d) → n < length d.vertices → n < length (reached_vertices d)
+among d n h there = let count = length-take (vertex_reach (kept_lines d)) d.vertices in omega (arith, count, h, there)
 
 none_between : (z : ℤ) → unsigned_abs (z -ℤ z) ≡ 0
 none_between z = omega (arith, ints)
@@ -63,8 +63,8 @@ none_between z = omega (arith, ints)
 no_distance : (v : Vertex) → squared_distance v v ≡ 0
 no_distance v = λ i. none_between v.x i * none_between v.x i + none_between v.y i * none_between v.y i
 
-vertex_there : (d : DrawnLists) (n : ℕ) → n < vertex_reach d.lines → nth_vertex (reached_vertices d) n ≡ drawn_vertex d n
-vertex_there d n h = get_or-take (vertex_reach d.lines) d.vertices n (record { x = pos 0; y = pos 0 }) h
+vertex_there : (d : DrawnLists) (n : ℕ) → n < vertex_reach (kept_lines d) → nth_vertex (reached_vertices d) n ≡ drawn_vertex d n
+vertex_there d n h = get_or-take (vertex_reach (kept_lines d)) d.vertices n (record { x = pos 0; y = pos 0 }) h
 
 -- the same with other flags
 abbrev pub flagged : Line → ℕ → Line
@@ -75,11 +75,11 @@ abbrev pub joined : DrawnLists → Line → Line
 joined d x = record x { v1 = kept_number (reached_vertices d) x.v1; v2 = kept_number (reached_vertices d) x.v2 }
 
 -- a vertex of the map stands where the one of the level stood
-stands : (d : DrawnLists) (n : ℕ) → n < vertex_reach d.lines → n < length (reached_vertices d)
+stands : (d : DrawnLists) (n : ℕ) → n < vertex_reach (kept_lines d) → n < length (reached_vertices d)
     → nth_vertex (imported_vertices d) (kept_number (reached_vertices d) n) ≡ drawn_vertex d n
 stands d n h within = kept_place (reached_vertices d) n within ∙ vertex_there d n h
 
-pub ends_are : (d : DrawnLists) (x : Line) (flags : ℕ) → IsLinked d x → x.v1 < vertex_reach d.lines → x.v2 < vertex_reach d.lines
+pub ends_are : (d : DrawnLists) (x : Line) (flags : ℕ) → IsLinked d x → x.v1 < vertex_reach (kept_lines d) → x.v2 < vertex_reach (kept_lines d)
     → HasEnds (imported_vertices d) (joined d (flagged x flags))
 ends_are d x flags link h1 h2 =
     let vs = reached_vertices d in
@@ -125,7 +125,7 @@ sides_are d x flags link two =
     }
 
 pub line_is : (d : DrawnLists) (x : Line) (flags : ℕ) → IsLinked d x → has_line_codes x ≡ true → flags ≤ x.flags
-    → x.v1 < vertex_reach d.lines → x.v2 < vertex_reach d.lines → length (reached_vertices d) ≤ 32767 → length d.sides ≤ 32767
+    → x.v1 < vertex_reach (kept_lines d) → x.v2 < vertex_reach (kept_lines d) → length (reached_vertices d) ≤ 32767 → length d.sides ≤ 32767
     → IsLine (joined d (flagged x flags))
 line_is d x flags link codes less h1 h2 few most =
     let vs = reached_vertices d in

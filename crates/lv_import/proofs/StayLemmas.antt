@@ -16,15 +16,17 @@ use Rattle.lv_lumps.specs.declared.records.Vertex.{Vertex}
 use Rattle.lv_lumps.specs.declared.records.Sector.{Sector}
 use Rattle.lv_lumps.specs.Sides.{has_left, is_two_sided}
 use Rattle.lv_levels.specs.Drawn.{DrawnLists}
+use Rattle.lv_levels.specs.Lengths.{has_no_length}
 use Rattle.lv_maptables.specs.Faults.{is_taken}
 use Rattle.lv_maptables.specs.WellFormed.{nth_vertex}
 use Rattle.lv_import.specs.Mended.{is_kept, lacks_left_side, linked_line, mended_angle, mended_light, mended_name, mended_sector, mended_side, mended_thing}
 use Rattle.lv_import.specs.Once.{comes_again, each_once, kept_number, kept_vertex, place_change, place_changes}
-use Rattle.lv_import.specs.Imported.{changes, changes_among, flat_change, imported, light_change, line_change, reached_vertices, same_name, texture_change, thing_change, vertex_changes, vertex_reach}
+use Rattle.lv_import.specs.Imported.{changes, changes_among, flat_change, imported, kept_lines, light_change, line_change, reached_vertices, same_name, texture_change, thing_change, vertex_changes, vertex_reach}
 use Rattle.lv_import.specs.Unchanged.{HasLists, UntoldLevelsStay}
 use Rattle.lv_import.specs.declared.change.Change.{Change}
-use Rattle.lv_import.specs.declared.change.Change.TheVariants.{Angle, Flats, Light, Textures, ThingOut, TwoSided, VerticesBehind}
+use Rattle.lv_import.specs.declared.change.Change.TheVariants.{Angle, Flats, Light, LineOut, Textures, ThingOut, TwoSided, VerticesBehind}
 use Rattle.lv_import.proofs.OnceLemmas.{again-none, each_once-length, made, made_none, made_some, once-some, once_to, taken_once, told-none}
+use Rattle.lv_import.proofs.FineLemmas.{not_from_true_not}
 use Rattle.lv_import.proofs.UntoldLemmas.{AreApart, filter-stays, untold_stay}
 
 -- ---- Nothing is told
@@ -93,8 +95,11 @@ flags_stay x true is e =
     absurd (omega (arith, set, e))
 flags_stay x false is e = is
 
-line_untold : (number : ℕ → ℕ) (x : Line) → linked_line number x ≡ x → IsNeverTold line_change x
-line_untold number x e = λ n. ap (λ t. cond t (Some (TwoSided n)) None) (flags_stay x (lacks_left_side x) refl (ap (λ (y : Line). y.flags) e))
+line_untold : (d : DrawnLists) (number : ℕ → ℕ) (x : Line) → not (has_no_length d x) ≡ true → linked_line number x ≡ x → IsNeverTold (line_change d) x
+line_untold d number x stays e =
+    let left = flags_stay x (lacks_left_side x) refl (ap (λ (y : Line). y.flags) e) in
+    let long = not_from_true_not (has_no_length d x) stays in
+    λ n. (λ i. cond (long i) (Some (LineOut n)) (cond (left i) (Some (TwoSided n)) None))
 
 thing_untold : (t : Thing) → is_kept t ≡ true → mended_thing t ≡ t → IsNeverTold thing_change t
 thing_untold t kept e =
@@ -150,25 +155,28 @@ stay_untold name d has =
     let vs = reached_vertices d in
     let count = ap length has.vertices in
     let most = each_once-length vs in
-    let reach = length-take (vertex_reach d.lines) d.vertices in
-    let whole : vs ≡ d.vertices = take_all (vertex_reach d.lines) d.vertices (omega (arith, count, most, reach)) in
+    let reach = length-take (vertex_reach (kept_lines d)) d.vertices in
+    let whole : vs ≡ d.vertices = take_all (vertex_reach (kept_lines d)) d.vertices (omega (arith, count, most, reach)) in
     let kept : each_once vs ≡ vs = has.vertices ∙ sym whole in
     let apart : AreApart vs = subst AreApart kept (once_apart vs (length vs) (omega arith)) in
     let sectors = each_stays mended_sector d.sectors has.sectors in
     let sides = each_stays mended_side d.sides has.sides in
-    let lines = each_stays (linked_line (kept_number vs)) d.lines has.lines in
+    let keeps = λ (x : Line). not (has_no_length d x) in
+    let long = all_passing keeps d.lines (sym (length-map (kept_lines d) (linked_line (kept_number vs))) ∙ ap length has.lines) in
+    let same_lines : map (linked_line (kept_number vs)) d.lines ≡ d.lines = ap (map (linked_line (kept_number vs))) (sym (filter-stays keeps d.lines long)) ∙ has.lines in
+    let lines = each_stays (linked_line (kept_number vs)) d.lines same_lines in
     let as_many : length (filter is_kept d.things) ≡ length d.things = sym (length-map (filter is_kept d.things) mended_thing) ∙ ap length has.things in
     let passing = all_passing is_kept d.things as_many in
     let same : map mended_thing d.things ≡ d.things = ap (map mended_thing) (sym (filter-stays is_kept d.things passing)) ∙ has.things in
     let things = each_stays mended_thing d.things same in
     untold_parts (vertex_changes d) (place_changes vs) (changes_among light_change d.sectors) (changes_among flat_change d.sectors)
-    (changes_among texture_change d.sides) (changes_among line_change d.lines) (changes_among thing_change d.things)
+    (changes_among texture_change d.sides) (changes_among (line_change d) d.lines) (changes_among thing_change d.things)
     (none_behind (length d.vertices - length vs) (omega (arith, ap length whole)))
     (none_made vs (length vs) (omega arith) apart)
     (none_told light_change 0 d.sectors (λ k s h. light_untold (get_or d.sectors k s) (sectors k s h)))
     (none_told flat_change 0 d.sectors (λ k s h. flat_untold (get_or d.sectors k s) (sectors k s h)))
     (none_told texture_change 0 d.sides (λ k s h. texture_untold (get_or d.sides k s) (sides k s h)))
-    (none_told line_change 0 d.lines (λ k s h. line_untold (kept_number vs) (get_or d.lines k s) (lines k s h)))
+    (none_told (line_change d) 0 d.lines (λ k s h. line_untold d (kept_number vs) (get_or d.lines k s) (long k s h) (lines k s h)))
     (none_told thing_change 0 d.things (λ k s h. thing_untold (get_or d.things k s) (passing k s h) (things k s h)))
 
 pub told_exactly : UntoldLevelsStay

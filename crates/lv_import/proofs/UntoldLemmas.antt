@@ -15,14 +15,16 @@ use Rattle.lv_lumps.specs.declared.records.Line.{Line}
 use Rattle.lv_lumps.specs.declared.records.Side.{Side}
 use Rattle.lv_lumps.specs.declared.records.Vertex.{Vertex}
 use Rattle.lv_lumps.specs.declared.records.Sector.{Sector}
-use Rattle.lv_levels.specs.Drawn.{DrawnLists, lists_hindrance}
+use Rattle.lv_levels.specs.Drawn.{DrawnLists}
+use Rattle.lv_levels.specs.Lengths.{has_no_length, other_hindrance}
 use Rattle.lv_maptables.specs.WellFormed.{nth_vertex}
 use Rattle.lv_import.specs.Mended.{is_kept, lacks_left_side, linked_line, mended_angle, mended_light, mended_line, mended_name, mended_sector, mended_side, mended_thing}
+use Rattle.lv_import.specs.Added.{IsBetweenSome}
 use Rattle.lv_import.specs.Once.{comes_again, each_once, kept_number, kept_vertex, number_at, place_change, place_changes}
-use Rattle.lv_import.specs.Imported.{changes_among, flat_change, imported, light_change, line_change, changes, reached_vertices, same_name, texture_change, thing_change, vertex_changes, vertex_reach}
+use Rattle.lv_import.specs.Imported.{changes_among, flat_change, imported, kept_lines, light_change, line_change, changes, reached_vertices, same_name, texture_change, thing_change, vertex_changes, vertex_reach}
 use Rattle.lv_import.specs.Unchanged.{HasLists}
 use Rattle.lv_import.specs.declared.change.Change.{Change}
-use Rattle.lv_import.specs.declared.change.Change.TheVariants.{Angle, Flats, Light, Textures, ThingOut, TwoSided, VertexAgain, VerticesBehind}
+use Rattle.lv_import.specs.declared.change.Change.TheVariants.{Angle, Flats, Light, LineOut, Textures, ThingOut, TwoSided, VertexAgain, VerticesBehind}
 use Rattle.lv_import.proofs.FineLemmas.{ends_reached}
 use Rattle.lv_import.proofs.OnceLemmas.{first_number, made_some, once-some, once_to}
 
@@ -103,9 +105,17 @@ side_stays s told =
     let middle = name_stays s.middle three.1 in
     λ i. record s { upper = upper i; lower = lower i; middle = middle i }
 
-line_stays : (number : ℕ → ℕ) (x : Line) → IsUntold line_change x → number x.v1 ≡ x.v1 → number x.v2 ≡ x.v2 → linked_line number x ≡ x
-line_stays number x told v1 v2 =
-    let stays : mended_line x ≡ x = ap (λ t. cond t (record x { flags = x.flags - 4 }) x) (fails (lacks_left_side x) (TwoSided told.0) told.1) in
+both_fail : (t u : Bool) (b c : Change) → cond t (Some b) (cond u (Some c) None) ≡ None → (t ≡ false) × (u ≡ false)
+both_fail true u b c h = absurd cc
+both_fail false true b c h = absurd cc
+both_fail false false b c h = (refl, refl)
+
+line_fails : (d : DrawnLists) (x : Line) → IsUntold (line_change d) x → (has_no_length d x ≡ false) × (lacks_left_side x ≡ false)
+line_fails d x told = both_fail (has_no_length d x) (lacks_left_side x) (LineOut told.0) (TwoSided told.0) told.1
+
+line_stays : (d : DrawnLists) (number : ℕ → ℕ) (x : Line) → IsUntold (line_change d) x → number x.v1 ≡ x.v1 → number x.v2 ≡ x.v2 → linked_line number x ≡ x
+line_stays d number x told v1 v2 =
+    let stays : mended_line x ≡ x = ap (λ t. cond t (record x { flags = x.flags - 4 }) x) (line_fails d x told).1 in
     λ i. record (stays i) { v1 = v1 i; v2 = v2 i }
 
 thing_passes : (t : Thing) → IsUntold thing_change t → (is_kept t ≡ true) × (int_eq (mended_angle t.angle) t.angle ≡ true)
@@ -127,7 +137,7 @@ all_reached : (d : DrawnLists) → vertex_changes d ≡ [] → reached_vertices 
 all_reached d h =
     let behind = length d.vertices - length (reached_vertices d) in
     let none = none_behind behind (nat_eq behind 0) refl h in
-    take_all (vertex_reach d.lines) d.vertices (omega (arith, none, length-take (vertex_reach d.lines) d.vertices))
+    take_all (vertex_reach (kept_lines d)) d.vertices (omega (arith, none, length-take (vertex_reach (kept_lines d)) d.vertices))
 
 -- no vertex comes again
 abbrev pub AreApart : List Vertex → Type 0
@@ -166,7 +176,7 @@ record IsAllUntold (d : DrawnLists) : Type 0 where
   lights : changes_among light_change d.sectors ≡ []
   flats : changes_among flat_change d.sectors ≡ []
   textures : changes_among texture_change d.sides ≡ []
-  lines : changes_among line_change d.lines ≡ []
+  lines : changes_among (line_change d) d.lines ≡ []
   things : changes_among thing_change d.things ≡ []
 
 all_untold : (d : DrawnLists) → changes d ≡ [] → IsAllUntold d
@@ -176,7 +186,7 @@ all_untold d e =
     let l = changes_among light_change d.sectors in
     let f = changes_among flat_change d.sectors in
     let t = changes_among texture_change d.sides in
-    let x = changes_among line_change d.lines in
+    let x = changes_among (line_change d) d.lines in
     let six = both_empty (v ++ p ++ l ++ f ++ t ++ x) (changes_among thing_change d.things) e in
     let five = both_empty (v ++ p ++ l ++ f ++ t) x six.0 in
     let four = both_empty (v ++ p ++ l ++ f) t five.0 in
@@ -185,11 +195,13 @@ all_untold d e =
     let one = both_empty v p two.0 in
     record { behind = one.0; places = one.1; lights = two.1; flats = three.1; textures = four.1; lines = five.1; things = six.1 }
 
-pub untold_stay : (name : Name8) (d : DrawnLists) → lists_hindrance d ≡ None → changes d ≡ [] → HasLists d (imported name d)
+pub untold_stay : (name : Name8) (d : DrawnLists) → other_hindrance d ≡ None → changes d ≡ [] → HasLists d (imported name d)
 untold_stay name d hindered e =
     let all = all_untold d e in
     let apart = none_again (reached_vertices d) all.places in
-    let ends = ends_reached d hindered in
+    let lines = each_untold (line_change d) 0 d.lines all.lines in
+    let stay : kept_lines d ≡ d.lines = filter-stays (λ x. not (has_no_length d x)) d.lines (λ k x h. ap not (line_fails d (get_or d.lines k x) (lines k x h)).0) in
+    let ends : All (IsBetweenSome (length (reached_vertices d))) d.lines = subst (All (IsBetweenSome (length (reached_vertices d)))) stay (ends_reached d hindered) in
     let things = each_untold thing_change 0 d.things all.things in
     let number = kept_number (reached_vertices d) in
     record {
@@ -197,9 +209,9 @@ untold_stay name d hindered e =
       sectors = map-stays mended_sector d.sectors (λ k s h. sector_stays (get_or d.sectors k s)
           (each_untold light_change 0 d.sectors all.lights k s h) (each_untold flat_change 0 d.sectors all.flats k s h));
       sides = map-stays mended_side d.sides (λ k s h. side_stays (get_or d.sides k s) (each_untold texture_change 0 d.sides all.textures k s h));
-      lines = map-stays (linked_line number) d.lines (λ k s h.
+      lines = ap (map (linked_line number)) stay ∙ map-stays (linked_line number) d.lines (λ k s h.
           let x = get_or d.lines k s in
-          line_stays number x (each_untold line_change 0 d.lines all.lines k s h)
+          line_stays d number x (lines k s h)
           (own_number (reached_vertices d) x.v1 apart (ends k s h).v1) (own_number (reached_vertices d) x.v2 apart (ends k s h).v2));
       things =
           ap (map mended_thing) (filter-stays is_kept d.things (λ k t h. (thing_passes (get_or d.things k t) (things k t h)).0))

@@ -10,7 +10,7 @@ use Rattle.lv_levels.specs.Drawn.{DrawnLists}
 use Rattle.lv_maptables.specs.Projects.{Others}
 use Rattle.lv_maptables.specs.Ranges.{IsBetween, IsCoordinate, IsLine, IsNamed, IsVertex, is_name}
 use Rattle.lv_maptables.specs.WellFormed.{HasEnds, HasSector, HasSides}
-use Rattle.lv_import.specs.Imported.{kept_things, reached_vertices}
+use Rattle.lv_import.specs.Imported.{kept_lines, kept_things, reached_vertices}
 use Rattle.lv_import.specs.Once.{each_once, kept_number}
 use Rattle.lv_import.specs.Mended.{linked_line, mended_sector, mended_side, mended_thing}
 
@@ -50,13 +50,13 @@ abbrev pub imported_vertices : DrawnLists → List Vertex
 imported_vertices d = each_once (reached_vertices d)
 
 abbrev pub imported_lines : DrawnLists → List Line
-imported_lines d = map (linked_line (kept_number (reached_vertices d))) d.lines
+imported_lines d = map (linked_line (kept_number (reached_vertices d))) (kept_lines d)
 
 -- after the changes the items of a level's lists are ones of a map, each names what is there, and
 -- no table has too many
 pub record IsFine (d : DrawnLists) : Type 0 where
   pub drawn : All IsVertex (reached_vertices d)
-  pub reached : All (IsBetweenSome (length (reached_vertices d))) d.lines
+  pub reached : All (IsBetweenSome (length (reached_vertices d))) (kept_lines d)
   pub sectors : All HasSectorRanges (map mended_sector d.sectors)
   pub sides : All HasSideRanges (map mended_side d.sides)
   pub lines : All IsLine (imported_lines d)

@@ -10,11 +10,12 @@ use Rattle.lv_lumps.specs.declared.records.Side.{Side}
 use Rattle.lv_lumps.specs.declared.records.Vertex.{Vertex}
 use Rattle.lv_lumps.specs.declared.records.Sector.{Sector}
 use Rattle.lv_levels.specs.Drawn.{DrawnLists}
+use Rattle.lv_levels.specs.Lengths.{has_no_length, with_lengths}
 use Rattle.lv_maptables.specs.Tables.{Tables}
 use Rattle.lv_import.specs.Mended.{is_kept, linked_line, lacks_left_side, mended_angle, mended_light, mended_name, mended_sector, mended_side, mended_thing}
 use Rattle.lv_import.specs.Once.{each_once, kept_number, place_changes}
 use Rattle.lv_import.specs.declared.change.Change.{Change}
-use Rattle.lv_import.specs.declared.change.Change.TheVariants.{VerticesBehind, Light, Flats, Textures, TwoSided, ThingOut, Angle}
+use Rattle.lv_import.specs.declared.change.Change.TheVariants.{VerticesBehind, Light, Flats, Textures, LineOut, TwoSided, ThingOut, Angle}
 
 -- ---- the map
 
@@ -23,9 +24,17 @@ abbrev pub vertex_reach : List Line → ℕ
 vertex_reach [] = 0
 vertex_reach (x ∷ xs) = max (max (x.v1 + 1) (x.v2 + 1)) (vertex_reach xs)
 
--- the vertices up to the last that a line uses
+-- the lines that stay
+abbrev pub kept_lines : DrawnLists → List Line
+kept_lines d = (with_lengths d).lines
+
+-- one more than the greater number of a vertex that the line names, or 0 where it is left out
+abbrev pub line_reach : DrawnLists → Line → ℕ
+line_reach d x = if has_no_length d x then 0 else max (x.v1 + 1) (x.v2 + 1)
+
+-- the vertices up to the last that a line uses which stays
 abbrev pub reached_vertices : DrawnLists → List Vertex
-reached_vertices d = take (vertex_reach d.lines) d.vertices
+reached_vertices d = take (vertex_reach (kept_lines d)) d.vertices
 
 -- the things that stay
 abbrev pub kept_things : DrawnLists → List Thing
@@ -39,7 +48,7 @@ imported name d =
       vertices = each_once (reached_vertices d);
       sectors = map mended_sector d.sectors;
       sides = map mended_side d.sides;
-      lines = map (linked_line (kept_number (reached_vertices d))) d.lines;
+      lines = map (linked_line (kept_number (reached_vertices d))) (kept_lines d);
       things = map mended_thing (kept_things d);
     }
 
@@ -48,7 +57,7 @@ imported name d =
 abbrev pub same_name : Name8 → Name8 → Bool
 same_name a b = bytes_eq a.bytes b.bytes
 
--- the vertices that are left out behind the last that a line uses
+-- the vertices that are left out behind the last that a line uses which stays
 abbrev pub vertex_changes : DrawnLists → List Change
 vertex_changes d =
     let behind = length d.vertices - length (reached_vertices d) in
@@ -74,8 +83,11 @@ texture_change p =
     && same_name (mended_name p.1.middle) p.1.middle
     then None else Some (Textures p.0)
 
-abbrev pub line_change : ℕ × Line → Option Change
-line_change p = if lacks_left_side p.1 then Some (TwoSided p.0) else None
+abbrev pub line_change : DrawnLists → ℕ × Line → Option Change
+line_change d p =
+    if has_no_length d p.1
+    then Some (LineOut p.0)
+    else (if lacks_left_side p.1 then Some (TwoSided p.0) else None)
 
 abbrev pub thing_change : ℕ × Thing → Option Change
 thing_change p =
@@ -95,5 +107,5 @@ changes d =
     ++ changes_among light_change d.sectors
     ++ changes_among flat_change d.sectors
     ++ changes_among texture_change d.sides
-    ++ changes_among line_change d.lines
+    ++ changes_among (line_change d) d.lines
     ++ changes_among thing_change d.things

@@ -1,7 +1,8 @@
 -- A level of which nothing is changed.
 use Rattle.std.specs.Prelude.{◌≡◌, ◌↔◌, [], None}
 use Rattle.lv_lumps.specs.declared.records.Name8.{Name8}
-use Rattle.lv_levels.specs.Drawn.{DrawnLists, lists_hindrance}
+use Rattle.lv_levels.specs.Drawn.{DrawnLists}
+use Rattle.lv_levels.specs.Lengths.{other_hindrance}
 use Rattle.lv_maptables.specs.Tables.{Tables}
 use Rattle.lv_import.specs.Imported.{changes, imported}
 
@@ -13,8 +14,9 @@ pub record HasLists (d : DrawnLists) (m : Tables) : Type 0 where
   pub lines : m.lines ≡ d.lines
   pub things : m.things ≡ d.things
 
--- nothing is told of a level that nothing hinders exactly where it is its map, list by list
+-- nothing is told of a level that nothing hinders but lines of no length exactly where it is its map,
+-- list by list
 abbrev pub UntoldLevelsStay : Type 0
 UntoldLevelsStay =
-    (name : Name8) (d : DrawnLists) → lists_hindrance d ≡ None
+    (name : Name8) (d : DrawnLists) → other_hindrance d ≡ None
     → (changes d ≡ [] ↔ HasLists d (imported name d))

@@ -16,6 +16,8 @@ pub enum Change {
     Flats(usize),
     /// The same of a texture of a side.
     Textures(usize),
+    /// A line between two vertices at one place is left out.
+    LineOut(usize),
     /// A line without a left side loses the flag of the value 4.
     TwoSided(usize),
     /// A thing outside the coordinates, or with a negative type or options, is left out.
@@ -32,6 +34,7 @@ fn parts_of(change: Change) -> (&'static str, usize, &'static str) {
         Change::Light(n, _, _) => ("sector", n, "light"),
         Change::Flats(n) => ("sector", n, "flats named in capitals, up to a NUL"),
         Change::Textures(n) => ("side", n, "textures named in capitals, up to a NUL"),
+        Change::LineOut(n) => ("line", n, "left out, since it has no length"),
         Change::TwoSided(n) => ("line", n, "without flag 4, since it has no left side"),
         Change::ThingOut(n) => ("thing", n, "left out"),
         Change::Angle(n, _, _) => ("thing", n, "angle"),

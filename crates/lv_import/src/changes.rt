@@ -9,7 +9,7 @@ use crate::change::Change;
 use crate::counts::reached_vertices;
 use crate::error::ImportError;
 use crate::mended::{is_kept, lacks_left, mended_angle, mended_light, mended_name};
-use lv_levels::Drawn;
+use lv_levels::{Drawn, has_no_length};
 use lv_lumps::{Line, Name8, Sector, Side, Thing};
 use std::alloc::Global;
 
@@ -52,9 +52,12 @@ fn texture_change(n: usize, side: &Side) -> Option<Change>
 }
 
 // What is changed of a line.
-fn line_change(n: usize, line: &Line) -> Option<Change>
-    ensures { result ≡ line_change (n, line.now) }
+fn line_change(drawn: &Drawn, n: usize, line: &Line) -> Option<Change>
+    ensures { result ≡ line_change (drawn_view drawn.now) (n, line.now) }
 {
+    if has_no_length(drawn, line) {
+        return Some(Change::LineOut(n));
+    }
     if lacks_left(line) {
         return Some(Change::TwoSided(n));
     }
@@ -128,14 +131,16 @@ fn texture_changes(alloc: Global, sides: &[Side]) -> Result<Vec<Change>, ImportE
 }
 
 // What is changed of lines.
-fn line_changes(alloc: Global, lines: &[Line]) -> Result<Vec<Change>, ImportError>
-    ensures list { IfOk result (λ list. list.items ≡ changes_among line_change lines.now) }
+fn line_changes(alloc: Global, drawn: &Drawn) -> Result<Vec<Change>, ImportError>
+    ensures list { let d = drawn_view drawn.now in
+        IfOk result (λ list. list.items ≡ changes_among (line_change d) d.lines) }
     ensures memory { IsOkUnless result ImportError.OutOfMemory }
 {
-    let list = lines
+    let list = drawn
+        .lines
         .iter()
         .enumerate()
-        .filter_map(|(n, line)| line_change(n, line))
+        .filter_map(|(n, line)| line_change(drawn, n, line))
         .collect(alloc)?;
     Ok(list)
 }
@@ -169,7 +174,7 @@ pub fn changes_of(
     list.extend_from_slice(&light_changes(alloc, &drawn.sectors)?)?;
     list.extend_from_slice(&flat_changes(alloc, &drawn.sectors)?)?;
     list.extend_from_slice(&texture_changes(alloc, &drawn.sides)?)?;
-    list.extend_from_slice(&line_changes(alloc, &drawn.lines)?)?;
+    list.extend_from_slice(&line_changes(alloc, drawn)?)?;
     list.extend_from_slice(&thing_changes(alloc, &drawn.things)?)?;
     Ok(list)
 }

@@ -5,12 +5,12 @@ ghost use Rattle.lv_lumps.specs.Limits.{item_limit};
 ghost use Rattle.lv_maptables.specs.declared.kind.Kind.TheVariants as kind;
 ghost use Rattle.lv_import.specs.Mended.{is_kept};
 ghost use Rattle.lv_levels.specs.Drawn.{drawn_view};
-ghost use Rattle.lv_import.specs.Imported.{kept_things, reached_vertices, vertex_reach};
+ghost use Rattle.lv_import.specs.Imported.{kept_lines, kept_things, line_reach, reached_vertices, vertex_reach};
 ghost use Rattle.lv_import.specs.Refused.{count_refusal, excess};
 
 use crate::error::ImportError;
 use crate::mended::is_kept;
-use lv_levels::Drawn;
+use lv_levels::{Drawn, has_no_length};
 use lv_lumps::{ITEM_LIMIT, Line, SECTOR_LIMIT, Thing, Vertex};
 use lv_maptables::Kind;
 
@@ -28,24 +28,44 @@ fn greater(a: usize, b: usize) -> usize
     if a < b { b } else { a }
 }
 
-// One more than the greatest number of a vertex that a line names, or 0.
-fn vertex_reach(lines: &[Line]) -> usize
-    ensures { result ≡ vertex_reach lines.now }
+// One more than the greater number of a vertex that a line names, or 0 where the line is left out.
+fn line_reach(drawn: &Drawn, line: &Line) -> usize
+    ensures { result ≡ line_reach (drawn_view drawn.now) line.now }
+{
+    if has_no_length(drawn, line) {
+        return 0;
+    }
+    greater(behind(line.v1), behind(line.v2))
+}
+
+// One more than the greatest number of a vertex that a line names which isn't left out, or 0.
+fn vertex_reach(drawn: &Drawn) -> usize
+    ensures { result ≡ vertex_reach (kept_lines (drawn_view drawn.now)) }
 {
     let mut reach = 0;
-    for line in lines {
-        let end = greater(behind(line.v1), behind(line.v2));
-        reach = greater(end, reach);
+    for line in &drawn.lines {
+        reach = greater(line_reach(drawn, line), reach);
     }
     reach
 }
 
-/// The vertices up to the last that a line uses.
+/// The vertices up to the last that a line uses which isn't left out.
 pub fn reached_vertices(drawn: &Drawn) -> &[Vertex]
     ensures { result.now ≡ reached_vertices (drawn_view drawn.now) }
 {
-    let reach = vertex_reach(&drawn.lines).min(drawn.vertices.len());
+    let reach = vertex_reach(drawn).min(drawn.vertices.len());
     &drawn.vertices[..reach]
+}
+
+// How many lines stay.
+fn line_count(drawn: &Drawn) -> usize
+    ensures { result ≡ length (kept_lines (drawn_view drawn.now)) }
+{
+    drawn
+        .lines
+        .iter()
+        .filter(|line| !has_no_length(drawn, line))
+        .count()
 }
 
 // How many things stay.
@@ -77,11 +97,12 @@ pub fn first_of(first: Option<ImportError>, second: Option<ImportError>) -> Opti
 
 // Too many lines, or too many things.
 fn last_excess(drawn: &Drawn) -> Option<ImportError>
-    ensures { result ≡ option_or (excess kind.Line item_limit (length drawn.now.lines.items))
+    ensures { result ≡ option_or
+        (excess kind.Line item_limit (length (kept_lines (drawn_view drawn.now))))
         (excess kind.Thing item_limit (length (kept_things (drawn_view drawn.now)))) }
 {
     first_of(
-        excess(Kind::Line, ITEM_LIMIT, drawn.lines.len()),
+        excess(Kind::Line, ITEM_LIMIT, line_count(drawn)),
         excess(Kind::Thing, ITEM_LIMIT, kept_count(&drawn.things)),
     )
 }

@@ -1,9 +1,9 @@
 //! A map of a level of any WAD.
-ghost use Rattle.std.specs.Prelude.{◌≡◌, IfOk, IsOkUnless, MatchResult, None, OnOk, length, map};
+ghost use Rattle.std.specs.Prelude.{◌≡◌, IfOk, IsOkUnless, MatchResult, OnOk, length, map};
 ghost use Rattle.std.specs.List.{range_with_len};
 ghost use Rattle.lv_levels.specs.Levels.{HasEntries};
 ghost use Rattle.lv_levels.specs.Entries.{IsLevelAt};
-ghost use Rattle.lv_levels.specs.Drawn.{drawn_lists, drawn_view, lists_hindrance};
+ghost use Rattle.lv_levels.specs.Drawn.{drawn_lists, drawn_view};
 ghost use Rattle.lv_maptables.specs.Ranges.{IsNamed, is_marker};
 ghost use Rattle.lv_maptables.specs.Tables.{empty_tables};
 ghost use Rattle.lv_maptables.specs.Edits.{with_name};
@@ -17,11 +17,11 @@ use crate::change::Change;
 use crate::changes::changes_of;
 use crate::counts::reached_vertices;
 use crate::error::ImportError;
-use crate::lists::{linked_lines, mended_sectors, mended_sides, mended_things};
+use crate::lists::{kept_lines, linked_lines, mended_sectors, mended_sides, mended_things};
 use crate::needs::import_refusal;
 use crate::tables::{add_lines, add_sectors, add_sides, add_things};
 use crate::vertices::{Numbered, add_vertices};
-use lv_levels::{Drawn, Hindrance, LevelEntries, read_drawn};
+use lv_levels::{Drawn, Hindrance, LevelEntries, read_lists};
 use lv_lumps::{Line, Name8};
 use lv_maptables::Maps;
 use std::alloc::Global;
@@ -53,7 +53,7 @@ fn named_maps(alloc: Global, name: Name8) -> Maps
     maps
 }
 
-// The level's lines after the changes, between the vertices that have these numbers.
+// The level's lines that stay, after the changes, between the vertices that have these numbers.
 fn lines_of(alloc: Global, drawn: &Drawn, numbers: &[u16]) -> Result<Vec<Line>, ImportError>
     requires fine { IsFine (drawn_view drawn.now) }
     requires numbers { let vs = reached_vertices (drawn_view drawn.now) in
@@ -61,7 +61,8 @@ fn lines_of(alloc: Global, drawn: &Drawn, numbers: &[u16]) -> Result<Vec<Line>, 
     ensures list { IfOk result (λ list. list.items ≡ imported_lines (drawn_view drawn.now)) }
     ensures memory { IsOkUnless result ImportError.OutOfMemory }
 {
-    let list = linked_lines(alloc, &drawn.lines, numbers)?;
+    let kept = kept_lines(alloc, drawn)?;
+    let list = linked_lines(alloc, &kept, numbers)?;
     Ok(list)
 }
 
@@ -84,14 +85,12 @@ fn fill(alloc: Global, maps: &mut Maps, drawn: &Drawn) -> Result<Vec<Change>, Im
     Ok(changes)
 }
 
-/// The map of this name that a level is after the changes, which are told. The level is one that `read_drawn` gives,
-/// so that nothing hinders a build of it.
+/// The map of this name that a level is after the changes, which are told.
 ///
 /// # Errors
 ///
 /// The first refusal of docs/FORMAT.md, "A map of a WAD's level", or `OutOfMemory`.
 pub fn import_drawn(alloc: Global, drawn: &Drawn, name: Name8) -> Result<Imported, ImportError>
-    requires { lists_hindrance (drawn_view drawn.now) ≡ None }
     ensures { MatchResult result (IsImported name (drawn_view drawn.now))
         (RefusesImport name (drawn_view drawn.now)) }
 {
@@ -113,7 +112,7 @@ pub fn import_drawn(alloc: Global, drawn: &Drawn, name: Name8) -> Result<Importe
 ///
 /// # Errors
 ///
-/// `Hindered`, where no level can be built of it; else as `import_drawn`.
+/// `Hindered`, where what was drawn of it can't be read; else as `import_drawn`.
 pub fn import_level(
     alloc: Global,
     wad: &[u8],
@@ -125,7 +124,7 @@ pub fn import_level(
     ensures { MatchResult result (IsImported name (drawn_lists wad.now level))
         (RefusesLevelImport wad.now level name) }
 {
-    match read_drawn(alloc, wad, level) {
+    match read_lists(alloc, wad, level) {
         Ok(drawn) => import_drawn(alloc, &drawn, name),
         Err(Hindrance::OutOfMemory) => Err(ImportError::OutOfMemory),
         Err(hindrance) => Err(ImportError::Hindered(hindrance)),

@@ -1,10 +1,13 @@
 //! The lists of a level after the changes.
 ghost use Rattle.std.specs.Prelude.{◌≡◌, All, IfOk, IsOkUnless, filter, length, map, slice_index};
+ghost use Rattle.lv_levels.specs.Drawn.{drawn_view};
 ghost use Rattle.lv_import.specs.Added.{IsBetweenSome};
+ghost use Rattle.lv_import.specs.Imported.{kept_lines};
 ghost use Rattle.lv_import.specs.Mended.{is_kept, linked_line, mended_sector, mended_side, mended_thing};
 
 use crate::error::ImportError;
 use crate::mended::{is_kept, mended_line, mended_sector, mended_side, mended_thing};
+use lv_levels::{Drawn, has_no_length};
 use lv_lumps::{Line, Sector, Side, Thing};
 use std::alloc::Global;
 
@@ -35,6 +38,20 @@ fn linked_line(line: &Line, numbers: &[u16]) -> Line
     linked.v1 = numbers[usize::from(line.v1)];
     linked.v2 = numbers[usize::from(line.v2)];
     linked
+}
+
+/// The lines that stay.
+pub fn kept_lines(alloc: Global, drawn: &Drawn) -> Result<Vec<Line>, ImportError>
+    ensures list { IfOk result (λ list. list.items ≡ kept_lines (drawn_view drawn.now)) }
+    ensures memory { IsOkUnless result ImportError.OutOfMemory }
+{
+    let list = drawn
+        .lines
+        .iter()
+        .filter(|line| !has_no_length(drawn, line))
+        .copied()
+        .collect(alloc)?;
+    Ok(list)
 }
 
 /// The lines after the changes, between the vertices of these numbers.

@@ -1,12 +1,15 @@
 //! The first refusal of a level.
 ghost use Rattle.std.specs.Prelude.{◌≡◌, not, position, Some, None, if◌then◌else◌};
+ghost use Rattle.std.specs.Option.{option_map};
 ghost use Rattle.lv_levels.specs.Drawn.{drawn_view, is_drawable};
-ghost use Rattle.lv_import.specs.Refused.{first_without, has_flat_names, has_line_codes, has_sector_codes, has_texture_names, is_map_name, is_nameable, import_refusal, item_refusal};
+ghost use Rattle.lv_levels.specs.Lengths.{other_hindrance};
+ghost use Rattle.lv_import.specs.declared.error.ImportError.TheVariants.{Hindered};
+ghost use Rattle.lv_import.specs.Refused.{first_without, has_flat_names, has_line_codes, has_sector_codes, has_texture_names, is_map_name, is_nameable, is_out_or_has_codes, import_refusal, item_refusal};
 
 use crate::counts::{count_refusal, first_of, reached_vertices};
 use crate::error::ImportError;
 use crate::mended::{is_coordinate, mended_name};
-use lv_levels::Drawn;
+use lv_levels::{Drawn, has_no_length, other_hindrance};
 use lv_lumps::{Line, Name8, Sector, Side, Vertex, is_marker, is_name};
 
 // Whether the changed name is one of a texture or a flat.
@@ -119,18 +122,30 @@ fn side_refusal(sides: &[Side]) -> Option<ImportError>
     }
 }
 
-// The number of the first line with flags, special or tag above 32,767.
-fn line_above(lines: &[Line]) -> Option<usize>
-    ensures { result ≡ position (λ x. not (has_line_codes x)) lines.now }
+// Whether the line is left out, or its flags, special and tag are at most 32,767.
+fn is_out_or_has_codes(drawn: &Drawn, line: &Line) -> bool
+    ensures { result ≡ is_out_or_has_codes (drawn_view drawn.now) line.now }
 {
-    lines.iter().position(|line| !has_line_codes(line))
+    has_no_length(drawn, line) || has_line_codes(line)
 }
 
-// The refusal of the first line with flags, special or tag above 32,767.
-fn line_refusal(lines: &[Line]) -> Option<ImportError>
-    ensures { result ≡ first_without ImportError.LineNumber has_line_codes lines.now }
+// The number of the first line that stays with flags, special or tag above 32,767.
+fn line_above(drawn: &Drawn) -> Option<usize>
+    ensures { let d = drawn_view drawn.now in
+        result ≡ position (λ x. not (is_out_or_has_codes d x)) d.lines }
 {
-    match line_above(lines) {
+    drawn
+        .lines
+        .iter()
+        .position(|line| !is_out_or_has_codes(drawn, line))
+}
+
+// The refusal of the first line that stays with flags, special or tag above 32,767.
+fn line_refusal(drawn: &Drawn) -> Option<ImportError>
+    ensures { let d = drawn_view drawn.now in
+        result ≡ first_without ImportError.LineNumber (is_out_or_has_codes d) d.lines }
+{
+    match line_above(drawn) {
         Some(n) => Some(ImportError::LineNumber(n)),
         None => None,
     }
@@ -140,7 +155,7 @@ fn line_refusal(lines: &[Line]) -> Option<ImportError>
 fn item_refusal(drawn: &Drawn) -> Option<ImportError>
     ensures { result ≡ item_refusal (drawn_view drawn.now) }
 {
-    let sides = first_of(side_refusal(&drawn.sides), line_refusal(&drawn.lines));
+    let sides = first_of(side_refusal(&drawn.sides), line_refusal(drawn));
     let sectors = first_of(sector_refusal(&drawn.sectors), sides);
     let flats = first_of(flat_refusal(&drawn.sectors), sectors);
     first_of(vertex_refusal(reached_vertices(drawn)), flats)
@@ -164,10 +179,20 @@ fn name_refusal(name: Name8) -> Option<ImportError>
     Some(ImportError::NoMarker)
 }
 
-/// The first refusal of a level that nothing hinders.
+// What hinders a build of the level without its lines of no length.
+fn build_refusal(drawn: &Drawn) -> Option<ImportError>
+    ensures { result ≡ option_map Hindered (other_hindrance (drawn_view drawn.now)) }
+{
+    match other_hindrance(drawn) {
+        Some(hindrance) => Some(ImportError::Hindered(hindrance)),
+        None => None,
+    }
+}
+
+/// The first refusal of a level.
 pub fn import_refusal(drawn: &Drawn, name: Name8) -> Option<ImportError>
     ensures { result ≡ import_refusal name (drawn_view drawn.now) }
 {
     let items = first_of(count_refusal(drawn), item_refusal(drawn));
-    first_of(name_refusal(name), items)
+    first_of(build_refusal(drawn), first_of(name_refusal(name), items))
 }

@@ -1,4 +1,5 @@
 pub mod ReadLemmas
 pub mod RunLemmas
 pub mod DrawnLemmas
+pub mod LengthLemmas
 pub mod GraphicLemmas

@@ -4,4 +4,6 @@ pub mod Views
 pub mod Listing
 pub mod Entries
 pub mod Drawn
+pub mod Lengths
+pub mod Texts
 pub mod Graphics

@@ -3,6 +3,7 @@ ghost use Rattle.std.specs.Prelude.{◌≡◌, ◌<◌, None, IfOk, IsOkUnless, 
 ghost use Rattle.std.specs.Option.{option_or};
 ghost use Rattle.lv_levels.specs.Drawn.{Hinders, drawn_lists, drawn_view, entries_hindrance, entry_hindrance, form_hindrance, hindrance, level_lump, lump_hindrance, standing};
 ghost use Rattle.lv_levels.specs.Entries.{IsLevelAt};
+ghost use Rattle.lv_levels.specs.Lengths.{HindersReading};
 ghost use Rattle.lv_levels.specs.Levels.{HasEntries, lump_count};
 
 use crate::directory::{entry_of, is_outside};
@@ -40,7 +41,7 @@ impl Drop for Drawn {
 }
 
 /// The bytes of the k-th entry's lump, or none where it ends beyond the file.
-pub(crate) fn standing(wad: &[u8], k: u32) -> &[u8]
+pub fn standing(wad: &[u8], k: u32) -> &[u8]
     requires directory { HasEntries wad.now }
     requires among { k < lump_count wad.now }
     ensures { result.now ≡ standing wad.now k }
@@ -172,7 +173,30 @@ fn entries_hindrance(wad: &[u8], level: LevelEntries) -> Option<Hindrance>
     first_of(form_hindrance(level.form), lumps)
 }
 
-/// Reads what was drawn of a level, exactly as its lumps hold it, where a level can be built of it.
+/// Reads what was drawn of a level, exactly as its lumps hold it, whether or not a level can be built of it.
+///
+/// # Errors
+///
+/// The first cause of the level's form or of its drawn lumps why they can't be read, in the order of docs/FORMAT.md,
+/// "Levels of other WADs"; or `OutOfMemory`.
+pub fn read_lists(alloc: Global, wad: &[u8], level: LevelEntries) -> Result<Drawn, Hindrance>
+    requires directory { HasEntries wad.now }
+    requires level { IsLevelAt wad.now level }
+    ensures { MatchResult result
+        (λ drawn. (entries_hindrance wad.now level ≡ None)
+        × (drawn_view drawn ≡ drawn_lists wad.now level))
+        (HindersReading wad.now level) }
+{
+    if let Some(hindrance) = entries_hindrance(wad, level) {
+        return Err(hindrance);
+    }
+    match drawn_of(alloc, wad, level) {
+        Ok(drawn) => Ok(drawn),
+        Err(_) => Err(Hindrance::OutOfMemory),
+    }
+}
+
+/// The same where a level can be built of it.
 ///
 /// # Errors
 ///
@@ -184,12 +208,9 @@ pub fn read_drawn(alloc: Global, wad: &[u8], level: LevelEntries) -> Result<Draw
         (λ drawn. (hindrance wad.now level ≡ None) × (drawn_view drawn ≡ drawn_lists wad.now level))
         (Hinders wad.now level) }
 {
-    if let Some(hindrance) = entries_hindrance(wad, level) {
-        return Err(hindrance);
-    }
-    let drawn = match drawn_of(alloc, wad, level) {
+    let drawn = match read_lists(alloc, wad, level) {
         Ok(drawn) => drawn,
-        Err(_) => return Err(Hindrance::OutOfMemory),
+        Err(hindrance) => return Err(hindrance),
     };
     match lists_hindrance(&drawn) {
         Some(hindrance) => Err(hindrance),

@@ -1,5 +1,6 @@
 //! Why no level can be built of one that a WAD holds.
 ghost use Rattle.std.specs.Prelude.{◌≡◌};
+ghost use Rattle.lv_levels.specs.Texts.{lack_text, lump_text};
 ghost use Rattle.lv_levels.specs.declared.hindrance.Hindrance.TheVariants.{OutOfMemory};
 
 use std::alloc::{AllocError, AllocFailed};
@@ -33,7 +34,9 @@ pub enum Hindrance {
 }
 
 // The name of a drawn lump.
-fn lump_name(number: usize) -> &'static str {
+fn lump_name(number: usize) -> &'static str
+    ensures { result.now ≡ lump_text number }
+{
     match number {
         0 => "THINGS",
         1 => "LINEDEFS",
@@ -44,7 +47,9 @@ fn lump_name(number: usize) -> &'static str {
 }
 
 // What is said of a line without it.
-fn lack_of(need: LineNeed) -> &'static str {
+fn lack_of(need: LineNeed) -> &'static str
+    ensures { result.now ≡ lack_text need }
+{
     match need {
         LineNeed::Vertices => "has a vertex that isn't there",
         LineNeed::RightSide => "has no right side",
@@ -55,27 +60,25 @@ fn lack_of(need: LineNeed) -> &'static str {
     }
 }
 
-// What hinders, its number if it has one, and how.
-fn parts_of(hindrance: Hindrance) -> (&'static str, Option<usize>, &'static str) {
-    match hindrance {
-        Hindrance::UdmfLevel => ("the level", None, "is one of UDMF"),
-        Hindrance::HexenLevel => ("the level", None, "is one of Hexen"),
-        Hindrance::LumpMissing(n) => (lump_name(n), None, "is missing"),
-        Hindrance::LumpOutside(n) => (lump_name(n), None, "ends beyond the file"),
-        Hindrance::LumpLength(n) => (lump_name(n), None, "is no whole number of records"),
-        Hindrance::LineLacks(need, n) => ("line", Some(n), lack_of(need)),
-        Hindrance::SideSector(n) => ("side", Some(n), "has a sector that isn't there"),
-        Hindrance::NoLine => ("the level", None, "has no line"),
-        Hindrance::OutOfMemory => ("the program", None, "is out of memory"),
-    }
-}
-
 impl fmt::Display for Hindrance {
+    ghost use Rattle.std.specs.Prelude.{Some};
+    ghost use Rattle.lv_levels.specs.Texts.{hindrance_text};
+
+    ghost output = { λ h. Some (hindrance_text h) };
+
     fn fmt<W: fmt::Write>(&self, f: &mut fmt::Formatter<W>) -> fmt::Result {
-        let (what, number, how) = parts_of(*self);
-        match number {
-            Some(n) => write!(f, "{what} {n} {how}"),
-            None => write!(f, "{what} {how}"),
+        match self {
+            Hindrance::UdmfLevel => f.write_str("the level is one of UDMF"),
+            Hindrance::HexenLevel => f.write_str("the level is one of Hexen"),
+            Hindrance::LumpMissing(n) => write!(f, "{} is missing", lump_name(*n)),
+            Hindrance::LumpOutside(n) => write!(f, "{} ends beyond the file", lump_name(*n)),
+            Hindrance::LumpLength(n) => {
+                write!(f, "{} is no whole number of records", lump_name(*n))
+            }
+            Hindrance::LineLacks(need, n) => write!(f, "line {n} {}", lack_of(*need)),
+            Hindrance::SideSector(n) => write!(f, "side {n} has a sector that isn't there"),
+            Hindrance::NoLine => f.write_str("the level has no line"),
+            Hindrance::OutOfMemory => f.write_str("the program is out of memory"),
         }
     }
 }

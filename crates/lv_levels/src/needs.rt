@@ -1,6 +1,7 @@
 //! What a build needs of the lists that were drawn.
-ghost use Rattle.std.specs.Prelude.{◌≡◌, ◌&&◌, ◌==◌, if◌then◌else◌, not, int_le, length, negsuc, pos, position, Some, None};
+ghost use Rattle.std.specs.Prelude.{◌≡◌, ◌&&◌, ◌||◌, ◌==◌, if◌then◌else◌, not, int_le, length, negsuc, pos, position, Some, None};
 ghost use Rattle.lv_levels.specs.Drawn.{drawn_view, has_need, is_item_number, is_drawable, length_hindrance, line_hindrance, lists_hindrance, reference_hindrance, side_hindrance, squared_length, drawn_vertex};
+ghost use Rattle.lv_levels.specs.Lengths.{has_no_length, other_hindrance, other_line_hindrance, with_lengths};
 ghost use Rattle.lv_levels.specs.declared.hindrance.Hindrance.TheVariants.{NoLine};
 
 use crate::drawn::{Drawn, first_of};
@@ -147,4 +148,72 @@ pub fn lists_hindrance(drawn: &Drawn) -> Option<Hindrance>
 {
     let lengths = first_of(length_hindrance(drawn), no_line(drawn));
     first_of(reference_hindrance(drawn), lengths)
+}
+
+/// Whether the line has no length: both its vertices are there, and stand at one place.
+pub fn has_no_length(drawn: &Drawn, line: &Line) -> bool
+    ensures { result ≡ has_no_length (drawn_view drawn.now) line.now }
+{
+    has_need(drawn, LineNeed::Vertices, line) && !has_need(drawn, LineNeed::SomeLength, line)
+}
+
+// The number of the first line that has a length and lacks it.
+fn other_line_without(drawn: &Drawn, need: LineNeed) -> Option<usize>
+    ensures { let d = drawn_view drawn.now in
+        result ≡ position (λ x. not (has_no_length d x || has_need d need x)) d.lines }
+{
+    drawn.lines.iter().position(|line| !(has_no_length(drawn, line) || has_need(drawn, need, line)))
+}
+
+// The first line that has a length and lacks it.
+fn other_line_hindrance(drawn: &Drawn, need: LineNeed) -> Option<Hindrance>
+    ensures { result ≡ other_line_hindrance (drawn_view drawn.now) need }
+{
+    match other_line_without(drawn, need) {
+        Some(n) => Some(Hindrance::LineLacks(need, n)),
+        None => None,
+    }
+}
+
+// How many lines have a length.
+fn length_count(drawn: &Drawn) -> usize
+    ensures { result ≡ length (with_lengths (drawn_view drawn.now)).lines }
+{
+    drawn
+        .lines
+        .iter()
+        .filter(|line| !has_no_length(drawn, line))
+        .count()
+}
+
+// A level without a line that has a length.
+fn no_length(drawn: &Drawn) -> Option<Hindrance>
+    ensures { result ≡
+        (if length (with_lengths (drawn_view drawn.now)).lines == 0 then Some NoLine else None) }
+{
+    if length_count(drawn) == 0 {
+        return Some(Hindrance::NoLine);
+    }
+    None
+}
+
+/// The first hindrance of the lists without the lines of no length. Lines have the numbers that the level gives them.
+pub fn other_hindrance(drawn: &Drawn) -> Option<Hindrance>
+    ensures { result ≡ other_hindrance (drawn_view drawn.now) }
+{
+    let ends = first_of(
+        other_line_hindrance(drawn, LineNeed::Coordinates),
+        first_of(
+            other_line_hindrance(drawn, LineNeed::AtMostLongest),
+            no_length(drawn),
+        ),
+    );
+    let sides = first_of(
+        other_line_hindrance(drawn, LineNeed::RightSide),
+        first_of(other_line_hindrance(drawn, LineNeed::LeftSide), ends),
+    );
+    first_of(
+        other_line_hindrance(drawn, LineNeed::Vertices),
+        first_of(side_hindrance(drawn), sides),
+    )
 }

@@ -40,6 +40,43 @@ const THREE_LINES: &[u8] = &[
 const CORNERS_TOLD: &str = "3 vertices, 1 things; vertex 2: is at the place of vertex 0; \
     vertex 4: is at the place of vertex 1; line 0 1; line 1 2; line 2 1";
 
+// (0, 0), (64, 0), (64, 64), (64, 0), (9, 9); and lines from 0 to 1, from 1 to 3, which stand at one place, from 1 to 2
+// with flag 4, and from 4 to 4 with a right side that isn't there.
+const FLAT_CORNERS: &[u8] = &[
+    0, 0, 0, 0, 64, 0, 0, 0, 64, 0, 64, 0, 64, 0, 0, 0, 9, 0, 9, 0,
+];
+
+#[rattlefmt::skip]
+const FLAT_LINES: &[u8] = &[
+    0, 0, 1, 0, 1, 0, 0, 0, 0, 0, 0, 0, 0xff, 0xff,
+    1, 0, 3, 0, 1, 0, 0, 0, 0, 0, 0, 0, 0xff, 0xff,
+    1, 0, 2, 0, 4, 0, 0, 0, 0, 0, 0, 0, 0xff, 0xff,
+    4, 0, 4, 0, 1, 0, 0, 0, 0, 0, 9, 0, 0xff, 0xff,
+];
+
+// What is told of that level, and of its map: lines 1 and 3 are left out, so that no line uses vertices 3 and 4.
+const FLAT_TOLD: &str = "3 vertices, 1 things; vertices 2: left out behind the last that a line uses; \
+    line 1: left out, since it has no length; line 2: without flag 4, since it has no left side; \
+    line 3: left out, since it has no length; line 0 1; line 1 2";
+
+// A line from 0 to 0 alone; one from 0 to 0, and one from 0 to 1 with a right side that isn't there, or both with flags
+// above 32,767; one from 2 to 2, where there are two vertices.
+const FLAT_LINE: &[u8] = &[0, 0, 0, 0, 1, 0, 0, 0, 0, 0, 0, 0, 0xff, 0xff];
+
+#[rattlefmt::skip]
+const FLAT_AND_SIDELESS: &[u8] = &[
+    0, 0, 0, 0, 1, 0, 0, 0, 0, 0, 0, 0, 0xff, 0xff,
+    0, 0, 1, 0, 1, 0, 0, 0, 0, 0, 1, 0, 0xff, 0xff,
+];
+
+#[rattlefmt::skip]
+const FLAT_AND_FLAGGED: &[u8] = &[
+    0, 0, 0, 0, 0, 0x80, 0, 0, 0, 0, 0, 0, 0xff, 0xff,
+    0, 0, 1, 0, 0, 0x80, 0, 0, 0, 0, 0, 0, 0xff, 0xff,
+];
+
+const FLAT_NOWHERE: &[u8] = &[2, 0, 2, 0, 1, 0, 0, 0, 0, 0, 0, 0, 0xff, 0xff];
+
 // A side in sector 0: offsets, upper, lower, middle.
 const SIDES: &[u8] = b"\0\0\0\0-\0\0\0\0\0\0\0-\0\0\0\0\0\0\0STONE\0\0\0\0\0";
 
@@ -129,6 +166,44 @@ const IMPORTED: &[(&[u8], &[u8], &[u8], &[u8], &[u8], &str)] = &[
         SECTORS,
         "the level has no line",
     ),
+    (
+        THINGS,
+        FLAT_LINE,
+        SIDES,
+        VERTICES,
+        SECTORS,
+        "the level has no line",
+    ),
+    (
+        THINGS,
+        FLAT_AND_SIDELESS,
+        SIDES,
+        VERTICES,
+        SECTORS,
+        "line 1 has no right side",
+    ),
+    (
+        THINGS,
+        FLAT_AND_FLAGGED,
+        SIDES,
+        VERTICES,
+        SECTORS,
+        "line 1 has flags, special or tag above 32767",
+    ),
+    (
+        THINGS,
+        FLAT_NOWHERE,
+        SIDES,
+        VERTICES,
+        SECTORS,
+        "line 0 has a vertex that isn't there",
+    ),
+];
+
+// LINEDEFS and VERTEXES of a level, and what is told of it with the lines of its map.
+const NUMBERED: &[(&[u8], &[u8], &str)] = &[
+    (THREE_LINES, CORNERS, CORNERS_TOLD),
+    (FLAT_LINES, FLAT_CORNERS, FLAT_TOLD),
 ];
 
 // What is told of a level that is a map.
@@ -183,18 +258,20 @@ fn lines_told(alloc: Global, wad: &[u8]) -> Result<String, Fail> {
 }
 
 #[test]
-fn names_the_first_vertex_at_a_place(rt: HostRuntime) -> Result<(), Fail> {
-    let lumps: [(&[u8; 8], &[u8]); 6] = [
-        (b"MAP01\0\0\0", b""),
-        (b"THINGS\0\0", THINGS),
-        (b"LINEDEFS", THREE_LINES),
-        (b"SIDEDEFS", SIDES),
-        (b"VERTEXES", CORNERS),
-        (b"SECTORS\0", SECTORS),
-    ];
-    let wad = wad_of(rt.alloc(), &lumps)?;
-    let says = lines_told(rt.alloc(), &wad)?;
-    same(&rt, &says.as_str(), &CORNERS_TOLD);
+fn numbers_lines_and_vertices(rt: HostRuntime) -> Result<(), Fail> {
+    for &(lines, vertices, wanted) in NUMBERED {
+        let lumps: [(&[u8; 8], &[u8]); 6] = [
+            (b"MAP01\0\0\0", b""),
+            (b"THINGS\0\0", THINGS),
+            (b"LINEDEFS", lines),
+            (b"SIDEDEFS", SIDES),
+            (b"VERTEXES", vertices),
+            (b"SECTORS\0", SECTORS),
+        ];
+        let wad = wad_of(rt.alloc(), &lumps)?;
+        let says = lines_told(rt.alloc(), &wad)?;
+        same(&rt, &says.as_str(), &wanted);
+    }
     Ok(())
 }
 

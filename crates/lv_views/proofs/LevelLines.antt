@@ -1,6 +1,7 @@
 -- What there is to say of the levels of a WAD, of one after another.
 use Rattle.std.proofs.Common.{◌≡◌, ◌∙◌, ◌+◌, ◌<◌, inl, inr, ℕ, List, [], ◌∷◌, ◌++◌, Option, Some, None, Result, Ok, Err, Bool}
 use Rattle.std.proofs.Common.{length, get_or, map, take, drop, refl, sym, ap, subst, arith, append_assoc, append-nil, length-append}
+use Rattle.std.specs.Prelude.{◌≢◌}
 use Rattle.std.specs.Io.KnownBytes.{Appends, Keeps}
 use Rattle.std.proofs.KnownBytes.{Appends-trans, Keeps-refl}
 use Rattle.std.proofs.lemmas.Grind.{flat_map-append}
@@ -11,7 +12,9 @@ use Rattle.lv_lumps.specs.declared.records.Name8.{Name8}
 use Rattle.lv_levels.specs.Graphics.{GraphicNames}
 use Rattle.lv_levels.specs.Listing.{entry_name}
 use Rattle.lv_levels.specs.declared.entries.LevelEntries.{LevelEntries}
+use Rattle.lv_import.specs.Refused.{RefusesLevelImport}
 use Rattle.lv_import.specs.declared.error.ImportError.{ImportError}
+use Rattle.lv_import.specs.declared.error.ImportError.TheVariants as import
 use Rattle.lv_maptables.specs.Tables.{Tables}
 use Rattle.lv_editor.specs.Texts.{total_text}
 use Rattle.lv_editor.specs.declared.error.EditorError.{EditorError}
@@ -49,6 +52,13 @@ line_written name reason before count u w is told = (is, subst (λ (t : List ℕ
 pub map_told : (names : Option GraphicNames) (wad : List ℕ) (l : LevelEntries) (r : Result ℕ EditorError) (before : ℕ) (m : Tables) (u w : Option (List ℕ)) → map_refusal wad l ≡ None
     → m ≡ level_map wad l → WritesRemarks r before (remarks names m) u w → WritesLevel names wad l r before u w
 map_told names wad l r before m u w none is told = (remarks names m, inl (none, ap (remarks names) is), told)
+
+-- the line of a level that is no map was told
+pub refusal_told : (names : Option GraphicNames) (wad : List ℕ) (l : LevelEntries) (r : Result ℕ EditorError) (before : ℕ) (name : Name8) (e : ImportError) (u w : Option (List ℕ)) → name ≡ entry_name wad l.marker
+    → RefusesLevelImport wad l (entry_name wad l.marker) e → e ≢ import.OutOfMemory → ((reason : List ℕ) × WritesRemarks r before (no_map_line name reason ∷ []) u w) → WritesLevel names wad l r before u w
+refusal_told names wad l r before name e u w is (inl lacks) some told = absurd (some lacks)
+refusal_told names wad l r before name e u w is (inr why) some (reason, told) =
+    (no_map_line (entry_name wad l.marker) reason ∷ [], inr (e, reason, why, refl), subst (λ (n : Name8). WritesRemarks r before (no_map_line n reason ∷ []) u w) is told)
 
 -- no memory was found for the map of a level
 pub level_lost : (names : Option GraphicNames) (wad : List ℕ) (l : LevelEntries) (before : ℕ) (u : Option (List ℕ)) → WritesLevel names wad l (Err OutOfMemory) before u u

@@ -12,7 +12,7 @@ use crate::findings::tell;
 use crate::wanted::{entry_name, wanted_level};
 use lv_editor::{EditorError, InspectError};
 use lv_import::{ImportError, Imported, import_drawn};
-use lv_levels::{Hindrance, LevelEntries, read_drawn};
+use lv_levels::{Hindrance, LevelEntries, read_lists};
 use lv_reports::Refusal;
 use std::alloc::Global;
 use std::io::Write;
@@ -31,7 +31,7 @@ pub(crate) fn map_of_level(
         (RefusesLevelImport wad.now level (entry_name wad.now level.marker)) }
 {
     let name = entry_name(wad, level.marker);
-    match read_drawn(alloc, wad, level) {
+    match read_lists(alloc, wad, level) {
         Ok(drawn) => import_drawn(alloc, &drawn, name),
         Err(Hindrance::OutOfMemory) => Err(ImportError::OutOfMemory),
         Err(hindrance) => Err(ImportError::Hindered(hindrance)),

@@ -7,4 +7,4 @@ pub named_maps-maps-requires : goal.named_maps-maps-requires
 named_maps-maps-requires c = map_named c.args.name (drawn_view c.args.drawn.now) (sym c.import_refusal.ensures ∙ c.in_default.is)
 
 pub fill-requires-clause-fine : goal.fill-requires-clause-fine
-fill-requires-clause-fine c = fine c.args.name (drawn_view c.args.drawn.now) c.requires (sym c.import_refusal.ensures ∙ c.in_default.is)
+fill-requires-clause-fine c = fine c.args.name (drawn_view c.args.drawn.now) (sym c.import_refusal.ensures ∙ c.in_default.is)

@@ -1,9 +1,7 @@
-use Rattle.std.proofs.Common.{◌∙◌, ap}
-use Rattle.lv_levels.specs.Drawn.{drawn_lists, entries_hindrance, lists_hindrance}
-use Rattle.lv_import.proofs.RefusalLemmas.{both_none}
+use Rattle.lv_levels.specs.Drawn.{drawn_view}
+use Rattle.lv_import.proofs.LevelLemmas.{level_ends}
 use Rattle.lv_import.proofs.import.import_level.Goals as goal
 
-pub import_drawn-requires : goal.import_drawn-requires
-import_drawn-requires c =
-    let wad = c.args.wad.now in
-    ap lists_hindrance c.in-Ok.ensures.1 ∙ (both_none (entries_hindrance wad c.args.level) (lists_hindrance (drawn_lists wad c.args.level)) c.in-Ok.ensures.0).1
+pub returns-in-Ok : goal.returns-in-Ok
+returns-in-Ok c =
+    level_ends c.args.wad.now c.args.level c.args.name (drawn_view c.in-Ok.drawn) c.import_drawn.result c.in-Ok.ensures.0 c.in-Ok.ensures.1 c.import_drawn.ensures

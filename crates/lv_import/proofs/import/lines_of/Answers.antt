@@ -3,7 +3,7 @@ use Rattle.std.specs.Prelude.{slice_index}
 use Rattle.std.proofs.lemmas.List.FromFn.{get_or-map-range_with_len, length-map-range_with_len}
 use Rattle.lv_levels.specs.Drawn.{drawn_view}
 use Rattle.lv_import.specs.Added.{IsBetweenSome}
-use Rattle.lv_import.specs.Imported.{reached_vertices}
+use Rattle.lv_import.specs.Imported.{kept_lines, reached_vertices}
 use Rattle.lv_import.specs.Mended.{linked_line}
 use Rattle.lv_import.specs.Once.{kept_number}
 use Rattle.lv_import.proofs.OnceLemmas.{lines_agree}
@@ -13,12 +13,13 @@ pub linked_lines-requires : goal.linked_lines-requires
 linked_lines-requires c =
     let vs = reached_vertices (drawn_view c.args.drawn.now) in
     let count : length c.args.numbers.now ≡ length vs = ap length c.requires.numbers ∙ length-map-range_with_len (kept_number vs) 0 (length vs) in
-    subst (All (IsBetweenSome (length c.args.numbers.now))) (sym c.deref.ensures.value)
-    (λ k d h. subst (λ n. IsBetweenSome n (get_or c.args.drawn.now.lines.items k d)) (sym count) (c.requires.fine.reached k d h))
+    let kept = kept_lines (drawn_view c.args.drawn.now) in
+    subst (All (IsBetweenSome (length c.args.numbers.now))) (sym (c.deref.ensures.value ∙ c.in_ok-kept.ensures.list))
+    (λ k d h. subst (λ n. IsBetweenSome n (get_or kept k d)) (sym count) (c.requires.fine.reached k d h))
 
 pub returns-clause-list : goal.returns-clause-list
 returns-clause-list c =
     let vs = reached_vertices (drawn_view c.args.drawn.now) in
-    c.in_ok-list.ensures.list ∙ ap (map (linked_line (slice_index c.args.numbers.now))) c.deref.ensures.value
-    ∙ lines_agree (slice_index c.args.numbers.now) (kept_number vs) (length vs) c.args.drawn.now.lines.items c.requires.fine.reached
+    c.in_ok-list.ensures.list ∙ ap (map (linked_line (slice_index c.args.numbers.now))) (c.deref.ensures.value ∙ c.in_ok-kept.ensures.list)
+    ∙ lines_agree (slice_index c.args.numbers.now) (kept_number vs) (length vs) (kept_lines (drawn_view c.args.drawn.now)) c.requires.fine.reached
     (λ k h. ap (λ (ns : List ℕ). get_or ns k 0) c.requires.numbers ∙ get_or-map-range_with_len (kept_number vs) 0 (length vs) k k 0 h (omega arith))
