@@ -1,5 +1,5 @@
 -- What `rebuild` tells and answers (docs/COMMANDS.md, "The program").
-use Rattle.std.specs.Prelude.{◌≡◌, ◌⊎◌, ℕ, ◌+◌, ◌/◌, List, [], ◌∷◌, ◌++◌, Option, Result, Ok, Err, codes, count_by, decimal, length, map, ◌==◌, Bool, true, false}
+use Rattle.std.specs.Prelude.{◌≡◌, ◌⊎◌, ℕ, ◌+◌, ◌/◌, List, [], ◌∷◌, ◌++◌, Option, Result, Ok, Err, codes, count_by, decimal, flat_map, length, map, ◌==◌, Bool, true, false}
 use Rattle.std.specs.Io.KnownBytes.{Appends, Keeps}
 use Rattle.lv_editor.specs.declared.error.EditorError.TheVariants.{InputTooLong, WriterFailed}
 use Rattle.lv_editor.specs.declared.error.InspectError.TheVariants as inspecting
@@ -9,6 +9,8 @@ use Rattle.lv_lumps.specs.declared.records.Name8.{Name8}
 use Rattle.lv_program.specs.Drawing.{EndsUnread}
 use Rattle.lv_views.specs.ShownNames.{shown}
 use Rattle.lv_rebuild.specs.Rebuilt.{IsRebuiltWad, RefusesRebuild}
+use Rattle.lv_rebuild.specs.Texts.{cause_text}
+use Rattle.lv_rebuild.specs.declared.cause.Cause.{Cause}
 use Rattle.lv_rebuild.specs.declared.error.RebuildError.{RebuildError}
 use Rattle.lv_rebuild.specs.declared.error.RebuildError.TheVariants as rebuilding
 use Rattle.lv_rebuild.specs.declared.levels.Fate.{Fate}
@@ -33,23 +35,18 @@ made_text m =
     (length m.subs.items / 4) (length m.nodes.items / 28)
 
 -- behind a level's name: that it was left, and why
-abbrev pub left_as_text : List ℕ → List ℕ
-left_as_text reason = codes " left: " ++ reason ++ 10 ∷ []
+abbrev pub left_as_text : Cause → List ℕ
+left_as_text c = codes " left: " ++ cause_text c ++ 10 ∷ []
 
--- what is told of a level: nothing where it isn't asked for; else a line, with some reason why it
--- is left
-abbrev pub IsFateText : Name8 → Fate → List ℕ → Type 0
-IsFateText name NotAsked text = text ≡ []
-IsFateText name (Made m) text = text ≡ map shown (name_text name) ++ made_text m
-IsFateText name (Left c) text =
-    (reason : List ℕ) × (text ≡ map shown (name_text name) ++ left_as_text reason)
+-- what is told of a level: nothing where it isn't asked for; else a line
+abbrev pub fate_text : Name8 → Fate → List ℕ
+fate_text name NotAsked = []
+fate_text name (Made m) = map shown (name_text name) ++ made_text m
+fate_text name (Left c) = map shown (name_text name) ++ left_as_text c
 
 -- what is told of levels, of one behind another
-abbrev pub AreFateTexts : List RebuiltLevel → List ℕ → Type 0
-AreFateTexts [] text = text ≡ []
-AreFateTexts (l ∷ levels) text =
-    (first : List ℕ) × (rest : List ℕ) × (text ≡ first ++ rest)
-    × IsFateText l.name l.fate first × AreFateTexts levels rest
+abbrev pub fate_texts : List RebuiltLevel → List ℕ
+fate_texts levels = flat_map (λ l. fate_text l.name l.fate) levels
 
 -- the level was built anew; it was left
 abbrev pub was_made : Fate → Bool
@@ -78,9 +75,9 @@ left_count r = count_by (λ l. was_left l.fate) r.levels.items
 -- what became of the levels was told, and behind it how many were built anew
 abbrev pub IsToldOf : RebuiltWad → Option (List ℕ) → Option (List ℕ) → Type 0
 IsToldOf r writer-old writer-new =
-    (texts : List ℕ) × AreFateTexts r.levels.items texts
-    × Appends writer-old writer-new
-    (texts ++ rebuilt_text (made_count r) (made_count r + left_count r) (length r.bytes.items))
+    Appends writer-old writer-new
+    (fate_texts r.levels.items
+    ++ rebuilt_text (made_count r) (made_count r + left_count r) (length r.bytes.items))
 
 -- the status that tells whether no level was left
 abbrev pub status_rebuilt : RebuiltWad → ℕ

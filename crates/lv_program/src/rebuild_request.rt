@@ -1,9 +1,9 @@
 //! The request `rebuild`: the levels of a WAD built anew, and the WAD that they stand in, written into a file.
-ghost use Rattle.std.specs.Prelude.{◌≡◌, ◌≤◌, ℕ, List, count_by, IfErr, IfOk, MatchResult, map, string_bytes};
+ghost use Rattle.std.specs.Prelude.{◌≡◌, ◌≤◌, count_by, IfErr, IfOk, MatchResult, map, string_bytes};
 ghost use Rattle.std.specs.Io.KnownBytes.{Appends};
 ghost use Rattle.lv_editor.specs.declared.error.EditorError.TheVariants.{WriterFailed};
 ghost use Rattle.lv_program.specs.Drawing.{IsUnread};
-ghost use Rattle.lv_program.specs.Rebuilding.{AreFateTexts, IsFateText, IsRebuiltInto, IsRebuiltOf, IsToldOf, items_text, left_as_text, made_text, rebuilt_text, refusal_for, status_rebuilt, was_left, was_made};
+ghost use Rattle.lv_program.specs.Rebuilding.{IsRebuiltInto, IsRebuiltOf, IsToldOf, fate_text, fate_texts, items_text, left_as_text, made_text, rebuilt_text, refusal_for, status_rebuilt, was_left, was_made};
 ghost use Rattle.lv_reports.specs.declared.refusal.Refusal.{Refusal};
 
 use lv_editor::{EditorError, InspectError};
@@ -12,12 +12,8 @@ use lv_levels::ReadError;
 use lv_rebuild::{Fate, MadeLumps, RebuildError, RebuiltLevel, RebuiltWad, rebuild_wad};
 use lv_reports::{Causes, Refusal, status_told};
 use lv_views::{TURNS, read_whole, write_shown};
-use std::fmt::InlineText;
 use std::fs::{self, Files, OpenFile};
 use std::io::Write;
-
-// More bytes than any text has that says why a level is left, so that none is cut.
-const REASON_LEN: usize = 100;
 
 // The refusal of a WAD whose levels aren't built anew.
 fn refusal_of(error: RebuildError) -> Refusal
@@ -73,13 +69,10 @@ fn write_made<W: Write>(made: &MadeLumps, writer: &mut W) -> Result<(), EditorEr
 // Writes why a level is left as it was.
 fn write_left<W: Write>(cause: &lv_rebuild::Cause, writer: &mut W) -> Result<(), EditorError>
     ensures { MatchResult result
-        (λ _. (reason : List ℕ)
-        × Appends (W.contents writer.old) (W.contents writer.new) (left_as_text reason))
+        (λ _. Appends (W.contents writer.old) (W.contents writer.new) (left_as_text cause.now))
         (λ e. e ≡ WriterFailed) }
 {
-    let told = InlineText::<REASON_LEN>::of(*cause);
-    let reason = told.as_str();
-    match write!(writer, " left: {reason}\n") {
+    match write!(writer, " left: {cause}\n") {
         Ok(()) => Ok(()),
         Err(_) => Err(EditorError::WriterFailed),
     }
@@ -88,8 +81,8 @@ fn write_left<W: Write>(cause: &lv_rebuild::Cause, writer: &mut W) -> Result<(),
 // Writes what became of a level, if it was asked for.
 fn write_level<W: Write>(level: &RebuiltLevel, writer: &mut W) -> Result<(), EditorError>
     ensures { MatchResult result
-        (λ _. (text : List ℕ) × IsFateText level.now.name level.now.fate text
-        × Appends (W.contents writer.old) (W.contents writer.new) text)
+        (λ _. Appends (W.contents writer.old) (W.contents writer.new)
+        (fate_text level.now.name level.now.fate))
         (λ e. e ≡ WriterFailed) }
 {
     if let Fate::NotAsked = &level.fate {
@@ -115,8 +108,7 @@ fn write_level<W: Write>(level: &RebuiltLevel, writer: &mut W) -> Result<(), Edi
 // Writes what became of each level.
 fn write_levels<W: Write>(levels: &[RebuiltLevel], writer: &mut W) -> Result<(), EditorError>
     ensures { MatchResult result
-        (λ _. (text : List ℕ) × AreFateTexts levels.now text
-        × Appends (W.contents writer.old) (W.contents writer.new) text)
+        (λ _. Appends (W.contents writer.old) (W.contents writer.new) (fate_texts levels.now))
         (λ e. e ≡ WriterFailed) }
 {
     for level in levels {

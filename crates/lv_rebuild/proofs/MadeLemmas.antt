@@ -1,5 +1,5 @@
 -- What is made of a level that nothing hinders, and why nothing is.
-use Rattle.std.proofs.Common.{◌≡◌, ◌∙◌, refl, sym, ap, subst, ℕ, List, length, take, arith}
+use Rattle.std.proofs.Common.{◌≡◌, ◌∙◌, refl, sym, ap, subst, ℕ, ◌≤◌, List, length, take, arith}
 use Rattle.std.specs.Prelude.{None}
 use Rattle.lv_lumps.specs.declared.records.Line.{Line}
 use Rattle.lv_lumps.specs.declared.records.Vertex.{Vertex}
@@ -17,7 +17,7 @@ use Rattle.lv_pwad.proofs.LengthLemmas.{lump_length}
 use Rattle.lv_pwad.proofs.SoundLemmas.{sound_over}
 use Rattle.lv_rebuild.specs.Causes.{IsBlockmapCause, IsTreeCause}
 use Rattle.lv_rebuild.specs.Made.{HasRecords}
-use Rattle.lv_rebuild.specs.Remade.{AreWholeLumps, IsLeftFor, IsMadeAnew, IsUnmade, front_edges, front_ends, reject_over, remade_level, used_count, used_front}
+use Rattle.lv_rebuild.specs.Remade.{AreWholeLumps, HasFrontTree, IsLeftFor, IsMadeAnew, IsUnmade, front_edges, front_ends, reject_over, remade_level, used_count, used_front}
 use Rattle.lv_rebuild.specs.declared.made.MadeLumps.{MadeLumps}
 use Rattle.lv_rebuild.specs.declared.cause.Cause.{Cause}
 use Rattle.lv_rebuild.specs.declared.cause.Cause.TheVariants.{Hindered, TooManySectors, NoTree, NoBlockmap, OutOfMemory}
@@ -47,19 +47,19 @@ made d b m r t k j =
       whole = whole b m k.words r k.bytes_are;
     }
 
-pub tree_unmade : (d : DrawnLists) (cause : Cause) → IsTreeCause (front_edges d) (used_front d) cause → IsUnmade d cause
-tree_unmade d (Hindered h) c = c
-tree_unmade d TooManySectors c = absurd c
-tree_unmade d (NoTree e) c = c
-tree_unmade d (NoBlockmap e) c = absurd c
-tree_unmade d OutOfMemory c = tt
+pub tree_unmade : (d : DrawnLists) (cause : Cause) → length d.sectors ≤ 32767 → IsTreeCause (front_edges d) (used_front d) cause → IsUnmade d cause
+tree_unmade d (Hindered h) few c = c
+tree_unmade d TooManySectors few c = absurd c
+tree_unmade d (NoTree e) few c = (few, c.0, c.1)
+tree_unmade d (NoBlockmap e) few c = absurd c
+tree_unmade d OutOfMemory few c = tt
 
-pub blockmap_unmade : (d : DrawnLists) (cause : Cause) → IsBlockmapCause (front_ends d) cause → IsUnmade d cause
-blockmap_unmade d (Hindered h) c = c
-blockmap_unmade d TooManySectors c = absurd c
-blockmap_unmade d (NoTree e) c = absurd c
-blockmap_unmade d (NoBlockmap e) c = c
-blockmap_unmade d OutOfMemory c = tt
+pub blockmap_unmade : (d : DrawnLists) (cause : Cause) → length d.sectors ≤ 32767 → HasFrontTree d → IsBlockmapCause (front_ends d) cause → IsUnmade d cause
+blockmap_unmade d (Hindered h) few tree c = c
+blockmap_unmade d TooManySectors few tree c = absurd c
+blockmap_unmade d (NoTree e) few tree c = absurd c
+blockmap_unmade d (NoBlockmap e) few tree c = (few, tree, c.0, c.1)
+blockmap_unmade d OutOfMemory few tree c = tt
 
 -- the cause of a level that nothing hinders
 pub left_for : (wad : List ℕ) (l : LevelEntries) (cause : Cause) → hindrance wad l ≡ None → IsUnmade (drawn_lists wad l) cause → IsLeftFor wad l cause
@@ -73,14 +73,20 @@ left_for wad l OutOfMemory n c = tt
 pub front_is : (d : DrawnLists) (vs front : List Vertex) (ls : List Line) → front ≡ take (used_count ls) vs → vs ≡ d.vertices → ls ≡ d.lines → front ≡ used_front d
 front_is d vs front ls f v l = f ∙ ap (λ (xs : List Line). take (used_count xs) vs) l ∙ ap (take (used_count d.lines)) v
 
-pub tree_refused : (d : DrawnLists) (front : List Vertex) (ls : List Line) (cause : Cause) → front ≡ used_front d → ls ≡ d.lines → IsTreeCause (edges_in front ls) front cause → IsUnmade d cause
-tree_refused d front ls cause f l c =
-    tree_unmade d cause
+pub tree_refused : (d : DrawnLists) (front : List Vertex) (ls : List Line) (cause : Cause) → length d.sectors ≤ 32767 → front ≡ used_front d → ls ≡ d.lines
+    → IsTreeCause (edges_in front ls) front cause → IsUnmade d cause
+tree_refused d front ls cause few f l c =
+    tree_unmade d cause few
     (subst (λ (xs : List Line). IsTreeCause (edges_in (used_front d) xs) (used_front d) cause) l (subst (λ (xs : List Vertex). IsTreeCause (edges_in xs ls) xs cause) f c))
 
-pub blocks_refused : (d : DrawnLists) (front : List Vertex) (ls : List Line) (cause : Cause) → front ≡ used_front d → ls ≡ d.lines → IsBlockmapCause (ends_over front ls) cause → IsUnmade d cause
-blocks_refused d front ls cause f l c =
-    blockmap_unmade d cause
+pub has_tree : (d : DrawnLists) (front : List Vertex) (ls : List Line) (b : Built) → front ≡ used_front d → ls ≡ d.lines → IsBuiltOver (edges_in front ls) front b → HasFrontTree d
+has_tree d front ls b f l t =
+    (b, subst (λ (xs : List Line). IsBuiltOver (edges_in (used_front d) xs) (used_front d) b) l (subst (λ (xs : List Vertex). IsBuiltOver (edges_in xs ls) xs b) f t))
+
+pub blocks_refused : (d : DrawnLists) (front : List Vertex) (ls : List Line) (cause : Cause) → length d.sectors ≤ 32767 → HasFrontTree d → front ≡ used_front d → ls ≡ d.lines
+    → IsBlockmapCause (ends_over front ls) cause → IsUnmade d cause
+blocks_refused d front ls cause few tree f l c =
+    blockmap_unmade d cause few tree
     (subst (λ (xs : List Line). IsBlockmapCause (ends_over (used_front d) xs) cause) l (subst (λ (xs : List Vertex). IsBlockmapCause (ends_over xs ls) cause) f c))
 
 pub made_over : (d : DrawnLists) (front : List Vertex) (ls ks : List Line) (b : Built) (m : MadeLumps) (bytes : List ℕ) → front ≡ used_front d → ls ≡ d.lines → ks ≡ d.lines

@@ -1,8 +1,8 @@
 -- The lumps of a WAD in their parts.
-use Rattle.std.proofs.Common.{◌≡◌, ◌≢◌, ◌∙◌, refl, sym, ap, subst, ℕ, zero, suc, ◌+◌, ◌-◌, ◌<◌, ◌≤◌, List, [], ◌∷◌, ◌++◌, length, get_or, take, drop, arith, append_assoc, false, not, ◌&&◌}
+use Rattle.std.proofs.Common.{◌≡◌, ◌≢◌, ◌∙◌, refl, sym, ap, subst, ℕ, zero, suc, ◌+◌, ◌-◌, ◌<◌, ◌≤◌, List, [], ◌∷◌, ◌++◌, length, get_or, take, drop, arith, append_assoc, false}
 use Rattle.std.proofs.lemmas.List.FromFn.{get_or-map-range_with_len, length-map-range_with_len}
 use Rattle.lv_levels.specs.Drawn.{level_lump}
-use Rattle.lv_levels.specs.Levels.{are_inside, entry, is_outside, lump_count, lump_names}
+use Rattle.lv_levels.specs.Levels.{entry, is_outside, lump_count, lump_names}
 use Rattle.lv_levels.specs.declared.entries.LevelEntries.{LevelEntries}
 use Rattle.lv_levels.proofs.ReadLemmas.{inside_at}
 use Rattle.lv_lumps.specs.declared.records.Name8.{Name8}
@@ -22,9 +22,6 @@ sizes_step wad k = let s : k + 1 ≡ suc k = omega arith in ap (sizes_below wad)
 -- each lump stands in the file
 pub stands : (wad : List ℕ) (k : ℕ) → HasLumps wad → k < lump_count wad → is_outside wad (entry wad k) ≡ false
 stands wad k h l = let z : 0 + k ≡ k = omega arith in rw z at (inside_at wad 0 (lump_count wad) k h.inside l)
-
-pub inside_next : (wad : List ℕ) (k count : ℕ) → k < count → are_inside wad k (count - k) ≡ (not (is_outside wad (entry wad k)) && are_inside wad (k + 1) (count - (k + 1)))
-inside_next wad k count h = let left : count - k ≡ suc (count - (k + 1)) = omega arith in ap (are_inside wad k) left
 
 -- ---- the lumps of entries one behind another
 pub between_long : (wad : List ℕ) (from end : ℕ) → length (lumps_between wad from end) ≡ end - from

@@ -2,6 +2,7 @@ pub mod Made
 pub mod Remade
 pub mod Causes
 pub mod Errors
+pub mod Texts
 pub mod Rebuilt
 pub mod Writing
 pub mod Parts

@@ -1,14 +1,17 @@
 -- A level that was built anew of its own lines, and why one is left as it was.
-use Rattle.std.specs.Prelude.{◌≡◌, ℕ, ◌+◌, ◌%◌, ◌<◌, if◌then◌else◌, nat_lt, nat_le, List, length, take, fold, Some, None}
+use Rattle.std.specs.Prelude.{◌≡◌, ◌≢◌, ℕ, ◌+◌, ◌%◌, ◌<◌, ◌≤◌, if◌then◌else◌, nat_lt, nat_le, List, length, take, fold, Some, None}
 use Rattle.lv_lumps.specs.Lumps.{records_of}
 use Rattle.lv_lumps.specs.Records.{vertex_at, seg_at, sub_at, node_at}
 use Rattle.lv_lumps.specs.declared.records.Line.{Line}
 use Rattle.lv_lumps.specs.declared.records.Vertex.{Vertex}
 use Rattle.lv_segs.specs.Edges.{edges_in}
 use Rattle.lv_segs.specs.declared.edge.Edge.{Edge}
-use Rattle.lv_nodes.specs.Built.{IsRefusalOver}
+use Rattle.lv_nodes.specs.Built.{IsBuiltOver, IsRefusalOver}
+use Rattle.lv_nodes.specs.declared.built.Built.{Built}
+use Rattle.lv_nodes.specs.declared.error.TreeError.TheVariants as tree
 use Rattle.lv_blockmap.specs.Blocks.{ends_over}
 use Rattle.lv_blockmap.specs.Lump.{RefusesBlockmapOver}
+use Rattle.lv_blockmap.specs.declared.error.BlockmapError.TheVariants as blockmap
 use Rattle.lv_blockmap.specs.declared.line_ends.LineEnds.{LineEnds}
 use Rattle.lv_levels.specs.Drawn.{DrawnLists, drawn_lists, hindrance}
 use Rattle.lv_levels.specs.Levels.{Lumps}
@@ -73,12 +76,21 @@ pub record IsMadeAnew (d : DrawnLists) (m : MadeLumps) : Type 0 where
   pub reject : m.reject.items ≡ reject_over (length d.sectors) d.reject
   pub whole : AreWholeLumps m
 
--- why none are made of a level that nothing hinders
+-- a tree is built over its lines
+abbrev pub HasFrontTree : DrawnLists → Type 0
+HasFrontTree d = (b : Built) × IsBuiltOver (front_edges d) (used_front d) b
+
+-- why none are made of a level that nothing hinders: it has too many sectors; or else what its tree
+-- is refused for; or else, where it has a tree, what its blockmap is refused for
 abbrev pub IsUnmade : DrawnLists → Cause → Type 0
 IsUnmade d (Hindered h) = ⊥
 IsUnmade d TooManySectors = 32767 < length d.sectors
-IsUnmade d (NoTree e) = IsRefusalOver (front_edges d) (used_front d) e
-IsUnmade d (NoBlockmap e) = RefusesBlockmapOver (front_ends d) e
+IsUnmade d (NoTree e) =
+    (length d.sectors ≤ 32767) × (e ≢ tree.OutOfMemory)
+    × IsRefusalOver (front_edges d) (used_front d) e
+IsUnmade d (NoBlockmap e) =
+    (length d.sectors ≤ 32767) × HasFrontTree d × (e ≢ blockmap.OutOfMemory)
+    × RefusesBlockmapOver (front_ends d) e
 IsUnmade d OutOfMemory = Unit {0}
 
 -- the lumps are made of what was drawn of the level, which nothing hinders

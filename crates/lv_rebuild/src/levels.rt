@@ -7,11 +7,10 @@ ghost use Rattle.lv_lumps.specs.Names.{name_text};
 ghost use Rattle.lv_rebuild.specs.Rebuilt.{AreRebuilt, IsFate, IsRebuilt, has_level, is_asked};
 
 use crate::cause::Cause;
-use crate::directory::entry_of;
 use crate::error::RebuildError;
 use crate::made::MadeLumps;
 use crate::remade::remake;
-use lv_levels::LevelEntries;
+use lv_levels::{LevelEntries, entry_of};
 use lv_lumps::Name8;
 use std::alloc::Global;
 

@@ -2,13 +2,13 @@
 #![tactic(auto)]
 
 mod cause;
-mod directory;
 mod error;
 mod front;
 mod levels;
 mod made;
 mod parts;
 mod remade;
+mod sizes;
 mod whole;
 mod writing;
 

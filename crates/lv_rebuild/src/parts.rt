@@ -1,17 +1,26 @@
 //! The lumps of a WAD, those of its levels after what became of each, appended in their order.
-ghost use Rattle.std.specs.Prelude.{◌≡◌, ◌<◌, ◌≤◌, [], ◌∷◌, All, MatchResult, get_or};
+ghost use Rattle.std.specs.Prelude.{◌≡◌, ◌<◌, ◌≤◌, [], ◌∷◌, All, MatchResult, false, get_or};
 ghost use Rattle.lv_levels.specs.Entries.{IsLevelAt};
-ghost use Rattle.lv_levels.specs.Levels.{lump_count};
+ghost use Rattle.lv_levels.specs.Levels.{HasEntries, entry, is_outside, lump, lump_count};
 ghost use Rattle.lv_rebuild.specs.Parts.{HasLumps, lumps_up_to};
 ghost use Rattle.lv_rebuild.specs.Rebuilt.{lump_at, lumps_after, lumps_between, made_lumps, rebuilt_lumps, ten_bytes, ten_lumps};
 ghost use Rattle.lv_rebuild.specs.Writing.{Fits, Puts, RefusesPut};
 
-use crate::directory::{entry_of, lump_count, lump_of};
 use crate::error::RebuildError;
 use crate::levels::{Fate, RebuiltLevel};
 use crate::made::MadeLumps;
 use crate::writing::Writing;
-use lv_levels::{LUMP_NAMES, LevelEntries, level_lump};
+use lv_levels::{LUMP_NAMES, LevelEntries, entry_of, level_lump, lump_count, standing};
+
+// The bytes of the k-th entry's lump, which stands in the file.
+fn lump_of(wad: &[u8], k: u32) -> &[u8]
+    requires directory { HasEntries wad.now }
+    requires among { k < lump_count wad.now }
+    requires inside { is_outside wad.now (entry wad.now k) ≡ false }
+    ensures { result.now ≡ lump wad.now k }
+{
+    standing(wad, k)
+}
 
 // Appends the lump of the k-th entry.
 fn put_kept(wad: &[u8], k: u32, to: &mut Writing) -> Result<(), RebuildError>

@@ -7,12 +7,12 @@ ghost use Rattle.lv_rebuild.specs.Parts.{HasLumps};
 ghost use Rattle.lv_rebuild.specs.Rebuilt.{IsRebuiltWad, IsWadOf, RefusesRebuild, rebuilt_lumps};
 ghost use Rattle.lv_rebuild.specs.Whole.{IsAcceptedWad, RefusesFinding, RefusesBytes};
 
-use crate::directory::{are_inside, is_crowded, lump_count};
 use crate::error::RebuildError;
 use crate::levels::{Fate, RebuiltLevel, have_levels, rebuilt_levels};
 use crate::parts::put_rebuilt;
+use crate::sizes::is_crowded;
 use crate::writing::Writing;
-use lv_levels::{LevelEntries, ReadError, levels_in};
+use lv_levels::{LevelEntries, ReadError, are_inside, levels_in, lump_count};
 use std::alloc::Global;
 
 /// A WAD whose levels were built anew, and what became of each of its levels, in the order of the directory.
@@ -34,7 +34,7 @@ fn levels_of(alloc: Global, wad: &[u8], names: &[String]) -> Result<Vec<LevelEnt
         Err(ReadError::DirectoryOutside) => return Err(RebuildError::DirectoryOutside),
         Err(_) => return Err(RebuildError::OutOfMemory),
     };
-    if !are_inside(wad) {
+    if !are_inside(wad, 0, lump_count(wad)) {
         return Err(RebuildError::LumpOutside);
     }
     if is_crowded(wad) {

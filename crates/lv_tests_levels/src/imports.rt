@@ -55,7 +55,8 @@ const FLAT_LINES: &[u8] = &[
 ];
 
 // What is told of that level, and of its map: lines 1 and 3 are left out, so that no line uses vertices 3 and 4.
-const FLAT_TOLD: &str = "3 vertices, 1 things; vertices 2: left out behind the last that a line uses; \
+const FLAT_TOLD: &str =
+    "3 vertices, 1 things; vertices 2: left out behind the last that a line uses; \
     line 1: left out, since it has no length; line 2: without flag 4, since it has no left side; \
     line 3: left out, since it has no length; line 0 1; line 1 2";
 

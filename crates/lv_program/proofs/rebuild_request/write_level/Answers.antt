@@ -8,6 +8,6 @@ returns-in-Ok-write_made g c =
 
 pub returns-in-Ok-write_left : goal.returns-in-Ok-write_left
 returns-in-Ok-write_left g c =
-    left_told c.args.level.now.name c.args.level.now.fate c.in-Left.cause c.in-Ok-write_left.ensures.0 c.text.result.now (g.W.Write.contents c.args.writer.now)
+    left_told c.args.level.now.name c.args.level.now.fate c.in-Left.cause c.text.result.now (g.W.Write.contents c.args.writer.now)
     (g.W.Write.contents c.write_shown.new.writer) (g.W.Write.contents c.write_left.new.writer) c.in-Left.is c.text.ensures.text c.in-Ok.ensures
-    c.in-Ok-write_left.ensures.1
+    c.in-Ok-write_left.ensures

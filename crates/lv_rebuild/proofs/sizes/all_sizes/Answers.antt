@@ -1,7 +1,7 @@
 use Rattle.std.proofs.Common.{ap, arith}
 use Rattle.lv_levels.specs.declared.directory.Entry.{Entry}
 use Rattle.lv_rebuild.proofs.PartLemmas.{sizes_step}
-use Rattle.lv_rebuild.proofs.directory.all_sizes.Goals as goal
+use Rattle.lv_rebuild.proofs.sizes.all_sizes.Goals as goal
 
 pub loop-k-preserved : goal.loop-k-preserved
 loop-k-preserved c =
