@@ -1,9 +1,12 @@
 //! What is told and shown of maps in memory, wherever they come from.
 #![tactic(auto)]
 
+mod asked;
 mod dump_lines;
 mod findings;
 mod laid_over;
+mod laws;
+mod level_dumps;
 mod level_maps;
 mod level_picture;
 mod level_remarks;
@@ -17,9 +20,11 @@ mod shown_names;
 mod wad_graphics;
 mod wanted;
 
-pub use dump_lines::tell_lines;
+pub use dump_lines::{tell_lines, tell_lines_of};
 pub use findings::tell_findings;
 pub use laid_over::{Layers, layers_of};
+pub use laws::draw_dumped_levels;
+pub use level_dumps::tell_level_dumps;
 pub use level_maps::tell_level_findings;
 pub use level_picture::draw_level;
 pub use level_remarks::tell_levels_beside;

@@ -49,8 +49,8 @@ fn is_level_called(wad: &[u8], level: LevelEntries, name: &[u8]) -> bool
     own.text() == name
 }
 
-// The level that is called so, the first of several.
-fn level_called(wad: &[u8], levels: &[LevelEntries], name: &[u8]) -> Option<LevelEntries>
+/// The level that is called so, the first of several.
+pub(crate) fn level_called(wad: &[u8], levels: &[LevelEntries], name: &[u8]) -> Option<LevelEntries>
     requires directory { HasEntries wad.now }
     requires levels { All (IsLevelAt wad.now) levels.now }
     ensures found { result ≡ find (is_level_called wad.now name.now) levels.now }
