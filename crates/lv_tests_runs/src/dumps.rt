@@ -39,7 +39,8 @@ const CALLS: &[Call] = &[
         3,
         FIRST,
         SECOND,
-        b"E1M1: thing 0: angle 360 is 0\nE1M2: no map: LINEDEFS is no whole number of records\n",
+        b"E1M1: thing 0: angle 360 is 0\n\
+          E1M2: no map: LINEDEFS is no whole number of records\n",
     ),
     (
         &["leveled", "dump", "dumps.wad", "MAP01"],
@@ -115,7 +116,8 @@ fn put(wad: &mut [u8], place: usize, value: u8) {
     }
 }
 
-// Makes the WADs, the first with three levels of eleven entries, and a project with the levels that the first one's dump draws.
+// Makes the WADs, the first with three levels of eleven entries, and a project with the levels that the dump of the
+// first one draws.
 fn make_files(rt: &HostRuntime) -> Result<(), Fail> {
     let mut wad = wad_of(rt.alloc(), LEVELS)?;
     put(&mut wad, 4, 33);

@@ -20,10 +20,10 @@ use Rattle.lv_maptables.specs.Projects.{ProjectMaps}
 use Rattle.lv_maptables.specs.Tables.{Tables}
 use Rattle.lv_maptables.specs.WellFormed.{WellFormed}
 use Rattle.lv_reports.specs.Statuses.{status_told}
-use Rattle.lv_views.specs.Asked.{AreAsked, asked_maps, is_asked}
+use Rattle.lv_views.specs.Asked.{AreAsked, asked_maps, asks_for}
 use Rattle.lv_views.specs.Dumping.{lines_asked}
 use Rattle.lv_views.specs.DumpSteps.{DumpsFor, DumpsLevel, DumpsLevels, KeepsMap, LosesLines}
-use Rattle.lv_views.specs.LevelDumps.{AreLevelNotes, IsNote, IsSaid, IsWadDumped, dumped_maps, is_left, note}
+use Rattle.lv_views.specs.LevelDumps.{AreLevelNotes, IsNote, IsSaid, IsWadDumped, dumped_maps, is_level_left, note}
 use Rattle.lv_views.specs.LevelLines.{level_map}
 use Rattle.lv_views.proofs.InTurn.{HasTold, lines_kept, lines_more, lines_stopped_at, lines_taken, no_more, told_more, told_none}
 
@@ -63,14 +63,14 @@ left_changed says name c said d x so told cs m u =
 
 -- the lines of a level
 abbrev pub level_lines : Bool → List ℕ → LevelEntries → List (List ℕ)
-level_lines exact wad l = cond (is_left exact wad l) [] (map_dump_of (level_map wad l))
+level_lines exact wad l = cond (is_level_left exact wad l) [] (map_dump_of (level_map wad l))
 
 pub level_lines-all : (exact : Bool) (wad : List ℕ) (ls : List LevelEntries) → flat_map (level_lines exact wad) ls ≡ map_dumps_of (dumped_maps exact wad ls)
-level_lines-all exact wad ls = lines_kept (level_map wad) map_dump_of (is_left exact wad) ls
+level_lines-all exact wad ls = lines_kept (level_map wad) map_dump_of (is_level_left exact wad) ls
 
 -- the levels so far were dumped or left, and all or not
 pub record HasDumped (says : Change → Option (List ℕ)) (exact : Bool) (wad : List ℕ) (ls : List LevelEntries) (all : Bool) (u w d x : Option (List ℕ)) : Type 0 where
-  pub all_is : all ≡ not (list_any (is_left exact wad) ls)
+  pub all_is : all ≡ not (list_any (is_level_left exact wad) ls)
   pub written : Appends u w (text_of (flat_map (level_lines exact wad) ls))
   pub told : HasTold (AreLevelNotes says exact wad) ls d x
   pub maps : All (KeepsMap exact wad) ls
@@ -82,7 +82,7 @@ pub dumped_more : (says : Change → Option (List ℕ)) (exact : Bool) (wad : Li
     → n < length ls → HasDumped says exact wad (take n ls) all u v d e → DumpsLevel says exact wad (get_or ls n l0) (Ok one) v w e x → KeepsMap exact wad (get_or ls n l0)
     → HasDumped says exact wad (take (n + 1) ls) (all && one) u w d x
 dumped_more says exact wad ls n l0 all one u v w d e x within so (is, more, told) keeps = record {
-  all_is = no_more (is_left exact wad) ls n l0 all one within so.all_is is;
+  all_is = no_more (is_level_left exact wad) ls n l0 all one within so.all_is is;
   written = lines_more (level_lines exact wad) ls n l0 u v w within so.written more;
   told = told_more (AreLevelNotes says exact wad) ls n l0 d e x within so.told told;
   maps =
@@ -112,7 +112,7 @@ fine_by exact wad l rest false keeps fine = All-cons WellFormed (level_map wad l
 pub maps_fine : (exact : Bool) (wad : List ℕ) (ls : List LevelEntries) → All (KeepsMap exact wad) ls → All WellFormed (dumped_maps exact wad ls)
 maps_fine exact wad [] all = All-nil WellFormed
 maps_fine exact wad (l ∷ ls) all =
-    fine_by exact wad l (filter (λ (k : LevelEntries). not (is_left exact wad k)) ls) (is_left exact wad l) (All-head (KeepsMap exact wad) l ls all)
+    fine_by exact wad l (filter (λ (k : LevelEntries). not (is_level_left exact wad k)) ls) (is_level_left exact wad l) (All-head (KeepsMap exact wad) l ls all)
     (maps_fine exact wad ls (All-tail (KeepsMap exact wad) l ls all))
 
 -- ---- Maps that are asked for
@@ -122,7 +122,7 @@ pub asked_more : (names : List (List ℕ)) (ms : List Tables) (n : ℕ) (d : Tab
 asked_more names ms n d u v w within said more = lines_more (lines_asked names) ms n d u v w within said more
 
 lines_asked-all : (names : List (List ℕ)) (p : ProjectMaps) → flat_map (lines_asked names) p.maps ≡ map_dumps_of (asked_maps names p)
-lines_asked-all names p = lines_taken map_dump_of (λ (m : Tables). is_asked names (name_text m.name)) p.maps
+lines_asked-all names p = lines_taken map_dump_of (λ (m : Tables). asks_for names (name_text m.name)) p.maps
 
 pub asked_all_written : (names : List (List ℕ)) (p : ProjectMaps) (u w : Option (List ℕ)) → Appends u w (text_of (flat_map (lines_asked names) p.maps))
     → Appends u w (text_of (map_dumps_of (asked_maps names p)))

@@ -15,34 +15,34 @@ use Rattle.lv_views.specs.Picturing.{is_called}
 use Rattle.lv_views.specs.WantedLevels.{is_level_called}
 
 -- the text is one of the names, or there is no name
-abbrev pub is_asked : List (List ℕ) → List ℕ → Bool
-is_asked names text = (length names == 0) || list_any (λ name. bytes_eq name text) names
+abbrev pub asks_for : List (List ℕ) → List ℕ → Bool
+asks_for names text = (length names == 0) || list_any (λ name. bytes_eq name text) names
 
 -- ---- maps
 
 -- there is a map of the name, and of each of the names
-abbrev pub has_map : ProjectMaps → List ℕ → Bool
-has_map p name = is_some (find (is_called name) p.maps)
+abbrev pub has_map_called : ProjectMaps → List ℕ → Bool
+has_map_called p name = is_some (find (is_called name) p.maps)
 
 abbrev pub have_maps : ProjectMaps → List (List ℕ) → Bool
-have_maps p names = list_all (has_map p) names
+have_maps p names = list_all (has_map_called p) names
 
 -- the maps that are asked for, by number
 abbrev pub asked_maps : List (List ℕ) → ProjectMaps → List Tables
-asked_maps names p = filter (λ m. is_asked names (name_text m.name)) p.maps
+asked_maps names p = filter (λ m. asks_for names (name_text m.name)) p.maps
 
 -- ---- levels
 
 -- one of these levels has the name, and for each of the names there is one
-abbrev pub has_level : List ℕ → List LevelEntries → List ℕ → Bool
-has_level wad levels name = is_some (find (is_level_called wad name) levels)
+abbrev pub has_level_called : List ℕ → List LevelEntries → List ℕ → Bool
+has_level_called wad levels name = is_some (find (is_level_called wad name) levels)
 
 abbrev pub have_levels : List ℕ → List LevelEntries → List (List ℕ) → Bool
-have_levels wad levels names = list_all (has_level wad levels) names
+have_levels wad levels names = list_all (has_level_called wad levels) names
 
 -- those of these levels that are asked for
 abbrev pub asked_among : List ℕ → List (List ℕ) → List LevelEntries → List LevelEntries
-asked_among wad names levels = filter (λ l. is_asked names (entry_text wad l.marker)) levels
+asked_among wad names levels = filter (λ l. asks_for names (entry_text wad l.marker)) levels
 
 -- these are the levels of the WAD that are asked for, in the order of its directory, and for each of
 -- the names there is one

@@ -14,7 +14,7 @@ use Rattle.lv_levels.specs.declared.entries.LevelEntries.{LevelEntries}
 use Rattle.lv_lumps.specs.declared.records.Name8.{Name8}
 use Rattle.lv_maptables.specs.Tables.{Tables}
 use Rattle.lv_maptables.specs.WellFormed.{WellFormed}
-use Rattle.lv_views.specs.LevelDumps.{AreNotesFor, AreNotesOf, dumped_maps, first_change, is_left, is_left_for, level_changes}
+use Rattle.lv_views.specs.LevelDumps.{AreNotesFor, AreNotesOf, dumped_maps, first_change, is_level_left, is_left_for, level_changes}
 use Rattle.lv_views.specs.LevelLines.{level_map, map_refusal}
 
 -- a call failed that was to write these lines: those before one that found no memory were written, or
@@ -57,14 +57,14 @@ DumpsLevel says exact wad l =
 
 -- the level is left, or is a well-formed map
 abbrev pub KeepsMap : Bool → List ℕ → LevelEntries → Type 0
-KeepsMap exact wad l = is_left exact wad l ≡ false → WellFormed (level_map wad l)
+KeepsMap exact wad l = is_level_left exact wad l ≡ false → WellFormed (level_map wad l)
 
 -- the same of levels: whether all were dumped
 abbrev pub DumpsLevels : (Change → Option (List ℕ)) → Bool → List ℕ → List LevelEntries
     → Result Bool EditorError → Option (List ℕ) → Option (List ℕ) → Option (List ℕ)
     → Option (List ℕ) → Type 0
 DumpsLevels says exact wad ls (Ok all) writer-old writer-new errors-old errors-new =
-    (all ≡ not (list_any (is_left exact wad) ls))
+    (all ≡ not (list_any (is_level_left exact wad) ls))
     × Appends writer-old writer-new (text_of (map_dumps_of (dumped_maps exact wad ls)))
     × ((notes : List (List ℕ)) × AreNotesOf says exact wad ls notes
     × Appends errors-old errors-new (text_of notes))

@@ -39,12 +39,13 @@ first_change exact cs = if exact then slice_get cs 0 else None
 abbrev pub is_left_for : Option ImportError → Option Change → Bool
 is_left_for refusal first = is_some refusal || is_some first
 
-abbrev pub is_left : Bool → List ℕ → LevelEntries → Bool
-is_left exact wad l = is_left_for (map_refusal wad l) (first_change exact (level_changes wad l))
+abbrev pub is_level_left : Bool → List ℕ → LevelEntries → Bool
+is_level_left exact wad l =
+    is_left_for (map_refusal wad l) (first_change exact (level_changes wad l))
 
 -- the maps whose lines are written: of the levels that aren't left, in their order
 abbrev pub dumped_maps : Bool → List ℕ → List LevelEntries → List Tables
-dumped_maps exact wad ls = map (level_map wad) (filter (λ l. not (is_left exact wad l)) ls)
+dumped_maps exact wad ls = map (level_map wad) (filter (λ l. not (is_level_left exact wad l)) ls)
 
 -- ---- what is told
 
@@ -102,7 +103,7 @@ AreNotesOf says exact wad ls notes = AreInTurn (AreLevelNotes says exact wad) ls
 pub record AreDumped (says : Change → Option (List ℕ)) (exact : Bool) (wad : List ℕ)
     (ls : List LevelEntries) (status : ℕ)
     (writer-old writer-new errors-old errors-new : Option (List ℕ)) : Type 0 where
-  pub status_is : status ≡ status_told (not (list_any (is_left exact wad) ls))
+  pub status_is : status ≡ status_told (not (list_any (is_level_left exact wad) ls))
   pub maps : All WellFormed (dumped_maps exact wad ls)
   pub written : Appends writer-old writer-new (text_of (map_dumps_of (dumped_maps exact wad ls)))
   pub notes : List (List ℕ)

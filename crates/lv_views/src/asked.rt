@@ -5,7 +5,7 @@ ghost use Rattle.std.specs.Str.{bytes_eq};
 ghost use Rattle.lv_levels.specs.Entries.{IsLevelAt, entry_text};
 ghost use Rattle.lv_levels.specs.Levels.{HasEntries};
 ghost use Rattle.lv_maptables.specs.Projects.{project_of};
-ghost use Rattle.lv_views.specs.Asked.{AreAsked, RefusesAsked, asked_among, has_level, has_map, have_levels, have_maps, is_asked};
+ghost use Rattle.lv_views.specs.Asked.{AreAsked, RefusesAsked, asked_among, has_level_called, has_map_called, have_levels, have_maps, asks_for};
 
 use crate::pictures::map_called;
 use crate::wanted::{entry_name, level_called};
@@ -21,8 +21,8 @@ fn is_among(names: &[String], text: &[u8]) -> bool
 }
 
 /// Whether the text is one of the names, or there is no name.
-pub(crate) fn is_asked(names: &[String], text: &[u8]) -> bool
-    ensures { result ≡ is_asked (map string_bytes names.now) text.now }
+pub(crate) fn asks_for(names: &[String], text: &[u8]) -> bool
+    ensures { result ≡ asks_for (map string_bytes names.now) text.now }
 {
     if names.is_empty() {
         return true;
@@ -31,8 +31,8 @@ pub(crate) fn is_asked(names: &[String], text: &[u8]) -> bool
 }
 
 // Whether there is a map of the name.
-fn has_map(maps: &Maps, name: &[u8]) -> bool
-    ensures { result ≡ has_map (project_of maps.now) name.now }
+fn has_map_called(maps: &Maps, name: &[u8]) -> bool
+    ensures { result ≡ has_map_called (project_of maps.now) name.now }
 {
     map_called(maps, name).is_some()
 }
@@ -42,7 +42,7 @@ pub(crate) fn have_maps(maps: &Maps, names: &[String]) -> bool
     ensures { result ≡ have_maps (project_of maps.now) (map string_bytes names.now) }
 {
     for name in names {
-        if !has_map(maps, name.as_bytes()) {
+        if !has_map_called(maps, name.as_bytes()) {
             return false;
         }
     }
@@ -50,10 +50,10 @@ pub(crate) fn have_maps(maps: &Maps, names: &[String]) -> bool
 }
 
 // Whether one of the levels has the name.
-fn has_level(wad: &[u8], levels: &[LevelEntries], name: &[u8]) -> bool
+fn has_level_called(wad: &[u8], levels: &[LevelEntries], name: &[u8]) -> bool
     requires directory { HasEntries wad.now }
     requires levels { All (IsLevelAt wad.now) levels.now }
-    ensures { result ≡ has_level wad.now levels.now name.now }
+    ensures { result ≡ has_level_called wad.now levels.now name.now }
 {
     level_called(wad, levels, name).is_some()
 }
@@ -65,7 +65,7 @@ fn have_levels(wad: &[u8], levels: &[LevelEntries], names: &[String]) -> bool
     ensures { result ≡ have_levels wad.now levels.now (map string_bytes names.now) }
 {
     for name in names {
-        if !has_level(wad, levels, name.as_bytes()) {
+        if !has_level_called(wad, levels, name.as_bytes()) {
             return false;
         }
     }
@@ -77,10 +77,10 @@ fn is_level_asked(wad: &[u8], names: &[String], level: LevelEntries) -> bool
     requires directory { HasEntries wad.now }
     requires level { IsLevelAt wad.now level }
     ensures { result
-        ≡ is_asked (map string_bytes names.now) (entry_text wad.now level.marker) }
+        ≡ asks_for (map string_bytes names.now) (entry_text wad.now level.marker) }
 {
     let own = entry_name(wad, level.marker);
-    is_asked(names, own.text())
+    asks_for(names, own.text())
 }
 
 // Adds a level that is asked for to others.

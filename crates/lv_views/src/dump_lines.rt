@@ -8,7 +8,7 @@ ghost use Rattle.lv_views.specs.Asked.{asked_maps};
 ghost use Rattle.lv_views.specs.DumpSteps.{WritesOrLoses};
 ghost use Rattle.lv_views.specs.Dumping.{IsDumpedIn, IsDumpedOf, lines_asked};
 
-use crate::asked::{have_maps, is_asked};
+use crate::asked::{asks_for, have_maps};
 use lv_dump::{DumpError, write_dump, write_map_dump};
 use lv_editor::EditorError;
 use lv_maptables::{Map, Maps};
@@ -59,7 +59,7 @@ fn write_asked<W: Write>(
         (W.contents writer.old) (W.contents writer.new) }
 {
     let own = drawn.name();
-    if !is_asked(names, own.text()) {
+    if !asks_for(names, own.text()) {
         return Ok(());
     }
     write_map_lines(alloc, drawn, writer)
