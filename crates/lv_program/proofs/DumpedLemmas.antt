@@ -14,8 +14,8 @@ use Rattle.lv_reports.specs.declared.refusal.Refusal.{Refusal}
 use Rattle.lv_reports.specs.declared.refusal.Refusal.TheVariants.{Build, Level, Lines, NoSuchMap, NotAMap, Project, TreeOutside}
 use Rattle.lv_requests.specs.declared.asked.Request.{Request}
 use Rattle.lv_requests.specs.declared.asked.Request.TheVariants as asks
-use Rattle.lv_views.specs.Dumping.{IsDumpedIn}
-use Rattle.lv_views.specs.LevelDumps.{IsWadDumped}
+use Rattle.lv_dumping.specs.Dumping.{IsDumpedIn}
+use Rattle.lv_dumping.specs.LevelDumps.{IsWadDumped}
 use Rattle.lv_program.proofs.Sources.{of_opening}
 
 -- ---- A project

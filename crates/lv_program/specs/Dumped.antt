@@ -7,7 +7,7 @@ use Rattle.lv_program.specs.SomeProject.{IsDumped}
 use Rattle.lv_reports.specs.declared.refusal.Refusal.{Refusal}
 use Rattle.lv_requests.specs.declared.asked.Request.{Request}
 use Rattle.lv_requests.specs.declared.asked.Request.TheVariants.{Dump}
-use Rattle.lv_views.specs.LevelDumps.{IsWadDumped}
+use Rattle.lv_dumping.specs.LevelDumps.{IsWadDumped}
 use Rattle.lv_views.specs.Reading.{ReadsAll}
 
 -- the WAD was not read to its end, and nothing was written or told; or this was done with all that

@@ -5,7 +5,7 @@ use Rattle.lv_maptables.specs.Projects.{MapsView}
 use Rattle.lv_reports.specs.Refusals.{IsOfOpening}
 use Rattle.lv_reports.specs.declared.refusal.Refusal.{Refusal}
 use Rattle.lv_reports.specs.declared.refusal.Refusal.TheVariants as of
-use Rattle.lv_views.specs.Dumping.{IsDumpedIn}
+use Rattle.lv_dumping.specs.Dumping.{IsDumpedIn}
 use Rattle.lv_views.specs.Linting.{IsLintedBy}
 use Rattle.lv_views.specs.Picturing.{IsPicturedOf}
 use Rattle.lv_views.specs.declared.laid_over.Layers.{Layers}

@@ -1,16 +1,17 @@
 //! The request `dump`: the lines that draw the maps of a disk's project again, or the levels of a WAD.
 ghost use Rattle.std.specs.Prelude.{◌≡◌, ◌≤◌, IfOk, map, string_bytes};
-ghost use Rattle.lv_views.specs.Dumping.{IsDumpedIn};
+ghost use Rattle.lv_dumping.specs.Dumping.{IsDumpedIn};
 ghost use Rattle.lv_editor.specs.Recovery.{IsOnlyRead};
 ghost use Rattle.lv_program.specs.Dumped.{OverWadTold};
 ghost use Rattle.lv_program.specs.Sources.{OverMaps};
-ghost use Rattle.lv_views.specs.LevelDumps.{IsWadDumped};
+ghost use Rattle.lv_dumping.specs.LevelDumps.{IsWadDumped};
 
 use crate::over_disk::{HandedBack, open_project};
 use lv_disk::Disk;
+use lv_dumping::{tell_level_dumps, tell_lines_of};
 use lv_import::Change;
 use lv_reports::Refusal;
-use lv_views::{TURNS, read_whole, tell_level_dumps, tell_lines_of};
+use lv_views::{TURNS, read_whole};
 use std::alloc::Global;
 use std::fmt::Display;
 use std::io::{Read, Write};

@@ -1,6 +1,3 @@
-pub mod AskedFor
-pub mod InTurn
-pub mod LevelDumps
 pub mod LevelLines
 pub mod LevelPicture
 pub mod Linting

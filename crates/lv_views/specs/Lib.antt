@@ -1,10 +1,5 @@
-pub mod Asked
 pub mod Checking
-pub mod DrawnLevels
-pub mod DumpSteps
-pub mod Dumping
 pub mod LaidOver
-pub mod LevelDumps
 pub mod LevelLines
 pub mod LevelPicture
 pub mod LevelTree

@@ -20,11 +20,7 @@ use std::alloc::Global;
 use std::io::Write;
 
 /// The map that a level is after the changes, alone in a project, and the changes; or why it is none.
-pub(crate) fn map_of_level(
-    alloc: Global,
-    wad: &[u8],
-    level: LevelEntries,
-) -> Result<Imported, ImportError>
+pub fn map_of_level(alloc: Global, wad: &[u8], level: LevelEntries) -> Result<Imported, ImportError>
     requires directory { HasEntries wad.now }
     requires level { IsLevelAt wad.now level }
     ensures { MatchResult result

@@ -1,7 +1,7 @@
 use Rattle.std.proofs.Common.{inl, inr, map, string_bytes, subst}
 use Rattle.std.proofs.KnownBytes.{Keeps-refl}
 use Rattle.lv_maptables.specs.Projects.{MapsView}
-use Rattle.lv_views.specs.Dumping.{IsDumpedIn}
+use Rattle.lv_dumping.specs.Dumping.{IsDumpedIn}
 use Rattle.lv_program.proofs.Sources.{no_status}
 use Rattle.lv_program.proofs.dump_request.dump.Goals as goal
 
