@@ -1,9 +1,9 @@
 -- Levels that are dumped, one after another, and what is told of them.
-use Rattle.std.proofs.Common.{◌≡◌, ◌∙◌, ◌+◌, ◌<◌, ℕ, List, [], ◌∷◌, ◌++◌, Option, None, Some, Result, Ok, Err, Bool, true, false, cond, length, get_or, map, take, refl, sym, ap, subst, append-nil}
+use Rattle.std.proofs.Common.{◌≡◌, ◌+◌, ◌<◌, ℕ, List, [], ◌∷◌, ◌++◌, Option, None, Some, Ok, Err, Bool, true, false, cond, length, get_or, map, take, refl, sym, subst, append-nil}
 use Rattle.std.specs.Prelude.{All, not, ◌&&◌, filter, flat_map, codes}
 use Rattle.std.specs.List.{list_any}
-use Rattle.std.specs.Io.KnownBytes.{Appends, Keeps}
-use Rattle.std.proofs.KnownBytes.{Appends-kept, Appends-nil}
+use Rattle.std.specs.Io.KnownBytes.{Appends}
+use Rattle.std.proofs.KnownBytes.{Appends-nil}
 use Rattle.std.proofs.lemmas.List.{take_more}
 use Rattle.std.proofs.lemmas.List.Elements.{All-cons, All-head, All-nil, All-push, All-tail}
 use Rattle.lv_dump.specs.Dump.{map_dump_of}
@@ -19,11 +19,10 @@ use Rattle.lv_lumps.specs.Names.{name_text}
 use Rattle.lv_maptables.specs.Projects.{ProjectMaps}
 use Rattle.lv_maptables.specs.Tables.{Tables}
 use Rattle.lv_maptables.specs.WellFormed.{WellFormed}
-use Rattle.lv_reports.specs.Statuses.{status_told}
-use Rattle.lv_dumping.specs.Asked.{AreAsked, asked_maps, asks_for}
+use Rattle.lv_dumping.specs.Asked.{asked_maps, asks_for}
 use Rattle.lv_dumping.specs.Dumping.{lines_asked}
 use Rattle.lv_dumping.specs.DumpSteps.{DumpsFor, DumpsLevel, DumpsLevels, KeepsMap, LosesLines}
-use Rattle.lv_dumping.specs.LevelDumps.{AreLevelNotes, IsNote, IsSaid, IsWadDumped, dumped_maps, is_level_left, note}
+use Rattle.lv_dumping.specs.LevelDumps.{AreLevelNotes, IsNote, IsSaid, dumped_maps, is_level_left, note}
 use Rattle.lv_views.specs.LevelLines.{level_map}
 use Rattle.lv_dumping.proofs.InTurn.{HasTold, lines_kept, lines_more, lines_stopped_at, lines_taken, no_more, told_more, told_none}
 
@@ -135,21 +134,3 @@ asked_lost names p n d OutOfMemory u v w within said lost =
 asked_lost names p n d WriterFailed u v w within said lost = tt
 asked_lost names p n d InputTooLong u v w within said lost = absurd lost
 asked_lost names p n d ReaderFailed u v w within said lost = absurd lost
-
--- ---- The request
-
-pub request_done : (says : Change → Option (List ℕ)) (exact : Bool) (wad : List ℕ) (names : List (List ℕ)) (ls : List LevelEntries) (all : Bool) (status : ℕ) (u v w d x : Option (List ℕ)) → AreAsked wad names ls
-    → DumpsLevels says exact wad ls (Ok all) u v d x → All WellFormed (dumped_maps exact wad ls) → Keeps v w → status ≡ status_told all
-    → IsWadDumped says wad names exact (Ok status) u w d x
-request_done says exact wad names ls all status u v w d x asked (is, written, (notes, are, told)) maps kept told_by = (
-  ls,
-  asked,
-  record {
-    status_is = told_by ∙ ap status_told is;
-    maps = maps;
-    written = Appends-kept u v w (text_of (map_dumps_of (dumped_maps exact wad ls))) written kept;
-    notes = notes;
-    are = are;
-    told = told;
-  },
-)

@@ -1,4 +1,3 @@
-use Rattle.std.proofs.Common.{sym}
 use Rattle.lv_dumping.proofs.LevelDumps.{note_more}
 use Rattle.lv_dumping.proofs.level_dumps.write_each.Goals as goal
 
