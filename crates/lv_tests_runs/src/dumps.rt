@@ -3,6 +3,7 @@
 use crate::expect::same;
 use crate::inspection::{ROOM_WAD, performed};
 use crate::wads::{Level, START_AT, wad_of};
+use lv_requests::{RequestError, request};
 use std::fs;
 use std::test::Fail;
 
@@ -143,4 +144,15 @@ fn dumps_levels_and_maps(rt: HostRuntime) -> Result<(), Fail> {
         same(&rt, &told, &(words, status, wanted.as_slice(), said));
     }
     Ok(())
+}
+
+// What can be read of a damaged project has no names, and nothing is changed of it.
+#[test]
+fn takes_no_names_beside_salvage(rt: HostRuntime) {
+    let named = ["leveled", "dump", "--salvage", "dumps.lv", "MAP01"];
+    let asked = request(rt.alloc(), &named);
+    assert!(rt; matches!(asked, Err(RequestError::WholeAlone)));
+    let exact = ["leveled", "dump", "--salvage", "--exact", "dumps.lv"];
+    let asked = request(rt.alloc(), &exact);
+    assert!(rt; matches!(asked, Err(RequestError::WholeAlone)));
 }
