@@ -1,19 +1,13 @@
 -- From what was dumped of a disk, or of a reader, to what a file leaves open.
-use Rattle.std.proofs.Common.{◌≡◌, inl, inr, ℕ, Bool, List, Option, [], ◌∷◌, Result, Ok, Err, false, true, refl, sym, subst, string_bytes, map}
-use Rattle.std.specs.Io.KnownBytes.{Keeps}
-use Rattle.std.proofs.KnownBytes.{Keeps-refl}
+use Rattle.std.proofs.Common.{inl, inr, ℕ, Bool, List, Option, [], ◌∷◌, Result, Ok, Err, sym, subst}
 use Rattle.lv_import.specs.declared.change.Change.{Change}
 use Rattle.lv_maptables.specs.Projects.{MapsView}
 use Rattle.lv_project.specs.declared.error.ProjectError.{ProjectError}
-use Rattle.lv_program.specs.Dumped.{HasToldDump, IsDumpedAt, OverWadTold, TellsDump}
-use Rattle.lv_program.specs.Kinds.{tells_beside}
+use Rattle.lv_program.specs.Dumped.{IsDumpedAt, OverWadTold}
 use Rattle.lv_program.specs.SomeProject.{IsDumped}
 use Rattle.lv_program.specs.Sources.{OverMaps}
-use Rattle.lv_reports.specs.Statuses.{status_in}
 use Rattle.lv_reports.specs.declared.refusal.Refusal.{Refusal}
 use Rattle.lv_reports.specs.declared.refusal.Refusal.TheVariants.{Build, Level, Lines, NoSuchMap, NotAMap, Project, TreeOutside}
-use Rattle.lv_requests.specs.declared.asked.Request.{Request}
-use Rattle.lv_requests.specs.declared.asked.Request.TheVariants as asks
 use Rattle.lv_dumping.specs.Dumping.{IsDumpedIn}
 use Rattle.lv_dumping.specs.LevelDumps.{IsWadDumped}
 use Rattle.lv_program.proofs.Sources.{of_opening}
@@ -44,29 +38,3 @@ pub dumped_of_wad : (says : Change → Option (List ℕ)) (names : List (List �
     → OverWadTold r s how u w d x (λ wad. IsWadDumped says wad names exact how u w d x) → IsDumpedAt says names exact how u w d x
 dumped_of_wad says names exact r s u w d x how (inl (unread, kept)) = inr (inl (unread, kept))
 dumped_of_wad says names exact r s u w d x how (inr (wad, all, done)) = inr (inr (wad, done))
-
--- ---- Requests
-
--- a request that tells nothing beside is no dump
-pub tells_none : (says : Change → Option (List ℕ)) (request : Request) (how : Result ℕ Refusal) (u w d x : Option (List ℕ)) → tells_beside request ≡ false → TellsDump says request how u w d x
-tells_none says asks.Scratch how u w d x quiet = tt
-tells_none says (asks.Create file slot journal) how u w d x quiet = tt
-tells_none says (asks.Edit file) how u w d x quiet = tt
-tells_none says (asks.Check file name) how u w d x quiet = tt
-tells_none says (asks.Lint file name iwad) how u w d x quiet = tt
-tells_none says (asks.Draw file script verbose) how u w d x quiet = tt
-tells_none says (asks.TryScript script verbose) how u w d x quiet = tt
-tells_none says (asks.Dump file names exact) how u w d x quiet = cc
-tells_none says (asks.Salvage file) how u w d x quiet = tt
-tells_none says (asks.Picture file name out numbers nodes lint) how u w d x quiet = tt
-tells_none says (asks.Build file out) how u w d x quiet = tt
-tells_none says (asks.Rebuild wad out maps) how u w d x quiet = tt
-tells_none says (asks.Inspect wad name) how u w d x quiet = tt
-tells_none says (asks.Levels wad) how u w d x quiet = tt
-
--- where it isn't refused, nothing more is told
-pub told_done : (says : Change → Option (List ℕ)) (request : Request) (status : ℕ) (u w d x : Option (List ℕ)) → TellsDump says request (Ok status) u w d x → HasToldDump says request (status_in (Ok status)) u w d x
-told_done says request status u w d x told = λ none. told
-
-pub told_refused : (says : Change → Option (List ℕ)) (request : Request) (refusal : Refusal) (u w d x : Option (List ℕ)) → HasToldDump says request (status_in (Err refusal)) u w d x
-told_refused says request refusal u w d x = λ other. absurd (other refl)

@@ -1,7 +1,3 @@
-use Rattle.std.proofs.Common.{List, map, string_bytes, subst}
-use Rattle.std.proofs.KnownBytes.{Keeps-refl}
-use Rattle.lv_dumping.proofs.LevelDumps.{change_words}
-use Rattle.lv_program.proofs.DumpedLemmas.{tells_none}
 use Rattle.lv_program.proofs.Scripts.{drawn_into_as}
 use Rattle.lv_program.proofs.program.done.Goals as goal
 
