@@ -10,7 +10,7 @@ _leveled() {
         local flags=--help
         [ "$subcommand" = create ] && flags='--slot --journal --help'
         [ "$subcommand" = lint ] && flags='--iwad --help'
-        [ "$subcommand" = dump ] && flags='--salvage --help'
+        [ "$subcommand" = dump ] && flags='--exact --salvage --help'
         [ "$subcommand" = draw ] && flags='--check --verbose --help'
         [ "$subcommand" = picture ] && flags='--out --numbers --nodes --lint --help'
         mapfile -t COMPREPLY < <(compgen -W "$flags" -- "$word")

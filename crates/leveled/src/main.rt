@@ -96,7 +96,7 @@ fn refuse(rt: &HostRuntime, error: &RequestError) -> u8
             complain_of_memory(rt);
             NO_REQUEST
         }
-        RequestError::Number | RequestError::Surplus => {
+        RequestError::Number | RequestError::Surplus | RequestError::WholeAlone => {
             let _ = eprintln!(rt; "leveled: {error}");
             NO_REQUEST
         }

@@ -1,4 +1,5 @@
 pub mod Counting
+pub mod DumpedLemmas
 pub mod Examined
 pub mod Rebuilding
 pub mod Salvaging

@@ -1,14 +1,13 @@
 -- What was written of a file that is salvaged.
-use Rattle.std.proofs.Common.{◌≡◌, ◌⊎◌, inl, inr, ⊎_elim, ℕ, List, Option, Result, Ok, Err, ap, subst}
+use Rattle.std.proofs.Common.{◌≡◌, ◌⊎◌, inl, inr, ⊎_elim, ℕ, List, Option, Result, Ok, Err, ap}
 use Rattle.std.proofs.KnownBytes.{Keeps-refl}
-use Rattle.std.specs.Io.KnownBytes.{Keeps}
 use Rattle.lv_maptables.specs.Projects.{MapsView, project_of}
 use Rattle.lv_project.specs.declared.error.ProjectError.{ProjectError}
 use Rattle.lv_project.specs.declared.error.ProjectError.TheVariants as opening
 use Rattle.lv_reports.specs.declared.refusal.Refusal.{Refusal}
 use Rattle.lv_reports.specs.declared.refusal.Refusal.TheVariants.{Project, Lines, Level, Build, NoSuchMap, NotAMap, TreeOutside}
 use Rattle.lv_salvage.specs.Salvages.{IsSalvaged}
-use Rattle.lv_views.specs.Dumping.{IsDumpedOf}
+use Rattle.lv_dumping.specs.Dumping.{IsDumpedOf}
 use Rattle.lv_program.specs.Salvaging.{IsSalvagedFrom, IsSalvagedInto, IsSalvagedOver}
 
 pub salvaged_from : (file : List ℕ) (maps : MapsView) (records behind : ℕ) (how : Result ℕ Refusal) (u w : Option (List ℕ))

@@ -16,8 +16,6 @@ use Rattle.lv_levels.specs.Graphics.{GraphicNames}
 use Rattle.lv_program.specs.Deeds.{IsBuiltInto, IsChecked, IsCheckedAt, IsCreated, IsEdited, IsExamined, IsLintedAt, IsPicturedAt}
 use Rattle.lv_program.specs.Drawing.{EndsUnopened, IsDrawnOntoSome}
 use Rattle.lv_program.specs.DrawnOver.{IsDrawnOver}
-use Rattle.lv_program.specs.SomeProject.{IsDumped}
-use Rattle.lv_views.specs.Dumping.{IsDumpedOf}
 use Rattle.lv_program.specs.SomeProject.{IsLinted}
 use Rattle.lv_views.specs.Linting.{IsLintedBy, IsLintedIn}
 use Rattle.lv_program.specs.SomeProject.{IsPictured}
@@ -46,7 +44,7 @@ refused_before before after Reopen same is = absurd is
 refused_before before after GenerationsSpent same is = absurd is
 refused_before before after (Refused e) same is = absurd is
 
-of_opening : (reads : List ℕ → Type 0) (e : ProjectError) → IsRefusedRead reads e → IsOfOpening e
+pub of_opening : (reads : List ℕ → Type 0) (e : ProjectError) → IsRefusedRead reads e → IsOfOpening e
 of_opening reads Device is = tt
 of_opening reads OutOfMemory is = tt
 of_opening reads NotAProject is = tt
@@ -121,22 +119,6 @@ pub checked : (name : Option (List ℕ)) (reads : List ℕ → Type 0) (how : Re
 checked name reads how u w (inl ((e, is, refused), kept)) =
     subst (λ (h : Result ℕ Refusal). IsCheckedAt name h u w) (sym is) (inl (of_opening reads e refused, kept))
 checked name reads how u w (inr (maps, has, done)) = checked_in name maps how u w done
-
-dumped_of : (maps : MapsView) (how : Result ℕ Refusal) (u w : Option (List ℕ)) → IsDumpedOf maps how u w → IsDumped how u w
-dumped_of maps (Ok status) u w done = (maps, done)
-dumped_of maps (Err (Lines e)) u w done = (maps, done)
-dumped_of maps (Err (Project e)) u w never = absurd never
-dumped_of maps (Err (Level e)) u w never = absurd never
-dumped_of maps (Err (Build e)) u w never = absurd never
-dumped_of maps (Err NoSuchMap) u w never = absurd never
-dumped_of maps (Err (NotAMap e)) u w never = absurd never
-dumped_of maps (Err TreeOutside) u w never = absurd never
-
-pub dumped : (reads : List ℕ → Type 0) (how : Result ℕ Refusal) (u w : Option (List ℕ))
-    → OverMaps reads how u w (λ maps. IsDumpedOf maps how u w) → IsDumped how u w
-dumped reads how u w (inl ((e, is, refused), kept)) =
-    subst (λ (h : Result ℕ Refusal). IsDumped h u w) (sym is) (of_opening reads e refused, kept)
-dumped reads how u w (inr (maps, has, done)) = dumped_of maps how u w done
 
 not_opened : (name : Option (List ℕ)) (names : Option GraphicNames) (maps : MapsView) (e : ProjectError) (u w : Option (List ℕ)) → IsLintedIn name names maps (Err (Project e)) u w → ⊥
 not_opened None names maps e u w never = never

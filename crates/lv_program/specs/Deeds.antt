@@ -12,7 +12,7 @@ use Rattle.lv_editor.specs.Answers.{RepliesInMemory}
 use Rattle.lv_pwad.specs.Counted.{IsBuildCounted}
 use Rattle.lv_editor.specs.Building.{built_text}
 use Rattle.lv_program.specs.Drawing.{IsDrawnInto, IsScriptTried}
-use Rattle.lv_program.specs.SomeProject.{IsDumped}
+use Rattle.lv_program.specs.Dumped.{IsDumpedInto}
 use Rattle.lv_editor.specs.Editing.{RepliesInProject}
 use Rattle.lv_editor.specs.Inspections.{IsInspected}
 use Rattle.lv_program.specs.LevelNames.{IsListed}
@@ -142,8 +142,9 @@ IsPerformed facts (Draw file script verbose) how reader-old reader-new writer-ol
     IsDrawnInto facts (is_some script) verbose how reader-old reader-new writer-old writer-new
 IsPerformed facts (TryScript script verbose) how reader-old reader-new writer-old writer-new =
     IsScriptTried verbose how writer-old writer-new × Keeps reader-old reader-new
-IsPerformed facts (Dump file) how reader-old reader-new writer-old writer-new =
-    IsDumped how writer-old writer-new × Keeps reader-old reader-new
+IsPerformed facts (Dump file names exact) how reader-old reader-new writer-old writer-new =
+    IsDumpedInto (map string_bytes names.items) exact how writer-old writer-new
+    × Keeps reader-old reader-new
 IsPerformed facts (Salvage file) how reader-old reader-new writer-old writer-new =
     IsSalvagedInto how writer-old writer-new × Keeps reader-old reader-new
 IsPerformed facts (Picture file map out numbers nodes lint) how reader-old reader-new writer-old

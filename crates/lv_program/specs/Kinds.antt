@@ -1,13 +1,14 @@
 -- Which requests write beside the output, and which are over a WAD alone.
 use Rattle.std.specs.Prelude.{◌≡◌, ℕ, Bool, true, false}
 use Rattle.lv_requests.specs.declared.asked.Request.{Request}
-use Rattle.lv_requests.specs.declared.asked.Request.TheVariants.{Draw, TryScript, Salvage, Inspect, Levels, Rebuild}
+use Rattle.lv_requests.specs.declared.asked.Request.TheVariants.{Draw, TryScript, Dump, Salvage, Inspect, Levels, Rebuild}
 
--- the request tells something on standard error that is no refusal: it is about a script, or about
--- what can be salvaged
+-- the request tells something on standard error that is no refusal: it is about a script, about levels
+-- that are dumped, or about what can be salvaged
 abbrev pub tells_beside : Request → Bool
 tells_beside (Draw file script verbose) = true
 tells_beside (TryScript script verbose) = true
+tells_beside (Dump file names exact) = true
 tells_beside (Salvage file) = true
 tells_beside request = false
 
@@ -18,9 +19,11 @@ is_over_wad (Levels wad) = true
 is_over_wad (Rebuild wad out maps) = true
 is_over_wad request = false
 
--- the statuses that leave standard error alone: all but 1, of a script 0 alone, of a salvage none
+-- the statuses that leave standard error alone: all but 1, of a script 0 alone, of a salvage and of a
+-- dump none
 abbrev pub IsQuiet : Request → ℕ → Type 0
 IsQuiet (Draw file script verbose) status = status ≡ 0
 IsQuiet (TryScript script verbose) status = status ≡ 0
+IsQuiet (Dump file names exact) status = ⊥
 IsQuiet (Salvage file) status = ⊥
 IsQuiet request status = ¬ (status ≡ 1)

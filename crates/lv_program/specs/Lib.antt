@@ -1,5 +1,6 @@
 pub mod Deeds
 pub mod Drawing
+pub mod Dumped
 pub mod DrawnOver
 pub mod Kinds
 pub mod LevelNames

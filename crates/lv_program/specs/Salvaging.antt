@@ -9,7 +9,7 @@ use Rattle.lv_salvage.specs.Refusals.{RefusesSalvage}
 use Rattle.lv_salvage.specs.Salvages.{IsSalvaged}
 use Rattle.lv_salvage.specs.declared.error.SalvageError.{SalvageError}
 use Rattle.lv_salvage.specs.declared.error.SalvageError.TheVariants.{Damaged, Blank, NotAProject, BadGeometry, OutOfMemory}
-use Rattle.lv_views.specs.Dumping.{IsDumpedOf}
+use Rattle.lv_dumping.specs.Dumping.{IsDumpedOf}
 use Rattle.lv_reports.specs.declared.refusal.Refusal.{Refusal}
 use Rattle.lv_reports.specs.declared.refusal.Refusal.TheVariants as of
 

@@ -5,7 +5,7 @@ use Rattle.lv_maptables.specs.Projects.{MapsView}
 use Rattle.lv_reports.specs.Refusals.{IsOfOpening}
 use Rattle.lv_reports.specs.declared.refusal.Refusal.{Refusal}
 use Rattle.lv_reports.specs.declared.refusal.Refusal.TheVariants as of
-use Rattle.lv_views.specs.Dumping.{IsDumpedOf}
+use Rattle.lv_dumping.specs.Dumping.{IsDumpedIn}
 use Rattle.lv_views.specs.Linting.{IsLintedBy}
 use Rattle.lv_views.specs.Picturing.{IsPicturedOf}
 use Rattle.lv_views.specs.declared.laid_over.Layers.{Layers}
@@ -27,7 +27,9 @@ IsPictured layers name into how writer-old writer-new =
     (maps : MapsView) × IsPicturedOf layers name into maps how writer-old writer-new
 
 -- no project was opened and nothing written, or this was done with the maps of some project
-abbrev pub IsDumped : Result ℕ Refusal → Option (List ℕ) → Option (List ℕ) → Type 0
-IsDumped (Err (of.Project e)) writer-old writer-new = IsOfOpening e × Keeps writer-old writer-new
-IsDumped how writer-old writer-new =
-    (maps : MapsView) × IsDumpedOf maps how writer-old writer-new
+abbrev pub IsDumped : List (List ℕ) → Result ℕ Refusal → Option (List ℕ) → Option (List ℕ)
+    → Type 0
+IsDumped names (Err (of.Project e)) writer-old writer-new =
+    IsOfOpening e × Keeps writer-old writer-new
+IsDumped names how writer-old writer-new =
+    (maps : MapsView) × IsDumpedIn names maps how writer-old writer-new

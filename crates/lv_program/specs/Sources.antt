@@ -29,7 +29,6 @@ use Rattle.lv_reports.specs.Statuses.{run_end, status_told}
 use Rattle.lv_pwad.specs.declared.counted.BuildCounts.{BuildCounts}
 use Rattle.lv_editor.specs.declared.error.EditorError.{EditorError}
 use Rattle.lv_editor.specs.declared.error.EditorError.TheVariants.{WriterFailed}
-use Rattle.lv_editor.specs.declared.error.InspectError.TheVariants as inspecting
 use Rattle.lv_reports.specs.declared.refusal.Refusal.{Refusal}
 use Rattle.lv_reports.specs.declared.refusal.Refusal.TheVariants as of
 

@@ -1,30 +1,65 @@
-//! The request `dump`: the lines that draw the maps of a disk's project again.
-ghost use Rattle.std.specs.Prelude.{◌≡◌, ◌≤◌, IfOk};
-ghost use Rattle.lv_views.specs.Dumping.{IsDumpedOf};
+//! The request `dump`: the lines that draw the maps of a disk's project again, or the levels of a WAD.
+ghost use Rattle.std.specs.Prelude.{◌≡◌, ◌≤◌, IfOk, map, string_bytes};
+ghost use Rattle.lv_dumping.specs.Dumping.{IsDumpedIn};
 ghost use Rattle.lv_editor.specs.Recovery.{IsOnlyRead};
+ghost use Rattle.lv_program.specs.Dumped.{OverWadTold};
 ghost use Rattle.lv_program.specs.Sources.{OverMaps};
+ghost use Rattle.lv_dumping.specs.LevelDumps.{IsWadDumped};
 
 use crate::over_disk::{HandedBack, open_project};
 use lv_disk::Disk;
-use lv_views::tell_lines;
+use lv_dumping::{tell_level_dumps, tell_lines_of};
+use lv_import::Change;
+use lv_reports::Refusal;
+use lv_views::{TURNS, read_whole};
 use std::alloc::Global;
-use std::io::Write;
+use std::fmt::Display;
+use std::io::{Read, Write};
 
-/// Writes the lines that draw the maps of a disk's project again, from the empty project. The disk is only read.
-pub fn dump<D: Disk, W: Write>(alloc: Global, disk: D, writer: &mut W) -> HandedBack<D>
+/// Writes the lines that draw the maps of a disk's project again, from the empty project, or, where there are names,
+/// those of each map of the names. The disk is only read.
+pub fn dump<D: Disk, W: Write>(
+    alloc: Global,
+    disk: D,
+    names: &[String],
+    writer: &mut W,
+) -> HandedBack<D>
     ensures small { IfOk result.how (λ s. s ≤ 3) }
     ensures dumped { OverMaps (D.reads disk) result.how
         (W.contents writer.old) (W.contents writer.new)
-        (λ maps. IsDumpedOf maps result.how (W.contents writer.old) (W.contents writer.new)) }
+        (λ maps. IsDumpedIn (map string_bytes names.now) maps result.how
+        (W.contents writer.old) (W.contents writer.new)) }
     ensures only_read { IsOnlyRead D.Disk disk result.disk }
 {
     let project = match open_project(alloc, disk) {
         Ok(project) => project,
         Err(refused) => return refused,
     };
-    let how = tell_lines(alloc, project.maps(), writer);
+    let how = tell_lines_of(alloc, project.maps(), names, writer);
     HandedBack {
         how,
         disk: project.into_disk(),
     }
+}
+
+/// Writes the lines that draw the levels of the WAD that is all that the reader gives, all or those of the names, and
+/// tells on `errors` what is changed of them, and which are left.
+pub fn dump_wad<R: Read, W: Write, F: Write>(
+    alloc: Global,
+    reader: &mut R,
+    names: &[String],
+    is_exact: bool,
+    writer: &mut W,
+    errors: &mut F,
+) -> Result<u8, Refusal>
+    ensures small { IfOk result (λ s. s ≤ 3) }
+    ensures dumped { OverWadTold (R.remaining reader.old) (R.remaining reader.new) result
+        (W.contents writer.old) (W.contents writer.new)
+        (F.contents errors.old) (F.contents errors.new)
+        (λ wad. IsWadDumped ⟦<Change as Display>⟧.output wad (map string_bytes names.now) is_exact
+        result (W.contents writer.old) (W.contents writer.new)
+        (F.contents errors.old) (F.contents errors.new)) }
+{
+    let wad = read_whole(alloc, reader, TURNS)?;
+    tell_level_dumps(alloc, &wad, names, is_exact, writer, errors)
 }

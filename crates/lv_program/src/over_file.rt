@@ -1,15 +1,15 @@
 //! Each request over a project, in the file at a path.
-ghost use Rattle.std.specs.Prelude.{◌≡◌, ◌≤◌, Ok, IfErr, IfOk, is_some, option_map};
+ghost use Rattle.std.specs.Prelude.{◌≡◌, ◌≤◌, Ok, IfErr, IfOk, is_some, map, option_map, string_bytes};
 ghost use Rattle.std.specs.Io.KnownBytes.{Keeps};
 ghost use Rattle.lv_program.specs.Drawing.{IsDrawnInto};
-ghost use Rattle.lv_program.specs.SomeProject.{IsDumped};
+ghost use Rattle.lv_program.specs.Dumped.{IsDumpedAt};
 ghost use Rattle.lv_program.specs.Salvaging.{IsSalvagedInto};
 ghost use Rattle.lv_program.specs.Deeds.{IsBuiltInto, IsCheckedAt, IsCreated, IsEdited, IsLintedAt, IsPicturedAt};
 ghost use Rattle.lv_reports.specs.declared.refusal.Refusal.{Refusal};
 
 use crate::build_request::build;
 use crate::draw_request::{Script, draw};
-use crate::dump_request::dump;
+use crate::dump_request::{dump, dump_wad};
 use crate::lint_request::{lint, lint_wad};
 use crate::over_disk::{check, create, edit};
 use crate::picture_request::{picture, picture_wad};
@@ -18,9 +18,11 @@ use crate::script_file::{read_script, script_name};
 use crate::wad_file::{begins_as_wad, check_wad};
 use lv_disk::{Disk, FileDisk};
 use lv_files::{Access, GaplessFile, Hold, NotedFile, open_held};
+use lv_import::Change;
 use lv_project::{Geometry, ProjectError};
 use lv_reports::{Causes, Refusal};
 use lv_views::Wanted;
+use std::fmt::Display;
 use std::io::{Read, Write};
 use std::os::unix::fs::FileExt;
 use std::rt::Files;
@@ -222,18 +224,34 @@ where
     ended_over(&file, how, why)
 }
 
-/// Writes the lines that draw the maps of the project in the file at the path again.
-pub fn dump_file<E, W>(rt: &E, path: &str, writer: &mut W, why: &mut Causes) -> Result<u8, Refusal>
+/// Writes the lines that draw the maps of the project in the file at the path again, or the levels of the WAD there,
+/// all or those of the names; and tells on `errors` what is changed of the levels, and which are left.
+pub fn dump_file<E, W, F>(
+    rt: &E,
+    path: &str,
+    names: &[String],
+    is_exact: bool,
+    writer: &mut W,
+    errors: &mut F,
+    why: &mut Causes,
+) -> Result<u8, Refusal>
 where
     E: AllocGlobal + Files,
     E::File: FileExt + Hold,
     W: Write,
+    F: Write,
     ensures small { IfOk result (λ s. s ≤ 3) }
-    ensures dumped { IsDumped result (W.contents writer.old) (W.contents writer.new) }
+    ensures dumped { IsDumpedAt ⟦<Change as Display>⟧.output (map string_bytes names.now) is_exact
+        result (W.contents writer.old) (W.contents writer.new)
+        (F.contents errors.old) (F.contents errors.new) }
 {
-    let file = file_at(rt, path, Access::Reads, why)?;
+    let mut file = open_at(rt, path, Access::Reads, why)?;
+    if begins_as_wad(&file) {
+        return dump_wad(rt.alloc(), &mut file, names, is_exact, writer, errors);
+    }
+    let file = NotedFile::new(file);
     let disk = FileDisk::new(&file, false);
-    let how = dump(rt.alloc(), disk, writer).how;
+    let how = dump(rt.alloc(), disk, names, writer).how;
     ended_over(&file, how, why)
 }
 

@@ -2,6 +2,7 @@
 ghost use Rattle.std.specs.Prelude.{◌≡◌, ◌≤◌, ℕ, false, true, IfOk, List, Option, Result};
 ghost use Rattle.std.specs.Io.KnownBytes.{Keeps};
 ghost use Rattle.lv_program.specs.Deeds.{IsPerformed, IsScratched};
+ghost use Rattle.lv_program.specs.Dumped.{HasToldDump, TellsDump};
 ghost use Rattle.lv_program.specs.Kinds.{IsQuiet, is_over_wad, tells_beside};
 ghost use Rattle.lv_reports.specs.Statuses.{status_in};
 ghost use Rattle.lv_reports.specs.declared.refusal.Refusal.{Refusal};
@@ -17,10 +18,12 @@ use crate::wad_levels::list_levels;
 use lv_disk::{Disk, FileDisk};
 use lv_editor::run_in_memory;
 use lv_files::{Hold, NotedFile};
+use lv_import::Change;
 use lv_reports::{Causes, Refusal, ended, report, report_causes, status_in};
 use lv_requests::Request;
 use lv_views::{TURNS, Wanted, layers_of};
 use std::alloc::Global;
+use std::fmt::Display;
 use std::io::{Read, Write};
 use std::os::unix::fs::FileExt;
 use std::rt::Files;
@@ -99,10 +102,10 @@ where
             let iwad = iwad.as_deref();
             lint_file(rt, file.as_str(), map, iwad, writer, why)
         }
-        Request::Draw { .. } | Request::TryScript { .. } | Request::Salvage { .. } => {
-            unreachable!()
-        }
-        Request::Dump { file } => dump_file(rt, file.as_str(), writer, why),
+        Request::Draw { .. }
+        | Request::TryScript { .. }
+        | Request::Dump { .. }
+        | Request::Salvage { .. } => unreachable!(),
         Request::Picture {
             file,
             map,
@@ -144,6 +147,9 @@ where
     ensures small { IfOk result (λ s. s ≤ 3) }
     ensures quiet { IsQuiet request.now (status_in result)
         → Keeps (F.contents faults.old) (F.contents faults.new) }
+    ensures told { TellsDump ⟦<Change as Display>⟧.output request.now result
+        (W.contents writer.old) (W.contents writer.new)
+        (F.contents faults.old) (F.contents faults.new) }
 {
     match request {
         Request::Draw {
@@ -167,6 +173,9 @@ where
             let path = script.as_str();
             try_file(rt, path, *verbose, writer, faults, &mut why.file)
         }
+        Request::Dump { file, names, exact } => {
+            dump_file(rt, file.as_str(), names, *exact, writer, faults, why)
+        }
         Request::Salvage { file } => salvage_file(rt, file.as_str(), writer, faults, why),
         _ => done_quietly(rt, request, reader, writer, why),
     }
@@ -174,9 +183,9 @@ where
 
 /// Does what the words asked for, with standard input, output and error handed in, and answers the
 /// status: 0 where it is done, 3 where maps have findings, a level a fault or a script a line that is
-/// refused, which `faults` tells, and 1 where it was refused, with a line on `faults` that says why,
-/// and one more where a file can't be opened, made, read, written or synced. The writer is flushed
-/// after each turn of reading.
+/// refused, or where a level is left, which `faults` tells, and 1 where it was refused, with a line on `faults`
+/// that says why, and one more where a file can't be opened, made, read, written or synced. The writer is
+/// flushed after each turn of reading.
 pub fn perform<E, R, W, F>(
     rt: &E,
     request: &Request,
@@ -197,6 +206,9 @@ where
         (W.contents writer.old) (W.contents writer.new) }
     ensures quiet { IsQuiet request.now result
         → Keeps (F.contents faults.old) (F.contents faults.new) }
+    ensures told { HasToldDump ⟦<Change as Display>⟧.output request.now result
+        (W.contents writer.old) (W.contents writer.new)
+        (F.contents faults.old) (F.contents faults.new) }
 {
     let mut why = Causes {
         file: None,

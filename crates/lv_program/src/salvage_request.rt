@@ -7,10 +7,10 @@ ghost use Rattle.lv_program.specs.Salvaging.{IsSalvagedFrom, IsSalvagedOver, ref
 
 use crate::over_disk::HandedBack;
 use lv_disk::Disk;
+use lv_dumping::tell_lines;
 use lv_project::ProjectError;
 use lv_reports::Refusal;
 use lv_salvage::{SalvageError, Salvaged, salvage};
-use lv_views::tell_lines;
 use std::alloc::Global;
 use std::io::Write;
 

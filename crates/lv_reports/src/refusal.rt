@@ -176,7 +176,7 @@ fn paths_of(request: &Request) -> (&str, &str) {
         Request::Create { file, .. }
         | Request::Edit { file }
         | Request::Check { file, .. }
-        | Request::Dump { file }
+        | Request::Dump { file, .. }
         | Request::Salvage { file } => (file.as_str(), ""),
         Request::Inspect { wad, .. } | Request::Levels { wad } => (wad.as_str(), ""),
         Request::TryScript { script, .. } => (script.as_str(), ""),

@@ -19,9 +19,9 @@ use Rattle.std.specs.Str.Parse.{ParsesUnsigned}
 use Rattle.clap.specs.declared.parser.matches.Found.{Found}
 use Rattle.clap.proofs.WalkLemmas.{one_text-rows}
 use Rattle.lv_requests.specs.App.{leveled_app}
-use Rattle.lv_requests.specs.Request.{HasNumber, HasSurplus, IsSubcommand, LacksNumber, LacksValue, RefusesRead, RefusesValues}
+use Rattle.lv_requests.specs.Request.{HasMoreThanFile, HasNumber, HasSurplus, IsSubcommand, LacksNumber, LacksValue, RefusesRead, RefusesValues}
 use Rattle.lv_requests.specs.declared.asked.RequestError.{RequestError}
-use Rattle.lv_requests.specs.declared.asked.RequestError.TheVariants.{Words, Codes, Number, Surplus, Memory}
+use Rattle.lv_requests.specs.declared.asked.RequestError.TheVariants.{Words, Codes, Number, Surplus, WholeAlone, Memory}
 
 pub is_simple-leveled : is_simple leveled_app ≡ true
 unfolding clap_on_literals
@@ -149,6 +149,7 @@ refuses words name rows (Words error) is never = absurd never
 refuses words name rows Codes is never = absurd never
 refuses words name rows Number is lacks = asks (subcommand_of leveled_app words) name rows LacksValue is lacks
 refuses words name rows Surplus is has = asks (subcommand_of leveled_app words) name rows HasSurplus is has
+refuses words name rows WholeAlone is has = asks (subcommand_of leveled_app words) name rows HasMoreThanFile is has
 refuses words name rows Memory is told = tt
 
 -- ---- The values

@@ -26,6 +26,10 @@ word_rule id = record (new_rule id) { required = true; value_names = 1 }
 abbrev pub last_rule : Text → Rule
 last_rule id = record (new_rule id) { value_names = 1 }
 
+-- words at the end, of which there may be any number, with one name in the help
+abbrev pub last_words_rule : Text → Rule
+last_words_rule id = record (last_rule id) { action = Some Append }
+
 -- `--ID N`, with the N that is taken where there is none
 abbrev pub option_rule : Text → Text → Rule
 option_rule id default =
@@ -86,9 +90,13 @@ draw_app =
     (flag_rule (codes "check")))
     (flag_rule (codes "verbose"))
 
--- `dump FILE [--salvage]`
+-- `dump FILE [NAME].. [--exact] [--salvage]`
 abbrev pub dump_app : App
-dump_app = with_rule (with_one_word (codes "dump") (codes "file")) (flag_rule (codes "salvage"))
+dump_app =
+    with_rule (with_rule (with_rule (with_one_word (codes "dump") (codes "file"))
+    (last_words_rule (codes "name")))
+    (flag_rule (codes "exact")))
+    (flag_rule (codes "salvage"))
 
 -- `picture FILE [MAP] [--out OUT] [--numbers] [--nodes] [--lint]`
 abbrev pub picture_app : App

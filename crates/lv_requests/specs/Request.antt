@@ -1,5 +1,5 @@
 -- What the words of the program ask for (docs/COMMANDS.md, "The program").
-use Rattle.std.specs.Prelude.{◌≡◌, ◌≤◌, ◌⊎◌, ℕ, Bool, Some, None, List, [], codes, is_some, map, option_map, unwrap_or, string_bytes, true, false, IsSomeAnd}
+use Rattle.std.specs.Prelude.{◌≡◌, ◌<◌, ◌≤◌, ◌⊎◌, ℕ, Bool, Some, None, List, [], codes, length, is_some, map, option_map, unwrap_or, string_bytes, true, false, IsSomeAnd}
 use Rattle.std.specs.Option.{option_map_or}
 use Rattle.std.specs.Str.{bytes_eq}
 use Rattle.std.specs.Str.Parse.{IsNumeral, digits_value, without_leading_plus}
@@ -9,7 +9,7 @@ use Rattle.clap.specs.declared.error.kind.ErrorKind.TheVariants.{OutOfMemory}
 use Rattle.lv_requests.specs.App.{leveled_app}
 use Rattle.lv_requests.specs.declared.asked.Request.{Request}
 use Rattle.lv_requests.specs.declared.asked.RequestError.{RequestError}
-use Rattle.lv_requests.specs.declared.asked.RequestError.TheVariants.{Words, Codes, Number, Surplus, Memory}
+use Rattle.lv_requests.specs.declared.asked.RequestError.TheVariants.{Words, Codes, Number, Surplus, WholeAlone, Memory}
 use Rattle.lv_requests.specs.declared.asked.Request.TheVariants.{Scratch, Create, Edit, Check, Lint, Draw, TryScript, Dump, Salvage, Picture, Inspect, Levels, Build, Rebuild}
 
 -- the number that the argument's text is in decimal digits, within its limits
@@ -55,12 +55,16 @@ AsksFor (TryScript script verbose) asked = (asked.0 ≡ codes "draw")
     × (first_of (codes "file") asked.1 ≡ Some (string_bytes script))
     × (first_of (codes "script") asked.1 ≡ None)
     × (verbose ≡ is_given (codes "verbose") asked.1)
-AsksFor (Dump file) asked = (asked.0 ≡ codes "dump")
+AsksFor (Dump file names exact) asked = (asked.0 ≡ codes "dump")
     × (is_given (codes "salvage") asked.1 ≡ false)
     × (first_of (codes "file") asked.1 ≡ Some (string_bytes file))
+    × (map string_bytes names.items ≡ unwrap_or (all_of (codes "name") asked.1) [])
+    × (exact ≡ is_given (codes "exact") asked.1)
 AsksFor (Salvage file) asked = (asked.0 ≡ codes "dump")
     × (is_given (codes "salvage") asked.1 ≡ true)
     × (first_of (codes "file") asked.1 ≡ Some (string_bytes file))
+    × (unwrap_or (all_of (codes "name") asked.1) [] ≡ [])
+    × (is_given (codes "exact") asked.1 ≡ false)
 AsksFor (Picture file map out numbers nodes lint) asked = (asked.0 ≡ codes "picture")
     × (first_of (codes "file") asked.1 ≡ Some (string_bytes file))
     × (first_of (codes "map") asked.1 ≡ option_map string_bytes map)
@@ -107,6 +111,7 @@ abbrev pub RefusesText : Text → List Row → RequestError → Type 0
 RefusesText id rows (Words error) = ⊥
 RefusesText id rows Codes = ⊥
 RefusesText id rows Surplus = ⊥
+RefusesText id rows WholeAlone = ⊥
 RefusesText id rows Number = first_of id rows ≡ None
 RefusesText id rows Memory = Unit {0}
 
@@ -126,12 +131,20 @@ HasSurplus asked =
     (asked.0 ≡ codes "draw") × (is_given (codes "check") asked.1 ≡ true)
     × (is_some (first_of (codes "script") asked.1) ≡ true)
 
+-- what can be read of a damaged project is asked for, and a name or `--exact` with it
+abbrev pub HasMoreThanFile : Text × List Row → Type 0
+HasMoreThanFile asked =
+    (asked.0 ≡ codes "dump") × (is_given (codes "salvage") asked.1 ≡ true)
+    × ((is_given (codes "exact") asked.1 ≡ true)
+    ⊎ (0 < length (unwrap_or (all_of (codes "name") asked.1) [])))
+
 -- the values of a subcommand are refused
 abbrev pub RefusesValues : Text × List Row → RequestError → Type 0
 RefusesValues asked (Words error) = ⊥
 RefusesValues asked Codes = ⊥
 RefusesValues asked Number = LacksValue asked
 RefusesValues asked Surplus = HasSurplus asked
+RefusesValues asked WholeAlone = HasMoreThanFile asked
 RefusesValues asked Memory = Unit {0}
 
 -- clap refuses words that its simple command takes only where memory ran out, and else by a fault
@@ -144,4 +157,5 @@ RefusesRead words (Words error) =
 RefusesRead words Codes = ⊥
 RefusesRead words Number = IsSomeAnd (subcommand_of leveled_app words) LacksValue
 RefusesRead words Surplus = IsSomeAnd (subcommand_of leveled_app words) HasSurplus
+RefusesRead words WholeAlone = IsSomeAnd (subcommand_of leveled_app words) HasMoreThanFile
 RefusesRead words Memory = Unit {0}

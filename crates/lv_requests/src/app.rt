@@ -1,7 +1,7 @@
 //! The command line that clap reads: the program and its subcommands.
 ghost use Rattle.std.specs.Prelude.{◌≡◌, IfOk, codes};
 ghost use Rattle.clap.specs.Words.{App, app_of, new_app, with_subcommand};
-ghost use Rattle.lv_requests.specs.App.{IsArg, IsCommand, build_app, check_app, create_app, draw_app, dump_app, flag_rule, inspect_app, journal_rule, last_rule, leveled_app, lint_app, option_rule, path_rule, picture_app, rebuild_app, repeated_rule, slot_rule, with_subcommands, with_one_word, word_rule};
+ghost use Rattle.lv_requests.specs.App.{IsArg, IsCommand, build_app, check_app, create_app, draw_app, dump_app, flag_rule, inspect_app, journal_rule, last_rule, last_words_rule, leveled_app, lint_app, option_rule, path_rule, picture_app, rebuild_app, repeated_rule, slot_rule, with_subcommands, with_one_word, word_rule};
 
 use crate::help;
 use clap::{Arg, ArgAction, Command, value_parser};
@@ -38,6 +38,13 @@ fn last_word<'a>(alloc: Global, id: &'a str, name: &'a str) -> Arg<'a>
     ensures { IsArg result (last_rule id.now) }
 {
     Arg::new(alloc, id).value_name(name)
+}
+
+// Words at the end, of which there may be any number, and what help calls each.
+fn last_words<'a>(alloc: Global, id: &'a str, name: &'a str) -> Arg<'a>
+    ensures { IsArg result (last_words_rule id.now) }
+{
+    last_word(alloc, id, name).action(ArgAction::Append)
 }
 
 // `--ID N`, with the N that is taken where there is none.
@@ -127,8 +134,11 @@ fn draw<'a>(alloc: Global) -> Result<Command<'a>, AllocError>
 fn dump<'a>(alloc: Global) -> Result<Command<'a>, AllocError>
     ensures { IfOk result (λ c. IsCommand c dump_app) }
 {
-    let about = "Prints lines that draw a project's maps again";
-    over_file(alloc, "dump", about, help::DUMP)?.arg(flag(alloc, "salvage"))
+    let about = "Prints lines that draw the maps of a project or the levels of a WAD";
+    over_file(alloc, "dump", about, help::DUMP)?
+        .arg(last_words(alloc, "name", "NAME"))?
+        .arg(flag(alloc, "exact"))?
+        .arg(flag(alloc, "salvage"))
 }
 
 // `picture`.

@@ -41,9 +41,12 @@ pub enum Request {
         script: String,
         verbose: bool,
     },
-    /// Write the lines that draw the maps of a project again.
+    /// Write the lines that draw the maps of a project again, or the levels of a WAD: those of these names, or all
+    /// where there is no name. A level of which something would be changed is left where it is to be exact.
     Dump {
         file: String,
+        names: Vec<String>,
+        exact: bool,
     },
     /// Write the lines that draw the maps again that can be read of a damaged project.
     Salvage {
@@ -98,6 +101,9 @@ pub enum RequestError {
     /// A script is to be tried, and another word stands behind it.
     #[error("with --check there is one word, the script")]
     Surplus,
+    /// What can be read of a damaged project is asked for, and a name or `--exact` with it.
+    #[error("with --salvage there is one word, FILE, and no --exact")]
+    WholeAlone,
     /// No memory for a text of the request.
     #[error("out of memory")]
     Memory,

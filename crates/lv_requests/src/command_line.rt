@@ -1,5 +1,5 @@
 //! What the words of the program ask for, as clap reads them.
-ghost use Rattle.std.specs.Prelude.{◌≡◌, ◌≤◌, ◌∷◌, [], IfOk, IfErr, IfSome, IfNone, IsSomeAnd, Some, codes, map, option_map, string_bytes, unwrap_or};
+ghost use Rattle.std.specs.Prelude.{◌≡◌, ◌<◌, ◌≤◌, ◌∷◌, ◌⊎◌, [], IfOk, IfErr, IfSome, IfNone, IsSomeAnd, Some, codes, false, length, map, option_map, string_bytes, true, unwrap_or};
 ghost use Rattle.clap.specs.Words.{all_of, first_of, found_of, rows_of, subcommand_of};
 ghost use Rattle.lv_requests.specs.Help.{IsRefusal, help_option, without_help};
 ghost use Rattle.lv_requests.specs.App.{leveled_app};
@@ -212,7 +212,20 @@ fn asked_draw(alloc: Global, found: &ArgMatches<'_>) -> Result<Request, RequestE
     }
 }
 
-// The request to write the lines of a project's maps, or of those that can be read of a damaged one.
+// The request to write the lines of what can be read of a damaged project, of all its maps.
+fn asked_salvage(file: String, names: &[String], exact: bool) -> Result<Request, RequestError>
+    ensures asked { IfOk result (λ r. (r ≡ Request.Salvage file) × (names.now ≡ [])
+        × (exact ≡ false)) }
+    ensures refused { IfErr result (λ e. (e ≡ RequestError.WholeAlone)
+        × ((exact ≡ true) ⊎ (0 < length names.now))) }
+{
+    if exact || !names.is_empty() {
+        return Err(RequestError::WholeAlone);
+    }
+    Ok(Request::Salvage { file })
+}
+
+// The request to write the lines of maps or levels, or of those that can be read of a damaged project.
 fn asked_dump(alloc: Global, found: &ArgMatches<'_>) -> Result<Request, RequestError>
     ensures asked { IfOk result (λ r. AsksFor r (codes "dump", rows_of (found_of found.now))) }
     ensures refused { IfErr result (RefusesValues (codes "dump", rows_of (found_of found.now))) }
@@ -221,10 +234,15 @@ fn asked_dump(alloc: Global, found: &ArgMatches<'_>) -> Result<Request, RequestE
         Ok(file) => file,
         Err(error) => return Err(error),
     };
+    let names = match texts(alloc, found, "name") {
+        Ok(names) => names,
+        Err(error) => return Err(error),
+    };
+    let exact = is_given(found, "exact");
     if is_given(found, "salvage") {
-        Ok(Request::Salvage { file })
+        asked_salvage(file, &names, exact)
     } else {
-        Ok(Request::Dump { file })
+        Ok(Request::Dump { file, names, exact })
     }
 }
 
@@ -364,7 +382,8 @@ fn read_two(alloc: Global, program: &str, word: &str, name: &str) -> Result<Requ
 /// `Words` where clap refuses the words, or answers them itself: help and the version. clap's error
 /// has the text, and says where it goes and with which status. `Codes` where they are `help codes`.
 /// `Number` where clap let an argument without a value within its limits pass. `Surplus` where a
-/// script is to be tried and another word stands behind it. `Memory` where there is none.
+/// script is to be tried and another word stands behind it. `WholeAlone` where a name or `--exact` is given with
+/// `--salvage`. `Memory` where there is none.
 pub fn request(alloc: Global, words: &[&str]) -> Result<Request, RequestError>
     ensures asked { IfOk result (λ r. IsSomeAnd
         (subcommand_of leveled_app (without_help (map (λ w. w.now) words.now))) (AsksFor r)) }

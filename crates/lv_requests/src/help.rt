@@ -78,7 +78,12 @@ over a new project in memory, and makes no file.";
 /// `dump`.
 pub const DUMP: &str = "\
 Prints command lines that draw all maps of FILE again, with the same numbers, from a new
-project: `leveled dump a.lv | leveled edit b.lv` takes the maps into another file.
+project: `leveled dump a.lv | leveled edit b.lv` takes the maps into another file. With
+NAMEs: the lines of these maps alone, which draw each over a project without it.
+FILE may be a WAD of any editor: its levels, or those called NAME, as command lines. What
+has to be changed of a level goes to standard error, as `MAP01: thing 3: angle 360 is 0`.
+A level that is no map, whatever is changed of it, is left, and told there; the status is
+then 3. --exact: each level is left of which anything would be changed.
 --salvage: the maps of a damaged FILE, as far as its commands can be read; where it is
 damaged, how many commands are kept and how many are not goes to standard error. FILE
 isn't changed.";

@@ -6,6 +6,8 @@ mod answers;
 #[cfg(test)]
 mod builds;
 #[cfg(test)]
+mod dumps;
+#[cfg(test)]
 mod editor;
 #[cfg(test)]
 mod expect;

@@ -7,7 +7,7 @@ use std::fs;
 use std::test::Fail;
 
 // A level of the WAD: its name, whether it has the start of a player, and whether a byte of its lines is cut off.
-type Level = (&'static [u8; 8], bool, bool);
+pub type Level = (&'static [u8; 8], bool, bool);
 
 // The second MAP01 is never the one of that name.
 const LEVELS: &[Level] = &[
@@ -18,7 +18,7 @@ const LEVELS: &[Level] = &[
 ];
 
 // Where the room's directory begins, behind its lumps; a thing follows these lumps here.
-const LUMPS_END: usize = 339;
+pub const START_AT: usize = 339;
 
 // A player's start at (64,64).
 const START: &[u8] = &[64, 0, 64, 0, 0, 0, 1, 0, 7, 0];
@@ -38,15 +38,15 @@ fn add_level(wad: &mut Vec<u8>, level: &Level) -> Result<(), Fail> {
     let lines = if is_cut { 55 } else { 56 };
     wad.extend_from_slice(&[12, 0, 0, 0, lines, 0, 0, 0])?;
     wad.extend_from_slice(b"LINEDEFS")?;
-    let others = LUMPS_END + 48;
+    let others = START_AT + 48;
     wad.extend_from_slice(&ROOM_WAD[others..])?;
     Ok(())
 }
 
 // The WAD of the levels: the room's lumps, the start, and the directory.
-fn wad_of(alloc: Global, levels: &[Level]) -> Result<Vec<u8>, Fail> {
+pub fn wad_of(alloc: Global, levels: &[Level]) -> Result<Vec<u8>, Fail> {
     let mut wad = Vec::from_slice(alloc, b"PWAD\x2c\0\0\0\x5d\x01\0\0")?;
-    wad.extend_from_slice(&ROOM_WAD[12..LUMPS_END])?;
+    wad.extend_from_slice(&ROOM_WAD[12..START_AT])?;
     wad.extend_from_slice(START)?;
     for level in levels {
         add_level(&mut wad, level)?;

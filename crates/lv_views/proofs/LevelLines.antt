@@ -1,12 +1,12 @@
 -- What there is to say of the levels of a WAD, of one after another.
-use Rattle.std.proofs.Common.{◌≡◌, ◌∙◌, ◌+◌, ◌<◌, inl, inr, ℕ, List, [], ◌∷◌, ◌++◌, Option, Some, None, Result, Ok, Err, Bool}
+use Rattle.std.proofs.Common.{◌≡◌, ◌∙◌, ◌+◌, ◌<◌, inl, inr, ℕ, List, [], ◌∷◌, ◌++◌, Option, Some, None, Result, Ok, Err}
 use Rattle.std.proofs.Common.{length, get_or, map, take, drop, refl, sym, ap, subst, arith, append_assoc, append-nil, length-append}
 use Rattle.std.specs.Prelude.{◌≢◌}
 use Rattle.std.specs.Io.KnownBytes.{Appends, Keeps}
 use Rattle.std.proofs.KnownBytes.{Appends-trans, Keeps-refl}
 use Rattle.std.proofs.lemmas.Grind.{flat_map-append}
 use Rattle.std.proofs.lemmas.List.{take-append-drop, take_more}
-use Rattle.lv_dump.specs.Texts.{WritesFront, with_lf, text_of}
+use Rattle.lv_dump.specs.Texts.{with_lf, text_of}
 use Rattle.lv_lumps.specs.Names.{name_text}
 use Rattle.lv_lumps.specs.declared.records.Name8.{Name8}
 use Rattle.lv_levels.specs.Graphics.{GraphicNames}

@@ -1,6 +1,5 @@
 -- The picture of a level of a WAD, by what was drawn of the map that it is.
-use Rattle.std.proofs.Common.{◌≡◌, ◌⊎◌, inl, inr, ℕ, Bool, List, Option, Some, None, Result, Ok, Err, refl, subst}
-use Rattle.std.specs.Io.KnownBytes.{Keeps}
+use Rattle.std.proofs.Common.{◌≡◌, ◌⊎◌, inl, inr, ℕ, Bool, List, Option, None, Result, Ok, Err, refl, subst}
 use Rattle.lv_editor.specs.declared.error.EditorError.TheVariants.{OutOfMemory, InputTooLong, ReaderFailed, WriterFailed}
 use Rattle.lv_levels.specs.declared.entries.LevelEntries.{LevelEntries}
 use Rattle.lv_maptables.specs.Tables.{Tables}

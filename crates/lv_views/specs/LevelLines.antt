@@ -2,7 +2,6 @@
 use Rattle.std.specs.Prelude.{◌≡◌, ◌⊎◌, ℕ, Bool, true, MatchResult, Option, None, Some, Result, Ok, Err, List, [], ◌∷◌, ◌++◌, codes, map}
 use Rattle.std.specs.Io.KnownBytes.{Keeps}
 use Rattle.lv_lumps.specs.Names.{name_text}
-use Rattle.lv_lumps.specs.declared.records.Name8.{Name8}
 use Rattle.lv_levels.specs.Drawn.{drawn_lists}
 use Rattle.lv_levels.specs.Graphics.{GraphicNames}
 use Rattle.lv_levels.specs.Listing.{entry_name}

@@ -1,5 +1,5 @@
 -- The tree that a WAD has of a level, as a picture shows it (docs/COMMANDS.md, "The program").
-use Rattle.std.specs.Prelude.{◌≡◌, ◌⊎◌, ℕ, ◌+◌, ◌-◌, ◌%◌, Bool, if◌then◌else◌, ◌&&◌, ◌==◌, nat_lt, nat_le, List, [], ◌∷◌, length, Option, Some, None}
+use Rattle.std.specs.Prelude.{◌≡◌, ◌⊎◌, ℕ, ◌+◌, ◌-◌, ◌%◌, Bool, if◌then◌else◌, ◌&&◌, ◌==◌, nat_lt, nat_le, List, [], ◌∷◌, length, Option, Some}
 use Rattle.std.specs.List.{list_all}
 use Rattle.lv_lumps.specs.Lumps.{records_of}
 use Rattle.lv_lumps.specs.Records.{node_at, seg_at, sub_at, vertex_at}

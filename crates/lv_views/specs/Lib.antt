@@ -1,5 +1,4 @@
 pub mod Checking
-pub mod Dumping
 pub mod LaidOver
 pub mod LevelLines
 pub mod LevelPicture

@@ -1,6 +1,8 @@
 //! The maps that the levels of a WAD are, and what `check` writes of one.
 ghost use Rattle.std.specs.Prelude.{◌≡◌, ◌≤◌, None, IfErr, IfOk, MatchResult, option_map};
+ghost use Rattle.lv_import.specs.Imported.{changes};
 ghost use Rattle.lv_import.specs.Refused.{RefusesLevelImport};
+ghost use Rattle.lv_levels.specs.Drawn.{drawn_lists};
 ghost use Rattle.lv_levels.specs.Entries.{IsLevelAt};
 ghost use Rattle.lv_levels.specs.Levels.{HasEntries};
 ghost use Rattle.lv_levels.specs.Listing.{entry_name};
@@ -18,16 +20,13 @@ use std::alloc::Global;
 use std::io::Write;
 
 /// The map that a level is after the changes, alone in a project, and the changes; or why it is none.
-pub(crate) fn map_of_level(
-    alloc: Global,
-    wad: &[u8],
-    level: LevelEntries,
-) -> Result<Imported, ImportError>
+pub fn map_of_level(alloc: Global, wad: &[u8], level: LevelEntries) -> Result<Imported, ImportError>
     requires directory { HasEntries wad.now }
     requires level { IsLevelAt wad.now level }
     ensures { MatchResult result
         (λ i. (map_refusal wad.now level ≡ None)
-        × (project_of i.maps ≡ alone (level_map wad.now level)))
+        × (project_of i.maps ≡ alone (level_map wad.now level))
+        × (i.changes.items ≡ changes (drawn_lists wad.now level)))
         (RefusesLevelImport wad.now level (entry_name wad.now level.marker)) }
 {
     let name = entry_name(wad, level.marker);

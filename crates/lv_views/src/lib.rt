@@ -1,7 +1,6 @@
 //! What is told and shown of maps in memory, wherever they come from.
 #![tactic(auto)]
 
-mod dump_lines;
 mod findings;
 mod laid_over;
 mod level_maps;
@@ -17,14 +16,14 @@ mod shown_names;
 mod wad_graphics;
 mod wanted;
 
-pub use dump_lines::tell_lines;
 pub use findings::tell_findings;
 pub use laid_over::{Layers, layers_of};
-pub use level_maps::tell_level_findings;
+pub use level_maps::{map_of_level, tell_level_findings};
 pub use level_picture::draw_level;
 pub use level_remarks::tell_levels_beside;
 pub use limits::TURNS;
-pub use pictures::{Wanted, draw};
+pub use pictures::{Wanted, draw, map_called};
 pub use reading::read_whole;
 pub use remarks::tell_beside;
 pub use shown_names::write_shown;
+pub use wanted::{entry_name, level_called};

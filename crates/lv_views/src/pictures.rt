@@ -36,7 +36,7 @@ fn is_called(map: &Map, name: &[u8]) -> bool
 }
 
 /// The map that is called so, the first of several.
-pub(crate) fn map_called<'a>(maps: &'a Maps, name: &[u8]) -> Option<&'a Map>
+pub fn map_called<'a>(maps: &'a Maps, name: &[u8]) -> Option<&'a Map>
     ensures { MatchOption result (find (is_called name.now) (project_of maps.now).maps ≡ None)
         (λ m. find (is_called name.now) (project_of maps.now).maps ≡ Some m.now.tables) }
 {

@@ -30,7 +30,7 @@ fn name_at(bytes: &[u8], at: usize) -> Name8
 }
 
 /// The name of the k-th entry of a directory.
-pub(crate) fn entry_name(wad: &[u8], k: u32) -> Name8
+pub fn entry_name(wad: &[u8], k: u32) -> Name8
     requires directory { HasEntries wad.now }
     requires among { k < lump_count wad.now }
     ensures { result ≡ entry_name wad.now k }
@@ -49,8 +49,8 @@ fn is_level_called(wad: &[u8], level: LevelEntries, name: &[u8]) -> bool
     own.text() == name
 }
 
-// The level that is called so, the first of several.
-fn level_called(wad: &[u8], levels: &[LevelEntries], name: &[u8]) -> Option<LevelEntries>
+/// The level that is called so, the first of several.
+pub fn level_called(wad: &[u8], levels: &[LevelEntries], name: &[u8]) -> Option<LevelEntries>
     requires directory { HasEntries wad.now }
     requires levels { All (IsLevelAt wad.now) levels.now }
     ensures found { result ≡ find (is_level_called wad.now name.now) levels.now }

@@ -1,7 +1,7 @@
-use Rattle.std.proofs.Common.{inl, inr, subst}
+use Rattle.std.proofs.Common.{inl, inr, map, string_bytes, subst}
 use Rattle.std.proofs.KnownBytes.{Keeps-refl}
 use Rattle.lv_maptables.specs.Projects.{MapsView}
-use Rattle.lv_views.specs.Dumping.{IsDumpedOf}
+use Rattle.lv_dumping.specs.Dumping.{IsDumpedIn}
 use Rattle.lv_program.proofs.Sources.{no_status}
 use Rattle.lv_program.proofs.dump_request.dump.Goals as goal
 
@@ -17,8 +17,8 @@ returns-clause-dumped g c =
     inr (
       first.maps,
       (first.cap, first.generation, c.in-Ok.ensures.opened.stands),
-      subst (λ (m : MapsView). IsDumpedOf m c.tell_lines-how.result (g.W.Write.contents c.args.writer.now) (g.W.Write.contents c.tell_lines-how.new.writer))
-          c.maps.ensures c.tell_lines-how.ensures.told,
+      subst (λ (m : MapsView). IsDumpedIn (map string_bytes c.args.names.now) m c.tell_lines_of-how.result (g.W.Write.contents c.args.writer.now)
+          (g.W.Write.contents c.tell_lines_of-how.new.writer)) c.maps.ensures c.tell_lines_of-how.ensures.told,
     )
 
 pub returns-clause-only_read : goal.returns-clause-only_read

@@ -1,5 +1,4 @@
 use Rattle.std.proofs.Common.{inr}
-use Rattle.std.specs.Prelude.{option_map}
 use Rattle.lv_program.proofs.Sources.{checked, of_some_wad}
 use Rattle.lv_program.proofs.over_file.check_file.Goals as goal
 

@@ -1,10 +1,6 @@
-use Rattle.std.proofs.Common.{List}
 use Rattle.std.specs.Prelude.{option_map}
 use Rattle.std.specs.Option.{option_copied}
 use Rattle.lv_levels.specs.Graphics.{graphics_view}
-use Rattle.lv_levels.specs.declared.entries.LevelEntries.{LevelEntries}
-use Rattle.lv_views.specs.LevelLines.{AreLinesOf}
-use Rattle.lv_views.specs.Linting.{WritesRemarks}
 use Rattle.lv_views.proofs.LevelLines.{levels_told}
 use Rattle.lv_views.proofs.level_remarks.tell_levels.Goals as goal
 

@@ -2,7 +2,7 @@ use Rattle.std.specs.Prelude.{option_map}
 use Rattle.std.specs.Option.{option_copied}
 use Rattle.lv_levels.specs.Graphics.{graphics_view}
 use Rattle.lv_views.specs.Linting.{remarks}
-use Rattle.lv_views.proofs.Linting.{lines_stopped, total_told}
+use Rattle.lv_views.proofs.Linting.{total_told}
 use Rattle.lv_views.proofs.remarks.tell_map.Goals as goal
 
 pub returns-in-Ok-clause-told : goal.returns-in-Ok-clause-told

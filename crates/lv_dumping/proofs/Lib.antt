@@ -1,0 +1,3 @@
+pub mod AskedFor
+pub mod InTurn
+pub mod LevelDumps

@@ -1,0 +1,130 @@
+-- What `dump` writes of the levels of a WAD, and what it tells of them beside the output
+-- (docs/COMMANDS.md, "The program").
+use Rattle.std.specs.Prelude.{◌≡◌, ℕ, All, Bool, not, ◌||◌, is_some, IfSome, if◌then◌else◌, slice_get, List, [], ◌∷◌, ◌++◌, Option, None, Some, Result, Ok, Err, codes, filter, map}
+use Rattle.std.specs.List.{list_any}
+use Rattle.std.specs.Fmt.Cut.{IsTextOrCut}
+use Rattle.std.specs.Io.KnownBytes.{Appends, Keeps}
+use Rattle.lv_dump.specs.MapDumps.{map_dumps_of}
+use Rattle.lv_dump.specs.Texts.{WritesFront, text_of}
+use Rattle.lv_editor.specs.declared.error.EditorError.TheVariants.{OutOfMemory, WriterFailed}
+use Rattle.lv_editor.specs.declared.error.InspectError.TheVariants as inspecting
+use Rattle.lv_import.specs.Imported.{changes}
+use Rattle.lv_import.specs.declared.change.Change.{Change}
+use Rattle.lv_import.specs.declared.error.ImportError.{ImportError}
+use Rattle.lv_levels.specs.Drawn.{drawn_lists}
+use Rattle.lv_levels.specs.Listing.{entry_name}
+use Rattle.lv_levels.specs.declared.entries.LevelEntries.{LevelEntries}
+use Rattle.lv_lumps.specs.Names.{name_text}
+use Rattle.lv_lumps.specs.declared.records.Name8.{Name8}
+use Rattle.lv_maptables.specs.Tables.{Tables}
+use Rattle.lv_maptables.specs.WellFormed.{WellFormed}
+use Rattle.lv_reports.specs.Statuses.{status_told}
+use Rattle.lv_reports.specs.declared.refusal.Refusal.{Refusal}
+use Rattle.lv_reports.specs.declared.refusal.Refusal.TheVariants as of
+use Rattle.lv_dumping.specs.Asked.{AreAsked, RefusesAsked}
+use Rattle.lv_views.specs.LevelLines.{level_map, map_refusal}
+use Rattle.lv_views.specs.ShownNames.{shown}
+
+-- ---- what is dumped
+
+-- what is changed of a level, so that it is a map
+abbrev pub level_changes : List ℕ → LevelEntries → List Change
+level_changes wad l = changes (drawn_lists wad l)
+
+-- the first change, for which a level is left where its map is to be exact
+abbrev pub first_change : Bool → List Change → Option Change
+first_change exact cs = if exact then slice_get cs 0 else None
+
+-- the level is left: it is no map, or its map is to be exact and something is changed
+abbrev pub is_left_for : Option ImportError → Option Change → Bool
+is_left_for refusal first = is_some refusal || is_some first
+
+abbrev pub is_level_left : Bool → List ℕ → LevelEntries → Bool
+is_level_left exact wad l =
+    is_left_for (map_refusal wad l) (first_change exact (level_changes wad l))
+
+-- the maps whose lines are written: of the levels that aren't left, in their order
+abbrev pub dumped_maps : Bool → List ℕ → List LevelEntries → List Tables
+dumped_maps exact wad ls = map (level_map wad) (filter (λ l. not (is_level_left exact wad l)) ls)
+
+-- ---- what is told
+
+-- what is said of the level of a name
+abbrev pub note : Name8 → List ℕ → List ℕ
+note name said = map shown (name_text name) ++ codes ": " ++ said
+
+-- the words are those in which a change tells itself, where these are known, cut where they are long
+abbrev pub IsSaid : Option (List ℕ) → List ℕ → Type 0
+IsSaid says said = IfSome says (λ text. IsTextOrCut 100 text said)
+
+-- the lines are those that each item has, of one behind another
+abbrev pub AreInTurn : {X : Type 0} → (X → List (List ℕ) → Type 0) → List X → List (List ℕ)
+    → Type 0
+AreInTurn Has [] lines = lines ≡ []
+AreInTurn Has (x ∷ xs) lines =
+    (first : List (List ℕ)) × (rest : List (List ℕ)) × (lines ≡ first ++ rest)
+    × Has x first × AreInTurn Has xs rest
+
+-- what tells itself so has this note of a level of the name
+abbrev pub IsNote : {T : Type 0} → (T → Option (List ℕ)) → Name8 → T → List (List ℕ) → Type 0
+IsNote says name t notes = (said : List ℕ) × IsSaid (says t) said × (notes ≡ note name said ∷ [])
+
+-- these are the notes of the changes of a level of the name, one each
+abbrev pub AreChangeNotes : (Change → Option (List ℕ)) → Name8 → List Change → List (List ℕ)
+    → Type 0
+AreChangeNotes says name cs notes = AreInTurn (IsNote says name) cs notes
+
+-- these are the notes of a level with these changes: why it is left, for a refusal or for its first
+-- change, or each change
+abbrev pub AreNotesFor : (Change → Option (List ℕ)) → Name8 → Option ImportError → Option Change
+    → List Change → List (List ℕ) → Type 0
+AreNotesFor says name (Some e) first cs notes =
+    (reason : List ℕ) × (notes ≡ note name (codes "no map: " ++ reason) ∷ [])
+AreNotesFor says name None (Some c) cs notes =
+    (said : List ℕ) × IsSaid (says c) said
+    × (notes ≡ note name (codes "not exact: " ++ said) ∷ [])
+AreNotesFor says name None None cs notes = AreChangeNotes says name cs notes
+
+abbrev pub AreLevelNotes : (Change → Option (List ℕ)) → Bool → List ℕ → LevelEntries
+    → List (List ℕ) → Type 0
+AreLevelNotes says exact wad l notes =
+    AreNotesFor says (entry_name wad l.marker) (map_refusal wad l)
+    (first_change exact (level_changes wad l)) (level_changes wad l) notes
+
+-- the notes of levels, of one behind another
+abbrev pub AreNotesOf : (Change → Option (List ℕ)) → Bool → List ℕ → List LevelEntries
+    → List (List ℕ) → Type 0
+AreNotesOf says exact wad ls notes = AreInTurn (AreLevelNotes says exact wad) ls notes
+
+-- ---- the request
+
+-- the lines of the maps were written and the notes told, and the status tells whether a level was
+-- left
+pub record AreDumped (says : Change → Option (List ℕ)) (exact : Bool) (wad : List ℕ)
+    (ls : List LevelEntries) (status : ℕ)
+    (writer-old writer-new errors-old errors-new : Option (List ℕ)) : Type 0 where
+  pub status_is : status ≡ status_told (not (list_any (is_level_left exact wad) ls))
+  pub maps : All WellFormed (dumped_maps exact wad ls)
+  pub written : Appends writer-old writer-new (text_of (map_dumps_of (dumped_maps exact wad ls)))
+  pub notes : List (List ℕ)
+  pub are : AreNotesOf says exact wad ls notes
+  pub told : Appends errors-old errors-new (text_of notes)
+
+-- this was done with the levels of the WAD that are asked for; or, with nothing written or told, they
+-- can't be found; or the lines before one that found no memory were written; or a writer failed
+abbrev pub IsWadDumped : (Change → Option (List ℕ)) → List ℕ → List (List ℕ) → Bool
+    → Result ℕ Refusal → Option (List ℕ) → Option (List ℕ) → Option (List ℕ) → Option (List ℕ)
+    → Type 0
+IsWadDumped says wad names exact (Ok status) writer-old writer-new errors-old errors-new =
+    (ls : List LevelEntries) × AreAsked wad names ls
+    × AreDumped says exact wad ls status writer-old writer-new errors-old errors-new
+IsWadDumped says wad names exact (Err (of.Level (inspecting.Level e))) writer-old writer-new
+    errors-old errors-new =
+    RefusesAsked wad names e × Keeps writer-old writer-new × Keeps errors-old errors-new
+IsWadDumped says wad names exact (Err (of.Lines OutOfMemory)) writer-old writer-new errors-old
+    errors-new =
+    (ls : List LevelEntries) × AreAsked wad names ls
+    × WritesFront (map_dumps_of (dumped_maps exact wad ls)) writer-old writer-new
+IsWadDumped says wad names exact (Err (of.Lines WriterFailed)) writer-old writer-new errors-old
+    errors-new = Unit {0}
+IsWadDumped says wad names exact _ writer-old writer-new errors-old errors-new = ⊥

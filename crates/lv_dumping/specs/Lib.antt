@@ -1,0 +1,5 @@
+pub mod Asked
+pub mod DrawnLevels
+pub mod DumpSteps
+pub mod Dumping
+pub mod LevelDumps
