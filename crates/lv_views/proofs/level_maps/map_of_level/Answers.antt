@@ -5,7 +5,7 @@ use Rattle.lv_levels.specs.Drawn.{DrawnLists, drawn_lists, drawn_view, entries_h
 use Rattle.lv_levels.specs.declared.entries.LevelEntries.{LevelEntries}
 use Rattle.lv_maptables.specs.ProjectBody.{alone}
 use Rattle.lv_maptables.specs.Projects.{project_of}
-use Rattle.lv_import.specs.Imported.{imported}
+use Rattle.lv_import.specs.Imported.{changes, imported}
 use Rattle.lv_import.specs.Outcome.{IsImported}
 use Rattle.lv_import.specs.Refused.{RefusesImport, RefusesLevelImport, level_refusal}
 use Rattle.lv_import.specs.declared.error.ImportError.{ImportError}
@@ -13,13 +13,13 @@ use Rattle.lv_import.specs.declared.import.Imported.{Imported}
 use Rattle.lv_import.proofs.LevelLemmas.{level_refusal-read, refused_level}
 use Rattle.lv_views.proofs.level_maps.map_of_level.Goals as goal
 
--- nothing refuses the level, and the map is that of its lists
+-- nothing refuses the level, the map is that of its lists, and the changes are those of them
 abbrev IsMap : List ℕ → LevelEntries → Name8 → Imported → Type 0
-IsMap wad l name i = (level_refusal wad l name ≡ None) × (project_of i.maps ≡ alone (imported name (drawn_lists wad l)))
+IsMap wad l name i = (level_refusal wad l name ≡ None) × (project_of i.maps ≡ alone (imported name (drawn_lists wad l))) × (i.changes.items ≡ changes (drawn_lists wad l))
 
 map_ends : (wad : List ℕ) (l : LevelEntries) (name : Name8) (d : DrawnLists) (how : Result Imported ImportError) → entries_hindrance wad l ≡ None → d ≡ drawn_lists wad l
     → MatchResult how (IsImported name d) (RefusesImport name d) → MatchResult how (IsMap wad l name) (RefusesLevelImport wad l name)
-map_ends wad l name d (Ok i) none same is = (level_refusal-read wad l name d none same ∙ is.accepted, is.project ∙ ap (λ (e : DrawnLists). alone (imported name e)) same)
+map_ends wad l name d (Ok i) none same is = (level_refusal-read wad l name d none same ∙ is.accepted, is.project ∙ ap (λ (e : DrawnLists). alone (imported name e)) same, is.told ∙ ap changes same)
 map_ends wad l name d (Err e) none same refused = refused_level wad l name d e none same refused
 
 pub returns-in-Ok : goal.returns-in-Ok
