@@ -13,11 +13,12 @@ use Rattle.lv_blockmap.specs.Touch.{Touches}
 abbrev pub ends_in : List Vertex → Line → LineEnds
 ends_in vertices l = record { start = nth_vertex vertices l.v1; end = nth_vertex vertices l.v2 }
 
--- those of each line of a list over a list of vertices, by its number
+-- the places of the ends of each line of a list of records, by its number, with the list of vertices that the lines
+-- name
 abbrev pub ends_over : List Vertex → List Line → List LineEnds
 ends_over vertices lines = map (ends_in vertices) lines
 
--- those of each line of a map
+-- the places of the ends of each line of a map
 abbrev pub map_ends : Tables → List LineEnds
 map_ends m = ends_over m.vertices m.lines
 
@@ -33,11 +34,11 @@ abbrev pub highest : List ℤ → ℤ
 highest [] = pos 0
 highest (z ∷ zs) = fold int_max z zs
 
--- how many blocks of side 128 cover the way from `low` to `high`, both with it
+-- how many blocks of side 128 cover the span from `low` to `high`, both included
 abbrev pub blocks_over : ℤ → ℤ → ℕ
 blocks_over low high = unsigned_abs (high -ℤ low) / 128 + 1
 
--- where the blocks begin, and how many there are
+-- the grid over the lines: where the blocks begin, and how many there are
 abbrev pub grid_of : List LineEnds → Grid
 grid_of lines =
     let xs = map (λ v. v.x) (both_ends lines) in
@@ -52,34 +53,34 @@ grid_of lines =
 abbrev pub block_count : Grid → ℕ
 block_count g = g.columns * g.rows
 
--- the lower left corner of a block: they are counted row by row from the lowest
+-- the lower left corner of a block; blocks are counted row by row from the lowest
 abbrev pub block_left : Grid → ℕ → ℤ
 block_left g n = g.left +ℤ pos (128 * (n % g.columns))
 
 abbrev pub block_bottom : Grid → ℕ → ℤ
 block_bottom g n = g.bottom +ℤ pos (128 * (n / g.columns))
 
--- the line touches the block of this number
+-- the line touches the block with this number
 abbrev pub TouchesBlock : LineEnds → Grid → ℕ → Type 0
 TouchesBlock line g n = Touches line.start line.end (block_left g n) (block_bottom g n)
 
--- the line of this number touches the block
+-- the line with number k touches block n
 pub record LineTouches (lines : List LineEnds) (g : Grid) (n k : ℕ) : Type 0 where
   pub line : LineEnds
   pub is_line : slice_get lines k ≡ Some line
   pub touches : TouchesBlock line g n
 
--- the numbers of the lines that touch the block, rising
+-- the list has exactly the numbers of the lines that touch the block, in rising order
 pub record IsBlockList (lines : List LineEnds) (g : Grid) (n : ℕ) (list : List ℕ) : Type 0 where
   pub rising : AllPairs (λ j k. j < k) list
   pub exactly : (k : ℕ) → Contains list k ↔ LineTouches lines g n k
 
--- the list of each block of the grid
+-- these are the lists of all blocks of the grid
 pub record AreBlockLists (lines : List LineEnds) (g : Grid) (lists : List (List ℕ)) : Type 0 where
   pub count : length lists ≡ block_count g
   pub each : (n : ℕ) → n < length lists → IsBlockList lines g n (get_or lists n [])
 
--- a grid that blocks can be counted in
+-- the grid has at least one column, and at most 512 columns and rows
 pub record IsGrid (g : Grid) : Type 0 where
   pub columns : g.columns ≤ 512
   pub rows : g.rows ≤ 512

@@ -3,7 +3,7 @@ use Rattle.std.specs.Prelude.{ℕ}
 use Rattle.lv_blockmap.specs.declared.error.BlockmapError.{BlockmapError}
 use Rattle.lv_blockmap.specs.declared.error.BlockmapError.TheVariants.{NothingToBuild, BlockmapTooLarge, OutOfMemory}
 
--- the number that a refusal is known by
+-- the number of each refusal
 abbrev pub code_of : BlockmapError → ℕ
 code_of NothingToBuild = 60
 code_of BlockmapTooLarge = 66

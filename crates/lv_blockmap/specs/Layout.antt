@@ -1,4 +1,4 @@
--- The words of BLOCKMAP: where each block's list stands (docs/FORMAT.md, "REJECT and BLOCKMAP").
+-- The words of BLOCKMAP: the offset of each block's list, and the lists (docs/FORMAT.md, "REJECT and BLOCKMAP").
 use Rattle.std.specs.Prelude.{◌≡◌, ℕ, ◌+◌, ◌<◌, ◌≤◌, Bool, nat_eq, if◌then◌else◌, List, [], ◌∷◌, ◌++◌, map, fold, length, get_or, slice_index, take, drop, All, flat_map}
 use Rattle.std.specs.List.{list_any, position_or_len}
 use Rattle.std.specs.Cmp.Lexicographic.{pointwise}
@@ -8,11 +8,11 @@ use Rattle.lv_blockmap.specs.declared.grid.Grid.{Grid}
 use Rattle.lv_blockmap.specs.declared.line_ends.LineEnds.{LineEnds}
 use Rattle.lv_blockmap.specs.Blocks.{grid_of, block_count, IsBlockList}
 
--- the word behind a list's last
+-- the word that ends a list
 abbrev pub list_end : ℕ
 list_end = 65535
 
--- the greatest offset that readers of signed and of unsigned words take alike
+-- the greatest offset that is the same as a signed and as an unsigned word
 abbrev pub greatest_offset : ℕ
 greatest_offset = 32767
 
@@ -20,7 +20,7 @@ greatest_offset = 32767
 abbrev pub list_words : List ℕ → List ℕ
 list_words list = 0 ∷ list ++ list_end ∷ []
 
--- where lists that stand one behind another begin
+-- the offsets of lists that follow one another from an offset on
 abbrev pub starts : ℕ → List (List ℕ) → List ℕ
 starts at [] = []
 starts at (list ∷ lists) = at ∷ starts (at + length (list_words list)) lists
@@ -29,23 +29,23 @@ starts at (list ∷ lists) = at ∷ starts (at + length (list_words list)) lists
 abbrev pub same_numbers : List ℕ → List ℕ → Bool
 same_numbers a b = pointwise nat_eq a b
 
--- the lists with one that goes last if it isn't among them
+-- the lists, with one more appended if it isn't among them
 abbrev pub noted : List (List ℕ) → List ℕ → List (List ℕ)
 noted lists list = if list_any (same_numbers list) lists then lists else lists ++ list ∷ []
 
--- each list once, in the order of their first places
+-- each list once, in the order in which they first occur
 abbrev pub once : List (List ℕ) → List (List ℕ)
 once lists = fold noted [] lists
 
--- where a list stands among others
+-- the index of a list among others
 abbrev pub place_in : List (List ℕ) → List ℕ → ℕ
 place_in written list = position_or_len (same_numbers list) written
 
--- the first list stands behind the header and an offset for each block
+-- the offset of the first list: after the header and an offset for each block
 abbrev pub first_list : List (List ℕ) → ℕ
 first_list lists = 4 + length lists
 
--- where a list begins that is written once
+-- the offset of a list, if equal lists are written once
 abbrev pub offset_of : List (List ℕ) → List ℕ → ℕ
 offset_of lists list =
     get_or (starts (first_list lists) (once lists)) (place_in (once lists) list) 0
@@ -54,27 +54,27 @@ offset_of lists list =
 abbrev pub offsets : List (List ℕ) → List ℕ
 offsets lists = map (offset_of lists) lists
 
--- no offset is too great
+-- no offset is greater than the greatest allowed one
 abbrev pub OffsetsFit : List (List ℕ) → Type 0
 OffsetsFit lists = All (λ at. at ≤ greatest_offset) (offsets lists)
 
--- the origin, and how many columns and rows there are
+-- the header: the origin, and the numbers of columns and rows
 abbrev pub header : Grid → List ℕ
 header g = cast_unsigned w16 g.left ∷ cast_unsigned w16 g.bottom ∷ g.columns ∷ g.rows ∷ []
 
--- the whole lump over the blocks' lists
+-- the whole lump for the blocks' lists
 abbrev pub blockmap_words : Grid → List (List ℕ) → List ℕ
 blockmap_words g lists = header g ++ offsets lists ++ flat_map list_words (once lists)
 
--- words as bytes, the lower one first
+-- the bytes of words, the lower byte first
 abbrev pub word_bytes : List ℕ → List ℕ
 word_bytes words = flat_map unsigned words
 
--- the words from a place on begin with these
+-- the words from offset `at` on begin with these
 abbrev pub HasWordsAt : List ℕ → ℕ → List ℕ → Type 0
 HasWordsAt words at part = take (length part) (drop at words) ≡ part
 
--- the words at a block's offset are 0, the lines that touch it in rising number, and the end
+-- the words at the block's offset are 0, the numbers of the lines that touch the block in rising order, and the end
 pub record BlockStands (lines : List LineEnds) (words : List ℕ) (n : ℕ) : Type 0 where
   pub list : List ℕ
   pub exactly : IsBlockList lines (grid_of lines) n list

@@ -1,4 +1,4 @@
--- What `blockmap` answers.
+-- What `blockmap` returns.
 use Rattle.std.specs.Prelude.{◌≡◌, ◌≢◌, ℕ, ◌<◌, ◌≤◌, List, [], length, All}
 use Rattle.lv_maptables.specs.Tables.{Tables}
 use Rattle.lv_blockmap.specs.declared.line_ends.LineEnds.{LineEnds}
@@ -7,14 +7,14 @@ use Rattle.lv_blockmap.specs.Layout.{ListsBlocks, OffsetsFit, blockmap_words, wo
 use Rattle.lv_blockmap.specs.declared.error.BlockmapError.{BlockmapError}
 use Rattle.lv_blockmap.specs.declared.error.BlockmapError.TheVariants.{NothingToBuild, BlockmapTooLarge, OutOfMemory}
 
--- the blocks' lists, laid out as words with every offset small enough
+-- the words are the layout of the blocks' lists, and every offset fits
 pub record IsLaidOut (lines : List LineEnds) (words : List ℕ) : Type 0 where
   pub lists : List (List ℕ)
   pub are_lists : AreBlockLists lines (grid_of lines) lists
   pub words_are : words ≡ blockmap_words (grid_of lines) lists
   pub fit : OffsetsFit lists
 
--- an offset of the layout of the blocks' lists is too great
+-- an offset in the layout of the blocks' lists is too great
 pub record IsTooLarge (lines : List LineEnds) : Type 0 where
   pub lists : List (List ℕ)
   pub are_lists : AreBlockLists lines (grid_of lines) lists
@@ -36,7 +36,7 @@ RefusesBlockmapOver lines NothingToBuild = lines ≡ []
 RefusesBlockmapOver lines BlockmapTooLarge = (lines ≢ []) × IsTooLarge lines
 RefusesBlockmapOver lines OutOfMemory = Unit {0}
 
--- the same of a map's lines
+-- the same for a map's lines
 
 abbrev pub IsBlockmap : Tables → List ℕ → Type 0
 IsBlockmap m bytes = IsBlockmapOver (map_ends m) bytes

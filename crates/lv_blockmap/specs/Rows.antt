@@ -3,7 +3,7 @@ use Rattle.std.specs.Prelude.{ℕ, ◌*◌, ◌<◌, ◌≤◌, ℤ, pos, ◌+�
 use Rattle.lv_lumps.specs.declared.records.Vertex.{Vertex}
 use Rattle.lv_blockmap.specs.Touch.{SpansMeet, Touches}
 
--- the line touches the block of this row, where rows are counted from `bottom`
+-- the line touches the column's block in this row; rows are counted from `bottom`
 abbrev pub TouchesRow : Vertex → Vertex → ℤ → ℤ → ℕ → Type 0
 TouchesRow a b left bottom r = Touches a b left (bottom +ℤ pos (128 * r))
 
@@ -22,11 +22,11 @@ NoRowBelow a b left bottom n = (r : ℕ) → r < n → TouchesRow a b left botto
 abbrev pub NoRowFrom : Vertex → Vertex → ℤ → ℤ → ℕ → ℕ → Type 0
 NoRowFrom a b left bottom n rows = (r : ℕ) → n ≤ r → r < rows → TouchesRow a b left bottom r → ⊥
 
--- no column below this one meets the span from a to b, where columns are counted from `left`
+-- no column below this one meets the span from a to b; columns are counted from `left`
 abbrev pub NoColumnBelow : ℤ → ℤ → ℤ → ℕ → Type 0
 NoColumnBelow a b left n = (c : ℕ) → c < n → SpansMeet a b (left +ℤ pos (128 * c)) → ⊥
 
--- no column from this one on meets it
+-- no column from this one on meets the span from a to b
 abbrev pub NoColumnFrom : ℤ → ℤ → ℤ → ℕ → ℕ → Type 0
 NoColumnFrom a b left n columns =
     (c : ℕ) → n ≤ c → c < columns → SpansMeet a b (left +ℤ pos (128 * c)) → ⊥

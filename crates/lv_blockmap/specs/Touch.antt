@@ -42,12 +42,12 @@ block_corners left bottom =
     ∷ record { x = left; y = bottom +ℤ pos 128 }
     ∷ record { x = left +ℤ pos 128; y = bottom +ℤ pos 128 } ∷ []
 
--- not all corners of the block lie strictly on one side of the line
+-- the corners of the block don't all lie strictly on the same side of the line
 pub record CornersParted (a b : Vertex) (left bottom : ℤ) : Type 0 where
   pub not_all_right : All (IsOnRight (ray_between a b)) (block_corners left bottom) → ⊥
   pub not_all_left : All (IsOnLeft (ray_between a b)) (block_corners left bottom) → ⊥
 
--- the block's corners are points: its sides lie within 32 bits
+-- a block at this coordinate has corners that fit in 32 bits
 pub record IsBlockPlace (z : ℤ) : Type 0 where
   pub low : neg_ℤ (pos 2147483648) ≤ℤ z
   pub high : z ≤ℤ pos 2147483519

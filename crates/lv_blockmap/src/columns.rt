@@ -6,7 +6,7 @@ use crate::grid::side_of_strip;
 use crate::line_ends::LineEnds;
 use crate::touch::{spans_meet, touches};
 
-/// Rows of a column, from `low` to `high`.
+/// The rows of a column from `low` to `high`, both included.
 #[derive(Clone, Copy)]
 pub struct Rows {
     pub low: u32,
@@ -21,7 +21,7 @@ fn touches_row(line: LineEnds, left: i32, bottom: i16, row: u32) -> bool
     touches((line.start, line.end), (left, side_of_strip(bottom, row)))
 }
 
-// The first of the rows of a column that the line touches.
+// The lowest row of a column that the line touches.
 fn first_row(line: LineEnds, left: i32, bottom: i16, rows: u32) -> Option<u32>
     requires { rows ≤ 512 }
     ensures { MatchOption result (NoRowBelow line.start line.end left bottom rows)
@@ -35,7 +35,7 @@ fn first_row(line: LineEnds, left: i32, bottom: i16, rows: u32) -> Option<u32>
     None
 }
 
-// Some row of a column that the line touches: the row `near`, if it does, else the first.
+// Some row of a column that the line touches: the row `near` if the line touches it, else the lowest.
 fn some_row(line: LineEnds, left: i32, bottom: i16, rows: u32, near: u32) -> Option<u32>
     requires { rows ≤ 512 }
     ensures { MatchOption result (NoRowBelow line.start line.end left bottom rows)
@@ -49,7 +49,7 @@ fn some_row(line: LineEnds, left: i32, bottom: i16, rows: u32, near: u32) -> Opt
     first_row(line, left, bottom, rows)
 }
 
-// The least row that the line touches. It touches the row `high`.
+// The least row that the line touches, given that it touches the row `high`.
 fn least_row(line: LineEnds, left: i32, bottom: i16, high: u32) -> u32
     requires high { high < 512 }
     requires touched { TouchesRow line.start line.end left bottom high }
@@ -67,7 +67,7 @@ fn least_row(line: LineEnds, left: i32, bottom: i16, high: u32) -> u32
     low
 }
 
-// The greatest of the rows that the line touches, which touches `low`.
+// The greatest row that the line touches, given that it touches the row `low`.
 fn greatest_row(line: LineEnds, left: i32, bottom: i16, low: u32, rows: u32) -> u32
     requires rows { rows ≤ 512 }
     requires low { low < rows }
@@ -86,7 +86,8 @@ fn greatest_row(line: LineEnds, left: i32, bottom: i16, low: u32, rows: u32) -> 
     high
 }
 
-/// The rows of a column that the line touches. A touched row `near` saves the search for one.
+/// The rows of a column that the line touches. The hint `near` saves the search for a first one if the line touches
+/// that row.
 pub fn touched_rows(line: LineEnds, left: i32, bottom: i16, rows: u32, near: u32) -> Option<Rows>
     requires { rows ≤ 512 }
     ensures { MatchOption result (NoRowBelow line.start line.end left bottom rows)

@@ -1,4 +1,4 @@
-//! Why a blockmap is refused, and the number of each refusal.
+//! Why a blockmap can't be made, and the number of each refusal.
 ghost use Rattle.std.specs.Prelude.{◌≡◌};
 ghost use Rattle.lv_blockmap.specs.Errors.{code_of};
 ghost use Rattle.lv_blockmap.specs.declared.error.BlockmapError.TheVariants.{OutOfMemory};
@@ -6,7 +6,7 @@ ghost use Rattle.lv_blockmap.specs.declared.error.BlockmapError.TheVariants.{Out
 use std::alloc::{AllocError, AllocFailed};
 use thiserror::Error;
 
-/// Why a blockmap was refused.
+/// Why a blockmap can't be made.
 #[derive(Clone, Copy, Debug, PartialEq, Eq, Error)]
 pub enum BlockmapError {
     #[error("there is no line to build from")]

@@ -1,4 +1,5 @@
-//! The list of each block: every line is filed in the blocks that it touches. Hints of where to look cost time alone.
+//! Makes the list of each block: adds every line to the blocks that it touches. A hint saves time if it is right,
+//! and changes nothing else.
 ghost use Rattle.std.specs.Prelude.{◌≡◌, ◌≤◌, [], length, replicate, IfOk, OnOk, IsOkUnless};
 ghost use Rattle.lv_blockmap.specs.Blocks.{IsGrid, TouchesBlock, AreBlockLists, block_count};
 ghost use Rattle.lv_blockmap.specs.Filing.{Files};
@@ -11,7 +12,7 @@ use crate::line_ends::LineEnds;
 use crate::lists::{BlockList, file_rows};
 use std::alloc::Global;
 
-// The first column that may meet the span from `a` to `b`: none before it does.
+// A first column for the span from `a` to `b`: no column before it meets the span.
 fn first_column(a: i16, b: i16, left: i16) -> u32
     ensures { NoColumnBelow a b left result }
 {
@@ -22,7 +23,7 @@ fn first_column(a: i16, b: i16, left: i16) -> u32
     low as u32 / 128 - 1
 }
 
-// The end of the columns that may meet it: none from there on does.
+// An end of the columns for the span from `a` to `b`: no column from it on meets the span.
 fn end_column(a: i16, b: i16, left: i16, columns: u32) -> u32
     ensures among { result ≤ columns }
     ensures none { NoColumnFrom a b left result columns }
@@ -34,7 +35,7 @@ fn end_column(a: i16, b: i16, left: i16, columns: u32) -> u32
     (high as u32 / 128 + 1).min(columns)
 }
 
-// The row of the end that lies further to the left, if the rows are counted from `bottom`.
+// The hint for the first column: the row of the line's left end. Rows are counted from `bottom`.
 fn first_hint(line: LineEnds, bottom: i16) -> u32 {
     let leftmost = if line.start.x <= line.end.x {
         line.start
@@ -44,8 +45,8 @@ fn first_hint(line: LineEnds, bottom: i16) -> u32 {
     (i32::from(leftmost.y) - i32::from(bottom)).unsigned_abs() / 128
 }
 
-// Where to look next for a row that the line touches, in the column on the right of one where it touches these: they
-// share a point of the line, which lies in the greatest row where the line rises to the right, else in the least.
+// The hint for the next column, given the rows touched in this one: both columns share a point of the line, which
+// is in the greatest row if the line rises to the right, else in the least.
 fn next_hint(line: LineEnds, rows: Rows) -> u32 {
     if (line.start.x <= line.end.x) == (line.start.y <= line.end.y) {
         rows.high
@@ -54,7 +55,7 @@ fn next_hint(line: LineEnds, rows: Rows) -> u32 {
     }
 }
 
-// Puts the line at the end of the lists of the blocks that it touches, in each column that its box may reach.
+// Appends the line to the lists of the blocks that it touches, in each column that its box may reach.
 fn file_line(
     lists: &mut [BlockList],
     grid: Grid,
@@ -82,7 +83,7 @@ fn file_line(
     Ok(())
 }
 
-// A list without a line for each block.
+// An empty list for each block.
 fn empty_lists(alloc: Global, count: usize) -> Result<Vec<BlockList>, BlockmapError>
     ensures lists { IfOk result (λ v. v.items ≡ replicate count []) }
     ensures memory { IsOkUnless result BlockmapError.OutOfMemory }

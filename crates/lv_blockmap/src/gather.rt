@@ -1,4 +1,4 @@
-//! Equal lists of blocks gathered, so that each is written once.
+//! Gathers equal lists of blocks, so that each is written once.
 ghost use Rattle.std.specs.Prelude.{◌≡◌, map, OnOk, IfOk, IsOkUnless};
 ghost use Rattle.std.specs.List.{position_or_len};
 ghost use Rattle.lv_blockmap.specs.Layout.{noted, once, place_in, same_numbers};
@@ -8,14 +8,15 @@ use crate::lists::BlockList;
 use indexmap::IndexSet;
 use std::alloc::{AllocFailed, Global};
 
-/// Equal lists once, in the order of their first places, and the place of each block's list among them.
+/// The different lists, in the order in which they first occur, and for each block the index of its list among
+/// them.
 #[derive(Drop)]
 pub struct Gathered<'a> {
     pub written: IndexSet<&'a [u16]>,
     pub places: Vec<usize>,
 }
 
-// Puts the list behind those that are written, if it isn't one of them, and answers its place among them.
+// Appends the list if it isn't among them yet, and returns its index.
 fn note<'a>(
     written: &mut IndexSet<&'a [u16]>,
     list: &'a [u16],
@@ -29,7 +30,7 @@ fn note<'a>(
     Ok(place)
 }
 
-/// Gathers equal lists once.
+/// Gathers the lists of the blocks, equal ones once.
 pub fn gather<'a>(alloc: Global, lists: &'a [BlockList]) -> Result<Gathered<'a>, BlockmapError>
     ensures written { IfOk result (λ g. map (λ l. l.now) g.written.keys ≡ once lists.now) }
     ensures places { IfOk result (λ g. g.places.items ≡ map (place_in (once lists.now)) lists.now) }

@@ -6,7 +6,7 @@ ghost use Rattle.lv_blockmap.specs.Blocks.{IsGrid, blocks_over, grid_of};
 use crate::line_ends::LineEnds;
 use lv_lumps::Vertex;
 
-/// The blocks over a map's lines: the lower left corner, and how many columns and rows there are.
+/// The grid of blocks over a map's lines: its lower left corner, and the numbers of columns and rows.
 #[derive(Clone, Copy)]
 pub struct Grid {
     pub left: i16,
@@ -15,7 +15,7 @@ pub struct Grid {
     pub rows: u32,
 }
 
-/// The lower side of a row, or the left side of a column, where the first begins at `from`.
+/// The lower edge of a row, or the left edge of a column, if the first one begins at `from`.
 pub fn side_of_strip(from: i16, number: u32) -> i32
     requires { number < 512 }
     ensures { result ≡ from +ℤ pos (128 * number) }
@@ -23,7 +23,7 @@ pub fn side_of_strip(from: i16, number: u32) -> i32
     from as i32 + 128 * number as i32
 }
 
-// The lesser of each coordinate.
+// The lesser x and the lesser y of two places.
 fn lesser(a: Vertex, b: Vertex) -> Vertex
     ensures x { result.x ≡ int_min a.x b.x }
     ensures y { result.y ≡ int_min a.y b.y }
@@ -34,7 +34,7 @@ fn lesser(a: Vertex, b: Vertex) -> Vertex
     }
 }
 
-// The greater of each coordinate.
+// The greater x and the greater y of two places.
 fn greater(a: Vertex, b: Vertex) -> Vertex
     ensures x { result.x ≡ int_max a.x b.x }
     ensures y { result.y ≡ int_max a.y b.y }
@@ -45,7 +45,7 @@ fn greater(a: Vertex, b: Vertex) -> Vertex
     }
 }
 
-// How many blocks cover the way from `low` to `high`, both with it.
+// How many blocks cover the span from `low` to `high`, both included.
 fn blocks_over(low: i16, high: i16) -> u32
     requires { low ≤ℤ high }
     ensures count { result ≡ blocks_over low high }
@@ -54,7 +54,7 @@ fn blocks_over(low: i16, high: i16) -> u32
     (high as i32 - low as i32) as u32 / 128 + 1
 }
 
-/// The blocks over the lines.
+/// The grid of blocks over the lines.
 pub fn grid_over(lines: &[LineEnds]) -> Grid
     requires { 0 < length lines.now }
     ensures grid { result ≡ grid_of lines.now }

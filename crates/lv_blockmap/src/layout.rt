@@ -1,4 +1,4 @@
-//! The words of BLOCKMAP: header, offsets, lists.
+//! The words of BLOCKMAP: the header, the offsets and the lists.
 ghost use Rattle.std.specs.Prelude.{◌≡◌, ◌≤◌, ◌<◌, ◌++◌, All, flat_map, length, map, slice_index};
 ghost use Rattle.std.specs.Prelude.{IfOk, OnOk, IsOkUnless, IsErrOf};
 ghost use Rattle.lv_lumps.specs.Fields.{unsigned};
@@ -12,13 +12,13 @@ use crate::grid::Grid;
 use crate::lists::BlockList;
 use std::alloc::Global;
 
-// The greatest offset that readers of signed and of unsigned words take alike.
+// The greatest offset that is the same as a signed and as an unsigned word.
 const GREATEST_OFFSET: usize = 32767;
 
-// The word behind a list's last.
+// The word that ends a list.
 const LIST_END: u16 = 0xffff;
 
-// Where each of these lists begins, counted in words, if they stand one behind another from `first` on.
+// The offset, in words, of each of these lists, if they follow one another from `first` on.
 fn starts_of(alloc: Global, first: usize, lists: &[&[u16]]) -> Result<Vec<u16>, BlockmapError>
     ensures ok { IfOk result (λ v. v.items ≡ starts first (map (λ l. l.now) lists.now)) }
     ensures fit { OnOk result
@@ -59,7 +59,7 @@ fn put_words(bytes: &mut Vec<u8>, words: &[u16]) -> Result<(), BlockmapError>
     Ok(())
 }
 
-// The origin, and how many columns and rows there are.
+// Appends the header: the origin, and the numbers of columns and rows.
 fn put_header(bytes: &mut Vec<u8>, grid: Grid) -> Result<(), BlockmapError>
     requires { IsGrid grid }
     ensures ok { OnOk result (bytes.new.items ≡ bytes.old.items ++ word_bytes (header grid)) }
@@ -76,7 +76,7 @@ fn put_header(bytes: &mut Vec<u8>, grid: Grid) -> Result<(), BlockmapError>
     )
 }
 
-// The offset of each block: the start of its list, which is told by its place.
+// Appends the offset of each block: the start of its list, which is given by its index.
 fn put_offsets(bytes: &mut Vec<u8>, places: &[usize], starts: &[u16]) -> Result<(), BlockmapError>
     requires { All (λ place. place < length starts.now) places.now }
     ensures ok { OnOk result (bytes.new.items
@@ -89,7 +89,7 @@ fn put_offsets(bytes: &mut Vec<u8>, places: &[usize], starts: &[u16]) -> Result<
     Ok(())
 }
 
-// A list's words: 0, its lines, and the end.
+// Appends a list's words: 0, its lines, and the end.
 fn put_list(bytes: &mut Vec<u8>, list: &[u16]) -> Result<(), BlockmapError>
     ensures ok { OnOk result (bytes.new.items
         ≡ bytes.old.items ++ word_bytes (list_words list.now)) }
@@ -100,7 +100,7 @@ fn put_list(bytes: &mut Vec<u8>, list: &[u16]) -> Result<(), BlockmapError>
     put_word(bytes, LIST_END)
 }
 
-// The lists, one behind another.
+// Appends the lists, one after another.
 fn put_lists(bytes: &mut Vec<u8>, lists: &[&[u16]]) -> Result<(), BlockmapError>
     ensures ok { OnOk result (bytes.new.items
         ≡ bytes.old.items ++ word_bytes (flat_map list_words (map (λ l. l.now) lists.now))) }
@@ -112,7 +112,7 @@ fn put_lists(bytes: &mut Vec<u8>, lists: &[&[u16]]) -> Result<(), BlockmapError>
     Ok(())
 }
 
-/// The bytes of BLOCKMAP over the blocks' lists, equal ones written once.
+/// The bytes of BLOCKMAP for the blocks' lists, equal ones written once.
 pub fn lay_out(alloc: Global, grid: Grid, lists: &[BlockList]) -> Result<Vec<u8>, BlockmapError>
     requires { IsGrid grid }
     ensures ok { IfOk result (λ v. v.items ≡ word_bytes (blockmap_words grid lists.now)) }

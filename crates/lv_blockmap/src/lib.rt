@@ -1,4 +1,4 @@
-//! The blocks of lines, or of a map: which lines touch which of them, and the bytes of the lump BLOCKMAP.
+//! The blocks of a map or of any lines: which lines touch which blocks, and the bytes of the lump BLOCKMAP.
 #![tactic(auto)]
 
 mod columns;

@@ -1,4 +1,4 @@
-//! The lines of a list, or of a map, by the places of their ends.
+//! The lines of a map, or of a list of records, given by the places of their ends.
 ghost use Rattle.std.specs.Prelude.{◌≡◌, ◌≤◌, length, IfOk, IsOkUnless};
 ghost use Rattle.lv_maptables.specs.WellFormed.{nth_vertex};
 ghost use Rattle.lv_blockmap.specs.Blocks.{ends_in, ends_over, map_ends};
@@ -8,7 +8,7 @@ use lv_lumps::{Line, Vertex};
 use lv_maptables::{Kind, Map};
 use std::alloc::Global;
 
-/// A line by the places of its ends.
+/// A line, given by the places of its ends.
 #[derive(Clone, Copy)]
 pub struct LineEnds {
     pub start: Vertex,
@@ -58,7 +58,8 @@ fn nth_place(vertices: &[Vertex], n: u16) -> Vertex
     }
 }
 
-/// The ends of each line of a list over a list of vertices, by its number. It is refused by lack of memory alone.
+/// The ends of each line of a list of records, by its number, with the list of vertices that the lines name. It
+/// fails only if memory runs out.
 pub fn ends_over(
     alloc: Global,
     vertices: &[Vertex],

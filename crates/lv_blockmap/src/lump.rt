@@ -1,4 +1,4 @@
-//! The calls of the crate: the lump BLOCKMAP over lines, and that of a map.
+//! The crate's calls: they make the lump BLOCKMAP of lines, and that of a map.
 ghost use Rattle.std.specs.Prelude.{◌≤◌, length, MatchResult};
 ghost use Rattle.lv_blockmap.specs.Lump.{IsBlockmap, IsBlockmapOver, RefusesBlockmap, RefusesBlockmapOver};
 
@@ -10,14 +10,14 @@ use crate::line_ends::{LineEnds, ends_of};
 use lv_maptables::Map;
 use std::alloc::Global;
 
-/// The bytes of the lump BLOCKMAP over lines that are told by the places of their ends (docs/FORMAT.md, "REJECT and
-/// BLOCKMAP"): words of 16 bits, the lower byte first. Equal lists of blocks are written once, in the order of their
-/// first block. Lines of any places and lengths have one, where its offsets fit.
+/// The bytes of the lump BLOCKMAP of lines that are given by the places of their ends (docs/FORMAT.md, "REJECT and
+/// BLOCKMAP"): words of 16 bits, the lower byte first. Equal lists of blocks are written once, in the order of
+/// their first block. The lines may have any places and lengths, if the offsets fit.
 ///
 /// # Errors
 ///
-/// - `NothingToBuild` exactly where there is no line.
-/// - `BlockmapTooLarge` exactly where a list would begin beyond word 32,767.
+/// - `NothingToBuild` exactly if there is no line.
+/// - `BlockmapTooLarge` exactly if a list would begin beyond word 32,767.
 /// - `OutOfMemory`.
 pub fn blockmap_over(alloc: Global, lines: &[LineEnds]) -> Result<Vec<u8>, BlockmapError>
     requires { length lines.now ≤ 32767 }
@@ -35,8 +35,8 @@ pub fn blockmap_over(alloc: Global, lines: &[LineEnds]) -> Result<Vec<u8>, Block
     }
 }
 
-/// The bytes of the lump BLOCKMAP of a map's lines. It is refused as `blockmap_over` is: `NothingToBuild` exactly where
-/// the map has no line.
+/// The bytes of the lump BLOCKMAP of a map's lines. It fails as `blockmap_over` does: with `NothingToBuild` exactly
+/// if the map has no line.
 pub fn blockmap(alloc: Global, map: &Map) -> Result<Vec<u8>, BlockmapError>
     ensures { MatchResult result (λ v. IsBlockmap map.now.tables v.items)
         (λ e. RefusesBlockmap map.now.tables e) }

@@ -1,5 +1,5 @@
--- What the bytes of two slots of a file stand for: a body and its generation, that of the open slot
--- with the greater one.
+-- What the bytes of two slots of a file stand for: the generation and the body of the open slot with the greater
+-- generation.
 use Rattle.std.specs.Prelude.{◌<◌, ◌≤◌, ◌⊎◌, ◌+◌, ◌^◌, ℕ, List, [], ◌∷◌, ◌++◌, length}
 use Rattle.std.specs.Int.{to_le_bytes, w32, w64}
 use Rattle.lv_disk.specs.Files.{HasAt}
@@ -10,12 +10,11 @@ use Rattle.lv_disk.specs.declared.area.Area.{Area}
 abbrev pub head_bytes : ℕ → ℕ → List ℕ
 head_bytes generation n = to_le_bytes w64 generation ++ to_le_bytes w32 n
 
--- what stands behind the gate of a slot
+-- the bytes after the gate of a slot
 abbrev pub content_bytes : ℕ → List ℕ → List ℕ
 content_bytes generation body = head_bytes generation (length body) ++ body
 
--- behind the slot's gate stand a generation and the length of a body, which the slot and the file
--- have room for
+-- after the slot's gate are a generation and the length of a body; the body fits in the slot and in the file
 pub record HasHead (slot : Area) (generation n : ℕ) (file : List ℕ) : Type 0 where
   pub head : HasAt (slot.base + 1) (head_bytes generation n) file
   pub room : 13 + n ≤ slot.length
@@ -23,12 +22,12 @@ pub record HasHead (slot : Area) (generation n : ℕ) (file : List ℕ) : Type 0
   pub number : generation < 2 ^ 64
   pub count : n < 2 ^ 32
 
--- the slot is open, with a body of so many bytes
+-- the slot is open, with this generation and a body of n bytes
 pub record IsOpenWith (slot : Area) (generation n : ℕ) (file : List ℕ) : Type 0 where
   pub gate : HasAt slot.base (open_gate ∷ []) file
   pub head : HasHead slot generation n file
 
--- behind the slot's gate, be it open or not, stand a generation and a body
+-- after the slot's gate, open or not, are this generation and this body
 pub record HasContent (slot : Area) (generation : ℕ) (body file : List ℕ) : Type 0 where
   pub head : HasHead slot generation (length body) file
   pub stands : HasAt (slot.base + 13) body file

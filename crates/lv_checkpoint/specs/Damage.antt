@@ -6,23 +6,23 @@ use Rattle.lv_disk.specs.Gates.{open_gate, IsClosedAt}
 use Rattle.lv_disk.specs.declared.area.Area.{Area}
 use Rattle.lv_checkpoint.specs.Bodies.{IsOpenWith}
 
--- the slot's length isn't in the file whole, is too great for the slot, or goes beyond the file
+-- the slot's length is cut off by the end of the file, too great for the slot, or reaches past the end of the file
 abbrev pub HasBadBodyLength : Area → List ℕ → Type 0
 HasBadBodyLength slot file = (length file < slot.base + 13)
     ⊎ ((n : ℕ) × HasAt (slot.base + 9) (to_le_bytes w32 n) file × (n < 2 ^ 32)
     × ((slot.length < 13 + n) ⊎ (length file < slot.base + 13 + n)))
 
--- the slot's gate isn't in the file, or it is open and its length is bad
+-- the file ends before the slot's gate, or the slot is open and its length is bad
 abbrev pub IsBadSlot : Area → List ℕ → Type 0
 IsBadSlot slot file = (length file ≤ slot.base)
     ⊎ (HasAt slot.base (open_gate ∷ []) file × HasBadBodyLength slot file)
 
--- both slots are open with one generation
+-- both slots are open with the same generation
 abbrev pub AreOneGeneration : Area → Area → List ℕ → Type 0
 AreOneGeneration a b file = (generation : ℕ) × (n : ℕ) × (m : ℕ)
     × IsOpenWith a generation n file × IsOpenWith b generation m file
 
--- the least place of a fault: that of a bad slot, or the second's where both are open with one generation
+-- the least offset of a bad slot; the second slot is bad too if both are open with the same generation
 abbrev pub AreSlotsDamagedAt : Area → Area → ℕ → List ℕ → Type 0
 AreSlotsDamagedAt a b place file = (IsBadSlot a file × (place ≡ a.base))
     ⊎ ((¬ IsBadSlot a file) × (place ≡ b.base) × (IsBadSlot b file ⊎ AreOneGeneration a b file))

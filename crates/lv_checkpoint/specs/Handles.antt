@@ -1,4 +1,4 @@
--- What a handle of two slots tells of, and when a file has the slots that it tells of.
+-- What a handle of two slots says, and when that is true of a file.
 use Rattle.std.specs.Prelude.{◌≡◌, ◌==◌, ℕ, Bool, true, false, List, drop, if◌then◌else◌}
 use Rattle.lv_disk.specs.Gates.{IsClosedAt}
 use Rattle.lv_disk.specs.declared.area.Area.{Area}
@@ -8,15 +8,15 @@ use Rattle.lv_checkpoint.specs.declared.image.Image.{Image}
 use Rattle.lv_checkpoint.specs.declared.change.Closed.{Closed}
 use Rattle.lv_checkpoint.specs.declared.change.Filled.{Filled}
 
--- the first of the two areas in the file
+-- the area of the first slot
 abbrev pub first_area : Slots → Area
 first_area slots = slots.a
 
--- the second of them
+-- the area of the second slot
 abbrev pub second_of : Slots → Area
 second_of slots = slots.b
 
--- which of them is live: 0 is the first, 1 the second
+-- the live slot: 0 is the first, 1 the second
 abbrev pub slot_of : Slots → ℕ
 slot_of slots = slots.slot
 
@@ -28,7 +28,7 @@ other_slot slot = if slot == 0 then 1 else 0
 abbrev pub generation_of : Slots → ℕ
 generation_of slots = slots.generation
 
--- whether the other one was found open
+-- whether the other slot was found open
 abbrev pub finds_open : Slots → Bool
 finds_open slots = slots.other_is_open
 
@@ -36,15 +36,15 @@ finds_open slots = slots.other_is_open
 abbrev pub live_of : Slots → Area
 live_of slots = if slots.slot == 0 then slots.a else slots.b
 
--- the area of the other one
+-- the area of the other slot
 abbrev pub other_of : Slots → Area
 other_of slots = if slots.slot == 0 then slots.b else slots.a
 
--- the slots of a change of which the other slot is closed
+-- the handle of a change whose other slot is closed
 abbrev pub closed_of : Closed → Slots
 closed_of closed = closed.slots
 
--- the slots of a change of which the other slot is filled
+-- the handle of a change whose other slot is filled
 abbrev pub filled_of : Filled → Slots
 filled_of filled = filled.slots
 
@@ -52,11 +52,11 @@ filled_of filled = filled.slots
 abbrev pub generation_in : Image → ℕ
 generation_in image = image.generation
 
--- the body of an image: what stands behind the twelve bytes of its generation and length
+-- the body of an image: the bytes after the twelve of its generation and length
 abbrev pub body_in : Image → List ℕ
 body_in image = drop 12 image.bytes.items
 
--- the file has the slots that the handle tells of, and this body is the live one
+-- what the handle says is true of the file, and this body is the live one
 pub record HasSlots (slots : Slots) (body file : List ℕ) : Type 0 where
   pub live : IsOpen (live_of slots) (generation_of slots) body file
   pub shut : finds_open slots ≡ false → IsClosedAt (other_of slots).base file

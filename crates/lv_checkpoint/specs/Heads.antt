@@ -1,4 +1,4 @@
--- What was found of two slots by their gates and their numbers alone.
+-- What the gates, generations and lengths of two slots show, before a body is read.
 use Rattle.std.specs.Prelude.{◌≡◌, ◌≤◌, ◌+◌, ℕ, true, false, List, Option, Some, None}
 use Rattle.lv_disk.specs.Gates.{IsClosedAt}
 use Rattle.lv_disk.specs.declared.area.Area.{Area}
@@ -7,7 +7,7 @@ use Rattle.lv_checkpoint.specs.Handles.{live_of, other_of, generation_of, finds_
 use Rattle.lv_checkpoint.specs.declared.heads.Head.{Head}
 use Rattle.lv_checkpoint.specs.declared.slots.Slots.{Slots}
 
--- the slot is closed where no head was found, else open with that head
+-- the slot is closed if no head was found, else open with that head
 abbrev pub ShowsHead : Area → Option Head → List ℕ → Type 0
 ShowsHead slot None file = IsClosedAt slot.base file
 ShowsHead slot (Some head) file = IsOpenWith slot head.generation head.len file
@@ -17,7 +17,7 @@ abbrev pub HasRoom : Area → Option Head → Type 0
 HasRoom slot None = Unit {0}
 HasRoom slot (Some head) = 13 + head.len ≤ slot.length
 
--- the file has the slots that the handle tells of, and the live body has n bytes
+-- what the handle says is true of the file, and the live body has n bytes
 pub record HasHeads (slots : Slots) (n : ℕ) (file : List ℕ) : Type 0 where
   pub live : IsOpenWith (live_of slots) (generation_of slots) n file
   pub shut : finds_open slots ≡ false → IsClosedAt (other_of slots).base file

@@ -1,4 +1,4 @@
-//! The change of the live slot: the other slot is closed, filled and opened, each on the disk before the next.
+//! Changes the live slot: closes, fills and opens the other slot. Each step is durable before the next begins.
 ghost use Rattle.std.specs.Prelude.{◌≡◌, ◌≤◌, ◌<◌, ◌+◌, ◌^◌, length, false, true, OnOk, IfOk};
 ghost use Rattle.lv_disk.specs.Moments.{LeavesOnly};
 ghost use Rattle.lv_disk.specs.Stops.{Counted, Each, Follows, From};
@@ -9,21 +9,21 @@ use crate::image::Image;
 use crate::slots::Slots;
 use lv_disk::{Area, CLOSED_GATE, DeviceFault, Disk, OPEN_GATE, write_through};
 
-/// Slots of which the other one is closed on the disk.
+/// Two slots after the first step of a change: the other slot is closed on the disk.
 #[derive(Clone, Copy)]
 pub struct Closed {
     slots: Slots,
 }
 
-/// Slots of which the other one is filled, behind a closed gate.
+/// Two slots after the second step of a change: the other slot is filled, and its gate is closed.
 #[derive(Clone, Copy)]
 pub struct Filled {
     slots: Slots,
 }
 
 impl Slots {
-    /// Closes the other slot, where it is open: one write, one sync. Where it is closed it makes no device
-    /// call, since a gate that is written again may be open after a stop. It takes no memory.
+    /// Closes the other slot if it is open: one write, one sync. If it is closed already, it makes no device call,
+    /// since a stop while the gate is written again might leave it open. It allocates no memory.
     pub fn close_other<D: Disk>(self, disk: &mut D, image: &Image) -> Result<Closed, DeviceFault>
         requires slots { Each (D.may_leave disk.old) (HasSomeSlots self) }
         requires next { generation_in image.now ≡ generation_of self + 1 }
@@ -45,7 +45,8 @@ impl Slots {
 }
 
 impl Closed {
-    /// Writes the image behind the other slot's closed gate, and a closed first gate of the other journal; syncs.
+    /// Writes the image after the other slot's closed gate, and a closed first gate of the other journal, then
+    /// syncs.
     pub fn fill<D: Disk>(
         self,
         disk: &mut D,
@@ -74,7 +75,7 @@ impl Closed {
 }
 
 impl Filled {
-    /// Opens the other slot, which is then the live one: one write, one sync.
+    /// Opens the other slot, which then is the live one: one write, one sync.
     pub fn open_other<D: Disk>(self, disk: &mut D) -> Result<Slots, DeviceFault>
         requires ready { Each (D.may_leave disk.old) (HasFilled (filled_of self)) }
         requires number { generation_of (filled_of self) + 1 < 2 ^ 64 }

@@ -15,7 +15,7 @@ use byteorder::{ByteOrder, LittleEndian};
 use lv_disk::{Area, DeviceFault, Disk, OPEN_GATE, read_gate, read_length};
 use std::alloc::Global;
 
-/// What stands before a body in its slot: the gate, the generation and the length.
+/// How many bytes of a slot are before its body: the gate, the generation and the length.
 pub const BEFORE_BODY: u64 = 13;
 
 /// The generation of an open slot, and the length of its body.
@@ -25,7 +25,7 @@ pub struct Head {
     pub len: u32,
 }
 
-/// The generation and the length of a body as they stand behind a gate.
+/// The bytes after a gate: the generation and the length of a body.
 pub fn head_of(generation: u64, len: u32) -> [u8; 12]
     ensures { result ≡ head_bytes generation len }
 {
@@ -35,14 +35,14 @@ pub fn head_of(generation: u64, len: u32) -> [u8; 12]
     bytes
 }
 
-// The number with these bytes, the lowest first.
+// The number that these bytes encode, the lowest byte first.
 fn generation_of(bytes: [u8; 8]) -> u64
     ensures { to_le_bytes w64 result ≡ bytes }
 {
     LittleEndian::read_u64(&bytes)
 }
 
-// The generation in the eight bytes from a place on.
+// Reads the generation in the eight bytes from `at` on.
 fn read_generation<D: Disk>(disk: &mut D, at: u64) -> Result<u64, DeviceFault>
     requires { Each (D.reads disk.old) (λ file. at + 8 ≤ length file) }
     ensures told { IfOk result (λ n. Each (D.reads disk.old) (HasAt at (to_le_bytes w64 n))) }
@@ -54,7 +54,7 @@ fn read_generation<D: Disk>(disk: &mut D, at: u64) -> Result<u64, DeviceFault>
     Ok(generation_of(bytes))
 }
 
-// So many bytes from a place on.
+// Reads `len` bytes of a body from `at` on.
 pub fn read_body<D: Disk>(
     alloc: Global,
     disk: &mut D,
@@ -75,7 +75,7 @@ pub fn read_body<D: Disk>(
     Ok(body)
 }
 
-/// The head of a slot, none where its gate is closed. The file ends at `end`.
+/// Reads the head of a slot: `None` if its gate is closed. The file ends at `end`.
 pub fn read_head<D: Disk>(
     disk: &mut D,
     slot: Area,

@@ -1,4 +1,4 @@
-//! The body of a slot as it is to be written.
+//! What a change writes into a slot.
 ghost use Rattle.std.specs.Prelude.{◌≡◌, ◌<◌, ◌^◌, drop, length};
 ghost use Rattle.lv_checkpoint.specs.Bodies.{content_bytes};
 
@@ -33,7 +33,7 @@ impl Image {
         Ok(Image { generation, bytes })
     }
 
-    // What stands behind the gate.
+    // The bytes to write after the gate.
     pub fn bytes(&self) -> &[u8]
         ensures { result.now ≡ content_bytes (generation_in self.now) (body_in self.now) }
     {

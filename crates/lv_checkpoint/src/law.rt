@@ -1,4 +1,4 @@
-//! Laws on what the bytes of two slots stand for. The functions have no bodies: their contracts are the laws.
+//! Laws about what the bytes of two slots stand for. The functions' bodies are empty: their contracts are the laws.
 ghost use Rattle.std.specs.Prelude.{◌≡◌, ◌<◌, List, ℕ};
 ghost use Rattle.lv_disk.specs.Files.{KeepsOutside};
 ghost use Rattle.lv_disk.specs.declared.area.Area.{Area};
@@ -6,7 +6,7 @@ ghost use Rattle.lv_disk.specs.Areas.{IsApart};
 ghost use Rattle.lv_checkpoint.specs.Bodies.{IsLive};
 ghost use Rattle.lv_checkpoint.specs.Damage.{AreBlank, AreSlotsDamagedAt};
 
-/// Two slots have one live slot, generation and body at most; they are damaged at one place at most; and no two of
+/// Two slots have at most one live slot, generation and body, and are damaged at most at one offset. No two of
 /// live, damaged and blank hold at once.
 pub fn stand_for_one_body()
     ensures one { (a b : Area) (g h : ℕ) (x y file : List ℕ)
@@ -27,7 +27,7 @@ pub fn stand_for_one_body()
         → ¬ AreSlotsDamagedAt a b p file }
 {}
 
-/// What the bytes of two slots stand for depends on these bytes alone.
+/// What the bytes of two slots stand for depends only on these bytes.
 pub fn stand_by_themselves()
     ensures kept { (live other : Area) (generation : ℕ) (body : List ℕ) (at n : ℕ)
         (old new : List ℕ)

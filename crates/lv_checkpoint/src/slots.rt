@@ -1,4 +1,4 @@
-//! Two slots of a file, of which one is live.
+//! Two slots of a file, one live.
 ghost use Rattle.std.specs.Prelude.{◌≤◌, ◌<◌, ◌+◌};
 
 use crate::CheckpointError;
@@ -7,13 +7,13 @@ use crate::image::Image;
 use lv_disk::{Area, Disk};
 use std::alloc::Global;
 
-/// Two slots of a file, as a handle tells of them: which is live, with which generation, and whether the other one is
-/// open too. It holds no disk.
+/// A handle of two slots of a file: which slot is live, its generation, and whether the other one is open too. It
+/// holds no disk.
 #[derive(Clone, Copy)]
 pub struct Slots {
     a: Area,
     b: Area,
-    // 0 where the first is live, else the second.
+    // 0 if the first slot is live, else the second is.
     slot: u8,
     generation: u64,
     other_is_open: bool,
@@ -22,7 +22,7 @@ pub struct Slots {
     ghost b_some: { 0 < b.length },
 }
 
-/// The live body as `Slots::open` found it. Slot 0 is the first, 1 the second.
+/// The live body that `Slots::open` found. Slot 0 is the first, 1 the second.
 #[derive(Drop)]
 pub struct Found {
     pub slot: u8,
@@ -40,7 +40,7 @@ impl Slots {
     ghost use Rattle.lv_disk.specs.Reading.{OnlyReads};
     ghost use Rattle.lv_checkpoint.specs.Refusals.{IfSlotDamaged, RefusesImage, RefusesToOpenSlots};
 
-    // Which slot is live, and how long its body is.
+    // Chooses the live slot, and returns the length of its body too.
     fn choose(
         a: Area,
         b: Area,
@@ -92,7 +92,7 @@ impl Slots {
         }
     }
 
-    // The same of two slots that are both open.
+    // The same for two slots that are both open.
     fn choose_greater(
         a: Area,
         b: Area,
@@ -140,9 +140,9 @@ impl Slots {
 
     /// Reads the live body of two slots of a fully synced disk. It writes nothing.
     ///
-    /// `Damaged` tells the place in the file of a slot that isn't there, or that is open and whose length
-    /// isn't there, is too great for the slot or goes beyond the file; or of the second one, where both are
-    /// open with one generation.
+    /// `Damaged` has the offset of the damaged slot in the file. A slot is damaged if the file ends before its
+    /// gate, or if it is open and its length is cut off by the end of the file, too great for the slot, or reaches
+    /// past the end of the file. If both slots are open with the same generation, the second one is damaged.
     pub fn open<D: Disk>(
         alloc: Global,
         disk: &mut D,
@@ -154,7 +154,7 @@ impl Slots {
         requires a_some { 0 < a.length }
         requires b_some { 0 < b.length }
 
-        // The slots and the body are those that the bytes stand for.
+        // The slots and the body that it returns are those that the bytes stand for.
         ensures areas { IfOk result (λ r. (first_area r.0 ≡ a) × (second_of r.0 ≡ b)) }
         ensures tells { IfOk result
             (λ r. (slot_of r.0 ≡ r.1.slot) × (generation_of r.0 ≡ r.1.generation)) }
@@ -195,7 +195,7 @@ impl Slots {
         Ok((slots, found))
     }
 
-    /// Which slot is live: 0 is the first, 1 the second.
+    /// The live slot: 0 is the first, 1 the second.
     pub fn slot(&self) -> u8
         ensures { result ≡ slot_of self.now }
     {
@@ -246,10 +246,10 @@ impl Slots {
         self.other_is_open
     }
 
-    /// The body as it is to stand in the other slot, with the next generation. Nothing is written.
+    /// Makes the bytes to write into the other slot, with the next generation and this body. It writes nothing.
     ///
-    /// `SlotFull` exactly where the body is longer than the other slot less 13, else `GenerationsSpent` exactly where
-    /// the live generation is the last.
+    /// It fails with `SlotFull` exactly if the body is longer than the other slot less 13 bytes, otherwise with
+    /// `GenerationsSpent` exactly if the live generation is the last.
     pub fn image(&self, alloc: Global, body: &[u8]) -> Result<Image, CheckpointError>
         ensures made { IfOk result (λ image. (generation_in image ≡ generation_of self.now + 1)
             × (body_in image ≡ body.now)) }
@@ -273,7 +273,7 @@ impl Slots {
         Image::write(alloc, generation, body)
     }
 
-    // The handle of two slots of which the first was just filled.
+    // The handle of two new slots: the first is live with generation 1, the second is closed.
     pub fn fresh(a: Area, b: Area) -> Slots
         requires in_order { a.base + a.length ≤ b.base }
         requires a_some { 0 < a.length }

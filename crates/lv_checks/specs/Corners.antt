@@ -1,5 +1,5 @@
--- Where a map's sectors aren't closed: a sector's edges go round it, so each vertex is left as
--- often as it is reached.
+-- Where a map's sectors aren't closed. The edges of a closed sector go round it, so as many of them leave each
+-- vertex as reach it.
 use Rattle.std.specs.Prelude.{ℕ, Bool, ◌&&◌, ◌==◌, not, if◌then◌else◌, List, [], ◌∷◌, map, filter, count_by, flat_map}
 use Rattle.lv_lumps.specs.declared.records.Line.{Line}
 use Rattle.lv_lumps.specs.Sides.{has_left}
@@ -9,13 +9,13 @@ use Rattle.lv_checks.specs.declared.finding.Finding.TheVariants.{SectorOpen}
 use Rattle.lv_checks.specs.Unused.{item_numbers}
 use Rattle.lv_checks.specs.Textures.{side_in}
 
--- an edge of a sector, which is on its right
+-- an edge of a sector, which lies on the edge's right
 pub record Edge : Type 0 where
   pub sector : ℕ
   pub from : ℕ
   pub to : ℕ
 
--- a line's edges: its right side's along the line, its left side's against it
+-- a line's edges: that of its right side runs in the line's direction, that of its left side against it
 abbrev pub edges_of_line : Tables → Line → List Edge
 edges_of_line m l =
     (record { sector = (side_in m l.right).sector; from = l.v1; to = l.v2 })
@@ -34,7 +34,7 @@ leaves_vertex sector vertex e = (e.sector == sector) && (e.from == vertex)
 abbrev pub reaches : ℕ → ℕ → Edge → Bool
 reaches sector vertex e = (e.sector == sector) && (e.to == vertex)
 
--- whether the sector's edges that leave the vertex and those that reach it differ in number
+-- whether the number of the sector's edges that leave the vertex differs from the number that reach it
 abbrev pub is_open : Tables → ℕ → ℕ → Bool
 is_open m sector vertex =
     not (count_by (leaves_vertex sector vertex) (edges m) == count_by (reaches sector vertex)

@@ -10,7 +10,7 @@ use Rattle.lv_checks.specs.Unused.{item_numbers, unused_vertices, unused_sides, 
 use Rattle.lv_checks.specs.Textures.{line_misses}
 use Rattle.lv_checks.specs.Corners.{open_corners}
 
--- whether a thing is where the first player starts
+-- whether a thing is the first player's start
 abbrev pub is_start : Thing → Bool
 is_start t = int_eq t.kind (pos 1)
 
@@ -18,11 +18,11 @@ is_start t = int_eq t.kind (pos 1)
 abbrev pub missing_textures : Tables → List Finding
 missing_textures m = flat_map (line_misses m) (enumerate_from 0 m.lines)
 
--- where the sectors are open, by sector and then by vertex
+-- the open corners of all sectors, by sector and then by vertex
 abbrev pub open_sectors : Tables → List Finding
 open_sectors m = flat_map (open_corners m) (item_numbers m.sectors)
 
--- that no thing is a start, if none is
+-- the finding that there is no start, if no thing is one
 abbrev pub missing_start : Tables → List Finding
 missing_start m = if list_any is_start m.things then [] else NoPlayerStart ∷ []
 

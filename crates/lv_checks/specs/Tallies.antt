@@ -11,11 +11,11 @@ use Rattle.lv_checks.specs.declared.corners.Degrees.{Degrees}
 use Rattle.lv_checks.specs.declared.finding.Finding.{Finding}
 use Rattle.lv_checks.specs.declared.finding.Finding.TheVariants.{VertexUnused, SideUnused, SectorUnused, SectorOpen}
 
--- corners in order: by sector, then by vertex
+-- the order of corners: by sector, then by vertex
 abbrev pub corner_cmp : ℕ × ℕ → ℕ × ℕ → Ordering
 corner_cmp a b = ordering_then (nat_cmp a.0 b.0) (nat_cmp a.1 b.1)
 
--- whether two corners are one
+-- whether two corners are the same
 abbrev pub same_corner : ℕ × ℕ → ℕ × ℕ → Bool
 same_corner a b = (a.0 == b.0) && (a.1 == b.1)
 
@@ -23,39 +23,39 @@ same_corner a b = (a.0 == b.0) && (a.1 == b.1)
 abbrev pub no_degrees : Degrees
 no_degrees = record { outgoing = 0; incoming = 0 }
 
--- what was counted at a corner
+-- the counts at a corner
 abbrev pub degrees_of : BTreeMap (ℕ × ℕ) Degrees → ℕ × ℕ → Degrees
 degrees_of m corner = unwrap_or (get corner_cmp m corner) no_degrees
 
--- there is room for n more in every count
+-- no count overflows if n more edges are counted
 pub record HasCountsLeft (n : ℕ) (m : BTreeMap (ℕ × ℕ) Degrees) : Type 0 where
   pub outgoing : (q : ℕ × ℕ) → (degrees_of m q).outgoing + n < 2 ^ 32
   pub incoming : (q : ℕ × ℕ) → (degrees_of m q).incoming + n < 2 ^ 32
 
--- one if the test holds
+-- 1 if it is true, else 0
 abbrev pub one_if : Bool → ℕ
 one_if b = if b then 1 else 0
 
--- one edge more leaves the corner
+-- one more edge was counted that leaves the corner
 pub record Leaves (old new : BTreeMap (ℕ × ℕ) Degrees) (corner : ℕ × ℕ) : Type 0 where
   pub outgoing : (q : ℕ × ℕ) → (degrees_of new q).outgoing ≡ (degrees_of old q).outgoing
       + one_if (same_corner corner q)
   pub incoming : (q : ℕ × ℕ) → (degrees_of new q).incoming ≡ (degrees_of old q).incoming
 
--- one edge more reaches the corner
+-- one more edge was counted that reaches the corner
 pub record Reaches (old new : BTreeMap (ℕ × ℕ) Degrees) (corner : ℕ × ℕ) : Type 0 where
   pub outgoing : (q : ℕ × ℕ) → (degrees_of new q).outgoing ≡ (degrees_of old q).outgoing
   pub incoming : (q : ℕ × ℕ) → (degrees_of new q).incoming ≡ (degrees_of old q).incoming
       + one_if (same_corner corner q)
 
--- the edges were counted
+-- these edges were added to the counts
 pub record AddsEdges (old new : BTreeMap (ℕ × ℕ) Degrees) (es : List Edge) : Type 0 where
   pub outgoing : (q : ℕ × ℕ) → (degrees_of new q).outgoing ≡ (degrees_of old q).outgoing
       + count_by (leaves_vertex q.0 q.1) es
   pub incoming : (q : ℕ × ℕ) → (degrees_of new q).incoming ≡ (degrees_of old q).incoming
       + count_by (reaches q.0 q.1) es
 
--- just the edges were counted
+-- the counts are those of exactly these edges
 pub record IsTally (es : List Edge) (m : BTreeMap (ℕ × ℕ) Degrees) : Type 0 where
   pub outgoing : (q : ℕ × ℕ) → (degrees_of m q).outgoing ≡ count_by (leaves_vertex q.0 q.1) es
   pub incoming : (q : ℕ × ℕ) → (degrees_of m q).incoming ≡ count_by (reaches q.0 q.1) es
@@ -82,7 +82,7 @@ pub record Marks {X Y : Type 0} (uses : ℕ → Y → Bool) (items : List X) (us
 abbrev pub unmarked : List Bool → List ℕ
 unmarked marks = filter (λ n. not (get_or marks n false)) (range_with_len 0 (length marks))
 
--- the finding that an item of a table is unused: of a vertex, of a side, and else of a sector
+-- the finding that an item is unused, for vertices, sides and sectors
 abbrev pub unused_item : Kind → ℕ → Finding
 unused_item kind.Vertex n = VertexUnused n
 unused_item kind.Side n = SideUnused n

@@ -23,7 +23,7 @@ struct Degrees {
 // A sector's number, and the number of one of its vertices.
 type Corner = (u16, u16);
 
-// What was counted at the corner.
+// The counts at the corner.
 fn degrees_at(degrees: &BTreeMap<Corner, Degrees>, corner: Corner) -> Degrees
     ensures { result ≡ degrees_of degrees.now corner }
 {
@@ -56,7 +56,7 @@ fn reach(degrees: &mut BTreeMap<Corner, Degrees>, corner: Corner) -> Result<(), 
     Ok(())
 }
 
-// Counts an edge of the sector at the vertices between which it runs.
+// Counts an edge of the sector at both its vertices.
 fn count_edge(
     degrees: &mut BTreeMap<Corner, Degrees>,
     sector: u16,

@@ -31,7 +31,7 @@ impl<T: Drop> From<AllocFailed<T>> for CheckError {
 impl CheckError {
     ghost use Rattle.lv_checks.specs.Errors.{code_of};
 
-    /// The number of the refusal.
+    /// The refusal's number: 31.
     pub fn code(&self) -> u16
         ensures { result ≡ code_of self.now }
     {

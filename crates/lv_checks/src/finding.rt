@@ -1,7 +1,7 @@
 //! A finding, and its line of text.
 use std::fmt;
 
-/// Which of a side's three textures.
+/// One of a side's three textures.
 #[derive(Clone, Copy, Debug, PartialEq, Eq)]
 pub enum Texture {
     Upper,
@@ -9,7 +9,7 @@ pub enum Texture {
     Middle,
 }
 
-/// What is wrong or unfinished in a map. Items go by their numbers.
+/// What is wrong or unfinished in a map. Items are named by their numbers.
 #[derive(Clone, Copy, Debug, PartialEq, Eq)]
 pub enum Finding {
     /// No line has the vertex.
@@ -18,13 +18,13 @@ pub enum Finding {
     SideUnused(u32),
     /// No side faces the sector.
     SectorUnused(u32),
-    /// A side of the line can be seen where it has no texture.
+    /// A part of the line's wall is visible, but the side has no texture for it.
     TextureMissing {
         line: u32,
         left: bool,
         texture: Texture,
     },
-    /// The edges of the sector that leave the vertex and those that reach it differ in number.
+    /// The number of the sector's edges that leave the vertex differs from the number that reach it.
     SectorOpen {
         sector: u32,
         vertex: u32,

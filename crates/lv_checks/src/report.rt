@@ -1,4 +1,4 @@
-//! The call of the crate: all findings of a map, in their order.
+//! The crate's call: lists all findings of a map, in a fixed order.
 ghost use Rattle.std.specs.Prelude.{◌≡◌, IfOk, IsOkUnless};
 ghost use Rattle.lv_checks.specs.Findings.{findings};
 
@@ -11,10 +11,10 @@ use crate::unused::{list_unused_sectors, list_unused_sides, list_unused_vertices
 use lv_maptables::Map;
 use std::alloc::Global;
 
-/// What is wrong or unfinished in the map: unused vertices, unused sides and unused sectors, each by
-/// number; missing textures by line, the right side before the left, upper before lower before
-/// middle; open sectors by sector, then by vertex; and that there is no player start. It takes time
-/// near the map's size times the logarithm of it, and is refused by lack of memory alone.
+/// Lists what is wrong or unfinished in the map: unused vertices, unused sides and unused sectors, each by number;
+/// missing textures by line, the right side before the left, upper before lower before middle; open sectors by
+/// sector, then by vertex; and that there is no player start. It takes about O(n log n) time in the map's size, and
+/// fails only if memory runs out.
 pub fn check(alloc: Global, map: &Map) -> Result<Vec<Finding>, CheckError>
     ensures found { IfOk result (λ found. found.items ≡ findings map.now.tables) }
     ensures memory { IsOkUnless result CheckError.OutOfMemory }

@@ -8,7 +8,7 @@ use crate::finding::Finding;
 use lv_lumps::Thing;
 use lv_maptables::{Kind, Map};
 
-// The kind of the thing at which the first player starts.
+// The type number of the first player's start.
 const PLAYER_START: i16 = 1;
 
 // Whether the thing is the first player's start.
@@ -18,7 +18,7 @@ fn is_start(thing: &Thing) -> bool
     thing.kind == PLAYER_START
 }
 
-// Whether one of the things is.
+// Whether one of the map's things is the first player's start.
 fn has_player_start(map: &Map) -> bool
     ensures { result ≡ list_any is_start map.now.tables.things }
 {
@@ -31,7 +31,7 @@ fn has_player_start(map: &Map) -> bool
     false
 }
 
-/// Adds the finding that no thing is the first player's start, if none is.
+/// Adds a finding if no thing is the first player's start.
 pub(crate) fn list_missing_start(map: &Map, found: &mut Vec<Finding>) -> Result<(), CheckError>
     ensures { OnOk result (found.new.items ≡ found.old.items ++ missing_start map.now.tables) }
 {

@@ -13,7 +13,7 @@ use lv_maptables::{Kind, Map};
 // A side's textures, in the order of their findings.
 const TEXTURES: [Texture; 3] = [Texture::Upper, Texture::Lower, Texture::Middle];
 
-// Whether the name stands for no texture.
+// Whether the name means "no texture".
 fn is_missing(name: &Name8) -> bool
     ensures { result ≡ is_missing name.now }
 {
@@ -27,7 +27,7 @@ fn is_sky(sector: &Sector) -> bool
     sector.ceiling_name.text() == b"F_SKY1".as_slice()
 }
 
-// The side of the number.
+// The side with the number.
 fn side_in(map: &Map, n: u16) -> Side
     requires { n < length map.now.tables.sides }
     ensures value { result ≡ side_in map.now.tables n }
@@ -52,22 +52,21 @@ fn own_side(line: &Line, left: bool) -> u16
     if left { line.left } else { line.right }
 }
 
-// The number of the side behind that one.
+// The number of the line's side opposite to that one.
 fn side_behind(line: &Line, left: bool) -> u16
     ensures { result ≡ side_behind line.now left }
 {
     if left { line.right } else { line.left }
 }
 
-// Whether the wall over the lower ceiling of `far` shows in `near`: not where both ceilings are
-// the sky.
+// Whether the wall above the lower ceiling of `far` is visible from `near`: not if both ceilings are the sky.
 fn upper_shows(near: &Sector, far: &Sector) -> bool
     ensures { result ≡ upper_shows near.now far.now }
 {
     far.ceiling < near.ceiling && !(is_sky(near) && is_sky(far))
 }
 
-// Whether the side `own` misses its upper texture before the side `behind`.
+// Whether the side `own`, opposite to the side `behind`, misses its upper texture.
 fn misses_upper(map: &Map, own: u16, behind: u16) -> bool
     requires own { own < length map.now.tables.sides }
     requires behind { behind < length map.now.tables.sides }
@@ -77,7 +76,8 @@ fn misses_upper(map: &Map, own: u16, behind: u16) -> bool
         && is_missing(&side_in(map, own).upper)
 }
 
-// Whether the side `own` misses its lower texture before the side `behind`, whose higher floor's wall shows.
+// Whether the side `own`, opposite to the side `behind`, misses its lower texture: the wall below a higher floor is
+// visible.
 fn misses_lower(map: &Map, own: u16, behind: u16) -> bool
     requires own { own < length map.now.tables.sides }
     requires behind { behind < length map.now.tables.sides }

@@ -55,7 +55,7 @@ fn used_sectors(alloc: Global, map: &Map) -> Result<Vec<bool>, CheckError>
     Ok(used)
 }
 
-// The finding that nothing uses an item of one of the three tables whose items need a use.
+// The finding that an item is unused, for vertices, sides and sectors.
 fn unused_item(kind: Kind, n: u32) -> Finding
     ensures { result ≡ unused_item kind n }
 {

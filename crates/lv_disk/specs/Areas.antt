@@ -1,4 +1,4 @@
--- Words on the areas of a file.
+-- Relations of areas of a file.
 use Rattle.std.specs.Prelude.{◌≤◌, ◌⊎◌, ◌+◌, ℕ}
 use Rattle.lv_disk.specs.declared.area.Area.{Area}
 

@@ -1,4 +1,4 @@
--- A record of calls in memory that was taken at once.
+-- What a record of calls in memory holds.
 use Rattle.std.specs.Prelude.{ℕ, List, length, take, drop}
 use Rattle.lv_disk.specs.Medium.{Call}
 use Rattle.lv_disk.specs.Entries.{made_by, ranges_of}
@@ -12,6 +12,6 @@ calls_in c = made_by (take c.count c.entries.items) (take c.used c.written.items
 abbrev pub ranges_in : Calls → List (ℕ × ℕ)
 ranges_in c = ranges_of (drop c.since (take c.count c.entries.items))
 
--- how many bytes the record may take
+-- the size of the record, in bytes
 abbrev pub record_room : Calls → ℕ
 record_room c = length c.written.items

@@ -1,5 +1,5 @@
--- The laws of a disk's images: as it reads it is one of them, and those of this moment are those
--- since it.
+-- The laws of a disk's images: what it reads as is one of them, and the images since the current moment are the
+-- current ones.
 use Rattle.std.proofs.Common.{◌≡◌, ◌≤◌, ℕ, List, length, take, sym, subst}
 use Rattle.std.proofs.Math.Nat.{le_refl}
 use Rattle.std.proofs.lemmas.List.{take_all}

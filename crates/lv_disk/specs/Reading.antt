@@ -1,9 +1,9 @@
--- What a run of calls that only read leaves of a disk.
+-- A run of calls that only reads.
 use Rattle.lv_disk.specs.Moments.{LeavesOnly}
 use Rattle.lv_disk.specs.Stops.{Each}
 use Rattle.lv_disk.specs.declared.disk.Disk.{Ghosts}
 
--- what a read gives stays, and so does what a stop may leave: nothing more, and nothing less
+-- what reads return stays, and what a stop may leave stays: nothing is added and nothing removed
 pub record OnlyReads {D : Type 0} (facts : Ghosts D) (old new : D) : Type 0 where
   pub no_other : Each (facts.reads new) (facts.reads old)
   pub still : Each (facts.reads old) (facts.reads new)

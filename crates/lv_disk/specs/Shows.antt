@@ -1,8 +1,9 @@
--- What a disk in memory holds, as its calls made it.
+-- How the fields of a disk in memory represent what it holds.
 use Rattle.std.specs.Prelude.{◌≡◌, ℕ, List, length}
 use Rattle.lv_disk.specs.Medium.{Medium, IsImage}
 
--- the parts of a disk show what it holds, which is one of its images; no call shortened its file
+-- the fields are the parts of what the disk holds; its file is one of its images, and no call has shortened the
+-- file
 pub record Shows (m : Medium) (file synced : List ℕ) (writes : List (ℕ × ℕ)) : Type 0 where
   pub file_is : m.file ≡ file
   pub synced_is : m.synced ≡ synced

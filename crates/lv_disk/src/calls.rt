@@ -1,4 +1,4 @@
-//! The record of a memory disk's good calls, from which the images of past moments are known.
+//! The record of a memory disk's successful calls. It determines the images of past moments.
 ghost use Rattle.std.specs.Prelude.{◌≡◌, ◌≤◌, ◌<◌, ◌+◌, ◌*◌, ◌/◌, ◌^◌, ◌↔◌, [], ◌∷◌, ◌++◌, length, take, IfOk, IsTrue};
 ghost use Rattle.std.specs.List.{list_any};
 ghost use Rattle.lv_disk.specs.Entries.{has_place, bytes_of_all};
@@ -9,14 +9,14 @@ use crate::entry::Entry;
 use crate::put::put;
 use std::alloc::Global;
 
-// A record of the good calls of a disk, whose memory was taken at once.
+// A record of a disk's successful calls. Its memory is allocated once.
 #[derive(Drop)]
 pub struct Calls {
-    // The first `count` are the calls. Those from `since` on came after the last sync.
+    // The first `count` entries are in use. Those from `since` on came after the last sync.
     entries: Vec<Entry>,
     count: usize,
     since: usize,
-    // The first `used` are the bytes of the writes, one write's after another's.
+    // The first `used` bytes are those of the writes, one write after another.
     written: Vec<u8>,
     used: usize,
     ghost used_is: { bytes_of_all (take count entries.items) ≡ used },
@@ -48,7 +48,7 @@ impl Calls {
         self.written.len()
     }
 
-    // Whether the record has a place for one call more, with so many bytes.
+    // Whether the record has room for one more call that writes `size` bytes.
     pub fn has_room(&self, size: usize) -> bool
         ensures { IsTrue result ↔ (size_of (calls_in self.now) + 16 + size ≤ record_room self.now) }
     {
@@ -82,7 +82,7 @@ impl Calls {
         self.since = self.count;
     }
 
-    // Whether the byte at this place was written since the last sync.
+    // Whether the byte at offset `place` was written since the last sync.
     pub fn has_written(&self, place: usize) -> bool
         ensures { result ≡ list_any (is_in place) (ranges_in self.now) }
     {

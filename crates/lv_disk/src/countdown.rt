@@ -1,22 +1,22 @@
-//! The call of a disk that is to fail, and how it fails.
+//! Counts the calls up to the injected fault.
 ghost use Rattle.std.specs.Prelude.{◌≡◌, ◌≢◌, ◌<◌, ◌-◌, IsErr, false, true};
 
 use crate::DeviceFault;
 
-// Which call fails. It stands apart from the disk, so that to count a call leaves the disk alone.
+// Which call fails. It is a struct of its own, so that counting a call leaves the disk unchanged.
 #[derive(Clone, Copy)]
 pub struct Countdown {
-    // How many calls are left up to the one that fails, 0 where none is.
+    // How many calls are left, counting the one that fails; 0 if none fails any more.
     pub left: u64,
-    // Where that is a write, so many of its bytes are put down.
+    // If the failing call is a write, this many of its bytes are written.
     pub part: u32,
-    // Whether that call has failed, and not by a fault of the disk inside.
+    // Whether the injected fault has happened, and the inner disk did not fail in that call.
     pub failed: bool,
     ghost once: { 0 < left → failed ≡ false },
 }
 
 impl Countdown {
-    // Counts a call, and tells whether it is the one that fails.
+    // Counts a call, and returns whether it is the one that fails.
     pub fn is_next(&mut self) -> bool
         ensures left { self.new.left ≡ self.old.left - 1 }
         ensures part { self.new.part ≡ self.old.part }
@@ -29,7 +29,7 @@ impl Countdown {
         is_next
     }
 
-    // The call fails here.
+    // Fails the call with the injected fault.
     pub fn fail<T>(&mut self) -> Result<T, DeviceFault>
         requires { self.old.left ≡ 0 }
         ensures err { IsErr result }

@@ -1,4 +1,4 @@
-//! A disk as the layers above see it: what a read gives, and what a stop may leave.
+//! A disk as the layers above see it: what a read returns, and what a stop may leave.
 ghost use Rattle.std.specs.Prelude.{◌≡◌, ◌≤◌, ◌+◌, List, ℕ, length, OnOk, OnErr, IfOk};
 ghost use Rattle.lv_disk.specs.Files.{Failed, HasAt, Torn, Written};
 ghost use Rattle.lv_disk.specs.Stops.{Counted, Each, Elapses, Follows, LeadsBy};
@@ -7,21 +7,22 @@ use crate::DeviceFault;
 
 /// A file on a device that may stop, before or within any call.
 ///
-/// Places and lengths are in bytes. A disk that tells no bytes, as a real file, has none of the sets below.
+/// Offsets and lengths are in bytes. If contracts can't see a disk's bytes, as with a real file, the sets `reads`,
+/// `may_leave` and `left_since` are empty.
 pub trait Disk {
-    /// The bytes are those that a read gives.
+    /// The files that reads may show: a single file for a disk in memory.
     ghost reads: { Self → List ℕ → Type 0 };
 
     /// A stop now may leave this file.
     ghost may_leave: { Self → List ℕ → Type 0 };
 
-    /// The moment, as a number that doesn't fall.
+    /// The current moment, as a number that never falls.
     ghost moment: { Self → ℕ };
 
-    /// A stop at some moment from that one on might have left this file.
+    /// A stop at some moment since the given one might have left this file.
     ghost left_since: { Self → ℕ → List ℕ → Type 0 };
 
-    /// How often the disk has failed.
+    /// How many calls of the disk have failed.
     ghost failures: { Self → ℕ };
 
     /// The length of the file.
@@ -35,7 +36,7 @@ pub trait Disk {
             (left_since self.old) (left_since self.new) (may_leave self.new) }
         ensures count { Counted (failures self.old) (failures self.new) result };
 
-    /// Reads the bytes from `at` on. After a fault `into` may hold anything.
+    /// Fills `into` with the bytes from `at` on. After a fault `into` may hold anything.
     fn read(&mut self, at: u64, into: &mut [u8]) -> Result<(), DeviceFault>
         requires { Each (reads self.old) (λ file. at + length into.old ≤ length file) }
         ensures told { OnOk result (Each (reads self.old) (HasAt at into.new)) }
@@ -47,7 +48,8 @@ pub trait Disk {
             (left_since self.old) (left_since self.new) (may_leave self.new) }
         ensures count { Counted (failures self.old) (failures self.new) result };
 
-    /// Writes the bytes from `at` on. Past the end it makes the gap read as zero; no bytes change nothing anywhere.
+    /// Writes the bytes from `at` on. If `at` is past the end, the gap reads as zero. Writing no bytes changes
+    /// nothing.
     fn write_at(&mut self, at: u64, from: &[u8]) -> Result<(), DeviceFault>
         ensures written { OnOk result
             (Follows (Written at from.now) (reads self.old) (reads self.new)) }
@@ -64,7 +66,7 @@ pub trait Disk {
             (left_since self.old) (left_since self.new) (may_leave self.new) }
         ensures count { Counted (failures self.old) (failures self.new) result };
 
-    /// Puts all that was written on the device. A failed one changes no read.
+    /// Makes all writes durable. A failed sync doesn't change what reads return.
     fn sync(&mut self) -> Result<(), DeviceFault>
         ensures durable { OnOk result (Each (may_leave self.new) (reads self.new)) }
         ensures reads { Each (reads self.new) (reads self.old) }
@@ -74,14 +76,14 @@ pub trait Disk {
             (left_since self.old) (left_since self.new) (may_leave self.new) }
         ensures count { Counted (failures self.old) (failures self.new) result };
 
-    /// A disk as it reads is one of its images.
+    /// What a disk reads as is one of its images.
     ghost reads_an_image: { (disk : Self) (file : List ℕ) → reads disk file → may_leave disk file };
 
-    /// This moment is one of those since an earlier one.
+    /// What a stop now may leave, a stop since an earlier moment might have left.
     ghost counts_now: { (disk : Self) (t : ℕ) (file : List ℕ)
         → t ≤ moment disk → may_leave disk file → left_since disk t file };
 
-    /// Since this moment there is no other.
+    /// What a stop since the current moment might have left, a stop now may leave.
     ghost only_now: { (disk : Self) (file : List ℕ) → left_since disk (moment disk) file
         → may_leave disk file };
 }

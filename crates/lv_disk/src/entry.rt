@@ -1,7 +1,7 @@
-//! A call in the record of a disk in memory.
+//! An entry in the record of a memory disk's calls.
 ghost use Rattle.std.specs.Prelude.{◌≡◌};
 
-// A good call, as a record of calls keeps it.
+// A successful call, as the record keeps it.
 #[derive(Clone, Copy)]
 pub enum Entry {
     Write { at: usize, size: usize },
@@ -11,7 +11,7 @@ pub enum Entry {
 impl Entry {
     ghost use Rattle.lv_disk.specs.Entries.{has_place};
 
-    // Whether it is a write whose range has this place.
+    // Whether it is a write whose range contains the offset `place`.
     pub fn has_place(&self, place: usize) -> bool
         ensures { result ≡ has_place place self.now }
     {

@@ -1,16 +1,16 @@
-//! Why a disk fails, and why there is none.
+//! Why a call of a disk fails, and why a disk in memory can't be made.
 ghost use Rattle.std.specs.Prelude.{◌≡◌};
 
 use std::alloc::{AllocError, AllocFailed};
 use thiserror::Error;
 
-/// A call that the device didn't do.
+/// A call of the device failed.
 #[derive(Clone, Copy, Debug, PartialEq, Eq, Error)]
 #[error("the device failed")]
 pub struct DeviceFault;
 
 impl DeviceFault {
-    /// The number of the refusal.
+    /// The refusal's number.
     pub fn code(&self) -> u16
         ensures { result ≡ 30 }
     {
@@ -18,13 +18,13 @@ impl DeviceFault {
     }
 }
 
-/// No memory for a disk in memory.
+/// Out of memory for a disk in memory.
 #[derive(Clone, Copy, Debug, Error)]
 #[error("out of memory")]
 pub struct OutOfMemory;
 
 impl OutOfMemory {
-    /// The number of the refusal.
+    /// The refusal's number.
     pub fn code(&self) -> u16
         ensures { result ≡ 31 }
     {

@@ -1,4 +1,4 @@
-//! A disk of which one call fails.
+//! A disk with one injected fault.
 ghost use Rattle.std.specs.Prelude.{◌≡◌, ◌<◌, ◌≤◌, ◌+◌, length, take, IfOk, IsErr, OnErr, OnOk, false};
 ghost use Rattle.lv_disk.specs.Files.{Failed, HasAt, Torn, Written};
 ghost use Rattle.lv_disk.specs.Stops.{Counted, Each, Elapses, Follows, LeadsBy};
@@ -6,7 +6,7 @@ ghost use Rattle.lv_disk.specs.Stops.{Counted, Each, Elapses, Follows, LeadsBy};
 use crate::countdown::Countdown;
 use crate::{DeviceFault, Disk};
 
-/// Any disk, of which one call fails.
+/// Any disk, with one injected fault.
 #[derive(Drop)]
 pub struct FaultDisk<D> {
     inner: D,
@@ -16,7 +16,8 @@ pub struct FaultDisk<D> {
 impl<D> FaultDisk<D> {
     ghost use Rattle.lv_disk.specs.Fault.{inner_of, calls_left, part_of, own_failures};
 
-    /// The `k`-th call from 1 fails, none where `k` is 0. Where that is a write, its first `part` bytes are put down.
+    /// The `k`-th call fails, counted from 1; none fails if `k` is 0. If that call is a write, its first `part`
+    /// bytes are written.
     pub fn new(inner: D, k: u64, part: u32) -> Self
         ensures inner { inner_of result ≡ inner }
         ensures left { calls_left result ≡ k }
@@ -31,7 +32,7 @@ impl<D> FaultDisk<D> {
         FaultDisk { inner, countdown }
     }
 
-    /// Lends the disk inside.
+    /// Borrows the inner disk.
     pub fn inner(&self) -> &D
         ensures { result.now ≡ inner_of self.now }
     {
@@ -42,7 +43,7 @@ impl<D> FaultDisk<D> {
 impl<D: Disk> FaultDisk<D> {
     ghost use Rattle.lv_disk.specs.Fault.{inner_of, calls_left, part_of, own_failures, PutsDown};
 
-    // A write that fails: puts its first bytes down.
+    // Does the write that fails: writes its first `part` bytes.
     fn put_down(&mut self, at: u64, from: &[u8]) -> Result<(), DeviceFault>
         requires last { calls_left self.old ≡ 0 }
         requires first { self.old.countdown.failed ≡ false }
@@ -106,7 +107,7 @@ impl<D: Disk> Disk for FaultDisk<D> {
         ensures count { Counted (own_failures self.old + D.failures (inner_of self.old))
             (own_failures self.new + D.failures (inner_of self.new)) result }
 
-        // Beyond what every disk promises: which call fails, and that the others are those of the disk inside.
+        // Beyond what every disk promises: which call fails, and that all others are passed on to the inner disk.
         ensures call { IsCounted D.Disk self.old self.new result }
         ensures untouched { calls_left self.old ≡ 1 → inner_of self.new ≡ inner_of self.old }
     {
@@ -129,7 +130,7 @@ impl<D: Disk> Disk for FaultDisk<D> {
         ensures count { Counted (own_failures self.old + D.failures (inner_of self.old))
             (own_failures self.new + D.failures (inner_of self.new)) result }
 
-        // Beyond what every disk promises: which call fails, and that the others are those of the disk inside.
+        // Beyond what every disk promises: which call fails, and that all others are passed on to the inner disk.
         ensures call { IsCounted D.Disk self.old self.new result }
         ensures untouched { calls_left self.old ≡ 1 → inner_of self.new ≡ inner_of self.old }
     {
@@ -157,7 +158,7 @@ impl<D: Disk> Disk for FaultDisk<D> {
         ensures count { Counted (own_failures self.old + D.failures (inner_of self.old))
             (own_failures self.new + D.failures (inner_of self.new)) result }
 
-        // Beyond what every disk promises: which call fails, and that the others are those of the disk inside.
+        // Beyond what every disk promises: which call fails, and that all others are passed on to the inner disk.
         ensures call { IsCounted D.Disk self.old self.new result }
         ensures untouched { calls_left self.old ≡ 1 → part_of self.old ≡ 0 → inner_of self.new
             ≡ inner_of self.old }
@@ -183,7 +184,7 @@ impl<D: Disk> Disk for FaultDisk<D> {
         ensures count { Counted (own_failures self.old + D.failures (inner_of self.old))
             (own_failures self.new + D.failures (inner_of self.new)) result }
 
-        // Beyond what every disk promises: which call fails, and that the others are those of the disk inside.
+        // Beyond what every disk promises: which call fails, and that all others are passed on to the inner disk.
         ensures call { IsCounted D.Disk self.old self.new result }
         ensures untouched { calls_left self.old ≡ 1 → inner_of self.new ≡ inner_of self.old }
     {
@@ -194,7 +195,7 @@ impl<D: Disk> Disk for FaultDisk<D> {
     }
 }
 
-// So many of the bytes, all where there are fewer.
+// The first `part` bytes, or all of them if there are fewer.
 fn first_bytes(from: &[u8], part: u32) -> &[u8]
     ensures first { result.now ≡ take part from.now }
     ensures short { length result.now ≤ length from.now }

@@ -9,9 +9,9 @@ use std::os::unix::fs::FileExt;
 
 /// A real file.
 ///
-/// It tells no bytes: that what it reads and what a stop leaves of it keep the facts of `Disk` is assumed. An
-/// interrupted call of the system is tried again and a short one goes on; a read that meets the end early is a fault. A
-/// medium that knows no sync is no fault where the file is open for reads alone.
+/// Contracts can't see its bytes: it is assumed that its reads, and what a stop leaves, keep the facts of `Disk`.
+/// An interrupted system call is tried again, and a short one is continued. A read past the end is a fault. If the
+/// file is open only for reads, a medium that doesn't support sync is no fault.
 #[derive(Drop)]
 pub struct FileDisk<F> {
     file: F,
@@ -22,7 +22,7 @@ pub struct FileDisk<F> {
 impl<F> FileDisk<F> {
     ghost use Rattle.lv_disk.specs.File.{file_failures};
 
-    /// The disk of a file that is open for reads, and with `writes` for writes too.
+    /// The disk of a file that is open for reads, and for writes too if `writes` is true.
     pub fn new(file: F, writes: bool) -> FileDisk<F>
         ensures { file_failures result ≡ 0 }
     {
@@ -33,7 +33,8 @@ impl<F> FileDisk<F> {
         }
     }
 
-    /// Opens the file for reads and writes. With `new` one is made where there is none; nothing is cut.
+    /// Opens the file for reads and writes, without truncating it. If `new` is true and there is no file, it is
+    /// created.
     pub fn open<R: Files<File = F>>(
         rt: &R,
         path: &str,
@@ -52,7 +53,7 @@ impl<F> FileDisk<F> {
         }
     }
 
-    // Counts a call that the system refused.
+    // Counts a failed system call.
     fn counted<T>(&mut self, outcome: io::Result<T>) -> Result<T, DeviceFault>
         ensures count { Counted (file_failures self.old) (file_failures self.new) result }
         ensures same { is_ok result ≡ is_ok outcome }
@@ -67,7 +68,7 @@ impl<F> FileDisk<F> {
     }
 }
 
-// How a sync of a file ended of which nothing is written: where its medium can't be synced, nothing is wanting.
+// The outcome of syncing a file that is open only for reads: it is no fault that the medium can't be synced.
 fn without_refusal(done: io::Result<()>) -> io::Result<()> {
     match done {
         Err(error) => match error.kind() {

@@ -1,13 +1,14 @@
 //! What a stop leaves of unsynced bytes: the images that `MemoryDisk::stop` can give.
-/// What a stop leaves of the unsynced bytes: those written since the last good sync, and those past the length of then.
+/// What a stop leaves of the unsynced bytes: those written since the last successful sync, and those past the
+/// file's length at that sync.
 #[derive(Clone, Copy, Debug, PartialEq, Eq)]
 pub enum Fill {
-    /// As last synced, and zero past the old end.
+    /// As at the last sync, and zero past the file's end at that sync.
     Stable,
-    /// As they read.
+    /// As they read now.
     Written,
-    /// Each is this one.
+    /// Each is this byte.
     Byte(u8),
-    /// The first so many by place as written, the others as last synced.
+    /// The first ones, this many in the order of their offsets, as written; the others as at the last sync.
     Upto(u32),
 }

@@ -1,4 +1,4 @@
-//! A file in memory that takes all its memory at once.
+//! A file in memory that allocates all its memory once.
 ghost use Rattle.std.specs.Prelude.{◌≡◌, ◌≤◌, ◌<◌, ◌+◌, ℕ, [], ◌∷◌, ◌++◌, length, take, replicate, slice_index, IfOk};
 ghost use Rattle.lv_disk.specs.Files.{HasAt};
 ghost use Rattle.lv_disk.specs.Medium.{overwritten};
@@ -7,10 +7,10 @@ use crate::OutOfMemory;
 use crate::put::put;
 use std::alloc::Global;
 
-// A file of at most so many bytes, whose memory was taken at once.
+// A file of limited size. Its memory is allocated once.
 #[derive(Drop)]
 pub struct FixedFile {
-    // The file is the first `len` of these, and zeros stand behind it.
+    // The file is the first `len` bytes; all bytes after it are zero.
     bytes: Vec<u8>,
     len: usize,
     ghost fits: { len ≤ length bytes.items },
@@ -42,7 +42,7 @@ impl FixedFile {
         self.bytes.len()
     }
 
-    // Past the end it is 0.
+    // The byte at offset `place`, 0 past the end.
     pub fn byte(&self, place: usize) -> u8
         requires { place < most_of self.now }
         ensures { result ≡ slice_index (bytes_of self.now) place }

@@ -1,4 +1,4 @@
-//! A law on a disk in memory. The function has no body: its contract is the law.
+//! A law about disks in memory. The function's body is empty: its contract is the law.
 ghost use Rattle.std.specs.Prelude.{◌≡◌, ◌↔◌, List, ℕ, length};
 ghost use Rattle.lv_disk.specs.Medium.{IsImage, LeftSince};
 ghost use Rattle.lv_disk.specs.Memory.{calls_of, memory_failures, first_medium, medium_of};
@@ -6,9 +6,8 @@ ghost use Rattle.lv_disk.specs.declared.memory.MemoryDisk.{MemoryDisk as Memory}
 
 use crate::{Disk, MemoryDisk};
 
-/// A disk in memory tells of itself what the disk model says: it reads as its file, a stop now may leave just the
-/// images of what it holds, one since some moment just those after as many calls or more, and it counts its own
-/// failures.
+/// The facts of a disk in memory are those of the disk model. It reads as its file. A stop now may leave exactly
+/// its images, and a stop since moment `t` exactly the images after `t` or more calls. It counts its own failures.
 pub fn show_the_disk_model()
     ensures reads { (disk : Memory) (file : List ℕ)
         → ⟦<MemoryDisk as Disk>⟧.reads disk file ↔ (file ≡ (medium_of disk).file) }

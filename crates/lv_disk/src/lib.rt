@@ -1,4 +1,4 @@
-//! A disk that may stop at any moment, and what it then leaves: in memory, failing on purpose, and real.
+//! A disk that may stop at any moment, and what it then leaves: in memory, with an injected fault, or a real file.
 #![tactic(auto)]
 
 mod area;

@@ -1,4 +1,4 @@
-//! A disk in memory, which knows what a stop at each moment since it was made may have left.
+//! A disk in memory, which determines what a stop at any moment since its creation may have left.
 ghost use Rattle.std.specs.List.{range_with_len};
 ghost use Rattle.std.specs.Prelude.{◌≡◌, ◌≤◌, ◌<◌, ◌+◌, ◌↔◌, map, [], ◌∷◌, ◌++◌, List, ℕ, length, IfOk, IsErr, IsOk, IsTrue, OnErr, OnOk, is_ok};
 ghost use Rattle.lv_disk.specs.Calls.{calls_in, ranges_in};
@@ -15,15 +15,15 @@ use crate::fixed_file::FixedFile;
 use crate::{DeviceFault, Disk, Fill, OutOfMemory};
 use std::alloc::Global;
 
-/// A disk in memory. It takes its memory at once, for the file and for a record of its good calls.
+/// A disk in memory. It allocates its memory once, for the file and for a record of its successful calls.
 ///
-/// Of the record a write takes 16 bytes and its length, a sync 16. A write that ends beyond the room for the file, and
-/// a call for which the record has no place, changes nothing and fails.
+/// In the record, a write takes 16 bytes plus its length, and a sync takes 16 bytes. A write that would end past
+/// the room for the file fails and changes nothing; so does a call that doesn't fit in the record.
 pub struct MemoryDisk {
     file: FixedFile,
-    // The file of the last good sync.
+    // The file as of the last successful sync.
     synced: FixedFile,
-    // The file before the calls of the record.
+    // The file before the calls in the record.
     first: FixedFile,
     calls: Calls,
     failures: u64,
@@ -32,7 +32,7 @@ pub struct MemoryDisk {
     ghost same_room: { most_of synced ≡ most_of file },
 }
 
-// A call of its own, so that who owns a disk lets its files go by one step.
+// A `drop` of its own, so that a function that owns a disk frees its files by one call.
 impl Drop for MemoryDisk {
     fn drop(self) {
         let MemoryDisk {
@@ -48,7 +48,7 @@ impl Drop for MemoryDisk {
 impl MemoryDisk {
     ghost use Rattle.lv_disk.specs.Memory.{Begins, Goes, calls_of, memory_failures, log_of, medium_of, memory_room};
 
-    /// An empty disk, for a file of at most `room` bytes and a record of at most `log`.
+    /// An empty disk, for a file of at most `room` bytes and a record of at most `log` bytes.
     pub fn new(alloc: Global, room: u32, log: u32) -> Result<MemoryDisk, OutOfMemory>
         ensures { IfOk result (Begins [] room log) }
     {
@@ -56,7 +56,8 @@ impl MemoryDisk {
         MemoryDisk::holding(alloc, empty, log as usize)
     }
 
-    /// The disk as a stop now may leave it: the image that the fill names, of the greatest length or of the least.
+    /// The disk as a stop now may leave it: the image for this `fill`, of the greatest length if `longest` is true,
+    /// else of the least.
     pub fn stop(&self, alloc: Global, fill: Fill, longest: bool) -> Result<MemoryDisk, OutOfMemory>
         ensures image { IsImage (medium_of self.now) (stopped (medium_of self.now) fill longest) }
         ensures begins { IfOk result (Begins (stopped (medium_of self.now) fill longest)
@@ -73,7 +74,7 @@ impl MemoryDisk {
         MemoryDisk::holding(alloc, image, self.calls.limit())
     }
 
-    // So many bytes of the image that the fill names.
+    // The first `size` bytes of the image for this `fill`.
     fn image(&self, alloc: Global, fill: Fill, size: usize) -> Result<FixedFile, OutOfMemory>
         requires { size ≤ memory_room self.now }
         ensures bytes { IfOk result (λ f.
@@ -93,14 +94,14 @@ impl MemoryDisk {
         Ok(image)
     }
 
-    // Whether the byte was written since the last good sync, or is past the length of then.
+    // Whether the byte was written since the last successful sync, or is past the file's length at that sync.
     fn is_unsynced(&self, place: usize) -> bool
         ensures { result ≡ is_unsynced (medium_of self.now) place }
     {
         place >= self.synced.len() || self.calls.has_written(place)
     }
 
-    // What stands at an unsynced place, with so many before it.
+    // What the image has at an unsynced offset; `before` is the number of unsynced bytes before it.
     fn filled(&self, fill: Fill, place: usize, before: usize) -> u8
         requires place { place < memory_room self.now }
         requires before { before ≡ unsynced_before (medium_of self.now) place }
@@ -115,7 +116,7 @@ impl MemoryDisk {
         }
     }
 
-    // All of the file is on the disk, and the record is empty.
+    // A disk that holds this file, fully synced, with an empty record.
     fn holding(alloc: Global, file: FixedFile, log: usize) -> Result<MemoryDisk, OutOfMemory>
         ensures { IfOk result (Begins (bytes_of file) (most_of file) log) }
     {
@@ -132,7 +133,7 @@ impl MemoryDisk {
         })
     }
 
-    // Whether a write of so many bytes ends within the room and has a place in the record.
+    // Whether a write of `size` bytes ends within the room and fits in the record.
     fn has_room(&self, at: u64, size: usize) -> bool
         ensures { IsTrue result
             ↔ ((at + size ≤ memory_room self.now)
@@ -143,7 +144,7 @@ impl MemoryDisk {
         within && self.calls.has_room(size)
     }
 
-    // Changes nothing, and counts it.
+    // Fails the call: changes nothing and counts the failure.
     fn fail(&mut self) -> Result<(), DeviceFault>
         ensures err { IsErr result }
         ensures nothing { Goes [] self.old self.new }
@@ -153,7 +154,7 @@ impl MemoryDisk {
         Err(DeviceFault)
     }
 
-    // The call as a good one.
+    // Does the write, and records it.
     fn write(&mut self, at: usize, from: &[u8])
         requires within { at + length from.now ≤ memory_room self.old }
         requires place { size_of (calls_of self.old) + 16 + length from.now ≤ log_of self.old }
@@ -164,7 +165,7 @@ impl MemoryDisk {
         self.calls.push_write(at, from);
     }
 
-    // Takes all that was written as on the disk.
+    // Marks all that was written as synced.
     fn settle(&mut self)
         requires place { size_of (calls_of self.old) + 16 ≤ log_of self.old }
         ensures goes { Goes (Synced ∷ []) self.old self.new }

@@ -1,7 +1,7 @@
-//! Writing bytes over others.
+//! Overwrites bytes in a list.
 ghost use Rattle.std.specs.Prelude.{◌≡◌, ◌≤◌, ◌+◌, ◌++◌, length, take, drop};
 
-// Puts bytes over those that stand there.
+// Overwrites the bytes from `at` on.
 pub fn put(bytes: &mut Vec<u8>, at: usize, from: &[u8])
     requires { at + length from.now ≤ length bytes.old.items }
     ensures { bytes.new.items ≡ take at bytes.old.items

@@ -1,4 +1,4 @@
-//! A disk that is read by large pieces, for those who read many short ranges in turn.
+//! A disk that is read in large pieces, for callers that read many short ranges in turn.
 ghost use Rattle.std.specs.Prelude.{◌≡◌, ◌≤◌, ◌+◌, length, take, IfOk, OnOk, true};
 ghost use Rattle.lv_disk.specs.Files.{HasAt};
 ghost use Rattle.lv_disk.specs.Stops.{Counted, Each, Elapses};
@@ -6,17 +6,17 @@ ghost use Rattle.lv_disk.specs.Stops.{Counted, Each, Elapses};
 use crate::{DeviceFault, Disk, OutOfMemory};
 use std::alloc::Global;
 
-// How much is read at once, in bytes.
+// How many bytes are read at once.
 const LONGEST: usize = 65_536;
 
-/// The memory that a disk is read into, 64 KB at once.
+/// The memory that a disk is read into, 64 KB at a time.
 #[derive(Drop)]
 pub struct Buffer {
     bytes: Vec<u8>,
 }
 
 impl Buffer {
-    /// Takes the memory.
+    /// Allocates the memory.
     pub fn new(alloc: Global) -> Result<Buffer, OutOfMemory> {
         Ok(Buffer {
             bytes: vec![in alloc; 0; LONGEST]?,
@@ -24,12 +24,12 @@ impl Buffer {
     }
 }
 
-/// Any disk, read ahead: a read of what lies in the buffer makes no call of the disk inside. A write empties the
-/// buffer.
+/// Any disk, with read-ahead: a read of a range that the buffer holds makes no call of the inner disk. A write
+/// empties the buffer.
 #[derive(Drop)]
 pub struct ReadAhead<D: Disk> {
     inner: D,
-    // The first `filled` bytes of the buffer are those of the file from `at` on.
+    // The first `filled` bytes of the buffer are the file's bytes from `at` on.
     at: u64,
     filled: usize,
     buffer: Buffer,
@@ -40,7 +40,7 @@ pub struct ReadAhead<D: Disk> {
 impl<D: Disk> ReadAhead<D> {
     ghost use Rattle.lv_disk.specs.ReadAhead.{disk_in};
 
-    /// The disk, with nothing read of it yet.
+    /// Wraps the disk, with an empty buffer.
     pub fn new(inner: D, buffer: Buffer) -> ReadAhead<D>
         ensures { disk_in result ≡ inner }
     {
@@ -52,7 +52,7 @@ impl<D: Disk> ReadAhead<D> {
         }
     }
 
-    /// The disk inside.
+    /// The inner disk.
     pub fn into_inner(self) -> D
         ensures { result ≡ disk_in self }
     {
@@ -68,7 +68,7 @@ impl<D: Disk> ReadAhead<D> {
         self.filled = 0;
     }
 
-    // Whether the range lies in the buffer.
+    // Whether the buffer holds the range.
     fn holds(&self, at: u64, len: usize) -> bool
         ensures { result ≡ true → (self.now.at ≤ at) × (at + len ≤ self.now.at + self.now.filled) }
     {
@@ -79,7 +79,7 @@ impl<D: Disk> ReadAhead<D> {
         }
     }
 
-    // Copies a range of the buffer.
+    // Copies a range from the buffer.
     fn copy(&self, at: u64, into: &mut [u8])
         requires begins { self.now.at ≤ at }
         requires ends { at + length into.old ≤ self.now.at + self.now.filled }
@@ -89,7 +89,7 @@ impl<D: Disk> ReadAhead<D> {
         into.copy_from_slice(&self.buffer.bytes[skipped..skipped + into.len()]);
     }
 
-    // Fills the buffer from a place on, as far as the file reaches.
+    // Fills the buffer with the file's bytes from `at` on, up to the file's end.
     fn refill(&mut self, at: u64) -> Result<(), DeviceFault>
         requires { Each (D.reads (disk_in self.old)) (λ file. at ≤ length file) }
         ensures reads { Each (D.reads (disk_in self.new)) (D.reads (disk_in self.old)) }
@@ -113,7 +113,7 @@ impl<D: Disk> ReadAhead<D> {
         Ok(())
     }
 
-    // Has the range in the buffer, where the buffer is long enough.
+    // Reads the range into the buffer, if the buffer is long enough; returns whether the buffer then holds it.
     fn reach(&mut self, at: u64, len: usize) -> Result<bool, DeviceFault>
         requires { Each (D.reads (disk_in self.old)) (λ file. at ≤ length file) }
         ensures held { IfOk result (λ held. held ≡ true
@@ -176,7 +176,7 @@ impl<D: Disk> Disk for ReadAhead<D> {
     }
 }
 
-// Reads so many bytes from a place on, into the first ones.
+// Reads bytes of the disk from `at` on into the first bytes of a buffer.
 fn read_front<D: Disk>(
     disk: &mut D,
     at: u64,

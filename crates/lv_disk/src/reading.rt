@@ -1,4 +1,4 @@
-//! What several readers of a disk's bytes share: a gate, and a length.
+//! Reads that the journal and the checkpoint share: of a gate, and of a length.
 ghost use Rattle.std.specs.Prelude.{◌≡◌, ◌≤◌, ◌<◌, ◌+◌, [], ◌∷◌, length, IfOk};
 ghost use Rattle.std.specs.Int.{to_le_bytes, w32};
 ghost use Rattle.lv_disk.specs.Files.{HasAt};
@@ -8,7 +8,7 @@ ghost use Rattle.lv_disk.specs.Stops.{Counted, Each};
 use crate::{DeviceFault, Disk};
 use byteorder::{ByteOrder, LittleEndian};
 
-/// Reads the gate at a place, which is open where it is `OPEN_GATE`.
+/// Reads the gate at offset `at`: it is open if the byte is `OPEN_GATE`.
 pub fn read_gate<D: Disk>(disk: &mut D, at: u64) -> Result<u8, DeviceFault>
     requires { Each (D.reads disk.old) (λ file. at < length file) }
     ensures told { IfOk result (λ gate. Each (D.reads disk.old) (HasAt at (gate ∷ []))) }
@@ -20,7 +20,7 @@ pub fn read_gate<D: Disk>(disk: &mut D, at: u64) -> Result<u8, DeviceFault>
     Ok(gate[0])
 }
 
-/// Reads the length in the four bytes from a place on, the lowest first.
+/// Reads the length in the four bytes from `at` on, the lowest byte first.
 pub fn read_length<D: Disk>(disk: &mut D, at: u64) -> Result<u32, DeviceFault>
     requires { Each (D.reads disk.old) (λ file. at + 4 ≤ length file) }
     ensures told { IfOk result (λ n. Each (D.reads disk.old) (HasAt at (to_le_bytes w32 n))) }
@@ -32,7 +32,7 @@ pub fn read_length<D: Disk>(disk: &mut D, at: u64) -> Result<u32, DeviceFault>
     Ok(length_of(bytes))
 }
 
-// The number with these bytes, the lowest first.
+// The number that these bytes encode, the lowest byte first.
 fn length_of(bytes: [u8; 4]) -> u32
     ensures { to_le_bytes w32 result ≡ bytes }
 {

@@ -1,4 +1,4 @@
-//! What several writers of a disk's bytes share: a write that is on the device.
+//! A durable write, which the journal and the checkpoint share.
 ghost use Rattle.std.specs.Prelude.{length, OnErr, OnOk};
 ghost use Rattle.lv_disk.specs.Files.{Failed, Torn, Written};
 ghost use Rattle.lv_disk.specs.Moments.{LeavesOnly};
@@ -6,7 +6,7 @@ ghost use Rattle.lv_disk.specs.Stops.{Counted, Each, Follows, From, LeadsBy};
 
 use crate::{DeviceFault, Disk};
 
-/// A write, and then a sync.
+/// Writes the bytes from `at` on, then syncs.
 pub fn write_through<D: Disk>(disk: &mut D, at: u64, from: &[u8]) -> Result<(), DeviceFault>
     ensures done { OnOk result
         (Follows (Written at from.now) (D.may_leave disk.old) (D.may_leave disk.new)) }

@@ -3,7 +3,7 @@ use Rattle.std.specs.Prelude.{ℕ}
 use Rattle.lv_draw.specs.declared.error.DrawError.{DrawError}
 use Rattle.lv_draw.specs.declared.error.DrawError.TheVariants.{NotAName, NotAReference, UnknownName, NothingAdded, NumberTooLarge, OutOfMemory}
 
--- the number that a refusal is known by
+-- the number of each refusal
 abbrev pub code_of : DrawError → ℕ
 code_of NotAName = 20
 code_of NotAReference = 21

@@ -1,4 +1,4 @@
--- The items that a command adds to the current map: the first of each kind.
+-- The first item of each kind that a command adds to the current map.
 use Rattle.std.specs.Prelude.{ℕ, zero, suc, Option, Some, None}
 use Rattle.lv_maptables.specs.declared.kind.Kind.{Kind}
 use Rattle.lv_maptables.specs.declared.kind.Kind.TheVariants as kind
@@ -10,12 +10,12 @@ use Rattle.lv_commands.specs.declared.command.Command.{Command}
 use Rattle.lv_commands.specs.declared.project.command.ProjectCommand.{ProjectCommand}
 use Rattle.lv_draw.specs.declared.firsts.Firsts.{Firsts}
 
--- the number of the first of so many items that are added behind others
+-- the number of the first of some items that are appended to a table, if there are any
 abbrev pub first_new : ℕ → ℕ → Option ℕ
 first_new zero before = None
 first_new (suc more) before = Some before
 
--- the first items where so many are added to a map
+-- the first items of each kind, if these numbers of items are added to a map
 abbrev pub firsts_in : Need → Tables → Firsts
 firsts_in need m = record {
   vertex = first_new need.vertices (count_of m kind.Vertex);

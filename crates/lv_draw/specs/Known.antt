@@ -1,4 +1,4 @@
--- What a contract sees of names.
+-- The names as contracts see them.
 use Rattle.std.specs.Prelude.{ℕ, List, map}
 use Rattle.lv_draw.specs.declared.firsts.Numbers.{Numbers}
 use Rattle.lv_draw.specs.declared.names.Entry.{Entry}

@@ -23,29 +23,28 @@ abbrev pub is_script_name : List ℕ → Bool
 is_script_name [] = false
 is_script_name (b ∷ bs) = is_letter b && list_all is_script_name_byte bs
 
--- the numbers of a name: those that it was given last
+-- the numbers of a name, as it was last defined
 abbrev pub numbers_of : List (List ℕ × Numbers) → List ℕ → Option Numbers
 numbers_of known name =
     fold (λ found entry. if bytes_eq entry.0 name then Some entry.1 else found) None known
 
--- ---- References: NAME or NAME.KIND, and either with +N behind
+-- ---- References: NAME or NAME.KIND, each with or without +N
 
--- a text in two at a place: what stands in front of it and what stands behind it, if there is a
--- place
+-- a text cut at an index: the bytes before it and those after it; the whole text if there is no index
 abbrev pub text_cut_at : List ℕ → Option ℕ → List ℕ × Option (List ℕ)
 text_cut_at text None = (text, None)
 text_cut_at text (Some i) = (take i text, Some (drop (i + 1) text))
 
--- a text in two at the first such byte
+-- a text cut at the first byte of this value
 abbrev pub cut : ℕ → List ℕ → List ℕ × Option (List ℕ)
 cut c text = text_cut_at text (position (λ b. b == c) text)
 
--- the word of a table, or none
+-- no part, or the word of a table
 abbrev pub is_kind_part : Option (List ℕ) → Bool
 is_kind_part None = true
 is_kind_part (Some w) = is_some (kind_of w)
 
--- some digits, or none
+-- no part, or one or more digits
 abbrev pub is_sum_part : Option (List ℕ) → Bool
 is_sum_part None = true
 is_sum_part (Some w) = nat_lt 0 (length w) && list_all is_digit w
@@ -54,7 +53,7 @@ is_sum_part (Some w) = nat_lt 0 (length w) && list_all is_digit w
 abbrev pub value_of : List ℕ → ℕ
 value_of digits = fold (λ n d. n * 10 + (d - 48)) 0 digits
 
--- what is added
+-- the number that is added
 abbrev pub added_by : Option (List ℕ) → ℕ
 added_by None = 0
 added_by (Some digits) = value_of digits
@@ -64,22 +63,22 @@ abbrev pub first_named : Firsts → Option Kind → Option ℕ
 first_named firsts None = None
 first_named firsts (Some k) = first_of firsts k
 
--- what NAME or NAME.KIND stands for
+-- the number that NAME or NAME.KIND stands for, if there is one
 abbrev pub base_of : Numbers → Option (List ℕ) → Option ℕ
 base_of numbers None = Some numbers.answer
 base_of numbers (Some w) = first_named numbers.firsts (kind_of w)
 
--- the sum, which is 32767 at most
+-- the sum, which must be at most 32767
 abbrev pub sum_of : Option ℕ → ℕ → Result ℕ DrawError
 sum_of None more = Err NothingAdded
 sum_of (Some n) more = if nat_le (n + more) 32767 then Ok (n + more) else Err NumberTooLarge
 
--- the number that a name with its parts stands for
+-- the number that a name, its kind and its sum stand for
 abbrev pub number_in : Option Numbers → Option (List ℕ) → Option (List ℕ) → Result ℕ DrawError
 number_in None kind more = Err UnknownName
 number_in (Some numbers) kind more = sum_of (base_of numbers kind) (added_by more)
 
--- the number that these parts of a reference stand for, or what is wrong with them
+-- the number that these parts of a reference stand for, or what is wrong with the reference
 abbrev pub number_by : List (List ℕ × Numbers) → List ℕ → Option (List ℕ) → Option (List ℕ)
     → Result ℕ DrawError
 number_by known name kind more =
@@ -87,7 +86,7 @@ number_by known name kind more =
     then number_in (numbers_of known name) kind more
     else Err NotAReference
 
--- the number that stands for what is behind `$`
+-- the number that a reference stands for, given without its `$`
 abbrev pub number_for : List (List ℕ × Numbers) → List ℕ → Result ℕ DrawError
 number_for known text =
     number_by known (cut 46 (cut 43 text).0).0 (cut 46 (cut 43 text).0).1 (cut 43 text).1

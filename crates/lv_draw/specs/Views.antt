@@ -1,4 +1,4 @@
--- What a contract sees of lines.
+-- The lines of a script as contracts see them.
 use Rattle.std.specs.Prelude.{ℕ, ◌+◌, if◌then◌else◌, List, [], ◌∷◌, ◌++◌, length, Option, Some, None}
 use Rattle.std.specs.List.{slice_split}
 use Rattle.lv_draw.specs.Scripts.{cleaned, is_line_end}
@@ -9,17 +9,17 @@ use Rattle.lv_draw.specs.declared.script.ScriptLine.{ScriptLine}
 abbrev pub seen : ScriptLine → ℕ × List ℕ
 seen line = (line.number, line.text.items)
 
--- the lines of what stands behind an LF, if there is one
+-- the lines of the text after an LF, if there is one
 abbrev pub lines_behind : Option (List ℕ) → List (List ℕ)
 lines_behind None = []
 lines_behind (Some text) = slice_split is_line_end text
 
--- how long what stands behind an LF is, with the LF
+-- the length of the LF and the text after it, if there is one
 abbrev pub len_behind : Option (List ℕ) → ℕ
 len_behind None = 0
 len_behind (Some text) = length text + 1
 
--- the lines with one more behind them, if it says something
+-- the lines, with one more at the end if it has a word
 abbrev pub with_script_line : List (ℕ × List ℕ) → ℕ → List ℕ → List (ℕ × List ℕ)
 with_script_line lines number line =
     if is_some_text (cleaned line) then lines ++ (number, cleaned line) ∷ [] else lines

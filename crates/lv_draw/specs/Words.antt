@@ -6,11 +6,11 @@ use Rattle.std.specs.List.{slice_split}
 abbrev pub is_blank : ℕ → Bool
 is_blank b = (b == 32) || (b == 9)
 
--- some bytes
+-- the text is not empty
 abbrev pub is_some_text : List ℕ → Bool
 is_some_text [] = false
 is_some_text (b ∷ bs) = true
 
--- the words of a text: what stands between its blanks
+-- the words of a text, which blanks separate
 abbrev pub text_words : List ℕ → List (List ℕ)
 text_words text = filter is_some_text (slice_split is_blank text)

@@ -1,4 +1,4 @@
-//! Why a line of a script stands for no line of commands, and the number of the refusal.
+//! Why a line of a script can't be resolved to a command line, and the number of the refusal.
 ghost use Rattle.std.specs.Prelude.{◌≡◌};
 ghost use Rattle.lv_draw.specs.declared.error.DrawError.TheVariants.{OutOfMemory};
 
@@ -6,18 +6,18 @@ use std::alloc::{AllocError, AllocFailed};
 use std::fmt;
 use thiserror::Error;
 
-/// Why a line of a script stands for no line of commands.
+/// Why a line of a script can't be resolved to a command line.
 #[derive(Clone, Copy, Debug, PartialEq, Eq, Error)]
 pub enum DrawError {
-    /// In `NAME = COMMAND` the word before `=` is no name.
+    /// In `NAME = COMMAND` the word before `=` is not a name.
     NotAName,
-    /// A word that begins with `$` isn't `$NAME` or `$NAME.KIND`, with or without `+N` behind.
+    /// A word that begins with `$` isn't `$NAME` or `$NAME.KIND`, with or without `+N` after it.
     NotAReference,
     /// No earlier line has this name.
     UnknownName,
     /// The command of this name added no item of this kind.
     NothingAdded,
-    /// The sum is greater than any number that may stand in a line.
+    /// The sum is greater than 32,767, the greatest number that a command may have.
     NumberTooLarge,
     OutOfMemory,
 }
@@ -48,14 +48,14 @@ impl<T: Drop> From<AllocFailed<T>> for DrawError {
 impl DrawError {
     ghost use Rattle.lv_draw.specs.Errors.{code_of};
 
-    /// The number of the refusal.
+    /// The refusal's number.
     pub fn code(&self) -> u16
         ensures { result ≡ code_of self.now }
     {
         self.told().0
     }
 
-    // The number and the text.
+    // The refusal's number and text.
     fn told(&self) -> (u16, &'static str)
         ensures { result.0 ≡ code_of self.now }
     {

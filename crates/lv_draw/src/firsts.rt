@@ -1,11 +1,11 @@
-//! The numbers that a name keeps: what its command answered, and which items it added.
+//! The numbers that a name keeps: its command's answer, and the first items that the command added.
 ghost use Rattle.std.specs.Prelude.{◌≡◌};
 ghost use Rattle.lv_draw.specs.Firsts.{edit_firsts, first_of, firsts_of};
 
 use lv_commands::{Command, ProjectCommand};
 use lv_maptables::{Kind, Map};
 
-/// The number of the first item of each kind that a command added, where it added one.
+/// The number of the first item of each kind that a command added, if it added one.
 #[derive(Clone, Copy)]
 pub struct Firsts {
     pub vertex: Option<u32>,
@@ -18,12 +18,12 @@ pub struct Firsts {
 /// The numbers that a name keeps.
 #[derive(Clone, Copy)]
 pub struct Numbers {
-    /// What the command answered.
+    /// The number that the command answered.
     pub answer: u32,
     pub firsts: Firsts,
 }
 
-// No item is added.
+// The value for a command that adds no item.
 const NONE: Firsts = Firsts {
     vertex: None,
     sector: None,
@@ -33,7 +33,7 @@ const NONE: Firsts = Firsts {
 };
 
 impl Firsts {
-    /// The number of the first item of a kind.
+    /// The number of the first item of the kind.
     pub fn of(&self, kind: Kind) -> Option<u32>
         ensures { result ≡ first_of self.now kind }
     {

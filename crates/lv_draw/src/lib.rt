@@ -1,5 +1,5 @@
-//! Scripts that people write: how their lines are cleaned, what the names in them stand for, and what to say of a line
-//! that is refused.
+//! Scripts that people write: cleans their lines, resolves the names in them, and says why a line can't be
+//! resolved.
 #![tactic(auto)]
 
 mod error;

@@ -1,16 +1,16 @@
-//! The names that lines of a script gave to numbers.
+//! The names that lines of a script define, and their numbers.
 use crate::error::DrawError;
 use crate::firsts::Numbers;
 use std::alloc::Global;
 
-// A name and what it keeps.
+// A name and its numbers.
 #[derive(Drop)]
 struct Entry {
     name: Vec<u8>,
     numbers: Numbers,
 }
 
-/// The names so far. A name that is given again keeps the newer numbers.
+/// The names defined so far. A name that is defined again has the newer numbers.
 #[derive(Drop)]
 pub struct Names {
     entries: Vec<Entry>,
@@ -22,7 +22,7 @@ impl Names {
     ghost use Rattle.lv_draw.specs.Names.{numbers_of};
     ghost use Rattle.lv_draw.specs.Known.{known};
 
-    /// No name. It takes no memory.
+    /// Without any name. It allocates no memory.
     pub fn new(alloc: Global) -> Self
         ensures { known result ≡ [] }
     {
@@ -31,11 +31,11 @@ impl Names {
         }
     }
 
-    /// Gives a name to numbers.
+    /// Defines a name with its numbers.
     ///
     /// # Errors
     ///
-    /// `OutOfMemory`, and then the names are as before.
+    /// `OutOfMemory`: the names are unchanged.
     pub fn define(&mut self, alloc: Global, name: &[u8], numbers: Numbers) -> Result<(), DrawError>
         ensures ok { IfOk result
             (λ _. known self.new ≡ known self.old ++ (name.now, numbers) ∷ []) }
@@ -49,7 +49,7 @@ impl Names {
         }
     }
 
-    /// The numbers of a name, if an earlier line gave it.
+    /// The numbers of a name, if it is defined.
     pub fn find(&self, name: &[u8]) -> Option<Numbers>
         ensures { result ≡ numbers_of (known self.now) name.now }
     {

@@ -12,7 +12,7 @@ use crate::firsts::Numbers;
 use crate::names::Names;
 use lv_maptables::Kind;
 
-// The greatest number that may stand anywhere in a line.
+// The greatest number that a command may have.
 const GREATEST: u32 = 32767;
 
 // All tables.
@@ -42,7 +42,7 @@ fn is_name_byte(b: u8) -> bool
     is_letter(b) || is_digit(b) || b == b'_'
 }
 
-// Whether each byte may stand in a name.
+// Whether a name may contain each of the bytes.
 fn are_name_bytes(text: &[u8]) -> bool
     ensures { result ≡ list_all is_script_name_byte text.now }
 {
@@ -93,7 +93,7 @@ fn are_digits(text: &[u8]) -> bool
     text.iter().all(|b| is_digit(*b))
 }
 
-// Where the first such byte stands.
+// The index of the first byte `c`.
 fn place_of(text: &[u8], c: u8) -> Option<usize>
     ensures place { result ≡ position (λ b. b == c) text.now }
     ensures within { IfSome result (λ i. i < length text.now) }
@@ -101,7 +101,7 @@ fn place_of(text: &[u8], c: u8) -> Option<usize>
     text.iter().position(|b| *b == c)
 }
 
-// The text in two at the first such byte.
+// Cuts the text at the first byte `c`: what is before it, and what is after it if there is one.
 fn cut(text: &[u8], c: u8) -> (&[u8], Option<&[u8]>)
     ensures { (result.0.now, option_copied result.1) ≡ cut c text.now }
 {
@@ -111,7 +111,7 @@ fn cut(text: &[u8], c: u8) -> (&[u8], Option<&[u8]>)
     }
 }
 
-// Whether the part is the word of a table, or none.
+// Whether there is no such part, or it is the word of a table.
 fn is_kind_part(part: Option<&[u8]>) -> bool
     ensures { result ≡ is_kind_part (option_copied part.entry) }
 {
@@ -121,7 +121,7 @@ fn is_kind_part(part: Option<&[u8]>) -> bool
     }
 }
 
-// Whether the part is some digits, or none.
+// Whether there is no such part, or it is one or more digits.
 fn is_sum_part(part: Option<&[u8]>) -> bool
     ensures { result ≡ is_sum_part (option_copied part.entry) }
 {
@@ -131,7 +131,7 @@ fn is_sum_part(part: Option<&[u8]>) -> bool
     }
 }
 
-// The number with a digit behind it, and 32768 where it is greater.
+// The number with one more digit, or 32768 if it is greater than that.
 fn with_digit(value: u32, digit: u8) -> u32
     requires { value ≤ 32768 }
     ensures { result ≡ min 32768 (value * 10 + (digit - 48)) }
@@ -139,7 +139,7 @@ fn with_digit(value: u32, digit: u8) -> u32
     (value * 10 + u32::from(digit.saturating_sub(b'0'))).min(GREATEST + 1)
 }
 
-// The number that digits stand for, and 32768 where it is greater.
+// The number that the digits stand for, or 32768 if it is greater than that.
 fn value_of(digits: &[u8]) -> u32
     ensures value { result ≡ min 32768 (value_of digits.now) }
     ensures few { result ≤ 32768 }
@@ -151,7 +151,7 @@ fn value_of(digits: &[u8]) -> u32
     value
 }
 
-// What is added, and 32768 where that is more.
+// The number that is added, or 32768 if it is greater than that.
 fn added_by(part: Option<&[u8]>) -> u32
     ensures value { result ≡ min 32768 (added_by (option_copied part.entry)) }
     ensures few { result ≤ 32768 }
@@ -162,7 +162,7 @@ fn added_by(part: Option<&[u8]>) -> u32
     }
 }
 
-// What a name with its kind stands for.
+// The number that `NAME` or `NAME.KIND` stands for, if there is one.
 fn base_of(numbers: &Numbers, kind: Option<&[u8]>) -> Option<u32>
     ensures { result ≡ base_of numbers.now (option_copied kind.entry) }
 {
@@ -175,7 +175,7 @@ fn base_of(numbers: &Numbers, kind: Option<&[u8]>) -> Option<u32>
     }
 }
 
-// The sum of a base and what is added.
+// The sum of a base and the number that is added.
 fn sum_of(base: Option<u32>, more: Option<&[u8]>) -> Result<u32, DrawError>
     ensures { result ≡ sum_of base (added_by (option_copied more.entry)) }
 {
@@ -190,7 +190,7 @@ fn sum_of(base: Option<u32>, more: Option<&[u8]>) -> Result<u32, DrawError>
     }
 }
 
-// The number that a name with its parts stands for.
+// The number that a name, its kind and its sum stand for.
 fn number_in(
     numbers: Option<Numbers>,
     kind: Option<&[u8]>,
@@ -204,7 +204,7 @@ fn number_in(
     }
 }
 
-/// The number that stands for what is behind `$`.
+/// The number that a reference stands for; `text` is the reference without its `$`.
 pub fn number_for(names: &Names, text: &[u8]) -> Result<u32, DrawError>
     ensures { result ≡ number_for (known names.now) text.now }
 {

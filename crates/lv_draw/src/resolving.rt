@@ -1,4 +1,4 @@
-//! The line of commands that a cleaned line of a script stands for.
+//! Resolves a cleaned line of a script to a command line.
 ghost use Rattle.std.specs.Prelude.{◌≡◌, IfErr, IfOk, Ok, option_copied};
 ghost use Rattle.lv_draw.specs.Known.{known};
 ghost use Rattle.lv_draw.specs.Lines.{PutsWord, TellsScriptFault, command_words, has_good_name, joined_line, line_for, name_in, number_word, word_for, words_for};
@@ -12,7 +12,7 @@ use crate::text::{put_word, without_first};
 use crate::words::next_word;
 use std::alloc::Global;
 
-// The name that a line gives, if it gives one, and its command.
+// The name that a line defines, if any, and its command.
 fn parted(line: &[u8]) -> (Option<&[u8]>, &[u8])
     ensures name { option_copied result.0 ≡ name_in (text_words line.now) }
     ensures command { text_words result.1.now ≡ command_words (text_words line.now) }
@@ -30,14 +30,14 @@ fn parted(line: &[u8]) -> (Option<&[u8]>, &[u8])
     }
 }
 
-/// The name that a line gives to its command's number: NAME of `NAME = COMMAND`.
+/// The name that a line defines: NAME of `NAME = COMMAND`.
 pub fn defined_name(line: &[u8]) -> Option<&[u8]>
     ensures { option_copied result ≡ name_in (text_words line.now) }
 {
     parted(line).0
 }
 
-// Whether the word is a name, where there is one.
+// Whether there is no word, or it is a name.
 fn has_good_name(name: Option<&[u8]>) -> bool
     ensures { result ≡ has_good_name (option_copied name.entry) }
 {
@@ -47,7 +47,7 @@ fn has_good_name(name: Option<&[u8]>) -> bool
     }
 }
 
-// Puts the number that stands for a reference behind the others.
+// Appends the number that a reference stands for.
 fn put_number(
     alloc: Global,
     text: &mut Vec<u8>,
@@ -66,7 +66,7 @@ fn put_number(
     }
 }
 
-// Puts the word that stands for a word behind the others.
+// Appends a word, or the number that it stands for if it is a reference.
 fn put_resolved(
     alloc: Global,
     text: &mut Vec<u8>,
@@ -81,7 +81,7 @@ fn put_resolved(
     }
 }
 
-// The words of a command, with the numbers in place of references.
+// The words of a command, with numbers in place of references.
 #[tactic(auto, using(crate::proofs::Replacing::behind_more))]
 fn replaced(alloc: Global, names: &Names, command: &[u8]) -> Result<Vec<u8>, DrawError>
     ensures ok { IfOk result (λ text.
@@ -101,12 +101,11 @@ fn replaced(alloc: Global, names: &Names, command: &[u8]) -> Result<Vec<u8>, Dra
     Ok(without_first(text))
 }
 
-/// The line of commands that a line of a script stands for: without `NAME =`, and with the numbers in place of
-/// references.
+/// Resolves a line of a script to a command line: removes `NAME =`, and replaces references by numbers.
 ///
 /// # Errors
 ///
-/// `NotAName`, or else that of the leftmost reference that stands for no number; or `OutOfMemory`.
+/// `NotAName`, or otherwise the error of the leftmost reference that stands for no number; or `OutOfMemory`.
 pub fn resolve(alloc: Global, names: &Names, line: &[u8]) -> Result<Vec<u8>, DrawError>
     ensures ok { IfOk result (λ text. line_for (known names.now) line.now ≡ Ok text.items) }
     ensures fault { IfErr result (λ e. TellsScriptFault e (line_for (known names.now) line.now)) }

@@ -12,14 +12,14 @@ use crate::text::{put_word, without_first};
 use crate::words::next_word;
 use std::alloc::Global;
 
-/// A line of a script that says something: its number, from 1, and its words with one space between each two.
+/// A line of a script that has a word: its number, from 1, and its words, separated by single spaces.
 #[derive(Drop)]
 pub struct ScriptLine {
     pub number: usize,
     pub text: Vec<u8>,
 }
 
-// The script without a byte order mark at its front.
+// The script without a leading byte order mark.
 fn without_mark(script: &[u8]) -> &[u8]
     ensures mark { result.now ≡ without_mark script.now }
 {
@@ -30,7 +30,7 @@ fn without_mark(script: &[u8]) -> &[u8]
     }
 }
 
-// The line in front of the first LF, and what stands behind that.
+// The line before the first LF, and the text after the LF if there is one.
 #[tactic(auto, using(crate::proofs::Cleaning::lines_at, crate::proofs::Cleaning::lines_none))]
 fn next_line(script: &[u8]) -> (&[u8], Option<&[u8]>)
     ensures lines { slice_split is_line_end script.now
@@ -55,7 +55,7 @@ fn without_return(line: &[u8]) -> &[u8]
     }
 }
 
-// Whether there are some bytes.
+// Whether the text is not empty.
 fn is_some_text(text: &[u8]) -> bool
     ensures { result ≡ is_some_text text.now }
 {
@@ -75,7 +75,7 @@ fn begins_comment(word: &[u8]) -> bool
     }
 }
 
-// The line, cleaned.
+// Cleans the line.
 #[tactic(auto, using(crate::proofs::Cleaning::cleaned_start, crate::proofs::Cleaning::cleaned_more, crate::proofs::Cleaning::cleaned_comment, crate::proofs::Cleaning::cleaned_end))]
 fn clean(alloc: Global, line: &[u8]) -> Result<Vec<u8>, DrawError>
     ensures ok { IfOk result (λ text. text.items ≡ cleaned line.now) }
@@ -95,11 +95,11 @@ fn clean(alloc: Global, line: &[u8]) -> Result<Vec<u8>, DrawError>
     Ok(without_first(text))
 }
 
-/// The lines of a script that say something, each cleaned and with its number.
+/// The lines of a script that have a word, each cleaned and with its number.
 ///
 /// # Errors
 ///
-/// `OutOfMemory` alone.
+/// Only `OutOfMemory`.
 #[tactic(auto, using(crate::proofs::Cleaning::take_line))]
 pub fn script_lines(alloc: Global, script: &[u8]) -> Result<Vec<ScriptLine>, DrawError>
     ensures ok { IfOk result (λ lines. map seen lines.items ≡ script_lines script.now) }
@@ -119,7 +119,7 @@ pub fn script_lines(alloc: Global, script: &[u8]) -> Result<Vec<ScriptLine>, Dra
     Ok(lines)
 }
 
-// Adds a line, if it says something.
+// Adds a line, if it has a word.
 fn put_line(
     alloc: Global,
     lines: &mut Vec<ScriptLine>,

@@ -1,11 +1,11 @@
-//! A line that is put together word by word, with a space in front of each.
+//! A line that is composed word by word, with a space before each word.
 ghost use Rattle.std.specs.Prelude.{◌≡◌, IfOk, IsOkUnless, drop};
 ghost use Rattle.lv_draw.specs.declared.error.DrawError.TheVariants.{OutOfMemory};
 ghost use Rattle.lv_draw.specs.Texts.{with_word};
 
 use crate::error::DrawError;
 
-/// Puts a space and a word behind the others.
+/// Appends a space and a word.
 pub fn put_word(text: &mut Vec<u8>, word: &[u8]) -> Result<(), DrawError>
     ensures ok { IfOk result (λ _. text.new.items ≡ with_word text.old.items word.now) }
     ensures memory { IsOkUnless result OutOfMemory }
@@ -15,7 +15,7 @@ pub fn put_word(text: &mut Vec<u8>, word: &[u8]) -> Result<(), DrawError>
     Ok(())
 }
 
-/// The line without the space at its front.
+/// The line without its leading space.
 pub fn without_first(mut text: Vec<u8>) -> Vec<u8>
     ensures { result.items ≡ drop 1 text.items }
 {

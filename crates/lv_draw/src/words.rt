@@ -1,4 +1,4 @@
-//! The words of a script's line: what stands between its blanks.
+//! The words of a script's line. Blanks separate them.
 ghost use Rattle.std.specs.Prelude.{◌≡◌, ◌≤◌, ◌<◌, [], ◌∷◌, false, length, slice_index, IfSome, MatchOption};
 ghost use Rattle.lv_draw.specs.Words.{is_blank, text_words};
 
@@ -9,7 +9,7 @@ pub fn is_blank(b: u8) -> bool
     b == b' ' || b == b'\t'
 }
 
-// What is left of a text without the blanks at its front.
+// The text without its leading blanks.
 #[tactic(auto, using(crate::proofs::Wording::blanks_more, crate::proofs::Wording::words_rest))]
 fn without_blanks(text: &[u8]) -> &[u8]
     ensures words { text_words result.now ≡ text_words text.now }
@@ -24,7 +24,7 @@ fn without_blanks(text: &[u8]) -> &[u8]
     &[]
 }
 
-// The word that a text begins with, and what stands behind it.
+// The word that a text begins with, and the rest of the text.
 #[tactic(auto, using(crate::proofs::Wording::word_at, crate::proofs::Wording::word_alone, crate::proofs::Wording::long_at, crate::proofs::Wording::some_at))]
 fn split_word(text: &[u8]) -> (&[u8], &[u8])
     requires some { 0 < length text.now }
@@ -41,7 +41,7 @@ fn split_word(text: &[u8]) -> (&[u8], &[u8])
     (text, &[])
 }
 
-/// The first word of a text, if it has one, and what stands behind it.
+/// The first word of a text, if it has one, and the rest of the text.
 pub fn next_word(text: &[u8]) -> Option<(&[u8], &[u8])>
     ensures words { MatchOption result (text_words text.now ≡ [])
         (λ p. text_words text.now ≡ p.0.now ∷ text_words p.1.now) }

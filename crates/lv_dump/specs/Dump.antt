@@ -13,8 +13,8 @@ use Rattle.lv_commands.specs.declared.command.Command.TheVariants.{AddThing}
 use Rattle.lv_commands.specs.declared.project.command.ProjectCommand.{ProjectCommand}
 use Rattle.lv_commands.specs.declared.project.command.ProjectCommand.TheVariants.{Edit, SelectMap}
 
--- the command by which the map of a number gets its name: the first is there and is renamed, each
--- other is added
+-- the command that gives the map with a number its name: the first map exists and is renamed, each other one is
+-- added
 abbrev pub naming_of : ℕ → Name8 → ProjectCommand
 naming_of zero name = Edit (Name name)
 naming_of (suc n) name = SelectMap name
@@ -35,16 +35,16 @@ items_of m = flat_map (additions_of m) kinds
 abbrev pub edits_of : List Command → List ProjectCommand
 edits_of commands = map Edit commands
 
--- the commands that draw the map of a number
+-- the commands that draw the map with a number
 abbrev pub commands_of_map : ℕ → Tables → List ProjectCommand
 commands_of_map n m = naming_of n m.name ∷ edits_of (items_of m)
 
--- the commands that draw maps of which the first has the number
+-- the commands that draw maps, the first of which has the number
 abbrev pub commands_from : ℕ → List Tables → List ProjectCommand
 commands_from n [] = []
 commands_from n (m ∷ ms) = commands_of_map n m ++ commands_from (suc n) ms
 
--- the commands that draw all maps, and the one that makes the current map current
+-- the commands that draw all maps, and the command that selects the project's current map
 abbrev pub commands_of : ProjectMaps → List ProjectCommand
 commands_of p = commands_from 0 p.maps ++ SelectMap (current_map p).name ∷ []
 
@@ -52,8 +52,8 @@ commands_of p = commands_from 0 p.maps ++ SelectMap (current_map p).name ∷ []
 abbrev pub dump_of : ProjectMaps → List (List ℕ)
 dump_of p = map project_spelling (commands_of p)
 
--- the commands that draw a map whatever was drawn before: the map of its name is made current, or
--- added, and then its items are
+-- the commands that draw a map whatever was drawn before: the first makes the map with its name current, or adds
+-- it, and the others add its items
 abbrev pub commands_of_one : Tables → List ProjectCommand
 commands_of_one m = SelectMap m.name ∷ edits_of (items_of m)
 

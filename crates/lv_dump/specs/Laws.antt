@@ -1,12 +1,12 @@
--- What the lines of a dump lead to, and what its text is cut into.
+-- What the lines of a dump draw, and the lines into which its text is cut.
 use Rattle.std.specs.Prelude.{◌≡◌, ℕ, ◌≤◌, List}
 use Rattle.lv_maptables.specs.Projects.{ProjectMaps, WellFormedProject, body_len, empty_project}
 use Rattle.lv_commands.specs.ProjectLines.{Leads}
 use Rattle.lv_dump.specs.Dump.{dump_of}
 use Rattle.lv_dump.specs.Texts.{IsCutInto, text_of}
 
--- each line of the project's dump is accepted, and they lead from the empty project to this one, at
--- each limit that holds its body
+-- each line of the project's dump is accepted, and the lines lead from the empty project to this one, at each limit
+-- that is at least the length of its body
 abbrev pub DrawsAgain : ProjectMaps → Type 0
 DrawsAgain p = (cap : ℕ) → body_len p ≤ cap → Leads cap empty_project (dump_of p) p
 
@@ -14,7 +14,7 @@ DrawsAgain p = (cap : ℕ) → body_len p ≤ cap → Leads cap empty_project (d
 abbrev pub DumpsDrawAgain : Type 0
 DumpsDrawAgain = (p : ProjectMaps) → WellFormedProject p → DrawsAgain p
 
--- two well-formed projects with one dump are one project
+-- two well-formed projects with the same dump are equal
 abbrev pub DumpsTellProjectsApart : Type 0
 DumpsTellProjectsApart =
     (p q : ProjectMaps) → WellFormedProject p → WellFormedProject q → dump_of p ≡ dump_of q → p ≡ q

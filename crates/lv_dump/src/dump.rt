@@ -1,4 +1,4 @@
-//! The call that writes a dump.
+//! The calls that write a dump.
 ghost use Rattle.std.specs.Prelude.{◌≡◌, ◌∷◌, [], Some, slice_get};
 ghost use Rattle.lv_commands.specs.declared.command.Command.{Command};
 ghost use Rattle.lv_commands.specs.declared.project.command.ProjectCommand.TheVariants.{Edit, SelectMap};
@@ -16,7 +16,7 @@ use lv_maptables::{Kind, Map, Maps};
 use std::alloc::Global;
 use std::io::Write;
 
-// The tables, each after those whose items its own name.
+// The tables in the order of the dump: an item only names items of earlier tables.
 const KINDS: [Kind; 5] = [
     Kind::Vertex,
     Kind::Sector,
@@ -25,7 +25,7 @@ const KINDS: [Kind; 5] = [
     Kind::Thing,
 ];
 
-// Writes the line that adds the item of the number, if there is one.
+// Writes the line that adds the item with the number, if there is one.
 fn write_item<W: Write>(
     alloc: Global,
     map: &Map,
@@ -77,7 +77,7 @@ fn write_items<W: Write>(alloc: Global, map: &Map, writer: &mut W) -> Result<(),
     Ok(())
 }
 
-// Writes the lines that draw the map of the number.
+// Writes the lines that draw the map with the number.
 fn write_map<W: Write>(alloc: Global, n: u32, map: &Map, writer: &mut W) -> Result<(), DumpError>
     requires { IsNamed is_marker map.now.tables.name }
     ensures { Writes result (commands_of_map n map.now.tables) (W.contents writer.old)
@@ -89,7 +89,7 @@ fn write_map<W: Write>(alloc: Global, n: u32, map: &Map, writer: &mut W) -> Resu
     }
 }
 
-// Writes the lines that draw the map of the number, if there is one.
+// Writes the lines that draw the map with the number, if there is one.
 fn write_nth<W: Write>(alloc: Global, maps: &Maps, n: u32, writer: &mut W) -> Result<(), DumpError>
     requires { WellFormedProject (project_of maps.now) }
     ensures { (m : Tables) → slice_get (project_of maps.now).maps n ≡ Some m
@@ -118,7 +118,7 @@ fn write_maps<W: Write>(alloc: Global, maps: &Maps, writer: &mut W) -> Result<()
     Ok(())
 }
 
-// Writes the line that makes the map of a name current.
+// Writes the line that makes the map with a name current.
 fn write_selection<W: Write>(alloc: Global, name: Name8, writer: &mut W) -> Result<(), DumpError>
     requires { IsNamed is_marker name }
     ensures { Writes result (SelectMap name ∷ []) (W.contents writer.old) (W.contents writer.new) }
@@ -126,13 +126,13 @@ fn write_selection<W: Write>(alloc: Global, name: Name8, writer: &mut W) -> Resu
     write_command(alloc, &ProjectCommand::SelectMap(name), writer)
 }
 
-/// Writes the lines that draw the maps again from the empty project, LF behind each. Each line is handed to the
-/// writer at once, and the memory that it takes is given back.
+/// Writes the lines that draw the maps again from the empty project, each ended by LF. Each line is written by one
+/// call of the writer, and then its memory is freed.
 ///
 /// # Errors
 ///
-/// `WriterFailed` (38), and then any part of a line may have been written; or `OutOfMemory` (31) where a line found
-/// none, and then the lines before it were written.
+/// `WriterFailed` (38): any part of the dump may have been written. `OutOfMemory` (31): there was no memory for a
+/// line, and exactly the lines before it were written.
 pub fn write_dump<W: Write>(alloc: Global, maps: &Maps, writer: &mut W) -> Result<(), DumpError>
     ensures { WritesLines result (dump_of (project_of maps.now)) (W.contents writer.old)
         (W.contents writer.new) }
@@ -143,16 +143,16 @@ pub fn write_dump<W: Write>(alloc: Global, maps: &Maps, writer: &mut W) -> Resul
     }
 }
 
-// A map's name is one of a marker.
+// A map's name is a marker's name.
 fn has_marker_name(map: &Map)
     ensures { IsNamed is_marker map.now.tables.name }
 {
     let _ = map.count(Kind::Vertex);
 }
 
-/// Writes the lines that draw the map whatever was drawn before them, LF behind each: the one that makes the map of its
-/// name current, or adds it, and those that add its items. Each line is handed to the writer at once, and the memory
-/// that it takes is given back.
+/// Writes the lines that draw the map whatever was drawn before, each ended by LF: the line that makes the map with
+/// its name current, or adds it, and those that add its items. Each line is written by one call of the writer, and
+/// then its memory is freed.
 ///
 /// # Errors
 ///

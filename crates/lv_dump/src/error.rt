@@ -1,12 +1,12 @@
-//! Why a dump was not written, and the number of the refusal.
+//! Why a dump could not be written, and the number of each refusal.
 use thiserror::Error;
 
-/// Why a dump was not written.
+/// Why a dump could not be written.
 #[derive(Clone, Copy, Debug, PartialEq, Eq, Error)]
 pub enum DumpError {
     #[error("the writer failed")]
     WriterFailed,
-    /// A line found no memory.
+    /// There was no memory for a line.
     #[error("out of memory")]
     OutOfMemory,
 }
@@ -15,7 +15,7 @@ impl DumpError {
     ghost use Rattle.std.specs.Prelude.{◌≡◌};
     ghost use Rattle.lv_dump.specs.Errors.{code_of};
 
-    /// The number of the refusal.
+    /// The refusal's number: 38 or 31.
     pub fn code(&self) -> u16
         ensures { result ≡ code_of self.now }
     {

@@ -1,4 +1,4 @@
-//! Laws of dumps, each the contract of a call without a body.
+//! Laws of dumps. Each is the contract of a function whose body is empty.
 ghost use Rattle.lv_dump.specs.Laws.{DumpsAreCutIntoLines, DumpsDrawAgain, DumpsTellProjectsApart};
 ghost use Rattle.lv_dump.specs.MapDumps.{MapDumpsAreCutIntoLines, MapDumpsDraw, MapDumpsDrawAll};
 
@@ -7,7 +7,7 @@ pub fn draw_again()
     ensures { DumpsDrawAgain }
 {}
 
-/// Two projects with one dump are one.
+/// Two projects with the same dump are equal.
 pub fn tell_projects_apart()
     ensures { DumpsTellProjectsApart }
 {}
@@ -22,7 +22,7 @@ pub fn draw_maps_over()
     ensures { MapDumpsDraw }
 {}
 
-/// The dumps of maps with different names, one behind the other, draw these maps from the empty project.
+/// The dumps of maps with different names, one after another, draw these maps from the empty project.
 pub fn draw_maps_in_turn()
     ensures { MapDumpsDrawAll }
 {}

@@ -1,4 +1,4 @@
-//! A line of a dump: the command that it is, and how it is written.
+//! A line of a dump: its command, and how it is written.
 ghost use Rattle.std.specs.Prelude.{◌≡◌, ◌∷◌, [], IfOk, IfSome, IsOkUnless, slice_get};
 ghost use Rattle.lv_commands.specs.CommandRanges as of_one_map;
 ghost use Rattle.lv_commands.specs.ProjectCommands.{InProjectRange, project_spelling};
@@ -13,7 +13,7 @@ use lv_maptables::{Kind, Map};
 use std::alloc::Global;
 use std::io::Write;
 
-/// The command by which the map of a number gets its name.
+/// The command that gives the map with a number its name.
 pub fn naming(n: u32, name: Name8) -> ProjectCommand
     requires { IsNamed is_marker name }
     ensures command { result ≡ naming_of n name }
@@ -26,7 +26,7 @@ pub fn naming(n: u32, name: Name8) -> ProjectCommand
     }
 }
 
-/// The command that adds the item of a number to its table.
+/// The command that adds the item with a number to its table.
 pub fn addition(map: &Map, kind: Kind, n: u32) -> Option<Command>
     ensures command { result ≡ slice_get (additions_of map.now.tables kind) n }
     ensures range { IfSome result of_one_map.InRange }
@@ -40,7 +40,7 @@ pub fn addition(map: &Map, kind: Kind, n: u32) -> Option<Command>
     }
 }
 
-// The line of the command, with LF behind it.
+// The line of the command, ended by LF.
 fn line_of(alloc: Global, command: &ProjectCommand) -> Result<Vec<u8>, DumpError>
     requires { InProjectRange command.now }
     ensures line { IfOk result (λ v. v.items ≡ with_lf (project_spelling command.now)) }
@@ -55,7 +55,7 @@ fn line_of(alloc: Global, command: &ProjectCommand) -> Result<Vec<u8>, DumpError
     }
 }
 
-/// Writes the line of the command, all of it at once.
+/// Writes the line of the command by one call of the writer.
 pub fn write_command<W: Write>(
     alloc: Global,
     command: &ProjectCommand,

@@ -12,20 +12,19 @@ use Rattle.lv_lint.specs.Borders.{has_border}
 abbrev pub origin : Point
 origin = record { x = pos 0; y = pos 0 }
 
--- twice the area of the triangle from the origin over an edge: above 0 where the origin is on the
--- edge's right
+-- twice the signed area of the triangle of the origin and an edge: above 0 if the origin is on the edge's right
 abbrev pub edge_area : List Vertex → ℕ → ℕ → ℤ
 edge_area vs from to = side_value (ray_between (nth_vertex vs from) (nth_vertex vs to)) origin
 
--- an edge's part in twice a sector's area
+-- what an edge adds to twice a sector's area
 abbrev pub part_in : Tables → ℕ → Edge → ℤ
 part_in m s e = if e.sector == s then edge_area m.vertices e.from e.to else pos 0
 
--- twice the area that a sector's edges run round: above 0 where they have the inside on their right
+-- twice the signed area that a sector's edges run round: above 0 if the inside is on their right
 abbrev pub doubled_area : Tables → ℕ → ℤ
 doubled_area m s = fold (λ sum e. sum +ℤ part_in m s e) (pos 0) (edges m)
 
--- the sector has a border, and what it runs round lies on its left or is empty
+-- the sector has a border, and its edges have no area on their right
 abbrev pub is_inside_out : Tables → ℕ → Bool
 is_inside_out m s = nat_lt s (length m.sectors) && has_border m s
     && not (int_lt (pos 0) (doubled_area m s))

@@ -1,4 +1,4 @@
--- Lines filed by bands of 128 rows, so that a line or a thing is compared with those near it alone.
+-- Lines in bands of 128 rows, so that a line or a thing is compared only with the lines near it.
 use Rattle.std.specs.Prelude.{◌≡◌, ℕ, ◌*◌, ◌<◌, Bool, List, [], ◌∷◌, ◌++◌, length, filter, get_or, ℤ, pos, ◌+ℤ◌, ◌-ℤ◌, ◌≤ℤ◌}
 use Rattle.lv_lint.specs.declared.places.PlacedLine.{PlacedLine}
 use Rattle.lv_lint.specs.declared.bands.FiledLines.{FiledLines}
@@ -6,14 +6,14 @@ use Rattle.lv_maptables.specs.Tables.{Tables}
 use Rattle.lv_lint.specs.Meeting.{spans_meet}
 use Rattle.lv_lint.specs.Places.{placed_lines}
 
--- the lowest row of band b, and the highest
+-- the lowest row of band b; below, its highest row
 abbrev pub band_bottom : ℕ → ℤ
 band_bottom b = pos (128 * b) -ℤ pos 32768
 
 abbrev pub band_top : ℕ → ℤ
 band_top b = band_bottom b +ℤ pos 127
 
--- the line's box has a row in band b
+-- the line's box and band b have a row in common
 unfoldable pub is_in_band : ℕ → PlacedLine → Bool
 is_in_band b l = spans_meet l.from.y l.to.y (band_bottom b) (band_top b)
 
@@ -23,22 +23,22 @@ pub record IsBandOf (y : ℤ) (b : ℕ) : Type 0 where
   pub low : band_bottom b ≤ℤ y
   pub high : y ≤ℤ band_top b
 
--- each band holds the lines whose boxes have a row in it
+-- each band holds exactly the lines whose boxes have a row in common with it, in order
 pub record AreBands (ls : List PlacedLine) (bands : List (List PlacedLine)) : Type 0 where
   pub count : length bands ≡ 512
   pub filed : (b : ℕ) → b < 512 → get_or bands b [] ≡ filter (is_in_band b) ls
 
--- each band got the line at its end where the line's box has a row in it
+-- the line was added at the end of each band that has a row in common with its box
 pub record FilesLine (l : PlacedLine) (old new : List (List PlacedLine)) : Type 0 where
   pub count : length new ≡ length old
   pub each : (b : ℕ) → b < 512
       → get_or new b [] ≡ get_or old b [] ++ filter (is_in_band b) (l ∷ [])
 
--- the lines are filed
+-- the bands hold the lines
 abbrev pub AreFiled : FiledLines → Type 0
 AreFiled f = AreBands f.lines.items f.bands.items
 
--- they are the map's lines, filed
+-- the lines are the map's, and the bands hold them
 pub record AreFiledLines (m : Tables) (f : FiledLines) : Type 0 where
   pub lines : f.lines.items ≡ placed_lines m
   pub filed : AreFiled f

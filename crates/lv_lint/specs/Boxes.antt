@@ -1,4 +1,4 @@
--- Boxes round the lines of a band, sixteen by sixteen, so that most of a band is passed over.
+-- Boxes round each sixteen lines of a band, so that most lines are skipped.
 use Rattle.std.specs.Prelude.{ℕ, ◌*◌, ◌/◌, ◌<◌, ◌≤◌, Bool, ◌&&◌, List, length, get_or, ◌≤ℤ◌}
 use Rattle.std.specs.Int.{int_min, int_max}
 use Rattle.lv_lumps.specs.declared.records.Bounds.{Bounds}
@@ -14,7 +14,7 @@ round_line l = record {
   right = int_max l.from.x l.to.x;
 }
 
--- the least box that holds a box and a line
+-- the least box round a box and a line
 abbrev pub widened_by : Bounds → PlacedLine → Bounds
 widened_by b l = record {
   top = int_max b.top (round_line l).top;
@@ -35,19 +35,19 @@ pub record IsWithin (l : PlacedLine) (b : Bounds) : Type 0 where
   pub left : b.left ≤ℤ int_min l.from.x l.to.x
   pub right : int_max l.from.x l.to.x ≤ℤ b.right
 
--- each line has its box: the first sixteen the first one, and so on
+-- each line is in its box: the first sixteen lines in the first box, and so on
 pub record KeepsBoxes (ls : List PlacedLine) (boxes : List Bounds) : Type 0 where
   pub count : length ls ≤ 16 * length boxes
   pub within : (i : ℕ) (l : PlacedLine) (b : Bounds) → i < length ls
       → IsWithin (get_or ls i l) (get_or boxes (i / 16) b)
 
--- each box holds what it held
+-- each box holds what it held before
 pub record GrowsBoxes (old new : List Bounds) : Type 0 where
   pub count : length old ≤ length new
   pub within : (i : ℕ) (l : PlacedLine) (b : Bounds) → i < length old
       → IsWithin l (get_or old i b) → IsWithin l (get_or new i b)
 
--- the n-th line's box holds this one
+-- the box of the n-th line holds this line
 pub record HasBox (boxes : List Bounds) (n : ℕ) (l : PlacedLine) : Type 0 where
   pub count : n < 16 * length boxes
   pub within : (b : Bounds) → IsWithin l (get_or boxes (n / 16) b)

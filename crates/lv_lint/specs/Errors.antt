@@ -3,6 +3,6 @@ use Rattle.std.specs.Prelude.{ℕ}
 use Rattle.lv_lint.specs.declared.error.LintError.{LintError}
 use Rattle.lv_lint.specs.declared.error.LintError.TheVariants.{OutOfMemory}
 
--- the number by which a refusal goes
+-- the number of each refusal
 abbrev pub code_of : LintError → ℕ
 code_of OutOfMemory = 31

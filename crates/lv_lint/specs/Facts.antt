@@ -1,11 +1,11 @@
--- What is counted before the rules are looked at.
+-- What is counted before the rules are tested.
 use Rattle.lv_maptables.specs.Tables.{Tables}
 use Rattle.lv_lint.specs.declared.facts.Facts.{Facts}
 use Rattle.lv_lint.specs.Tags.{tag_of, line_tag}
 use Rattle.lv_lint.specs.Bands.{AreFiledLines}
 use Rattle.lv_lint.specs.Tallies.{MarksTags, AreStarts, MarksBordered, AreAreas}
 
--- they are the facts of the map
+-- these are the facts of the map
 pub record AreFacts (m : Tables) (f : Facts) : Type 0 where
   pub sector_tags : MarksTags tag_of m.sectors f.sector_tags.items
   pub line_tags : MarksTags line_tag m.lines f.line_tags.items

@@ -15,31 +15,31 @@ use Rattle.lv_lint.specs.declared.warning.Rule.TheVariants.{FlatKnown, TextureKn
 use Rattle.lv_lint.specs.declared.warning.Warning.{Warning}
 use Rattle.lv_lint.specs.Rules.{at_item, reach, warning_of}
 
--- the name is one of these
+-- the name is in the list
 abbrev pub is_one_of : List Name8 → Name8 → Bool
 is_one_of names n = list_any (λ k. bytes_eq k.bytes n.bytes) names
 
--- the name is the sky's, or a flat's
+-- the name is the sky's or a flat's
 abbrev pub is_flat_known : List Name8 → Name8 → Bool
 is_flat_known flats n = bytes_eq (name_text n) (codes "F_SKY1") || is_one_of flats n
 
--- the name stands for no texture, or is a texture's
+-- the name means "no texture" or is a texture's
 abbrev pub is_texture_known : List Name8 → Name8 → Bool
 is_texture_known textures n = is_missing n || is_one_of textures n
 
--- each of the side's names is one of these
+-- each of the side's three texture names is known
 abbrev pub is_side_known : List Name8 → Side → Bool
 is_side_known textures s =
     is_texture_known textures s.upper
     && is_texture_known textures s.lower
     && is_texture_known textures s.middle
 
--- the sector's floor or ceiling has another name
+-- the flat of the sector's floor or ceiling is unknown
 abbrev pub flat_unknown : List Name8 → Sector → Bool
 flat_unknown flats s =
     not (is_flat_known flats s.floor_name) || not (is_flat_known flats s.ceiling_name)
 
--- a side of the line has another name
+-- a texture on a side of the line is unknown
 abbrev pub texture_unknown : List Name8 → Tables → Line → Bool
 texture_unknown textures m l =
     not (is_side_known textures (side_in m l.right))
@@ -58,12 +58,12 @@ graphic_breaches flats textures m rule =
     map (warning_of m rule)
     (filter (graphic_breaks flats textures m rule) (range_with_len 0 (reach m rule)))
 
--- the warnings where a WAD has these flats and these textures
+-- the warnings for a WAD that has these flats and these textures
 abbrev pub graphic_warnings : List Name8 → List Name8 → Tables → List Warning
 graphic_warnings flats textures m =
     flat_map (graphic_breaches flats textures m) (FlatKnown ∷ TextureKnown ∷ [])
 
--- the set's bytes are those of its names
+-- the set holds exactly the bytes of the names
 abbrev pub IsNameSet : NameSet → Type 0
 IsNameSet s =
     (bytes : List ℕ)

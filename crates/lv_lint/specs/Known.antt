@@ -1,5 +1,5 @@
--- The types and specials of Doom, as the "Unofficial Doom Specs" 1.666 list them: runs of numbers,
--- each by its first and its last.
+-- The types and specials of Doom, as the "Unofficial Doom Specs" 1.666 list them: runs of numbers, each given by
+-- its first and its last.
 use Rattle.std.specs.Prelude.{Bool, ◌&&◌, not, List, [], ◌∷◌, ℤ, pos, int_le}
 use Rattle.std.specs.List.{list_any}
 use Rattle.lv_lumps.specs.declared.records.Thing.{Thing}
@@ -21,7 +21,7 @@ known_things =
 abbrev pub known_lines : List (ℤ × ℤ)
 known_lines = (pos 0, pos 77) ∷ (pos 79, pos 84) ∷ (pos 86, pos 141) ∷ []
 
--- those that need no tag: none, doors that open by hand, exits, and a wall that scrolls
+-- the line specials that need no tag: no special, doors that open by hand, exits, and a wall that scrolls
 abbrev pub tagless_lines : List (ℤ × ℤ)
 tagless_lines =
     (pos 0, pos 1) ∷ (pos 11, pos 11) ∷ (pos 26, pos 28) ∷ (pos 31, pos 34) ∷ (pos 48, pos 48)

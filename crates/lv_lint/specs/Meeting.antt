@@ -7,7 +7,7 @@ use Rattle.lv_lumps.specs.declared.records.Vertex.{Vertex}
 use Rattle.lv_lumps.specs.Plane.{point_of, ray_between, side_value}
 use Rattle.lv_lint.specs.declared.places.PlacedLine.{PlacedLine}
 
--- one of a and b is at most one of c and d
+-- a or b is at most c or d
 unfoldable pub is_under : ℤ → ℤ → ℤ → ℤ → Bool
 is_under a b c d = int_le a c || int_le a d || int_le b c || int_le b d
 
@@ -30,7 +30,7 @@ unfoldable pub is_on : PlacedLine → Vertex → Bool
 is_on l p = int_eq (side_value_at l p) (pos 0) && spans_meet l.from.x l.to.x p.x p.x
     && spans_meet l.from.y l.to.y p.y p.y
 
--- two vertices stand at one place
+-- two vertices are at the same place
 unfoldable pub is_at : Vertex → Vertex → Bool
 is_at v w = int_eq v.x w.x && int_eq v.y w.y
 
@@ -52,16 +52,16 @@ has_on_both_sides l k =
 unfoldable pub doubles : PlacedLine → PlacedLine → Bool
 doubles l k = ends_at l k.from && ends_at l k.to
 
--- a point of both lines isn't an end of both: they part each other, one abuts the other, or one
--- doubles the other
+-- a point of both lines isn't an end of both: each has its ends on both sides of the other, one abuts the other, or
+-- one doubles the other
 unfoldable pub share : PlacedLine → PlacedLine → Bool
 share l k = (has_on_both_sides l k && has_on_both_sides k l) || abuts k l || abuts l k
     || doubles l k
 
--- line k is another line than l, their boxes meet, and a point of both isn't an end of both
+-- lines k and l are two different lines, their boxes meet, and a point of both isn't an end of both
 unfoldable pub meets : PlacedLine → PlacedLine → Bool
 meets l k = not (l.number == k.number) && boxes_meet l k && share l k
 
--- there is a line n, and another line meets it so
+-- there is a line n, and another line meets it
 abbrev pub meets_another : List PlacedLine → ℕ → Bool
 meets_another ls n = option_map_or (λ l. list_any (meets l) ls) (slice_get ls n) false

@@ -18,7 +18,7 @@ placed m e = record {
   is_wall = not (has_left e.1);
 }
 
--- all lines so
+-- all lines of the map, with their numbers and the places of their ends
 abbrev pub placed_lines : Tables → List PlacedLine
 placed_lines m = map (placed m) (enumerate_from 0 m.lines)
 

@@ -1,4 +1,4 @@
--- What a level should keep, and which items of a map don't: a list by rule, then by number.
+-- The rules of a level, and the items of a map that break them: a list by rule, then by number.
 use Rattle.std.specs.Prelude.{ℕ, Bool, false, ◌&&◌, ◌||◌, ◌==◌, not, nat_lt, List, [], ◌∷◌, length, map, filter, flat_map, slice_get, int_lt}
 use Rattle.std.specs.List.{range_with_len}
 use Rattle.std.specs.Option.{option_map_or}
@@ -29,15 +29,15 @@ at_item test xs n = option_map_or test (slice_get xs n) false
 abbrev pub names_wall : Side → Bool
 names_wall s = not (is_missing s.upper) || not (is_missing s.lower)
 
--- the line is two-sided within one sector, so that there is no step, and a side of it has a texture
--- for one
+-- the line is two-sided with the same sector on both sides, so that neither an upper nor a lower wall is visible,
+-- and a side of it has a texture for one
 abbrev pub texture_hidden : Tables → Line → Bool
 texture_hidden m l =
     is_two_sided l && ((side_in m l.right).sector == (side_in m l.left).sector)
     && (names_wall (side_in m l.right) || names_wall (side_in m l.left))
 
--- the rule goes by a number alone, and the number breaks it: player 1, a count of deathmatch
--- starts, a sector or a line
+-- the rule is one that needs only a number, and the number breaks it: it is player 1, a count of deathmatch starts,
+-- or the number of a sector or a line
 abbrev pub number_breaks : Tables → Rule → ℕ → Bool
 number_breaks m PlayerStart n = (n == 1) && (things_of_type m 1 == 0)
 number_breaks m DeathmatchStarts n = nat_lt 0 n && (things_of_type m 11 == n)
@@ -67,14 +67,14 @@ thing_breaks m ThingKnown t = not (is_known_thing t)
 thing_breaks m ThingInside t = is_place_outside (placed_lines m) (thing_place t)
 thing_breaks m _ t = false
 
--- number n breaks the rule, or the item of that number in the table that the rule is about
+-- number n breaks the rule, or the item with that number in the table that the rule is about does
 unfoldable pub breaks : Tables → Rule → ℕ → Bool
 breaks m rule n =
     number_breaks m rule n || at_item (sector_breaks m rule) m.sectors n
     || at_item (line_breaks m rule) m.lines n
     || at_item (thing_breaks m rule) m.things n
 
--- how many numbers the rule is asked of: player 1, fewer than four deathmatch starts, or the items
+-- how many numbers are tested for the rule: for player 1, for fewer than four deathmatch starts, or for the items
 -- of a table
 unfoldable pub reach : Tables → Rule → ℕ
 reach m PlayerStart = 2

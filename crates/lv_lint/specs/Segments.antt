@@ -1,16 +1,16 @@
--- What it means that two lines have a point in common that isn't an end of both, in exact points.
+-- Exact points, and what it means that two lines have a point in common that isn't an end of both.
 use Rattle.std.specs.Prelude.{◌≡◌, ◌≢◌, ◌⊎◌, ◌↔◌, ℤ, pos, ◌+ℤ◌, ◌*ℤ◌, ◌≤ℤ◌, ◌<ℤ◌, true, ◌&&◌}
 use Rattle.lv_lumps.specs.declared.records.Vertex.{Vertex}
 use Rattle.lv_lint.specs.declared.places.PlacedLine.{PlacedLine}
 use Rattle.lv_lint.specs.Meeting.{boxes_meet, share}
 
--- an exact point of the plane: x / d across, y / d upward
+-- an exact point of the plane, at (x / d, y / d)
 pub record ExactPoint : Type 0 where
   pub x : ℤ
   pub y : ℤ
   pub d : ℤ
 
--- the point is the mean of a line's ends by two weights, of which neither is below 0
+-- the point is the mean of a line's ends by two weights, neither of them negative
 pub record IsMean (l : PlacedLine) (t u : ℤ) (p : ExactPoint) : Type 0 where
   pub from_weight : pos 0 ≤ℤ t
   pub to_weight : pos 0 ≤ℤ u
@@ -18,11 +18,11 @@ pub record IsMean (l : PlacedLine) (t u : ℤ) (p : ExactPoint) : Type 0 where
   pub across : t *ℤ l.from.x +ℤ u *ℤ l.to.x ≡ p.x
   pub upward : t *ℤ l.from.y +ℤ u *ℤ l.to.y ≡ p.y
 
--- the point lies on the line, its ends among it
+-- the point lies on the line, ends included
 abbrev pub LiesOnLine : PlacedLine → ExactPoint → Type 0
 LiesOnLine l p = (t : ℤ) × (u : ℤ) × IsMean l t u p
 
--- a vertex stands at the point
+-- the vertex is at the point
 pub record IsVertexAt (v : Vertex) (p : ExactPoint) : Type 0 where
   pub across : p.d *ℤ v.x ≡ p.x
   pub upward : p.d *ℤ v.y ≡ p.y
@@ -42,8 +42,8 @@ pub record IsCrossing (l k : PlacedLine) (p : ExactPoint) : Type 0 where
 abbrev pub HaveCrossing : PlacedLine → PlacedLine → Type 0
 HaveCrossing l k = (p : ExactPoint) × IsCrossing l k p
 
--- the tests by side values tell just the lines that have such a point, where neither is a point
--- alone
+-- the tests by side values hold exactly for lines that have such a point, if neither line's ends are at the same
+-- place
 abbrev pub TestsTellCrossings : Type 0
 TestsTellCrossings =
     (l k : PlacedLine) → l.from ≢ l.to → k.from ≢ k.to

@@ -1,4 +1,4 @@
--- Tags: what a line's special and a sector find each other by.
+-- Tags: the numbers that connect a line's special with sectors.
 use Rattle.std.specs.Prelude.{ℕ, Bool, ◌&&◌, ◌==◌, not, unsigned_abs}
 use Rattle.std.specs.List.{list_any}
 use Rattle.lv_lumps.specs.declared.records.Line.{Line}
@@ -14,19 +14,19 @@ tag_of s = unsigned_abs s.tag
 abbrev pub line_tag : Line → ℕ
 line_tag l = l.tag
 
--- the special needs a tag, and the line has none
+-- the line's special needs a tag, and the line has none
 abbrev pub tag_missing : Line → Bool
 tag_missing l = needs_tag l && (l.tag == 0)
 
--- the special needs a tag, and no sector has the line's
+-- the line's special needs a tag, and no sector has the line's tag
 abbrev pub tag_of_no_sector : Tables → Line → Bool
 tag_of_no_sector m l = needs_tag l && not (l.tag == 0)
     && not (list_any (λ s. tag_of s == l.tag) m.sectors)
 
--- a tag that a line should have: 0 is none, and 666 and 667 are raised by the death of monsters
+-- a line should have the tag: not 0, which is no tag, nor 666 and 667, which deaths of monsters trigger
 abbrev pub needs_line : ℕ → Bool
 needs_line tag = not (tag == 0) && not (tag == 666) && not (tag == 667)
 
--- the sector's tag should be a line's, and none has it
+-- a line should have the sector's tag, and none has it
 abbrev pub tag_of_no_line : Tables → Sector → Bool
 tag_of_no_line m s = needs_line (tag_of s) && not (list_any (λ l. line_tag l == tag_of s) m.lines)

@@ -1,4 +1,4 @@
--- What the bodies count: tags that are there, and the areas of sectors.
+-- What the bodies of the functions count: the tags in use, and the areas of sectors.
 use Rattle.std.specs.Prelude.{◌≡◌, ℕ, ◌*◌, ◌<◌, ◌^◌, Bool, false, ◌==◌, ◌||◌, List, length, get_or, take, flat_map, fold, ℤ, pos, ◌+ℤ◌, ◌≤ℤ◌}
 use Rattle.std.specs.List.{list_any}
 use Rattle.lv_maptables.specs.Tables.{Tables}
@@ -13,17 +13,17 @@ pub record MarksTags {X : Type 0} (tag : X → ℕ) (xs : List X) (marks : List 
   pub count : length marks ≡ 65536
   pub marked : (t : ℕ) → t < 65536 → get_or marks t false ≡ list_any (λ x. tag x == t) xs
 
--- the first n counts are those of the types of that number
+-- the first n counts are the numbers of things of types 0 to n - 1
 pub record AreStarts (m : Tables) (n : ℕ) (starts : List ℕ) : Type 0 where
   pub count : length starts ≡ n
   pub counted : (k : ℕ) → k < n → get_or starts k 0 ≡ things_of_type m k
 
--- the mark of each sector says whether it borders on one of the lines
+-- the mark of each sector says whether one of the lines is its border
 pub record MarksBordered (m : Tables) (ls : List Line) (marks : List Bool) : Type 0 where
   pub count : length marks ≡ length m.sectors
   pub marked : (s : ℕ) → s < length m.sectors → get_or marks s false ≡ list_any (borders m s) ls
 
--- the sectors that the line has on one side alone were marked
+-- the sectors that the line has on exactly one side were marked
 pub record MarksSides (m : Tables) (l : Line) (old new : List Bool) : Type 0 where
   pub count : length new ≡ length old
   pub marked : (s : ℕ) → s < length old → get_or new s false ≡ (get_or old s false || borders m s l)
@@ -37,13 +37,13 @@ pub record IsNear (k : ℕ) (a b : ℤ) : Type 0 where
 pub record AreWithin (k : ℕ) (sums : List ℤ) : Type 0 where
   pub near : (s : ℕ) → IsNear k (pos 0) (get_or sums s (pos 0))
 
--- the edge's part was added to the sum of its sector
+-- what the edge adds was added to the sum of its sector
 pub record AddsArea (m : Tables) (e : Edge) (old new : List ℤ) : Type 0 where
   pub count : length new ≡ length old
   pub sums : (s : ℕ) → get_or new s (pos 0) ≡ get_or old s (pos 0) +ℤ part_in m s e
   pub near : (s : ℕ) → IsNear (2 ^ 48) (get_or old s (pos 0)) (get_or new s (pos 0))
 
--- the edges' parts, at most two, were added to the sums of their sectors
+-- what the edges add, at most two, was added to the sums of their sectors
 pub record AddsAreas (m : Tables) (es : List Edge) (old new : List ℤ) : Type 0 where
   pub count : length new ≡ length old
   pub sums : (s : ℕ) → get_or new s (pos 0)

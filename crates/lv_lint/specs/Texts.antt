@@ -1,4 +1,4 @@
--- The text of a warning: one line without its end.
+-- The text of a warning: one line without the line end.
 use Rattle.std.specs.Prelude.{ℕ, List, [], ◌++◌, codes, decimal}
 use Rattle.std.specs.Fmt.{signed_decimal}
 use Rattle.lv_lumps.specs.declared.records.Vertex.{Vertex}
@@ -8,7 +8,7 @@ use Rattle.lv_lint.specs.declared.whereabouts.Whereabouts.TheVariants.{Unplaced,
 use Rattle.lv_lint.specs.declared.warning.Rule.{Rule}
 use Rattle.lv_lint.specs.declared.warning.Rule.TheVariants.{PlayerStart, OneStart, DeathmatchStarts, CeilingAboveFloor, TagGiven, TagOfSector, TagOfLine, LineSpecialKnown, SectorSpecialKnown, ThingKnown, TextureShows, SectorInside, LinesApart, ThingInside, FlatKnown, TextureKnown}
 
--- the word for what is wrong where a rule is broken
+-- the word for a broken rule
 abbrev pub word_of : Rule → List ℕ
 word_of PlayerStart = codes "no-start"
 word_of OneStart = codes "start-twice"
@@ -27,16 +27,16 @@ word_of ThingInside = codes "thing-outside"
 word_of FlatKnown = codes "flat-unknown"
 word_of TextureKnown = codes "texture-unknown"
 
--- a place: its coordinates in decimal, in brackets
+-- a place: its coordinates in decimal, in parentheses
 abbrev pub place_text : Vertex → List ℕ
 place_text v = codes "(" ++ signed_decimal v.x ++ codes "," ++ signed_decimal v.y ++ codes ")"
 
--- where to look: at a place, between two, or nothing
+-- where to look: one place, two places, or nothing
 abbrev pub whereabouts_text : Whereabouts → List ℕ
 whereabouts_text Unplaced = []
 whereabouts_text (At v) = codes " at " ++ place_text v
 whereabouts_text (Between v w) = codes " at " ++ place_text v ++ codes " " ++ place_text w
 
--- the text of a warning: the word, the number in decimal, and where to look, each behind a space
+-- the text of a warning: the word, the number in decimal, and where to look, separated by spaces
 abbrev pub warning_text : Warning → List ℕ
 warning_text w = word_of w.rule ++ codes " " ++ decimal w.number ++ whereabouts_text w.whereabouts

@@ -1,4 +1,4 @@
--- Where on the map to look for what a warning tells of.
+-- Where on the map to look for the subject of a warning.
 use Rattle.std.specs.Prelude.{ℕ, slice_get}
 use Rattle.std.specs.Option.{option_map_or}
 use Rattle.lv_maptables.specs.Tables.{Tables}
@@ -19,8 +19,7 @@ along_line m n =
     option_map_or (λ l. Between (nth_vertex m.vertices l.v1) (nth_vertex m.vertices l.v2))
     (slice_get m.lines n) Unplaced
 
--- where to look for item n, which breaks the rule: at a thing or along a line, and else the number
--- has to do
+-- where to look for item n, which breaks the rule: at a thing or along a line, otherwise there is no place
 unfoldable pub whereabouts_of : Tables → Rule → ℕ → Whereabouts
 whereabouts_of m OneStart n = at_thing m n
 whereabouts_of m ThingKnown n = at_thing m n

@@ -10,7 +10,7 @@ use lv_lumps::{Line, Point, Ray};
 use lv_maptables::{Kind, Map};
 use std::alloc::Global;
 
-// Twice the area of the triangle from the origin over an edge, above 0 where the origin is on the edge's right.
+// Twice the signed area of the triangle of the origin and an edge: above 0 if the origin is on the edge's right.
 fn edge_area(map: &Map, from: u16, to: u16) -> i64
     requires from { from < length map.now.tables.vertices }
     requires to { to < length map.now.tables.vertices }
@@ -23,7 +23,7 @@ fn edge_area(map: &Map, from: u16, to: u16) -> i64
     Ray::between(from, to).side_value(Point { x: 0, y: 0 })
 }
 
-// Adds an edge's part to its sector's area.
+// Adds an edge's triangle to its sector's area.
 fn add_edge(areas: &mut Vec<i128>, map: &Map, sector: u16, from: u16, to: u16)
     requires sector { sector < vec_len areas.old }
     requires from { from < length map.now.tables.vertices }
@@ -37,7 +37,7 @@ fn add_edge(areas: &mut Vec<i128>, map: &Map, sector: u16, from: u16, to: u16)
     areas[n] += i128::from(area);
 }
 
-// Adds the parts of the line's edges: one on its right and, with a left side, one on its left.
+// Adds the triangles of the line's edges: one on its right and, if it has a left side, one on its left.
 fn add_line(areas: &mut Vec<i128>, map: &Map, line: &Line)
     requires count { vec_len areas.old ≡ length map.now.tables.sectors }
     requires ends { HasEnds map.now.tables.vertices line.now }
@@ -54,7 +54,7 @@ fn add_line(areas: &mut Vec<i128>, map: &Map, line: &Line)
     }
 }
 
-/// Twice the area of each sector, above 0 where its edges run clockwise.
+/// Twice the signed area of each sector: above 0 if its edges run clockwise.
 pub(crate) fn areas_of(alloc: Global, map: &Map) -> Result<Vec<i128>, LintError>
     ensures { IfOk result (λ areas. AreAreas map.now.tables areas.items) }
 {

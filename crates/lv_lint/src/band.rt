@@ -12,8 +12,9 @@ use lv_lumps::Bounds;
 use std::alloc::Global;
 use std::marker::Model;
 
-/// Lines in the order in which they were filed, and the boxes round the first sixteen of them, the next sixteen, and
-/// so on. Lines that were drawn one after the other mostly lie near each other, so few boxes meet that of a line.
+/// Lines in the order in which they were added, and a box round the first sixteen of them, the next sixteen, and so
+/// on. Lines that were drawn one after another are mostly close together, so few of these boxes meet a line's own
+/// box.
 #[derive(Drop)]
 pub(crate) struct Band {
     lines: Vec<PlacedLine>,
@@ -32,14 +33,14 @@ impl Model for Band {
     ghost invariant = { λ b. KeepsBoxes b.lines.items b.boxes.items };
 }
 
-// The higher one of two numbers.
+// The greater of two coordinates.
 fn higher(a: i16, b: i16) -> i16
     ensures { result ≡ int_max a b }
 {
     a.max(b)
 }
 
-// The lower one.
+// The lesser of two coordinates.
 fn lower(a: i16, b: i16) -> i16
     ensures { result ≡ int_min a b }
 {
@@ -58,7 +59,7 @@ fn round_line(line: &PlacedLine) -> Bounds
     }
 }
 
-// The box round what a box holds and a line.
+// The least box round a box and a line.
 fn widened_by(bounds: Bounds, line: &PlacedLine) -> Bounds
     ensures { result ≡ widened_by bounds line.now }
 {
@@ -80,7 +81,7 @@ fn may_meet(line: &PlacedLine, bounds: Bounds) -> bool
         && spans_meet(line.from.y, line.to.y, bounds.bottom, bounds.top)
 }
 
-// Makes the box of the n-th line hold the line.
+// Widens the box of the n-th line so that it holds the line.
 fn note_box(boxes: &mut Vec<Bounds>, n: usize, line: &PlacedLine) -> Result<(), LintError>
     requires { n ≤ 16 * length boxes.old.items }
     ensures grows { GrowsBoxes boxes.old.items boxes.new.items }
@@ -95,8 +96,8 @@ fn note_box(boxes: &mut Vec<Bounds>, n: usize, line: &PlacedLine) -> Result<(), 
     Ok(())
 }
 
-// Whether the line meets one of these. Where the box round sixteen of them doesn't meet that of the line, none of the
-// sixteen does. A call of its own, so that the walk has the registers to itself.
+// Whether the line meets one of these lines. If the box round sixteen of them doesn't meet the line's own box, none
+// of the sixteen meets the line. It isn't inlined, so that the loop has the registers to itself.
 #[inline(never)]
 fn meets_boxed(line: &PlacedLine, lines: &[PlacedLine], boxes: &[Bounds]) -> bool
     requires { KeepsBoxes lines.now boxes.now }
@@ -119,7 +120,7 @@ fn meets_boxed(line: &PlacedLine, lines: &[PlacedLine], boxes: &[Bounds]) -> boo
 impl Band {
     ghost use Rattle.std.specs.Prelude.{◌≡◌, [], ◌∷◌, ◌++◌, OnOk};
 
-    /// The band without a line. It takes no memory.
+    /// A band without lines. It allocates no memory.
     pub(crate) fn new(alloc: Global) -> Band
         ensures { result ≡ [] }
     {
@@ -129,7 +130,7 @@ impl Band {
         }
     }
 
-    /// Puts a line at the end.
+    /// Adds a line at the end.
     pub(crate) fn push(&mut self, line: PlacedLine) -> Result<(), LintError>
         ensures { OnOk result (self.new ≡ self.old ++ line ∷ []) }
     {
@@ -138,14 +139,14 @@ impl Band {
         Ok(())
     }
 
-    /// The lines.
+    /// The band's lines.
     pub(crate) fn lines(&self) -> &[PlacedLine]
         ensures { result.now ≡ self.now }
     {
         &self.lines
     }
 
-    /// Whether the line meets one of them.
+    /// Whether the line meets one of the band's lines.
     pub(crate) fn meets_any(&self, line: &PlacedLine) -> bool
         ensures { result ≡ list_any (meets line.now) self.now }
     {

@@ -1,4 +1,4 @@
-//! The lines of a map, filed by bands of 128 rows.
+//! The lines of a map, sorted into bands of 128 rows.
 ghost use Rattle.std.specs.Prelude.{◌≡◌, [], length, IfOk, OnOk};
 ghost use Rattle.std.specs.Int.{int_min, int_max};
 ghost use Rattle.std.specs.List.{list_any};
@@ -21,7 +21,7 @@ pub(crate) struct FiledLines {
     pub bands: Vec<Band>,
 }
 
-// The band of a row.
+// The number of the band that has the row.
 fn band_of(y: i16) -> usize
     ensures { IsBandOf y result }
 {
@@ -29,28 +29,28 @@ fn band_of(y: i16) -> usize
     row as usize / 128
 }
 
-// The band of a place's row.
+// The number of the band that has the row of the place.
 fn band_at(place: Vertex) -> usize
     ensures { IsBandOf place.y result }
 {
     band_of(place.y)
 }
 
-// The first band in which the line's box has a row.
+// The first band that shares a row with the line's box.
 fn first_band(line: &PlacedLine) -> usize
     ensures { IsBandOf (int_min line.now.from.y line.now.to.y) result }
 {
     band_of(line.from.y.min(line.to.y))
 }
 
-// The last band in which it has one.
+// The last band that shares a row with the line's box.
 fn last_band(line: &PlacedLine) -> usize
     ensures { IsBandOf (int_max line.now.from.y line.now.to.y) result }
 {
     band_of(line.from.y.max(line.to.y))
 }
 
-// Puts the line at the end of the bands in which its box has a row.
+// Adds the line at the end of each band that shares a row with its box.
 fn file_line(bands: &mut [Band], line: PlacedLine) -> Result<(), LintError>
     requires { length bands.old ≡ 512 }
     ensures { OnOk result (FilesLine line bands.old bands.new) }
@@ -63,7 +63,7 @@ fn file_line(bands: &mut [Band], line: PlacedLine) -> Result<(), LintError>
     Ok(())
 }
 
-// The bands without a line.
+// All bands, without lines.
 fn empty_bands(alloc: Global) -> Result<Vec<Band>, LintError>
     ensures { IfOk result (λ bands. AreBands [] bands.items) }
 {
@@ -94,7 +94,7 @@ pub(crate) fn file_lines(alloc: Global, map: &Map) -> Result<FiledLines, LintErr
     Ok(FiledLines { lines, bands })
 }
 
-// Whether the line meets another one, which then has a row in one of the line's bands.
+// Whether the line meets another one. Both then have a band in common, so only the line's own bands are searched.
 fn meets_near(filed: &FiledLines, line: &PlacedLine) -> bool
     requires { AreFiled filed.now }
     ensures { result ≡ list_any (meets line.now) filed.now.lines.items }

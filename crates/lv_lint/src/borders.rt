@@ -1,4 +1,4 @@
-//! Which sectors have a border: a line that has the sector on one side alone.
+//! Which sectors have a border: a line that has the sector on exactly one side.
 ghost use Rattle.std.specs.Prelude.{◌≡◌, ◌<◌, length, vec_len, IfOk};
 ghost use Rattle.lv_maptables.specs.WellFormed.{HasSides};
 ghost use Rattle.lv_lint.specs.Tallies.{MarksBordered, MarksSides};
@@ -8,7 +8,7 @@ use lv_lumps::Line;
 use lv_maptables::{Kind, Map};
 use std::alloc::Global;
 
-// Marks the sectors that the line has on one side alone.
+// Marks the sectors that the line has on exactly one side.
 fn mark_sides(marks: &mut Vec<bool>, map: &Map, line: &Line)
     requires count { vec_len marks.old ≡ length map.now.tables.sectors }
     requires sides { HasSides map.now.tables.sides line.now }

@@ -1,11 +1,11 @@
-//! Why a map can't be looked through, and the number of the refusal.
+//! Why a map can't be linted, and the number of the refusal.
 ghost use Rattle.std.specs.Prelude.{◌≡◌};
 ghost use Rattle.lv_lint.specs.declared.error.LintError.TheVariants.{OutOfMemory};
 
 use std::alloc::{AllocError, AllocFailed};
 use thiserror::Error;
 
-/// Why a map can't be looked through.
+/// Why a map can't be linted.
 #[derive(Clone, Copy, Debug, PartialEq, Eq, Error)]
 pub enum LintError {
     #[error("out of memory")]
@@ -31,7 +31,7 @@ impl<T: Drop> From<AllocFailed<T>> for LintError {
 impl LintError {
     ghost use Rattle.lv_lint.specs.Errors.{code_of};
 
-    /// The number of the refusal.
+    /// The refusal's number: 31.
     pub fn code(&self) -> u16
         ensures { result ≡ code_of self.now }
     {

@@ -1,4 +1,4 @@
-//! What is counted before the rules are looked at.
+//! What is counted before the rules are tested.
 ghost use Rattle.std.specs.Prelude.{IfOk};
 ghost use Rattle.lv_lint.specs.Facts.{AreFacts};
 
@@ -11,8 +11,8 @@ use crate::tags::{tags_of_lines, tags_of_sectors};
 use lv_maptables::Map;
 use std::alloc::Global;
 
-/// Which tags the sectors have and which the lines, how many things are of each type below 5, which sectors have a
-/// border, twice the area of each, and the lines by bands of rows.
+/// The tags that sectors have, the tags that lines have, how many things have each type below 5, which sectors have
+/// a border, twice the area of each sector, and the lines in bands of rows.
 #[derive(Drop)]
 pub(crate) struct Facts {
     pub sector_tags: Vec<bool>,

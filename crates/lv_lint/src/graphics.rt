@@ -1,4 +1,4 @@
-//! Names of flats and textures that a WAD doesn't have.
+//! Finds names of flats and textures that a WAD doesn't have.
 ghost use Rattle.std.specs.Prelude.{◌≡◌, ◌++◌, IfOk, OnOk, IsOkUnless};
 ghost use Rattle.lv_maptables.specs.WellFormed.{HasSides};
 ghost use Rattle.lv_lint.specs.Rules.{at_item};
@@ -13,7 +13,7 @@ use lv_lumps::{Line, Name8, Sector, Side};
 use lv_maptables::Map;
 use std::alloc::Global;
 
-// Names, and their bytes as a set.
+// Names, and the set of their bytes.
 #[derive(Drop)]
 struct NameSet<'a> {
     names: &'a [Name8],
@@ -45,7 +45,7 @@ impl NameSet<'_> {
     }
 }
 
-// Whether the name is the sky's, or a flat's.
+// Whether the name is the sky's or a flat's.
 fn is_flat_known(flats: &NameSet<'_>, name: &Name8) -> bool
     requires { IsNameSet flats.now }
     ensures { result ≡ is_flat_known flats.now.names.now name.now }
@@ -53,7 +53,7 @@ fn is_flat_known(flats: &NameSet<'_>, name: &Name8) -> bool
     name.text() == b"F_SKY1".as_slice() || flats.has(name)
 }
 
-// Whether the name stands for no texture, or is a texture's.
+// Whether the name means "no texture" or is a texture's.
 fn is_texture_known(textures: &NameSet<'_>, name: &Name8) -> bool
     requires { IsNameSet textures.now }
     ensures { result ≡ is_texture_known textures.now.names.now name.now }
@@ -61,7 +61,7 @@ fn is_texture_known(textures: &NameSet<'_>, name: &Name8) -> bool
     !names_texture(name) || textures.has(name)
 }
 
-// Whether each of the side's names is so.
+// Whether each of the side's three texture names is known.
 fn is_side_known(textures: &NameSet<'_>, side: &Side) -> bool
     requires { IsNameSet textures.now }
     ensures { result ≡ is_side_known textures.now.names.now side.now }
@@ -71,7 +71,7 @@ fn is_side_known(textures: &NameSet<'_>, side: &Side) -> bool
         && is_texture_known(textures, &side.middle)
 }
 
-// Whether the sector's floor or ceiling has another name.
+// Whether the flat of the sector's floor or ceiling is unknown.
 fn flat_unknown(flats: &NameSet<'_>, sector: &Sector) -> bool
     requires { IsNameSet flats.now }
     ensures { result ≡ flat_unknown flats.now.names.now sector.now }
@@ -79,7 +79,7 @@ fn flat_unknown(flats: &NameSet<'_>, sector: &Sector) -> bool
     !is_flat_known(flats, &sector.floor_name) || !is_flat_known(flats, &sector.ceiling_name)
 }
 
-// Whether a side of the line has another name.
+// Whether a texture on a side of the line is unknown.
 fn texture_unknown(textures: &NameSet<'_>, map: &Map, line: &Line) -> bool
     requires set { IsNameSet textures.now }
     requires sides { HasSides map.now.tables.sides line.now }
@@ -162,9 +162,9 @@ fn list_graphics(
     Ok(())
 }
 
-/// What the maker of a level would want to know of its flats and textures, where a WAD has these: a warning for each
-/// sector with another flat, then for each line with another texture on a side, by number. `F_SKY1` is the sky
-/// whatever the WAD has, and `-` no texture. Refused by lack of memory alone.
+/// Lists the flats and textures of a level that a WAD with these names doesn't have: a warning for each sector with
+/// an unknown flat, then for each line with an unknown texture on a side, by number. `F_SKY1` is always known, as
+/// the sky, and so is `-`, as no texture. Fails only if memory runs out.
 pub fn lint_graphics(
     alloc: Global,
     map: &Map,

@@ -4,7 +4,7 @@ ghost use Rattle.lv_lint.specs.Known.{is_among, is_known_thing, is_known_line, i
 
 use lv_lumps::{Line, Sector, Thing};
 
-// The types of things: the first and the last of each run.
+// The types of things: the first and the last number of each run.
 #[rattlefmt::skip]
 const THINGS: [(i32, i32); 9] = [
     (1, 89), (2001, 2008), (2010, 2015), (2018, 2019), (2022, 2026), (2028, 2028), (2035, 2035), (2045, 2049),
@@ -14,7 +14,7 @@ const THINGS: [(i32, i32); 9] = [
 // The specials of lines.
 const LINE_SPECIALS: [(i32, i32); 3] = [(0, 77), (79, 84), (86, 141)];
 
-// Those that need no tag: none, doors that open by hand, exits, and a wall that scrolls.
+// The line specials that need no tag: no special, doors that open by hand, exits, and a wall that scrolls.
 #[rattlefmt::skip]
 const TAGLESS_SPECIALS: [(i32, i32); 8] = [
     (0, 1), (11, 11), (26, 28), (31, 34), (48, 48), (51, 52), (117, 118), (124, 124),

@@ -1,7 +1,7 @@
-//! A law on the definitions, as the contract of a call without a body.
+//! A law about the definitions, as the contract of a function whose body is empty.
 ghost use Rattle.lv_lint.specs.Segments.{TestsTellCrossings};
 
-/// The tests by side values tell just those lines that have a point in common which isn't an end of both.
+/// The tests by side values hold exactly for those lines that have a point in common that isn't an end of both.
 pub fn tell_crossings()
     ensures { TestsTellCrossings }
 {}

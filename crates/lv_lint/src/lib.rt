@@ -1,4 +1,4 @@
-//! What the maker of a level would want to know before playing it.
+//! What a level maker wants to know before playing a level.
 #![tactic(auto)]
 
 mod areas;

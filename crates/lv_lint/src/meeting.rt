@@ -5,7 +5,7 @@ ghost use Rattle.lv_lint.specs.Meeting.{is_under, spans_meet, boxes_meet, side_v
 use crate::places::PlacedLine;
 use lv_lumps::{Ray, Vertex};
 
-// Whether one of a and b is at most one of c and d.
+// Whether `a` or `b` is at most `c` or `d`.
 #[tactic(auto, unfolding(crate::specs::Meeting::is_under))]
 fn is_under(a: i16, b: i16, c: i16, d: i16) -> bool
     ensures { result ≡ is_under a b c d }
@@ -47,7 +47,7 @@ pub(crate) fn is_on(line: &PlacedLine, place: Vertex) -> bool
         && spans_meet(line.from.y, line.to.y, place.y, place.y)
 }
 
-// Whether the vertices stand at one place.
+// Whether the vertices are at the same place.
 #[tactic(auto, unfolding(crate::specs::Meeting::is_at))]
 fn is_at(v: Vertex, w: Vertex) -> bool
     ensures { result ≡ is_at v w }
@@ -89,7 +89,8 @@ fn doubles(l: &PlacedLine, k: &PlacedLine) -> bool
     ends_at(l, k.from) && ends_at(l, k.to)
 }
 
-// Whether a point of both lines isn't an end of both. Few boxes meet, so it stays out of the walk over the lines.
+// Whether a point of both lines isn't an end of both. It isn't inlined into the loop over the lines, since few
+// boxes meet.
 #[inline(never)]
 #[tactic(auto, unfolding(crate::specs::Meeting::share))]
 fn share(l: &PlacedLine, k: &PlacedLine) -> bool
@@ -98,7 +99,7 @@ fn share(l: &PlacedLine, k: &PlacedLine) -> bool
     parts(l, k) && parts(k, l) || abuts(k, l) || abuts(l, k) || doubles(l, k)
 }
 
-/// Whether line k is another line than l, their boxes meet, and a point of both isn't an end of both.
+/// Whether lines k and l are two different lines, their boxes meet, and a point of both isn't an end of both.
 #[tactic(auto, unfolding(crate::specs::Meeting::meets))]
 pub(crate) fn meets(l: &PlacedLine, k: &PlacedLine) -> bool
     ensures { result ≡ meets l.now k.now }

@@ -15,7 +15,7 @@ fn is_on_wall(place: Vertex, line: &PlacedLine) -> bool
     line.is_wall && is_on(line, place)
 }
 
-// Whether one comes down over the row from a to b.
+// Whether the step from `a` to `b` goes down across the row: `a` is above it, and `b` isn't.
 #[tactic(auto, unfolding(crate::specs::Outside::comes_down))]
 fn comes_down(y: i16, a: i16, b: i16) -> bool
     ensures { result ≡ comes_down y a b }
@@ -23,7 +23,7 @@ fn comes_down(y: i16, a: i16, b: i16) -> bool
     y < a && b <= y
 }
 
-// Whether the wall stands on the place's row, to the east of it, and faces it.
+// Whether the wall crosses the place's row to the east of it, and faces it.
 #[tactic(auto, unfolding(crate::specs::Outside::faces))]
 fn faces(place: Vertex, line: &PlacedLine) -> bool
     ensures { result ≡ faces place line.now }
@@ -32,7 +32,7 @@ fn faces(place: Vertex, line: &PlacedLine) -> bool
     line.is_wall && comes_down(place.y, line.from.y, line.to.y) && 0 < side
 }
 
-// Whether the wall stands on the place's row, to the east of it, and turns away from it.
+// Whether the wall crosses the place's row to the east of it, and turns away from it.
 #[tactic(auto, unfolding(crate::specs::Outside::turns_away))]
 fn turns_away(place: Vertex, line: &PlacedLine) -> bool
     ensures { result ≡ turns_away place line.now }
@@ -48,14 +48,14 @@ fn is_on_any_wall(lines: &[PlacedLine], place: Vertex) -> bool
     lines.iter().any(|line| is_on_wall(place, line))
 }
 
-// How many walls on the place's row, to the east of it, face it.
+// How many walls that cross the place's row to the east of it face it.
 fn count_facing(lines: &[PlacedLine], place: Vertex) -> usize
     ensures { result ≡ count_by (faces place) lines.now }
 {
     lines.iter().filter(|line| faces(place, line)).count()
 }
 
-// How many of them turn away from it.
+// How many of these walls turn away from it.
 fn count_turned(lines: &[PlacedLine], place: Vertex) -> usize
     ensures { result ≡ count_by (turns_away place) lines.now }
 {

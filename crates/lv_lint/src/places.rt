@@ -17,7 +17,7 @@ pub(crate) struct PlacedLine {
     pub is_wall: bool,
 }
 
-// The vertex of a number.
+// The vertex with the number.
 fn vertex_of(map: &Map, n: u16) -> Vertex
     requires { n < length map.now.tables.vertices }
     ensures { result ≡ nth_vertex map.now.tables.vertices n }

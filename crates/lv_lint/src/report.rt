@@ -1,4 +1,4 @@
-//! The call of the crate: all warnings of a map, in their order.
+//! The crate's call: lists all warnings of a map, in a fixed order.
 ghost use Rattle.std.specs.Prelude.{◌≡◌, ◌++◌, IfOk, OnOk, IsOkUnless};
 ghost use Rattle.lv_lint.specs.Facts.{AreFacts};
 ghost use Rattle.lv_lint.specs.Rules.{breaches, warnings};
@@ -52,10 +52,10 @@ fn list_breaches(
     Ok(())
 }
 
-/// What the maker of a level would want to know before playing it, and `lv_checks` doesn't tell: a
-/// warning for each item of the map that breaks a rule, by rule in the order of `Rule`, then by
-/// number. It takes time in proportion to the map's size and, for lines that meet, to the pairs of lines
-/// with a band of 128 rows in common, and is refused by lack of memory alone.
+/// Lists what a level maker wants to know before playing the level, and `lv_checks` doesn't report: a warning for
+/// each item of the map that breaks a rule, by rule in the order of `Rule`, then by number. Its time grows linearly
+/// with the map's size and, for crossing lines, with the pairs of lines that share a band of 128 rows. Fails only
+/// if memory runs out.
 pub fn lint(alloc: Global, map: &Map) -> Result<Vec<Warning>, LintError>
     ensures found { IfOk result (λ found. found.items ≡ warnings map.now.tables) }
     ensures memory { IsOkUnless result LintError.OutOfMemory }

@@ -21,7 +21,7 @@ use crate::warning::Rule;
 use lv_lumps::{Line, Name8, Sector, Side, Thing};
 use lv_maptables::{Kind, Map};
 
-// Whether the line's special needs a tag, and no sector has the line's.
+// Whether the line's special needs a tag, and no sector has the line's tag.
 fn tag_of_no_sector(map: &Map, tags: &[bool], line: &Line) -> bool
     requires { MarksTags tag_of map.now.tables.sectors tags.now }
     ensures { result ≡ tag_of_no_sector map.now.tables line.now }
@@ -29,14 +29,14 @@ fn tag_of_no_sector(map: &Map, tags: &[bool], line: &Line) -> bool
     needs_tag(line) && line.tag != 0 && !tags[usize::from(line.tag)]
 }
 
-// Whether the tag should be a line's.
+// Whether a line should have the tag.
 fn needs_line(tag: u16) -> bool
     ensures { result ≡ needs_line tag }
 {
     tag != 0 && tag != 666 && tag != 667
 }
 
-// Whether the sector's tag should be a line's, and none has it.
+// Whether a line should have the sector's tag, and none has it.
 fn tag_of_no_line(map: &Map, tags: &[bool], sector: &Sector) -> bool
     requires { MarksTags line_tag map.now.tables.lines tags.now }
     ensures { result ≡ tag_of_no_line map.now.tables sector.now }
@@ -45,7 +45,7 @@ fn tag_of_no_line(map: &Map, tags: &[bool], sector: &Sector) -> bool
     needs_line(tag) && !tags[usize::from(tag)]
 }
 
-/// Whether the name is that of a texture.
+/// Whether the name names a texture.
 pub(crate) fn names_texture(name: &Name8) -> bool
     ensures { result ≡ not (is_missing name.now) }
 {
@@ -59,7 +59,7 @@ fn names_wall(side: &Side) -> bool
     names_texture(&side.upper) || names_texture(&side.lower)
 }
 
-// Whether the line is two-sided within one sector, and has a texture for a step.
+// Whether the line is two-sided with the same sector on both sides, and has an upper or lower texture.
 fn texture_hidden(map: &Map, line: &Line) -> bool
     requires { HasSides map.now.tables.sides line.now }
     ensures { result ≡ texture_hidden map.now.tables line.now }
@@ -72,7 +72,7 @@ fn texture_hidden(map: &Map, line: &Line) -> bool
     right.sector == left.sector && (names_wall(&right) || names_wall(&left))
 }
 
-// Whether the sector has a border, and what it runs round lies on its left or is empty.
+// Whether the sector has a border, and its edges have no area on their right.
 fn is_inside_out(map: &Map, bordered: &[bool], areas: &[i128], n: u32) -> bool
     requires bordered { MarksBordered map.now.tables map.now.tables.lines bordered.now }
     requires areas { AreAreas map.now.tables areas.now }
@@ -84,7 +84,7 @@ fn is_inside_out(map: &Map, bordered: &[bool], areas: &[i128], n: u32) -> bool
     }
 }
 
-// Whether the rule goes by a number alone, and the number breaks it.
+// Whether the rule is one that needs only a number, and the number breaks it.
 fn number_breaks(map: &Map, facts: &Facts, rule: Rule, n: u32) -> bool
     requires { AreFacts map.now.tables facts.now }
     ensures { result ≡ number_breaks map.now.tables rule n }
@@ -192,7 +192,7 @@ pub(crate) fn breaks(map: &Map, facts: &Facts, rule: Rule, n: u32) -> bool
         || thing_at_breaks(map, facts, rule, n)
 }
 
-/// How many numbers the rule is asked of.
+/// How many numbers are tested for the rule.
 #[tactic(auto, unfolding(crate::specs::Rules::reach))]
 pub(crate) fn reach(map: &Map, rule: Rule) -> u32
     ensures { result ≡ reach map.now.tables rule }

@@ -8,14 +8,14 @@ use lv_lumps::Thing;
 use lv_maptables::{Kind, Map};
 use std::alloc::Global;
 
-// Whether the thing is of the type.
+// Whether the thing has the type.
 fn is_of_type(thing: &Thing, kind: u32) -> bool
     ensures { result ≡ is_of_type kind thing.now }
 {
     i64::from(thing.kind) == i64::from(kind)
 }
 
-/// How many things are of the type.
+/// How many things have the type.
 pub(crate) fn things_of_type(map: &Map, kind: u32) -> u32
     ensures { result ≡ things_of_type map.now.tables kind }
 {
@@ -29,7 +29,7 @@ pub(crate) fn things_of_type(map: &Map, kind: u32) -> u32
     count
 }
 
-/// How many things are of each type below 5, of which 1 to 4 are the players' starts.
+/// How many things have each type below 5. Types 1 to 4 are the players' starts.
 pub(crate) fn starts_of(alloc: Global, map: &Map) -> Result<Vec<u32>, LintError>
     ensures { IfOk result (λ starts. AreStarts map.now.tables 5 starts.items) }
 {

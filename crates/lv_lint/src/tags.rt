@@ -15,7 +15,7 @@ pub(crate) fn tag_of(sector: &Sector) -> u16
     sector.tag.unsigned_abs()
 }
 
-// How many tags there are. A call, so that no proof counts them.
+// How many tags there are. It is a function, so that no proof evaluates the number.
 fn tag_count() -> usize
     ensures { result ≡ 65536 }
 {

@@ -2,23 +2,23 @@
 use crate::whereabouts::Whereabouts;
 use std::fmt;
 
-/// What a level should keep. The number of a warning is that of the item which breaks the rule,
-/// but for two rules on starts, where each says what it is.
+/// What a level should keep. The number of a warning is that of the item that breaks the rule, except for two rules
+/// on starts, which say what it is.
 #[derive(Clone, Copy, Debug, PartialEq, Eq)]
 pub enum Rule {
     /// The first player has a start. The number is 1.
     PlayerStart,
-    /// No thing is the start of a player who has another one.
+    /// No player has two starts.
     OneStart,
-    /// With a deathmatch start there are at least four. The number is how many there are.
+    /// If there are deathmatch starts, there are at least four. The number is their count.
     DeathmatchStarts,
     /// No sector's ceiling lies below its floor.
     CeilingAboveFloor,
-    /// A line's special that works by the line's tag has a tag.
+    /// A line whose special works by its tag has a tag.
     TagGiven,
-    /// A line's special that works by the line's tag has a sector of that tag.
+    /// A line whose special works by its tag has the tag of some sector.
     TagOfSector,
-    /// A sector's tag is that of a line. Tags 0, 666 and 667 need none.
+    /// A sector's tag is some line's tag. Tags 0, 666 and 667 need no line.
     TagOfLine,
     /// A line's special is one of Doom's.
     LineSpecialKnown,
@@ -28,9 +28,10 @@ pub enum Rule {
     ThingKnown,
     /// A two-sided line within one sector has no upper or lower texture, since none would show.
     TextureShows,
-    /// A sector lies on the right of its edges, and isn't empty. One that has no line on one side alone may be so.
+    /// A sector lies on the right of its edges, and has an area. A sector without a border is exempt: a border is a
+    /// line that has it on exactly one side.
     SectorInside,
-    /// A line has no point with another one but an end of both.
+    /// A line and another one share no point except an end of both.
     LinesApart,
     /// A thing lies in a sector.
     ThingInside,
@@ -40,7 +41,7 @@ pub enum Rule {
     TextureKnown,
 }
 
-/// A rule that is broken, by which item, and where to look for it.
+/// A broken rule, the number of the item that breaks it, and where to look for the item.
 #[derive(Clone, Copy, Debug, PartialEq, Eq)]
 pub struct Warning {
     pub rule: Rule,

@@ -1,4 +1,4 @@
-//! Where on the map to look for what a warning tells of.
+//! Where on the map to look for the subject of a warning.
 ghost use Rattle.std.specs.Prelude.{◌≡◌};
 ghost use Rattle.lv_lint.specs.Whereabouts.{at_thing, along_line, whereabouts_of};
 
@@ -7,7 +7,7 @@ use crate::warning::Rule;
 use lv_lumps::Vertex;
 use lv_maptables::Map;
 
-/// Where on the map to look. A sector goes by its number alone, and what is missing has no place.
+/// Where on the map to look. A sector has only its number, and what is missing has no place.
 #[derive(Clone, Copy, Debug, PartialEq, Eq)]
 pub enum Whereabouts {
     Unplaced,
@@ -17,7 +17,7 @@ pub enum Whereabouts {
     Between(Vertex, Vertex),
 }
 
-// Where the thing of the number stands.
+// Where the thing with the number stands.
 fn at_thing(map: &Map, n: u32) -> Whereabouts
     ensures { result ≡ at_thing map.now.tables n }
 {
@@ -27,7 +27,7 @@ fn at_thing(map: &Map, n: u32) -> Whereabouts
     }
 }
 
-// Where the ends of the line of the number are.
+// Where the ends of the line with the number are.
 fn along_line(map: &Map, n: u32) -> Whereabouts
     ensures { result ≡ along_line map.now.tables n }
 {
@@ -40,7 +40,7 @@ fn along_line(map: &Map, n: u32) -> Whereabouts
     }
 }
 
-/// Where to look for the item of number n, which breaks the rule.
+/// Where to look for item n, which breaks the rule.
 #[tactic(auto, unfolding(crate::specs::Whereabouts::whereabouts_of))]
 pub(crate) fn whereabouts_of(map: &Map, rule: Rule, n: u32) -> Whereabouts
     ensures { result ≡ whereabouts_of map.now.tables rule n }

@@ -2,7 +2,7 @@
 use Rattle.std.specs.Prelude.{ℕ, ◌+◌, ◌*◌, ℤ, pos, negsuc, neg_ℤ, ◌-ℤ◌, ◌≤ℤ◌, unsigned_abs}
 use Rattle.lv_lumps.specs.declared.records.Vertex.{Vertex}
 
--- the number is neither below the low bound nor above the high one
+-- the number is from `low` to `high`, both included
 pub record IsBetween (low high z : ℤ) : Type 0 where
   pub at_least : low ≤ℤ z
   pub at_most : z ≤ℤ high
@@ -18,12 +18,12 @@ pub record IsDrawable (v : Vertex) : Type 0 where
   pub y_low : neg_ℤ (pos 16384) ≤ℤ v.y
   pub y_high : v.y ≤ℤ pos 16383
 
--- the square of the distance of two places
+-- the square of the distance between two vertices
 abbrev pub squared_distance : Vertex → Vertex → ℕ
 squared_distance a b =
     unsigned_abs (b.x -ℤ a.x) * unsigned_abs (b.x -ℤ a.x)
     + unsigned_abs (b.y -ℤ a.y) * unsigned_abs (b.y -ℤ a.y)
 
--- the greatest squared length of a line: that of 32,767
+-- the greatest squared length of a line: 32,767 squared
 abbrev pub longest_squared : ℕ
 longest_squared = 1073676289

@@ -1,13 +1,13 @@
-//! How far two places are apart.
+//! The distance between two vertices.
 ghost use Rattle.std.specs.Prelude.{◌≡◌, ◌≤◌, pos, unsigned_abs, ◌+ℤ◌, ◌-ℤ◌, ◌*ℤ◌, ◌*◌};
 ghost use Rattle.lv_lumps.specs.Drawing.{squared_distance};
 
 use crate::records::Vertex;
 
-/// The greatest squared length of a line, in squared map units: that of 32,767.
+/// The greatest squared length of a line, in squared map units: 32,767 squared.
 pub const LONGEST_SQUARED: u64 = 1_073_676_289;
 
-/// The squared distance of two places, in squared map units.
+/// The squared distance between two vertices, in squared map units.
 pub fn squared_distance(a: Vertex, b: Vertex) -> u64
     ensures value { result ≡ squared_distance a b }
     ensures products { pos result ≡ (b.x -ℤ a.x) *ℤ (b.x -ℤ a.x) +ℤ (b.y -ℤ a.y) *ℤ (b.y -ℤ a.y) }
@@ -24,7 +24,7 @@ fn square_of(gap: u64) -> u64
     gap * gap
 }
 
-// How far two coordinates are apart.
+// The distance between two coordinates.
 fn gap(a: i16, b: i16) -> u64
     ensures value { result ≡ unsigned_abs (b -ℤ a) }
     ensures bound { result ≤ 65535 }

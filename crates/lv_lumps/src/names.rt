@@ -1,4 +1,4 @@
-//! The forms of names: of textures and flats, and of maps.
+//! Which texts are names of textures and flats, and which are names of maps.
 ghost use Rattle.std.specs.Prelude.{◌≡◌, ◌&&◌, nat_le, length};
 ghost use Rattle.std.specs.List.{list_all};
 ghost use Rattle.lv_lumps.specs.Names.{is_name, is_marker, is_name_byte};
@@ -30,14 +30,14 @@ fn has_name_length(text: &[u8]) -> bool
     1 <= text.len() && text.len() <= 8
 }
 
-// Whether all bytes may stand in a name.
+// Whether a name may contain each of the bytes.
 fn are_name_bytes(text: &[u8]) -> bool
     ensures { result ≡ list_all is_name_byte text.now }
 {
     text.iter().all(|byte| is_name_byte(*byte))
 }
 
-// Whether the byte may stand in a name.
+// Whether a name may contain the byte.
 fn is_name_byte(byte: u8) -> bool
     ensures { result ≡ is_name_byte byte }
 {

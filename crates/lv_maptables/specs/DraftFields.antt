@@ -1,4 +1,4 @@
--- What a draft's fields mean.
+-- The draft that the fields represent.
 use Rattle.lv_maptables.specs.declared.map.draft.Draft.TheInside.{Inside}
 use Rattle.lv_maptables.specs.Tables.{Tables}
 

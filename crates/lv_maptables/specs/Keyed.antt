@@ -1,5 +1,4 @@
--- What a map keeps of a line and of a side, by keys, and the line and the side that they are by
--- numbers.
+-- Lines and sides as a map stores them, with keys, and the lines and sides with numbers that they represent.
 use Rattle.std.specs.Prelude.{◌≢◌, ℕ, ◌<◌, Bool, false, ◌==◌, ◌&&◌, List, [], Option, Some, None}
 use Rattle.lv_lumps.specs.declared.records.Line.{Line}
 use Rattle.lv_lumps.specs.declared.records.Side.{Side}
@@ -10,12 +9,12 @@ use Rattle.lv_maptables.specs.declared.map.keyed_side.KeyedSide.{KeyedSide}
 use Rattle.lv_maptables.specs.Faults.{uses_vertex, is_too_long}
 use Rattle.lv_maptables.specs.Keys.{rank_of}
 
--- the number of a line's left side, which may be missing
+-- the number of a line's left side, or `no_side`
 abbrev pub left_of : List ℕ → Option ℕ → ℕ
 left_of sides None = no_side
 left_of sides (Some key) = rank_of sides key
 
--- the line by the keys of the vertices and of the sides
+-- the line with numbers, given the keys of the vertices and of the sides in order
 abbrev pub line_of : List ℕ → List ℕ → KeyedLine → Line
 line_of vertices sides l =
     record {
@@ -28,7 +27,7 @@ line_of vertices sides l =
       left = left_of sides l.left;
     }
 
--- the side by the keys of the sectors
+-- the side with a number, given the keys of the sectors in order
 abbrev pub side_of : List ℕ → KeyedSide → Side
 side_of sectors s =
     record {
@@ -40,19 +39,19 @@ side_of sectors s =
       sector = rank_of sectors s.sector;
     }
 
--- what the line names is among so many vertices and sides
+-- the line's ends and sides are among the first `vertices` vertices and the first `sides` sides
 pub record IsFound (vertices sides : ℕ) (l : Line) : Type 0 where
   pub v1 : l.v1 < vertices
   pub v2 : l.v2 < vertices
   pub right : l.right < sides
   pub left : l.left ≢ no_side → l.left < sides
 
--- the left side has the key
+-- there is a left side, and it has the key
 abbrev pub is_left : Option ℕ → ℕ → Bool
 is_left None key = false
 is_left (Some left) key = left == key
 
--- the line has the vertex, and is too long with the vertices where they are
+-- the line has the vertex as an end, and is too long with the vertices at these places
 abbrev pub stretches : List ℕ → List Vertex → ℕ → KeyedLine → Bool
 stretches keys vertices n l = uses_vertex n (line_of keys [] l)
     && is_too_long vertices (line_of keys [] l)

@@ -1,5 +1,4 @@
--- What a contract sees of a table: its items in order, the key of each, and how many more fit
--- without memory.
+-- A table as contracts see it: its items in order, the key of each, and how many more fit without allocating.
 use Rattle.std.specs.Prelude.{◌≡◌, ◌≢◌, ℕ, ◌<◌, ◌==◌, List, length, filter_map, All, AllPairs}
 use Rattle.std.specs.List.{position_or_len}
 use Rattle.slab.specs.Slab.{Slab, get, slab_len, ContainsKey}
@@ -14,7 +13,7 @@ pub record TableView (T : Type 0) : Type 0 where
 abbrev pub items_under : {T : Type 0} → Slab T → List ℕ → List T
 items_under s keys = filter_map (get s) keys
 
--- where a key stands among the keys, and how many there are where it doesn't
+-- the index of a key among the keys, or their count if it isn't one of them
 abbrev pub rank_of : List ℕ → ℕ → ℕ
 rank_of keys key = position_or_len (λ k. k == key) keys
 
@@ -29,7 +28,7 @@ abbrev pub KeepRanks : {T : Type 0} → TableView T → TableView T → Type 0
 KeepRanks old new = (key : ℕ) → rank_of old.keys key < length old.items → rank_of new.keys key
     ≡ rank_of old.keys key
 
--- each item but the n-th keeps its key, and the ranks behind it fall by one
+-- each item but the n-th keeps its key, and the ranks after the n-th are lowered by one
 abbrev pub LowerRanks : {T : Type 0} → ℕ → TableView T → TableView T → Type 0
 LowerRanks n old new =
     (key : ℕ) → rank_of old.keys key < length old.items → rank_of old.keys key ≢ n

@@ -15,7 +15,8 @@ Rises [] = Unit {0}
 Rises (fault ∷ []) = Unit {0}
 Rises (fault ∷ next ∷ faults) = (fault.0 < next.0) × Rises (next ∷ faults)
 
--- why an edit of a map is refused stands by rising code, so that the first that holds is the least
+-- the causes for which each edit is refused are listed by rising code, so that the first one that holds has the
+-- least code
 pub record FaultsRise (m : Tables) (n : ℕ) (v : Vertex) (s : Side) (l : Line) : Type 0 where
   pub vertex : Rises (vertex_faults m v)
   pub set_vertex : Rises (set_vertex_faults m n v)
@@ -33,7 +34,7 @@ pub record FaultsRise (m : Tables) (n : ℕ) (v : Vertex) (s : Side) (l : Line) 
   pub set_thing : Rises (set_thing_faults m n)
   pub drop_thing : Rises (drop_thing_faults m n)
 
--- one well-formed project at most has a body's bytes, in either version
+-- at most one well-formed project has a body's bytes, in either version
 abbrev pub BodiesTellProjects : Type 0
 BodiesTellProjects =
     (p q : ProjectMaps) (bytes : List ℕ) → WellFormedProject p → WellFormedProject q

@@ -1,10 +1,9 @@
--- What the fields of `Maps` mean, and what they keep.
+-- The value that the fields of `Maps` represent, and their invariant.
 use Rattle.std.specs.Prelude.{◌≤◌, length, take, drop}
 use Rattle.lv_maptables.specs.declared.maps.Maps.TheInside.{Inside}
 use Rattle.lv_maptables.specs.Projects.{MapsView, WellFormedProject, project_of}
 
--- the current map stands apart; the others stand in order, its number saying where it belongs among
--- them
+-- the current map is stored apart from the others; its number says where it belongs in their order
 abbrev pub maps_view : Inside → MapsView
 maps_view a =
     record {
@@ -17,7 +16,7 @@ maps_view a =
       };
     }
 
--- the maps are a project's
+-- the maps are those of a well-formed project
 pub record KeepsMaps (a : Inside) : Type 0 where
   pub number : a.number ≤ length a.others.items
   pub project : WellFormedProject (project_of (maps_view a))

@@ -22,26 +22,26 @@ part m =
     ++ flat_map side_record m.sides
     ++ flat_map vertex_record m.vertices ++ flat_map sector_record m.sectors
 
--- no well-formed map's part begins the bytes
+-- the bytes begin with no well-formed map's part
 abbrev pub NoPartBegins : List ℕ → Type 0
 NoPartBegins bytes = (m : Tables) (rest : List ℕ) → WellFormed m → part m ++ rest ≢ bytes
 
--- the map is well-formed, and its part begins the bytes
+-- the map is well-formed, and the bytes begin with its part
 pub record BeginsWith (bytes : List ℕ) (m : Tables) : Type 0 where
   pub well_formed : WellFormed m
   pub encoded : part m ++ drop (part_len m) bytes ≡ bytes
 
--- a reader refuses its bytes at place 0 for the reason, or for lack of memory
+-- a reader fails with `Damaged` at place 0 for this reason, or memory runs out
 abbrev pub RefusesFor : Type 0 → MapError → Type 0
 RefusesFor reason OutOfMemory = Unit {0}
 RefusesFor reason (Damaged place) = (place ≡ 0) × reason
 RefusesFor reason _ = ⊥
 
--- the reader of a part refuses the bytes because no map's part begins them
+-- reading a part fails because the bytes begin with no well-formed map's part, or memory runs out
 abbrev pub RefusesPart : List ℕ → MapError → Type 0
 RefusesPart bytes = RefusesFor (NoPartBegins bytes)
 
--- ---- What stands in the bytes, whether it is a map's or not
+-- ---- What the bytes hold, whether it is a map's part or not
 
 -- the bytes have a head, and are at least as long as its counts say
 pub record IsFramed (bytes : List ℕ) : Type 0 where
@@ -49,7 +49,7 @@ pub record IsFramed (bytes : List ℕ) : Type 0 where
   pub whole : 18 + 10 * unsigned_at 8 bytes + 14 * unsigned_at 10 bytes + 30 * unsigned_at 12 bytes
       + 4 * unsigned_at 14 bytes + 26 * unsigned_at 16 bytes ≤ length bytes
 
--- the bytes behind the head, and behind each table
+-- the bytes after the head, and after each table
 
 abbrev pub behind_head : List ℕ → List ℕ
 behind_head bytes = drop 18 bytes

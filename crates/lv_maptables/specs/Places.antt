@@ -1,9 +1,9 @@
--- What a contract sees of the places that are taken.
+-- The set of taken places as contracts see it.
 use Rattle.std.specs.Prelude.{◌≡◌, ℕ, List, length}
 use Rattle.lv_lumps.specs.declared.records.Vertex.{Vertex}
 use Rattle.lv_maptables.specs.Faults.{is_taken}
 
--- the places, in some order, and for how many there is room
+-- the places, in some order, and the number of places that there is room for
 pub record PlacesView : Type 0 where
   pub marked : List Vertex
   pub room : ℕ

@@ -1,4 +1,4 @@
--- What the fields of `Places` mean, and what they keep.
+-- The value that the fields of `Places` represent, and their invariant.
 use Rattle.std.specs.Prelude.{◌+◌, ◌≤◌}
 use Rattle.std.specs.HashSet.{keys, hash_set_len, spare}
 use Rattle.lv_maptables.specs.declared.map.places.Places.TheInside.{Inside}
@@ -7,7 +7,7 @@ use Rattle.lv_maptables.specs.Places.{PlacesView}
 abbrev pub places_of : Inside → PlacesView
 places_of a = record { marked = keys a.taken; room = a.room }
 
--- the room is there, and the places are within it
+-- the set has the promised room, and no more places than that
 pub record KeepsRoom (a : Inside) : Type 0 where
   pub there : a.room ≤ hash_set_len a.taken + spare a.taken
   pub within : hash_set_len a.taken ≤ a.room

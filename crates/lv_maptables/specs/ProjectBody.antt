@@ -1,5 +1,5 @@
--- The bytes of a project's body: of version 2, which is written, and of version 1, of one map,
--- which is read too.
+-- The bytes of a project's body: of version 2, which is written, and of version 1 for one map, which can still be
+-- read.
 use Rattle.std.specs.Prelude.{◌≡◌, ◌≢◌, ℕ, ◌≤◌, ◌<◌, ◌⊎◌, List, [], ◌∷◌, ◌++◌, length, flat_map, drop}
 use Rattle.lv_maptables.specs.declared.error.MapError.{MapError}
 use Rattle.lv_maptables.specs.Tables.{Tables}
@@ -15,7 +15,7 @@ project_body p = 2 ∷ p.current ∷ flat_map part p.maps
 abbrev pub alone : Tables → ProjectMaps
 alone m = record { maps = m ∷ []; current = 0 }
 
--- the bytes are the project's body of version 2, or, of a project of one map, its body of version 1
+-- the bytes are the project's body of version 2, or, for a project of one map, its body of version 1
 abbrev pub HasBody : ProjectMaps → List ℕ → Type 0
 HasBody p bytes = (project_body p ≡ bytes)
     ⊎ ((p ≡ alone (current_map p)) × (body (current_map p) ≡ bytes))
@@ -31,7 +31,7 @@ pub record IsProjectOf (bytes : List ℕ) (p : ProjectMaps) : Type 0 where
   pub encoded : HasBody p bytes
   pub only : (other : ProjectMaps) → WellFormedProject other → HasBody other bytes → other ≡ p
 
--- the reader of a body refuses the bytes because no project has them
+-- reading a body fails because no well-formed project has the bytes, or memory runs out
 abbrev pub RefusesProject : List ℕ → MapError → Type 0
 RefusesProject bytes = RefusesFor (NoProjectHas bytes)
 
@@ -42,22 +42,22 @@ pub record AreMapsOf (bytes : List ℕ) (p : ProjectMaps) : Type 0 where
   pub well_formed : WellFormedProject p
   pub encoded : flat_map part p.maps ≡ bytes
 
--- they are of no well-formed project's maps
+-- the bytes are the parts of no well-formed project's maps
 abbrev pub NoMapsHave : List ℕ → Type 0
 NoMapsHave bytes = (p : ProjectMaps) → WellFormedProject p → flat_map part p.maps ≢ bytes
 
--- no well-formed project has, behind these maps, some whose parts are the bytes
+-- no well-formed project has these maps followed by some whose parts are the bytes
 abbrev pub NoneFollow : List Tables → List ℕ → Type 0
 NoneFollow maps bytes =
     (p : ProjectMaps) (m : Tables) (more : List Tables) → WellFormedProject p → p.maps ≡ maps ++ m
     ∷ more
     → part m ++ flat_map part more ≢ bytes
 
--- the project with one map more behind the others, which is current
+-- the project with one more map, which is last and current
 abbrev pub with_last : ProjectMaps → Tables → ProjectMaps
 with_last p m = record { maps = p.maps ++ m ∷ []; current = length p.maps }
 
--- one map more was read off the first n of the bytes
+-- one more map was read from the first n of the bytes
 pub record ReadsNext (bytes : List ℕ) (n : ℕ) (old new : ProjectMaps) : Type 0 where
   pub well_formed : WellFormedProject new
   pub some : 0 < n

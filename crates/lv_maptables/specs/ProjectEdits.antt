@@ -1,5 +1,4 @@
--- What selecting, dropping and naming a map make of a project, and why each is refused, by rising
--- code.
+-- The project after selecting, dropping or naming a map, and why each is refused, by rising code.
 use Rattle.std.specs.Prelude.{ℕ, ◌+◌, Bool, ◌&&◌, not, nat_lt, if◌then◌else◌, List, [], ◌∷◌, ◌++◌, length, remove, Result, ⊤}
 use Rattle.lv_lumps.specs.declared.records.Name8.{Name8}
 use Rattle.lv_maptables.specs.declared.error.MapError.TheVariants.{TooManyMaps, MapNameTaken, NoSuchMap, CurrentMap}
@@ -11,24 +10,24 @@ use Rattle.lv_maptables.specs.Projects.{ProjectMaps, map_limit, current_map, wit
 
 -- ---- Why it is refused
 
--- there is no map of the name, and no room for one more
+-- there is no map with the name, and no room for one more
 abbrev pub select_faults : ProjectMaps → Name8 → List (ℕ × Bool)
 select_faults p name =
     (code_of TooManyMaps, not (has_map p name) && nat_lt map_limit (length p.maps + 1)) ∷ []
 
--- there is no map of the name, or it is the current one
+-- there is no map with the name, or it is the current one
 abbrev pub drop_map_faults : ProjectMaps → Name8 → List (ℕ × Bool)
 drop_map_faults p name = (code_of NoSuchMap, not (has_map p name))
     ∷ (code_of CurrentMap, is_named name (current_map p)) ∷ []
 
--- another map than the current one has the name
+-- a map other than the current one has the name
 abbrev pub name_faults : ProjectMaps → Name8 → List (ℕ × Bool)
 name_faults p name = (code_of MapNameTaken, has_map p name && not (is_named name (current_map p)))
     ∷ []
 
 -- ---- The project afterwards
 
--- the map of the name is current; where there is none, an empty one is added last
+-- the map with the name is current; if there is none, an empty one is added last
 abbrev pub with_selected : ProjectMaps → Name8 → ProjectMaps
 with_selected p name =
     record {
@@ -36,7 +35,7 @@ with_selected p name =
       current = map_number_of p name;
     }
 
--- the map of the name is taken out; each greater number, the current one too, falls by one
+-- the map with the name is removed; each greater number, the current one too, is lowered by one
 abbrev pub without_map : ProjectMaps → Name8 → ProjectMaps
 without_map p name =
     record {
@@ -49,7 +48,7 @@ without_map p name =
 abbrev pub with_current_named : ProjectMaps → Name8 → ProjectMaps
 with_current_named p name = with_current p (with_name (current_map p) name)
 
--- ---- What each gives: the new project and the map's number, or the least code that refuses it
+-- ---- The outcome of each: the new project and the map's number, or the least code that refuses it
 
 abbrev pub selected_map : ProjectMaps → Name8 → Result (ProjectMaps × ℕ) ℕ
 selected_map p name =

@@ -5,7 +5,7 @@ use Rattle.lv_lumps.specs.declared.records.Name8.{Name8}
 use Rattle.lv_maptables.specs.Tables.{Tables, Counts, MapView, empty_tables, part_len}
 use Rattle.lv_maptables.specs.WellFormed.{WellFormed}
 
--- a project's maps: a map's number is its place in the list
+-- a project's maps: a map's number is its index in the list
 pub record ProjectMaps : Type 0 where
   pub maps : List Tables
   pub current : ℕ
@@ -15,7 +15,7 @@ pub record Others : Type 0 where
   pub before : List MapView
   pub behind : List MapView
 
--- what a contract sees of `Maps`: the current map's tables and spare places, and the other maps
+-- `Maps` as contracts see them: the current map's tables and spare places, and the other maps
 pub record MapsView : Type 0 where
   pub tables : Tables
   pub spare : Counts
@@ -37,14 +37,14 @@ project_of v =
 abbrev pub map_limit : ℕ
 map_limit = 32
 
--- 1 to 32 well-formed maps, no two of one name, one of them current
+-- 1 to 32 well-formed maps, no two with the same name, one of them current
 pub record WellFormedProject (p : ProjectMaps) : Type 0 where
   pub count : length p.maps ≤ map_limit
   pub current : p.current < length p.maps
   pub maps : All WellFormed p.maps
   pub names : AllPairs (λ m n. m.name ≢ n.name) p.maps
 
--- the empty map MAP01 alone
+-- the project that has only the empty map MAP01
 abbrev pub empty_project : ProjectMaps
 empty_project = record { maps = empty_tables ∷ []; current = 0 }
 
@@ -60,7 +60,7 @@ with_current p m = record p { maps = slice_set p.maps p.current m }
 abbrev pub is_named : Name8 → Tables → Bool
 is_named name m = bytes_eq m.name.bytes name.bytes
 
--- the number of the map of the name, and how many maps there are where none has it
+-- the number of the map with the name, or the count of maps if none has it
 abbrev pub map_number_of : ProjectMaps → Name8 → ℕ
 map_number_of p name = position_or_len (is_named name) p.maps
 

@@ -1,4 +1,4 @@
--- What a table's fields mean, and what they keep.
+-- The value that the fields of a table represent, and their invariant.
 use Rattle.std.specs.Prelude.{◌-◌, min, vec_len, vec_capacity}
 use Rattle.slab.specs.Slab.{slab_len}
 use Rattle.lv_maptables.specs.declared.map.table.Table.TheInside.{Inside}

@@ -1,11 +1,11 @@
--- What the fields of a `VertexTable` mean, and what they keep.
+-- The value that the fields of a `VertexTable` represent, and their invariant.
 use Rattle.std.specs.Prelude.{◌≢◌, ◌-◌, ◌≤◌, length, min, AllPairs}
 use Rattle.lv_maptables.specs.declared.map.vertex_table.VertexTable.TheInside.{Inside}
 use Rattle.lv_lumps.specs.declared.records.Vertex.{Vertex}
 use Rattle.lv_maptables.specs.Keys.{TableView}
 use Rattle.lv_maptables.specs.Places.{AreMarked}
 
--- a vertex more fits where both the table and the index have room for it
+-- one more vertex fits if both the table and the set of places have room for it
 abbrev pub vertices_of : Inside → TableView Vertex
 vertices_of a =
     record {
@@ -14,7 +14,7 @@ vertices_of a =
       spare = min a.items.spare (a.places.room - length a.items.items);
     }
 
--- no two vertices have one place, and the index has the places of them all, and no others
+-- no two vertices are at the same place, and the set has exactly their places
 pub record KeepsPlaces (a : Inside) : Type 0 where
   pub apart : AllPairs (λ v w. v ≢ w) a.items.items
   pub marked : AreMarked a.places a.items.items

@@ -1,4 +1,4 @@
-//! Laws on maps and bodies, each the contract of a call without a body.
+//! Laws about maps and bodies. Each is the contract of a function whose body is empty.
 ghost use Rattle.std.specs.Prelude.{ℕ};
 ghost use Rattle.lv_lumps.specs.declared.records.Line.{Line};
 ghost use Rattle.lv_lumps.specs.declared.records.Side.{Side};
@@ -6,12 +6,13 @@ ghost use Rattle.lv_lumps.specs.declared.records.Vertex.{Vertex};
 ghost use Rattle.lv_maptables.specs.Tables.{Tables};
 ghost use Rattle.lv_maptables.specs.Laws.{FaultsRise, BodiesTellProjects, OneMapKeepsItsLength};
 
-/// Why each edit of a map is refused stands by rising code, so the first that holds is the least.
+/// The causes for which an edit of a map is refused are listed by rising code, so the first one that holds has the
+/// least code.
 pub fn list_faults_by_rising_code()
     ensures { (m : Tables) (n : ℕ) (v : Vertex) (s : Side) (l : Line) → FaultsRise m n v s l }
 {}
 
-/// One well-formed project at most has the bytes of a body, in either version.
+/// At most one well-formed project has the bytes of a body, in either version.
 pub fn tell_projects_apart()
     ensures { BodiesTellProjects }
 {}

@@ -6,7 +6,7 @@ ghost use Rattle.lv_maptables.specs.Faults.{is_too_long};
 
 use lv_lumps::{LONGEST_SQUARED, Line, Vertex, squared_distance};
 
-/// The vertex of the number, and the origin where there is none.
+/// The vertex with the number, or the origin if there is none.
 pub fn nth_vertex(vertices: &[Vertex], n: u16) -> Vertex
     ensures { result ≡ nth_vertex vertices.now n }
 {
@@ -16,14 +16,14 @@ pub fn nth_vertex(vertices: &[Vertex], n: u16) -> Vertex
         .unwrap_or(Vertex { x: 0, y: 0 })
 }
 
-/// Whether two places are further apart than lines may be long.
+/// Whether the distance between two places is greater than the greatest length of a line.
 pub fn is_too_far(start: Vertex, end: Vertex) -> bool
     ensures { result ≡ nat_lt longest_squared (squared_distance start end) }
 {
     squared_distance(start, end) > LONGEST_SQUARED
 }
 
-/// Whether the line's ends are further apart than lines may be long.
+/// Whether the line is longer than the greatest allowed length.
 pub fn is_too_long(vertices: &[Vertex], line: &Line) -> bool
     ensures { result ≡ is_too_long vertices.now line.now }
 {

@@ -19,15 +19,15 @@ use std::marker::Model;
 /// How many maps a project may have.
 pub const MAP_LIMIT: usize = 32;
 
-/// The maps of a project: 1 to 32 maps with different names. A map's number is its place among them, and
-/// one of them is current: edits are of that map.
+/// The maps of a project: 1 to 32 maps with different names. A map's number is its index among them. One map is the
+/// current one, which edits change.
 pub struct Maps {
     map: Map,
     number: usize,
     others: ArrayVec<Map, MAP_LIMIT, Global>,
 }
 
-// A call of its own, so that who owns maps lets 32 places go by one step.
+// A `drop` of its own, so that a function that owns maps frees all 32 places by one call.
 impl Drop for Maps {
     fn drop(self) {
         let Maps {
@@ -50,7 +50,7 @@ impl Model for Maps {
     ghost invariant = { KeepsMaps };
 }
 
-// An unused place of the array holds an empty map, which takes no memory.
+// An unused place of the array holds an empty map, which allocates no memory.
 impl MadeWith<Global> for Map {
     fn made_with(alloc: Global) -> Map {
         Map::new(alloc)
@@ -58,7 +58,7 @@ impl MadeWith<Global> for Map {
 }
 
 impl Maps {
-    /// The empty map MAP01 alone. It takes no memory.
+    /// The maps of a new project: only the empty map MAP01. It allocates no memory.
     pub fn new(alloc: Global) -> Self
         ensures project { project_of result ≡ empty_project }
         ensures spare { result.spare ≡ nothing }
@@ -74,7 +74,7 @@ impl Maps {
     pub fn len(&self) -> u32
         ensures value { result ≡ length (project_of self.now).maps }
         ensures limit { result ≤ 32 }
-        // what every project keeps, for those who read its maps by number
+        // what every project keeps, for callers that read its maps by number
         ensures well_formed { WellFormedProject (project_of self.now) }
     {
         self.others.len() as u32 + 1
@@ -96,7 +96,7 @@ impl Maps {
         &self.map
     }
 
-    // The map of a number below `len`.
+    // The map with a number below `len`.
     pub(crate) fn nth(&self, n: usize) -> &Map
         requires { n < length (project_of self.now).maps }
         ensures { (d : Tables) → get_or (project_of self.now).maps n d ≡ result.now.tables }
@@ -110,7 +110,7 @@ impl Maps {
         &self.others[n - 1]
     }
 
-    /// The map of the number.
+    /// The map with the number.
     pub fn at(&self, n: u32) -> Option<&Map>
         ensures { MatchOption result (slice_get (project_of self.now).maps n ≡ None)
             (λ m. slice_get (project_of self.now).maps n ≡ Some m.now.tables) }
@@ -132,7 +132,7 @@ impl Maps {
         len
     }
 
-    /// The key of an item of the current map, and none past the items.
+    /// The key of an item of the current map; `None` past the last item.
     pub fn key(&self, kind: Kind, n: u32) -> Option<usize>
         ensures { MatchOption result (count_of self.now.tables kind ≤ n)
             (λ _. n < count_of self.now.tables kind) }
@@ -140,7 +140,7 @@ impl Maps {
         self.map.key(kind, n)
     }
 
-    /// Makes room in the current map: after an Ok that many additions of each kind take no memory.
+    /// Makes room in the current map: after `Ok`, the needed number of additions of each kind allocate no memory.
     pub fn reserve(&mut self, need: Need) -> Result<(), MapError>
         ensures tables { self.new.tables ≡ self.old.tables }
         ensures spare { Spends nothing self.old.spare self.new.spare }

@@ -18,21 +18,21 @@ fn is_padded(name: &Name8) -> bool
     Name8::from_text(name.text()) == *name
 }
 
-// Whether it is the name of a texture or a flat, as a map keeps it.
+// Whether it is the name of a texture or a flat, padded with NUL.
 fn is_texture(name: &Name8) -> bool
     ensures { IsTrue result ↔ IsNamed is_name name.now }
 {
     is_padded(name) && is_name(name.text())
 }
 
-// Whether it is the name of a map, as a map keeps it.
+// Whether it is the name of a map, padded with NUL.
 fn is_map_name(name: &Name8) -> bool
     ensures { IsTrue result ↔ IsNamed is_marker name.now }
 {
     is_padded(name) && is_marker(name.text())
 }
 
-// Whether the number is a place's x or y.
+// Whether the number may be a coordinate of a place.
 fn is_coordinate(z: i16) -> bool
     ensures { IsTrue result ↔ IsCoordinate z }
 {
@@ -54,7 +54,7 @@ fn is_code(z: i16) -> bool
     0 <= z
 }
 
-// Whether the number is at least 0 and at most the other.
+// Whether the number is from 0 to `high`.
 fn is_at_most(z: i16, high: i16) -> bool
     ensures { IsTrue result ↔ IsBetween (pos 0) high z }
 {

@@ -10,15 +10,15 @@ use Rattle.lv_svg.specs.Places.{middle_of, shift_right, spot_of}
 use Rattle.lv_svg.specs.declared.places.Spot.{Spot}
 use Rattle.lv_svg.specs.declared.places.Shift.{Shift}
 
--- the class by a line's flags
+-- the class that a line has by its flags
 abbrev pub width_class : Line → List ℕ
 width_class l = if is_two_sided l then codes "two" else codes "one"
 
--- the class by a line's special
+-- the class that a line has by its special
 abbrev pub special_class : Line → List ℕ
 special_class l = if l.special == 0 then [] else codes " special"
 
--- the element's beginning: its name, its classes, and the title up to the line's vertices
+-- the element's beginning: its id, its classes, and the title up to the line's vertices
 unfoldable pub ends_text : ℕ → Line → List ℕ
 ends_text n l =
     joined
@@ -26,7 +26,7 @@ ends_text n l =
     ∷ codes "\">\n<title>line " ∷ decimal n ∷ codes ": vertices " ∷ decimal l.v1 ∷ codes " "
     ∷ decimal l.v2 ∷ [])
 
--- the title goes on with the flags, the special, the tag and the right side
+-- the title's next part: the flags, the special, the tag and the right side
 unfoldable pub fields_text : Tables → Line → List ℕ
 fields_text m l =
     joined
@@ -40,7 +40,7 @@ left_side_text left sector =
     joined (codes ", left side " ∷ decimal left ∷ codes " (sector " ∷ decimal sector ∷ codes ")"
     ∷ [])
 
--- and with the left side
+-- the title's last part: the left side, if there is one
 unfoldable pub left_text : Tables → Line → List ℕ
 left_text m l = if has_left l then left_side_text l.left (sector_of m l.left)
     else codes ", no left side"
@@ -58,7 +58,7 @@ tick_text middle right =
     ∷ codes "l" ∷ signed_decimal right.dx ∷ codes " " ∷ signed_decimal right.dy ∷ codes "\"/></g>\n"
     ∷ [])
 
--- the element of a line of the map, its tick of this length
+-- the element of a line, with a tick of this length
 unfoldable pub line_text : Tables → ℕ → ℕ → Line → List ℕ
 line_text m step n l =
     let from = vertex_of m l.v1 in

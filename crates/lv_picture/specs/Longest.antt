@@ -1,21 +1,21 @@
--- The longest line of each of several sectors: those from a first one on, one for each place of a list.
+-- The longest line of each of several sectors, in a list by sector from a first one on.
 use Rattle.std.specs.Prelude.{◌≡◌, ◌≢◌, ℕ, ◌+◌, ◌<◌, List, length, get_or, fold, Option, None}
 use Rattle.lv_lumps.specs.declared.records.Line.{Line}
 use Rattle.lv_maptables.specs.Tables.{Tables}
 use Rattle.lv_picture.specs.Numbers.{longer}
 
--- the list has the longest one among these lines for each sector from `first` on
+-- the list has the longest of these lines for each sector from `first` on
 abbrev pub AreLongest : Tables → ℕ → List Line → List (Option Line) → Type 0
 AreLongest m first ls longest =
     (i : ℕ) → i < length longest → get_or longest i None ≡ fold (longer m (first + i)) None ls
 
--- each sector's line is as before, or this one where that is a longer one of the sector
+-- each sector's line is as before, or this line if it is a longer one of the sector
 pub record LooksAt (m : Tables) (first : ℕ) (l : Line) (old new : List (Option Line)) : Type 0 where
   pub count : length new ≡ length old
   pub lines : (i : ℕ) → i < length old
       → get_or new i None ≡ longer m (first + i) (get_or old i None) l
 
--- so for one sector, and the others' lines are as before
+-- the same for one sector; the other sectors' lines are as before
 pub record LooksFor (m : Tables) (first sector : ℕ) (l : Line) (old new : List (Option Line)) :
     Type 0 where
   pub count : length new ≡ length old

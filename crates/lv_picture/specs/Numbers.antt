@@ -13,14 +13,14 @@ use Rattle.lv_svg.specs.Places.{middle_of, shift_right, spot_of}
 use Rattle.lv_svg.specs.declared.places.Spot.{Spot}
 use Rattle.lv_svg.specs.declared.places.Shift.{Shift}
 
--- the text of a number begins: its class, and the place beside which it stands
+-- the beginning of a number's text: its class, and the place beside which it is
 unfoldable pub anchor_text : List ℕ → Spot → List ℕ
 anchor_text class p =
     joined
     (codes "<text class=\"" ∷ class ∷ codes "\" x=\"" ∷ signed_decimal p.x ∷ codes "\" y=\""
     ∷ signed_decimal p.y ∷ codes "\"" ∷ [])
 
--- which way from the place, and the number
+-- the vector from the place, and the number
 unfoldable pub beside_text : Shift → ℕ → List ℕ
 beside_text s n =
     joined
@@ -28,11 +28,11 @@ beside_text s n =
     ∷ decimal n
     ∷ codes "</text>\n" ∷ [])
 
--- a number of a class, beside a place
+-- the text of a number with a class, beside a place
 unfoldable pub number_text : List ℕ → Spot → Shift → ℕ → List ℕ
 number_text class p s n = anchor_text class p ++ beside_text s n
 
--- the way to the upper right
+-- the vector to the upper right
 abbrev pub up_right : ℕ → Shift
 up_right step = record { dx = pos step; dy = neg_ℤ (pos step) }
 
@@ -65,11 +65,11 @@ longer m s longest l =
     if bounds m s l && nat_lt (option_map_or (squared_len m) longest 0) (squared_len m l)
     then Some l else longest
 
--- the longest of a sector's lines, the first of them where several are
+-- the longest of a sector's lines; of several, the first one
 abbrev pub longest_line : Tables → ℕ → Option Line
 longest_line m s = fold (longer m s) None m.lines
 
--- the way from a line's middle into a sector that it has on a side
+-- the vector from a line's middle into a sector that it has on a side
 abbrev pub sector_shift : Tables → ℕ → ℕ → Line → Shift
 sector_shift m step s l =
     let from = vertex_of m l.v1 in
@@ -77,7 +77,7 @@ sector_shift m step s l =
     if sector_of m l.right == s then shift_right from to (3 * step)
     else shift_right to from (3 * step)
 
--- a sector's number, inside it beside the longest of its lines; none where it has no line
+-- a sector's number, inside it beside the longest of its lines; empty if it has no line
 unfoldable pub sector_number : Tables → ℕ → ℕ → List ℕ
 sector_number m step n =
     option_map_or (λ l. number_text (codes "of-sector") (line_middle m l)

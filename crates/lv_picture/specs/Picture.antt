@@ -22,7 +22,7 @@ use Rattle.lv_picture.specs.Things.{thing_text}
 use Rattle.lv_picture.specs.Vertices.{vertex_text}
 use Rattle.lv_picture.specs.View.{view_of}
 
--- the picture's beginning: what part of the plane it shows, and how high its texts are
+-- the picture's beginning: the part of the plane that it shows, and the height of its texts
 unfoldable pub opening_text : View → List ℕ
 opening_text v =
     joined
@@ -70,7 +70,7 @@ part_kind VertexNumbers = kind.Vertex
 part_kind LineNumbers = kind.Line
 part_kind SectorNumbers = kind.Sector
 
--- the element of a part for the item of a number, its ticks of this length
+-- the element of a part for the item with the number, with ticks of this length
 abbrev pub element : Tables → ℕ → Part → ℕ → List ℕ
 element m step Lines n = of_item (line_text m step n) m.lines n
 element m step Things n = of_item (thing_text n) m.things n
@@ -88,7 +88,7 @@ part_text m step part =
 abbrev pub page_corner : View → Spot
 page_corner v = record { x = v.left; y = v.top }
 
--- the picture of a map, and what is laid over it
+-- the picture of a map with its overlay
 abbrev pub picture_of : PictureOptions → Tables → Overlay → List ℕ
 picture_of options m o =
     let view = view_of m in

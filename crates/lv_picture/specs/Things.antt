@@ -8,7 +8,7 @@ use Rattle.lv_svg.specs.declared.places.Spot.{Spot}
 use Rattle.lv_svg.specs.Texts.{joined}
 use Rattle.lv_picture.specs.Groups.{class_of, group_of, shape_of}
 
--- the element's beginning: its name and class, and where the thing is and faces
+-- the element's beginning: its id and class, and the thing's place and direction
 unfoldable pub mark_text : ℕ → List ℕ → Spot → ℤ → List ℕ
 mark_text n class place turn =
     joined

@@ -6,7 +6,7 @@ use Rattle.lv_svg.specs.Places.{spot_of}
 use Rattle.lv_svg.specs.declared.places.Spot.{Spot}
 use Rattle.lv_svg.specs.Texts.{joined}
 
--- the element's beginning: its name and the dot
+-- the element's beginning: its id and the dot
 unfoldable pub dot_text : ℕ → Spot → List ℕ
 dot_text n v =
     joined
@@ -14,7 +14,7 @@ dot_text n v =
     ∷ codes " "
     ∷ signed_decimal v.y ∷ codes "h0\">" ∷ [])
 
--- the title, which tells the place on the map, and the element's end
+-- the title, which has the place on the map, and the element's end
 unfoldable pub vertex_title : ℕ → Vertex → List ℕ
 vertex_title n v =
     joined

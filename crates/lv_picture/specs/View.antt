@@ -1,4 +1,4 @@
--- What part of the plane the picture shows: all vertices and things, and a margin of 64.
+-- The part of the plane that the picture shows: all vertices and things, and a margin of 64.
 use Rattle.std.specs.Prelude.{ℕ, ◌+◌, ◌/◌, max, fold, Option, Some, None, ℤ, pos, neg_ℤ, ◌-ℤ◌, unsigned_abs}
 use Rattle.lv_lumps.specs.declared.records.Bounds.{Bounds}
 use Rattle.lv_lumps.specs.declared.records.Vertex.{Vertex}
@@ -11,20 +11,20 @@ use Rattle.lv_picture.specs.declared.view.View.{View}
 abbrev pub thing_place : Thing → Vertex
 thing_place t = record { x = t.x; y = t.y }
 
--- the box round a place alone
+-- the box round a single place
 abbrev pub box_at : Vertex → Bounds
 box_at p = record { top = p.y; bottom = p.y; left = p.x; right = p.x }
 
--- the least box that holds a box and a place
+-- the least box round a box and a place
 abbrev pub box_with : Bounds → Vertex → Bounds
 box_with b p = box_round b (box_at p)
 
--- the least box that holds what a box does, if there is one, and a place
+-- the least box round a box, if there is one, and a place
 abbrev pub grown : Option Bounds → Vertex → Option Bounds
 grown None p = Some (box_at p)
 grown (Some b) p = Some (box_with b p)
 
--- the same with a thing
+-- the least box round a box, if there is one, and a thing
 abbrev pub grown_by : Option Bounds → Thing → Option Bounds
 grown_by b t = grown b (thing_place t)
 
@@ -36,11 +36,11 @@ box_of_vertices m = fold grown None m.vertices
 abbrev pub picture_box : Tables → Option Bounds
 picture_box m = fold grown_by (box_of_vertices m) m.things
 
--- how long a side of a box is on the picture, with the margins
+-- the length of a side of a box on the picture, with the margins
 abbrev pub picture_side : ℤ → ℤ → ℕ
 picture_side low high = unsigned_abs (high -ℤ low) + 128
 
--- how long the ticks are: a 96th of the longer side, rounded down, and at least 8
+-- the length of the ticks: a 96th of the longer side, rounded down, and at least 8
 abbrev pub step_of : Bounds → ℕ
 step_of b = max (max (picture_side b.left b.right) (picture_side b.bottom b.top) / 96) 8
 
@@ -55,7 +55,7 @@ view_of_box b =
       step = step_of b;
     }
 
--- the view round a box, and round (0,0) where there is none
+-- the view of a box, or of the box round (0,0) if there is none
 abbrev pub view_round : Option Bounds → View
 view_round (Some b) = view_of_box b
 view_round None = view_of_box (box_at (record { x = pos 0; y = pos 0 }))

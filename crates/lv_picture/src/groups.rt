@@ -1,8 +1,8 @@
-//! The groups of things that the picture tells apart.
+//! The groups of things that the picture distinguishes.
 ghost use Rattle.std.specs.Prelude.{◌≡◌};
 ghost use Rattle.lv_picture.specs.Groups.{class_of, group_of, is_among, is_item, is_monster, is_player, shape_of};
 
-/// What a thing is, by its type.
+/// The group of a thing, by its type.
 #[derive(Clone, Copy, Debug, PartialEq, Eq)]
 pub enum Group {
     /// Where one of the four players starts.
@@ -10,21 +10,21 @@ pub enum Group {
     /// Where a player starts in a deathmatch.
     Deathmatch,
     Monster,
-    /// What a player picks up.
+    /// A weapon, ammunition, a key, or anything else that a player picks up.
     Item,
     Other,
 }
 
-// The types of the starts of the four players: the first and the last of each run.
+// The types of the starts of the four players: the first and the last number of each run.
 const PLAYERS: [(i32, i32); 1] = [(1, 4)];
 
-// Those of monsters.
+// The types of monsters.
 #[rattlefmt::skip]
 const MONSTERS: [(i32, i32); 9] = [
     (7, 7), (9, 9), (16, 16), (58, 58), (64, 69), (71, 72), (84, 84), (88, 88), (3001, 3006),
 ];
 
-// Those of weapons, ammunition, keys and whatever else is picked up.
+// The types of weapons, ammunition, keys and whatever else is picked up.
 #[rattlefmt::skip]
 const ITEMS: [(i32, i32); 11] = [
     (5, 6), (8, 8), (13, 13), (17, 17), (38, 40), (82, 83), (2001, 2008), (2010, 2015), (2018, 2019), (2022, 2026),

@@ -5,14 +5,14 @@ ghost use Rattle.lv_picture.specs.Items.{sector_of, vertex_of};
 use lv_lumps::Vertex;
 use lv_maptables::Map;
 
-/// The vertex of a number.
+/// The vertex with the number.
 pub(crate) fn vertex_of(map: &Map, n: u16) -> Vertex
     ensures { result ≡ vertex_of map.now.tables n }
 {
     map.vertex(u32::from(n)).unwrap_or(Vertex { x: 0, y: 0 })
 }
 
-/// The sector of the side of a number.
+/// The sector of the side with the number.
 pub(crate) fn sector_of(map: &Map, n: u16) -> u16
     ensures { result ≡ sector_of map.now.tables n }
 {

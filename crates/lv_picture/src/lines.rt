@@ -23,7 +23,7 @@ fn special_class(line: &Line) -> &'static str
     if line.special == 0 { "" } else { " special" }
 }
 
-// Begins the element: its name, its classes, and the line's vertices.
+// Writes the beginning of the element: its id, its classes, and the line's vertices.
 fn write_ends<W: Write>(n: u32, line: &Line, writer: &mut W) -> Result<(), PictureError>
     ensures { OnOk result
         (Appends (W.contents writer.old) (W.contents writer.new) (ends_text n line.now)) }
@@ -81,7 +81,7 @@ fn write_left<W: Write>(map: &Map, line: &Line, writer: &mut W) -> Result<(), Pi
     }
 }
 
-// Begins the element, and writes its title.
+// Writes the beginning of the element and its title.
 #[tactic(auto, unfolding(crate::specs::Lines::title_text))]
 fn write_title<W: Write>(map: &Map, n: u32, line: &Line, writer: &mut W) -> Result<(), PictureError>
     ensures { OnOk result (Appends (W.contents writer.old) (W.contents writer.new)
@@ -92,7 +92,7 @@ fn write_title<W: Write>(map: &Map, n: u32, line: &Line, writer: &mut W) -> Resu
     write_left(map, line, writer)
 }
 
-// Draws the tick, and ends the element.
+// Writes the tick, and ends the element.
 fn write_tick<W: Write>(middle: Spot, right: Shift, writer: &mut W) -> Result<(), PictureError>
     ensures { OnOk result
         (Appends (W.contents writer.old) (W.contents writer.new) (tick_text middle right)) }
@@ -108,7 +108,7 @@ fn write_tick<W: Write>(middle: Spot, right: Shift, writer: &mut W) -> Result<()
     }
 }
 
-/// Draws a line.
+/// Writes the element of a line.
 #[tactic(auto, unfolding(crate::specs::Lines::line_text))]
 pub(crate) fn write_line<W: Write>(
     map: &Map,

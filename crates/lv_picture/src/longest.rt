@@ -37,7 +37,7 @@ fn longer(map: &Map, sector: u32, longest: Option<Line>, line: Line) -> Option<L
     }
 }
 
-// Looks at a line for one of the sectors from `first` on.
+// Takes a line into account for the sector, if it is one of those from `first` on.
 fn look_for(longest: &mut [Option<Line>], map: &Map, first: u32, sector: u16, line: &Line)
     ensures { LooksFor map.now.tables first sector line.now longest.old longest.new }
 {
@@ -51,7 +51,7 @@ fn look_for(longest: &mut [Option<Line>], map: &Map, first: u32, sector: u16, li
     }
 }
 
-// Looks at a line for the sectors that it has on a side.
+// Takes a line into account for the sectors on its sides.
 fn look_at(longest: &mut [Option<Line>], map: &Map, first: u32, line: &Line)
     ensures { LooksAt map.now.tables first line.now longest.old longest.new }
 {
@@ -65,7 +65,7 @@ fn look_at(longest: &mut [Option<Line>], map: &Map, first: u32, line: &Line)
     }
 }
 
-// Forgets what was found.
+// Removes all lines found before.
 fn clear(longest: &mut [Option<Line>])
     ensures { (i : ℕ) → i < length longest.new → slice_index_or longest.new i None ≡ None }
 {
@@ -74,7 +74,7 @@ fn clear(longest: &mut [Option<Line>])
     }
 }
 
-/// The longest line of each sector from `first` on, the first of them where several are.
+/// Finds the longest line of each sector from `first` on; of several, the first one.
 pub(crate) fn find_longest(longest: &mut [Option<Line>], map: &Map, first: u32)
     ensures { AreLongest map.now.tables first map.now.tables.lines longest.new }
 {

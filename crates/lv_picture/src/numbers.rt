@@ -12,7 +12,7 @@ use lv_maptables::{Kind, Map};
 use lv_svg::{PictureError, Shift, Spot, middle_of, right_of, spot_of};
 use std::io::Write;
 
-// Begins the text of a number: its class, and the place beside which it stands.
+// Writes the beginning of a number's text: its class, and the place beside which it is.
 fn write_anchor<W: Write>(class: &str, place: Spot, writer: &mut W) -> Result<(), PictureError>
     ensures { OnOk result
         (Appends (W.contents writer.old) (W.contents writer.new) (anchor_text class.now place)) }
@@ -24,7 +24,7 @@ fn write_anchor<W: Write>(class: &str, place: Spot, writer: &mut W) -> Result<()
     }
 }
 
-// Writes which way from the place, and the number.
+// Writes the vector from the place, and the number.
 fn write_beside<W: Write>(shift: Shift, n: u32, writer: &mut W) -> Result<(), PictureError>
     ensures { OnOk result
         (Appends (W.contents writer.old) (W.contents writer.new) (beside_text shift n)) }
@@ -52,7 +52,7 @@ fn write_number<W: Write>(
     write_beside(shift, n, writer)
 }
 
-// The way to the upper right.
+// The vector to the upper right.
 fn up_right(step: u32) -> Shift
     ensures { result ≡ up_right step }
 {
@@ -94,7 +94,7 @@ pub(crate) fn write_line_number<W: Write>(
     write_number("of-line", middle_of(from, to), shift, n, writer)
 }
 
-// The way from the line's middle into the sector.
+// The vector from the line's middle into the sector.
 fn sector_shift(map: &Map, step: u32, sector: u32, line: &Line) -> Shift
     requires { step ≤ 1000 }
     ensures { result ≡ sector_shift map.now.tables step sector line.now }
@@ -132,7 +132,7 @@ fn write_sector_number<W: Write>(
     }
 }
 
-/// Writes the numbers of the sectors. The lines are looked at once for each 256 sectors.
+/// Writes the numbers of the sectors, with one pass over the lines for each 256 sectors.
 pub(crate) fn write_sector_numbers<W: Write>(
     map: &Map,
     step: u32,

@@ -15,10 +15,10 @@ pub enum Part {
     SectorNumbers,
 }
 
-// What is always drawn.
+// The parts that are always drawn.
 const DRAWN: [Part; 3] = [Part::Lines, Part::Things, Part::Vertices];
 
-// The same, and the numbers.
+// The same parts, and the numbers.
 const NUMBERED: [Part; 6] = [
     Part::Lines,
     Part::Things,

@@ -15,14 +15,14 @@ use lv_maptables::Map;
 use lv_svg::{Overlay, PictureError, Spot, write_bytes, write_overlay};
 use std::io::Write;
 
-/// What a picture shows besides the map itself.
+/// The options of a picture.
 #[derive(Clone, Copy, Debug, PartialEq, Eq)]
 pub struct PictureOptions {
-    /// Whether the numbers of vertices, lines and sectors stand beside them.
+    /// Whether the numbers of vertices, lines and sectors are shown beside them.
     pub numbers: bool,
 }
 
-// Opens the picture, with what part of the plane it shows.
+// Writes the beginning of the picture, with the part of the plane that it shows.
 fn write_opening<W: Write>(view: &View, writer: &mut W) -> Result<(), PictureError>
     ensures { OnOk result
         (Appends (W.contents writer.old) (W.contents writer.new) (opening_text view.now)) }
@@ -89,7 +89,7 @@ fn write_paper<W: Write>(view: &View, writer: &mut W) -> Result<(), PictureError
     write_page(view, writer)
 }
 
-// Writes the head: what the picture shows, the map's name, the style and the page.
+// Writes the head: the view, the map's name, the style and the page.
 #[tactic(auto, unfolding(crate::specs::Picture::head_text))]
 fn write_head<W: Write>(name: Name8, view: &View, writer: &mut W) -> Result<(), PictureError>
     ensures { OnOk result
@@ -100,7 +100,7 @@ fn write_head<W: Write>(name: Name8, view: &View, writer: &mut W) -> Result<(), 
     write_paper(view, writer)
 }
 
-// Writes the element of a part for the item of the number, if there is one.
+// Writes the element of a part for the item with the number, if there is one.
 fn write_element<W: Write>(
     map: &Map,
     step: u32,
@@ -204,13 +204,13 @@ fn page_corner(view: &View) -> Spot
     }
 }
 
-/// Writes the map as a picture in SVG 1.1: a title and a style, then an element for each line, for each thing and for
-/// each vertex, the numbers where the options ask for them, and what is laid over the map. It asks for no memory. Where
-/// the writer is a file, put a buffer round it.
+/// Writes the map as an SVG 1.1 picture: a title and a style, then an element for each line, each thing and each
+/// vertex, the numbers if the options ask for them, and the overlay. It allocates no memory. If the writer is a
+/// file, put a buffer round it.
 ///
 /// # Errors
 ///
-/// `WriterFailed` (38), and then any part of the picture may have been written.
+/// `WriterFailed` (38): any part of the picture may have been written.
 pub fn write_picture<W: Write>(
     map: &Map,
     options: PictureOptions,

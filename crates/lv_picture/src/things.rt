@@ -9,7 +9,7 @@ use lv_lumps::Thing;
 use lv_svg::{PictureError, Spot, spot_of};
 use std::io::Write;
 
-// Begins the element: its name and class, and where the thing is and faces.
+// Writes the beginning of the element: its id and class, and the thing's place and direction.
 fn write_mark<W: Write>(
     n: u32,
     class: &str,
@@ -52,14 +52,14 @@ fn write_shape<W: Write>(
     }
 }
 
-// An angle as `rotate` takes it: the other way round.
+// The angle for `rotate`, which turns in the opposite direction.
 fn turn_of(angle: i16) -> i32
     ensures { result ≡ neg_ℤ angle }
 {
     -i32::from(angle)
 }
 
-/// Draws a thing.
+/// Writes the element of a thing.
 #[tactic(auto, unfolding(crate::specs::Things::thing_text))]
 pub(crate) fn write_thing<W: Write>(
     n: u32,

@@ -7,7 +7,7 @@ use lv_lumps::Vertex;
 use lv_svg::{PictureError, Spot, spot_of};
 use std::io::Write;
 
-// Begins the element: its name and the dot.
+// Writes the beginning of the element: its id and the dot.
 fn write_dot<W: Write>(n: u32, place: Spot, writer: &mut W) -> Result<(), PictureError>
     ensures { OnOk result
         (Appends (W.contents writer.old) (W.contents writer.new) (dot_text n place)) }
@@ -36,7 +36,7 @@ fn write_place<W: Write>(n: u32, vertex: Vertex, writer: &mut W) -> Result<(), P
     }
 }
 
-/// Draws a vertex.
+/// Writes the element of a vertex.
 #[tactic(auto, unfolding(crate::specs::Vertices::vertex_text))]
 pub(crate) fn write_vertex<W: Write>(
     n: u32,

@@ -1,4 +1,4 @@
-//! What part of the plane the picture shows.
+//! The part of the plane that the picture shows.
 ghost use Rattle.std.specs.Prelude.{◌≡◌, ◌≤◌, ◌-ℤ◌, pos, neg_ℤ, slice_get};
 ghost use Rattle.std.specs.Option.{option_map_or};
 ghost use Rattle.lv_picture.specs.View.{box_at, picture_box, box_of_vertices, box_with, grown, grown_by, thing_place, picture_side, step_of, view_of, view_of_box};
@@ -7,7 +7,7 @@ use lv_lumps::{Bounds, Thing, Vertex};
 use lv_maptables::{Kind, Map};
 use lv_svg::box_round;
 
-/// What the picture shows: its left and upper edges, its size, and how long the ticks are.
+/// What the picture shows: its left and upper edges, its size, and the length of the ticks.
 #[derive(Clone, Copy)]
 pub(crate) struct View {
     pub left: i32,
@@ -27,7 +27,7 @@ pub(crate) fn place_of(thing: &Thing) -> Vertex
     }
 }
 
-// The box round a place alone.
+// The box round a single place.
 fn box_at(place: Vertex) -> Bounds
     ensures { result ≡ box_at place }
 {
@@ -39,14 +39,14 @@ fn box_at(place: Vertex) -> Bounds
     }
 }
 
-// The least box that holds a box and a place.
+// The least box round a box and a place.
 fn box_with(bounds: Bounds, place: Vertex) -> Bounds
     ensures { result ≡ box_with bounds place }
 {
     box_round(bounds, box_at(place))
 }
 
-// The least box that holds what a box does, if there is one, and a place.
+// The least box round a box, if there is one, and a place.
 fn grown(bounds: Option<Bounds>, place: Vertex) -> Option<Bounds>
     ensures { result ≡ grown bounds place }
 {
@@ -56,7 +56,7 @@ fn grown(bounds: Option<Bounds>, place: Vertex) -> Option<Bounds>
     }
 }
 
-// The same with the vertex of a number, if there is one.
+// The least box round a box and the vertex with the number, if there are such.
 fn with_vertex(map: &Map, n: u32, bounds: Option<Bounds>) -> Option<Bounds>
     ensures { result ≡ option_map_or (grown bounds) (slice_get map.now.tables.vertices n) bounds }
 {
@@ -66,7 +66,7 @@ fn with_vertex(map: &Map, n: u32, bounds: Option<Bounds>) -> Option<Bounds>
     }
 }
 
-// The same with the thing of a number, if there is one.
+// The least box round a box and the thing with the number, if there are such.
 fn with_thing(map: &Map, n: u32, bounds: Option<Bounds>) -> Option<Bounds>
     ensures { result ≡ option_map_or (grown_by bounds) (slice_get map.now.tables.things n) bounds }
 {
@@ -98,7 +98,7 @@ fn box_of(map: &Map) -> Option<Bounds>
     bounds
 }
 
-// How long a side of a box is on the picture, with the margins.
+// The length of a side of a box on the picture, with the margins.
 fn side_of(low: i16, high: i16) -> u32
     ensures length { result ≡ picture_side low high }
     ensures bound { result ≤ 65663 }
@@ -120,7 +120,7 @@ fn top_of(bounds: Bounds) -> i32
     -i32::from(bounds.top) - 64
 }
 
-// How long the ticks are.
+// The length of the ticks.
 fn step_of(bounds: Bounds) -> u32
     ensures step { result ≡ step_of bounds }
     ensures bound { result ≤ 1000 }

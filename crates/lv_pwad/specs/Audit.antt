@@ -17,7 +17,7 @@ use Rattle.lv_pwad.specs.Range.{blocks_in}
 use Rattle.lv_pwad.specs.declared.fault.Fault.{Fault}
 use Rattle.lv_pwad.specs.declared.fault.Fault.TheVariants.{LineVertex, LineSide, SideSector, SegVertex, SegLine, SegSide, SubRange, SubTotal, NodeChild, SubOnce, NodeOnce, Reject, BlockHeader, BlockList}
 
--- ---- what is right
+-- ---- the tests
 abbrev pub is_in_range : {X : Type 0} → List X → ℕ → Bool
 is_in_range xs n = nat_lt n (length xs) && nat_le n greatest_number
 
@@ -34,7 +34,7 @@ line_sides l x = is_in_range l.sides x.right && left_side l x
 abbrev pub seg_vertices : Lumps → Seg → Bool
 seg_vertices l s = is_in_range l.vertices s.first && is_in_range l.vertices s.second
 
--- the seg's line, or one without a left side where there is none
+-- the seg's line, or a line without a left side if the seg's line doesn't exist
 abbrev pub line_of_seg : Lumps → Seg → Line
 line_of_seg l s =
     get_or l.lines s.line
@@ -43,7 +43,7 @@ line_of_seg l s =
 abbrev pub seg_side : Lumps → Seg → Bool
 seg_side l s = (s.side == 0) || ((s.side == 1) && not ((line_of_seg l s).left == no_side))
 
--- each subsector behind the sum of the counts before it
+-- each subsector, paired with the sum of the counts of those before it
 abbrev pub after_counts : ℕ → List Sub → List (ℕ × Sub)
 after_counts at [] = []
 after_counts at (s ∷ subs) = (at, s) ∷ after_counts (at + s.count) subs
@@ -57,7 +57,7 @@ child_right l i c = cond (nat_lt c sub_bit) (nat_lt c i) (is_in_range l.subs (c 
 abbrev pub node_children : Lumps → ℕ × Node → Bool
 node_children l p = child_right l p.0 p.1.right && child_right l p.0 p.1.left
 
--- the list at an offset begins where readers find it, ends in the lump and names lines
+-- the list at an offset begins where readers can find it, ends in the lump and names only lines
 abbrev pub block_list : Lumps → List ℕ → ℕ → Bool
 block_list l ws at =
     nat_lt at (length ws) && nat_le at greatest_offset
@@ -74,7 +74,7 @@ abbrev pub first_some : {X : Type 0} → List (Option X) → Option X
 first_some [] = None
 first_some (o ∷ os) = elim o [ Some x ↦ Some x | None ↦ first_some os ]
 
--- for each kind of fault the first of it, kind by kind
+-- the first fault of each kind, in the order of the kinds
 
 abbrev pub drawn_faults : Lumps → List (Option Fault)
 drawn_faults l =
@@ -131,6 +131,6 @@ lump_faults l = size_faults l ++ block_faults l
 abbrev pub level_faults : Lumps → List (Option Fault)
 level_faults l = list_faults l ++ once_faults l ++ lump_faults l
 
--- the fault that an audit answers
+-- the fault that an audit returns
 abbrev pub first_fault : Lumps → Option Fault
 first_fault l = first_some (level_faults l)

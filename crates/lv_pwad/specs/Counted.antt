@@ -1,4 +1,4 @@
--- How many records the levels of a PWAD have, as a build tells it beside the bytes.
+-- The counts of a build: how many records the levels of a PWAD have.
 use Rattle.std.specs.Prelude.{◌≡◌, ℕ, ◌+◌, List, length, map, sum_by}
 use Rattle.lv_lumps.specs.Names.{name_text}
 use Rattle.lv_maptables.specs.Tables.{Tables}
@@ -6,7 +6,7 @@ use Rattle.lv_levels.specs.Levels.{Lumps, lumps_behind, marker_at}
 use Rattle.lv_pwad.specs.Projects.{IsSoundBuildOfAll}
 use Rattle.lv_pwad.specs.declared.counted.BuildCounts.{BuildCounts}
 
--- how many records the levels have in all, and so many bytes
+-- the counts are those of the records of these levels in all, and this number of bytes
 pub record CountsLevels (levels : List Lumps) (len : ℕ) (c : BuildCounts) : Type 0 where
   pub vertices : c.vertices ≡ sum_by (λ l. length l.vertices) levels
   pub segs : c.segs ≡ sum_by (λ l. length l.segs) levels
@@ -14,7 +14,7 @@ pub record CountsLevels (levels : List Lumps) (len : ℕ) (c : BuildCounts) : Ty
   pub nodes : c.nodes ≡ sum_by (λ l. length l.nodes) levels
   pub bytes : c.bytes ≡ len
 
--- one level more was counted
+-- the counts of one more level were added
 pub record CountsMore (old : BuildCounts) (l : Lumps) (new : BuildCounts) : Type 0 where
   pub vertices : new.vertices ≡ old.vertices + length l.vertices
   pub segs : new.segs ≡ old.segs + length l.segs
@@ -26,8 +26,7 @@ pub record CountsMore (old : BuildCounts) (l : Lumps) (new : BuildCounts) : Type
 abbrev pub level_of : List ℕ → Tables → Lumps
 level_of wad m = lumps_behind wad (marker_at wad (name_text m.name))
 
--- the bytes are a sound build of each map, and these are their counts: those of the levels that
--- they are read back to
+-- the bytes are a sound build of each map, and the counts are those of the levels that they read back as
 pub record IsBuildCounted (ms : List Tables) (wad : List ℕ) (c : BuildCounts) : Type 0 where
   pub build : IsSoundBuildOfAll ms wad
   pub counts : CountsLevels (map (level_of wad) ms) (length wad) c

@@ -5,7 +5,7 @@ use Rattle.lv_pwad.specs.declared.error.BuildError.{BuildError}
 use Rattle.lv_pwad.specs.declared.error.BuildError.TheVariants as build
 use Rattle.lv_pwad.specs.declared.error.Unbuilt.{Unbuilt}
 
--- the number that a refusal to build is known by
+-- the number of each refusal to build
 abbrev pub build_code_of : BuildError → ℕ
 build_code_of build.NothingToBuild = 60
 build_code_of build.TooManyVertices = 61
@@ -15,7 +15,7 @@ build_code_of build.TooDeep = 64
 build_code_of build.BlockmapTooLarge = 66
 build_code_of build.OutOfMemory = 31
 
--- the refusal of the map of this name; lack of memory is no map's
+-- the refusal with the name of its map, or with no name if memory ran out
 abbrev pub blamed : BuildError → Name8 → Unbuilt
 blamed build.OutOfMemory name = record { error = build.OutOfMemory; map = None }
 blamed e name = record { error = e; map = Some name }

@@ -1,4 +1,4 @@
--- The PWAD of a project's maps, and why there is none.
+-- The PWAD of a project's maps, and why it can't be built.
 use Rattle.std.specs.Prelude.{◌≡◌, ℕ, List, [], ◌∷◌, take, slice_get, Option, None, Some, All}
 use Rattle.lv_lumps.specs.declared.records.Name8.{Name8}
 use Rattle.lv_maptables.specs.Tables.{Tables}
@@ -22,7 +22,7 @@ AreLevelsOf [] (x ∷ xs) = ⊥
 AreLevelsOf (m ∷ ms) [] = ⊥
 AreLevelsOf (m ∷ ms) (x ∷ xs) = IsLevelOf m x × AreLevelsOf ms xs
 
--- under the name of each map the bytes hold a sound level of it
+-- the bytes hold a sound level of each map under its name
 abbrev pub IsSoundBuildOfAll : List Tables → List ℕ → Type 0
 IsSoundBuildOfAll ms wad = All (λ m. IsSoundBuild m wad) ms
 
@@ -58,8 +58,8 @@ abbrev pub IsRefusalOfAll : List Tables → BuildError → Type 0
 IsRefusalOfAll ms OutOfMemory = Unit {0}
 IsRefusalOfAll ms e = IsFirstRefusal ms e
 
--- the refusal is that of the first map by number that can't be built, and the name is this map's;
--- where memory lacks no map is named
+-- the refusal is that of the first map by number that can't be built, and the name is this map's; if memory ran
+-- out, no map is named
 abbrev pub Blames : List Tables → BuildError → Option Name8 → Type 0
 Blames ms OutOfMemory name = name ≡ None
 Blames ms e name = (first : IsFirstRefusal ms e) × (name ≡ Some first.refused.name)

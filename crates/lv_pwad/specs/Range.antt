@@ -1,4 +1,4 @@
--- A level in which every reference lies in its list.
+-- A level in which every reference is in range.
 use Rattle.std.specs.Prelude.{◌≡◌, ◌≢◌, ℕ, ◌+◌, ◌*◌, ◌<◌, ◌≤◌, true, List, [], ◌∷◌, ◌++◌, length, slice_index, take, drop, All}
 use Rattle.lv_lumps.specs.Sides.{no_side, is_two_sided}
 use Rattle.lv_lumps.specs.declared.records.Line.{Line}
@@ -8,8 +8,8 @@ use Rattle.lv_blockmap.specs.Layout.{list_end, greatest_offset, HasWordsAt}
 use Rattle.lv_levels.specs.Levels.{Lumps}
 use Rattle.lv_pwad.specs.Reject.{reject_size}
 
--- the line's ends are vertices and its sides are sides; only a line that isn't two-sided may lack
--- the left one
+-- the line's ends are vertices of the level and its sides are sides of it; only a line that isn't two-sided may
+-- lack a left side
 pub record LineInRange (l : Lumps) (x : Line) : Type 0 where
   pub v1 : IsIn l.vertices x.v1
   pub v2 : IsIn l.vertices x.v2
@@ -17,11 +17,11 @@ pub record LineInRange (l : Lumps) (x : Line) : Type 0 where
   pub left : x.left ≢ no_side → IsIn l.sides x.left
   pub two_sided : is_two_sided x ≡ true → x.left ≢ no_side
 
--- how many blocks the header tells of
+-- the number of blocks, by the header
 abbrev pub blocks_in : List ℕ → ℕ
 blocks_in ws = slice_index ws 2 * slice_index ws 3
 
--- the list at an offset ends inside the lump and names lines
+-- the list at an offset ends inside the lump and names only lines
 pub record ListInRange (l : Lumps) (ws : List ℕ) (at : ℕ) : Type 0 where
   pub inside : at < length ws
   pub small : at ≤ greatest_offset
@@ -29,7 +29,7 @@ pub record ListInRange (l : Lumps) (ws : List ℕ) (at : ℕ) : Type 0 where
   pub stands : HasWordsAt ws at (list ++ list_end ∷ [])
   pub lines : All (IsIn l.lines) list
 
--- each reference of what was drawn, of the tree, and of the blocks' lists lies in its list
+-- each reference of the drawn lists, of the tree, and of the blocks' lists is in range
 pub record IsInRange (l : Lumps) : Type 0 where
   pub lines : All (LineInRange l) l.lines
   pub sides : All (λ s. IsIn l.sectors s.sector) l.sides

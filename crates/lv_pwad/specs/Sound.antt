@@ -1,4 +1,4 @@
--- A PWAD that is a sound build of a map, and why there is none.
+-- A PWAD that is a sound build of a map, and why it can't be built.
 use Rattle.std.specs.Prelude.{◌≡◌, ℕ, ◌+◌, ◌≤◌, List, length, replicate, take, drop, All}
 use Rattle.lv_lumps.specs.Names.{name_text}
 use Rattle.lv_lumps.specs.declared.records.Vertex.{Vertex}
@@ -26,11 +26,11 @@ use Rattle.lv_pwad.specs.declared.error.BuildError.{BuildError}
 use Rattle.lv_pwad.specs.declared.error.BuildError.TheVariants.{NothingToBuild, TooManyVertices, TooManySegs}
 use Rattle.lv_pwad.specs.declared.error.BuildError.TheVariants.{TooManySubsectors, TooDeep, BlockmapTooLarge, OutOfMemory}
 
--- the bytes of REJECT: no sector is out of sight of another
+-- the bytes of REJECT: no sector is marked as out of sight of another
 abbrev pub no_rejects : ℕ → List ℕ
 no_rejects sectors = replicate (reject_size sectors) 0
 
--- the level of a map, a tree of it, and the bytes of BLOCKMAP
+-- the level that consists of a map, a tree of it, and the bytes of BLOCKMAP
 abbrev pub level_over : Tables → Built → List ℕ → Lumps
 level_over m b blockmap =
     record {
@@ -46,7 +46,7 @@ level_over m b blockmap =
       blockmap = blockmap;
     }
 
--- a level of the map, of a tree of it, and of the bytes of its blocks
+-- a level that consists of the map, a tree of it, and the bytes of its blockmap
 pub record IsBuiltLevel (m : Tables) (l : Lumps) : Type 0 where
   pub well_formed : WellFormed m
   pub tree : Built
@@ -56,8 +56,8 @@ pub record IsBuiltLevel (m : Tables) (l : Lumps) : Type 0 where
   pub is_over : l ≡ level_over m tree blockmap
 
 -- ---- sound
--- the level has a sound tree of its own lines behind the drawn vertices, and the blocks of these lines; each reference
--- of what was built lies in its list
+-- the level has a sound tree of its own lines, with the drawn vertices first, and the blockmap of these lines; each
+-- reference of the built lists is in range
 pub record IsSoundOver (drawn : List Vertex) (l : Lumps) : Type 0 where
   pub added : AddsEnds drawn l.vertices l.segs
   pub tree : TreeInRange l.vertices l.lines l.segs l.subs l.nodes
@@ -78,7 +78,7 @@ pub record HasTree (b : Built) (l : Lumps) : Type 0 where
   pub subs : l.subs ≡ b.subs.items
   pub nodes : l.nodes ≡ b.nodes.items
 
--- a level that holds the map as drawn, and is sound over its lines; no two vertices have one place
+-- a level that holds the map as drawn, and is sound over its lines; no two vertices are at the same place
 pub record IsSoundLevel (m : Tables) (l : Lumps) : Type 0 where
   pub things : l.things ≡ m.things
   pub lines : l.lines ≡ m.lines
@@ -89,7 +89,7 @@ pub record IsSoundLevel (m : Tables) (l : Lumps) : Type 0 where
   pub sound : IsSoundOver m.vertices l
   pub differ : AllDiffer l.vertices
 
--- under the map's name the bytes hold a sound level of the map
+-- the bytes hold a sound level of the map under its name
 pub record IsSoundBuild (m : Tables) (wad : List ℕ) : Type 0 where
   pub level : Lumps
   pub reads : IsLevel wad (name_text m.name) level
@@ -107,7 +107,7 @@ pub record HasOnlyTree (m : Tables) : Type 0 where
   pub built : IsBuilt m tree
   pub too_large : IsTooLarge (map_ends m)
 
--- the cause of each refusal: the tree's come first
+-- the cause of each refusal; the refusals of the tree come first
 abbrev pub IsBuildRefusal : Tables → BuildError → Type 0
 IsBuildRefusal m OutOfMemory = Unit {0}
 IsBuildRefusal m NothingToBuild = length m.lines ≡ 0
@@ -117,7 +117,7 @@ IsBuildRefusal m TooManySubsectors = HasTooManySubsectors (edges_of m)
 IsBuildRefusal m TooDeep = IsTooDeep (edges_of m)
 IsBuildRefusal m BlockmapTooLarge = HasOnlyTree m
 
--- the refusal of a build that a refused tree, or a refused blockmap, comes to
+-- the refusal of a build for a refusal of the tree; below, for one of the blockmap
 abbrev pub of_tree : TreeError → BuildError
 of_tree tree.OutOfMemory = OutOfMemory
 of_tree tree.NothingToBuild = NothingToBuild

@@ -9,7 +9,7 @@ use Rattle.lv_lumps.specs.Lumps.{records_of}
 use Rattle.lv_lumps.specs.Records.{thing_record, line_record, side_record, vertex_record, seg_record, sub_record, node_record, sector_record, thing_at, line_at, side_at, vertex_at, seg_at, sub_at, node_at, sector_at}
 use Rattle.lv_levels.specs.Levels.{Lumps, lump_names, record_sizes, lump, marker_at, refusal, same_bytes}
 
--- 32 bits, the lower bytes first
+-- a 32-bit number, the lowest byte first
 abbrev pub long : ℕ → List ℕ
 long n = to_le_bytes w32 n
 
@@ -20,7 +20,7 @@ pub record Lump : Type 0 where
   pub name : Name8
   pub bytes : List ℕ
 
--- the entries of lumps that stand one behind another from a place on
+-- the entries of lumps that follow one another from an offset on
 abbrev pub entries_from : ℕ → List Lump → List Entry
 entries_from at [] = []
 entries_from at (l ∷ lumps) =
@@ -37,11 +37,11 @@ abbrev pub wad_bytes : List Lump → List ℕ
 wad_bytes lumps =
     wad_head lumps ++ (all_bytes lumps ++ flat_map entry_bytes (entries_from 12 lumps))
 
--- how many bytes that are
+-- the number of bytes of a PWAD of these lumps
 abbrev pub wad_size : List Lump → ℕ
 wad_size lumps = 12 + length (all_bytes lumps) + 16 * length lumps
 
--- ---- levels, one behind another
+-- ---- levels, one after another
 
 -- a level: its marker's name and the bytes of its ten lumps
 pub record Part : Type 0 where
@@ -53,21 +53,21 @@ with_names [] bytes = []
 with_names (name ∷ names) [] = []
 with_names (name ∷ names) (b ∷ bytes) = record { name = name; bytes = b } ∷ with_names names bytes
 
--- the marker, which is empty, and the ten lumps
+-- a level's lumps: the marker, which is empty, and the ten others
 abbrev pub lumps_of : Part → List Lump
 lumps_of p = record { name = p.name; bytes = [] } ∷ with_names lump_names p.lumps
 
--- the levels' lumps, one level behind another
+-- the levels' lumps, one level after another
 abbrev pub all_lumps : List Part → List Lump
 all_lumps parts = flat_map lumps_of parts
 
--- the name is one of a level's lumps, or the one that tells a Hexen level
+-- the name is that of one of a level's lumps, or of the lump that marks a Hexen level
 abbrev pub is_lump_name : List ℕ → Bool
 is_lump_name text =
     list_any (λ name. same_bytes (name_text name) text) lump_names
     || same_bytes text (codes "BEHAVIOR")
 
--- ten lumps of whole records behind a marker whose name is none of theirs
+-- ten lumps of whole records after a marker whose name is not the name of a level's lump
 pub record IsPart (p : Part) : Type 0 where
   pub long : length p.name.bytes ≡ 8
   pub free : is_lump_name (name_text p.name) ≡ false
@@ -81,7 +81,7 @@ pub record AreParts (parts : List Part) : Type 0 where
       → name_text (get_or parts i p).name ≢ name_text (get_or parts j p).name
   pub fits : wad_size (all_lumps parts) < 4294967296
 
--- the level is accepted under its name, and its lumps are read
+-- the level is found under its name, and its lumps are read
 pub record IsReadBack (wad : List ℕ) (p : Part) : Type 0 where
   pub accepted : refusal wad (name_text p.name) ≡ None
   pub lumps : (n : ℕ) → n < 10
@@ -101,7 +101,7 @@ level_part name l =
           ∷ [];
     }
 
--- the lumps before the tree, the tree's, and those behind it
+-- the lumps before the tree; below, those of the tree and those after it
 abbrev pub drawn_lumps : Lumps → List Lump
 drawn_lumps l =
     with_names (take 4 lump_names)
@@ -117,7 +117,7 @@ abbrev pub last_lumps : Lumps → List Lump
 last_lumps l =
     with_names (drop 7 lump_names) (flat_map sector_record l.sectors ∷ l.reject ∷ l.blockmap ∷ [])
 
--- each record is the one that its bytes hold
+-- each drawn record decodes from its own bytes
 pub record IsDrawnCoded (l : Lumps) : Type 0 where
   pub things : records_of thing_at 10 (flat_map thing_record l.things) ≡ l.things
   pub lines : records_of line_at 14 (flat_map line_record l.lines) ≡ l.lines

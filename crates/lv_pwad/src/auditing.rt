@@ -12,7 +12,7 @@ use crate::subs::sub_fault;
 use lv_levels::{Level, ReadError};
 use std::alloc::Global;
 
-// The first fault of the lists as they stand, for which no memory is needed.
+// The first fault of those that are found without allocating memory.
 fn list_fault(level: &Level) -> Option<Fault>
     ensures { result ≡ first_some (list_faults (view level.now)) }
 {
@@ -21,8 +21,8 @@ fn list_fault(level: &Level) -> Option<Fault>
     first_of(front, back)
 }
 
-/// The first fault of a level, in the order of docs/FORMAT.md, "What an audit looks for"; none exactly where every
-/// reference of the level is in range. It is refused for lack of memory alone.
+/// Returns the first fault of a level, in the order of docs/FORMAT.md, "What an audit looks for"; `None` exactly if
+/// every reference of the level is in range. It fails only if memory runs out.
 pub fn audit(alloc: Global, level: &Level) -> Result<Option<Fault>, ReadError>
     ensures first { IfOk result (λ fault. fault ≡ first_fault (view level.now)) }
     ensures sound { IfOk result (λ fault. (fault ≡ None) ↔ IsInRange (view level.now)) }

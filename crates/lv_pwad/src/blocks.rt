@@ -10,7 +10,7 @@ use crate::fault::Fault;
 use lv_levels::{Level, ReadError};
 use std::alloc::Global;
 
-// The words of sixteen bits that the bytes hold.
+// Reads the bytes as 16-bit words.
 fn words_of(alloc: Global, bytes: &[u8]) -> Result<Vec<u16>, ReadError>
     ensures words { IfOk result (λ v. v.items ≡ words bytes.now) }
     ensures memory { IsOkUnless result ReadError.OutOfMemory }
@@ -23,7 +23,7 @@ fn words_of(alloc: Global, bytes: &[u8]) -> Result<Vec<u16>, ReadError>
     Ok(all)
 }
 
-// How many blocks the header tells of.
+// The number of blocks, by the header.
 fn blocks_in(words: &[u16]) -> u64
     ensures { result ≡ blocks_in words.now }
 {
@@ -32,7 +32,8 @@ fn blocks_in(words: &[u16]) -> u64
     u64::from(columns) * u64::from(rows)
 }
 
-// Whether REJECT has a bit for each pair of sectors, and then whether the blockmap's offsets stand in the lump.
+// The fault that REJECT has less than a bit for each pair of sectors, or else that the blockmap's header or offsets
+// don't fit in the lump.
 fn size_fault(level: &Level, lump: &[u16]) -> Option<Fault>
     requires { lump.now ≡ words level.now.blockmap.items }
     ensures { result ≡ first_some (size_faults (view level.now)) }
@@ -47,21 +48,21 @@ fn size_fault(level: &Level, lump: &[u16]) -> Option<Fault>
     None
 }
 
-// The flag of a place; past the last one none is set.
+// The flag at an index; false past the last one.
 fn has_flag(flags: &[bool], at: u16) -> bool
     ensures { result ≡ get_or flags.now at false }
 {
     flags.get(usize::from(at)).copied().unwrap_or(false)
 }
 
-// Where the first offset stands whose place has no flag.
+// The index of the first offset whose flag isn't set.
 fn unflagged(flags: &[bool], offsets: &[u16]) -> Option<usize>
     ensures { result ≡ first_wrong (λ at. get_or flags.now at false) offsets.now }
 {
     offsets.iter().position(|at| !has_flag(flags, *at))
 }
 
-// The first block whose list doesn't end in the lump, or names no line in range.
+// The first block whose list doesn't end in the lump, or names a line out of range.
 fn block_fault(alloc: Global, level: &Level, lump: &[u16]) -> Result<Option<Fault>, ReadError>
     requires words { lump.now ≡ words level.now.blockmap.items }
     requires header { 4 + blocks_in lump.now ≤ length lump.now }

@@ -1,4 +1,4 @@
-//! A map's level and its PWAD.
+//! Builds a map's level and its PWAD.
 ghost use Rattle.std.specs.Prelude.{◌≡◌, ◌↔◌, List, [], ◌∷◌, length, Err, IfOk, IfErr, OnOk, IsOkUnless};
 ghost use Rattle.lv_lumps.specs.Names.{name_text};
 ghost use Rattle.lv_lumps.specs.declared.records.Vertex.{Vertex};
@@ -26,7 +26,7 @@ use lv_maptables::{Kind, Map};
 use lv_nodes::{Built, TreeError, build_tree};
 use std::alloc::Global;
 
-// The refusal of the tree is that of the build.
+// Converts a refusal of the tree to one of the build.
 fn tree_refusal(error: TreeError) -> BuildError
     ensures { result ≡ of_tree error }
 {
@@ -40,7 +40,7 @@ fn tree_refusal(error: TreeError) -> BuildError
     }
 }
 
-// The refusal of the blockmap is that of the build, where there is a tree.
+// Converts a refusal of the blockmap to one of the build, once there is a tree.
 fn blockmap_refusal(error: BlockmapError) -> BuildError
     ensures { result ≡ of_blockmap error }
 {
@@ -51,7 +51,7 @@ fn blockmap_refusal(error: BlockmapError) -> BuildError
     }
 }
 
-// The level of a map, with its tree and the bytes of its blockmap.
+// Makes the level of a map from its tree and the bytes of its blockmap.
 fn level_of(alloc: Global, map: &Map, tree: Built, blockmap: Vec<u8>) -> Result<Level, BuildError>
     ensures level { IfOk result (λ level. view level
         ≡ level_over map.now.tables tree blockmap.items) }
@@ -73,7 +73,7 @@ fn level_of(alloc: Global, map: &Map, tree: Built, blockmap: Vec<u8>) -> Result<
     })
 }
 
-// The PWAD of one level, which is read back by its name.
+// The PWAD of one level, which reads back by its name.
 fn wad_of_level(alloc: Global, name: Name8, level: Level) -> Result<Vec<u8>, BuildError>
     requires { AreParts (level_part name (view level) ∷ []) }
     ensures bytes { IfOk result (λ wad.
@@ -88,7 +88,7 @@ fn wad_of_level(alloc: Global, name: Name8, level: Level) -> Result<Vec<u8>, Bui
     }
 }
 
-/// The level of a map: the refusals of its tree come before those of its blockmap.
+/// Builds the level of a map. The refusals of its tree come before those of its blockmap.
 pub fn level_of_map(alloc: Global, map: &Map) -> Result<Level, BuildError>
     ensures level { IfOk result (λ level. IsBuiltLevel map.now.tables (view level)) }
     ensures refused { IfErr result (IsBuildRefusal map.now.tables) }
@@ -108,11 +108,11 @@ pub fn level_of_map(alloc: Global, map: &Map) -> Result<Level, BuildError>
     }
 }
 
-/// The PWAD of a map: its level with all eleven lumps under its name, and no other lump.
+/// Builds the PWAD of a map: its level with all eleven lumps under its name, and no other lump.
 ///
 /// # Errors
 ///
-/// Those of `build_tree` first: `NothingToBuild` exactly where the map has no line, `TooManyVertices`, `TooManySegs`,
+/// Those of `build_tree` first: `NothingToBuild` exactly if the map has no line, `TooManyVertices`, `TooManySegs`,
 /// `TooManySubsectors`, `TooDeep`. Then `BlockmapTooLarge`; or `OutOfMemory`.
 pub fn build_wad(alloc: Global, map: &Map) -> Result<Vec<u8>, BuildError>
     ensures sound { IfOk result (λ wad. IsSoundBuild map.now.tables wad.items) }
@@ -131,8 +131,8 @@ pub fn build_wad(alloc: Global, map: &Map) -> Result<Vec<u8>, BuildError>
     }
 }
 
-/// A tree and a blockmap that were built over a level's own lines, behind the vertices that were drawn, make the level
-/// sound over them. The function has no body: its contract is the law.
+/// A tree and a blockmap that were built from a level's own lines and its drawn vertices make the level sound over
+/// them. The function's body is empty: its contract is the law.
 pub fn built_levels_are_sound()
     ensures { (drawn : List Vertex) (tree : Built) (level : Lumps) → HasTree tree level
         → IsBuiltOver (edges_in drawn level.lines) drawn tree

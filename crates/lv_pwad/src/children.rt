@@ -15,10 +15,10 @@ use lv_levels::{Level, ReadError};
 use lv_lumps::Node;
 use std::alloc::Global;
 
-// From here on a child is a subsector, and what is above is its number.
+// A child from this value on is a subsector; its number is the child less this value.
 const FIRST_SUB: u16 = 0x8000;
 
-// Whether the child of a node is a subsector of the level, or a node that is lower.
+// Whether the child of a node is a subsector of the level, or a node with a lower number.
 fn is_child(level: &Level, node: usize, child: u16) -> bool
     ensures { result ≡ child_right (view level.now) node child }
 {
@@ -36,7 +36,7 @@ fn has_children(level: &Level, number: usize, node: Node) -> bool
     is_child(level, number, node.right) && is_child(level, number, node.left)
 }
 
-// Where the first node with a child out of range stands.
+// The number of the first node with a child out of range.
 fn child_place(level: &Level) -> Option<usize>
     ensures { result
         ≡ first_wrong (node_children (view level.now)) (enumerate_from 0 level.now.nodes.items) }
@@ -49,7 +49,7 @@ fn child_place(level: &Level) -> Option<usize>
     None
 }
 
-/// The first node with a child out of range; else whether there is a subsector.
+/// The first node with a child out of range; otherwise `SubOnce(0)` if there is no subsector.
 pub fn child_fault(level: &Level) -> Option<Fault>
     ensures { result ≡ first_some (child_faults (view level.now)) }
 {
@@ -65,7 +65,7 @@ pub fn child_fault(level: &Level) -> Option<Fault>
     }
 }
 
-// The children of all nodes; with no nodes subsector 0.
+// The children of all nodes; subsector 0 if there are no nodes.
 fn children_of(alloc: Global, nodes: &[Node]) -> Result<Vec<u16>, ReadError>
     ensures children { IfOk result (λ v. v.items ≡ children nodes.now) }
     ensures memory { IsOkUnless result ReadError.OutOfMemory }
@@ -118,7 +118,7 @@ fn sub_once(alloc: Global, level: &Level, numbers: &[u16]) -> Result<Option<Faul
     }
 }
 
-// The first node that isn't a child exactly once, where the last is none.
+// The first node that isn't a child exactly once, without the last node.
 fn node_once(alloc: Global, level: &Level, numbers: &[u16]) -> Result<Option<Fault>, ReadError>
     requires { numbers.now ≡ children level.now.nodes.items }
     ensures fault { IfOk result (λ fault. fault ≡ option_map NodeOnce

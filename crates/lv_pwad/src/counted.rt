@@ -1,4 +1,4 @@
-//! The PWAD of levels beside how many records they have, counted from what is written.
+//! The PWAD of levels, and the numbers of their records, counted from the levels that are written.
 ghost use Rattle.std.specs.Prelude.{◌≡◌, ◌+◌, All, length, map, IfOk, IsOkUnless};
 ghost use Rattle.lv_lumps.specs.Names.{name_text};
 ghost use Rattle.lv_pwad.specs.Counted.{CountsLevels, CountsMore};
@@ -12,7 +12,7 @@ use crate::levels::{NamedLevel, wad_of_levels};
 use lv_levels::Level;
 use std::alloc::Global;
 
-/// How many records of each list a build made for the tree, and how many bytes its PWAD has.
+/// How many vertices, segs, subsectors and nodes the built levels have in all, and how many bytes the PWAD has.
 #[derive(Clone, Copy)]
 pub struct BuildCounts {
     pub vertices: u64,
@@ -29,7 +29,7 @@ pub struct BuiltWad {
     pub counts: BuildCounts,
 }
 
-// The count with so many more. No memory holds so many that they are more than a count may be.
+// The count plus `more`. Memory can't hold so many records that the sum overflows.
 fn with_more(count: u64, more: usize) -> Result<u64, BuildError>
     ensures sum { IfOk result (λ sum. sum ≡ count + more) }
     ensures memory { IsOkUnless result BuildError.OutOfMemory }
@@ -40,7 +40,7 @@ fn with_more(count: u64, more: usize) -> Result<u64, BuildError>
     }
 }
 
-// The counts with those of one level more.
+// The counts plus those of one more level.
 fn with_level(counts: BuildCounts, level: &Level) -> Result<BuildCounts, BuildError>
     ensures counted { IfOk result (CountsMore counts (view level.now)) }
     ensures memory { IsOkUnless result BuildError.OutOfMemory }
@@ -54,7 +54,7 @@ fn with_level(counts: BuildCounts, level: &Level) -> Result<BuildCounts, BuildEr
     })
 }
 
-// The counts of the levels, which are written as so many bytes.
+// The counts of the levels, whose PWAD has `len` bytes.
 fn counts_of(levels: &[NamedLevel], len: usize) -> Result<BuildCounts, BuildError>
     ensures counted { IfOk result
         (CountsLevels (map (λ x. view x.level) levels.now) len) }
@@ -77,7 +77,7 @@ fn counts_of(levels: &[NamedLevel], len: usize) -> Result<BuildCounts, BuildErro
     Ok(counts)
 }
 
-/// The PWAD of the levels, of which each is read back by its name, and its counts.
+/// The PWAD of the levels, each of which reads back by its name, and its counts.
 pub fn counted_wad(alloc: Global, levels: &[NamedLevel]) -> Result<BuiltWad, BuildError>
     requires { AreParts (level_parts levels.now) }
     ensures bytes { IfOk result (λ built.

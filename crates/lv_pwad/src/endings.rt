@@ -1,4 +1,4 @@
-//! Where lists of a blockmap come to an end, found in one walk.
+//! Finds, in one pass, from which words on a list of a blockmap ends properly.
 ghost use Rattle.std.specs.Prelude.{◌≡◌, ◌≤◌, ◌<◌, ◌+◌, ◌||◌, ◌&&◌, ◌==◌, IfOk, IsOkUnless, length, min};
 ghost use Rattle.lv_pwad.specs.Endings.{AreEndings, is_line};
 
@@ -8,15 +8,16 @@ use std::alloc::Global;
 // The greatest offset of a block's list.
 const PLACES: usize = 32768;
 
-// Whether words end or name a line here, and end in lines behind it.
+// Whether the words from this one on name lines up to an end: the word is the end, or it names a line and the words
+// after it do so.
 fn goes_on(word: u16, lines: usize, behind: bool) -> bool
     ensures { result ≡ ((word == 65535) || (is_line lines word && behind)) }
 {
     word == 0xffff || ((word as usize) < lines && word <= 32767 && behind)
 }
 
-/// For each of the first 32,768 places whether the words from there on come to an end, and before it
-/// name lines. It goes over the words once.
+/// Returns for each of the first 32,768 words whether the words from it on name lines up to an end. It makes one
+/// pass over the words.
 pub fn flags_of(alloc: Global, words: &[u16], lines: usize) -> Result<Vec<bool>, ReadError>
     ensures each { IfOk result (λ v. AreEndings lines words.now 0 v.items) }
     ensures length { IfOk result (λ v. length v.items ≡ min (length words.now) 32768) }

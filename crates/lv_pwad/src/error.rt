@@ -1,4 +1,4 @@
-//! Why a map is not built, and which map of a project.
+//! Why a map can't be built, and which map of a project it is.
 ghost use Rattle.std.specs.Prelude.{◌≡◌, None};
 ghost use Rattle.lv_pwad.specs.Errors.{build_code_of};
 ghost use Rattle.lv_pwad.specs.declared.error.BuildError.TheVariants as build;
@@ -8,7 +8,7 @@ use std::alloc::{AllocError, AllocFailed};
 use std::fmt;
 use thiserror::Error;
 
-/// Why a map is not built.
+/// Why a map can't be built.
 #[derive(Clone, Copy, Debug, PartialEq, Eq, Error)]
 pub enum BuildError {
     NothingToBuild,
@@ -20,7 +20,7 @@ pub enum BuildError {
     OutOfMemory,
 }
 
-// One call writes each fixed text, so that the proof has one call to follow.
+// One call writes whichever text it is, so that the proof has only one call to follow.
 impl fmt::Display for BuildError {
     fn fmt<W: fmt::Write>(&self, f: &mut fmt::Formatter<W>) -> fmt::Result {
         let text = match self {
@@ -69,7 +69,7 @@ impl<T: Drop> From<AllocFailed<T>> for BuildError {
     }
 }
 
-// The bytes of records are refused for lack of memory alone.
+// Encoding records fails only if memory runs out.
 impl From<LumpError> for BuildError {
     ghost from_gives = { λ _ e. e ≡ build.OutOfMemory };
 
@@ -78,12 +78,12 @@ impl From<LumpError> for BuildError {
     }
 }
 
-/// Why the maps of a project are not built, and for which one.
+/// Why the maps of a project can't be built, and which map is the cause.
 #[derive(Clone, Copy, Debug, PartialEq, Eq, Error)]
 #[error("{error}")]
 pub struct Unbuilt {
     pub error: BuildError,
-    /// The name of the first map by number that can't be built; none for lack of memory.
+    /// The name of the first map by number that can't be built; `None` if memory ran out.
     pub map: Option<Name8>,
 }
 

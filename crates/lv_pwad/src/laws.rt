@@ -1,4 +1,4 @@
-//! What a built PWAD reads back to. The functions have no body: their contracts are the laws.
+//! A law about what a built PWAD reads back as. The function's body is empty: its contract is the law.
 ghost use Rattle.std.specs.Prelude.{◌≡◌, ℕ, List, None};
 ghost use Rattle.lv_lumps.specs.Names.{name_text};
 ghost use Rattle.lv_maptables.specs.Tables.{Tables};
@@ -8,8 +8,8 @@ ghost use Rattle.lv_pwad.specs.Sound.{IsSoundBuild, IsSoundLevel};
 ghost use Rattle.lv_levels.specs.Views.{RefusesLevel};
 ghost use Rattle.lv_levels.specs.declared.error.ReadError.{ReadError};
 
-/// `read_level` of the bytes of a sound build gives a sound level of the map, or lacks memory; `audit` finds no fault
-/// in that level.
+/// `read_level` of the bytes of a sound build returns a sound level of the map, or memory runs out; `audit` finds
+/// no fault in that level.
 pub fn sound_builds_read_back()
     ensures read { (m : Tables) (wad : List ℕ) (level : Lumps)
         → IsSoundBuild m wad → IsLevel wad (name_text m.name) level → IsSoundLevel m level }

@@ -1,4 +1,4 @@
-//! Levels as lumps, and a PWAD of them.
+//! Writes levels as the lumps of a PWAD.
 ghost use Rattle.std.specs.Prelude.{◌≡◌, ◌++◌, [], ◌∷◌, All, OnOk, IfOk, IsOkUnless};
 ghost use Rattle.lv_lumps.specs.Names.{name_text};
 ghost use Rattle.lv_levels.specs.Levels.{IsLevel};
@@ -33,7 +33,7 @@ fn push_lump(lumps: &mut Vec<NamedLump>, name: Name8, bytes: Vec<u8>) -> Result<
     Ok(())
 }
 
-// The bytes, copied.
+// A copy of the bytes.
 fn copied(alloc: Global, bytes: &[u8]) -> Result<Vec<u8>, BuildError>
     ensures bytes { IfOk result (λ v. v.items ≡ bytes.now) }
     ensures memory { IsOkUnless result BuildError.OutOfMemory }
@@ -43,7 +43,7 @@ fn copied(alloc: Global, bytes: &[u8]) -> Result<Vec<u8>, BuildError>
     Ok(copy)
 }
 
-// Appends the lumps that stand before the tree: things, lines, sides, vertices.
+// Appends the lumps before the tree: things, lines, sides, vertices.
 fn push_drawn(alloc: Global, lumps: &mut Vec<NamedLump>, level: &Level) -> Result<(), BuildError>
     ensures lumps { OnOk result (views lumps.new.items
         ≡ views lumps.old.items ++ drawn_lumps (view level.now)) }
@@ -74,7 +74,7 @@ fn push_tree(alloc: Global, lumps: &mut Vec<NamedLump>, level: &Level) -> Result
     Ok(())
 }
 
-// Appends the lumps that stand behind the tree: sectors, REJECT, BLOCKMAP.
+// Appends the lumps after the tree: sectors, REJECT, BLOCKMAP.
 fn push_last(alloc: Global, lumps: &mut Vec<NamedLump>, level: &Level) -> Result<(), BuildError>
     ensures lumps { OnOk result (views lumps.new.items
         ≡ views lumps.old.items ++ last_lumps (view level.now)) }
@@ -106,7 +106,7 @@ fn push_level(
     Ok(())
 }
 
-// The lumps of the levels, one level behind another.
+// The lumps of the levels, one level after another.
 fn lumps_of(alloc: Global, levels: &[NamedLevel]) -> Result<Vec<NamedLump>, BuildError>
     ensures lumps { IfOk result (λ v. views v.items ≡ all_lumps (level_parts levels.now)) }
     ensures coded { IfOk result (λ v. All (λ l. IsCoded (view l.level)) levels.now) }
@@ -120,7 +120,7 @@ fn lumps_of(alloc: Global, levels: &[NamedLevel]) -> Result<Vec<NamedLump>, Buil
     Ok(lumps)
 }
 
-/// The PWAD of the levels, of which each is read back by its name.
+/// The PWAD of the levels, each of which reads back by its name.
 pub fn wad_of_levels(alloc: Global, levels: &[NamedLevel]) -> Result<Vec<u8>, BuildError>
     requires { AreParts (level_parts levels.now) }
     ensures bytes { IfOk result (λ wad.

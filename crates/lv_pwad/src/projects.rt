@@ -1,4 +1,4 @@
-//! The PWAD of all maps of a project.
+//! Builds the PWAD of all maps of a project.
 ghost use Rattle.std.specs.Prelude.{◌≡◌, ◌↔◌, All, Err, Some, IfOk, IfErr, OnOk, length, slice_get};
 ghost use Rattle.lv_maptables.specs.Projects.{WellFormedProject, project_of};
 ghost use Rattle.lv_maptables.specs.Tables.{Tables};
@@ -16,7 +16,7 @@ use lv_lumps::Name8;
 use lv_maptables::{Map, Maps};
 use std::alloc::Global;
 
-// The refusal of the map of the name; lack of memory is no map's.
+// The refusal with the name of its map, or with no name if memory ran out.
 fn blamed(error: BuildError, name: Name8) -> Unbuilt
     ensures { result ≡ blamed error name }
 {
@@ -29,7 +29,7 @@ fn blamed(error: BuildError, name: Name8) -> Unbuilt
     }
 }
 
-// The level of a map, with its name.
+// Builds the level of a map, with its name.
 fn named_level(alloc: Global, map: &Map) -> Result<NamedLevel, BuildError>
     ensures level { IfOk result (λ level. IsLevelOf map.now.tables level) }
     ensures refused { IfErr result (IsBuildRefusal map.now.tables) }
@@ -42,7 +42,7 @@ fn named_level(alloc: Global, map: &Map) -> Result<NamedLevel, BuildError>
     }
 }
 
-// The levels of the maps, by number.
+// Builds the levels of the maps, by number.
 fn levels_of(alloc: Global, maps: &Maps) -> Result<Vec<NamedLevel>, Unbuilt>
     ensures levels { IfOk result (λ v. AreLevelsOf (project_of maps.now).maps v.items) }
     ensures well_formed { OnOk result (WellFormedProject (project_of maps.now)) }
@@ -63,8 +63,8 @@ fn levels_of(alloc: Global, maps: &Maps) -> Result<Vec<NamedLevel>, Unbuilt>
     Ok(levels)
 }
 
-/// The PWAD of all maps of a project, as `build_all` gives it, and how many records its levels have: they are counted
-/// from what is written, and nothing is read back.
+/// Builds the PWAD of all maps of a project, as `build_all` does, and counts the records of its levels. They are
+/// counted as they are written; nothing is read back.
 ///
 /// # Errors
 ///
@@ -91,8 +91,8 @@ pub fn build_counted(alloc: Global, maps: &Maps) -> Result<BuiltWad, Unbuilt>
     }
 }
 
-/// The PWAD of all maps of a project, by number: each map's level with all eleven lumps under its name, and no other
-/// lump.
+/// Builds the PWAD of all maps of a project, by number: each map's level with all eleven lumps under its name, and
+/// no other lump.
 ///
 /// # Errors
 ///

@@ -10,7 +10,7 @@ use crate::fault::Fault;
 use lv_levels::Level;
 use lv_lumps::{Line, NO_SIDE, Seg};
 
-/// Whether the number is that of one of so many items, and at most 32,767.
+/// Whether the number is below `count` and at most 32,767.
 pub fn is_among(n: u16, count: usize) -> bool
     ensures { result ≡ (nat_lt n count && nat_le n 32767) }
 {
@@ -66,7 +66,7 @@ fn has_side(level: &Level, seg: &Seg) -> bool
     seg.side == 0 || seg.side == 1 && line_has_left(level, seg)
 }
 
-// Where the first fault of this kind stands.
+// The number of the first item with this fault.
 fn line_vertex_place(level: &Level) -> Option<usize>
     ensures { result ≡ first_wrong (line_vertices (view level.now)) level.now.lines.items }
 {
@@ -88,7 +88,7 @@ fn line_vertex(level: &Level) -> Option<Fault>
     }
 }
 
-// Where the first fault of this kind stands.
+// The number of the first item with this fault.
 fn line_side_place(level: &Level) -> Option<usize>
     ensures { result ≡ first_wrong (line_sides (view level.now)) level.now.lines.items }
 {
@@ -106,7 +106,7 @@ fn line_side(level: &Level) -> Option<Fault>
     }
 }
 
-// Where the first fault of this kind stands.
+// The number of the first item with this fault.
 fn side_sector_place(level: &Level) -> Option<usize>
     ensures { result
         ≡ first_wrong (λ s. is_in_range (view level.now).sectors s.sector) level.now.sides.items }
@@ -129,7 +129,7 @@ fn side_sector(level: &Level) -> Option<Fault>
     }
 }
 
-// Where the first fault of this kind stands.
+// The number of the first item with this fault.
 fn seg_vertex_place(level: &Level) -> Option<usize>
     ensures { result ≡ first_wrong (seg_vertices (view level.now)) level.now.segs.items }
 {
@@ -147,7 +147,7 @@ fn seg_vertex(level: &Level) -> Option<Fault>
     }
 }
 
-// Where the first fault of this kind stands.
+// The number of the first item with this fault.
 fn seg_line_place(level: &Level) -> Option<usize>
     ensures { result
         ≡ first_wrong (λ s. is_in_range (view level.now).lines s.line) level.now.segs.items }
@@ -170,7 +170,7 @@ fn seg_line(level: &Level) -> Option<Fault>
     }
 }
 
-// Where the first fault of this kind stands.
+// The number of the first item with this fault.
 fn seg_side_place(level: &Level) -> Option<usize>
     ensures { result ≡ first_wrong (seg_side (view level.now)) level.now.segs.items }
 {

@@ -7,15 +7,15 @@ use crate::fault::Fault;
 use lv_levels::Level;
 use lv_lumps::Sub;
 
-// Whether the subsector has a seg, and its segs begin at this one.
+// Whether the subsector has a seg, and its first seg is `at`.
 fn begins_at(sub: Sub, at: usize) -> bool
     ensures { result ≡ sub_range (at, sub) }
 {
     sub.count > 0 && sub.first as usize == at && sub.first <= 32767
 }
 
-/// The first subsector that is empty or whose segs don't follow those of the one before; else whether they are all
-/// segs.
+/// The first subsector that is empty or whose segs don't follow those of the one before; otherwise the fault that
+/// the subsectors don't have all segs.
 pub fn sub_fault(level: &Level) -> Option<Fault>
     ensures { result ≡ first_some (sub_faults (view level.now)) }
 {

@@ -1,12 +1,12 @@
-//! REJECT.
+//! The lump REJECT.
 ghost use Rattle.std.specs.Prelude.{◌≡◌, replicate, IfOk, IsOkUnless};
 ghost use Rattle.lv_pwad.specs.Reject.{reject_size};
 
 use lv_levels::ReadError;
 use std::alloc::Global;
 
-/// The bytes of REJECT of so many sectors: no sector is out of sight of another, so that the engine tests sight itself
-/// (docs/FORMAT.md, "REJECT and BLOCKMAP"). It is refused for lack of memory alone.
+/// The bytes of REJECT for a number of sectors: no sector is marked as out of sight of another, so that the engine
+/// tests sight itself (docs/FORMAT.md, "REJECT and BLOCKMAP"). It fails only if memory runs out.
 pub fn reject(alloc: Global, sectors: u16) -> Result<Vec<u8>, ReadError>
     ensures bytes { IfOk result (λ v. v.items ≡ replicate (reject_size sectors) 0) }
     ensures memory { IsOkUnless result ReadError.OutOfMemory }

@@ -1,4 +1,4 @@
-//! Lumps written as a PWAD: header, lumps, directory.
+//! Writes lumps as a PWAD: header, lumps, directory.
 ghost use Rattle.std.specs.Prelude.{◌≡◌, ◌++◌, ◌+◌, ◌<◌, ◌^◌, codes, length, flat_map, OnOk, IfOk, IsOkUnless};
 ghost use Rattle.lv_pwad.specs.Wad.{all_bytes, entries_from, entry_bytes, long, wad_bytes, wad_size};
 ghost use Rattle.lv_pwad.specs.Views.{views};
@@ -9,14 +9,14 @@ use lv_levels::Entry;
 use lv_lumps::Name8;
 use std::alloc::Global;
 
-/// A lump that is to be written.
+/// A lump to write.
 #[derive(Drop)]
 pub struct NamedLump {
     pub name: Name8,
     pub bytes: Vec<u8>,
 }
 
-// Appends a number of 32 bits, the lower bytes first.
+// Appends a 32-bit number, the lowest byte first.
 fn put_long(bytes: &mut Vec<u8>, n: u32) -> Result<(), BuildError>
     ensures ok { OnOk result (bytes.new.items ≡ bytes.old.items ++ long n) }
     ensures memory { IsOkUnless result BuildError.OutOfMemory }
@@ -38,7 +38,7 @@ fn put_entry(bytes: &mut Vec<u8>, entry: Entry) -> Result<(), BuildError>
     Ok(())
 }
 
-// How many bytes the lumps have together.
+// How many bytes the lumps have in all.
 fn bytes_in(lumps: &[NamedLump]) -> u32
     requires { length (all_bytes (views lumps.now)) < 2 ^ 32 }
     ensures { result ≡ length (all_bytes (views lumps.now)) }
@@ -51,7 +51,7 @@ fn bytes_in(lumps: &[NamedLump]) -> u32
     sum
 }
 
-// Appends the header: how many lumps there are, and where the directory stands behind them.
+// Appends the header: the number of lumps, and the offset of the directory after them.
 fn put_head(wad: &mut Vec<u8>, count: u32, directory: u32) -> Result<(), BuildError>
     ensures ok { OnOk result (wad.new.items
         ≡ wad.old.items ++ (codes "PWAD" ++ (long count ++ long directory))) }
@@ -63,7 +63,7 @@ fn put_head(wad: &mut Vec<u8>, count: u32, directory: u32) -> Result<(), BuildEr
     Ok(())
 }
 
-// Appends the lumps' bytes to the file, and to the directory their entries.
+// Appends the lumps' bytes to the file, and their entries to the directory.
 fn put_lumps(
     wad: &mut Vec<u8>,
     directory: &mut Vec<u8>,
@@ -88,8 +88,8 @@ fn put_lumps(
     Ok(())
 }
 
-/// The PWAD of the lumps: header, lumps without gaps, directory. Its length is known before the first byte is written,
-/// so that no byte of a lump moves again.
+/// The PWAD of the lumps: header, lumps without gaps, directory. Its memory is allocated before the first byte is
+/// written, so that no byte of a lump is moved later.
 pub fn wad_of(alloc: Global, lumps: &[NamedLump]) -> Result<Vec<u8>, BuildError>
     requires fits { wad_size (views lumps.now) < 2 ^ 32 }
     ensures bytes { IfOk result (λ wad. wad.items ≡ wad_bytes (views lumps.now)) }

@@ -1,4 +1,4 @@
--- The refusals of a salvage: their numbers, and when they come.
+-- The refusals of a salvage: their numbers and their causes.
 use Rattle.std.specs.Prelude.{◌≡◌, ◌≤◌, ◌⊎◌, ℕ, List}
 use Rattle.lv_disk.specs.declared.area.Area.{Area}
 use Rattle.lv_checkpoint.specs.Bodies.{IsLive}
@@ -12,7 +12,7 @@ use Rattle.lv_project.specs.declared.places.Places.{Places}
 use Rattle.lv_salvage.specs.declared.error.SalvageError.{SalvageError}
 use Rattle.lv_salvage.specs.declared.error.SalvageError.TheVariants.{Damaged, Blank, NotAProject, BadGeometry, OutOfMemory}
 
--- the number of a refusal
+-- the number of each refusal
 abbrev pub code_of : SalvageError → ℕ
 code_of (Damaged place) = 40
 code_of Blank = 41
@@ -20,25 +20,25 @@ code_of NotAProject = 42
 code_of BadGeometry = 44
 code_of OutOfMemory = 31
 
--- a header is refused because the bytes have none, or one with lengths outside the limits
+-- reading the header fails because the bytes have none, or have one with lengths outside the limits
 abbrev pub RefusesGeometry : List ℕ → SalvageError → Type 0
 RefusesGeometry file NotAProject = IsForeign file
 RefusesGeometry file BadGeometry = HasBadGeometry file
 RefusesGeometry file _ = ⊥
 
--- two slots are refused because none is open, or because they are damaged
+-- finding the live one of two slots fails because none is open, or because they are damaged
 abbrev pub RefusesLiveSlot : Area → Area → List ℕ → SalvageError → Type 0
 RefusesLiveSlot a b file Blank = AreBlank a b file
 RefusesLiveSlot a b file (Damaged place) = AreSlotsDamagedAt a b place file
 RefusesLiveSlot a b file _ = ⊥
 
--- a live body, whose slot stands at this place, is refused because it is no project's
+-- reading a live body, whose slot is at this offset, fails because no project has this body
 abbrev pub RefusesLiveBody : List ℕ → ℕ → SalvageError → Type 0
 RefusesLiveBody body place OutOfMemory = Unit {0}
 RefusesLiveBody body place (Damaged at) = NoProjectHas body × (at ≡ place)
 RefusesLiveBody body place _ = ⊥
 
--- the live slot has a body that is no project's
+-- the live slot is at this offset and has a body that no project has
 pub record HasNoBody (g : Geometry) (p : Places) (place : ℕ) (file : List ℕ) : Type 0 where
   pub slot : ℕ
   pub which : slot ≤ 1
@@ -48,12 +48,12 @@ pub record HasNoBody (g : Geometry) (p : Places) (place : ℕ) (file : List ℕ)
   pub none : NoProjectHas body
   pub there : place ≡ (which_parts p slot).live.base
 
--- no maps can be read off the slots: they are damaged at this place, or the live body is no project's
+-- no maps can be read from the slots: they are damaged at this offset, or no project has the live body
 abbrev pub IsLostAt : ℕ → List ℕ → Type 0
 IsLostAt place file = (g : Geometry) × (p : Places) × HasGeometry g p file
     × (AreSlotsDamagedAt p.a p.b place file ⊎ HasNoBody g p place file)
 
--- why nothing can be salvaged: the first reason in order, as for opening
+-- why nothing can be salvaged: the same cause for which opening fails
 abbrev pub RefusesSalvage : List ℕ → SalvageError → Type 0
 RefusesSalvage file OutOfMemory = Unit {0}
 RefusesSalvage file NotAProject = IsForeign file

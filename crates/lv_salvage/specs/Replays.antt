@@ -1,4 +1,4 @@
--- What was read of a journal, and where it is damaged.
+-- The result of reading a journal, and where the file is damaged.
 use Rattle.std.specs.Prelude.{◌≡◌, ◌<◌, ◌≤◌, ◌⊎◌, ◌+◌, ℕ, true, false, min, List, ◌++◌, length}
 use Rattle.lv_disk.specs.declared.area.Area.{Area}
 use Rattle.lv_journal.specs.Records.{IsJournal, records_bytes}
@@ -7,8 +7,8 @@ use Rattle.lv_commands.specs.ProjectLines.{Leads}
 use Rattle.lv_salvage.specs.Records.{BreakOffAt, RefusesFirst}
 use Rattle.lv_salvage.specs.declared.replaying.Replayed.{Replayed}
 
--- the whole records of the area, of which the first ones lead from the one maps to the other, and
--- the next is refused
+-- the result describes the whole records of the area: the kept ones lead from `base` to `maps`, and the next one
+-- isn't accepted
 pub record IsReplayed (cap : ℕ) (area : Area) (base maps : ProjectMaps) (read : Replayed)
     (file : List ℕ) : Type 0 where
   pub kept : List (List ℕ)
@@ -21,8 +21,8 @@ pub record IsReplayed (cap : ℕ) (area : Area) (base maps : ProjectMaps) (read 
   pub closed : read.is_closed ≡ true → IsJournal area (kept ++ lost) file
   pub broken : read.is_closed ≡ false → BreakOffAt area (kept ++ lost) read.end file
 
--- the least place of a gate at fault, else the gate of the first record that isn't kept: the file
--- has so many bytes, and the other journal's first gate should stand at `other`
+-- the least offset of a bad gate, otherwise that of the gate of the first record that isn't kept; the file has
+-- `len` bytes, and the other journal's first gate should be at `other`
 abbrev pub IsDamageOf : Replayed → ℕ → ℕ → ℕ → Type 0
 IsDamageOf read len other place =
     ((read.is_closed ≡ false) × (len ≤ other) × (place ≡ min read.end other))

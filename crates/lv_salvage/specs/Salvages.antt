@@ -1,4 +1,4 @@
--- What is salvaged of a file.
+-- What is salvaged from a file.
 use Rattle.std.specs.Prelude.{◌≡◌, ◌≤◌, ℕ, List, ◌++◌, length, None, Result, Ok, Err}
 use Rattle.lv_checkpoint.specs.Bodies.{IsLive}
 use Rattle.lv_maptables.specs.Projects.{ProjectMaps, WellFormedProject, project_of}
@@ -13,8 +13,8 @@ use Rattle.lv_salvage.specs.declared.error.SalvageError.{SalvageError}
 use Rattle.lv_salvage.specs.declared.error.SalvageError.TheVariants.{OutOfMemory}
 use Rattle.lv_salvage.specs.declared.salvaging.Salvaged.{Salvaged}
 
--- The maps are those of the live body after the longest prefix of its journal's whole records that
--- it accepts in turn: so many records, with so many whole ones behind them.
+-- The maps are those of the live body after the longest prefix of its journal's whole records that they accept in
+-- turn: `records` of them are kept, and `behind` more whole ones follow.
 pub record IsSalvaged (maps : ProjectMaps) (records behind : ℕ) (file : List ℕ) : Type 0 where
   pub geometry : Geometry
   pub places : Places
@@ -36,11 +36,11 @@ pub record IsSalvaged (maps : ProjectMaps) (records behind : ℕ) (file : List �
   pub kept_count : records ≡ length kept
   pub lost_count : behind ≡ length lost
 
--- the file stands for these maps, with some generation and some longest body
+-- the file stands for these maps, with some greatest length of a body
 abbrev pub StandsForMaps : ProjectMaps → List ℕ → Type 0
 StandsForMaps maps file = (cap : ℕ) × StandsFor cap maps file
 
--- all of the maps were salvaged, or memory was lacking
+-- the whole project was salvaged, or memory ran out
 abbrev pub GivesAll : Result Salvaged SalvageError → ProjectMaps → Type 0
 GivesAll (Ok s) map = (project_of s.maps ≡ map) × (s.damage ≡ None) × (s.behind ≡ 0)
 GivesAll (Err e) map = e ≡ OutOfMemory

@@ -5,7 +5,7 @@ ghost use Rattle.lv_disk.specs.Files.{HasAt};
 
 use byteorder::{ByteOrder, LittleEndian};
 
-/// So many bytes from a place on.
+/// The `len` bytes from `at` on.
 pub fn part(file: &[u8], at: usize, len: usize) -> &[u8]
     requires { at + len ≤ length file.now }
     ensures has { HasAt at result.now file.now }
@@ -14,14 +14,14 @@ pub fn part(file: &[u8], at: usize, len: usize) -> &[u8]
     &file[at..at + len]
 }
 
-// The number with these bytes, the lowest first.
+// The number that these bytes encode, the lowest byte first.
 fn length_of(bytes: [u8; 4]) -> u32
     ensures { to_le_bytes w32 result ≡ bytes }
 {
     LittleEndian::read_u32(&bytes)
 }
 
-/// The length in the four bytes from a place on, the lowest first.
+/// The length in the four bytes from `at` on, the lowest byte first.
 pub fn length_at(file: &[u8], at: usize) -> u32
     requires { at + 4 ≤ length file.now }
     ensures { HasAt at (to_le_bytes w32 result) file.now }
@@ -31,14 +31,14 @@ pub fn length_at(file: &[u8], at: usize) -> u32
     length_of(bytes)
 }
 
-// The number with these bytes, the lowest first.
+// The number that these bytes encode, the lowest byte first.
 fn generation_of(bytes: [u8; 8]) -> u64
     ensures { to_le_bytes w64 result ≡ bytes }
 {
     LittleEndian::read_u64(&bytes)
 }
 
-/// The generation in the eight bytes from a place on, the lowest first.
+/// The generation in the eight bytes from `at` on, the lowest byte first.
 pub fn generation_at(file: &[u8], at: usize) -> u64
     requires { at + 8 ≤ length file.now }
     ensures { HasAt at (to_le_bytes w64 result) file.now }

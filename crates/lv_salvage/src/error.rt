@@ -1,11 +1,11 @@
-//! Why nothing can be salvaged, and the number that each refusal is answered by.
+//! Why nothing can be salvaged, and the number of each refusal.
 use std::fmt;
 use thiserror::Error;
 
-/// Why no maps can be read off a file.
+/// Why no maps can be read from a file.
 #[derive(Clone, Copy, Debug, PartialEq, Eq, Error)]
 pub enum SalvageError {
-    /// The place in the file of the slot that can't be read.
+    /// `place` is the offset in the file of the slot that can't be read.
     Damaged { place: u64 },
     Blank,
     NotAProject,
@@ -31,7 +31,7 @@ impl SalvageError {
     ghost use Rattle.std.specs.Prelude.{◌≡◌};
     ghost use Rattle.lv_salvage.specs.Refusals.{code_of};
 
-    /// The number of the refusal.
+    /// The refusal's number.
     pub fn code(&self) -> u16
         ensures { result ≡ code_of self.now }
     {

@@ -1,4 +1,4 @@
-//! The first bytes of a project file.
+//! The header of a project file.
 ghost use Rattle.std.specs.Prelude.{ℕ, ◌≡◌, ◌<◌, ◌^◌, IfErr, IfNone, IfOk, IfSome};
 ghost use Rattle.lv_project.specs.Places.{header_bytes, IsAllowed};
 ghost use Rattle.lv_project.specs.Stands.{TellsLengths};
@@ -9,10 +9,10 @@ use crate::error::SalvageError;
 use byteorder::{ByteOrder, LittleEndian};
 use lv_project::Geometry;
 
-// How long a header is.
+// The length of a header, in bytes.
 const HEADER: usize = 16;
 
-// The magic, the version, and the two lengths.
+// The bytes of a header: the magic, the version, and the two lengths.
 fn header(geometry: Geometry) -> [u8; 16]
     ensures { result ≡ header_bytes geometry.slot geometry.journal }
 {
@@ -22,7 +22,8 @@ fn header(geometry: Geometry) -> [u8; 16]
     bytes
 }
 
-// The lengths where a header has them. From std: its clauses tell that the bytes of a number are read as that number.
+// Reads the two lengths at their offsets. It uses std's `from_le_bytes`, whose contract says that it inverts the
+// encoding.
 fn lengths_of(bytes: [u8; 16]) -> Geometry
     ensures small { (result.slot < 2 ^ 32) × (result.journal < 2 ^ 32) }
     ensures only { (slot : ℕ) → (journal : ℕ) → slot < 2 ^ 32 → journal < 2 ^ 32
@@ -34,7 +35,7 @@ fn lengths_of(bytes: [u8; 16]) -> Geometry
     }
 }
 
-// The lengths that a header has, none where the bytes are no header.
+// The lengths in a header; `None` if the bytes aren't a header.
 fn lengths_in(bytes: [u8; 16]) -> Option<Geometry>
     ensures some { IfSome result (λ g. bytes ≡ header_bytes g.slot g.journal) }
     ensures small { IfSome result (λ g. (g.slot < 2 ^ 32) × (g.journal < 2 ^ 32)) }
@@ -49,7 +50,7 @@ fn lengths_in(bytes: [u8; 16]) -> Option<Geometry>
     }
 }
 
-/// The geometry that the file's header tells.
+/// Reads the geometry in the file's header.
 pub fn read_header(file: &[u8]) -> Result<Geometry, SalvageError>
     ensures header { IfOk result (λ g. TellsLengths g file.now) }
     ensures allowed { IfOk result (λ g. IsAllowed g.slot g.journal) }

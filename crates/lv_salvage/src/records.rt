@@ -1,4 +1,4 @@
-//! A record of a journal as it is read.
+//! Reads the records of a journal.
 ghost use Rattle.std.specs.Prelude.{◌≡◌, ◌≤◌, ◌<◌, ◌⊎◌, ◌+◌, [], ◌∷◌, length, min, IfNone, IfSome};
 ghost use Rattle.lv_disk.specs.Files.{HasAt};
 ghost use Rattle.lv_disk.specs.Gates.{open_gate, IsClosedAt};
@@ -8,16 +8,16 @@ ghost use Rattle.lv_journal.specs.Records.{record_bytes};
 use crate::bytes::{length_at, part};
 use lv_disk::{Area, OPEN_GATE};
 
-/// What stands before a payload: the gate and the length.
+/// How many bytes of a record are before its payload: the gate and the length.
 pub const HEAD: usize = 5;
 
-// What an empty record takes, with the gate behind it.
+// The size of a record with an empty payload, and the gate after it.
 const LEAST: usize = 6;
 
-// The longest payload.
+// The greatest length of a payload.
 const LONGEST: usize = 256;
 
-// The payload of the record behind an open gate, none where the record is bad. The file or the area ends at `end`.
+// The payload of the record at an open gate; `None` if the record is bad. The file or the area ends at `end`.
 fn read_open_record(file: &[u8], area: Area, place: usize, end: usize) -> Option<&[u8]>
     requires inside { place < end }
     requires ends { end ≡ min (length file.now) (area.base + area.length) }
@@ -37,8 +37,8 @@ fn read_open_record(file: &[u8], area: Area, place: usize, end: usize) -> Option
     Some(part(file, place + HEAD, len))
 }
 
-/// The payload of the record whose gate stands at a place, none where that gate is closed or the record bad. The file
-/// or the area ends at `end`.
+/// The payload of the record whose gate is at offset `place`; `None` if that gate is closed or the record is bad.
+/// The file or the area ends at `end`.
 pub fn read_record(file: &[u8], area: Area, place: usize, end: usize) -> Option<&[u8]>
     requires inside { place < end }
     requires ends { end ≡ min (length file.now) (area.base + area.length) }

@@ -1,4 +1,4 @@
-//! The records of a journal as they are done in turn, up to the damage, and those behind it.
+//! Replays the records of a journal up to the damage, and counts those after it.
 ghost use Rattle.std.specs.Prelude.{◌≡◌, ◌≤◌, ◌<◌, ◌⊎◌, ◌+◌, ◌^◌, ℕ, true, false, Ok, length, min, IfErr, IfNone, IfOk, IfSome};
 ghost use Rattle.lv_maptables.specs.Projects.{body_len, project_of};
 ghost use Rattle.lv_commands.specs.ProjectLines.{LeadsTo};
@@ -10,22 +10,22 @@ use lv_commands::{CommandError, apply, parse};
 use lv_disk::{Area, OPEN_GATE};
 use lv_maptables::Maps;
 
-/// What was read of a journal.
+/// The result of reading a journal. Offsets are those of the file.
 #[derive(Clone, Copy)]
 pub struct Replayed {
     /// How many records are kept.
     pub kept: u32,
-    /// How many whole records stand behind them.
+    /// How many whole records follow the kept ones.
     pub behind: u32,
-    /// Where the gate behind the kept ones stands.
+    /// The offset of the gate after the kept records.
     pub kept_to: u64,
-    /// Where the gate behind all whole ones stands, or should.
+    /// The offset where the gate after all whole records is, or should be.
     pub end: u64,
-    /// Whether that gate is there and closed.
+    /// Whether that gate exists and is closed.
     pub is_closed: bool,
 }
 
-// Does what a line of the journal says; false where the maps accept no such command, and then they stay.
+// Applies a line of the journal to the maps. Returns false if the maps don't accept it; they are then unchanged.
 fn advance(maps: &mut Maps, line: &[u8], cap: u32) -> Result<bool, SalvageError>
     requires { body_len (project_of maps.old) ≤ cap }
     ensures led { result ≡ Ok true
@@ -46,7 +46,8 @@ fn advance(maps: &mut Maps, line: &[u8], cap: u32) -> Result<bool, SalvageError>
     }
 }
 
-// Whether the line is one more that is kept: none was lost, and the maps accept it. Else they stay.
+// Applies the line if no line before it was lost, and returns whether the maps accepted it. Otherwise they are
+// unchanged.
 fn keeps(maps: &mut Maps, line: &[u8], cap: u32, behind: u32) -> Result<bool, SalvageError>
     requires { body_len (project_of maps.old) ≤ cap }
     ensures kept { result ≡ Ok true → (behind ≡ 0)
@@ -63,7 +64,7 @@ fn keeps(maps: &mut Maps, line: &[u8], cap: u32, behind: u32) -> Result<bool, Sa
     advance(maps, line, cap)
 }
 
-// Does the records of an area in turn. The file or the area ends at `end`.
+// Replays the records of an area. The file or the area ends at `end`.
 fn replay(
     maps: &mut Maps,
     file: &[u8],
@@ -100,7 +101,7 @@ fn replay(
     })
 }
 
-/// Does the records of an area in turn, as long as the maps accept them, and counts those behind.
+/// Replays the records of an area as long as the maps accept them, and counts the whole records after those.
 pub fn read_journal(
     maps: &mut Maps,
     file: &[u8],
@@ -127,9 +128,9 @@ pub fn read_journal(
 }
 
 impl Replayed {
-    /// Where the file is damaged, as its opening tells it: at the least place of a gate at fault, else where the
-    /// first record stands that isn't kept. The file has so many bytes, and the other journal's first gate stands at
-    /// `other`.
+    /// The offset at which opening would find the file damaged: the least offset of a bad gate, otherwise that of
+    /// the first record that isn't kept; `None` if the file isn't damaged. The file has `len` bytes, and the other
+    /// journal's first gate is at `other`.
     pub fn damage(self, len: u64, other: u64) -> Option<u64>
         ensures none { IfNone result
             ((self.is_closed ≡ true) × (other < len) × (self.behind ≡ 0)) }

@@ -1,4 +1,4 @@
-//! What can be read of a project file, whether it is damaged or not.
+//! Salvages what can be read of a project file, damaged or not.
 ghost use Rattle.std.specs.Prelude.{ℕ, IfErr, IfNone, IfOk, IfSome};
 ghost use Rattle.lv_maptables.specs.Projects.{ProjectMaps, project_of};
 ghost use Rattle.lv_maptables.specs.ProjectBody.{IsProjectOf};
@@ -14,20 +14,20 @@ use crate::slots::live_slot;
 use lv_maptables::{MapError, Maps};
 use std::alloc::Global;
 
-/// What was read of a file.
+/// What was salvaged.
 #[derive(Drop)]
 pub struct Salvaged {
-    /// The maps after the records that are kept.
+    /// The maps after the kept records.
     pub maps: Maps,
-    /// How many records of the journal are kept: the first ones, which are accepted in turn.
+    /// How many records of the journal are kept: the first ones, as long as each is accepted.
     pub records: u32,
-    /// Where the file is damaged, as its opening tells it, none where it is not.
+    /// The offset at which opening would find the file damaged; `None` if it isn't damaged.
     pub damage: Option<u64>,
-    /// How many whole records stand behind those that are kept.
+    /// How many whole records follow the kept ones.
     pub behind: u32,
 }
 
-// The maps of a live body, whose slot stands at this place.
+// Reads the maps in a live body, whose slot is at offset `place`.
 fn maps_of(alloc: Global, body: &[u8], place: u64) -> Result<Maps, SalvageError>
     ensures maps { IfOk result (λ maps. IsProjectOf body.now (project_of maps)) }
     ensures refused { IfErr result (RefusesLiveBody body.now place) }
@@ -39,20 +39,20 @@ fn maps_of(alloc: Global, body: &[u8], place: u64) -> Result<Maps, SalvageError>
     }
 }
 
-/// The maps of the live slot of a project file after the longest prefix of its journal's records that they accept in
-/// turn, and where the file is damaged.
+/// Returns the maps of the live slot of a project file after the longest prefix of its journal's records that they
+/// accept in turn, and the offset of the damage.
 ///
-/// Nothing is salvaged where no body of a project can be read: `NotAProject`, `BadGeometry`, `Blank` and `Damaged` at
-/// a slot come as they do for opening.
+/// Nothing is salvaged if no body of a project can be read: it then fails with `NotAProject`, `BadGeometry`,
+/// `Blank` or `Damaged` at a slot, as opening does.
 pub fn salvage(alloc: Global, file: &[u8]) -> Result<Salvaged, SalvageError>
     ensures salvaged { IfOk result
         (λ s. IsSalvaged (project_of s.maps) s.records s.behind file.now) }
-    // The place of the damage is the one that opening tells, and there is none where the file stands for these maps.
+    // The damage is where opening finds it. If there is none, the file stands for these maps.
     ensures damaged { IfOk result
         (λ s. IfSome s.damage (λ place. IsProjectDamagedAt place file.now)) }
     ensures sound { IfOk result
         (λ s. IfNone s.damage (StandsForMaps (project_of s.maps) file.now)) }
-    // A file that stands for a project gives that one, unless memory is lacking.
+    // A file that stands for a project gives that project, unless memory runs out.
     ensures whole { (cap : ℕ) → (generation : ℕ) → (map : ProjectMaps)
         → Stands cap map generation file.now → GivesAll result map }
     ensures refused { IfErr result (RefusesSalvage file.now) }

@@ -1,4 +1,4 @@
-//! Which slot of a file is live, and its body.
+//! Finds the live slot of a file, and its body.
 ghost use Rattle.std.specs.Prelude.{◌≡◌, ◌≤◌, ◌+◌, [], ◌∷◌, List, ℕ, length, IfErr, IfOk};
 ghost use Rattle.lv_disk.specs.Files.{HasAt};
 ghost use Rattle.lv_disk.specs.Gates.{open_gate};
@@ -12,7 +12,7 @@ use crate::bytes::{generation_at, length_at, part};
 use crate::error::SalvageError;
 use lv_disk::{Area, OPEN_GATE};
 
-// What stands before a body in its slot: the gate, the generation and the length.
+// How many bytes of a slot are before its body: the gate, the generation and the length.
 const BEFORE_BODY: usize = 13;
 
 /// The generation of an open slot, and its body.
@@ -22,7 +22,7 @@ pub struct OpenSlot<'a> {
     pub body: &'a [u8],
 }
 
-// What stands behind the open gate of a slot.
+// Reads the generation and the body after the open gate of a slot.
 fn read_open_slot<'a>(file: &'a [u8], slot: Area) -> Result<OpenSlot<'a>, SalvageError>
     requires { HasAt slot.base (open_gate ∷ []) file.now }
     ensures is_open { IfOk result (λ s. IsOpen slot s.generation s.body.now file.now) }
@@ -44,7 +44,7 @@ fn read_open_slot<'a>(file: &'a [u8], slot: Area) -> Result<OpenSlot<'a>, Salvag
     Ok(OpenSlot { generation, body })
 }
 
-// The open slot, none where its gate is closed.
+// Reads a slot; `None` if its gate is closed.
 fn read_slot<'a>(file: &'a [u8], slot: Area) -> Result<Option<OpenSlot<'a>>, SalvageError>
     ensures shows { IfOk result (λ found. ShowsSlot slot found file.now) }
     ensures bad { IfErr result (λ e. (e ≡ SalvageError.Damaged slot.base)
@@ -63,7 +63,7 @@ fn read_slot<'a>(file: &'a [u8], slot: Area) -> Result<Option<OpenSlot<'a>>, Sal
     }
 }
 
-// Which of two slots is live by what was found of them, the second of which stands at `place`.
+// Chooses the live one of two slots as they were read. The second slot is at offset `place`.
 fn choose<'a>(
     first: Option<OpenSlot<'a>>,
     second: Option<OpenSlot<'a>>,
@@ -93,7 +93,7 @@ fn choose<'a>(
     }
 }
 
-/// The live one of two slots: its number, 0 for the first and 1 for the second, and what stands in it.
+/// Finds the live one of two slots: its number, 0 for the first and 1 for the second, its generation and its body.
 pub fn live_slot<'a>(file: &'a [u8], a: Area, b: Area) -> Result<(u8, OpenSlot<'a>), SalvageError>
     ensures live { IfOk result
         (λ r. IsLiveOf a b r.0 r.1.generation r.1.body.now file.now) }

@@ -9,14 +9,14 @@ use Rattle.lv_svg.specs.Texts.{joined}
 use Rattle.lv_svg.specs.declared.places.Shift.{Shift}
 use Rattle.lv_svg.specs.declared.places.Spot.{Spot}
 
--- the element's beginning, up to where its title tells of the partition
+-- the element's beginning, up to the partition in its title
 unfoldable pub node_opening : ℕ → List ℕ
 node_opening n =
     joined
     (codes "<g id=\"node" ∷ decimal n ∷ codes "\" class=\"node\">\n<title>node " ∷ decimal n
     ∷ codes ": " ∷ [])
 
--- where a partition runs, and the title's end
+-- the partition, as the title says it, and the title's end
 unfoldable pub partition_text : Node → List ℕ
 partition_text d =
     joined
@@ -42,7 +42,7 @@ unfoldable pub clipped_by : ℕ → List ℕ
 clipped_by n =
     joined (codes "<path clip-path=\"url(#box" ∷ decimal n ∷ codes ")\" d=\"" ∷ [])
 
--- a stroke from a place along a way
+-- a stroke from a place along a vector
 unfoldable pub ray_text : Spot → Shift → List ℕ
 ray_text p way =
     joined
@@ -53,7 +53,7 @@ ray_text p way =
 unfoldable pub node_head : ℕ → Node → List ℕ
 node_head n d = node_opening n ++ partition_text d ++ box_text n (box_round d.right_box d.left_box)
 
--- its path: the partition both ways, clipped to the box of the same number
+-- a node's path: the partition in both directions, clipped to the box with the node's number
 unfoldable pub node_path : ℕ → Node → List ℕ
 node_path n d =
     let p = spot_of (record { x = d.x; y = d.y }) in

@@ -1,4 +1,4 @@
--- What is laid over a picture.
+-- The overlay of a picture.
 use Rattle.std.specs.Prelude.{ℕ, List, ◌++◌}
 use Rattle.lv_svg.specs.Marks.{marking}
 use Rattle.lv_svg.specs.Nodes.{node_element}

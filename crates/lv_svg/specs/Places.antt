@@ -1,4 +1,4 @@
--- Places and ways on the picture, on which x runs to the right as on the map, and y downwards.
+-- Places and vectors on the picture, where x runs to the right as on the map, and y downwards.
 use Rattle.std.specs.Prelude.{ℕ, max, ℤ, pos, neg_ℤ, ◌+ℤ◌, ◌*ℤ◌, int_div, unsigned_abs}
 use Rattle.lv_lumps.specs.declared.records.Node.{Node}
 use Rattle.lv_lumps.specs.declared.records.Vertex.{Vertex}
@@ -11,7 +11,7 @@ use Rattle.lv_svg.specs.declared.places.Shift.{Shift}
 abbrev pub spot_of : Vertex → Spot
 spot_of p = record { x = p.x; y = neg_ℤ p.y }
 
--- the middle between two places of the map, its numbers rounded towards 0
+-- the midpoint of two places of the map, its coordinates rounded towards 0
 abbrev pub middle_of : Vertex → Vertex → Spot
 middle_of from to =
     record {
@@ -19,22 +19,22 @@ middle_of from to =
       y = int_div (neg_ℤ (from.y +ℤ to.y)) (pos 2);
     }
 
--- the greater of the two numbers of a step, by size, and at least 1
+-- the greater absolute value of the vector's two components, at least 1
 abbrev pub reach_of : Ray → ℕ
 reach_of ray = max (max (unsigned_abs ray.dx) (unsigned_abs ray.dy)) 1
 
--- a number of a step as it is where the step's reach is made this long, rounded towards 0
+-- a component of a vector after scaling, which takes `reach` to `length`, rounded towards 0
 abbrev pub scaled : ℤ → ℕ → ℕ → ℤ
 scaled number length reach = int_div (number *ℤ pos length) (pos reach)
 
--- The way to the right of a line, so long that the greater of its two numbers is the length: right of a line that runs
--- by dx and dy on the map it goes by dy and -dx there, so by dy to the right and dx downwards on the picture.
+-- The vector to the right of a line, its greater component scaled to the length. A line along (dx, dy) on the map
+-- has (dy, -dx) to its right, which is dy to the right and dx downwards on the picture.
 abbrev pub shift_right : Vertex → Vertex → ℕ → Shift
 shift_right from to length =
     let ray = ray_between from to in
     record { dx = scaled ray.dy length (reach_of ray); dy = scaled ray.dx length (reach_of ray) }
 
--- the way between two places of the map
+-- the vector from one place of the map to another
 abbrev pub way_between : Vertex → Vertex → Shift
 way_between from to =
     let ray = ray_between from to in
@@ -44,13 +44,13 @@ way_between from to =
 abbrev pub partition_ray : Node → Ray
 partition_ray d = record { start = record { x = d.x; y = d.y }; dx = d.dx; dy = d.dy }
 
--- the way along a node's partition, its greater number 65,536, so that it leaves every map
+-- the vector along a node's partition, its greater component scaled to 65,536, so that it leaves every map
 abbrev pub forth_of : Node → Shift
 forth_of d =
     let reach = reach_of (partition_ray d) in
     record { dx = scaled d.dx 65536 reach; dy = scaled (neg_ℤ d.dy) 65536 reach }
 
--- the way back along it
+-- the opposite vector
 abbrev pub back_of : Node → Shift
 back_of d =
     let reach = reach_of (partition_ray d) in

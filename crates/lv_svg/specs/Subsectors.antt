@@ -12,11 +12,11 @@ use Rattle.lv_svg.specs.declared.overlay.Overlay.{Overlay}
 use Rattle.lv_svg.specs.declared.places.Shift.{Shift}
 use Rattle.lv_svg.specs.declared.places.Spot.{Spot}
 
--- the vertex of a number of the tree, and (0,0) past its vertices
+-- the tree's vertex with the number, (0,0) past the last one
 abbrev pub tree_vertex : Overlay → ℕ → Vertex
 tree_vertex o n = unwrap_or (slice_get o.vertices.items n) (record { x = pos 0; y = pos 0 })
 
--- a stroke that begins beside a place
+-- a stroke along a vector, from a point beside a place
 unfoldable pub stroke_text : Spot → Shift → Shift → List ℕ
 stroke_text p aside way =
     joined
@@ -24,7 +24,7 @@ stroke_text p aside way =
     ∷ signed_decimal aside.dx ∷ codes " " ∷ signed_decimal aside.dy ∷ codes "l"
     ∷ signed_decimal way.dx ∷ codes " " ∷ signed_decimal way.dy ∷ [])
 
--- a seg, so far to its right that both sides of a line are seen
+-- the stroke of a seg, a third of the step to its right, so that both sides of a line are visible
 unfoldable pub seg_text : Overlay → ℕ → Seg → List ℕ
 seg_text o step s =
     let from = tree_vertex o s.first in
@@ -36,7 +36,7 @@ abbrev pub segs_text : Overlay → ℕ → Sub → List ℕ
 segs_text o step s =
     flat_map (of_item (seg_text o step) o.segs.items) (range_with_len s.first s.count)
 
--- the element's beginning: its colour, one of six, and its title
+-- the element's beginning: its colour, one of six, its title, and the start of its path
 unfoldable pub sub_opening : ℕ → Sub → List ℕ
 sub_opening n s =
     joined

@@ -1,35 +1,35 @@
--- Texts: in a row, of the items of a list, and as XML has them.
+-- Texts: joined, of the items of a list, and escaped for XML.
 use Rattle.std.specs.Prelude.{ℕ, ◌==◌, if◌then◌else◌, List, [], ◌∷◌, ◌++◌, codes, flat_map, length, slice_get}
 use Rattle.std.specs.Fmt.{signed_decimal}
 use Rattle.std.specs.List.{range_with_len}
 use Rattle.std.specs.Option.{option_map_or}
 use Rattle.lv_svg.specs.declared.places.Spot.{Spot}
 
--- a text, and those of a list behind it
+-- a text, followed by those of a list
 abbrev pub followed : List ℕ → List (List ℕ) → List ℕ
 followed x [] = x
 followed x (y ∷ rest) = x ++ followed y rest
 
--- the texts of a list, one behind the other
+-- the texts of a list, one after another
 abbrev pub joined : List (List ℕ) → List ℕ
 joined [] = []
 joined (x ∷ rest) = followed x rest
 
--- the text of the item of a number, and none where there is no such item
+-- the text of the item with the number, empty if there is no such item
 abbrev pub of_item : {X : Type 0} → (X → List ℕ) → List X → ℕ → List ℕ
 of_item text xs n = option_map_or text (slice_get xs n) []
 
--- the texts of all items, in their order, each told its number
+-- the texts of all items, in their order; each text depends on the item and its number
 abbrev pub of_list : {X : Type 0} → (ℕ → X → List ℕ) → List X → List ℕ
 of_list text xs = flat_map (λ n. of_item (text n) xs n) (range_with_len 0 (length xs))
 
--- a byte of a text as it stands in XML between two tags
+-- a byte of a text, escaped for XML
 abbrev pub escaped_byte : ℕ → List ℕ
 escaped_byte byte =
     if byte == 38 then codes "&amp;" else if byte == 60 then codes "&lt;"
     else if byte == 62 then codes "&gt;" else byte ∷ []
 
--- a text as it stands in XML between two tags
+-- a text, escaped as XML content
 abbrev pub escaped : List ℕ → List ℕ
 escaped text = flat_map escaped_byte text
 

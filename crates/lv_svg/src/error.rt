@@ -1,7 +1,7 @@
-//! Why a picture was not written, and the number of the refusal.
+//! Why a picture could not be written, and the number of the refusal.
 use thiserror::Error;
 
-/// Why a picture was not written.
+/// Why a picture could not be written.
 #[derive(Clone, Copy, Debug, PartialEq, Eq, Error)]
 pub enum PictureError {
     #[error("the writer failed")]
@@ -12,7 +12,7 @@ impl PictureError {
     ghost use Rattle.std.specs.Prelude.{◌≡◌};
     ghost use Rattle.lv_svg.specs.Errors.{code_of};
 
-    /// The number of the refusal.
+    /// The refusal's number: 38.
     pub fn code(&self) -> u16
         ensures { result ≡ code_of self.now }
     {

@@ -1,4 +1,4 @@
-//! Elements of a picture in SVG that need no map: texts, places and ways, the tree of a level, and marks.
+//! Elements of an SVG picture that need no map: texts, places and vectors, the tree of a level, and marks.
 #![tactic(auto)]
 
 mod boxes;

@@ -1,4 +1,4 @@
-//! Marks: what is told of places of the map.
+//! Marks: texts for places of the map.
 ghost use Rattle.std.specs.Prelude.{OnOk};
 ghost use Rattle.std.specs.Io.KnownBytes.{Appends};
 ghost use Rattle.lv_svg.specs.Marks.{corner_text, marking, marking_opening, marking_path};
@@ -13,21 +13,21 @@ use std::io::Write;
 /// Where a mark is.
 #[derive(Clone, Copy, Debug, PartialEq, Eq)]
 pub enum MarkPlace {
-    /// In the page's upper left corner, for what has no place on the map.
+    /// In the page's upper left corner, for a text that has no place on the map.
     Corner,
     At(Vertex),
     /// Along the straight line between two places.
     Along(Vertex, Vertex),
 }
 
-/// What is told of a place of the map.
+/// A text for a place of the map.
 #[derive(Drop)]
 pub struct Mark {
     pub place: MarkPlace,
     pub text: String,
 }
 
-// Begins the element of the mark of the number, up to its title.
+// Writes the beginning of the element of mark `n`, up to its title.
 fn write_marking_opening<W: Write>(n: u64, writer: &mut W) -> Result<(), PictureError>
     ensures { OnOk result
         (Appends (W.contents writer.old) (W.contents writer.new) (marking_opening n)) }
@@ -38,7 +38,7 @@ fn write_marking_opening<W: Write>(n: u64, writer: &mut W) -> Result<(), Picture
     }
 }
 
-// Ends the title, and marks the corner.
+// Ends the title, and writes the path that marks the corner.
 fn write_corner<W: Write>(corner: Spot, writer: &mut W) -> Result<(), PictureError>
     ensures { OnOk result
         (Appends (W.contents writer.old) (W.contents writer.new) (corner_text corner)) }
@@ -50,7 +50,7 @@ fn write_corner<W: Write>(corner: Spot, writer: &mut W) -> Result<(), PictureErr
     }
 }
 
-// Ends the title, and marks the place.
+// Ends the title, and writes the path that marks the place.
 fn write_marking_path<W: Write>(
     corner: Spot,
     place: MarkPlace,
@@ -83,7 +83,7 @@ fn write_mark<W: Write>(
     write_bytes(b"</g>\n", writer)
 }
 
-// Writes the element of the mark of the number, if there is one.
+// Writes the element of the mark with the number, if there is one.
 fn write_nth<W: Write>(
     marks: &[Mark],
     corner: Spot,

@@ -12,7 +12,7 @@ use crate::text::write_bytes;
 use lv_lumps::{Bounds, Node, Vertex};
 use std::io::Write;
 
-// How far it is from one coordinate to another.
+// The size of a box between two coordinates.
 fn extent(low: i16, high: i16) -> u32
     ensures { result ≡ unsigned_abs (high -ℤ low) }
 {
@@ -29,7 +29,7 @@ fn corner_of(bounds: Bounds) -> Spot
     })
 }
 
-// Writes the box to which the partition of the node of the number is clipped.
+// Writes the clip path of node `n`: the box to which its partition is clipped.
 fn write_clip<W: Write>(
     n: u64,
     corner: Spot,
@@ -53,7 +53,7 @@ fn write_clip<W: Write>(
     }
 }
 
-// Writes the box of the node of the number.
+// Writes the clip path of node `n` from its box.
 fn write_box<W: Write>(n: u64, bounds: Bounds, writer: &mut W) -> Result<(), PictureError>
     ensures { OnOk result
         (Appends (W.contents writer.old) (W.contents writer.new) (box_text n bounds)) }
@@ -63,7 +63,7 @@ fn write_box<W: Write>(n: u64, bounds: Bounds, writer: &mut W) -> Result<(), Pic
     write_clip(n, corner_of(bounds), width, height, writer)
 }
 
-// Begins the element of the node of the number, up to its title.
+// Writes the beginning of the element of node `n`, up to its title.
 fn write_node_opening<W: Write>(n: u64, writer: &mut W) -> Result<(), PictureError>
     ensures { OnOk result
         (Appends (W.contents writer.old) (W.contents writer.new) (node_opening n)) }
@@ -77,7 +77,7 @@ fn write_node_opening<W: Write>(n: u64, writer: &mut W) -> Result<(), PictureErr
     }
 }
 
-// Writes in the title where the node's partition runs, and ends the title.
+// Writes the node's partition into the title, and ends the title.
 fn write_partition<W: Write>(node: &Node, writer: &mut W) -> Result<(), PictureError>
     ensures { OnOk result
         (Appends (W.contents writer.old) (W.contents writer.new) (partition_text node.now)) }
@@ -89,7 +89,7 @@ fn write_partition<W: Write>(node: &Node, writer: &mut W) -> Result<(), PictureE
     }
 }
 
-// Begins the path that is clipped to the box of the number.
+// Writes the beginning of the path that is clipped to the box of node `n`.
 fn write_clipped<W: Write>(n: u64, writer: &mut W) -> Result<(), PictureError>
     ensures { OnOk result
         (Appends (W.contents writer.old) (W.contents writer.new) (clipped_by n)) }
@@ -100,7 +100,7 @@ fn write_clipped<W: Write>(n: u64, writer: &mut W) -> Result<(), PictureError>
     }
 }
 
-// Writes a stroke from a place along a way.
+// Writes a stroke from a place along a vector.
 fn write_ray<W: Write>(place: Spot, way: Shift, writer: &mut W) -> Result<(), PictureError>
     ensures { OnOk result
         (Appends (W.contents writer.old) (W.contents writer.new) (ray_text place way)) }
@@ -112,7 +112,7 @@ fn write_ray<W: Write>(place: Spot, way: Shift, writer: &mut W) -> Result<(), Pi
     }
 }
 
-// Writes what stands before the path: the title and the box.
+// Writes the part of the element before the path: the title and the box.
 #[tactic(auto, unfolding(crate::specs::Nodes::node_head))]
 fn write_node_head<W: Write>(n: u64, node: &Node, writer: &mut W) -> Result<(), PictureError>
     ensures { OnOk result
@@ -123,7 +123,7 @@ fn write_node_head<W: Write>(n: u64, node: &Node, writer: &mut W) -> Result<(), 
     write_box(n, box_round(node.right_box, node.left_box), writer)
 }
 
-// Writes the path, which runs along the partition both ways.
+// Writes the path, which runs along the partition in both directions.
 #[tactic(auto, unfolding(crate::specs::Nodes::node_path))]
 fn write_node_path<W: Write>(n: u64, node: &Node, writer: &mut W) -> Result<(), PictureError>
     ensures { OnOk result
@@ -149,7 +149,7 @@ fn write_node<W: Write>(n: u64, node: &Node, writer: &mut W) -> Result<(), Pictu
     write_node_path(n, node, writer)
 }
 
-// Writes the element of the node of the number, if there is one.
+// Writes the element of the node with the number, if there is one.
 fn write_nth_node<W: Write>(nodes: &[Node], n: usize, writer: &mut W) -> Result<(), PictureError>
     ensures { OnOk result (Appends (W.contents writer.old) (W.contents writer.new)
         (of_item (node_element n) nodes.now n)) }

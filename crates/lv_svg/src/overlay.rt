@@ -1,4 +1,4 @@
-//! What is laid over a picture.
+//! The overlay of a picture.
 ghost use Rattle.std.specs.Prelude.{OnOk};
 ghost use Rattle.std.specs.Io.KnownBytes.{Appends};
 ghost use Rattle.lv_svg.specs.Overlays.{overlay_text};
@@ -11,7 +11,7 @@ use crate::subsectors::write_subs;
 use lv_lumps::{Node, Seg, Sub, Vertex};
 use std::io::Write;
 
-/// What is laid over a picture: the tree of a level, as its four lists, and marks. Each list may be empty.
+/// The overlay of a picture: a level's tree, as its four lists, and marks. Each list may be empty.
 #[derive(Drop)]
 pub struct Overlay {
     pub vertices: Vec<Vertex>,
@@ -21,12 +21,12 @@ pub struct Overlay {
     pub marks: Vec<Mark>,
 }
 
-/// Writes what is laid over a picture: an element for each subsector, for each node and for each mark. The segs stand a
-/// third of `step` to their right, and a mark without a place 32 inside the corner.
+/// Writes the overlay of a picture: an element for each subsector, each node and each mark. Each seg is drawn a
+/// third of `step` to its right, and a mark without a place 32 units inside the corner.
 ///
 /// # Errors
 ///
-/// `WriterFailed` (38), and then any part of it may have been written.
+/// `WriterFailed` (38): any part of it may have been written.
 pub fn write_overlay<W: Write>(
     overlay: &Overlay,
     step: u32,

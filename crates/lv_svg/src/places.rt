@@ -1,4 +1,4 @@
-//! Places and ways on the picture.
+//! Places and vectors on the picture.
 ghost use Rattle.std.specs.Prelude.{◌≡◌, ◌≤◌, ◌≤ℤ◌, ◌+ℤ◌, pos, neg_ℤ, int_div};
 ghost use Rattle.lv_svg.specs.Places.{back_of, forth_of, middle_of, partition_ray, reach_of, scaled, shift_right, spot_of, way_between};
 
@@ -11,7 +11,7 @@ pub struct Spot {
     pub y: i32,
 }
 
-/// A way on the picture: `dx` to the right and `dy` downwards.
+/// A vector on the picture: `dx` to the right and `dy` downwards.
 #[derive(Clone, Copy, Debug, PartialEq, Eq)]
 pub struct Shift {
     pub dx: i64,
@@ -49,7 +49,7 @@ fn negated_half_sum(a: i16, b: i16) -> i32
     negated_sum(a, b) / 2
 }
 
-/// The middle between two places of the map, its numbers rounded towards 0.
+/// The midpoint of two places of the map, its coordinates rounded towards 0.
 pub fn middle_of(from: Vertex, to: Vertex) -> Spot
     ensures { result ≡ middle_of from to }
 {
@@ -59,7 +59,7 @@ pub fn middle_of(from: Vertex, to: Vertex) -> Spot
     }
 }
 
-// The greater of the two numbers of a step, by size, and at least 1.
+// The greater absolute value of the vector's two components, at least 1.
 fn reach_of(ray: Ray) -> u32
     ensures value { result ≡ reach_of ray }
     ensures some { 1 ≤ result }
@@ -67,7 +67,7 @@ fn reach_of(ray: Ray) -> u32
     ray.dx.unsigned_abs().max(ray.dy.unsigned_abs()).max(1)
 }
 
-// A number of a step as it is where the step's reach is made this long, rounded towards 0.
+// A component of a vector after scaling, which takes `reach` to `length`, rounded towards 0.
 fn scaled(number: i64, length: u32, reach: u32) -> i64
     requires low { neg_ℤ (pos 65535) ≤ℤ number }
     requires high { number ≤ℤ pos 65535 }
@@ -77,7 +77,7 @@ fn scaled(number: i64, length: u32, reach: u32) -> i64
     product(number, i64::from(length)) / i64::from(reach)
 }
 
-/// The way to the right of the line between two places of the map, the greater of its numbers made this long.
+/// The vector to the right of the line between two places of the map, its greater component scaled to `length`.
 pub fn right_of(from: Vertex, to: Vertex, length: u32) -> Shift
     ensures { result ≡ shift_right from to length }
 {
@@ -89,7 +89,7 @@ pub fn right_of(from: Vertex, to: Vertex, length: u32) -> Shift
     }
 }
 
-/// The way between two places of the map.
+/// The vector from one place of the map to another.
 pub(crate) fn way_between(from: Vertex, to: Vertex) -> Shift
     ensures { result ≡ way_between from to }
 {
@@ -122,7 +122,7 @@ fn partition_reach(node: &Node) -> u32
     reach_of(partition_ray(node))
 }
 
-// A number of a partition where its reach is made 65,536.
+// A component of a partition's vector, scaled so that the greater one is 65,536.
 fn along(number: i16, reach: u32) -> i64
     requires { 1 ≤ reach }
     ensures { result ≡ scaled number 65536 reach }
@@ -130,7 +130,7 @@ fn along(number: i16, reach: u32) -> i64
     scaled(i64::from(number), 65536, reach)
 }
 
-// The same the other way.
+// The same in the opposite direction.
 fn against(number: i16, reach: u32) -> i64
     requires { 1 ≤ reach }
     ensures { result ≡ scaled (neg_ℤ number) 65536 reach }
@@ -138,7 +138,7 @@ fn against(number: i16, reach: u32) -> i64
     scaled(-i64::from(number), 65536, reach)
 }
 
-/// The way along a node's partition, so long that it leaves the map.
+/// The vector along a node's partition, so long that it leaves every map.
 pub(crate) fn forth_of(node: &Node) -> Shift
     ensures { result ≡ forth_of node.now }
 {
@@ -149,7 +149,7 @@ pub(crate) fn forth_of(node: &Node) -> Shift
     }
 }
 
-/// The way back along a node's partition, as long.
+/// The opposite vector, of the same length.
 pub(crate) fn back_of(node: &Node) -> Shift
     ensures { result ≡ back_of node.now }
 {

@@ -11,7 +11,7 @@ use crate::text::write_bytes;
 use lv_lumps::{Seg, Sub, Vertex};
 use std::io::Write;
 
-// The vertex of a number of the tree.
+// The tree's vertex with the number, (0,0) past the last one.
 fn tree_vertex(overlay: &Overlay, n: u16) -> Vertex
     ensures { result ≡ tree_vertex overlay.now n }
 {
@@ -22,7 +22,7 @@ fn tree_vertex(overlay: &Overlay, n: u16) -> Vertex
         .unwrap_or(Vertex { x: 0, y: 0 })
 }
 
-// Writes a stroke: beside a place, and from there along a way.
+// Writes a stroke along a vector, from a point beside a place.
 fn write_stroke<W: Write>(
     place: Spot,
     aside: Shift,
@@ -39,7 +39,7 @@ fn write_stroke<W: Write>(
     }
 }
 
-// Writes a seg, a little to its right.
+// Writes the stroke of a seg, a little to its right.
 #[tactic(auto, unfolding(crate::specs::Subsectors::seg_text))]
 fn write_seg<W: Write>(
     overlay: &Overlay,
@@ -56,7 +56,7 @@ fn write_seg<W: Write>(
     write_stroke(spot_of(from), aside, way_between(from, to), writer)
 }
 
-// Writes the seg of the number, if there is one.
+// Writes the stroke of the seg with the number, if there is one.
 fn write_nth_seg<W: Write>(
     overlay: &Overlay,
     step: u32,
@@ -72,7 +72,7 @@ fn write_nth_seg<W: Write>(
     }
 }
 
-// The number of the seg that follows so many others of a subsector.
+// The number of the seg after the first `k` segs of a subsector.
 fn seg_number(sub: &Sub, k: u16) -> u32
     ensures { result ≡ sub.now.first + k }
 {
@@ -98,7 +98,7 @@ fn write_segs<W: Write>(
     Ok(())
 }
 
-// Begins the element of a subsector: its colour, its title, and its path.
+// Writes the beginning of the element of a subsector: its colour, its title, and the start of its path.
 fn write_sub_opening<W: Write>(n: u64, sub: &Sub, writer: &mut W) -> Result<(), PictureError>
     ensures { OnOk result
         (Appends (W.contents writer.old) (W.contents writer.new) (sub_opening n sub.now)) }
@@ -133,7 +133,7 @@ fn write_sub<W: Write>(
     write_bytes(b"\"/></g>\n", writer)
 }
 
-// Writes the element of the subsector of the number, if there is one.
+// Writes the element of the subsector with the number, if there is one.
 fn write_nth_sub<W: Write>(
     overlay: &Overlay,
     step: u32,

@@ -1,4 +1,4 @@
-//! Text that is written as it stands, as XML has it, and as a path.
+//! Writes bytes, text escaped for XML, and paths.
 ghost use Rattle.std.specs.Prelude.{OnOk};
 ghost use Rattle.std.specs.Io.KnownBytes.{Appends};
 ghost use Rattle.lv_svg.specs.Texts.{escaped, escaped_byte, path_text};
@@ -7,11 +7,11 @@ use crate::error::PictureError;
 use crate::places::Spot;
 use std::io::Write;
 
-/// Writes bytes as they are.
+/// Writes bytes unchanged.
 ///
 /// # Errors
 ///
-/// `WriterFailed`, and then any part of them may have been written.
+/// `WriterFailed`: any part of them may have been written.
 pub fn write_bytes<W: Write>(bytes: &[u8], writer: &mut W) -> Result<(), PictureError>
     ensures { OnOk result (Appends (W.contents writer.old) (W.contents writer.new) bytes.now) }
 {
@@ -21,7 +21,7 @@ pub fn write_bytes<W: Write>(bytes: &[u8], writer: &mut W) -> Result<(), Picture
     }
 }
 
-// Writes a byte of a text as XML has it.
+// Writes a byte of a text, escaped for XML.
 fn write_escaped_byte<W: Write>(byte: u8, writer: &mut W) -> Result<(), PictureError>
     ensures { OnOk result
         (Appends (W.contents writer.old) (W.contents writer.new) (escaped_byte byte)) }
@@ -37,11 +37,11 @@ fn write_escaped_byte<W: Write>(byte: u8, writer: &mut W) -> Result<(), PictureE
     }
 }
 
-/// Writes a text as it stands in XML between two tags: `&`, `<` and `>` by their names.
+/// Writes a text escaped as XML content: `&`, `<` and `>` become entities.
 ///
 /// # Errors
 ///
-/// `WriterFailed`, and then any part of it may have been written.
+/// `WriterFailed`: any part of it may have been written.
 pub fn write_escaped<W: Write>(text: &[u8], writer: &mut W) -> Result<(), PictureError>
     ensures { OnOk result
         (Appends (W.contents writer.old) (W.contents writer.new) (escaped text.now)) }
@@ -59,7 +59,7 @@ pub fn write_escaped<W: Write>(text: &[u8], writer: &mut W) -> Result<(), Pictur
 ///
 /// # Errors
 ///
-/// `WriterFailed`, and then any part of it may have been written.
+/// `WriterFailed`: any part of it may have been written.
 pub fn write_path<W: Write>(from: Spot, to: Spot, writer: &mut W) -> Result<(), PictureError>
     ensures { OnOk result
         (Appends (W.contents writer.old) (W.contents writer.new) (path_text from to)) }

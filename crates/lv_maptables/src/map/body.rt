@@ -19,7 +19,7 @@ fn has_version_1(bytes: &[u8]) -> bool
     bytes.len() >= 2 && bytes[0] == 1 && bytes[1] == 0
 }
 
-// The map whose body the bytes are, version 1. `Damaged` with place 0 where no well-formed map has these bytes.
+// The map that has these bytes as its body of version 1. `Damaged` with place 0 if no well-formed map has them.
 pub(crate) fn decode_body(alloc: Global, bytes: &[u8]) -> Result<Map, MapError>
     ensures map { IfOk result (λ m. IsMapOf bytes.now m.tables) }
     ensures refused { IfErr result (RefusesBody bytes.now) }

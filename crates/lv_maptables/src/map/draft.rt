@@ -1,4 +1,4 @@
-//! What bytes hold, before it is known to be a map.
+//! The name and the tables that bytes hold, before it is known whether they are a map's.
 ghost use Rattle.std.specs.Prelude.{◌≡◌, ◌≤◌, ◌↔◌, IfOk, IsOkUnless, IsTrue, All, length};
 ghost use Rattle.lv_lumps.specs.Limits.{item_limit, sector_limit};
 ghost use Rattle.lv_maptables.specs.Ranges.{IsNamed, is_marker, IsVertex, IsSector, IsSide, IsLine, IsThing};
@@ -31,7 +31,7 @@ pub(super) struct Draft {
     things: Vec<Thing>,
 }
 
-// A call of its own, so that who owns a draft lets its lists go by one step.
+// A `drop` of its own, so that a function that owns a draft frees its lists by one call.
 impl Drop for Draft {
     fn drop(self) {
         let Draft {
@@ -56,7 +56,7 @@ impl Model for Draft {
 }
 
 impl Draft {
-    // What framed bytes begin with.
+    // Reads the draft that framed bytes begin with.
     pub(super) fn read(alloc: Global, bytes: &[u8]) -> Result<Draft, MapError>
         requires { IsFramed bytes.now }
         ensures tables { IfOk result (λ d. d ≡ tables_in bytes.now) }
@@ -68,7 +68,7 @@ impl Draft {
         let (sides, behind) = behind.split_at(30 * count_at(bytes, 12));
         let (vertices, behind) = behind.split_at(4 * count_at(bytes, 14));
         let (sectors, _) = behind.split_at(26 * count_at(bytes, 16));
-        // Each part is whole records long, so only memory can be lacking.
+        // Each part is a whole number of records, so only memory can run out.
         Ok(Draft {
             name: name_at(bytes, 0),
             vertices: decode_vertices(alloc, vertices).map_err(lacks_memory)?,
@@ -108,7 +108,7 @@ impl Draft {
         are_areas(&self.sectors, &self.sides) && is_named_with(&self.name, &self.lines)
     }
 
-    // Whether each number names an item, and the lines go together with what they name.
+    // Whether each number names an item, and each line's ends and sides are as a map requires.
     fn is_linked(&self) -> bool
         ensures lines { IsTrue result → (All (HasEnds self.now.vertices) self.now.lines
             × All (HasSides self.now.sides) self.now.lines) }
@@ -119,7 +119,7 @@ impl Draft {
             && have_sectors(&self.sectors, &self.sides)
     }
 
-    // Whether the tables are a map's.
+    // Whether the tables are those of a well-formed map.
     pub(super) fn is_well_formed(&self, alloc: Global) -> Result<bool, MapError>
         ensures answer { IfOk result (λ fine. IsTrue fine ↔ WellFormed self.now) }
         ensures memory { IsOkUnless result MapError.OutOfMemory }
@@ -130,7 +130,7 @@ impl Draft {
         are_apart(alloc, &self.vertices)
     }
 
-    // The map of well-formed tables.
+    // Makes the map with these tables, which are well-formed.
     pub(super) fn to_map(&self, alloc: Global) -> Result<Map, MapError>
         requires { WellFormed self.now }
         ensures tables { IfOk result (λ m. m.tables ≡ self.now) }

@@ -1,4 +1,4 @@
-//! The head of a map's part of a body: name and counts.
+//! The head of a map's part of a body: the name and the counts.
 ghost use Rattle.std.specs.Prelude.{◌≡◌, ◌+◌, ◌*◌, ◌≤◌, ◌<◌, ◌↔◌, IsTrue, length};
 ghost use Rattle.lv_lumps.specs.Fields.{unsigned_at};
 ghost use Rattle.lv_lumps.specs.Records.{name_at};
@@ -6,7 +6,7 @@ ghost use Rattle.lv_maptables.specs.Parts.{IsFramed};
 
 use lv_lumps::Name8;
 
-// The count at a place of the bytes.
+// The count that starts at byte `at`.
 pub(super) fn count_at(bytes: &[u8], at: usize) -> usize
     requires { at + 2 ≤ length bytes.now }
     ensures value { result ≡ unsigned_at at bytes.now }
@@ -15,7 +15,7 @@ pub(super) fn count_at(bytes: &[u8], at: usize) -> usize
     usize::from(u16::from_le_bytes([bytes[at], bytes[at + 1]]))
 }
 
-// The name at a place of the bytes.
+// The name that starts at byte `at`.
 pub(super) fn name_at(bytes: &[u8], at: usize) -> Name8
     requires { at + 8 ≤ length bytes.now }
     ensures { result ≡ name_at at bytes.now }
@@ -25,7 +25,7 @@ pub(super) fn name_at(bytes: &[u8], at: usize) -> Name8
     Name8 { bytes: name }
 }
 
-// The length of a map's part with the counts that its head tells.
+// The length of a map's part, by the counts in its head.
 fn whole_len(bytes: &[u8]) -> usize
     requires { 18 ≤ length bytes.now }
     ensures { result ≡ 18 + 10 * unsigned_at 8 bytes.now + 14 * unsigned_at 10 bytes.now

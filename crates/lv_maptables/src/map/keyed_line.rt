@@ -1,4 +1,4 @@
-//! Lines as a map keeps them, by keys, and as they are shown, by numbers.
+//! Lines as a map stores them, with keys, and as its calls return them, with numbers.
 ghost use Rattle.std.specs.Prelude.{◌≡◌, ◌≢◌, ◌<◌, ◌≤◌, All, IfOk, IsOkUnless, length, map};
 ghost use Rattle.lv_maptables.specs.Keyed.{left_of, line_of, IsFound};
 ghost use Rattle.lv_maptables.specs.Tables.{no_side};
@@ -10,7 +10,7 @@ use crate::map::vertex_table::VertexTable;
 use lv_lumps::{Line, NO_SIDE};
 use std::alloc::Global;
 
-// A line as the map keeps it: what it names, by their keys.
+// A line as the map stores it, with the keys of the vertices and sides that it names.
 #[derive(Clone, Copy)]
 pub(super) struct KeyedLine {
     pub v1: usize,
@@ -22,7 +22,7 @@ pub(super) struct KeyedLine {
     pub left: Option<usize>,
 }
 
-// The key of a line's left side, which may be missing.
+// The key of a line's left side, if it has one.
 fn left_key(sides: &Table<KeyedSide>, left: u16) -> Option<usize>
     requires { left ≢ no_side → left < length sides.now.items }
     ensures { left_of sides.now.keys result ≡ left }
@@ -33,7 +33,7 @@ fn left_key(sides: &Table<KeyedSide>, left: u16) -> Option<usize>
     Some(sides.key_at(usize::from(left)))
 }
 
-// The number of a line's left side, which may be missing.
+// The number of a line's left side, or `NO_SIDE`.
 fn left_number(sides: &Table<KeyedSide>, left: Option<usize>) -> u16
     requires { length sides.now.items ≤ 32767 }
     ensures { result ≡ left_of sides.now.keys left }
@@ -44,7 +44,7 @@ fn left_number(sides: &Table<KeyedSide>, left: Option<usize>) -> u16
     }
 }
 
-// The line with the keys of what it names.
+// Converts a line: keys in place of numbers.
 pub(super) fn keyed_line(vertices: &VertexTable, sides: &Table<KeyedSide>, line: &Line) -> KeyedLine
     requires { IsFound (length vertices.now.items) (length sides.now.items) line.now }
     ensures { line_of vertices.now.keys sides.now.keys result ≡ line.now }
@@ -60,7 +60,7 @@ pub(super) fn keyed_line(vertices: &VertexTable, sides: &Table<KeyedSide>, line:
     }
 }
 
-// The line with the numbers of what it names.
+// Converts a line back: numbers in place of keys.
 pub(super) fn numbered_line(
     vertices: &VertexTable,
     sides: &Table<KeyedSide>,
@@ -81,7 +81,7 @@ pub(super) fn numbered_line(
     }
 }
 
-// The lines of a list, each with the keys of what it names.
+// Converts the lines of a list: keys in place of numbers.
 pub(super) fn keyed_lines(
     alloc: Global,
     vertices: &VertexTable,
@@ -102,7 +102,7 @@ pub(super) fn keyed_lines(
     Ok(table)
 }
 
-// The list of the lines, each with the numbers of what it names.
+// The list of the table's lines, with numbers in place of keys.
 pub(super) fn numbered_lines(
     alloc: Global,
     vertices: &VertexTable,

@@ -1,4 +1,4 @@
-//! Sides as a map keeps them, by keys, and as they are shown, by numbers.
+//! Sides as a map stores them, with keys, and as its calls return them, with numbers.
 ghost use Rattle.std.specs.Prelude.{◌≡◌, ◌<◌, ◌≤◌, All, IfOk, IsOkUnless, length, map};
 ghost use Rattle.lv_maptables.specs.Keyed.{side_of};
 ghost use Rattle.lv_maptables.specs.WellFormed.{HasSector};
@@ -8,7 +8,7 @@ use crate::map::table::Table;
 use lv_lumps::{Name8, Sector, Side};
 use std::alloc::Global;
 
-// A side as the map keeps it, with the key of its sector.
+// A side as the map stores it, with the key of its sector.
 #[derive(Clone, Copy)]
 pub(super) struct KeyedSide {
     pub x_offset: i16,
@@ -19,7 +19,7 @@ pub(super) struct KeyedSide {
     pub sector: usize,
 }
 
-// The side with the key of its sector.
+// Converts a side: its sector's key in place of the number.
 pub(super) fn keyed_side(sectors: &Table<Sector>, side: &Side) -> KeyedSide
     requires { side.now.sector < length sectors.now.items }
     ensures { side_of sectors.now.keys result ≡ side.now }
@@ -34,7 +34,7 @@ pub(super) fn keyed_side(sectors: &Table<Sector>, side: &Side) -> KeyedSide
     }
 }
 
-// The side with the number of its sector.
+// Converts a side back: its sector's number in place of the key.
 pub(super) fn numbered_side(sectors: &Table<Sector>, side: &KeyedSide) -> Side
     requires { length sectors.now.items ≤ 4096 }
     ensures { result ≡ side_of sectors.now.keys side.now }
@@ -49,7 +49,7 @@ pub(super) fn numbered_side(sectors: &Table<Sector>, side: &KeyedSide) -> Side
     }
 }
 
-// The sides of a list, each with the key of its sector.
+// Converts the sides of a list: keys in place of numbers.
 pub(super) fn keyed_sides(
     alloc: Global,
     sectors: &Table<Sector>,
@@ -68,7 +68,7 @@ pub(super) fn keyed_sides(
     Ok(table)
 }
 
-// The list of the sides, each with the number of its sector.
+// The list of the table's sides, with numbers in place of keys.
 pub(super) fn numbered_sides(
     alloc: Global,
     sectors: &Table<Sector>,

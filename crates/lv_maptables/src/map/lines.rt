@@ -13,7 +13,7 @@ use crate::map::Map;
 use crate::map::keyed_line::keyed_line;
 use lv_lumps::{ITEM_LIMIT, Line};
 
-// Whether the line's own fields go together: `SameEnds`, `TwoSidedWithoutLeft`.
+// Whether the line's own fields are consistent: `SameEnds`, `TwoSidedWithoutLeft`.
 fn check_shape(line: &Line) -> Result<(), MapError>
     ensures { Tells result (shape_faults line.now) }
 {
@@ -50,7 +50,7 @@ impl Map {
         Ok(())
     }
 
-    // Whether the line's ends are further apart than lines may be long.
+    // Whether the line is longer than the greatest allowed length.
     fn is_too_long(&self, line: &Line) -> bool
         ensures { result ≡ is_too_long self.now.tables.vertices line.now }
     {
@@ -73,7 +73,7 @@ impl Map {
         Ok(())
     }
 
-    /// Adds a line, and answers its number.
+    /// Adds a line, and returns its number.
     pub fn add_line(&mut self, line: Line) -> Result<u32, MapError>
         requires { IsLine line }
         ensures edit { EndsEdit result
@@ -104,7 +104,7 @@ impl Map {
         Ok(())
     }
 
-    /// Puts a line in place of that of its number.
+    /// Replaces the line with the number.
     pub fn set_line(&mut self, n: u32, line: Line) -> Result<(), MapError>
         requires { IsLine line }
         ensures edit { EndsExactly result (changed_line self.old.tables n line)
@@ -119,14 +119,14 @@ impl Map {
         Ok(())
     }
 
-    /// Whether a line can be taken out: `NoLine`.
+    /// Whether a line can be removed: `NoLine`.
     pub fn can_drop_line(&self, n: u32) -> Result<(), MapError>
         ensures { Tells result (drop_line_faults self.now.tables n) }
     {
         self.check_has_line(n)
     }
 
-    /// Takes a line out, and lowers each greater number by one.
+    /// Removes a line, and lowers each greater number by one.
     pub fn drop_line(&mut self, n: u32) -> Result<(), MapError>
         ensures edit { EndsExactly result
             (dropped_line self.old.tables n) self.old.tables self.new.tables }

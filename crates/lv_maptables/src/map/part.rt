@@ -1,4 +1,4 @@
-//! A map's part of a project's body: reading it, and appending it.
+//! Reads a map's part of a project's body, and appends it.
 ghost use Rattle.std.specs.Prelude.{◌≡◌, IfOk, IfErr, IsOkUnless, ◌^◌, ◌<◌, ◌≤◌, ◌++◌, OnOk};
 ghost use Rattle.lv_lumps.specs.Fields.{unsigned};
 ghost use Rattle.lv_maptables.specs.Tables.{part_len};
@@ -13,8 +13,8 @@ use crate::map::draft::Draft;
 use crate::map::header::is_framed;
 use std::alloc::Global;
 
-/// The map whose part of a body the bytes begin with. `Damaged` with place 0 where no well-formed map's
-/// part begins them.
+/// The map whose part of a body the bytes begin with. `Damaged` with place 0 if they begin with no well-formed
+/// map's part.
 pub fn first_map(alloc: Global, bytes: &[u8]) -> Result<Map, MapError>
     ensures map { IfOk result (λ m. BeginsWith bytes.now m.tables) }
     ensures refused { IfErr result (RefusesPart bytes.now) }

@@ -1,4 +1,4 @@
-//! The set of taken places, whose memory only `reserve` changes.
+//! The set of taken places. Only `reserve` changes its memory.
 ghost use Rattle.std.specs.Prelude.{◌≡◌, ◌≢◌, ◌+◌, ◌<◌, ◌≤◌, ◌&&◌, ◌||◌, ◌^◌, List, not, [], true, false, length, AllPairs, IsOk, IsOkUnless, OnOk};
 ghost use Rattle.lv_lumps.specs.declared.records.Vertex.{Vertex};
 ghost use Rattle.lv_maptables.specs.Faults.{is_place, is_taken};
@@ -11,11 +11,12 @@ use std::alloc::Global;
 use std::collections::HashSet;
 use std::marker::Model;
 
-// The places that are taken. It has room for a number of places that only `reserve` changes.
+// The set of the taken places, with room for a number of places that only `reserve` changes.
 #[derive(Drop)]
 pub(super) struct Places {
     taken: HashSet<Vertex>,
-    // The set has a quarter more: it may lose room where places go, and is filled again when the rest is lost.
+    // The set has room for a quarter more than this. It may lose room when places are removed; it is rebuilt once
+    // that quarter is lost.
     room: usize,
 }
 
@@ -32,7 +33,7 @@ impl Model for Places {
 }
 
 impl Places {
-    // No place. It takes no memory.
+    // The empty set. It allocates no memory.
     pub(super) fn new(alloc: Global) -> Places
         ensures marked { result.marked ≡ [] }
         ensures room { result.room ≡ 0 }
@@ -70,7 +71,7 @@ impl Places {
         Ok(())
     }
 
-    // Takes a free place.
+    // Marks a free place as taken.
     pub(super) fn insert(&mut self, place: Vertex)
         requires free { is_taken self.old.marked place ≡ false }
         requires room { length self.old.marked < self.old.room }
@@ -85,7 +86,7 @@ impl Places {
         }
     }
 
-    // Takes the places of the vertices, and no others.
+    // Rebuilds the set from the places of the vertices.
     pub(super) fn refill(&mut self, vertices: &Table<Vertex>)
         requires apart { AllPairs (λ v w. v ≢ w) vertices.now.items }
         requires room { length vertices.now.items ≤ self.old.room }
@@ -98,7 +99,7 @@ impl Places {
         }
     }
 
-    // Gives a place back, so that those of the vertices are left.
+    // Frees a place; those of the vertices are left.
     pub(super) fn remove(&mut self, place: Vertex, vertices: &Table<Vertex>)
         requires apart { AllPairs (λ v w. v ≢ w) vertices.now.items }
         requires taken { is_taken self.old.marked place ≡ true }
@@ -115,7 +116,7 @@ impl Places {
         }
     }
 
-    // Gives a place back and takes a free one, so that those of the vertices are taken.
+    // Frees a place and takes a free one; the set is then that of the vertices' places.
     pub(super) fn replace(&mut self, from: Vertex, to: Vertex, vertices: &Table<Vertex>)
         requires apart { AllPairs (λ v w. v ≢ w) vertices.now.items }
         requires taken { is_taken self.old.marked from ≡ true }

@@ -13,7 +13,7 @@ use crate::map::keyed_side::KeyedSide;
 use crate::map::table::Table;
 use lv_lumps::{SECTOR_LIMIT, Sector};
 
-// Whether a side has the key for its sector.
+// Whether the key is that of some side's sector.
 fn has_side_with(sides: &Table<KeyedSide>, key: usize) -> bool
     ensures { result ≡ list_any (λ s. s.sector == key) sides.now.items }
 {
@@ -46,7 +46,7 @@ impl Map {
         Ok(())
     }
 
-    /// Adds a sector, and answers its number.
+    /// Adds a sector, and returns its number.
     pub fn add_sector(&mut self, sector: Sector) -> Result<u32, MapError>
         requires { IsSector sector }
         ensures edit { EndsEdit result
@@ -69,7 +69,7 @@ impl Map {
         self.check_has_sector(n)
     }
 
-    /// Puts a sector in place of that of its number.
+    /// Replaces the sector with the number.
     pub fn set_sector(&mut self, n: u32, sector: Sector) -> Result<(), MapError>
         requires { IsSector sector }
         ensures edit { EndsExactly result (changed_sector self.old.tables n sector)
@@ -91,7 +91,7 @@ impl Map {
         has_side_with(&self.sides, self.sectors.key_at(n as usize))
     }
 
-    /// Whether a sector can be taken out: `NoSector`, `InUse`.
+    /// Whether a sector can be removed: `NoSector`, `InUse`.
     pub fn can_drop_sector(&self, n: u32) -> Result<(), MapError>
         ensures { Tells result (drop_sector_faults self.now.tables n) }
     {
@@ -102,7 +102,7 @@ impl Map {
         Ok(())
     }
 
-    /// Takes a sector out, and lowers each greater number by one, in the sides too.
+    /// Removes a sector, and lowers each greater number by one, in the sides too.
     pub fn drop_sector(&mut self, n: u32) -> Result<(), MapError>
         ensures edit { EndsExactly result
             (dropped_sector self.old.tables n) self.old.tables self.new.tables }

@@ -28,7 +28,7 @@ fn has_key(line: &KeyedLine, key: usize) -> bool
     }
 }
 
-// Whether the side of the key is a line's right or left one.
+// Whether the side with the key is the right or left side of some line.
 fn has_line_with_key(lines: &Table<KeyedLine>, key: usize) -> bool
     ensures { result ≡ list_any (λ l. (l.right == key) || is_left l.left key) lines.now.items }
 {
@@ -62,7 +62,7 @@ impl Map {
         Ok(())
     }
 
-    /// Adds a side, and answers its number.
+    /// Adds a side, and returns its number.
     pub fn add_side(&mut self, side: Side) -> Result<u32, MapError>
         requires { IsSide side }
         ensures edit { EndsEdit result
@@ -87,7 +87,7 @@ impl Map {
         self.check_has_side(n)
     }
 
-    /// Puts a side in place of that of its number.
+    /// Replaces the side with the number.
     pub fn set_side(&mut self, n: u32, side: Side) -> Result<(), MapError>
         requires { IsSide side }
         ensures edit { EndsExactly result (changed_side self.old.tables n side)
@@ -110,7 +110,7 @@ impl Map {
         has_line_with_key(&self.lines, self.sides.key_at(n as usize))
     }
 
-    /// Whether a side can be taken out: `NoSide`, `InUse`.
+    /// Whether a side can be removed: `NoSide`, `InUse`.
     pub fn can_drop_side(&self, n: u32) -> Result<(), MapError>
         ensures { Tells result (drop_side_faults self.now.tables n) }
     {
@@ -121,7 +121,7 @@ impl Map {
         Ok(())
     }
 
-    /// Takes a side out, and lowers each greater number by one, in the lines too.
+    /// Removes a side, and lowers each greater number by one, in the lines too.
     pub fn drop_side(&mut self, n: u32) -> Result<(), MapError>
         ensures edit { EndsExactly result
             (dropped_side self.old.tables n) self.old.tables self.new.tables }

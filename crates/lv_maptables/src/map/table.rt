@@ -11,11 +11,11 @@ use std::marker::Model;
 pub(super) struct Table<T: Copy> {
     items: Slab<T>,
     order: Vec<usize>,
-    // where to look for a key in the order: its rank. As long as there are places for items
+    // for each key a hint of its rank; as long as there are places for items
     ranks: Vec<u16>,
 }
 
-// A call of its own, so that who owns a table lets its lists go by one step.
+// A `drop` of its own, so that a function that owns a table frees its lists by one call.
 impl<T: Copy> Drop for Table<T> {
     fn drop(self) {
         let Table {
@@ -38,21 +38,21 @@ impl<T: Copy> Model for Table<T> {
     ghost invariant = { KeepsTable };
 }
 
-// Lowers the ranks behind one that is gone.
+// Lowers by one the ranks after the removed one.
 fn lower_ranks(ranks: &mut [u16], gone: u16) {
     for rank in ranks.iter_mut() {
         *rank = if gone < *rank { *rank - 1 } else { *rank };
     }
 }
 
-// Notes the rank of a key, where the list is long enough.
+// Stores the rank of a key, if the list is long enough.
 fn note_rank(ranks: &mut [u16], key: usize, rank: u16) {
     if key < ranks.len() {
         ranks[key] = rank;
     }
 }
 
-// Makes the list of ranks long enough for so many places, and then as long as its memory allows.
+// Makes the list of ranks long enough for `places` places, and then as long as its capacity.
 fn widen(ranks: &mut Vec<u16>, places: usize) -> Result<(), MapError>
     ensures { IsOkUnless result MapError.OutOfMemory }
 {
@@ -63,7 +63,7 @@ fn widen(ranks: &mut Vec<u16>, places: usize) -> Result<(), MapError>
     Ok(())
 }
 
-// Where a key stands in the order.
+// The index of a key in the order.
 fn place_in(order: &[usize], key: usize) -> Option<usize>
     ensures { result ≡ position (λ k. k == key) order.now }
 {
@@ -71,7 +71,7 @@ fn place_in(order: &[usize], key: usize) -> Option<usize>
 }
 
 impl<T: Copy> Table<T> {
-    // The table without an item. It takes no memory.
+    // An empty table. It allocates no memory.
     pub(super) fn new(alloc: Global) -> Table<T>
         ensures items { result.items ≡ [] }
         ensures keys { result.keys ≡ [] }
@@ -101,7 +101,7 @@ impl<T: Copy> Table<T> {
         Some(self.order[n])
     }
 
-    // The key of an item that is there.
+    // The key of the n-th item, which exists.
     pub(super) fn key_at(&self, n: usize) -> usize
         requires { n < length self.now.items }
         ensures rank { rank_of self.now.keys result ≡ n }
@@ -120,7 +120,7 @@ impl<T: Copy> Table<T> {
         self.items.get(self.order[n]).copied()
     }
 
-    // An item that is there.
+    // The n-th item, which exists.
     pub(super) fn at(&self, n: usize) -> T
         requires { n < length self.now.items }
         ensures { slice_get self.now.items n ≡ Some result }
@@ -128,7 +128,7 @@ impl<T: Copy> Table<T> {
         self.items[self.order[n]]
     }
 
-    // The number of the item of a key, and how many items there are where none has it.
+    // The number of the item with the key, or the count of items if none has it.
     pub(super) fn rank(&self, key: usize) -> usize
         ensures value { result ≡ rank_of self.now.keys key }
         ensures bound { result ≤ length self.now.items }
@@ -145,7 +145,7 @@ impl<T: Copy> Table<T> {
         }
     }
 
-    // How many more items take no memory.
+    // How many more items fit without allocating.
     fn spare(&self) -> usize
         ensures value { result ≡ self.now.spare }
         ensures count { length self.now.keys ≡ length self.now.items }
@@ -154,7 +154,7 @@ impl<T: Copy> Table<T> {
         places.min(self.order.capacity() - self.order.len())
     }
 
-    // Makes room: that many more items take no memory.
+    // Makes room: `more` further items allocate no memory.
     pub(super) fn reserve(&mut self, more: usize) -> Result<(), MapError>
         ensures items { self.new.items ≡ self.old.items }
         ensures keys { self.new.keys ≡ self.old.keys }
@@ -169,7 +169,7 @@ impl<T: Copy> Table<T> {
             return Ok(());
         }
         let len = self.order.len();
-        // the ranks first: where the rest is refused, each key still has one
+        // the ranks first: if the rest fails, each key still has a rank
         widen(&mut self.ranks, len.saturating_add(more))?;
         let places = more.max(self.ranks.len().saturating_sub(len));
         self.items.reserve_exact(places)?;
@@ -177,7 +177,7 @@ impl<T: Copy> Table<T> {
         Ok(())
     }
 
-    // Puts an item at the end, under a key that none has. It takes no memory where there is a spare place.
+    // Appends an item, under a new key. It allocates no memory if there is a spare place.
     pub(super) fn push(&mut self, item: T) -> Result<(), MapError>
         requires few { length self.old.items ≤ 32767 }
         ensures items { self.new.items
@@ -197,7 +197,7 @@ impl<T: Copy> Table<T> {
         Ok(())
     }
 
-    // Takes the n-th item out. The others keep their keys.
+    // Removes the n-th item. The others keep their keys.
     pub(super) fn remove(&mut self, n: usize)
         requires there { n < length self.old.items }
         requires few { length self.old.items ≤ 32767 }
@@ -211,7 +211,7 @@ impl<T: Copy> Table<T> {
         lower_ranks(&mut self.ranks, n as u16);
     }
 
-    // Puts an item in place of the n-th, under its key.
+    // Replaces the n-th item, which keeps its key.
     pub(super) fn set(&mut self, n: usize, item: T)
         requires { n < length self.old.items }
         ensures items { self.new.items ≡ slice_set self.old.items n item }

@@ -31,7 +31,7 @@ impl Map {
         Ok(())
     }
 
-    /// Adds a thing, and answers its number.
+    /// Adds a thing, and returns its number.
     pub fn add_thing(&mut self, thing: Thing) -> Result<u32, MapError>
         requires { IsThing thing }
         ensures edit { EndsEdit result
@@ -54,7 +54,7 @@ impl Map {
         self.check_has_thing(n)
     }
 
-    /// Puts a thing in place of that of its number.
+    /// Replaces the thing with the number.
     pub fn set_thing(&mut self, n: u32, thing: Thing) -> Result<(), MapError>
         requires { IsThing thing }
         ensures edit { EndsExactly result (changed_thing self.old.tables n thing)
@@ -68,14 +68,14 @@ impl Map {
         Ok(())
     }
 
-    /// Whether a thing can be taken out: `NoThing`.
+    /// Whether a thing can be removed: `NoThing`.
     pub fn can_drop_thing(&self, n: u32) -> Result<(), MapError>
         ensures { Tells result (drop_thing_faults self.now.tables n) }
     {
         self.check_has_thing(n)
     }
 
-    /// Takes a thing out, and lowers each greater number by one.
+    /// Removes a thing, and lowers each greater number by one.
     pub fn drop_thing(&mut self, n: u32) -> Result<(), MapError>
         ensures edit { EndsExactly result
             (dropped_thing self.old.tables n) self.old.tables self.new.tables }

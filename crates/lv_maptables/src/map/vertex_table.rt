@@ -1,4 +1,4 @@
-//! The table of vertices, with the set of the places that are taken.
+//! The table of vertices, with the set of the taken places.
 ghost use Rattle.std.specs.Prelude.{◌≡◌, ◌≢◌, ◌+◌, ◌<◌, ◌≤◌, ◌^◌, ◌++◌, ◌∷◌, ◌==◌, [], ℕ, false, length, is_ok, if◌then◌else◌, slice_get, slice_set, remove, AllPairs, IfOk, IsOk, IsOkUnless, MatchOption, OnOk};
 ghost use Rattle.lv_maptables.specs.Faults.{is_taken, is_taken_beside};
 ghost use Rattle.lv_maptables.specs.WellFormed.{nth_vertex};
@@ -11,13 +11,13 @@ use lv_lumps::Vertex;
 use std::alloc::Global;
 use std::marker::Model;
 
-// The vertices of a map, no two of them in one place, and the places that are taken.
+// The vertices of a map, no two of them at the same place, and the set of the taken places.
 pub(super) struct VertexTable {
     items: Table<Vertex>,
     places: Places,
 }
 
-// A call of its own, so that who owns the vertices lets them and their places go by one step.
+// A `drop` of its own, so that a function that owns the vertices frees them and their places by one call.
 impl Drop for VertexTable {
     fn drop(self) {
         let VertexTable {
@@ -41,7 +41,7 @@ impl Model for VertexTable {
 }
 
 impl VertexTable {
-    // No vertex. It takes no memory.
+    // An empty table. It allocates no memory.
     pub(super) fn new(alloc: Global) -> VertexTable
         ensures items { result.items ≡ [] }
         ensures spare { result.spare ≡ 0 }
@@ -52,7 +52,7 @@ impl VertexTable {
         }
     }
 
-    // The vertices of a list.
+    // Makes the table of a list of vertices.
     pub(super) fn of(alloc: Global, list: &[Vertex]) -> Result<VertexTable, MapError>
         requires apart { AllPairs (λ v w. v ≢ w) list.now }
         requires few { length list.now ≤ 32767 }
@@ -74,14 +74,14 @@ impl VertexTable {
         self.items.to_vec(alloc)
     }
 
-    // The vertex of the number.
+    // The vertex with the number.
     pub(super) fn get(&self, n: usize) -> Option<Vertex>
         ensures { result ≡ slice_get self.now.items n }
     {
         self.items.get(n)
     }
 
-    // The vertex of the number, and the origin where there is none.
+    // The vertex with the number, or the origin if there is none.
     pub(super) fn nth(&self, n: u16) -> Vertex
         ensures { result ≡ nth_vertex self.now.items n }
     {
@@ -102,7 +102,7 @@ impl VertexTable {
         self.items.key(n)
     }
 
-    // The key of a vertex that is there.
+    // The key of the n-th vertex, which exists.
     pub(super) fn key_at(&self, n: usize) -> usize
         requires { n < length self.now.items }
         ensures rank { rank_of self.now.keys result ≡ n }
@@ -111,7 +111,7 @@ impl VertexTable {
         self.items.key_at(n)
     }
 
-    // The number of the vertex of a key, and how many vertices there are where none has it.
+    // The number of the vertex with the key, or the count of vertices if none has it.
     pub(super) fn rank(&self, key: usize) -> usize
         ensures value { result ≡ rank_of self.now.keys key }
         ensures bound { result ≤ length self.now.items }
@@ -119,14 +119,14 @@ impl VertexTable {
         self.items.rank(key)
     }
 
-    // Whether a vertex has the place.
+    // Whether a vertex is at the place.
     pub(super) fn has(&self, place: Vertex) -> bool
         ensures { result ≡ is_taken self.now.items place }
     {
         self.places.has(place)
     }
 
-    // Whether another vertex than number `n` has the place.
+    // Whether a vertex other than number `n` is at the place.
     pub(super) fn has_beside(&self, n: usize, place: Vertex) -> bool
         requires { n < length self.now.items }
         ensures { result ≡ is_taken_beside self.now.items n place }
@@ -134,7 +134,7 @@ impl VertexTable {
         self.items.at(n) != place && self.places.has(place)
     }
 
-    // Makes room for so many more vertices.
+    // Makes room for `more` further vertices.
     pub(super) fn reserve(&mut self, more: usize) -> Result<(), MapError>
         requires few { length self.old.items ≤ 32767 }
         requires more { more < 2 ^ 32 }
@@ -151,7 +151,7 @@ impl VertexTable {
         Ok(())
     }
 
-    // Puts a vertex at the end, at a free place. It takes no memory where there is a spare place.
+    // Appends a vertex at a free place. It allocates no memory if there is a spare place in the table.
     pub(super) fn push(&mut self, vertex: Vertex) -> Result<(), MapError>
         requires few { length self.old.items ≤ 32767 }
         requires free { is_taken self.old.items vertex ≡ false }
@@ -169,7 +169,7 @@ impl VertexTable {
         Ok(())
     }
 
-    // Moves a vertex to a place that no other has.
+    // Moves a vertex to a place where no other vertex is.
     pub(super) fn set(&mut self, n: usize, place: Vertex)
         requires there { n < length self.old.items }
         requires free { is_taken_beside self.old.items n place ≡ false }
@@ -182,7 +182,7 @@ impl VertexTable {
         self.places.replace(from, place, &self.items);
     }
 
-    // Takes a vertex out.
+    // Removes a vertex.
     pub(super) fn remove(&mut self, n: usize)
         requires there { n < length self.old.items }
         requires few { length self.old.items ≤ 32767 }

@@ -18,7 +18,7 @@ use crate::map::table::Table;
 use crate::map::vertex_table::VertexTable;
 use lv_lumps::{ITEM_LIMIT, Vertex};
 
-// The vertex of the number once vertex `moved` stands at another place.
+// The vertex with the number after vertex `moved` has moved to another place.
 fn vertex_after_move(vertices: &VertexTable, moved: u32, to: Vertex, n: u16) -> Vertex
     requires { moved < length vertices.now.items }
     ensures { result ≡ nth_vertex (slice_set vertices.now.items moved to) n }
@@ -30,14 +30,14 @@ fn vertex_after_move(vertices: &VertexTable, moved: u32, to: Vertex, n: u16) -> 
     }
 }
 
-// Whether the line begins or ends at the vertex of the key.
+// Whether the line begins or ends at the vertex with the key.
 fn has_end(line: &KeyedLine, key: usize) -> bool
     ensures { result ≡ ((line.now.v1 == key) || (line.now.v2 == key)) }
 {
     line.v1 == key || line.v2 == key
 }
 
-// Whether the line has the vertex, and would be too long with it at another place.
+// Whether the line has the vertex as an end, and would be too long with it at another place.
 fn is_stretched(
     vertices: &VertexTable,
     moved: u32,
@@ -59,7 +59,7 @@ fn is_stretched(
     is_too_far(start, end)
 }
 
-// Whether a line begins or ends at the vertex of the key.
+// Whether a line begins or ends at the vertex with the key.
 fn has_line_with_end(lines: &Table<KeyedLine>, key: usize) -> bool
     ensures { result ≡ list_any (λ l. (l.v1 == key) || (l.v2 == key)) lines.now.items }
 {
@@ -94,7 +94,7 @@ fn has_line_stretched(
 }
 
 impl Map {
-    /// Whether a vertex has the place.
+    /// Whether a vertex is at the place.
     pub fn has_place(&self, vertex: Vertex) -> bool
         ensures { result ≡ is_taken self.now.tables.vertices vertex }
     {
@@ -114,7 +114,7 @@ impl Map {
         Ok(())
     }
 
-    /// Adds a vertex, and answers its number.
+    /// Adds a vertex, and returns its number.
     pub fn add_vertex(&mut self, vertex: Vertex) -> Result<u32, MapError>
         requires { IsVertex vertex }
         ensures edit { EndsEdit result
@@ -149,7 +149,7 @@ impl Map {
         has_line_with_end(&self.lines, self.vertices.key_at(n as usize))
     }
 
-    // Whether a line of the vertex would be too long with it at another place.
+    // Whether a line that ends at the vertex would be too long with it at another place.
     fn stretches_line(&self, n: u32, to: Vertex) -> bool
         requires { n < length self.now.tables.vertices }
         ensures { result ≡
@@ -188,7 +188,7 @@ impl Map {
         Ok(())
     }
 
-    /// Whether a vertex can be taken out: `NoVertex`, `InUse`.
+    /// Whether a vertex can be removed: `NoVertex`, `InUse`.
     pub fn can_drop_vertex(&self, n: u32) -> Result<(), MapError>
         ensures { Tells result (drop_vertex_faults self.now.tables n) }
     {
@@ -199,7 +199,7 @@ impl Map {
         Ok(())
     }
 
-    /// Takes a vertex out, and lowers each greater number by one, in the lines too.
+    /// Removes a vertex, and lowers each greater number by one, in the lines too.
     pub fn drop_vertex(&mut self, n: u32) -> Result<(), MapError>
         ensures edit { EndsExactly result
             (dropped_vertex self.old.tables n) self.old.tables self.new.tables }

@@ -1,4 +1,4 @@
-//! A project's body, both ways, in both versions.
+//! Encodes a project's body, and decodes it in both versions.
 ghost use Rattle.std.specs.Prelude.{◌≡◌, ◌<◌, ◌↔◌, ◌∷◌, [], ◌++◌, false, IfOk, IfErr, IsOkUnless, IsTrue, OnOk, length, drop, slice_index};
 ghost use Rattle.lv_maptables.specs.WellFormed.{WellFormed};
 ghost use Rattle.lv_maptables.specs.Parts.{RefusesFor};
@@ -21,7 +21,7 @@ fn has_version_2(bytes: &[u8]) -> bool
     bytes.len() >= 2 && bytes[0] == VERSION
 }
 
-// The project whose maps' parts the bytes are, its last map current.
+// The project whose maps' parts are these bytes; the last map is current.
 fn read_maps(alloc: Global, bytes: &[u8]) -> Result<Maps, MapError>
     ensures maps { IfOk result (λ maps. AreMapsOf bytes.now (project_of maps)) }
     ensures refused { IfErr result (RefusesFor (NoMapsHave bytes.now)) }
@@ -35,7 +35,7 @@ fn read_maps(alloc: Global, bytes: &[u8]) -> Result<Maps, MapError>
     Ok(maps)
 }
 
-// The project that has the bytes behind version 2 and a current number.
+// The project that has these bytes as its body of version 2.
 fn decode_version_2(alloc: Global, bytes: &[u8]) -> Result<Maps, MapError>
     requires { bytes.now ≡ 2 ∷ slice_index bytes.now 1 ∷ drop 2 bytes.now }
     ensures project { IfOk result (λ maps. IsProjectOf bytes.now (project_of maps)) }
@@ -51,7 +51,7 @@ fn decode_version_2(alloc: Global, bytes: &[u8]) -> Result<Maps, MapError>
 }
 
 impl Maps {
-    /// The body of a new project, version 2: the empty map MAP01 alone.
+    /// The body of a new project, version 2: only the empty map MAP01.
     pub fn empty_body() -> [u8; 20]
         ensures bytes { result ≡ project_body empty_project }
         ensures well_formed { WellFormedProject empty_project }
@@ -82,8 +82,8 @@ impl Maps {
         Ok(bytes)
     }
 
-    /// The project whose body the bytes are, of version 2 or, where it has one map, of version 1.
-    /// `Damaged` with place 0 where no well-formed project has these bytes in either version.
+    /// The project whose body these bytes are, of version 2 or, for a project of one map, of version 1. `Damaged`
+    /// with place 0 if no well-formed project has these bytes in either version.
     pub fn decode_body(alloc: Global, bytes: &[u8]) -> Result<Maps, MapError>
         ensures project { IfOk result (λ maps. IsProjectOf bytes.now (project_of maps)) }
         ensures refused { IfErr result (RefusesProject bytes.now) }
@@ -108,8 +108,7 @@ impl Maps {
         }
     }
 
-    // Adds the map whose part the bytes begin with behind the others, and makes it current. It answers
-    // how long its part is.
+    // Appends the map whose part the bytes begin with, and makes it current. It returns the length of its part.
     fn read_next(&mut self, alloc: Global, bytes: &[u8]) -> Result<usize, MapError>
         ensures next { IfOk result
             (λ n. ReadsNext bytes.now n (project_of self.old) (project_of self.new)) }

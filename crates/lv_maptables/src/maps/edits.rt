@@ -8,9 +8,9 @@ use crate::error::MapError;
 use crate::maps::Maps;
 use lv_lumps::{Line, Sector, Side, Thing, Vertex};
 
-// The edits of the current map. Each answers as its definition says, and leaves the other maps alone.
+// The edits of the current map. Each returns what its definition says, and leaves the other maps unchanged.
 impl Maps {
-    /// Adds a vertex to the current map, and answers its number.
+    /// Adds a vertex to the current map, and returns its number.
     pub fn add_vertex(&mut self, vertex: Vertex) -> Result<u32, MapError>
         requires { IsVertex vertex }
         ensures edit { EndsEdit result
@@ -37,7 +37,7 @@ impl Maps {
         self.map.set_vertex(n, vertex)
     }
 
-    /// Takes a vertex out, and lowers each greater number by one, in the lines too.
+    /// Removes a vertex, and lowers each greater number by one, in the lines too.
     pub fn drop_vertex(&mut self, n: u32) -> Result<(), MapError>
         ensures edit { EndsExactly result
             (dropped_vertex self.old.tables n) self.old.tables self.new.tables }
@@ -49,7 +49,7 @@ impl Maps {
         self.map.drop_vertex(n)
     }
 
-    /// Adds a sector to the current map, and answers its number.
+    /// Adds a sector to the current map, and returns its number.
     pub fn add_sector(&mut self, sector: Sector) -> Result<u32, MapError>
         requires { IsSector sector }
         ensures edit { EndsEdit result
@@ -63,7 +63,7 @@ impl Maps {
         self.map.add_sector(sector)
     }
 
-    /// Puts a sector in place of that of its number.
+    /// Replaces the sector with the number.
     pub fn set_sector(&mut self, n: u32, sector: Sector) -> Result<(), MapError>
         requires { IsSector sector }
         ensures edit { EndsExactly result (changed_sector self.old.tables n sector)
@@ -76,7 +76,7 @@ impl Maps {
         self.map.set_sector(n, sector)
     }
 
-    /// Takes a sector out, and lowers each greater number by one, in the sides too.
+    /// Removes a sector, and lowers each greater number by one, in the sides too.
     pub fn drop_sector(&mut self, n: u32) -> Result<(), MapError>
         ensures edit { EndsExactly result
             (dropped_sector self.old.tables n) self.old.tables self.new.tables }
@@ -88,7 +88,7 @@ impl Maps {
         self.map.drop_sector(n)
     }
 
-    /// Adds a side to the current map, and answers its number.
+    /// Adds a side to the current map, and returns its number.
     pub fn add_side(&mut self, side: Side) -> Result<u32, MapError>
         requires { IsSide side }
         ensures edit { EndsEdit result
@@ -102,7 +102,7 @@ impl Maps {
         self.map.add_side(side)
     }
 
-    /// Puts a side in place of that of its number.
+    /// Replaces the side with the number.
     pub fn set_side(&mut self, n: u32, side: Side) -> Result<(), MapError>
         requires { IsSide side }
         ensures edit { EndsExactly result (changed_side self.old.tables n side)
@@ -115,7 +115,7 @@ impl Maps {
         self.map.set_side(n, side)
     }
 
-    /// Takes a side out, and lowers each greater number by one, in the lines too.
+    /// Removes a side, and lowers each greater number by one, in the lines too.
     pub fn drop_side(&mut self, n: u32) -> Result<(), MapError>
         ensures edit { EndsExactly result
             (dropped_side self.old.tables n) self.old.tables self.new.tables }
@@ -127,7 +127,7 @@ impl Maps {
         self.map.drop_side(n)
     }
 
-    /// Adds a line to the current map, and answers its number.
+    /// Adds a line to the current map, and returns its number.
     pub fn add_line(&mut self, line: Line) -> Result<u32, MapError>
         requires { IsLine line }
         ensures edit { EndsEdit result
@@ -141,7 +141,7 @@ impl Maps {
         self.map.add_line(line)
     }
 
-    /// Puts a line in place of that of its number.
+    /// Replaces the line with the number.
     pub fn set_line(&mut self, n: u32, line: Line) -> Result<(), MapError>
         requires { IsLine line }
         ensures edit { EndsExactly result (changed_line self.old.tables n line)
@@ -154,7 +154,7 @@ impl Maps {
         self.map.set_line(n, line)
     }
 
-    /// Takes a line out, and lowers each greater number by one.
+    /// Removes a line, and lowers each greater number by one.
     pub fn drop_line(&mut self, n: u32) -> Result<(), MapError>
         ensures edit { EndsExactly result
             (dropped_line self.old.tables n) self.old.tables self.new.tables }
@@ -166,7 +166,7 @@ impl Maps {
         self.map.drop_line(n)
     }
 
-    /// Adds a thing to the current map, and answers its number.
+    /// Adds a thing to the current map, and returns its number.
     pub fn add_thing(&mut self, thing: Thing) -> Result<u32, MapError>
         requires { IsThing thing }
         ensures edit { EndsEdit result
@@ -180,7 +180,7 @@ impl Maps {
         self.map.add_thing(thing)
     }
 
-    /// Puts a thing in place of that of its number.
+    /// Replaces the thing with the number.
     pub fn set_thing(&mut self, n: u32, thing: Thing) -> Result<(), MapError>
         requires { IsThing thing }
         ensures edit { EndsExactly result (changed_thing self.old.tables n thing)
@@ -193,7 +193,7 @@ impl Maps {
         self.map.set_thing(n, thing)
     }
 
-    /// Takes a thing out, and lowers each greater number by one.
+    /// Removes a thing, and lowers each greater number by one.
     pub fn drop_thing(&mut self, n: u32) -> Result<(), MapError>
         ensures edit { EndsExactly result
             (dropped_thing self.old.tables n) self.old.tables self.new.tables }

@@ -1,4 +1,4 @@
-//! The commands that name maps: rename, select, drop.
+//! The edits that name a map: renaming, selecting and dropping it.
 ghost use Rattle.std.specs.Prelude.{◌≡◌, ◌≢◌, ◌≤◌, ◌<◌, false, length, position, remove};
 ghost use Rattle.lv_maptables.specs.Ranges.{IsNamed, is_marker};
 ghost use Rattle.lv_maptables.specs.Outcomes.{EndsExactly, Tells};
@@ -22,7 +22,7 @@ fn has_name(map: &Map, name: Name8) -> bool
 }
 
 impl Maps {
-    // The number of the map of the name, and how many maps there are where none has it.
+    // The number of the map with the name, or the count of maps if none has it.
     fn number_of(&self, name: Name8) -> u32
         ensures value { result ≡ map_number_of (project_of self.now) name }
         ensures limit { result ≤ length (project_of self.now).maps }
@@ -36,7 +36,7 @@ impl Maps {
         len
     }
 
-    /// The number of the map of the name.
+    /// The number of the map with the name.
     pub fn find(&self, name: Name8) -> Option<u32>
         ensures { result ≡ position (is_named name) (project_of self.now).maps }
     {
@@ -68,7 +68,7 @@ impl Maps {
         Ok(())
     }
 
-    /// Gives the current map another name: `MapNameTaken` where another map has it.
+    /// Gives the current map another name: `MapNameTaken` if another map has it.
     pub fn set_name(&mut self, name: Name8) -> Result<(), MapError>
         requires { IsNamed is_marker name }
         ensures edit { EndsExactly result (named_map (project_of self.old) name)
@@ -82,7 +82,7 @@ impl Maps {
         Ok(())
     }
 
-    /// Whether the map of the name can become current: `TooManyMaps`.
+    /// Whether the map with the name can become current: `TooManyMaps`.
     pub fn can_select(&self, name: Name8) -> Result<(), MapError>
         ensures { Tells result (select_faults (project_of self.now) name) }
     {
@@ -92,8 +92,8 @@ impl Maps {
         Ok(())
     }
 
-    /// Makes the map of the name current, and answers its number. Where there is none, an empty one of
-    /// that name is added last: `TooManyMaps` where there are 32. It takes no memory.
+    /// Makes the map with the name current, and returns its number. If there is none, an empty map with that name
+    /// is added last: `TooManyMaps` if there are 32 already. It allocates no memory.
     pub fn select(&mut self, name: Name8) -> Result<u32, MapError>
         requires { IsNamed is_marker name }
         ensures { EndsExactly result (selected_map (project_of self.old) name) (project_of self.old)
@@ -109,7 +109,7 @@ impl Maps {
         Ok(n)
     }
 
-    /// Whether the map of the name can be taken out: `NoSuchMap`, `CurrentMap`.
+    /// Whether the map with the name can be removed: `NoSuchMap`, `CurrentMap`.
     pub fn can_drop_map(&self, name: Name8) -> Result<(), MapError>
         ensures { Tells result (drop_map_faults (project_of self.now) name) }
     {
@@ -122,8 +122,8 @@ impl Maps {
         Ok(())
     }
 
-    /// Takes the map of the name out, and answers the number that it had; greater numbers, the current
-    /// one too, fall by one: `NoSuchMap`, `CurrentMap`. It takes no memory.
+    /// Removes the map with the name, and returns the number that it had; greater numbers, the current one too, are
+    /// lowered by one: `NoSuchMap`, `CurrentMap`. It allocates no memory.
     pub fn drop_map(&mut self, name: Name8) -> Result<u32, MapError>
         ensures { EndsExactly result (dropped_map (project_of self.old) name) (project_of self.old)
             (project_of self.new) }
@@ -134,7 +134,7 @@ impl Maps {
         Ok(n)
     }
 
-    // Makes the map of the number current.
+    // Makes the map with the number current.
     pub(super) fn make_current(&mut self, n: usize)
         requires { n < length (project_of self.old).maps }
         ensures { project_of self.new ≡ record (project_of self.old) { current = n } }
@@ -146,7 +146,7 @@ impl Maps {
         self.number = n;
     }
 
-    // Adds an empty map of a new name behind the others, and makes it current.
+    // Appends an empty map with a new name, and makes it current.
     fn add_map(&mut self, name: Name8)
         requires named { IsNamed is_marker name }
         requires new { has_map (project_of self.old) name ≡ false }
@@ -158,7 +158,7 @@ impl Maps {
         self.push(map);
     }
 
-    // Adds a map of a new name behind the others, and makes it current.
+    // Appends a map with a new name, and makes it current.
     pub(super) fn push(&mut self, map: Map)
         requires well_formed { WellFormed map.tables }
         requires new { has_map (project_of self.old) map.tables.name ≡ false }
@@ -171,7 +171,7 @@ impl Maps {
         self.number = self.others.len();
     }
 
-    // Takes out a map that isn't the current one.
+    // Removes a map that isn't the current one.
     fn take_out(&mut self, n: usize)
         requires there { n < length (project_of self.old).maps }
         requires other { n ≢ (project_of self.old).current }
