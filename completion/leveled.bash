@@ -1,4 +1,4 @@
-# Completes the words of leveled in bash.
+# Completes the arguments of leveled in bash.
 _leveled() {
     local word=${COMP_WORDS[COMP_CWORD]} subcommand=${COMP_WORDS[1]}
     if [ "$COMP_CWORD" -eq 1 ]; then
@@ -13,6 +13,7 @@ _leveled() {
         [ "$subcommand" = dump ] && flags='--exact --salvage --help'
         [ "$subcommand" = draw ] && flags='--check --verbose --help'
         [ "$subcommand" = picture ] && flags='--out --numbers --nodes --lint --help'
+        [ "$subcommand" = rebuild ] && flags='--map --help'
         mapfile -t COMPREPLY < <(compgen -W "$flags" -- "$word")
         ;;
     *)

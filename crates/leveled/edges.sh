@@ -1,11 +1,11 @@
 #!/bin/sh
-# What the program does at its edges, where the gate can't look: `sh crates/leveled/edges.sh bin/leveled`.
-# Prints each case that isn't as it should be, and ends with status 1 if there is one.
+# Tests what the gate can't: closed and full streams, terminals, odd files: `sh crates/leveled/edges.sh bin/leveled`.
+# Prints each case that fails, and ends with status 1 if there is one.
 program=$1
 place=$(mktemp -d)
 bad=0
 
-# NAME STATUS: the status of the last command
+# NAME WANTED STATUS: reports the case NAME unless the last command's STATUS is WANTED
 status_is() {
     [ "$2" = "$3" ] || { echo "$1: status $3, not $2"; bad=1; }
 }
@@ -23,7 +23,8 @@ said=$("$program" scratch "$(printf '\377')" 2>&1); status_is 'a word that is no
 [ "$said" = 'leveled: word 2 is no text' ] || { echo "a word that is no text says: $said"; bad=1; }
 printf 'vertex 0 0\n' | "$program" scratch >/dev/full 2>/dev/null; status_is 'answers on a full disk' 1 $?
 
-# Help and the manual page have the same subcommands, each tells of itself, and help has each line of the page.
+# Help and the manual page have the same subcommands, each subcommand has help of its own, and help has each command
+# and query of the page.
 page=$(dirname "$0")/../../docs/leveled.1
 "$program" --help > "$place/help"
 sed -n '/^Commands:/,/^$/s/^  \([a-z]*\) .*/\1/p' "$place/help" | sort > "$place/told"
@@ -41,13 +42,15 @@ done < "$place/told"
 sed -n 's/^ *\([0-9][0-9]* [A-Za-z]*\) .*/\1/p' "$place/codes" > "$place/told"
 sed -n 's/^\.B \([0-9][0-9]* [A-Z][A-Za-z]*\)$/\1/p' "$page" > "$place/written"
 cmp -s "$place/told" "$place/written" || { echo 'help and the manual page have other refusals'; bad=1; }
-sed -n '/^\.TS/,/^\.TE/p' "$page" | sed -n 's/^\([a-z][a-z, -]*\).*\t.*/\1/p' | tr -d ',' | tr ' ' '\n' |
-    while read -r word; do
-        grep -qw -e "$word" "$place/help" || echo "help lacks $word"
-    done > "$place/lacks"
+sed -n '/^\.SH COMMANDS AND QUERIES/,/^\.SH EXIT/s/^\.B //p' "$page" | sed 's/\\f.*//; s/\\-/-/g; s/[A-Z.,]//g' |
+    tr -s ' ' '\n' | sort -u > "$place/words"
+[ -s "$place/words" ] || { echo 'the manual page has no commands'; bad=1; }
+while read -r word; do
+    grep -qw -e "$word" "$place/help" || echo "help lacks $word"
+done < "$place/words" > "$place/lacks"
 [ ! -s "$place/lacks" ] || { cat "$place/lacks"; bad=1; }
 
-# At a terminal a person is greeted on standard error, and nowhere else.
+# The greeting is printed to standard error, and only at a terminal.
 if command -v script >/dev/null; then
     greeting='one command a line; Ctrl-D ends; man leveled'
     script -qec "$program scratch" /dev/null </dev/null | grep -q "^$greeting" || { echo 'no greeting at a terminal'; bad=1; }
@@ -57,7 +60,7 @@ if command -v script >/dev/null; then
 fi
 [ -z "$("$program" scratch </dev/null 2>&1)" ] || { echo 'a greeting where no terminal is'; bad=1; }
 
-# A folder and a missing file are no project; what can't be told is kept.
+# A folder and a missing file are no project. A command whose answer can't be written is kept.
 for word in create edit check lint; do
     said=$("$program" "$word" "$place" </dev/null 2>&1); status_is "$word of a folder" 1 $?
     [ "$said" = "$(printf 'leveled: 30 Device\n  %s: is no regular file' "$place")" ] ||
@@ -70,7 +73,7 @@ printf 'vertex 0 0\n' | "$program" edit "$place/map" >/dev/full 2>/dev/null; sta
 said=$(printf 'vertex 0 0\n' | "$program" edit "$place/map"); status_is 'the same line again' 0 $?
 [ "$said" = 'no 10' ] || { echo "the same line again says: $said"; bad=1; }
 
-# A closed stream's number isn't taken by the file of a project, and a build never writes over one.
+# The file of a project never takes the number of a closed stream, and a build never overwrites a project.
 cp "$place/map" "$place/kept"
 "$program" edit "$place/map" </dev/null >&- 2>/dev/null
 echo count | "$program" edit "$place/map" >&- 2>/dev/null; status_is 'edit without standard output' 1 $?

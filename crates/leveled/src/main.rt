@@ -1,4 +1,4 @@
-//! The program `leveled`: hands its words to `request`, and what they ask for to `perform`.
+//! The program `leveled`: passes its arguments to `request`, and the request to `perform`.
 #![tactic(auto)]
 
 ghost use Rattle.std.specs.Prelude.{◌≤◌};
@@ -12,22 +12,22 @@ use std::fs::{self, File};
 use std::io::{self, BufWriter, IsTerminal};
 use std::process::ExitCode;
 
-// The status where what was asked for is done.
+// The status of a request that was done.
 const DONE: u8 = 0;
 
 // The status of a request that was refused.
 const REFUSED: u8 = 1;
 
-// The status of words that are no request.
+// The status of arguments that are no request.
 const NO_REQUEST: u8 = 2;
 
-// Says that there is no memory, whatever becomes of standard error.
+// Reports lack of memory. If standard error can't be written, that is ignored.
 fn complain_of_memory(rt: &HostRuntime) {
     let _ = eprintln!(rt; "leveled: 31 Memory");
 }
 
-// The place of the first word that is no text; that of the program's name is 0. A word of more
-// than 4,096 bytes ends the search.
+// The position of the first argument that isn't UTF-8; the program's name is at 0. An argument of more than 4,096
+// bytes ends the search.
 fn place_of_no_text(rt: &HostRuntime) -> Option<usize> {
     let mut bytes = [0; 4096];
     for place in 0..usize::MAX {
@@ -43,7 +43,7 @@ fn place_of_no_text(rt: &HostRuntime) -> Option<usize> {
     None
 }
 
-// Says why the words can't be read, and answers the status.
+// Reports why the arguments can't be read, and returns the status.
 fn refuse_unread(rt: &HostRuntime, error: &io::Error) -> u8
     ensures { result ≤ 2 }
 {
@@ -58,7 +58,7 @@ fn refuse_unread(rt: &HostRuntime, error: &io::Error) -> u8
     NO_REQUEST
 }
 
-// The status where what the words ask for was to be printed to standard output.
+// The status after an attempt to print to standard output what the arguments ask for.
 fn after_printing(rt: &HostRuntime, is_printed: bool) -> u8
     ensures { result ≤ 2 }
 {
@@ -69,8 +69,8 @@ fn after_printing(rt: &HostRuntime, is_printed: bool) -> u8
     REFUSED
 }
 
-// Prints what clap answers to the words, and answers the status. Help and the version are asked
-// for: they go to standard output.
+// Prints clap's answer to the arguments, and returns the status. Help and the version are what was asked for, so they
+// go to standard output.
 fn answer_words(rt: &HostRuntime, error: &Error) -> u8
     ensures { result ≤ 2 }
 {
@@ -85,7 +85,7 @@ fn answer_words(rt: &HostRuntime, error: &Error) -> u8
     after_printing(rt, printed.is_ok())
 }
 
-// Answers what is no request, or says why it is none, and answers the status.
+// Prints what arguments that are no request ask for, or why they are none, and returns the status.
 fn refuse(rt: &HostRuntime, error: &RequestError) -> u8
     ensures { result ≤ 2 }
 {
@@ -103,24 +103,24 @@ fn refuse(rt: &HostRuntime, error: &RequestError) -> u8
     }
 }
 
-// Whether the request answers lines of the input.
+// Whether the request reads lines from standard input and answers them.
 fn reads_lines(request: &Request) -> bool {
     matches!(request, Request::Scratch | Request::Edit { .. })
 }
 
-// Whether a person types the input and sees what is said beside the output.
+// Whether a person types standard input and sees standard error.
 fn is_at_terminal(rt: &HostRuntime) -> bool {
     rt.stdin().is_terminal() && rt.stderr().is_terminal()
 }
 
-// Tells a person at a terminal how lines are given, before the first one is read.
+// Tells a person at a terminal how to give commands, before the first one is read.
 fn greet(rt: &HostRuntime, request: &Request) {
     if reads_lines(request) && is_at_terminal(rt) {
         let _ = eprintln!(rt; "one command a line; Ctrl-D ends; man leveled");
     }
 }
 
-// Does what the words ask for, and answers the status.
+// Does what the arguments ask for, and returns the status.
 fn answer(rt: &HostRuntime, words: &[&str]) -> u8
     ensures { result ≤ 3 }
 {
@@ -137,9 +137,9 @@ fn answer(rt: &HostRuntime, words: &[&str]) -> u8
     }
 }
 
-// Opens an empty file three times, for reading alone. Where a standard stream was closed, it is this
-// from now on, so that no file that is opened later takes its place and is written over by answers.
-// To be held as long as the program runs.
+// Opens /dev/null three times, for reading only. If a standard stream was closed, this file takes its number, so that
+// no file which is opened later does and is then overwritten by answers. The caller must hold the result as long as the
+// program runs.
 fn fill_closed_streams(rt: &HostRuntime) -> [io::Result<File>; 3] {
     [
         fs::open(rt, "/dev/null"),
@@ -148,7 +148,7 @@ fn fill_closed_streams(rt: &HostRuntime) -> [io::Result<File>; 3] {
     ]
 }
 
-// Reads the words, and does what they ask for.
+// Reads the arguments, does what they ask for, and returns the status.
 fn run(rt: &HostRuntime) -> u8
     ensures { result ≤ 3 }
 {

@@ -1,5 +1,5 @@
--- What is answered to a line over maps in memory, and what becomes of them (docs/COMMANDS.md,
--- "Answers and queries").
+-- The answer to a line over maps in memory, and the maps after it (docs/COMMANDS.md, "Answers and
+-- queries").
 use Rattle.std.specs.Prelude.{◌≡◌, ◌≢◌, ◌⊎◌, ℕ, List, MatchOption, Result, Ok, Err}
 use Rattle.lv_maptables.specs.Projects.{ProjectMaps}
 use Rattle.lv_commands.specs.Errors.{code_of}
@@ -11,27 +11,26 @@ use Rattle.lv_editor.specs.Queries.{IsAnswer, TakesMemory, query_of}
 use Rattle.lv_editor.specs.Runs.{Replies}
 use Rattle.lv_editor.specs.Texts.{outcome_text}
 
--- what is answered to a line: an answer to the query that it is, or the outcome of its command, and
--- the maps after it
+-- the text is the answer to a line, a query or a command; and the maps after it
 abbrev pub AnswersInMemory : ℕ → ProjectMaps → List ℕ → List ℕ → ProjectMaps → Type 0
 AnswersInMemory cap old line text new =
     MatchOption (query_of line) ((outcome : Result ℕ ℕ) × EndsLine cap old line outcome new
     × (text ≡ outcome_text outcome))
     (λ q. IsAnswer old q.1 text × (new ≡ old))
 
--- the line is a command that is accepted and adds items to the current map
+-- the line is an accepted command that adds items to the current map
 pub record AddsItems (cap : ℕ) (old : ProjectMaps) (line : List ℕ) : Type 0 where
   pub new : ProjectMaps
   pub number : ℕ
   pub accepts : Accepts cap old line new number
   pub adds : project_need_of accepts.command ≢ no_need
 
--- the line can need memory: a query whose answer is put together, or a command that adds items
+-- the line can need memory: a query whose answer is built in memory, or a command that adds items
 abbrev pub NeedsMemory : ℕ → ProjectMaps → List ℕ → Type 0
 NeedsMemory cap old line =
     MatchOption (query_of line) (AddsItems cap old line) (λ q. TakesMemory q.1)
 
--- such a line finds no memory, and the maps stay
+-- there is no memory for such a line, and the maps stay
 abbrev pub LacksMemory : ℕ → ProjectMaps → List ℕ → ProjectMaps → Type 0
 LacksMemory cap old line new = NeedsMemory cap old line × (new ≡ old)
 
@@ -39,7 +38,7 @@ LacksMemory cap old line new = NeedsMemory cap old line × (new ≡ old)
 abbrev pub RepliesInMemory : ℕ → ProjectMaps → List ℕ → List ℕ → ProjectMaps → Type 0
 RepliesInMemory cap = Replies (AnswersInMemory cap) (LacksMemory cap)
 
--- how a line changed the maps that is no query: by its outcome, or not at all where it found no
+-- how a line that is no query changed the maps: as its outcome says, or not at all for lack of
 -- memory
 abbrev pub ChangesBy : ℕ → ProjectMaps → List ℕ → Result ℕ ℕ → ProjectMaps → Type 0
 ChangesBy cap old line outcome new =

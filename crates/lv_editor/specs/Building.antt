@@ -1,5 +1,5 @@
--- What a build writes and tells (docs/COMMANDS.md, "The program"): a PWAD, and how long the lists
--- of its levels are.
+-- What a build writes and prints (docs/COMMANDS.md, "The program"): a PWAD, and the counts of its
+-- records.
 use Rattle.std.specs.Prelude.{◌++◌, ℕ, List, [], ◌∷◌, All, Option, codes, decimal}
 use Rattle.std.specs.Io.KnownBytes.{Appends, Keeps}
 use Rattle.lv_maptables.specs.Tables.{Tables}
@@ -15,7 +15,7 @@ abbrev pub IsWritten : List Tables → BuildCounts → Option (List ℕ) → Opt
 IsWritten ms c writer-old writer-new =
     (wad : List ℕ) × IsBuildCounted ms wad c × Appends writer-old writer-new wad
 
--- no build was written: nothing at all where a map isn't built, and else the writer failed
+-- no PWAD was written: if a map can't be built nothing at all, and else the writer failed
 abbrev pub RefusesWriting : List Tables → WriteError → Option (List ℕ) → Option (List ℕ) → Type 0
 RefusesWriting ms (Build unbuilt) writer-old writer-new =
     Blames ms unbuilt.error unbuilt.map × Keeps writer-old writer-new

@@ -14,24 +14,24 @@ use Rattle.lv_editor.specs.declared.error.WriteError.{WriteError}
 use Rattle.lv_editor.specs.declared.error.WriteError.TheVariants as writing
 use Rattle.lv_editor.specs.declared.error.WriteError.TheVariants.{Build}
 
--- the number that a refusal is known by
+-- the number of a refusal of a run
 abbrev pub code_of : EditorError → ℕ
 code_of OutOfMemory = 31
 code_of InputTooLong = 36
 code_of ReaderFailed = 37
 code_of WriterFailed = 38
 
--- the number that a refusal to inspect is known by
+-- the number of a refusal to inspect a level
 abbrev pub inspect_code_of : InspectError → ℕ
 inspect_code_of (Level e) = level_code_of e
 inspect_code_of inspecting.WriterFailed = 38
 
--- the number that a refusal to write a PWAD is known by
+-- the number of a refusal to write a PWAD
 abbrev pub write_code_of : WriteError → ℕ
 write_code_of (Build unbuilt) = build_code_of unbuilt.error
 write_code_of writing.WriterFailed = 38
 
--- the number that a refusal to build what a stop left is known by
+-- the number of a refusal to build from the disk that a stop left
 abbrev pub recovery_code_of : RecoveryError → ℕ
 recovery_code_of (recovering.Open e) = projects.code_of e
 recovery_code_of (recovering.Build e) = build_code_of e

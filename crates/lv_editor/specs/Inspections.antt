@@ -1,4 +1,4 @@
--- What `inspect` tells of a level (docs/COMMANDS.md, "The program"): how long its lumps are, and
+-- What `inspect` prints of a level (docs/COMMANDS.md, "The program"): how long its lumps are, and
 -- whether it is sound.
 use Rattle.std.specs.Prelude.{◌≡◌, ◌↔◌, ◌++◌, ℕ, Bool, true, List, [], ◌∷◌, length, Option, Some, None, codes, decimal}
 use Rattle.std.specs.Io.KnownBytes.{Appends, Keeps}
@@ -13,21 +13,21 @@ use Rattle.lv_editor.specs.declared.error.InspectError.TheVariants.{Level, Write
 
 -- ---- Texts
 
--- so many records of the first five lumps
+-- these counts of the records of the first five lumps
 abbrev pub front_text : ℕ → ℕ → ℕ → ℕ → ℕ → List ℕ
 front_text things lines sides vertices segs =
     codes "things " ++ decimal things ++ codes " lines " ++ decimal lines ++ codes " sides "
     ++ decimal sides
     ++ codes " vertices " ++ decimal vertices ++ codes " segs " ++ decimal segs
 
--- so many records of the next three, and so many bytes of the last two
+-- these counts of the records of the next three lumps, and the lengths of the last two in bytes
 abbrev pub back_text : ℕ → ℕ → ℕ → ℕ → ℕ → List ℕ
 back_text subs nodes sectors reject blockmap =
     codes " subsectors " ++ decimal subs ++ codes " nodes " ++ decimal nodes ++ codes " sectors "
     ++ decimal sectors
     ++ codes " reject " ++ decimal reject ++ codes " blockmap " ++ decimal blockmap ++ 10 ∷ []
 
--- how many records the lumps hold, and how many bytes REJECT and BLOCKMAP have
+-- how many records the lumps have, and how many bytes REJECT and BLOCKMAP have
 abbrev pub lengths_text : Lumps → List ℕ
 lengths_text l =
     front_text (length l.things) (length l.lines) (length l.sides) (length l.vertices)
@@ -52,7 +52,7 @@ fault_name Reject = codes "Reject"
 fault_name BlockHeader = codes "BlockHeader"
 fault_name (BlockList n) = codes "BlockList"
 
--- the number of the item at fault, 0 for a fault of a whole lump
+-- the number of the faulty item, or 0 if the fault is that of a whole lump
 abbrev pub fault_number : Fault → ℕ
 fault_number (LineVertex n) = n
 fault_number (LineSide n) = n
@@ -79,14 +79,14 @@ abbrev pub verdict_text : Option Fault → List ℕ
 verdict_text None = codes "sound" ++ 10 ∷ []
 verdict_text (Some fault) = fault_text fault
 
--- what is told of a level: its lengths, then its first fault
+-- what is printed of a level: its lengths, then `sound` or its first fault
 abbrev pub level_text : Lumps → List ℕ
 level_text l = lengths_text l ++ verdict_text (first_fault l)
 
 -- ---- What was done
 
--- what is to be told of the level that the WAD holds under the name was written, and it was
--- answered whether all references of the level are in range
+-- the text for the WAD's level of this name was written, and `sound` is whether all references of
+-- the level are in range
 pub record IsInspected (wad name : List ℕ) (sound : Bool)
     (writer-old writer-new : Option (List ℕ)) : Type 0 where
   pub level : Lumps
@@ -94,8 +94,8 @@ pub record IsInspected (wad name : List ℕ) (sound : Bool)
   pub written : Appends writer-old writer-new (level_text level)
   pub is : (sound ≡ true) ↔ IsInRange level
 
--- a level was not inspected: nothing was written where it can't be read or audited, and else the
--- writer failed
+-- a level was not inspected: it can't be read or audited and nothing was written, or the writer
+-- failed
 abbrev pub RefusesInspection : List ℕ → List ℕ → InspectError → Option (List ℕ) → Option (List ℕ)
     → Type 0
 RefusesInspection wad name (Level e) writer-old writer-new =

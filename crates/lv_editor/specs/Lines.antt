@@ -6,7 +6,7 @@ use Rattle.std.specs.List.{list_any}
 abbrev pub is_break : ℕ → Bool
 is_break b = b == 10
 
--- a byte in front of the first line, if there is one
+-- the lines with this byte before the first one, if there is one
 abbrev pub onto_first_line : ℕ → List (List ℕ) → List (List ℕ)
 onto_first_line b [] = []
 onto_first_line b (line ∷ lines) = (b ∷ line) ∷ lines
@@ -17,12 +17,12 @@ whole_lines [] = []
 whole_lines (b ∷ bs) = if is_break b then [] ∷ whole_lines bs
     else onto_first_line b (whole_lines bs)
 
--- what stands behind the last LF
+-- the bytes after the last LF
 abbrev pub unfinished : List ℕ → List ℕ
 unfinished [] = []
 unfinished (b ∷ bs) = if list_any is_break (b ∷ bs) then unfinished bs else b ∷ bs
 
--- a last part is a line where it isn't empty
+-- a last part is a line if it isn't empty
 abbrev pub line_if_any : List ℕ → List (List ℕ)
 line_if_any [] = []
 line_if_any (b ∷ bs) = (b ∷ bs) ∷ []

@@ -1,5 +1,5 @@
--- The lines that ask and change nothing, and what may be answered to them (docs/COMMANDS.md,
--- "Answers and queries").
+-- The lines that ask something and change nothing, and the answers that they may have
+-- (docs/COMMANDS.md, "Answers and queries").
 use Rattle.std.specs.Prelude.{◌≡◌, ◌≢◌, ◌⊎◌, List, ℕ, [], ◌∷◌, ◌++◌, length, drop, flat_map, find, Option, Result, MatchResult, codes, bytes_eq}
 use Rattle.std.specs.Io.KnownBytes.{Appends}
 use Rattle.lv_lumps.specs.Names.{name_text}
@@ -32,33 +32,33 @@ use Rattle.lv_editor.specs.declared.query.Query.TheVariants.{Check, Count, Maps,
 
 -- ---- Lines
 
--- each query for a lump as it is drawn beside its line
+-- the line of each query for a drawn lump, with the query
 abbrev pub drawn_lines : List (List ℕ × Query)
 drawn_lines =
     (codes "hex THINGS", Hex Things) ∷ (codes "hex LINEDEFS", Hex Linedefs)
     ∷ (codes "hex SIDEDEFS", Hex Sidedefs)
     ∷ (codes "hex VERTEXES", Hex Vertexes) ∷ (codes "hex SECTORS", Hex Sectors) ∷ []
 
--- each query for a lump that a build makes
+-- the line of each query for a built lump, with the query
 abbrev pub built_lines : List (List ℕ × Query)
 built_lines =
     (codes "hex SEGS", HexBuilt Segs) ∷ (codes "hex SSECTORS", HexBuilt Ssectors)
     ∷ (codes "hex NODES", HexBuilt Nodes) ∷ (codes "hex REJECT", HexBuilt Reject)
     ∷ (codes "hex BLOCKMAP", HexBuilt Blockmap) ∷ (codes "hex ADDED", HexBuilt Added) ∷ []
 
--- each query
+-- the line of each query, with the query
 abbrev pub queries : List (List ℕ × Query)
 queries =
     (codes "check", Check) ∷ (codes "count", Count) ∷ (codes "maps", Maps) ∷ (codes "build", Build)
     ∷ (drawn_lines ++ built_lines)
 
--- the query that a line is
+-- the query, if the line is one
 abbrev pub query_of : List ℕ → Option (List ℕ × Query)
 query_of line = find (λ q. bytes_eq line q.0) queries
 
 -- ---- Lumps
 
--- the items of which a drawn lump has the records
+-- the kind of item whose records are in a drawn lump
 abbrev pub kind_of_lump : Lump → Kind
 kind_of_lump Things = kind.Thing
 kind_of_lump Linedefs = kind.Line
@@ -66,8 +66,8 @@ kind_of_lump Sidedefs = kind.Side
 kind_of_lump Vertexes = kind.Vertex
 kind_of_lump Sectors = kind.Sector
 
--- the bytes of a lump of the map's level that a build makes; `ADDED` is the vertices behind the
--- drawn ones
+-- the bytes of a lump of the level that a build makes from the map; `ADDED` has the vertices after
+-- the drawn ones
 abbrev pub built_lump_of : Tables → Lumps → BuiltLump → List ℕ
 built_lump_of m l Segs = flat_map seg_record l.segs
 built_lump_of m l Ssectors = flat_map sub_record l.subs
@@ -84,7 +84,7 @@ pub record IsOfBuild (m : Tables) (l : Lumps) : Type 0 where
 
 -- ---- Answers
 
--- `no CODE` with the cause that a build is refused for, which isn't lack of memory
+-- `no CODE` with the cause for which a build is refused, which isn't lack of memory
 pub record TellsRefusal (IsCause : BuildError → Type 0) (text : List ℕ) : Type 0 where
   pub error : BuildError
   pub cause : IsCause error
@@ -104,7 +104,7 @@ TellsBuilt m lump text =
     ((l : Lumps) × IsOfBuild m l × (text ≡ hex_text (built_lump_of m l lump)))
     ⊎ TellsRefusal (IsBuildRefusal m) text
 
--- the text is an answer to the query, of the maps as they are
+-- the text is an answer to the query, about the maps as they are
 abbrev pub IsAnswer : ProjectMaps → Query → List ℕ → Type 0
 IsAnswer p Check text = text ≡ findings_text (findings (current_map p))
 IsAnswer p Count text = text ≡ count_text (current_map p)
@@ -113,7 +113,7 @@ IsAnswer p Build text = TellsBuild p.maps text
 IsAnswer p (Hex lump) text = text ≡ hex_text (lump_of (current_map p) (kind_of_lump lump))
 IsAnswer p (HexBuilt lump) text = TellsBuilt (current_map p) lump text
 
--- an answer to the query has to be put together in memory
+-- an answer to the query must be built in memory
 abbrev pub TakesMemory : Query → Type 0
 TakesMemory Check = Unit {0}
 TakesMemory Count = ⊥
@@ -124,36 +124,36 @@ TakesMemory (HexBuilt lump) = Unit {0}
 
 -- ---- What a call wrote
 
--- a text that fits was not written: nothing was, for lack of memory where it takes any, or the
--- writer failed in such a text
+-- a text that fits wasn't written: the text takes memory, there was none and nothing was written;
+-- or the writer failed during such a text
 pub record Unanswered (e : EditorError) (Fits : List ℕ → Type 0) (Takes : Type 0)
     (writer-old writer-new : Option (List ℕ)) : Type 0 where
   pub unwritten : Unwritten e writer-old writer-new
   pub lacks : e ≡ OutOfMemory → Takes
   pub failed : e ≡ WriterFailed → (text : List ℕ) × Fits text
 
--- how a call ended that should write a text that fits
+-- how a call ended that should write a fitting text
 abbrev pub WritesText : {U : Type 0} → Result U EditorError → (List ℕ → Type 0) → Type 0
     → Option (List ℕ) → Option (List ℕ) → Type 0
 WritesText result Fits Takes writer-old writer-new =
     MatchResult result (λ _. (text : List ℕ) × Fits text × Appends writer-old writer-new text)
     (λ e. Unanswered e Fits Takes writer-old writer-new)
 
--- how a call ended that should answer a query: an answer was written, or nothing for lack of memory
--- where it takes any, or the writer failed in an answer
+-- how a call ended that should answer a query: an answer was written; or nothing, for lack of
+-- memory that the answer takes; or the writer failed during an answer
 abbrev pub WritesAnswer : {U : Type 0} → Result U EditorError → ProjectMaps → Query
     → Option (List ℕ) → Option (List ℕ) → Type 0
 WritesAnswer result p query writer-old writer-new =
     WritesText result (λ text. IsAnswer p query text) (TakesMemory query) writer-old writer-new
 
--- the same of a lump that a build of the map makes
+-- the same for a lump that a build of the map makes
 abbrev pub WritesBuilt : {U : Type 0} → Result U EditorError → Tables → BuiltLump → Option (List ℕ)
     → Option (List ℕ) → Type 0
 WritesBuilt result m lump writer-old writer-new =
     WritesText result (λ text. TellsBuilt m lump text) (Unit {0}) writer-old writer-new
 
--- how a call ended that should write `no CODE` for a refused build: it was written, and the cause
--- isn't lack of memory; or nothing was written where it is; or the writer failed where it isn't
+-- how a call ended that should write `no CODE` for a refused build: for lack of memory nothing was
+-- written; for any other cause it was written, or the writer failed
 abbrev pub WritesRefusal : {U : Type 0} → Result U EditorError → BuildError → Option (List ℕ)
     → Option (List ℕ) → Type 0
 WritesRefusal result cause writer-old writer-new =

@@ -1,4 +1,4 @@
--- What is built of a disk that sessions left.
+-- The PWAD that is built from a disk that sessions left.
 use Rattle.std.specs.Prelude.{◌≡◌, ◌⊎◌, ℕ, List}
 use Rattle.lv_disk.specs.Moments.{LeavesOnly}
 use Rattle.lv_disk.specs.Stops.{Each}
@@ -11,21 +11,21 @@ use Rattle.lv_pwad.specs.Projects.{IsRefusalOfAll, IsSoundBuildOfAll}
 use Rattle.lv_editor.specs.declared.error.RecoveryError.{RecoveryError}
 use Rattle.lv_editor.specs.declared.error.RecoveryError.TheVariants.{Build, Open}
 
--- the disk was only read: what a read gives stays, and a stop at any moment leaves what one left
--- before
+-- the disk was only read: reads return what they did before, and a stop at any moment leaves what
+-- one left before
 pub record IsOnlyRead {D : Type 0} (facts : Ghosts D) (before after : D) : Type 0 where
   pub no_other : Each (facts.reads after) (facts.reads before)
   pub still : Each (facts.reads before) (facts.reads after)
   pub any_moment : LeavesOnly facts before after (facts.may_leave before)
 
--- the bytes are a sound build of each of the maps that the sessions keep, for which the file stands
+-- the bytes are a sound build of all maps that the sessions keep; the file stands for these maps
 abbrev pub BuildsKept : ℕ → List Session → List ℕ → List ℕ → Type 0
 BuildsKept cap sessions file wad =
     (maps : ProjectMaps) × KeepEach cap empty_project sessions maps × StandsFor cap maps file
     × IsSoundBuildOfAll maps.maps wad
 
--- Why there are no such bytes: the builder refused the maps that the sessions keep, for which the
--- file stands; or there was no opening, by a fault of the device or for lack of memory.
+-- Why there are no such bytes: the builder refused the maps that the sessions keep, and the file
+-- stands for these maps; or the project wasn't opened, for a fault of the device or lack of memory.
 abbrev pub RefusesKept : ℕ → List Session → List ℕ → RecoveryError → Type 0
 RefusesKept cap sessions file (Build e) =
     (maps : ProjectMaps) × KeepEach cap empty_project sessions maps × StandsFor cap maps file

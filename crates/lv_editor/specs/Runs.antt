@@ -1,6 +1,6 @@
--- What a run has read, answered and written (docs/COMMANDS.md, "Lines and turns"). The state that
--- lines move and the answers that a line may have are parameters: maps in memory have their own,
--- and a project file has its own.
+-- What a run has read, answered and written (docs/COMMANDS.md, "Lines and turns"). The type of the
+-- state and the answers that a line may have are parameters: maps in memory have their own, and a
+-- project file has its own.
 use Rattle.std.specs.Prelude.{◌≡◌, ◌≤◌, ◌*◌, ◌⊎◌, ℕ, List, [], ◌∷◌, ◌++◌, length, map, flat_map, Result, Ok, Err, Option, MatchResult, OnOk}
 use Rattle.std.specs.Io.KnownBytes.{Consumes, Appends, IsAtEnd, Keeps}
 use Rattle.lv_editor.specs.Lines.{IsBegun, whole_lines, unfinished, lines_of}
@@ -27,7 +27,7 @@ IsTrace answers first (e ∷ trace) last =
 abbrev pub lines_in : {S : Type 0} → List (Exchange S) → List (List ℕ)
 lines_in trace = map (λ e. e.line) trace
 
--- the texts of a trace, one behind the other
+-- the texts of a trace, one after the other
 abbrev pub output_of : {S : Type 0} → List (Exchange S) → List ℕ
 output_of trace = flat_map (λ e. e.text) trace
 
@@ -37,14 +37,14 @@ IsFront {X = X} front xs = (back : List X) × (xs ≡ front ++ back)
 
 -- ---- One line
 
--- what may be answered to a line, and the state after it: its answer, or `no 31` where it can need
+-- what may be answered to a line, and the state after it: its answer, or `no 31` if it can need
 -- memory
 abbrev pub Replies : {S : Type 0} → (S → List ℕ → List ℕ → S → Type 0) → (S → List ℕ → S → Type 0)
     → S → List ℕ → List ℕ → S → Type 0
 Replies answers lacks old line text new =
     answers old line text new ⊎ (lacks old line new × (text ≡ refused_text 31))
 
--- the state is as an answer of the line left it; that answer was written, or the writer failed
+-- an answer to the line led to the new state; it was written, or the writer failed
 abbrev pub AnswersLine : {S U : Type 0} → (S → List ℕ → List ℕ → S → Type 0) → Result U EditorError
     → S → S → List ℕ
     → Option (List ℕ) → Option (List ℕ) → Type 0
@@ -52,7 +52,7 @@ AnswersLine answers result old new line writer-old writer-new =
     (text : List ℕ) × answers old line text new
     × MatchResult result (λ _. Appends writer-old writer-new text) (λ e. e ≡ WriterFailed)
 
--- a call that was to write was refused: nothing was written where there was no memory, and else the
+-- a call that should write was refused: for lack of memory, with nothing written, or because the
 -- writer failed
 abbrev pub Unwritten : EditorError → Option (List ℕ) → Option (List ℕ) → Type 0
 Unwritten OutOfMemory writer-old writer-new = Keeps writer-old writer-new
@@ -62,13 +62,13 @@ Unwritten ReaderFailed writer-old writer-new = ⊥
 
 -- ---- Some lines
 
--- these lines were answered, and the writer has grown by the answers
+-- these lines were answered, and the writer has the answers appended
 pub record Answered {S : Type 0} (trace : List (Exchange S)) (lines : List (List ℕ))
     (writer-old writer-new : Option (List ℕ)) : Type 0 where
   pub asked : lines_in trace ≡ lines
   pub output : Appends writer-old writer-new (output_of trace)
 
--- how a call ended that should answer these lines: with their number, or after a front of them
+-- how a call ended that should answer these lines: with their number; or after the first of them,
 -- because the writer failed
 abbrev pub EndsLines : {S : Type 0} → Result ℕ EditorError → List (Exchange S) → List (List ℕ)
     → Option (List ℕ) → Option (List ℕ) → Type 0
@@ -87,8 +87,8 @@ AnswersLines {S = S} answers result old new lines writer-old writer-new =
     (trace : List (Exchange S)) × IsTrace answers old trace new
     × EndsLines result trace lines writer-old writer-new
 
--- how a call ended that was given more bytes behind a part of a line: each line that they end is
--- answered, and the front of what stands behind the last is kept
+-- how a call ended that took more bytes after a part of a line: each line that they end is
+-- answered, and the first bytes of the unfinished line after them are kept
 pub record Feeds {S : Type 0} (answers : S → List ℕ → List ℕ → S → Type 0)
     (result : Result ℕ EditorError) (old new : S)
     (part more kept : List ℕ) (writer-old writer-new : Option (List ℕ)) : Type 0 where
@@ -97,9 +97,10 @@ pub record Feeds {S : Type 0} (answers : S → List ℕ → List ℕ → S → T
 
 -- ---- A run
 
--- How a run of so many turns ended that has read these bytes. All lines are answered at Ok, and all
--- that were read whole where the reader failed or the turns were used up, each for a byte at least.
--- It never ends for lack of memory: that is an answer of its line.
+-- How a run of so many turns ended after it read these bytes. If it returned Ok, it answered all
+-- lines. If the reader failed or the turns were used up, it answered all lines that it read whole;
+-- each of these turns read at least one byte. It never ends for lack of memory: then a line is
+-- answered `no 31`.
 abbrev pub EndsRun : {S : Type 0} → Result ℕ EditorError → ℕ → List (Exchange S) → List ℕ
     → Option (List ℕ) → Option (List ℕ) → Type 0
 EndsRun (Ok n) turns trace read writer-old writer-new =
@@ -112,8 +113,9 @@ EndsRun (Err WriterFailed) turns trace read writer-old writer-new =
     IsFront (lines_in trace) (lines_of read)
 EndsRun (Err OutOfMemory) turns trace read writer-old writer-new = ⊥
 
--- A run of so many turns of at most 4,096 bytes: some bytes were read, at Ok all that there were,
--- the trace leads from the first state to the last, and over those bytes the run ended so.
+-- A run of so many turns of at most 4,096 bytes each: it read these bytes, all that there were if
+-- it returned Ok; the trace leads from the first state to the last; and so the run over these bytes
+-- ended.
 pub record Ran {S : Type 0} (answers : S → List ℕ → List ℕ → S → Type 0) (first last : S)
     (trace : List (Exchange S)) (turns : ℕ)
     (result : Result ℕ EditorError)

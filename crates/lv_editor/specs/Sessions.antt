@@ -15,8 +15,8 @@ use Rattle.lv_editor.specs.Queries.{query_of}
 use Rattle.lv_editor.specs.Runs.{Exchange}
 use Rattle.lv_editor.specs.Texts.{outcome_text, refused_text}
 
--- the calls of `apply` that some lines made: one for each that is no query, and its text tells what
--- the call answered
+-- the calls of `apply` that some lines made: one for each line that is no query, and the line's
+-- text is the outcome of the call
 abbrev pub AreCalls : {S : Type 0} → List (Exchange S) → List ProjectCall → Type 0
 AreCalls [] calls = calls ≡ []
 AreCalls (e ∷ trace) calls = MatchOption (query_of e.line)
@@ -25,15 +25,15 @@ AreCalls (e ∷ trace) calls = MatchOption (query_of e.line)
     × (e.text ≡ outcome_text (outcome_in answer)) × AreCalls trace rest)
     (λ q. AreCalls trace calls)
 
--- the file stands for maps to which a prefix of the accepted commands leads that holds each
+-- the file stands for the maps after a prefix of the accepted commands that holds every
 -- acknowledged one
 abbrev pub HoldsAcknowledged : ℕ → ProjectMaps → Session → List ℕ → Type 0
 HoldsAcknowledged cap base s file =
     (maps : ProjectMaps) × KeepsAcknowledged cap base s maps × StandsFor cap maps file
 
--- From each moment between two calls on, of a project that needn't be opened again: each image
--- stands for maps to which a prefix of the accepted commands leads that holds each one acknowledged
--- up to the moment.
+-- For each moment between two calls at which the project needn't be reopened: from then on each
+-- image stands for the maps after a prefix of the accepted commands that holds every command
+-- acknowledged up to the moment.
 abbrev pub HoldsThroughout : {D : Type 0} → Ghosts D → State D → List ProjectCall → State D → Type 0
 HoldsThroughout {D = D} facts old calls new =
     (front back : List ProjectCall) (mid : State D) → calls ≡ front ++ back → mid.must_reopen
@@ -47,8 +47,8 @@ abbrev pub AllReopen : {S : Type 0} → List (Exchange S) → Type 0
 AllReopen [] = Unit {0}
 AllReopen (e ∷ trace) = (e.text ≡ refused_text 32) × AllReopen trace
 
--- A line was answered `no 30` and each one behind it `no 32`; each image stands for the maps, or
--- for their step by that line.
+-- A line was answered `no 30` and every later one `no 32`; each image stands for the maps, or for
+-- the maps after that line.
 pub record IsInDoubt {D : Type 0} (facts : Ghosts D) (trace : List (Exchange (State D)))
     (new : State D) : Type 0 where
   pub front : List (Exchange (State D))
@@ -60,9 +60,9 @@ pub record IsInDoubt {D : Type 0} (facts : Ghosts D) (trace : List (Exchange (St
   pub images : Each (facts.may_leave new.disk)
       (IsOutcome new.cap (project_of new.maps) faulted.line)
 
--- What a run leaves: its lines are calls, each with its promises; a project that must be opened
--- again stays as it is, and answers `no 32` alone; of another each image stands, at each moment and
--- at the exit.
+-- What a run leaves. Its lines are calls, each of which met its contract. A project that must be
+-- reopened stays as it is, and every answer is `no 32`. For any other project each image stands for
+-- its maps, at every moment and at the exit.
 pub record RunsOver {D : Type 0} (facts : Ghosts D) (old new : State D)
     (trace : List (Exchange (State D))) : Type 0 where
   pub calls : List ProjectCall
@@ -73,19 +73,19 @@ pub record RunsOver {D : Type 0} (facts : Ghosts D) (old new : State D)
   pub in_doubt : old.must_reopen ≡ false → new.must_reopen ≡ true → IsInDoubt facts trace new
   pub reopen : old.must_reopen ≡ true → (new ≡ old) × AllReopen trace
 
--- what a session does at a time: a call of `apply` or `checkpoint` with its answer, or a run with
--- its lines and their answers
+-- one step of a session: a call of `apply` or `checkpoint` with its result, or a run with its lines
+-- and their answers
 abbrev pub Deed : Type 0 → Type 0
 Deed D = ProjectCall ⊎ List (Exchange (State D))
 
--- it was done, and these are its calls
+-- the step was done, and these are its calls
 abbrev pub IsDeedDone : {D : Type 0} → Ghosts D → State D → Deed D → List ProjectCall → State D
     → Type 0
 IsDeedDone facts old (inl call) calls new = Made facts old call new × (calls ≡ call ∷ [])
 IsDeedDone facts old (inr trace) calls new =
     (run : RunsOver facts old new trace) × (calls ≡ run.calls)
 
--- all of it was done in turn, and these are the calls
+-- these steps were done in turn, and these are all their calls
 abbrev pub AllDone : {D : Type 0} → Ghosts D → State D → List (Deed D) → List ProjectCall → State D
     → Type 0
 AllDone facts old [] calls new = (calls ≡ []) × (new ≡ old)

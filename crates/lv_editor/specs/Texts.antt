@@ -20,7 +20,7 @@ abbrev pub outcome_text : Result ℕ ℕ → List ℕ
 outcome_text (Ok n) = accepted_text n
 outcome_text (Err code) = refused_text code
 
--- a digit from 0 to f
+-- the digit for a value from 0 to 15, in lower case
 abbrev pub hex_digit : ℕ → ℕ
 hex_digit n = if nat_lt n 10 then 48 + n else 87 + n
 
@@ -28,11 +28,11 @@ hex_digit n = if nat_lt n 10 then 48 + n else 87 + n
 abbrev pub hex_byte : ℕ → List ℕ
 hex_byte b = hex_digit (b / 16) ∷ hex_digit (b % 16) ∷ []
 
--- the same behind a space
+-- a space, then the two digits of a byte
 abbrev pub spaced_byte : ℕ → List ℕ
 spaced_byte b = 32 ∷ hex_byte b
 
--- two digits for each byte with a space between; `-` for no byte
+-- two digits for each byte with spaces between them; `-` for no byte
 abbrev pub hex_digits : List ℕ → List ℕ
 hex_digits [] = codes "-"
 hex_digits (b ∷ bs) = join_with_byte 32 (map hex_byte (b ∷ bs))
@@ -41,7 +41,7 @@ hex_digits (b ∷ bs) = join_with_byte 32 (map hex_byte (b ∷ bs))
 abbrev pub hex_text : List ℕ → List ℕ
 hex_text bytes = hex_digits bytes ++ 10 ∷ []
 
--- so many items of each kind
+-- these counts of the items of each kind
 abbrev pub counts_text : ℕ → ℕ → ℕ → ℕ → ℕ → List ℕ
 counts_text vertices sectors sides lines things =
     codes "vertices " ++ decimal vertices ++ codes " sectors " ++ decimal sectors ++ codes " sides "

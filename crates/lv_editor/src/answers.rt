@@ -1,4 +1,4 @@
-//! The text that answers each query.
+//! Writes the answer to each query.
 ghost use Rattle.std.specs.Prelude.{◌≡◌, MatchResult};
 ghost use Rattle.std.specs.Io.KnownBytes.{Appends};
 ghost use Rattle.lv_checks.specs.Findings.{findings};
@@ -20,7 +20,7 @@ use lv_maptables::{Kind, Map, Maps};
 use std::alloc::Global;
 use std::io::Write;
 
-// Writes so many items of each kind.
+// Writes these counts of the items of each kind.
 fn write_counts<W: Write>(
     vertices: u32,
     sectors: u32,
@@ -82,7 +82,7 @@ fn write_hex<W: Write>(
     }
 }
 
-// Writes what is wrong or unfinished in the map.
+// Writes the findings of the map, and their number.
 fn write_check<W: Write>(alloc: Global, map: &Map, writer: &mut W) -> Result<(), EditorError>
     ensures { MatchResult result
         (λ _. Appends (W.contents writer.old) (W.contents writer.new)
@@ -95,11 +95,11 @@ fn write_check<W: Write>(alloc: Global, map: &Map, writer: &mut W) -> Result<(),
     }
 }
 
-/// Writes the answer to a query, of the maps and the current one.
+/// Writes the answer to a query about the maps or the current map.
 ///
 /// # Errors
 ///
-/// `OutOfMemory`, and then nothing is written, or `WriterFailed`.
+/// `OutOfMemory`, with nothing written, or `WriterFailed`.
 pub fn write_answer<W: Write>(
     alloc: Global,
     maps: &Maps,

@@ -1,4 +1,4 @@
-//! The queries that build: `build`, and `hex` of a lump that only a build has.
+//! The queries that need a build: `build`, and `hex` of a lump that a build makes.
 ghost use Rattle.std.specs.Prelude.{◌≡◌, drop, flat_map, length, IfErr, IfOk, MatchResult};
 ghost use Rattle.std.specs.Io.KnownBytes.{Appends};
 ghost use Rattle.lv_lumps.specs.Records.{vertex_record};
@@ -21,7 +21,7 @@ use lv_pwad::{BuildError, Level, build_counted, build_wad, read_level};
 use std::alloc::Global;
 use std::io::Write;
 
-// Writes why nothing is built, as `no CODE`. Lack of memory is handed on, and nothing is written.
+// Writes why a build is refused, as `no CODE`. For lack of memory it writes nothing and returns `OutOfMemory`.
 fn write_refusal<W: Write>(cause: BuildError, writer: &mut W) -> Result<(), EditorError>
     ensures { WritesRefusal result cause (W.contents writer.old) (W.contents writer.new) }
 {
@@ -31,11 +31,11 @@ fn write_refusal<W: Write>(cause: BuildError, writer: &mut W) -> Result<(), Edit
     }
 }
 
-/// Writes what a build of all maps makes, or why it is refused.
+/// Writes the counts of a build of all maps, or why it is refused.
 ///
 /// # Errors
 ///
-/// `OutOfMemory`, and then nothing is written, or `WriterFailed`.
+/// `OutOfMemory`, with nothing written, or `WriterFailed`.
 pub fn write_build<W: Write>(alloc: Global, maps: &Maps, writer: &mut W) -> Result<(), EditorError>
     ensures { WritesAnswer result (project_of maps.now) Build
         (W.contents writer.old) (W.contents writer.new) }
@@ -46,7 +46,7 @@ pub fn write_build<W: Write>(alloc: Global, maps: &Maps, writer: &mut W) -> Resu
     }
 }
 
-// The level that a build of the map alone makes.
+// The level that a build of this map alone makes.
 fn build_level(alloc: Global, map: &Map) -> Result<Level, BuildError>
     ensures level { IfOk result (λ level. IsOfBuild map.now.tables (view level)) }
     ensures refused { IfErr result (IsBuildRefusal map.now.tables) }
@@ -59,7 +59,7 @@ fn build_level(alloc: Global, map: &Map) -> Result<Level, BuildError>
     }
 }
 
-// The vertices behind the first so many.
+// The vertices after the first `count`.
 fn behind(vertices: &[Vertex], count: u32) -> &[Vertex]
     ensures { result.now ≡ drop count vertices.now }
 {
@@ -71,7 +71,7 @@ fn behind(vertices: &[Vertex], count: u32) -> &[Vertex]
     }
 }
 
-// The bytes of the vertices that a build adds behind the drawn ones.
+// The bytes of the vertices that a build adds after the drawn ones.
 fn added(alloc: Global, map: &Map, level: &Level) -> Result<Vec<u8>, LumpError>
     ensures { IfOk result (λ v. v.items
         ≡ flat_map vertex_record (drop (length map.now.tables.vertices)
@@ -80,7 +80,7 @@ fn added(alloc: Global, map: &Map, level: &Level) -> Result<Vec<u8>, LumpError>
     encode_vertices(alloc, behind(&level.vertices, map.count(Kind::Vertex)))
 }
 
-// The bytes, copied.
+// A copy of the bytes.
 fn copied(alloc: Global, bytes: &[u8]) -> Result<Vec<u8>, LumpError>
     ensures { IfOk result (λ v. v.items ≡ bytes.now) }
 {
@@ -89,7 +89,7 @@ fn copied(alloc: Global, bytes: &[u8]) -> Result<Vec<u8>, LumpError>
     Ok(copy)
 }
 
-// The bytes of a lump of the map's level that a build made.
+// The bytes of a lump of the level that a build made from the map.
 fn lump_of(alloc: Global, map: &Map, level: &Level, lump: BuiltLump) -> Result<Vec<u8>, LumpError>
     ensures { IfOk result (λ v. v.items ≡ built_lump_of map.now.tables (view level.now) lump) }
 {
@@ -103,7 +103,7 @@ fn lump_of(alloc: Global, map: &Map, level: &Level, lump: BuiltLump) -> Result<V
     }
 }
 
-// Writes the bytes of a lump of the map's level that a build made.
+// Writes the bytes of a lump of the level that a build made from the map.
 fn write_lump<W: Write>(
     alloc: Global,
     map: &Map,
@@ -128,11 +128,11 @@ fn write_lump<W: Write>(
     }
 }
 
-/// Writes the bytes of a lump that a build of the map alone makes, or why it is refused.
+/// Writes the bytes of a lump that a build of this map alone makes, or why the build is refused.
 ///
 /// # Errors
 ///
-/// `OutOfMemory`, and then nothing is written, or `WriterFailed`.
+/// `OutOfMemory`, with nothing written, or `WriterFailed`.
 pub fn write_built<W: Write>(
     alloc: Global,
     map: &Map,

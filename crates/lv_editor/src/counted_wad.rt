@@ -1,4 +1,4 @@
-//! What a build of all maps makes, written out: its PWAD and its counts.
+//! Writes what a build of all maps makes: the PWAD, and its counts.
 ghost use Rattle.std.specs.Prelude.{◌≡◌, Err, Some, length, IfErr, IfOk, MatchResult, slice_get};
 ghost use Rattle.std.specs.Io.KnownBytes.{Appends};
 ghost use Rattle.lv_maptables.specs.Projects.{project_of};
@@ -14,12 +14,12 @@ use lv_pwad::{BuildCounts, build_counted};
 use std::alloc::Global;
 use std::io::Write;
 
-/// Builds the PWAD of all maps of a project, writes it, and answers its counts. Nothing is written before the whole
-/// PWAD is made.
+/// Builds the PWAD of all maps of a project, writes it, and returns its counts. Nothing is written before the whole
+/// PWAD is built.
 ///
 /// # Errors
 ///
-/// `Build` as `build_counted` refuses, and then nothing is written; or `WriterFailed`.
+/// `Build` if `build_counted` refuses the maps, with nothing written; or `WriterFailed`.
 pub fn write_wad<W: Write>(
     alloc: Global,
     maps: &Maps,
@@ -29,7 +29,7 @@ pub fn write_wad<W: Write>(
         (W.contents writer.old) (W.contents writer.new)) }
     ensures refused { IfErr result (λ e. RefusesWriting (project_of maps.now).maps e
         (W.contents writer.old) (W.contents writer.new)) }
-    // With or without memory, where the first map has no line.
+    // With or without memory, if the first map has no line.
     ensures nothing { (m : Tables) → slice_get (project_of maps.now).maps 0 ≡ Some m
         → length m.lines ≡ 0
         → result ≡ Err (WriteError.Build (blamed NothingToBuild m.name)) }
@@ -41,7 +41,7 @@ pub fn write_wad<W: Write>(
     }
 }
 
-/// Writes what a build made: `built vertices V segs S subsectors U nodes N bytes B`.
+/// Writes the counts of a build: `built vertices V segs S subsectors U nodes N bytes B`.
 pub fn write_counts<W: Write>(counts: BuildCounts, writer: &mut W) -> Result<(), EditorError>
     ensures { MatchResult result
         (λ _. Appends (W.contents writer.old) (W.contents writer.new) (built_text counts))

@@ -29,7 +29,7 @@ fn outcome_of(ended: Result<u32, CommandError>) -> Result<u32, u16>
     }
 }
 
-/// The maps of a project in memory, which lines ask and change.
+/// The maps of a project in memory, which queries read and commands change.
 #[derive(Drop)]
 pub struct Drawing {
     maps: Maps,
@@ -53,7 +53,7 @@ impl Drawing {
         }
     }
 
-    // Does what a line asks for that is no query, and answers its number or the refusal's code.
+    // Applies a line that is no query, and returns its number or the refusal's code.
     fn change(&mut self, line: &[u8]) -> Result<u32, u16>
         ensures { ChangesBy LONGEST_BODY self.old line.now result self.new }
     {
@@ -103,17 +103,17 @@ impl Session for Drawing {
     }
 }
 
-/// Answers the lines that the reader gives, in at most `turns` reads of at most 4,096 bytes, over
-/// the maps of a project that is the empty map MAP01 at first, and says how many lines it answered.
-/// The writer is flushed after each turn.
+/// Answers the lines of the reader over the maps of a project in memory, at first the empty map MAP01 alone, and
+/// returns how many lines it answered. It makes at most `turns` reads of at most 4,096 bytes each, and flushes the
+/// writer after each of these turns.
 ///
 /// # Errors
 ///
-/// - `InputTooLong` where that many reads did not give the end, and `ReaderFailed`: every line that
-///   was read whole has been answered, and the rest is dropped.
-/// - `WriterFailed`: no further line was looked at.
+/// - `InputTooLong` if that many reads don't reach the end of the input, and `ReaderFailed`: every line that was read
+///   whole has been answered, and the rest is dropped.
+/// - `WriterFailed`: no further line was answered.
 ///
-/// It takes no memory of its own. A line that finds none is answered `no 31`.
+/// The run itself allocates nothing. A line for which there is no memory is answered `no 31`.
 pub fn run_in_memory<R: Read, W: Write>(
     alloc: Global,
     reader: &mut R,

@@ -34,7 +34,7 @@ fn outcome_in(ended: Result<u32, ProjectError>) -> Result<u32, u16>
     }
 }
 
-// Does what a line asks for that is no query, and answers its number or the refusal's code.
+// Applies a line that is no query, and returns its number or the refusal's code.
 fn change<D: Disk>(project: &mut Project<D>, line: &[u8]) -> Result<u32, u16>
     ensures { (answer : Result ℕ ProjectError)
         × Applies D.Disk project.old line.now answer project.new
@@ -43,7 +43,7 @@ fn change<D: Disk>(project: &mut Project<D>, line: &[u8]) -> Result<u32, u16>
     outcome_in(project.apply(line))
 }
 
-// As much of a line as decides what it is.
+// The first 257 bytes of a line, which decide what it is.
 fn front(line: &[u8]) -> &[u8]
     ensures { result.now ≡ take 257 line.now }
 {
@@ -110,32 +110,32 @@ pub fn answer<D: Disk, W: Write>(
     ensures answered { AnswersLine (RepliesInProject D.Disk) result
         project.old project.new line.now (W.contents writer.old) (W.contents writer.new) }
 
-    // A stop at any moment of the call leaves the maps, or those that the line leads to.
+    // A stop at any moment of the call leaves the maps as they were, or as the line changes them.
     ensures any_moment { project.old.must_reopen ≡ false
         → LeavesOnly D.Disk project.old.disk project.new.disk
         (IsOutcome project.old.cap (project_of project.old.maps) line.now) }
 
-    // Each image now stands for the maps, or, where the project must be opened again, for these maps after the line.
+    // Each image now stands for the maps; if the project must be reopened, for these maps or these maps after the line.
     ensures kept { IsProjectKept D.Disk project.new }
     ensures in_doubt { project.old.must_reopen ≡ false → project.new.must_reopen ≡ true
         → Each (D.may_leave project.new.disk)
         (IsOutcome project.new.cap (project_of project.new.maps) line.now) }
 {
-    // What each image stands for as the call begins; this call is a law that tells it.
+    // Only for its contract: it says what each image stands for as the call begins.
     let _ = project.must_reopen();
     project.answer(alloc, front(line), writer)
 }
 
-/// Answers the lines that the reader gives over a project, in at most `turns` reads of at most 4,096 bytes, and says
-/// how many lines it answered. The writer is flushed after each turn.
+/// Answers the lines of the reader over a project, and returns how many lines it answered. It makes at most `turns`
+/// reads of at most 4,096 bytes each, and flushes the writer after each of these turns.
 ///
-/// After a line that was answered `no 30` each is answered `no 32`, queries too, until the file is opened again.
+/// After a line that was answered `no 30`, every line is answered `no 32`, queries too, until the file is reopened.
 ///
 /// # Errors
 ///
-/// - `InputTooLong` where that many reads did not give the end, and `ReaderFailed`: every line that
-///   was read whole has been answered, and the rest is dropped.
-/// - `WriterFailed`: no further line was looked at.
+/// - `InputTooLong` if that many reads don't reach the end of the input, and `ReaderFailed`: every line that was read
+///   whole has been answered, and the rest is dropped.
+/// - `WriterFailed`: no further line was answered.
 pub fn run<D: Disk, R: Read, W: Write>(
     alloc: Global,
     project: &mut Project<D>,
@@ -149,7 +149,7 @@ pub fn run<D: Disk, R: Read, W: Write>(
         (W.contents writer.old) (W.contents writer.new)
         × RunsOver D.Disk project.old project.new trace }
 {
-    // What each image stands for as the run begins; this call is a law that tells it.
+    // Only for its contract: it says what each image stands for as the run begins.
     let _ = project.must_reopen();
     run_lines(alloc, project, reader, writer, turns)
 }

@@ -1,4 +1,4 @@
-//! Why a run, an inspection, a build or a recovery ended, and the number of each refusal.
+//! Why a run, an inspection, a build or a recovery failed, and the number of each refusal.
 ghost use Rattle.std.specs.Prelude.{◌≡◌};
 ghost use Rattle.lv_editor.specs.declared.error.InspectError.TheVariants.{Level};
 ghost use Rattle.lv_editor.specs.declared.error.WriteError.TheVariants.{Build};
@@ -7,7 +7,7 @@ use lv_project::ProjectError;
 use lv_pwad::{BuildError, ReadError, Unbuilt};
 use thiserror::Error;
 
-/// Why a run, or what it was asked for, ended before its end.
+/// Why a run, or the answer to one of its lines, was cut off.
 #[derive(Clone, Copy, Debug, PartialEq, Eq, Error)]
 pub enum EditorError {
     #[error("the input is too long")]
@@ -40,7 +40,7 @@ impl EditorError {
 /// Why a level was not inspected.
 #[derive(Clone, Copy, Debug, PartialEq, Eq, Error)]
 pub enum InspectError {
-    /// The WAD holds no such level, or there is no memory to read and audit it.
+    /// The WAD has no such level, or there is no memory to read and audit it.
     #[error(transparent)]
     Level(ReadError),
     #[error("the writer failed")]
@@ -73,7 +73,7 @@ impl From<ReadError> for InspectError {
 /// Why no PWAD was written.
 #[derive(Clone, Copy, Debug, PartialEq, Eq, Error)]
 pub enum WriteError {
-    /// A map is not built, the one that is named.
+    /// A map can't be built; the error names it.
     #[error(transparent)]
     Build(Unbuilt),
     #[error("the writer failed")]
@@ -103,13 +103,13 @@ impl From<Unbuilt> for WriteError {
     }
 }
 
-/// Why what a stop left was not built.
+/// Why no PWAD was built from the disk that a stop left.
 #[derive(Clone, Copy, Debug, PartialEq, Eq, Error)]
 pub enum RecoveryError {
-    /// The disk gave no project.
+    /// The project on the disk can't be opened.
     #[error(transparent)]
     Open(#[from] ProjectError),
-    /// A map is not built.
+    /// A map can't be built.
     #[error(transparent)]
     Build(#[from] BuildError),
 }

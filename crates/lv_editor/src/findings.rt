@@ -1,4 +1,4 @@
-//! The findings of a map written as lines.
+//! Writes the findings of a map, one on each line.
 ghost use Rattle.std.specs.Prelude.{◌≡◌, IfErr, IfOk, MatchResult, flat_map, length};
 ghost use Rattle.std.specs.Io.KnownBytes.{Appends};
 ghost use Rattle.lv_checks.specs.Findings.{findings};
@@ -52,12 +52,11 @@ pub fn write_total<W: Write>(count: u32, writer: &mut W) -> Result<(), EditorErr
     }
 }
 
-/// Writes what is wrong or unfinished in the map: a line for each finding, and then their number,
-/// which it answers.
+/// Writes what is wrong or unfinished in the map: a line for each finding, then `findings N`. Returns N.
 ///
 /// # Errors
 ///
-/// `OutOfMemory`, and then nothing is written, or `WriterFailed`.
+/// `OutOfMemory`, with nothing written, or `WriterFailed`.
 pub fn write_findings<W: Write>(
     alloc: Global,
     map: &Map,
@@ -72,7 +71,7 @@ pub fn write_findings<W: Write>(
     let Ok(found) = check(alloc, map) else {
         return Err(EditorError::OutOfMemory);
     };
-    // No memory holds more findings than that.
+    // Memory never holds more findings than a u32 can count.
     let Ok(count) = u32::try_from(found.len()) else {
         return Err(EditorError::OutOfMemory);
     };

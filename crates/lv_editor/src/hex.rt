@@ -1,10 +1,10 @@
-//! Bytes as text, two digits each.
+//! Bytes as hexadecimal text.
 ghost use Rattle.std.specs.Prelude.{◌≡◌, ◌<◌, ◌++◌, flat_map, IfOk, OnOk};
 ghost use Rattle.lv_editor.specs.Texts.{hex_byte, hex_digit, hex_digits, hex_text, spaced_byte};
 
 use std::alloc::{AllocError, Global};
 
-// A digit from 0 to f.
+// The digit for a value from 0 to 15, in lower case.
 fn hex_digit(value: u8) -> u8
     requires { value < 16 }
     ensures { result ≡ hex_digit value }
@@ -16,7 +16,7 @@ fn hex_digit(value: u8) -> u8
     }
 }
 
-// Adds the two digits of a byte.
+// Appends the two digits of a byte.
 fn push_byte(text: &mut Vec<u8>, b: u8) -> Result<(), AllocError>
     ensures { OnOk result (text.new.items ≡ text.old.items ++ hex_byte b) }
 {
@@ -25,7 +25,7 @@ fn push_byte(text: &mut Vec<u8>, b: u8) -> Result<(), AllocError>
     Ok(())
 }
 
-// Adds each byte with a space before it.
+// Appends each byte with a space before it.
 fn push_spaced(text: &mut Vec<u8>, bytes: &[u8]) -> Result<(), AllocError>
     ensures { OnOk result (text.new.items ≡ text.old.items ++ flat_map spaced_byte bytes.now) }
 {
@@ -36,7 +36,7 @@ fn push_spaced(text: &mut Vec<u8>, bytes: &[u8]) -> Result<(), AllocError>
     Ok(())
 }
 
-// Adds the digits of all bytes with a space between, or `-` for none.
+// Appends all bytes with spaces between them, or `-` if there are none.
 fn push_digits(text: &mut Vec<u8>, bytes: &[u8]) -> Result<(), AllocError>
     ensures { OnOk result (text.new.items ≡ text.old.items ++ hex_digits bytes.now) }
 {
@@ -53,7 +53,7 @@ fn push_digits(text: &mut Vec<u8>, bytes: &[u8]) -> Result<(), AllocError>
     }
 }
 
-/// The bytes as two digits each with a space between, or `-` for none, and LF.
+/// The bytes as two digits each, with spaces between them, or `-` if there are none; then LF.
 pub fn hex_text(alloc: Global, bytes: &[u8]) -> Result<Vec<u8>, AllocError>
     ensures { IfOk result (λ text. text.items ≡ hex_text bytes.now) }
 {

@@ -1,10 +1,10 @@
-//! The line of input that is being read, of which no more is kept than a command may have.
+//! The input line that is being read; only its first 257 bytes are kept.
 ghost use Rattle.std.specs.Prelude.{◌≡◌, ◌≤◌, ℕ, List, [], ◌∷◌, ◌++◌, take};
 
 use std::marker::Model;
 
-/// The line that is being read: its first 257 bytes, one more than a command may have, so that a
-/// longer line is known without its rest.
+/// The input line that is being read: its first 257 bytes, one more than a command may have. So a longer line is known
+/// to be too long without its rest.
 #[derive(Drop)]
 pub struct InputLine {
     bytes: [u8; 257],
@@ -36,7 +36,7 @@ impl InputLine {
         &self.bytes[..self.len]
     }
 
-    /// Takes one more byte of the line.
+    /// Appends one more byte of the line, if it is one of the first 257.
     pub fn push(&mut self, b: u8)
         ensures { self.new ≡ take 257 (self.old ++ b ∷ []) }
     {

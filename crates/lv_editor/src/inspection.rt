@@ -1,4 +1,4 @@
-//! What `inspect` tells of a level: its lengths, then `sound` or the first fault.
+//! Writes what `inspect` prints of a level: its lengths, then `sound` or the first fault.
 ghost use Rattle.std.specs.Prelude.{◌≡◌, ◌++◌, IfErr, IfOk, MatchResult, is_none};
 ghost use Rattle.std.specs.Io.KnownBytes.{Appends};
 ghost use Rattle.lv_levels.specs.Views.{view};
@@ -32,7 +32,7 @@ fn name_of(fault: Fault) -> &'static str
     }
 }
 
-// The number of the item at fault, 0 for a fault of a whole lump.
+// The number of the faulty item, or 0 if the fault is that of a whole lump.
 fn number_of(fault: Fault) -> usize
     ensures { result ≡ fault_number fault }
 {
@@ -52,7 +52,7 @@ fn number_of(fault: Fault) -> usize
     }
 }
 
-// Writes how many records the first five lumps hold.
+// Writes how many records each of the first five lumps has.
 fn write_front<W: Write>(
     things: usize,
     lines: usize,
@@ -76,7 +76,7 @@ fn write_front<W: Write>(
     }
 }
 
-// Writes how many records the next three lumps hold, how many bytes REJECT and BLOCKMAP have, and ends the line.
+// Writes how many records each of the next three lumps has, how many bytes REJECT and BLOCKMAP have, and the LF.
 fn write_back<W: Write>(
     subs: usize,
     nodes: usize,
@@ -100,7 +100,7 @@ fn write_back<W: Write>(
     }
 }
 
-// Writes how many records the lumps of a level hold, and how many bytes REJECT and BLOCKMAP have.
+// Writes how many records the lumps of a level have, and how many bytes REJECT and BLOCKMAP have.
 fn write_lengths<W: Write>(level: &Level, writer: &mut W) -> Result<(), InspectError>
     ensures { MatchResult result
         (λ _. Appends (W.contents writer.old) (W.contents writer.new)
@@ -137,7 +137,7 @@ fn write_fault<W: Write>(fault: Fault, writer: &mut W) -> Result<(), InspectErro
     }
 }
 
-// Writes `sound`, or the fault, and answers whether there is none.
+// Writes `sound` or the fault, and returns whether the level is sound.
 fn write_verdict<W: Write>(fault: Option<Fault>, writer: &mut W) -> Result<bool, InspectError>
     ensures { MatchResult result
         (λ sound. (sound ≡ is_none fault)
@@ -156,7 +156,7 @@ fn write_verdict<W: Write>(fault: Option<Fault>, writer: &mut W) -> Result<bool,
     }
 }
 
-// Writes what an audit says of a level, and answers whether it is sound.
+// Writes the lengths of a level and the result of its audit, and returns whether it is sound.
 fn write_level<W: Write>(
     level: &Level,
     fault: Option<Fault>,
@@ -174,14 +174,13 @@ fn write_level<W: Write>(
     }
 }
 
-/// Reads the level of the name in a WAD and audits it. Writes a line with how many records its lumps hold and how many
-/// bytes its REJECT and BLOCKMAP have; then `sound`, or `fault NAME I` for the first fault in the order of
-/// docs/FORMAT.md, "What an audit looks for". Answers whether it is sound: every reference is in range.
+/// Reads the level of this name from a WAD and audits it. Writes a line with how many records its lumps have and how
+/// many bytes REJECT and BLOCKMAP have; then `sound`, or `fault NAME I` for the first fault in the order of
+/// docs/FORMAT.md, "What an audit looks for". Returns whether the level is sound: every reference is in range.
 ///
 /// # Errors
 ///
-/// `Level` where there is no such level, or no memory to read and audit it, and then nothing is written; or
-/// `WriterFailed`.
+/// `Level` if there is no such level, or no memory to read and audit it, with nothing written; or `WriterFailed`.
 pub fn inspect<W: Write>(
     alloc: Global,
     wad: &[u8],

@@ -1,4 +1,4 @@
-//! The editor: lines in, answers out.
+//! The editor: reads input lines and writes their answers.
 #![tactic(auto)]
 
 mod answers;

@@ -10,7 +10,7 @@ use crate::error::EditorError;
 use lv_maptables::{Map, Maps};
 use std::io::Write;
 
-// Writes a map's name, and ends the line.
+// Writes a map's name and LF.
 fn write_name<W: Write>(name: &[u8], writer: &mut W) -> Result<(), EditorError>
     ensures { MatchResult result
         (λ _. Appends (W.contents writer.old) (W.contents writer.new) (name.now ++ 10 ∷ []))
@@ -41,7 +41,7 @@ fn write_map<W: Write>(number: u32, map: &Map, writer: &mut W) -> Result<(), Edi
     }
 }
 
-// Writes `I NAME` for the map of the number, if there is one.
+// Writes `I NAME` for the map with this number, if there is one.
 fn write_nth<W: Write>(maps: &Maps, number: u32, writer: &mut W) -> Result<(), EditorError>
     ensures { MatchResult result
         (λ _. (m : Tables) → slice_get (project_of maps.now).maps number ≡ Some m
@@ -82,7 +82,7 @@ fn write_current<W: Write>(number: u32, writer: &mut W) -> Result<(), EditorErro
     }
 }
 
-/// Writes a line for each map, and then which is the current one.
+/// Writes `I NAME` for each map, then `current I`.
 pub fn write_maps<W: Write>(maps: &Maps, writer: &mut W) -> Result<(), EditorError>
     ensures { MatchResult result
         (λ _. Appends (W.contents writer.old) (W.contents writer.new)

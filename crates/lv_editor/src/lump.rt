@@ -1,10 +1,10 @@
-//! The lumps that a line may ask for, as they are drawn and as a build makes them.
+//! The lumps that `hex` prints: those that are drawn, and those that a build makes.
 ghost use Rattle.std.specs.Prelude.{◌≡◌};
 ghost use Rattle.lv_editor.specs.Queries.{kind_of_lump};
 
 use lv_maptables::Kind;
 
-/// A lump of a map as it is drawn, by its name.
+/// A lump of a map as it is drawn; each variant is the lump of its name.
 #[derive(Clone, Copy)]
 pub enum Lump {
     Things,
@@ -15,7 +15,7 @@ pub enum Lump {
 }
 
 impl Lump {
-    /// The items of which a drawn lump has the records.
+    /// The kind of item whose records are in the lump.
     pub fn kind(self) -> Kind
         ensures { result ≡ kind_of_lump self }
     {
@@ -29,7 +29,8 @@ impl Lump {
     }
 }
 
-/// A lump that a build of a map makes, by its name; `Added` is the vertices behind the drawn ones.
+/// A lump that a build of a map makes; each variant is the lump of its name. `Added` has the vertices that the build
+/// adds after the drawn ones.
 #[derive(Clone, Copy)]
 pub enum BuiltLump {
     Segs,

@@ -1,4 +1,4 @@
-//! `ok N` and `no CODE`.
+//! Writes the answers `ok N` and `no CODE`.
 ghost use Rattle.std.specs.Prelude.{◌≡◌, MatchResult};
 ghost use Rattle.std.specs.Io.KnownBytes.{Appends};
 ghost use Rattle.lv_editor.specs.declared.error.EditorError.TheVariants.{WriterFailed};
@@ -7,7 +7,7 @@ ghost use Rattle.lv_editor.specs.Texts.{outcome_text};
 use crate::error::EditorError;
 use std::io::Write;
 
-/// Writes the outcome of a line, which is a number or a refusal's code: `ok N` or `no CODE`.
+/// Writes the outcome of a line: `ok N` for a number, `no CODE` for a refusal's code.
 pub fn write_outcome<W: Write>(outcome: Result<u32, u16>, writer: &mut W) -> Result<(), EditorError>
     ensures { MatchResult result
         (λ _. Appends (W.contents writer.old) (W.contents writer.new) (outcome_text outcome))

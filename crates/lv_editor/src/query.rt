@@ -1,11 +1,11 @@
-//! The lines that ask and change nothing.
+//! The queries: lines that ask something and change nothing.
 ghost use Rattle.std.specs.Prelude.{◌≡◌, ◌++◌, find, bytes_eq};
 ghost use Rattle.std.specs.Option.{option_map};
 ghost use Rattle.lv_editor.specs.Queries.{built_lines, drawn_lines, query_of};
 
 use crate::lump::{BuiltLump, Lump};
 
-/// A line that asks and changes nothing.
+/// A line that asks something and changes nothing.
 #[derive(Clone, Copy)]
 pub enum Query {
     /// What is wrong or unfinished in the current map.
@@ -14,7 +14,7 @@ pub enum Query {
     Count,
     /// Which maps there are, and which is the current one.
     Maps,
-    /// What a build of all maps makes.
+    /// The counts of a build of all maps.
     Build,
     /// The bytes of a lump of the current map, as it is drawn.
     Hex(Lump),
@@ -22,7 +22,7 @@ pub enum Query {
     HexBuilt(BuiltLump),
 }
 
-// The query for a built lump that a line is, if it is one.
+// The query for a built lump, if the line is one.
 fn read_built(line: &[u8]) -> Option<Query>
     ensures { result ≡ option_map (λ q. q.1) (find (λ q. bytes_eq line.now q.0) built_lines) }
 {
@@ -43,7 +43,7 @@ fn read_built(line: &[u8]) -> Option<Query>
     }
 }
 
-// The query for a lump that a line is, if it is one.
+// The query for a lump, if the line is one.
 fn read_hex(line: &[u8]) -> Option<Query>
     ensures { result ≡ option_map (λ q. q.1)
         (find (λ q. bytes_eq line.now q.0) (drawn_lines ++ built_lines)) }
@@ -63,7 +63,7 @@ fn read_hex(line: &[u8]) -> Option<Query>
     }
 }
 
-/// The query that a line is, byte for byte.
+/// The query, if the line is one byte for byte.
 pub fn read_query(line: &[u8]) -> Option<Query>
     ensures { result ≡ option_map (λ q. q.1) (query_of line.now) }
 {

@@ -1,4 +1,4 @@
-//! The loop of a run: turns of reading, lines cut at LF, answers flushed after each turn.
+//! The loop of a run: each turn reads some bytes, cuts them at LF, answers the lines and flushes the answers.
 ghost use Rattle.std.specs.Prelude.{◌≡◌, ◌≤◌, ◌+◌, ◌++◌, ℕ, List, ◌∷◌, [], length, OnOk, IfOk, MatchResult};
 ghost use Rattle.std.specs.Io.KnownBytes.{Keeps};
 ghost use Rattle.lv_editor.specs.declared.error.EditorError.TheVariants.{WriterFailed};
@@ -11,7 +11,7 @@ use crate::session::Session;
 use std::alloc::Global;
 use std::io::{Read, Write};
 
-// Hands on what was written, so that a pipe or a terminal has it.
+// Flushes the writer, so that a pipe or a terminal gets the answers.
 fn flush<W: Write>(writer: &mut W) -> Result<(), EditorError>
     ensures { MatchResult result (λ _. Keeps (W.contents writer.old) (W.contents writer.new))
         (λ e. e ≡ WriterFailed) }
@@ -22,7 +22,7 @@ fn flush<W: Write>(writer: &mut W) -> Result<(), EditorError>
     }
 }
 
-// Answers a last line without LF, where it isn't empty.
+// Answers a last line without LF, if it isn't empty.
 fn finish<S: Session, W: Write>(
     alloc: Global,
     session: &mut S,
@@ -46,7 +46,7 @@ fn finish<S: Session, W: Write>(
     }
 }
 
-// Takes one byte: answers the line that it ends, or goes on with the line.
+// Takes one byte: LF ends the line, which is answered; any other byte is appended to it.
 fn take_byte<S: Session, W: Write>(
     alloc: Global,
     session: &mut S,
@@ -72,7 +72,7 @@ fn take_byte<S: Session, W: Write>(
     }
 }
 
-// Takes more bytes: answers each line that they end, and keeps what stands behind the last.
+// Takes more bytes: answers each line that they end, and keeps the bytes after the last LF.
 fn feed<S: Session, W: Write>(
     alloc: Global,
     session: &mut S,
@@ -95,7 +95,7 @@ fn feed<S: Session, W: Write>(
     Ok(answered)
 }
 
-// Takes the bytes of one turn, and hands on the answers.
+// Takes the bytes of one turn, and flushes the answers.
 fn take_turn<S: Session, W: Write>(
     alloc: Global,
     session: &mut S,
@@ -117,8 +117,8 @@ fn take_turn<S: Session, W: Write>(
     }
 }
 
-/// Answers the lines that the reader gives, in at most `turns` reads of at most 4,096 bytes, and says how many lines it
-/// answered. The writer is flushed after each turn.
+/// Answers the lines of the reader, and returns how many lines it answered. It makes at most `turns` reads of at most
+/// 4,096 bytes each, and flushes the writer after each of these turns.
 pub fn run_lines<S: Session, R: Read, W: Write>(
     alloc: Global,
     session: &mut S,

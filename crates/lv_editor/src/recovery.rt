@@ -1,4 +1,4 @@
-//! Sessions of calls and runs, each stopped at any moment, and what is built of the disk that they leave.
+//! Sessions of calls and runs, each stopped at any moment, and the PWAD that is built from the disk that they leave.
 ghost use Rattle.std.specs.Prelude.{◌≡◌, ◌++◌, List, ℕ, MatchResult};
 ghost use Rattle.lv_maptables.specs.Projects.{project_of};
 ghost use Rattle.lv_project.specs.Calls.{AllMade, ProjectCall};
@@ -16,9 +16,9 @@ use lv_project::{Project, Refused, hold_each_acknowledged};
 use lv_pwad::build_all;
 use std::alloc::Global;
 
-/// A session may hold runs beside calls of `apply` and `checkpoint`: a run is the calls that its lines made, as the
-/// contract of `run` says. So all that a session does is calls in turn, which `hold_each_acknowledged` asks for, and it
-/// may be stopped between any two of them. The function has no body: its contract is the law.
+/// A session may consist of runs as well as calls of `apply` and `checkpoint`: by the contract of `run`, a run is the
+/// calls that its lines made. So a session is a list of calls, as `hold_each_acknowledged` requires, and may stop
+/// between any two of them. The function has an empty body: its contract is the law.
 pub fn sessions_hold_runs<D: Disk>()
     ensures { (first : State D) (deeds : List (Deed D)) (front back : List ProjectCall)
         (last : State D)
@@ -26,7 +26,7 @@ pub fn sessions_hold_runs<D: Disk>()
         → (mid : State D) × AllMade D.Disk first front mid × AllMade D.Disk mid back last }
 {}
 
-/// What was built of the maps that a disk holds, and the disk.
+/// The PWAD that was built from the maps on a disk, or why there is none; and the disk.
 #[derive(Drop)]
 pub struct Recovery<D> {
     pub wad: Result<Vec<u8>, RecoveryError>,
@@ -46,23 +46,23 @@ fn build_maps(alloc: Global, maps: &Maps) -> Result<Vec<u8>, RecoveryError>
     }
 }
 
-/// Opens the project on a disk that any sessions left, stopped at any moment, and builds the PWAD of all its maps. The
-/// disk is only read, and handed back.
+/// Opens the project on a disk that any sessions left, each stopped at any moment, and builds the PWAD of all its maps.
+/// The disk is only read, and returned.
 ///
-/// The maps are those of a prefix of the accepted commands that holds each acknowledged one (`hold_each_acknowledged`),
-/// and those that the disk's bytes stand for. Under the name of each map the bytes are read back to a sound level of it
-/// (`sound_builds_read_back`).
+/// The maps are those after a prefix of the accepted commands that holds every acknowledged one
+/// (`hold_each_acknowledged`), and those that the disk's bytes stand for. For the name of each map, the PWAD reads back
+/// as a sound level of this map (`sound_builds_read_back`).
 ///
 /// # Errors
 ///
-/// `Open` by a fault of the device or for lack of memory alone, and `Build` as `build_all` refuses those maps: 30, 31,
-/// 60 to 64 and 66.
+/// `Open` only for a fault of the device or lack of memory, and `Build` if `build_all` refuses those maps: 30, 31, 60
+/// to 64 and 66.
 pub fn build_after_any_stop<D: Disk>(alloc: Global, disk: D) -> Recovery<D>
     ensures built { (cap : ℕ) (sessions : List Session) (file : List ℕ) → D.reads disk file
         → IsLeftBy D.Disk cap sessions disk
         → MatchResult result.wad (λ wad. BuildsKept cap sessions file wad.items)
         (RefusesKept cap sessions file) }
-    // So a stop at any moment of the call leaves what one left before.
+    // So a stop at any moment of the call leaves what a stop before the call left.
     ensures only_read { IsOnlyRead D.Disk disk result.disk }
 {
     hold_each_acknowledged::<D>();

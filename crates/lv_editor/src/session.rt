@@ -1,4 +1,4 @@
-//! What a run answers line by line: the one trait that maps in memory and project files share.
+//! What a run works on: the trait that maps in memory and project files implement.
 ghost use Rattle.std.specs.Prelude.{◌≡◌, ℕ, List, take};
 ghost use Rattle.lv_editor.specs.Runs.{AnswersLine, Replies};
 
@@ -6,15 +6,15 @@ use crate::error::EditorError;
 use std::alloc::Global;
 use std::io::Write;
 
-/// What a run asks and changes line by line.
+/// The maps or the project that a run queries and changes, line by line.
 pub trait Session {
     // What may be answered to a line, and the state after it.
     ghost answers: { Self → List ℕ → List ℕ → Self → Type 0 };
 
-    // Which lines can need memory, and the state where they find none.
+    // Which lines can need memory, and the state after one for which there is none.
     ghost lacks: { Self → List ℕ → Self → Type 0 };
 
-    /// Answers a line, of which it is given the first 257 bytes.
+    /// Answers a line. `line` is at most its first 257 bytes.
     ///
     /// # Errors
     ///

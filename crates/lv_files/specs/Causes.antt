@@ -1,13 +1,13 @@
--- What is said of a file that can't be opened or made (docs/COMMANDS.md, "The program").
+-- The line that says why a file can't be opened or made (docs/COMMANDS.md, "Reasons and statuses").
 use Rattle.std.specs.Prelude.{◌≡◌, ◌++◌, ◌∷◌, ℕ, List, [], codes}
 use Rattle.lv_files.specs.declared.cause.Cause.{Cause}
 use Rattle.lv_files.specs.declared.cause.Cause.TheVariants.{System, Held, NotRegular, NoPwad, NoPicture, OutOfMemory}
 
--- two blanks, the path or another name, a colon, the reason
+-- two spaces, the path or another name, a colon, the reason
 abbrev pub cause_line : List ℕ → List ℕ → List ℕ
 cause_line path reason = codes "  " ++ path ++ codes ": " ++ reason ++ 10 ∷ []
 
--- the reason is the one for the cause; which words the system has for its own is left open
+-- the reason is the text for the cause; the system's own texts are left open
 abbrev pub Says : Cause → List ℕ → Type 0
 Says (System error) reason = Unit {0}
 Says Held reason = reason ≡ codes "is open in another program"

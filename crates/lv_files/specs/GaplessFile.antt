@@ -1,4 +1,4 @@
--- A file in which something is made.
+-- A file in which something new is made.
 use Rattle.lv_files.specs.declared.gapless.GaplessFile.{GaplessFile}
 use Rattle.lv_files.specs.NotedFile.{file_noted}
 

@@ -35,7 +35,7 @@ impl From<AllocError> for Cause {
     }
 }
 
-// What the system says, without the number that std puts behind it.
+// The system's message, without the error number that std appends.
 fn without_number(told: &str) -> &str {
     match told.split_once(" (os error ") {
         Some((reason, _)) => reason,
@@ -43,11 +43,11 @@ fn without_number(told: &str) -> &str {
     }
 }
 
-/// Writes what is said of a path or of something else with a name, as `  NAME: REASON`.
+/// Writes why a path, or something else with a name, was refused, as `  NAME: REASON`.
 ///
 /// # Errors
 ///
-/// The writer's.
+/// Those of the writer.
 pub fn write_reason<W: Write>(name: &str, reason: &str, writer: &mut W) -> io::Result<()>
     ensures { OnOk result (Appends (W.contents writer.old) (W.contents writer.new)
         (cause_line name.now reason.now)) }
@@ -55,11 +55,11 @@ pub fn write_reason<W: Write>(name: &str, reason: &str, writer: &mut W) -> io::R
     writeln!(writer, "  {name}: {reason}")
 }
 
-/// Says why the file at the path can't be opened or made, as `  PATH: REASON`.
+/// Writes why the file at the path can't be opened or made, as `  PATH: REASON`.
 ///
 /// # Errors
 ///
-/// The writer's, or for lack of memory.
+/// Those of the writer, or lack of memory.
 pub fn write_cause<W: Write>(
     alloc: Global,
     path: &str,

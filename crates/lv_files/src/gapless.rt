@@ -8,11 +8,11 @@ use std::fs::{Metadata, OpenFile};
 use std::io;
 use std::os::unix::fs::FileExt;
 
-// How many zeros one call writes at most.
+// The most zeros that one call writes.
 const ZEROS: usize = 4096;
 
-/// A file in which something is made. A write that begins beyond the end writes the zeros between too, which a read
-/// would give there anyway: so the device has room for each byte, or refuses the write.
+/// A file in which something new is made. A write that begins beyond the end first fills the gap with zeros, which a
+/// read would return there anyway. So the device has room for each byte of the file, or the write fails.
 #[derive(Drop)]
 pub struct GaplessFile<F> {
     file: NotedFile<F>,
@@ -35,7 +35,7 @@ impl<F: OpenFile + Drop> GaplessFile<F> {
     ghost use Rattle.lv_files.specs.Causes.{IsOfSystem};
     ghost use Rattle.lv_files.specs.GaplessFile.{file_within};
 
-    /// Takes a file that is open for writes.
+    /// Wraps a file that is open for writing.
     pub fn new(file: F) -> GaplessFile<F>
         ensures { file_within result ≡ file }
     {
@@ -46,7 +46,7 @@ impl<F: OpenFile + Drop> GaplessFile<F> {
         }
     }
 
-    /// Empties the file where it was empty, and says what the last call was refused for, if it failed.
+    /// Empties the file if it was empty at first, and returns why the last call failed, if it did.
     pub fn take_back(self) -> Option<Cause>
         ensures { IfSome result IsOfSystem }
     {
@@ -59,7 +59,7 @@ impl<F: OpenFile + Drop> GaplessFile<F> {
     }
 }
 
-// Writes zeros from the end of the file up to this place, where it ends before.
+// Writes zeros from the end of the file up to this offset, if the file ends before it.
 fn fill_to<F: FileExt + OpenFile>(file: &F, place: u64) -> io::Result<()> {
     let end = file.metadata()?.len();
     let zeros = [0; ZEROS];

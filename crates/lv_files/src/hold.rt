@@ -1,10 +1,10 @@
-//! Opening a file and holding it, so that no other program writes it meanwhile.
+//! Opens a file and locks it, so that no other program writes it meanwhile.
 use crate::Cause;
 use std::fs::{File, Files, OpenOptions, TryLockError};
 
-/// A file that can be held against other programs.
+/// A file that can be locked against other programs.
 pub trait Hold {
-    /// Holds the file until it is closed: alone, or along with others that aren't alone. It doesn't wait.
+    /// Locks the file until it is closed: exclusively if `alone`, else shared. It doesn't wait.
     fn hold(&self, alone: bool) -> Result<(), TryLockError>;
 }
 
@@ -21,11 +21,11 @@ impl Hold for File {
 /// What a file is opened for.
 #[derive(Clone, Copy)]
 pub enum Access {
-    /// Reads alone.
+    /// Reads only.
     Reads,
     /// Reads and writes.
     Writes,
-    /// Reads and writes; it is made where there is none.
+    /// Reads and writes; the file is made if there is none.
     Making,
 }
 
@@ -44,7 +44,7 @@ impl Access {
     }
 }
 
-// Holds a file, or says who has it. Where the file system knows no locks nothing is held.
+// Locks a file, or returns `Held` if another program has locked it. On a file system without locks nothing is locked.
 pub fn held<F: Hold>(file: &F, alone: bool) -> Result<(), Cause> {
     match file.hold(alone) {
         Ok(()) | Err(TryLockError::Error(_)) => Ok(()),
@@ -52,12 +52,12 @@ pub fn held<F: Hold>(file: &F, alone: bool) -> Result<(), Cause> {
     }
 }
 
-/// Opens the file at the path and holds it until it is closed: alone where it may be written, and else along with
-/// others that only read. Only a regular file is opened: a pipe might never answer.
+/// Opens the file at the path and locks it until it is closed: exclusively if it may be written, else shared. Only a
+/// regular file is opened, since a pipe could block forever.
 ///
 /// # Errors
 ///
-/// `System`, `NotRegular`, or `Held` where another program holds the file.
+/// `System`, `NotRegular`, or `Held` if another program has locked the file.
 pub fn open_held<E: Files>(rt: &E, path: &str, access: Access) -> Result<E::File, Cause>
 where
     E::File: Hold,

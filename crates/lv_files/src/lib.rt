@@ -1,4 +1,4 @@
-//! Files that two programs may want at once, and new files that are whole or not there.
+//! Locks project files against other programs, and makes new files whole or not at all.
 #![tactic(auto)]
 
 mod cause;

@@ -1,4 +1,4 @@
-//! A new file that takes a path's place once it is whole.
+//! A new file that replaces the file at a path once it is whole.
 ghost use Rattle.std.specs.Prelude.{◌≡◌};
 
 use crate::hold::{Hold, held};
@@ -12,15 +12,15 @@ use std::io::{self, ErrorKind, Write};
 use std::os::unix::fs::MetadataExt;
 use std::path::PathBuf;
 
-// Where a new file stands, and where it goes once it is whole.
+// The path of a new file, and the path that it is renamed to once it is whole.
 #[derive(Drop)]
 struct Names {
     new: PathBuf,
     target: PathBuf,
 }
 
-/// A file that is being made for a path. What is written stands in a new file beside it, and `put` gives it the path's
-/// place; a pipe or a device is written itself.
+/// A file that is being made for a path. The bytes are written to a new file in the same folder, which `put` renames to
+/// the path. A pipe or a device is written directly.
 #[derive(Drop)]
 pub struct NewFile<F> {
     file: F,
@@ -46,14 +46,14 @@ impl<F: Write> Write for NewFile<F> {
     }
 }
 
-// Whether the file stands at the path.
+// Whether the open file is the one at the path.
 fn stands_at<E: Files>(rt: &E, file: &E::File, path: &str) -> io::Result<bool> {
     let found = rt.metadata(path)?;
     let own = file.metadata()?;
     Ok(found.dev() == own.dev() && found.ino() == own.ino())
 }
 
-// Makes a new file at the path, where there is none.
+// Makes a new file at the path, and fails if there is one already.
 fn make<E: Files>(rt: &E, path: &str) -> io::Result<E::File> {
     OpenOptions::new()
         .write(true)
@@ -61,7 +61,7 @@ fn make<E: Files>(rt: &E, path: &str) -> io::Result<E::File> {
         .open(rt, path)
 }
 
-// Makes a new file in place of what a killed program left. One whose maker still runs is left alone.
+// Replaces the new file that a killed program left. If the program that made it still runs, it is left alone.
 fn make_again<E: Files>(rt: &E, path: &str) -> Result<E::File, Cause>
 where
     E::File: Hold,
@@ -72,7 +72,7 @@ where
     Ok(make(rt, path)?)
 }
 
-// Makes a new file at the path and holds it. Whoever finds it asks for the hold before it takes it away.
+// Makes a new file at the path and locks it. A program that finds one there gets the lock before it removes the file.
 fn make_held<E: Files>(rt: &E, path: &str) -> Result<E::File, Cause>
 where
     E::File: Hold,
@@ -90,7 +90,7 @@ where
     }
 }
 
-// Refuses a file that may not be written, or that is neither empty nor of the form, where one is asked for.
+// Refuses a file that may not be written, or, if a form is given, that is neither empty nor of this form.
 fn check_replaceable<E: Files>(
     alloc: Global,
     rt: &E,
@@ -140,7 +140,7 @@ where
     })
 }
 
-// Opens what is no regular file, to be written itself.
+// Opens a pipe or a device, which is written directly.
 fn open_itself<E: Files>(rt: &E, path: &str) -> Result<NewFile<E::File>, Cause> {
     let file = OpenOptions::new().write(true).open(rt, path)?;
     Ok(NewFile {
@@ -150,7 +150,7 @@ fn open_itself<E: Files>(rt: &E, path: &str) -> Result<NewFile<E::File>, Cause> 
     })
 }
 
-// Opens a new file for a path, at which there may be a file of the form, or any file where no form is asked for.
+// Opens a new file for a path. A file that is there must be empty or of the form; without a form it may be any file.
 fn open_for<E: Files>(
     alloc: Global,
     rt: &E,
@@ -172,13 +172,13 @@ where
     }
 }
 
-/// Opens a new file of the form for a path at which there is nothing, an empty file or one of the form; what stands
-/// there stays until `put`. A link is followed. A pipe or a device is opened itself.
+/// Opens a new file of the form for a path. At the path there may be nothing, an empty file or a file of the form,
+/// which stays until `put`. A symbolic link is followed. A pipe or a device is opened directly.
 ///
 /// # Errors
 ///
-/// `NoPwad` or `NoPicture` where a file stands there that may not be replaced, `Held` where another program makes one,
-/// `System`, or `OutOfMemory`.
+/// `NoPwad` or `NoPicture` if the file at the path may not be replaced, `Held` if another program is making a new file
+/// for this path, `System`, or `OutOfMemory`.
 pub fn open_new<E: Files>(
     alloc: Global,
     rt: &E,
@@ -191,19 +191,19 @@ where
     open_for(alloc, rt, path, Some(form))
 }
 
-// Whether both paths lead to one file that is there.
+// Whether both paths lead to the same existing file.
 fn lead_to_one<E: Files>(rt: &E, one: &str, other: &str) -> io::Result<bool> {
     let one = rt.metadata(one)?;
     let other = rt.metadata(other)?;
     Ok(one.dev() == other.dev() && one.ino() == other.ino())
 }
 
-/// Opens a new file as `open_new` does, for what is made of the file at `read`: where the path leads to that very file,
-/// it may be of any form.
+/// Opens a new file as `open_new` does, for bytes that are made from the file at `read`. If the path leads to that same
+/// file, it may be of any form.
 ///
 /// # Errors
 ///
-/// As of `open_new`.
+/// Those of `open_new`.
 pub fn open_new_of<E: Files>(
     alloc: Global,
     rt: &E,
@@ -220,7 +220,7 @@ where
     }
 }
 
-// Syncs the folder of a path, where that can be done.
+// Syncs the folder of a path, if possible.
 fn sync_folder<E: Files>(rt: &E, path: &PathBuf) {
     let folder = match path.as_path().parent() {
         Some(folder) if !folder.as_str().is_empty() => folder.as_str(),
@@ -232,16 +232,16 @@ fn sync_folder<E: Files>(rt: &E, path: &PathBuf) {
 }
 
 impl<F: OpenFile + Drop> NewFile<F> {
-    /// What the last write that failed was refused for.
+    /// Why the last failed write failed; `None` if none failed.
     pub fn fault(&self) -> Option<Cause> {
         self.fault.map(Cause::System)
     }
 
-    /// Syncs what was written and gives it the path's place, or takes it away.
+    /// Syncs the new file and renames it to the path. If that fails, removes the new file.
     ///
     /// # Errors
     ///
-    /// `System`; what stood at the path stands there then.
+    /// `System`; the file at the path is then as it was.
     pub fn put<E: Files>(self, rt: &E) -> Result<(), Cause> {
         let Some(names) = &self.names else {
             return Ok(());
@@ -263,7 +263,7 @@ impl<F: OpenFile + Drop> NewFile<F> {
         }
     }
 
-    /// Takes away what was written. What stood at the path stands there.
+    /// Removes the new file. The file at the path stays as it was.
     pub fn take_away<E: Files>(self, rt: &E) {
         if let Some(names) = &self.names {
             let _ = rt.remove_file(names.new.as_path().as_str());

@@ -7,7 +7,7 @@ use std::fs::{Metadata, OpenFile};
 use std::io;
 use std::os::unix::fs::FileExt;
 
-/// A file that keeps what the system refused its last call for, so that whoever has lent it can tell.
+/// A file that keeps why its last call failed, so that whoever lends it to another function can report that.
 #[derive(Drop)]
 pub struct NotedFile<F> {
     file: F,
@@ -19,7 +19,7 @@ impl<F> NotedFile<F> {
     ghost use Rattle.lv_files.specs.Causes.{IsOfSystem};
     ghost use Rattle.lv_files.specs.NotedFile.{file_noted};
 
-    /// Takes an open file.
+    /// Wraps an open file.
     pub fn new(file: F) -> NotedFile<F>
         ensures { file_noted result ≡ file }
     {
@@ -29,14 +29,14 @@ impl<F> NotedFile<F> {
         }
     }
 
-    /// What the system refused the last call for, if it failed.
+    /// Why the system refused the last call, if it failed.
     pub fn fault(&self) -> Option<Cause>
         ensures { IfSome result IsOfSystem }
     {
         self.fault.get().map(Cause::System)
     }
 
-    // Keeps how a call ended.
+    // Keeps the error of a call, or that there was none, and returns the call's result.
     fn noted<T>(&self, done: io::Result<T>) -> io::Result<T>
         ensures { result ≡ done }
     {

@@ -5,7 +5,7 @@ ghost use Rattle.lv_files.specs.Replaced.{BeginsOrEmpty, IsReplaceable, front_of
 use std::alloc::Global;
 use std::io::{self, Read};
 
-/// What a new file holds. It may take the place of a file of the same form.
+/// What a new file holds. It may replace a file of the same form.
 #[derive(Clone, Copy)]
 pub enum Form {
     /// A PWAD.
@@ -14,7 +14,7 @@ pub enum Form {
     Picture,
 }
 
-// How a file of the form begins.
+// The first bytes of every file of the form.
 fn front_of(form: Form) -> &'static [u8]
     ensures { result.now ≡ front_of form }
 {
@@ -24,14 +24,14 @@ fn front_of(form: Form) -> &'static [u8]
     }
 }
 
-// Whether the bytes are none, or these.
+// Whether `head` is empty or equals `front`.
 fn is_none_or(head: &[u8], front: &[u8]) -> bool
     ensures { IsTrue result ↔ ((head.now ≡ []) ⊎ (head.now ≡ front.now)) }
 {
     head.is_empty() || head == front
 }
 
-// Whether a file is empty, or begins so.
+// Whether a file is empty or begins with `front`.
 fn begins_or_empty<R: Read + Drop>(alloc: Global, front: &[u8], reader: R) -> io::Result<bool>
     ensures { IfSome (R.remaining reader)
         (λ bytes. IfOk result (λ may. IsTrue may ↔ BeginsOrEmpty front.now bytes)) }
@@ -41,7 +41,11 @@ fn begins_or_empty<R: Read + Drop>(alloc: Global, front: &[u8], reader: R) -> io
     Ok(is_none_or(head.as_slice(), front))
 }
 
-/// Whether a file may be replaced by one of the form: it is empty, or begins as those of the form do.
+/// Whether a file may be replaced by one of the form: it is empty, or begins like one of the form.
+///
+/// # Errors
+///
+/// Those of the reader, or lack of memory.
 pub fn may_be_replaced<R: Read + Drop>(alloc: Global, form: Form, reader: R) -> io::Result<bool>
     ensures { IfSome (R.remaining reader)
         (λ bytes. IfOk result (λ may. IsTrue may ↔ IsReplaceable form bytes)) }

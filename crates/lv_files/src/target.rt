@@ -1,14 +1,14 @@
-//! Where a path leads.
+//! The file that a path leads to.
 use crate::Cause;
 use std::alloc::Global;
 use std::fs::Files;
 use std::io::{Error, ErrorKind};
 use std::path::PathBuf;
 
-// How many links are followed, as the system does.
+// The most symbolic links that are followed; the system follows as many.
 const LINKS: u32 = 40;
 
-/// The path of the file that a path leads to, by the links at its end; there may be none yet.
+/// The path to which the symbolic links at the end of a path lead; there may be no file at it yet.
 pub fn target_of<E: Files>(alloc: Global, rt: &E, path: &str) -> Result<PathBuf, Cause> {
     let mut at = PathBuf::from_str(alloc, path)?;
     for _ in 0..LINKS {

@@ -8,46 +8,46 @@ use Rattle.clap.specs.declared.builder.command.Command.{Command}
 use Rattle.clap.specs.declared.builder.command.Command.TheViews.{out-Command}
 use Rattle.clap.specs.declared.builder.value_parser.ValueParser.TheVariants as vp
 
--- the argument has this rule, and isn't for all subcommands
+-- the argument has this rule, and isn't global
 pub record IsArg (a : Arg) (r : Rule) : Type 0 where
   pub rule : rule_of a ≡ r
   pub local : a.global ≡ false
 
--- the command has this shape, which no subcommand inherits from
+-- the command has this shape, and no argument that its subcommands inherit
 pub record IsCommand (c : Command) (a : App) : Type 0 where
   pub app : app_of c ≡ a
   pub local : (out-Command c).has_globals ≡ false
 
--- a word that has to be there, with one name in the help
+-- a required argument, with one name in the help
 abbrev pub word_rule : Text → Rule
 word_rule id = record (new_rule id) { required = true; value_names = 1 }
 
--- a word that may be left out, with one name in the help
+-- an optional argument, with one name in the help
 abbrev pub last_rule : Text → Rule
 last_rule id = record (new_rule id) { value_names = 1 }
 
--- words at the end, of which there may be any number, with one name in the help
+-- any number of arguments at the end, with one name in the help
 abbrev pub last_words_rule : Text → Rule
 last_words_rule id = record (last_rule id) { action = Some Append }
 
--- `--ID N`, with the N that is taken where there is none
+-- the option `--ID N`, and the default for N
 abbrev pub option_rule : Text → Text → Rule
 option_rule id default =
     record (new_rule id) { long = Some id; defaults = default ∷ []; value_names = 1 }
 
--- `--ID NAME`, which may be left out
+-- the option `--ID NAME`
 abbrev pub path_rule : Text → Rule
 path_rule id = record (new_rule id) { long = Some id; value_names = 1 }
 
--- `--ID NAME`, which may be given any number of times
+-- the option `--ID NAME`, which may be given any number of times
 abbrev pub repeated_rule : Text → Rule
 repeated_rule id = record (path_rule id) { action = Some Append }
 
--- `--ID`, which may be given
+-- the flag `--ID`
 abbrev pub flag_rule : Text → Rule
 flag_rule id = record (new_rule id) { long = Some id; action = Some SetTrue }
 
--- `--ID N`, with N in these limits
+-- the option `--ID N`, with N within these limits
 abbrev pub number_rule : Text → ℕ → ℕ → Text → Rule
 number_rule id low high default =
     record (option_rule id default) { parser = Some (vp.Signed (pos low) (pos high)) }
@@ -59,7 +59,7 @@ slot_rule = number_rule (codes "slot") 33 2007015 (codes "262144")
 abbrev pub journal_rule : Rule
 journal_rule = number_rule (codes "journal") 512 1048576 (codes "65536")
 
--- a subcommand with one word
+-- a subcommand with one required argument
 abbrev pub with_one_word : Text → Text → App
 with_one_word name id = with_rule (new_app name) (word_rule id)
 
@@ -137,7 +137,7 @@ with_subcommands =
     build_app.top)
     rebuild_app.top
 
--- the program's command line: a subcommand has to be there, and `help` is none
+-- the program's command line: a subcommand is required, and `help` isn't one
 abbrev pub leveled_app : App
 leveled_app =
     on_top

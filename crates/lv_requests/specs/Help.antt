@@ -1,4 +1,4 @@
--- What the words are read as where they ask for help, and why they are no request.
+-- How arguments that ask for help are read, and why arguments are no request.
 use Rattle.std.specs.Prelude.{◌≡◌, List, [], ◌∷◌, codes, if◌then◌else◌}
 use Rattle.std.specs.Str.{bytes_eq}
 use Rattle.clap.specs.Words.{Text}
@@ -6,11 +6,11 @@ use Rattle.lv_requests.specs.Request.{RefusesRead}
 use Rattle.lv_requests.specs.declared.asked.RequestError.{RequestError}
 use Rattle.lv_requests.specs.declared.asked.RequestError.TheVariants.{Codes}
 
--- the word, and `--help` in place of `help`
+-- the argument itself, or `--help` for `help`
 abbrev pub help_option : Text → Text
 help_option word = if bytes_eq word (codes "help") then codes "--help" else word
 
--- the words as clap reads them: `--help` in place of `help`, `NAME --help` in place of `help NAME`
+-- the arguments as clap reads them: `--help` for `help`, `NAME --help` for `help NAME`
 abbrev pub without_help : List Text → List Text
 without_help (program ∷ word ∷ []) = program ∷ help_option word ∷ []
 without_help (program ∷ word ∷ name ∷ []) =
@@ -18,11 +18,11 @@ without_help (program ∷ word ∷ name ∷ []) =
     else program ∷ word ∷ name ∷ []
 without_help words = words
 
--- the words are `help codes`
+-- the arguments are `help codes`
 abbrev pub AsksForCodes : List Text → Type 0
 AsksForCodes words = (program : Text) × (words ≡ program ∷ codes "help" ∷ codes "codes" ∷ [])
 
--- why the words are no request: they are `help codes`, or clap refuses what they are read as
+-- why the arguments are no request: they are `help codes`, or clap refuses what they are read as
 abbrev pub IsRefusal : List Text → RequestError → Type 0
 IsRefusal words Codes = AsksForCodes words
 IsRefusal words error = (¬ AsksForCodes words) × RefusesRead (without_help words) error

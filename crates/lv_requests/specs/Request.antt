@@ -1,4 +1,4 @@
--- What the words of the program ask for (docs/COMMANDS.md, "The program").
+-- What the program's arguments ask for (docs/COMMANDS.md, "The program").
 use Rattle.std.specs.Prelude.{◌≡◌, ◌<◌, ◌≤◌, ◌⊎◌, ℕ, Bool, Some, None, List, [], codes, length, is_some, map, option_map, unwrap_or, string_bytes, true, false, IsSomeAnd}
 use Rattle.std.specs.Option.{option_map_or}
 use Rattle.std.specs.Str.{bytes_eq}
@@ -12,7 +12,7 @@ use Rattle.lv_requests.specs.declared.asked.RequestError.{RequestError}
 use Rattle.lv_requests.specs.declared.asked.RequestError.TheVariants.{Words, Codes, Number, Surplus, WholeAlone, Memory}
 use Rattle.lv_requests.specs.declared.asked.Request.TheVariants.{Scratch, Create, Edit, Check, Lint, Draw, TryScript, Dump, Salvage, Picture, Inspect, Levels, Build, Rebuild}
 
--- the number that the argument's text is in decimal digits, within its limits
+-- the argument's text is this number in decimal digits, and it is within the limits
 pub record HasNumber (id : Text) (rows : List Row) (low high n : ℕ) : Type 0 where
   pub text : Text
   pub given : one_of id rows ≡ Some text
@@ -25,7 +25,7 @@ pub record HasNumber (id : Text) (rows : List Row) (low high n : ℕ) : Type 0 w
 abbrev pub LacksNumber : Text → List Row → ℕ → ℕ → Type 0
 LacksNumber id rows low high = (n : ℕ) → ¬ HasNumber id rows low high n
 
--- whether a flag was given: clap has `true` as its text then
+-- whether a flag was given: its text is then `true` for clap
 abbrev pub is_given : Text → List Row → Bool
 is_given id rows = option_map_or (λ text. bytes_eq text (codes "true")) (first_of id rows) false
 
@@ -94,19 +94,19 @@ IsSubcommand name =
     ⊎ (name ≡ codes "dump") ⊎ (name ≡ codes "picture") ⊎ (name ≡ codes "inspect")
     ⊎ (name ≡ codes "build") ⊎ (name ≡ codes "rebuild")
 
--- the subcommand is over a WAD
+-- the subcommand's first argument is a WAD
 abbrev pub IsOverWad : Text → Type 0
 IsOverWad name = (name ≡ codes "inspect") ⊎ (name ≡ codes "rebuild")
 
--- the subcommand is over a project file, or, where a script is to be tried, over this script
+-- the subcommand's first argument is FILE: a project or a WAD, or the script that is to be tried
 abbrev pub IsOverFile : Text → Type 0
 IsOverFile name = (¬ (name ≡ codes "scratch")) × (¬ IsOverWad name)
 
--- the subcommand makes a WAD
+-- the subcommand writes a WAD
 abbrev pub IsIntoWad : Text → Type 0
 IsIntoWad name = (name ≡ codes "build") ⊎ (name ≡ codes "rebuild")
 
--- the text of an argument is refused: it has none, or there is no memory for it
+-- why an argument's text can't be had: it has none, or there is no memory for a copy
 abbrev pub RefusesText : Text → List Row → RequestError → Type 0
 RefusesText id rows (Words error) = ⊥
 RefusesText id rows Codes = ⊥
@@ -115,7 +115,7 @@ RefusesText id rows WholeAlone = ⊥
 RefusesText id rows Number = first_of id rows ≡ None
 RefusesText id rows Memory = Unit {0}
 
--- what clap let pass has no path where the subcommand takes one, or no number within the
+-- clap accepted arguments that lack a path which the subcommand requires, or a number within the
 -- limits of `create`
 abbrev pub LacksValue : Text × List Row → Type 0
 LacksValue asked = (IsOverFile asked.0 × (first_of (codes "file") asked.1 ≡ None))
@@ -125,20 +125,20 @@ LacksValue asked = (IsOverFile asked.0 × (first_of (codes "file") asked.1 ≡ N
     × (LacksNumber (codes "slot") asked.1 33 2007015
     ⊎ LacksNumber (codes "journal") asked.1 512 1048576))
 
--- a script is to be tried, and another word stands behind it
+-- `draw --check` has a second argument
 abbrev pub HasSurplus : Text × List Row → Type 0
 HasSurplus asked =
     (asked.0 ≡ codes "draw") × (is_given (codes "check") asked.1 ≡ true)
     × (is_some (first_of (codes "script") asked.1) ≡ true)
 
--- what can be read of a damaged project is asked for, and a name or `--exact` with it
+-- `dump --salvage` has a name or `--exact`
 abbrev pub HasMoreThanFile : Text × List Row → Type 0
 HasMoreThanFile asked =
     (asked.0 ≡ codes "dump") × (is_given (codes "salvage") asked.1 ≡ true)
     × ((is_given (codes "exact") asked.1 ≡ true)
     ⊎ (0 < length (unwrap_or (all_of (codes "name") asked.1) [])))
 
--- the values of a subcommand are refused
+-- why the values of a subcommand's arguments are refused
 abbrev pub RefusesValues : Text × List Row → RequestError → Type 0
 RefusesValues asked (Words error) = ⊥
 RefusesValues asked Codes = ⊥
@@ -147,9 +147,9 @@ RefusesValues asked Surplus = HasSurplus asked
 RefusesValues asked WholeAlone = HasMoreThanFile asked
 RefusesValues asked Memory = Unit {0}
 
--- clap refuses words that its simple command takes only where memory ran out, and else by a fault
--- that it names for the words; `Number` stands where it let an argument without a value within its
--- limits pass
+-- Why the arguments are refused. clap's error is a fault that it names for these arguments, and for
+-- arguments that its simple command takes it is lack of memory. `Number` means that clap accepted an
+-- argument without a value within its limits.
 abbrev pub RefusesRead : List Text → RequestError → Type 0
 RefusesRead words (Words error) =
     HasKind (fault_of leveled_app words) error

@@ -7,7 +7,7 @@ use crate::help;
 use clap::{Arg, ArgAction, Command, value_parser};
 use std::alloc::{AllocError, Global};
 
-// A word that has to be there, and what help calls it.
+// A required argument, and its name in the help.
 fn word<'a>(alloc: Global, id: &'a str, name: &'a str) -> Arg<'a>
     ensures { IsArg result (word_rule id.now) }
 {
@@ -21,7 +21,7 @@ fn named<'a>(alloc: Global, name: &'a str, about: &'a str, help: &'a str) -> Com
     Command::new(alloc, name).about(about).after_help(help)
 }
 
-// A subcommand over a file.
+// A subcommand whose first argument is a file.
 fn over_file<'a>(
     alloc: Global,
     name: &'a str,
@@ -33,21 +33,21 @@ fn over_file<'a>(
     named(alloc, name, about, help).arg(word(alloc, "file", "FILE"))
 }
 
-// A word that may be left out, and what help calls it.
+// An optional argument, and its name in the help.
 fn last_word<'a>(alloc: Global, id: &'a str, name: &'a str) -> Arg<'a>
     ensures { IsArg result (last_rule id.now) }
 {
     Arg::new(alloc, id).value_name(name)
 }
 
-// Words at the end, of which there may be any number, and what help calls each.
+// Any number of arguments at the end, and their name in the help.
 fn last_words<'a>(alloc: Global, id: &'a str, name: &'a str) -> Arg<'a>
     ensures { IsArg result (last_words_rule id.now) }
 {
     last_word(alloc, id, name).action(ArgAction::Append)
 }
 
-// `--ID N`, with the N that is taken where there is none.
+// The option `--ID N`, and the default for N.
 fn option<'a>(alloc: Global, id: &'a str, default: &'a str) -> Arg<'a>
     ensures { IsArg result (option_rule id.now default.now) }
 {
@@ -57,21 +57,21 @@ fn option<'a>(alloc: Global, id: &'a str, default: &'a str) -> Arg<'a>
         .value_name("N")
 }
 
-// `--ID`, which may be given.
+// The flag `--ID`.
 fn flag<'a>(alloc: Global, id: &'a str) -> Arg<'a>
     ensures { IsArg result (flag_rule id.now) }
 {
     Arg::new(alloc, id).long(id).action(ArgAction::SetTrue)
 }
 
-// `--ID NAME`, which may be left out.
+// The option `--ID NAME`.
 fn path<'a>(alloc: Global, id: &'a str, name: &'a str) -> Arg<'a>
     ensures { IsArg result (path_rule id.now) }
 {
     Arg::new(alloc, id).long(id).value_name(name)
 }
 
-// `--ID NAME`, which may be given any number of times.
+// The option `--ID NAME`, which may be given any number of times.
 fn repeated<'a>(alloc: Global, id: &'a str, name: &'a str) -> Arg<'a>
     ensures { IsArg result (repeated_rule id.now) }
 {
@@ -105,7 +105,7 @@ fn create<'a>(alloc: Global) -> Result<Command<'a>, AllocError>
 fn check<'a>(alloc: Global) -> Result<Command<'a>, AllocError>
     ensures { IfOk result (λ c. IsCommand c check_app) }
 {
-    let about = "Says what is wrong in a map of a project or a level of a WAD";
+    let about = "Prints what is wrong in a map of a project or a level of a WAD";
     over_file(alloc, "check", about, help::CHECK)?.arg(last_word(alloc, "map", "MAP"))
 }
 
@@ -113,7 +113,7 @@ fn check<'a>(alloc: Global) -> Result<Command<'a>, AllocError>
 fn lint<'a>(alloc: Global) -> Result<Command<'a>, AllocError>
     ensures { IfOk result (λ c. IsCommand c lint_app) }
 {
-    let about = "Says what is wrong or doubtful in the maps of a project or the levels of a WAD";
+    let about = "Prints what is wrong or doubtful in the maps of a project or the levels of a WAD";
     over_file(alloc, "lint", about, help::LINT)?
         .arg(last_word(alloc, "map", "MAP"))?
         .arg(path(alloc, "iwad", "WAD"))
@@ -123,7 +123,7 @@ fn lint<'a>(alloc: Global) -> Result<Command<'a>, AllocError>
 fn draw<'a>(alloc: Global) -> Result<Command<'a>, AllocError>
     ensures { IfOk result (λ c. IsCommand c draw_app) }
 {
-    let about = "Draws a script onto a project, up to the first line that is refused";
+    let about = "Draws a script onto a project, up to the first refused line";
     over_file(alloc, "draw", about, help::DRAW)?
         .arg(last_word(alloc, "script", "SCRIPT"))?
         .arg(flag(alloc, "check"))?
@@ -134,7 +134,7 @@ fn draw<'a>(alloc: Global) -> Result<Command<'a>, AllocError>
 fn dump<'a>(alloc: Global) -> Result<Command<'a>, AllocError>
     ensures { IfOk result (λ c. IsCommand c dump_app) }
 {
-    let about = "Prints lines that draw the maps of a project or the levels of a WAD";
+    let about = "Prints commands that draw the maps of a project or the levels of a WAD";
     over_file(alloc, "dump", about, help::DUMP)?
         .arg(last_words(alloc, "name", "NAME"))?
         .arg(flag(alloc, "exact"))?
@@ -177,13 +177,13 @@ fn rebuild<'a>(alloc: Global) -> Result<Command<'a>, AllocError>
 fn inspect<'a>(alloc: Global) -> Result<Command<'a>, AllocError>
     ensures { IfOk result (λ c. IsCommand c inspect_app) }
 {
-    let about = "Says whether a level of a WAD is sound";
+    let about = "Prints whether a level of a WAD is sound, or lists the levels";
     named(alloc, "inspect", about, help::INSPECT)
         .arg(word(alloc, "wad", "WAD"))?
         .arg(last_word(alloc, "name", "NAME"))
 }
 
-// The program with one subcommand more, where memory was found for both.
+// The program with one more subcommand, if there was memory for both.
 fn with<'a>(
     program: Result<Command<'a>, AllocError>,
     subcommand: Result<Command<'a>, AllocError>,
@@ -196,7 +196,7 @@ fn with<'a>(
         Ok(program) => match subcommand {
             Ok(subcommand) => program.subcommand(subcommand),
             Err(error) => {
-                // By a call: what a command is let go by is long where it is written out.
+                // A call, because the code that drops a command is long and would be written out here.
                 drop(program);
                 Err(error)
             }
@@ -215,19 +215,19 @@ fn with_subcommands<'a>(alloc: Global) -> Result<Command<'a>, AllocError>
     let program = named(
         alloc,
         "leveled",
-        "Draws Doom maps by command lines",
+        "Draws Doom maps from text commands",
         help::PROGRAM,
     );
     let scratch = named(
         alloc,
         "scratch",
-        "Answers lines over maps in memory",
+        "Answers commands, with maps in memory only",
         help::SCRATCH,
     );
     let edit = over_file(
         alloc,
         "edit",
-        "Answers lines over a project file",
+        "Answers commands, and keeps the maps in a project file",
         help::EDIT,
     );
     let program = program.subcommand(scratch);

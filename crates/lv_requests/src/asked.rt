@@ -1,10 +1,10 @@
-//! What the words of the program ask for, or why they ask for nothing.
+//! What the program's arguments ask for, or why they are no request.
 use thiserror::Error;
 
-/// What the program is asked to do. A file is a path as it was given.
+/// What the program is asked to do. Each file is the path that was given.
 #[derive(Drop)]
 pub enum Request {
-    /// Answer the lines of the input over maps in memory.
+    /// Answer the lines of standard input over maps in memory.
     Scratch,
     /// Make a project with slots and journals of these lengths, in bytes.
     Create {
@@ -12,25 +12,25 @@ pub enum Request {
         slot: u32,
         journal: u32,
     },
-    /// Answer the lines of the input over a project.
+    /// Answer the lines of standard input over a project.
     Edit {
         file: String,
     },
-    /// Say what is wrong or unfinished in a map of a project or a level of a WAD: the one of this name, or the current
-    /// map or the first level.
+    /// Print what is wrong or unfinished in a map of a project or a level of a WAD: the one with this name, or else the
+    /// current map or the first level.
     Check {
         file: String,
         map: Option<String>,
     },
-    /// Say what is wrong, unfinished or doubtful in each map of a project or level of a WAD, or in the one of this
-    /// name, and which flats and textures another WAD lacks, if one is given.
+    /// Print what is wrong, unfinished or doubtful in each map of a project or level of a WAD, or in the one with this
+    /// name, and which flats and textures the WAD `iwad` lacks, if it is given.
     Lint {
         file: String,
         map: Option<String>,
         iwad: Option<String>,
     },
-    /// Draw the lines of a script onto the maps of a project: of the file SCRIPT, or of the input. What each command
-    /// answered is told, or only what queries answer.
+    /// Draw the lines of a script onto a project: of the file `script`, or of standard input. If `verbose`, print the
+    /// answers to commands too, and not only those to queries.
     Draw {
         file: String,
         script: Option<String>,
@@ -41,20 +41,20 @@ pub enum Request {
         script: String,
         verbose: bool,
     },
-    /// Write the lines that draw the maps of a project again, or the levels of a WAD: those of these names, or all
-    /// where there is no name. A level of which something would be changed is left where it is to be exact.
+    /// Print the commands that draw the maps of a project, or the levels of a WAD, again: those with these names, or
+    /// all if there is no name. If `exact`, leave out each level that needs a change.
     Dump {
         file: String,
         names: Vec<String>,
         exact: bool,
     },
-    /// Write the lines that draw the maps again that can be read of a damaged project.
+    /// Print the commands that draw the maps of a damaged project again, as far as they can be read.
     Salvage {
         file: String,
     },
-    /// Draw a map of a project or a level of a WAD as a picture: the one of this name, or the current map or the
-    /// first level; into a file, or onto the output. With numbers, with the built tree and with what `lint` tells, or
-    /// without.
+    /// Draw a map of a project or a level of a WAD as a picture: the one with this name, or else the current map or the
+    /// first level. Write it to the file `out`, or to standard output. Add the numbers of items, the tree, and marks
+    /// for what `lint` prints, each if asked for.
     Picture {
         file: String,
         map: Option<String>,
@@ -68,43 +68,43 @@ pub enum Request {
         file: String,
         out: String,
     },
-    /// Build the nodes of a WAD's levels anew into another WAD: of the levels of these names, or of
-    /// all where there is no name.
+    /// Build the nodes of a WAD's levels anew, and write the new WAD to `out`: of the levels with these names, or of
+    /// all if there is no name.
     Rebuild {
         wad: String,
         out: String,
         maps: Vec<String>,
     },
-    /// Say how long the lumps of a level are, and whether the level is sound.
+    /// Print how long the lumps of a level are, and whether the level is sound.
     Inspect {
         wad: String,
         name: String,
     },
-    /// Write the names of a WAD's levels.
+    /// Print the names of a WAD's levels.
     Levels {
         wad: String,
     },
 }
 
-/// Why the words are no request.
+/// Why the arguments are no request.
 #[derive(Debug, Drop, Error)]
 pub enum RequestError {
-    /// The words are not the program's, or ask for its help or its version.
+    /// clap refuses the arguments, or they ask for help or the version.
     #[error(transparent)]
     Words(#[from] clap::Error),
-    /// The words ask for the table of the refusals.
+    /// The arguments are `help codes`, which asks for the table of the refusals.
     #[error("the table of the refusals is asked for")]
     Codes,
-    /// An argument without a value within its limits, which clap let pass.
+    /// clap accepted an argument without a value within its limits.
     #[error("a number is outside its limits")]
     Number,
-    /// A script is to be tried, and another word stands behind it.
-    #[error("with --check there is one word, the script")]
+    /// `draw --check` has a second argument.
+    #[error("with --check the script is the only argument")]
     Surplus,
-    /// What can be read of a damaged project is asked for, and a name or `--exact` with it.
-    #[error("with --salvage there is one word, FILE, and no --exact")]
+    /// `dump --salvage` has a name or `--exact`.
+    #[error("with --salvage FILE is the only argument, and --exact can't be given")]
     WholeAlone,
-    /// No memory for a text of the request.
+    /// There is no memory for a text of the request.
     #[error("out of memory")]
     Memory,
 }

@@ -1,4 +1,4 @@
-//! What the words of the program ask for, as clap reads them.
+//! What the program's arguments ask for, as clap reads them.
 ghost use Rattle.std.specs.Prelude.{◌≡◌, ◌<◌, ◌≤◌, ◌∷◌, ◌⊎◌, [], IfOk, IfErr, IfSome, IfNone, IsSomeAnd, Some, codes, false, length, map, option_map, string_bytes, true, unwrap_or};
 ghost use Rattle.clap.specs.Words.{all_of, first_of, found_of, rows_of, subcommand_of};
 ghost use Rattle.lv_requests.specs.Help.{IsRefusal, help_option, without_help};
@@ -10,7 +10,7 @@ use crate::asked::{Request, RequestError};
 use clap::ArgMatches;
 use std::alloc::Global;
 
-// A text of the request's own.
+// A copy of the text, which the request owns.
 fn owned(alloc: Global, text: &str) -> Result<String, RequestError>
     ensures same { IfOk result (λ s. string_bytes s ≡ text.now) }
     ensures refused { IfErr result (λ e. e ≡ RequestError.Memory) }
@@ -33,7 +33,7 @@ fn text(alloc: Global, found: &ArgMatches<'_>, id: &str) -> Result<String, Reque
     }
 }
 
-// The number, where it is within these limits.
+// The number, if it is within these limits.
 fn within(n: u32, low: u32, high: u32) -> Option<u32>
     ensures some { IfSome result (λ m. (m ≡ n) × (low ≤ n) × (n ≤ high)) }
     ensures none { IfNone result (¬ ((low ≤ n) × (n ≤ high))) }
@@ -41,7 +41,7 @@ fn within(n: u32, low: u32, high: u32) -> Option<u32>
     if low <= n && n <= high { Some(n) } else { None }
 }
 
-// The number of an argument, where it has one within these limits.
+// The number that an argument gives, if it is within these limits.
 fn number(found: &ArgMatches<'_>, id: &str, low: u32, high: u32) -> Option<u32>
     ensures some { IfSome result (HasNumber id.now (rows_of (found_of found.now)) low high) }
     ensures none { IfNone result (LacksNumber id.now (rows_of (found_of found.now)) low high) }
@@ -88,7 +88,7 @@ fn asked_build(alloc: Global, found: &ArgMatches<'_>) -> Result<Request, Request
     }
 }
 
-// The text of an argument that may be left out.
+// The text of an optional argument.
 fn last_text(
     alloc: Global,
     found: &ArgMatches<'_>,
@@ -107,7 +107,7 @@ fn last_text(
     }
 }
 
-// The request to look for what is wrong in a map.
+// The request to print what is wrong in a map.
 fn asked_check(alloc: Global, found: &ArgMatches<'_>) -> Result<Request, RequestError>
     ensures asked { IfOk result (λ r. AsksFor r (codes "check", rows_of (found_of found.now))) }
     ensures refused { IfErr result (RefusesValues (codes "check", rows_of (found_of found.now))) }
@@ -122,7 +122,7 @@ fn asked_check(alloc: Global, found: &ArgMatches<'_>) -> Result<Request, Request
     }
 }
 
-// The request to look at maps.
+// The request to lint maps.
 fn asked_lint(alloc: Global, found: &ArgMatches<'_>) -> Result<Request, RequestError>
     ensures asked { IfOk result (λ r. AsksFor r (codes "lint", rows_of (found_of found.now))) }
     ensures refused { IfErr result (RefusesValues (codes "lint", rows_of (found_of found.now))) }
@@ -151,7 +151,7 @@ fn is_given(found: &ArgMatches<'_>, id: &str) -> bool
     }
 }
 
-// Texts of the request's own.
+// Copies of the texts, which the request owns.
 fn owned_all(alloc: Global, given: &[&str]) -> Result<Vec<String>, RequestError>
     ensures same { IfOk result (λ texts.
         map string_bytes texts.items ≡ map (λ t. t.now) given.now) }
@@ -212,7 +212,7 @@ fn asked_draw(alloc: Global, found: &ArgMatches<'_>) -> Result<Request, RequestE
     }
 }
 
-// The request to write the lines of what can be read of a damaged project, of all its maps.
+// The request to dump what can be read of a damaged project; it takes no name and no `--exact`.
 fn asked_salvage(file: String, names: &[String], exact: bool) -> Result<Request, RequestError>
     ensures asked { IfOk result (λ r. (r ≡ Request.Salvage file) × (names.now ≡ [])
         × (exact ≡ false)) }
@@ -225,7 +225,7 @@ fn asked_salvage(file: String, names: &[String], exact: bool) -> Result<Request,
     Ok(Request::Salvage { file })
 }
 
-// The request to write the lines of maps or levels, or of those that can be read of a damaged project.
+// The request to dump maps or levels, or what can be read of a damaged project.
 fn asked_dump(alloc: Global, found: &ArgMatches<'_>) -> Result<Request, RequestError>
     ensures asked { IfOk result (λ r. AsksFor r (codes "dump", rows_of (found_of found.now))) }
     ensures refused { IfErr result (RefusesValues (codes "dump", rows_of (found_of found.now))) }
@@ -265,7 +265,7 @@ fn asked_rebuild(alloc: Global, found: &ArgMatches<'_>) -> Result<Request, Reque
     }
 }
 
-// The request to draw a map.
+// The request to draw a map as a picture.
 fn asked_picture(alloc: Global, found: &ArgMatches<'_>) -> Result<Request, RequestError>
     ensures asked { IfOk result (λ r. AsksFor r (codes "picture", rows_of (found_of found.now))) }
     ensures refused { IfErr result (RefusesValues (codes "picture", rows_of (found_of found.now))) }
@@ -291,7 +291,7 @@ fn asked_picture(alloc: Global, found: &ArgMatches<'_>) -> Result<Request, Reque
     }
 }
 
-// The request to inspect a level, or without its name to list the levels.
+// The request to inspect a level, or, without a name, to list the levels.
 fn asked_inspect(alloc: Global, found: &ArgMatches<'_>) -> Result<Request, RequestError>
     ensures asked { IfOk result (λ r. AsksFor r (codes "inspect", rows_of (found_of found.now))) }
     ensures refused { IfErr result (RefusesValues (codes "inspect", rows_of (found_of found.now))) }
@@ -307,7 +307,7 @@ fn asked_inspect(alloc: Global, found: &ArgMatches<'_>) -> Result<Request, Reque
     }
 }
 
-// The request for a subcommand with what was found for its arguments.
+// The request for a subcommand, from what clap found for its arguments.
 fn asked(alloc: Global, name: &str, found: &ArgMatches<'_>) -> Result<Request, RequestError>
     requires { IsSubcommand name.now }
     ensures asked { IfOk result (λ r. AsksFor r (name.now, rows_of (found_of found.now))) }
@@ -332,7 +332,7 @@ fn asked(alloc: Global, name: &str, found: &ArgMatches<'_>) -> Result<Request, R
     }
 }
 
-// What the words ask for, as clap reads them.
+// What the arguments ask for, as clap reads them.
 fn read(alloc: Global, words: &[&str]) -> Result<Request, RequestError>
     ensures asked { IfOk result (λ r.
         IsSomeAnd (subcommand_of leveled_app (map (λ w. w.now) words.now)) (AsksFor r)) }
@@ -352,14 +352,14 @@ fn read(alloc: Global, words: &[&str]) -> Result<Request, RequestError>
     }
 }
 
-// `--help` in place of `help`.
+// The argument itself, or `--help` for `help`.
 fn as_option<'a>(word: &'a str) -> &'a str
     ensures { result.now ≡ help_option word.now }
 {
     if word == "help" { "--help" } else { word }
 }
 
-// What two words behind the program's name ask for: perhaps `help NAME`, or `help codes`.
+// What two arguments after the program's name ask for; they may be `help NAME` or `help codes`.
 fn read_two(alloc: Global, program: &str, word: &str, name: &str) -> Result<Request, RequestError>
     ensures asked { IfOk result (λ r. IsSomeAnd (subcommand_of leveled_app
         (without_help (program.now ∷ word.now ∷ name.now ∷ []))) (AsksFor r)) }
@@ -374,16 +374,15 @@ fn read_two(alloc: Global, program: &str, word: &str, name: &str) -> Result<Requ
     read(alloc, &[program, name, "--help"])
 }
 
-/// What the words ask for. The first is the program's name. `help` alone asks for what `--help` does, and `help NAME`
-/// for what `NAME --help` does.
+/// What the arguments ask for; the first one is the program's name. `help` alone is read as `--help`, and `help NAME`
+/// as `NAME --help`.
 ///
 /// # Errors
 ///
-/// `Words` where clap refuses the words, or answers them itself: help and the version. clap's error
-/// has the text, and says where it goes and with which status. `Codes` where they are `help codes`.
-/// `Number` where clap let an argument without a value within its limits pass. `Surplus` where a
-/// script is to be tried and another word stands behind it. `WholeAlone` where a name or `--exact` is given with
-/// `--salvage`. `Memory` where there is none.
+/// `Words` if clap refuses the arguments, or answers them itself with help or the version; clap's error has the text,
+/// its stream and the status. `Codes` for `help codes`. `Number` if clap accepted an argument without a value within
+/// its limits. `Surplus` if `draw --check` has a second argument. `WholeAlone` if `dump --salvage` has a name or
+/// `--exact`. `Memory` if there is none.
 pub fn request(alloc: Global, words: &[&str]) -> Result<Request, RequestError>
     ensures asked { IfOk result (λ r. IsSomeAnd
         (subcommand_of leveled_app (without_help (map (λ w. w.now) words.now))) (AsksFor r)) }

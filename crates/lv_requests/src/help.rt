@@ -1,182 +1,204 @@
-//! What `--help` says behind the list of words: of the program, and of each subcommand.
+//! What `--help` prints after the list of arguments, for the program and for each subcommand.
 
-/// The lines that `scratch` and `edit` answer, the statuses, and where more is said.
+/// The commands and queries of `scratch` and `edit`, the statuses, and where more is said.
 pub const PROGRAM: &str = "\
-Lines of `scratch` and `edit`, each answered by `ok N` or `no CODE`:
-  name MARKER                                  the map's name, as MAP01 or E1M1
-  map MARKER, drop-map MARKER                  makes a map current, takes another out
-  vertex X Y
-  sector F C FN CN LIGHT SPECIAL TAG
-  side XO YO UP LOW MID SECTOR
-  line V1 V2 FLAGS SPECIAL TAG RIGHT LEFT      LEFT may be -
-  thing X Y ANGLE TYPE OPTIONS
-  room X1 Y1 X2 Y2 F C FN CN WALL LIGHT        four walls round a sector
-  split LINE X Y                               parts a line at a new vertex
-  move-vertex I X Y
+Commands of `scratch` and `edit`, one on each line of the input. The answer is `ok N`,
+where N is the number of the item or the map (0 for `name`), or `no CODE` if the command
+is refused. A refused command changes nothing.
+  name MARKER                               renames the current map: MAP01, E1M1
+  map MARKER                                makes a map current; adds it if need be
+  drop-map MARKER                           removes a map that isn't current
+  vertex X Y                                a point where lines end
+  sector F C FN CN LIGHT SPECIAL TAG        floor, ceiling, their flats, light
+  side XO YO UP LOW MID SECTOR              offsets, textures, the sector it faces
+  line V1 V2 FLAGS SPECIAL TAG RIGHT LEFT   a line with its sides; LEFT may be -
+  thing X Y ANGLE TYPE OPTIONS              a start, a monster, an item
+  room X1 Y1 X2 Y2 F C FN CN WALL LIGHT     four walls round a new sector
+  split LINE X Y                            divides a line at a new vertex
+  move-vertex I X Y                         moves a vertex and the line ends there
   set-sector I .., set-side I .., set-line I .., set-thing I ..
-  drop KIND I                                  vertex, sector, side, line or thing
+                                            replaces all fields of an item
+  drop KIND I                               removes a vertex, sector, side, line or
+                                            thing; greater numbers fall by one
 Queries, which change nothing:
-  count, check, maps                           how many items, what is wrong, the maps
-  build                                        how many records the PWAD would have
-  hex LUMP                                     the bytes of THINGS, LINEDEFS, SIDEDEFS,
-                                               VERTEXES, SECTORS, SEGS, SSECTORS, NODES,
-                                               REJECT, BLOCKMAP or ADDED
-The end of the input ends the program; a last line without its end is answered too.
+  count                                     how many items the current map has
+  check                                     what is wrong or unfinished in it
+  maps                                      the names of the maps, and the current one
+  build                                     how many records the PWAD of all maps would
+                                            have, and its length in bytes
+  hex LUMP                                  the bytes of a lump of the current map:
+                                            THINGS, LINEDEFS, SIDEDEFS, VERTEXES,
+                                            SECTORS, SEGS, SSECTORS, NODES, REJECT,
+                                            BLOCKMAP, or ADDED: the vertices that a
+                                            build adds
+The program ends when its input ends. A last line without a newline is answered too.
 
-Status: 0 done; 1 refused, with `leveled: CODE NAME` on standard error; 2 no such
-words; 3 `check` or `lint` has findings, `inspect` found a fault, or `draw` a line that is
-refused.
+Exit status: 0 done; 1 refused, with `leveled: CODE NAME` on standard error; 2 the
+arguments are wrong; 3 `check` or `lint` has findings, `inspect` found a fault, `draw`
+refused a line, or `dump` or `rebuild` skipped a level.
 
-`leveled help SUBCOMMAND` says more of one. The manual page leveled(1) and, in
-share/doc/leveled, COMMANDS.md (every line and refusal) and FIRST_LEVEL.md (a first
-level step by step) come with `make install`.
-
-What each CODE says, and what to do: `leveled help codes`, `man leveled`.";
+`leveled help SUBCOMMAND` explains a subcommand. `leveled help codes` says what to do
+about each CODE. `make install` also installs the manual page leveled(1) and, in
+share/doc/leveled, COMMANDS.md (every command and refusal) and FIRST_LEVEL.md (a first
+level step by step).";
 
 /// `scratch`.
 pub const SCRATCH: &str = "\
-Reads lines on standard input and answers each on standard output. The maps end with
-the program: to keep them, use `create` and `edit`. `leveled --help` lists the lines.";
+Reads commands from standard input and answers each on standard output. The maps are in
+memory only, and are lost when the program ends: to keep them, use `create` and `edit`.
+`leveled --help` lists the commands.";
 
 /// `create`.
 pub const CREATE: &str = "\
-Makes FILE with the empty map MAP01 and prints `created`. A FILE that isn't empty is
-refused. N is in bytes: --slot 33 to 2007015, --journal 512 to 1048576. A slot holds the
-body of all maps; where one would be longer, a line is answered `no 14`.";
+Makes the project file FILE with one empty map, MAP01, and prints `created`. A FILE that
+exists and isn't empty is refused. --slot and --journal are lengths in bytes: 33 to
+2007015 for a slot, 512 to 1048576 for a journal. A slot holds all maps as they were last
+written out, a journal the commands since then. A command after which the maps would no
+longer fit in a slot is answered `no 14`.";
 
 /// `edit`.
 pub const EDIT: &str = "\
-Reads lines on standard input and answers each on standard output. A command that was
-answered `ok N` is on the disk, whatever stops the program. `no 30` says that the disk
-failed: nothing more is kept until FILE is opened again. `leveled --help` lists the lines.";
+Reads commands from standard input and answers each on standard output. A command that
+was answered `ok N` is on the disk, whatever stops the program afterwards. `no 30` means
+that the disk failed: each later line is answered `no 32` until FILE is opened again.
+`leveled --help` lists the commands.";
 
 /// `check`.
 pub const CHECK: &str = "\
-Prints a line for each thing that is wrong or unfinished in the map MAP of FILE, or in the
-current one; then `findings N`. Status 3 where there are any. FILE may be a WAD: MAP is
-then one of its levels, and where none is named, the first. FILE isn't changed.";
+Prints what is wrong or unfinished in the map MAP of FILE, by default the current map: a
+line for each finding, then `findings N`. The status is 3 unless N is 0. FILE may also be
+a WAD: MAP is then one of its levels, by default the first. FILE isn't changed.";
 
 /// `lint`.
 pub const LINT: &str = "\
-Looks at every map of FILE, or at MAP alone. Prints what `check` finds in it, and what is
-unlikely to play as it was meant, each line behind the map's name, as
-`MAP01 tag-of-no-sector 7`; then `findings N`. Status 3 where there are any. FILE may be a
-WAD: its levels are looked at, and `E1M1 no-map REASON` says that one is no map of ours.
---iwad: also which flats and textures of the map WAD lacks, an IWAD as doom2.wad.
-COMMANDS.md says what to do about each line. FILE isn't changed.";
+Checks every map of FILE, or only MAP. Prints what `check` finds, and what probably won't
+play as intended. Each line begins with the map's name, for example
+`MAP01 line-crossed 12 at (64,64) (128,-64)`; the last line is `findings N`. The status
+is 3 unless N is 0. FILE may also be a WAD: then its levels are checked, and
+`E1M1 no-map REASON` means that a level can't be made a map. With --iwad it also prints
+which flats and textures of the maps WAD lacks; WAD is usually an IWAD, for example
+doom2.wad. COMMANDS.md says what to do about each line. FILE isn't changed.";
 
 /// `draw`.
 pub const DRAW: &str = "\
-Draws the lines of SCRIPT, or of standard input, in turn; each that was drawn is on the
-disk, as with `edit`. In a script blank lines, spaces and tabs at either end, and all from
-a word that begins with # to the end of its line are passed over. `hall = room ..` keeps
-the numbers of what was drawn: `$hall.line+2` stands for the third of its lines. At the
-first line that is refused it stops with status 3, and says which line, and what is wrong
-with it. --verbose tells what each command answered. `draw --check SCRIPT` tries a script
-over a new project in memory, and makes no file.";
+Draws the lines of SCRIPT, or of standard input, in order, each as `edit` would: a command
+is on the disk before the next one begins. A script may have blank lines, indentation,
+several spaces between words, and comments: a word that begins with # starts one.
+`hall = room ..` keeps the numbers of the new items, so that `$hall.line+2` stands for the
+third wall of this room in the lines that follow. `draw` stops at the first refused line,
+and standard error says which one it is and what is wrong with it; the status is then 3,
+and what the lines before it drew stays. --verbose prints the answer to each command.
+`draw --check SCRIPT` tries a script on maps in memory, and opens no project file.";
 
 /// `dump`.
 pub const DUMP: &str = "\
-Prints command lines that draw all maps of FILE again, with the same numbers, from a new
-project: `leveled dump a.lv | leveled edit b.lv` takes the maps into another file. With
-NAMEs: the lines of these maps alone, which draw each over a project without it.
-FILE may be a WAD of any editor: its levels, or those called NAME, as command lines. What
-has to be changed of a level goes to standard error, as `MAP01: thing 3: angle 360 is 0`.
-A level that is no map, whatever is changed of it, is left, and told there; the status is
-then 3. --exact: each level is left of which anything would be changed.
---salvage: the maps of a damaged FILE, as far as its commands can be read; where it is
-damaged, how many commands are kept and how many are not goes to standard error. FILE
-isn't changed.";
+Prints commands that draw all maps of FILE again, with the same numbers, in a new project:
+`leveled dump a.lv | leveled edit b.lv` copies the maps into another file. With NAMEs it
+prints the commands for these maps alone, which draw them in a project that lacks them.
+FILE may also be a WAD of any editor: then its levels, or those called NAME, are printed
+as commands. If a level must be changed to become a map, standard error has each change,
+for example `MAP01: thing 3: angle 360 is 0`. A level that can't be made a map even so is
+left out, standard error says why, and the status is 3. With --exact each level that needs
+a change is left out too. --salvage prints the maps of a damaged project as far as its
+commands can be read, and takes neither NAME nor --exact; standard error says where FILE
+is damaged, how many commands are kept and how many are not. FILE isn't changed.";
 
 /// `picture`.
 pub const PICTURE: &str = "\
-Draws a map of FILE as SVG, which a browser shows: the map MAP, or the current one; of a
-WAD the level MAP, or the first. Each line has a tick on its right side, and tells its
-fields under the pointer, as things do.
-The picture goes to standard output, or into OUT, where nothing, an empty file or a
-picture of this kind may stand. --numbers: with the numbers of vertices, lines and
-sectors. --nodes: with the partitions and the subsectors that `build` makes of the map; of
-a level, with those that the WAD has of it.
---lint: with a red mark at each place that `lint` tells of, which says what under the
-pointer. `leveled: 18 NoSuchMap` says that FILE has no MAP, of a WAD
-`leveled: 72 NoSuchLevel`. FILE isn't changed.";
+Draws the map MAP of FILE, by default the current map, as SVG, which a browser shows. FILE
+may also be a WAD: MAP is then one of its levels, by default the first. A short tick marks
+the right side of each line. In a browser, point at a line, a vertex or a thing to read
+its fields.
+The picture goes to standard output, or to OUT, which may be a new path, an empty file or
+a picture that this program made. --numbers adds the numbers of vertices, lines and
+sectors. --nodes adds the partitions and subsectors that `build` makes of the map; for a
+level of a WAD, those that the WAD has. --lint adds a red mark for each line that `lint`
+prints: point at a mark to read its text. `leveled: 18 NoSuchMap` means that FILE has no
+map MAP, `leveled: 72 NoSuchLevel` that the WAD has no level MAP. FILE isn't changed.";
 
 /// `build`.
 pub const BUILD: &str = "\
-Builds all maps of FILE, writes the PWAD to OUT and prints how long its lists are. Where a
-map can't be built, OUT keeps what it held, and a second line names the map: with
-`leveled: 60 NothingToBuild` it has no line. An OUT that is a project is refused. FILE
-isn't changed.";
+Builds all maps of FILE into one PWAD, writes it to OUT, and prints how many records it
+has and its length. If a map can't be built, OUT stays as it was, and a second line on
+standard error names the map and says why: `leveled: 60 NothingToBuild` means that it has
+no line. OUT may be a new path, an empty file or a PWAD; any other file, such as an IWAD
+or a project, is never replaced. FILE isn't changed.";
 
 /// `rebuild`.
 pub const REBUILD: &str = "\
-Builds the nodes, the reject table and the blockmap of each level of IN anew, or of the
-levels NAME, and writes the WAD to OUT; all other lumps stay as they are. OUT may be IN
-where that is a PWAD: an IWAD is never replaced. Prints a line for each level. A level
-that can't be built is left as it was, with the reason, and the status is 3.";
+Builds the nodes and the blockmap of each level of the WAD IN anew, or only of the levels
+NAME, and writes the new WAD to OUT. A reject table stays if it is long enough, and else
+becomes zeros; GL nodes are left out. Things, lines, sides, sectors and all lumps outside
+these levels stay byte for byte. OUT may be a new path, an empty file, a PWAD, or IN
+itself, even if IN is an IWAD; any other file is never replaced.
+Prints a line for each level, then a total. A level that can't be built stays as it was:
+its line says why, and the status is 3. Standard error has a line for each two-sided line
+of a rebuilt level that has no left side, for example
+`E3M7: line 1733 is two-sided and has no left side`.";
 
 /// `inspect`.
 pub const INSPECT: &str = "\
-Reads the level NAME (as MAP01 or E1M1) of a PWAD or an IWAD, prints how long its lumps
-are, then `sound`, or `fault NAME I` for the first reference out of range: status 3.
-Without NAME it prints the names of the levels in WAD.";
+Reads the level NAME, for example MAP01 or E1M1, of a PWAD or an IWAD. Prints how long its
+lumps are, then `sound`, or `fault NAME I` for the first reference that is out of range;
+the status is then 3. Without NAME it prints the names of the WAD's levels.";
 
 /// The refusals: the number of each, its name, and what to do. Printed for `help codes`.
 pub const CODES: &str = "\
-Answered as `no CODE` to a line, or as `leveled: CODE NAME`. A refusal changes nothing.
+A refused line is answered `no CODE`; a refused request prints `leveled: CODE NAME` to
+standard error. The maps stay as they were. What is wrong, or what to do about it:
 
  1 NotACommand         look for two spaces, a blank line, CR, a tab, a missing word
- 2 OutOfRange          a number: COMMANDS.md has the ranges; a room's lower left corner first
- 3 NoVertex            `count` tells how many there are; numbers begin at 0
+ 2 OutOfRange          COMMANDS.md has the ranges; a room begins at its lower left corner
+ 3 NoVertex            `count` prints how many there are; numbers begin at 0
  4 NoSector            as for 3
- 5 NoSide              as for 3; `-` says that nothing is on the left
+ 5 NoSide              as for 3; `-` means no left side
  6 NoLine              as for 3
  7 NoThing             as for 3
- 8 InUse               drop or change first what names it
- 9 SameEnds            give the line two vertices
-10 PlaceTaken          use the vertex that has this place
-11 TwoSidedWithoutLeft give a left side, or leave the flag 4 out
+ 8 InUse               first drop or change the line or side that names the item
+ 9 SameEnds            give the line two different vertices
+10 PlaceTaken          use the vertex that is already at this place
+11 TwoSidedWithoutLeft give a left side, or leave out the flag 4
 12 TableFull           the level is as big as the formats allow
-13 LineTooLong         longer than 32767: split it, or draw it in parts
-14 ProjectFull         make a project with a greater slot; `dump` takes the maps over
-15 BadName             names in capitals, eight bytes at most; markers as MAP01 or E1M1
+13 LineTooLong         longer than 32767: split the line, or draw it in parts
+14 ProjectFull         make a project with a greater slot; `dump` copies the maps to it
+15 BadName             names are in capitals, 1 to 8 bytes; markers are like MAP01 or E1M1
 16 TooManyMaps         there are 32: drop one
 17 MapNameTaken        choose another name
-18 NoSuchMap           `maps` tells the names
-19 CurrentMap          make another map the current one first
-20 NotAName            in a script: a letter, then letters, digits and _
-21 NotAReference       in a script: $NAME or $NAME.KIND, perhaps with +N behind
-22 UnknownName         in a script: look at the name's spelling
+18 NoSuchMap           `maps` lists the names
+19 CurrentMap          make another map current first
+20 NotAName            in a script: a name is a letter, then letters, digits and _
+21 NotAReference       in a script: give $NAME or $NAME.KIND, with or without +N
+22 UnknownName         in a script: no earlier line has this name; check its spelling
 23 NothingAdded        in a script: name an item that the command adds
-24 NumberTooLarge      in a script: the sum is above 32767
-30 Device              the disk failed, or FILE can't be opened: look, then open it again
-31 Memory              free some, and give the line again
+24 NumberTooLarge      in a script: the sum is above 32767; check the +N
+30 Device              check the disk, or end the program that has FILE open; reopen it
+31 Memory              free some memory, and give the line again
 32 Reopen              open FILE again; every acknowledged command is there
-33 GenerationsSpent    draw on in a new project; `dump` takes the maps over
-34 JournalFull         nothing: a project makes room by itself
-35 SlotFull            nothing: 14 comes before
+33 GenerationsSpent    draw on in a new project; `dump` copies the maps to it
+34 JournalFull         nothing to do: a project makes room by itself
+35 SlotFull            nothing to do: 14 comes first
 36 InputTooLong        give the input in parts
 37 ReaderFailed        the input can't be read; what was answered is done
-38 WriterFailed        look at where the output goes; what was answered is done
-40 Damaged             take a copy of FILE from before the damage
-41 Blank               never made to its end: create it anew
-42 NotAProject         look at FILE's name, or at the program's version
+38 WriterFailed        check where the output goes; what was answered is done
+40 Damaged             use a copy from before the damage, or `dump --salvage`
+41 Blank               `create` was stopped: remove FILE, and create it again
+42 NotAProject         check FILE's name, or the program's version
 43 NotEmpty            choose another name for a new project
-44 BadGeometry         a slot of 33 to 2007015 bytes, a journal of 512 to 1048576
+44 BadGeometry         a slot has 33 to 2007015 bytes, a journal 512 to 1048576
 50 LumpLength          the WAD is damaged
 60 NothingToBuild      a map has no line: draw one, or drop the map
-61 TooManyVertices     fewer lines, or fewer crossings
+61 TooManyVertices     draw fewer lines, or fewer crossings
 62 TooManySegs         as for 61
 63 TooManySubsectors   as for 61
 64 TooDeep             as for 61
 65 Stuck               never answered
-66 BlockmapTooLarge    a smaller level, or fewer lines in many blocks
-70 NotAWad             look at the WAD's name
+66 BlockmapTooLarge    make the level smaller, or draw fewer lines across many blocks
+70 NotAWad             check the WAD's name
 71 DirectoryOutside    the WAD is cut off
-72 NoSuchLevel         look at NAME: MAP01, E1M1
-73 LumpMissing         the WAD's level was never built
+72 NoSuchLevel         check NAME: MAP01, E1M1
+73 LumpMissing         the level was never built: build its nodes with `leveled rebuild`
 74 LumpOutside         the WAD is cut off
-75 HexenLevel          nothing: a level in the form of Hexen isn't read
+75 HexenLevel          nothing to do: levels in Hexen's format aren't read
 76 TextureLump         the WAD is damaged
-77 NotAMap             look at the second line: what the level has that no map may have
-78 TreeOutside         build its nodes anew: `leveled rebuild`";
+77 NotAMap             the second line says what in the level no map may have
+78 TreeOutside         build its nodes anew with `leveled rebuild`";

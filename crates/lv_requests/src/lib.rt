@@ -1,4 +1,4 @@
-//! The words of the program: the command line that clap reads, and what the words ask for.
+//! The program's arguments: the command line that clap reads, and what the arguments ask for.
 #![tactic(auto)]
 
 mod app;

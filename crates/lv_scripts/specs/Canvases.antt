@@ -1,5 +1,5 @@
--- What is drawn onto: a project in a file, or maps in memory. What each promises of a command and
--- of a query (docs/COMMANDS.md, "Answers and queries").
+-- What a script is drawn onto, a project file or maps in memory, and what each promises for a
+-- command and for a query (docs/COMMANDS.md, "Answers and queries").
 use Rattle.std.specs.Prelude.{◌≡◌, ℕ, Bool, List, Option, Some, None, Result, MatchOption, is_some}
 use Rattle.std.specs.Io.KnownBytes.{Appends, Keeps}
 use Rattle.lv_disk.specs.declared.disk.Disk.{Ghosts}
@@ -17,8 +17,8 @@ use Rattle.lv_scripts.specs.declared.canvas.Canvas as canvas
 
 -- ---- Commands
 
--- a line over a project in a file: `apply` kept its promises of it, and the outcome is what it
--- answered
+-- a command over a project file: `apply` met its contract for the line, and the outcome is its
+-- result
 abbrev pub ChangesProject : {D : Type 0} → Ghosts D → State D → List ℕ → Result ℕ ℕ → State D
     → Type 0
 ChangesProject facts old line outcome new =
@@ -31,22 +31,22 @@ ChangesProject facts old line outcome new =
 abbrev pub is_query_line : List ℕ → Bool
 is_query_line line = is_some (query_of line)
 
--- an answer to a query of these maps was written; or it was refused for lack of memory, which an
--- answer takes, and nothing was written
+-- an answer to a query about these maps was written; or the answer takes memory, there was none,
+-- the query was refused and nothing was written
 abbrev pub TellsQuery : ProjectMaps → Query → Option ℕ → Option (List ℕ) → Option (List ℕ) → Type 0
 TellsQuery p query None writer-old writer-new =
     (text : List ℕ) × IsAnswer p query text × Appends writer-old writer-new text
 TellsQuery p query (Some code) writer-old writer-new =
     (code ≡ 31) × TakesMemory query × Keeps writer-old writer-new
 
--- a line was told that asks of these maps; one that is no query is refused
+-- the answer to a query about these maps was written; a line that is no query is refused
 abbrev pub TellsOfMaps : ProjectMaps → List ℕ → Option ℕ → Option (List ℕ) → Option (List ℕ)
     → Type 0
 TellsOfMaps p line refusal writer-old writer-new =
     MatchOption (query_of line) ((refusal ≡ Some 1) × Keeps writer-old writer-new)
     (λ q. TellsQuery p q.1 refusal writer-old writer-new)
 
--- the same of a project, which refuses each where it must be opened again
+-- the same for a project; if it must be reopened, it refuses every query
 abbrev pub TellsOfProject : {D : Type 0} → State D → List ℕ → Option ℕ → Option (List ℕ)
     → Option (List ℕ) → Type 0
 TellsOfProject project line refusal writer-old writer-new =
@@ -64,7 +64,7 @@ project_canvas facts = record {
   tells = TellsOfProject;
 }
 
--- maps in memory, as long as those of any file
+-- maps in memory, which may be as long as those of any project file
 abbrev pub draft_canvas : canvas.Ghosts ProjectMaps
 draft_canvas = record {
   changes = ChangesBy LONGEST_BODY;

@@ -1,4 +1,4 @@
--- What a script draws, line by line (docs/COMMANDS.md, "Scripts").
+-- What the lines of a script draw, one after the other (docs/COMMANDS.md, "Scripts").
 use Rattle.std.specs.Prelude.{◌≡◌, ◌⊎◌, ℕ, Bool, true, false, ◌&&◌, not, is_some, List, [], ◌∷◌, ◌++◌, Option, Some, None, Result, Ok, Err, MatchResult, codes, decimal, length}
 use Rattle.std.specs.Io.KnownBytes.{Appends, Keeps}
 use Rattle.lv_maptables.specs.Projects.{ProjectMaps, current_map}
@@ -15,14 +15,14 @@ use Rattle.lv_scripts.specs.declared.drawing.Stop.{Stop}
 use Rattle.lv_scripts.specs.declared.error.ScriptError.{ScriptError}
 use Rattle.lv_scripts.specs.declared.error.ScriptError.TheVariants.{OutOfMemory, WriterFailed}
 
--- where the drawing of a script stands: what it is drawn onto, the names so far, and what the
--- writer holds
+-- the state while a script is drawn: what it is drawn onto, the names so far, and what the writer
+-- holds
 pub record Sketch (S : Type 0) : Type 0 where
   pub canvas : S
   pub names : List (List ℕ × Numbers)
   pub written : Option (List ℕ)
 
--- the sketch of a canvas, with these names, where the writer holds this
+-- the sketch with this canvas, these names, and a writer that holds this
 abbrev pub sketch_of : {S : Type 0} → S → List (List ℕ × Numbers) → Option (List ℕ) → Sketch S
 sketch_of canvas names written = record { canvas = canvas; names = names; written = written }
 
@@ -34,25 +34,25 @@ pub record Stays {S : Type 0} (old new : Sketch S) : Type 0 where
 
 -- ---- A command
 
--- these are the first items that a line adds to maps, if it is a command
+-- if a line is a command, these are the first items that it adds to the maps
 abbrev pub AddsFirst : List ℕ → ProjectMaps → Firsts → Type 0
 AddsFirst text p firsts =
     (c : ProjectCommand) → InProjectRange c → text ≡ project_spelling c
     → firsts ≡ firsts_of c (current_map p)
 
--- the names, and the one that a line gives to its numbers
+-- the names, with the one that a line gives to its numbers
 abbrev pub with_given_name : Option (List ℕ) → Numbers → List (List ℕ × Numbers)
     → List (List ℕ × Numbers)
 with_given_name None numbers names = names
 with_given_name (Some name) numbers names = names ++ (name, numbers) ∷ []
 
--- `NUMBER: ok N`, where it is to be said
+-- `NUMBER: ok N`, if the answers to commands are written
 abbrev pub noted_text : Bool → ℕ → ℕ → List ℕ
 noted_text true number n = decimal number ++ codes ": ok " ++ decimal n ++ 10 ∷ []
 noted_text false number n = []
 
--- how a line ends whose command had this outcome: it is refused with its code, or its name keeps
--- its numbers and the number is said
+-- how a line ends whose command had this outcome: refused with the code; or its name keeps the
+-- numbers, and its answer is written if wanted
 abbrev pub EndsChange : {S : Type 0} → Bool → ℕ × List ℕ → List ℕ → ProjectMaps → Result ℕ ℕ
     → Sketch S → Option ℕ → Sketch S → Type 0
 EndsChange verbose line text p (Err code) old refusal new =
@@ -63,7 +63,7 @@ EndsChange verbose line text p (Ok n) old refusal new =
     × (new.names ≡ with_given_name (name_in (text_words line.1))
     (record { answer = n; firsts = firsts }) old.names))
 
--- a command of a line was tried, and it ended so
+-- the command of a line was tried, and it ended so
 abbrev pub IsTried : {S : Type 0} → Ghosts S → Bool → ℕ × List ℕ → List ℕ → Sketch S → Option ℕ
     → Sketch S → Type 0
 IsTried facts verbose line text old refusal new =
@@ -72,30 +72,31 @@ IsTried facts verbose line text old refusal new =
 
 -- ---- A line
 
--- whether a line of a script, which stands for this text, is a query: it gives no name
+-- whether a line of a script, with this text once its names are resolved, is a query: it gives no
+-- name
 abbrev pub asks : {S : Type 0} → Ghosts S → List ℕ → List ℕ → Bool
 asks facts line text = not (is_some (name_in (text_words line))) && facts.is_query text
 
--- a query was told or refused, and nothing else has changed
+-- a query was answered or refused, and the canvas and the names stay
 abbrev pub IsQueryTold : {S : Type 0} → Ghosts S → List ℕ → Sketch S → Option ℕ → Sketch S → Type 0
 IsQueryTold facts text old refusal new =
     facts.tells old.canvas text refusal old.written new.written
     × (new.canvas ≡ old.canvas) × (new.names ≡ old.names)
 
--- what is meant where a test holds, or where it doesn't
+-- the first if the test holds, else the second
 abbrev pub OneOf : Bool → Type 0 → Type 0 → Type 0
 OneOf true P Q = P
 OneOf false P Q = Q
 
--- a line, which stands for this text, was drawn, or refused with this code
+-- a line, with this text once its names are resolved, was drawn, or refused with this code
 abbrev pub DrawsText : {S : Type 0} → Ghosts S → Bool → ℕ × List ℕ → Sketch S → Option ℕ → Sketch S
     → List ℕ → Type 0
 DrawsText facts verbose line old refusal new text =
     OneOf (asks facts line.1 text) (IsQueryTold facts text old refusal new)
     (IsTried facts verbose line text old refusal new)
 
--- A line of a script was drawn, or refused with this code: for what it stands for, because it
--- stands for nothing, or since it found no memory.
+-- A line of a script was drawn, or refused with this code: for its text, because its names can't be
+-- resolved, or for lack of memory.
 abbrev pub DrawsLine : {S : Type 0} → Ghosts S → Bool → ℕ × List ℕ → Sketch S → Option ℕ → Sketch S
     → Type 0
 DrawsLine facts verbose line old refusal new =
@@ -105,7 +106,7 @@ DrawsLine facts verbose line old refusal new =
 
 -- ---- A script
 
--- each of these lines was drawn in turn, and none refused
+-- each of these lines was drawn in turn, and none was refused
 abbrev pub DrawsAll : {S : Type 0} → Ghosts S → Bool → Sketch S → List (ℕ × List ℕ) → Sketch S
     → Type 0
 DrawsAll facts verbose old [] new = new ≡ old
@@ -113,15 +114,15 @@ DrawsAll {S = S} facts verbose old (line ∷ lines) new =
     (mid : Sketch S) × DrawsLine facts verbose line old None mid
     × DrawsAll facts verbose mid lines new
 
--- the first lines were drawn in turn, and none refused; these lines are left
+-- the first lines were drawn in turn, and none was refused; these lines are left
 pub record DrawsFront {S : Type 0} (facts : Ghosts S) (verbose : Bool) (old : Sketch S)
     (lines : List (ℕ × List ℕ)) (new : Sketch S) (left : List (ℕ × List ℕ)) : Type 0 where
   pub front : List (ℕ × List ℕ)
   pub split : lines ≡ front ++ left
   pub drawn : DrawsAll facts verbose old front new
 
--- the lines in front of one were drawn in turn, and that one was refused; its place is how many
--- they are
+-- the lines before one were drawn in turn, and that one was refused; its index is how many lines
+-- came before it
 abbrev pub StopsAt : {S : Type 0} → Ghosts S → Bool → Sketch S → List (ℕ × List ℕ) → Stop
     → Sketch S → Type 0
 StopsAt {S = S} facts verbose old lines stop new =
@@ -138,7 +139,7 @@ IsCutOff {S = S} facts verbose old lines canvas =
 
 -- ---- How a call ended
 
--- no name yet
+-- the sketch before the first line: no name yet
 abbrev pub first_sketch : {S : Type 0} → S → Option (List ℕ) → Sketch S
 first_sketch canvas written = sketch_of canvas [] written
 
@@ -146,8 +147,8 @@ first_sketch canvas written = sketch_of canvas [] written
 abbrev pub Has : {S : Type 0} → Sketch S → S → Option (List ℕ) → Type 0
 Has sketch canvas written = (canvas ≡ sketch.canvas) × (written ≡ sketch.written)
 
--- how a call ended that should draw these lines: all were drawn; or those in front of one that was
--- refused; or those before memory ran out or the writer failed
+-- how a call ended that should draw these lines: all were drawn; or those before a refused one; or
+-- those before memory ran out or the writer failed
 abbrev pub IsScriptDrawn : {S : Type 0} → Ghosts S → Bool → List (ℕ × List ℕ)
     → Result (Option Stop) ScriptError → S → Option (List ℕ) → S → Option (List ℕ) → Type 0
 IsScriptDrawn {S = S} facts verbose lines (Ok None) canvas-old writer-old canvas-new writer-new =

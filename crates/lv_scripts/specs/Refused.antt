@@ -1,4 +1,4 @@
--- What is said of a line of a script that was refused.
+-- The two lines that are written about a refused line of a script.
 use Rattle.std.specs.Prelude.{◌≡◌, ◌⊎◌, ℕ, List, ◌++◌, ◌∷◌, [], Option, Result, MatchResult, codes, decimal}
 use Rattle.std.specs.Io.KnownBytes.{Appends}
 use Rattle.lv_scripts.specs.declared.error.ScriptError.{ScriptError}
@@ -8,12 +8,12 @@ use Rattle.lv_scripts.specs.declared.error.ScriptError.TheVariants.{OutOfMemory,
 abbrev pub line_place : List ℕ → ℕ → List ℕ
 line_place script number = script ++ codes ":" ++ decimal number ++ codes ": "
 
--- `: CODE NAME`, and in a line of its own the reason
+-- `: CODE NAME`, and the reason in a line of its own
 abbrev pub refusal_text : ℕ → List ℕ → List ℕ → List ℕ
 refusal_text code name reason =
     codes ": " ++ decimal code ++ codes " " ++ name ++ 10 ∷ codes "  " ++ reason ++ 10 ∷ []
 
--- how a call ended that should say this of a line of a script, with some name and some reason
+-- how a call ended that should write this about a line of a script, with some name and some reason
 abbrev pub TellsStop : {U : Type 0} → Result U ScriptError → List ℕ → ℕ × List ℕ → ℕ
     → Option (List ℕ) → Option (List ℕ) → Type 0
 TellsStop result script line code writer-old writer-new =

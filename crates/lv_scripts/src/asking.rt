@@ -1,4 +1,4 @@
-//! Queries in a script, answered as `edit` answers them.
+//! Answers the queries of a script as `edit` answers them.
 ghost use Rattle.std.specs.Prelude.{◌≡◌, MatchResult};
 ghost use Rattle.lv_maptables.specs.Projects.{project_of};
 ghost use Rattle.lv_scripts.specs.Canvases.{TellsOfMaps, TellsQuery, is_query_line};
@@ -18,7 +18,7 @@ pub fn is_query_line(line: &[u8]) -> bool
     read_query(line).is_some()
 }
 
-// Tells the answer to a query of the maps, or gives the code of its refusal.
+// Writes the answer to a query about the maps, or returns the code of its refusal.
 fn tell_query<W: Write>(
     alloc: Global,
     maps: &Maps,
@@ -37,7 +37,7 @@ fn tell_query<W: Write>(
     }
 }
 
-/// Tells the answer to a line that asks of the maps, or gives the code of its refusal. One that is no query is refused.
+/// Writes the answer to a query about the maps, or returns the code of its refusal. A line that is no query is refused.
 ///
 /// # Errors
 ///

@@ -1,11 +1,11 @@
-//! What the refusals of lines are called, and what each says, by its number.
+//! The name of each refusal of a line, and what it says, by its number.
 use lv_commands::CommandError;
 use lv_draw::DrawError;
 use lv_project::ProjectError;
 use std::alloc::{AllocError, Global};
 use std::fmt::{Debug, Display};
 
-// The refusals of lines by lv_commands.
+// The refusals of lines that come from lv_commands.
 const OF_COMMANDS: &[CommandError] = &[
     CommandError::NotACommand,
     CommandError::OutOfRange,
@@ -28,7 +28,7 @@ const OF_COMMANDS: &[CommandError] = &[
     CommandError::CurrentMap,
 ];
 
-// The refusals of lines by lv_draw.
+// The refusals of lines that come from lv_draw.
 const OF_NAMES: &[DrawError] = &[
     DrawError::NotAName,
     DrawError::NotAReference,
@@ -37,14 +37,14 @@ const OF_NAMES: &[DrawError] = &[
     DrawError::NumberTooLarge,
 ];
 
-// The refusals of lines by lv_project.
+// The refusals of lines that come from lv_project.
 const OF_FILES: &[ProjectError] = &[
     ProjectError::Device,
     ProjectError::Reopen,
     ProjectError::GenerationsSpent,
 ];
 
-// What a refusal is called.
+// The name of a refusal.
 fn called<E: Debug>(alloc: Global, error: &E) -> Result<String, AllocError> {
     format!(in alloc; "{error:?}")
 }
@@ -54,7 +54,7 @@ fn said<E: Display>(alloc: Global, error: &E) -> Result<String, AllocError> {
     format!(in alloc; "{error}")
 }
 
-/// What the refusal of a line by this number is called.
+/// The name of the refusal with this number.
 pub fn name_of(alloc: Global, code: u16) -> Result<String, AllocError> {
     if let Some(error) = OF_COMMANDS.iter().find(|error| error.code() == code) {
         return called(alloc, error);
@@ -68,7 +68,7 @@ pub fn name_of(alloc: Global, code: u16) -> Result<String, AllocError> {
     format!(in alloc; "Memory")
 }
 
-/// What the refusal of a line by this number says.
+/// What the refusal with this number says.
 pub fn says(alloc: Global, code: u16) -> Result<String, AllocError> {
     if let Some(error) = OF_COMMANDS.iter().find(|error| error.code() == code) {
         return said(alloc, error);

@@ -8,9 +8,9 @@ use lv_maptables::Maps;
 use std::alloc::Global;
 use std::io::Write;
 
-/// What a script is drawn onto: it takes the lines of commands and of queries.
+/// What a script is drawn onto. It takes commands and queries.
 pub trait Canvas {
-    // What may be answered to the line of a command, a number or the code of a refusal, and the state after it.
+    // Which outcomes a command may have, a number or the code of a refusal, and the state after it.
     ghost changes: { Self → List ℕ → Result ℕ ℕ → Self → Type 0 };
 
     // The maps that a state has.
@@ -19,14 +19,14 @@ pub trait Canvas {
     // Whether a line is a query.
     ghost is_query: { List ℕ → Bool };
 
-    // What may be told of a query, or the code of its refusal, with what a writer holds before and after.
+    // What may be written for a query, or the code of its refusal, with what the writer holds before and after.
     ghost tells: { Self → List ℕ → Option ℕ → Option (List ℕ) → Option (List ℕ) → Type 0 };
 
-    /// Does what a line asks for that is a command, and answers its number or the refusal's code.
+    /// Applies a command, and returns its number or the refusal's code.
     fn change(&mut self, line: &[u8]) -> Result<u32, u16>
         ensures { changes self.old line.now result self.new };
 
-    /// The maps.
+    /// The maps as they are.
     fn maps(&self) -> &Maps
         ensures { project_of result.now ≡ maps_in self.now };
 
@@ -34,7 +34,7 @@ pub trait Canvas {
     fn is_query(line: &[u8]) -> bool
         ensures { result ≡ is_query line.now };
 
-    /// Tells the answer to a query, or gives the code of its refusal.
+    /// Writes the answer to a query, or returns the code of its refusal.
     ///
     /// # Errors
     ///

@@ -1,4 +1,4 @@
-//! Commands in a script: what each changes, the name that keeps its numbers, and what is said of it.
+//! Applies the commands of a script, keeps their numbers under names, and prints their answers if asked to.
 ghost use Rattle.std.specs.Prelude.{◌≡◌, ◌⊎◌, None, IfErr, IfOk, MatchResult};
 ghost use Rattle.std.specs.Option.{option_copied};
 ghost use Rattle.std.specs.Io.KnownBytes.{Appends};
@@ -35,7 +35,7 @@ fn added_by(maps: &Maps, text: &[u8]) -> Firsts
     }
 }
 
-// Gives the name of a line, if it has one, to the numbers of its command.
+// Keeps the numbers of a command under the name that its line gives, if it gives one.
 fn keep_name(
     alloc: Global,
     names: &mut Names,
@@ -55,7 +55,7 @@ fn keep_name(
     }
 }
 
-// Says what the command of a line answered, where it is to be said.
+// Writes the answer to the command of a line, if `is_verbose`.
 fn note<W: Write>(
     is_verbose: bool,
     number: usize,
@@ -76,12 +76,12 @@ fn note<W: Write>(
     }
 }
 
-/// Tries the command of a line, which stands for this text. Its name keeps the numbers, and what it answered is said
-/// where that is wanted. Gives the code of a refusal.
+/// Tries the command of a line; `text` is the line with its names replaced by numbers. If it is accepted, its numbers
+/// are kept under the line's name, and its answer is written if `is_verbose`. Returns the code of a refusal.
 ///
 /// # Errors
 ///
-/// `OutOfMemory` and `WriterFailed`, where the command was done.
+/// `OutOfMemory` and `WriterFailed`; the command was then done.
 pub fn try_command<C: Canvas, W: Write>(
     alloc: Global,
     canvas: &mut C,

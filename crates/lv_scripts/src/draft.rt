@@ -1,4 +1,4 @@
-//! Maps in memory, onto which a script is drawn to try it.
+//! Maps in memory, on which a script is tried.
 ghost use Rattle.std.specs.Prelude.{◌≡◌, ◌≤◌};
 ghost use Rattle.lv_editor.specs.declared.limits.TheConstants.{LONGEST_BODY};
 ghost use Rattle.lv_editor.specs.Answers.{ChangesBy, outcome_of};
@@ -15,7 +15,8 @@ use std::alloc::Global;
 use std::io::Write;
 use std::marker::Model;
 
-/// The maps of a project in memory, at first the empty map MAP01 alone. They may be as long as those of any file.
+/// The maps of a project in memory, at first the empty map MAP01 alone. They may be as long as those of any project
+/// file.
 #[derive(Drop)]
 pub struct Draft {
     maps: Maps,
@@ -30,7 +31,7 @@ impl Model for Draft {
 }
 
 impl Draft {
-    /// The empty map MAP01 alone. It takes no memory.
+    /// The empty map MAP01 alone. Allocates nothing.
     pub fn new(alloc: Global) -> Self
         ensures { result ≡ empty_project }
     {

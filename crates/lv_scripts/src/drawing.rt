@@ -1,4 +1,4 @@
-//! A script, drawn line by line up to the first line that is refused.
+//! Draws a script line by line, up to the first refused line.
 ghost use Rattle.std.specs.Prelude.{◌≡◌, ◌<◌, [], length, map, IfOk, IfSome};
 ghost use Rattle.lv_draw.specs.Known.{known};
 ghost use Rattle.lv_draw.specs.Views.{seen};
@@ -14,20 +14,20 @@ use std::io::Write;
 /// A line of a script that was refused.
 #[derive(Clone, Copy)]
 pub struct Stop {
-    /// Its place among the lines, from 0.
+    /// Its index among the lines, from 0.
     pub place: usize,
     /// The number of the refusal.
     pub code: u16,
 }
 
-/// Draws the lines of a script onto a project, or onto maps in memory: each as it is resolved, in turn, up to the first
-/// one that is refused. A command of a project is on the disk before the next line is looked at. Answers of queries
-/// are written, and of commands `NUMBER: ok N` where that is wanted. There is no name before; behind the call the
-/// names are those of the lines that were drawn.
+/// Draws the lines of a script in order onto a project, or onto maps in memory: resolves the names in each line, and
+/// draws it, up to the first refused line. In a project each command is on the disk before the next line is resolved.
+/// Answers to queries are written; for commands `NUMBER: ok N` is written if `is_verbose`. `names` must be empty at
+/// first; after the call it has the names that the drawn lines gave.
 ///
 /// # Errors
 ///
-/// `OutOfMemory` and `WriterFailed`; what the lines before drew stays.
+/// `OutOfMemory` and `WriterFailed`; what earlier lines drew stays.
 pub fn draw<C: Canvas, W: Write>(
     alloc: Global,
     canvas: &mut C,

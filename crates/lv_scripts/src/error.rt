@@ -1,7 +1,7 @@
-//! Why a script was cut off, and the number of the refusal.
+//! Why the drawing of a script was cut off, and the number of the refusal.
 use thiserror::Error;
 
-/// Why a script was cut off, though none of its lines was refused.
+/// Why the drawing of a script was cut off, though none of its lines was refused.
 #[derive(Clone, Copy, Debug, PartialEq, Eq, Error)]
 pub enum ScriptError {
     #[error("out of memory")]

@@ -1,6 +1,6 @@
-//! The commands and queries of a line, and what may stand in it, as a person reads them.
+//! The forms of commands and queries, and the ranges of their numbers, as they are shown to people.
 
-/// Each command and each query: its first word, and behind it what may stand there, as docs/COMMANDS.md names it.
+/// The form of each command and each query: its first word, then a name for each further word, as in docs/COMMANDS.md.
 const FORMS: &[&str] = &[
     "name MARKER",
     "map MARKER",
@@ -25,7 +25,7 @@ const FORMS: &[&str] = &[
     "hex LUMP",
 ];
 
-/// The least and the greatest number of each place for one.
+/// The least and the greatest number for each word of a form that is a number.
 const RANGES: &[(&str, i32, i32)] = &[
     ("X", -16384, 16383),
     ("Y", -16384, 16383),
@@ -64,12 +64,12 @@ pub fn first_word(text: &str) -> &str {
     }
 }
 
-/// How many words a text has, with one space between each two.
+/// How many words a text has; one space separates two words.
 pub fn count_words(text: &str) -> usize {
     text.split(' ').count()
 }
 
-/// The command or query that a first word begins.
+/// The form that begins with this first word.
 pub fn form_of(first: &str) -> Option<&'static str> {
     for form in FORMS {
         if first_word(form) == first {
@@ -79,7 +79,7 @@ pub fn form_of(first: &str) -> Option<&'static str> {
     None
 }
 
-// How many bytes two words have in common at their fronts.
+// The length of the longest common prefix of two words, in bytes.
 fn common_front(one: &[u8], other: &[u8]) -> usize {
     one.iter()
         .zip(other)
@@ -87,7 +87,7 @@ fn common_front(one: &[u8], other: &[u8]) -> usize {
         .count()
 }
 
-// How many bytes two words have in common at their ends.
+// The length of the longest common suffix of two words, in bytes.
 fn common_back(one: &[u8], other: &[u8]) -> usize {
     one.iter()
         .rev()
@@ -96,7 +96,7 @@ fn common_back(one: &[u8], other: &[u8]) -> usize {
         .count()
 }
 
-// Whether the words differ by one letter at most: one that is another, that is missing or that is too many.
+// Whether the words differ by at most one letter: a wrong one, a missing one or an extra one.
 fn is_near(one: &[u8], other: &[u8]) -> bool {
     let longest = one.len().max(other.len());
     let shortest = one.len().min(other.len());
@@ -104,7 +104,7 @@ fn is_near(one: &[u8], other: &[u8]) -> bool {
     longest - shortest <= 1 && longest <= common.saturating_add(1)
 }
 
-/// The command or query that is meant by a first word which is none, where one letter is off.
+/// The form whose first word differs from this one by at most one letter: probably the command or query that is meant.
 pub fn form_near(first: &str) -> Option<&'static str> {
     for form in FORMS {
         if is_near(first.as_bytes(), first_word(form).as_bytes()) {
@@ -114,7 +114,7 @@ pub fn form_near(first: &str) -> Option<&'static str> {
     None
 }
 
-/// The least and the greatest number at a place of this name, if numbers stand there.
+/// The least and the greatest number for the word of this name in a form, if it is a number.
 pub fn range_at(place: &str) -> Option<(i32, i32)> {
     for &(name, low, high) in RANGES {
         if name == place {

@@ -1,4 +1,4 @@
-//! Scripts that people write, drawn line by line onto whatever takes their commands and queries.
+//! Draws scripts that people write, line by line, onto a project or onto maps in memory.
 #![tactic(auto)]
 
 mod asking;

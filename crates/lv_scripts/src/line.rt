@@ -1,4 +1,4 @@
-//! A line of a script: what it stands for is a query or a command.
+//! Draws one line of a script, a command or a query.
 ghost use Rattle.std.specs.Prelude.{◌≡◌, ◌⊎◌, None, MatchResult};
 ghost use Rattle.lv_draw.specs.Known.{known};
 ghost use Rattle.lv_draw.specs.Views.{seen};
@@ -12,7 +12,7 @@ use lv_draw::{Names, ScriptLine, defined_name, resolve};
 use std::alloc::Global;
 use std::io::Write;
 
-// Whether a line of a script, which stands for this text, is a query. One that gives a name is none.
+// Whether a line of a script is a query; `text` is the line with its names resolved. A line that gives a name is none.
 fn asks<C: Canvas>(line: &[u8], text: &[u8]) -> bool
     ensures { result ≡ asks C.Canvas line.now text.now }
 {
@@ -22,11 +22,11 @@ fn asks<C: Canvas>(line: &[u8], text: &[u8]) -> bool
     }
 }
 
-/// Draws a line of a script, or gives the code that it is refused with.
+/// Draws a line of a script, or returns the code of its refusal.
 ///
 /// # Errors
 ///
-/// `OutOfMemory` and `WriterFailed`; a command is then done, or nothing is.
+/// `OutOfMemory` and `WriterFailed`; a command was then done, or nothing was changed.
 pub fn draw_line<C: Canvas, W: Write>(
     alloc: Global,
     canvas: &mut C,

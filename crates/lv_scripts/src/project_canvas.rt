@@ -1,4 +1,4 @@
-//! A project in a file, which a script is drawn onto: each command is on the disk before it is answered.
+//! A project file, onto which a script is drawn: each command is on the disk before it is answered.
 ghost use Rattle.std.specs.Prelude.{◌≡◌, Result};
 ghost use Rattle.lv_editor.specs.Editing.{outcome_in};
 ghost use Rattle.lv_maptables.specs.Projects.{project_of};

@@ -1,4 +1,4 @@
-//! What was wrong with a refused line, in words.
+//! Says what was wrong with a refused line.
 use crate::calling::says;
 use crate::forms::{count_words, first_word, form_near, form_of, range_at};
 use lv_commands::{Command, ProjectCommand, RoomPlan, parse};
@@ -9,7 +9,7 @@ use lv_maptables::{Kind, Map, Maps};
 use std::alloc::{AllocError, Global};
 use std::str;
 
-// What is meant by a line that is no command and no query.
+// What is probably meant by a line that is neither a command nor a query.
 fn meant(alloc: Global, text: &str) -> Result<String, AllocError> {
     if text.len() > 256 {
         return format!(in alloc; "a line has 256 bytes at most");
@@ -35,7 +35,7 @@ fn meant(alloc: Global, text: &str) -> Result<String, AllocError> {
     }
 }
 
-// Whether a word is a number, and outside of a range.
+// Whether a word other than `-` is no number within the range.
 fn is_outside(word: &str, low: i32, high: i32) -> bool {
     if word == "-" {
         return false;
@@ -46,7 +46,7 @@ fn is_outside(word: &str, low: i32, high: i32) -> bool {
     }
 }
 
-// Which number of a line is out of its range, and what the range is.
+// Says which number of a line is out of its range, and what the range is.
 fn out_of_range(alloc: Global, text: &str, form: &str) -> Result<String, AllocError> {
     for (place, word) in form.split(' ').zip(text.split(' ')) {
         if let Some((low, high)) = range_at(place) {
@@ -63,16 +63,16 @@ fn out_of_range(alloc: Global, text: &str, form: &str) -> Result<String, AllocEr
     }
 }
 
-// Whether a word isn't the name that a place of this name wants, if it wants one.
+// Whether a name must stand at this place of a form, and the word isn't one.
 fn is_bad_name(place: &str, word: &str) -> bool {
     if place == "MARKER" {
         return !is_marker(word.as_bytes());
     }
-    // A first word, in small letters, is no place.
+    // The first word of a form is in small letters, so it is no name and never counts as a place for one.
     is_name(place.as_bytes()) && range_at(place).is_none() && !is_name(word.as_bytes())
 }
 
-// What a name at a place is.
+// Says what a name at this place of a form must be.
 fn wanted_name(alloc: Global, place: &str, word: &str) -> Result<String, AllocError> {
     if place == "MARKER" {
         return format!(in alloc; "{word} stands for a map's name: MAP01 to MAP99, or E1M1 to E9M9");
@@ -82,7 +82,7 @@ fn wanted_name(alloc: Global, place: &str, word: &str) -> Result<String, AllocEr
     )
 }
 
-// Which word of a line is no name, and what a name is.
+// Says which word of a line is no name, and what it must be.
 fn bad_name(alloc: Global, text: &str, form: &str) -> Result<String, AllocError> {
     for (place, word) in form.split(' ').zip(text.split(' ')) {
         if is_bad_name(place, word) {
@@ -92,7 +92,7 @@ fn bad_name(alloc: Global, text: &str, form: &str) -> Result<String, AllocError>
     says(alloc, 15)
 }
 
-// How many items of a kind there are.
+// Says how many items of a kind the map has.
 fn counted(alloc: Global, map: &Map, kind: Kind, items: &str) -> Result<String, AllocError> {
     let count = map.count(kind);
     format!(in alloc; "{items} of the map: {count}, numbered from 0")
@@ -110,7 +110,7 @@ fn vertex_at(map: &Map, at: Vertex) -> Option<u32> {
     None
 }
 
-// The corner of a room at which a vertex stands; else its first one.
+// The first corner of a room at which a vertex stands; if there is none, the first corner.
 fn taken_corner(map: &Map, plan: &RoomPlan) -> Vertex {
     let corners = [
         Vertex {
@@ -138,7 +138,7 @@ fn taken_corner(map: &Map, plan: &RoomPlan) -> Vertex {
     corners[0]
 }
 
-// The place that a command wants for a vertex, and where another may stand.
+// The place for which a command would add or move a vertex, and where another one may stand.
 fn wanted_place(map: &Map, text: &str) -> Option<Vertex> {
     match parse(text.as_bytes()) {
         Ok(ProjectCommand::Edit(Command::AddVertex(at))) => Some(at),
@@ -149,7 +149,7 @@ fn wanted_place(map: &Map, text: &str) -> Option<Vertex> {
     }
 }
 
-// Which vertex stands at the place that a command wants.
+// Says which vertex stands at the place for which a command would add or move one.
 fn taken(alloc: Global, map: &Map, text: &str) -> Result<String, AllocError> {
     if let Some(at) = wanted_place(map, text) {
         if let Some(n) = vertex_at(map, at) {
@@ -161,7 +161,7 @@ fn taken(alloc: Global, map: &Map, text: &str) -> Result<String, AllocError> {
     says(alloc, 10)
 }
 
-// What was wrong with a line of commands.
+// Says what was wrong with a line whose names are resolved.
 fn reason_of_text(alloc: Global, maps: &Maps, text: &str, code: u16) -> Result<String, AllocError> {
     let map = maps.current();
     let form = form_of(first_word(text)).unwrap_or("");
@@ -179,7 +179,7 @@ fn reason_of_text(alloc: Global, maps: &Maps, text: &str, code: u16) -> Result<S
     }
 }
 
-/// What was wrong with a line of a script, with the names of the lines before it: of the maps as they are.
+/// Says what was wrong with a line of a script, given the maps as they are and the names of the earlier lines.
 pub fn reason_of(
     alloc: Global,
     maps: &Maps,

@@ -1,4 +1,4 @@
-//! The two lines that say which line of a script was refused, and what was wrong with it.
+//! Writes the two lines that say which line of a script was refused, and what was wrong with it.
 ghost use Rattle.std.specs.Prelude.{◌≡◌, ◌++◌, MatchResult};
 ghost use Rattle.std.specs.Io.KnownBytes.{Appends};
 ghost use Rattle.lv_draw.specs.Views.{seen};
@@ -13,7 +13,7 @@ use lv_maptables::Maps;
 use std::alloc::Global;
 use std::io::Write;
 
-// Writes which line it is.
+// Writes the script's name and the line's number.
 fn write_place<W: Write>(script: &str, number: usize, writer: &mut W) -> Result<(), ScriptError>
     ensures { MatchResult result
         (λ _. Appends (W.contents writer.old) (W.contents writer.new)
@@ -38,7 +38,7 @@ fn write_text<W: Write>(text: &[u8], writer: &mut W) -> Result<(), ScriptError>
     }
 }
 
-// Writes the refusal and the reason.
+// Writes the refusal's code and name, and the reason in a line of its own.
 fn write_reason<W: Write>(
     code: u16,
     name: &str,
@@ -82,12 +82,12 @@ fn write_both<W: Write>(
     write_reason(code, name, reason, writer)
 }
 
-/// Says which line of a script was refused, `SCRIPT:NUMBER: TEXT: CODE NAME`, and in a second line what was wrong, of
-/// the maps as they are and with the names of the lines before it.
+/// Writes which line of a script was refused, `SCRIPT:NUMBER: TEXT: CODE NAME`, and in a second line what was wrong,
+/// given the maps as they are and the names of the earlier lines.
 ///
 /// # Errors
 ///
-/// `OutOfMemory`, and then nothing is written, or `WriterFailed`.
+/// `OutOfMemory`, with nothing written, or `WriterFailed`.
 pub fn write_refused<W: Write>(
     alloc: Global,
     maps: &Maps,

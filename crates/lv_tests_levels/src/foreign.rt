@@ -1,11 +1,11 @@
-//! Levels of WADs that another editor wrote: where they stand, and why none can be built of them.
+//! Levels in WADs of other editors: how they are found, and what prevents a build.
 
 use crate::expect::same;
 use lv_levels::{LevelForm, levels_in, read_drawn};
 use std::alloc::Global;
 use std::test::Fail;
 
-// A number of 32 bits, the lower bytes first.
+// A number as 32 bits, little-endian.
 fn long(n: usize) -> [u8; 4] {
     ((n % 4_294_967_296) as u32).to_le_bytes()
 }
@@ -29,8 +29,8 @@ pub fn wad_of(alloc: Global, lumps: &[(&[u8; 8], &[u8])]) -> Result<Vec<u8>, Fai
     Ok(whole)
 }
 
-// The entries of a directory by their names, and of each level there its marker, the end of its lumps, the end of
-// another builder's, and its form: 0 for Doom, 1 for Hexen, 2 for UDMF.
+// The names of a directory's entries; and for each level its marker, the end of its lumps, the end of the GL lumps of
+// another builder, and its form: 0 for Doom, 1 for Hexen, 2 for UDMF.
 const PLACED: &[(&[&[u8; 8]], &[[u32; 4]])] = &[
     (
         &[
@@ -113,7 +113,7 @@ const VERTICES: &[u8] = &[
     0, 0, 0, 0, 64, 0, 0, 0, 0x20, 0x4e, 0, 0, 0, 0xc0, 0, 0xc0, 0xff, 0x3f, 0xff, 0x3f,
 ];
 
-// The bytes of LINEDEFS, and what hinders a build, as it is told.
+// The bytes of LINEDEFS, and what prevents a build, as it is printed; or how many vertices are read.
 const HINDERED: &[(&[u8], &str)] = &[
     (
         &[0, 0, 1, 0, 1, 0, 0, 0, 0, 0, 0, 0, 0xff, 0xff],
@@ -161,7 +161,7 @@ fn level_of(lines: &'static [u8]) -> [(&'static [u8; 8], &'static [u8]); 7] {
     ]
 }
 
-// What is read of the first level of a WAD, or what hinders a build of it.
+// How many vertices are read from the first level of a WAD, or what prevents a build of it.
 fn read_of(alloc: Global, wad: &[u8]) -> Result<String, Fail> {
     let levels = levels_in(alloc, wad)?;
     let Some(level) = levels.first() else {

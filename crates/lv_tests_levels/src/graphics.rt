@@ -8,19 +8,19 @@ use std::alloc::Global;
 use std::io::Write;
 use std::test::Fail;
 
-// Two textures, whose names stand behind their offsets, 12 and 20; the second is in small letters, with more behind
-// a NUL.
+// TEXTURE1 with two textures, whose names are at offsets 12 and 20. The second is in small letters, with bytes after
+// its NUL.
 const TWO: &[u8] = b"\x02\0\0\0\x0c\0\0\0\x14\0\0\0BRICK1\0\0step2\0xx";
 
-// One texture, whose name stands behind its offset, 8; the name a byte further on; and a list without its second
-// offset.
+// One texture, whose name is at offset 8; the same with the name's last byte outside the lump; and a list without its
+// second offset.
 const ONE: &[u8] = b"\x01\0\0\0\x08\0\0\0SKY4\0\0\0\0";
 
 const PAST: &[u8] = b"\x01\0\0\0\x09\0\0\0SKY4\0\0\0\0";
 
 const CUT: &[u8] = b"\x02\0\0\0\x08\0\0\0";
 
-// The lumps of a WAD, and the names of its flats and of its textures, each with a blank behind it, or the refusal's
+// The lumps of a WAD; and the names of its flats, then of its textures, each followed by a space, or the refusal's
 // number.
 #[rattlefmt::skip]
 const NAMED: &[(&[(&[u8; 8], &[u8])], &[u8])] = &[
@@ -41,15 +41,15 @@ const NAMED: &[(&[(&[u8; 8], &[u8])], &[u8])] = &[
     (&[(b"TEXTURE2", b"\0\0\0")], b"76"),
 ];
 
-// Bytes that have no names, and the refusal's number: a lump of 100 bytes in a file of 28, a directory beyond the file,
-// and no WAD.
+// Bytes that are refused, and the refusal's number: a lump of 100 bytes in a file of 28, a directory beyond the file,
+// and bytes that are no WAD.
 const REFUSED: &[(&[u8], u16)] = &[
     (b"IWAD\x01\0\0\0\x0c\0\0\0\x0c\0\0\0\x64\0\0\0TEXTURE1", 74),
     (b"IWAD\x01\0\0\0\x0c\0\0\0", 71),
     (b"PWAD\0\0\0\0\x0c\0\0", 70),
 ];
 
-// The names, each with a blank behind it.
+// Appends the names, each followed by a space.
 fn put(names: &[Name8], text: &mut Vec<u8>) -> Result<(), Fail> {
     for name in names {
         text.extend_from_slice(name.text())?;
@@ -58,7 +58,7 @@ fn put(names: &[Name8], text: &mut Vec<u8>) -> Result<(), Fail> {
     Ok(())
 }
 
-// The names of flats and of textures, or the refusal's number.
+// The names of flats, then of textures, or the refusal's number.
 fn named(alloc: Global, wad: &[u8]) -> Result<Vec<u8>, Fail> {
     let mut text = Vec::new(alloc);
     match graphics_in(alloc, wad) {

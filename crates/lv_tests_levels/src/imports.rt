@@ -1,4 +1,4 @@
-//! Maps of levels that another editor drew: what is changed of them, and why one is no map.
+//! Maps made of levels of other editors: what is changed, and why a level can't be made a map.
 
 use crate::expect::same;
 use crate::foreign::wad_of;
@@ -9,22 +9,22 @@ use lv_maptables::Kind;
 use std::alloc::Global;
 use std::test::Fail;
 
-// A line from (0, 0) to (64, 0) with a right side in the only sector, and flag 1; and with flag 4 instead.
+// A line from (0, 0) to (64, 0) with a right side in the only sector and the flags 1; and with the flags 4.
 const LINES: &[u8] = &[0, 0, 1, 0, 1, 0, 0, 0, 0, 0, 0, 0, 0xff, 0xff];
 
 const TWO_SIDED: &[u8] = &[0, 0, 1, 0, 4, 0, 0, 0, 0, 0, 0, 0, 0xff, 0xff];
 
-// (0, 0), (64, 0); and (7, 7) behind them, which no line uses.
+// The vertices (0, 0) and (64, 0); and the same with (7, 7) after them, which no line uses.
 const VERTICES: &[u8] = &[0, 0, 0, 0, 64, 0, 0, 0];
 
 const VERTICES_MORE: &[u8] = &[0, 0, 0, 0, 64, 0, 0, 0, 7, 0, 7, 0];
 
-// Two vertices at one place, and a line from the last to (64, 0).
+// Three vertices, 0 and 2 at the same place, and a line from vertex 2 to (64, 0).
 const VERTICES_TWICE: &[u8] = &[0, 0, 0, 0, 64, 0, 0, 0, 0, 0, 0, 0];
 
 const LINES_TWICE: &[u8] = &[2, 0, 1, 0, 1, 0, 0, 0, 0, 0, 0, 0, 0xff, 0xff];
 
-// (0, 0), (64, 0), (0, 0), (64, 64), (64, 0); and lines from 2 to 1, from 1 to 3, and from 3 to 4.
+// The vertices (0, 0), (64, 0), (0, 0), (64, 64) and (64, 0); and lines from 2 to 1, from 1 to 3, and from 3 to 4.
 const CORNERS: &[u8] = &[
     0, 0, 0, 0, 64, 0, 0, 0, 0, 0, 0, 0, 64, 0, 64, 0, 64, 0, 0, 0,
 ];
@@ -36,12 +36,12 @@ const THREE_LINES: &[u8] = &[
     3, 0, 4, 0, 1, 0, 0, 0, 0, 0, 0, 0, 0xff, 0xff,
 ];
 
-// What is told of that level, and of its map: vertices 2 and 4 are left out, so that vertex 3 is the map's vertex 2.
+// The report on that level and its map: vertices 2 and 4 are left out, so vertex 3 becomes the map's vertex 2.
 const CORNERS_TOLD: &str = "3 vertices, 1 things; vertex 2: is at the place of vertex 0; \
     vertex 4: is at the place of vertex 1; line 0 1; line 1 2; line 2 1";
 
-// (0, 0), (64, 0), (64, 64), (64, 0), (9, 9); and lines from 0 to 1, from 1 to 3, which stand at one place, from 1 to 2
-// with flag 4, and from 4 to 4 with a right side that isn't there.
+// The vertices (0, 0), (64, 0), (64, 64), (64, 0) and (9, 9); and lines from 0 to 1, from 1 to 3, which are at the same
+// place, from 1 to 2 with flag 4, and from 4 to 4 with a right side that doesn't exist.
 const FLAT_CORNERS: &[u8] = &[
     0, 0, 0, 0, 64, 0, 0, 0, 64, 0, 64, 0, 64, 0, 0, 0, 9, 0, 9, 0,
 ];
@@ -54,14 +54,14 @@ const FLAT_LINES: &[u8] = &[
     4, 0, 4, 0, 1, 0, 0, 0, 0, 0, 9, 0, 0xff, 0xff,
 ];
 
-// What is told of that level, and of its map: lines 1 and 3 are left out, so that no line uses vertices 3 and 4.
+// The report on that level and its map: lines 1 and 3 are left out, so no line uses vertices 3 and 4.
 const FLAT_TOLD: &str =
     "3 vertices, 1 things; vertices 2: left out behind the last that a line uses; \
     line 1: left out, since it has no length; line 2: without flag 4, since it has no left side; \
     line 3: left out, since it has no length; line 0 1; line 1 2";
 
-// A line from 0 to 0 alone; one from 0 to 0, and one from 0 to 1 with a right side that isn't there, or both with flags
-// above 32,767; one from 2 to 2, where there are two vertices.
+// Levels with lines of no length: one line from 0 to 0; the same with a second line from 0 to 1, whose right side
+// doesn't exist; both lines with flags above 32,767; and a line from 2 to 2, though there are only two vertices.
 const FLAT_LINE: &[u8] = &[0, 0, 0, 0, 1, 0, 0, 0, 0, 0, 0, 0, 0xff, 0xff];
 
 #[rattlefmt::skip]
@@ -78,29 +78,29 @@ const FLAT_AND_FLAGGED: &[u8] = &[
 
 const FLAT_NOWHERE: &[u8] = &[2, 0, 2, 0, 1, 0, 0, 0, 0, 0, 0, 0, 0xff, 0xff];
 
-// A side in sector 0: offsets, upper, lower, middle.
+// A side in sector 0, with both offsets and the upper, lower and middle texture.
 const SIDES: &[u8] = b"\0\0\0\0-\0\0\0\0\0\0\0-\0\0\0\0\0\0\0STONE\0\0\0\0\0";
 
 const SMALL_SIDES: &[u8] = b"\0\0\0\0-\0\0\0\0\0\0\0\0more\0\0\0stone\0\0\0\0\0";
 
 const STARRED_SIDES: &[u8] = b"\0\0\0\0-\0\0\0\0\0\0\0-\0\0\0\0\0\0\0ST*NE\0\0\0\0\0";
 
-// A sector from 0 to 128 with light 160; and with light 300.
+// A sector with floor 0, ceiling 128 and light 160; and with light 300.
 const SECTORS: &[u8] = b"\0\0\x80\0FLAT1\0\0\0FLAT1\0\0\0\xa0\0\0\0\0\0";
 
 const BRIGHT: &[u8] = b"\0\0\x80\0FLAT1\0\0\0FLAT1\0\0\0\x2c\x01\0\0\0\0";
 
 const TAGGED: &[u8] = b"\0\0\x80\0FLAT1\0\0\0FLAT1\0\0\0\xa0\0\0\0\xff\xff";
 
-// Player 1 at (8, 8) with angle 90; a thing of type -1; and one with angle 360.
+// The start of player 1 at (8, 8) with angle 90; a thing of type -1; and one with angle 360.
 const THINGS: &[u8] = &[8, 0, 8, 0, 90, 0, 1, 0, 7, 0];
 
 const ODD_THINGS: &[u8] = &[
     8, 0, 8, 0, 90, 0, 0xff, 0xff, 7, 0, 8, 0, 8, 0, 0x68, 1, 1, 0, 7, 0,
 ];
 
-// THINGS, LINEDEFS, SIDEDEFS, VERTEXES and SECTORS of a level, and what is told of it: how many vertices and things its
-// map has, and what is changed; or what refuses it.
+// THINGS, LINEDEFS, SIDEDEFS, VERTEXES and SECTORS of a level, and the report on it: how many vertices and things its
+// map has, and what was changed; or why it can't be made a map.
 const IMPORTED: &[(&[u8], &[u8], &[u8], &[u8], &[u8], &str)] = &[
     (
         THINGS,
@@ -201,13 +201,13 @@ const IMPORTED: &[(&[u8], &[u8], &[u8], &[u8], &[u8], &str)] = &[
     ),
 ];
 
-// LINEDEFS and VERTEXES of a level, and what is told of it with the lines of its map.
+// LINEDEFS and VERTEXES of a level, and the report on it with the lines of its map.
 const NUMBERED: &[(&[u8], &[u8], &str)] = &[
     (THREE_LINES, CORNERS, CORNERS_TOLD),
     (FLAT_LINES, FLAT_CORNERS, FLAT_TOLD),
 ];
 
-// What is told of a level that is a map.
+// The report on a level that was made a map.
 fn told_of(alloc: Global, imported: &Imported) -> Result<String, Fail> {
     let map = imported.maps.current();
     let vertices = map.count(Kind::Vertex);
@@ -220,7 +220,7 @@ fn told_of(alloc: Global, imported: &Imported) -> Result<String, Fail> {
     Ok(told)
 }
 
-// What is told of a level that is a map, and between which vertices each of its lines runs.
+// The same, and the vertices of each line of the map.
 fn lines_told_of(alloc: Global, imported: &Imported) -> Result<String, Fail> {
     let mut told = told_of(alloc, imported)?;
     let map = imported.maps.current();
@@ -242,7 +242,7 @@ fn imported(alloc: Global, wad: &[u8]) -> Result<Result<Imported, ImportError>, 
     Ok(import_level(alloc, wad, *level, Name8::from_text(b"MAP01")))
 }
 
-// What is told of the first level of a WAD.
+// The report on the first level of a WAD.
 fn told(alloc: Global, wad: &[u8]) -> Result<String, Fail> {
     match imported(alloc, wad)? {
         Ok(imported) => told_of(alloc, &imported),
@@ -250,7 +250,7 @@ fn told(alloc: Global, wad: &[u8]) -> Result<String, Fail> {
     }
 }
 
-// The same, with the lines of the map.
+// The same, with the vertices of each line of the map.
 fn lines_told(alloc: Global, wad: &[u8]) -> Result<String, Fail> {
     match imported(alloc, wad)? {
         Ok(imported) => lines_told_of(alloc, &imported),

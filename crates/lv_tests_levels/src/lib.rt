@@ -1,4 +1,4 @@
-//! The tests of pieces, partitions, trees and levels: worked examples, and maps whose lines cross one another.
+//! Tests of pieces, partitions, trees and levels: worked examples, and maps whose lines cross one another.
 #![tactic(auto)]
 
 #[cfg(test)]

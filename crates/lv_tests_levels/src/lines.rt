@@ -1,5 +1,5 @@
-//! The trees and blocks of lines that no map of ours may have: two vertices at one place, vertices that no line uses, a
-//! line at another's places, more vertices or lines than there are numbers.
+//! Trees and blockmaps of lines that no map of ours may have: two vertices at one place, vertices that no line uses,
+//! two lines between the same places, more vertices or lines than there are numbers.
 
 use crate::expect::same;
 use lv_blockmap::{blockmap_over, ends_over};
@@ -10,7 +10,7 @@ use std::alloc::Global;
 use std::process::Abort;
 use std::test::Fail;
 
-// The one side of every level here.
+// The only side of each level in this file.
 const SIDE: Side = Side {
     x_offset: 0,
     y_offset: 0,
@@ -48,7 +48,7 @@ fn lines_of(alloc: Global, ends: &[[u16; 2]]) -> Result<Vec<Line>, Fail> {
     Ok(lines)
 }
 
-// The tree of lines over the vertices, behind those that are drawn.
+// The tree of the lines; its list of vertices begins with `drawn`.
 fn tree_of(
     alloc: Global,
     vertices: &[Vertex],
@@ -69,7 +69,7 @@ fn ends_of(alloc: Global, segs: &[Seg]) -> Result<Vec<[u16; 2]>, Fail> {
     Ok(ends)
 }
 
-// The places of vertices, the ends of lines, the ends of their segs, and how many vertices there are then.
+// The places of vertices, the vertices of each line, the vertices of each seg, and how many vertices the tree has.
 type Row = (
     &'static [[i16; 2]],
     &'static [[u16; 2]],
@@ -79,16 +79,16 @@ type Row = (
 
 #[rattlefmt::skip]
 const LEVELS: &[Row] = &[
-    // a room whose last line ends in a second vertex at the first one's place
+    // a room whose last line ends at a second vertex at the place of the first one
     (&[[0, 0], [0, 128], [128, 128], [128, 0], [0, 0]],
      &[[0, 1], [1, 2], [2, 3], [3, 4]], &[[0, 1], [1, 2], [2, 3], [3, 0]], 5),
-    // vertices that no line uses among those that lines use
+    // vertices that no line uses, between those that lines use
     (&[[0, 0], [500, 500], [0, 128], [128, 128], [600, 600], [128, 0]],
      &[[0, 2], [2, 3], [3, 5], [5, 0]], &[[0, 2], [2, 3], [3, 5], [5, 0]], 6),
-    // a line at another's places, by vertices of its own
+    // two lines between the same places, each with its own vertices
     (&[[0, 0], [0, 128], [128, 128], [128, 0], [0, 0], [0, 128]],
      &[[0, 1], [1, 2], [2, 3], [3, 0], [4, 5]], &[[0, 1], [1, 2], [2, 3], [3, 0], [0, 1]], 6),
-    // an L, cut at (128,0), where two vertices stand that no line uses
+    // an L that is cut at (128,0), where there are two vertices that no line uses
     (&[[0, 0], [0, 256], [128, 256], [128, 128], [256, 128], [256, 0], [300, 300], [128, 0], [128, 0]],
      &[[0, 1], [1, 2], [2, 3], [3, 4], [4, 5], [5, 0]],
      &[[0, 1], [1, 2], [2, 3], [7, 0], [3, 4], [4, 5], [5, 7]], 9),
@@ -111,7 +111,7 @@ fn segs_name_the_first_vertex_at_a_place(rt: HostRuntime) -> Result<(), Fail> {
     Ok(())
 }
 
-// Why lines can't be built over so many drawn vertices, so many times one line.
+// Why a level with `drawn` vertices and `count` equal lines can't be built.
 fn refusal(alloc: Global, drawn: usize, count: usize) -> Result<Option<TreeError>, Fail> {
     let vertices = [Vertex { x: 0, y: 0 }, Vertex { x: 0, y: 128 }];
     let lines = Vec::from_elem(alloc, line_between(0, 1, 0), count)?;
@@ -133,7 +133,7 @@ fn more_than_there_are_numbers_are_refused(rt: HostRuntime) -> Result<(), Fail> 
     Ok(())
 }
 
-// Places of two vertices, the ends and the right side of a line, and its fault.
+// The places of two vertices; the vertices and the right side of a line; and the line's fault.
 type Fault = ([[i16; 2]; 2], [u16; 3], Option<LineFault>);
 
 #[rattlefmt::skip]
@@ -152,7 +152,7 @@ const FAULTS: &[Fault] = &[
     ([[-16384, 0], [16383, 1]], [0, 1, 0], Some(LineFault::TooLong)),
 ];
 
-// The fault of a line behind another one that can be built, over the two vertices.
+// The fault of the line over the two vertices, if it can't be built.
 fn fault_of(alloc: Global, row: &Fault) -> Result<Option<LineFault>, Fail> {
     let [v1, v2, right] = row.1;
     let vertices = vertices_of(alloc, &row.0)?;
@@ -181,7 +181,7 @@ fn the_first_line_that_cannot_be_built_is_told(rt: HostRuntime) -> Result<(), Fa
     Ok(())
 }
 
-// BLOCKMAP of the room from (0,0) to (128,128): its north and east lines touch all four blocks.
+// The BLOCKMAP of the room from (0,0) to (128,128). Its north and east lines touch all four blocks.
 #[rattlefmt::skip]
 const BLOCKS: [u8; 56] = [
     0, 0, 0, 0, 2, 0, 2, 0, 8, 0, 14, 0, 19, 0, 24, 0,

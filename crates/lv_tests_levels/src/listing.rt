@@ -7,7 +7,7 @@ use lv_tests_maps::drawing::{ROOM, drawn};
 use std::alloc::Global;
 use std::test::Fail;
 
-// Bytes without a level, and why their levels aren't listed.
+// Bytes without a level, and why listing their levels is refused, if it is.
 const LISTED: &[(&[u8], Option<ReadError>)] = &[
     (b"PWAD\0\0\0\0\x0c\0\0\0", None),
     (
@@ -17,7 +17,7 @@ const LISTED: &[(&[u8], Option<ReadError>)] = &[
     (b"PWAD\0\0\0\0\x0c\0\0", Some(ReadError::NotAWad)),
 ];
 
-// How many levels the bytes hold, or why they aren't listed.
+// How many levels the bytes have, or why listing them is refused.
 fn listed(alloc: Global, wad: &[u8]) -> (usize, Option<ReadError>) {
     match level_names(alloc, wad) {
         Ok(names) => (names.len(), None),

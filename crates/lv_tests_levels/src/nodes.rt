@@ -1,4 +1,4 @@
-//! The trees of drawn maps: the worked examples, and a row of rooms.
+//! The trees of drawn maps: worked examples, and a row of rooms.
 
 use crate::expect::same;
 use lv_lumps::{Seg, encode_nodes, encode_segs, encode_subs, encode_vertices};
@@ -9,7 +9,7 @@ use std::alloc::Global;
 use std::process::Abort;
 use std::test::Fail;
 
-// The tree of the map that the lines leave.
+// The tree of the map that the lines draw.
 fn built(alloc: Global, lines: &[&[u8]]) -> Result<Built, Fail> {
     let maps = drawn(alloc, lines)?;
     Ok(build_tree(alloc, maps.current())?)
@@ -32,7 +32,7 @@ const ROOM_SEGS: [u8; 48] = [
     3, 0, 0, 0, 0, 0x80, 3, 0, 0, 0, 0, 0, // south
 ];
 
-// The one node of the L, as bytes: start and vector, the boxes, the two children.
+// The one node of the L, as bytes: the partition's start and vector, the boxes, the two children.
 const L_NODE: [u8; 28] = [
     0x80, 0, 0, 1, 0, 0, 0x80, 0xff, // from (128,256) by (0,-128)
     0, 1, 0, 0, 0, 0, 0x80, 0, // the west
@@ -40,7 +40,7 @@ const L_NODE: [u8; 28] = [
     0, 0x80, 1, 0x80,
 ];
 
-// The segs and the nodes of the tree that lines leave, as bytes.
+// The segs and the nodes of the tree of what the lines draw, as bytes.
 fn bytes_of(alloc: Global, lines: &[&[u8]]) -> Result<(Vec<u8>, Vec<u8>), Fail> {
     let tree = built(alloc, lines)?;
     let segs = encode_segs(alloc, &tree.segs)?;
@@ -56,15 +56,15 @@ fn segs_and_nodes_have_their_bytes(rt: HostRuntime) -> Result<(), Fail> {
     Ok(())
 }
 
-// A line that two others cut at (32,0) and at (64,0), in that order. Its middle part is the first seg, and names both
-// added vertices: its first end before its second.
+// A line that two others cut at (32,0) and at (64,0), in this order. Its middle part is the first seg, and names both
+// added vertices in this order.
 #[rattlefmt::skip]
 const MIDDLE: [&[u8]; 11] = [
     b"vertex 0 0", b"vertex 96 0", b"vertex 32 -74", b"vertex 32 -10", b"vertex 64 -10", b"vertex 64 -74",
     SECTOR, SIDE, b"line 0 1 1 0 0 0 -", b"line 2 3 1 0 0 0 -", b"line 4 5 1 0 0 0 -",
 ];
 
-// Lines, how many vertices, segs and nodes their tree has, and its added vertices and its subsectors as bytes.
+// Lines; how many vertices, segs and nodes their tree has; and its added vertices and its subsectors, as bytes.
 type Row = (
     &'static [&'static [u8]],
     [usize; 3],
@@ -88,7 +88,7 @@ fn counts(tree: &Built) -> [usize; 3] {
     [tree.vertices.len(), tree.segs.len(), tree.nodes.len()]
 }
 
-// The vertices of a tree behind so many of its map, as bytes.
+// The vertices of a tree after the first ones, which are the map's, as bytes.
 fn added(alloc: Global, tree: &Built, first: usize) -> Result<Vec<u8>, Fail> {
     match tree.vertices.get(first..) {
         Some(vertices) => Ok(encode_vertices(alloc, vertices)?),
@@ -96,7 +96,7 @@ fn added(alloc: Global, tree: &Built, first: usize) -> Result<Vec<u8>, Fail> {
     }
 }
 
-// A tree has these counts, and its added vertices and its subsectors these bytes.
+// The tree has the counts, the added vertices and the subsectors of the row.
 fn expect_tree(
     rt: &impl Abort,
     alloc: Global,
@@ -122,7 +122,7 @@ fn trees_are_as_specified(rt: HostRuntime) -> Result<(), Fail> {
     Ok(())
 }
 
-// Lines, a range of the segs of their tree, and the line, the side and the offset that one of these segs has.
+// Lines, a range of the segs of their tree, and the line, the side and the offset of exactly one of these segs.
 #[rattlefmt::skip]
 const OFFSETS: &[(&[&[u8]], [usize; 2], [u16; 3])] = &[
     (&L, [3, 4], [5, 0, 128]),
@@ -130,7 +130,7 @@ const OFFSETS: &[(&[&[u8]], [usize; 2], [u16; 3])] = &[
     (&TWO_ROOMS, [0, 4], [2, 0, 0]), (&TWO_ROOMS, [4, 8], [2, 1, 0]),
 ];
 
-// How many of the segs of a range have a line, a side and an offset.
+// How many of the segs in a range have this line, side and offset.
 fn count_of(segs: &[Seg], range: [usize; 2], want: [u16; 3]) -> u32 {
     let mut count = 0u32;
     for (n, seg) in segs.iter().enumerate() {
@@ -151,7 +151,7 @@ fn segs_begin_where_their_side_is_cut(rt: HostRuntime) -> Result<(), Fail> {
     Ok(())
 }
 
-// Draws a row of rooms that are sixteen wide and sixteen apart.
+// Draws a row of rooms, each sixteen map units wide and sixteen from the next.
 fn draw_rooms(alloc: Global, maps: &mut Maps, count: u16) -> Result<(), Fail> {
     for i in 0..count {
         let left = 32 * u32::from(i);

@@ -1,4 +1,4 @@
-//! The choice of a partition: worked examples, and the same choice by a plain walk.
+//! The choice of a partition: worked examples, and the same choice by brute force.
 
 ghost use Rattle.std.specs.Prelude.{◌≡◌, ◌<◌, length, All};
 ghost use Rattle.lv_segs.specs.Edges.{edges_of};
@@ -16,7 +16,7 @@ use std::alloc::Global;
 use std::process::Abort;
 use std::test::Fail;
 
-// The choice among a map's whole sides, by both calls, where these lines are used.
+// The choice among a map's whole sides, if these lines are used. All three calls and brute force make the same choice.
 fn chosen(
     rt: &impl Abort,
     alloc: Global,
@@ -39,7 +39,7 @@ fn chosen(
     Ok(choice)
 }
 
-// The same choice, by boxes of the pieces in an order by their places.
+// The same choice by `choose_ordered`, over the pieces ordered by their places.
 fn chosen_by_place(
     rt: &impl Abort,
     alloc: Global,
@@ -67,7 +67,7 @@ fn chosen_by_place(
     Ok(choice)
 }
 
-// A piece's counts, at a place that is not told.
+// How many pieces a partition splits, and how many parts it has on its right and on its left. `at` isn't set.
 fn counted(map: &Map, partition: &Piece, pieces: &[Piece]) -> Choice
     requires partition { IsPiece (edges_of map.now.tables) partition.now }
     requires pieces { All (IsPiece (edges_of map.now.tables)) pieces.now }
@@ -89,7 +89,7 @@ fn counted(map: &Map, partition: &Piece, pieces: &[Piece]) -> Choice
     counts
 }
 
-// The choice by counting each candidate whole.
+// The choice by brute force: it counts all pieces for each candidate.
 fn walked(map: &Map, pieces: &[Piece], used: &[bool]) -> Option<Choice>
     requires { All (IsPiece (edges_of map.now.tables)) pieces.now }
 {
@@ -111,15 +111,15 @@ fn walked(map: &Map, pieces: &[Piece], used: &[bool]) -> Option<Choice>
     best
 }
 
-// Two lines on one straight line that run against each other: each has the other on its left.
+// Two lines on one straight line that run in opposite directions. Each has the other on its left.
 #[rattlefmt::skip]
 const AGAINST: [&[u8]; 8] = [
     b"vertex 0 0", b"vertex 64 0", b"vertex 128 0", b"vertex 192 0", SECTOR, SIDE,
     b"line 0 1 1 0 0 0 -", b"line 3 2 1 0 0 0 -",
 ];
 
-// Lines, which of their map's lines are used, and the choice as `at`, `splits`, `right` and `left`. In the L the third
-// and the fourth line cost the same, eight for the split and one; in the sliver nothing is left on the left.
+// Lines; which of their map's lines are used; and the choice as `at`, `splits`, `right` and `left`. In the L the third
+// and the fourth line both cost nine: eight for a split, and one. In the sliver no line has anything on its left.
 #[rattlefmt::skip]
 const CHOICES: &[(&[&[u8]], &[bool], Option<[u32; 4]>)] = &[
     (&L, &[false, false, false, false, false, false], Some([2, 1, 4, 3])),
@@ -165,7 +165,7 @@ fn a_sliver_separates_nothing(rt: HostRuntime) -> Result<(), Fail> {
     Ok(())
 }
 
-// Which of so many lines are used: one of four.
+// Which of the lines are used: about one in four.
 fn used_of(alloc: Global, numbers: &mut Sequence, lines: u32) -> Result<Vec<bool>, Fail> {
     let mut used = Vec::new(alloc);
     for _ in 0..lines {
@@ -174,7 +174,7 @@ fn used_of(alloc: Global, numbers: &mut Sequence, lines: u32) -> Result<Vec<bool
     Ok(used)
 }
 
-// A choice is made of the pieces of the next map.
+// Whether there is a choice among the pieces of the next map.
 fn next_has_choice(
     rt: &impl Abort,
     alloc: Global,
@@ -186,7 +186,7 @@ fn next_has_choice(
     Ok(chosen(rt, alloc, maps.current(), &used)?.is_some())
 }
 
-// Lists of 5 to 60 pieces: the choice by both calls is that of a plain walk.
+// For lists of 5 to 60 pieces, each call chooses what brute force does.
 #[test]
 fn chooses_as_a_plain_walk(rt: HostRuntime) -> Result<(), Fail> {
     let mut numbers = Sequence { state: 1 };

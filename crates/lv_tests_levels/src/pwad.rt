@@ -1,4 +1,4 @@
-//! Drawn maps built into PWADs: the worked examples, what is read of their bytes, and what is wrong with changed ones.
+//! Drawn maps built into PWADs: worked examples, what is read back from their bytes, and faults in changed bytes.
 
 use crate::expect::{holds, same};
 use lv_blockmap::{BlockmapError, blockmap, touches};
@@ -12,7 +12,7 @@ use std::alloc::Global;
 use std::process::Abort;
 use std::test::Fail;
 
-// The PWAD of the map that the lines leave.
+// The PWAD of the map that the lines draw.
 fn built(alloc: Global, lines: &[&[u8]]) -> Result<Vec<u8>, Fail> {
     let maps = drawn(alloc, lines)?;
     Ok(build_wad(alloc, maps.current())?)
@@ -30,7 +30,8 @@ const ROOM_OF_512: &[u8] = b"room 0 0 512 512 0 128 FLOOR4_8 CEIL3_5 STARTAN3 16
 
 const LARGEST_ROOM: &[u8] = b"room 0 0 16256 16256 0 128 FLOOR4_8 CEIL3_5 STARTAN3 160";
 
-// A line through 181 by 181 blocks that leaves out the first: the second of its two lists begins at word 32,767.
+// A line through 181 by 181 blocks that doesn't touch the first block. The second of its two lists begins at word
+// 32,767.
 const FALLING: [&[u8]; 5] = [
     b"vertex -11520 11520",
     b"vertex 11520 -11520",
@@ -39,7 +40,7 @@ const FALLING: [&[u8]; 5] = [
     b"line 0 1 1 0 0 0 -",
 ];
 
-// The same blocks, but the line touches the first: the second list would begin a word later.
+// The same blocks, but the line touches the first one. The second list would begin one word later.
 const RISING: [&[u8]; 5] = [
     b"vertex -11520 -11520",
     b"vertex 11520 11520",
@@ -48,7 +49,7 @@ const RISING: [&[u8]; 5] = [
     b"line 0 1 1 0 0 0 -",
 ];
 
-// Lines of text; then the vertices, segs, subsectors, nodes and bytes of what is built.
+// Lines; then the counts of vertices, segs, subsectors, nodes and bytes of the PWAD.
 const BUILT: &[(&[&[u8]], [usize; 5])] = &[
     (&SINGLE, [2, 1, 1, 0, 319]),
     (&[ROOM], [4, 4, 1, 0, 515]),
@@ -62,7 +63,7 @@ const BUILT: &[(&[&[u8]], [usize; 5])] = &[
     (&[ROOM, b"split 2 128 64"], [5, 5, 1, 0, 549]),
 ];
 
-// The counts of the level that the bytes hold under this name, and what the audit finds in it.
+// The counts of the level of this name in the bytes, and what the audit finds in it.
 fn read_back(alloc: Global, wad: &[u8], name: &[u8]) -> Result<([usize; 5], Option<Fault>), Fail> {
     let level = read_level(alloc, wad, name)?;
     let segs = level.segs.len();
@@ -86,15 +87,15 @@ fn built_maps_read_back_without_a_fault(rt: HostRuntime) -> Result<(), Fail> {
     Ok(())
 }
 
-// The first bytes of a room's PWAD: eleven lumps, the directory at 339.
+// The header of a room's PWAD: eleven lumps, and the directory at offset 339.
 const ROOM_HEAD: [u8; 12] = *b"PWAD\x0b\0\0\0\x53\x01\0\0";
 
-// Where the marker and the lumps of a room stand.
+// The offsets of the marker and the lumps of a room, two bytes each.
 const ROOM_PLACES: [u8; 22] = [
     12, 0, 12, 0, 12, 0, 68, 0, 188, 0, 204, 0, 252, 0, 0, 1, 0, 1, 26, 1, 27, 1,
 ];
 
-// The blocks of a room from (0,0) to (128,128): two by two, with four different lists.
+// The BLOCKMAP of a room from (0,0) to (128,128): two by two blocks with four different lists.
 const ROOM_BLOCKS: [u8; 56] = [
     0, 0, 0, 0, 2, 0, 2, 0, // the grid
     8, 0, 14, 0, 19, 0, 24, 0, // the offsets
@@ -104,7 +105,7 @@ const ROOM_BLOCKS: [u8; 56] = [
     0, 0, 1, 0, 2, 0, 0xff, 0xff,
 ];
 
-// The blocks of a line from (0,0) to (256,256): equal lists are written once.
+// The BLOCKMAP of a line from (0,0) to (256,256). Equal lists are written once.
 const SINGLE_BLOCKS: [u8; 36] = [
     0, 0, 0, 0, 3, 0, 3, 0, // the grid
     13, 0, 13, 0, 16, 0, 13, 0, 13, 0, 13, 0, 16, 0, 13, 0, 13, 0, // the offsets
@@ -112,7 +113,7 @@ const SINGLE_BLOCKS: [u8; 36] = [
     0, 0, 0xff, 0xff,
 ];
 
-// The head of a room's PWAD, and where its marker and its lumps stand.
+// The header of a room's PWAD, and the offsets of its marker and its lumps.
 fn places_of(rt: &impl Abort, wad: &[u8]) -> ([u8; 12], [u8; 22]) {
     holds(rt, wad.len() == 515);
     let mut head = [0; 12];
@@ -127,7 +128,7 @@ fn places_of(rt: &impl Abort, wad: &[u8]) -> ([u8; 12], [u8; 22]) {
     (head, places)
 }
 
-// The REJECT and the BLOCKMAP of what lines leave.
+// The PWAD's level has this REJECT and this BLOCKMAP.
 fn expect_tables(
     rt: &impl Abort,
     alloc: Global,
@@ -163,7 +164,7 @@ fn three_sectors_have_two_bytes_of_reject(rt: HostRuntime) -> Result<(), Fail> {
     Ok(())
 }
 
-// The bytes, one of them changed, hold a level with this fault, or are refused so.
+// What the audit finds in the level of the bytes with one byte changed, or why they are refused.
 fn changed_at(
     rt: &impl Abort,
     alloc: Global,
@@ -179,7 +180,7 @@ fn changed_at(
     found
 }
 
-// What the audit finds in the level that the bytes hold, or why they hold none.
+// What the audit finds in the level of the bytes, or why they are refused.
 fn fault_of(rt: &impl Abort, alloc: Global, wad: &[u8]) -> Result<Option<Fault>, ReadError> {
     match read_level(alloc, wad, b"MAP01") {
         Ok(level) => Ok(audit(alloc, &level).expect(rt, "an audit")),
@@ -187,8 +188,8 @@ fn fault_of(rt: &impl Abort, alloc: Global, wad: &[u8]) -> Result<Option<Fault>,
     }
 }
 
-// Lines, and of their PWAD a place, a byte that is put there, and the fault that it makes. The last makes the root's
-// left child its right one again. `inspection.rt` of `lv_tests_runs` has the faults of a room.
+// Lines; an offset in their PWAD, the byte that is put there, and the fault that it causes. The last one makes the
+// root's left child equal to its right child. `inspection.rt` of `lv_tests_runs` has the faults of a room.
 #[rattlefmt::skip]
 const FAULTS: &[(&[&[u8]], usize, u8, Fault)] = &[
     (&L, 271, 0, Fault::NodeChild(0)),
@@ -207,7 +208,7 @@ fn a_changed_byte_is_the_fault_that_it_makes(rt: HostRuntime) -> Result<(), Fail
     Ok(())
 }
 
-// Heads alone: no entry, one beyond the end, and both numbers as great as can be.
+// Headers alone: no entry, an entry beyond the end, and the greatest numbers possible.
 const HEADS: &[([u8; 12], ReadError)] = &[
     (*b"PWAD\0\0\0\0\x0c\0\0\0", ReadError::NoSuchLevel),
     (*b"PWAD\x01\0\0\0\x0c\0\0\0", ReadError::DirectoryOutside),
@@ -217,7 +218,7 @@ const HEADS: &[([u8; 12], ReadError)] = &[
     ),
 ];
 
-// How the bytes are refused, asked for a level of this name.
+// How reading a level of this name from the bytes is refused.
 fn refusal_of(alloc: Global, wad: &[u8], name: &[u8]) -> Option<ReadError> {
     read_level(alloc, wad, name).err()
 }
@@ -230,7 +231,7 @@ fn heads_alone_are_refused(rt: HostRuntime) {
     }
 }
 
-// Where a room's PWAD is cut, the name that is asked for, and how it is refused.
+// Where a room's PWAD is cut, the name of the level that is read, and how that is refused.
 #[rattlefmt::skip]
 const CUTS: &[(usize, &[u8], ReadError)] = &[
     (514, b"MAP01", ReadError::DirectoryOutside),
@@ -249,7 +250,7 @@ fn bytes_that_hold_no_level_are_refused(rt: HostRuntime) -> Result<(), Fail> {
     Ok(())
 }
 
-// Places of a room's PWAD, a byte that is put there, and how it is refused.
+// An offset in a room's PWAD, the byte that is put there, and how reading the level is refused, if it is.
 #[rattlefmt::skip]
 const CHANGES: &[(usize, u8, Option<ReadError>)] = &[
     (0, b'Q', Some(ReadError::NotAWad)),
@@ -279,7 +280,7 @@ fn levels_with_scripts_are_refused(rt: HostRuntime) -> Result<(), Fail> {
     Ok(())
 }
 
-// Lines; then the refusal of the build, its number, and the refusal of the blockmap.
+// Lines; the refusal of the build, its number, and the refusal of the blockmap.
 #[rattlefmt::skip]
 const UNBUILT: &[(&[&[u8]], BuildError, u16, BlockmapError)] = &[
     (&[b"vertex 0 0"], BuildError::NothingToBuild, 60, BlockmapError::NothingToBuild),
@@ -309,7 +310,7 @@ fn a_line_touches_the_corners_that_it_runs_through(rt: HostRuntime) {
     assert_eq!(rt; found, [true, true, false]);
 }
 
-// A map whose blockmap is too large, and behind it one without a line.
+// A map whose blockmap is too large, and after it one without a line.
 const TWO_REFUSED: [&[u8]; 6] = [
     b"vertex -11520 -11520",
     b"vertex 11520 11520",
@@ -319,7 +320,7 @@ const TWO_REFUSED: [&[u8]; 6] = [
     b"map MAP02",
 ];
 
-// Lines, the refusal of the build of all maps that they leave, and the name of the map that is refused.
+// Lines, the refusal of a build of all maps that they draw, and the name of the refused map.
 #[rattlefmt::skip]
 const REFUSED: &[(&[&[u8]], BuildError, [u8; 8])] = &[
     (&[ROOM, b"map MAP02"], BuildError::NothingToBuild, *b"MAP02\0\0\0"),
@@ -348,7 +349,7 @@ fn the_map_that_is_refused_is_named(rt: HostRuntime) -> Result<(), Fail> {
     Ok(())
 }
 
-// The PWAD of all maps that the lines leave.
+// The PWAD of all maps that the lines draw.
 fn all_built(alloc: Global, lines: &[&[u8]]) -> Result<Vec<u8>, Fail> {
     let maps = drawn(alloc, lines)?;
     Ok(build_all(alloc, &maps)?)
@@ -356,7 +357,7 @@ fn all_built(alloc: Global, lines: &[&[u8]]) -> Result<Vec<u8>, Fail> {
 
 const NAMES: &[&[u8]] = &[b"MAP01", b"MAP02"];
 
-// The counts of a build of all maps that the lines leave, and whether its PWAD is that of `build_all`.
+// The counts of a build of all maps that the lines draw, and whether its PWAD is that of `build_all`.
 fn all_counted(alloc: Global, lines: &[&[u8]]) -> Result<([u64; 5], bool), Fail> {
     let maps = drawn(alloc, lines)?;
     let built = build_counted(alloc, &maps)?;

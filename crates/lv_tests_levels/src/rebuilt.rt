@@ -1,4 +1,4 @@
-//! Levels of WADs that another editor wrote, built anew: the bytes of worked levels, and why one is left.
+//! Levels in WADs of other editors, built anew: the bytes of worked levels, and why a level stays as it was.
 
 use crate::expect::same;
 use crate::foreign::wad_of;
@@ -10,23 +10,23 @@ use std::test::Fail;
 // A line from (0, 0) to (64, 0) with a right side in the only sector.
 const LINES: &[u8] = &[0, 0, 1, 0, 1, 0, 0, 0, 0, 0, 0, 0, 0xff, 0xff];
 
-// The same line the other way.
+// The same line in the other direction.
 const TURNED: &[u8] = &[1, 0, 0, 0, 1, 0, 0, 0, 0, 0, 0, 0, 0xff, 0xff];
 
-// A line whose right side isn't there.
+// A line whose right side doesn't exist.
 const BARE: &[u8] = &[0, 0, 1, 0, 1, 0, 0, 0, 0, 0, 1, 0, 0xff, 0xff];
 
 const SIDES: &[u8] = &[0; 30];
 
 const SECTORS: &[u8] = &[0; 26];
 
-// (0, 0), (64, 0), and (7, 7), which no line uses.
+// The vertices (0, 0), (64, 0), and (7, 7), which no line uses.
 const VERTICES: &[u8] = &[0, 0, 0, 0, 64, 0, 0, 0, 7, 0, 7, 0];
 
-// The two that a line uses.
+// The two vertices that the line uses.
 const FRONT: &[u8] = &[0, 0, 0, 0, 64, 0, 0, 0];
 
-// The seg of the line, and of the line turned: first, second, angle, line, side, offset.
+// The seg of the line, and that of the line in the other direction: first, second, angle, line, side, offset.
 const SEGS: &[u8] = &[0, 0, 1, 0, 0, 0, 0, 0, 0, 0, 0, 0];
 
 const TURNED_SEGS: &[u8] = &[1, 0, 0, 0, 0, 0x80, 0, 0, 0, 0, 0, 0];
@@ -34,17 +34,17 @@ const TURNED_SEGS: &[u8] = &[1, 0, 0, 0, 0, 0x80, 0, 0, 0, 0, 0, 0];
 // One subsector of one seg.
 const SUBS: &[u8] = &[1, 0, 0, 0];
 
-// One block at (0, 0), with a list from word 5 on.
+// One block from (0, 0), whose list begins at word 5.
 const BLOCKS: &[u8] = &[0, 0, 0, 0, 1, 0, 1, 0, 5, 0, 0, 0, 0, 0, 0xff, 0xff];
 
-// The lumps of a level: LINEDEFS, and REJECT; and those that are made of it, SEGS and REJECT, or why none are.
+// LINEDEFS and REJECT of a level; and SEGS and REJECT after it is built anew, or why it can't be.
 const REMADE: &[(&[u8], &[u8], &[u8], &[u8], &str)] = &[
     (LINES, b"", SEGS, b"\0", "made"),
     (TURNED, b"\x01more", TURNED_SEGS, b"\x01more", "made"),
     (BARE, b"", b"", b"", "line 0 has no right side"),
 ];
 
-// Whether the lumps that are the same of both levels are as they should be.
+// Whether the lumps that are the same for both built levels are as they should be.
 fn are_common(made: &MadeLumps) -> bool {
     made.vertices.as_slice() == FRONT
         && made.subs.as_slice() == SUBS
@@ -52,7 +52,7 @@ fn are_common(made: &MadeLumps) -> bool {
         && made.blockmap.as_slice() == BLOCKS
 }
 
-// What is told of a WAD's first level that is built anew, with the bytes of its SEGS and REJECT.
+// Builds a WAD's first level anew: the bytes of SEGS and REJECT, and `made` or why it can't be built.
 fn remade(alloc: Global, wad: &[u8]) -> Result<(Vec<u8>, Vec<u8>, String), Fail> {
     let mut segs = Vec::new(alloc);
     let mut reject = Vec::new(alloc);
@@ -101,7 +101,7 @@ fn builds_levels_anew(rt: HostRuntime) -> Result<(), Fail> {
 // A lump of a WAD: its name and its bytes.
 type Lump = (&'static [u8; 8], &'static [u8]);
 
-// A level without a builder's lumps, between others.
+// A level without a builder's lumps, between other lumps.
 const BARE_WAD: &[Lump] = &[
     (b"DEMO1\0\0\0", b"demo"),
     (b"MAP01\0\0\0", b"marker"),
@@ -113,7 +113,7 @@ const BARE_WAD: &[Lump] = &[
     (b"WADCSRC\0", b"source"),
 ];
 
-// The same with them.
+// The same WAD with the builder's lumps.
 const BUILT_WAD: &[Lump] = &[
     (b"DEMO1\0\0\0", b"demo"),
     (b"MAP01\0\0\0", b"marker"),
@@ -130,7 +130,8 @@ const BUILT_WAD: &[Lump] = &[
     (b"WADCSRC\0", b"source"),
 ];
 
-// A level that has no right side, with stale lumps, and two of one name, one of them with another builder's nodes.
+// A level with a line whose right side doesn't exist, and with stale lumps; and two levels of the same name, one of
+// them with another builder's nodes.
 const THREE_LEVELS: &[Lump] = &[
     (b"E1M1\0\0\0\0", b""),
     (b"THINGS\0\0", b""),
@@ -156,7 +157,7 @@ const THREE_LEVELS: &[Lump] = &[
     (b"GL_VERT\0", b"gl"),
 ];
 
-// The same with both of this name built anew.
+// The same WAD with these two levels built anew.
 const TWO_BUILT: &[Lump] = &[
     (b"E1M1\0\0\0\0", b""),
     (b"THINGS\0\0", b""),
@@ -190,7 +191,8 @@ const TWO_BUILT: &[Lump] = &[
     (b"BLOCKMAP", BLOCKS),
 ];
 
-// The lumps of a WAD, the name that is asked for (none: all), the lumps afterwards, and what became of each level.
+// The lumps of a WAD, the name of the levels to build (empty for all), the lumps afterwards, and the fate of each
+// level.
 const WHOLE: &[(&[Lump], &str, &[Lump], &str)] = &[
     (BARE_WAD, "", BUILT_WAD, "made;"),
     (
@@ -214,7 +216,7 @@ const WHOLE: &[(&[Lump], &str, &[Lump], &str)] = &[
     ),
 ];
 
-// What became of the levels.
+// The fate of each level.
 fn fates(alloc: Global, levels: &[RebuiltLevel]) -> Result<String, Fail> {
     let mut told = String::new(alloc);
     for n in 0..levels.len() {
@@ -228,7 +230,7 @@ fn fates(alloc: Global, levels: &[RebuiltLevel]) -> Result<String, Fail> {
     Ok(told)
 }
 
-// The bytes of a WAD that is built anew, and what became of its levels, or why it is refused.
+// Builds a WAD anew: its bytes, and the fate of each level, or why the whole WAD is refused.
 fn whole(alloc: Global, wad: &[u8], name: &str) -> Result<(Vec<u8>, String), Fail> {
     let mut names = Vec::new(alloc);
     if !name.is_empty() {
@@ -257,7 +259,7 @@ fn builds_wads_anew(rt: HostRuntime) -> Result<(), Fail> {
     Ok(())
 }
 
-// A WAD that is refused as a whole: its bytes, and the number of the refusal.
+// The bytes of a WAD that is refused as a whole, and the refusal's number.
 const REFUSED: &[(&[u8], u16)] = &[
     (b"PWAD", 70),
     (b"WADP\0\0\0\0\x0c\0\0\0", 70),

@@ -1,4 +1,4 @@
-//! Angles, points, offsets, pieces that are cut, their boxes, and numbered places.
+//! Angles, points and offsets; pieces that are cut, and their boxes; numbered places.
 
 ghost use Rattle.std.specs.Prelude.{◌<◌, length, All};
 ghost use Rattle.lv_segs.specs.Pieces.{IsPiece};
@@ -16,7 +16,7 @@ use std::alloc::Global;
 use std::process::Abort;
 use std::test::Fail;
 
-// Vectors and their angles. The diagonals of the greatest ones are exact; beside an axis the last bit decides.
+// Vectors and their angles. Those of the longest diagonals are exact; close to an axis the last bit decides.
 #[rattlefmt::skip]
 const ANGLES: &[([i16; 2], u16)] = &[
     ([1, 0], 0), ([1, 1], 8192), ([0, 1], 16384), ([128, 64], 4836), ([-1, 0], 32768), ([0, -1], 49152),
@@ -73,11 +73,11 @@ fn offsets(rt: HostRuntime) {
     assert_eq!(rt; [short, long, offset(west, east)], [5, 143, 32767]);
 }
 
-// A piece's line and side, and the numerators and denominators of where it begins and ends.
+// A piece's line and side; and where it begins and ends on its line, as two fractions: n and d, n and d.
 type Fields = (u16, Facing, [i32; 4]);
 
-// Lines, and of the pieces of their map's sides which one is cut, by which, how it lies, and its parts on the right
-// and on the left.
+// Lines; which piece of their map's sides is cut, and by which; how it lies; and its parts on the right and on the
+// left.
 type Row = (
     &'static [&'static [u8]],
     [usize; 2],
@@ -85,7 +85,7 @@ type Row = (
     [Option<Fields>; 2],
 );
 
-// Four places on one straight line, and three lines: the direction decides.
+// Three lines between four places on one straight line. Their direction decides.
 #[rattlefmt::skip]
 const COLLINEAR: [&[u8]; 9] = [
     b"vertex 0 0", b"vertex 64 0", b"vertex 128 0", b"vertex 192 0", SECTOR, b"side 0 0 - - - 0",
@@ -116,7 +116,7 @@ fn fields(piece: Option<Piece>) -> Option<Fields> {
     Some((piece.line, piece.side, fractions))
 }
 
-// What the piece `by` of a list makes of the piece `at`: its place, and its parts.
+// How the piece `at` of a list lies to the piece `by`, and its parts.
 fn parts(map: &Map, pieces: &[Piece], at: usize, by: usize) -> (Place, Parts)
     requires pieces { All (IsPiece (edges_of map.now.tables)) pieces.now }
     requires at { at < length pieces.now }
@@ -130,7 +130,7 @@ fn parts(map: &Map, pieces: &[Piece], at: usize, by: usize) -> (Place, Parts)
     )
 }
 
-// What the piece `by` of a map makes of the piece `at`: its place, and its parts.
+// How the piece `at` of a map lies to the piece `by`, and its parts.
 fn cut(
     rt: &impl Abort,
     alloc: Global,
@@ -154,7 +154,7 @@ fn pieces_are_cut(rt: HostRuntime) -> Result<(), Fail> {
     Ok(())
 }
 
-// The box of each piece of the L: one step wider than its ends.
+// The box of each piece of the L: one step larger on each side than the box of its ends.
 const L_BOXES: [[i16; 4]; 6] = [
     [257, -1, -1, 1],
     [257, 255, -1, 129],
@@ -164,7 +164,7 @@ const L_BOXES: [[i16; 4]; 6] = [
     [1, -1, -1, 257],
 ];
 
-// The boxes of a map's pieces, as top, bottom, left and right.
+// The boxes of a map's pieces, each as top, bottom, left and right.
 fn boxes_of(alloc: Global, map: &Map) -> Result<Vec<[i16; 4]>, Fail> {
     let edges = edges_of(alloc, map)?;
     let pieces = pieces_of(alloc, map)?;
@@ -189,7 +189,7 @@ fn boxes_are_one_step_wider(rt: HostRuntime) -> Result<(), Fail> {
     Ok(())
 }
 
-// The n-th of many places, of which no two are one.
+// The n-th of 32,768 different places.
 fn nth_place(n: u32) -> Vertex {
     Vertex {
         x: (n % 256) as i16,
@@ -197,7 +197,7 @@ fn nth_place(n: u32) -> Vertex {
     }
 }
 
-// Gives each of the places from one number up to another its number, and tells how many have theirs.
+// Numbers the places from `from` up to `to`, and returns how many got their own index as number.
 fn numbered(points: &mut Points, from: u32, to: u32) -> u32 {
     let mut count = 0_u32;
     for n in from..to {
@@ -208,7 +208,7 @@ fn numbered(points: &mut Points, from: u32, to: u32) -> u32 {
     count
 }
 
-// How many of the first places stand under their numbers.
+// How many of the first `to` places are found by their numbers.
 fn standing(points: &Points, to: u32) -> u32 {
     let mut count = 0_u32;
     for n in 0..to {
@@ -219,7 +219,7 @@ fn standing(points: &Points, to: u32) -> u32 {
     count
 }
 
-// A map's vertices have their own numbers, the new places the next ones, and there are 32,767.
+// The map's vertices keep their numbers, new places get the next ones, and there are 32,767 numbers.
 fn expect_numbers(rt: &impl Abort, points: &mut Points) {
     same(rt, &points.len(), &2);
     same(rt, &numbered(points, 0, 32_767), &32_767);

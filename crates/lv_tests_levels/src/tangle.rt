@@ -1,4 +1,4 @@
-//! Maps of many lines that cross one another, drawn by a fixed sequence of numbers.
+//! Maps of many lines that cross one another, drawn by a fixed sequence of pseudorandom numbers.
 ghost use Rattle.std.specs.Prelude.{◌<◌};
 
 use lv_maptables::Maps;
@@ -6,7 +6,7 @@ use lv_tests_maps::drawing::{SECTOR, SIDE, draw, drawn};
 use std::alloc::Global;
 use std::test::Fail;
 
-/// A fixed sequence of numbers.
+/// A fixed sequence of pseudorandom numbers.
 #[derive(Drop)]
 pub struct Sequence {
     pub state: u64,
@@ -23,7 +23,7 @@ impl Sequence {
     }
 }
 
-// Draws seven vertices of a grid, side by side and so far apart.
+// Draws a row of seven vertices of a grid, this far apart.
 fn draw_row(alloc: Global, maps: &mut Maps, y: u32, apart: u32) -> Result<(), Fail>
     requires { apart < 100 }
 {
@@ -45,8 +45,8 @@ fn draw_grid(alloc: Global, maps: &mut Maps, apart: u32) -> Result<(), Fail>
     Ok(())
 }
 
-/// Lines between places of a small grid that are so far apart, so that many cross, overlap or lie on
-/// one straight line.
+/// Draws lines between the points of a small grid with this spacing. So many of them cross, overlap, or lie on one
+/// straight line.
 pub fn draw_tangle(
     alloc: Global,
     numbers: &mut Sequence,
@@ -61,7 +61,7 @@ pub fn draw_tangle(
     Ok(maps)
 }
 
-// Draws so many lines between 49 vertices, every other one of them two-sided.
+// Draws this many lines between 49 vertices; about half of them are two-sided.
 fn draw_lines(
     alloc: Global,
     maps: &mut Maps,
@@ -82,7 +82,7 @@ fn draw_lines(
     Ok(())
 }
 
-/// Passes over the numbers of so many maps of so many lines.
+/// Skips the numbers that draw this many maps of this many lines.
 pub fn skip_tangles(numbers: &mut Sequence, maps: u32, lines: u32) {
     for _ in 0..maps {
         for _ in 0..lines {

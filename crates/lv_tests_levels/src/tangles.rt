@@ -1,4 +1,4 @@
-//! The trees and levels of maps of forty lines that cross one another, checked by plain code.
+//! The trees and levels of maps with forty lines that cross one another, checked by brute force.
 
 use crate::expect::same;
 use crate::tangle::{Sequence, draw_tangle, skip_tangles};
@@ -11,12 +11,12 @@ use std::fs;
 use std::process::Abort;
 use std::test::Fail;
 
-// How many steps lie between two places.
+// How many steps lie between two places: the difference in x plus that in y.
 fn steps(from: Vertex, to: Vertex) -> usize {
     usize::from(from.x.abs_diff(to.x)).wrapping_add(usize::from(from.y.abs_diff(to.y)))
 }
 
-// A side's line: where it begins and ends.
+// The line of a side, in the direction of the side: where it begins and ends.
 #[derive(Clone, Copy, Drop)]
 struct Run {
     start: Vertex,
@@ -24,7 +24,7 @@ struct Run {
 }
 
 impl Run {
-    // The line of a side; None where the map has no such side.
+    // The line of a side; `None` if the line has no such side.
     fn of(map: &Map, line: u32, side: u16) -> Option<Run> {
         let line = map.line(line)?;
         let v1 = map.vertex(u32::from(line.v1))?;
@@ -45,13 +45,13 @@ impl Run {
         dy.wrapping_mul(x).wrapping_sub(dx.wrapping_mul(y))
     }
 
-    // The place lies on the right, to within rounding.
+    // Whether the place lies on the right, within rounding.
     fn sees(self, place: Vertex) -> bool {
         let about = i64::try_from(steps(self.start, self.end)).unwrap_or(0);
         self.value(place).wrapping_mul(2).wrapping_add(about) >= 0
     }
 
-    // The two lie on one straight line and run in opposite directions.
+    // Whether the two lie on one straight line and run in opposite directions.
     fn is_against(self, other: Run) -> bool {
         if self.value(other.start) != 0 || self.value(other.end) != 0 {
             return false;
@@ -66,14 +66,14 @@ impl Run {
     }
 }
 
-// The places of a seg's ends.
+// Where a seg begins and ends.
 fn ends(tree: &Built, seg: &Seg) -> Option<Run> {
     let start = tree.vertices.get(usize::from(seg.first)).copied()?;
     let end = tree.vertices.get(usize::from(seg.second)).copied()?;
     Some(Run { start, end })
 }
 
-// Counts the steps from one to another place, of which there is one at least.
+// Counts each step between two places; returns false if there is none, or if they go beyond the line.
 fn count_steps(counts: &mut [u8], from: usize, to: usize) -> bool {
     if from >= to || to > counts.len() {
         return false;
@@ -84,7 +84,7 @@ fn count_steps(counts: &mut [u8], from: usize, to: usize) -> bool {
     true
 }
 
-// The segs of a side cover each of its steps once.
+// Whether the segs of a side cover each of its steps once.
 fn is_covered(alloc: Global, tree: &Built, run: Run, line: u32, side: u16) -> Result<bool, Fail> {
     let mut counts = vec![in alloc; 0u8; steps(run.start, run.end)]?;
     for seg in &tree.segs {
@@ -102,7 +102,7 @@ fn is_covered(alloc: Global, tree: &Built, run: Run, line: u32, side: u16) -> Re
     Ok(counts.iter().all(|count| *count == 1))
 }
 
-// Each side of each line is covered.
+// Whether each side of each line is covered.
 fn are_covered(alloc: Global, map: &Map, tree: &Built) -> Result<bool, Fail> {
     for number in 0..2 * map.count(Kind::Line) {
         let (line, side) = (number / 2, (number % 2) as u16);
@@ -115,7 +115,7 @@ fn are_covered(alloc: Global, map: &Map, tree: &Built) -> Result<bool, Fail> {
     Ok(true)
 }
 
-// All segs lie on the right of the line of one of them, to within rounding, and none runs against it.
+// Whether all these segs lie on the right of the line `from`, within rounding, and none runs against it.
 fn are_seen(map: &Map, tree: &Built, from: Run, segs: &[Seg]) -> bool {
     for seg in segs {
         let line = Run::of(map, u32::from(seg.line), seg.side);
@@ -129,7 +129,7 @@ fn are_seen(map: &Map, tree: &Built, from: Run, segs: &[Seg]) -> bool {
     true
 }
 
-// The segs of a subsector are convex to within rounding.
+// Whether the segs of a subsector are convex, within rounding.
 fn is_convex(map: &Map, tree: &Built, segs: &[Seg]) -> bool {
     for seg in segs {
         match Run::of(map, u32::from(seg.line), seg.side) {
@@ -144,7 +144,7 @@ fn is_convex(map: &Map, tree: &Built, segs: &[Seg]) -> bool {
     true
 }
 
-// The subsectors follow one another over all segs, and each is convex.
+// Whether the subsectors follow one another over all segs, and each is convex.
 fn are_tiled(map: &Map, tree: &Built) -> bool {
     let mut next = 0usize;
     for sub in &tree.subs {
@@ -160,7 +160,8 @@ fn are_tiled(map: &Map, tree: &Built) -> bool {
     next == tree.segs.len()
 }
 
-// Counts a child of a node: nodes stand first, then subsectors. A child that is a node is lower.
+// Counts a child of a node; in `counts` the nodes come first, then the subsectors. Returns false if the child doesn't
+// exist, or is a node that isn't lower.
 fn count_child(counts: &mut [u8], nodes: usize, node: usize, child: u16) -> bool {
     let place = if child < 0x8000 {
         usize::from(child)
@@ -174,7 +175,7 @@ fn count_child(counts: &mut [u8], nodes: usize, node: usize, child: u16) -> bool
     true
 }
 
-// Each subsector, and each node but the last, is a child once.
+// Whether each subsector, and each node but the last, is a child exactly once.
 fn are_children(alloc: Global, tree: &Built) -> Result<bool, Fail> {
     let nodes = tree.nodes.len();
     if nodes == 0 {
@@ -193,12 +194,12 @@ fn are_children(alloc: Global, tree: &Built) -> Result<bool, Fail> {
     Ok(once.wrapping_add(1) == counts.len() && counts.get(nodes.wrapping_sub(1)) == Some(&0))
 }
 
-// The tree's references lie in their lists, each step is covered once, and each subsector is convex.
+// Whether the tree's references are in range, each step is covered once, and each subsector is convex.
 fn is_sound(alloc: Global, map: &Map, tree: &Built) -> Result<bool, Fail> {
     Ok(are_children(alloc, tree)? && are_tiled(map, tree) && are_covered(alloc, map, tree)?)
 }
 
-// A map's tree is sound.
+// Whether the tree of a map is sound.
 fn is_built(alloc: Global, map: &Map) -> Result<bool, Fail> {
     let tree = build_tree(alloc, map)?;
     is_sound(alloc, map, &tree)
@@ -207,7 +208,7 @@ fn is_built(alloc: Global, map: &Map) -> Result<bool, Fail> {
 // How many lines each map has.
 const LINES: u32 = 40;
 
-// How many maps of a hundred are tried: all, or as many as a file `tangles` says in the folder that the test runs in.
+// How many maps of each hundred are tried: the number in the file `tangles` in the test's folder, or all.
 fn maps_to_try(rt: &HostRuntime) -> u32 {
     match fs::read_to_string(rt, "tangles") {
         Ok(text) => text.as_str().trim().parse().unwrap_or(100).min(100),
@@ -215,20 +216,20 @@ fn maps_to_try(rt: &HostRuntime) -> u32 {
     }
 }
 
-// The numbers behind so many maps.
+// The sequence after the numbers of this many maps.
 fn numbers_behind(maps: u32) -> Sequence {
     let mut numbers = Sequence { state: 40 };
     skip_tangles(&mut numbers, maps, LINES);
     numbers
 }
 
-// The tree of the n-th map is sound.
+// Draws the n-th map, and returns whether its tree is sound.
 fn next_is_built(alloc: Global, numbers: &mut Sequence, n: u32) -> Result<bool, Fail> {
     let maps = draw_tangle(alloc, numbers, LINES, 1 + n % 24)?;
     is_built(alloc, maps.current())
 }
 
-// The trees of so many maps, from one on, are sound.
+// The trees of `count` maps, from the map `first` on, are sound.
 fn expect_trees(rt: &impl Abort, alloc: Global, first: u32, count: u32) -> Result<(), Fail> {
     let mut numbers = numbers_behind(first);
     for n in first..first.saturating_add(count) {
@@ -238,7 +239,7 @@ fn expect_trees(rt: &impl Abort, alloc: Global, first: u32, count: u32) -> Resul
     Ok(())
 }
 
-// In a narrow grid many crossings round to an end of their line.
+// In a narrow grid many crossings are rounded to an end of their line.
 #[test]
 fn trees_of_a_hundred_tangles_are_sound(rt: HostRuntime) -> Result<(), Fail> {
     expect_trees(&rt, rt.alloc(), 0, maps_to_try(&rt))
@@ -249,20 +250,20 @@ fn trees_of_another_hundred_are_sound(rt: HostRuntime) -> Result<(), Fail> {
     expect_trees(&rt, rt.alloc(), 100, maps_to_try(&rt))
 }
 
-// What the audit finds in the map's PWAD, read back.
+// What the audit finds in the map's PWAD, after it is read back.
 fn fault_of(alloc: Global, map: &Map) -> Result<Option<Fault>, Fail> {
     let wad = build_wad(alloc, map)?;
     let level = read_level(alloc, &wad, b"MAP01")?;
     Ok(audit(alloc, &level)?)
 }
 
-// What the audit finds in the PWAD of the n-th map.
+// Draws the n-th map, and returns what the audit finds in its PWAD.
 fn fault_of_next(alloc: Global, numbers: &mut Sequence, n: u32) -> Result<Option<Fault>, Fail> {
     let maps = draw_tangle(alloc, numbers, LINES, 1 + n % 24)?;
     fault_of(alloc, maps.current())
 }
 
-// The levels of so many maps, from one on, read back without a fault.
+// The levels of `count` maps, from the map `first` on, read back without a fault.
 fn expect_levels(rt: &impl Abort, alloc: Global, first: u32, count: u32) -> Result<(), Fail> {
     let mut numbers = numbers_behind(first);
     for n in first..first.saturating_add(count) {

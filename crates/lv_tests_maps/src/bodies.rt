@@ -1,4 +1,4 @@
-//! The bodies of drawn projects, read back in the versions that have them, and spoilt ones.
+//! Bodies of drawn projects, read back in each version of the format, and damaged bodies.
 
 use crate::drawing::{SECTOR, SIDE, drawn};
 use crate::expect::same;
@@ -7,7 +7,7 @@ use lv_maptables::Maps;
 use std::alloc::Global;
 use std::test::Fail;
 
-// The body of a map with one item of each kind but two vertices.
+// The body of a map with two vertices and one item of each other kind.
 const BODY: [u8; 108] =
     *b"\x02\0MAP01\0\0\0\x01\0\x01\0\x01\0\x02\0\x01\0\x40\0\x40\0\x5a\0\x01\0\x07\0\
 \0\0\x01\0\x01\0\0\0\0\0\0\0\xff\xff\0\0\0\0-\0\0\0\0\0\0\0-\0\0\0\0\0\0\0STARTAN3\0\0\
@@ -19,7 +19,7 @@ const LINES: [&[u8]; 6] = [
     b"vertex 0 0", b"vertex 64 0", SECTOR, SIDE, b"line 0 1 1 0 0 0 -", b"thing 64 64 90 1 7",
 ];
 
-// Lines, the body of the project that they draw, and a version in which it is read.
+// Lines, the body of the project that they draw, and the version in which it is read back.
 #[rattlefmt::skip]
 const BODIES: &[(&[&[u8]], &[u8], u8)] = &[
     (&[], b"\x02\0MAP01\0\0\0\0\0\0\0\0\0\0\0\0\0", 1),
@@ -36,7 +36,7 @@ fn written(alloc: Global, lines: &[&[u8]]) -> Result<Vec<u8>, Fail> {
     Ok(maps.encode_body(alloc)?)
 }
 
-// The body of the project that is read of a body.
+// The body of the project that is read from a body.
 fn written_again(alloc: Global, body: &[u8]) -> Result<Vec<u8>, Fail> {
     let maps = Maps::decode_body(alloc, body)?;
     Ok(maps.encode_body(alloc)?)
@@ -60,7 +60,7 @@ fn the_body_of_the_new_project_takes_no_memory(rt: HostRuntime) {
     assert_eq!(rt; Maps::empty_body().as_slice(), BODIES[0].1);
 }
 
-// Places of a body, bytes and what they spoil.
+// An offset in the body, the byte that is put there, and what it damages.
 const SPOILT: &[(usize, u8, &str)] = &[
     (2, b'N', "the map's name"),
     (7, b'X', "what follows the map's name"),
@@ -80,7 +80,7 @@ const SPOILT: &[(usize, u8, &str)] = &[
     (103, 1, "a sector's light"),
 ];
 
-// The body with a byte spoilt, in this version.
+// The body in this version, with the byte at an offset replaced.
 fn spoilt(at: usize, byte: u8, version: u8) -> [u8; 108] {
     let mut body = BODY;
     if let Some(place) = body.get_mut(at) {

@@ -7,7 +7,7 @@ use lv_maptables::Map;
 use std::alloc::Global;
 use std::test::Fail;
 
-// The findings as text, a line each.
+// The findings as text, one on each line.
 fn report(alloc: Global, map: &Map) -> Result<String, Fail> {
     let mut text = String::new(alloc);
     for finding in &check(alloc, map)? {
@@ -16,7 +16,8 @@ fn report(alloc: Global, map: &Map) -> Result<String, Fail> {
     Ok(text)
 }
 
-// A room with an unused vertex, side and sector, one line taken out, and one wall without a texture.
+// A room with an unused vertex, an unused side and an unused sector, without one of its lines, and with one wall that
+// has no texture.
 #[rattlefmt::skip]
 const UNFINISHED: [&[u8]; 5] = [
     ROOM, b"vertex 512 512", SECTOR, b"set-side 1 0 0 - - - 0", b"drop line 3",
@@ -48,7 +49,7 @@ const REPORTS: &[(&[&[u8]], &[&[u8]], &str)] = &[
         "line 2 right middle missing\nline 2 left middle missing\n"),
 ];
 
-// What is found in the map that lines and further ones draw.
+// The findings of the map that the lines and the further lines draw.
 fn report_of(alloc: Global, lines: &[&[u8]], further: &[&[u8]]) -> Result<String, Fail> {
     let mut maps = drawn(alloc, lines)?;
     draw(&mut maps, further)?;
@@ -64,7 +65,7 @@ fn maps_have_their_findings(rt: HostRuntime) -> Result<(), Fail> {
     Ok(())
 }
 
-// What is found in the unfinished room.
+// The findings of the unfinished room.
 const FOUND: [Finding; 7] = [
     Finding::VertexUnused(4),
     Finding::SideUnused(3),

@@ -1,5 +1,5 @@
-//! Lines that are commands, and lines that are none. The rows of a table stand in few texts, a row a line: each text of
-//! a table lengthens the proof.
+//! Lines that are commands, and lines that aren't. Each text of a table lengthens the proof, so a table has few texts,
+//! each with many rows, one on each line.
 
 use crate::expect::same;
 use lv_commands::{parse, print};
@@ -7,7 +7,8 @@ use std::alloc::{AllocError, Global};
 use std::process::Abort;
 use std::test::Fail;
 
-// 0 for a line that is a command and is printed as it came in, else the code of its refusal. 999: printed otherwise.
+// 0 for a line that is a command and is printed as it was read, 999 if it is printed differently, else the refusal's
+// code.
 fn told(alloc: Global, line: &[u8]) -> u16 {
     match parse(line) {
         Ok(command) => match print(alloc, &command) {
@@ -18,8 +19,8 @@ fn told(alloc: Global, line: &[u8]) -> u16 {
     }
 }
 
-// The least and the greatest number of a range, and each place of each command that holds such a number, marked by a
-// star.
+// The least and the greatest number of a range, and each place of each command that takes a number of this range,
+// marked by a star.
 const RANGES: &[(i16, i16, &str)] = &[
     (
         -16384,
@@ -123,7 +124,7 @@ const RANGES: &[(i16, i16, &str)] = &[
     ),
 ];
 
-// A form with this in the place of its star.
+// A form with the value in the place of its star.
 fn filled(alloc: Global, form: &str, value: &str) -> Result<String, AllocError> {
     match form.split_once('*') {
         Some((front, behind)) => format!(in alloc; "{front}{value}{behind}"),
@@ -131,7 +132,7 @@ fn filled(alloc: Global, form: &str, value: &str) -> Result<String, AllocError> 
     }
 }
 
-// A form is told this by what stands in the place of its star.
+// The form with the value in the place of its star has this code.
 fn expect_told(
     rt: &impl Abort,
     alloc: Global,
@@ -145,7 +146,7 @@ fn expect_told(
     Ok(())
 }
 
-// The forms of a text are told this by a number.
+// Each form of a text has this code with a number in the place of its star.
 fn expect_number(
     rt: &impl Abort,
     alloc: Global,
@@ -160,7 +161,7 @@ fn expect_number(
     Ok(())
 }
 
-// Each place of each command that holds a number, at its least, its greatest and one beyond.
+// Each place of each command that takes a number: with its least and its greatest number, and with one beyond each.
 #[test]
 fn numbers_have_ranges(rt: HostRuntime) -> Result<(), Fail> {
     for &(least, greatest, forms) in RANGES {
@@ -173,7 +174,7 @@ fn numbers_have_ranges(rt: HostRuntime) -> Result<(), Fail> {
     Ok(())
 }
 
-// Each place of each command that holds a name, marked by a star.
+// Each place of each command that takes a name, marked by a star.
 const NAME_PLACES: &str = "sector 0 128 * CEIL3_5 160 0 0\n\
     sector 0 128 FLOOR4_8 * 160 0 0\n\
     side 0 0 * - STARTAN3 0\n\
@@ -188,7 +189,7 @@ const NAME_PLACES: &str = "sector 0 128 * CEIL3_5 160 0 0\n\
     room 0 0 128 128 0 128 FLOOR4_8 * STARTAN3 160\n\
     room 0 0 128 128 0 128 FLOOR4_8 CEIL3_5 * 160";
 
-// Names, and what a line with one of them is told: 0 for a command, else its code.
+// Names, and the code of a line with one of them: 0 for a command.
 #[rattlefmt::skip]
 const NAMES: &[(u16, &str)] = &[
     (0, "A\n-\n0\nABCDEFGH\n_-[]\\09Z"),
@@ -196,7 +197,7 @@ const NAMES: &[(u16, &str)] = &[
     (1, "\u{7f}\n\u{e9}\n\nA B"),
 ];
 
-// A form is told this by each of the names of a text.
+// The form has this code with each name of a text in the place of its star.
 fn expect_names(
     rt: &impl Abort,
     alloc: Global,
@@ -210,7 +211,7 @@ fn expect_names(
     Ok(())
 }
 
-// Each place of each command that holds a name.
+// Each place of each command that takes a name.
 #[test]
 fn names_have_a_form(rt: HostRuntime) -> Result<(), Fail> {
     for form in NAME_PLACES.split('\n') {
@@ -221,7 +222,7 @@ fn names_have_a_form(rt: HostRuntime) -> Result<(), Fail> {
     Ok(())
 }
 
-// Lines, and what each is told: 0 for a command, else its code.
+// Lines, and the code of each: 0 for a command.
 const LINES: &[(u16, &str)] = &[
     (
         0,
@@ -330,7 +331,7 @@ fn lines_are_told_apart(rt: HostRuntime) {
     }
 }
 
-// What a line is told whose second number has so many digits.
+// The code of a line whose second number has so many digits.
 fn told_of_digits(alloc: Global, digits: usize) -> Result<u16, AllocError> {
     let mut line = Vec::from_slice(alloc, b"vertex 1 ")?;
     for _ in 0..digits {
@@ -339,7 +340,7 @@ fn told_of_digits(alloc: Global, digits: usize) -> Result<u16, AllocError> {
     Ok(told(alloc, line.as_slice()))
 }
 
-// A numeral may have any length that fits a line, of 256 bytes.
+// A numeral may be as long as fits in a line of 256 bytes.
 #[test]
 fn numerals_may_be_long(rt: HostRuntime) -> Result<(), Fail> {
     let longest = told_of_digits(rt.alloc(), 247)?;

@@ -1,4 +1,4 @@
-//! Scripts: their lines cleaned, and what the names in them stand for.
+//! Scripts: how their lines are cleaned, and how the names in them are resolved.
 
 use crate::drawing::{AMPLE, answer};
 use crate::expect::same;
@@ -8,11 +8,11 @@ use lv_maptables::Maps;
 use std::alloc::Global;
 use std::test::Fail;
 
-// A script with every kind of blank, and two comments that are none.
+// A script with every kind of white space, comments, and a `#` within a word, which begins no comment.
 const SCRIPT: &[u8] =
     b"\xef\xbb\xbf# a level\r\n\r\n  vertex\t0   0 \r\n\t\nvertex 128 0 # the second\nname MAP01#x\nsplit 0 64 0";
 
-// Its lines that say something.
+// Its lines that aren't blank, with their numbers.
 #[rattlefmt::skip]
 const LINES: &[(usize, &[u8])] = &[
     (3, b"vertex 0 0"), (5, b"vertex 128 0"), (6, b"name MAP01#x"), (7, b"split 0 64 0"),
@@ -30,8 +30,8 @@ fn cleans_a_script(rt: HostRuntime) -> Result<(), Fail> {
     Ok(())
 }
 
-// Lines, and what each stands for: a line of commands, or a fault. A room adds its corners, its sector, its sides and
-// its walls; a split adds a vertex and a line.
+// Lines, and each with its names resolved, or the code of its refusal. A room adds its corners, its sector, its sides
+// and its walls; a split adds a vertex and a line.
 #[rattlefmt::skip]
 const NAMED: &[(&[u8], Result<&[u8], u16>)] = &[
     (b"hall = room 0 0 256 256 0 128 FLOOR4_8 CEIL3_5 STARTAN3 160",
@@ -48,7 +48,7 @@ const NAMED: &[(&[u8], Result<&[u8], u16>)] = &[
     (b"vertex 9 9 = $", Err(21)), (b"vertex 9 9", Ok(b"vertex 9 9")),
 ];
 
-// Draws a line, and keeps its numbers where it gives a name.
+// Draws a line, and keeps its numbers if it gives a name.
 fn draw(
     alloc: Global,
     maps: &mut Maps,

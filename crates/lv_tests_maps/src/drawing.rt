@@ -1,4 +1,4 @@
-//! Projects that lines of input draw. The tests of levels use them too.
+//! Projects that lines draw. The tests of levels use them too.
 
 use lv_commands::{apply, parse};
 use lv_maptables::Maps;
@@ -22,7 +22,7 @@ pub const L: [&[u8]; 14] = [
     b"line 4 5 1 0 0 0 -", b"line 5 0 1 0 0 0 -",
 ];
 
-/// Two lines that cut both sides of a third between whole places, at 20/50.
+/// Two lines that cut both sides of a third one at 20/50 of its length, where the coordinates aren't whole.
 #[rattlefmt::skip]
 pub const CUT: [&[u8]; 11] = [
     b"vertex 0 0", b"vertex 10 3", b"vertex 4 10", b"vertex 4 5", b"vertex 4 -5", b"vertex 4 -10",
@@ -30,7 +30,7 @@ pub const CUT: [&[u8]; 11] = [
     b"line 0 1 4 0 0 0 0", b"line 2 3 1 0 0 0 -", b"line 4 5 1 0 0 0 -",
 ];
 
-/// A line that crosses another one so near to its end that the crossing rounds to that end.
+/// A line that crosses another one so near the end of that one that the crossing rounds to this end.
 #[rattlefmt::skip]
 pub const SLIVER: [&[u8]; 8] = [
     b"vertex 10 0", b"vertex 0 0", b"vertex 8 17", b"vertex 9 7", SECTOR, SIDE,
@@ -45,7 +45,7 @@ pub const TWO_ROOMS: [&[u8]; 11] = [
     b"line 2 4 1 0 0 5 -", b"line 4 5 1 0 0 5 -", b"line 5 3 1 0 0 5 -",
 ];
 
-/// The number that a line is answered with, or the code; 999 where the body is too long already.
+/// The number that answers a line, or the refusal's code; 999 if the body is too long already.
 pub fn answer(maps: &mut Maps, line: &[u8], cap: u32) -> Result<u32, u16> {
     match parse(line) {
         Ok(command) => {
@@ -58,7 +58,7 @@ pub fn answer(maps: &mut Maps, line: &[u8], cap: u32) -> Result<u32, u16> {
     }
 }
 
-/// Draws lines up to the first that isn't accepted, whose number and code are told.
+/// Draws lines up to the first that isn't accepted, and returns the index and the code of that one.
 pub fn draw(maps: &mut Maps, lines: &[&[u8]]) -> Result<(), (usize, u16)> {
     for (number, line) in lines.iter().enumerate() {
         if let Err(code) = answer(maps, *line, AMPLE) {
@@ -68,7 +68,7 @@ pub fn draw(maps: &mut Maps, lines: &[&[u8]]) -> Result<(), (usize, u16)> {
     Ok(())
 }
 
-/// The project that the lines draw, where each is accepted; else the first that isn't, and its code.
+/// The project that the lines draw if each is accepted; else the index of the first that isn't, and its code.
 pub fn drawn(alloc: Global, lines: &[&[u8]]) -> Result<Maps, (usize, u16)> {
     let mut maps = Maps::new(alloc);
     match draw(&mut maps, lines) {

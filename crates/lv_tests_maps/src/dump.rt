@@ -1,4 +1,4 @@
-//! The dump of a worked project of two maps, and a writer that takes only so many bytes.
+//! The dump of a worked project with two maps, and a writer that takes only so many bytes.
 
 use crate::drawing::{ROOM, drawn};
 use crate::expect::same;
@@ -8,13 +8,13 @@ use std::io;
 use std::io::Write;
 use std::test::Fail;
 
-// A room with a thing, and a second map with one vertex. The first map is current in the end.
+// A room with a thing, and a second map with one vertex. The first map is current at the end.
 #[rattlefmt::skip]
 const DRAWING: [&[u8]; 6] = [
     b"name E1M1", ROOM, b"thing 64 64 90 1 7", b"map MAP02", b"vertex -3 4", b"map E1M1",
 ];
 
-// Its dump, worked by hand: a room's corners go round from the lower left one by the upper left one.
+// Its dump, worked by hand. A room's corners go clockwise from the lower left one.
 const TEXT: &[u8] = b"name E1M1
 vertex 0 0
 vertex 0 128
@@ -35,7 +35,7 @@ vertex -3 4
 map E1M1
 ";
 
-// The dumps of its two maps, one behind the other.
+// The dumps of its two maps, one after the other.
 const MAP_TEXTS: &[u8] = b"map E1M1
 vertex 0 0
 vertex 0 128
@@ -55,7 +55,7 @@ map MAP02
 vertex -3 4
 ";
 
-// A writer that fails where it has no room for a line.
+// A writer that fails if it has no room for the bytes of a call.
 #[derive(Drop)]
 struct Full {
     room: usize,
@@ -97,7 +97,8 @@ fn writes_each_map_alone(rt: HostRuntime) -> Result<(), Fail> {
     Ok(())
 }
 
-// An empty project has two lines: 11 bytes and 10. A writer with room for the first alone fails at the second.
+// The dump of an empty project has two lines, of 11 and 10 bytes. A writer with room for the first one only fails at
+// the second.
 #[test]
 fn tells_of_a_full_writer(rt: HostRuntime) {
     let maps = Maps::new(rt.alloc());

@@ -1,5 +1,5 @@
-//! The tests of lumps, maps, commands, findings, warnings, dumps, scripts and pictures: worked examples, and what
-//! lines draw.
+//! Tests of lumps, maps, commands, findings, warnings, dumps, scripts and pictures: worked examples, and maps that
+//! commands draw.
 #![tactic(auto)]
 
 #[cfg(test)]

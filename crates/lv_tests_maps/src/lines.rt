@@ -1,4 +1,4 @@
-//! Lines over drawn projects, each with its answer: several maps, and tables at their limits.
+//! Lines with their answers: several maps, and tables at their limits.
 
 use crate::drawing::{AMPLE, ROOM, SECTOR, SIDE, answer, drawn};
 use crate::expect::{holds, same};
@@ -8,10 +8,10 @@ use lv_maptables::{Kind, Maps};
 use std::process::Abort;
 use std::test::Fail;
 
-// A line, and the number or the code that it is answered with.
+// A line, and the number or the code that answers it.
 type Answer = (&'static [u8], Result<u32, u16>);
 
-// Two maps with a room each, and the first of them taken out.
+// Two maps with a room each; then the first of them is dropped.
 #[rattlefmt::skip]
 const TWO_MAPS: &[Answer] = &[
     (ROOM, Ok(0)), (b"map MAP02", Ok(1)), (ROOM, Ok(0)), (b"split 0 0 64", Ok(4)), (b"thing 64 64 90 1 7", Ok(0)),
@@ -20,14 +20,14 @@ const TWO_MAPS: &[Answer] = &[
     (b"drop-map MAP01", Ok(0)),
 ];
 
-// A body has 18 bytes for each map, beside what its items take: here it may have 51.
+// A body has 18 bytes for each map besides its items. Here it may have 51 bytes.
 #[rattlefmt::skip]
 const TWO_MAPS_FULL: &[Answer] = &[
     (b"map MAP02", Ok(1)), (b"map MAP03", Err(14)), (b"vertex 0 0", Ok(0)), (b"vertex 1 0", Ok(1)),
     (b"vertex 2 0", Ok(2)), (b"vertex 3 0", Err(14)), (b"map MAP01", Ok(0)),
 ];
 
-// What doesn't lengthen a body is never refused for its length.
+// A command that doesn't lengthen the body is never refused for the body's length.
 #[rattlefmt::skip]
 const ONE_MAP_FULL: &[Answer] = &[
     (b"vertex 0 0", Ok(0)), (b"vertex 1 0", Ok(1)), (b"vertex 2 0", Ok(2)), (b"vertex 3 0", Ok(3)),
@@ -35,21 +35,22 @@ const ONE_MAP_FULL: &[Answer] = &[
     (b"vertex 6 0", Err(10)), (b"move-vertex 6 9 9", Ok(6)), (b"drop vertex 6", Ok(6)),
 ];
 
-// Maps drop beside the current one, and greater numbers fall.
+// Any map but the current one can be dropped; then greater numbers fall by one.
 #[rattlefmt::skip]
 const THREE_MAPS: &[Answer] = &[
     (b"map E1M1", Ok(1)), (b"map MAP02", Ok(2)), (b"map E1M1", Ok(1)), (b"drop-map E1M1", Err(19)),
     (b"drop-map MAP02", Ok(2)), (b"drop-map MAP01", Ok(0)), (b"drop-map MAP01", Err(18)), (b"map E1M1", Ok(0)),
 ];
 
-// A name is one map's alone, and a map may have its own name again.
+// Two maps never have the same name, but a map may be given its own name again.
 #[rattlefmt::skip]
 const NAMES: &[Answer] = &[
     (b"map MAP02", Ok(1)), (b"name MAP01", Err(17)), (b"name MAP02", Ok(0)), (b"name E1M1", Ok(0)),
     (b"drop-map MAP02", Err(18)), (b"map MAP01", Ok(0)), (b"map E1M1", Ok(1)),
 ];
 
-// How long a body may be, lines and their answers; then the number of maps, the current one's, and the body's length.
+// How long the body may be, and lines with their answers; then how many maps there are, which is current, and how long
+// the body is.
 const DRAWINGS: &[(u32, &[Answer], [u32; 3])] = &[
     (AMPLE, TWO_MAPS, [1, 0, 322]),
     (51, TWO_MAPS_FULL, [2, 0, 50]),
@@ -58,7 +59,7 @@ const DRAWINGS: &[(u32, &[Answer], [u32; 3])] = &[
     (AMPLE, NAMES, [2, 1, 38]),
 ];
 
-// Draws lines, each of which is answered as it should be.
+// Draws lines, and tests the answer to each.
 fn draw_answered(rt: &impl Abort, maps: &mut Maps, cap: u32, lines: &[Answer]) {
     for &(line, want) in lines {
         same(rt, &(line, answer(maps, line, cap)), &(line, want));
@@ -83,7 +84,7 @@ fn line_of_map(n: u8) -> [u8; 9] {
     line
 }
 
-// There are at most 32 maps. Where there are, a further one is refused by 16, however short a body may be.
+// There are at most 32 maps. A further one is refused with 16, although it wouldn't fit in the body either.
 #[test]
 fn takes_32_maps(rt: HostRuntime) {
     let mut maps = Maps::new(rt.alloc());
@@ -95,7 +96,7 @@ fn takes_32_maps(rt: HostRuntime) {
     assert_eq!(rt; (further, maps.len()), (Err(16), 32));
 }
 
-// Lines, and how often each is accepted before its table is full. A room needs a sector.
+// Lines, and how often each is accepted before its table is full. A room needs a sector, and there is no room for one.
 const LIMITS: &[(&[u8], u32)] = &[
     (SECTOR, 4096),
     (ROOM, 0),
@@ -104,7 +105,7 @@ const LIMITS: &[(&[u8], u32)] = &[
     (b"thing 64 64 90 1 7", 32767),
 ];
 
-// Draws a line so often, and once more, when its table is full.
+// Draws a line so many times, and once more, when its table is full.
 fn fill(rt: &impl Abort, maps: &mut Maps, line: &[u8], count: u32) {
     let mut accepted = 0_u32;
     for _ in 0..count {
@@ -116,7 +117,7 @@ fn fill(rt: &impl Abort, maps: &mut Maps, line: &[u8], count: u32) {
     same(rt, &(line, accepted, further), &(line, count, Err(12)));
 }
 
-// Tables but that of vertices are filled, so a body is as long as one with full tables but for those vertices.
+// All tables but that of vertices are filled, so the body is as long as the longest one, less the missing vertices.
 #[test]
 fn tables_have_limits(rt: HostRuntime) -> Result<(), Fail> {
     let mut maps = drawn(rt.alloc(), &[b"vertex 1 0", b"vertex 2 0"])?;
@@ -127,7 +128,7 @@ fn tables_have_limits(rt: HostRuntime) -> Result<(), Fail> {
     Ok(())
 }
 
-// The change comes with `commit`, and not before.
+// `commit` makes the change, and `ready` doesn't.
 #[test]
 fn commits_what_is_ready(rt: HostRuntime) -> Result<(), Fail> {
     let mut maps = Maps::new(rt.alloc());

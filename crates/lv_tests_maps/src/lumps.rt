@@ -1,4 +1,4 @@
-//! Records and their bytes, lists both ways, and the sides of a line.
+//! Records encoded to bytes and decoded again, one by one and in lists, and the sides of a line.
 
 use crate::expect::{holds, same};
 use lv_lumps::{
@@ -14,7 +14,7 @@ use std::test::Fail;
 
 const NO_SIDE: u16 = 0xffff;
 
-// The segs of a room of 128 by 128, the west side first.
+// The segs of a room of 128 by 128 map units, the west side first.
 const ROOM_SEGS: [u8; 48] = [
     0x00, 0x00, 0x01, 0x00, 0x00, 0x40, 0x00, 0x00, 0x00, 0x00, 0x00, 0x00, //
     0x01, 0x00, 0x02, 0x00, 0x00, 0x00, 0x01, 0x00, 0x00, 0x00, 0x00, 0x00, //
@@ -30,7 +30,7 @@ const L_NODES: [u8; 28] = [
     0x00, 0x80, 0x01, 0x80,
 ];
 
-// A seg of side 0 that begins where its line does.
+// A seg on side 0 that begins at its line's first end.
 fn seg(first: u16, second: u16, angle: u16, line: u16) -> Seg {
     Seg {
         first,
@@ -138,7 +138,7 @@ fn lines_have_their_bytes(rt: HostRuntime) {
     assert_eq!(rt; found, (LINE_BYTES, LINE));
 }
 
-// A list has these bytes, and these bytes are of this list.
+// A list is encoded to these bytes, and these bytes are decoded to the list.
 fn expect_both<T: PartialEq + Debug + Drop>(
     rt: &impl Abort,
     encoded: Result<Vec<u8>, LumpError>,
@@ -264,7 +264,7 @@ fn part_of_a_record_is_refused(rt: HostRuntime) {
     assert_eq!(rt; LumpError::OutOfMemory.code(), 31);
 }
 
-// Places, whether each lies on the right and on the left of a room's west side, and how far.
+// Points; whether each lies on the right and on the left of a room's west side; and the side value, which says how far.
 #[rattlefmt::skip]
 const PLACES: &[(Point, bool, bool, i64)] = &[
     (Point { x: 64, y: 64 }, true, false, 8192),

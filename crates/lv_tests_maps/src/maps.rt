@@ -14,12 +14,12 @@ const E1M1: Name8 = Name8 {
     bytes: *b"E1M1\0\0\0\0",
 };
 
-/// The body of two maps: MAP01 with the vertex 64 -1, and E1M1, current, with a thing.
+/// The body of two maps: MAP01 with the vertex (64,-1), and E1M1, the current one, with a thing.
 pub const TWO_MAPS: &[u8] = b"\x02\x01\
     MAP01\0\0\0\0\0\0\0\0\0\x01\0\0\0\x40\0\xff\xff\
     E1M1\0\0\0\0\x01\0\0\0\0\0\0\0\0\0\x40\0\xff\xff\x5a\0\x01\0\x07\0";
 
-// The body of so many empty maps, MAP01 and so on.
+// The body of `count` empty maps, MAP01 and so on.
 fn body_of(alloc: Global, count: u8, current: u8) -> Result<Vec<u8>, AllocError> {
     let mut body = Vec::new(alloc);
     body.extend_from_slice(&[2, current])?;
@@ -31,7 +31,7 @@ fn body_of(alloc: Global, count: u8, current: u8) -> Result<Vec<u8>, AllocError>
     Ok(body)
 }
 
-/// Whether the body is refused with place 0.
+/// Whether the body is refused as damaged at place 0.
 pub fn is_refused(alloc: Global, body: &[u8]) -> bool {
     matches!(Maps::decode_body(alloc, body), Err(MapError::Damaged(0)))
 }
@@ -44,7 +44,7 @@ fn the_new_project_has_the_empty_map(rt: HostRuntime) {
     assert!(rt; maps.at(1).is_none());
 }
 
-// How many maps are read of a body, which is current and how long their body is; and that body.
+// Reads a body: how many maps it has, which is current, how long their body is, and that body.
 fn read_again(alloc: Global, body: &[u8]) -> Result<([u32; 3], Vec<u8>), MapError> {
     let maps = Maps::decode_body(alloc, body)?;
     let found = [maps.len(), maps.current_number(), maps.body_len()];
@@ -59,11 +59,11 @@ fn a_project_has_thirty_two_maps(rt: HostRuntime) -> Result<(), Fail> {
     Ok(())
 }
 
-// Bytes of the body of two empty maps, changed: the current number; the names MAP01 and MAP02 made one, either way; a
-// count of vertices, of sectors.
+// An offset in the body of two empty maps, and the byte that is put there: the current map's number; either name made
+// equal to the other; a count of vertices; a count of sectors.
 const CHANGES: &[(usize, u8)] = &[(1, 2), (6, b'2'), (24, b'1'), (16, 1), (18, 1)];
 
-// Whether the body of two empty maps is refused, and whether it is with a byte changed.
+// Whether the body of two empty maps is refused, and whether it is refused with one byte changed.
 fn are_refused(alloc: Global, place: usize, byte: u8) -> Result<[bool; 2], AllocError> {
     let mut body = body_of(alloc, 2, 1)?;
     let before = is_refused(alloc, &body);
@@ -82,8 +82,8 @@ fn a_changed_byte_is_refused(rt: HostRuntime) -> Result<(), Fail> {
     Ok(())
 }
 
-// No bytes; version 2 alone, and without a map; `01 01`, alone and before a map; version 1 with a byte behind; a
-// version 3.
+// No bytes; version 2 alone, and without a map; `01 01` alone, and before a map; version 1 with an extra byte at the
+// end; version 3.
 const NO_BODIES: &[&[u8]] = &[
     b"",
     b"\x02",
@@ -104,7 +104,7 @@ fn bytes_of_no_project_are_refused(rt: HostRuntime) -> Result<(), Fail> {
     Ok(())
 }
 
-// How many of these many longer bodies are refused, each a byte longer than the one before.
+// Appends `count` zeros one by one to a body, and returns how many of the longer bodies are refused.
 fn refused_longer(alloc: Global, body: &mut Vec<u8>, count: u32) -> Result<u32, AllocError> {
     let mut refused = 0_u32;
     for _ in 0..count {

@@ -1,4 +1,4 @@
-//! The new map, names and refusals. What edits make of a map is told by lines (`lines.rt`, `lv_tests_runs`).
+//! The new map, keys, names and refusals. Edits are tested by lines (`lines.rt`, `lv_tests_runs`).
 
 use crate::drawing::{SECTOR, SIDE, draw, drawn};
 use crate::expect::same;
@@ -46,7 +46,7 @@ fn keys(maps: &Maps, kind: Kind) -> [Option<usize>; 3] {
     [maps.key(kind, 0), maps.key(kind, 1), maps.key(kind, 2)]
 }
 
-// The keys before an item is dropped, and after it.
+// The keys before and after an item is dropped.
 fn keys_over_a_drop(
     alloc: Global,
     kind: Kind,
@@ -59,7 +59,7 @@ fn keys_over_a_drop(
     Ok([before, keys(&maps, kind)])
 }
 
-// The key of an item stays while another one is dropped, though its number falls.
+// An item keeps its key when another one is dropped, though its number falls.
 #[test]
 fn keys_stay_after_a_drop(rt: HostRuntime) -> Result<(), Fail> {
     for &(kind, lines, drop) in THREE_OF_EACH {
@@ -71,7 +71,7 @@ fn keys_stay_after_a_drop(rt: HostRuntime) -> Result<(), Fail> {
     Ok(())
 }
 
-// Texts, and whether each is a texture's or a flat's name, and a map's.
+// Texts, and whether each is a name of a texture or flat, and whether it is a marker.
 const NAMES: &[(&[u8], bool, bool)] = &[
     (b"-", true, false),
     (b"FLOOR4_8", true, false),

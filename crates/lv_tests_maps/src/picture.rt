@@ -13,16 +13,16 @@ use std::test::Fail;
 // A room of 128 by 128 with a player's start that faces north.
 const DRAWING: [&[u8]; 3] = [b"name E1M1", ROOM, b"thing 64 64 90 1 7"];
 
-// Its picture up to the style, worked by hand: the room and 64 on each side. y grows downwards, so the upper edge is
-// 64 above -128.
+// The part of its picture before the style, worked by hand: the room and 64 units on each side. In SVG y grows
+// downwards, so the upper edge is 64 above -128.
 const FRONT: &[u8] =
     br#"<svg class="leveled" xmlns="http://www.w3.org/2000/svg" version="1.1" width="100%"
 viewBox="-64 -192 256 256" font-size="8">
 <title>E1M1</title>
 "#;
 
-// And behind the style. The corners go round from the lower left one by the upper left one, so that each line has the
-// room on its right: east, down, west, and up.
+// The part after the style. The corners go clockwise from the lower left one, so each line has the room on its right:
+// to the east, down, to the west, and up.
 const BACK: &[u8] = br#"<rect class="page" x="-64" y="-192" width="256" height="256"/>
 <g id="line0" class="one">
 <title>line 0: vertices 0 1, flags 1, special 0, tag 0, right side 0 (sector 0), no left side</title>
@@ -45,8 +45,8 @@ const BACK: &[u8] = br#"<rect class="page" x="-64" y="-192" width="256" height="
 <path id="vertex3" class="vertex" d="M128 0h0"><title>vertex 3: 128 0</title></path>
 "#;
 
-// Its numbers: a vertex's on the upper right, a line's on the left, and the sector's on the right of line 0, the first
-// of four that are as long.
+// Its numbers: a vertex's to the upper right, a line's on the left, and the sector's on the right of line 0, the first
+// of the four longest lines.
 const NUMBERS: &[u8] = br#"<text class="of-vertex" x="0" y="0" dx="8" dy="-8">0</text>
 <text class="of-vertex" x="0" y="-128" dx="8" dy="-8">1</text>
 <text class="of-vertex" x="128" y="-128" dx="8" dy="-8">2</text>
@@ -71,7 +71,7 @@ viewBox="-64 -64 229 158" font-size="8">
 <title>MAP01</title>
 "#;
 
-// The middle is at 50.5, which is rounded to 50, and the tick goes by -30 * 8 / 101 = -2.4, rounded to -2.
+// The middle is at 50.5, which is rounded to 50. The tick's x changes by -30 * 8 / 101 = -2.4, which is rounded to -2.
 const SLANT_BACK: &[u8] = br#"<rect class="page" x="-64" y="-64" width="229" height="158"/>
 <g id="line0" class="two special">
 <title>line 0: vertices 0 1, flags 4, special 1, tag 5, right side 0 (sector 0), left side 1 (sector 1)</title>
@@ -92,7 +92,7 @@ const SLANT_BACK: &[u8] = br#"<rect class="page" x="-64" y="-64" width="229" hei
 <path id="vertex1" class="vertex" d="M101 30h0"><title>vertex 1: 101 -30</title></path>
 "#;
 
-// Sector 1 is on the left: away from the tick, three times as far, rounded: 30 * 24 / 101 = 7.1.
+// Sector 1 is on the left, opposite to the tick and three times as far: 30 * 24 / 101 = 7.1, rounded.
 const SLANT_NUMBERS: &[u8] = br#"<text class="of-vertex" x="0" y="0" dx="8" dy="-8">0</text>
 <text class="of-vertex" x="101" y="30" dx="8" dy="-8">1</text>
 <text class="of-line" x="50" y="15" dx="2" dy="-8">0</text>
@@ -102,8 +102,8 @@ const SLANT_NUMBERS: &[u8] = br#"<text class="of-vertex" x="0" y="0" dx="8" dy="
 
 const END: &[u8] = b"</svg>\n";
 
-// A tree that is no room's: two subsectors, of two segs and of one, and a node whose partition runs from (32,0) by 0
-// and 64, past the boxes of its children, which reach from 0 to 128 and from -16 to 100.
+// A made-up tree: two subsectors, one with two segs and one with one, and a node whose partition runs from (32,0) by
+// (0,64) beyond the boxes of its children. These reach from 0 to 128 in x, and from -16 to 100 in y.
 #[rattlefmt::skip]
 const SEGS: [Seg; 3] = [
     Seg { first: 0, second: 1, angle: 0, line: 0, side: 0, offset: 0 },
@@ -118,9 +118,10 @@ const NODE: Node = Node {
     left_box: Bounds { top: 64, bottom: -16, left: 0, right: 32 },
 };
 
-// What is laid over with it, worked by hand. A seg stands 8 / 3 = 2 to its right: that of the first, which goes north,
-// is east; of the second, which goes east, south; the third goes by -128 and -128, so that it is 2 to the west and, on
-// the picture, 2 up. The partition's greater number becomes 65,536. The text of a mark is XML's.
+// The overlay with this tree, worked by hand. A seg is drawn 8 / 3 = 2 units to its right: the first one goes north, so
+// its right is the east; the second one goes east, so its right is the south; the third one goes by (-128,-128), so it
+// is drawn 2 to the west and, in the picture, 2 up. The partition is lengthened so that its greater component is
+// 65,536. The text of a mark is escaped for XML.
 const LAID_OVER: &[u8] = br#"<g id="sub0" class="sub0">
 <title>subsector 0: first seg 0, count 2</title>
 <path d="M0 0m2 0l0 -128M0 -128m0 2l128 0"/></g>
@@ -143,7 +144,7 @@ const LAID_OVER: &[u8] = br#"<g id="sub0" class="sub0">
 <path d="M0 0L0 -128"/></g>
 "#;
 
-// Nothing to lay over a picture.
+// An empty overlay.
 fn nothing(alloc: Global) -> Overlay {
     Overlay {
         vertices: Vec::new(alloc),
@@ -154,7 +155,7 @@ fn nothing(alloc: Global) -> Overlay {
     }
 }
 
-// A mark of this text.
+// A mark with this text.
 fn mark(alloc: Global, place: MarkPlace, text: &str) -> Result<Mark, Fail> {
     let text = String::from_str(alloc, text)?;
     Ok(Mark { place, text })
@@ -183,7 +184,7 @@ fn tree_and_marks(alloc: Global) -> Result<Overlay, Fail> {
     Ok(overlay)
 }
 
-// The picture of what these lines draw, with this laid over it.
+// The picture of what these lines draw, with this overlay.
 fn laid_over(
     alloc: Global,
     lines: &[&[u8]],
@@ -206,7 +207,7 @@ fn picture(alloc: Global, lines: &[&[u8]], numbers: bool) -> Result<Vec<u8>, Fai
     laid_over(alloc, lines, numbers, &nothing(alloc))
 }
 
-// These texts in a row, the style behind the first.
+// These texts one after the other, with the style after the first.
 fn joined(alloc: Global, front: &[u8], rest: &[&[u8]]) -> Result<Vec<u8>, Fail> {
     let mut text = front.to_vec(alloc)?;
     text.extend_from_slice(STYLE.as_bytes())?;
@@ -257,7 +258,7 @@ fn lays_a_tree_and_marks_over_a_room(rt: HostRuntime) -> Result<(), Fail> {
     Ok(())
 }
 
-// A writer that takes nothing.
+// A writer that takes no byte.
 #[derive(Drop)]
 struct Full;
 

@@ -1,9 +1,9 @@
-//! Lines over a map in memory, and their answers.
+//! Lines over maps in memory, and their answers.
 
 use crate::editor::run;
 use crate::expect::same;
 
-// Lines and their answers, each beside what it is about.
+// What is tested, lines, and their answers.
 const MAPS: &[(&str, &[u8], &[u8])] = &[
     (
         "drawn lumps of an empty map",

@@ -1,9 +1,9 @@
-//! What is built of drawn maps, by the queries `build` and `hex`, and the maps that there are.
+//! The queries `build`, `hex` and `maps` over drawn maps.
 
 use crate::editor::run;
 use crate::expect::same;
 
-// Lines and their answers, each beside what it is about.
+// What is tested, lines, and their answers.
 const BUILDS: &[(&str, &[u8], &[u8])] = &[
     (
         "an empty map",

@@ -1,4 +1,4 @@
-//! What `dump` writes of the levels of a WAD and of maps by their names, and what it tells beside.
+//! What `dump` prints for the levels of a WAD and for maps by name, and what it reports on standard error.
 
 use crate::expect::same;
 use crate::inspection::{ROOM_WAD, performed};
@@ -7,7 +7,7 @@ use lv_requests::{RequestError, request};
 use std::fs;
 use std::test::Fail;
 
-// A room without a thing, one with a start at an angle of 360, and one whose lines are cut off.
+// A room without a thing, one with a player's start at an angle of 360, and one whose LINEDEFS are cut off.
 const LEVELS: &[Level] = &[
     (b"MAP01\0\0\0", false, false),
     (b"E1M1\0\0\0\0", true, false),
@@ -25,7 +25,7 @@ const SECOND: &[u8] = b"map E1M1\nvertex 0 0\nvertex 0 128\nvertex 128 128\nvert
     side 0 0 - - STARTAN3 0\nside 0 0 - - STARTAN3 0\nline 0 1 1 0 0 0 -\nline 1 2 1 0 0 1 -\n\
     line 2 3 1 0 0 2 -\nline 3 0 1 0 0 3 -\nthing 64 64 0 1 7\n";
 
-// A call of the program: its words, its status, what it writes, a text behind another, and what it tells beside.
+// A call of the program: its arguments, its status, its output in two parts, and its standard error.
 type Call = (
     &'static [&'static str],
     u8,
@@ -86,7 +86,7 @@ const CALLS: &[Call] = &[
         b"",
         b"leveled: 71 DirectoryOutside\n",
     ),
-    // The project has the maps MAP01 and E1M1 of the levels.
+    // The project has the maps MAP01 and E1M1, made of the levels.
     (
         &["leveled", "dump", "dumps.lv", "E1M1"],
         0,
@@ -110,15 +110,15 @@ const CALLS: &[Call] = &[
     ),
 ];
 
-// Changes a byte.
+// Replaces a byte.
 fn put(wad: &mut [u8], place: usize, value: u8) {
     if let Some(byte) = wad.get_mut(place) {
         *byte = value;
     }
 }
 
-// Makes the WADs, the first with three levels of eleven entries, and a project with the levels that the dump of the
-// first one draws.
+// Makes two WADs, the first one with three levels of eleven entries each, and a project that the dump of the first one
+// draws.
 fn make_files(rt: &HostRuntime) -> Result<(), Fail> {
     let mut wad = wad_of(rt.alloc(), LEVELS)?;
     put(&mut wad, 4, 33);
@@ -146,7 +146,7 @@ fn dumps_levels_and_maps(rt: HostRuntime) -> Result<(), Fail> {
     Ok(())
 }
 
-// What can be read of a damaged project has no names, and nothing is changed of it.
+// `--salvage` takes no names and no `--exact`.
 #[test]
 fn takes_no_names_beside_salvage(rt: HostRuntime) {
     let named = ["leveled", "dump", "--salvage", "dumps.lv", "MAP01"];

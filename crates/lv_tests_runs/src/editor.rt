@@ -1,4 +1,4 @@
-//! Lines in and answers out, and the words of the program.
+//! Lines and their answers in memory, and the program's arguments.
 
 use crate::expect::same;
 use crate::streams::{Drip, Endless, Held, Narrow};
@@ -15,7 +15,7 @@ const ROW: &[u8] = b"vertex 0 0\nvertex 128 0\nhex VERTEXES\n";
 
 const ROW_ANSWERS: &[u8] = b"ok 0\nok 1\n00 00 00 00 80 00 00 00\n";
 
-/// What a run over these bytes answers, and what it writes.
+/// Runs over these bytes: how many lines it answered, or why it ended, and what it wrote.
 pub fn run(alloc: Global, input: &[u8], turns: u32) -> (Result<u64, EditorError>, Vec<u8>) {
     let mut reader = input;
     let mut out = Vec::new(alloc);
@@ -38,7 +38,7 @@ const LINES: &[(&[u8], u64, &[u8])] = &[
     (b"\n\n\n", 3, b"no 1\nno 1\nno 1\n"),
 ];
 
-// A run over this input answers so many lines by this.
+// A run over this input answers this many lines, with this output.
 fn expect_run(rt: &impl Abort, alloc: Global, input: &[u8], turns: u32, want: (u64, &[u8])) {
     let (answered, out) = run(alloc, input, turns);
     let found = (input, answered, out.as_slice());
@@ -52,7 +52,7 @@ fn answers_lines(rt: HostRuntime) {
     }
 }
 
-// A line of these many digits behind `vertex 0 `, which is a command or too long for one.
+// The line `vertex 0 ` with this many digits after it.
 fn long_line(alloc: Global, digits: usize) -> Result<Vec<u8>, Fail> {
     let mut line = Vec::from_slice(alloc, b"vertex 0 ")?;
     for _ in 0..digits {
@@ -62,8 +62,8 @@ fn long_line(alloc: Global, digits: usize) -> Result<Vec<u8>, Fail> {
     Ok(line)
 }
 
-// How many digits a line has, and its answer. A line of 256 bytes has a number out of its range; a longer one is no
-// command, however long.
+// How many digits the line has, and its answer. In a line of 256 bytes the number is out of its range; a longer line is
+// no command, however long it is.
 const DIGITS: &[(usize, &[u8])] = &[
     (247, b"no 2\n"),
     (248, b"no 1\n"),
@@ -80,7 +80,7 @@ fn refuses_long_lines(rt: HostRuntime) -> Result<(), Fail> {
     Ok(())
 }
 
-// What stands behind a long line is answered as ever.
+// The lines after a long one are answered as usual.
 #[test]
 fn answers_lines_behind_a_long_one(rt: HostRuntime) -> Result<(), Fail> {
     let mut lines = long_line(rt.alloc(), 4090)?;
@@ -90,7 +90,7 @@ fn answers_lines_behind_a_long_one(rt: HostRuntime) -> Result<(), Fail> {
     Ok(())
 }
 
-// A run of this input takes more turns than it may.
+// Whether a run over this input uses up its turns, with this output.
 fn is_too_long<R: Read>(alloc: Global, reader: &mut R, turns: u32, wanted: &[u8]) -> bool {
     let mut out = Vec::new(alloc);
     let answered = run_in_memory(alloc, reader, &mut out, turns);
@@ -102,7 +102,7 @@ fn counts_turns(rt: HostRuntime) {
     let (mut one, mut none) = (ROW, ROW);
     assert!(rt; is_too_long(rt.alloc(), &mut one, 1, ROW_ANSWERS));
     assert!(rt; is_too_long(rt.alloc(), &mut none, 0, b""));
-    // There are no more reads than turns.
+    // A run makes no more reads than it has turns.
     let mut endless = Endless { reads: 0 };
     assert!(rt;
         is_too_long(
@@ -115,7 +115,7 @@ fn counts_turns(rt: HostRuntime) {
     assert_eq!(rt; endless.reads, 5);
 }
 
-// 37 bytes one at a time, and the read that gives the end.
+// 37 reads of one byte each, and one that finds the end.
 #[test]
 fn takes_a_turn_for_each_read(rt: HostRuntime) {
     assert!(rt; is_too_long(rt.alloc(), &mut Drip::of(ROW, false), 37, ROW_ANSWERS));
@@ -134,7 +134,7 @@ fn stops_where_the_reader_fails(rt: HostRuntime) {
     assert_eq!(rt; out.as_slice(), b"ok 0\n".as_slice());
 }
 
-// How a run ends whose writer has so much room.
+// How a run ends whose writer takes this many bytes.
 fn answered_in(alloc: Global, room: usize) -> Result<u64, EditorError> {
     run_in_memory(alloc, &mut ROW, &mut Narrow::of(room), 2)
 }
@@ -148,7 +148,7 @@ fn stops_where_the_writer_fails(rt: HostRuntime) {
     same(&rt, &answered_in(rt.alloc(), 34), &Ok(3));
 }
 
-// No further line is looked at: the second byte of the first answer is the last that is taken.
+// No further line is read after a failed write: the writer takes two bytes of the first answer and then fails.
 #[test]
 fn reads_no_line_after_one_that_was_not_told(rt: HostRuntime) {
     let mut reader = Drip::of(ROW, false);
@@ -158,7 +158,7 @@ fn reads_no_line_after_one_that_was_not_told(rt: HostRuntime) {
     assert_eq!(rt; reader.left, b"vertex 128 0\nhex VERTEXES\n".as_slice());
 }
 
-// Nor is a line that was read with it looked at.
+// No further line is answered after a failed write, even if it was read already.
 #[test]
 fn answers_no_line_after_one_that_was_not_told(rt: HostRuntime) {
     let mut writer = Narrow::of(2);
@@ -167,7 +167,7 @@ fn answers_no_line_after_one_that_was_not_told(rt: HostRuntime) {
     assert_eq!(rt; writer.failures, 1);
 }
 
-// What is seen of the answers of a run that flushes its writer.
+// Runs with a writer that shows only flushed bytes: how the run ended, and which answers are seen.
 fn seen<R: Read>(alloc: Global, reader: &mut R, turns: u32) -> (Result<u64, EditorError>, Vec<u8>) {
     let mut writer = Held {
         held: Vec::new(alloc),
@@ -178,7 +178,7 @@ fn seen<R: Read>(alloc: Global, reader: &mut R, turns: u32) -> (Result<u64, Edit
     (answered, seen)
 }
 
-// What is seen of the answers of such a run, and how it ends.
+// Such a run ends so, and these answers are seen.
 fn expect_seen<R: Read>(
     rt: &impl Abort,
     alloc: Global,
@@ -216,7 +216,7 @@ fn numbers_refusals(rt: HostRuntime) {
     }
 }
 
-// The status of the program with `scratch` over this reader, where it prints this on standard error.
+// The status of `scratch` over this reader; it must print this on standard error.
 fn scratch<R: Read, W: Write>(
     rt: &HostRuntime,
     reader: &mut R,
@@ -235,7 +235,7 @@ fn scratch<R: Read, W: Write>(
     }
 }
 
-// The status of such a run, and what it writes.
+// The status of `scratch`, and its output.
 fn written<R: Read>(rt: &HostRuntime, reader: &mut R, said: &[u8]) -> Result<(u8, Vec<u8>), Fail> {
     let mut out = Vec::new(rt.alloc());
     let status = scratch(rt, reader, &mut out, said)?;
@@ -249,7 +249,7 @@ fn performs_scratch(rt: HostRuntime) -> Result<(), Fail> {
     Ok(())
 }
 
-// A byte a turn takes many turns.
+// Each turn reads one byte, so the run takes many turns.
 #[test]
 fn performs_scratch_byte_by_byte(rt: HostRuntime) -> Result<(), Fail> {
     let (status, out) = written(&rt, &mut Drip::of(ROW, false), b"")?;
@@ -279,7 +279,7 @@ fn reads_a_request(rt: HostRuntime) {
     assert!(rt; matches!(asked, Ok(Request::Scratch)));
 }
 
-// Words, the status of what clap answers, and a part of its text.
+// Arguments, the status with which clap answers them, and a part of its text.
 #[rattlefmt::skip]
 const WORDS: &[(&[&str], i32, &str)] = &[
     (&["leveled"], 2, "requires a subcommand"),
@@ -292,7 +292,7 @@ const WORDS: &[(&[&str], i32, &str)] = &[
     (&["leveled", "--version"], 0, "leveled 0.1.0"),
 ];
 
-// The status of what clap answers to these words, and whether this is a part of its text.
+// The status with which clap answers these arguments, and whether its text contains the part.
 fn answered_by_clap(alloc: Global, words: &[&str], part: &str) -> Result<(i32, bool), Fail> {
     match request(alloc, words) {
         Err(RequestError::Words(error)) => {

@@ -1,10 +1,10 @@
-//! What is said of a file that was opened and then fails.
+//! What the program reports if a file that it has opened fails.
 
 use crate::expect::same;
 use crate::project_run::over_file;
 use std::test::Fail;
 
-// A file of the system that can be opened for writes, and not synced.
+// A file of the system that can be opened for writing, but not synced.
 const NO_SYNC: &str = "/proc/self/mem";
 
 #[test]

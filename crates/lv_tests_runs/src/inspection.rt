@@ -1,4 +1,4 @@
-//! The inspection of a level: a worked room as a WAD, and the same with one byte changed.
+//! Inspections: a worked room as a WAD, the same with one byte changed, and rooms that the program draws and builds.
 
 use crate::expect::same;
 use lv_editor::{InspectError, inspect};
@@ -9,8 +9,8 @@ use std::alloc::{AllocError, Global};
 use std::fs;
 use std::test::Fail;
 
-// The room from (0,0) to (128,128) as MAP01: lines, sides, vertices, segs, one subsector, a sector, REJECT, BLOCKMAP
-// and the directory.
+// The WAD of the room from (0,0) to (128,128) as MAP01: lines, sides, vertices, segs, one subsector, one sector,
+// REJECT, BLOCKMAP and the directory.
 pub const ROOM_WAD: &[u8] = &[
     80, 87, 65, 68, 11, 0, 0, 0, 83, 1, 0, 0, 0, 0, 1, 0, 1, 0, 0, 0, 0, 0, 0, 0, 255, 255, 1, 0,
     2, 0, 1, 0, 0, 0, 0, 0, 1, 0, 255, 255, 2, 0, 3, 0, 1, 0, 0, 0, 0, 0, 2, 0, 255, 255, 3, 0, 0,
@@ -33,11 +33,11 @@ pub const ROOM_WAD: &[u8] = &[
     0, 0, 56, 0, 0, 0, 66, 76, 79, 67, 75, 77, 65, 80,
 ];
 
-// What is told of the room.
+// What `inspect` prints for the room.
 const ROOM_TEXT: &[u8] =
     b"things 0 lines 4 sides 4 vertices 4 segs 4 subsectors 1 nodes 0 sectors 1 reject 1 blockmap 56\nsound\n";
 
-// A changed byte: its place, its new value, and what is told then.
+// A changed byte: its offset, its new value, and the last line that `inspect` then prints.
 const CHANGES: &[(usize, u8, &str)] = &[
     (12, 0x04, "fault LineVertex 0\n"),
     (16, 0x05, "fault LineSide 0\n"),
@@ -52,7 +52,7 @@ const CHANGES: &[(usize, u8, &str)] = &[
     (487, 0x00, "fault Reject 0\n"),
 ];
 
-// The room with a byte changed.
+// The WAD of the room with one byte changed.
 fn changed(alloc: Global, place: usize, value: u8) -> Result<Vec<u8>, AllocError> {
     let mut wad = Vec::from_slice(alloc, ROOM_WAD)?;
     if let Some(byte) = wad.get_mut(place) {
@@ -61,7 +61,7 @@ fn changed(alloc: Global, place: usize, value: u8) -> Result<Vec<u8>, AllocError
     Ok(wad)
 }
 
-// Whether the level of these bytes is sound, and what is told of it.
+// Whether the level of these bytes is sound, and what `inspect` prints for it.
 fn told(alloc: Global, wad: &[u8]) -> Result<(bool, Vec<u8>), Fail> {
     let mut out = Vec::new(alloc);
     let sound = inspect(alloc, wad, b"MAP01", &mut out)?;
@@ -75,7 +75,7 @@ fn tells_of_a_level(rt: HostRuntime) -> Result<(), Fail> {
     Ok(())
 }
 
-// Of a level that isn't there nothing is told.
+// For a level that doesn't exist nothing is printed.
 #[test]
 fn tells_nothing_of_no_level(rt: HostRuntime) {
     let mut out = Vec::new(rt.alloc());
@@ -85,7 +85,7 @@ fn tells_nothing_of_no_level(rt: HostRuntime) {
     assert_eq!(rt; (refused, codes, out.len()), (Some(error), [72, 38], 0));
 }
 
-// Whether the room with a byte changed is sound, and this is told of it at the end.
+// Whether the room with one byte changed is sound, and whether the output ends with `end`.
 fn told_changed(alloc: Global, place: usize, value: u8, end: &str) -> Result<[bool; 2], Fail> {
     let wad = changed(alloc, place, value)?;
     let (sound, out) = told(alloc, &wad)?;
@@ -101,7 +101,7 @@ fn tells_a_changed_byte(rt: HostRuntime) -> Result<(), Fail> {
     Ok(())
 }
 
-// A call of the program: its words, its input, its status, what it writes, and what it says of a refusal.
+// A call of the program: its arguments, its input, its status, its output, and its standard error.
 type Call = (
     &'static [&'static str],
     &'static [u8],
@@ -112,7 +112,7 @@ type Call = (
 
 const ROOM: &[u8] = b"room 0 0 128 128 0 128 FLOOR4_8 CEIL3_5 STARTAN3 160\n";
 
-// A room is drawn into a project file, built into a PWAD and inspected.
+// A room is drawn in a project file, built into a PWAD and inspected.
 const CALLS: &[Call] = &[
     (&["leveled", "create", "room.lv"], b"", 0, b"created\n", b""),
     (
@@ -202,10 +202,10 @@ const CALLS: &[Call] = &[
     ),
 ];
 
-// What is told of the room as it is built.
+// What `build` prints for the room.
 const ROOM_BUILT: &[u8] = b"built vertices 4 segs 4 subsectors 1 nodes 0 bytes 515\n";
 
-/// What the program does for these words: the status, the output, and what it says of a refusal.
+/// Calls the program with these arguments and this input: its status, its output, and its standard error.
 pub fn performed(
     rt: &HostRuntime,
     words: &[&str],
@@ -221,7 +221,7 @@ pub fn performed(
     Ok((status, out, faults))
 }
 
-// The status of a call, and whether it writes and says what it should.
+// The status of a call, and whether its output and its standard error are as they should be.
 fn outcome(rt: &HostRuntime, call: &Call) -> Result<(u8, [bool; 2]), Fail> {
     let (ended, out, faults) = performed(rt, call.0, call.1)?;
     let is_told = [out.as_slice() == call.3, faults.as_slice() == call.4];
@@ -247,7 +247,7 @@ fn builds_and_inspects_a_room(rt: HostRuntime) -> Result<(), Fail> {
     Ok(())
 }
 
-// A fault is told on standard output, and by the status.
+// A fault is printed on standard output, and the status is 3.
 #[test]
 fn tells_a_fault_by_the_status(rt: HostRuntime) -> Result<(), Fail> {
     let wad = changed(rt.alloc(), 12, 0x04)?;
@@ -262,7 +262,7 @@ fn tells_a_fault_by_the_status(rt: HostRuntime) -> Result<(), Fail> {
     Ok(())
 }
 
-// What is told of a level that can't be built anew: its first line has vertex 4 of four.
+// What `rebuild` prints for a level that can't be built: its first line names vertex 4, and there are only four.
 const LEFT: &[u8] =
     b"MAP01 left: line 0 has a vertex that isn't there\nrebuilt 0 of 1 levels, 515 bytes\n";
 
@@ -282,7 +282,7 @@ fn leaves_a_level_with_a_fault(rt: HostRuntime) -> Result<(), Fail> {
     Ok(())
 }
 
-// A room is drawn in each of two maps, and both are built into one PWAD.
+// A room is drawn in each of two maps, and both maps are built into one PWAD.
 const TWO_MAPS: &[Call] = &[
     (&["leveled", "create", "two.lv"], b"", 0, b"created\n", b""),
     (
@@ -341,7 +341,7 @@ fn builds_and_inspects_two_maps(rt: HostRuntime) -> Result<(), Fail> {
     Ok(())
 }
 
-// Makes calls, whatever comes of them.
+// Calls the program several times, and ignores the results.
 fn perform_all(rt: &HostRuntime, calls: &[(&[&str], &[u8])]) -> Result<(), Fail> {
     for &(words, input) in calls {
         performed(rt, words, input)?;
@@ -351,7 +351,7 @@ fn perform_all(rt: &HostRuntime, calls: &[(&[&str], &[u8])]) -> Result<(), Fail>
 
 const BUILD_OLD: &[&str] = &["leveled", "build", "old.lv", "old.wad"];
 
-// A refused build leaves what stood in the file, a shorter one takes its place, and an IWAD stays.
+// A refused build leaves OUT as it was, a successful one replaces a longer PWAD, and an IWAD is never replaced.
 #[test]
 fn builds_over_a_file(rt: HostRuntime) -> Result<(), Fail> {
     let mut old = [7; 600];

@@ -1,4 +1,4 @@
-//! The tests of runs and of the program: lines in and answers out, in memory, over projects and over files.
+//! Tests of runs and of the program: lines and their answers, in memory, over projects and over files.
 #![tactic(auto)]
 
 #[cfg(test)]

@@ -1,4 +1,4 @@
-//! What `lint` says of the maps of a file.
+//! What `lint` prints for the maps of a project.
 
 use crate::expect::same;
 use crate::inspection::performed;
@@ -6,8 +6,8 @@ use crate::project_run::{Ended, over_file};
 use std::fs;
 use std::test::Fail;
 
-// The lines that draw a project, the status of `lint` over it, and what `lint` writes. In a room with a start nothing
-// is found. A vertex without a line is a finding, a type that Doom doesn't have a warning.
+// The lines that draw a project, and the status and the output of `lint`. In a room with a start it finds nothing. A
+// vertex without a line is a finding; a thing of a type that Doom doesn't have is a warning.
 const ROWS: &[(&[u8], u8, &[u8])] = &[
     (
         b"room 0 0 256 256 0 128 FLOOR4_8 CEIL3_5 STARTAN3 160\nthing 64 64 0 1 7\n",
@@ -29,7 +29,7 @@ const ROWS: &[(&[u8], u8, &[u8])] = &[
     ),
 ];
 
-// How `lint` ends over a new project with these lines.
+// Draws a new project with these lines, and lints it.
 fn linted(rt: &HostRuntime, path: &str, lines: &[u8]) -> Result<Ended, Fail> {
     let _ = fs::remove_file(rt, path);
     let _ = over_file(rt, "create", path, b"")?;
@@ -49,13 +49,13 @@ fn says_what_is_found_in_each_map(rt: HostRuntime) -> Result<(), Fail> {
     Ok(())
 }
 
-// Two maps: a vertex without a line, and a ceiling that is no flat of the WAD; a sky, and a wall that is no texture
-// of it.
+// Two maps. The first has a vertex without a line, and a ceiling that is no flat of the WAD; the second has a sky, and
+// a wall that is no texture of the WAD.
 const NAMES: &[u8] = b"room 0 0 256 256 0 128 FLOOR4_8 CEIL3_5 STARTAN3 160\nthing 64 64 0 1 7\n\
     vertex 512 0\nmap MAP02\nroom 0 0 256 256 0 128 FLOOR4_8 F_SKY1 STARTAN3 160\nthing 64 64 0 1 7\n\
     set-side 2 0 0 - - STARTAN2 0\n";
 
-// A WAD with the flat FLOOR4_8 and the texture STARTAN3, and the same with the texture's name out of its lump.
+// A WAD with the flat FLOOR4_8 and the texture STARTAN3, and the same with the texture's name outside its lump.
 const WAD: &[u8] = b"IWAD\x04\0\0\0\x1d\0\0\0!\x01\0\0\0\x08\0\0\0STARTAN3\
     \0\0\0\0\0\0\0\0F_START\0\x0c\0\0\0\x01\0\0\0FLOOR4_8\0\0\0\0\0\0\0\0F_END\0\0\0\
     \x0d\0\0\0\x10\0\0\0TEXTURE1";
@@ -64,7 +64,7 @@ const CUT_WAD: &[u8] = b"IWAD\x04\0\0\0\x1d\0\0\0!\x01\0\0\0\x09\0\0\0STARTAN3\
     \0\0\0\0\0\0\0\0F_START\0\x0c\0\0\0\x01\0\0\0FLOOR4_8\0\0\0\0\0\0\0\0F_END\0\0\0\
     \x0d\0\0\0\x10\0\0\0TEXTURE1";
 
-// Words of `lint`, its status, and what it writes and says. The files are made beforehand. FILE is looked at first.
+// Arguments of `lint`, its status, its output, and its standard error. FILE is opened before WAD.
 const BESIDE: &[(&[&str], u8, &[u8], &[u8])] = &[
     (
         &["leveled", "lint", "names.lv", "--iwad", "names.wad"],

@@ -1,4 +1,4 @@
-//! What `picture` draws of the maps of a file.
+//! What `picture` draws for the maps of a project.
 
 use crate::expect::same;
 use crate::inspection::performed;
@@ -7,10 +7,11 @@ use std::alloc::Global;
 use std::fs;
 use std::test::Fail;
 
-// A map with one vertex, and one with nothing, which is the current one.
+// A map with one vertex, and an empty one, which is current.
 const LINES: &[u8] = b"vertex 0 0\nmap E1M1\n";
 
-// The picture of the vertex up to the style, worked by hand: the vertex and 64 on each side.
+// The part of the vertex's picture before the style, and the part after it, worked by hand: the vertex and 64 units on
+// each side.
 const FRONT: &[u8] =
     br#"<svg class="leveled" xmlns="http://www.w3.org/2000/svg" version="1.1" width="100%"
 viewBox="-64 -64 128 128" font-size="8">
@@ -22,15 +23,15 @@ const BACK: &[u8] = br#"<rect class="page" x="-64" y="-64" width="128" height="1
 </svg>
 "#;
 
-// The same with its number.
+// The part after the style with the vertex's number.
 const NUMBERED: &[u8] = br#"<rect class="page" x="-64" y="-64" width="128" height="128"/>
 <path id="vertex0" class="vertex" d="M0 0h0"><title>vertex 0: 0 0</title></path>
 <text class="of-vertex" x="0" y="0" dx="8" dy="-8">0</text>
 </svg>
 "#;
 
-// The same with what `lint` tells of it: at the vertex that no line has, and in the corner that there is no start, as a
-// finding and as a warning.
+// The part after the style with marks for what `lint` prints: at the vertex, that no line uses it; and in the corner,
+// that there is no start, as a finding and as a warning.
 const LINTED: &[u8] = br#"<rect class="page" x="-64" y="-64" width="128" height="128"/>
 <path id="vertex0" class="vertex" d="M0 0h0"><title>vertex 0: 0 0</title></path>
 <g id="lint0" class="lint">
@@ -45,7 +46,7 @@ const LINTED: &[u8] = br#"<rect class="page" x="-64" y="-64" width="128" height=
 </svg>
 "#;
 
-// The map without an item shows what is round (0,0).
+// The picture of the empty map shows the surroundings of (0,0).
 const EMPTY_FRONT: &[u8] =
     br#"<svg class="leveled" xmlns="http://www.w3.org/2000/svg" version="1.1" width="100%"
 viewBox="-64 -64 128 128" font-size="8">
@@ -56,7 +57,8 @@ const EMPTY_BACK: &[u8] = br#"<rect class="page" x="-64" y="-64" width="128" hei
 </svg>
 "#;
 
-// Words behind `leveled picture`, the status, and the picture that is printed, if one is, or what is said.
+// Arguments after `leveled picture`, the status, the two parts of the picture that is printed, if one is, and standard
+// error.
 const ROWS: &[(&[&str], u8, &[u8], &[u8], &[u8])] = &[
     (&["pictures.lv"], 0, EMPTY_FRONT, EMPTY_BACK, b""),
     (&["pictures.lv", "MAP01"], 0, FRONT, BACK, b""),
@@ -99,7 +101,7 @@ const ROWS: &[(&[&str], u8, &[u8], &[u8], &[u8])] = &[
     ),
 ];
 
-// A picture of these two parts, the style between them, or nothing.
+// The picture of these two parts with the style between them; or the second part alone, if the first is empty.
 fn picture(alloc: Global, front: &[u8], back: &[u8]) -> Result<Vec<u8>, Fail> {
     let mut text = front.to_vec(alloc)?;
     if !front.is_empty() {
@@ -109,7 +111,7 @@ fn picture(alloc: Global, front: &[u8], back: &[u8]) -> Result<Vec<u8>, Fail> {
     Ok(text)
 }
 
-// The status of `picture` with these words, what it prints, and what it says of a refusal.
+// Calls `picture` with these arguments: its status, its output, and its standard error.
 fn pictured(rt: &HostRuntime, words: &[&str]) -> Result<(u8, Vec<u8>, Vec<u8>), Fail> {
     let mut all = Vec::new(rt.alloc());
     all.push("leveled")?;

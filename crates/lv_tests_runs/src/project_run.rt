@@ -1,4 +1,4 @@
-//! Lines over a project, and the subcommands that take a file.
+//! Lines over a project, and the subcommands over a project file.
 
 use crate::expect::same;
 use crate::streams::Narrow;
@@ -14,8 +14,8 @@ use std::io::Write;
 use std::process::Abort;
 use std::test::Fail;
 
-// A new project on a disk of which this call fails. The first 8 are those of `create`, and an append makes 4, of which
-// the last is its second sync.
+// A new project on a disk whose call with this number fails. The first 8 calls are those of `create`; an append makes
+// 4, and its last one is its second sync.
 fn failing(alloc: Global, call: u64) -> Result<Project<FaultDisk<MemoryDisk>>, Fail> {
     Ok(created(alloc, FaultDisk::new(empty_disk(alloc)?, call, 0), SMALL)?)
 }
@@ -30,7 +30,7 @@ const LINES: &[(&[u8], &[u8])] = &[
     (b"no command", b"no 32\n"),
 ];
 
-// What a line over a project is answered.
+// The answer to a line over a project.
 fn answered<D: Disk>(
     alloc: Global,
     project: &mut Project<D>,
@@ -41,7 +41,7 @@ fn answered<D: Disk>(
     Ok(out)
 }
 
-// Each line is answered as it should be.
+// Tests the answer to each line.
 fn answer_all<D: Disk>(
     rt: &impl Abort,
     alloc: Global,
@@ -59,12 +59,12 @@ fn answer_all<D: Disk>(
 fn answers_no_line_after_a_fault(rt: HostRuntime) -> Result<(), Fail> {
     let mut project = failing(rt.alloc(), 12)?;
     answer_all(&rt, rt.alloc(), &mut project)?;
-    // Opened again without a stop the map has the vertex.
+    // Without a stop, the project has the vertex when it is opened again.
     assert_eq!(rt; found(rt.alloc(), project.into_disk())?, (1, 1));
     Ok(())
 }
 
-// What a run answers over a project on a disk of which this call fails: each text once.
+// The device call that fails, what a run over the project writes, and how many vertices the project then has.
 const RUNS: &[(u64, &[u8], u32)] = &[
     (12, b"no 30\nno 32\nno 32\nno 32\n", 0),
     (13, b"ok 0\nno 30\nno 32\nno 32\n", 1),
@@ -80,7 +80,7 @@ const RUNS: &[(u64, &[u8], u32)] = &[
     ),
 ];
 
-// What a run answers over such a disk, and the vertices of its project.
+// Runs over such a project: how the run ended, how many vertices the project has, and what the run wrote.
 fn run_over(alloc: Global, call: u64) -> Result<(Result<u64, EditorError>, u32, Vec<u8>), Fail> {
     let mut project = failing(alloc, call)?;
     let mut input = b"vertex 0 0\nvertex 1 0\ncount\nvertex 2 0\n".as_slice();
@@ -110,7 +110,8 @@ fn keeps_what_it_could_not_tell(rt: HostRuntime) -> Result<(), Fail> {
     Ok(())
 }
 
-// The vertices of a new project after a run that a writer of so much room ends, and those when it is opened again.
+// Runs over a new project until the writer, which takes this many bytes, fails: how many vertices the project has then,
+// and how many when it is opened again.
 fn kept_after(alloc: Global, input: &[u8], room: usize) -> Result<[u32; 2], Fail> {
     let mut project = failing(alloc, 99)?;
     let mut reader = input;
@@ -122,7 +123,8 @@ fn kept_after(alloc: Global, input: &[u8], room: usize) -> Result<[u32; 2], Fail
     Ok([kept, found(alloc, project.into_disk())?.0])
 }
 
-// Input, the room of the writer, and how many lines are kept: the one whose answer it didn't take is the last.
+// Input, how many bytes the writer takes, and how many lines are kept. The last one kept is the line whose answer
+// couldn't be written.
 const KEPT: &[(&[u8], usize, u32)] = &[
     (b"vertex 1 0\nvertex 2 0\nvertex 3 0\n", 7, 2),
     (b"vertex 0 0\nvertex 128 0\nhex VERTEXES\n", 2, 1),
@@ -148,7 +150,7 @@ fn disk_of_room(alloc: Global) -> Result<MemoryDisk, Fail> {
     Ok(project.into_disk())
 }
 
-// How many bytes are built of the project of a room, and how an empty disk is refused.
+// How long the PWAD built from the project of a room is, and how an empty disk is refused.
 fn built(alloc: Global) -> Result<(usize, Option<u16>), Fail> {
     let wad = build_after_any_stop(alloc, disk_of_room(alloc)?).wad?;
     let refused = build_after_any_stop(alloc, empty_disk(alloc)?).wad.err();
@@ -162,7 +164,7 @@ fn builds_what_a_disk_holds(rt: HostRuntime) -> Result<(), Fail> {
     Ok(())
 }
 
-// The status of the program with these words over this input, and what it writes as its faults.
+// Calls the program with these arguments and this input: its status, and its standard error.
 pub fn status_of<W: Write>(
     rt: &HostRuntime,
     words: &[&str],
@@ -178,7 +180,7 @@ pub fn status_of<W: Write>(
     Ok((status, faults))
 }
 
-// A subcommand over one file, its input, its status, its output and its faults.
+// A subcommand over one file, its input, its status, its output and its standard error.
 type Row = (
     &'static str,
     &'static [u8],
@@ -187,7 +189,7 @@ type Row = (
     &'static [u8],
 );
 
-// What is said where there is no file.
+// Standard error if the file doesn't exist.
 const NO_FILE: &[u8] = b"leveled: 30 Device\n  lv_project_run_file: No such file or directory\n";
 
 const FILE_ROWS: &[Row] = &[
@@ -243,17 +245,17 @@ const FILE_ROWS: &[Row] = &[
     ),
 ];
 
-/// The status of a subcommand over a file, and what it writes and says.
+/// The status of a subcommand, its output, and its standard error.
 pub type Ended = (u8, Vec<u8>, Vec<u8>);
 
-/// How a subcommand over a file ends.
+/// Calls a subcommand over a file.
 pub fn over_file(rt: &HostRuntime, name: &str, path: &str, input: &[u8]) -> Result<Ended, Fail> {
     let mut out = Vec::new(rt.alloc());
     let (status, faults) = status_of(rt, &["leveled", name, path], input, &mut out)?;
     Ok((status, out, faults))
 }
 
-// How long a file is, as a disk.
+// How long a file is, opened as a disk.
 fn length_of(rt: &HostRuntime, path: &str) -> Result<u64, Fail> {
     let mut disk = FileDisk::open(rt, path, false)?;
     Ok(disk.len()?)
@@ -288,7 +290,7 @@ fn makes_no_file_but_by_create(rt: HostRuntime) -> Result<(), Fail> {
     Ok(())
 }
 
-// Where `created` can't be written the file stands.
+// If `created` can't be written, the file stays.
 #[test]
 fn makes_a_file_that_it_could_not_tell_of(rt: HostRuntime) -> Result<(), Fail> {
     let path = "lv_project_run_untold";
@@ -303,7 +305,8 @@ fn makes_a_file_that_it_could_not_tell_of(rt: HostRuntime) -> Result<(), Fail> {
     Ok(())
 }
 
-// Bytes at a place of a file with one vertex, and what is said of it then.
+// An offset in the file of a project with one vertex, the bytes that are put there, and what `edit` then prints to
+// standard error.
 const DAMAGE: &[(u64, &[u8], &[u8])] = &[
     (158, b"!", b"leveled: 40 Damaged at 144\n"),
     (16, b"\0", b"leveled: 41 Blank\n"),
@@ -311,7 +314,7 @@ const DAMAGE: &[(u64, &[u8], &[u8])] = &[
     (0, b"P", b"leveled: 42 NotAProject\n"),
 ];
 
-// Makes the file of a small project of one vertex; what is answered.
+// Makes the file of a small project with one vertex, and returns the output.
 fn make_small(rt: &HostRuntime, path: &str) -> Result<Vec<u8>, Fail> {
     let small = [
         "leveled",
@@ -328,7 +331,8 @@ fn make_small(rt: &HostRuntime, path: &str) -> Result<Vec<u8>, Fail> {
     Ok(out)
 }
 
-// The status of an edit of a file with these bytes at a place, whether it writes nothing, and what it says.
+// Puts these bytes at an offset of a file and calls `edit`: its status, whether its output is empty, and its standard
+// error.
 fn edit_damaged(
     rt: &HostRuntime,
     path: &str,
@@ -356,7 +360,7 @@ fn says_why_a_file_is_no_project(rt: HostRuntime) -> Result<(), Fail> {
     Ok(())
 }
 
-// The lengths of `create`, and the status where they are refused.
+// Options of `create`, and the status if clap refuses them.
 const LENGTHS: &[(&str, &str, Option<i32>)] = &[
     ("--slot", "32", Some(2)),
     ("--slot", "33", None),
@@ -369,7 +373,7 @@ const LENGTHS: &[(&str, &str, Option<i32>)] = &[
     ("--journal", "1048577", Some(2)),
 ];
 
-// The status of a refusal by clap, and None where there is a request.
+// The status of clap's refusal, or `None` if there is none.
 fn refused(alloc: Global, words: &[&str]) -> Option<i32> {
     match request(alloc, words) {
         Err(RequestError::Words(error)) => Some(error.exit_code()),

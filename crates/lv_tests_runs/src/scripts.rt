@@ -1,4 +1,4 @@
-//! Scripts, drawn over maps in memory, and what is said of a line that is refused.
+//! Scripts, drawn onto maps in memory and onto a project, and what is reported about a refused line.
 
 use crate::expect::same;
 use crate::project_run::{Ended, over_file, status_of};
@@ -8,7 +8,7 @@ use std::alloc::Global;
 use std::fs;
 use std::test::Fail;
 
-// Draws lines; what was written, and what is said of the one that was refused.
+// Draws lines: the output, and what is reported about the refused line.
 fn draw_lines(
     alloc: Global,
     lines: &[ScriptLine],
@@ -34,7 +34,7 @@ fn draw_lines(
     Ok((out, faults))
 }
 
-// Scripts, whether the numbers of commands are told, what is written, and what is said of the refused line.
+// Scripts, whether the answers to commands are printed, the output, and what is reported about the refused line.
 #[rattlefmt::skip]
 const SCRIPTS: &[(&[u8], bool, &[u8], &[u8])] = &[
     (b"\xef\xbb\xbf# a level\r\n\r\n  vertex\t0   0 \r\n\t\nvertex 128 0 # the second\ncount", true,
@@ -47,7 +47,7 @@ const SCRIPTS: &[(&[u8], bool, &[u8], &[u8])] = &[
         b"level.txt:3: splt 2 256 160: 1 NotACommand\n  perhaps this is meant: split LINE X Y\n"),
 ];
 
-// The same of a script.
+// The same for a script.
 fn draw_script(alloc: Global, script: &[u8], verbose: bool) -> Result<(Vec<u8>, Vec<u8>), Fail> {
     let lines = script_lines(alloc, script)?;
     draw_lines(alloc, &lines, verbose)
@@ -63,7 +63,7 @@ fn draws_scripts(rt: HostRuntime) -> Result<(), Fail> {
     Ok(())
 }
 
-// A line behind `vertex 0 0`, `room 16 0 32 9 ..` and `v = vertex 9 9`, and what is said of it.
+// A line after `vertex 0 0`, `room 16 0 32 9 ..` and `v = vertex 9 9`, and the end of what is reported about it.
 #[rattlefmt::skip]
 const REFUSED: &[(&[u8], &[u8])] = &[
     (b"split 2 256", b"1 NotACommand\n  it has 3 words in place of 4: split LINE X Y\n"),
@@ -84,11 +84,11 @@ const REFUSED: &[(&[u8], &[u8])] = &[
     (b"split $hal 0 0", b"22 UnknownName\n  no line before has this name\n"),
 ];
 
-// The lines in front.
+// The lines before it.
 const FRONT: &[u8] =
     b"vertex 0 0\nroom 16 0 32 9 0 128 FLOOR4_8 CEIL3_5 STARTAN3 160\nv = vertex 9 9\n";
 
-// What is said of a line behind those.
+// What is reported about a line after those.
 fn said_of(alloc: Global, line: &[u8]) -> Result<Vec<u8>, Fail> {
     let mut script = FRONT.to_vec(alloc)?;
     script.extend_from_slice(line)?;
@@ -105,17 +105,17 @@ fn says_what_was_wrong(rt: HostRuntime) -> Result<(), Fail> {
     Ok(())
 }
 
-// A project file, and a file that is no script.
+// A project file, and a path without a file.
 const FILE: &str = "lv_scripts_file";
 
 const NO_SCRIPT: &str = "lv_scripts_missing";
-// A script file, of which the third line is refused.
+// A script file whose third line is refused.
 const SCRIPT: &str = "lv_scripts_script";
 
 const SCRIPT_TEXT: &[u8] = b"# corners\nhere = vertex 0 0\nvertx $here 9\nvertex 1 1\n";
 
-// The words behind `leveled draw`, the input, the status, and what the output and standard error tell. What was drawn
-// stays: the vertex of the first row is there in the second.
+// Arguments after `leveled draw`, the input, the status, the output, and standard error. What was drawn stays: the
+// second row finds the vertex of the first.
 #[rattlefmt::skip]
 const RUNS: &[(&[&str], &[u8], u8, &[u8], &[u8])] = &[
     (&[FILE, SCRIPT, "--verbose"], b"count\n", 3, b"2: ok 0\n",
@@ -132,7 +132,7 @@ const RUNS: &[(&[&str], &[u8], u8, &[u8], &[u8])] = &[
         b"leveled: 37 ReaderFailed\n  lv_scripts_missing: No such file or directory\n"),
 ];
 
-// Makes the two files.
+// Makes the project file and the script file.
 fn make_files(rt: &HostRuntime) -> Result<(), Fail> {
     let _ = fs::remove_file(rt, FILE);
     let _ = fs::remove_file(rt, NO_SCRIPT);
@@ -141,7 +141,7 @@ fn make_files(rt: &HostRuntime) -> Result<(), Fail> {
     Ok(())
 }
 
-// The status of `draw` with these words over this input, what it prints, and what it says of a refusal.
+// Calls `draw` with these arguments and this input: its status, its output, and its standard error.
 fn drawn(rt: &HostRuntime, words: &[&str], input: &[u8]) -> Result<Ended, Fail> {
     let mut all = Vec::new(rt.alloc());
     all.push("leveled")?;

@@ -1,8 +1,8 @@
-//! Readers and writers that give little, take little or fail.
+//! Readers and writers that read or write few bytes at a time, or fail.
 
 use std::io::{self, Read, Write};
 
-/// A reader that gives its bytes one at a time, and then fails or is at its end.
+/// A reader that returns its bytes one at a time, and then fails or is at its end.
 #[derive(Drop)]
 pub struct Drip<'a> {
     pub left: &'a [u8],
@@ -38,7 +38,7 @@ impl Read for Drip<'_> {
     }
 }
 
-/// A reader that gives an empty line at each read, and counts its reads.
+/// A reader that returns an empty line at each read, and counts its reads.
 #[derive(Drop)]
 pub struct Endless {
     pub reads: u32,
@@ -55,7 +55,7 @@ impl Read for Endless {
     }
 }
 
-/// A writer whose bytes are seen once it is flushed.
+/// A writer whose bytes are seen only once it is flushed.
 #[derive(Drop)]
 pub struct Held {
     pub held: Vec<u8>,
@@ -75,7 +75,7 @@ impl Write for Held {
     }
 }
 
-/// A writer that takes this many bytes, and then fails and counts how often.
+/// A writer that takes `room` bytes, then fails, and counts its failures.
 #[derive(Drop)]
 pub struct Narrow {
     pub room: usize,

@@ -1,4 +1,5 @@
-//! Lists of lines over disks of which one call after the other fails, opened again without a stop and after stops.
+//! Lists of lines over disks on which each call in turn fails; the project is opened again without a stop and after
+//! stops.
 
 use crate::expect::same;
 use lv_commands::{apply, parse};
@@ -11,17 +12,17 @@ use std::alloc::Global;
 use std::process::Abort;
 use std::test::Fail;
 
-// A new project on a disk of which the k-th call fails, with the first `part` bytes of its write put down. The first 8
-// calls are those of `create`.
+// A new project on a disk whose k-th call fails, after the first `part` bytes of its write. The first 8 calls are those
+// of `create`.
 fn failing(alloc: Global, k: u64, part: u32) -> Result<Project<FaultDisk<MemoryDisk>>, Fail> {
     let disk = MemoryDisk::new(alloc, 700, 6000)?;
     Ok(created(alloc, FaultDisk::new(disk, k, part), SMALL)?)
 }
 
-// The longest body of a project with slots of 64 bytes.
+// The length of the longest body of a project with slots of 64 bytes.
 const CAP: u32 = 51;
 
-// Does a line in memory, if it is a command that is accepted.
+// Applies a line to maps in memory, if it is an accepted command.
 fn draw(maps: &mut Maps, line: &[u8]) {
     if let Ok(command) = parse(line)
         && maps.body_len() <= CAP
@@ -30,7 +31,7 @@ fn draw(maps: &mut Maps, line: &[u8]) {
     }
 }
 
-// Puts down the body before each of these lines, and after them all.
+// Appends the body before each of these lines, and after the last one.
 fn put_bodies(
     alloc: Global,
     maps: &mut Maps,
@@ -45,7 +46,7 @@ fn put_bodies(
     Ok(())
 }
 
-// The body before each of these lines, and after them all.
+// The body before each of these lines, and after the last one.
 fn bodies(alloc: Global, lines: &[&[u8]]) -> Result<Vec<Vec<u8>>, Fail> {
     let mut maps = Maps::new(alloc);
     let mut bodies = Vec::new(alloc);
@@ -53,7 +54,8 @@ fn bodies(alloc: Global, lines: &[&[u8]]) -> Result<Vec<Vec<u8>>, Fail> {
     Ok(bodies)
 }
 
-// Does these lines up to the one in which a call fails, an empty one being a checkpoint. How many were done.
+// Applies these lines up to the one during which a call fails, and returns how many were done. An empty line stands for
+// a checkpoint.
 fn done<D: Disk>(project: &mut Project<D>, lines: &[&[u8]]) -> usize {
     let mut n = 0_usize;
     for line in lines {
@@ -70,7 +72,7 @@ fn done<D: Disk>(project: &mut Project<D>, lines: &[&[u8]]) -> usize {
     n
 }
 
-// What a project of a disk may hold: one of two bodies, under this generation or the next one.
+// What the project on a disk may have: one of two bodies, and this generation or the next one.
 #[derive(Drop)]
 struct Wanted<'a> {
     old: &'a [u8],
@@ -84,7 +86,7 @@ fn body_of<D: Disk + Drop>(alloc: Global, disk: D) -> Result<(Vec<u8>, u64), Fai
     Ok((project.maps().encode_body(alloc)?, project.generation()))
 }
 
-// Opens a disk, which has what is wanted.
+// Opens the project of a disk, which must have what is wanted.
 fn expect<D: Disk + Drop>(
     rt: &impl Abort,
     alloc: Global,
@@ -98,7 +100,7 @@ fn expect<D: Disk + Drop>(
     Ok(())
 }
 
-// Opens a disk after stops of all kinds.
+// Opens the project of a disk after stops of all kinds.
 fn expect_stops(
     rt: &impl Abort,
     alloc: Global,
@@ -112,8 +114,8 @@ fn expect_stops(
     Ok(())
 }
 
-// What is left of lines over a disk that may fail: how many were done, whether all were, whether the project then had
-// the body that is wanted, its generation, and its disk.
+// The result of lines over a disk on which a call may fail: how many were done, whether all were, whether the project
+// in memory then has the body before the failed line, its generation, and its disk.
 #[derive(Drop)]
 struct Ended {
     n: usize,
@@ -123,7 +125,7 @@ struct Ended {
     disk: FaultDisk<MemoryDisk>,
 }
 
-// Does these lines over a disk of which the k-th call fails.
+// Applies these lines over a disk on which the call `fault` fails.
 fn fail_within(
     alloc: Global,
     lines: &[&[u8]],
@@ -142,7 +144,7 @@ fn fail_within(
     })
 }
 
-// What the project of the disk may hold then, of the bodies before and after each line.
+// What the project on the disk may then have; `bodies` are those before each line and after the last one.
 fn wanted_of<'a>(bodies: &'a [Vec<u8>], ended: &Ended) -> Option<Wanted<'a>> {
     let old = bodies.get(ended.n)?;
     let new = bodies.get(ended.n.saturating_add(1)).unwrap_or(old);
@@ -153,7 +155,8 @@ fn wanted_of<'a>(bodies: &'a [Vec<u8>], ended: &Ended) -> Option<Wanted<'a>> {
     })
 }
 
-// Opens the disk again after stops and, where a call has failed, without one; else one would fail as it is opened.
+// Opens the project again after stops, and, if a call has failed, without one. If none has, the injected fault would
+// come during the opening.
 fn expect_ended(
     rt: &impl Abort,
     alloc: Global,
@@ -168,7 +171,8 @@ fn expect_ended(
     Ok(is_done)
 }
 
-// Does these lines over a disk of which the k-th call fails, and opens it again. Whether all lines were done.
+// Applies these lines over a disk on which the call `fault` fails, and opens the project again. Returns whether all
+// lines were done.
 fn fail_once(
     rt: &impl Abort,
     alloc: Global,
@@ -184,7 +188,7 @@ fn fail_once(
     }
 }
 
-// Lines, and how many bytes of a failing write are put down: none, one, half of a record or a slot, and all.
+// Lines, and how many bytes of a failing write are still written: none, one, half of a record or a slot, and all.
 type List = (&'static [&'static [u8]], &'static [u32]);
 
 const MAPS: List = (
@@ -230,7 +234,7 @@ const FULL: List = (
     &[0, 1, 7, 30, 99],
 );
 
-// Fails each call of these lines in turn, from the `first` on, with so many bytes of a write put down.
+// Fails each call of these lines in turn, from the call `first` on, after `part` bytes of its write.
 fn sweep(
     rt: &impl Abort,
     alloc: Global,
@@ -247,7 +251,7 @@ fn sweep(
     Err(Fail::from("too many calls"))
 }
 
-// The same with each of these many bytes.
+// The same for each part of the list.
 fn sweep_list(rt: &impl Abort, alloc: Global, list: List) -> Result<(), Fail> {
     let (lines, parts) = list;
     for &part in parts {
@@ -271,7 +275,7 @@ fn keeps_each_line_that_fills_a_slot(rt: HostRuntime) -> Result<(), Fail> {
     sweep_list(&rt, rt.alloc(), FULL)
 }
 
-// 34 records of four calls each fill a journal, and the line behind them takes a checkpoint first.
+// 34 records of four calls each fill a journal. For the line after them a checkpoint comes first.
 const FILLING: &[&[u8]] = &[NAMED; 36];
 
 const NAMED: &[u8] = b"name MAP01";
@@ -281,7 +285,7 @@ fn keeps_each_line_that_fills_a_journal(rt: HostRuntime) -> Result<(), Fail> {
     sweep(&rt, rt.alloc(), FILLING, 9, 0)
 }
 
-// How many bytes are put down of a write that fails in the last line but one.
+// How many bytes of a write are still written that fails during the last line but one.
 const LAST_PARTS: &[u32] = &[1, 7, 16, 99];
 
 #[test]
@@ -292,7 +296,7 @@ fn keeps_the_line_that_has_no_room(rt: HostRuntime) -> Result<(), Fail> {
     Ok(())
 }
 
-// Lines with their answers over a project of 51 bytes.
+// Lines with their answers over a project whose body may have 51 bytes.
 #[rattlefmt::skip]
 const ANSWERS: &[(&[u8], &[u8])] = &[
     (b"vertex 0 0", b"ok 0\n"), (b"count", b"vertices 1 sectors 0 sides 0 lines 0 things 0\n"),
@@ -300,7 +304,7 @@ const ANSWERS: &[(&[u8], &[u8])] = &[
     (b"drop-map MAP01", b"ok 0\n"), (b"maps", b"0 MAP02\ncurrent 0\n"), (b"vertex 1 1", b"ok 1\n"),
 ];
 
-// The lines of a run.
+// The lines as the input of a run.
 fn input(alloc: Global) -> Result<Vec<u8>, Fail> {
     let mut text = Vec::new(alloc);
     for &(line, _) in ANSWERS {
@@ -310,7 +314,7 @@ fn input(alloc: Global) -> Result<Vec<u8>, Fail> {
     Ok(text)
 }
 
-// The answers of a run of which the lines from `n` on find a device that has failed.
+// The answers of a run if a call fails during line `n`.
 fn answers(alloc: Global, n: usize) -> Result<Vec<u8>, Fail> {
     let mut text = Vec::new(alloc);
     let mut at = 0_usize;
@@ -327,13 +331,13 @@ fn answers(alloc: Global, n: usize) -> Result<Vec<u8>, Fail> {
     Ok(text)
 }
 
-// The line in which the k-th call of a run fails: each of five accepted lines makes four calls.
+// The line during which each call of a run fails, in turn: each of the five accepted commands makes four calls.
 #[rattlefmt::skip]
 const FAILED: &[usize] = &[
     0, 0, 0, 0, 2, 2, 2, 2, 3, 3, 3, 3, 5, 5, 5, 5, 7, 7, 7, 7, 8, 8, 8, 8,
 ];
 
-// What a run over a disk writes of which the k-th call fails.
+// What a run over a disk writes whose k-th call fails.
 fn told(alloc: Global, lines: &[u8], k: u64, part: u32) -> Result<Vec<u8>, Fail> {
     let mut project = failing(alloc, k, part)?;
     let mut out = Vec::new(alloc);
@@ -344,14 +348,14 @@ fn told(alloc: Global, lines: &[u8], k: u64, part: u32) -> Result<Vec<u8>, Fail>
     }
 }
 
-// What is told of a call that fails, with so many bytes of a write put down, is the answers of that line's failure.
+// Whether a run on which the call `fault` fails writes the answers for a failure during line `n`.
 fn is_told(alloc: Global, lines: &[u8], n: usize, fault: (u64, u32)) -> Result<bool, Fail> {
     let out = told(alloc, lines, fault.0, fault.1)?;
     let wanted = answers(alloc, n)?;
     Ok(out == wanted)
 }
 
-// Each call fails in turn.
+// Each call fails in turn, and the answers are tested.
 fn expect_answers(rt: &impl Abort, alloc: Global, lines: &[u8], part: u32) -> Result<(), Fail> {
     let mut k = 9_u64;
     for &n in FAILED {

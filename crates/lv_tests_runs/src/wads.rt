@@ -1,4 +1,4 @@
-//! What `lint`, `check` and `picture` say of a WAD that stands in place of a project.
+//! What `lint`, `check` and `picture` print for a WAD in place of a project.
 
 use crate::expect::same;
 use crate::inspection::{ROOM_WAD, performed};
@@ -6,10 +6,10 @@ use std::alloc::Global;
 use std::fs;
 use std::test::Fail;
 
-// A level of the WAD: its name, whether it has the start of a player, and whether a byte of its lines is cut off.
+// A level of the WAD: its name, whether it has a player's start, and whether the last byte of its LINEDEFS is cut off.
 pub type Level = (&'static [u8; 8], bool, bool);
 
-// The second MAP01 is never the one of that name.
+// Two levels are called MAP01. The first one counts.
 const LEVELS: &[Level] = &[
     (b"MAP01\0\0\0", false, false),
     (b"E1M1\0\0\0\0", true, false),
@@ -17,13 +17,13 @@ const LEVELS: &[Level] = &[
     (b"MAP01\0\0\0", true, false),
 ];
 
-// Where the room's directory begins, behind its lumps; a thing follows these lumps here.
+// The offset of the directory in the WAD of the room, after its lumps. Here a thing follows these lumps.
 pub const START_AT: usize = 339;
 
 // A player's start at (64,64).
 const START: &[u8] = &[64, 0, 64, 0, 0, 0, 1, 0, 7, 0];
 
-// Adds the entries of a level, whose lumps are the room's.
+// Appends the directory entries of a level, whose lumps are those of the room.
 fn add_level(wad: &mut Vec<u8>, level: &Level) -> Result<(), Fail> {
     let &(name, has_start, is_cut) = level;
     wad.extend_from_slice(&[12, 0, 0, 0, 0, 0, 0, 0])?;
@@ -43,7 +43,7 @@ fn add_level(wad: &mut Vec<u8>, level: &Level) -> Result<(), Fail> {
     Ok(())
 }
 
-// The WAD of the levels: the room's lumps, the start, and the directory.
+// The WAD of the levels: the lumps of the room, the player's start, and the directory.
 pub fn wad_of(alloc: Global, levels: &[Level]) -> Result<Vec<u8>, Fail> {
     let mut wad = Vec::from_slice(alloc, b"PWAD\x2c\0\0\0\x5d\x01\0\0")?;
     wad.extend_from_slice(&ROOM_WAD[12..START_AT])?;
@@ -54,10 +54,10 @@ pub fn wad_of(alloc: Global, levels: &[Level]) -> Result<Vec<u8>, Fail> {
     Ok(wad)
 }
 
-// A call of the program: its words, its status, what it writes, and what it says of a refusal.
+// A call of the program: its arguments, its status, its output, and its standard error.
 type Call = (&'static [&'static str], u8, &'static [u8], &'static [u8]);
 
-// In a room without a start that is a finding and a warning.
+// The calls. A room without a start has a finding and a warning for that.
 const CALLS: &[Call] = &[
     (
         &["leveled", "lint", "levels.wad"],
@@ -152,7 +152,7 @@ fn says_what_is_found_in_levels(rt: HostRuntime) -> Result<(), Fail> {
     let _ = fs::remove_file(&rt, "levels.lv");
     fs::write(&rt, "levels.wad", &wad_of(rt.alloc(), LEVELS)?)?;
     fs::write(&rt, "cut.wad", &ROOM_WAD[..500])?;
-    // The first seg names a vertex that isn't there.
+    // The first seg names a vertex that doesn't exist.
     let mut outside = Vec::from_slice(rt.alloc(), ROOM_WAD)?;
     outside[204] = 4;
     fs::write(&rt, "outside.wad", &outside)?;
@@ -164,14 +164,14 @@ fn says_what_is_found_in_levels(rt: HostRuntime) -> Result<(), Fail> {
     Ok(())
 }
 
-// How `picture` with the tree ends over the file, and what it draws.
+// Calls `picture --nodes` over a file: its status, and its output.
 fn pictured(rt: &HostRuntime, path: &str) -> Result<(u8, Vec<u8>), Fail> {
     let words = ["leveled", "picture", "--nodes", path];
     let (status, out, _) = performed(rt, &words, b"")?;
     Ok((status, out))
 }
 
-// The tree that the WAD of a room has is the one that is built of it.
+// The picture of a room with the tree of its WAD is the same as the picture with the tree that is built from its map.
 #[test]
 fn draws_a_level_as_its_map(rt: HostRuntime) -> Result<(), Fail> {
     let _ = fs::remove_file(&rt, "shown.lv");

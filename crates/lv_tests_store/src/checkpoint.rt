@@ -1,4 +1,4 @@
-//! The change from one slot to the other: its writes in their order, and what a stop within it leaves.
+//! The change from one slot to the other: its writes in order, and what a stop during it leaves.
 
 ghost use Rattle.std.specs.Prelude.{◌≡◌, ◌≤◌, ◌<◌, ◌+◌, ◌^◌, length, IfOk};
 ghost use Rattle.lv_disk.specs.Stops.{Each};
@@ -35,7 +35,7 @@ pub const OLD: &[u8] = b"the old body of 24 bytes";
 
 pub const NEW: &[u8] = b"the new body of 24 bytes";
 
-/// The live slot of a disk, of which all is on the device.
+/// Syncs a disk, and opens its slots.
 pub fn opened<D: Disk>(alloc: Global, disk: &mut D) -> Result<(Slots, Found), CheckpointError>
     ensures ready { IfOk result (λ r. Each (D.may_leave disk.new) (HasSomeSlots r.0)) }
     ensures behind { IfOk result (λ r. (second_of r.0).base + (second_of r.0).length ≡ 144) }
@@ -44,7 +44,7 @@ pub fn opened<D: Disk>(alloc: Global, disk: &mut D) -> Result<(Slots, Found), Ch
     Slots::open(alloc, disk, A, B)
 }
 
-// The three calls of a change.
+// Changes the live slot, by the three calls of a change.
 fn turned<D: Disk>(
     disk: &mut D,
     slots: Slots,
@@ -65,8 +65,8 @@ fn turned<D: Disk>(
     filled.open_other(disk)
 }
 
-/// A file of two slots and the first bytes of two journals, all of it on the device: slot A is live with `OLD`, and
-/// both journals begin with a 7.
+/// A synced file with two slots and the first bytes of two journals: slot A is live with `OLD`, and both journals begin
+/// with a 7.
 pub fn disk_with_old(alloc: Global) -> Result<MemoryDisk, Fail> {
     let mut disk = MemoryDisk::new(alloc, 1024, 4096)?;
     first(&mut disk, A, B, OLD)?;
@@ -76,7 +76,7 @@ pub fn disk_with_old(alloc: Global) -> Result<MemoryDisk, Fail> {
     Ok(disk)
 }
 
-/// A slot as it is put down: its gate, its generation, the length that it tells of, and its body.
+/// A slot as it is written: its gate, its generation, its length field, and its body.
 pub type Slot<'a> = (u8, u64, u32, &'a [u8]);
 
 fn put_down<D: Disk>(disk: &mut D, at: u64, slot: &Slot<'_>) -> Result<(), DeviceFault>
@@ -89,7 +89,7 @@ fn put_down<D: Disk>(disk: &mut D, at: u64, slot: &Slot<'_>) -> Result<(), Devic
     disk.write_at(at + 13, body)
 }
 
-/// A file with these two slots that ends at `end`, all of it on the device.
+/// A synced file that has these two slots and ends at `end`.
 pub fn disk_with(
     alloc: Global,
     a: &Slot<'_>,
@@ -107,7 +107,7 @@ pub fn disk_with(
     Ok(disk)
 }
 
-// What a read of the disk gives: so many bytes from a place on, fewer where the file ends.
+// Reads at most `n` bytes of the disk from an offset on; fewer if the file ends before.
 fn bytes_from<D: Disk>(alloc: Global, disk: &mut D, at: u64, n: usize) -> Result<Vec<u8>, Fail> {
     let left = disk.len()?.saturating_sub(at);
     let n = n.min(left as usize);
@@ -118,7 +118,7 @@ fn bytes_from<D: Disk>(alloc: Global, disk: &mut D, at: u64, n: usize) -> Result
     Ok(bytes)
 }
 
-// Changes the live slot to one with this body: which slot is live then, with which generation.
+// Makes the other slot live, with this body. Returns the slot that is live then, and its generation.
 fn turn<D: Disk>(
     alloc: Global,
     disk: &mut D,
@@ -134,7 +134,7 @@ fn turn<D: Disk>(
     Ok((slots.slot(), slots.generation()))
 }
 
-/// Which slot of a disk is live, with which generation, as both results tell it; none where it has another body.
+/// The live slot of a disk and its generation, if both results of opening agree on them and the slot has this body.
 pub fn live<D: Disk>(
     alloc: Global,
     disk: &mut D,
@@ -146,14 +146,14 @@ pub fn live<D: Disk>(
     Ok(if is_same { Some(told) } else { None })
 }
 
-// A disk whose calls may fail.
+// A disk with an injected fault.
 type Failing = FaultDisk<MemoryDisk>;
 
 fn failing(alloc: Global, k: u64, part: u32) -> Result<Failing, Fail> {
     Ok(FaultDisk::new(MemoryDisk::new(alloc, 1024, 4096)?, k, part))
 }
 
-// The first slots are written by three calls, and no sync: slot 0 is live with the generation 1.
+// The first slots are written by three calls, without a sync. Slot 0 is live then, with generation 1.
 fn expect_first(rt: &impl Abort, disk: &mut Failing) -> Result<(), Fail> {
     let slots = first(disk, A, B, OLD)?;
     let found = (slots.slot(), slots.generation(), disk.len());
@@ -161,7 +161,7 @@ fn expect_first(rt: &impl Abort, disk: &mut Failing) -> Result<(), Fail> {
     Ok(())
 }
 
-// Nothing of the first slots is on the device, and all of it is on the disk.
+// No byte of the first slots is synced, but reads return all of them.
 fn expect_first_bytes(rt: &impl Abort, alloc: Global, disk: &mut Failing) -> Result<(), Fail> {
     let synced = disk.inner().stop(alloc, Fill::Stable, false)?.len()?;
     same(rt, &(synced, disk.len()?), &(0, 81));
@@ -194,7 +194,7 @@ fn answers_a_device_that_fails_at_first(rt: HostRuntime) -> Result<(), Fail> {
     Ok(())
 }
 
-// The journal that begins behind the n-th change.
+// The journal that begins after the n-th change.
 fn journal_of(n: u32) -> Area
     ensures behind { 144 ≤ result.base }
     ensures some { 0 < result.length }
@@ -202,7 +202,7 @@ fn journal_of(n: u32) -> Area
     if n % 2 == 0 { JOURNAL_B } else { JOURNAL_A }
 }
 
-// A disk with the old body, after so many changes to a body.
+// A disk that had the old body at first, after this many changes, each to the given body.
 fn disk_after(alloc: Global, turns: u32, body: &[u8]) -> Result<MemoryDisk, Fail> {
     let mut disk = disk_with_old(alloc)?;
     for n in 0..turns {
@@ -211,8 +211,9 @@ fn disk_after(alloc: Global, turns: u32, body: &[u8]) -> Result<MemoryDisk, Fail
     Ok(disk)
 }
 
-// A disk that is changed to the new body after so many changes while the k-th call fails, none where `k` is 0, with the
-// first `part` bytes of its write put down; and which slot is then live with which generation, if no call failed.
+// Changes a disk, which had this many changes before, to the new body. The call (k, part) fails: the k-th device call,
+// none if k is 0, after the first `part` bytes of its write. Returns the disk; and the live slot and its generation, if
+// no call failed.
 fn changed(
     alloc: Global,
     disk: MemoryDisk,
@@ -230,7 +231,8 @@ fn changed(
     ))
 }
 
-// How many changes came before one, the first call that it doesn't make, and what is live then.
+// How many changes come before one, the first device call that it doesn't make, and the slot and generation that are
+// live after it.
 const CALLS: &[(u32, u64, (u8, u64))] = &[(0, 6, (1, 2)), (1, 8, (0, 3)), (2, 8, (1, 4))];
 
 #[test]
@@ -254,9 +256,9 @@ const STAGED_A: &[u8] = b"\0\x03\0\0\0\0\0\0\0\x18\0\0\0the new body of 24 bytes
 
 const OPENED_A: &[u8] = b"\xa5\x03\0\0\0\0\0\0\0\x18\0\0\0the new body of 24 bytes";
 
-// How many changes came before one of which the k-th call fails with the first `part` bytes of its write put down, and
-// bytes that then stand at a place. The first change writes the content and then its gate; the second one closes an
-// open slot first.
+// How many changes come before one; the call k of it that fails, and how many bytes of its write are still written; an
+// offset, and the bytes that the file then has there. The first change writes the content and then its gate; the second
+// one closes an open slot first.
 #[rattlefmt::skip]
 const WRITES: &[(u32, u64, u32, u64, &[u8])] = &[
     (0, 1, 0, 80, b"\0\0\0"), (0, 1, 1, 80, b"\0\x02\0"), (0, 1, 36, 80, STAGED_B), (0, 2, 0, 80, STAGED_B),
@@ -280,7 +282,7 @@ fn writes_the_content_and_then_its_gate(rt: HostRuntime) -> Result<(), Fail> {
     Ok(())
 }
 
-// What a stop may leave, by its fill.
+// What a stop may leave in place of bytes that weren't synced.
 const FILLS: &[Fill] = &[
     Fill::Stable,
     Fill::Written,
@@ -290,8 +292,8 @@ const FILLS: &[Fill] = &[
     Fill::Upto(20),
 ];
 
-// The old body is live, or the new one with the next generation; where the change was done, the new one. The next
-// change goes on from there.
+// Either the old body is live, or the new one with the next generation; if the change was done, the new one. The next
+// change starts from there.
 fn expect_either<D: Disk>(
     rt: &impl Abort,
     alloc: Global,
@@ -316,7 +318,7 @@ fn expect_either<D: Disk>(
     Ok(())
 }
 
-// The same after a stop, with the longest and the shortest image.
+// The same after a stop; `stop` is its fill, and whether it leaves the longest image or the shortest.
 fn expect_stop(
     rt: &impl Abort,
     alloc: Global,
@@ -329,7 +331,7 @@ fn expect_stop(
     expect_either(rt, alloc, &mut left, turns, done)
 }
 
-// What stops by each fill leave, and what is there without one.
+// The same after stops with each fill, and without a stop.
 fn expect_stops(
     rt: &impl Abort,
     alloc: Global,
@@ -344,8 +346,8 @@ fn expect_stops(
     expect_either(rt, alloc, disk, turns, done)
 }
 
-// What is left of a change whose k-th device call fails, none where `k` is 0: the old body or the new one is live.
-// Before it came so many changes.
+// A change of which the call (k, part) fails, as in `changed`, leaves the old body or the new one live. This many
+// changes come before it.
 fn expect_outcomes(
     rt: &impl Abort,
     alloc: Global,
@@ -361,7 +363,7 @@ fn expect_outcomes(
 
 const PARTS: &[u32] = &[0, 1, 12, 20, 36];
 
-// How many changes come before one, and how many calls are tried, of which the first is none.
+// How many changes come before one, and how many values of k are tried: 0, where no call fails, and each call.
 const TRIED: &[(u32, u64)] = &[(0, 6), (1, 8)];
 
 #[test]

@@ -1,4 +1,4 @@
-//! Disks in memory: what a stop leaves, room that runs out, and calls that fail on purpose.
+//! Disks in memory: what a stop leaves, lack of room, and injected faults.
 
 use crate::expect::same;
 use lv_disk::{
@@ -9,7 +9,7 @@ use std::alloc::Global;
 use std::process::Abort;
 use std::test::Fail;
 
-/// What a read of the whole disk gives.
+/// Reads the whole disk.
 pub fn contents<D: Disk>(alloc: Global, disk: &mut D) -> Result<Vec<u8>, Fail> {
     let n = disk.len()?;
     let mut bytes = vec![in alloc; 0; n as usize]?;
@@ -29,7 +29,7 @@ fn leaves_once(
     Ok(bytes.as_slice() == want)
 }
 
-// The same; and since that disk has no other image, each further stop leaves them too.
+// The same. And since everything on the disk that is left is synced, each further stop leaves these bytes too.
 fn leaves(
     alloc: Global,
     disk: &MemoryDisk,
@@ -42,10 +42,10 @@ fn leaves(
     Ok(again && leaves_once(alloc, disk, fill, is_longest, want)?)
 }
 
-// A fill, with the longest and the shortest image of a disk by it.
+// A fill, and the longest and the shortest image that a stop with it leaves.
 type Image = (Fill, &'static [u8], &'static [u8]);
 
-// Each fill leaves its two images.
+// A stop with each fill leaves its two images.
 fn expect_stops(rt: &impl Abort, alloc: Global, disk: &MemoryDisk, row: &Row) -> Result<(), Fail> {
     for &(fill, longest, shortest) in row.images {
         let is_longest = leaves(alloc, disk, fill, true, longest)?;
@@ -59,7 +59,7 @@ fn expect_stops(rt: &impl Abort, alloc: Global, disk: &MemoryDisk, row: &Row) ->
     Ok(())
 }
 
-// A call of a disk: a write, the same with a sync, and a sync.
+// A call of a disk: a write, a write followed by a sync, or a sync.
 #[derive(Clone, Copy, Debug, PartialEq)]
 enum Call {
     Write(u64, &'static [u8]),
@@ -67,7 +67,7 @@ enum Call {
     Sync,
 }
 
-// Makes a call, and tells whether it was done.
+// Makes a call, and returns whether it succeeded.
 fn make<D: Disk>(disk: &mut D, call: Call) -> bool {
     match call {
         Call::Write(at, bytes) => disk.write_at(at, bytes).is_ok(),
@@ -76,8 +76,8 @@ fn make<D: Disk>(disk: &mut D, call: Call) -> bool {
     }
 }
 
-// The room and the record of a disk, calls and whether each is done, what a read of the whole disk then gives, and
-// what stops leave.
+// A disk for a file of at most `room` bytes and a record of its calls of at most `log` bytes; calls, and whether each
+// succeeds; what the disk then reads as; and what stops leave.
 struct Row {
     about: &'static str,
     room: u32,
@@ -126,7 +126,7 @@ const ROWS: &[Row] = &[
             (Fill::Upto(3), &[1, 2, 0, 0, 5, 0], &[1, 2]),
         ],
     },
-    // The record has a place for two writes of one byte and a sync, and for no more.
+    // The record has room for two writes of one byte and one sync, and no more.
     Row {
         about: "a failed sync", room: 16, log: 50,
         calls: &[(Call::Through(0, &[1]), true), (Call::Write(1, &[2]), true), (Call::Sync, false)],
@@ -138,7 +138,7 @@ const ROWS: &[Row] = &[
             (Fill::Upto(1), &[1, 2], &[1]),
         ],
     },
-    // A disk with room for four bytes, which has them, and a record of which 20 bytes are taken.
+    // A full disk with room for four bytes, and a record with 20 bytes used.
     Row {
         about: "no room", room: 4, log: 67,
         calls: &[
@@ -148,7 +148,7 @@ const ROWS: &[Row] = &[
         read: &[1, 2, 3, 4],
         images: &[],
     },
-    // A sync takes 16 bytes of the record. No bytes change nothing, and take a place all the same.
+    // A sync takes 16 bytes of the record. A write of no bytes changes nothing, but takes room in the record.
     Row {
         about: "no record", room: 4, log: 67,
         calls: &[
@@ -163,7 +163,7 @@ const ROWS: &[Row] = &[
 // Fills a disk with room for four bytes.
 const FULL: Call = Call::Write(0, &[1, 2, 3, 4]);
 
-// Each call is done or not, as it should be, and the disk is then read.
+// Each call succeeds or fails as the row says, and the disk then reads as it says.
 fn expect_calls(
     rt: &impl Abort,
     alloc: Global,
@@ -193,7 +193,7 @@ fn makes_its_calls_and_stops(rt: HostRuntime) -> Result<(), Fail> {
     Ok(())
 }
 
-// What a stop leaves of a full disk after a sync.
+// The disk that a stop leaves of a full disk after a sync.
 fn left_of_full(alloc: Global) -> Result<MemoryDisk, Fail> {
     let mut disk = MemoryDisk::new(alloc, 4, 67)?;
     make(&mut disk, FULL);
@@ -201,7 +201,7 @@ fn left_of_full(alloc: Global) -> Result<MemoryDisk, Fail> {
     Ok(disk.stop(alloc, Fill::Stable, false)?)
 }
 
-// The record of what a stop leaves is empty, and as long.
+// A disk that a stop left has an empty record, with the same room.
 #[test]
 fn stops_with_an_empty_record(rt: HostRuntime) -> Result<(), Fail> {
     let mut left = left_of_full(rt.alloc())?;
@@ -221,7 +221,7 @@ const LEFT: Row = Row {
     images: &[],
 };
 
-// What a stop leaves of a disk, by a fill, as long or as short as it may be.
+// The bytes that a stop with this fill leaves of a disk: the longest or the shortest image.
 fn left_of(
     alloc: Global,
     disk: &MemoryDisk,
@@ -231,14 +231,14 @@ fn left_of(
     contents(alloc, &mut disk.stop(alloc, fill, is_longest)?)
 }
 
-// Two writes and a sync on a disk of which the `k`-th call fails: which of them failed.
+// Makes two writes and a sync, and returns which of them failed.
 fn three_calls<D: Disk>(disk: &mut FaultDisk<D>) -> [bool; 3] {
     let first = disk.write_at(0, &[1, 2, 3, 4]).is_err();
     let second = disk.write_at(4, &[5, 6, 7, 8]).is_err();
     [first, second, disk.sync().is_err()]
 }
 
-// The call that fails, how many bytes of it are done, and what is then written of eight bytes.
+// The call that fails, how many bytes of its write are still written, and which of the eight bytes are then written.
 const PARTS: &[(u64, u32, &[u8])] = &[
     (0, 0, &[1, 2, 3, 4, 5, 6, 7, 8]),
     (1, 0, &[0, 0, 0, 0, 5, 6, 7, 8]),
@@ -254,7 +254,8 @@ const PARTS: &[(u64, u32, &[u8])] = &[
     (4, 4, &[1, 2, 3, 4, 5, 6, 7, 8]),
 ];
 
-// What a stop leaves of such a disk is what was written; where its sync failed nothing is sure to be on it.
+// A stop that keeps all writes leaves what was written; one that keeps only what was synced leaves nothing if the sync
+// failed.
 fn expect_part(
     rt: &impl Abort,
     alloc: Global,
@@ -270,7 +271,7 @@ fn expect_part(
     Ok(())
 }
 
-// A disk of which the `k`-th call fails, with the first `part` bytes of its write put down.
+// A disk whose k-th call fails, after the first `part` bytes of its write.
 fn failing(alloc: Global, k: u64, part: u32) -> Result<FaultDisk<MemoryDisk>, Fail> {
     Ok(FaultDisk::new(MemoryDisk::new(alloc, 16, 400)?, k, part))
 }
@@ -290,14 +291,14 @@ fn fails_the_kth_call(rt: HostRuntime) -> Result<(), Fail> {
     Ok(())
 }
 
-// A disk with two bytes, of which the k-th call fails.
+// A disk with two bytes, whose k-th call fails.
 fn with_two_bytes(alloc: Global, k: u64) -> Result<FaultDisk<MemoryDisk>, Fail> {
     let mut inner = MemoryDisk::new(alloc, 16, 400)?;
     write_through(&mut inner, 0, &[1, 2])?;
     Ok(FaultDisk::new(inner, k, 0))
 }
 
-// Whether the length of a disk of two bytes fails, and whether a read of it does.
+// Whether asking for the length of a disk with two bytes fails, and whether a read of it does.
 fn failed_reads<D: Disk>(disk: &mut D) -> [bool; 2] {
     match disk.len() {
         Ok(2) => [false, disk.read(0, &mut [0; 2]).is_err()],
@@ -318,7 +319,7 @@ fn fails_a_read_and_a_length(rt: HostRuntime) -> Result<(), Fail> {
     Ok(())
 }
 
-// Which of five calls fail: a length, a read, a write, a sync, and a length again.
+// Makes five calls, a length, a read, a write, a sync and a length again, and returns which of them failed.
 fn five_calls<D: Disk>(disk: &mut D) -> [bool; 5] {
     let length = disk.len().is_err();
     let read = disk.read(0, &mut []).is_err();
@@ -327,7 +328,8 @@ fn five_calls<D: Disk>(disk: &mut D) -> [bool; 5] {
     [length, read, write, sync, disk.len().is_err()]
 }
 
-// The call that fails, the bytes that it puts down, the call of the disk inside that fails, and the calls that then do.
+// One disk with an injected fault inside another: the outer call that fails, and how many bytes it still writes; the
+// inner call that fails; and which of the five calls then fail.
 #[rattlefmt::skip]
 const INSIDE: &[(u64, u32, u64, [bool; 5])] = &[
     (0, 0, 1, [true, false, false, false, false]),
@@ -335,7 +337,7 @@ const INSIDE: &[(u64, u32, u64, [bool; 5])] = &[
     (0, 0, 3, [false, false, true, false, false]),
     (0, 0, 4, [false, false, false, true, false]),
     (0, 0, 5, [false, false, false, false, true]),
-    // Where a call fails none is made inside, but for the bytes that it puts down.
+    // A failed outer call makes no inner call, unless it still writes some bytes.
     (1, 0, 1, [true, true, false, false, false]),
     (2, 0, 2, [false, true, true, false, false]),
     (3, 0, 3, [false, false, true, true, false]),
@@ -344,7 +346,7 @@ const INSIDE: &[(u64, u32, u64, [bool; 5])] = &[
     (4, 1, 4, [false, false, false, true, true]),
 ];
 
-// Which of five calls fail on a disk that fails within one that does.
+// Which of five calls fail on a disk with an injected fault inside another one.
 fn failed_inside(alloc: Global, k: u64, part: u32, inside: u64) -> Result<[bool; 5], Fail> {
     let inner = failing(alloc, inside, 0)?;
     Ok(five_calls(&mut FaultDisk::new(inner, k, part)))

@@ -1,4 +1,4 @@
-//! Real files as disks, and files that are interrupted or fail.
+//! Real files as disks, and files whose calls are interrupted or fail.
 
 use crate::disk::contents;
 use crate::expect::{holds, same};
@@ -43,8 +43,8 @@ fn keeps_a_real_file(rt: HostRuntime) -> Result<(), Fail> {
     Ok(())
 }
 
-// A file of which every other call is interrupted, and the others read or write one byte. Its syncs are counted, and
-// the second of them fails.
+// A file whose every other call is interrupted, while the others read or write one byte. It counts its syncs, and the
+// second one fails.
 #[derive(Drop)]
 struct Flaky<'a> {
     file: File,

@@ -1,4 +1,4 @@
-//! A journal's bytes, what it is opened with, and calls that fail.
+//! A journal's bytes, the payloads that it is opened with, and calls that fail.
 ghost use Rattle.std.specs.Prelude.{◌≤◌, length};
 
 use crate::expect::same;
@@ -9,14 +9,14 @@ use std::alloc::Global;
 use std::process::Abort;
 use std::test::Fail;
 
-/// A disk of which the k-th call fails, none where `k` is 0, with the first `part` bytes of its write put down.
+/// A disk whose k-th call fails, none if `k` is 0, after the first `part` bytes of its write.
 pub type Failing = FaultDisk<MemoryDisk>;
 
 pub fn failing(alloc: Global, k: u64, part: u32) -> Result<Failing, Fail> {
     Ok(FaultDisk::new(MemoryDisk::new(alloc, 1024, 4096)?, k, part))
 }
 
-// A disk with these bytes from the area on.
+// A synced disk with these bytes from the start of the journal's area on.
 fn disk_with(alloc: Global, bytes: &[u8]) -> Result<MemoryDisk, Fail> {
     let mut disk = MemoryDisk::new(alloc, 1024, 4096)?;
     disk.write_at(143, &[7])?;
@@ -45,7 +45,7 @@ pub fn is_opened_with<D: Disk>(
     Ok(holds(&journal, payloads))
 }
 
-/// Opens the disk's journal and appends to it; how many records it was opened with.
+/// Opens the disk's journal, appends to it, and returns how many records it was opened with.
 pub fn append<D: Disk>(alloc: Global, disk: &mut D, payload: &[u8]) -> Result<usize, JournalError>
     requires { length payload.now ≤ 256 }
 {
@@ -54,7 +54,7 @@ pub fn append<D: Disk>(alloc: Global, disk: &mut D, payload: &[u8]) -> Result<us
     Ok(journal.count())
 }
 
-// What a read of the disk gives, from a place on.
+// Reads the disk from an offset to its end.
 fn bytes_from<D: Disk>(alloc: Global, disk: &mut D, at: u64) -> Result<Vec<u8>, Fail> {
     let n = disk.len()?.saturating_sub(at);
     let mut bytes = vec![in alloc; 0; n as usize]?;
@@ -64,7 +64,7 @@ fn bytes_from<D: Disk>(alloc: Global, disk: &mut D, at: u64) -> Result<Vec<u8>, 
     Ok(bytes)
 }
 
-// The disk has these bytes from a place on.
+// The disk has these bytes from an offset to its end.
 fn expect_bytes<D: Disk>(
     rt: &impl Abort,
     alloc: Global,
@@ -77,17 +77,17 @@ fn expect_bytes<D: Disk>(
     Ok(())
 }
 
-// The room of a journal, and where its first two records stand.
+// The room of a journal, and the offsets of its first two records.
 fn told(journal: &Journal) -> (Option<u32>, [Option<u64>; 2]) {
     (journal.room(), [journal.place(0), journal.place(1)])
 }
 
-// A line in a blank area.
+// The first record in a blank area.
 fn expect_first_line(rt: &impl Abort, disk: &mut MemoryDisk) -> Result<(), Fail> {
     let mut journal = blanked(disk)?;
     same(rt, &told(&journal), &(Some(506), [None, None]));
     journal.append(disk, b"vertex 0 0")?;
-    // The payloads of a journal are those that it was opened with.
+    // A journal keeps the payloads that it was opened with, and not those that are appended.
     same(
         rt,
         &(journal.room(), holds(&journal, &[])),
@@ -96,7 +96,7 @@ fn expect_first_line(rt: &impl Abort, disk: &mut MemoryDisk) -> Result<(), Fail>
     Ok(())
 }
 
-// The same, opened again.
+// The same journal, opened again.
 fn expect_line(rt: &impl Abort, alloc: Global, disk: &mut MemoryDisk) -> Result<(), Fail> {
     let again = opened(alloc, disk)?;
     same(rt, &holds(&again, &[b"vertex 0 0"]), &true);
@@ -144,20 +144,20 @@ fn opens_what_the_area_stands_for(rt: HostRuntime) -> Result<(), Fail> {
     Ok(())
 }
 
-// Bytes of the area, and the place of their damage.
+// Bytes of the area, and the offset where opening finds the damage.
 #[rattlefmt::skip]
 const DAMAGED: &[(&[u8], u64)] = &[
-    // No gate, an open one alone, and a record that is cut before its next gate.
+    // no gate, an open gate alone, and records that are cut off
     (b"", 144),
     (b"\xa5", 144),
     (b"\xa5\x0a\0\0", 144),
     (b"\xa5\0\0\0\0", 144),
     (b"\xa5\x0a\0\0\0vertex 0 0", 144),
-    // A length of 255 in a short file, and of 257.
+    // lengths of 255 in a short file, of 257, and of more
     (b"\xa5\xff\0\0\0vertex 0 0\0", 144),
     (b"\xa5\x01\x01\0\0vertex 0 0\0", 144),
     (b"\xa5\x0a\0\0\x80vertex 0 0\0", 144),
-    // A second record.
+    // a second record that is cut off
     (b"\xa5\x01\0\0\0a\xa5\x01\0\0\0b", 150),
 ];
 
@@ -186,7 +186,7 @@ fn fill(rt: &impl Abort, alloc: Global, disk: &mut MemoryDisk) -> Result<(), Jou
     Ok(())
 }
 
-// The journal of a full area takes nothing more.
+// The journal of a full area takes no further record.
 fn expect_full(rt: &impl Abort, alloc: Global, disk: &mut MemoryDisk) -> Result<(), JournalError> {
     let mut journal = opened(alloc, disk)?;
     let places = [journal.place(33), journal.place(34)];
@@ -212,13 +212,13 @@ fn fills_the_area(rt: HostRuntime) -> Result<(), Fail> {
     )
 }
 
-// How an append to the journal of a blank area ended. Its making takes two calls.
+// Blanks an area, which takes two device calls, and appends a record. Returns how the append ended.
 fn append_first<D: Disk>(disk: &mut D) -> Result<Result<(), JournalError>, JournalError> {
     let mut journal = blanked(disk)?;
     Ok(journal.append(disk, b"vertex 0 0"))
 }
 
-// The call of an append that fails, the bytes that it puts down, and what then stands in the area.
+// The call of an append that fails, how many bytes it still writes, and the bytes that the area then has.
 #[rattlefmt::skip]
 const WRITES: &[(u64, u32, &[u8])] = &[
     (1, 0, b"\0"),
@@ -230,7 +230,7 @@ const WRITES: &[(u64, u32, &[u8])] = &[
     (4, 0, b"\xa5\x0a\0\0\0vertex 0 0\0"),
 ];
 
-// A disk of which this call fails has these bytes after an append.
+// After an append in which this call fails, the area has these bytes.
 fn expect_write(
     rt: &impl Abort,
     alloc: Global,
@@ -265,7 +265,7 @@ fn makes_four_device_calls(rt: HostRuntime) -> Result<(), Fail> {
     Ok(())
 }
 
-// A disk with a record, of which the k-th call fails.
+// A disk with a journal of one record, whose k-th call fails.
 fn failing_with_record(alloc: Global, k: u64) -> Result<Failing, Fail> {
     let disk = disk_with(alloc, b"\xa5\x01\0\0\0a\0")?;
     Ok(FaultDisk::new(disk, k, 0))
@@ -273,8 +273,8 @@ fn failing_with_record(alloc: Global, k: u64) -> Result<Failing, Fail> {
 
 #[test]
 fn opens_by_its_reads_alone(rt: HostRuntime) -> Result<(), Fail> {
-    // The length, for the one record its gate with its length and its payload, and the last gate, behind the test's
-    // own sync.
+    // Five calls: the test's own sync, the length of the disk, the record's gate and length, its payload, the last
+    // gate.
     let mut disk = failing_with_record(rt.alloc(), 6)?;
     let is_a = is_opened_with(rt.alloc(), &mut disk, &[b"a"])?;
     assert_eq!(rt; (is_a, disk.len().is_err()), (true, true));
@@ -291,7 +291,7 @@ fn blanks_by_one_device_call(rt: HostRuntime) -> Result<(), Fail> {
 
 #[test]
 fn answers_a_device_that_fails(rt: HostRuntime) -> Result<(), Fail> {
-    // A sync, the length, and for each record its gate with its length and its payload; then the last gate.
+    // The test's own sync, the length of the disk, the record's gate and length, its payload, the last gate.
     for k in 1..6 {
         let mut disk = failing_with_record(rt.alloc(), k)?;
         let refused = refusal_of(rt.alloc(), &mut disk);
@@ -305,13 +305,13 @@ fn answers_a_device_that_fails(rt: HostRuntime) -> Result<(), Fail> {
     Ok(())
 }
 
-// What a stop leaves of such a journal is its closed gate, with the record behind it.
+// A stop leaves the closed gate of such a journal, with the old record after it.
 fn expect_closed(rt: &impl Abort, alloc: Global, disk: &MemoryDisk) -> Result<(), Fail> {
     let mut left = disk.stop(alloc, Fill::Stable, false)?;
     expect_bytes(rt, alloc, &mut left, 143, b"\x07\0\x01\0\0\0a\0")
 }
 
-// Makes the journal of an area with a record blank, and appends to it.
+// Blanks the journal of an area with a record, and appends to it.
 fn expect_refreshed(rt: &impl Abort, alloc: Global, disk: &mut MemoryDisk) -> Result<(), Fail> {
     let mut journal = refreshed(disk)?;
     same(rt, &journal.room(), &Some(506));

@@ -1,4 +1,4 @@
-//! What stops leave of a journal to which a record is appended while a call fails.
+//! What stops leave of a journal when a call of an append fails.
 ghost use Rattle.lv_journal.specs.State.{IsReadyIn};
 
 use crate::expect::same;
@@ -14,8 +14,7 @@ const ONE: &[&[u8]] = &[b"first"];
 
 const BOTH: &[&[u8]] = &[b"first", b"second"];
 
-// What a stop left of a journal with `first`, and with `second` where that was `done`: both, or `first` alone where the
-// second wasn't acknowledged. Whether it is both.
+// A stop left both records; or only `first`, if the append of `second` wasn't `done`. Returns whether it left both.
 fn is_both<D: Disk>(
     rt: &impl Abort,
     alloc: Global,
@@ -29,10 +28,11 @@ fn is_both<D: Disk>(
     Ok(both)
 }
 
-// The call that failed, how many of its bytes were put down, and what was left by which fill.
+// The call that failed, how many bytes of its write were still written, the stop's fill, and whether the stop left the
+// longest image.
 type Stop = (u64, u32, Fill, bool);
 
-// What a stop left is one or both records, and goes on from there.
+// A stop left one record or both, and a third one can be appended.
 fn expect_left<D: Disk>(
     rt: &impl Abort,
     alloc: Global,
@@ -52,7 +52,7 @@ const ALL: &[&[u8]] = &[b"first", b"second", b"third"];
 
 const FIRST_AND_THIRD: &[&[u8]] = &[b"first", b"third"];
 
-// What a stop may leave, by its fill.
+// What a stop may leave in place of bytes that weren't synced.
 const FILLS: &[Fill] = &[
     Fill::Stable,
     Fill::Written,
@@ -62,7 +62,7 @@ const FILLS: &[Fill] = &[
     Fill::Upto(7),
 ];
 
-// What a stop leaves by a fill, as long or as short as it may be, is one or both records.
+// One stop leaves one record or both.
 fn expect_stop(
     rt: &impl Abort,
     alloc: Global,
@@ -75,7 +75,7 @@ fn expect_stop(
     Ok(())
 }
 
-// The same by each fill.
+// The same for stops with each fill, and the longest and the shortest image.
 fn expect_stops(
     rt: &impl Abort,
     alloc: Global,
@@ -90,8 +90,8 @@ fn expect_stops(
     Ok(())
 }
 
-// A disk with a journal of one record, of which the k-th call behind its opening fails. Its making takes six calls, an
-// append four, and the opening five.
+// A disk with a journal of one record, whose k-th call after the opening fails, none if `k` is 0. The 11 calls before
+// that are two to blank the journal, four to append the first record, and five to open the journal.
 fn disk_with_first(alloc: Global, k: u64, part: u32) -> Result<Failing, Fail> {
     let call = if k == 0 { 0 } else { k.saturating_add(11) };
     let mut disk = failing(alloc, call, part)?;
@@ -104,8 +104,8 @@ fn begin<D: Disk>(disk: &mut D) -> Result<(), JournalError> {
     journal.append(disk, b"first")
 }
 
-// What a stop leaves of a journal with one record, `first`, to which `second` is appended where the k-th device call
-// fails, none where `k` is 0.
+// Appends `second` to the journal with the record `first` while the k-th device call fails, none if `k` is 0, and tests
+// what stops leave.
 fn expect_outcomes(
     rt: &impl Abort,
     alloc: Global,
@@ -120,7 +120,7 @@ fn expect_outcomes(
     Ok(())
 }
 
-// Appends `second`, and tells whether that was done.
+// Appends `second`, and returns whether that succeeded.
 fn expect_appended<D: Disk>(rt: &impl Abort, journal: &mut Journal, disk: &mut D, k: u64) -> bool
     requires { IsReadyIn journal.old (D.may_leave disk.old) }
 {
@@ -129,7 +129,7 @@ fn expect_appended<D: Disk>(rt: &impl Abort, journal: &mut Journal, disk: &mut D
         same(rt, &appended, &Ok(()));
         return true;
     }
-    // It is to be opened again, whatever it is asked, and asks nothing of the disk.
+    // The journal must now be reopened. It refuses each append, and makes no call of the disk.
     let third = journal.append(disk, b"third");
     let long = journal.append(disk, &[0; 256]);
     same(

@@ -1,4 +1,4 @@
-//! The tests of disks, journals, slots and project files: worked examples, and devices that fail.
+//! Tests of disks, journals, slots, project files and salvages: worked examples, and devices that fail.
 #![tactic(auto)]
 
 #[cfg(test)]

@@ -1,4 +1,4 @@
-//! A project: its file, and how another file is refused.
+//! A project: its file, and how files that are no project or are damaged are refused.
 
 use crate::expect::same;
 use crate::small::{FILLS, SMALL, created, empty_disk, found, opened, vertices};
@@ -18,7 +18,7 @@ pub fn disk_after(alloc: Global, lines: &[&[u8]]) -> Result<MemoryDisk, Fail> {
     Ok(project.into_disk())
 }
 
-/// What a read of the disk gives: so many bytes from a place on, fewer where the file ends.
+/// Reads at most `n` bytes of the disk from an offset on; fewer if the file ends before.
 pub fn bytes_from<D: Disk>(
     alloc: Global,
     disk: &mut D,
@@ -34,11 +34,12 @@ pub fn bytes_from<D: Disk>(
     Ok(bytes)
 }
 
-// What a new file has but zeros: the header, and slot A with its gate, the generation 1, the length 20 and the body.
+// What a new file begins with; the rest is zeros: the header, and slot A with its gate, generation 1, length 20 and the
+// body.
 const NEW_FILE: &[u8] = b"LVPJ\x01\0\0\0\x40\0\0\0\0\x02\0\0\
 \xa5\x01\0\0\0\0\0\0\0\x14\0\0\0\x02\0MAP01\0\0\0\0\0\0\0\0\0\0\0\0\0";
 
-// The disk of a new project, which is empty.
+// Creates a project, which is empty, and returns its disk.
 fn empty_project(
     rt: &impl Abort,
     alloc: Global,
@@ -59,7 +60,7 @@ fn makes_an_empty_project(rt: HostRuntime) -> Result<(), Fail> {
     Ok(())
 }
 
-// What a stop leaves of the disk of a new project by a fill: its length, its first bytes, and zeros.
+// A stop with this fill leaves a new file with its length and its first bytes, and else zeros.
 fn expect_new_file(
     rt: &impl Abort,
     alloc: Global,
@@ -84,7 +85,7 @@ fn writes_a_new_file(rt: HostRuntime) -> Result<(), Fail> {
     Ok(())
 }
 
-// How a new project is refused on a disk of which the k-th call fails, and how long the file is that stops leave.
+// How `create` is refused on a disk whose k-th call fails, and how long the file is that a stop then leaves.
 fn refused_at(alloc: Global, k: u64) -> Result<(Option<ProjectError>, u64), Fail> {
     let disk = FaultDisk::new(empty_disk(alloc)?, k, 0);
     match Project::create(alloc, disk, SMALL) {
@@ -105,7 +106,7 @@ fn syncs_a_new_file_once_and_last(rt: HostRuntime) -> Result<(), Fail> {
     Ok(())
 }
 
-// Lengths of a slot and of a journal, and of the file.
+// The length of a slot, the length of a journal, and that of the file.
 const LENGTHS: &[(u32, u32, u64)] = &[
     (33, 512, 595),
     (64, 512, 657),
@@ -130,7 +131,7 @@ fn has_a_file_of_its_lengths(rt: HostRuntime) -> Result<(), Fail> {
     Ok(())
 }
 
-// Lengths of a slot and of a journal, and why there is no project of them on a disk with four bytes.
+// The length of a slot, the length of a journal, and how `create` is refused with them on a disk that has four bytes.
 const REFUSED: &[(u32, u32, ProjectError)] = &[
     (32, 512, ProjectError::BadGeometry),
     (2_007_016, 512, ProjectError::BadGeometry),
@@ -139,7 +140,7 @@ const REFUSED: &[(u32, u32, ProjectError)] = &[
     (64, 512, ProjectError::NotEmpty),
 ];
 
-// How a new project is refused on a disk with four bytes, and how long its file then is.
+// How `create` is refused on a disk that has four bytes, and how long the file then is.
 fn refused_on(alloc: Global, geometry: Geometry) -> Result<(Option<ProjectError>, u64), Fail> {
     let mut disk = empty_disk(alloc)?;
     disk.write_at(0, b"LVPJ")?;
@@ -178,7 +179,8 @@ fn records_a_line_before_its_answer(rt: HostRuntime) -> Result<(), Fail> {
     Ok(())
 }
 
-// What is found where this byte stands all behind a closed gate.
+// Closes the first gate, writes this byte to the 15 bytes after it, and opens the project: how many vertices it has,
+// and its generation.
 fn found_behind(alloc: Global, byte: u8) -> Result<(u32, u64), Fail> {
     let mut disk = disk_after(alloc, &[b"vertex 0 0"])?;
     disk.write_at(145, &[byte; 15])?;
@@ -188,7 +190,7 @@ fn found_behind(alloc: Global, byte: u8) -> Result<(u32, u64), Fail> {
 
 const BYTES: &[u8] = &[0, 165, 10];
 
-// Behind a closed gate nothing counts.
+// The bytes after a closed gate don't matter.
 #[test]
 fn counts_nothing_behind_a_closed_gate(rt: HostRuntime) -> Result<(), Fail> {
     for &byte in BYTES {
@@ -198,7 +200,7 @@ fn counts_nothing_behind_a_closed_gate(rt: HostRuntime) -> Result<(), Fail> {
     Ok(())
 }
 
-// A copy of the first bytes of a disk's file, all of it on the device.
+// A synced copy of the file up to `end`.
 fn cut(alloc: Global, disk: &mut MemoryDisk, end: usize) -> Result<MemoryDisk, Fail> {
     let bytes = bytes_from(alloc, disk, 0, end)?;
     let mut copy = empty_disk(alloc)?;
@@ -207,7 +209,7 @@ fn cut(alloc: Global, disk: &mut MemoryDisk, end: usize) -> Result<MemoryDisk, F
     Ok(copy)
 }
 
-// Damage at the places of the slots and the journals.
+// Damage that is found at the offset of each slot and each journal.
 const AT_SLOT_A: ProjectError = ProjectError::Damaged { place: 16 };
 
 const AT_SLOT_B: ProjectError = ProjectError::Damaged { place: 80 };
@@ -216,19 +218,19 @@ const AT_JOURNAL_A: ProjectError = ProjectError::Damaged { place: 144 };
 
 const AT_JOURNAL_B: ProjectError = ProjectError::Damaged { place: 656 };
 
-// How the project of a disk is refused.
+// How opening the project of a disk is refused.
 fn refusal_of<D: Disk + Drop>(alloc: Global, disk: D) -> Option<ProjectError> {
     opened(alloc, disk).err()
 }
 
-// Where a file is cut, and how it is refused then.
+// Where a file is cut, and how opening it is refused.
 #[rattlefmt::skip]
 const ENDS: &[(usize, ProjectError)] = &[
     (15, ProjectError::NotAProject), (16, AT_SLOT_A), (40, AT_SLOT_A), (80, AT_SLOT_B), (144, AT_JOURNAL_A),
     (159, AT_JOURNAL_A), (656, AT_JOURNAL_B),
 ];
 
-// How a file that is cut is refused.
+// How opening a file that is cut is refused.
 fn refused_cut(alloc: Global, end: usize) -> Result<Option<ProjectError>, Fail> {
     let mut whole = disk_after(alloc, &[b"vertex 0 0"])?;
     let disk = cut(alloc, &mut whole, end)?;
@@ -244,7 +246,7 @@ fn tells_where_a_file_ends(rt: HostRuntime) -> Result<(), Fail> {
     Ok(())
 }
 
-// Places, bytes that are put there, and how the file is refused then.
+// Offsets, the bytes that are put there, and how opening the file is refused.
 #[rattlefmt::skip]
 const DAMAGES: &[(u64, &[u8], ProjectError)] = &[
     (4, b"\x02", ProjectError::NotAProject), (8, b"\x20", ProjectError::BadGeometry), (25, b"\x34", AT_SLOT_A),
@@ -253,7 +255,7 @@ const DAMAGES: &[(u64, &[u8], ProjectError)] = &[
     (158, b"!", AT_JOURNAL_A),
 ];
 
-// How a file with these bytes at a place is refused.
+// How opening a file with these bytes at an offset is refused.
 fn refused_with(alloc: Global, place: u64, bytes: &[u8]) -> Result<Option<ProjectError>, Fail> {
     let mut disk = disk_after(alloc, &[b"vertex 0 0"])?;
     disk.write_at(place, bytes)?;

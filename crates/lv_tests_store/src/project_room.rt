@@ -1,4 +1,4 @@
-//! Room in a slot and in a journal, and the last generation.
+//! A slot and a journal that are full, and the last generation.
 
 use crate::expect::same;
 use crate::project::{bytes_from, disk_after};
@@ -10,7 +10,7 @@ use std::alloc::Global;
 use std::process::Abort;
 use std::test::Fail;
 
-// Fills the journal, by 34 records; the generation stays.
+// Fills the journal with 34 records; the generation stays the same.
 fn fill_journal<D: Disk>(rt: &impl Abort, project: &mut Project<D>) {
     let generation = project.generation();
     for n in 0..34 {
@@ -19,7 +19,7 @@ fn fill_journal<D: Disk>(rt: &impl Abort, project: &mut Project<D>) {
     }
 }
 
-// The disk of a new project after a line for which its journal has no room.
+// The disk of a new project after a line for which a checkpoint had to make room in the journal.
 fn disk_with_room_made(rt: &impl Abort, alloc: Global) -> Result<MemoryDisk, Fail> {
     let mut project = created(alloc, empty_disk(alloc)?, SMALL)?;
     fill_journal(rt, &mut project);
@@ -38,12 +38,12 @@ fn makes_room_by_a_checkpoint(rt: HostRuntime) -> Result<(), Fail> {
     Ok(())
 }
 
-// A line, and the number or the refusal that it is answered with.
+// A line, and the number or the refusal that answers it.
 type Answer = (&'static [u8], Result<u32, ProjectError>);
 
 const FULL: Result<u32, ProjectError> = Err(ProjectError::Refused(CommandError::ProjectFull));
 
-// A body may have 51 bytes: one map has room for seven vertices, two maps for three, and there is none for three maps.
+// The body may have 51 bytes: room for seven vertices in one map, or for three in two maps; three maps don't fit.
 #[rattlefmt::skip]
 const ONE_MAP: &[Answer] = &[
     (b"vertex 0 0", Ok(0)), (b"vertex 1 0", Ok(1)), (b"vertex 2 0", Ok(2)), (b"vertex 3 0", Ok(3)),
@@ -56,10 +56,10 @@ const TWO_MAPS: &[Answer] = &[
     (b"vertex 0 0", Ok(0)), (b"vertex 1 0", Ok(1)), (b"vertex 2 0", Ok(2)), (b"vertex 3 0", FULL),
 ];
 
-// Lines, how many maps the project then has, which is current, and how many vertices that one has.
+// Lines, how many maps the project then has, which is current, and how many vertices the current map has.
 const PROJECTS: &[(&[Answer], [u32; 3])] = &[(ONE_MAP, [1, 0, 7]), (TWO_MAPS, [2, 1, 3])];
 
-// Applies lines, each with its answer, and then takes a checkpoint.
+// Applies lines, tests the answer to each, and takes a checkpoint.
 fn answer_all<D: Disk>(rt: &impl Abort, project: &mut Project<D>, lines: &[Answer]) {
     for (line, answer) in lines {
         assert_eq!(rt; project.apply(*line), *answer, "{line:?}");
@@ -74,7 +74,7 @@ fn disk_of_answered(rt: &impl Abort, alloc: Global, lines: &[Answer]) -> Result<
     Ok(project.into_disk())
 }
 
-// How many maps the project of a disk has, which is current, and how many vertices that one has.
+// How many maps the project of a disk has, which is current, and how many vertices the current map has.
 fn maps_of<D: Disk + Drop>(alloc: Global, disk: D) -> Result<[u32; 3], ProjectError> {
     let project = opened(alloc, disk)?;
     let maps = project.maps();
@@ -90,7 +90,7 @@ fn holds_what_fits_a_slot(rt: HostRuntime) -> Result<(), Fail> {
     Ok(())
 }
 
-// A body of version 1 is one map. The next checkpoint writes version 2, as long as before.
+// A body of version 1 has one map. The next checkpoint writes it as version 2, of the same length.
 #[test]
 fn opens_a_file_of_one_map(rt: HostRuntime) -> Result<(), Fail> {
     let mut disk = disk_after(rt.alloc(), &[b"vertex 0 0"])?;
@@ -116,7 +116,7 @@ fn disk_after_checkpoint(
     Ok(project.into_disk())
 }
 
-// A project whose generation is the last, on a disk of which the next call fails.
+// A project with the last generation, on a disk whose next call fails.
 fn spent(alloc: Global) -> Result<Project<FaultDisk<MemoryDisk>>, Fail> {
     for k in 1..50 {
         let mut disk = disk_after(alloc, &[])?;
@@ -128,7 +128,7 @@ fn spent(alloc: Global) -> Result<Project<FaultDisk<MemoryDisk>>, Fail> {
     Err(ProjectError::Device.into())
 }
 
-// The disk of a project whose generation is the last, after a checkpoint that was refused.
+// The disk of a project with the last generation, after a checkpoint that was refused.
 fn spent_disk(rt: &impl Abort, alloc: Global) -> Result<FaultDisk<MemoryDisk>, Fail> {
     let mut project = spent(alloc)?;
     let refused = project.checkpoint();
@@ -137,7 +137,7 @@ fn spent_disk(rt: &impl Abort, alloc: Global) -> Result<FaultDisk<MemoryDisk>, F
     Ok(project.into_disk())
 }
 
-// Fills the journal of such a disk's project; the line for which there is no room is refused.
+// Fills the journal of such a project; the line for which it has no room is refused.
 fn fill_spent<D: Disk + Drop>(rt: &impl Abort, alloc: Global, disk: D) -> Result<D, Fail> {
     let mut project = opened(alloc, disk)?;
     fill_journal(rt, &mut project);

@@ -1,4 +1,4 @@
-//! Calls that fail within a project's lines and checkpoints, and what is found when it is opened again.
+//! Calls that fail during the lines and checkpoints of a project, and what the project has when it is opened again.
 
 use crate::expect::same;
 use crate::project::bytes_from;
@@ -9,16 +9,16 @@ use std::alloc::Global;
 use std::process::Abort;
 use std::test::Fail;
 
-// A new project on a disk whose calls fail by `FaultDisk`, a project's first 8 calls being those of `create`.
+// A new project on a disk with an injected fault. The first 8 device calls are those of `create`.
 type Failing = Project<FaultDisk<MemoryDisk>>;
 
-// A new project, of which the k-th call fails, with the first `part` bytes of its write put down.
+// A new project whose k-th device call fails, after the first `part` bytes of its write.
 fn failing(alloc: Global, k: u64, part: u32) -> Result<Failing, Fail> {
     Ok(created(alloc, FaultDisk::new(empty_disk(alloc)?, k, part), SMALL)?)
 }
 
-// How the four calls of an append may fail, counted from the first call of `create`, and whether the record's gate is
-// open where all that was written stays.
+// The ways in which the four calls of an append can fail: the call, counted from the first one of `create`, and how
+// many bytes it still writes; and whether the record's gate is open if all that was written stays.
 const FAULTS: &[(u64, u32, bool)] = &[
     (9, 15, false),
     (10, 0, false),
@@ -27,7 +27,7 @@ const FAULTS: &[(u64, u32, bool)] = &[
     (12, 0, true),
 ];
 
-// The first line of a project finds a fault, and nothing is accepted from then on.
+// The first line of a project fails, and the project accepts nothing from then on.
 fn expect_closed<D: Disk>(rt: &impl Abort, project: &mut Project<D>) {
     let failed = project.apply(b"vertex 0 0");
     same(rt, &failed, &Err(ProjectError::Device));
@@ -46,7 +46,7 @@ fn wants_to_be_opened_again_after_a_fault(rt: HostRuntime) -> Result<(), Fail> {
     Ok(())
 }
 
-// Applies lines, and one more, in which a call fails.
+// Applies lines, and one more, during which a call fails.
 fn fail_in<D: Disk>(
     rt: &impl Abort,
     project: &mut Project<D>,
@@ -60,7 +60,7 @@ fn fail_in<D: Disk>(
     Ok(())
 }
 
-// The disk of a project in which one call fails in the last of these lines.
+// The disk of a project after these lines, during the last of which a call failed.
 fn failed(
     rt: &impl Abort,
     alloc: Global,
@@ -87,8 +87,8 @@ fn counts<D: Disk + Drop>(alloc: Global, disk: D) -> Result<[u32; 2], Fail> {
     Ok([vertices(&project), project.maps().len()])
 }
 
-// The lines before one of which a call fails, how many calls they make, that line, and how many vertices and how many
-// maps there are before it and after it.
+// The lines before one during which a call fails, how many device calls they make, that line, and how many vertices and
+// maps the project has before it and after it.
 type Line = (
     &'static [&'static [u8]],
     u64,
@@ -103,7 +103,8 @@ const LINES: &[Line] = &[
     (&[b"map MAP02"], 4, b"drop-map MAP01", [0, 2], [0, 1]),
 ];
 
-// Opens the disk of a fault again, after stops and without one.
+// Opens the project of a disk after a failed call, after stops and without one: it has the counts `new` if what was
+// written is kept, and else `old`.
 fn expect_counts(
     rt: &impl Abort,
     alloc: Global,
@@ -133,17 +134,17 @@ fn opens_again_after_a_fault(rt: HostRuntime) -> Result<(), Fail> {
     Ok(())
 }
 
-// A project of one vertex, of which the k-th call fails. The first 12 are those of `create` and of an append.
+// A project of one vertex, whose k-th device call fails. The first 12 calls are those of `create` and of one append.
 fn one_vertex(alloc: Global, k: u64, part: u32) -> Result<Failing, Fail> {
     let mut project = failing(alloc, k, part)?;
     project.apply(b"vertex 0 0")?;
     Ok(project)
 }
 
-// The first call that isn't made any more by checkpoints with these generations.
+// The first device call after those of checkpoints with these generations.
 const CALLS: &[(u64, &[u64])] = &[(18, &[2]), (25, &[2, 3])];
 
-// Takes checkpoints, which have these generations.
+// Takes checkpoints, and tests that they have these generations.
 fn take<D: Disk>(rt: &impl Abort, project: &mut Project<D>, generations: &[u64]) {
     for generation in generations {
         let found = (project.checkpoint(), project.generation());
@@ -184,8 +185,9 @@ const STAGED_A: &[u8] = b"\0\x03\0\0\0\0\0\0\0\x18\0\0\0\
 const OPEN_A: &[u8] = b"\xa5\x03\0\0\0\0\0\0\0\x18\0\0\0\
 \x02\0MAP01\0\0\0\0\0\0\0\0\0\x01\0\0\0\0\0\0\0";
 
-// How many checkpoints came before the one of which the k-th call fails with the first `part` bytes of its write put
-// down, and bytes that then stand at a place. The first one fills slot B and opens it; the second closes slot A first.
+// How many checkpoints come before one; the device call during it that fails, and how many bytes it still writes; an
+// offset, and the bytes that the file then has there. The first checkpoint fills slot B and opens it; the second one
+// closes slot A first.
 #[rattlefmt::skip]
 const WRITES: &[(u32, u64, u32, u64, &[u8])] = &[
     (0, 13, 0, 80, b"\0\0\0"), (0, 13, 36, 80, STAGED_B), (0, 14, 0, 80, STAGED_B), (0, 16, 0, 80, STAGED_B),
@@ -196,7 +198,7 @@ const WRITES: &[(u32, u64, u32, u64, &[u8])] = &[
     (1, 24, 0, 80, b"\xa5\x02"),
 ];
 
-// Takes so many checkpoints, and one more, in which a call fails.
+// Takes `before` checkpoints, and one more, during which a call fails.
 fn fail_to_take<D: Disk>(
     rt: &impl Abort,
     project: &mut Project<D>,
@@ -211,7 +213,7 @@ fn fail_to_take<D: Disk>(
     Ok(())
 }
 
-// The disk of a project of one vertex, of which a call of the last of several checkpoints fails.
+// The disk of a project of one vertex after `before` checkpoints and one more, during which a call failed.
 fn failed_checkpoint(
     rt: &impl Abort,
     alloc: Global,
@@ -234,8 +236,8 @@ fn fills_a_slot_and_then_opens_it(rt: HostRuntime) -> Result<(), Fail> {
     Ok(())
 }
 
-// After a stop with any fill the project has so many vertices, and one of these generations: the first where what
-// wasn't synced is as before or zero.
+// After a stop with any fill the project has this many vertices, and one of these generations: the first one if bytes
+// that weren't synced are as before or zero, else the second.
 fn expect_stops(
     rt: &impl Abort,
     alloc: Global,
@@ -259,7 +261,8 @@ fn expect_stops(
     Ok(())
 }
 
-// Where the k-th call fails with the first `part` bytes of its write put down, the generation that is found.
+// The device call of a checkpoint that fails, how many bytes it still writes, and the generation of the project when it
+// is opened again.
 const STOPS: &[(u64, u32, u64)] = &[
     (13, 0, 1),
     (13, 36, 1),
@@ -281,15 +284,15 @@ fn stops_within_a_checkpoint(rt: HostRuntime) -> Result<(), Fail> {
     Ok(())
 }
 
-// The disk of a project of one vertex after a checkpoint of which a sync failed.
+// The disk of a project of one vertex after a checkpoint whose sync failed.
 fn unsynced_disk(alloc: Global) -> Result<FaultDisk<MemoryDisk>, Fail> {
     let mut project = one_vertex(alloc, 15, 0)?;
     let _failed = project.checkpoint();
     Ok(project.into_disk())
 }
 
-// That disk, of which then the k-th call fails, after a second vertex and one more checkpoint. Opening makes 7 calls,
-// and the append 4.
+// That disk after a second vertex and one more checkpoint, during which the k-th call failed. The calls are counted
+// from the opening, which makes 7; the append makes 4.
 fn failed_again(
     rt: &impl Abort,
     alloc: Global,
@@ -307,7 +310,8 @@ fn failed_again(
     Ok(project.into_disk())
 }
 
-// The same calls, of a checkpoint after one that failed.
+// The device call that fails during a checkpoint after a failed one, and the generation of the project when it is
+// opened again.
 const AGAIN: &[(u64, u64)] = &[(12, 1), (13, 1), (14, 1), (15, 2), (16, 2)];
 
 #[test]

@@ -1,15 +1,15 @@
-//! Tests of a disk that is read ahead: what it reads, and how often the disk inside is called.
+//! A disk that reads ahead: what it reads, and how often it calls the inner disk.
 
 use crate::expect::same;
 use lv_disk::{Buffer, Disk, FaultDisk, MemoryDisk, ReadAhead};
 use std::alloc::Global;
 use std::test::Fail;
 
-// How long the file is: the buffer holds 65,536 bytes of it.
+// The length of the file in bytes. The buffer holds 65,536 of them.
 const LONG: usize = 70_000;
 
-// A file whose bytes count up to 250 and begin again, read ahead, of which the k-th call of the disk inside fails. Its
-// one write is the first of them.
+// A file whose bytes count from 0 to 250 again and again, on a disk that reads ahead; the k-th call of the inner disk
+// fails. The first call is the write of the file.
 fn counted(alloc: Global, k: u64) -> Result<ReadAhead<FaultDisk<MemoryDisk>>, Fail> {
     let mut bytes = Vec::new(alloc);
     for place in 0..LONG {
@@ -21,7 +21,7 @@ fn counted(alloc: Global, k: u64) -> Result<ReadAhead<FaultDisk<MemoryDisk>>, Fa
     Ok(ahead)
 }
 
-// The first byte of so many from a place on, and the last one; 255 for both where a call fails.
+// Reads `len` bytes from an offset on, and returns the first and the last one; 255 for both if a call fails.
 fn ends<D: Disk>(
     alloc: Global,
     disk: &mut ReadAhead<D>,
@@ -40,10 +40,10 @@ fn ends<D: Disk>(
     }
 }
 
-// Which call of the disk inside fails, and then the reads in turn, each of which asks for the length first: a place, a
-// length, and the first and the last byte. A place's byte is what is left of it by 251.
+// The call of the inner disk that fails; then reads in turn, each of which asks for the length first: an offset, a
+// length, and the first and the last byte. The byte at an offset is the offset modulo 251.
 const READS: &[(u64, &[(u64, usize, (u8, u8))])] = &[
-    // The length and one read fill the buffer for each range in it; the range across its end fills it anew.
+    // A length and one read fill the buffer, for every range within it. A range across its end fills it anew.
     (
         8,
         &[
@@ -63,7 +63,7 @@ const READS: &[(u64, &[(u64, usize, (u8, u8))])] = &[
             (0, 1, (255, 255)),
         ],
     ),
-    // More than the buffer holds is read by the disk inside.
+    // A range longer than the buffer is read from the inner disk directly.
     (0, &[(0, 70_000, (0, 221)), (1, 65_537, (1, 26))]),
     (5, &[(0, 70_000, (255, 255))]),
 ];

@@ -1,4 +1,4 @@
-//! Journals that are ready on their disk. No test stands here, so that a wrong body of them can be tried.
+//! Journals that are ready on their disk. This file has no tests, so that wrong bodies of its functions can be tried.
 ghost use Rattle.std.specs.Prelude.{IfOk};
 ghost use Rattle.lv_journal.specs.State.{IsReadyIn};
 
@@ -11,7 +11,7 @@ pub const AREA: Area = Area {
     length: 512,
 };
 
-// A journal, opened on a disk of which all is on the device.
+// Syncs a disk, and opens its journal.
 pub fn opened<D: Disk>(alloc: Global, disk: &mut D) -> Result<Journal, JournalError>
     ensures ready { IfOk result (λ journal. IsReadyIn journal (D.may_leave disk.new)) }
 {
@@ -19,7 +19,7 @@ pub fn opened<D: Disk>(alloc: Global, disk: &mut D) -> Result<Journal, JournalEr
     Journal::open(alloc, disk, AREA)
 }
 
-// The journal of a blank area, with the first gate on the device.
+// Blanks the area, syncs the first gate, and returns the area's journal.
 pub fn blanked<D: Disk>(disk: &mut D) -> Result<Journal, JournalError>
     ensures ready { IfOk result (λ journal. IsReadyIn journal (D.may_leave disk.new)) }
 {
@@ -28,7 +28,7 @@ pub fn blanked<D: Disk>(disk: &mut D) -> Result<Journal, JournalError>
     Ok(journal)
 }
 
-// The same by `fresh`, of an area whose first gate is closed on the device.
+// The same with `Journal::fresh`, after the first gate is closed and synced.
 pub fn refreshed<D: Disk>(disk: &mut D) -> Result<Journal, JournalError>
     ensures ready { IfOk result (λ journal. IsReadyIn journal (D.may_leave disk.new)) }
 {

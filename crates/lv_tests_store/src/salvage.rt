@@ -1,4 +1,4 @@
-//! What is salvaged of damaged projects.
+//! What `salvage` reads from damaged projects.
 
 use crate::expect::same;
 use crate::project::{bytes_from, disk_after};
@@ -12,24 +12,25 @@ use std::test::Fail;
 // Three records of 15 bytes at 144, 159 and 174, and a closed gate at 189.
 const LINES: &[&[u8]] = &[b"vertex 0 0", b"vertex 1 0", b"vertex 2 0"];
 
-// What is salvaged of a file: the vertices, the records that are kept, where it is damaged, the records behind.
+// What is salvaged from a file: how many vertices, how many records are kept, where it is damaged, and how many records
+// come after the damage.
 fn salvaged(alloc: Global, file: &[u8]) -> Result<(u32, u32, Option<u64>, u32), SalvageError> {
     let found = salvage(alloc, file)?;
     let vertices = found.maps.current().count(Kind::Vertex);
     Ok((vertices, found.records, found.damage, found.behind))
 }
 
-// A file that ends there, with these bytes at a place.
+// A file that ends at `end`, with these bytes at `place`.
 fn damaged(alloc: Global, end: usize, place: u64, bytes: &[u8]) -> Result<Vec<u8>, Fail> {
     let mut disk = disk_after(alloc, LINES)?;
     disk.write_at(place, bytes)?;
     bytes_from(alloc, &mut disk, 0, end)
 }
 
-// Where the file ends, a place, the bytes that are put there, and what is salvaged.
+// Where the file ends; an offset, and the bytes that are put there; and what is salvaged.
 #[rattlefmt::skip]
 const ROWS: &[(usize, u64, &[u8], (u32, u32, Option<u64>, u32))] = &[
-    // the sound file, the same behind a closed gate, and with an older slot
+    // the sound file, the same with other bytes after the closed gate, and with an older slot
     (657, 0, b"L", (3, 3, None, 0)), (657, 190, b"\xa5\xa5", (3, 3, None, 0)),
     (657, 80, b"\xa5", (3, 3, None, 0)),
     // a closed gate ends the list
@@ -40,9 +41,9 @@ const ROWS: &[(usize, u64, &[u8], (u32, u32, Option<u64>, u32))] = &[
     // a length that makes the rest one record, one above 256, and one that goes beyond the area
     (657, 160, b"\xff", (1, 1, Some(159), 1)), (657, 160, b"\x01\x01", (1, 1, Some(159), 0)),
     (657, 177, b"\x01", (2, 2, Some(174), 0)),
-    // a line that isn't accepted before a bad record: the gate is told
+    // a line that isn't accepted before a bad record: the damage is that of the bad record
     (657, 149, b"!ertex 0 0\xa5\x0a\0\0\0vertex 1 0\xa5\x01\x01", (0, 0, Some(174), 2)),
-    // a file that ends before the other journal, within the list, and before it
+    // a file that ends before the other journal, within the records, and before them
     (656, 0, b"L", (3, 3, Some(656), 0)), (189, 0, b"L", (2, 2, Some(174), 0)),
     (162, 0, b"L", (1, 1, Some(159), 0)),
     (144, 0, b"L", (0, 0, Some(144), 0)),
@@ -58,7 +59,7 @@ fn keeps_what_stands_before_the_damage(rt: HostRuntime) -> Result<(), Fail> {
     Ok(())
 }
 
-// Where the file ends, a place, the bytes that are put there, and why nothing is salvaged.
+// Where the file ends; an offset, and the bytes that are put there; and why nothing is salvaged.
 #[rattlefmt::skip]
 const REFUSED: &[(usize, u64, &[u8], SalvageError)] = &[
     (15, 0, b"L", SalvageError::NotAProject), (657, 4, b"\x02", SalvageError::NotAProject),
@@ -87,7 +88,7 @@ fn turned_disk(alloc: Global) -> Result<MemoryDisk, Fail> {
     Ok(project.into_disk())
 }
 
-// A place, a byte that is put there, and what is salvaged: the first slot and its journal count for nothing.
+// An offset, the byte that is put there, and what is salvaged. The first slot and its journal don't matter.
 const TURNED: &[(u64, &[u8], (u32, u32, Option<u64>, u32))] = &[
     (31, b"\x6d", (2, 1, None, 0)),
     (149, b"!", (2, 1, None, 0)),

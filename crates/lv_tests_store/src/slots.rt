@@ -1,4 +1,4 @@
-//! Two slots as they are opened: the live one, damage at its place, and generations that are spent.
+//! Opening two slots: which one is live, where damage is found, and generations that are used up.
 
 use crate::checkpoint::{NEW, OLD, Slot, disk_with, disk_with_old, live, opened};
 use crate::expect::same;
@@ -11,7 +11,7 @@ const CLOSED: Slot<'static> = (0, 0, 0, b"");
 
 const LONGEST: &[u8] = &[b'x'; 51];
 
-// Two slots, where their file ends, and the slot, the generation and the body that are live.
+// Two slots, where the file ends, and the slot, the generation and the body that are live.
 type Opened = (
     Slot<'static>,
     Slot<'static>,
@@ -42,7 +42,7 @@ fn opens_the_greater_generation(rt: HostRuntime) -> Result<(), Fail> {
     Ok(())
 }
 
-// How the slots of a disk are refused.
+// How opening the slots of a disk is refused.
 fn refusal_of<D: Disk>(alloc: Global, disk: &mut D) -> Option<CheckpointError> {
     opened(alloc, disk).err()
 }
@@ -53,25 +53,25 @@ const AT_A: CheckpointError = CheckpointError::Damaged { place: 16 };
 
 const AT_B: CheckpointError = CheckpointError::Damaged { place: 80 };
 
-// Two slots, where their file ends, and how it is refused.
+// Two slots, where the file ends, and how opening them is refused.
 #[rattlefmt::skip]
 const REFUSED: &[(Slot<'static>, Slot<'static>, usize, CheckpointError)] = &[
-    // Cut before slot A, behind its gate, within its head and within its body.
+    // the file is cut before slot A, after its gate, within its head, and within its body
     (WHOLE, CLOSED, 16, AT_A),
     (WHOLE, CLOSED, 17, AT_A),
     (WHOLE, CLOSED, 28, AT_A),
     (WHOLE, CLOSED, 40, AT_A),
-    // Cut before slot B, and within it.
+    // the file is cut before slot B, and within it
     (WHOLE, CLOSED, 53, AT_B),
     (WHOLE, CLOSED, 80, AT_B),
     (WHOLE, (165, 2, 24, NEW), 92, AT_B),
     (WHOLE, (165, 0, 24, NEW), 116, AT_B),
-    // A length of 52, where 51 bytes fit, of either slot, the older one too.
+    // a length of 52 in either slot, even in the older one, though only 51 bytes fit
     ((165, 1, 52, OLD), CLOSED, 200, AT_A),
     ((165, 1, 51, OLD), (165, 0, 52, NEW), 200, AT_B),
     ((165, 1, 52, OLD), (165, 0, 52, NEW), 200, AT_A),
     ((165, 1, u32::MAX, OLD), CLOSED, 200, AT_A),
-    // One generation, and none open.
+    // two open slots with the same generation, and none open
     ((165, 4, 24, OLD), (165, 4, 20, NEW), 200, AT_B),
     ((165, 4, 52, OLD), (165, 4, 20, NEW), 200, AT_A),
     ((0, 4, 24, OLD), (7, 5, 24, NEW), 200, CheckpointError::Blank),
@@ -88,7 +88,7 @@ fn finds_damage_at_its_slot(rt: HostRuntime) -> Result<(), Fail> {
     Ok(())
 }
 
-// How an image of a body of so many bytes is refused, on a disk.
+// How `image` is refused for a body of this many bytes.
 fn refusal_of_image<D: Disk>(
     alloc: Global,
     disk: &mut D,
@@ -99,7 +99,7 @@ fn refusal_of_image<D: Disk>(
     Ok(slots.image(alloc, &body).err())
 }
 
-// Lengths of a body, and how it is refused where the generation is the last.
+// The length of a body, and how it is refused if the generation is the last one.
 const SPENT: &[(usize, CheckpointError)] = &[
     (0, CheckpointError::GenerationsSpent),
     (51, CheckpointError::GenerationsSpent),
@@ -128,7 +128,7 @@ fn fills_its_slot(rt: HostRuntime) -> Result<(), Fail> {
     Ok(())
 }
 
-// A disk with two open slots, of which the k-th call fails.
+// A disk with two open slots, whose k-th call fails.
 fn failing(alloc: Global, k: u64) -> Result<FaultDisk<MemoryDisk>, Fail> {
     let disk = disk_with(alloc, &WHOLE, &(165, 2, 24, NEW), 200)?;
     Ok(FaultDisk::new(disk, k, 0))
@@ -136,7 +136,7 @@ fn failing(alloc: Global, k: u64) -> Result<FaultDisk<MemoryDisk>, Fail> {
 
 #[test]
 fn answers_a_device_that_fails(rt: HostRuntime) -> Result<(), Fail> {
-    // A sync and the length; of each slot its gate, its generation and its length; then the live body.
+    // The test's own sync, the length of the disk; the gate, the generation and the length of each slot; the live body.
     for k in 1..10 {
         let mut disk = failing(rt.alloc(), k)?;
         let refused = refusal_of(rt.alloc(), &mut disk);

@@ -5,13 +5,13 @@ use lv_maptables::Kind;
 use lv_project::{Geometry, Project, ProjectError};
 use std::alloc::Global;
 
-/// Slots at 16 and 80, journals at 144 and 656, and a new file of 657 bytes.
+/// A geometry with slots at 16 and 80 and journals at 144 and 656. A new file has 657 bytes.
 pub const SMALL: Geometry = Geometry {
     slot: 64,
     journal: 512,
 };
 
-/// What a stop may leave, by its fill.
+/// What a stop may leave in place of bytes that weren't synced.
 pub const FILLS: &[Fill] = &[
     Fill::Stable,
     Fill::Written,
@@ -51,7 +51,7 @@ pub fn vertices<D: Disk>(project: &Project<D>) -> u32 {
     project.map().count(Kind::Vertex)
 }
 
-/// The vertices of the current map of a disk's project, and its generation.
+/// How many vertices the current map of a disk's project has, and the project's generation.
 pub fn found<D: Disk + Drop>(alloc: Global, disk: D) -> Result<(u32, u64), ProjectError> {
     let project = opened(alloc, disk)?;
     Ok((vertices(&project), project.generation()))
