@@ -20,7 +20,7 @@ looked_more m first n l d old new within read so_far looks = λ i among.
 pub longest_from : (m : Tables) (first other : ℕ) (ls : List Line) (longest : List (Option Line)) → first ≡ other → AreLongest m first ls longest → AreLongest m other ls longest
 longest_from m first other ls longest same h = λ i among. h i among ∙ ap (λ (k : ℕ). fold (longer m (k + i)) None ls) same
 
--- a number and the next one have the same greatest multiple of 256 below them, unless the next one is a multiple
+-- a number and the next one have the same greatest multiple of 256 at or below them, unless the next one is a multiple
 pub next_group : (n : ℕ) → 0 < (n + 1) % 256 → n - n % 256 ≡ (n + 1) - (n + 1) % 256
 next_group n h = omega arith
 
