@@ -1,4 +1,4 @@
--- Filing in some blocks and then in others is filing in both.
+-- Appending a line to the lists of some blocks and then of others appends it to the lists of both.
 use Rattle.std.proofs.Common.{◌≡◌, ◌≢◌, refl, sym, ap, ◌∙◌, subst, ℕ, zero, suc, ◌+◌, ◌*◌, ◌<◌, ◌≤◌, ◌⊎◌, inl, inr, List, [], ◌∷◌, ◌++◌, length, get_or, arith}
 use Rattle.std.specs.Prelude.{◌↔◌, ◌/◌, ◌%◌}
 use Rattle.std.proofs.Math.ListN.{set}
@@ -18,7 +18,7 @@ lt_or_le m zero = inr (omega arith)
 lt_or_le zero (suc n) = inl (omega arith)
 lt_or_le (suc m) (suc n) = elim (lt_or_le m n) [ inl e ↦ inl (omega arith) | inr e ↦ inr (omega arith) ]
 
--- one list got the line
+-- the line was appended to one list
 pub files_one : (b line : ℕ) (old : List (List ℕ)) → b < length old → Files (λ n. n ≡ b) line old (set old b (get_or old b [] ++ line ∷ []))
 files_one b line old h =
     record {
@@ -30,7 +30,7 @@ files_one b line old h =
     by n (inl e) = inl (e, rw e (get_or-set_same old b (get_or old b [] ++ line ∷ []) [] h))
     by n (inr e) = inr (e, get_or-set_other old b n (get_or old b [] ++ line ∷ []) [] e)
 
--- none got it
+-- the line was appended to no list
 pub files_none : (T : ℕ → Type 0) (line : ℕ) (lists : List (List ℕ)) → ((n : ℕ) → n < length lists → T n → ⊥) → Files T line lists lists
 files_none T line lists none = record { count = refl; each = λ n below. inr (none n below, refl) }
 
@@ -49,7 +49,7 @@ files_both P R Q line old mid new apart either p r =
       each = λ n h. both_filed (P n) (R n) (Q n) line (get_or old n []) (get_or mid n []) (get_or new n []) (apart n) (either n h) (p.each n h) (r.each n (subst (λ (k : ℕ). n < k) (sym p.count) h));
     }
 
--- the same blocks told in other words
+-- the same blocks, described in another way
 pub files_as : (P Q : ℕ → Type 0) (line : ℕ) (old new : List (List ℕ)) → ((n : ℕ) → n < length old → Q n ↔ P n) → Files P line old new → Files Q line old new
 files_as P Q line old new same p =
     record { count = p.count; each = λ n h. as_filed (P n) (Q n) line (get_or old n []) (get_or new n []) (same n h) (p.each n h) }
@@ -73,7 +73,7 @@ from_more columns column low row n h l (inr e) =
     let d = div-mul-add row columns column h in
     rw e (m, rw d l, rw d (omega arith))
 
--- one row more of a column
+-- one more row of a column
 pub column_more : (columns column low row n : ℕ) → column < columns → low ≤ row → InColumn columns column low (row + 1) n ↔ (InColumn columns column low row n ⊎ (n ≡ row * columns + column))
 column_more columns column low row n h l =
     (λ i. to_more columns column low row n i (lt_or_le (n / columns) row), λ c. from_more columns column low row n h l c)
@@ -82,7 +82,7 @@ column_more columns column low row n h l =
 pub column_none : (columns column low n : ℕ) → InColumn columns column low low n → ⊥
 column_none columns column low n i = let l = i.1 in let u = i.2 in omega arith
 
--- a block that is filed is not the next one
+-- a block whose list has the line already isn't the next one
 pub column_apart : (columns column low row n : ℕ) → column < columns → InColumn columns column low row n → n ≡ row * columns + column → ⊥
 column_apart columns column low row n h i e =
     let d = div-mul-add row columns column h in

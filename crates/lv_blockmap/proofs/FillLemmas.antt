@@ -18,11 +18,11 @@ use Rattle.lv_blockmap.proofs.FilingLemmas.{files_both, files_as, files_none, lt
 some_same : {X : Type 0} (x y : X) → Some x ≡ Some y → x ≡ y
 some_same x y e = cc
 
--- the line touches the block, which stands in a column before this one
+-- the line touches the block, which is in a column before this one
 abbrev pub Before : LineEnds → Grid → ℕ → ℕ → Type 0
 Before line g column n = (n % g.columns < column) × TouchesBlock line g n
 
--- a block's touch is that of its row in its column
+-- a line touches a block if it touches the block's row in its column
 in_row : (line : LineEnds) (g : Grid) (column n : ℕ) → n % g.columns ≡ column → TouchesBlock line g n → TouchesRow line.start line.end (g.left +ℤ pos (128 * column)) g.bottom (n / g.columns)
 in_row line g column n e t = subst (λ (k : ℕ). Touches line.start line.end (g.left +ℤ pos (128 * k)) (block_bottom g n)) e t
 
@@ -59,7 +59,7 @@ column_files line g column low high k old mid new rows range p r =
     either : (n : ℕ) → n < length old → Before line g (column + 1) n ↔ (Before line g column n ⊎ InColumn g.columns column low (high + 1) n)
     either n h = (λ b. split n h b (lt_or_le (n % g.columns) column), join n h)
 
--- the next column, where the line touches no row
+-- the next column, if the line touches no row there
 pub column_skipped :
     (line : LineEnds) (g : Grid) (column k : ℕ) (old new : List (List ℕ)) → ((n : ℕ) → n < length old → n / g.columns < g.rows)
     → NoRowBelow line.start line.end (g.left +ℤ pos (128 * column)) g.bottom g.rows → Files (Before line g column) k old new → Files (Before line g (column + 1)) k old new
@@ -76,7 +76,7 @@ div_among columns rows n h lt = (div-lt_iff_lt-mul {k = columns} {x = n} {y = ro
 mod_among : (columns n : ℕ) → 0 < columns → n % columns < columns
 mod_among columns n h = mod-lt n {m = columns} h
 
--- a block of the grid stands in one of its rows
+-- a block of the grid is in one of its rows
 pub row_among : (g : Grid) (count n : ℕ) → 0 < g.columns → count ≡ g.columns * g.rows → n < count → n / g.columns < g.rows
 row_among g count n h e lt =
     let swapped : g.columns * g.rows ≡ g.rows * g.columns = omega arith in
@@ -100,7 +100,7 @@ all_columns line g column end k old new some all none p =
     inside n t (inr x) =
         absurd (none (n % g.columns) (omega (arith, x, all)) (mod_among g.columns n some) (touches-column line.start line.end (block_left g n) (block_bottom g n) t))
 
--- ---- the lists once the first k lines are filed
+-- ---- the lists after the first k lines
 pub record IsFiled (lines : List LineEnds) (g : Grid) (n k : ℕ) (list : List ℕ) : Type 0 where
   pub rising : AllPairs (λ i j. i < j) list
   pub below : All (λ j. j < k) list
@@ -126,7 +126,7 @@ are_filed-none lines g =
       each = λ n h. subst (λ (xs : List ℕ). IsFiled lines g n 0 xs) (sym (get_or-replicate (block_count g) n [] [] (omega (arith, l)))) (none_filed lines g n);
     }
 
--- one line more
+-- one more line
 filed_more :
     (lines : List LineEnds) (g : Grid) (n k : ℕ) (line : LineEnds) (old new : List ℕ) → slice_get lines k ≡ Some line → IsFiled lines g n k old → Filed (TouchesBlock line g n) k old new
     → IsFiled lines g n (k + 1) new

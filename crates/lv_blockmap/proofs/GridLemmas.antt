@@ -11,7 +11,7 @@ use Rattle.lv_blockmap.specs.declared.line_ends.LineEnds.{LineEnds}
 use Rattle.lv_blockmap.specs.declared.grid.Grid.{Grid}
 use Rattle.lv_blockmap.specs.Blocks.{both_ends, lowest, highest, blocks_over, grid_of}
 
--- the lesser and the greater of two coordinates went to bits and came back
+-- the lesser and the greater of two coordinates, converted to bits and back
 pub lesser_back : (a b m : ℤ) → FitsSigned w16 a → FitsSigned w16 b → m ≡ int_min (to_z w16 (of_z w16 a)) (to_z w16 (of_z w16 b)) → to_z w16 (of_z w16 m) ≡ int_min a b
 lesser_back a b m f g e =
     let s = rw (to_z-of_z w16 a f, to_z-of_z w16 b g) at e in
@@ -39,7 +39,7 @@ folded_more f of first lines n line h is =
     ∙ ap (fold f first) (map-append of (both_ends (take n lines)) (line.start ∷ line.end ∷ []))
     ∙ fold-append f first (map of (both_ends (take n lines))) (of line.start ∷ of line.end ∷ [])
 
--- the first end counts once and again
+-- it changes nothing that the first end counts twice
 pub least_again :
     (lines : List LineEnds) (line : LineEnds) (of : Vertex → ℤ) → 0 < length lines → get_or lines 0 line ≡ line
     → fold int_min (of line.start) (map of (both_ends lines)) ≡ lowest (map of (both_ends lines))

@@ -30,7 +30,7 @@ pub length-starts : (at : ℕ) (lists : List (List ℕ)) → length (starts at l
 length-starts at [] = refl
 length-starts at (list ∷ lists) = ap suc (length-starts (at + length (list_words list)) lists)
 
--- each list stands where it starts
+-- each list is at its start
 pub starts_stand :
     (front : List ℕ) (at : ℕ) (lists : List (List ℕ)) → length front ≡ at → (n : ℕ) → n < length lists
     → HasWordsAt (front ++ flat_map list_words lists) (get_or (starts at lists) n 0) (list_words (get_or lists n []))
@@ -71,7 +71,7 @@ lists_blocks lines lists a = record { grid = refl; each = each }
           stands = subst (λ (k : ℕ). HasWordsAt (blockmap_words (grid_of lines) lists) k (list_words (get_or lists n []))) (sym at_offset) same_list;
         }
 
--- ---- the answers
+-- ---- the outcomes
 pub blockmap_found :
     (lines : List LineEnds) (g : Grid) (lists : List (List ℕ)) (bytes : List ℕ) → lines ≢ [] → g ≡ grid_of lines → AreBlockLists lines g lists → length (blockmap_words g lists) ≤ 65536
     → All (λ (w : ℕ). w < 65536) (blockmap_words g lists) → bytes ≡ word_bytes (blockmap_words g lists) → OffsetsFit lists → IsBlockmapOver lines bytes

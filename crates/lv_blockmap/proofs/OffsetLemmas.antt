@@ -1,4 +1,4 @@
--- Where lists that stand one behind another begin, one list after the other.
+-- Where lists that follow one another begin, list by list.
 use Rattle.std.proofs.Common.{◌≡◌, refl, sym, ap, ◌∙◌, subst, ℕ, zero, suc, ◌+◌, ◌<◌, ◌≤◌, List, [], ◌∷◌, ◌++◌, length, take, get_or, arith, append_assoc, length-append}
 use Rattle.std.specs.Prelude.{flat_map, All}
 use Rattle.std.proofs.lemmas.List.{take_more, take_all, append-nil}
@@ -14,7 +14,7 @@ words_before lists zero = 0
 words_before [] (suc k) = 0
 words_before (list ∷ lists) (suc k) = length (list_words list) + words_before lists k
 
--- a list begins behind the words of those before it
+-- a list begins after the words of those before it
 pub start_at : (at : ℕ) (lists : List (List ℕ)) (k : ℕ) → k < length lists → get_or (starts at lists) k 0 ≡ at + words_before lists k
 start_at at [] k h = absurd (omega arith)
 start_at at (list ∷ lists) zero h = omega arith
@@ -22,7 +22,7 @@ start_at at (list ∷ lists) (suc k) h =
     let r = start_at (at + length (list_words list)) lists k (omega arith) in
     omega (arith, r)
 
--- one list more
+-- one more list
 pub words_more : (lists : List (List ℕ)) (k : ℕ) → k < length lists → words_before lists (k + 1) ≡ words_before lists k + length (list_words (get_or lists k []))
 words_more [] k h = absurd (omega arith)
 words_more (list ∷ lists) zero h = omega arith
@@ -31,7 +31,7 @@ words_more (list ∷ lists) (suc k) h =
     let e : suc k + 1 ≡ suc (k + 1) = omega arith in
     ap (words_before (list ∷ lists)) e ∙ omega (arith, r)
 
--- one word more is written
+-- one more word is written
 pub word_more :
     (front bytes old : List ℕ) (words : List ℕ) (k : ℕ) (word : ℕ) → k < length words → get_or words k 0 ≡ word → bytes ≡ front ++ word_bytes (take k words)
     → bytes ++ unsigned word ≡ front ++ word_bytes (take (k + 1) words)
@@ -42,7 +42,7 @@ word_more front bytes old words k word h is e =
     ∙ sym (flat_map-append unsigned (take k words) (word ∷ []))
     ∙ ap word_bytes (ap (λ (w : ℕ). take k words ++ w ∷ []) (sym is) ∙ sym (take_more words k 0 h)))
 
--- one list more is written
+-- one more list is written
 pub list_more :
     (front bytes : List ℕ) (lists : List (List ℕ)) (k : ℕ) (list : List ℕ) → k < length lists → get_or lists k [] ≡ list → bytes ≡ front ++ word_bytes (flat_map list_words (take k lists))
     → bytes ++ word_bytes (list_words list) ≡ front ++ word_bytes (flat_map list_words (take (k + 1) lists))

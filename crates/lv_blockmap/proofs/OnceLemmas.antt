@@ -1,4 +1,4 @@
--- Each list stands once among the written ones, and each written one is some block's.
+-- Each list is among the written ones once, and each written one is some block's.
 use Rattle.std.proofs.Common.{◌≡◌, ◌∙◌, refl, sym, ap, ℕ, zero, suc, ◌+◌, ◌<◌, ◌⊎◌, inl, inr, Bool, true, false, ◌||◌, not, cond, List, [], ◌∷◌, ◌++◌, length, get_or, arith, length-append}
 use Rattle.std.specs.Prelude.{All, fold, if◌then◌else◌}
 use Rattle.std.specs.List.{list_any, position_or_len}
@@ -13,7 +13,7 @@ same_self xs = (bytes_decides xs xs).1 refl
 same_numbers-eq : (xs ys : List ℕ) → same_numbers xs ys ≡ true → xs ≡ ys
 same_numbers-eq xs ys e = (bytes_decides xs ys).0 e
 
--- a place among lists stays when one is put behind them, if it is found
+-- the index of a list stays if another one is appended
 position_push : {X : Type 0} (p : X → Bool) (xs : List X) (y : X) → (list_any p xs ≡ true) ⊎ (p y ≡ true) → position_or_len p (xs ++ y ∷ []) ≡ position_or_len p xs
 position_push p [] y (inl e) = absurd (cc)
 position_push p [] y (inr e) = rw e refl
@@ -25,7 +25,7 @@ position_push p (x ∷ xs) y h = by (λ k. position_push p xs y k) (p x) refl h
     by later false e (inl k) = let r = later (inl (rw e at k)) in rw (e, r) refl
     by later false e (inr k) = let r = later (inr k) in rw (e, r) refl
 
--- what is found nowhere has its place behind the last
+-- a list that isn't found gets the index after the last
 position_none : {X : Type 0} (p : X → Bool) (xs : List X) → list_any p xs ≡ false → position_or_len p xs ≡ length xs
 position_none p [] e = refl
 position_none p (x ∷ xs) e = by (λ k. position_none p xs k) (p x) refl e
@@ -44,7 +44,7 @@ any_push p (x ∷ xs) y h = by (λ k. any_push p xs y k) (p x) refl h
     by later false e (inl k) = let r = later (inl (rw e at k)) in rw (e, r) refl
     by later false e (inr k) = let r = later (inr k) in rw (e, r) refl
 
--- a list's place stays when another is noted, if it is found or is that one
+-- a list's index stays if another one is noted, if the list is found or is that one
 pub place_noted : (keys : List (List ℕ)) (l x : List ℕ) → (list_any (same_numbers x) keys ≡ true) ⊎ (same_numbers x l ≡ true) → place_in (noted keys l) x ≡ place_in keys x
 place_noted keys l x h = by (list_any (same_numbers l) keys) refl
   where
@@ -52,7 +52,7 @@ place_noted keys l x h = by (list_any (same_numbers l) keys) refl
     by true e = refl
     by false e = position_push (same_numbers x) keys l h
 
--- a list that is found is found among more
+-- a list that is found is found among more lists
 pub found_noted : (keys : List (List ℕ)) (l x : List ℕ) → list_any (same_numbers x) keys ≡ true → list_any (same_numbers x) (noted keys l) ≡ true
 found_noted keys l x h = by (list_any (same_numbers l) keys)
   where
@@ -68,7 +68,7 @@ noted_found keys l = by (list_any (same_numbers l) keys) refl
     by true e = e
     by false e = any_push (same_numbers l) keys l (inr (same_self l))
 
--- the same of more lists
+-- the same for several lists
 
 found_later : (keys lists : List (List ℕ)) (x : List ℕ) → list_any (same_numbers x) keys ≡ true → list_any (same_numbers x) (fold noted keys lists) ≡ true
 found_later keys [] x h = h
@@ -95,7 +95,7 @@ any_before_end p (x ∷ xs) e = by (p x) (any_before_end p xs) e
 found_once : (lists : List (List ℕ)) (n : ℕ) → n < length lists → list_any (same_numbers (get_or lists n [])) (once lists) ≡ true
 found_once lists n h = All-get_or (λ x. list_any (same_numbers x) (once lists) ≡ true) lists n [] h (all_found [] lists)
 
--- each list has a place among those that are written once, and that one is equal to it
+-- each list has an index among those that are written once, and the list at that index is equal to it
 
 pub place_within : (lists : List (List ℕ)) (n : ℕ) → n < length lists → place_in (once lists) (get_or lists n []) < length (once lists)
 place_within lists n h = any_before_end (same_numbers (get_or lists n [])) (once lists) (found_once lists n h)
@@ -104,7 +104,7 @@ pub place_equal : (lists : List (List ℕ)) (n : ℕ) → (h : n < length lists)
 place_equal lists n h =
     sym (same_numbers-eq _ _ (passes_at_first (same_numbers (get_or lists n [])) (once lists) [] (place_within lists n h)))
 
--- a place among the written lists is one that was there, or that of one of these lists
+-- an index among the written lists is an old one, or that of one of these lists
 pub record Serves (lists written : List (List ℕ)) (k : ℕ) : Type 0 where
   pub block : ℕ
   pub among : block < length lists

@@ -13,7 +13,7 @@ rising_at list r (suc i) h =
     let more : get_or list i 0 < get_or list (suc i) 0 = r i (suc i) 0 (omega arith) h in
     omega (arith, before, more)
 
--- numbers below n that rise are at most n
+-- there are at most n rising numbers below n
 pub rising_short : (list : List ℕ) (n : ℕ) → IsRising list → All (λ j. j < n) list → length list ≤ n
 rising_short [] n r a = omega arith
 rising_short (x ∷ xs) n r a =
@@ -45,7 +45,7 @@ cases x xs k c = by c.0 c.1 c.2
 empty : (k : ℕ) → Contains [] k → ⊥
 empty k c = let h = c.1 in absurd (omega arith)
 
--- rising lists with the same members are one
+-- rising lists with the same members are equal
 pub rising_one : (a b : List ℕ) → IsRising a → IsRising b → ((k : ℕ) → Contains a k → Contains b k) → ((k : ℕ) → Contains b k → Contains a k) → a ≡ b
 rising_one [] [] ra rb to back = refl
 rising_one [] (y ∷ ys) ra rb to back = absurd (empty y (back y (first y ys)))

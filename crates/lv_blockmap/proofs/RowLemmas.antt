@@ -10,7 +10,7 @@ use Rattle.lv_lumps.proofs.Ring.{by_ring, quotes}
 use Rattle.lv_lumps.proofs.Signs.{linear, times_at_most, product_not_negative, product_positive}
 use Rattle.lv_blockmap.proofs.TouchLemmas.{touches-touched}
 
--- a point between two points of a line lies in each strip that both lie in
+-- a point between two points of a line lies in each strip in which both lie
 mixed_span : (n d m e p q a b low : ℤ) → pos 0 ≤ℤ p → pos 0 ≤ℤ q → MeetsSpan n d a b low → MeetsSpan m e a b low → MeetsSpan (p *ℤ n +ℤ q *ℤ m) (p *ℤ d +ℤ q *ℤ e) a b low
 mixed_span n d m e p q a b low hp hq s t =
     let l1 = times_at_most p (d *ℤ low) (d *ℤ a +ℤ n *ℤ (b -ℤ a)) hp s.at_least in
@@ -112,7 +112,7 @@ row_range-touches a b left bottom rows low high i r k = (
 pub touches-column : (a b : Vertex) (left bottom : ℤ) → Touches a b left bottom → SpansMeet a.x b.x left
 touches-column a b left bottom t = (touches-touched a b left bottom t).boxes.across
 
--- above a row that isn't touched there is none, if one below is touched
+-- if a row isn't touched and one below it is, no row above it is touched
 pub none_above : (a b : Vertex) (left bottom : ℤ) (low row rows : ℕ) → low ≤ row → TouchesRow a b left bottom low → (TouchesRow a b left bottom row → ⊥) → NoRowFrom a b left bottom row rows
 none_above a b left bottom low row rows l t here r h k u =
     here (between_rows a b left (bottom +ℤ pos (128 * low)) (bottom +ℤ pos (128 * row)) (bottom +ℤ pos (128 * r)) (omega (arith, ints)) (omega (arith, ints)) t u)
@@ -132,7 +132,7 @@ found_rows a b left bottom rows low high i t none l h u last =
     to_high r k v (inl j) = absurd (last r (omega arith) k v)
     to_high r k v (inr j) = j
 
--- below a row that isn't touched there is none, if the next one is touched
+-- if a row isn't touched and the next one is, no row below it is touched
 pub none_below : (a b : Vertex) (left bottom : ℤ) (low : ℕ) → TouchesRow a b left bottom low → (TouchesRow a b left bottom (low - 1) → ⊥) → NoRowBelow a b left bottom low
 none_below a b left bottom low t here r h u =
     here (between_rows a b left (bottom +ℤ pos (128 * r)) (bottom +ℤ pos (128 * (low - 1))) (bottom +ℤ pos (128 * low)) (omega (arith, ints)) (omega (arith, ints)) u t)

@@ -1,4 +1,4 @@
--- How long the lump is, and that a block has one list.
+-- The length of the lump, and that a block has one list.
 use Rattle.std.proofs.Common.{◌≡◌, refl, sym, ap, ◌∙◌, subst, ℕ, zero, suc, ◌+◌, ◌<◌, ◌≤◌, List, [], ◌∷◌, ◌++◌, length, get_or, arith, length-append}
 use Rattle.std.specs.Prelude.{All, flat_map, slice_index, map}
 use Rattle.std.proofs.lemmas.Grind.{flat_map-append}
@@ -31,7 +31,7 @@ same_lists (x ∷ xs) (y ∷ ys) e h =
     let r : xs ≡ ys = same_lists xs ys (omega arith) (λ n k. h (suc n) (omega arith)) in
     cc
 
--- so have all blocks
+-- all blocks together have one list of lists
 pub one_lists : (lines : List LineEnds) (g : Grid) (a b : List (List ℕ)) → AreBlockLists lines g a → AreBlockLists lines g b → a ≡ b
 one_lists lines g a b p q =
     let e = p.count in
@@ -48,7 +48,7 @@ flat_words : (lists : List (List ℕ)) → length (flat_map list_words lists) �
 flat_words [] = refl
 flat_words (list ∷ lists) = length-append (list_words list) (flat_map list_words lists) ∙ ap (λ (m : ℕ). length (list_words list) + m) (flat_words lists)
 
--- the written lists end soon behind the last offset
+-- the written lists end soon after the last offset
 written_short :
     (lists : List (List ℕ)) (most : ℕ) → ((n : ℕ) → n < length lists → length (get_or lists n []) ≤ most) → OffsetsFit lists → (k : ℕ) → k < length (once lists)
     → first_list lists + words_before (once lists) (k + 1) ≤ greatest_offset + most + 2
@@ -100,7 +100,7 @@ blockmap_short lines g lists few some a fit =
 
 -- ---- the layout from its parts
 
--- the offsets are the starts at the places of the blocks' lists
+-- the offsets are the starts at the indices of the blocks' lists
 offsets_are : (lists : List (List ℕ)) → map (λ place. slice_index (starts (first_list lists) (once lists)) place) (map (place_in (once lists)) lists) ≡ offsets lists
 offsets_are lists = map-map (λ place. slice_index (starts (first_list lists) (once lists)) place) (place_in (once lists)) lists
 
@@ -132,7 +132,7 @@ laid_out g lists keys b0 b1 b2 b3 places ss e0 e1 p s k e2 e3 =
 abbrev Fits : ℕ → Type 0
 Fits at = at ≤ greatest_offset
 
--- where all starts fit, so do the offsets
+-- if all starts fit, so do the offsets
 
 pub offsets_fit : (lists keys : List (List ℕ)) → keys ≡ once lists → All (λ at. at ≤ greatest_offset) (starts (first_list lists) keys) → OffsetsFit lists
 offsets_fit lists keys k a =
@@ -142,7 +142,7 @@ offsets_fit lists keys k a =
     (λ n h. let w = place_within lists n h in let l = length-starts (first_list lists) (once lists)
     in All-get_or Fits (starts (first_list lists) (once lists)) (place_in (once lists) (get_or lists n [])) 0 (omega (arith, w, l)) fits))
 
--- and the other way round, since each written list is some block's
+-- and conversely, since each written list is some block's
 pub starts_fit : (lists keys : List (List ℕ)) → keys ≡ once lists → OffsetsFit lists → All (λ at. at ≤ greatest_offset) (starts (first_list lists) keys)
 starts_fit lists keys k fit =
     subst (λ (ks : List (List ℕ)). All Fits (starts (first_list lists) ks)) (sym k)
@@ -158,7 +158,7 @@ starts_fit lists keys k fit =
         let there : offset_of lists (get_or lists s.block []) ≡ get_or (starts (first_list lists) (once lists)) i 0 = ap (λ (j : ℕ). get_or (starts (first_list lists) (once lists)) j 0) s.place in
         omega (arith, fits, is, there)
 
--- the places are among the starts
+-- the indices are among the starts
 pub places_within :
     (lists keys : List (List ℕ)) (places ss : List ℕ) → places ≡ map (place_in (once lists)) lists → ss ≡ starts (first_list lists) (once lists) → All (λ place. place < length ss) places
 places_within lists keys places ss p s =

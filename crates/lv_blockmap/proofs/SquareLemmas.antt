@@ -1,5 +1,5 @@
--- A line reaches a square whose lower left corner is the origin exactly where its box meets the square and not all
--- corners lie strictly on one side of it.
+-- A line reaches a square with its lower left corner at the origin exactly if its box meets the square and the
+-- corners don't all lie strictly on the same side of the line.
 use Rattle.std.proofs.Common.{◌≡◌, ◌⊎◌, inl, inr, [], ◌∷◌, arith}
 use Rattle.std.proofs.lemmas.Int.{ints, by_lt_z}
 use Rattle.std.specs.Prelude.{ℤ, pos, ◌+ℤ◌, ◌-ℤ◌, ◌*ℤ◌, neg_ℤ, ◌≤ℤ◌, ◌<ℤ◌}
@@ -146,7 +146,7 @@ pub record Meets (s x u : ℤ) : Type 0 where
   pub not_below : (pos 0 ≤ℤ x) ⊎ (pos 0 ≤ℤ (x +ℤ u))
   pub not_above : (x ≤ℤ s) ⊎ ((x +ℤ u) ≤ℤ s)
 
--- not all corners lie strictly on one side
+-- the corners don't all lie strictly on the same side
 pub record Parted (s x y u v : ℤ) : Type 0 where
   pub not_all_right : pos 0 <ℤ corner x y u v (pos 0) (pos 0) → pos 0 <ℤ corner x y u v s (pos 0) → pos 0 <ℤ corner x y u v (pos 0) s → pos 0 <ℤ corner x y u v s s → ⊥
   pub not_all_left : corner x y u v (pos 0) (pos 0) <ℤ pos 0 → corner x y u v s (pos 0) <ℤ pos 0 → corner x y u v (pos 0) s <ℤ pos 0 → corner x y u v s s <ℤ pos 0 → ⊥

@@ -1,4 +1,4 @@
--- The touch theorem: the test by box and corners says where a line touches a block.
+-- The touch theorem: the test by box and corners holds exactly if a line touches a block.
 use Rattle.std.proofs.Common.{◌≡◌, refl, inl, inr, [], ◌∷◌, arith}
 use Rattle.std.proofs.lemmas.Int.{ints}
 use Rattle.std.specs.Prelude.{ℤ, pos, ◌+ℤ◌, ◌-ℤ◌, ◌*ℤ◌, ◌≤ℤ◌, ◌<ℤ◌}
@@ -13,7 +13,7 @@ use Rattle.lv_blockmap.proofs.SquareLemmas.{Meets, Parted, Reaches, corner, reac
 use Rattle.lv_lumps.proofs.Ring.{by_ring, quotes}
 use Rattle.lv_lumps.proofs.Signs.{linear}
 
--- above 0 where the place (x, y) lies on the right of the line from a to b, below 0 where it lies on the left
+-- above 0 if the place (x, y) lies on the right of the line from a to b, below 0 if it lies on the left
 abbrev pub side_value : Vertex → Vertex → ℤ → ℤ → ℤ
 side_value a b x y = (b.y -ℤ a.y) *ℤ (x -ℤ a.x) -ℤ (b.x -ℤ a.x) *ℤ (y -ℤ a.y)
 
@@ -26,12 +26,12 @@ abbrev pub CornersStraddle : Vertex → Vertex → ℤ → ℤ → Type 0
 CornersStraddle a b left bottom =
     Straddle (side_value a b left bottom) (side_value a b (left +ℤ pos 128) bottom) (side_value a b left (bottom +ℤ pos 128)) (side_value a b (left +ℤ pos 128) (bottom +ℤ pos 128))
 
--- the closed boxes meet, and the corners don't all lie strictly on one side
+-- the closed boxes meet, and the corners don't all lie strictly on the same side
 pub record IsTouched (a b : Vertex) (left bottom : ℤ) : Type 0 where
   pub boxes : BoxesMeet a b left bottom
   pub corners : CornersStraddle a b left bottom
 
--- ---- the same of a drawn line and a block
+-- ---- the same for a drawn line and a block
 value_shift : (a b : Vertex) (left bottom p q : ℤ) → side_value a b (left +ℤ p) (bottom +ℤ q) ≡ corner (a.x -ℤ left) (a.y -ℤ bottom) (b.x -ℤ a.x) (b.y -ℤ a.y) p q
 value_shift a b left bottom p q = by_ring (a.x ∷ a.y ∷ b.x ∷ b.y ∷ left ∷ bottom ∷ p ∷ q ∷ []) _ _ (search quotes depth 30 fits 20000) (search quotes depth 30 fits 20000) tt
 
@@ -125,7 +125,7 @@ touches-touched a b left bottom t =
 all_four : {X : Type 0} (P : X → Type 0) (p q r s : X) → P p → P q → P r → P s → All P (p ∷ q ∷ r ∷ s ∷ [])
 all_four P p q r s a b c d = All-cons P p (q ∷ r ∷ s ∷ []) a (All-cons P q (r ∷ s ∷ []) b (All-cons P r (s ∷ []) c (All-cons P s [] d (All-nil P))))
 
--- what holds of each of four
+-- what is true of each of four corners
 record Four {X : Type 0} (P : X → Type 0) (p q r s : X) : Type 0 where
   one : P p
   two : P q
@@ -157,7 +157,7 @@ parted_by_touch a b left bottom t =
       not_all_left = λ h. let f = four_of (IsOnLeft (ray_between a b)) _ _ _ _ h in c.not_all_below f.one f.two f.three f.four;
     }
 
--- ---- where the corners of a block lie whose box the line's box meets
+-- ---- where the corners of a block lie, if the line's box meets the block
 pub block_place : (a b low : ℤ) → SpansMeet a b low → FitsSigned w16 a → FitsSigned w16 b → FitsSigned w32 low → IsBlockPlace low
 block_place a b low s fa fb fl =
     record { low = omega (arith, ints); high = elim s.not_below [ inl k ↦ omega (arith, ints) | inr k ↦ omega (arith, ints) ] }

@@ -1,4 +1,4 @@
--- A file that has the slots that a handle tells of is live as the handle says.
+-- If what a handle says is true of a file, the file's live slot and generation are the handle's.
 use Rattle.std.proofs.Common.{◌≡◌, ◌⊎◌, inl, inr, ℕ, Bool, true, false, List, refl}
 use Rattle.lv_disk.specs.Gates.{IsClosedAt}
 use Rattle.lv_disk.specs.Stops.{Each, Follows}
@@ -16,7 +16,7 @@ live_by s body file has = record { is_open = has.live; behind = at (finds_open s
     at true shut older = inr (older refl)
     at false shut older = inl (shut refl)
 
--- what `fill` asks for
+-- what `fill` requires
 pub close_ready : (s : Slots) (old new : List ℕ → Type 0) → Each old (HasSomeSlots s) → Follows (ClosesOther s) old new → Each new (HasClosed s)
 close_ready s old new slots closes file left =
     let was = closes file left in

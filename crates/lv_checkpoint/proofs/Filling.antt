@@ -1,4 +1,4 @@
--- What the two writes of `fill` leave.
+-- The file after the two writes of `fill`.
 use Rattle.std.proofs.Common.{◌≡◌, inl, ◌<◌, ◌≤◌, ◌+◌, ◌^◌, ℕ, List, [], ◌∷◌, length, subst, arith, length-append}
 use Rattle.lv_disk.specs.Files.{HasAt, KeepsOutside, Torn, Written}
 use Rattle.lv_disk.specs.Gates.{IsClosedAt}
@@ -19,7 +19,7 @@ use Rattle.lv_checkpoint.proofs.Gate.{are_apart, apart_from}
 pub length-content : (g : ℕ) (body : List ℕ) → length (content_bytes g body) ≡ 12 + length body
 length-content g body = length-append (head_bytes g (length body)) body
 
--- bytes that were written stand there, be they none
+-- the written bytes are at their offset, also if there are none
 pub written_has : (at : ℕ) (bytes old new : List ℕ) → at ≤ length new → Written at bytes old new → HasAt at bytes new
 written_has at [] old new le written = record { within = omega (arith, le); same = λ i lt. absurd (omega (arith, lt)) }
 written_has at (b ∷ bytes) old new le written = written.has (omega arith)
@@ -90,7 +90,7 @@ module _ (s : Slots) (journal : Area) (body : List ℕ) (fits : 13 + length body
         begins = second.has (omega arith);
       }
 
-  -- over the images, as the clauses say it
+  -- the same about images, as the clauses state it
   module _ {D : Type 0} (facts : Ghosts D) (d0 d1 d2 : D) (place : ℕ) (bytes : List ℕ) (there : place ≡ at + 1) (is : bytes ≡ content)
       (shut : Each (facts.may_leave d0) (IsClosedAt at)) (only_now : (file : List ℕ) → facts.left_since d0 (facts.moment d0) file → facts.may_leave d0 file)
       (torn : Follows (Torn place (length bytes)) (facts.may_leave d0) (facts.may_leave d1))
@@ -132,7 +132,7 @@ module _ (s : Slots) (journal : Area) (body : List ℕ) (fits : 13 + length body
               (subst (λ (k : ℕ). Written k content staged.0 marked.0) there (subst (λ (l : List ℕ). Written place l staged.0 marked.0) is staged.2)) marked.2,
         )
 
--- what `open_other` asks for
+-- what `open_other` requires
 pub fill_ready : (s : Slots) (body : List ℕ) (journal : Area) (old new : List ℕ → Type 0) → Each old (HasClosed s) → Follows (Fills s body journal) old new → Each new (HasFilled s)
 fill_ready s body journal old new ready fills file left =
     let was = fills file left in

@@ -1,4 +1,4 @@
--- What `open` finds in two slots, and what `first` leaves there.
+-- What `open` finds in two slots, and what `first` writes there.
 use Rattle.std.proofs.Common.{◌≡◌, inl, ◌<◌, ◌≤◌, ◌+◌, ◌^◌, ℕ, List, [], ◌∷◌, length, Option, None, Some, sym, ap, subst, arith}
 use Rattle.lv_disk.specs.Files.{HasAt, Written}
 use Rattle.lv_disk.specs.declared.area.Area.{Area}
@@ -15,7 +15,7 @@ use Rattle.lv_checkpoint.proofs.Kept.{content_kept}
 use Rattle.lv_checkpoint.proofs.OneBody.{whole_slot, closed_slot}
 use Rattle.lv_checkpoint.proofs.Filling.{written_has}
 
--- a slot that shows what it has is no bad one
+-- a slot whose head was found isn't bad
 pub not_bad : (slot : Area) (found : Option Head) (file : List ℕ) → ShowsHead slot found file → IsBadSlot slot file → ⊥
 not_bad slot None file shut = closed_slot slot file shut
 not_bad slot (Some head) file is = whole_slot slot file head.generation head.len is

@@ -1,4 +1,4 @@
--- What the one-byte writes at the other slot's gate leave.
+-- The file after a one-byte write at the other slot's gate.
 use Rattle.std.proofs.Common.{◌≡◌, ◌⊎◌, inl, inr, ⊎_elim, ◌<◌, ◌≤◌, ◌+◌, ℕ, Bool, true, false, List, [], ◌∷◌, length, get_or, eqb, cond, sym, ◌∙◌, subst, arith}
 use Rattle.std.proofs.lemmas.Bool.{cases_eq, true≢false}
 use Rattle.lv_disk.specs.Files.{HasAt, KeepsOutside, Torn, Written}
@@ -17,7 +17,7 @@ use Rattle.lv_checkpoint.specs.Steps.{IsNextBy, IsSomeLive, IsFilled, KeepsLive,
 use Rattle.lv_checkpoint.specs.declared.slots.Slots.{Slots}
 use Rattle.lv_checkpoint.proofs.Kept.{open_with, head_kept, content_kept, open_kept}
 
--- the slots of a handle are apart, and each has some place
+-- the slots of a handle are apart, and none is empty
 pub record AreApart (s : Slots) : Type 0 where
   pub apart : IsApart (live_of s) (other_of s).base (other_of s).length
   pub live_some : 0 < (live_of s).length
@@ -44,7 +44,7 @@ are_apart s = record {
     ends true k le = (omega (arith, le, s.in_order), le)
     ends false k le = (le, omega (arith, le, s.in_order))
 
--- the live slot is apart from a part of the other
+-- the live slot is apart from each part of the other one
 pub apart_from : (s : Slots) (at n : ℕ) → (other_of s).base ≤ at → at + n ≤ (other_of s).base + (other_of s).length → IsApart (live_of s) at n
 apart_from s at n low high = ⊎_elim (λ below. inl (omega (arith, below, low))) (λ above. inr (omega (arith, above, high))) (are_apart s).apart
 
@@ -52,7 +52,7 @@ module _ (live other : Area) (generation : ℕ) (apart : IsApart live other.base
   filled_kept : (g : ℕ) (body : List ℕ) → HasContent other g body old → HasContent other g body new
   filled_kept g body is = content_kept other.base 1 old new keeps other g body (inr (omega arith)) is
 
-  -- a gate of which a write may have left any byte
+  -- a gate at which a write may have left any byte
   live_stays : (body : List ℕ) → IsLive live other generation body old → IsClosedAt other.base new ⊎ IsOlder other generation new → IsLive live other generation body new
   live_stays body is behind = record { is_open = open_kept other.base 1 old new keeps live generation body apart is.is_open; behind = behind }
 
@@ -82,7 +82,7 @@ module _ (live other : Area) (generation : ℕ) (apart : IsApart live other.base
     behind = inr (generation, length live_body, open_with live generation live_body new (open_kept other.base 1 old new keeps live generation live_body apart is.is_open), omega arith);
   }
 
-  -- a filled slot behind its gate is the live one or isn't
+  -- a slot that is filled after its gate is either the live one or not
   pub torn_filled : (live_body body : List ℕ) → IsLive live other generation live_body old → HasContent other (generation + 1) body old
       → IsLive live other generation live_body new ⊎ IsLive other live (generation + 1) body new
   torn_filled live_body body is filled =
@@ -127,7 +127,7 @@ module _ (s : Slots) where
     live = λ body filled. now_open (live_of s) (other_of s) (generation_of s) gate_apart old new written.keeps live.0 body live.1 filled (written.has (omega arith));
   }
 
--- after the change the handle of the turned slots tells of the file
+-- after the change, what the turned handle says is true of the file
 pub turned_slots : (s t : Slots) (other : Area) (old new : List ℕ) → other ≡ other_of s → live_of t ≡ other_of s → other_of t ≡ live_of s → generation_of t ≡ generation_of s + 1 → finds_open t ≡ true
     → IsSomeLive s old → IsFilled s old → Written other.base (165 ∷ []) old new → HasSomeSlots t new
 turned_slots s t other old new is live_is other_is generation_is open_is live filled written =
@@ -144,7 +144,7 @@ turned_slots s t other old new is live_is other_is generation_is open_is live fi
       },
     )
 
--- over the images, as the clauses say it
+-- the same about images, as the clauses state it
 module _ {D : Type 0} (facts : Ghosts D) (s : Slots) (d0 d1 : D) (other : Area) (is : other ≡ other_of s) where
   pub close_moments : ((file : List ℕ) → facts.may_leave d0 file → IsOlder (other_of s) (generation_of s) file)
       → LeavesOnly facts d0 d1 (From (facts.may_leave d0) (Torn other.base 1))

@@ -1,4 +1,4 @@
--- What stands in a slot stays where the bytes of the slot stay.
+-- What a slot has stays if the slot's bytes stay.
 use Rattle.std.proofs.Common.{◌≡◌, ◌⊎◌, inl, inr, ⊎_elim, ◌<◌, ◌≤◌, ◌+◌, ℕ, List, [], ◌∷◌, length, refl, arith}
 use Rattle.lv_disk.specs.Files.{HasAt, KeepsOutside}
 use Rattle.lv_disk.specs.Gates.{IsClosedAt}
@@ -8,7 +8,7 @@ use Rattle.lv_disk.proofs.Bytes.{has_kept, one_has}
 use Rattle.lv_disk.specs.Areas.{IsApart}
 use Rattle.lv_checkpoint.specs.Bodies.{head_bytes, HasHead, IsOpenWith, HasContent, IsOpen, IsOlder, IsLive}
 
--- the range lies behind the slot, or before what stands behind its gate
+-- the range is after the slot, or before the bytes after its gate
 abbrev pub SparesContent : Area → ℕ → ℕ → Type 0
 SparesContent slot at n = (slot.base + slot.length ≤ at) ⊎ (at + n ≤ slot.base + 1)
 
@@ -18,7 +18,7 @@ spares slot at n apart = ⊎_elim (λ below. inl below) (λ above. inr (omega (a
 pub open_with : (slot : Area) (g : ℕ) (body file : List ℕ) → IsOpen slot g body file → IsOpenWith slot g (length body) file
 open_with slot g body file is = record { gate = is.gate; head = is.content.head }
 
--- an open gate is no closed one
+-- an open gate isn't closed
 pub not_closed : (place : ℕ) (file : List ℕ) → HasAt place (165 ∷ []) file → IsClosedAt place file → ⊥
 not_closed place file is_open shut = shut.closed (one_has place 165 [] file is_open)
 

@@ -1,4 +1,4 @@
--- Two slots stand for one body at most.
+-- Two slots stand for at most one body.
 use Rattle.std.proofs.Common.{◌≡◌, ◌⊎◌, inl, inr, ⊎_elim, ◌<◌, ◌+◌, ◌^◌, ℕ, List, length, refl, sym, ◌∙◌, ap, subst, arith}
 use Rattle.std.proofs.lemmas.Nat.{from_le_bytes-to_le_bytes_4, from_le_bytes-to_le_bytes_8}
 use Rattle.std.specs.Int.{to_le_bytes, from_le_bytes, w32, w64}
@@ -21,7 +21,7 @@ number_same place n m file n_fits m_fits has_n has_m =
     sym (from_le_bytes-to_le_bytes_8 n n_fits) ∙ ap (λ (l : List ℕ). from_le_bytes w64 l) one ∙ from_le_bytes-to_le_bytes_8 m m_fits
 
 module _ (slot : Area) (file : List ℕ) where
-  -- the length, as it stands behind the generation
+  -- the length, as it follows the generation
   has_count : (g n : ℕ) → HasHead slot g n file → HasAt (slot.base + 9) (to_le_bytes w32 n) file
   has_count g n is =
       let there : slot.base + 1 + 8 ≡ slot.base + 9 = omega arith in
@@ -34,7 +34,7 @@ module _ (slot : Area) (file : List ℕ) where
     count_same (slot.base + 9) n m file first.count second.count (has_count g n first) (has_count h m second),
   )
 
-  -- a slot that is closed, or open with a whole head, is no bad one
+  -- a slot that is closed, or open with a whole head, isn't bad
   whole_length : (g n : ℕ) → HasHead slot g n file → HasBadBodyLength slot file → ⊥
   whole_length g n is (inl short) = omega (arith, is.within, short)
   whole_length g n is (inr (m, has, fits, wrong)) =
@@ -59,7 +59,7 @@ module _ (a b : Area) (file : List ℕ) where
       let same = head_same a file g (length x) h (length y) first.is_open.content.head second.is_open.content.head in
       (same.0, has_same (a.base + 13) x y file same.1 first.is_open.content.stands second.is_open.content.stands)
 
-  -- the slot behind the live one has a lower generation, where it is open
+  -- the slot other than the live one has a lower generation if it is open
   lower : (g h n : ℕ) (x : List ℕ) → IsLive a b g x file → IsOpenWith b h n file → h < g
   lower g h n x live is = at live.behind
     where

@@ -117,7 +117,7 @@ corners-in_order m =
     in_order-rows (row m) (λ s. IsStrictlySortedBy-filter nat_cmp (is_open m s) (item_numbers m.vertices) (in_order-range (length m.vertices)))
     (item_numbers m.sectors) (in_order-range (length m.sectors))
 
--- ---- the two are one
+-- ---- the two lists are equal
 
 abbrev open_at : ℕ × ℕ → Finding
 open_at c = SectorOpen c.0 c.1

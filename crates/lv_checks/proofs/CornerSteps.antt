@@ -41,7 +41,7 @@ module _ (m n : BTreeMap (ℕ × ℕ) Degrees) (corner : ℕ × ℕ) (d : Degree
   elsewhere : (q : ℕ × ℕ) → same_corner corner q ≡ false → degrees_of n q ≡ degrees_of m q
   elsewhere q e = after q ∙ ap (λ t. unwrap_or (cond t (Some d) (get corner_cmp m q)) no_degrees) e
 
-  -- a field of the counts, which is by more at the corner
+  -- a field of the counts, which is greater by one at the corner
   pub steps : (field : Degrees → ℕ) (by : ℕ) → field d ≡ field (degrees_of m corner) + by → (q : ℕ × ℕ)
       → field (degrees_of n q) ≡ field (degrees_of m q) + cond (same_corner corner q) by 0
   steps field by is q =

@@ -39,7 +39,7 @@ adds_both old mid new es fs a b =
       incoming = λ q. omega (arith, a.incoming q, b.incoming q, count_by-append (reaches q.0 q.1) es fs);
     }
 
--- where there is room for two edges, there is for one behind the first
+-- if there is room for two edges, there is room for one after the first
 pub room_after : (old new : BTreeMap (ℕ × ℕ) Degrees) (e : Edge) → HasCountsLeft 2 old → AddsEdges old new (e ∷ []) → HasCountsLeft 1 new
 room_after old new e h a =
     record {
@@ -47,7 +47,7 @@ room_after old new e h a =
       incoming = λ q. omega (arith, h.incoming q, a.incoming q, count_by-le-length (reaches q.0 q.1) (e ∷ []));
     }
 
--- the side of a number that was read
+-- the side with a number that was read
 pub side_was : (m : Tables) (n k : ℕ) (s : Side) → slice_get m.sides n ≡ Some s → n ≡ k → side_in m k ≡ s
 side_was m n k s read same = ap (side_in m) (sym same) ∙ get_or_from_slice_get m.sides n s some_side read
 
@@ -62,7 +62,7 @@ pub edges_of_two : (m : Tables) (l : Line) (right left : Side) → side_in m l.r
 edges_of_two m l right left is at some =
     λ i. (record { sector = (is i).sector; from = l.v1; to = l.v2 }) ∷ cond (some i) ((record { sector = (at i).sector; from = l.v2; to = l.v1 }) ∷ []) []
 
--- one line more is counted
+-- one more line is counted
 pub tally_more : (m : Tables) (n : ℕ) (l : Line) → slice_get m.lines n ≡ Some l → (old new : BTreeMap (ℕ × ℕ) Degrees)
     → IsTally (flat_map (edges_of_line m) (take n m.lines)) old → AddsEdges old new (edges_of_line m l)
     → IsTally (flat_map (edges_of_line m) (take (n + 1) m.lines)) new

@@ -71,7 +71,7 @@ in_order-range n =
 pub corner_total : IsTotalOrder corner_cmp
 corner_total = then_total (on_total (λ (x : ℕ × ℕ). x.0) nat_cmp_total) (on_total (λ (x : ℕ × ℕ). x.1) nat_cmp_total)
 
--- corners of one sector go by vertex, others by sector
+-- corners of the same sector are ordered by vertex, others by sector
 corner_cmp-same : (s v w : ℕ) → nat_cmp v w ≡ Less → corner_cmp (s, v) (s, w) ≡ Less
 corner_cmp-same s v w e = ap (λ r. ordering_then r (nat_cmp v w)) (tied_itself nat_cmp_total s) ∙ e
 

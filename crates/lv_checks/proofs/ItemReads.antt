@@ -1,4 +1,4 @@
--- What reading an item of a list by its number gives.
+-- What reading an item of a list by its number returns.
 use Rattle.std.proofs.Common.{◌≡◌, ℕ, ◌<◌, List, [], ◌∷◌, length, Option, Some, IfSome, refl, sym, ◌∙◌, subst, arith}
 use Rattle.std.specs.Bool.{⊤}
 use Rattle.std.specs.List.{slice_get}

@@ -1,4 +1,4 @@
--- Marks of the items that are used, as one user more is read.
+-- Marks of the used items, as one more user is read.
 use Rattle.std.proofs.Common.{◌≡◌, ℕ, zero, suc, not, ◌+◌, ◌<◌, Bool, true, false, eqb, cond, ◌||◌, List, [], ◌∷◌, ◌++◌, length, get_or, set, take, map, filter, zero-add, append_assoc, Some, refl, sym, ap, ◌∙◌, ⊎_elim, arith}
 use Rattle.std.specs.List.{list_any, slice_get, range_with_len}
 use Rattle.std.proofs.lemmas.List.FromFn.{filter_of_map_range_with_len_more}
@@ -62,7 +62,7 @@ module _ {X Y : Type 0} (uses : ℕ → Y → Bool) (items : List X) (users : Li
 pub filter_range_more : (p : ℕ → Bool) (n : ℕ) → filter p (range_with_len 0 (n + 1)) ≡ filter p (range_with_len 0 n) ++ cond (p n) (n ∷ []) []
 filter_range_more p n = sym (ap (filter p) (map-id _)) ∙ filter_of_map_range_with_len_more p (λ x. x) 0 n n (zero-add n) ∙ ap (λ l. filter p l ++ cond (p n) (n ∷ []) []) (map-id _)
 
--- one item more without a mark, or with one
+-- one more item, without or with a mark
 pub marked_more : {Y : Type 0} (f : ℕ → Y) (p : ℕ → Bool) (n : ℕ) (init found : List Y) → found ≡ init ++ map f (filter p (range_with_len 0 n))
     → (b : Bool) → p n ≡ b → found ++ map f (cond b (n ∷ []) []) ≡ init ++ map f (filter p (range_with_len 0 (n + 1)))
 marked_more f p n init found so_far b is =
@@ -79,7 +79,7 @@ filter-agree_on p q a (suc n) h =
     (λ i. cond (h a (omega arith) i) (a ∷ filter p (range_with_len (a + 1) n)) (filter p (range_with_len (a + 1) n)))
     ∙ ap (λ l. cond (q a) (a ∷ l) l) (filter-agree_on p q (a + 1) n (λ k l. h k (omega arith)))
 
--- the numbers of the items without a mark are those that nothing uses
+-- the items without a mark are those that nothing uses
 pub unused_from_marks : {X Y : Type 0} (uses : ℕ → Y → Bool) (items : List X) (users : List Y) (marks : List Bool) → Marks uses items users marks
     → filter (λ n. not (get_or marks n false)) (range_with_len 0 (length marks)) ≡ unused uses items users
 unused_from_marks uses items users marks m =

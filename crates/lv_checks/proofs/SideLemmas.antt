@@ -1,4 +1,4 @@
--- What a line's left side is where it has one.
+-- A line's left side, if it has one.
 use Rattle.std.proofs.Common.{◌≡◌, ◌≢◌, true, not, ap, sym, ◌∙◌}
 use Rattle.std.proofs.lemmas.Bool.{false≢true, eq-eqb}
 use Rattle.lv_lumps.specs.declared.records.Line.{Line}

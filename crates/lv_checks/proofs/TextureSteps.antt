@@ -1,4 +1,4 @@
--- What a loop that adds to a list has added, one step on and at its end; and the flag of a line with two sides.
+-- What a loop that adds to a list has added, after one more step and at its end; and the flag of a two-sided line.
 use Rattle.std.proofs.Common.{◌≡◌, ℕ, suc, add-zero, zero-add, ◌+◌, ◌*◌, ◌/◌, ◌%◌, ◌<◌, ◌≤◌, Bool, true, false, cond, eqb, not, bit_and, List, [], ◌∷◌, ◌++◌, length, get_or, map, filter, flat_map, take, Some, sym, ap, ◌∙◌, arith, append_assoc}
 use Rattle.std.specs.List.{slice_get, enumerate_from}
 use Rattle.std.proofs.lemmas.Bool.Decides.{nat_tests}
@@ -37,7 +37,7 @@ enumerate-push k (x ∷ xs) y =
     (enumerate-push (k + 1) xs y
     ∙ ap (λ n. enumerate_from (k + 1) xs ++ (n, y) ∷ []) (let e : k + 1 + length xs ≡ k + suc (length xs) = omega arith in e))
 
--- one item more with its number
+-- one more item with its number
 pub numbered_more : {X Y : Type 0} (f : ℕ × X → List Y) (xs : List X) (n : ℕ) (x : X) → slice_get xs n ≡ Some x → (init found : List Y)
     → found ≡ init ++ flat_map f (enumerate_from 0 (take n xs)) → found ++ f (n, x) ≡ init ++ flat_map f (enumerate_from 0 (take (n + 1) xs))
 numbered_more f xs n x is init found so_far =

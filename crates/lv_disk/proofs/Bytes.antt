@@ -1,4 +1,4 @@
--- What a write leaves of the bytes of a file.
+-- The bytes of a file after a write.
 use Rattle.std.proofs.Common.{◌≡◌, inl, inr, ⊎_elim, ◌⊎◌, ◌<◌, ◌≤◌, ◌+◌, ◌-◌, ℕ, zero, suc, List, [], ◌∷◌, ◌++◌, length, get_or, refl, sym, ◌∙◌, ap, arith, length-append}
 use Rattle.std.proofs.lemmas.List.{get_or_append_left, get_or-append-add, ext_get_or}
 use Rattle.std.proofs.lemmas.Bool.{cases_lt}
@@ -10,7 +10,7 @@ keeps_itself at n file = record { same = λ i lt out. refl; no_shorter = omega a
 pub torn_itself : (at n : ℕ) (file : List ℕ) → Torn at n file file
 torn_itself at n file = record { keeps = keeps_itself at n file; no_longer = omega arith; nothing = λ none. refl }
 
--- a write that is done is one that may be torn
+-- a successful write is a special case of a torn one
 pub written_torn : (at : ℕ) (bytes old new : List ℕ) → Written at bytes old new → Torn at (length bytes) old new
 written_torn at bytes old new written = record {
   keeps = written.keeps;
@@ -31,7 +31,7 @@ keeps_then at n old mid new first second = record {
   no_shorter = omega (arith, first.no_shorter, second.no_shorter);
 }
 
--- what stands outside stays
+-- what is outside the range stays
 pub has_kept : (at n place : ℕ) (bytes old new : List ℕ) → (place + length bytes ≤ at) ⊎ (at + n ≤ place) → KeepsOutside at n old new → HasAt place bytes old → HasAt place bytes new
 has_kept at n place bytes old new apart keeps has = record {
   within = omega (arith, has.within, keeps.no_shorter);
@@ -67,7 +67,7 @@ has_both place xs ys file front back = record {
         ap (λ (k : ℕ). get_or file k 0) there ∙ back.same j (omega (arith, lt, above, length-append xs ys))
         ∙ sym (get_or-append-add xs ys j 0) ∙ ap (λ (k : ℕ). get_or (xs ++ ys) k 0) (sym same)
 
--- two lists of one length at one place are one
+-- two lists of the same length at the same offset are equal
 pub has_same : (place : ℕ) (xs ys file : List ℕ) → length xs ≡ length ys → HasAt place xs file → HasAt place ys file → xs ≡ ys
 has_same place xs ys file same first second =
     ext_get_or 0 xs ys same (λ i lt. sym (first.same i lt) ∙ second.same i (omega (arith, lt, same)))

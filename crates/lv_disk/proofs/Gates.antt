@@ -1,4 +1,4 @@
--- What a write leaves of a gate.
+-- A gate after a write.
 use Rattle.std.proofs.Common.{ℕ, List, [], ◌∷◌, sym, ◌∙◌, arith}
 use Rattle.lv_disk.specs.Files.{HasAt, Outside, KeepsOutside, Written}
 use Rattle.lv_disk.specs.Gates.{IsClosedAt}

@@ -1,4 +1,4 @@
--- What a disk in memory keeps of the facts of a disk, as its record goes on.
+-- The facts of a disk, for a disk in memory whose record grows.
 use Rattle.std.proofs.Common.{◌≡◌, inl, ℕ, List, [], ◌∷◌, length, refl, sym, ◌∙◌, ap, subst, arith}
 use Rattle.std.proofs.lemmas.List.{append-nil, get_or_past}
 use Rattle.lv_disk.specs.Files.{Failed, Torn, Written}
@@ -10,7 +10,7 @@ use Rattle.lv_disk.proofs.Bytes.{torn_itself}
 use Rattle.lv_disk.proofs.Overwriting.{overwritten_is_written}
 use Rattle.lv_disk.proofs.Stopping.{after_calls-push, elapses_push, settled_only, still_image, torn_from}
 
--- what a read gives
+-- what a read returns
 abbrev pub Reads : Medium → List ℕ → Type 0
 Reads m file = file ≡ m.file
 
@@ -18,7 +18,7 @@ module _ (old new : MemoryDisk) where
   abbrev Time : Type 0
   Time = Elapses (length (calls_of old)) (length (calls_of new)) (LeftSince (first_medium old) (calls_of old)) (LeftSince (first_medium new) (calls_of new)) (IsImage (medium_of new))
 
-  -- one call more
+  -- one more call
   module _ (call : Call) (goes : Goes (call ∷ []) old new) where
     pub medium_now : medium_of new ≡ after_call (medium_of old) call
     medium_now =
@@ -29,7 +29,7 @@ module _ (old new : MemoryDisk) where
         let pushed = elapses_push (first_medium old) (calls_of old) call in
         rw (goes.first, goes.calls_are) pushed
 
-  -- no call more
+  -- no further call
   module _ (goes : Goes [] old new) where
     pub same_calls : calls_of new ≡ calls_of old
     same_calls = goes.calls_are ∙ append-nil (calls_of old)
@@ -92,7 +92,7 @@ module _ (old new : MemoryDisk) where
     pub synced_still : Each (Reads (medium_of old)) (Reads (medium_of new))
     synced_still file is = is ∙ sym (ap (λ (m : Medium). m.file) (medium_now Synced goes))
 
-    -- after a sync there's no image but the file
+    -- after a sync the file is the only image
     only_image : (file : List ℕ) → IsImage (medium_of new) file → file ≡ (medium_of old).file
     only_image file is = settled_only (medium_of old).file file (subst (λ (m : Medium). IsImage m file) (medium_now Synced goes) is)
 

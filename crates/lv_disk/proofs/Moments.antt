@@ -1,4 +1,4 @@
--- How a run of calls goes on.
+-- Runs of calls, one call at a time.
 use Rattle.std.proofs.Common.{inl, inr, ⊎_elim, ℕ, List, arith}
 use Rattle.lv_disk.specs.Moments.{LeavesOnly}
 use Rattle.lv_disk.specs.Stops.{Elapses}
@@ -9,7 +9,7 @@ module _ {D : Type 0} (facts : Ghosts D) where
   pub started : (old : D) (P : List ℕ → Type 0) → ((file : List ℕ) → facts.left_since old (facts.moment old) file → P file) → LeavesOnly facts old old P
   started old P here = record { later = omega arith; each = here; before = λ t file le left. inl left }
 
-  -- one call more, after which a stop leaves what has P
+  -- one more call, after which a stop leaves only files with P
   pub goes_on : (old mid new : D) (P may_leave : List ℕ → Type 0) → LeavesOnly facts old mid P → Elapses (facts.moment mid) (facts.moment new) (facts.left_since mid) (facts.left_since new) may_leave
       → ((file : List ℕ) → may_leave file → P file) → LeavesOnly facts old new P
   goes_on old mid new P may_leave so_far time here = record {

@@ -1,4 +1,4 @@
--- What stands where in a file that was written over.
+-- The bytes at each offset of an overwritten file.
 use Rattle.std.proofs.Common.{◌≡◌, ◌⊎◌, inl, inr, ◌<◌, ◌≤◌, ◌+◌, ◌-◌, ℕ, max, List, [], ◌∷◌, ◌++◌, length, get_or, take, drop, replicate, refl, sym, ◌∙◌, ap, arith, length-append, length-take, length-drop}
 use Rattle.std.proofs.lemmas.List.{get_or_append_left, get_or-append-add, get_or-take, get_or-drop, get_or_past, get_or-replicate, ext_get_or}
 use Rattle.std.proofs.Math.ListN.{length-replicate}
@@ -84,7 +84,7 @@ overwritten_out at [] file i out = refl
 overwritten_out at (b ∷ x) file i (inl below) = whole_below at file (b ∷ x) i below
 overwritten_out at (b ∷ x) file i (inr above) = whole_above at file (b ∷ x) i above
 
--- it's what a write makes of the file
+-- it is the file after the write
 pub overwritten_is_written : (at : ℕ) (x file : List ℕ) → Written at x file (overwritten at x file)
 overwritten_is_written at x file = record {
   has = λ some. record { within = omega (arith, length-overwritten at x file some); same = λ i lt. overwritten_here at x file i lt };
@@ -94,14 +94,14 @@ overwritten_is_written at x file = record {
   nothing = λ none. ap length (overwritten_nothing at x file none);
 }
 
--- what a read gives of a file of the first bytes, with zeros behind it, also past the end
+-- what a read returns from a file that is the first bytes of a list, with zeros after them, also past the end
 pub byte_at : (b : List ℕ) (len : ℕ) → len ≤ length b → ((i : ℕ) → len ≤ i → get_or b i 0 ≡ 0) → (i : ℕ) → get_or (take len b) i 0 ≡ get_or b i 0
 byte_at b len room zeros i = elim (cases_lt i len) [
   | inl lt ↦ get_or-take len b i 0 lt
   | inr le ↦ get_or_past (take len b) i 0 (omega (arith, le, length-take len b)) ∙ sym (zeros i le)
 ]
 
--- the bytes put over those that stood there
+-- the bytes written over the old ones
 abbrev pub put : ℕ → List ℕ → List ℕ → List ℕ
 put at x b = take at b ++ (x ++ drop (length x) (drop at b))
 
@@ -136,7 +136,7 @@ module _ (at : ℕ) (x b : List ℕ) (fits : at + length x ≤ length b) where
       ap (λ (k : ℕ). get_or (put at x b) k 0) there ∙ get_or-append-add (take at b) (x ++ drop (length x) (drop at b)) (length x + j) 0 ∙ get_or-append-add x (drop (length x) (drop at b)) j 0
       ∙ get_or-drop (length x) (drop at b) j 0 ∙ get_or-drop at b (length x + j) 0 ∙ ap (λ (k : ℕ). get_or b k 0) back
 
-  -- in a file of the first bytes, with zeros behind it
+  -- in a file that is the first bytes of a list, with zeros after them
   module _ (len : ℕ) (room : len ≤ length b) (zeros : (i : ℕ) → len ≤ i → get_or b i 0 ≡ 0) where
     new_at : (i : ℕ) → i < max len (at + length x) → get_or (put at x b) i 0 ≡ get_or (overwritten at x (take len b)) i 0
     new_at i lt = elim (cases_lt i at) [

@@ -1,4 +1,4 @@
--- What a write leaves that fails after a part of its bytes.
+-- The file after a write that fails after a part of its bytes.
 use Rattle.std.proofs.Common.{◌≤◌, ℕ, List, length, arith}
 use Rattle.std.proofs.lemmas.List.{get_or_past}
 use Rattle.lv_disk.specs.Files.{Failed, Torn, Written}

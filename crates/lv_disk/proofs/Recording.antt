@@ -1,4 +1,4 @@
--- A record of calls with one more.
+-- A record of calls with one more call.
 use Rattle.std.proofs.Common.{◌≡◌, ◌<◌, ◌≤◌, ◌+◌, ◌*◌, ℕ, List, [], ◌∷◌, ◌++◌, length, take, drop, set, refl, sym, ◌∙◌, ap, arith, length-append, length-take, length-drop, append_assoc}
 use Rattle.std.proofs.lemmas.List.{take_all, take-append-le, drop-append-le, take_more_set, take_at, nil_from_length}
 use Rattle.std.specs.List.{list_any}
@@ -40,7 +40,7 @@ size_of-made_by (Write a s ∷ es) d sum =
     omega (arith, sum, length-take s d, length-drop s d, size_of-made_by es (drop s d) (omega (arith, sum, length-drop s d)))
 size_of-made_by (Sync ∷ es) d sum = omega (arith, size_of-made_by es d sum)
 
--- whether a place was written, by the entries or by their ranges
+-- whether an offset was written, by the entries and by their ranges
 pub list_any-has_place : (i : ℕ) (es : List Entry) → list_any (has_place i) es ≡ list_any (is_in i) (ranges_of es)
 list_any-has_place i [] = refl
 list_any-has_place i (Write a s ∷ es) = cc (list_any-has_place i es)

@@ -1,4 +1,4 @@
--- What each good call makes of a disk, and of what a stop may leave of it.
+-- A disk and its images after each successful call.
 use Rattle.std.proofs.Common.{◌≡◌, inl, inr, ◌<◌, ◌≤◌, ◌+◌, ℕ, min, max, List, [], ◌∷◌, ◌++◌, length, get_or, map, Bool, true, false, cond, refl, sym, ◌∙◌, ap, subst, arith, length-append}
 use Rattle.std.proofs.lemmas.List.{take_all, take-append-le, ext_get_or}
 use Rattle.std.proofs.lemmas.List.Folds.{list_any-append}
@@ -25,7 +25,7 @@ module _ (m : Medium) (at : ℕ) (x : List ℕ) where
   abbrev written : Medium
   written = after_call m (Wrote at x)
 
-  -- what is synced after the write was so before it, and is outside its range
+  -- what is synced after the write was synced before it, and is outside its range
   synced_before : (i : ℕ) → is_unsynced written i ≡ false → is_unsynced m i ≡ false
   synced_before i un = grind (arith, list_any-append (is_in i) m.writes ((at, length x) ∷ []), un)
 
@@ -50,7 +50,7 @@ module _ (m : Medium) (at : ℕ) (x : List ℕ) where
     same = λ i un. is.same i (synced_before i un);
   }
 
-  -- an image after the write is a torn one of before it: the same, but for the bytes that were synced then
+  -- an image after the write is a torn write of an image before it
   module _ (image : IsImage m m.file) (file : List ℕ) (is : IsImage written file) where
     before_at : ℕ → ℕ
     before_at i = cond (is_unsynced m i) (get_or file i 0) (get_or m.synced i 0)
@@ -77,7 +77,7 @@ module _ (m : Medium) (at : ℕ) (x : List ℕ) where
     unfolding before_at
     was_unsynced i un = ap (λ (b : Bool). cond b (get_or file i 0) (get_or m.synced i 0)) un
 
-    -- what is synced is in the file of then
+    -- a synced byte is in the file as of the last sync
     is_short : (i : ℕ) → is_unsynced m i ≡ false → i < length m.synced
     is_short i un = grind (arith, nat_tests, un)
 
@@ -113,7 +113,7 @@ module _ (m : Medium) (at : ℕ) (x : List ℕ) where
       },
     )
 
--- the parts of a disk after each call
+-- the fields of a disk after each call
 pub shows_written : (m : Medium) (at : ℕ) (x file synced : List ℕ) (writes : List (ℕ × ℕ)) → Shows m file synced writes
     → Shows (after_call m (Wrote at x)) (overwritten at x file) synced (writes ++ (at, length x) ∷ [])
 shows_written m at x file synced writes shows = record {
@@ -127,7 +127,7 @@ shows_written m at x file synced writes shows = record {
 pub shows_synced : (m : Medium) (file synced : List ℕ) (writes : List (ℕ × ℕ)) → Shows m file synced writes → Shows (after_call m Synced) file file []
 shows_synced m file synced writes shows = subst (λ (f : List ℕ). Shows (settled m.file) f f []) shows.file_is (shows_settled m.file)
 
--- a file that is all on the disk has no image but itself
+-- a fully synced file is its only image
 pub settled_only : (file image : List ℕ) → IsImage (settled file) image → image ≡ file
 settled_only file image is =
     ext_get_or 0 image file (omega (arith, is.no_shorter, is.no_longer)) (λ i lt. is.same i (grind (arith, nat_tests, lt, is.no_longer)))
@@ -140,7 +140,7 @@ pub after_calls-push : (m : Medium) (calls : List Call) (call : Call) → after_
 after_calls-push m [] call = refl
 after_calls-push m (c ∷ calls) call = after_calls-push (after_call m c) calls call
 
--- time goes on by one call
+-- one call passes
 pub elapses_push : (first : Medium) (calls : List Call) (call : Call)
     → Elapses (length calls) (length (calls ++ call ∷ [])) (LeftSince first calls) (LeftSince first (calls ++ call ∷ [])) (IsImage (after_calls first (calls ++ call ∷ [])))
 elapses_push first calls call = record {

@@ -36,7 +36,7 @@ pub record Counted {T E : Type 0} (before now : ℕ) (result : Result T E) : Typ
   pub failed : OnErr result (before < 2 ^ 64 - 1 → now ≡ before + 1)
   pub done : OnOk result (now ≡ before)
 
--- the call returns this refusal exactly if the count of failures rose
+-- the count of failures rises, up to its maximum, exactly if the call returns this refusal
 pub record CountsFaults {T E : Type 0} (device : E) (before now : ℕ) (result : Result T E) :
     Type 0 where
   pub later : before ≤ now

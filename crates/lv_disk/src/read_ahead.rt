@@ -113,7 +113,7 @@ impl<D: Disk> ReadAhead<D> {
         Ok(())
     }
 
-    // Reads the range into the buffer, if the buffer is long enough; returns whether the buffer then holds it.
+    // Makes the buffer hold the range if the range fits in it, and returns whether it does.
     fn reach(&mut self, at: u64, len: usize) -> Result<bool, DeviceFault>
         requires { Each (D.reads (disk_in self.old)) (λ file. at ≤ length file) }
         ensures held { IfOk result (λ held. held ≡ true

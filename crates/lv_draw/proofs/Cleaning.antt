@@ -9,7 +9,7 @@ use Rattle.lv_draw.specs.Views.{with_script_line}
 use Rattle.std.specs.Str.Lines.{strip_carriage_return}
 use Rattle.lv_draw.specs.Scripts.{begins_comment, cleaned, is_line_end, says_something, told_words}
 
--- a text with words behind it, each with a space in front
+-- a text followed by words, each after a space
 abbrev pub with_words : List ℕ → List (List ℕ) → List ℕ
 with_words text [] = text
 with_words text (w ∷ ws) = with_words (text ++ (32 ∷ w)) ws
@@ -19,18 +19,18 @@ behind-text text w [] = refl
 behind-text text w (v ∷ vs) =
     behind-text (text ++ (32 ∷ w)) v vs ∙ append_assoc text (32 ∷ w) (32 ∷ join_with_byte 32 (v ∷ vs))
 
--- words behind no text are joined, but for the first space
+-- words after an empty text are joined, except for the first space
 pub joined : (ws : List (List ℕ)) → drop 1 (with_words [] ws) ≡ join_with_byte 32 ws
 joined [] = refl
 joined (w ∷ ws) = ap (drop 1) (behind-text [] w ws)
 
 -- ---- A line
 
--- the words of a text in front of its comment
+-- the words of a text before its comment
 abbrev pub told_in : List ℕ → List (List ℕ)
 told_in text = take_while (λ w. not (begins_comment w)) (text_words text)
 
--- a text behind which the words of the rest stand is the line, cleaned
+-- the text followed by the words of the rest is the cleaned line
 abbrev pub IsCleaned : List ℕ → List ℕ → List ℕ → Type 0
 IsCleaned text rest line = with_words text (told_in rest) ≡ with_words [] (told_words line)
 
@@ -65,11 +65,11 @@ cleaned_end text rest line e h =
 
 -- ---- A script
 
--- the lines that say something, of parts of which the first has the number behind this one
+-- the lines that have a word, if the first line has the number after this one
 abbrev pub told_lines : ℕ → List (List ℕ) → List (ℕ × List ℕ)
 told_lines number parts = filter says_something (enumerate_from (number + 1) (map cleaned parts))
 
--- where no LF stands in front of i, the first line is what stands there
+-- if there is no LF before i, the first line is the bytes before i
 lines-suc : (bs : List ℕ) (i : ℕ) → ((k : ℕ) → k < i → is_line_end (get_or bs k 0) ≡ false) → i < length bs
     → is_line_end (get_or bs i 0) ≡ true → slice_split is_line_end bs ≡ take i bs
     ∷ slice_split is_line_end (drop (suc i) bs)
@@ -79,13 +79,13 @@ lines-suc (b ∷ bs) (suc i) before lt here =
     slice_split-cons_no is_line_end b bs (before 0 (omega arith))
     ∙ ap (onto_first b) (lines-suc bs i (λ k h. before (suc k) (omega arith)) (omega arith) here)
 
--- the same, as code says it
+-- the same, as the code states it
 pub lines_at : (bs : List ℕ) (i : ℕ) → ((k : ℕ) → k < i → is_line_end (get_or bs k 0) ≡ false) → i < length bs
     → is_line_end (get_or bs i 0) ≡ true → slice_split is_line_end bs ≡ take i bs
     ∷ slice_split is_line_end (take (length bs - (i + 1)) (drop (i + 1) bs))
 lines_at bs i before lt here = rw (take_rest bs (i + 1), add-one) (lines-suc bs i before lt here)
 
--- where there is no LF, there is one line
+-- if there is no LF, there is one line
 pub lines_none : (bs : List ℕ) → ((k : ℕ) → k < length bs → is_line_end (get_or bs k 0) ≡ false) → slice_split is_line_end bs ≡ bs ∷ []
 lines_none [] before = refl
 lines_none (b ∷ bs) before =
@@ -96,6 +96,6 @@ take-line-by : (t : Bool) (ls more : List (ℕ × List ℕ)) (one : ℕ × List 
 take-line-by true ls more one = sym (append_assoc ls (one ∷ []) more)
 take-line-by false ls more one = refl
 
--- the first line is taken, if it says something
+-- the first line is taken if it has a word
 pub take_line : (ls : List (ℕ × List ℕ)) (n : ℕ) (line : List ℕ) (parts : List (List ℕ)) → ls ++ told_lines n (line ∷ parts) ≡ with_script_line ls (n + 1) line ++ told_lines (n + 1) parts
 take_line ls n line parts = take-line-by (is_some_text (cleaned line)) ls (told_lines (n + 1) parts) (n + 1, cleaned line)

@@ -11,20 +11,20 @@ use Rattle.lv_draw.proofs.Cleaning.{with_words}
 
 -- ---- Names
 
--- what is found of a name, where one more entry was looked at
+-- what is found for a name after one more entry
 abbrev pub newer : List ℕ → Option Numbers → List ℕ × Numbers → Option Numbers
 newer name found entry = cond (bytes_eq entry.0 name) (Some entry.1) found
 
 -- ---- Digits
 
--- a number with a digit behind it
+-- a number with one more digit
 abbrev pub with_digit : ℕ → ℕ → ℕ
 with_digit n d = n * 10 + (d - 48)
 
 least-step : (v d : ℕ) → min 32768 (with_digit (min 32768 v) d) ≡ min 32768 (with_digit v d)
 least-step v d = omega arith
 
--- a number beyond 32768 may be taken for it
+-- a number above 32768 may be replaced by 32768
 pub least_fold : (v : ℕ) (ds : List ℕ) → min 32768 (fold with_digit (min 32768 v) ds) ≡ min 32768 (fold with_digit v ds)
 least_fold v [] = omega arith
 least_fold v (d ∷ ds) =
@@ -34,7 +34,7 @@ least_fold v (d ∷ ds) =
 
 -- ---- Words
 
--- a text with words behind it, each with a space in front, or their fault
+-- a text followed by words, each after a space, or the words' error
 abbrev pub behind : List ℕ → Result (List (List ℕ)) DrawError → Result (List ℕ) DrawError
 behind text (Ok ws) = Ok (with_words text ws)
 behind text (Err e) = Err e
@@ -48,7 +48,7 @@ pub joined_behind : (r : Result (List (List ℕ)) DrawError) → joined_line r �
 joined_behind (Ok ws) = ap (λ t. Ok t) (sym (cleaning.joined ws))
 joined_behind (Err e) = refl
 
--- one word more
+-- one more word
 pub behind_more : (text w : List ℕ) (r : Result (List (List ℕ)) DrawError) → behind text (in_front (Ok w) r) ≡ behind (text ++ (32 ∷ w)) r
 behind_more text w (Ok ws) = refl
 behind_more text w (Err e) = refl

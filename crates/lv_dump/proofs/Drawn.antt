@@ -36,7 +36,7 @@ other_name name m other = false_from_ne_true (is_named name m) (λ t. other (λ 
 pub own_name : (name : Name8) (m : Tables) → m.name ≡ name → is_named name m ≡ true
 own_name name m e = (bytes_eq-Decides m.name.bytes name.bytes).1 (ap (λ n. n.bytes) e)
 
--- where each map has another name, none has it
+-- if each map has another name, no map has this name
 pub none_named : (p : ProjectMaps) (name : Name8) → ((k : ℕ) (d : Tables) → k < length p.maps → is_named name (get_or p.maps k d) ≡ false) → has_map p name ≡ false
 none_named p name others =
     let past : project.map_number_of p name ≡ length p.maps =
@@ -85,15 +85,15 @@ leads_new cap p name named new room fits =
       },
     )
 
--- ---- The maps behind the first
+-- ---- The maps after the first
 
--- front of a list of maps is no longer than all
+-- the first maps of a list are no longer than all
 front_len : (all front back : List Tables) (m : Tables) → all ≡ front ++ m ∷ back → sum_by part_len (front ++ m ∷ []) ≤ sum_by part_len all
 front_len all front back m e =
     let whole : sum_by part_len all ≡ sum_by part_len (front ++ m ∷ back) = ap (sum_by part_len) e in
     omega (arith, whole, sum_by-append part_len front (m ∷ back), sum_by-cons part_len m back, sum_by-append part_len front (m ∷ []), sum_by-cons part_len m [])
 
--- the maps are all there, and some is current
+-- all maps are drawn, and some map is current
 abbrev Reaches : ℕ → ProjectMaps → List ProjectCommand → List Tables → Type 0
 Reaches cap old cs maps = (n : ℕ) × Draws cap old cs (record { maps = maps; current = n })
 
@@ -173,7 +173,7 @@ draws_again p w cap fits =
     let q : ProjectMaps = record { maps = p.maps; current = all.0 } in
     Draws-append cap empty_project q p (commands_from 0 p.maps) (SelectMap (current_map p).name ∷ []) all.1 (p, leads_current cap p all.0 w fits, refl)
 
--- two dumps that are one lead to one project
+-- equal dumps lead to the same project
 pub tells_apart : DumpsTellProjectsApart
 tells_apart p q v w same =
     let cap = body_len p + body_len q in

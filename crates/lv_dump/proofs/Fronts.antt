@@ -1,4 +1,4 @@
--- Why nothing refuses a map's next item, where those before it are drawn.
+-- A map's next item isn't refused once those before it are drawn.
 use Rattle.std.proofs.Common.{◌≡◌, ◌≢◌, ℕ, ◌+◌, ◌<◌, ◌≤◌, Bool, true, false, ◌&&◌, ◌||◌, not, List, [], ◌∷◌, ◌++◌, length, get_or, None, refl, subst, ◌∙◌, ap, arith, length-append, nat_eq}
 use Rattle.std.proofs.Math.Seq.{get_or-append_seam}
 use Rattle.std.proofs.lemmas.List.{get_or_append_left}
@@ -18,16 +18,16 @@ use Rattle.lv_maptables.specs.Faults.{is_taken, is_too_long, lacks, lacks_room, 
 use Rattle.lv_maptables.proofs.PlaceLemmas.{free_among}
 use Rattle.lv_commands.proofs.Drawing.{lacks-not, or-both}
 
--- ---- A list parted in front of an item
+-- ---- A list cut before an item
 
 pub inside : {X : Type 0} (front back : List X) (x : X) → length front < length (front ++ x ∷ back)
 inside front back x = omega (arith, length-append front (x ∷ back))
 
--- what holds of all holds of the item
+-- what is true of all items is true of the item
 pub holds_at : {X : Type 0} (P : X → Type 0) (front back : List X) (x : X) → All P (front ++ x ∷ back) → P x
 holds_at P front back x all = subst P (get_or-append_seam front x back x) (all (length front) x (inside front back x))
 
--- what holds of each two holds of one before the item and the item
+-- what is true of each two items is true of one before the item and the item
 pub holds_before : {X : Type 0} (R : X → X → Type 0) (front back : List X) (x : X) → AllPairs R (front ++ x ∷ back)
     → (k : ℕ) (d : X) → k < length front → R (get_or front k d) x
 holds_before R front back x pairs k d h =
@@ -68,13 +68,13 @@ side_free m n front back s w e is same =
     let few = room m.sides front back s e w.side_count in
     (λ i. least ((4, lacks (same i) s.sector) ∷ (12, lacks_room (is i) 1) ∷ [])) ∙ (λ i. least ((4, there i) ∷ (12, few i) ∷ []))
 
--- a left side that a line has is there
+-- a line's left side exists
 left-there : (sides : List Side) (l : Line) (t : Bool) → nat_eq l.left no_side ≡ t → HasSides sides l → (not t && lacks sides l.left) ≡ false
 left-there sides l true e h = refl
 left-there sides l false e h =
     lacks-not sides l.left (h.left (λ is. absurd (cc (e, is))))
 
--- a line with two sides has a left one
+-- a two-sided line has a left side
 two-sided : (sides : List Side) (l : Line) (t u : Bool) → is_two_sided l ≡ t → nat_eq l.left no_side ≡ u → HasSides sides l → (t && not (not u)) ≡ false
 two-sided sides l false u e f h = refl
 two-sided sides l true false e f h = refl

@@ -1,4 +1,4 @@
--- The dumps of maps with different names draw them one after the other.
+-- The dumps of maps with different names draw them one after another.
 use Rattle.std.proofs.Common.{◌≡◌, ◌≢◌, ℕ, zero, suc, ◌-◌, ◌≤◌, Bool, true, false, cond, not, nat_lt, List, [], ◌∷◌, ◌++◌, length, get_or, refl, sym, subst, ◌∙◌, ap, arith, append_assoc, append-nil, length-append}
 use Rattle.std.proofs.Math.ListN.{set}
 use Rattle.std.specs.Prelude.{filter}
@@ -32,7 +32,7 @@ leads-append cap old mid new (x ∷ xs) ys f g = (f.0, f.1, leads-append cap f.0
 abbrev has_other_name : Tables → Bool
 has_other_name m = not (has_first_name m)
 
--- the map called MAP01, or the empty one
+-- the map named MAP01, or the empty one
 abbrev first_of : List Tables → Tables
 first_of ms = get_or (filter has_first_name ms) 0 empty_tables
 
@@ -62,7 +62,7 @@ filter-push p xs x t is = filter-append p xs (x ∷ []) ∙ ap (λ b. filter p x
 
 -- ---- One more map
 
--- the map of the name is empty, and the map is drawn for it
+-- the map with the name is empty, and the map is drawn in its place
 record IsPlaced (done : List Tables) (m : Tables) (p : ProjectMaps) : Type 0 where
   empty : current_map (with_selected p m.name) ≡ added m.name
   maps : (with_map p m).maps ≡ maps_with (done ++ m ∷ [])
@@ -71,7 +71,7 @@ record IsPlaced (done : List Tables) (m : Tables) (p : ProjectMaps) : Type 0 whe
 abbrev AreOthers : Tables → List Tables → Type 0
 AreOthers m ms = All (λ x. x.name ≢ m.name) ms
 
--- a map called MAP01 takes the place of the first
+-- a map named MAP01 takes the place of the first
 first_placed : (done : List Tables) (m : Tables) (p : ProjectMaps) → AreOthers m done → HoldsMaps done p → has_first_name m ≡ true → IsPlaced done m p
 first_placed done m p apart held h =
     let same : m.name ≡ empty_tables.name = same_name empty_tables.name m h in
@@ -91,7 +91,7 @@ first_placed done m p apart held h =
       maps = (λ i. set (selected i) (number i) m) ∙ (λ i. get_or (sym firsts i) 0 empty_tables ∷ sym others i);
     }
 
--- a map of another name comes last
+-- a map with another name is appended
 other_placed : (done : List Tables) (m : Tables) (p : ProjectMaps) → AreOthers m done → HoldsMaps done p → has_first_name m ≡ false → IsPlaced done m p
 other_placed done m p apart held h =
     let others : AreOthers m p.maps = subst (AreOthers m) (sym held.maps) each in
@@ -133,7 +133,7 @@ last_is done m =
     let at : length (done ++ m ∷ []) - 1 ≡ length done = omega (arith, length-append done (m ∷ [])) in
     ap (λ n. get_or (done ++ m ∷ []) n empty_tables) at ∙ get_middle done [] m empty_tables
 
--- maps that are still to be drawn lead on
+-- the maps still to be drawn lead to the end
 record LeadsOn (ms rest : List Tables) (p : ProjectMaps) : Type 0 where
   end : ProjectMaps
   holds : HoldsMaps ms end

@@ -49,11 +49,11 @@ edits-append cap old mid new (c ∷ cs) ds f g = (f.0, f.1, edits-append cap f.0
 abbrev pub between : List Tables → Tables → List Tables → ProjectMaps
 between done m behind = record { maps = done ++ m ∷ behind; current = length done }
 
--- the same, where none is behind it
+-- the same, if no map follows it
 abbrev pub drawing : List Tables → Tables → ProjectMaps
 drawing done m = between done m []
 
--- a command makes one map of another, and the new one is no longer than the whole
+-- a command leads from one map to another, and the new one is no longer than the final one
 pub record Adds (whole old : Tables) (c : Command) (new : Tables) : Type 0 where
   pub range : of_one.InRange c
   pub free : least (of_one_map.faults old c) ≡ None
@@ -182,7 +182,7 @@ thing_adds m w front back t e =
 
 -- ---- All items
 
--- the items of a map make it of the empty map of its name
+-- the items of a map lead from the empty map with its name to the map
 pub leads_items : (cap : ℕ) (done behind : List Tables) (m : Tables) → WellFormed m → body_len (between done m behind) ≤ cap
     → Draws cap (between done (with_name empty_tables m.name) behind) (map Edit (items_of m)) (between done m behind)
 leads_items cap done behind m w fits =

@@ -91,7 +91,7 @@ no-faults : (x y : Option ℕ) → prior_fault x y ≡ None → (x ≡ None) × 
 no-faults None y e = (refl, e)
 no-faults (Some a) y e = absurd (some-fault (is_form_fault y) 1 a e)
 
--- words that stand at their places
+-- words at their places
 places-lines : (ps : List Place) (ws : List (List ℕ)) → places_fault ps ws ≡ None → list_all is_one_line ws ≡ true
 places-lines [] [] e = refl
 places-lines [] (w ∷ ws) e = absurd cc
@@ -100,7 +100,7 @@ places-lines (p ∷ ps) (w ∷ ws) e =
     let h = no-faults (place_fault p w) (places_fault ps ws) e in
     both-back (is_one_line w) (list_all is_one_line ws) (place-line p w h.0) (places-lines ps ws h.1)
 
--- ---- Nor do their lines
+-- ---- Nor do lines of words
 
 all-append : {X : Type 0} (p : X → Bool) (xs ys : List X) → list_all p xs ≡ true → list_all p ys ≡ true → list_all p (xs ++ ys) ≡ true
 all-append p xs ys e f = list_all-append p xs ys ∙ both-back (list_all p xs) (list_all p ys) e f
@@ -136,7 +136,7 @@ naming-line (suc n) name h = join-line (codes "map" ∷ name_text name ∷ []) (
 
 -- ---- All lines of a dump
 
--- each command's line is one
+-- each command's line is a single line
 abbrev AreLines : List ProjectCommand → Type 0
 AreLines cs = list_all is_one_line (map project_spelling cs) ≡ true
 

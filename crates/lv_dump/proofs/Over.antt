@@ -23,9 +23,9 @@ use Rattle.lv_dump.specs.Dump.{commands_of_one, items_of}
 use Rattle.lv_dump.specs.MapDumps.{HasRoomFor, MapDumpsDraw, with_map}
 use Rattle.lv_dump.proofs.Items.{Draws, between, leads_items}
 
--- ---- The map of a name
+-- ---- The map with a name
 
--- the map that is added where none has the name
+-- the map that is added if none has the name
 abbrev pub added : Name8 → Tables
 added name = with_name empty_tables name
 
@@ -70,7 +70,7 @@ no_fewer p name = by (has_map p name) refl
 parted : {X : Type 0} (xs : List X) (n : ℕ) (d : X) → n < length xs → xs ≡ take n xs ++ get_or xs n d ∷ drop (suc n) xs
 parted xs n d h = sym (take-append-drop n xs) ∙ ap (λ ys. take n xs ++ ys) (drop-cons xs n d h)
 
--- the maps in front of the current one, and those behind it
+-- the maps before the current one, and those after it
 abbrev front : ProjectMaps → List Tables
 front p = take p.current p.maps
 
@@ -94,7 +94,7 @@ longer_between : (done back : List Tables) (m : Tables) → body_len (between do
 longer_between done back m =
     omega (arith, sum_by-append part_len done (added m.name ∷ back), sum_by-cons part_len (added m.name) back, sum_by-append part_len done (m ∷ back), sum_by-cons part_len m back)
 
--- the map of the name is made current, or added
+-- the map with the name is made current, or added
 leads_selected : (cap : ℕ) (p : ProjectMaps) (name : Name8) → IsNamed is_marker name → HasRoomFor p name → body_len (with_selected p name) ≤ cap
     → LeadsTo cap p (project_spelling (SelectMap name)) (with_selected p name)
 leads_selected cap p name named room fits =
@@ -117,7 +117,7 @@ leads_selected cap p name named room fits =
         let few : nat_lt 32 (length p.maps + 1) ≡ false = le-ltb 32 (length p.maps + 1) (omega (arith, longer, count, length-append p.maps (added name ∷ []))) in
         λ i. least ((16, not (e i) && few i) ∷ [])
 
--- the project with an empty map of the name, and with the map
+-- the project with an empty map with the name, and the project with the map
 abbrev start : ProjectMaps → Tables → ProjectMaps
 start p m = let q = with_selected p m.name in between (front q) (added m.name) (behind q)
 
@@ -139,7 +139,7 @@ no_shorter p m room =
     let new = ap body_len (placed_is p m) in
     omega (arith, old, new, longer_between (front q) (behind q) m)
 
--- nor does the map that is added
+-- nor does an added map make it shorter
 pub no_longer : (p : ProjectMaps) (m : Tables) → HasRoomFor p m.name → body_len p ≤ body_len (with_map p m)
 no_longer p m room = by (has_map p m.name) refl
   where
@@ -166,7 +166,7 @@ leads_over cap p m w room fits =
 
 -- ---- The other maps
 
--- a map of another name isn't the current one, and stays
+-- a map with another name isn't the current one, and stays
 stays : (p : ProjectMaps) (m : Tables) (k : ℕ) (d : Tables) → k < length p.maps → (get_or p.maps k d).name ≢ m.name
     → get_or (with_map p m).maps k d ≡ get_or p.maps k d
 stays p m k d h other =
@@ -181,7 +181,7 @@ stays p m k d h other =
     by true e = ap (λ ms. get_or ms k d) (selected-there p m.name e)
     by false e = ap (λ ms. get_or ms k d) (selected-new p m.name e) ∙ get_or_append_left p.maps (added m.name ∷ []) d k h
 
--- a map behind those that were there is the one that is drawn
+-- a map after the old ones is the one that is drawn
 new_is : (p : ProjectMaps) (m : Tables) (k : ℕ) (d : Tables) → length p.maps ≤ k → k < length (with_map p m).maps
     → (get_or (with_map p m).maps k d).name ≡ m.name
 new_is p m k d past h = by (has_map p m.name) refl

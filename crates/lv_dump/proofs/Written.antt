@@ -1,4 +1,4 @@
--- Lines that are written one behind the other, and lines before one that is refused.
+-- Lines that are written one after another, and the lines before one that fails.
 use Rattle.std.proofs.Common.{◌≡◌, ◌∙◌, ◌+◌, ◌<◌, ℕ, zero, suc, List, [], ◌∷◌, ◌++◌, Option, Some, None, Result, Ok, Err}
 use Rattle.std.proofs.Common.{length, get_or, map, take, drop, refl, sym, ap, subst, arith, append_assoc, append-nil}
 use Rattle.std.specs.Prelude.{flat_map, slice_get}
@@ -47,7 +47,7 @@ Writes-append (Err OutOfMemory) cs ds u v w p q = record {
   written = subst (λ (t : List ℕ). Appends u w t) (sym (flat_map-append with_lf (map project_spelling cs) q.front)) (Appends-trans u v w (text cs) (text_of q.front) p q.written);
 }
 
--- the lines behind those that were to be written
+-- the lines after those to write
 pub Writes-stopped : (e : DumpError) (cs ds : List ProjectCommand) (u w : Option (List ℕ)) → Writes {U = Unit {0}} (Err e) cs u w
     → Writes {U = Unit {0}} (Err e) (cs ++ ds) u w
 Writes-stopped WriterFailed cs ds u w q = tt

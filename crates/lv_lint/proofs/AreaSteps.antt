@@ -1,4 +1,4 @@
--- The sums of areas, as one edge or one line more is added.
+-- The sums of areas, as one more edge or line is added.
 use Rattle.std.proofs.Common.{◌≡◌, ◌≢◌, ℕ, ◌+◌, ◌*◌, ◌^◌, ◌<◌, ◌≤◌, Bool, true, false, cond, eqb, List, [], ◌∷◌, ◌++◌, length, get_or, set, take, flat_map, fold, Some, ℤ, pos, neg_ℤ, ◌+ℤ◌, ◌≤ℤ◌, subst, sym, ap, ◌∙◌, ⊎_elim, arith}
 use Rattle.std.specs.List.{slice_get}
 use Rattle.std.proofs.lemmas.Bool.{cases_eq, eq-eqb, ne_eqb}
@@ -52,7 +52,7 @@ module _ (m : Tables) (e : Edge) (old : List ℤ) (k : ℕ) (a : ℤ) (at : k �
       ∙ ap (λ b. get_or old s (pos 0) +ℤ cond b (edge_area m.vertices e.from e.to) (pos 0))
       (sym (ne_eqb e.sector s (λ same. apart (sym (at ∙ same)))))
 
-  -- one edge's part is added
+  -- what one edge adds is added
   pub adds_one : neg_ℤ (pos (2 ^ 48)) ≤ℤ a → a ≤ℤ pos (2 ^ 48) → AddsArea m e old (set old k (get_or old k (pos 0) +ℤ a))
   adds_one low high =
       let sums : (s : ℕ) → get_or (set old k (get_or old k (pos 0) +ℤ a)) s (pos 0) ≡ get_or old s (pos 0) +ℤ part_in m s e =
@@ -72,7 +72,7 @@ pub step_fits : (x y : ℤ) → IsNear (2 ^ 101) (pos 0) x → neg_ℤ (pos (2 ^
 step_fits x y n low high =
     (omega (arith, ints, n.low, n.high), omega (arith, ints), omega (arith, ints, n.low, n.high))
 
--- the same, where the old sum was read
+-- the same, if the old sum was read
 pub adds_read : (m : Tables) (e : Edge) (old : List ℤ) (k : ℕ) (x y : ℤ) → k ≡ e.sector → x ≡ get_or old k (pos 0)
     → y ≡ edge_area m.vertices e.from e.to → neg_ℤ (pos (2 ^ 48)) ≤ℤ y → y ≤ℤ pos (2 ^ 48) → k < length old
     → AddsArea m e old (set old k (x +ℤ y))
@@ -113,7 +113,7 @@ edges_more m n l is =
     ∙ flat_map-append (edges_of_line m) (take n m.lines) (l ∷ [])
     ∙ ap (λ r. flat_map (edges_of_line m) (take n m.lines) ++ r) (append-nil (edges_of_line m l))
 
--- one line more is added
+-- one more line is added
 pub sums_more : (m : Tables) (n : ℕ) (l : Line) → slice_get m.lines n ≡ Some l → (old new : List ℤ)
     → AreSums m n old → AddsAreas m (edges_of_line m l) old new → AreSums m (n + 1) new
 sums_more m n l is old new t a = record {

@@ -44,7 +44,7 @@ row_in_band l y n low high band =
     (under_top l.from.y l.to.y (band_bottom n) (band_top n) y low band.high)
     (under_bottom l.from.y l.to.y (band_bottom n) (band_top n) y band.low high)
 
--- the row where two spans begin to meet
+-- the first common row of two spans
 pub record Begins (a b c d y : ℤ) : Type 0 where
   pub first_low : int_min a b ≤ℤ y
   pub first_high : y ≤ℤ int_max a b
@@ -66,7 +66,7 @@ spans_begin a b c d h =
       },
     )
 
--- each row from the first band's lowest to the last one's highest has a band between them
+-- each row from the first band's lowest to the last band's highest is in one of these bands
 row_between : (first last r : ℕ) (low y high : ℤ) → IsBandOf low first → IsBandOf high last → low ≤ℤ y → y ≤ℤ high → y ≡ pos r -ℤ pos 32768
     → (b : ℕ) × (first ≤ b) × (b < last + 1) × IsBandOf y b
 row_between first last r low y high f l below above is = (
@@ -80,7 +80,7 @@ row_between first last r low y high f l below above is = (
   },
 )
 
--- the row's place above the lowest
+-- the row's distance from the lowest one
 row_of : (y : ℤ) → neg_ℤ (pos 32768) ≤ℤ y → (r : ℕ) × (y ≡ pos r -ℤ pos 32768)
 row_of (pos n) h = (n + 32768, omega (arith, ints))
 row_of (negsuc n) h = (32767 - n, omega (arith, ints))
@@ -130,7 +130,7 @@ module _ {X : Type 0} (t : X → Bool) where
   absent : (x : X) (xs : List X) → (t x ≡ true → ⊥) → list_any t xs ≡ false → (t x ≡ true) ⊎ (t x ≡ false) → (t x || list_any t xs) ≡ false
   absent x xs never rest c = ⊎_elim (λ e. absurd (never e)) (λ e. ap (λ q. q || list_any t xs) e ∙ rest) c
 
-  -- nothing is found where each part is without it, and each item that would do lies in a part
+  -- nothing is found if no part has it, and each item that would pass lies in a part
   pub none_in_parts : (part : ℕ → X → Bool) (first end : ℕ) (xs : List X)
       → ((x : X) → t x ≡ true → (b : ℕ) × (first ≤ b) × (b < end) × (part b x ≡ true))
       → ((b : ℕ) → first ≤ b → b < end → list_any t (filter (part b) xs) ≡ false) → list_any t xs ≡ false
@@ -150,7 +150,7 @@ module _ {X : Type 0} (t : X → Bool) where
       (λ e. same ∙ sym (zero-add (count_by t xs)) ∙ ap (λ q. cond q 1 0 + count_by t xs) (sym e))
       (cases_Bool (t x))
 
-  -- a count of some of the items is that of all where each that counts is among them
+  -- a count over some of the items is that over all if each item that counts is among them
   pub count_of_filtered : (p : X → Bool) → ((x : X) → t x ≡ true → p x ≡ true) → (xs : List X) → count_by t (filter p xs) ≡ count_by t xs
   count_of_filtered p need [] = refl
   count_of_filtered p need (x ∷ xs) =
@@ -189,7 +189,7 @@ turned_near p n band l h =
     let down = and_both l.is_wall (comes_down p.y l.to.y l.from.y) two.0 in
     down_near p n band l l.to.y l.from.y down.1 (omega (arith, ints, clamps)) (omega (arith, ints, clamps))
 
--- the lines of a place's band tell whether it lies in no sector
+-- the lines of a place's band determine whether it lies in no sector
 pub outside_in_band : (ls : List PlacedLine) (p : Vertex) (n : ℕ) → IsBandOf p.y n → is_place_outside (filter (is_in_band n) ls) p ≡ is_place_outside ls p
 unfolding is_place_outside
 outside_in_band ls p n band =

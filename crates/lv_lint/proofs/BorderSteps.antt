@@ -1,4 +1,4 @@
--- Marks of the sectors that have a border, as one line more is read.
+-- Marks of the sectors that have a border, as one more line is read.
 use Rattle.std.proofs.Common.{◌≡◌, ℕ, ◌+◌, ◌<◌, Bool, true, false, cond, eqb, refl, ◌||◌, ◌&&◌, not, List, length, get_or, set, take, Some, sym, ap, ◌∙◌, arith}
 use Rattle.std.specs.List.{list_any, slice_get}
 use Rattle.std.proofs.lemmas.List.{length-set}
@@ -17,12 +17,12 @@ or_assoc : (a b c : Bool) → (a || b || c) ≡ (a || (b || c))
 or_assoc true b c = refl
 or_assoc false b c = refl
 
--- a line with one side has its sector on that side alone
+-- a line with one side has its sector on exactly that side
 borders_one : (m : Tables) (l : Line) (s : ℕ) → has_left l ≡ false → borders m s l ≡ eqb (right_sector_of m l) s
 borders_one m l s none =
     ap (λ b. cond b (not (eqb (right_sector_of m l) (left_sector_of m l)) && (eqb (right_sector_of m l) s || eqb (left_sector_of m l) s)) (eqb (right_sector_of m l) s)) none
 
--- with two sides, it has both their sectors so where they differ, and else none
+-- a line with two sides has both sectors on exactly one side if they differ, and otherwise none
 borders_two : (m : Tables) (l : Line) (s : ℕ) (same : Bool) → has_left l ≡ true → eqb (right_sector_of m l) (left_sector_of m l) ≡ same
     → borders m s l ≡ (not same && (eqb (right_sector_of m l) s || eqb (left_sector_of m l) s))
 borders_two m l s same some is =
@@ -58,14 +58,14 @@ module _ (m : Tables) (l : Line) (old : List Bool) (right : Side) (is : side_in 
           ∙ sym (borders_two m l s false some (sides_are false differ)));
     }
 
-    -- one sector on both sides isn't
+    -- one sector on both sides isn't marked
     pub marks_none : eqb right.sector left.sector ≡ true → MarksSides m l old old
     marks_none same = record {
       count = refl;
       marked = λ s h. or_false (get_or old s false) ∙ ap (λ b. get_or old s false || b) (sym (borders_two m l s true some (sides_are true same)));
     }
 
--- one line more is read
+-- one more line is read
 pub bordered_more : (m : Tables) (n : ℕ) (l : Line) → slice_get m.lines n ≡ Some l → (old new : List Bool)
     → MarksBordered m (take n m.lines) old → MarksSides m l old new → MarksBordered m (take (n + 1) m.lines) new
 bordered_more m n l is old new t a = record {

@@ -1,4 +1,4 @@
--- Boxes round the lines of a band: what they hold as lines come, and what they rule out.
+-- Boxes round the lines of a band: what they hold as lines are added, and what they rule out.
 use Rattle.std.proofs.Common.{◌≡◌, ◌≢◌, ℕ, zero, ◌⊎◌, ⊎_elim, inl, inr, ◌+◌, ◌*◌, ◌/◌, ◌<◌, ◌≤◌, Bool, true, false, ◌&&◌, List, [], ◌∷◌, ◌++◌, length, get_or, suc, ℤ, ◌≤ℤ◌, refl, sym, subst, not, below_more, ◌||◌, length-append, arith}
 use Rattle.std.specs.Prelude.{◌==◌, ◌%◌}
 use Rattle.std.specs.Int.{int_min, int_max}
@@ -14,7 +14,7 @@ use Rattle.lv_lint.specs.Boxes.{round_line, widened_by, may_meet, IsWithin, Keep
 use Rattle.lv_lint.proofs.Tests.{and_both, both}
 use Rattle.lv_lint.proofs.BandLemmas.{under_top, under_bottom, spans_begin}
 
--- spans that meet still do where the second grows
+-- spans that meet still do if the second one grows
 spans_in : (a b c d low high : ℤ) → low ≤ℤ int_min c d → int_max c d ≤ℤ high → spans_meet a b c d ≡ true → spans_meet a b low high ≡ true
 unfolding spans_meet
 spans_in a b c d low high f g h =
@@ -50,7 +50,7 @@ lt_or_le m zero = inr (omega arith)
 lt_or_le zero (suc n) = inl (omega arith)
 lt_or_le (suc m) (suc n) = elim (lt_or_le m n) [ inl e ↦ inl (omega arith) | inr e ↦ inr (omega arith) ]
 
--- ---- as lines come
+-- ---- as lines are added
 
 pub within_round : (l : PlacedLine) → IsWithin l (round_line l)
 within_round l = record { top = omega (arith, ints); bottom = omega (arith, ints); left = omega (arith, ints); right = omega (arith, ints) }
@@ -74,7 +74,7 @@ keeps_grown ls old new k g = record {
   within = λ i l b there. g.within (i / 16) (get_or ls i l) b (omega (arith, k.count)) (k.within i l b there);
 }
 
--- and a line came
+-- and a line was added
 pub keeps_more : (ls : List PlacedLine) (boxes : List Bounds) (l : PlacedLine) → KeepsBoxes ls boxes → HasBox boxes (length ls) l → KeepsBoxes (ls ++ l ∷ []) boxes
 keeps_more ls boxes l k h = record {
   count = omega (arith, h.count, length-append ls (l ∷ []));
@@ -98,7 +98,7 @@ none_found p (x ∷ xs) none = neither (p x) (list_any p xs) (none 0 x (omega ar
     neither : (a b : Bool) → a ≡ false → b ≡ false → (a || b) ≡ false
     neither a b h k = grind arith
 
--- a box was noted for a line that had its place among the boxes
+-- the box of a line was widened
 pub grown_at : (boxes : List Bounds) (n : ℕ) (l : PlacedLine) (b : Bounds) → n / 16 < length boxes → b ≡ widened_by (get_or boxes (n / 16) b) l
     → GrowsBoxes boxes (set boxes (n / 16) b)
 grown_at boxes n l b there is = record {
@@ -123,7 +123,7 @@ box_at boxes n l b there is = record {
       (subst (λ (x : Bounds). IsWithin l x) (sym is) (within_with (get_or boxes (n / 16) b) l));
 }
 
--- a box was put at the end
+-- a box was appended
 pub grown_end : (boxes : List Bounds) (b : Bounds) → GrowsBoxes boxes (boxes ++ b ∷ [])
 grown_end boxes b = record {
   count = omega (arith, length-append boxes (b ∷ []));
@@ -146,7 +146,7 @@ grown_none boxes = record { count = omega arith; within = λ i k d among w. w }
 pub none_yet : (l : PlacedLine) (ls : List PlacedLine) → NoneBelow l ls 0
 none_yet l ls = λ i d below there. absurd (omega arith)
 
--- a line that doesn't meet it
+-- one more line that doesn't meet the line
 pub none_more : (l : PlacedLine) (ls : List PlacedLine) (n : ℕ) → ((d : PlacedLine) → meets l (get_or ls n d) ≡ false) → NoneBelow l ls n → NoneBelow l ls (n + 1)
 none_more l ls n here none = λ i d below there. below_more (λ k. k < length ls → meets l (get_or ls k d) ≡ false) n (λ k lt among. none k d lt among) (λ among. here d) i below there
 

@@ -1,4 +1,4 @@
--- Where tests by side values tell that two lines cross, they have a common point that isn't an end of both.
+-- If the tests by side values say that two lines cross, the lines have a common point that isn't an end of both.
 use Rattle.std.proofs.Common.{◌≡◌, ◌≢◌, ◌∙◌, refl, sym, ap, ◌⊎◌, inl, inr, ⊎_elim, true, false, ◌&&◌, ◌||◌, [], ◌∷◌, arith}
 use Rattle.std.proofs.lemmas.Int.{ints, clamps, by_lt_z}
 use Rattle.std.proofs.lemmas.Bool.{false≢true}
@@ -27,7 +27,7 @@ ends_at-says : (l : PlacedLine) (p : Vertex) → ends_at l p ≡ true → (l.fro
 unfolding ends_at
 ends_at-says l p h = ⊎_elim (λ f. inl (at_is l.from p f)) (λ t. inr (at_is l.to p t)) (or_either _ _ h)
 
--- a mean with both weights is no end
+-- a mean with both weights positive isn't an end
 mean_no_end : (l : PlacedLine) (t u : ℤ) (p : ExactPoint) → l.from ≢ l.to → pos 0 <ℤ t → pos 0 <ℤ u → IsMean l t u p → IsEnd l p → ⊥
 mean_no_end l t u p ne t0 u0 m end =
     ⊎_elim
@@ -57,7 +57,7 @@ negated_sum a b x y = by_ring (a ∷ b ∷ x ∷ y ∷ []) _ _ (search quotes de
 negated_other : (a b x y : ℤ) → neg_ℤ (neg_ℤ b *ℤ x +ℤ a *ℤ y) ≡ b *ℤ x +ℤ neg_ℤ a *ℤ y
 negated_other a b x y = by_ring (a ∷ b ∷ x ∷ y ∷ []) _ _ (search quotes depth 30 fits 20000) (search quotes depth 30 fits 20000) tt
 
--- lines that part each other cross: k runs from the left of l to its right
+-- lines that each have the other's ends on both sides cross: k runs from the left of l to its right
 crossed_rightward : (l k : PlacedLine) → k.from ≢ k.to → turn l.from l.to k.from <ℤ pos 0 → pos 0 <ℤ turn l.from l.to k.to
     → turn k.from k.to l.to <ℤ pos 0 → pos 0 <ℤ turn k.from k.to l.from → HaveCrossing l k
 crossed_rightward l k ne cn ep bn ap' =
@@ -144,7 +144,7 @@ crossed_by_parts l k ne h g =
 
 -- ---- a place on a line
 
--- a number in a span: its way from either end doesn't run against the span
+-- a number in a span: the step from either end to it doesn't run against the span
 in_span : (a b x : ℤ) → spans_meet a b x x ≡ true → (pos 0 ≤ℤ ((b -ℤ a) *ℤ (x -ℤ a))) × (pos 0 ≤ℤ ((b -ℤ a) *ℤ (b -ℤ x)))
 unfolding spans_meet
 in_span a b x h =
@@ -200,7 +200,7 @@ near_end n z w = by_ring (n ∷ z ∷ w ∷ []) _ _ (search quotes depth 30 fits
 far_end : (n z w : ℤ) → pos 0 *ℤ w +ℤ n *ℤ z ≡ n *ℤ z
 far_end n z w = by_ring (n ∷ z ∷ w ∷ []) _ _ (search quotes depth 30 fits 20000) (search quotes depth 30 fits 20000) tt
 
--- what one place gives as an exact point with denominator n
+-- a place as an exact point with denominator n
 abbrev point_at : ℤ → Vertex → ExactPoint
 point_at n q = record { x = n *ℤ q.x; y = n *ℤ q.y; d = n }
 

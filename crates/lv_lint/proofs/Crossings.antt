@@ -1,4 +1,4 @@
--- Where two lines have a common point that isn't an end of both, tests by side values tell that they cross.
+-- If two lines have a common point that isn't an end of both, the tests by side values say that they cross.
 use Rattle.std.proofs.Common.{◌≡◌, ◌≢◌, ◌∙◌, refl, sym, ap, ◌⊎◌, inl, inr, ⊎_elim, true, ◌&&◌, ◌||◌, not, [], ◌∷◌, arith}
 use Rattle.std.proofs.lemmas.Int.{by_lt_z}
 use Rattle.std.specs.Prelude.{ℤ, pos, ◌+ℤ◌, ◌-ℤ◌, ◌*ℤ◌, ◌≤ℤ◌, ◌<ℤ◌}
@@ -52,7 +52,7 @@ abuts_within k l q at w =
 
 -- ---- where on a line a point lies
 
--- a point of a line is an end of it, or a mean with both weights
+-- a point of a line is an end of it, or a mean with both weights positive
 place_on : (l : PlacedLine) (t u : ℤ) (p : ExactPoint) → IsMean l t u p → IsEnd l p ⊎ ((pos 0 <ℤ t) × (pos 0 <ℤ u))
 place_on l t u p m =
     by_lt_z (pos 0) t
@@ -76,7 +76,7 @@ place_on l t u p m =
         let e2 : d *ℤ a ≡ s *ℤ a = ap (λ (o : ℤ). o *ℤ a) (omega (arith, linear)) in
         omega (arith, linear)
 
--- a place at a point between a line's ends
+-- a vertex at a point between a line's ends
 place_within : (l : PlacedLine) (v : Vertex) (t u : ℤ) (p : ExactPoint) → l.from ≢ l.to → IsMean l t u p → pos 0 <ℤ t → pos 0 <ℤ u → IsVertexAt v p → LiesWithin l v
 place_within l v t u p ne m t0 u0 s =
     mean_within l v t u p.d ne t0 u0 m.whole (m.across ∙ sym s.across) (m.upward ∙ sym s.upward)
@@ -88,9 +88,9 @@ end_abuts k l t u p ne m t0 u0 end =
     (λ s. abuts_within k l k.to (inr refl) (place_within l k.to t u p ne m t0 u0 s))
     end
 
--- ---- means with both weights
+-- ---- means with both weights positive
 
--- of two numbers that even out, one is above 0 where the other one is below
+-- if two weighted numbers add up to 0, one is above 0 if the other one is below
 opposite_up : (s v a b : ℤ) → pos 0 <ℤ s → pos 0 <ℤ v → s *ℤ a +ℤ v *ℤ b ≡ pos 0 → a <ℤ pos 0 → pos 0 <ℤ b
 opposite_up s v a b s0 v0 e h =
     let p = times_below s a (pos 0) s0 h in
@@ -158,7 +158,7 @@ same_placed a b n i j p q h f g e = vertex_is p q (one a.x b.x p.x q.x f.across 
         let k = cancel n (z -ℤ x) (w -ℤ x) h (f' ∙ ap (λ (o : ℤ). o *ℤ (y -ℤ x)) e ∙ sym g') in
         omega (arith, linear)
 
--- neither end of k lies within l: then k reaches past l on both sides, or doubles it
+-- if neither end of k lies within l, then k reaches past l on both sides, or doubles it
 module _ (l k : PlacedLine) (ne : l.from ≢ l.to) (nk : k.from ≢ k.to) (n g e : ℤ) (h : pos 0 <ℤ n)
     (c : IsPlacedAt l.from l.to n g k.from) (d : IsPlacedAt l.from l.to n e k.to) where
   reached_along : g ≤ℤ pos 0 → n ≤ℤ e → share l k ≡ true
@@ -195,7 +195,7 @@ module _ (l k : PlacedLine) (ne : l.from ≢ l.to) (nk : k.from ≢ k.to) (n g e
       abutted_share l k (abuts_within k l k.to (inr refl)
       (between_within l.from l.to n h l k.to (pos 0) e n ne (start_placed l.from l.to n) d (end_placed l.from l.to n) low high))
 
-  -- where a mean of k's ends lies within l, one of these holds
+  -- if a mean of k's ends lies within l, one of these holds
   shared_along : (t u s v w : ℤ) → pos 0 <ℤ t → pos 0 <ℤ u → pos 0 <ℤ s → pos 0 <ℤ v → t +ℤ u ≡ w → s +ℤ v ≡ w → s *ℤ g +ℤ v *ℤ e ≡ u *ℤ n
       → share l k ≡ true
   shared_along t u s v w t0 u0 s0 v0 tw sw m =
@@ -234,7 +234,8 @@ module _ (l k : PlacedLine) (ne : l.from ≢ l.to) (nk : k.from ≢ k.to) (n g e
 
 -- ---- both at one point
 
--- side values of two lines' ends that even out: each line parts the other, or all are 0
+-- if the weighted side values of two lines' ends add up to 0, each line has the other's ends on both sides, or all
+-- side values are 0
 record AreEven (s v t u A B F G : ℤ) : Type 0 where
   first : s *ℤ A +ℤ v *ℤ B ≡ pos 0
   second : t *ℤ F +ℤ u *ℤ G ≡ pos 0

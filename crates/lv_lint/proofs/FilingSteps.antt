@@ -1,4 +1,4 @@
--- A line is filed in the bands from that of its lowest row to that of its highest.
+-- A line is added to the bands from that of its lowest row to that of its highest.
 use Rattle.std.proofs.Common.{◌≡◌, ℕ, ◌+◌, ◌<◌, ◌≤◌, Bool, true, false, cond, List, [], ◌∷◌, ◌++◌, length, get_or, take, filter, below_more, zero, suc, refl, sym, ap, subst, ◌∙◌, ◌⊎◌, ⊎_elim, inl, inr, append-nil, arith}
 use Rattle.std.specs.Prelude.{replicate}
 use Rattle.std.specs.Int.{int_min, int_max}
@@ -27,7 +27,7 @@ none_here : (q : Bool) → (q ≡ true → ⊥) → q ≡ false
 none_here true never = absurd (never refl)
 none_here false never = refl
 
--- and none in the others
+-- and no row in the other bands
 pub below_bands : (l : PlacedLine) (first b : ℕ) → IsBandOf (int_min l.from.y l.to.y) first → b < first → is_in_band b l ≡ false
 unfolding is_in_band spans_meet
 below_bands l first b f under = none_here (is_in_band b l)
@@ -51,7 +51,7 @@ lt_or_le m zero = inr (omega arith)
 lt_or_le zero (suc n) = inl (omega arith)
 lt_or_le (suc m) (suc n) = elim (lt_or_le m n) [ inl e ↦ inl (omega arith) | inr e ↦ inr (omega arith) ]
 
--- the bands below `band` got the line where they have to, the others stayed
+-- the line was added to the bands below `band` that share a row with it, the others stayed
 pub record FiledTo (l : PlacedLine) (band : ℕ) (old new : List (List PlacedLine)) : Type 0 where
   pub count : length new ≡ length old
   pub done : (b : ℕ) → b < 512 → b < band → get_or new b [] ≡ get_or old b [] ++ filter (is_in_band b) (l ∷ [])

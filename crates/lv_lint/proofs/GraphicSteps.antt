@@ -11,7 +11,7 @@ cond_or true false = refl
 cond_or false true = refl
 cond_or false false = refl
 
--- whether some bytes are among those of the names, one name more
+-- whether some bytes are among those of the names, with one more name
 pub names_more : (names : List Name8) (i : ℕ) (d : Name8) → i < length names → (bytes : List ℕ) (old new : Bool)
     → old ≡ list_any (λ k. bytes_eq k.bytes bytes) (take i names) → new ≡ cond (bytes_eq (get_or names i d).bytes bytes) true old
     → new ≡ list_any (λ k. bytes_eq k.bytes bytes) (take (i + 1) names)

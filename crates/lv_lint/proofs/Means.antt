@@ -48,7 +48,7 @@ turn_of_place : (a b p : Vertex) (d : ℤ) → d *ℤ turn a b p ≡ turn_of a b
 turn_of_place a b p d =
     by_ring (a.x ∷ a.y ∷ b.x ∷ b.y ∷ p.x ∷ p.y ∷ d ∷ []) _ _ (search quotes depth 30 fits 20000) (search quotes depth 30 fits 20000) tt
 
--- two means at one point: the side values of one line's ends by the other one even out
+-- two means at the same point: the weighted side values of one line's ends by the other line add up to 0
 pub even_out : (a b c e : Vertex) (t u s v x y d : ℤ) → t +ℤ u ≡ d → t *ℤ a.x +ℤ u *ℤ b.x ≡ x → t *ℤ a.y +ℤ u *ℤ b.y ≡ y
     → s +ℤ v ≡ d → s *ℤ c.x +ℤ v *ℤ e.x ≡ x → s *ℤ c.y +ℤ v *ℤ e.y ≡ y → s *ℤ turn a b c +ℤ v *ℤ turn a b e ≡ pos 0
 even_out a b c e t u s v x y d tw tx ty sw sx sy =
@@ -61,7 +61,7 @@ differ_alike a b c e =
 
 -- ---- spans of means
 
--- two means with one value: an end of the first is at most an end of the second
+-- two means with the same value: an end of the first is at most an end of the second
 pub under_means : (a b c e t u s v d x : ℤ) → pos 0 <ℤ d → pos 0 ≤ℤ t → pos 0 ≤ℤ u → t +ℤ u ≡ d → t *ℤ a +ℤ u *ℤ b ≡ x
     → pos 0 ≤ℤ s → pos 0 ≤ℤ v → s +ℤ v ≡ d → s *ℤ c +ℤ v *ℤ e ≡ x → is_under a b c e ≡ true
 unfolding is_under
@@ -123,7 +123,7 @@ unfolding ends_at
 ends_at-none l p f g =
     neither (is_at l.from p) (is_at l.to p) (test_false (is_at l.from p) (λ h. f (at_is l.from p h))) (test_false (is_at l.to p) (λ h. g (at_is l.to p h)))
 
--- a mean with a weight of the far end isn't the near end
+-- a mean with a positive weight of the far end isn't the near end
 pub far_from : (c e : Vertex) (s v x y d : ℤ) → c ≢ e → pos 0 <ℤ v → s +ℤ v ≡ d → s *ℤ c.x +ℤ v *ℤ e.x ≡ x → s *ℤ c.y +ℤ v *ℤ e.y ≡ y
     → d *ℤ c.x ≡ x → d *ℤ c.y ≡ y → ⊥
 far_from c e s v x y d ne h w mx my ex ey = ne (vertex_is c e (one c.x e.x x mx ex) (one c.y e.y y my ey))
@@ -137,7 +137,7 @@ far_from c e s v x y d ne h w mx my ex ey = ne (vertex_is c e (one c.x e.x x mx 
 pub turned_sum : (p q r : ℤ) → p +ℤ q ≡ r → q +ℤ p ≡ r
 turned_sum p q r k = omega (arith, linear)
 
--- a place that is a mean with both weights lies between the ends
+-- a place that is a mean with both weights positive lies between the ends
 pub mean_within : (l : PlacedLine) (p : Vertex) (s v d : ℤ) → l.from ≢ l.to → pos 0 <ℤ s → pos 0 <ℤ v → s +ℤ v ≡ d
     → s *ℤ l.from.x +ℤ v *ℤ l.to.x ≡ d *ℤ p.x → s *ℤ l.from.y +ℤ v *ℤ l.to.y ≡ d *ℤ p.y → LiesWithin l p
 unfolding is_on side_value_at spans_meet

@@ -1,4 +1,4 @@
--- Marks of the tags that are there, as one item more is read.
+-- Marks of the tags in use, as one more item is read.
 use Rattle.std.proofs.Common.{◌≡◌, ℕ, ◌+◌, ◌<◌, Bool, true, false, eqb, refl, ◌||◌, List, length, get_or, set, take, Some, sym, ap, ◌∙◌, ⊎_elim, arith}
 use Rattle.std.specs.List.{list_any, slice_get}
 use Rattle.std.proofs.lemmas.Bool.{cases_eq, eq-eqb, ne_eqb}

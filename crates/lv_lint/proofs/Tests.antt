@@ -1,4 +1,4 @@
--- What tests that hold say, and how to show that they hold.
+-- What it means that a test holds, and how to show that it does.
 use Rattle.std.proofs.Common.{◌≡◌, Bool, true, false, ◌&&◌, ◌||◌, not, refl, ◌⊎◌, inl, inr, ⊎_elim, ℤ, ◌≤ℤ◌, arith}
 use Rattle.std.specs.Prelude.{int_le, int_lt, ◌<ℤ◌}
 use Rattle.std.specs.Int.{int_min, int_max}
@@ -45,7 +45,7 @@ pub not_says : (b : Bool) → not b ≡ true → b ≡ false
 not_says true h = cc
 not_says false h = refl
 
--- the lesser of two numbers that are under others is at most the greater of those
+-- the lesser of two numbers, one of which is at most one of two others, is at most the greater of those
 pub under_says : (a b c d : ℤ) → is_under a b c d ≡ true → int_min a b ≤ℤ int_max c d
 unfolding is_under
 under_says a b c d h =

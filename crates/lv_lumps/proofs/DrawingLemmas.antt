@@ -1,4 +1,4 @@
--- A vertex can be drawn where both its coordinates can.
+-- A vertex is drawable if both its coordinates are in range.
 use Rattle.std.proofs.Common.{arith}
 use Rattle.std.proofs.lemmas.Int.{ints}
 use Rattle.lv_lumps.specs.declared.records.Vertex.{Vertex}

@@ -1,4 +1,4 @@
--- A map's part holds that map, and framed bytes begin with the part of what they hold.
+-- A map's part holds that map, and framed bytes begin with the part of the tables that they hold.
 use Rattle.std.proofs.Common.{◌≡◌, ℕ, zero, suc, ◌+◌, ◌*◌, ◌/◌, ◌≤◌, ◌<◌, List, [], ◌∷◌, ◌++◌, length, map, get_or, take, drop, refl, sym, ◌∙◌, ap, arith, length-append, length-drop, append_assoc, inl, inr}
 use Rattle.std.specs.Prelude.{flat_map}
 use Rattle.std.specs.List.{All}
@@ -31,19 +31,19 @@ length-first_chunks : {X : Type 0} (n k : ℕ) (xs : List X) → length (first_c
 length-first_chunks n zero xs = refl
 length-first_chunks n (suc k) xs = ap suc (length-first_chunks n k (drop n xs))
 
--- a lump of whole records holds as many as it is that long
+-- a lump of whole records holds as many records as its length says
 pub length-records_of : {R : Type 0} (at : List ℕ → R) (n k : ℕ) (bytes : List ℕ) → 0 < n → length bytes ≡ n * k → length (records_of at n bytes) ≡ k
 length-records_of at n k bytes some whole =
     let many : length bytes / n ≡ k = rw whole (mul-div_cancel_left k some) in
     length-map (first_chunks n (length bytes / n) bytes) at ∙ length-first_chunks n (length bytes / n) bytes ∙ many
 
 module _ {R : Type 0} (at : List ℕ → R) (bytes_of : R → List ℕ) (n : ℕ) where
-  -- each record has n bytes, which hold it
+  -- each record is encoded as n bytes, which decode to it
   pub record IsBack (x : R) : Type 0 where
     pub size : length (bytes_of x) ≡ n
     pub back : at (bytes_of x) ≡ x
 
-  -- the records' bytes are n times as many as the records
+  -- the records have n times as many bytes as there are records
   pub length-lump : (xs : List R) → All IsBack xs → length (flat_map bytes_of xs) ≡ n * length xs
   length-lump [] backs = omega arith
   length-lump (x ∷ xs) backs =
@@ -77,7 +77,7 @@ module _ {R : Type 0} (at : List ℕ → R) (bytes_of : R → List ℕ) (n : ℕ
       let rest = chunks-lump k (drop n bytes) (omega (arith, suc-mul k n, length-drop n bytes)) (AreBytes-drop n bytes fits) same in
       rw (front, rest) (take-append-drop n bytes)
 
-  -- the bytes of the records that whole bytes hold
+  -- the bytes of the records that whole records' bytes hold
   pub lump-back : (k : ℕ) (bytes : List ℕ) → 0 < n → length bytes ≡ n * k → AreBytes bytes
       → ((chunk : List ℕ) → AreBytes chunk → length chunk ≡ n → bytes_of (at chunk) ≡ chunk)
       → flat_map bytes_of (records_of at n bytes) ≡ bytes

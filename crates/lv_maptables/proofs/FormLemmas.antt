@@ -1,4 +1,4 @@
--- A line has its ends and its sides exactly where no test refuses it.
+-- A line has its ends and its sides exactly if no test refuses it.
 use Rattle.std.proofs.Common.{◌≡◌, false, ◌&&◌, ◌||◌, not, eqb, List, inl, inr}
 use Rattle.std.proofs.lemmas.Bool.{eqb-false, eqb-true, or_parts, and_cases, ltb-false, both_ways, not_from_false, not_from_true, eq-eqb, not-false}
 use Rattle.lv_lumps.specs.declared.records.Line.{Line}

@@ -1,4 +1,4 @@
--- A map's part is framed and holds that map, and framed bytes begin with the part of what they hold.
+-- A map's part is framed and holds that map, and framed bytes begin with the part of the tables that they hold.
 use Rattle.std.proofs.Common.{◌≡◌, drop_of_length-le, ℕ, ◌+◌, ◌*◌, ◌≤◌, ◌<◌, ◌^◌, Bool, true, ◌&&◌, leb, List, [], ◌∷◌, ◌++◌, length, get_or, take, drop, refl, sym, ◌∙◌, ap, subst, arith, FitsSigned, length-append, length-drop, append_assoc, ℤ, pos, negsuc, ◌≤ℤ◌, ◌-◌, eqb, inl, inr, rules}
 use Rattle.std.specs.Prelude.{flat_map, replicate, Result, Ok, Err, IfErr}
 use Rattle.std.specs.Result.{IsErrAnd}
@@ -229,7 +229,7 @@ part_size m w =
     let size = laid_out_size _ _ _ _ _ _ _ [] _ _ _ _ _ (part_laid_out m [] w) in
     ap length (sym (append-nil (part m))) ∙ size ∙ omega arith
 
--- what stands in bytes that a well-formed map's part begins
+-- what is in bytes that begin with a well-formed map's part
 pub part_holds : (m : Tables) (rest : List ℕ) → WellFormed m → IsFramed (part m ++ rest) × (tables_in (part m ++ rest) ≡ m)
 part_holds m rest w =
     let read = read_back _ _ _ _ _ _ _ _ _ _ _ _ _ (part_laid_out m rest w) in
@@ -240,7 +240,7 @@ part_holds m rest w =
     let sectors = ap (records_of sector_at 26) read.sectors_are ∙ records-back sector_at sector_record 26 m.sectors (omega arith) (sectors_back m w) in
     (read.framed, λ i. record { name = record { bytes = read.name_is i }; vertices = vertices i; sectors = sectors i; sides = sides i; lines = lines i; things = things i })
 
--- framed bytes begin with the part of what they hold
+-- framed bytes begin with the part of the tables that they hold
 pub part_of_held : (bs : List ℕ) → AreBytes bs → IsFramed bs → part (tables_in bs) ++ behind_sectors bs ≡ bs
 part_of_held bs fits h =
     let m = tables_in bs in
@@ -281,11 +281,11 @@ part_of_held bs fits h =
     (take-append-drop 18 bs) (take-append-drop _ (behind_head bs)) (take-append-drop _ (behind_things bs))
     (take-append-drop _ (behind_lines bs)) (take-append-drop _ (behind_sides bs)) (take-append-drop _ (behind_vertices bs))
 
--- no map's part begins bytes that aren't framed
+-- bytes that aren't framed begin with no map's part
 pub not_framed : (bs : List ℕ) → (IsFramed bs → ⊥) → NoPartBegins bs
 not_framed bs wrong m rest w e = wrong (subst IsFramed e (part_holds m rest w).0)
 
--- nor bytes whose tables aren't well-formed
+-- nor do bytes whose tables aren't well-formed
 pub not_well_formed : (bs : List ℕ) → (WellFormed (tables_in bs) → ⊥) → NoPartBegins bs
 not_well_formed bs wrong m rest w e = wrong (subst WellFormed (sym ((part_holds m rest w).1) ∙ ap tables_in e) w)
 
@@ -297,7 +297,7 @@ map_of bs fits framed w =
     let behind : drop (part_len m) bs ≡ behind_sectors bs = ap (drop (part_len m)) (sym held) ∙ drop_at (part m) (behind_sectors bs) (part_len m) (part_size m w) in
     record { well_formed = w; encoded = ap (λ rest. part m ++ rest) behind ∙ held }
 
--- one map at most has a part that begins the bytes
+-- the bytes begin with the part of at most one map
 pub one_part : (m n : Tables) (r s : List ℕ) → WellFormed m → WellFormed n → part m ++ r ≡ part n ++ s → m ≡ n
 one_part m n r s wm wn e = sym (part_holds m r wm).1 ∙ ap tables_in e ∙ (part_holds n s wn).1
 
@@ -307,13 +307,13 @@ one_part m n r s wm wn e = sym (part_holds m r wm).1 ∙ ap tables_in e ∙ (par
 pub body_size : (m : Tables) → WellFormed m → length (body m) ≡ body_len_of_one m
 body_size m w = omega (arith, part_size m w)
 
--- what stands in a well-formed map's body
+-- what a well-formed map's body holds
 pub body_holds : (m : Tables) → WellFormed m → IsFramed (drop 2 (body m)) × (tables_at (body m) ≡ m)
 body_holds m w = subst (λ (bs : List ℕ). IsFramed bs × (tables_in bs ≡ m)) (append-nil (part m)) (part_holds m [] w)
 
 -- ---- Refusals
 
--- a reader that stands on another refuses for what follows from the other's reason
+-- a reader that calls another one fails for what follows from the other's reason
 pub refuses_for : {P Q : Type 0} → (P → Q) → (e : MapError) → RefusesFor P e → RefusesFor Q e
 refuses_for so OutOfMemory h = tt
 refuses_for so (Damaged place) h = (h.0, so h.1)
@@ -337,24 +337,24 @@ pub refused_by : {X : Type 0} {P Q : Type 0} → (P → Q) → (r : Result X Map
 refused_by so (Ok x) e is h = absurd is
 refused_by {P = P} so (Err x) e is h = refuses_for so x (subst (RefusesFor P) (sym is) h)
 
--- ---- Bytes behind version 1
+-- ---- The bytes after version 1
 
 module _ (bs rest : List ℕ) (version : bs ≡ 1 ∷ 0 ∷ rest) where
-  -- where no part begins the rest, no map has the bytes
+  -- if the rest begins with no part, no map has the bytes
   pub not_behind : NoPartBegins rest → NoMapHas bs
   not_behind none m w e =
       let same : part m ≡ rest = ap (drop 2) (e ∙ version) in
       none m [] w (append-nil (part m) ∙ same)
 
   module _ (m : Tables) (begins : BeginsWith rest m) where
-    -- where the rest is longer than the map's part, no map has the bytes
+    -- if the rest is longer than the map's part, no map has the bytes
     pub no_map_longer : (length bs ≡ 2 + part_len m → ⊥) → NoMapHas bs
     no_map_longer longer other w e =
         let same : part other ≡ rest = ap (drop 2) (e ∙ version) in
         let one = one_part other m [] (drop (part_len m) rest) w begins.well_formed (append-nil (part other) ∙ same ∙ sym begins.encoded) in
         longer (ap length (sym e) ∙ body_size other w ∙ ap body_len_of_one one ∙ omega arith)
 
-    -- where it is as long, that map alone has the bytes
+    -- if it is as long, only that map has the bytes
     pub map_behind : length bs ≡ 2 + part_len m → IsMapOf bs m
     map_behind long =
         let size = ap length version in

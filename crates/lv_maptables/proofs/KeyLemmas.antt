@@ -1,4 +1,4 @@
--- Lists of keys that differ, and the values that a function gives for each.
+-- Lists of different keys, and the values of a function at each.
 use Rattle.std.proofs.Common.{◌≡◌, ◌≢◌, ◌∙◌, refl, sym, ap, ℕ, zero, suc, ◌+◌, ◌<◌, ◌≤◌, ◌⊎◌, inl, inr, List, [], ◌∷◌, length, get_or, arith}
 use Rattle.std.specs.Prelude.{Option, Some, None, IsSome, All, AllPairs, remove, slice_get, filter_map}
 use Rattle.std.specs.List.{cons_option}

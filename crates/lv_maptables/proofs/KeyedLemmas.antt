@@ -1,4 +1,4 @@
--- Lines and sides by numbers, after an edit of what they name: what is kept of them stays.
+-- Lines and sides with numbers, after an edit of what they name; their stored form stays.
 use Rattle.std.proofs.Common.{◌≡◌, ◌≢◌, ◌∙◌, refl, sym, ap, ℕ, ◌<◌, ◌≤◌, Bool, true, false, not, ◌&&◌, ◌||◌, ◌==◌, List, [], ◌∷◌, length, map, arith}
 use Rattle.std.specs.Prelude.{Option, Some, None, All}
 use Rattle.std.specs.List.{list_any}
@@ -24,7 +24,7 @@ use Rattle.lv_maptables.proofs.ListLemmas.{any-map, any_same}
 
 -- ---- Sides after an edit of the sectors
 
--- a sector more
+-- one more sector
 pub sides_push_sector : (old new : TableView Sector) (ss : List KeyedSide) → KeepRanks old new → All (HasSector old.items) (map (side_of old.keys) ss)
     → map (side_of new.keys) ss ≡ map (side_of old.keys) ss
 sides_push_sector old new [] keep within = refl
@@ -35,7 +35,7 @@ sides_push_sector old new (s ∷ ss) keep within =
     ap (λ (k : Side). k ∷ map (side_of new.keys) ss) here
     ∙ ap (λ (ks : List Side). side_of old.keys s ∷ ks) rest
 
--- a sector taken out to which no side belongs
+-- a removed sector to which no side belongs
 pub sides_drop_sector : (old new : TableView Sector) (n : ℕ) (ss : List KeyedSide) → LowerRanks n old new → All (HasSector old.items) (map (side_of old.keys) ss)
     → All (λ s. in_sector n s ≡ false) (map (side_of old.keys) ss) → map (side_of new.keys) ss ≡ map (side_without_sector n) (map (side_of old.keys) ss)
 sides_drop_sector old new n [] lower within unused = refl
@@ -49,7 +49,7 @@ sides_drop_sector old new n (s ∷ ss) lower within unused =
     ap (λ (k : Side). k ∷ map (side_of new.keys) ss) here
     ∙ ap (λ (ks : List Side). side_without_sector n (side_of old.keys s) ∷ ks) rest
 
--- no side belongs to a sector that can be taken out
+-- no side belongs to a sector that can be removed
 pub none_in : (m : Tables) (n : ℕ) → least (drop_sector_faults m n) ≡ None → All (λ s. in_sector n s ≡ false) m.sides
 none_in m n fine = none_passes (in_sector n) m.sides (none_hold (drop_sector_faults m n) fine).1.0
 
@@ -62,7 +62,7 @@ sides_in sectors n key ss only =
 
 -- ---- Lines after an edit of the vertices
 
--- a vertex more
+-- one more vertex
 pub lines_push_vertex : (old new : TableView Vertex) (sides : List ℕ) (ls : List KeyedLine) → KeepRanks old new → All (HasEnds old.items) (map (line_of old.keys sides) ls)
     → map (line_of new.keys sides) ls ≡ map (line_of old.keys sides) ls
 lines_push_vertex old new sides [] keep ends = refl
@@ -75,7 +75,7 @@ lines_push_vertex old new sides (l ∷ ls) keep ends =
     ap (λ (k : Line). k ∷ map (line_of new.keys sides) ls) here
     ∙ ap (λ (ks : List Line). line_of old.keys sides l ∷ ks) rest
 
--- a vertex taken out that no line uses
+-- a removed vertex that no line uses
 pub lines_drop_vertex : (old new : TableView Vertex) (sides : List ℕ) (n : ℕ) (ls : List KeyedLine) → LowerRanks n old new → All (HasEnds old.items) (map (line_of old.keys sides) ls)
     → All (λ l. uses_vertex n l ≡ false) (map (line_of old.keys sides) ls) → map (line_of new.keys sides) ls ≡ map (line_without_vertex n) (map (line_of old.keys sides) ls)
 lines_drop_vertex old new sides n [] lower ends unused = refl
@@ -91,7 +91,7 @@ lines_drop_vertex old new sides n (l ∷ ls) lower ends unused =
     ap (λ (k : Line). k ∷ map (line_of new.keys sides) ls) here
     ∙ ap (λ (ks : List Line). line_without_vertex n (line_of old.keys sides l) ∷ ks) rest
 
--- no line uses a vertex that can be taken out
+-- no line uses a vertex that can be removed
 pub none_at : (m : Tables) (n : ℕ) → least (drop_vertex_faults m n) ≡ None → All (λ l. uses_vertex n l ≡ false) m.lines
 none_at m n fine = none_passes (uses_vertex n) m.lines (none_hold (drop_vertex_faults m n) fine).1.0
 
@@ -105,11 +105,11 @@ lines_at vertices sides n key ls only =
 
 -- ---- Lines after an edit of the sides
 
--- a key's rank is no more than there are keys
+-- a key's rank is at most the number of keys
 pub rank_le : (keys : List ℕ) (key : ℕ) → rank_of keys key ≤ length keys
 rank_le keys key = prefix_len-le-length (λ k. not (k == key)) keys
 
--- so it is never the number that stands for no side
+-- so it is never `no_side`
 rank_some : (keys : List ℕ) (key : ℕ) → length keys ≤ 32767 → rank_of keys key ≢ no_side
 rank_some keys key few e = let most = rank_le keys key in omega (arith, most, few, e)
 
@@ -126,7 +126,7 @@ left_drop old new n (Some key) lower count few there apart =
     let some = rank_some old.keys key (omega (arith, count, few)) in
     lower key (there some) (apart some) ∙ sym (left_there n (rank_of old.keys key) some)
 
--- a side more
+-- one more side
 pub lines_push_side : (vertices : List ℕ) (old new : TableView KeyedSide) (ss : List Side) (ls : List KeyedLine) → KeepRanks old new → length old.keys ≡ length old.items → length old.items ≤ 32767
     → length ss ≡ length old.items → All (HasSides ss) (map (line_of vertices old.keys) ls) → map (line_of vertices new.keys) ls ≡ map (line_of vertices old.keys) ls
 lines_push_side vertices old new ss [] keep count few many sides = refl
@@ -139,7 +139,7 @@ lines_push_side vertices old new ss (l ∷ ls) keep count few many sides =
     ap (λ (k : Line). k ∷ map (line_of vertices new.keys) ls) here
     ∙ ap (λ (ks : List Line). line_of vertices old.keys l ∷ ks) rest
 
--- a side taken out that no line has
+-- a removed side that no line has
 pub lines_drop_side : (vertices : List ℕ) (old new : TableView KeyedSide) (n : ℕ) (ss : List Side) (ls : List KeyedLine)
     → LowerRanks n old new → length old.keys ≡ length old.items → length old.items ≤ 32767
     → length ss ≡ length old.items → All (HasSides ss) (map (line_of vertices old.keys) ls) → All (λ l. uses_side n l ≡ false) (map (line_of vertices old.keys) ls)
@@ -158,11 +158,11 @@ lines_drop_side vertices old new n ss (l ∷ ls) lower count few many sides unus
     ap (λ (k : Line). k ∷ map (line_of vertices new.keys) ls) here
     ∙ ap (λ (ks : List Line). line_without_side n (line_of vertices old.keys l) ∷ ks) rest
 
--- no line has a side that can be taken out
+-- no line has a side that can be removed
 pub none_with : (m : Tables) (n : ℕ) → least (drop_side_faults m n) ≡ None → All (λ l. uses_side n l ≡ false) m.lines
 none_with m n fine = none_passes (uses_side n) m.lines (none_hold (drop_side_faults m n) fine).1.0
 
--- the left side's number is n where it has the key
+-- the left side's number is n if it has the key
 left_with : (sides : List ℕ) (n key : ℕ) (left : Option ℕ) → n < no_side → ((k : ℕ) → (rank_of sides k == n) ≡ (k == key))
     → (not (left_of sides left == no_side) && (left_of sides left == n)) ≡ is_left left key
 left_with sides n key None few only = refl

@@ -15,7 +15,7 @@ use Rattle.lv_maptables.proofs.ListLemmas.{All-remove}
 use Rattle.lv_maptables.proofs.FaultLemmas.{NoneHold, none_hold, has_room, not_lacking}
 use Rattle.lv_maptables.proofs.FormLemmas.{ends_from, sides_from}
 
--- a line has its ends where nothing refuses them
+-- a line has its ends if no fault's test holds
 pub ends_of : (m : Tables) (l : Line) → NoneHold (reference_faults m l) → NoneHold (shape_faults l) → is_too_long m.vertices l ≡ false → HasEnds m.vertices l
 ends_of m l references shape short = ends_from m.vertices l references.0 shape.0 short
 
@@ -23,7 +23,7 @@ ends_of m l references shape short = ends_from m.vertices l references.0 shape.0
 pub sides_of : (m : Tables) (l : Line) → NoneHold (reference_faults m l) → NoneHold (shape_faults l) → HasSides m.sides l
 sides_of m l references shape = sides_from m.sides l references.1.0 shape.1.0
 
--- what a line names is there where nothing refuses adding it
+-- what a line names exists if adding the line isn't refused
 pub new_fits : (m : Tables) (l : Line) → least (line_faults m l) ≡ None → HasEnds m.vertices l × HasSides m.sides l
 new_fits m l fine =
     let none = none_hold (line_faults m l) fine in
@@ -31,7 +31,7 @@ new_fits m l fine =
     let shape : NoneHold (shape_faults l) = (none.1.1.0, (none.1.1.1.0, tt)) in
     (ends_of m l references shape none.1.1.1.1.1.0, sides_of m l references shape)
 
--- and where nothing refuses putting it in place of one
+-- and if replacing a line by it isn't refused
 pub changed_fits : (m : Tables) (n : ℕ) (l : Line) → least (set_line_faults m n l) ≡ None → HasEnds m.vertices l × HasSides m.sides l
 changed_fits m n l fine =
     let none = none_hold (set_line_faults m n l) fine in
@@ -65,7 +65,7 @@ with_line-keeps m l w range fine =
       thing_count = w.thing_count;
     }
 
--- with another line in place of one
+-- with one line replaced
 pub with_line_at-keeps : (m : Tables) (n : ℕ) (l : Line) → WellFormed m → IsLine l → least (set_line_faults m n l) ≡ None → WellFormed (with_line_at m n l)
 with_line_at-keeps m n l w range fine =
     let none = none_hold (set_line_faults m n l) fine in
@@ -137,7 +137,7 @@ with_thing-keeps m t w range fine =
       thing_count = omega (arith, longer, room);
     }
 
--- with another thing in place of one
+-- with one thing replaced
 pub with_thing_at-keeps : (m : Tables) (n : ℕ) (t : Thing) → WellFormed m → IsThing t → WellFormed (with_thing_at m n t)
 with_thing_at-keeps m n t w range =
     let as_many = length-set m.things n t in

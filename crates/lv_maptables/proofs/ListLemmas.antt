@@ -1,4 +1,4 @@
--- Lists with an element set or taken out, and the numbers of what stays.
+-- Lists with an element set or removed, and the numbers of the elements that stay.
 use Rattle.std.proofs.Common.{◌≡◌, ◌≢◌, ℕ, zero, suc, ◌<◌, ◌≤◌, ◌+◌, ◌-◌, Bool, true, false, ◌||◌, List, [], ◌∷◌, ◌++◌, length, map, take, take_all, refl, sym, ap, subst, ◌∙◌, inl, inr, arith, ltb, get_or}
 use Rattle.std.specs.Prelude.{Some, slice_get}
 use Rattle.std.proofs.lemmas.Option.{get_or_from_slice_get, same_Some}
@@ -14,11 +14,11 @@ use Rattle.std.proofs.lemmas.List.Elements.{All-append, All-take, All-drop, All-
 use Rattle.std.proofs.lemmas.List.Edits.{get_or-remove_below, get_or-remove_above}
 use Rattle.lv_maptables.specs.Edits.{lowered}
 
--- what holds of each element holds of each that stays
+-- what is true of each element is true of each that stays
 pub All-remove : {X : Type 0} (P : X → Type 0) (xs : List X) (n : ℕ) → All P xs → All P (remove xs n)
 All-remove P xs n h = All-append P (take n xs) (drop (suc n) xs) (All-take P n xs h) (All-drop P (suc n) xs h)
 
--- what holds of each two elements holds after one is set, if it holds of the new one and each other
+-- what is true of each two elements is true after one is set, if it is true of the new one and each other
 pub all_pairs_set : {X : Type 0} (R : X → X → Type 0) (xs : List X) (n : ℕ) (y : X) → n < length xs → AllPairs R xs
     → ((k : ℕ) (d : X) → k < length xs → k ≢ n → R (get_or xs k d) y × R y (get_or xs k d)) → AllPairs R (set xs n y)
 all_pairs_set R xs n y at pairs beside = λ i j d before within.
@@ -45,7 +45,7 @@ all_pairs_set R xs n y at pairs beside = λ i j d before within.
 pub lowered_le : (gone n : ℕ) → lowered gone n ≤ n
 lowered_le gone n = grind (arith, nat_tests)
 
--- a number of what stays is a place once it is lowered
+-- the number of an element that stays is an index once it is lowered
 pub lowered_fits : (gone n count : ℕ) → gone < count + 1 → n < count + 1 → n ≢ gone → lowered gone n < count
 lowered_fits gone n count a b c = grind (arith, nat_tests)
 
@@ -53,7 +53,7 @@ lowered_fits gone n count a b c = grind (arith, nat_tests)
 pub lowered_apart : (gone a b : ℕ) → a ≢ gone → b ≢ gone → a ≢ b → lowered gone a ≢ lowered gone b
 lowered_apart gone a b p q r = grind (arith, nat_tests)
 
--- and name the items that they named
+-- and they name the same items as before
 pub get_or-lowered : {X : Type 0} (xs : List X) (gone n : ℕ) (d : X) → gone < length xs → n ≢ gone → get_or (remove xs gone) (lowered gone n) d ≡ get_or xs n d
 get_or-lowered xs gone n d at apart =
     elim (cases_lt gone n) [
@@ -67,7 +67,7 @@ get_or-lowered xs gone n d at apart =
           rw it (get_or-remove_below xs gone d n (omega arith) at)
     ]
 
--- ---- Lists that a function gives item by item
+-- ---- Lists that a function makes item by item
 
 pub map-remove : {X Y : Type 0} (f : X → Y) (xs : List X) (n : ℕ) → map f (remove xs n) ≡ remove (map f xs) n
 map-remove f [] zero = refl
@@ -89,7 +89,7 @@ map-push {X} {Y} f xs x y e = map-append f xs (x ∷ []) ∙ ap (λ (z : Y). map
 pub map-set_at : {X Y : Type 0} (f : X → Y) (xs : List X) (n : ℕ) (x : X) (y : Y) → f x ≡ y → map f (set xs n x) ≡ set (map f xs) n y
 map-set_at {X} {Y} f xs n x y e = map-set f xs n x ∙ ap (λ (z : Y). set (map f xs) n z) e
 
--- what holds of each given item holds of the one at a place
+-- what is true of each item is true of the one at an index
 pub given_holds : {X Y : Type 0} (P : Y → Type 0) (f : X → Y) (xs : List X) (n : ℕ) (x : X) → slice_get xs n ≡ Some x → All P (map f xs) → P (f x)
 given_holds P f [] n x is all = absurd (cc)
 given_holds {X} {Y} P f (y ∷ xs) zero x is all =

@@ -1,4 +1,4 @@
--- The parts of a project's maps, one after another, hold those maps alone.
+-- The parts of a project's maps, one after another, hold exactly those maps.
 use Rattle.std.proofs.Common.{◌≡◌, ◌≢◌, ℕ, ◌+◌, ◌<◌, ◌≤◌, true, List, [], ◌∷◌, ◌++◌, length, get_or, take, drop, refl, sym, ◌∙◌, ap, subst, arith, append_assoc, length-append}
 use Rattle.std.specs.Prelude.{flat_map, sum_by}
 use Rattle.std.specs.List.{All, AllPairs}
@@ -16,7 +16,7 @@ use Rattle.lv_maptables.specs.ProjectBody.{NoMapsHave, NoneFollow, ReadsNext, wi
 use Rattle.lv_maptables.proofs.FramedLemmas.{part_size, one_part}
 use Rattle.lv_maptables.proofs.ProjectLemmas.{get_middle, same_name}
 
--- they are as long as the sum of their lengths
+-- they are as long as their lengths in all
 pub parts_size : (maps : List Tables) → All WellFormed maps → length (flat_map part maps) ≡ sum_by part_len maps
 parts_size [] w = refl
 parts_size (m ∷ ms) w =
@@ -24,7 +24,7 @@ parts_size (m ∷ ms) w =
     let rest = parts_size ms (All-tail WellFormed m ms w) in
     length-append (part m) (flat_map part ms) ∙ (λ i. head i + rest i) ∙ sym (sum_by-cons part_len m ms)
 
--- one map more
+-- one more map
 pub put_more : (maps : List Tables) (m : Tables) → flat_map part maps ++ part m ≡ flat_map part (maps ++ m ∷ [])
 put_more maps m = ap (λ x. flat_map part maps ++ x) (sym (append-nil (part m))) ∙ sym (flat_map-append part maps (m ∷ []))
 
@@ -37,7 +37,7 @@ one_more maps m rest begins =
     ap (λ x. x ++ drop (part_len m) rest) (sym (put_more maps m)) ∙ append_assoc (flat_map part maps) (part m) (drop (part_len m) rest)
     ∙ ap (λ x. flat_map part maps ++ x) begins.encoded
 
--- maps whose parts begin with those of others begin with the others
+-- if the parts of some maps begin with those of others, the maps begin with the others
 pub record Follows (ms ns : List Tables) (r : List ℕ) : Type 0 where
   pub more : List Tables
   pub are : ns ≡ ms ++ more
@@ -60,7 +60,7 @@ no_parts [] w e = refl
 no_parts (m ∷ ms) w e =
     absurd (omega (arith, ap length e, length-append (part m) (flat_map part ms), part_size m (All-head WellFormed m ms w)))
 
--- one list of maps at most has the parts
+-- at most one list of maps has the parts
 pub one_list : (ms ns : List Tables) → All WellFormed ms → All WellFormed ns → flat_map part ns ≡ flat_map part ms → ns ≡ ms
 one_list [] ns wm wn e = no_parts ns wn e
 one_list (m ∷ ms) [] wm wn e = sym (no_parts (m ∷ ms) wm (sym e))
@@ -69,18 +69,18 @@ one_list (m ∷ ms) (n ∷ ns) wm wn e =
     let rest = append_cancel_left (part m) (flat_map part ns) (flat_map part ms) (ap (λ x. part x ++ flat_map part ns) (sym one) ∙ e) in
     λ i. one i ∷ one_list ms ns (All-tail WellFormed m ms wm) (All-tail WellFormed n ns wn) rest i
 
--- ---- Why a next map is refused
+-- ---- Why the next map is refused
 
 length_middle : (before behind : List Tables) (m : Tables) → length before < length (before ++ m ∷ behind)
 length_middle before behind m = omega (arith, length-append before (m ∷ behind))
 
--- the map behind others is well-formed
+-- the map after others is well-formed
 behind_well_formed : (p : ProjectMaps) (maps more : List Tables) (m : Tables) → WellFormedProject p → p.maps ≡ maps ++ m ∷ more → WellFormed m
 behind_well_formed p maps more m w is =
     let all : All WellFormed (maps ++ m ∷ more) = subst (All WellFormed) is w.maps in
     subst WellFormed (get_middle maps more m m) (all (length maps) m (length_middle maps more m))
 
--- no map's part begins the bytes
+-- the bytes begin with no map's part
 pub none_begins : (maps : List Tables) (bs : List ℕ) → NoPartBegins bs → NoneFollow maps bs
 none_begins maps bs none p m more w is e = none m (flat_map part more) (behind_well_formed p maps more m w is) e
 
@@ -131,13 +131,13 @@ none_behind : (q p : ProjectMaps) (rest : List ℕ) → WellFormedProject p → 
 none_behind q p rest w some none [] is e = omega (arith, ap length e)
 none_behind q p rest w some none (m ∷ more) is e = none p m more w is e
 
--- where none follows what was read, and some bytes are left, no maps have the bytes
+-- if no map follows those that were read, and some bytes are left, no maps have the bytes
 pub no_next : (q : ProjectMaps) (rest bs : List ℕ) → WellFormedProject q → flat_map part q.maps ++ rest ≡ bs → 0 < length rest → NoneFollow q.maps rest → NoMapsHave bs
 no_next q rest bs wq is some none p w e =
     let f = follows q.maps p.maps rest wq.maps w.maps (e ∙ sym is) in
     none_behind q p rest w some none f.more f.are f.encoded
 
--- one map more leaves the bytes behind it
+-- one more map leaves the bytes after it
 pub next_behind : (old new : ProjectMaps) (at n : ℕ) (rest bs : List ℕ) → rest ≡ drop at bs → flat_map part old.maps ++ drop at bs ≡ bs → ReadsNext rest n old new
     → drop (at + n) bs ≡ drop n (drop at bs) → flat_map part new.maps ++ drop (at + n) bs ≡ bs
 next_behind old new at n rest bs same is reads further =

@@ -1,4 +1,4 @@
--- What the index of places knows after each step.
+-- The set of places after each step.
 use Rattle.std.proofs.Common.{◌≡◌, ◌≢◌, ◌∙◌, refl, sym, ap, ℕ, suc, zero, ◌+◌, ◌<◌, Bool, if◌then◌else◌, true, false, ◌&&◌, ◌||◌, cond, not, List, [], ◌∷◌, ◌++◌, length, take, get_or, arith, Decides, ◌==◌}
 use Rattle.std.specs.List.{list_any, AllPairs, remove, enumerate_from}
 use Rattle.std.specs.Ordering.{int_eq}
@@ -18,7 +18,7 @@ use Rattle.lv_maptables.specs.Faults.{is_place, is_taken, is_taken_beside}
 use Rattle.lv_maptables.specs.Edits.{lowered}
 use Rattle.lv_maptables.proofs.ListLemmas.{all_pairs_set, get_or-lowered, lowered_fits}
 
--- what `==` answers at vertices
+-- what `==` returns for vertices
 abbrev pub same : Vertex → Vertex → Bool
 same v w = int_eq v.x w.x && int_eq v.y w.y
 
@@ -63,7 +63,7 @@ no_match : (b : Bool) (P : Type 0) → (b ≡ true → P) → (P → ⊥) → b 
 no_match true P f g = absurd (g (f refl))
 no_match false P f g = refl
 
--- another vertex doesn't have the place
+-- another vertex isn't at the place
 pub other_place : (v w : Vertex) → w ≢ v → is_place v w ≡ false
 other_place v w apart = no_match (is_place v w) (w ≡ v) ((same_decides w v).0) apart
 
@@ -79,7 +79,7 @@ next_free vs i d at apart =
     let inside : k < i = omega (arith, few) in
     rw (get_or-take i vs k e inside, get_or_default vs i d e at) (apart k i e inside at))
 
--- one more vertex, whose place comes last
+-- one more vertex, whose place is appended
 pub taken_step : (marked vs : List Vertex) (i : ℕ) (d v : Vertex) → i < length vs → is_taken marked v
     ≡ is_taken (take i vs) v → (is_place v (get_or vs i d) || is_taken marked v) ≡ is_taken (take (i + 1) vs) v
 taken_step marked vs i d v at e = rw (list_any_more (is_place v) vs i d at, e) (or_comm (is_place v (get_or vs i d)) (is_taken (take i vs) v))
@@ -118,7 +118,7 @@ taken_remove (w ∷ vs) (suc n) d v at apart =
         let other : is_place v (get_or vs n d) ≡ false = other_place v (get_or vs n d) (λ f. apart 0 (suc n) d (omega arith) at (here ∙ sym f)) in
         rw other refl
 
--- with another in place of one
+-- with one replaced
 pub taken_set : (vs : List Vertex) (n : ℕ) (v w : Vertex) → n < length vs → is_taken (set vs n v) w ≡ (is_place w v || is_taken (remove vs n) w)
 taken_set [] n v w at = absurd (omega arith)
 taken_set (u ∷ vs) zero v w at = refl
@@ -131,7 +131,7 @@ taken_set (u ∷ vs) (suc n) v w at =
     by false true c = refl
     by false false c = refl
 
--- another one has a place where it is taken without the one
+-- another vertex is at a place if it is taken without the one vertex
 abbrev beside_test : ℕ → Vertex → ℕ × Vertex → Bool
 beside_test n v w = not (w.0 == n) && is_place v w.1
 
@@ -174,20 +174,20 @@ apart_set vs n v at apart free =
         let there : is_taken (remove vs n) v ≡ true = list_any_at (is_place v) (remove vs n) (lowered n k) d inside ((same_decides (get_or (remove vs n) (lowered n k) d) v).1 stays) in
         both_ways (is_taken (remove vs n) v) out there
 
--- ---- What the index is asked for
+-- ---- The questions that the set answers
 
--- the places that are left once a vertex is taken out
+-- the places that are left once a vertex is removed
 pub left_without : (vs marked : List Vertex) (n : ℕ) (d gone : Vertex) → n < length vs → AllPairs (λ v w. v ≢ w) vs → ((v : Vertex) → is_taken marked v ≡ is_taken vs v)
     → gone ≡ get_or vs n d → (v : Vertex) → is_taken (remove vs n) v ≡ (not (is_place v gone) && is_taken marked v)
 left_without vs marked n d gone at apart known here v = rw (known v, here) (taken_remove vs n d v at apart)
 
--- and once it stands elsewhere
+-- and once it has moved
 pub left_with : (vs marked : List Vertex) (n : ℕ) (d gone to : Vertex) → n < length vs → AllPairs (λ v w. v ≢ w) vs → ((v : Vertex) → is_taken marked v ≡ is_taken vs v)
     → gone ≡ get_or vs n d → (v : Vertex) → is_taken (set vs n to) v ≡ (is_place v to || (not (is_place v gone) && is_taken marked v))
 left_with vs marked n d gone to at apart known here v =
     taken_set vs n to v at ∙ ap (λ b. is_place v to || b) (left_without vs marked n d gone at apart known here v)
 
--- a place that no other vertex has
+-- a place where no other vertex is
 pub beside_known : (vs marked : List Vertex) (n : ℕ) (d gone to : Vertex) → n < length vs → AllPairs (λ v w. v ≢ w) vs → ((v : Vertex) → is_taken marked v ≡ is_taken vs v)
     → gone ≡ get_or vs n d → is_taken_beside vs n to ≡ (not (is_place to gone) && is_taken marked to)
 beside_known vs marked n d gone to at apart known here = beside_is vs n to ∙ left_without vs marked n d gone at apart known here to

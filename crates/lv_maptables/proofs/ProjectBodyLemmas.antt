@@ -1,4 +1,4 @@
--- A project's body holds that project alone, in either version.
+-- A project's body holds exactly that project, in either version.
 use Rattle.std.proofs.Common.{◌≡◌, ℕ, ◌<◌, ◌≤◌, List, [], ◌∷◌, length, get_or, drop, refl, sym, ◌∙◌, ap, subst, arith, inl, inr}
 use Rattle.lv_maptables.specs.Tables.{Tables, empty_tables}
 use Rattle.lv_maptables.specs.WellFormed.{WellFormed}
@@ -7,7 +7,7 @@ use Rattle.lv_maptables.specs.Projects.{ProjectMaps, WellFormedProject, current_
 use Rattle.lv_maptables.specs.ProjectBody.{project_body, alone, HasBody, NoProjectHas, IsProjectOf, AreMapsOf, NoMapsHave}
 use Rattle.lv_maptables.proofs.PartsLemmas.{one_list}
 
--- a map alone is a project
+-- a single map is a project
 pub alone_keeps : (m : Tables) → WellFormed m → WellFormedProject (alone m)
 alone_keeps m w =
     record {
@@ -32,7 +32,7 @@ module _ (bs rest : List ℕ) (k : ℕ) (version : bs ≡ 2 ∷ k ∷ rest) wher
       let first : ◌≡◌ {A = ℕ} 1 2 = ap (λ xs. get_or xs 0 0) (e ∙ version) in
       omega arith
 
-  -- where no maps have the rest, no project has the bytes
+  -- if no maps have the rest, no project has the bytes
   pub no_project : NoMapsHave rest → NoProjectHas bs
   no_project none p w (inl e) = none p w (ap (drop 2) (e ∙ version))
   no_project none p w (inr e) = not_old (current_map p) e.1
@@ -44,7 +44,7 @@ module _ (bs rest : List ℕ) (k : ℕ) (version : bs ≡ 2 ∷ k ∷ rest) wher
     same_number : (p : ProjectMaps) → project_body p ≡ bs → p.current ≡ k
     same_number p e = ap (λ xs. get_or xs 1 0) (e ∙ version)
 
-    -- where there aren't so many maps, no project has the bytes
+    -- if there are too few maps for the current number, no project has the bytes
     pub no_current : length q.maps ≤ k → NoProjectHas bs
     no_current past p w (inl e) = omega (arith, w.current, ap length (same_maps p w e), same_number p e)
     no_current past p w (inr e) = not_old (current_map p) e.1
@@ -53,7 +53,7 @@ module _ (bs rest : List ℕ) (k : ℕ) (version : bs ≡ 2 ∷ k ∷ rest) wher
     only_read other w (inl e) = λ i. record { maps = same_maps other w e i; current = same_number other e i }
     only_read other w (inr e) = absurd (not_old (current_map other) e.1)
 
-    -- where there are, the project of these maps has them
+    -- otherwise the project of these maps has them
     pub project_read : k < length q.maps → IsProjectOf bs (record { maps = q.maps; current = k })
     project_read within =
         record {
@@ -66,7 +66,7 @@ module _ (bs : List ℕ) (old : bs ≡ 2 ∷ get_or bs 1 0 ∷ drop 2 bs → ⊥
   not_new : (p : ProjectMaps) → project_body p ≡ bs → ⊥
   not_new p e = old (subst (λ (x : List ℕ). x ≡ 2 ∷ get_or x 1 0 ∷ drop 2 x) e refl)
 
-  -- where no map has the bytes, no project has them
+  -- if no map has the bytes, no project has them
   pub no_old_project : NoMapHas bs → NoProjectHas bs
   no_old_project none p w (inl e) = not_new p e
   no_old_project none p w (inr e) = none (current_map p) (current_fine p w) e.1
@@ -75,7 +75,7 @@ module _ (bs : List ℕ) (old : bs ≡ 2 ∷ get_or bs 1 0 ∷ drop 2 bs → ⊥
   only_alone m is other w (inl e) = absurd (not_new other e)
   only_alone m is other w (inr e) = e.0 ∙ ap alone (is.only (current_map other) (current_fine other w) e.1)
 
-  -- where a map has them, the project of that map does
+  -- if a map has them, the project of that map has them
   pub old_project : (m : Tables) → IsMapOf bs m → IsProjectOf bs (alone m)
   old_project m is =
       record {

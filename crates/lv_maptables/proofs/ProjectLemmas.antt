@@ -1,4 +1,4 @@
--- A project stays well-formed under the edits of its maps, and what its list of maps is.
+-- A project stays well-formed under the edits of its maps; and its maps as one list.
 use Rattle.std.proofs.Common.{◌≡◌, ◌≢◌, ℕ, zero, suc, ◌+◌, ◌-◌, ◌<◌, ◌≤◌, true, false, not, ltb, take_all, drop_of_length-le, List, [], ◌∷◌, ◌++◌, length, get_or, take, drop, refl, sym, ◌∙◌, ap, subst, inl, inr, arith, None, length-append, length-take-le}
 use Rattle.std.specs.Prelude.{Option, Some, Result, Ok, Err, sum_by}
 use Rattle.std.specs.List.{insert, remove}
@@ -24,7 +24,7 @@ use Rattle.lv_maptables.specs.MapsFields.{KeepsMaps, maps_view}
 use Rattle.lv_maptables.proofs.ListLemmas.{all_pairs_set, All-remove, lowered_fits}
 use Rattle.lv_maptables.proofs.FaultLemmas.{none_hold}
 
--- ---- An edit leaves a well-formed map well-formed, and its name
+-- ---- An edit keeps a map well-formed, and keeps its name
 
 pub record Stays (old new : Tables) : Type 0 where
   pub name : new.name ≡ old.name
@@ -52,7 +52,7 @@ stays_ended (Ok a) (Some code) after answer old new e keeps same w = cc
 stays_ended (Err x) faults after answer old new e keeps same w =
     record { name = ap (λ m. m.name) e.1; well_formed = subst WellFormed (sym e.1) w }
 
--- ---- One map in place of another
+-- ---- One map replaced
 
 pub get_middle : (before behind : List Tables) (m d : Tables) → get_or (before ++ m ∷ behind) (length before) d ≡ m
 get_middle [] behind m d = refl
@@ -62,7 +62,7 @@ pub set_middle : (before behind : List Tables) (m n : Tables) → set (before ++
 set_middle [] behind m n = refl
 set_middle (x ∷ before) behind m n = ap (λ ms. x ∷ ms) (set_middle before behind m n)
 
--- a well-formed map whose name no other has takes the place of one
+-- one map is replaced by a well-formed map whose name no other has
 pub replaced : (maps : List Tables) (k current : ℕ) (new : Tables) → k < length maps → WellFormed new
     → ((j : ℕ) (d : Tables) → j < length maps → j ≢ k → (get_or maps j d).name ≢ new.name)
     → WellFormedProject (record { maps = maps; current = current }) → WellFormedProject (record { maps = set maps k new; current = current })
@@ -125,15 +125,15 @@ keeps_ended a m result faults after answer e keeps same k =
     let w = current_well_formed a k in
     keeps_edit a m (stays_ended result faults after answer a.map.tables m.tables e (keeps w) same w) k
 
--- ---- For those who stand on projects
+-- ---- For the crates above
 
--- the current map is what a contract sees of it
+-- the current map is as contracts see it
 pub current_of : (v : MapsView) → current_map (project_of v) ≡ v.tables
 current_of v =
     ap (λ n. get_or (tables_of_each v.others.before ++ v.tables ∷ tables_of_each v.others.behind) n empty_tables) (sym (length-map v.others.before (λ m. m.tables)))
     ∙ get_middle (tables_of_each v.others.before) (tables_of_each v.others.behind) v.tables empty_tables
 
--- other tables of the current map, the other maps left alone
+-- the current map is replaced, the other maps stay
 pub with_current_of : (v w : MapsView) → w.others ≡ v.others → project_of w ≡ with_current (project_of v) w.tables
 with_current_of v w same =
     let n : length (tables_of_each v.others.before) ≡ length v.others.before = length-map v.others.before (λ m. m.tables) in
@@ -148,7 +148,7 @@ with_current_of v w same =
 sum_middle : (before behind : List Tables) (m : Tables) → sum_by part_len (before ++ m ∷ behind) ≡ sum_by part_len before + (part_len m + sum_by part_len behind)
 sum_middle before behind m = sum_by-append part_len before (m ∷ behind) ∙ ap (λ n. sum_by part_len before + n) (sum_by-cons part_len m behind)
 
--- the body's length changes with that of the current map's part alone
+-- the body's length changes only with that of the current map's part
 pub body_len_with : (v w : MapsView) → w.others ≡ v.others → body_len (project_of w) + part_len v.tables ≡ body_len (project_of v) + part_len w.tables
 body_len_with v w same =
     let there = sum_middle (tables_of_each v.others.before) (tables_of_each v.others.behind) v.tables in
@@ -184,13 +184,13 @@ map_above items i k m x d above within is =
     ap (λ ms. get_or ms (k + 1) d) (maps_are items i m) ∙ get_or-map (λ m. m.tables) (insert items i m) (k + 1) x d (omega (arith, length-insert items i m (omega arith)))
     ∙ ap (λ v. v.tables) (get_or-insert_above items i m x k above (omega arith) ∙ is)
 
--- what was taken out is put back
+-- what was removed is put back
 pub put_back : {X : Type 0} (xs : List X) (n : ℕ) (x : X) → n < length xs → get_or xs n x ≡ x → insert (remove xs n) n x ≡ xs
 put_back (y ∷ ys) zero x at is = ap (λ z. z ∷ ys) (sym is)
 put_back (y ∷ ys) (suc n) x at is = ap (λ zs. y ∷ zs) (put_back ys n x (omega arith) is)
 put_back [] n x at is = absurd (omega arith)
 
--- one is taken out before or behind another that was put in
+-- one is removed before or after another that was inserted
 pub taken_below : {X : Type 0} (xs : List X) (i n : ℕ) (x : X) → n ≤ i → i < length xs → remove (insert xs (suc i) x) n ≡ insert (remove xs n) i x
 taken_below [] i n x below at = absurd (omega arith)
 taken_below (y ∷ ys) i zero x below at = refl
@@ -211,13 +211,13 @@ same_name name m e = λ i. record { bytes = (bytes_eq-Decides m.name.bytes name.
 told_name : (name : Name8) (m : Tables) → m.name ≡ name → is_named name m ≡ true
 told_name name m e = (bytes_eq-Decides m.name.bytes name.bytes).1 (ap (λ n. n.bytes) e)
 
--- where no map has the name, each has another
+-- if no map has the name, each has another
 absent : (p : ProjectMaps) (name : Name8) → has_map p name ≡ false → (j : ℕ) (d : Tables) → j < length p.maps → (get_or p.maps j d).name ≢ name
 absent p name none j d within e =
     let past = ltb-false (map_number_of p name) (length p.maps) none in
     both_ways (is_named name (get_or p.maps j d)) (fails_before_first (is_named name) p.maps j d (omega arith)) (told_name name (get_or p.maps j d) e)
 
--- and its number is that of the maps
+-- and the number for the name is the count of maps
 absent_number : (p : ProjectMaps) (name : Name8) → has_map p name ≡ false → map_number_of p name ≡ length p.maps
 absent_number p name none =
     let past = ltb-false (map_number_of p name) (length p.maps) none in
@@ -233,7 +233,7 @@ other_map p name n is free e =
     both_ways (is_named name (current_map p)) none.1.0
     (ap (λ k. is_named name (get_or p.maps k empty_tables)) (sym e ∙ is) ∙ passes_at_first (is_named name) p.maps empty_tables there)
 
--- the current map under a name that no other has
+-- the current map with a name that no other has
 pub named_keeps : (a : Inside) (m : MapView) (name : Name8) → m.tables ≡ with_name a.map.tables name → WellFormed m.tables
     → least (name_faults (project_of (maps_view a)) name) ≡ None → KeepsMaps a → KeepsMaps (record { map = m; number = a.number; others = a.others })
 named_keeps a m name is fine free k =
@@ -312,7 +312,7 @@ added_is p name m none is =
     (λ i. record { maps = p.maps ++ is i ∷ []; current = sym (absent_number p name none) i })
     ∙ (λ i. record { maps = sym (cond-false (has_map p name) p.maps (p.maps ++ with_name empty_tables name ∷ []) none) i; current = map_number_of p name })
 
--- ---- A map taken out
+-- ---- A removed map
 
 tables_without : (items : List MapView) (n : ℕ) → tables_of_each (remove items n) ≡ remove (tables_of_each items) n
 tables_without items n =

@@ -40,7 +40,7 @@ with_sector-keeps m s w range fine =
       thing_count = w.thing_count;
     }
 
--- with another sector in place of one
+-- with one sector replaced
 pub with_sector_at-keeps : (m : Tables) (n : ℕ) (s : Sector) → WellFormed m → IsSector s → WellFormed (with_sector_at m n s)
 with_sector_at-keeps m n s w range =
     let as_many = length-set m.sectors n s in

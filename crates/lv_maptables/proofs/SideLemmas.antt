@@ -18,7 +18,7 @@ use Rattle.lv_maptables.specs.Edits.{with_side, with_side_at, without_side, line
 use Rattle.lv_maptables.proofs.ListLemmas.{All-remove, lowered_le, lowered_fits}
 use Rattle.lv_maptables.proofs.FaultLemmas.{none_hold, has_room, none_passes, not_lacking}
 
--- a line has its sides among as many or more
+-- a line keeps its sides if there are as many or more
 pub sides_among : (old new : List Side) (l : Line) → length old ≤ length new → HasSides old l → HasSides new l
 sides_among old new l more h =
     record { right = omega (arith, h.right); left = λ some. omega (arith, h.left some); two_sided = h.two_sided }
@@ -48,7 +48,7 @@ with_side-keeps m s w range fine =
       thing_count = w.thing_count;
     }
 
--- with another side in place of one
+-- with one side replaced
 pub with_side_at-keeps : (m : Tables) (n : ℕ) (s : Side) → WellFormed m → IsSide s → least (set_side_faults m n s) ≡ None → WellFormed (with_side_at m n s)
 with_side_at-keeps m n s w range fine =
     let none = none_hold (set_side_faults m n s) fine in
@@ -76,7 +76,7 @@ with_side_at-keeps m n s w range fine =
 pub left_missing : (n left : ℕ) → left ≡ no_side → lowered_left n left ≡ left
 left_missing n left e = cond-true (eqb left no_side) left (lowered n left) (eq-eqb left no_side e)
 
--- another is lowered
+-- an existing one is lowered
 pub left_there : (n left : ℕ) → left ≢ no_side → lowered_left n left ≡ lowered n left
 left_there n left e = cond-false (eqb left no_side) left (lowered n left) (ne_eqb left no_side e)
 
@@ -89,7 +89,7 @@ left_apart n l unused some same =
       | inr other ↦ eqb-false l.left n other same
     ]
 
--- a line that doesn't use a side has its sides once that is taken out
+-- a line that doesn't use a side has its sides once that side is removed
 pub sides_without : (sides : List Side) (n : ℕ) (l : Line) → n < length sides → length sides ≤ 32767 → uses_side n l ≡ false → HasSides sides l → HasSides (remove sides n) (line_without_side n l)
 sides_without sides n l at few unused h =
     let shorter = length-remove sides n at in

@@ -1,4 +1,4 @@
--- What a table's items are, that it keeps its keys after each edit of its slab and its order, and the ranks of the keys.
+-- A table's items, its invariant after each edit of its slab and its order, and the ranks of its keys.
 use Rattle.std.proofs.Common.{◌≡◌, ◌≢◌, ◌∙◌, refl, sym, ap, subst, ℕ, zero, suc, ◌+◌, ◌<◌, Bool, true, false, cond, not, ltb, ◌==◌, List, [], ◌∷◌, ◌++◌, length, get_or, arith, length-append}
 use Rattle.std.specs.List.{cons_option}
 use Rattle.std.specs.Prelude.{Option, Some, None, IsSome, All, AllPairs, remove, slice_set, filter_map, position}
@@ -18,7 +18,7 @@ use Rattle.lv_maptables.proofs.KeyLemmas.{given_same, given_length, given_remove
 pub count_of_items : {T : Type 0} (s : Slab T) (keys : List ℕ) → IsKept s keys → length (items_under s keys) ≡ length keys
 count_of_items s keys k = given_length (get s) keys k.held_each
 
--- ---- an item more
+-- ---- one more item
 no_key : {T : Type 0} (s : Slab T) (key k : ℕ) → get s key ≡ None → ContainsKey s k → k ≢ key
 no_key {T} s key k none has e =
     let h : IsSome (get s key) = subst (λ (j : ℕ). IsSome (get s j)) e has in
@@ -54,7 +54,7 @@ push_keeps {T} s t keys key v k none u len =
       count = omega (arith, c, l, len);
     }
 
--- ---- an item less
+-- ---- one item less
 pub remove_items : {T : Type 0} (s t : Slab T) (keys : List ℕ) (n : ℕ) → n < length keys → IsKept s keys
     → Updates s t (get_or keys n 0) None → items_under t (remove keys n) ≡ remove (items_under s keys) n
 remove_items s t keys n h k u =
@@ -104,7 +104,7 @@ rank_found keys n key differ e =
     let p = position-Some (λ k. k == key) keys n 0 e in
     rank_at keys n key differ p.0 (eqb-true (get_or keys n 0) key p.1)
 
--- a key that stands nowhere
+-- a key that isn't in the list
 pub rank_missing : (keys : List ℕ) (key : ℕ) → position (λ k. k == key) keys ≡ None → rank_of keys key ≡ length keys
 rank_missing keys key e = by (ltb (rank_of keys key) (length keys)) refl e
   where
@@ -118,7 +118,7 @@ rank_push keys new key there =
     let few : (rank_of keys key == length keys) ≡ false = ne_eqb (rank_of keys key) (length keys) (λ e. omega (arith, e, there)) in
     position_or_len_push (λ k. k == key) keys new ∙ ap (λ b. cond b (length keys + cond (new == key) 0 1) (rank_of keys key)) few
 
--- a key less: the ranks behind it fall by one
+-- one key less: the ranks after it are lowered by one
 pub rank_remove : (keys : List ℕ) (n key : ℕ) → n < length keys → AllPairs (λ j k. j ≢ k) keys → rank_of keys key < length keys → rank_of keys key ≢ n
     → rank_of (remove keys n) key ≡ lowered n (rank_of keys key)
 rank_remove keys n key at differ there other =

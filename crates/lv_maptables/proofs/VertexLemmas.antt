@@ -21,11 +21,11 @@ use Rattle.lv_maptables.specs.Edits.{with_vertex, with_vertex_at, without_vertex
 use Rattle.lv_maptables.proofs.ListLemmas.{All-remove, all_pairs_set, lowered_le, lowered_fits, lowered_apart, get_or-lowered}
 use Rattle.lv_maptables.proofs.FaultLemmas.{none_hold, has_room, none_passes, not_lacking}
 
--- a vertex has its own place
+-- a vertex is at its own place
 pub own_place : (v : Vertex) → is_place v v ≡ true
 own_place v = and_from _ _ ((Decides-int_eq v.x v.x).1 refl) ((Decides-int_eq v.y v.y).1 refl)
 
--- a line has its ends with more vertices, too
+-- a line keeps its ends if vertices are added
 pub ends_more : (vs : List Vertex) (v : Vertex) (l : Line) → HasEnds vs l → HasEnds (vs ++ v ∷ []) l
 ends_more vs v l h =
     let longer = length-append vs (v ∷ []) in
@@ -38,7 +38,7 @@ ends_more vs v l h =
       short = rw (first, second) h.short;
     }
 
--- with a vertex at a place that none has
+-- with a vertex at a free place
 pub with_vertex-keeps : (m : Tables) (v : Vertex) → WellFormed m → IsVertex v → least (vertex_faults m v) ≡ None → WellFormed (with_vertex m v)
 with_vertex-keeps m v w range fine =
     let none = none_hold (vertex_faults m v) fine in
@@ -63,7 +63,7 @@ with_vertex-keeps m v w range fine =
       thing_count = w.thing_count;
     }
 
--- a line that doesn't use a vertex has its ends once that is taken out
+-- a line that doesn't use a vertex has its ends once that vertex is removed
 pub ends_without : (vs : List Vertex) (n : ℕ) (l : Line) → n < length vs → uses_vertex n l ≡ false → HasEnds vs l → HasEnds (remove vs n) (line_without_vertex n l)
 ends_without vs n l at unused h =
     let shorter = length-remove vs n at in
@@ -122,7 +122,7 @@ without_vertex-keeps m n w fine =
       thing_count = w.thing_count;
     }
 
--- no other vertex has the place
+-- no other vertex is at the place
 pub none_beside : (vs : List Vertex) (n : ℕ) (v : Vertex) → is_taken_beside vs n v ≡ false → (k : ℕ) (d : Vertex) → k < length vs → k ≢ n → is_place v (get_or vs k d) ≡ false
 none_beside vs n v free k d h apart =
     let many = length-enumerate_from 0 vs in
@@ -135,7 +135,7 @@ none_beside vs n v free k d h apart =
       | inr away ↦ away
     ]
 
--- a line has its ends once a vertex has moved, if it isn't too long then
+-- a line has its ends after a vertex has moved, if it isn't too long then
 pub ends_moved : (vs : List Vertex) (n : ℕ) (v : Vertex) (l : Line) → (uses_vertex n l && is_too_long (set vs n v) l) ≡ false → HasEnds vs l → HasEnds (set vs n v) l
 ends_moved vs n v l fits h =
     let as_many = length-set vs n v in
@@ -153,7 +153,7 @@ ends_moved vs n v l fits h =
       ];
     }
 
--- with a vertex moved to a place that no other has
+-- with a vertex moved to a place where no other is
 pub with_vertex_at-keeps : (m : Tables) (n : ℕ) (v : Vertex) → WellFormed m → IsVertex v → least (set_vertex_faults m n v) ≡ None → WellFormed (with_vertex_at m n v)
 with_vertex_at-keeps m n v w range fine =
     let none = none_hold (set_vertex_faults m n v) fine in

@@ -1,4 +1,4 @@
--- The longest lines of several sectors, one line more at a time.
+-- The longest lines of several sectors, one more line at a time.
 use Rattle.std.proofs.Common.{◌≡◌, ℕ, ◌+◌, ◌<◌, List, length, get_or, take, sym, ap, ◌∙◌, arith}
 use Rattle.std.specs.Prelude.{◌-◌, ◌%◌, fold, Option, None}
 use Rattle.std.proofs.lemmas.List.Sums.{fold_more}
@@ -7,7 +7,7 @@ use Rattle.lv_maptables.specs.Tables.{Tables}
 use Rattle.lv_picture.specs.Numbers.{longer, longest_line}
 use Rattle.lv_picture.specs.Longest.{AreLongest, LooksAt}
 
--- after a look at the next line
+-- after the next line was taken into account
 pub looked_more : (m : Tables) (first n : ℕ) (l d : Line) (old new : List (Option Line)) → n < length m.lines → l ≡ get_or m.lines n d
     → AreLongest m first (take n m.lines) old → LooksAt m first l old new → AreLongest m first (take (n + 1) m.lines) new
 looked_more m first n l d old new within read so_far looks = λ i among.
@@ -20,7 +20,7 @@ looked_more m first n l d old new within read so_far looks = λ i among.
 pub longest_from : (m : Tables) (first other : ℕ) (ls : List Line) (longest : List (Option Line)) → first ≡ other → AreLongest m first ls longest → AreLongest m other ls longest
 longest_from m first other ls longest same h = λ i among. h i among ∙ ap (λ (k : ℕ). fold (longer m (k + i)) None ls) same
 
--- the multiple of 256 up to which a number goes is that of the next one, unless the next one is a multiple
+-- a number and the next one have the same greatest multiple of 256 at or below them, unless the next one is a multiple
 pub next_group : (n : ℕ) → 0 < (n + 1) % 256 → n - n % 256 ≡ (n + 1) - (n + 1) % 256
 next_group n h = omega arith
 

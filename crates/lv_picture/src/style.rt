@@ -1,7 +1,8 @@
 //! The style of the picture.
 
-/// How the classes of the picture look, in a light and in a dark scheme, wide and on a phone. It holds no `<` and no
-/// `&`.
+/// How the classes of the picture look, in a light and in a dark scheme, on a wide page and on a phone. It holds no
+/// `<` and no `&`. On a map of 300 vertices or more, and on a phone, the dots and ticks have widths in map units, so
+/// that they don't hide the lines; `:has` finds such a map, and a viewer that doesn't know it draws the wider ones.
 pub const STYLE: &str = "<style type=\"text/css\">
 svg{color-scheme:light dark}
 .page{fill:#fff}
@@ -31,11 +32,15 @@ text{stroke:#fff;stroke-width:.2em;paint-order:stroke}
 .of-vertex{fill:#1d4ed8}
 .of-line{fill:#222}
 .of-sector{fill:#15803d;fill-opacity:.6;stroke:none;font-size:2em;font-weight:bold}
+svg:has(#vertex299) .vertex{vector-effect:none;stroke-width:8px}
+svg:has(#vertex299) .tick{vector-effect:none;stroke-width:2px}
 @media (max-width:600px){
 text{font-size:2.4em}
 .of-sector{font-size:3.2em}
-.vertex{stroke-width:4px}
-.one path,[id^=sub] path{stroke-width:2px}
+.vertex{vector-effect:none;stroke-width:8px}
+.one path,[id^=sub] path{stroke-width:1.5px}
+.two path{stroke-width:1px}
+.one .tick,.two .tick{vector-effect:none;stroke-width:2px}
 .lint path{stroke-width:10px}
 }
 @media (prefers-color-scheme:dark){

@@ -1,4 +1,4 @@
--- A level has no fault exactly where every reference is in range.
+-- A level has no fault exactly if every reference is in range.
 use Rattle.std.proofs.Common.{◌≡◌, refl, sym, ap, ◌∙◌, subst, ℕ, zero, suc, ◌+◌, ◌-◌, ◌<◌, ◌≤◌, Bool, true, false, not, cond, ◌&&◌, List, [], ◌∷◌, ◌++◌, length, get_or, take, drop, ◌⊎◌, inl, inr, arith, None, Some}
 use Rattle.std.specs.Prelude.{◌↔◌, ◌≢◌, All, nat_lt, ◌==◌, ◌||◌, sum_by}
 use Rattle.std.specs.Bool.{Decides}
@@ -36,7 +36,7 @@ record SidesIn (l : Lumps) (x : Line) : Type 0 where
 vertices_in : (l : Lumps) (x : Line) → Decides (line_vertices l x) (VerticesIn l x)
 vertices_in l x = Decides-like (line_vertices l x) (λ p. record { v1 = p.0; v2 = p.1 }) (λ i. (i.v1, i.v2)) (Decides-and _ _ (Decides-is_in l.vertices x.v1) (Decides-is_in l.vertices x.v2))
 
--- a left side that is there is in range; without one the line isn't two-sided
+-- an existing left side is in range; a line without one isn't two-sided
 left_in : (e t i : Bool) (E I : Type 0) → Decides e E → Decides i I → Decides (cond e (not t) i) (((E → ⊥) → I) × (t ≡ true → E → ⊥))
 left_in true true i E I de di = (λ h. cc, λ p. absurd (p.1 refl (de.0 refl)))
 left_in true false i E I de di = (λ h. (λ n. absurd (n (de.0 refl)), λ t. cc), λ p. refl)

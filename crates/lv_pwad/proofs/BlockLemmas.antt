@@ -1,4 +1,4 @@
--- The words of a built blockmap are read back, and its lists lie in range.
+-- The words of a built blockmap read back, and its lists are in range.
 use Rattle.std.proofs.Common.{◌≡◌, ◌∙◌, refl, sym, ap, subst, ℕ, zero, suc, ◌+◌, ◌*◌, ◌/◌, ◌<◌, ◌≤◌, List, [], ◌∷◌, ◌++◌, length, get_or, take, drop, arith, length-append}
 use Rattle.std.specs.Prelude.{All, ◌%◌, flat_map, slice_index}
 use Rattle.std.proofs.lemmas.List.{take_at, get_or-take, get_or-drop, length-map}
@@ -28,7 +28,7 @@ words_back ws a = records-back (unsigned_at 0) unsigned 2 ws (omega arith) (λ k
 pub words_long : (ws : List ℕ) → length (word_bytes ws) ≡ 2 * length ws
 words_long ws = lump_length unsigned 2 ws (λ k d h. refl)
 
--- ---- a list that stands in the words lies in range
+-- ---- a list in the words is in range
 
 stands_inside : (ws : List ℕ) (n at x : ℕ) (rest : List ℕ) → take (suc n) (drop at ws) ≡ x ∷ rest → at < length ws
 stands_inside [] n zero x rest e = cc

@@ -1,4 +1,4 @@
--- A list's items, one after the other.
+-- A list's items, one after another.
 use Rattle.std.proofs.Common.{◌≡◌, ◌∙◌, sym, ap, ℕ, ◌+◌, ◌<◌, ◌≤◌, List, [], ◌∷◌, ◌++◌, length, take, arith}
 use Rattle.std.specs.Prelude.{slice_get, Some, get_or}
 use Rattle.std.proofs.lemmas.List.{take_more, take_all}

@@ -1,4 +1,4 @@
--- One child more is counted.
+-- One more child is counted.
 use Rattle.std.proofs.Common.{◌≡◌, ◌∙◌, refl, sym, ap, subst, ℕ, ◌+◌, ◌<◌, ◌≤◌, ◌⊎◌, inl, inr, Bool, true, false, ◌&&◌, List, length, get_or, take, arith}
 use Rattle.std.specs.Prelude.{nat_lt, ◌==◌, min}
 use Rattle.std.proofs.Math.ListN.{set}
@@ -22,7 +22,7 @@ hit_or base end child n = by (nat_lt child end) (child == (base + n)) refl refl
     by true false e f = inr (refl, λ h. let b = h.1 in grind (arith, nat_tests))
     by false q e f = inr (refl, λ h. let b = h.0 in grind (arith, nat_tests))
 
--- the count of a number after the child: one more, or still 2, where it is hit, else as it was
+-- the count of a number after the child: one more, or still 2, if the child is the number, else as before
 pub record Counts (hit : Type 0) (old new : ℕ) : Type 0 where
   pub there : hit → ((new ≡ old + 1) × (old < 2)) ⊎ ((new ≡ old) × (2 ≤ old))
   pub elsewhere : (hit → ⊥) → new ≡ old
@@ -43,7 +43,7 @@ count_step base end child k children old new h is len step a =
         let t = count_by_more_no (λ c. nat_lt c end && (c == (base + n))) children k 0 h (ap (λ (c : ℕ). hits base end c n) is ∙ y.0) in
         (step n b).elsewhere y.1 ∙ a.each n b ∙ ap (min 2) (sym t)
 
--- a child that is none of the numbers
+-- a child that isn't one of the numbers
 pub none_hit :
     (base end child : ℕ) (counts : List ℕ) → ((n : ℕ) → n < length counts → IsHit base end child n → ⊥) → (n : ℕ) → n < length counts
     → Counts (IsHit base end child n) (get_or counts n 0) (get_or counts n 0)

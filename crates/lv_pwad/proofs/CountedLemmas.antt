@@ -1,4 +1,4 @@
--- The counts of the levels that are written, and of those that the bytes are read back to.
+-- The counts of the levels that are written, and of those that read back from the bytes.
 use Rattle.std.proofs.Common.{◌≡◌, ◌∙◌, refl, sym, ap, subst, ℕ, ◌+◌, ◌<◌, List, [], ◌∷◌, length, get_or, take}
 use Rattle.std.specs.Prelude.{All, map, sum_by}
 use Rattle.std.proofs.lemmas.List.Elements.{All-head, All-tail}
@@ -17,7 +17,7 @@ use Rattle.lv_pwad.specs.declared.levels.NamedLevel.{NamedLevel}
 abbrev pub views_in : List NamedLevel → List Lumps
 views_in xs = map (λ (x : NamedLevel). view x.level) xs
 
--- a sum with one level more
+-- a sum with one more level
 sum_more : (f : Lumps → ℕ) (ls : List Lumps) (n a b : ℕ) (l : Lumps) → n < length ls → get_or ls n l ≡ l
     → a ≡ sum_by f (take n ls) → b ≡ a + f l → b ≡ sum_by f (take (n + 1) ls)
 sum_more f ls n a b l within at before more =
@@ -35,7 +35,7 @@ counts_more ls n len l old new within at before more =
       bytes = more.bytes ∙ before.bytes;
     }
 
--- the levels that are written are those that the bytes are read back to
+-- the levels that are written are those that read back from the bytes
 levels_back : (wad : List ℕ) (ms : List Tables) (xs : List NamedLevel) → AreLevelsOf ms xs
     → All (λ (x : NamedLevel). IsLevel wad (name_text x.name) (view x.level)) xs → views_in xs ≡ map (level_of wad) ms
 levels_back wad [] [] a r = refl

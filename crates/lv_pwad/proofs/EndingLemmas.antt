@@ -1,4 +1,4 @@
--- One word more, from the back.
+-- One more word, from the end.
 use Rattle.std.proofs.Common.{◌≡◌, ◌≢◌, ◌∙◌, refl, sym, ap, ℕ, zero, suc, ◌+◌, ◌<◌, ◌≤◌, ◌⊎◌, inl, inr, Bool, false, ◌&&◌, ◌||◌, List, [], ◌∷◌, length, get_or, drop, arith}
 use Rattle.std.specs.Prelude.{◌==◌}
 use Rattle.std.proofs.Math.ListN.{set}
@@ -11,7 +11,7 @@ cons_at [] n h = absurd (omega arith)
 cons_at (x ∷ xs) zero h = refl
 cons_at (x ∷ xs) (suc n) h = let e : suc n + 1 ≡ suc (n + 1) = omega arith in rw e (cons_at xs n (omega arith))
 
--- the flags from a place on, and whether the words from it on end in lines
+-- the flags from an index on, and whether the words from it on name lines up to an end
 pub record SoFar (lines : ℕ) (words : List ℕ) (from size : ℕ) (flags : List Bool) (ends : Bool) : Type 0 where
   pub here : ends ≡ ends_in_lines lines (drop from words)
   pub flagged : AreEndings lines words from flags
@@ -25,14 +25,14 @@ here_before lines words place word ends h is e =
     ∙ ap (λ (w : ℕ). ends_in_lines lines (w ∷ drop (place + 1) words)) (sym is)
     ∙ sym (ap (ends_in_lines lines) (cons_at words place h))
 
--- the place is beyond the flags
+-- the index is past the last flag
 pub no_flag :
     (lines : ℕ) (words : List ℕ) (place size : ℕ) (flags : List Bool) (ends new : Bool) → length flags ≤ place → new ≡ ends_in_lines lines (drop place words)
     → SoFar lines words (place + 1) size flags ends → SoFar lines words place size flags new
 no_flag lines words place size flags ends new far e s =
     record { here = e; flagged = record { each = λ p from below. absurd (omega arith) }; whole = s.whole }
 
--- the place's flag is set
+-- the flag at the index is set
 pub flag_set :
     (lines : ℕ) (words : List ℕ) (place size : ℕ) (flags : List Bool) (ends new : Bool) → place < length flags → new ≡ ends_in_lines lines (drop place words)
     → SoFar lines words (place + 1) size flags ends → SoFar lines words place size (set flags place new) new

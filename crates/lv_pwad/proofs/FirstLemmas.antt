@@ -1,4 +1,4 @@
--- The first fault of several, and the first that is wrong in a list that is gone through.
+-- The first fault of several, and the first wrong item that a pass over a list finds.
 use Rattle.std.proofs.Common.{◌≡◌, refl, sym, ap, ◌∙◌, subst, ℕ, zero, suc, ◌+◌, ◌-◌, ◌<◌, ◌≤◌, ◌⊎◌, inl, inr, Bool, true, false, not, cond, List, [], ◌∷◌, ◌++◌, length, get_or, take, Option, Some, None, zero-add, below_more, append_assoc, ◌≢◌, arith}
 use Rattle.std.specs.Prelude.{nat_lt, sum_by, ◌==◌, flat_map, min, pos, nat_le, count_by, All, drop, ◌&&◌, ◌↔◌}
 use Rattle.std.proofs.lemmas.List.Elements.{All-head, All-tail, All-from_get_or}
@@ -33,7 +33,7 @@ pub first_rest : {X : Type 0} (o : Option X) (os : List (Option X)) → first_so
 first_rest None os = one_of (first_some os)
 first_rest (Some x) os = refl
 
--- the first of some, and of others behind them
+-- the first of some, followed by others
 pub first_append : {X : Type 0} (xs ys : List (Option X)) → first_some (xs ++ ys) ≡ first_some (first_some xs ∷ first_some ys ∷ [])
 first_append [] ys = sym (one_of (first_some ys))
 first_append (None ∷ xs) ys = first_append xs ys
@@ -64,7 +64,7 @@ length_counts : (at : ℕ) (subs : List Sub) → length (after_counts at subs) �
 length_counts at [] = refl
 length_counts at (s ∷ subs) = ap suc (length_counts (at + s.count) subs)
 
--- the n-th subsector, behind the counts of those before it
+-- the n-th subsector, paired with the sum of the counts before it
 counts_at : (at : ℕ) (subs : List Sub) (n : ℕ) (d : ℕ × Sub) → n < length subs → get_or (after_counts at subs) n d ≡ (at + sum_by (λ s. s.count) (take n subs), get_or subs n d.1)
 counts_at at [] n d h = absurd (omega arith)
 counts_at at (s ∷ subs) zero d h = let e : at ≡ at + 0 = omega arith in ap (λ (k : ℕ). (k, s)) e

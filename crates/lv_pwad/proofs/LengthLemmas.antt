@@ -1,4 +1,4 @@
--- A level's lumps are whole records, and the WAD of one level is short enough.
+-- A level's lumps are whole numbers of records, and the WAD of one level is short enough.
 use Rattle.std.proofs.Common.{◌≡◌, refl, ℕ, zero, suc, ◌+◌, ◌*◌, ◌<◌, ◌≤◌, List, [], ◌∷◌, ◌++◌, length, get_or, arith, length-append}
 use Rattle.std.specs.Prelude.{flat_map, All, ◌%◌}
 use Rattle.std.proofs.Math.Nat.{mul-suc}
@@ -50,7 +50,7 @@ pub record IsWritable (l : Lumps) : Type 0 where
   pub short_blockmap : length l.blockmap ≤ 131072
   pub words : length l.blockmap % 2 ≡ 0
 
--- how long the ten lumps are
+-- the lengths of the ten lumps
 pub record AreLengths (l : Lumps) : Type 0 where
   pub things : length (flat_map thing_record l.things) ≡ 10 * length l.things
   pub lines : length (flat_map line_record l.lines) ≡ 14 * length l.lines

@@ -1,4 +1,4 @@
--- One level more, and what is read of each.
+-- One more level, and what is read of each.
 use Rattle.std.proofs.Common.{◌≡◌, ◌∙◌, refl, sym, ap, subst, ℕ, suc, ◌+◌, ◌<◌, List, [], ◌∷◌, ◌++◌, length, get_or, take, arith, append-nil, append_assoc}
 use Rattle.std.specs.Prelude.{All}
 use Rattle.std.proofs.Math.Seq.{take-suc}
@@ -80,7 +80,7 @@ pub record Appended (v0 v1 xs : List Lump) : Type 0 where
 pub first_lump : (v0 v1 : List Lump) (name : Name8) (b r : List ℕ) → v1 ≡ v0 ++ (named_lump name b ∷ []) → b ≡ r → Appended v0 v1 (named_lump name r ∷ [])
 first_lump v0 v1 name b r w s = record { same = w ∙ ap (λ (ws : List ℕ). v0 ++ (named_lump name ws ∷ [])) s }
 
--- one lump more behind those that were appended
+-- one more lump after those that were appended
 pub next_lump : (v0 v1 v2 xs : List Lump) (name : Name8) (b r : List ℕ) → Appended v0 v1 xs → v2 ≡ v1 ++ (named_lump name b ∷ []) → b ≡ r → Appended v0 v2 (xs ++ (named_lump name r ∷ []))
 next_lump v0 v1 v2 xs name b r e w s =
     record {

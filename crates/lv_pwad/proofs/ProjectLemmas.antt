@@ -1,4 +1,4 @@
--- The levels of a project's maps can stand in one WAD.
+-- One WAD can hold the levels of a project's maps.
 use Rattle.std.proofs.Common.{◌≡◌, ◌≢◌, ◌∙◌, refl, sym, ap, subst, ℕ, zero, suc, ◌+◌, ◌*◌, ◌<◌, ◌≤◌, ◌⊎◌, inl, inr, List, [], ◌∷◌, ◌++◌, length, get_or, take, arith, length-append}
 use Rattle.std.specs.Prelude.{◌↔◌, All, AllPairs, Option, None, Some, MatchOption, Result, Err, slice_get}
 use Rattle.std.proofs.lemmas.List.Elements.{All-head, All-tail, All-nil, All-cons}
@@ -22,12 +22,12 @@ use Rattle.lv_pwad.proofs.CopyLemmas.{item_more}
 use Rattle.lv_pwad.proofs.LengthLemmas.{one_long}
 use Rattle.lv_pwad.proofs.SoundLemmas.{part_of_level, level_sound, sound_build, buildable, level_writable}
 
--- where a number names no item it is beyond the last
+-- if a number names no item, it is past the last one
 pub none_there : {X : Type 0} (P : Type 0) (Q : X → Type 0) (r : Option X) → MatchOption r P Q → ((x : X) → r ≡ Some x → ⊥) → P
 none_there P Q None h never = h
 none_there P Q (Some x) h never = absurd (never x refl)
 
--- ---- one level more
+-- ---- one more level
 
 snoc : (ms : List Tables) (xs : List NamedLevel) (m : Tables) (x : NamedLevel) → AreLevelsOf ms xs → IsLevelOf m x → AreLevelsOf (ms ++ m ∷ []) (xs ++ x ∷ [])
 snoc [] [] m x a h = (h, tt)
@@ -53,7 +53,7 @@ err_too {X} {Y} a b same = let is : a ≡ b = cc in ap (refusal_in Y) is
 pub same_refusal : {X Y : Type 0} {P : Type 0} (a b : BuildError) → (refusal_in X a ≡ refusal_in X b ↔ P) → (refusal_in Y a ≡ refusal_in Y b ↔ P)
 same_refusal {X} {Y} {P} a b h = (λ q. h.0 (err_too {X = Y} {Y = X} a b q), λ z. err_too {X = X} {Y = Y} a b (h.1 z))
 
--- where the first map has no line, no level has been made yet
+-- if the first map has no line, no level has been made yet
 abbrev pub NoneYet : List Tables → ℕ → Type 0
 NoneYet ms n = (m : Tables) → slice_get ms 0 ≡ Some m → length m.lines ≡ 0 → n ≡ 0
 
@@ -74,21 +74,21 @@ first_map ms n k m none here first empty =
 abbrev unbuilt_in : (X : Type 0) → Unbuilt → Result X Unbuilt
 unbuilt_in X u = Err u
 
--- it is named
+-- the map is named
 pub first_blamed : {X Y : Type 0} (e : BuildError) (k m : Tables) (u : Unbuilt) → u ≡ blamed e k.name → k ≡ m → refusal_in X e ≡ refusal_in X NothingToBuild
     → unbuilt_in Y u ≡ unbuilt_in Y (blamed NothingToBuild m.name)
 first_blamed {X} {Y} e k m u is first none =
     let error : e ≡ NothingToBuild = cc in
     ap (unbuilt_in Y) (is ∙ ap (λ (x : BuildError). blamed x k.name) error ∙ ap (λ (t : Tables). blamed NothingToBuild t.name) first)
 
--- so it is after a call that hands the refusal on
+-- so it is after a call that passes the refusal on
 pub unbuilt_too : {X Y : Type 0} (u v : Unbuilt) → unbuilt_in X u ≡ unbuilt_in X v → unbuilt_in Y u ≡ unbuilt_in Y v
 unbuilt_too {X} {Y} u v same = let is : u ≡ v = cc in ap (unbuilt_in Y) is
 
 pub error_too : {X Y : Type 0} (u : Unbuilt) (name : Name8) → unbuilt_in X u ≡ unbuilt_in X (blamed NothingToBuild name) → refusal_in Y u.error ≡ refusal_in Y NothingToBuild
 error_too {X} {Y} u name same = let is : u ≡ blamed NothingToBuild name = cc in ap (λ (v : Unbuilt). refusal_in Y v.error) is
 
--- ---- what the levels tell of the maps
+-- ---- what the levels show about the maps
 
 pub all_buildable : (ms : List Tables) (xs : List NamedLevel) → AreLevelsOf ms xs → All CanBeBuilt ms
 all_buildable [] [] a = All-nil CanBeBuilt
@@ -150,7 +150,7 @@ holds_only wad ms xs a w =
       bytes = w ∙ ap (λ (ps : List Part). wad_bytes (all_lumps ps)) (same_parts ms xs a);
     }
 
--- ---- they can stand in one WAD
+-- ---- one WAD can hold them
 
 same_count : (ms : List Tables) (xs : List NamedLevel) → AreLevelsOf ms xs → length (level_parts xs) ≡ length ms
 same_count [] [] a = refl
@@ -206,7 +206,7 @@ names_differ ms xs d a names i j p h k ne e = by (apart i j ne)
     by (inl l) = names i j d l (let c = count in omega (arith, k, c)) same
     by (inr l) = names j i d l (let c = count in omega (arith, h, c)) (sym same)
 
--- how long they are
+-- the lengths of the levels
 all_long : (ms : List Tables) (xs : List NamedLevel) → AreLevelsOf ms xs → length (all_bytes (all_lumps (level_parts xs))) ≤ 6000000 * length ms
 all_long [] [] a = omega arith
 all_long [] (x ∷ xs) a = absurd a

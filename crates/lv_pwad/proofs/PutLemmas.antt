@@ -1,4 +1,4 @@
--- One lump more is written.
+-- One more lump is written.
 use Rattle.std.proofs.Common.{◌≡◌, ◌∙◌, refl, sym, ap, ℕ, zero, suc, ◌+◌, ◌<◌, ◌≤◌, List, [], ◌∷◌, ◌++◌, length, get_or, take, arith, append_assoc, length-append, append-nil}
 use Rattle.std.specs.Prelude.{codes, flat_map}
 use Rattle.std.proofs.Math.Seq.{take-suc}
@@ -58,7 +58,7 @@ body_fits (l ∷ lumps) (suc n) x h e =
     let r = body_fits lumps n x (omega arith) e in
     omega (arith, a, b, r)
 
--- the length of the bytes with one lump more
+-- the length of the bytes with one more lump
 pub length_more : (lumps : List NamedLump) (n : ℕ) (x : NamedLump) → n < length lumps → get_or lumps n x ≡ x
     → length (all_bytes (views (take (n + 1) lumps))) ≡ length (all_bytes (views (take n lumps))) + length x.bytes.items
 length_more lumps n x h e =
@@ -81,7 +81,7 @@ whole_wad lumps head body directory wad h b d w =
     ∙ ap (λ (ws : List ℕ). wad_head lumps ++ (all_bytes lumps ++ ws))
     (d ∙ ap (λ (n : ℕ). flat_map entry_bytes (entries_from n lumps)) (ap length h ∙ length_head lumps))
 
--- the body with one lump more
+-- the body with one more lump
 pub body_more :
     (lumps : List NamedLump) (n : ℕ) (x : NamedLump) (start body new added : List ℕ) → n < length lumps → get_or lumps n x ≡ x → body ≡ start ++ all_bytes (views (take n lumps))
     → added ≡ x.bytes.items → new ≡ body ++ added → new ≡ start ++ all_bytes (views (take (n + 1) lumps))
@@ -92,7 +92,7 @@ body_more lumps n x start body new added h e b a w =
 abbrev pub entry_for : ℕ → NamedLump → Entry
 entry_for at l = record { at = at; size = length l.bytes.items; name = l.name }
 
--- the directory with one entry more
+-- the directory with one more entry
 pub directory_more :
     (lumps : List NamedLump) (n at : ℕ) (x : NamedLump) (start directory new : List ℕ) (entry : Entry) → n < length lumps → get_or lumps n x ≡ x
     → directory ≡ start ++ flat_map entry_bytes (entries_from at (views (take n lumps)))

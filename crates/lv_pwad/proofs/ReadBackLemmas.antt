@@ -1,4 +1,4 @@
--- What is read of a sound build is the sound level that was built.
+-- A sound build reads back as the sound level that was built.
 use Rattle.std.proofs.Common.{◌≡◌, ◌∙◌, refl, sym, subst, ℕ, List, Option, Some, None}
 use Rattle.lv_lumps.specs.Names.{name_text}
 use Rattle.lv_maptables.specs.Tables.{Tables}
@@ -17,7 +17,7 @@ none_some : {X : Type 0} (o : Option X) (x : X) → o ≡ None → o ≡ Some x 
 none_some None x e f = cc
 none_some (Some y) x e f = cc
 
--- what was built is never refused but for memory
+-- reading what was built fails only if memory runs out
 pub never_refused : (m : Tables) (wad : List ℕ) (e : ReadError) → IsSoundBuild m wad → RefusesLevel wad (name_text m.name) e → e ≡ OutOfMemory
 never_refused m wad LumpLength s r = absurd (none_some (refusal wad (name_text m.name)) LumpLength s.reads.accepted r)
 never_refused m wad NotAWad s r = absurd (none_some (refusal wad (name_text m.name)) NotAWad s.reads.accepted r)

@@ -253,7 +253,7 @@ blockmap_nothing m t blocks.OutOfMemory b k h e = (λ q. cc, λ z. let s = k.som
 blockmap_nothing m t blocks.NothingToBuild b k h e = (λ q. blockmap_cause m t blocks.NothingToBuild k h, λ z. e)
 blockmap_nothing m t blocks.BlockmapTooLarge b k h e = (λ q. cc, λ z. let s = k.some_line in let n = many m in absurd (omega (arith, s, n, z)))
 
--- a map that was built has one
+-- a map that was built has a line
 pub built_some : {E : Type 0} {X : Type 0} (m : Tables) (t : Built) (x : X) (e : E) → IsBuilt m t → (Ok x ≡ Err e ↔ length m.lines ≡ 0)
 built_some m t x e k = (λ q. cc, λ z. let s = k.some_line in let n = many m in absurd (omega (arith, s, n, z)))
 

@@ -1,4 +1,4 @@
--- What is found of two slots.
+-- What is found in two slots.
 use Rattle.std.proofs.Common.{◌≡◌, inl, inr, ◌≤◌, ◌+◌, ℕ, List, length, Option, None, Some, refl, sym, subst, arith}
 use Rattle.lv_disk.specs.declared.area.Area.{Area}
 use Rattle.lv_checkpoint.specs.Bodies.{IsLive, IsOpenWith}
@@ -17,12 +17,12 @@ use Rattle.lv_salvage.specs.declared.error.SalvageError.{SalvageError}
 use Rattle.lv_salvage.specs.declared.error.SalvageError.TheVariants.{Damaged}
 use Rattle.lv_salvage.specs.declared.slots.OpenSlot.{OpenSlot}
 
--- a slot that shows what it has is no bad one
+-- a slot whose content was found isn't bad
 pub not_bad : (slot : Area) (found : Option OpenSlot) (file : List ℕ) → ShowsSlot slot found file → IsBadSlot slot file → ⊥
 not_bad slot None file shut bad = closed_slot slot file shut bad
 not_bad slot (Some s) file is bad = whole_slot slot file s.generation (length s.body.now) (open_with slot s.generation s.body.now file is) bad
 
--- two open slots of one generation
+-- two open slots with the same generation
 pub one_generation : (a b : Area) (one other : OpenSlot) (file : List ℕ) (place : ℕ) → one.generation ≡ other.generation
     → ShowsSlot a (Some one) file → ShowsSlot b (Some other) file → b.base ≡ place → AreSlotsDamagedAt a b place file
 one_generation a b one other file place same first second there =
@@ -43,12 +43,12 @@ module _ (g : Geometry) (p : Places) (slot generation : ℕ) (body file : List �
   which (inl first) = omega (arith, first.0)
   which (inr second) = omega (arith, second.0)
 
-  -- the live slot is the parts' one
+  -- the live slot is the one that the parts name
   pub live_parts : IsLiveOf p.a p.b slot generation body file → IsLive (which_parts p slot).live (which_parts p slot).other generation body file
   live_parts (inl first) = subst (λ (n : ℕ). IsLive (which_parts p n).live (which_parts p n).other generation body file) (sym first.0) first.1
   live_parts (inr second) = subst (λ (n : ℕ). IsLive (which_parts p n).live (which_parts p n).other generation body file) (sym second.0) second.1
 
-  -- its body fits a slot
+  -- the body of the live slot fits in a slot
   body_fits : AreLaidOut g p → IsLiveOf p.a p.b slot generation body file → 13 + length body ≤ g.slot
   body_fits laid (inl first) = omega (arith, first.1.is_open.content.head.room, laid.a_length)
   body_fits laid (inr second) = omega (arith, second.1.is_open.content.head.room, laid.b_length)

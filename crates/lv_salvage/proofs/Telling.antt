@@ -1,4 +1,4 @@
--- Where a file is damaged, and what it stands for where it is not.
+-- Where a file is damaged, and what it stands for if it isn't.
 use Rattle.std.proofs.Common.{◌≡◌, ◌⊎◌, inl, inr, ◌<◌, ◌+◌, ℕ, Bool, true, false, List, [], ◌∷◌, ◌++◌, length, Option, None, Some, IfSome, IfNone, refl, sym, ◌∙◌, ap, subst, arith}
 use Rattle.std.proofs.lemmas.List.{append-nil}
 use Rattle.lv_disk.specs.declared.area.Area.{Area}
@@ -65,13 +65,13 @@ module _ (g : Geometry) (p : Places) (file : List ℕ) (has : HasGeometry g p fi
   body_refused slot generation body place live there NotAProject r = absurd r
   body_refused slot generation body place live there BadGeometry r = absurd r
 
--- a file from which nothing can be read is damaged there
+-- a file from which nothing can be read is damaged at that offset
 pub lost_damaged : (file : List ℕ) (place : ℕ) → IsLostAt place file → IsProjectDamagedAt place file
 lost_damaged file place (g, p, has, inl bad) = (g, p, has, inl bad)
 lost_damaged file place (g, p, has, inr none) =
     (g, p, has, inr (none.slot, none.generation, none.body, none.which, none.live, inl (none.none, none.there)))
 
--- a file that stands for a project is refused for lack of memory alone
+-- salvaging a file that stands for a project fails only if memory runs out
 pub refused_whole : (file : List ℕ) (cap k : ℕ) (m : ProjectMaps) → Stands cap m k file → (e : SalvageError) → RefusesSalvage file e → e ≡ OutOfMemory
 refused_whole file cap k m st OutOfMemory r = refl
 refused_whole file cap k m st NotAProject r = absurd (stands_foreign cap m k file st r)
@@ -85,7 +85,7 @@ broken_damaged : (area : Area) (lines : List (List ℕ)) (place : ℕ) (file : L
 broken_damaged area lines place file (inl breaks) = inr breaks.0
 broken_damaged area lines place file (inr none) = inl (none.1, none.2)
 
--- all whole records that were read
+-- all whole records were read
 pub all_read : (cap : ℕ) (area : Area) (base maps : ProjectMaps) (r : Replayed) (file : List ℕ) → (read : IsReplayed cap area base maps r file)
     → AreRecordsOf area (read.kept ++ read.lost) file
 all_read cap area base maps r file read = at r.is_closed refl

@@ -18,13 +18,13 @@ use Rattle.lv_project.proofs.Recording.{leads_push}
 use Rattle.lv_salvage.specs.Records.{BreakOffAt, RefusesFirst}
 use Rattle.lv_salvage.specs.Replays.{IsReplayed}
 
--- these records stand at the front of the area, up to this place
+-- these records are at the beginning of the area, up to this offset
 pub record AreRead (area : Area) (lines : List (List ℕ)) (next : ℕ) (file : List ℕ) : Type 0 where
   pub records : HasAt area.base (records_bytes lines) file
   pub short : All (λ line. length line ≤ 256) lines
   pub there : next ≡ area.base + length (records_bytes lines)
 
--- none at first
+-- no record at first
 pub none_read : (area : Area) (file : List ℕ) → area.base < length file → AreRead area [] area.base file
 none_read area file within = record {
   records = record { within = omega (arith, within); same = λ i lt. absurd (omega (arith, lt)) };
@@ -33,7 +33,7 @@ none_read area file within = record {
 }
 
 module _ (area : Area) (file : List ℕ) (lines : List (List ℕ)) (next : ℕ) (are : AreRead area lines next file) where
-  -- one more
+  -- one more record
   pub read_more : (line : List ℕ) → length line ≤ 256 → HasAt next (record_bytes line) file → AreRead area (lines ++ line ∷ []) (next + (5 + length line)) file
   read_more line short has = record {
     records = subst (λ (l : List ℕ). HasAt area.base l file) (sym (records_bytes-push lines line))
@@ -55,12 +55,12 @@ module _ (area : Area) (file : List ℕ) (lines : List (List ℕ)) (next : ℕ) 
   pub read_broken : IsBadRecord area next file → BreakOffAt area lines next file
   read_broken bad = inl (record { payloads = lines; records = are.records; short = are.short; there = are.there; bad = bad }, refl)
 
--- the area's first gate isn't there
+-- the file ends before the area's first gate
 pub no_gate : (area : Area) (end : ℕ) (file : List ℕ) → end ≡ min (length file) (area.base + area.length) → end ≤ area.base → BreakOffAt area [] area.base file
 no_gate area end file ends le =
     inr (refl, refl, elim (cases_lt (length file) (area.base + 1)) [ inl lt ↦ inl lt | inr ge ↦ inr (omega (arith, ends, le, ge)) ])
 
--- the records up to some place, of which the first lead to the maps and the next is refused
+-- the records up to some offset: the kept ones lead to the maps, and the next one isn't accepted
 pub record Walked (cap : ℕ) (area : Area) (base maps : ProjectMaps) (kept behind kept_to next : ℕ) (file : List ℕ) : Type 0 where
   pub front : List (List ℕ)
   pub back : List (List ℕ)
@@ -84,7 +84,7 @@ walked_none cap area base file within = record {
 }
 
 module _ (cap : ℕ) (area : Area) (base maps : ProjectMaps) (file : List ℕ) where
-  -- a record more that is kept, where none stands behind
+  -- one more record is kept, if none was lost before
   kept_more : (front back : List (List ℕ)) (next : ℕ) (line : List ℕ) (new : ProjectMaps) → length back ≡ 0 → AreRead area (front ++ back) next file → Leads cap base front maps
       → length line ≤ 256 → HasAt next (record_bytes line) file → LeadsTo cap maps line new
       → Walked cap area base new (length front + 1) 0 (next + (5 + length line)) (next + (5 + length line)) file

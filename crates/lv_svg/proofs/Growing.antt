@@ -14,7 +14,7 @@ range_more a (suc n) =
     let same : (a + 1) + n ≡ a + suc n = omega arith in
     ap (λ (ks : List ℕ). a ∷ ks) (range_more (a + 1) n ∙ ap (λ (k : ℕ). range_with_len (a + 1) n ++ k ∷ []) same)
 
--- the texts of the numbers below n, and that of n
+-- the texts of the numbers below n, followed by that of n
 pub numbered_more : (f : ℕ → List ℕ) (n : ℕ) → flat_map f (range_with_len 0 (n + 1)) ≡ flat_map f (range_with_len 0 n) ++ f n
 numbered_more f n =
     let next : n + 1 ≡ suc n = omega arith in
@@ -23,7 +23,7 @@ numbered_more f n =
     ∙ flat_map-append f (range_with_len 0 n) ((0 + n) ∷ [])
     ∙ ap (λ (t : List ℕ). flat_map f (range_with_len 0 n) ++ t) (append-nil (f (0 + n)) ∙ ap f same)
 
--- the texts of the numbers from a on, and that of one more
+-- the texts of the numbers from a on, followed by that of one more
 pub counted_more : (f : ℕ → List ℕ) (a n : ℕ) → flat_map f (range_with_len a (n + 1)) ≡ flat_map f (range_with_len a n) ++ f (a + n)
 counted_more f a n =
     let next : n + 1 ≡ suc n = omega arith in
@@ -31,7 +31,7 @@ counted_more f a n =
     ∙ flat_map-append f (range_with_len a n) ((a + n) ∷ [])
     ∙ ap (λ (t : List ℕ). flat_map f (range_with_len a n) ++ t) (append-nil (f (a + n)))
 
--- the texts of the first items, and that of one more
+-- the texts of the first items, followed by that of one more
 pub listed_more : {X : Type 0} (f : X → List ℕ) (xs : List X) (i : ℕ) (d : X) → i < length xs
     → flat_map f (take (i + 1) xs) ≡ flat_map f (take i xs) ++ f (get_or xs i d)
 listed_more f xs i d within =

@@ -1,4 +1,4 @@
--- The lists so far are put down.
+-- The lists so far are written.
 use Rattle.std.specs.Prelude.{◌≡◌, ◌++◌, take, flat_map, map}
 use Rattle.lv_blockmap.specs.Layout.{word_bytes, list_words}
 use Rattle.lv_blockmap.proofs.layout.put_lists.Given as goal

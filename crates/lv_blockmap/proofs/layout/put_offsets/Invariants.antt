@@ -1,4 +1,4 @@
--- The offsets so far are put down.
+-- The offsets so far are written.
 use Rattle.std.specs.Prelude.{◌≡◌, ◌++◌, take, map, slice_index}
 use Rattle.lv_blockmap.specs.Layout.{word_bytes}
 use Rattle.lv_blockmap.proofs.layout.put_offsets.Given as goal

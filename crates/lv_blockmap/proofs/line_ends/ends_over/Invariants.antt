@@ -1,4 +1,4 @@
--- The lines so far are told by their ends.
+-- The ends of the lines so far.
 use Rattle.std.specs.Prelude.{◌≡◌, map, take}
 use Rattle.lv_blockmap.specs.Blocks.{ends_in}
 use Rattle.lv_blockmap.proofs.line_ends.ends_over.Given as goal

@@ -5,7 +5,7 @@ use Rattle.lv_draw.specs.Names.{value_of}
 use Rattle.lv_draw.proofs.Replacing.{with_digit}
 use Rattle.lv_draw.proofs.reference.value_of.Given as goal
 
--- the value so far, with the rest of the digits behind it, is that of all of them
+-- the value so far, followed by the rest of the digits, is that of all digits
 abbrev pub invariant-loop-b : goal.invariant-loop-b
 invariant-loop-b l =
     (min 32768 (fold with_digit l.value (drop l.b-index l.digits)) ≡ min 32768 (value_of l.digits))

@@ -5,7 +5,7 @@ use Rattle.lv_draw.specs.Words.{text_words}
 use Rattle.lv_draw.proofs.Replacing.{behind}
 use Rattle.lv_draw.proofs.resolving.replaced.Given as goal
 
--- the words so far, with what the rest stands for behind them, are what the command stands for
+-- the words so far, followed by what the rest stands for, are what the command stands for
 abbrev pub invariant-loop-word : goal.invariant-loop-word
 invariant-loop-word l =
     behind l.text.items (words_for (known l.names) (text_words l.rest))

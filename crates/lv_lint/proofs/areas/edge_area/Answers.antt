@@ -11,7 +11,7 @@ use Rattle.lv_maptables.specs.WellFormed.{nth_vertex}
 use Rattle.lv_lint.specs.Areas.{origin}
 use Rattle.lv_lint.proofs.areas.edge_area.Goals as goal
 
--- the vertex that was read is that of the number
+-- the vertex that was read is the one with the number
 vertex_was : (vs : List Vertex) (n k : ℕ) (v : Vertex) → slice_get vs n ≡ Some v → n ≡ k → v ≡ nth_vertex vs k
 vertex_was vs n k v read same =
     sym (get_or_from_slice_get vs n v (record { x = pos 0; y = pos 0 }) read) ∙ ap (nth_vertex vs) same

@@ -10,7 +10,7 @@ use Rattle.lv_lint.specs.declared.places.PlacedLine.{PlacedLine}
 use Rattle.lv_lint.specs.Places.{placed}
 use Rattle.lv_lint.proofs.places.placed_lines.Goals as goal
 
--- one line more with its number
+-- one more line with its number
 numbered_more : {X Y : Type 0} (f : ℕ × X → Y) (xs : List X) (n : ℕ) (x : X) → slice_get xs n ≡ Some x
     → map f (take n (enumerate_from 0 xs)) ++ f (n, x) ∷ [] ≡ map f (take (n + 1) (enumerate_from 0 xs))
 numbered_more f xs n x is =

@@ -5,7 +5,7 @@ use Rattle.lv_lint.specs.Starts.{things_of_type}
 use Rattle.lv_lint.specs.Tallies.{AreStarts}
 use Rattle.lv_lint.proofs.starts.starts_of.Goals as goal
 
--- one count more
+-- one more count
 counts_more : (m : Tables) (n : ℕ) (starts : List ℕ) (v : ℕ) → AreStarts m n starts → v ≡ things_of_type m n → AreStarts m (n + 1) (starts ++ v ∷ [])
 counts_more m n starts v a is = record {
   count = omega (arith, length-append starts (v ∷ []), a.count);

@@ -1,4 +1,4 @@
--- A set of the vertices has as many places as there are vertices where no two have one place.
+-- The set of the vertices has as many elements as there are vertices exactly if no two are at the same place.
 use Rattle.std.proofs.Common.{ℕ, Ok}
 use Rattle.std.specs.HashSet as bag
 use Rattle.std.proofs.lemmas.Iterator.{YieldsList-from_slice}

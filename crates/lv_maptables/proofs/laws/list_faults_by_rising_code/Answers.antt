@@ -1,4 +1,4 @@
--- The codes are numbers that can be seen to rise.
+-- The codes are constants, which rise.
 use Rattle.std.proofs.Common.{arith}
 use Rattle.lv_maptables.proofs.laws.list_faults_by_rising_code.Goals as goal
 

@@ -1,4 +1,4 @@
--- The places so far, from the last one, have their flags.
+-- The words so far, from the last one, have their flags.
 use Rattle.std.specs.Prelude.{◌-◌, length, min}
 use Rattle.lv_pwad.proofs.EndingLemmas.{SoFar}
 use Rattle.lv_pwad.proofs.endings.flags_of.Given as goal

@@ -1,4 +1,4 @@
--- The levels so far are those of the maps so far; where the first map has no line, there is none yet.
+-- The levels so far are those of the maps so far; if the first map has no line, there is none yet.
 use Rattle.std.specs.Prelude.{take}
 use Rattle.lv_maptables.specs.Projects.{project_of}
 use Rattle.lv_pwad.specs.Projects.{AreLevelsOf}

@@ -1,4 +1,4 @@
--- The lumps so far stand in the file, and their entries in the directory.
+-- The lumps so far are in the file, and their entries in the directory.
 use Rattle.std.specs.Prelude.{◌≡◌, ◌++◌, take, length, flat_map}
 use Rattle.lv_pwad.specs.Wad.{all_bytes, entries_from, entry_bytes}
 use Rattle.lv_pwad.specs.Views.{views}

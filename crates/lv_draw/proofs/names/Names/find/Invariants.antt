@@ -5,7 +5,7 @@ use Rattle.lv_draw.specs.Names.{numbers_of}
 use Rattle.lv_draw.proofs.Replacing.{newer}
 use Rattle.lv_draw.proofs.names.Names.find.Given as goal
 
--- what was found so far, unless the rest has the name again, is what the name keeps
+-- what was found so far is what the name has, unless the rest defines it again
 abbrev pub invariant-loop-entry : goal.invariant-loop-entry
 invariant-loop-entry l =
     fold (newer l.name) l.found (map known_entry (drop l.entry-index l.self.entries.items))

@@ -1,4 +1,4 @@
--- The vertex stands at a place that none has, so the map stays well-formed. The lines keep their ends.
+-- The vertex is at a free place, so the map stays well-formed. The lines keep their ends.
 use Rattle.std.proofs.Common.{◌≡◌, ◌∙◌, refl, ap, rules}
 use Rattle.lv_maptables.specs.MapFields.{tables_of}
 use Rattle.lv_maptables.specs.Edits.{with_vertex}

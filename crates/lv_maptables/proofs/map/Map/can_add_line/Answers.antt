@@ -1,4 +1,4 @@
--- Each test tells the least of its faults, and they stand one behind the other.
+-- Each test returns the least of its faults, and the lists of faults follow one another.
 use Rattle.std.proofs.Common.{ℕ, Bool, List, [], ◌∷◌, ◌++◌, ◌∙◌}
 use Rattle.lv_maptables.specs.declared.error.MapError.TheVariants.{TableFull, LineTooLong}
 use Rattle.lv_maptables.specs.Errors.{code_of}

@@ -1,4 +1,4 @@
--- No side belongs to the sector, so each has its sector under its new number.
+-- No side belongs to the sector, so each side has its sector with the new number.
 use Rattle.lv_maptables.proofs.SectorLemmas.{without_sector-keeps}
 use Rattle.lv_maptables.proofs.KeyedLemmas.{sides_drop_sector, none_in}
 use Rattle.lv_maptables.specs.MapFields.{tables_of}

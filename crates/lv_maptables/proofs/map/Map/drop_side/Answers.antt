@@ -1,4 +1,4 @@
--- No line names the side, so each names the sides that stay by their new numbers.
+-- No line names the side, so each line names its sides by their new numbers.
 use Rattle.std.proofs.Common.{◌≤◌, refl, length, arith}
 use Rattle.std.proofs.lemmas.List.{length-map}
 use Rattle.lv_maptables.specs.MapFields.{tables_of}

@@ -1,4 +1,4 @@
--- No line uses the vertex, so each has its ends under their new numbers.
+-- No line uses the vertex, so each line has its ends with their new numbers.
 use Rattle.std.proofs.Common.{refl}
 use Rattle.lv_maptables.specs.MapFields.{tables_of}
 use Rattle.lv_maptables.specs.Edits.{without_vertex}

@@ -1,4 +1,4 @@
--- What holds of each line of the map holds of this one.
+-- What is true of each line of the map is true of this one.
 use Rattle.std.proofs.Common.{◌≡◌, rules, arith}
 use Rattle.std.specs.Prelude.{Some, slice_get}
 use Rattle.lv_maptables.specs.Ranges.{IsLine}

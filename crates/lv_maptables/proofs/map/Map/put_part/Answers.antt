@@ -1,4 +1,4 @@
--- The head and the tables stand behind what stood there.
+-- The head and the tables are appended to the bytes.
 use Rattle.std.proofs.Common.{◌≡◌, ◌∙◌, List, ℕ, ◌++◌, append_assoc, rules}
 use Rattle.std.specs.Prelude.{flat_map}
 use Rattle.lv_lumps.specs.Records.{thing_record, line_record, side_record, vertex_record, sector_record}

@@ -1,4 +1,4 @@
--- What holds of each sector of the map holds of this one.
+-- What is true of each sector of the map is true of this one.
 use Rattle.std.proofs.Common.{◌≡◌, ℕ, List, sym}
 use Rattle.std.specs.Prelude.{Option, Some, None, IfSome, slice_get}
 use Rattle.std.specs.List.{All}

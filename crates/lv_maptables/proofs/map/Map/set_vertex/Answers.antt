@@ -1,4 +1,4 @@
--- The vertex moves to a place that no other has, and no line becomes too long, so the map stays well-formed.
+-- The vertex moves to a place where no other is, and no line becomes too long, so the map stays well-formed.
 use Rattle.std.proofs.Common.{refl}
 use Rattle.lv_maptables.specs.MapFields.{tables_of}
 use Rattle.lv_maptables.specs.Edits.{with_vertex_at}

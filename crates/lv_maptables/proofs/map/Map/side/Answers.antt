@@ -1,4 +1,4 @@
--- What holds of each side of the map holds of this one.
+-- What is true of each side of the map is true of this one.
 use Rattle.std.proofs.Common.{◌≡◌, ap, length, arith, rules}
 use Rattle.std.specs.Prelude.{Some, slice_get}
 use Rattle.lv_maptables.specs.Ranges.{IsSide}

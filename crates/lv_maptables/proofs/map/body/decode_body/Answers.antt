@@ -1,4 +1,4 @@
--- The bytes are version 1 and a map's part, with none behind it.
+-- The bytes are version 1 and a map's part, with nothing after it.
 use Rattle.std.proofs.Common.{◌≡◌, ◌∙◌, ℕ, List, ◌∷◌, ◌-◌, refl, ap, sym, length, take, drop, take_all, length-drop, arith}
 use Rattle.lv_maptables.proofs.FramedLemmas.{refused_by, not_behind, no_map_longer, map_behind}
 use Rattle.lv_maptables.proofs.map.body.decode_body.Goals as goal

@@ -1,4 +1,4 @@
--- The next line comes behind those before it.
+-- The next line is appended to those before it.
 use Rattle.std.proofs.Common.{◌∙◌, ◌++◌, ◌∷◌, [], ap, arith, map, take_all}
 use Rattle.lv_maptables.specs.Keyed.{line_of}
 use Rattle.lv_maptables.proofs.ListLemmas.{map_next}

@@ -1,4 +1,4 @@
--- The next side comes behind those before it.
+-- The next side is appended to those before it.
 use Rattle.std.proofs.Common.{◌∙◌, ◌++◌, ◌∷◌, [], ap, arith, map, take_all}
 use Rattle.lv_maptables.specs.Keyed.{side_of}
 use Rattle.lv_maptables.proofs.ListLemmas.{map_next}

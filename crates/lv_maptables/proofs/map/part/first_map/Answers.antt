@@ -1,4 +1,5 @@
--- A map's part is framed and holds that map, so what framed bytes hold is the one map whose part can begin them.
+-- A map's part is framed and holds that map, so what framed bytes hold is the only map with whose part they can
+-- begin.
 use Rattle.std.proofs.Common.{refl, rules}
 use Rattle.std.proofs.lemmas.Bool.{false≢true, both_ways}
 use Rattle.lv_maptables.specs.WellFormed.{WellFormed}

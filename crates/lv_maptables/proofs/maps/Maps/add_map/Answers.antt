@@ -1,4 +1,4 @@
--- The map of the new name is with the others.
+-- The map with the new name is among the others.
 use Rattle.std.proofs.Common.{◌∙◌, ap}
 use Rattle.lv_maptables.specs.Tables.{Tables}
 use Rattle.lv_maptables.specs.Edits.{with_name}

@@ -1,4 +1,4 @@
--- One well-formed map is a project.
+-- A single well-formed map is a project.
 use Rattle.std.proofs.Common.{[], arith}
 use Rattle.std.proofs.lemmas.List.Elements.{All-push}
 use Rattle.lv_maptables.specs.Tables.{Tables}

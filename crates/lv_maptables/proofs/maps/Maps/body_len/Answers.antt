@@ -1,4 +1,4 @@
--- One part more adds its length.
+-- One more part adds its length.
 use Rattle.std.proofs.Common.{ap, ◌∙◌, take, get_or, arith}
 use Rattle.std.specs.Prelude.{sum_by}
 use Rattle.std.proofs.lemmas.List.{take_more}

@@ -1,4 +1,4 @@
--- Bytes that don't begin with version 2 are a project's where they are a map's.
+-- Bytes that don't begin with version 2 are a project's if they are a map's.
 use Rattle.std.proofs.Common.{sym, subst}
 use Rattle.std.proofs.lemmas.Bool.{both_ways}
 use Rattle.lv_maptables.specs.ProjectBody.{IsProjectOf}

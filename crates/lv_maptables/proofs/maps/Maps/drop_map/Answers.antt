@@ -1,4 +1,4 @@
--- The map is there and isn't the current one.
+-- The map exists and isn't the current one.
 use Rattle.lv_maptables.specs.Projects.{project_of}
 use Rattle.lv_maptables.proofs.ProjectLemmas.{other_map}
 use Rattle.lv_maptables.proofs.maps.Maps.drop_map.Goals as goal

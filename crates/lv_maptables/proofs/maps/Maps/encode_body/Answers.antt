@@ -1,4 +1,4 @@
--- One part more is put behind those before it.
+-- One more part is appended to those before it.
 use Rattle.std.proofs.Common.{◌≡◌, ◌∷◌, ◌++◌, ap, ◌∙◌, length, take, take_all, arith}
 use Rattle.std.specs.Prelude.{flat_map}
 use Rattle.lv_maptables.specs.Parts.{part}

@@ -1,4 +1,4 @@
--- The map that was current is put among the others, and the one of the number taken from there.
+-- The map that was current is put among the others, and the one with the number is taken out of them.
 use Rattle.std.proofs.Common.{◌≡◌, ◌<◌, ◌++◌, ◌∷◌, List, subst, sym, ◌∙◌, ap, length, take, drop, arith}
 use Rattle.std.specs.List.{insert, remove}
 use Rattle.lv_maptables.specs.Tables.{MapView}

@@ -1,4 +1,4 @@
--- The map stands among the others one place lower where it is behind the current one.
+-- Among the others, the map's index is one less if it comes after the current map.
 use Rattle.std.proofs.Common.{◌≡◌, ◌+◌, ◌-◌, ◌<◌, length, get_or, subst, ap, sym, ◌∙◌, arith}
 use Rattle.lv_maptables.specs.Projects.{MapsView, project_of}
 use Rattle.lv_maptables.specs.MapsFields.{maps_view}

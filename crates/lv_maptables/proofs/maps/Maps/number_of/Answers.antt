@@ -1,4 +1,4 @@
--- The first map of the name is found, or none has it.
+-- The first map with the name is found, or none has it.
 use Rattle.std.proofs.Common.{sym, ◌∙◌, ap, arith}
 use Rattle.std.proofs.lemmas.List.Sums.{position_or_len_is}
 use Rattle.lv_maptables.specs.Tables.{empty_tables}

@@ -1,4 +1,4 @@
--- The map that was current stands among the others, and the new one behind them all.
+-- The map that was current is among the others, and the new one is last.
 use Rattle.std.proofs.Common.{◌≡◌, ◌<◌, ◌++◌, ◌∷◌, false, subst, sym, ◌∙◌, ap, length, take, drop, arith}
 use Rattle.std.specs.List.{insert}
 use Rattle.lv_maptables.specs.Tables.{MapView}

@@ -1,4 +1,4 @@
--- The map whose part comes first stands behind the others, or none can.
+-- The map whose part comes first is appended to the others, or none can be.
 use Rattle.std.proofs.Common.{◌∙◌, refl, sym, ap, arith}
 use Rattle.lv_maptables.specs.Projects.{project_of, has_map}
 use Rattle.lv_maptables.proofs.FramedLemmas.{refused_by}

@@ -1,4 +1,4 @@
--- The other maps close up, and the current one's number falls where one before it is gone.
+-- The other maps close up, and the current map's number is lowered if a map before it was removed.
 use Rattle.std.proofs.Common.{◌≡◌, ◌≢◌, ◌-◌, ◌<◌, ◌++◌, ◌∷◌, subst, sym, ◌∙◌, ap, length, take, drop, arith, length-take-le}
 use Rattle.std.specs.List.{remove}
 use Rattle.lv_maptables.specs.Edits.{lowered}

@@ -1,4 +1,4 @@
--- The project is that of the maps read, with the number as its current one.
+-- The project has the maps that were read, and the number is that of its current map.
 use Rattle.std.proofs.Common.{◌≡◌, ◌∙◌, ◌-◌, ℕ, List, ◌∷◌, length, get_or, take, drop, take_all, length-drop, refl, sym, ap, subst, arith, rules}
 use Rattle.lv_maptables.specs.Projects.{project_of}
 use Rattle.lv_maptables.specs.ProjectBody.{IsProjectOf}

@@ -1,4 +1,4 @@
--- What is read is the only way to read the bytes.
+-- The maps that were read are the only ones with these bytes.
 use Rattle.std.proofs.Common.{◌≡◌, ◌≤◌, ◌+◌, ◌-◌, ◌++◌, ℕ, List, [], length, take, drop, take_all, drop_of_length-le, length-drop, sym, ap, ◌∙◌, arith}
 use Rattle.std.specs.Prelude.{flat_map}
 use Rattle.std.proofs.lemmas.List.{append-nil, drop-drop}

@@ -4,7 +4,7 @@ use Rattle.lv_maptables.specs.Parts.{part}
 use Rattle.lv_maptables.specs.Projects.{WellFormedProject, project_of}
 use Rattle.lv_maptables.proofs.maps.body.read_maps.Given as goal
 
--- the parts of the maps so far, and the bytes behind them, are the bytes
+-- the parts of the maps so far, followed by the remaining bytes, are the bytes
 abbrev pub invariant-loop-at : goal.invariant-loop-at
 invariant-loop-at l = WellFormedProject (project_of l.maps) × (l.at ≤ length l.bytes) × (flat_map part (project_of l.maps).maps ++ drop l.at l.bytes ≡ l.bytes)
 

@@ -1,4 +1,4 @@
--- What each line names is there, since the tables are well-formed.
+-- What each line names exists, since the tables are well-formed.
 use Rattle.std.proofs.Common.{◌≡◌, ◌∙◌, sym, ap, subst, length}
 use Rattle.std.proofs.lemmas.List.{length-map}
 use Rattle.lv_maptables.specs.WellFormed.{WellFormed}

@@ -1,4 +1,4 @@
--- The place was free, so there is one more, and one place less is left.
+-- The place was free, so the set has one more place, and room for one less.
 use Rattle.std.proofs.Common.{◌≡◌, ◌∙◌, ap, false, arith, refl, length, ◌<◌, ◌+◌}
 use Rattle.std.specs.HashSet as bag
 use Rattle.lv_maptables.proofs.PlaceLemmas.{one_if, same, found_is, taken_more}

@@ -1,4 +1,4 @@
--- The set gave the place back, and no other.
+-- The set lost the place, and no other.
 use Rattle.std.proofs.Common.{◌≡◌, ◌∙◌, sym, refl, arith}
 use Rattle.lv_maptables.proofs.PlaceLemmas.{one_if, found_is, taken_fewer}
 use Rattle.lv_maptables.proofs.map.places.Places.remove.Goals as goal

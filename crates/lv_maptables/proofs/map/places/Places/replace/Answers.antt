@@ -1,4 +1,4 @@
--- The set gave one place back and took another.
+-- The set lost one place and has another.
 use Rattle.std.proofs.Common.{◌≡◌, ◌∙◌, sym, ap, refl, arith, ◌||◌}
 use Rattle.lv_maptables.specs.Faults.{is_place}
 use Rattle.lv_maptables.proofs.PlaceLemmas.{one_if, found_is, taken_fewer}

@@ -1,4 +1,4 @@
--- The place is another's where it is taken and isn't the vertex's own.
+-- Another vertex is at the place if it is taken and isn't the vertex's own.
 use Rattle.std.proofs.Common.{◌≡◌, ◌∙◌, sym, ap, not, true, false, ◌&&◌, ◌<◌, length, get_or}
 use Rattle.std.proofs.lemmas.Option.{get_or_from_slice_get}
 use Rattle.lv_maptables.specs.Faults.{is_taken_beside, is_place, is_taken}

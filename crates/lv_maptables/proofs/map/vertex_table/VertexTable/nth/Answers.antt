@@ -1,4 +1,4 @@
--- The vertex that stands there, or the origin.
+-- The vertex with the number, or the origin.
 use Rattle.std.proofs.Common.{◌∙◌}
 use Rattle.std.proofs.lemmas.Option.{unwrap_or-slice_get}
 use Rattle.lv_maptables.proofs.map.vertex_table.VertexTable.nth.Goals as goal

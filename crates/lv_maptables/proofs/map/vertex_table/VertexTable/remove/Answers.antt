@@ -1,4 +1,4 @@
--- The place of the vertex that is gone is free, and no other.
+-- The place of the removed vertex becomes free, and no other.
 use Rattle.std.proofs.Common.{◌≢◌, ◌∙◌, ◌<◌, sym, ap, length, arith}
 use Rattle.std.proofs.lemmas.List.Edits.{length-remove}
 use Rattle.std.proofs.lemmas.List.Quantifiers.{all_pairs_remove}

@@ -1,4 +1,4 @@
--- The place from which the vertex goes is free, and the one to which it goes is taken.
+-- The vertex's old place becomes free, and its new one is taken.
 use Rattle.std.proofs.Common.{◌≡◌, ◌∙◌, ◌<◌, false, sym, ap, length, get_or, arith}
 use Rattle.std.proofs.lemmas.Option.{get_or_from_slice_get}
 use Rattle.std.proofs.lemmas.List.{length-set}
