@@ -145,7 +145,10 @@ the status is then 3. Without NAME it prints the names of the WAD's levels.";
 /// The refusals: the number of each, its name, and what to do. Printed for `help codes`.
 pub const CODES: &str = "\
 A refused line is answered `no CODE`; a refused request prints `leveled: CODE NAME` to
-standard error. The maps stay as they were. What is wrong, or what to do about it:
+standard error. The maps in memory stay as they were. Numbers 1 to 19 refuse a command,
+and 20 to 24 a line of a script; 30 to 38 come from the disk, from memory, or from the
+input or output, 40 to 44 from a project file, 60 to 66 from a build, and 50 and 70 to 78
+from a WAD. What is wrong, or what to do about it:
 
  1 NotACommand         look for two spaces, a blank line, CR, a tab, a missing word
  2 OutOfRange          COMMANDS.md has the ranges; a room begins at its lower left corner
