@@ -128,9 +128,9 @@ or a project, is never replaced. FILE isn't changed.";
 pub const REBUILD: &str = "\
 Builds the nodes and the blockmap of each level of the WAD IN anew, or only of the levels
 --map NAME, and writes the new WAD to OUT. A reject table stays if it is long enough, and
-otherwise becomes zeros. GL nodes are left out. Things, lines, sides, sectors and all lumps
-outside these levels stay byte for byte. OUT may be a new path, an empty file, a PWAD, or
-IN itself, even if IN is an IWAD; any other file is never replaced.
+otherwise becomes zeros. GL nodes are left out. Things, lines, sides, sectors and all
+lumps outside these levels stay byte for byte. OUT may be a new path, an empty file, a
+PWAD, or IN itself, even if IN is an IWAD; any other file is never replaced.
 Prints a line for each level, then a total. A level that can't be built stays as it was:
 its line says why, and the status is 3. Standard error has a line for each two-sided line
 of a rebuilt level that has no left side, for example
