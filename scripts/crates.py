@@ -1,4 +1,4 @@
-"""The crates of this repository, as crates.txt lists them: what the other scripts here go by."""
+"""The crates of this repository as crates.txt lists them, for the other scripts."""
 
 import os
 import re
@@ -20,17 +20,17 @@ def listed():
 
 
 def needs(lines):
-    """Returns which other crates of the repository each of them stands on."""
+    """Returns the crates of the repository on which each of these crates depends."""
     return {name: [it for it in line.split(":")[1].split() if it in lines] for name, line in lines.items()}
 
 
 def is_program(name):
-    """Whether the crate is a program."""
+    """Returns whether the crate is a program."""
     return os.path.isfile(f"{TOP}/crates/{name}/src/main.rt")
 
 
 def has_tests(name):
-    """Whether the crate has tests."""
+    """Returns whether the crate has tests."""
     for at, _, files in os.walk(f"{TOP}/crates/{name}/src"):
         for it in files:
             with open(f"{at}/{it}", encoding="utf-8") as file:
@@ -40,7 +40,7 @@ def has_tests(name):
 
 
 def product(lines):
-    """Returns the lines of the program `leveled` and of all that it stands on."""
+    """Returns the lines of the program `leveled` and of all crates on which it depends."""
     below, wanted, left = needs(lines), set(), ["leveled"]
     while left:
         name = left.pop()
@@ -51,13 +51,13 @@ def product(lines):
 
 
 def knows_anew():
-    """Whether the kit keeps what a run has passed, so that `rt ci` takes the word --anew."""
+    """Returns whether the kit keeps what a run has passed, so that `rt ci` takes the option --anew."""
     ran = subprocess.run(["rt", "help"], stdout=subprocess.PIPE, stderr=subprocess.STDOUT, text=True, check=False)
     return "--anew" in ran.stdout
 
 
 def copy(lines, to, *left_out):
-    """Makes a repository of these crates alone in the folder, without these folders of a crate."""
+    """Makes a repository of these crates alone in the folder `to`; the folders `left_out` of each crate aren't copied."""
     os.makedirs(f"{to}/crates")
     for name in lines:
         ignored = shutil.ignore_patterns("out", *left_out)

@@ -100,7 +100,7 @@ impl<D: Disk> Session for Project<D> {
 ///
 /// # Errors
 ///
-/// `WriterFailed` alone; the line's command may then be recorded.
+/// Only `WriterFailed`; the line's command may then be on the disk.
 pub fn answer<D: Disk, W: Write>(
     alloc: Global,
     project: &mut Project<D>,

@@ -18,7 +18,7 @@ pub trait Session {
     ///
     /// # Errors
     ///
-    /// `WriterFailed` alone.
+    /// Only `WriterFailed`.
     fn answer<W: Write>(
         &mut self,
         alloc: Global,

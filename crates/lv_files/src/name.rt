@@ -12,7 +12,7 @@ use std::path::{Path, PathBuf};
 ///
 /// # Errors
 ///
-/// `System` where the path ends in no name, or `OutOfMemory`.
+/// `System` if the path doesn't end in a name, or `OutOfMemory`.
 pub fn beside(alloc: Global, path: &str) -> Result<PathBuf, Cause>
     ensures { IfOk result (λ new. path_buf_bytes new ≡ beside_of path.now) }
 {

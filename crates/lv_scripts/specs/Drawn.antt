@@ -131,7 +131,7 @@ StopsAt {S = S} facts verbose old lines stop new =
     × (stop.place ≡ length drawn.front)
     × DrawsLine facts verbose line mid (Some stop.code) new
 
--- the lines that were drawn in turn before memory ran out or the writer failed led to this canvas
+-- this is the canvas after the lines that were drawn before memory ran out or the writer failed
 abbrev pub IsCutOff : {S : Type 0} → Ghosts S → Bool → Sketch S → List (ℕ × List ℕ) → S → Type 0
 IsCutOff {S = S} facts verbose old lines canvas =
     (new : Sketch S) × (left : List (ℕ × List ℕ))

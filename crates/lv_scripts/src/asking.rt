@@ -41,7 +41,7 @@ fn tell_query<W: Write>(
 ///
 /// # Errors
 ///
-/// `WriterFailed` alone.
+/// Only `WriterFailed`.
 pub fn tell_of<W: Write>(
     alloc: Global,
     maps: &Maps,

@@ -38,7 +38,7 @@ pub trait Canvas {
     ///
     /// # Errors
     ///
-    /// `WriterFailed` alone.
+    /// Only `WriterFailed`.
     fn tell<W: Write>(
         &self,
         alloc: Global,

@@ -24,7 +24,7 @@ const ANGLES: &[([i16; 2], u16)] = &[
     ([32767, 1], 0), ([32767, -1], 65535),
 ];
 
-// The angle of a vector that isn't zero.
+// The angle of a vector; `None` for the zero vector, and if a component is -32,768.
 fn angle(x: i16, y: i16) -> Option<u16> {
     if x == i16::MIN || y == i16::MIN {
         return None;

@@ -4,7 +4,7 @@ use lv_commands::{apply, parse};
 use lv_maptables::Maps;
 use std::alloc::Global;
 
-/// The longest body that a project of one map can have.
+/// The length of the longest body of a project with one map, in bytes.
 pub const AMPLE: u32 = 2_007_002;
 
 pub const ROOM: &[u8] = b"room 0 0 128 128 0 128 FLOOR4_8 CEIL3_5 STARTAN3 160";

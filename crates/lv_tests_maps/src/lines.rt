@@ -96,7 +96,7 @@ fn takes_32_maps(rt: HostRuntime) {
     assert_eq!(rt; (further, maps.len()), (Err(16), 32));
 }
 
-// Lines, and how often each is accepted before its table is full. A room needs a sector, and there is no room for one.
+// Lines, and how often each is accepted before its table is full. A room needs a sector, and no further one fits.
 const LIMITS: &[(&[u8], u32)] = &[
     (SECTOR, 4096),
     (ROOM, 0),

@@ -346,7 +346,7 @@ fn expect_stops(
     expect_either(rt, alloc, disk, turns, done)
 }
 
-// A change of which the call (k, part) fails, as in `changed`, leaves the old body or the new one live. This many
+// A change during which the call (k, part) fails, as in `changed`, leaves the old body or the new one live. This many
 // changes come before it.
 fn expect_outcomes(
     rt: &impl Abort,

@@ -161,7 +161,7 @@ const DAMAGED: &[(&[u8], u64)] = &[
     (b"\xa5\x01\0\0\0a\xa5\x01\0\0\0b", 150),
 ];
 
-// How a disk's journal is refused.
+// How opening a disk's journal is refused.
 fn refusal_of<D: Disk>(alloc: Global, disk: &mut D) -> Option<JournalError> {
     opened(alloc, disk).err()
 }
