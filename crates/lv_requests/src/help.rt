@@ -127,10 +127,10 @@ or a project, is never replaced. FILE isn't changed.";
 /// `rebuild`.
 pub const REBUILD: &str = "\
 Builds the nodes and the blockmap of each level of the WAD IN anew, or only of the levels
-NAME, and writes the new WAD to OUT. A reject table stays if it is long enough; otherwise
-it becomes zeros. GL nodes are left out. Things, lines, sides, sectors and all lumps
-outside these levels stay byte for byte. OUT may be a new path, an empty file, a PWAD, or
-IN itself, even if IN is an IWAD; any other file is never replaced.
+--map NAME, and writes the new WAD to OUT. A reject table stays if it is long enough, and
+otherwise becomes zeros. GL nodes are left out. Things, lines, sides, sectors and all
+lumps outside these levels stay byte for byte. OUT may be a new path, an empty file, a
+PWAD, or IN itself, even if IN is an IWAD; any other file is never replaced.
 Prints a line for each level, then a total. A level that can't be built stays as it was:
 its line says why, and the status is 3. Standard error has a line for each two-sided line
 of a rebuilt level that has no left side, for example
@@ -139,8 +139,9 @@ of a rebuilt level that has no left side, for example
 /// `inspect`.
 pub const INSPECT: &str = "\
 Reads the level NAME, for example MAP01 or E1M1, of a PWAD or an IWAD. Prints how long its
-lumps are, then `sound`, or `fault NAME I` for the first reference that is out of range;
-the status is then 3. Without NAME it prints the names of the WAD's levels.";
+lumps are, then `sound` or the first fault, for example `fault LineVertex 0` if line 0
+names a vertex that doesn't exist; the status is then 3. Without NAME it prints the names
+of the WAD's levels.";
 
 /// The refusals: the number of each, its name, and what to do. Printed for `help codes`.
 pub const CODES: &str = "\
@@ -163,7 +164,7 @@ from a WAD. What is wrong, or what to do about it:
 11 TwoSidedWithoutLeft give a left side, or leave out the flag 4
 12 TableFull           the level is as big as the formats allow
 13 LineTooLong         longer than 32767: split the line, or draw it in parts
-14 ProjectFull         make a project with a greater slot; `dump` copies the maps to it
+14 ProjectFull         make a project with a larger slot; copy the maps to it with `dump`
 15 BadName             names are in capitals, 1 to 8 bytes; markers are like MAP01 or E1M1
 16 TooManyMaps         there are 32: drop one
 17 MapNameTaken        choose another name
@@ -177,7 +178,7 @@ from a WAD. What is wrong, or what to do about it:
 30 Device              check the disk, or end the program that has FILE open; reopen it
 31 Memory              free some memory, and give the line again
 32 Reopen              open FILE again; every acknowledged command is there
-33 GenerationsSpent    draw on in a new project; `dump` copies the maps to it
+33 GenerationsSpent    draw on in a new project; copy the maps to it with `dump`
 34 JournalFull         nothing to do: a project makes room by itself
 35 SlotFull            nothing to do: 14 comes first
 36 InputTooLong        give the input in parts
