@@ -114,8 +114,8 @@ EndsRun (Err WriterFailed) turns trace read writer-old writer-new =
 EndsRun (Err OutOfMemory) turns trace read writer-old writer-new = ⊥
 
 -- A run of so many turns of at most 4,096 bytes each: it read these bytes, all that there were if
--- it returned Ok; the trace leads from the first state to the last; and so the run over these bytes
--- ended.
+-- it returned Ok; the trace leads from the first state to the last; and `ends` says how the run
+-- over these bytes ended.
 pub record Ran {S : Type 0} (answers : S → List ℕ → List ℕ → S → Type 0) (first last : S)
     (trace : List (Exchange S)) (turns : ℕ)
     (result : Result ℕ EditorError)

@@ -61,8 +61,8 @@ pub record IsInDoubt {D : Type 0} (facts : Ghosts D) (trace : List (Exchange (St
       (IsOutcome new.cap (project_of new.maps) faulted.line)
 
 -- What a run leaves. Its lines are calls, each of which met its contract. A project that must be
--- reopened stays as it is, and every answer is `no 32`. For any other project each image stands for
--- its maps, at every moment and at the exit.
+-- reopened stays as it is, and every answer is `no 32`. Otherwise each image has every acknowledged
+-- command, at every moment and at the exit.
 pub record RunsOver {D : Type 0} (facts : Ghosts D) (old new : State D)
     (trace : List (Exchange (State D))) : Type 0 where
   pub calls : List ProjectCall
