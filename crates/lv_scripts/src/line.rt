@@ -12,8 +12,7 @@ use lv_draw::{Names, ScriptLine, defined_name, resolve};
 use std::alloc::Global;
 use std::io::Write;
 
-// Whether a line of a script is a query; `text` is the line with its names resolved. A line that gives a name isn't
-// one.
+// Whether a line of a script is a query; `text` is the line with its names resolved. A line that gives a name never is.
 fn asks<C: Canvas>(line: &[u8], text: &[u8]) -> bool
     ensures { result ≡ asks C.Canvas line.now text.now }
 {
