@@ -29,7 +29,7 @@ test:
 prove:
 	rt ci
 
-# what the gate can't look at: kills at any moment, edits at once, closed and full outputs, full disks, files that are no
+# what the gate can't test: kills at any moment, edits at once, closed and full outputs, full disks, files that are no
 # project or can't be read, damaged projects and PWADs, projects drawn again from their dumps, trees of maps just at each limit
 # and just above it, and each allocation refused in turn
 stress: all
