@@ -1,14 +1,16 @@
 -- The step of a project, by why a command is refused and by how long the new body is.
-use Rattle.std.proofs.Common.{◌≡◌, ℕ, suc, ◌+◌, ◌-◌, ◌≤◌, inl, inr, Bool, true, false, cond, ◌&&◌, List, [], ◌∷◌, ◌++◌, length, take, drop, take_all, drop_of_length-le, Option, Some, None, Result, Ok, Err, refl, sym, ◌∙◌, ap, arith, nat_lt}
-use Rattle.std.specs.Prelude.{sum_by, ⊤}
+use Rattle.std.proofs.Common.{◌≡◌, ℕ, suc, ◌+◌, ◌-◌, ◌≤◌, inl, inr, Bool, true, false, cond, ◌&&◌, List, [], ◌∷◌, ◌++◌, length, take, drop, take_all, drop_of_length-le, Option, Some, None, Result, Ok, Err, refl, sym, ◌∙◌, ap, subst, arith, nat_lt}
+use Rattle.std.specs.Prelude.{IsErrOf, IsOk, is_err, sum_by, ⊤}
 use Rattle.std.specs.List.{remove}
 use Rattle.std.specs.Option.{is_none}
-use Rattle.std.proofs.lemmas.Bool.{cases_lt, le-ltb, lt-ltb}
+use Rattle.std.proofs.lemmas.Bool.{cases_lt, le-ltb, lt-ltb, ltb-false}
 use Rattle.std.proofs.lemmas.List.Sums.{sum_by-append, sum_by-cons, sum_by-remove}
 use Rattle.lv_lumps.specs.declared.records.Name8.{Name8}
 use Rattle.lv_maptables.specs.Edits.{with_name}
 use Rattle.lv_maptables.specs.declared.error.MapError.{MapError}
-use Rattle.lv_maptables.specs.Outcomes.{Covers, EndsExactly, least, unless}
+use Rattle.lv_maptables.specs.declared.error.MapError.TheVariants as map_error
+use Rattle.lv_maptables.specs.Errors as of_map
+use Rattle.lv_maptables.specs.Outcomes.{Covers, EndsEdit, EndsExactly, RefusesEdit, least, unless}
 use Rattle.lv_maptables.specs.Projects.{MapsView, ProjectMaps, body_len, current_map, has_map, project_of, tables_of_each, with_current}
 use Rattle.lv_maptables.specs.Projects as project
 use Rattle.lv_maptables.specs.ProjectEdits.{name_faults, named_map, without_map}
@@ -247,3 +249,79 @@ renamed v w name r free same ends =
     let there = edited-project v u (Name name) refl refl in
     let here = ends-as r (least (name_faults (project_of v) name)) (project_after (project_of v) (Edit (Name name))) tt (project_of v) (project_of w) free ends in
     sym (current_of w) ∙ ap current_map (sym here ∙ sym there) ∙ current_of u
+
+-- ---- An addition without a decision first
+
+-- an edit that gives a map and an answer isn't refused
+made-by : {S X : Type 0} (o : Option ℕ) (after made : S) (answer number : X) → unless o after answer ≡ Ok (made, number) → (o ≡ None) × (after ≡ made) × (answer ≡ number)
+made-by {S} {X} None after made answer number e =
+    let same : ◌≡◌ {A = S × X} (after, answer) (made, number) = cc in
+    (refl, ap (λ (q : S × X). q.0) same, ap (λ (q : S × X). q.1) same)
+made-by (Some code) after made answer number e = absurd (cc e)
+
+-- an edit that gives a code is refused by it
+refused-with : {S X : Type 0} (o : Option ℕ) (after : S) (answer : X) (code : ℕ) → unless o after answer ≡ Err code → o ≡ Some code
+refused-with None after answer code e = absurd (cc e)
+refused-with (Some k) after answer code e = let same : k ≡ code = cc in ap Some same
+
+-- a refusal other than lack of memory is the edit's
+refused-edit : {S X : Type 0} (e : MapError) (edit : Result (S × X) ℕ) → (e ≡ map_error.OutOfMemory → ⊥) → RefusesEdit e edit → edit ≡ Err (of_map.code_of e)
+refused-edit map_error.NoVertex edit other h = h
+refused-edit map_error.NoSector edit other h = h
+refused-edit map_error.NoSide edit other h = h
+refused-edit map_error.NoLine edit other h = h
+refused-edit map_error.NoThing edit other h = h
+refused-edit map_error.InUse edit other h = h
+refused-edit map_error.SameEnds edit other h = h
+refused-edit map_error.PlaceTaken edit other h = h
+refused-edit map_error.TwoSidedWithoutLeft edit other h = h
+refused-edit map_error.TableFull edit other h = h
+refused-edit map_error.LineTooLong edit other h = h
+refused-edit map_error.TooManyMaps edit other h = h
+refused-edit map_error.MapNameTaken edit other h = h
+refused-edit map_error.NoSuchMap edit other h = h
+refused-edit map_error.CurrentMap edit other h = h
+refused-edit map_error.OutOfMemory edit other h = absurd (other refl)
+refused-edit (map_error.Damaged place) edit other h = h
+
+-- what an edit of the current map gives: a new map and an answer, or a code
+abbrev pub edit_of : Tables → Command → Result (Tables × ℕ) ℕ
+edit_of m c = unless (least (step_one.faults m c)) (step_one.after m c) (step_one.number_of m c)
+
+-- an addition that was made in a body with room for it is the step
+pub added-step : (v w : MapsView) (c : Command) (cap n : ℕ) → body_len (project_of v) ≤ cap
+    → nat_lt cap (body_len (project_of v) + project_growth_of (project_of v) (Edit c)) ≡ false → naming_faults (project_of v) c ≡ []
+    → edit_of v.tables c ≡ Ok (w.tables, n) → w.others ≡ v.others
+    → (step (project_of v) (Edit c) cap ≡ Ok (project_of w, n)) × (body_len (project_of w) ≤ cap)
+added-step v w c cap n fits room unnamed edit same =
+    let p = project_of v in
+    let made = made-by (least (step_one.faults v.tables c)) (step_one.after v.tables c) w.tables (step_one.number_of v.tables c) n edit in
+    let none : least (step_one.faults (current_map p) c) ≡ None = ap (λ m. least (step_one.faults m c)) (current_of v) ∙ made.0 in
+    let free : least (step_one.faults (current_map p) c ++ naming_faults p c) ≡ None =
+    least-none (step_one.faults (current_map p) c) (naming_faults p c) none ∙ ap least unnamed in
+    let short = fullness v (Edit c) cap fits ∙ room in
+    let is = edited-project v w c same (sym made.1) in
+    let number : step_one.number_of (current_map p) c ≡ n = ap (λ m. step_one.number_of m c) (current_of v) ∙ made.2 in
+    let answer : ◌≡◌ {A = Result (ProjectMaps × ℕ) ℕ} (Ok (project_after p (Edit c), project_number_of p (Edit c))) (Ok (project_of w, n)) =
+    λ i. Ok (sym is i, number i) in (
+      step-accepts p (Edit c) cap free short ∙ answer,
+      ltb-false cap (body_len (project_of w)) (ap (λ q. nat_lt cap (body_len q)) is ∙ short),
+    )
+
+-- an addition that was refused other than by lack of memory is refused by the step
+refused-step : (v : MapsView) (c : Command) (cap : ℕ) (e : MapError) → (e ≡ map_error.OutOfMemory → ⊥)
+    → RefusesEdit e (edit_of v.tables c) → IsOk (step (project_of v) (Edit c) cap) → ⊥
+refused-step v c cap e other h accepted =
+    let p = project_of v in
+    let code = of_map.code_of e in
+    let some = refused-with (least (step_one.faults v.tables c)) (step_one.after v.tables c) (step_one.number_of v.tables c) code (refused-edit e (edit_of v.tables c) other h) in
+    let current : least (step_one.faults (current_map p) c) ≡ Some code = ap (λ m. least (step_one.faults m c)) (current_of v) ∙ some in
+    let refused = step-refuses p (Edit c) cap code (least-some (step_one.faults (current_map p) c) (naming_faults p c) code current) in
+    let never = subst IsOk refused accepted in
+    absurd (cc never)
+
+-- the same of a call that was refused
+pub not-accepted : (v : MapsView) (c : Command) (cap : ℕ) (new : Tables) (r : Result ℕ MapError) → (IsErrOf r map_error.OutOfMemory → ⊥) → is_err r ≡ true
+    → EndsEdit r (edit_of v.tables c) v.tables new → IsOk (step (project_of v) (Edit c) cap) → ⊥
+not-accepted v c cap new (Ok n) other err h accepted = absurd (cc err)
+not-accepted v c cap new (Err e) other err h accepted = refused-step v c cap e (λ is. other (ap Err is)) h.0 accepted

@@ -2,8 +2,8 @@
 use lv_lumps::{Line, Name8, Sector, Side, Thing, Vertex};
 use lv_maptables::Kind;
 
-/// A sector between two corners, with a side and a line along each edge and the inside on the right. Coordinates and
-/// heights are map units.
+/// A rectangular sector between two corners, with a line and a side along each edge. The right side of each line faces
+/// inwards. Coordinates and heights are in map units.
 #[derive(Clone, Copy)]
 pub struct RoomPlan {
     pub west: i16,
@@ -25,7 +25,7 @@ pub struct LineSplit {
     pub at: Vertex,
 }
 
-/// A change of a map, as a line of input asks for it.
+/// A change to a map that a line of input asks for.
 #[derive(Clone, Copy)]
 pub enum Command {
     /// The map's name.
@@ -35,13 +35,13 @@ pub enum Command {
     AddSide(Side),
     AddLine(Line),
     AddThing(Thing),
-    /// The number of an item, and what it becomes; likewise the others that set one.
+    /// The number of an item and its new value, as in the other `Set` commands.
     SetVertex(u16, Vertex),
     SetSector(u16, Sector),
     SetSide(u16, Side),
     SetLine(u16, Line),
     SetThing(u16, Thing),
-    /// A table, and the number of the item that is taken out.
+    /// A table, and the number of the item to remove.
     Drop(Kind, u16),
     Room(RoomPlan),
     Split(LineSplit),

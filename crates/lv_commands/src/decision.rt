@@ -1,4 +1,5 @@
-//! Whether a command of one map is refused, memory aside: the least refusal that holds.
+//! Decides whether a map accepts a command, leaving memory aside. If several refusals apply, the one with the lowest
+//! code is given.
 ghost use Rattle.std.specs.Prelude.{◌≡◌, ◌+◌, ◌≤◌, ◌<◌, ◌||◌, nat_lt, length, [], ◌∷◌, ◌++◌};
 ghost use Rattle.std.specs.List.{list_any};
 ghost use Rattle.lv_maptables.specs.Faults.{is_taken, lacks_room, lacks_sector_room, is_too_long};
@@ -15,7 +16,7 @@ use crate::room::corners_of;
 use lv_lumps::{LONGEST_SQUARED, Line, Vertex, squared_distance};
 use lv_maptables::{Kind, Map, MapError};
 
-// Whether the map has no room for so many more items of a kind.
+// Whether the map has no room for `more` further items of a kind.
 fn lacks_room(map: &Map, kind: Kind, more: u32) -> bool
     requires { more ≤ 4 }
     ensures { result ≡ nat_lt (table_limit kind) (count_of map.now.tables kind + more) }
@@ -23,7 +24,7 @@ fn lacks_room(map: &Map, kind: Kind, more: u32) -> bool
     map.count(kind) + more > kind.limit()
 }
 
-// Whether an item can be taken out.
+// Whether an item can be removed.
 fn can_drop(map: &Map, kind: Kind, n: u32) -> Result<(), MapError>
     ensures { Tells result (drop_faults map.now.tables kind n) }
 {
@@ -36,7 +37,7 @@ fn can_drop(map: &Map, kind: Kind, n: u32) -> Result<(), MapError>
     }
 }
 
-// Whether a corner's place is taken.
+// Whether a vertex already stands at a corner.
 fn has_corner_taken(map: &Map, plan: &RoomPlan) -> bool
     ensures { result ≡ list_any (is_taken map.now.tables.vertices) (corners plan.now) }
 {
@@ -68,14 +69,14 @@ fn can_draw(map: &Map, plan: &RoomPlan) -> Result<(), MapError>
     Ok(())
 }
 
-// Whether two places are further apart than a line may be long.
+// Whether two places are further apart than the ends of a line may be.
 fn are_too_far(a: Vertex, b: Vertex) -> bool
     ensures { result ≡ nat_lt longest_squared (squared_distance a b) }
 {
     squared_distance(a, b) > LONGEST_SQUARED
 }
 
-// The vertex of a number.
+// The vertex with this number.
 fn vertex_of(map: &Map, n: u16) -> Vertex
     requires { n < length map.now.tables.vertices }
     ensures { result ≡ nth_vertex map.now.tables.vertices n }
@@ -83,7 +84,7 @@ fn vertex_of(map: &Map, n: u16) -> Vertex
     map.vertex(u32::from(n)).unwrap()
 }
 
-// Whether a half of a line that is cut in two at a place would be too long.
+// Whether one of the halves would be too long if a line were cut in two at a place.
 fn has_long_half(map: &Map, line: &Line, at: Vertex) -> bool
     requires { HasEnds map.now.tables.vertices line.now }
     ensures { let vertices = map.now.tables.vertices ++ at ∷ [] in result
@@ -95,7 +96,8 @@ fn has_long_half(map: &Map, line: &Line, at: Vertex) -> bool
     are_too_far(start, at) || are_too_far(at, end)
 }
 
-// Whether a line can be cut in two at a place, where the table has it: `PlaceTaken`, `TableFull`, `LineTooLong`.
+// Whether a line of the map can be cut in two at a place. The refusals in order: `PlaceTaken`, `TableFull`,
+// `LineTooLong`.
 fn can_cut(map: &Map, line: &Line, at: Vertex) -> Result<(), MapError>
     requires { HasEnds map.now.tables.vertices line.now }
     ensures { Tells result (cut_faults map.now.tables line.now at) }
@@ -122,7 +124,8 @@ fn can_split(map: &Map, split: &LineSplit) -> Result<(), MapError>
     }
 }
 
-/// Whether a command is accepted, memory and the body's length aside: else the least code that refuses it.
+/// Decides whether a command is accepted, leaving memory and the length of the body aside. The refusal is the one with
+/// the lowest code.
 pub fn can_do(map: &Map, command: &Command) -> Result<(), MapError>
     ensures { Tells result (faults map.now.tables command.now) }
 {

@@ -1,4 +1,4 @@
-//! Why a line is no command, or a command is refused.
+//! Why a line is not a command, or a command is refused.
 ghost use Rattle.std.specs.Prelude.{◌≡◌};
 ghost use Rattle.lv_commands.specs.declared.error.CommandError.TheVariants.{OutOfMemory};
 
@@ -7,7 +7,8 @@ use std::alloc::AllocError;
 use std::fmt;
 use thiserror::Error;
 
-/// Why a line is no command, or a command is refused. Where several hold of a command, the least is answered.
+/// Why a line is not a command, or a command is refused. If several reasons apply to a command, it gets the one with
+/// the lowest code.
 #[derive(Clone, Copy, Debug, PartialEq, Eq, Error)]
 pub enum CommandError {
     NotACommand,
@@ -64,7 +65,7 @@ impl CommandError {
         }
     }
 
-    /// The refusal of a command whose edit is refused by the map.
+    /// The refusal of a command whose edit the map refuses.
     pub fn of_edit(error: MapError) -> CommandError
         requires { map_error.code_of error ≤ 31 }
         ensures { code_of result ≡ map_error.code_of error }
@@ -90,7 +91,7 @@ impl CommandError {
         }
     }
 
-    // The map's refusal that it passes on; else the number and the text of its own.
+    // The map's refusal that this one passes on, or the number and text of this one.
     fn source(&self) -> Result<MapError, (u16, &'static str)>
         ensures { MatchResult result (λ error. code_of self.now ≡ map_error.code_of error)
             (λ own. code_of self.now ≡ own.0) }

@@ -1,4 +1,4 @@
-//! What stands behind the first word of a command of a map.
+//! Reads what follows the first word of a command of a map.
 ghost use Rattle.std.specs.Prelude.{◌≡◌, ◌&&◌, int_lt, [], ◌∷◌, ◌≤◌, Some, None, IfOk, decimal};
 ghost use Rattle.lv_lumps.specs.Names.{IsNamed, is_marker, name_text};
 ghost use Rattle.lv_maptables.specs.Ranges.{IsLine, IsSector, IsSide, IsThing, IsVertex};
@@ -24,7 +24,7 @@ const GREATEST_COORDINATE: i16 = 16383;
 const GREATEST_LIGHT: i16 = 255;
 // In degrees.
 const GREATEST_ANGLE: i16 = 359;
-// The greatest flags, special and tag of a line.
+// The greatest value of the flags, special and tag of a line.
 const GREATEST_FLAGS: u16 = 32767;
 // Whether the room has some width and some height.
 fn has_area(plan: &RoomPlan) -> bool
@@ -35,7 +35,7 @@ fn has_area(plan: &RoomPlan) -> bool
 }
 
 impl<'a> UnreadWords<'a> {
-    /// A place.
+    /// Reads a place.
     pub fn vertex(mut self) -> Result<Vertex, CommandError>
         ensures ok { IfOk result (λ r. ((reading self.entry).fault ≡ None)
             × ((reading self.entry).words ≡ vertex_words r) × IsVertex r) }
@@ -47,7 +47,7 @@ impl<'a> UnreadWords<'a> {
         Ok(Vertex { x, y })
     }
 
-    /// A sector.
+    /// Reads a sector.
     pub fn sector(mut self) -> Result<Sector, CommandError>
         ensures ok { IfOk result (λ r. ((reading self.entry).fault ≡ None)
             × ((reading self.entry).words ≡ sector_words r) × IsSector r) }
@@ -72,7 +72,7 @@ impl<'a> UnreadWords<'a> {
         })
     }
 
-    /// A side.
+    /// Reads a side.
     pub fn side(mut self) -> Result<Side, CommandError>
         ensures ok { IfOk result (λ r. ((reading self.entry).fault ≡ None)
             × ((reading self.entry).words ≡ side_words r) × IsSide r) }
@@ -95,7 +95,7 @@ impl<'a> UnreadWords<'a> {
         })
     }
 
-    /// A line.
+    /// Reads a line.
     pub fn line(mut self) -> Result<Line, CommandError>
         ensures ok { IfOk result (λ r. ((reading self.entry).fault ≡ None)
             × ((reading self.entry).words ≡ line_words r) × IsLine r) }
@@ -120,7 +120,7 @@ impl<'a> UnreadWords<'a> {
         })
     }
 
-    /// A thing.
+    /// Reads a thing.
     pub fn thing(mut self) -> Result<Thing, CommandError>
         ensures ok { IfOk result (λ r. ((reading self.entry).fault ≡ None)
             × ((reading self.entry).words ≡ thing_words r) × IsThing r) }
@@ -141,7 +141,7 @@ impl<'a> UnreadWords<'a> {
         })
     }
 
-    /// The number of a vertex, and what it becomes.
+    /// Reads the number of an item, and a place.
     pub fn numbered_vertex(mut self) -> Result<(u16, Vertex), CommandError>
         requires { (reading self).fault ≡ None }
         ensures ok { IfOk result (λ r. ((reading self.entry).words ≡ decimal r.0 ∷ vertex_words r.1)
@@ -156,7 +156,7 @@ impl<'a> UnreadWords<'a> {
         }
     }
 
-    /// The number of a sector, and what it becomes.
+    /// Reads the number of a sector, and its new value.
     pub fn set_sector(mut self) -> Result<Command, CommandError>
         requires { (reading self).fault ≡ None }
         ensures ok { IfOk result (λ c.
@@ -171,7 +171,7 @@ impl<'a> UnreadWords<'a> {
         }
     }
 
-    /// The number of a side, and what it becomes.
+    /// Reads the number of a side, and its new value.
     pub fn set_side(mut self) -> Result<Command, CommandError>
         requires { (reading self).fault ≡ None }
         ensures ok { IfOk result (λ c.
@@ -186,7 +186,7 @@ impl<'a> UnreadWords<'a> {
         }
     }
 
-    /// The number of a line, and what it becomes.
+    /// Reads the number of a line, and its new value.
     pub fn set_line(mut self) -> Result<Command, CommandError>
         requires { (reading self).fault ≡ None }
         ensures ok { IfOk result (λ c.
@@ -201,7 +201,7 @@ impl<'a> UnreadWords<'a> {
         }
     }
 
-    /// The number of a thing, and what it becomes.
+    /// Reads the number of a thing, and its new value.
     pub fn set_thing(mut self) -> Result<Command, CommandError>
         requires { (reading self).fault ≡ None }
         ensures ok { IfOk result (λ c.
@@ -216,7 +216,7 @@ impl<'a> UnreadWords<'a> {
         }
     }
 
-    // The words of a room.
+    // Reads a room, which may still be flat.
     fn room_plan(mut self) -> Result<RoomPlan, CommandError>
         ensures ok { IfOk result (λ r. ((reading self.entry).fault ≡ None)
             × ((reading self.entry).words ≡ room_words r) × IsPlan r) }
@@ -247,7 +247,7 @@ impl<'a> UnreadWords<'a> {
         })
     }
 
-    /// A room that isn't flat.
+    /// Reads a room, and refuses a flat one.
     pub fn room(self) -> Result<Command, CommandError>
         requires { (reading self).fault ≡ None }
         ensures ok { IfOk result (λ c.
@@ -266,7 +266,7 @@ impl<'a> UnreadWords<'a> {
         }
     }
 
-    /// A table and the number of an item of it, which is taken out.
+    /// Reads a table and the number of the item to remove from it.
     pub fn drop_item(mut self) -> Result<Command, CommandError>
         requires { (reading self).fault ≡ None }
         ensures ok { IfOk result (λ c.
@@ -286,7 +286,7 @@ impl<'a> UnreadWords<'a> {
         }
     }
 
-    /// The name of a map, alone.
+    /// Reads the name of a map, which must end the line.
     pub fn map_name(mut self) -> Result<Name8, CommandError>
         requires { (reading self).fault ≡ None }
         ensures ok { IfOk result (λ n. ((reading self.entry).words ≡ name_text n ∷ [])

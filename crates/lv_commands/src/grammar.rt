@@ -13,7 +13,7 @@ use crate::head::Head;
 use crate::keywords::head_in;
 use crate::unread::UnreadWords;
 
-// The command whose words stand behind the first.
+// Reads the command that begins with this first word.
 fn command(head: Head, words: UnreadWords) -> Result<Command, CommandError>
     requires { (reading words).fault ≡ None }
     ensures ok { IfOk result (λ c.
@@ -44,7 +44,7 @@ fn command(head: Head, words: UnreadWords) -> Result<Command, CommandError>
     }
 }
 
-/// The command of a map that a first word and what stands behind it are, or what is wrong with them.
+/// Reads a command of a map from its first word and the rest of its line, or says what is wrong with them.
 pub fn read(word: &[u8], rest: Option<&[u8]>) -> Result<Command, CommandError>
     ensures ok { IfOk result
         (λ c. (word.now ∷ parts_behind (option_copied rest.entry) ≡ words_of c) × InRange c) }

@@ -55,7 +55,7 @@ pub fn need_of(command: &Command) -> Need
     }
 }
 
-/// By how many bytes so many more items lengthen a body.
+/// By how many bytes these items lengthen a body.
 pub fn growth_of(need: Need) -> u64
     ensures { result ≡ growth_of need }
 {

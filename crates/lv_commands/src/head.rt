@@ -1,5 +1,5 @@
 //! The first words of the commands of a map.
-/// The first word of a command, which says what stands behind it.
+/// The first word of a command, which decides what follows it.
 #[derive(Clone, Copy)]
 pub enum Head {
     Name,

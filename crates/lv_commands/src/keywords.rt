@@ -40,7 +40,7 @@ const KINDS: [Kind; 5] = [
     Kind::Thing,
 ];
 
-/// The word that is written for a first word.
+/// The spelling of a first word.
 pub fn head_text(head: Head) -> &'static str
     ensures { result.now ≡ head_word head }
 {
@@ -62,7 +62,7 @@ pub fn head_text(head: Head) -> &'static str
     }
 }
 
-/// The word of a table.
+/// The word for a table.
 pub fn kind_text(kind: Kind) -> &'static str
     ensures { result.now ≡ kind_word kind }
 {
@@ -82,14 +82,14 @@ fn is_head(word: &[u8], head: Head) -> bool
     word == head_text(head).as_bytes()
 }
 
-// Whether the word is that of the table.
+// Whether the word names this table.
 fn is_kind(word: &[u8], kind: Kind) -> bool
     ensures { result ≡ bytes_eq word.now (kind_word kind) }
 {
     word == kind_text(kind).as_bytes()
 }
 
-/// The command that a first word begins.
+/// Which first word this is, if it is one.
 pub fn head_in(word: &[u8]) -> Option<Head>
     ensures value { result ≡ head_of word.now }
     ensures text { IfSome result (λ h. head_word h ≡ word.now) }
@@ -97,7 +97,7 @@ pub fn head_in(word: &[u8]) -> Option<Head>
     HEADS.iter().copied().find(|head| is_head(word, *head))
 }
 
-/// The table that a word names.
+/// The table that a word names, if it names one.
 pub fn kind_in(word: &[u8]) -> Option<Kind>
     ensures value { result ≡ kind_of word.now }
     ensures text { IfSome result (λ k. kind_word k ≡ word.now) }

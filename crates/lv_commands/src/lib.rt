@@ -1,5 +1,5 @@
-//! The commands that draw the maps of a project: their lines, and what each makes of the project. Those of its current
-//! map have their grammar, their spelling and refusals here; those of the whole stand in `project`.
+//! The commands that draw the maps of a project: how their lines are read and printed, and how each changes the
+//! project. The modules beside this file deal with the commands of the current map, `project` deals with all commands.
 #![tactic(auto)]
 
 mod command;

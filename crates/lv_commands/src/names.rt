@@ -20,12 +20,12 @@ pub const FIRST_MAP: Name8 = Name8 {
     bytes: *b"MAP01\0\0\0",
 };
 
-/// The name of a flat or a texture that a word is.
+/// Reads a word as the name of a flat or a texture.
 pub fn name_in(word: &[u8]) -> Result<Name8, CommandError>
     ensures found { IfOk result (λ n. (name_text n ≡ word.now) × IsNamed is_name n) }
     ensures fault { TellsFault result (place_fault (Named is_name) word.now) }
 {
-    // A name is a word, so that only what is none is looked at twice.
+    // A name is always a word, so only what is not a name needs the second test.
     if is_name(word) {
         return Ok(Name8::from_text(word));
     }
@@ -36,7 +36,7 @@ pub fn name_in(word: &[u8]) -> Result<Name8, CommandError>
     }
 }
 
-/// The name of a map that a word is.
+/// Reads a word as the name of a map.
 pub fn marker_in(word: &[u8]) -> Result<Name8, CommandError>
     ensures found { IfOk result (λ n. (name_text n ≡ word.now) × IsNamed is_marker n) }
     ensures fault { TellsFault result (place_fault (Named is_marker) word.now) }

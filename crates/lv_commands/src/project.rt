@@ -1,5 +1,6 @@
-//! The commands of a project of maps: those that draw its current map, and those that are about which maps it has.
+//! The commands of a project of maps: those that draw its current map, and those that select or drop a map.
 
+mod adding;
 mod additions;
 mod changes;
 mod command;

@@ -6,7 +6,7 @@ use crate::command::RoomPlan;
 use crate::names::NO_TEXTURE;
 use lv_lumps::{Line, NO_SIDE, Sector, Side, Vertex};
 
-/// The corners, from the one in the south-west on by way of the north.
+/// The corners, clockwise from the one in the south-west.
 pub fn corners_of(plan: &RoomPlan) -> [Vertex; 4]
     ensures { result ≡ corners plan.now }
 {
@@ -40,7 +40,7 @@ pub fn sector_of(plan: &RoomPlan) -> Sector
     }
 }
 
-/// A side of the room, on the inside.
+/// A side of the room, which faces inwards.
 pub fn side_of(plan: &RoomPlan, sector: u16) -> Side
     ensures { result ≡ room_side plan.now sector }
 {

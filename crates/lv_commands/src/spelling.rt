@@ -1,4 +1,4 @@
-//! From a command of one map to its line.
+//! Prints a command of one map as a line.
 ghost use Rattle.std.specs.Prelude.{◌≡◌, ◌∷◌, IfOk, IsOkUnless};
 ghost use Rattle.std.specs.List.{join_with_byte};
 ghost use Rattle.lv_commands.specs.CommandRanges.{InRange};
@@ -34,7 +34,7 @@ fn head_for(command: &Command) -> Head
     }
 }
 
-// The words behind the first.
+// Writes the words after the first.
 #[tactic(auto, using(crate::proofs::Padding::marker_utf8))]
 fn words_behind(text: Text, command: &Command) -> Result<Text, AllocError>
     requires { InRange command.now }
@@ -58,7 +58,7 @@ fn words_behind(text: Text, command: &Command) -> Result<Text, AllocError>
     }
 }
 
-// All words of a command.
+// Writes all words of a command.
 fn words(alloc: Global, command: &Command) -> Result<Text, AllocError>
     requires { InRange command.now }
     ensures { IfOk result (λ t. written t ≡ spelling command.now) }
@@ -67,7 +67,7 @@ fn words(alloc: Global, command: &Command) -> Result<Text, AllocError>
     words_behind(text, command)
 }
 
-/// The line of a command of a map.
+/// Prints a command of a map as a line.
 pub fn print(alloc: Global, command: &Command) -> Result<Vec<u8>, CommandError>
     requires { InRange command.now }
     ensures spelling { IfOk result (λ v. v.items ≡ spelling command.now) }

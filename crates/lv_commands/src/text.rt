@@ -23,7 +23,7 @@ impl Text {
     ghost use Rattle.lv_commands.specs.Spelling.{kind_word, left_word, line_words, room_words, sector_words, side_words, thing_words, vertex_words};
     ghost use Rattle.lv_commands.specs.Views.{Adds, written};
 
-    /// The first word.
+    /// A line that has its first word.
     pub fn new(alloc: Global, head: &str) -> Result<Self, AllocError>
         ensures { IfOk result (λ t. written t ≡ head.now) }
     {
@@ -38,7 +38,7 @@ impl Text {
         self.line.into_bytes()
     }
 
-    // One more word.
+    // Adds a word.
     fn word(mut self, word: &str) -> Result<Self, AllocError>
         ensures { IfOk result (λ t. Adds self t (32 ∷ word.now)) }
     {
@@ -47,7 +47,7 @@ impl Text {
         Ok(self)
     }
 
-    // A signed number.
+    // Adds a signed number.
     fn number(mut self, n: &i16) -> Result<Self, AllocError>
         ensures { IfOk result (λ t. Adds self t (32 ∷ signed_decimal n.now)) }
     {
@@ -56,7 +56,7 @@ impl Text {
         Ok(self)
     }
 
-    // The number of an item.
+    // Adds the number of an item.
     fn item(mut self, n: u16) -> Result<Self, AllocError>
         ensures { IfOk result (λ t. Adds self t (32 ∷ decimal n)) }
     {
@@ -64,7 +64,7 @@ impl Text {
         Ok(self)
     }
 
-    // The number of a left side, and `-` for none.
+    // Adds the number of a left side, or `-` for none.
     fn left(self, n: u16) -> Result<Self, AllocError>
         ensures { IfOk result (λ t. Adds self t (32 ∷ left_word n)) }
     {
@@ -75,7 +75,7 @@ impl Text {
         }
     }
 
-    /// A name.
+    /// Adds a name.
     pub fn name(self, name: &Name8) -> Result<Self, AllocError>
         requires { IsUtf8 (name_text name.now) }
         ensures { IfOk result (λ t. Adds self t (32 ∷ name_text name.now)) }
@@ -83,7 +83,7 @@ impl Text {
         self.word(text_of(name))
     }
 
-    /// The words of a place.
+    /// Adds the words of a place.
     pub fn vertex(self, vertex: &Vertex) -> Result<Self, AllocError>
         ensures { IfOk result
             (λ t. Adds self t (32 ∷ join_with_byte 32 (vertex_words vertex.now))) }
@@ -91,7 +91,7 @@ impl Text {
         self.number(&vertex.x)?.number(&vertex.y)
     }
 
-    /// The words of a sector.
+    /// Adds the words of a sector.
     pub fn sector(self, sector: &Sector) -> Result<Self, AllocError>
         requires { IsSector sector.now }
         ensures { IfOk result
@@ -106,7 +106,7 @@ impl Text {
             .number(&sector.tag)
     }
 
-    /// The words of a side.
+    /// Adds the words of a side.
     pub fn side(self, side: &Side) -> Result<Self, AllocError>
         requires { IsSide side.now }
         ensures { IfOk result (λ t. Adds self t (32 ∷ join_with_byte 32 (side_words side.now))) }
@@ -119,7 +119,7 @@ impl Text {
             .item(side.sector)
     }
 
-    /// The words of a line.
+    /// Adds the words of a line.
     pub fn line(self, line: &Line) -> Result<Self, AllocError>
         ensures { IfOk result (λ t. Adds self t (32 ∷ join_with_byte 32 (line_words line.now))) }
     {
@@ -132,7 +132,7 @@ impl Text {
             .left(line.left)
     }
 
-    /// The words of a thing.
+    /// Adds the words of a thing.
     pub fn thing(self, thing: &Thing) -> Result<Self, AllocError>
         ensures { IfOk result (λ t. Adds self t (32 ∷ join_with_byte 32 (thing_words thing.now))) }
     {
@@ -143,7 +143,7 @@ impl Text {
             .number(&thing.options)
     }
 
-    /// The words of a room.
+    /// Adds the words of a room.
     pub fn room(self, plan: &RoomPlan) -> Result<Self, AllocError>
         requires { IsPlan plan.now }
         ensures { IfOk result (λ t. Adds self t (32 ∷ join_with_byte 32 (room_words plan.now))) }
@@ -159,7 +159,7 @@ impl Text {
             .name(&plan.wall)?
             .number(&plan.light)
     }
-    /// The number of a vertex, and the words of a place.
+    /// Adds the number of an item, and the words of a place.
     pub fn numbered_vertex(self, n: u16, vertex: &Vertex) -> Result<Self, AllocError>
         ensures { IfOk result (λ t. Adds self t
             (32 ∷ join_with_byte 32 (decimal n ∷ vertex_words vertex.now))) }
@@ -167,7 +167,7 @@ impl Text {
         self.item(n)?.vertex(vertex)
     }
 
-    /// The number of a sector, and its words.
+    /// Adds the number of a sector, and its words.
     pub fn numbered_sector(self, n: u16, sector: &Sector) -> Result<Self, AllocError>
         requires { IsSector sector.now }
         ensures { IfOk result (λ t. Adds self t
@@ -176,7 +176,7 @@ impl Text {
         self.item(n)?.sector(sector)
     }
 
-    /// The number of a side, and its words.
+    /// Adds the number of a side, and its words.
     pub fn numbered_side(self, n: u16, side: &Side) -> Result<Self, AllocError>
         requires { IsSide side.now }
         ensures { IfOk result (λ t. Adds self t
@@ -185,7 +185,7 @@ impl Text {
         self.item(n)?.side(side)
     }
 
-    /// The number of a line, and its words.
+    /// Adds the number of a line, and its words.
     pub fn numbered_line(self, n: u16, line: &Line) -> Result<Self, AllocError>
         ensures { IfOk result (λ t. Adds self t
             (32 ∷ join_with_byte 32 (decimal n ∷ line_words line.now))) }
@@ -193,7 +193,7 @@ impl Text {
         self.item(n)?.line(line)
     }
 
-    /// The number of a thing, and its words.
+    /// Adds the number of a thing, and its words.
     pub fn numbered_thing(self, n: u16, thing: &Thing) -> Result<Self, AllocError>
         ensures { IfOk result (λ t. Adds self t
             (32 ∷ join_with_byte 32 (decimal n ∷ thing_words thing.now))) }
@@ -201,7 +201,7 @@ impl Text {
         self.item(n)?.thing(thing)
     }
 
-    /// The word of a table, and the number of an item of it.
+    /// Adds the word for a table, and the number of an item of it.
     pub fn item_of(self, kind: Kind, n: u16) -> Result<Self, AllocError>
         ensures { IfOk result (λ t. Adds self t
             (32 ∷ join_with_byte 32 (kind_word kind ∷ decimal n ∷ []))) }

@@ -5,7 +5,8 @@ use crate::names::{FIRST_MAP, NO_TEXTURE, marker_in, name_in};
 use crate::words::{next_part, number_in};
 use lv_lumps::{NO_SIDE, Name8};
 
-/// The words of a line that are still to be read, and the fault so far: 1 if there was one, else the leftmost.
+/// The words of a line that are still to be read, and the fault so far: `NotACommand` if that was found anywhere,
+/// otherwise the leftmost fault.
 #[derive(Drop)]
 pub struct UnreadWords<'a> {
     rest: Option<&'a [u8]>,
@@ -25,7 +26,7 @@ impl<'a> UnreadWords<'a> {
     ghost use Rattle.lv_commands.specs.Reading.{Reads, IsDone, fault_with};
     ghost use Rattle.lv_commands.specs.Views.{reading};
 
-    /// The words behind the first.
+    /// The words after the first.
     pub fn new(rest: Option<&'a [u8]>) -> Self
         ensures fault { (reading result).fault ≡ None }
         ensures words { (reading result).words ≡ parts_behind (option_copied rest.entry) }
@@ -33,7 +34,7 @@ impl<'a> UnreadWords<'a> {
         UnreadWords { rest, fault: None }
     }
 
-    /// The next word.
+    /// Takes the next word.
     pub fn next(&mut self) -> Option<&'a [u8]>
         ensures fault { (reading self.new).fault ≡ (reading self.old).fault }
         ensures words { MatchOption result
@@ -50,7 +51,7 @@ impl<'a> UnreadWords<'a> {
         }
     }
 
-    // Keeps the fault, if it comes before the one so far.
+    // Records a fault, if it takes precedence over the one so far.
     fn note(&mut self, error: CommandError)
         ensures fault { (reading self.new).fault
             ≡ prior_fault (reading self.old).fault (Some (code_of error)) }
@@ -62,7 +63,7 @@ impl<'a> UnreadWords<'a> {
         }
     }
 
-    /// A number between two bounds. After a fault it answers some number between them.
+    /// Reads a number between two bounds. After a fault it returns some number between them.
     pub fn number(&mut self, low: i16, high: i16) -> i16
         requires { low ≤ℤ high }
         ensures reads { Reads (reading self.old) (reading self.new) (Number low high)
@@ -84,7 +85,7 @@ impl<'a> UnreadWords<'a> {
         }
     }
 
-    /// The number of an item.
+    /// Reads the number of an item.
     pub fn item(&mut self, last: u16) -> u16
         requires { last ≤ 32767 }
         ensures reads { Reads (reading self.old) (reading self.new) (Number (pos 0) (pos last))
@@ -94,7 +95,7 @@ impl<'a> UnreadWords<'a> {
         self.number(0, last as i16) as u16
     }
 
-    /// The number of a left side, or `-`. After a fault it answers that there is none.
+    /// Reads the number of a left side, or `-`. After a fault it returns `NO_SIDE`.
     pub fn left(&mut self) -> u16
         ensures reads { Reads (reading self.old) (reading self.new)
             (NumberOrNone (pos 0) (pos 32766)) (left_word result) }
@@ -120,7 +121,7 @@ impl<'a> UnreadWords<'a> {
         }
     }
 
-    /// The name of a flat or a texture. After a fault it answers some name.
+    /// Reads the name of a flat or a texture. After a fault it returns some name.
     pub fn name(&mut self) -> Name8
         ensures reads { Reads (reading self.old) (reading self.new) (Named is_name)
             (name_text result) }
@@ -141,7 +142,7 @@ impl<'a> UnreadWords<'a> {
         }
     }
 
-    /// The name of a map. After a fault it answers some name.
+    /// Reads the name of a map. After a fault it returns some name.
     pub fn marker(&mut self) -> Name8
         ensures reads { Reads (reading self.old) (reading self.new) (Named is_marker)
             (name_text result) }
@@ -162,7 +163,7 @@ impl<'a> UnreadWords<'a> {
         }
     }
 
-    /// The end of the line.
+    /// Tests that the line ends here, and returns the fault, if there was one.
     pub fn finish(self) -> Result<(), CommandError>
         ensures ok { IfOk result (λ _. IsDone (reading self.entry)) }
         ensures fault { IfErr result (λ e. fault_with (reading self.entry) [] ≡ Some (code_of e)) }

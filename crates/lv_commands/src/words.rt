@@ -1,4 +1,4 @@
-//! Parts of a line between spaces, and the numbers that they are.
+//! The parts of a line between its spaces, and those that are numbers.
 ghost use Rattle.std.specs.Prelude.{◌≡◌, ◌≤◌, ◌<◌, ◌∷◌, IfOk, IfNone, IfSome, None, Some, option_copied, true, FitsSigned};
 ghost use Rattle.std.specs.Int.{w16};
 ghost use Rattle.std.specs.Str.{all_ascii_digits};
@@ -13,7 +13,7 @@ ghost use Rattle.lv_lumps.specs.Names.{is_digit};
 
 use crate::error::CommandError;
 
-// Whether each byte prints and is no space.
+// Whether each byte is printable and not a space.
 fn are_printable(bytes: &[u8]) -> bool
     ensures { result ≡ list_all is_printable bytes.now }
 {
@@ -56,7 +56,7 @@ fn has_numeral_form(word: &[u8]) -> bool
     }
 }
 
-/// The part before the first space, and what stands behind it.
+/// The part before the first space, and what follows that space, if there is one.
 pub fn next_part(line: &[u8]) -> (&[u8], Option<&[u8]>)
     ensures { parts line.now ≡ result.0.now ∷ parts_behind (option_copied result.1) }
 {
@@ -102,7 +102,7 @@ fn value_of(word: &[u8]) -> Option<i16>
     }
 }
 
-/// The number that a word stands for, between two bounds.
+/// Reads a word as a number between two bounds.
 pub fn number_in(word: &[u8], low: i16, high: i16) -> Result<i16, CommandError>
     ensures found { IfOk result (λ n. (numeral_value word.now ≡ n)
         × (signed_decimal n ≡ word.now) × IsBetween low high n) }

@@ -1,4 +1,4 @@
-//! Why a journal refuses, and the number that each refusal is answered by.
+//! Why a call of a journal is refused, and the number of each refusal.
 ghost use Rattle.std.specs.Prelude.{◌≡◌};
 ghost use Rattle.lv_journal.specs.declared.error.JournalError.TheVariants.{Device, OutOfMemory};
 
@@ -7,7 +7,7 @@ use std::alloc::{AllocError, AllocFailed};
 use std::fmt;
 use thiserror::Error;
 
-/// Why a journal could not be read or written.
+/// Why a journal could not be read, or a payload not be appended.
 #[derive(Clone, Copy, Debug, PartialEq, Eq, Error)]
 pub enum JournalError {
     Device,

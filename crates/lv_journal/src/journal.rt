@@ -1,5 +1,5 @@
-//! A journal: a record counts where its gate is open, and a closed gate stands behind the last one, on the disk before
-//! anything is written behind it.
+//! A journal: a record counts if its gate is open. A closed gate follows the last record; it is on the disk before
+//! anything is written after it.
 ghost use Rattle.std.specs.Prelude.{◌≡◌, ◌≤◌, ◌<◌, ◌⊎◌, ◌↔◌, ◌+◌, [], ◌∷◌, length, slice_get, option_copied, true, false, OnOk, OnErr, IsErrOf, IfErr, IfOk};
 ghost use Rattle.lv_disk.specs.Moments.{LeavesOnly};
 ghost use Rattle.lv_disk.specs.Stops.{CountsFaults, From, Follows, Each, LeadsBy};
@@ -29,7 +29,7 @@ pub struct Journal {
     records: Option<Payloads>,
 }
 
-// A call of its own, so that who owns a journal lets its records go by one step.
+// Written by hand, so that a function that owns a journal drops it by a single call.
 impl Drop for Journal {
     fn drop(self) {
         let Journal {
@@ -56,9 +56,8 @@ impl Model for Journal {
 impl Journal {
     /// Reads the records of an area of a fully synced disk. It writes nothing.
     ///
-    /// `Damaged` tells the place in the file of a gate that isn't there, or of an open one whose record isn't whole, is
-    /// longer than 256 bytes or leaves no place in the area for the next gate. Whatever stands behind a closed gate
-    /// counts for nothing.
+    /// `Damaged` gives the place in the file of a gate: it is missing, or it is open and its record is cut off, is
+    /// longer than 256 bytes or leaves no room in the area for the next gate. Bytes after a closed gate are ignored.
     pub fn open<D: Disk>(alloc: Global, disk: &mut D, area: Area) -> Result<Journal, JournalError>
         requires only { Each (D.may_leave disk.old) (D.reads disk.old) }
 
@@ -72,7 +71,7 @@ impl Journal {
             Each (D.reads disk.old) (IsJournalDamagedAt area place))) }
         ensures no_other { IfErr result RefusesToOpenJournal }
 
-        // It writes nothing.
+        // It only reads.
         ensures reads { OnlyReads D.Disk disk.old disk.new }
         ensures only { Each (D.may_leave disk.new) (D.reads disk.new) }
         ensures count { CountsFaults JournalError.Device (D.failures disk.old)
@@ -87,7 +86,7 @@ impl Journal {
         })
     }
 
-    // The journal of an area without records.
+    // The journal of an area, without records.
     fn empty(area: Area) -> Journal
         requires { 0 < area.length }
         ensures { result ≡ opened area [] }
@@ -100,8 +99,8 @@ impl Journal {
         }
     }
 
-    /// The journal without records of an area that begins with a closed gate in every image of the disk. It makes no
-    /// device call, and takes no memory.
+    /// The empty journal of an area that begins with a closed gate in every image of the disk. It makes no device call
+    /// and allocates no memory.
     pub fn fresh<D: Disk>(disk: &D, area: Area) -> Journal
         requires some { 0 < area.length }
         requires closed { Each (D.may_leave disk.now) (IsClosedAt area.base) }
@@ -132,7 +131,7 @@ impl Journal {
         }
     }
 
-    /// Where in the file the gate of the n-th payload stands that `open` found.
+    /// The place in the file of the gate before the n-th payload that `open` found.
     pub fn place(&self, n: usize) -> Option<u64>
         ensures { result ≡ gate_of self.now n }
     {
@@ -142,23 +141,23 @@ impl Journal {
         }
     }
 
-    /// The length of the longest payload that still fits, none where not even an empty one does.
+    /// The length of the longest payload that still fits. None if not even an empty one does.
     pub fn room(&self) -> Option<u32>
         ensures { result ≡ room_of self.now }
     {
         (self.area.length - self.next).checked_sub(LEAST as u32)
     }
 
-    /// Puts a payload of at most 256 bytes behind the others, on the device before it answers. It takes no memory and
-    /// makes four device calls.
+    /// Appends a payload of at most 256 bytes; it is on the device when the call returns. The call allocates no memory
+    /// and makes four device calls.
     ///
-    /// After a `Device` each call is answered `Reopen`, before any `JournalFull`, which comes exactly where the payload
-    /// is longer than `room`. Neither makes a device call.
+    /// After a `Device` each call is refused with `Reopen`. Otherwise the refusal is `JournalFull` exactly if the
+    /// payload is longer than `room`. Both come before any device call.
     pub fn append<D: Disk>(&mut self, disk: &mut D, payload: &[u8]) -> Result<(), JournalError>
         requires short { length payload.now ≤ 256 }
         requires ready { IsReadyIn self.old (D.may_leave disk.old) }
 
-        // After an Ok each file that a stop may leave has the record, and the journal takes the next one.
+        // After an Ok each file that a stop may leave has the record, and the journal can take the next one.
         ensures appended { OnOk result
             (Follows (Appends self.old.area payload.now) (D.may_leave disk.old)
             (D.may_leave disk.new)) }
@@ -170,7 +169,7 @@ impl Journal {
             }) }
         ensures ready { IsReadyIn self.new (D.may_leave disk.new) }
 
-        // A stop at any moment of the call leaves the records from before it, with the new one or without.
+        // A stop at any moment of the call leaves the earlier records, with or without the new one.
         ensures any_moment { LeavesOnly D.Disk disk.old disk.new
             (From (D.may_leave disk.old) (MayAppend self.old.area payload.now)) }
 
@@ -200,8 +199,8 @@ impl Journal {
     }
 }
 
-/// Writes a closed gate at the front of an area, and doesn't sync. Once it is synced the area stands for no record, and
-/// the journal is the one of its area. It takes no memory.
+/// Writes a closed gate at the start of an area, without a sync. Once that is synced the area is an empty journal, the
+/// one that is returned. It allocates no memory.
 pub fn blank<D: Disk>(disk: &mut D, area: Area) -> Result<Journal, JournalError>
     requires { 0 < area.length }
     ensures empty { IfOk result (λ journal. journal ≡ opened area []) }
@@ -216,7 +215,7 @@ pub fn blank<D: Disk>(disk: &mut D, area: Area) -> Result<Journal, JournalError>
     ensures leads_failed { OnErr result
         (LeadsBy (Failed area.base 1) (D.reads disk.old) (D.reads disk.new)) }
 
-    // Each image stays one, so nothing is synced.
+    // Each image from before may still be left by a stop, since nothing is synced.
     ensures images { Follows (Torn area.base 1) (D.may_leave disk.old) (D.may_leave disk.new) }
     ensures kept { Each (D.may_leave disk.old) (D.may_leave disk.new) }
     ensures any_moment { LeavesOnly D.Disk disk.old disk.new

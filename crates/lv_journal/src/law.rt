@@ -1,4 +1,4 @@
-//! Laws on what the bytes of an area stand for. The functions have no bodies: their contracts are the laws.
+//! Laws of what the bytes of an area stand for. The functions have no bodies: their contracts are the laws.
 ghost use Rattle.std.specs.Prelude.{◌≡◌, ◌<◌, ◌≤◌, ◌+◌, [], List, ℕ, length};
 ghost use Rattle.lv_disk.specs.Areas.{IsApart};
 ghost use Rattle.lv_disk.specs.Files.{KeepsOutside};
@@ -7,7 +7,7 @@ ghost use Rattle.lv_disk.specs.declared.area.Area.{Area};
 ghost use Rattle.lv_journal.specs.Damage.{IsJournalDamagedAt};
 ghost use Rattle.lv_journal.specs.Records.{IsJournal};
 
-/// An area's bytes stand for one list of payloads at most, are damaged at one place at most, and are not both.
+/// An area's bytes stand for at most one list of payloads, are damaged at most at one place, and are never both.
 pub fn stand_for_one_list()
     ensures list { (area : Area) (file : List ℕ) (ps qs : List (List ℕ))
         → IsJournal area ps file → IsJournal area qs file → ps ≡ qs }
@@ -17,8 +17,8 @@ pub fn stand_for_one_list()
         → IsJournal area ps file → ¬ IsJournalDamagedAt area p file }
 {}
 
-/// What an area's bytes stand for depends on these bytes alone: a change outside the area leaves it, and where the
-/// first gate is closed they stand for no payload.
+/// What an area's bytes stand for depends on these bytes alone: a change outside the area doesn't affect it. If the
+/// first gate is closed, they stand for the empty list.
 pub fn stand_by_themselves()
     ensures kept { (area : Area) (payloads : List (List ℕ)) (at n : ℕ) (old new : List ℕ)
         → IsApart area at n → KeepsOutside at n old new
@@ -27,8 +27,8 @@ pub fn stand_by_themselves()
         → 0 < area.length → IsClosedAt area.base file → IsJournal area [] file }
 {}
 
-/// An area that stands for payloads has a first gate in the file, which is closed where there are none; and a damaged
-/// place lies in its area.
+/// If an area stands for a list of payloads, its first gate lies in the file, and is closed if the list is empty. A
+/// damaged place lies in its area.
 pub fn begin_in_their_area()
     ensures first { (area : Area) (payloads : List (List ℕ)) (file : List ℕ)
         → IsJournal area payloads file → (0 < area.length) × (area.base < length file) }

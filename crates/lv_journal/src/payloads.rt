@@ -1,4 +1,4 @@
-//! Payloads as they are kept in memory: one behind the other, with the place where each ends.
+//! Payloads in memory: one after another, with the offset at which each ends.
 ghost use Rattle.std.specs.Prelude.{◌≡◌, ◌≤◌, ◌<◌, ◌+◌, ◌*◌, ◌^◌, ◌++◌, [], ◌∷◌, length, take, OnOk, OnErr, option_copied, slice_get, slice_index, slice_range};
 ghost use Rattle.lv_journal.specs.Records.{records_bytes};
 
@@ -6,12 +6,12 @@ use crate::record::HEAD;
 use std::alloc::{AllocError, Global};
 use std::marker::Model;
 
-/// A list of payloads in two vectors, whatever their number.
+/// A list of payloads. Two vectors hold them all, so no payload needs an allocation of its own.
 #[derive(Drop)]
 pub struct Payloads {
-    // all payloads, without what stands before each in its record
+    // all payloads, without their gates and lengths
     bytes: Vec<u8>,
-    // where each of them ends
+    // the offset at which each of them ends
     ends: Vec<usize>,
 }
 
@@ -27,7 +27,7 @@ impl Model for Payloads {
     ghost invariant = { EndWithBytes };
 }
 
-// Where the n-th part begins, of parts that end at these places, the first of them from 0 on.
+// Where the n-th part begins, if the parts end at these offsets and the first begins at 0.
 fn begin_in(ends: &[usize], n: usize) -> usize
     requires { n ≤ length ends.now }
     ensures { result ≡ slice_index (0 ∷ ends.now) n }
@@ -35,7 +35,7 @@ fn begin_in(ends: &[usize], n: usize) -> usize
     if n == 0 { 0 } else { ends[n - 1] }
 }
 
-// The bytes from one place up to another.
+// The bytes from one offset up to another.
 fn part(bytes: &[u8], begin: usize, end: usize) -> &[u8]
     requires rises { begin ≤ end }
     requires within { end ≤ length bytes.now }
@@ -45,7 +45,7 @@ fn part(bytes: &[u8], begin: usize, end: usize) -> &[u8]
 }
 
 impl Payloads {
-    /// No payload. It takes no memory.
+    /// The empty list. It allocates no memory.
     pub fn new(alloc: Global) -> Payloads
         ensures { result ≡ [] }
     {
@@ -62,7 +62,7 @@ impl Payloads {
         self.ends.len()
     }
 
-    // Where the n-th begins, or the last ends.
+    // Where the n-th payload begins, or if there are n, where the last one ends.
     fn start(&self, n: usize) -> usize
         requires { n ≤ length self.now }
         ensures { result + 5 * n ≡ length (records_bytes (take n self.now)) }
@@ -92,7 +92,7 @@ impl Payloads {
         }
     }
 
-    /// Puts a payload behind the others. Where memory lacks they stay.
+    /// Appends a payload. If memory runs out, the list stays as it was.
     pub fn push(&mut self, payload: &[u8]) -> Result<(), AllocError>
         ensures pushed { OnOk result (self.new ≡ self.old ++ payload.now ∷ []) }
         ensures stays { OnErr result (self.new ≡ self.old) }

@@ -1,5 +1,5 @@
-//! Records as they are read.
-ghost use Rattle.std.specs.Prelude.{◌≡◌, ◌≤◌, ◌<◌, ◌⊎◌, ◌+◌, [], ◌∷◌, drop, take, length, min, None, IfOk, IfErr, IfNone, IfSome, OnOk};
+//! Reads the records of an area.
+ghost use Rattle.std.specs.Prelude.{◌≡◌, ◌≤◌, ◌<◌, ◌⊎◌, ◌+◌, [], ◌∷◌, slice_range, take, length, min, None, IfOk, IfErr, IfNone, IfSome, OnOk};
 ghost use Rattle.std.specs.Int.{to_le_bytes, w32};
 ghost use Rattle.lv_disk.specs.Files.{HasAt};
 ghost use Rattle.lv_disk.specs.Stops.{Counted, CountsFaults, Each};
@@ -16,8 +16,11 @@ use byteorder::{ByteOrder, LittleEndian};
 use lv_disk::{Area, DeviceFault, Disk, OPEN_GATE, read_gate};
 use std::alloc::Global;
 
-// Reads so many bytes from a place on into the first ones.
-fn read_payload<D: Disk>(
+// How many bytes are read of a record at once: its payload, and what stands before the next one.
+const BLOCK: usize = LONGEST + HEAD as usize;
+
+// Reads `len` bytes from `at` on into the front of `into`.
+fn read_front<D: Disk>(
     disk: &mut D,
     at: u64,
     len: usize,
@@ -33,28 +36,39 @@ fn read_payload<D: Disk>(
     disk.read(at, &mut into[..len])
 }
 
-// The number that the four bytes behind the first are, the lowest first.
-fn length_in(head: [u8; 5]) -> u32
-    ensures { to_le_bytes w32 result ≡ drop 1 head }
-{
-    LittleEndian::read_u32(&head[1..])
-}
-
-// The gate at a place, and the length behind it.
-fn read_head<D: Disk>(disk: &mut D, at: u64) -> Result<(u8, u32), DeviceFault>
-    requires { Each (D.reads disk.old) (λ file. at + 5 ≤ length file) }
-    ensures gate { IfOk result (λ head. Each (D.reads disk.old) (HasAt at (head.0 ∷ []))) }
-    ensures length { IfOk result
-        (λ head. Each (D.reads disk.old) (HasAt (at + 1) (to_le_bytes w32 head.1))) }
+// Reads the payload of `len` bytes at `at` into the front of `into`, and behind it the next gate and length, as far as
+// `end` allows.
+fn read_payload<D: Disk>(
+    disk: &mut D,
+    at: u64,
+    len: usize,
+    end: u64,
+    into: &mut [u8],
+) -> Result<(), DeviceFault>
+    requires room { length into.old ≡ 261 }
+    requires short { len ≤ 256 }
+    requires within { at + len ≤ end }
+    requires ends { Each (D.reads disk.old) (λ file. end ≤ length file) }
+    ensures payload { OnOk result (Each (D.reads disk.old) (HasAt at (take len into.new))) }
+    ensures head { OnOk result (at + len + 5 ≤ end
+        → Each (D.reads disk.old) (HasAt (at + len) (slice_range into.new len (len + 5)))) }
+    ensures len { length into.new ≡ length into.old }
     ensures reads { OnlyReads D.Disk disk.old disk.new }
     ensures count { Counted (D.failures disk.old) (D.failures disk.new) result }
 {
-    let mut head = [0; 5];
-    disk.read(at, &mut head)?;
-    Ok((head[0], length_in(head)))
+    let behind = (end - at - len as u64).min(HEAD) as usize;
+    read_front(disk, at, len + behind, into)
 }
 
-// Where not even an empty record fits: none where the last gate is closed.
+// The gate and the length that five bytes are, the lowest byte of the length first.
+fn parts_of(head: &[u8]) -> (u8, u32)
+    requires { length head.now ≡ 5 }
+    ensures { head.now ≡ result.0 ∷ to_le_bytes w32 result.1 }
+{
+    (head[0], LittleEndian::read_u32(&head[1..]))
+}
+
+// Reads a gate after which not even an empty record fits: none if it is closed, otherwise it is damaged.
 fn read_last_gate<D: Disk>(
     disk: &mut D,
     area: Area,
@@ -80,15 +94,18 @@ fn read_last_gate<D: Disk>(
     Ok(None)
 }
 
-// The length behind the gate at `place` where it is open, and the record and its next gate fit; none where it is
-// closed. The file or the area ends at `end`.
-fn read_record_len<D: Disk>(
+// The length behind the gate at `place`, if that is open, and the record and its next gate fit; none if it is closed.
+// `head` has the five bytes there, if at least six stand before `end`, where the file or the area ends.
+fn record_len_at<D: Disk>(
     disk: &mut D,
     area: Area,
     place: u64,
     end: u64,
+    head: &[u8],
 ) -> Result<Option<u32>, JournalError>
     requires inside { place < end }
+    requires five { length head.now ≡ 5 }
+    requires head { place + 6 ≤ end → Each (D.reads disk.old) (HasAt place head.now) }
     requires ends { Each (D.reads disk.old)
         (λ file. end ≡ min (length file) (area.base + area.length)) }
     ensures closed { IfOk result
@@ -109,7 +126,7 @@ fn read_record_len<D: Disk>(
     if end - place < LEAST {
         return read_last_gate(disk, area, place, end);
     }
-    let (gate, len) = read_head(disk, place)?;
+    let (gate, len) = parts_of(head);
     if gate != OPEN_GATE {
         return Ok(None);
     }
@@ -117,42 +134,6 @@ fn read_record_len<D: Disk>(
         return Err(JournalError::Damaged { place });
     }
     Ok(Some(len))
-}
-
-// Reads the payload of the record whose gate stands at `place` into the first bytes, and answers how many they are;
-// none where that gate is closed. The file or the area ends at `end`.
-fn read_record<D: Disk>(
-    disk: &mut D,
-    area: Area,
-    place: u64,
-    end: u64,
-    into: &mut [u8],
-) -> Result<Option<usize>, JournalError>
-    requires room { length into.old ≡ 256 }
-    requires inside { place < end }
-    requires ends { Each (D.reads disk.old)
-        (λ file. end ≡ min (length file) (area.base + area.length)) }
-    ensures closed { IfOk result
-        (λ found. IfNone found (Each (D.reads disk.old) (IsClosedAt place))) }
-    ensures found { IfOk result (λ found. IfSome found (λ len.
-        Each (D.reads disk.old) (HasAt place (record_bytes (take len into.new))))) }
-    ensures fits { IfOk result (λ found. IfSome found (λ len.
-        (len ≤ 256) × (place + 6 + len ≤ end))) }
-    ensures len { length into.new ≡ length into.old }
-    ensures damaged { IfErr result (λ e. IfGateDamaged e (λ at.
-        (at ≡ place) × Each (D.reads disk.old) (IsBadRecord area place))) }
-    ensures reads { OnlyReads D.Disk disk.old disk.new }
-    ensures count { CountsFaults JournalError.Device (D.failures disk.old)
-        (D.failures disk.new) result }
-    ensures no_other { IfErr result RefusesToOpenJournal }
-{
-    match read_record_len(disk, area, place, end)? {
-        Some(len) => {
-            read_payload(disk, place + HEAD, len as usize, into)?;
-            Ok(Some(len as usize))
-        }
-        None => Ok(None),
-    }
 }
 
 // The payloads that the area's bytes stand for. The file or the area ends at `end`.
@@ -176,11 +157,19 @@ fn read_up_to<D: Disk>(
     ensures no_other { IfErr result RefusesToOpenJournal }
 {
     let mut records = Payloads::new(alloc);
-    let mut payload = [0; LONGEST];
+    let mut block = [0; BLOCK];
     let mut next = 0;
-    while let Some(len) = read_record(disk, area, area.base + next, end, &mut payload)? {
-        records.push(&payload[..len])?;
+    read_payload(disk, area.base, 0, end, &mut block)?;
+    let mut found = record_len_at(disk, area, area.base, end, &block[..5])?;
+    while let Some(len) = found {
+        let len = len as usize;
+        read_payload(disk, area.base + next + HEAD, len, end, &mut block)?;
+        records.push(&block[..len])?;
         next += HEAD + len as u64;
+        found = match record_len_at(disk, area, area.base + next, end, &block[len..len + 5]) {
+            Ok(found) => found,
+            Err(error) => return Err(error),
+        };
     }
     Ok(records)
 }

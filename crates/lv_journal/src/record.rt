@@ -9,19 +9,19 @@ ghost use Rattle.lv_journal.specs.Append.{Appends, MayAppend};
 use byteorder::{ByteOrder, LittleEndian};
 use lv_disk::{Area, CLOSED_GATE, DeviceFault, Disk, OPEN_GATE, write_through};
 
-/// What stands before a payload: the gate and the length.
+/// How many bytes stand before a payload: the gate and the length.
 pub const HEAD: u64 = 5;
 
-/// What an empty record takes, with the gate behind it.
+/// How many bytes an empty record takes, with the gate after it.
 pub const LEAST: u64 = 6;
 
-/// The longest payload.
+/// The length of the longest payload, in bytes.
 pub const LONGEST: usize = 256;
 
-// The longest block that is written behind a gate: a length, a payload and the next gate.
+// The length of the longest block that is written after a gate: a length, a payload and the next gate.
 const BLOCK: usize = 261;
 
-// The length, the payload and a closed gate.
+// Puts the length, the payload and a closed gate at the start of a block.
 fn put_block(block: &mut [u8], payload: &[u8])
     requires short { length payload.now ≤ 256 }
     requires room { length block.old ≡ 261 }
@@ -34,7 +34,7 @@ fn put_block(block: &mut [u8], payload: &[u8])
     block[4 + n] = CLOSED_GATE;
 }
 
-/// Writes a record behind the closed gate `next` bytes into the area, and then opens that gate.
+/// Writes a record after the closed gate that stands `next` bytes into the area, and then opens that gate.
 pub fn write_record<D: Disk>(
     disk: &mut D,
     area: Area,

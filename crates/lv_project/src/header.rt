@@ -13,7 +13,7 @@ use crate::geometry::Geometry;
 use byteorder::{ByteOrder, LittleEndian};
 use lv_disk::Disk;
 
-// The magic, the version, and the two lengths.
+// The magic number, the version, and the two lengths.
 pub fn header(geometry: Geometry) -> [u8; 16]
     ensures { result ≡ header_bytes geometry.slot geometry.journal }
 {
@@ -23,7 +23,8 @@ pub fn header(geometry: Geometry) -> [u8; 16]
     bytes
 }
 
-// The lengths where a header has them. From std: its clauses tell that the bytes of a number are read as that number.
+// The lengths at their offsets in a header. It calls std, whose clauses say that the bytes of a number are read as that
+// number.
 fn lengths_of(bytes: [u8; 16]) -> Geometry
     ensures small { (result.slot < 2 ^ 32) × (result.journal < 2 ^ 32) }
     ensures only { (slot : ℕ) → (journal : ℕ) → slot < 2 ^ 32 → journal < 2 ^ 32
@@ -35,7 +36,7 @@ fn lengths_of(bytes: [u8; 16]) -> Geometry
     }
 }
 
-// The lengths that a header has, none where the bytes are no header.
+// The lengths in a header. None if the bytes are not a header.
 fn lengths_in(bytes: [u8; 16]) -> Option<Geometry>
     ensures some { IfSome result (λ g. bytes ≡ header_bytes g.slot g.journal) }
     ensures small { IfSome result (λ g. (g.slot < 2 ^ 32) × (g.journal < 2 ^ 32)) }
@@ -50,7 +51,7 @@ fn lengths_in(bytes: [u8; 16]) -> Option<Geometry>
     }
 }
 
-// The geometry that the file's header tells.
+// Reads the geometry from the file's header.
 pub fn read_header<D: Disk>(disk: &mut D) -> Result<Geometry, ProjectError>
     ensures header { IfOk result
         (λ g. Each (D.reads disk.old) (HasAt 0 (header_bytes g.slot g.journal))) }

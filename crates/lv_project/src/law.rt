@@ -1,18 +1,18 @@
-//! Laws on what the bytes of a project file stand for. The functions have no bodies: their contracts are the laws.
+//! Laws of what the bytes of a project file stand for. The functions have no bodies: their contracts are the laws.
 ghost use Rattle.std.specs.Prelude.{◌≡◌, List, ℕ};
 ghost use Rattle.lv_maptables.specs.Projects.{ProjectMaps};
 ghost use Rattle.lv_project.specs.Damage.{HasBadGeometry, IsBlank, IsProjectDamagedAt, IsForeign};
 ghost use Rattle.lv_project.specs.Stands.{Stands};
 
-/// The bytes of a file stand for one map with one generation at most, and tell how long a body may be.
+/// The bytes of a file stand for at most one map with one generation, and fix how long a body may be.
 pub fn stand_for_one_map()
     ensures { (file : List ℕ) (cap limit : ℕ) (map other : ProjectMaps) (g h : ℕ)
         → Stands cap map g file → Stands limit other h file → (cap ≡ limit) × (map ≡ other)
         × (g ≡ h) }
 {}
 
-/// The bytes of a file stand for a map, or no slot is open, or they are damaged at one place, or the geometry is
-/// outside its limits, or they are no project's: one of these at most.
+/// At most one of these holds of the bytes of a file: they stand for a map, no slot is open, they are damaged at one
+/// place, the geometry is outside its limits, or they are not a project file.
 pub fn exclude_one_another()
     ensures stands_blank { (file : List ℕ) (cap : ℕ) (map : ProjectMaps) (g : ℕ)
         → Stands cap map g file → ¬ IsBlank file }

@@ -1,4 +1,4 @@
-//! A project file: a map, of which each accepted command is on the disk before it is answered.
+//! A project file: its maps, with each accepted command on the disk before it is acknowledged.
 #![tactic(auto)]
 
 mod change;

@@ -1,4 +1,4 @@
-//! A project as its file is read or made.
+//! Reads the file of a project, or makes a new one.
 ghost use Rattle.std.specs.Prelude.{◌≡◌, ◌≤◌, ◌<◌, ◌⊎◌, ◌+◌, ◌^◌, ℕ, [], false, true, Ok, length, IfOk, IfErr, IsErrOf, OnErr, OnOk};
 ghost use Rattle.lv_disk.specs.Moments.{LeavesOnly};
 ghost use Rattle.lv_disk.specs.Stops.{Each};
@@ -24,7 +24,7 @@ use lv_journal::{Journal, JournalError, blank};
 use lv_maptables::{MapError, Maps};
 use std::alloc::Global;
 
-/// What a file was read as, or made to be.
+/// The parts of a project, as they were read from its file.
 #[derive(Drop)]
 pub struct Opened {
     pub geometry: Geometry,
@@ -34,7 +34,7 @@ pub struct Opened {
     pub maps: Maps,
 }
 
-// Does what a line of the journal says; false where the maps accept no such command.
+// Applies a line of the journal. False if it is not a command that the maps accept.
 fn advance(maps: &mut Maps, line: &[u8], cap: u32) -> Result<bool, ProjectError>
     requires { body_len (project_of maps.old) ≤ cap }
     ensures led { result ≡ Ok true
@@ -54,7 +54,7 @@ fn advance(maps: &mut Maps, line: &[u8], cap: u32) -> Result<bool, ProjectError>
     }
 }
 
-// The maps after the journal's lines. `Damaged` tells the gate of the first that is no accepted command.
+// Applies the lines of the journal in turn. `Damaged` gives the gate of the first one that is not an accepted command.
 fn replay(maps: &mut Maps, journal: &Journal, cap: u32) -> Result<(), ProjectError>
     requires { body_len (project_of maps.old) ≤ cap }
     ensures led { OnOk result
@@ -74,8 +74,8 @@ fn replay(maps: &mut Maps, journal: &Journal, cap: u32) -> Result<(), ProjectErr
     Ok(())
 }
 
-// The live journal. `Damaged` tells the least place of a gate at fault, be it the other journal's first that isn't
-// there.
+// Opens the live journal. `Damaged` gives the lowest place of a bad gate; the first gate of the other journal is one if
+// it is missing.
 fn open_journal<D: Disk>(alloc: Global, disk: &mut D, parts: Parts) -> Result<Journal, ProjectError>
     requires only { Each (D.may_leave disk.old) (D.reads disk.old) }
     ensures opened { IfOk result (λ j. j ≡ journal.opened parts.journal j.records) }
@@ -102,7 +102,7 @@ fn open_journal<D: Disk>(alloc: Global, disk: &mut D, parts: Parts) -> Result<Jo
     }
 }
 
-// The refusal of slots that can't be read.
+// The refusal if the slots can't be read.
 fn refusal_of_slots(error: CheckpointError) -> ProjectError
     ensures { IsOfSlots error result }
 {
@@ -116,7 +116,7 @@ fn refusal_of_slots(error: CheckpointError) -> ProjectError
     }
 }
 
-// The refusal of a body, whose slot stands at this place.
+// The refusal if a body can't be read whose slot stands at this place.
 fn refusal_of_body(error: MapError, place: u64) -> ProjectError
     ensures { IsOfBody error place result }
 {
@@ -126,7 +126,7 @@ fn refusal_of_body(error: MapError, place: u64) -> ProjectError
     }
 }
 
-// The slots, and the maps of the live body.
+// Reads the slots, and the maps in the live body.
 fn read_slots<D: Disk>(
     alloc: Global,
     disk: &mut D,
@@ -158,7 +158,7 @@ fn read_slots<D: Disk>(
     }
 }
 
-// The live journal, and the maps after its lines.
+// Opens the live journal, and applies its lines to the maps.
 fn read_lines<D: Disk>(
     alloc: Global,
     disk: &mut D,
@@ -191,7 +191,7 @@ fn read_lines<D: Disk>(
     }
 }
 
-// A project of a fully synced disk. It only reads.
+// Reads a project from a fully synced disk. It only reads.
 fn read_synced<D: Disk>(alloc: Global, disk: &mut D) -> Result<Opened, ProjectError>
     requires only { Each (D.may_leave disk.old) (D.reads disk.old) }
     ensures opened { IfOk result (λ o. Each (D.reads disk.old) (IsOpened o)) }
@@ -231,7 +231,7 @@ fn read_synced<D: Disk>(alloc: Global, disk: &mut D) -> Result<Opened, ProjectEr
     }
 }
 
-/// Reads a project: one sync, and then reads alone.
+/// Reads a project: one sync, and then only reads.
 pub fn read_project<D: Disk>(alloc: Global, disk: &mut D) -> Result<Opened, ProjectError>
     ensures opened { IfOk result (λ o. Each (D.reads disk.new) (IsOpened o)) }
     ensures journal { IfOk result (λ o. o.journal
@@ -256,7 +256,7 @@ pub fn read_project<D: Disk>(alloc: Global, disk: &mut D) -> Result<Opened, Proj
     }
 }
 
-/// Makes a project of an empty disk: the header, the first slot with the empty map, closed gates, and one sync.
+/// Makes a new project on an empty disk: the header, the first slot with the empty map, two closed gates, and one sync.
 pub fn write_new<D: Disk>(
     disk: &mut D,
     geometry: Geometry,
@@ -274,10 +274,10 @@ pub fn write_new<D: Disk>(
         (λ r. IsAllowed geometry.slot geometry.journal × AreLaidOut geometry r.0) }
     ensures empty { OnOk result (Each (D.reads disk.old) (λ file. length file ≡ 0)) }
     ensures refused { IfErr result (RefusesCreate (D.reads disk.old) geometry) }
-    // But for a `Device` it has only read.
+    // A refusal other than `Device` comes before any write.
     ensures untouched { IfErr result (λ e. (e ≡ ProjectError.Device)
         ⊎ OnlyReads D.Disk disk.old disk.new) }
-    // So is a file that isn't empty, whatever the refusal.
+    // A file that isn't empty is only read, whatever the refusal.
     ensures stays { OnErr result (Each (D.reads disk.old) (λ file. length file ≡ 0)
         ⊎ OnlyReads D.Disk disk.old disk.new) }
     ensures count { CountsFaults ProjectError.Device (D.failures disk.old)

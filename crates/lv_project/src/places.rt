@@ -5,7 +5,7 @@ ghost use Rattle.lv_project.specs.Places.{IsAllowed, AreLaidOut, cap_of, which_p
 use crate::geometry::Geometry;
 use lv_disk::Area;
 
-/// The two slots of a file, and behind them their journals.
+/// The two slots of a file, followed by their journals.
 #[derive(Clone, Copy)]
 pub struct Places {
     pub a: Area,
@@ -59,7 +59,7 @@ impl Geometry {
         }
     }
 
-    // How long a body may be.
+    // The greatest length of a body, in bytes.
     pub fn cap(self) -> u32
         requires { 13 ≤ self.slot }
         ensures { result ≡ cap_of self }
@@ -76,7 +76,7 @@ fn is_within(length: u32, low: u32, high: u32) -> bool
 }
 
 impl Places {
-    // Which is which, where this slot is live.
+    // The parts of the file, if this slot is the live one.
     pub fn parts(self, slot: u8) -> Parts
         ensures { result ≡ which_parts self slot }
     {

@@ -1,4 +1,4 @@
-//! A project on a disk: each accepted command is there before it is answered.
+//! A project on a disk: each accepted command is there before it is acknowledged.
 ghost use Rattle.std.specs.Prelude.{◌≡◌, ◌≤◌, ◌<◌, ◌⊎◌, ◌↔◌, ◌+◌, ◌-◌, ◌^◌, [], length, false, true, Ok, IfOk, IfErr, IsErrOf, IfSome, MatchResult, OnOk};
 ghost use Rattle.lv_disk.specs.Moments.{LeavesOnly};
 ghost use Rattle.lv_disk.specs.Stops.{Each};
@@ -34,7 +34,7 @@ pub struct Project<D: Disk> {
     must_reopen: bool,
 }
 
-// A call of its own, so that who owns a project lets its parts go by one step.
+// Written by hand, so that a function that owns a project drops it by a single call.
 impl<D: Disk + Drop> Drop for Project<D> {
     fn drop(self) {
         let Project {
@@ -50,7 +50,7 @@ impl<D: Disk + Drop> Drop for Project<D> {
     }
 }
 
-/// Why a disk gave no project, and the disk.
+/// Why no project could be opened or made on a disk, and the disk.
 #[derive(Drop)]
 pub struct Refused<D> {
     pub error: ProjectError,
@@ -103,7 +103,7 @@ impl<D: Disk> Project<D> {
         self.slots.generation()
     }
 
-    /// Whether a device fault has left the disk in doubt, so that the project must be opened again.
+    /// Whether the project must be opened again, because a device fault left it unknown what the disk holds.
     pub fn must_reopen(&self) -> bool
         ensures reopen { result ≡ self.now.must_reopen }
         ensures kept { IsProjectKept D.Disk self.now }
@@ -129,20 +129,20 @@ impl<D: Disk> Project<D> {
         owned
     }
 
-    /// A project with the empty map on an empty disk. It takes no memory, and syncs once, last.
+    /// A new project with the empty map on an empty disk. It allocates no memory, and ends with its only sync.
     pub fn create(alloc: Global, disk: D, geometry: Geometry) -> Result<Project<D>, Refused<D>>
         ensures made { IfOk result (λ p. ((project_of p.maps) ≡ empty_project) × (p.generation ≡ 1)
             × (p.must_reopen ≡ false) × (p.cap ≡ cap_of geometry)) }
         ensures kept { IfOk result (λ p. IsProjectKept D.Disk p) }
-        // It has these very lengths, which are allowed, and it writes over no file.
+        // It has exactly these lengths, which are allowed, and the file was empty.
         ensures lengths { IfOk result (λ p. Each (D.may_leave p.disk) (TellsLengths geometry)) }
         ensures allowed { OnOk result (IsAllowed geometry.slot geometry.journal) }
         ensures empty { OnOk result (Each (D.reads disk) (λ file. length file ≡ 0)) }
         ensures refused { IfErr result (λ r. RefusesCreate (D.reads disk) geometry r.error) }
-        // A refusal but `Device` leaves the file alone, whatever it is.
+        // A refusal other than `Device` changes nothing in the file.
         ensures untouched { IfErr result (λ r. (r.error ≡ ProjectError.Device)
             ⊎ OnlyReads D.Disk disk r.disk) }
-        // Whatever the refusal, a file that isn't empty is only read.
+        // A file that isn't empty is only read, whatever the refusal.
         ensures stays { IfErr result (λ r. Each (D.reads disk) (λ file. length file ≡ 0)
             ⊎ OnlyReads D.Disk disk r.disk) }
         ensures count { IfErr result (λ r. r.error ≡ ProjectError.Device
@@ -165,18 +165,18 @@ impl<D: Disk> Project<D> {
         }
     }
 
-    /// The project that the disk's bytes stand for. It begins with one sync, and writes nothing.
+    /// Opens the project that the disk's bytes stand for. It begins with one sync, and writes nothing.
     pub fn open(alloc: Global, disk: D) -> Result<Project<D>, Refused<D>>
         // The map and the generation are those that the bytes stand for, as the disk reads after its sync.
         ensures opened { IfOk result (λ p. (p.must_reopen ≡ false)
             × Each (D.reads p.disk) (StandsOnlyFor p.cap (project_of p.maps) p.generation)) }
-        // Each image now stands for the map, and no stop within the call left a new image.
+        // Each image now stands for the map, and a stop within the call leaves no new image.
         ensures kept { IfOk result (λ p. IsProjectKept D.Disk p) }
         ensures any_moment { MatchResult result
             (λ p. LeavesOnly D.Disk disk p.disk (D.may_leave disk))
             (λ r. LeavesOnly D.Disk disk r.disk (D.may_leave disk)) }
         ensures refused { IfErr result (λ r. IsRefusedRead (D.reads r.disk) r.error) }
-        // What a read gives stays.
+        // It changes nothing that the disk reads.
         ensures reads { MatchResult result
             (λ p. Each (D.reads p.disk) (D.reads disk) × Each (D.reads disk) (D.reads p.disk))
             (λ r. Each (D.reads r.disk) (D.reads disk) × Each (D.reads disk) (D.reads r.disk)) }
@@ -205,7 +205,7 @@ impl<D: Disk> Project<D> {
         }
     }
 
-    // Whether the journal has room for so many bytes.
+    // Whether the journal has room for a line of so many bytes.
     fn has_room(&self, len: usize) -> bool
         ensures full { result ≡ false → IsAbove self.now.room len }
         ensures room { result ≡ true → ¬ IsAbove self.now.room len }
@@ -248,10 +248,10 @@ impl<D: Disk> Project<D> {
         }
     }
 
-    /// Puts the map into the other slot, and makes that the live one, with the next generation. The journal is then
-    /// empty. It answers the new generation and changes no map.
+    /// Puts the maps into the other slot, and makes that the live one, with the next generation and an empty journal.
+    /// It returns the new generation and changes no map.
     pub fn checkpoint(&mut self) -> Result<u64, ProjectError>
-        // `GenerationsSpent` exactly where no generation is left.
+        // `GenerationsSpent` exactly if no generation is left.
         ensures spent { IsErrOf result ProjectError.GenerationsSpent
             ↔ (self.old.must_reopen ≡ false) × (self.old.generation ≡ 2 ^ 64 - 1) }
         ensures ends { EndsCheckpoint D.Disk result self.old self.new }
@@ -282,7 +282,7 @@ impl<D: Disk> Project<D> {
         }
     }
 
-    // Makes room in the journal for a line of so many bytes, by a checkpoint where there is none.
+    // Makes sure that the journal has room for a line of so many bytes, by a checkpoint if it has none.
     fn make_room(&mut self, len: usize) -> Result<(), ProjectError>
         requires ready { self.old.must_reopen ≡ false }
         requires short { len ≤ 256 }
@@ -307,7 +307,7 @@ impl<D: Disk> Project<D> {
         }
     }
 
-    // Appends the line of a command that the map is ready for, and then changes the map.
+    // Appends the line of a command that the maps are ready for, and then changes them.
     fn record(&mut self, line: &[u8], ready: Ready) -> Result<u32, ProjectError>
         requires reopen { self.old.must_reopen ≡ false }
         requires short { length line.now ≤ 256 }
@@ -338,12 +338,12 @@ impl<D: Disk> Project<D> {
         }
     }
 
-    /// Does what a line asks for that is a command. The command is on the disk before its number is answered.
+    /// Applies the command that a line is. The command is on the disk before its number is returned.
     ///
-    /// After a `Device` the map is as before, and each call is answered `Reopen` until the file is opened again.
+    /// After a `Device` the maps are as before, and each call is refused with `Reopen` until the file is opened again.
     pub fn apply(&mut self, line: &[u8]) -> Result<u32, ProjectError>
-        // `GenerationsSpent`, or `OutOfMemory` before it, where an accepted line finds neither room nor a generation
-        // left.
+        // The refusal is `GenerationsSpent`, or before it `OutOfMemory`, if an accepted line finds neither room nor a
+        // generation left.
         ensures spent { self.old.must_reopen ≡ false → IsAbove self.old.room (length line.now)
             → self.old.generation ≡ 2 ^ 64 - 1 → (new : ProjectMaps)
             → LeadsTo self.old.cap (project_of self.old.maps) line.now new
@@ -351,12 +351,12 @@ impl<D: Disk> Project<D> {
             ⊎ IsErrOf result ProjectError.OutOfMemory }
         ensures ends { EndsApply D.Disk result self.old self.new line.now }
 
-        // A stop at any moment of the call leaves the map, or the one that the line leads to.
+        // A stop at any moment of the call leaves the old maps, or those that the line leads to.
         ensures any_moment { self.old.must_reopen ≡ false
             → LeavesOnly D.Disk self.old.disk self.new.disk
             (IsOutcome self.old.cap (project_of self.old.maps) line.now) }
 
-        // A refusal but `Device` leaves the map alone.
+        // A refusal other than `Device` leaves the maps alone at every moment.
         ensures refused_moment { IfErr result (λ e. self.old.must_reopen ≡ false
             → (e ≡ ProjectError.Device)
             ⊎ LeavesOnly D.Disk self.old.disk self.new.disk
@@ -364,10 +364,10 @@ impl<D: Disk> Project<D> {
         ensures untouched { IfErr result (λ e. (e ≡ ProjectError.Device)
             ⊎ ((self.new.disk ≡ self.old.disk) × (self.new.generation ≡ self.old.generation))) }
 
-        // Memory is lacking only for a command that adds items, or where a checkpoint has to come first.
+        // Memory can run out only for a command that adds items, or if a checkpoint has to come first.
         ensures memory { IsErrOf result ProjectError.OutOfMemory → CanLack self.old.room line.now }
 
-        // A checkpoint comes where the journal has no room, and only there.
+        // A checkpoint is made exactly if the journal has no room.
         ensures turned { OnOk result (TurnsWhereFull self.old self.new (length line.now)) }
 
         // Each image now stands for the map, unless the project must be opened again.

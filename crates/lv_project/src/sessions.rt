@@ -1,4 +1,5 @@
-//! The project's calls over any number of sessions, each begun by `create` or `open` and stopped at any moment.
+//! The project's calls over any number of sessions. Each begins with `create` or `open`, and may be stopped at any
+//! moment.
 ghost use Rattle.std.specs.Prelude.{◌≡◌, ◌⊎◌, ◌++◌, ◌∷◌, [], List, ℕ, Result, IfErr, IfOk, MatchResult, OnOk, length};
 ghost use Rattle.lv_disk.specs.Moments.{LeavesOnly};
 ghost use Rattle.lv_disk.specs.Stops.{Each};
@@ -24,15 +25,15 @@ pub fn hold_each_acknowledged<D: Disk>()
         → PassInTurn D.Disk (Creates D.Disk cap) before s mid last
         → LeavesOnly D.Disk mid.disk last.disk (HoldsEach cap (before ++ s ∷ [])) }
 
-    // So does the map that an `open` gives of what they left, and so does each image at every moment of that call.
+    // The map that `open` reads from what they left holds them too, and so does each image at every moment of that
+    // call.
     ensures opened { (cap : ℕ) (sessions : List Session) (disk : D) (first : State D)
         → IsLeftBy D.Disk cap sessions disk
         → Opens D.Disk disk first
         → (first.cap ≡ cap) × KeepEach cap empty_project sessions (project_of first.maps)
         × LeavesOnly D.Disk disk first.disk (HoldsEach cap sessions) }
 
-    // An `open` is refused by a fault of the device or for lack of memory alone, and the disk is then as good as
-    // before.
+    // `open` is refused only by a device fault or for lack of memory, and then the disk is as good as before.
     ensures refused { (cap : ℕ) (sessions : List Session) (disk : D) (after : D)
         (error : ProjectError)
         → IsLeftBy D.Disk cap sessions disk
@@ -41,7 +42,7 @@ pub fn hold_each_acknowledged<D: Disk>()
         × IsLeftBy D.Disk cap sessions after
         × LeavesOnly D.Disk disk after (HoldsEach cap sessions) }
 
-    // A stop within an `open`, be it one that is then refused or not, leaves a disk that these sessions left.
+    // A stop within `open`, refused or not, leaves a disk that these sessions left.
     ensures stopped { (cap : ℕ) (sessions : List Session) (disk next : D) (first : State D)
         → IsLeftBy D.Disk cap sessions disk
         → Opens D.Disk disk first
@@ -69,7 +70,7 @@ pub fn checkpoints<D: Disk>(project: &mut Project<D>) -> Result<u64, ProjectErro
     project.checkpoint()
 }
 
-/// `Project::create`, whose project the first session begins with; it is refused as that is.
+/// `Project::create`, with whose project the first session begins. Its refusals are the same.
 pub fn creates<D: Disk>(
     alloc: Global,
     disk: D,
@@ -84,7 +85,7 @@ pub fn creates<D: Disk>(
     Project::create(alloc, disk, geometry)
 }
 
-/// `Project::open`, whose project each later session begins with, of a disk that tells its bytes.
+/// `Project::open`, with whose project each later session begins, on a disk that tells its bytes.
 pub fn opens<D: Disk>(alloc: Global, disk: D) -> Result<Project<D>, Refused<D>>
     ensures { (file : List ℕ) → D.reads disk file → MatchResult result
         (λ p. Opens D.Disk disk p)

@@ -1,4 +1,4 @@
-//! Edits of the current map that can't be refused, since they were decided on before.
+//! Edits of the current map that can't be refused, because `ready` has already accepted them.
 ghost use Rattle.std.specs.Prelude.{◌≡◌, ◌<◌, ◌≤◌, None, IfSome, length, slice_get};
 ghost use Rattle.lv_maptables.specs.Edits.{with_line, with_line_at, with_name, with_sector, with_side, with_thing, with_vertex};
 ghost use Rattle.lv_maptables.specs.Faults.{line_faults, sector_faults, set_line_faults, side_faults, thing_faults, vertex_faults};
@@ -20,7 +20,7 @@ pub fn count(maps: &Maps, kind: Kind) -> u32
     maps.current().count(kind)
 }
 
-/// The current map's line of a number.
+/// The line of the current map with this number.
 pub fn line_of(maps: &Maps, n: u32) -> Option<Line>
     ensures item { result ≡ slice_get maps.now.tables.lines n }
     ensures range { IfSome result IsLine }
@@ -30,7 +30,7 @@ pub fn line_of(maps: &Maps, n: u32) -> Option<Line>
     maps.current().line(n)
 }
 
-/// Adds a vertex that isn't refused and for which there is memory, and answers its number.
+/// Adds a vertex that the map accepts and has memory for, and returns its number.
 pub fn put_vertex(maps: &mut Maps, vertex: Vertex) -> u32
     requires range { IsVertex vertex }
     requires accepted { least (vertex_faults maps.old.tables vertex) ≡ None }
@@ -43,7 +43,7 @@ pub fn put_vertex(maps: &mut Maps, vertex: Vertex) -> u32
     maps.add_vertex(vertex).unwrap()
 }
 
-/// Adds a sector that isn't refused and for which there is memory, and answers its number.
+/// Adds a sector that the map accepts and has memory for, and returns its number.
 pub fn put_sector(maps: &mut Maps, sector: Sector) -> u32
     requires range { IsSector sector }
     requires accepted { least (sector_faults maps.old.tables) ≡ None }
@@ -56,7 +56,7 @@ pub fn put_sector(maps: &mut Maps, sector: Sector) -> u32
     maps.add_sector(sector).unwrap()
 }
 
-/// Adds a side that isn't refused and for which there is memory, and answers its number.
+/// Adds a side that the map accepts and has memory for, and returns its number.
 pub fn put_side(maps: &mut Maps, side: Side) -> u32
     requires range { IsSide side }
     requires accepted { least (side_faults maps.old.tables side) ≡ None }
@@ -69,7 +69,7 @@ pub fn put_side(maps: &mut Maps, side: Side) -> u32
     maps.add_side(side).unwrap()
 }
 
-/// Adds a line that isn't refused and for which there is memory, and answers its number.
+/// Adds a line that the map accepts and has memory for, and returns its number.
 pub fn put_line(maps: &mut Maps, line: Line) -> u32
     requires range { IsLine line }
     requires accepted { least (line_faults maps.old.tables line) ≡ None }
@@ -82,7 +82,7 @@ pub fn put_line(maps: &mut Maps, line: Line) -> u32
     maps.add_line(line).unwrap()
 }
 
-/// Adds a thing that isn't refused and for which there is memory, and answers its number.
+/// Adds a thing that the map accepts and has memory for, and returns its number.
 pub fn put_thing(maps: &mut Maps, thing: Thing) -> u32
     requires range { IsThing thing }
     requires accepted { least (thing_faults maps.old.tables) ≡ None }
@@ -95,7 +95,7 @@ pub fn put_thing(maps: &mut Maps, thing: Thing) -> u32
     maps.add_thing(thing).unwrap()
 }
 
-/// Puts a line that isn't refused in place of that of a number.
+/// Replaces the line with this number by a line that the map accepts.
 pub fn replace_line(maps: &mut Maps, n: u32, line: Line)
     requires range { IsLine line }
     requires accepted { least (set_line_faults maps.old.tables n line) ≡ None }

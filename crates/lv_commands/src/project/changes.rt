@@ -1,10 +1,10 @@
-//! The calls that change a project: decide and make every growth (`ready`), then change (`commit`); `apply` does both.
-ghost use Rattle.std.specs.Prelude.{◌≡◌, ◌≤◌, ◌+◌, None, IfOk, IfErr, IsErrOf, IsOk, Ok, nat_lt};
+//! The calls that change a project: `ready` decides and allocates, `commit` then makes the change, `apply` does both.
+ghost use Rattle.std.specs.Prelude.{◌≡◌, ◌≤◌, None, IfOk, IfErr, IsErrOf, IsOk, Ok};
 ghost use Rattle.lv_maptables.specs.Outcomes.{Covers, EndsExactly, least, unless};
 ghost use Rattle.lv_maptables.specs.Projects.{body_len, project_of};
 ghost use Rattle.lv_commands.specs.CommandRanges as of_one;
 ghost use Rattle.lv_commands.specs.ProjectCommands.{InProjectRange};
-ghost use Rattle.lv_commands.specs.ProjectReadiness.{CanCommit, EndsStep, RefusesStep, project_growth_of, project_need_of};
+ghost use Rattle.lv_commands.specs.ProjectReadiness.{CanCommit, EndsStep, RefusesStep, project_need_of};
 ghost use Rattle.lv_commands.specs.ProjectStep.{project_after, naming_faults, project_number_of, step};
 ghost use Rattle.lv_commands.specs.Readiness as of_one_map;
 ghost use Rattle.lv_commands.specs.Step as step_of_one_map;
@@ -12,25 +12,17 @@ ghost use Rattle.lv_commands.specs.Step.{drop_faults, faults, without};
 
 use crate::command::Command;
 use crate::error::CommandError;
+use crate::project::adding::try_add;
 use crate::project::additions::{put_line, put_name, put_sector, put_side, put_thing, put_vertex};
 use crate::project::command::{ProjectCommand, Ready};
-use crate::project::decision::{can_do, growth_of, need_of};
+use crate::project::decision::{can_do, is_full, need_of};
 use crate::project::room::draw;
 use crate::project::split::cut;
 use lv_maptables::{Kind, MapError, Maps};
 
-// Whether the new body would be longer than `cap`, where nothing else refuses the command.
-fn is_full(maps: &Maps, command: &ProjectCommand, cap: u32) -> bool
-    ensures { let p = project_of maps.now in result
-        ≡ nat_lt cap (body_len p + project_growth_of p command.now) }
-{
-    u64::from(maps.body_len()) + growth_of(maps, command) > u64::from(cap)
-}
-
-/// Makes every growth that the command needs, and decides whether it may be done. The project's maps stay, and which
-/// is current. Of the codes 3 to 14 and 16 to 19 the least that holds is answered; `cap` is how many bytes the new
-/// body may have, and where one of 16 to 19 holds there is none. A command that adds nothing to a table never lacks
-/// memory.
+/// Decides whether a command may be done, and allocates all memory that it needs. The project stays as it is. The
+/// refusal is the lowest of the codes 3 to 14 and 16 to 19 that apply. `cap` is the greatest length of the new body, in
+/// bytes; if one of 16 to 19 applies there is no new body. A command that adds nothing to a table never lacks memory.
 pub fn ready(maps: &mut Maps, command: &ProjectCommand, cap: u32) -> Result<Ready, CommandError>
     requires range { InProjectRange command.now }
     requires fits { body_len (project_of maps.old) ≤ cap }
@@ -59,7 +51,7 @@ pub fn ready(maps: &mut Maps, command: &ProjectCommand, cap: u32) -> Result<Read
     }
 }
 
-// Takes an item out of the current map.
+// Removes an item from the current map.
 fn drop_item(maps: &mut Maps, kind: Kind, n: u32) -> Result<(), MapError>
     ensures edit { EndsExactly result
         (unless (least (drop_faults maps.old.tables kind n)) (without maps.old.tables kind n) tt)
@@ -75,7 +67,7 @@ fn drop_item(maps: &mut Maps, kind: Kind, n: u32) -> Result<(), MapError>
     }
 }
 
-// The number of the item of an edit that can't have been refused.
+// The number of an item, after an edit of it that can't have been refused.
 fn edited(n: u16, edit: Result<(), MapError>) -> u32
     requires { IsOk edit }
     ensures { result ≡ n }
@@ -84,7 +76,7 @@ fn edited(n: u16, edit: Result<(), MapError>) -> u32
     u32::from(n)
 }
 
-// Makes a change of the current map that isn't refused, and answers its number.
+// Makes a change that the current map accepts and has memory for, and returns its number.
 fn edit(maps: &mut Maps, command: Command) -> u32
     requires range { of_one.InRange command }
     requires accepted { least (faults maps.old.tables command) ≡ None }
@@ -115,7 +107,7 @@ fn edit(maps: &mut Maps, command: Command) -> u32
     }
 }
 
-// Makes a change of the current map, as the project's step says.
+// Makes a change of the current map, stated as a step of the project.
 fn commit_edit(maps: &mut Maps, command: Command) -> u32
     requires { CanCommit maps.old (ProjectCommand.Edit command) }
     ensures project { project_of maps.new
@@ -126,7 +118,7 @@ fn commit_edit(maps: &mut Maps, command: Command) -> u32
     edit(maps, command)
 }
 
-/// Makes the change that `ready` has decided on, and answers its number. It takes no memory and can't be refused.
+/// Makes the change that `ready` has accepted, and returns its number. It allocates no memory and can't be refused.
 pub fn commit(maps: &mut Maps, ready: Ready) -> u32
     requires { CanCommit maps.old ready.command }
     ensures project { project_of maps.new ≡ project_after (project_of maps.old) ready.command }
@@ -139,8 +131,10 @@ pub fn commit(maps: &mut Maps, ready: Ready) -> u32
     }
 }
 
-/// Makes the change that a command asks for, and answers its number: `ready`, then `commit`. Where it is refused the
-/// project stays.
+/// Makes the change that a command asks for, and answers its number. A refused command leaves the project as it was.
+///
+/// An item is added at once if the body has room for it. What that doesn't do goes through `ready` and `commit`, which
+/// find the least refusal.
 pub fn apply(maps: &mut Maps, command: &ProjectCommand, cap: u32) -> Result<u32, CommandError>
     requires range { InProjectRange command.now }
     requires fits { body_len (project_of maps.old) ≤ cap }
@@ -150,6 +144,9 @@ pub fn apply(maps: &mut Maps, command: &ProjectCommand, cap: u32) -> Result<u32,
     ensures promised { Covers maps.old.spare (project_need_of command.now)
         → IsErrOf result CommandError.OutOfMemory → ⊥ }
 {
+    if let Some(number) = try_add(maps, command, cap) {
+        return Ok(number);
+    }
     let ready = ready(maps, command, cap)?;
     Ok(commit(maps, ready))
 }

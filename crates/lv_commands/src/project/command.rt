@@ -2,25 +2,25 @@
 use crate::command::Command;
 use lv_lumps::Name8;
 
-/// A change of a project, as a line of input asks for it.
+/// A change to a project that a line of input asks for.
 #[derive(Clone, Copy)]
 pub enum ProjectCommand {
-    /// A change of the current map.
+    /// A change to the current map.
     Edit(Command),
-    /// The name of the map that becomes current. Where no map has it, an empty one is added last.
+    /// The name of the map that becomes current. If no map has it, an empty one is added at the end.
     SelectMap(Name8),
-    /// The name of the map that is taken out.
+    /// The name of the map to remove.
     DropMap(Name8),
 }
 
-/// The first word of a command that names a map of the project.
+/// The first word of a command that selects or drops a map.
 #[derive(Clone, Copy)]
 pub enum MapHead {
     Select,
     Drop,
 }
 
-/// A command that isn't refused, and for which the current map has memory.
+/// A command that is accepted, and for which the current map has memory.
 #[derive(Clone, Copy)]
 pub struct Ready {
     pub command: ProjectCommand,

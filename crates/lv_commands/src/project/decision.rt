@@ -1,7 +1,7 @@
-//! Why a command of a project is refused, and what it needs.
-ghost use Rattle.std.specs.Prelude.{◌≡◌, ◌++◌};
+//! Decides whether a project accepts a command, and how much the command adds.
+ghost use Rattle.std.specs.Prelude.{◌≡◌, ◌+◌, ◌++◌, nat_lt};
 ghost use Rattle.lv_maptables.specs.Outcomes.{Tells};
-ghost use Rattle.lv_maptables.specs.Projects.{current_map, has_map, project_of};
+ghost use Rattle.lv_maptables.specs.Projects.{body_len, current_map, has_map, project_of};
 ghost use Rattle.lv_commands.specs.ProjectStep.{current_faults, map_faults, naming_faults};
 ghost use Rattle.lv_commands.specs.ProjectReadiness.{project_growth_of, project_need_of};
 ghost use Rattle.lv_commands.specs.Step.{faults};
@@ -12,7 +12,7 @@ use crate::{decision, growth};
 use lv_lumps::Name8;
 use lv_maptables::{MapError, Maps, Need};
 
-// Whether the current map can be named as the command asks.
+// Whether the current map can get the name that the command gives it, if it gives one.
 fn can_be_named(maps: &Maps, command: &Command) -> Result<(), MapError>
     ensures { Tells result (naming_faults (project_of maps.now) command.now) }
 {
@@ -22,14 +22,14 @@ fn can_be_named(maps: &Maps, command: &Command) -> Result<(), MapError>
     }
 }
 
-// Whether a change in the current map is accepted: else the least code that refuses it.
+// Whether the tables of the current map accept a change. The refusal is the one with the lowest code.
 fn can_change(maps: &Maps, command: &Command) -> Result<(), MapError>
     ensures { Tells result (faults (current_map (project_of maps.now)) command.now) }
 {
     decision::can_do(maps.current(), command)
 }
 
-// Whether a change of the current map is accepted: else the least code that refuses it.
+// Whether a change of the current map is accepted. The refusal is the one with the lowest code.
 fn can_edit(maps: &Maps, command: &Command) -> Result<(), MapError>
     ensures { let p = project_of maps.now in
         Tells result (faults (current_map p) command.now ++ naming_faults p command.now) }
@@ -40,7 +40,8 @@ fn can_edit(maps: &Maps, command: &Command) -> Result<(), MapError>
     }
 }
 
-/// Whether a command is accepted, memory and the body's length aside: else the least code that refuses it.
+/// Whether a command is accepted, leaving memory and the length of the body aside. The refusal is the one with the
+/// lowest code.
 pub fn can_do(maps: &Maps, command: &ProjectCommand) -> Result<(), MapError>
     ensures { let p = project_of maps.now in
         Tells result (current_faults p command.now ++ map_faults p command.now) }
@@ -62,15 +63,15 @@ pub fn need_of(command: &ProjectCommand) -> Need
     }
 }
 
-// Whether a map has the name.
+// Whether some map has the name.
 fn has_map(maps: &Maps, name: Name8) -> bool
     ensures { result ≡ has_map (project_of maps.now) name }
 {
     maps.find(name).is_some()
 }
 
-/// By how many bytes a command lengthens a body at most.
-pub fn growth_of(maps: &Maps, command: &ProjectCommand) -> u64
+// By how many bytes a command lengthens a body at most.
+fn growth_of(maps: &Maps, command: &ProjectCommand) -> u64
     ensures { result ≡ project_growth_of (project_of maps.now) command.now }
 {
     match command {
@@ -78,4 +79,12 @@ pub fn growth_of(maps: &Maps, command: &ProjectCommand) -> u64
         ProjectCommand::SelectMap(name) => if has_map(maps, *name) { 0 } else { 18 },
         ProjectCommand::DropMap(_) => 0,
     }
+}
+
+/// Whether the new body would be longer than `cap` bytes, if nothing else refuses the command.
+pub fn is_full(maps: &Maps, command: &ProjectCommand, cap: u32) -> bool
+    ensures { let p = project_of maps.now in result
+        ≡ nat_lt cap (body_len p + project_growth_of p command.now) }
+{
+    u64::from(maps.body_len()) + growth_of(maps, command) > u64::from(cap)
 }

@@ -16,10 +16,10 @@ use crate::project::command::{MapHead, ProjectCommand};
 use crate::unread::UnreadWords;
 use crate::words::next_part;
 
-// The longest line of input that may be a command, in bytes.
+// The length of the longest line that can be a command, in bytes.
 const LONGEST_LINE: usize = 256;
 
-/// The word that is written for such a first word.
+/// The spelling of a first word that a name of a map follows.
 pub fn map_text(head: MapHead) -> &'static str
     ensures { result.now ≡ map_word head }
 {
@@ -29,7 +29,7 @@ pub fn map_text(head: MapHead) -> &'static str
     }
 }
 
-// Which of these first words the word is.
+// Which of these first words this is, if it is one.
 fn map_head_in(word: &[u8]) -> Option<MapHead>
     ensures value { result ≡ map_head_of word.now }
     ensures text { IfSome result (λ h. map_word h ≡ word.now) }
@@ -43,7 +43,7 @@ fn map_head_in(word: &[u8]) -> Option<MapHead>
     }
 }
 
-// The command whose words stand behind such a first word.
+// Reads the command that begins with such a first word.
 fn map_command(head: MapHead, words: UnreadWords) -> Result<ProjectCommand, CommandError>
     requires { (reading words).fault ≡ None }
     ensures ok { IfOk result
@@ -61,7 +61,7 @@ fn map_command(head: MapHead, words: UnreadWords) -> Result<ProjectCommand, Comm
     }
 }
 
-// The command of the current map that a first word and what stands behind it are.
+// Reads a command of the current map from its first word and the rest of its line.
 fn edit(word: &[u8], rest: Option<&[u8]>) -> Result<ProjectCommand, CommandError>
     ensures ok { IfOk result
         (λ c. (word.now ∷ parts_behind (option_copied rest.entry) ≡ project_words_of c)
@@ -75,7 +75,7 @@ fn edit(word: &[u8], rest: Option<&[u8]>) -> Result<ProjectCommand, CommandError
     }
 }
 
-// The command that a line is, or what is wrong with it.
+// Reads a line as a command, or says what is wrong with it.
 fn read(line: &[u8]) -> Result<ProjectCommand, CommandError>
     ensures ok { IfOk result (λ c. (line.now ≡ project_spelling c) × InProjectRange c) }
     ensures fault { TellsFault result (project_fault_of line.now) }
@@ -90,7 +90,8 @@ fn read(line: &[u8]) -> Result<ProjectCommand, CommandError>
     }
 }
 
-/// The command that a line is. Where it is none the answer is 1, or the leftmost of 2 and 15. Takes no memory.
+/// Reads a line as a command. If it is not one, the refusal is `NotACommand`, or else the leftmost `OutOfRange` or
+/// `BadName`. It allocates no memory.
 pub fn parse(line: &[u8]) -> Result<ProjectCommand, CommandError>
     ensures ok { IfOk result (λ c. (line.now ≡ project_spelling c) × InProjectRange c) }
     ensures all { (c : ProjectCommand) → InProjectRange c → line.now ≡ project_spelling c

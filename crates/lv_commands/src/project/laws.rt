@@ -1,7 +1,7 @@
-//! Laws on lines and commands, each the contract of a call without a body.
+//! Laws of lines and commands. The functions have no bodies: their contracts are the laws.
 ghost use Rattle.lv_commands.specs.ProjectLaws.{LinesEndInOneWay, LinesLeadToOneProject, LinesSpellOneCommand, SpellingsAreAccepted};
 
-/// One line spells one command at most.
+/// A line spells at most one command.
 pub fn spell_one_command()
     ensures { LinesSpellOneCommand }
 {}
@@ -11,12 +11,12 @@ pub fn accept_each_spelling()
     ensures { SpellingsAreAccepted }
 {}
 
-/// A line has one outcome over a project, and leaves one project.
+/// A line has at most one outcome over a project, and leaves at most one project.
 pub fn end_in_one_way()
     ensures { LinesEndInOneWay }
 {}
 
-/// Accepted lines lead from a project to one project.
+/// Accepted lines lead from a project to at most one project.
 pub fn lead_to_one_project()
     ensures { LinesLeadToOneProject }
 {}

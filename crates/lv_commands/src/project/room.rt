@@ -65,7 +65,7 @@ fn put_walls(maps: &mut Maps, plan: &RoomPlan, corner: u16, side: u16)
     put_line(maps, wall(corner + 3, corner, side + 3));
 }
 
-/// Draws a room that isn't refused and for which there is memory, and answers its sector's number.
+/// Draws a room that the map accepts and has memory for, and returns its sector's number.
 pub fn draw(maps: &mut Maps, plan: &RoomPlan) -> u32
     requires range { IsRoom plan.now }
     requires accepted { least (room_faults maps.old.tables plan.now) ≡ None }

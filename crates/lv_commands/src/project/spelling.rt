@@ -24,7 +24,7 @@ fn line(alloc: Global, head: MapHead, name: &Name8) -> Result<Vec<u8>, CommandEr
     Ok(text.name(name)?.into_bytes())
 }
 
-/// The line that is the command, without an end of line. It is the one line that `parse` takes for it.
+/// Prints a command as its line, without a line end. `parse` reads no other line as this command.
 pub fn print(alloc: Global, command: &ProjectCommand) -> Result<Vec<u8>, CommandError>
     requires { InProjectRange command.now }
     ensures spelling { IfOk result (λ v. v.items ≡ project_spelling command.now) }

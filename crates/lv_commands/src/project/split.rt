@@ -10,7 +10,7 @@ use crate::project::additions::{line_of, put_line, put_vertex, replace_line};
 use lv_lumps::Line;
 use lv_maptables::Maps;
 
-/// Cuts a line in two where it isn't refused and there is memory, and answers the new line's number.
+/// Makes a split that the map accepts and has memory for, and returns the new line's number.
 pub fn cut(maps: &mut Maps, split: &LineSplit) -> u32
     requires range { IsVertex split.now.at }
     requires accepted { least (split_faults maps.old.tables split.now) ≡ None }
