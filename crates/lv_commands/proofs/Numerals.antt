@@ -1,5 +1,5 @@
 -- A word that is a numeral, as `parse` reads it.
-use Rattle.std.proofs.Common.{◌≡◌, ℕ, suc, zero, ◌≤◌, ◌<◌, ◌^◌, Bool, true, false, cond, ◌&&◌, List, [], ◌∷◌, length, get_or, refl, sym, ◌∙◌, ap, arith, ℤ, pos, negsuc, nat_eq, FitsSigned, Option, Some, None, subst, drop, take, ◌+◌, ◌*◌, ◌-◌, ◌-ℤ◌, to_z, of_z, eq-eqb, length-drop, lit<}
+use Rattle.std.proofs.Common.{◌≡◌, ℕ, suc, zero, ◌≤◌, ◌<◌, ◌^◌, Bool, true, false, cond, ◌&&◌, List, [], ◌∷◌, length, get_or, refl, sym, ◌∙◌, ap, arith, ℤ, pos, negsuc, nat_eq, FitsSigned, inl, inr, min, Option, Some, None, subst, drop, take, ◌+◌, ◌*◌, ◌-◌, ◌-ℤ◌, to_z, of_z, eq-eqb, length-drop, lit<}
 use Rattle.std.specs.Prelude.{decimal, neg_ℤ, int_le, nat_le, not, bytes_eq, codes}
 use Rattle.std.specs.Int.{w16, w32}
 use Rattle.std.specs.Fmt.{signed_decimal, digits}
@@ -7,34 +7,28 @@ use Rattle.std.specs.List.{list_all}
 use Rattle.std.specs.Str.{all_ascii_digits, IsAscii, IsUtf8}
 use Rattle.std.specs.Str.Parse.{digits_value, IsNumeral, without_leading_sign}
 use Rattle.std.proofs.lemmas.Grind.{common_steps}
-use Rattle.std.proofs.lemmas.Bool.{and_from, eqb-true, le-leb, leb-true, ne_eqb}
+use Rattle.std.proofs.lemmas.Bool.{and_from, cases_lt, eqb-true, le-leb, leb-true, lt-leb, ne_eqb}
 use Rattle.std.proofs.lemmas.Str.{IsUtf8-from_ascii, digit_value_digit}
 use Rattle.std.proofs.lemmas.Int.Digits.{digits_value_more}
-use Rattle.std.proofs.lemmas.Str.Parse.{IsNumeralModel, numerals_by_value, tells_all_ascii_digits, digit_at, digits_value-take-le}
-use Rattle.std.specs.Int.{IsInRange}
+use Rattle.std.proofs.lemmas.Str.Parse.{IsNumeralModel, numerals_by_value, tells_all_ascii_digits}
 use Rattle.std.proofs.lemmas.List.{take_all}
-use Rattle.std.proofs.lemmas.Int.{ints}
+use Rattle.std.proofs.lemmas.Int.{ints, to_z-of_z}
+use Rattle.std.proofs.lemmas.Float.{T_from_true}
+use Rattle.std.specs.Int.Signed.{le_z_yes}
 use Rattle.std.proofs.lemmas.Fmt.{decimal-digits_value, digits_decimal, digits_value-decimal, decimal_nonempty, first_decimal}
+use Rattle.lv_lumps.specs.Drawing.{IsBetween}
 use Rattle.lv_lumps.specs.Names.{is_digit, is_nonzero_digit}
-use Rattle.lv_commands.specs.Words.{is_numeral, is_natural, numeral_value}
+use Rattle.lv_commands.specs.Words.{clamped, has_natural_front, is_numeral, is_natural, numeral_value}
 use Rattle.lv_commands.specs.Places.{place_fault, Number}
 
 own : IsNumeralModel (λ ds. all_ascii_digits ds ≡ true) (digits_value 10)
 own = numerals_by_value _ tells_all_ascii_digits
 
--- a digit at each place
-pub digit_in : (w : List ℕ) (i : ℕ) → all_ascii_digits w ≡ true → i < length w → IsInRange 48 57 (get_or w i 0)
-digit_in w i d h = digit_at w i (own.to w d) h
-
 -- the number of one digit more
-pub value-more : (w : List ℕ) (i : ℕ) → all_ascii_digits w ≡ true → i < length w → digits_value 10 (take (i + 1) w) + 48 ≡ digits_value 10 (take i w) * 10 + get_or w i 0
-value-more w i d h =
-    let value = digit_value_digit (get_or w i 0) (digit_in w i d h) in
+pub value-more : (w : List ℕ) (i : ℕ) → i < length w → (48 ≤ get_or w i 0) × (get_or w i 0 ≤ 57) → digits_value 10 (take (i + 1) w) + 48 ≡ digits_value 10 (take i w) * 10 + get_or w i 0
+value-more w i h range =
+    let value = digit_value_digit (get_or w i 0) range in
     omega (arith, digits_value_more 10 w i h, value)
-
--- the number of the first digits isn't greater
-pub value-front : (w : List ℕ) (i : ℕ) → digits_value 10 (take i w) ≤ digits_value 10 w
-value-front w i = digits_value-take-le 10 w i (omega arith)
 
 -- what a natural's digits are
 pub record IsPlain (w : List ℕ) : Type 0 where
@@ -183,13 +177,130 @@ minus-value w h =
     (λ i. cond (minus i) (neg_ℤ (pos (digits_value 10 (cond (minus i) (drop 1 w) (drop (cond (nat_eq (get_or w 0 0) 43) 1 0) w))))) (pos (digits_value 10 (cond (minus i) (drop 1 w) (drop (cond (nat_eq (get_or w 0 0) 43) 1 0) w)))))
     ∙ ap (λ ds. neg_ℤ (pos (digits_value 10 ds))) (sym all)
 
-pub negated : (n : ℕ) → n ≤ 32768 → to_z w16 (of_z w16 (to_z w32 (of_z w32 (pos 0 -ℤ to_z w32 n)))) ≡ neg_ℤ (pos n)
+pub negated : (n : ℕ) → n ≤ 32769 → to_z w32 (of_z w32 (pos 0 -ℤ to_z w32 n)) ≡ neg_ℤ (pos n)
 negated n h = omega (arith, ints)
 
--- a numeral of no sixteen bits is out of each range
-pub fault-out : (w : List ℕ) (low high : ℤ) → is_numeral w ≡ true → FitsSigned w16 low → FitsSigned w16 high → (FitsSigned w16 (numeral_value w) → ⊥) → place_fault (Number low high) w ≡ Some 2
+-- ---- One loop for form and value
+
+and-true : (t : Bool) → t ≡ (t && true)
+and-true true = refl
+and-true false = refl
+
+zero-front : (b : ℕ) (t : Bool) → b ≤ 48 → (not (nat_eq b 48) && (is_digit b && t)) ≡ false
+zero-front b t below = elim (cases_lt b 48) [
+  | inl lt ↦
+      let other : nat_eq b 48 ≡ false = ne_eqb b 48 (λ is. omega (arith, lt, is)) in
+      let low : nat_le 48 b ≡ false = lt-leb 48 b lt in
+      λ i. not (other i) && ((low i && nat_le b 57) && t)
+  | inr ge ↦ let is : nat_eq b 48 ≡ true = eq-eqb b 48 (omega (arith, below, ge)) in λ i. not (is i) && (is_digit b && t)
+]
+
+nonzero-digit : (b : ℕ) (t : Bool) → (is_nonzero_digit b && t) ≡ (not (nat_eq b 48) && (is_digit b && t))
+nonzero-digit b t = elim (cases_lt 48 b) [
+  | inl above ↦
+      let high : nat_le 49 b ≡ true = le-leb 49 b (omega (arith, above)) in
+      let low : nat_le 48 b ≡ true = le-leb 48 b (omega (arith, above)) in
+      let other : nat_eq b 48 ≡ false = ne_eqb b 48 (λ is. omega (arith, above, is)) in
+      (λ i. (high i && nat_le b 57) && t) ∙ sym (λ i. not (other i) && ((low i && nat_le b 57) && t))
+  | inr below ↦
+      let high : nat_le 49 b ≡ false = lt-leb 49 b (omega (arith, below)) in
+      let left : (is_nonzero_digit b && t) ≡ false = λ i. (high i && nat_le b 57) && t in
+      left ∙ sym (zero-front b t below)
+]
+
+-- a number without a sign has a front of one, and digits alone
+pub natural-front : (w : List ℕ) → is_natural w ≡ (has_natural_front w && list_all is_digit w)
+natural-front [] = refl
+natural-front (b ∷ []) = and-true (is_digit b)
+natural-front (b ∷ c ∷ bs) = nonzero-digit b (list_all is_digit (c ∷ bs))
+
+-- what stands behind a minus
+pub minus-numeral : (w : List ℕ) → get_or w 0 0 ≡ 45
+    → is_numeral w ≡ (is_natural (take (length w - 1) (drop 1 w)) && not (bytes_eq (take (length w - 1) (drop 1 w)) (codes "0")))
+minus-numeral [] e = absurd (omega (arith, e))
+minus-numeral (b ∷ bs) e =
+    let tail : take (length (b ∷ bs) - 1) bs ≡ bs = take_all (length (b ∷ bs) - 1) bs (omega arith) in
+    let minus : nat_eq b 45 ≡ true = eq-eqb b 45 e in
+    (λ i. cond (minus i) (is_natural bs && not (bytes_eq bs (codes "0"))) (is_natural (b ∷ bs)))
+    ∙ ap (λ ds. is_natural ds && not (bytes_eq ds (codes "0"))) (sym tail)
+
+-- a number without a minus
+pub plain-numeral : (w : List ℕ) → (get_or w 0 0 ≡ 45 → ⊥) → is_numeral w ≡ is_natural w
+plain-numeral [] e = refl
+plain-numeral (b ∷ bs) e =
+    let plus : nat_eq b 45 ≡ false = ne_eqb b 45 e in
+    λ i. cond (plus i) (is_natural bs && not (bytes_eq bs (codes "0"))) (is_natural (b ∷ bs))
+
+clamped-negated : (v : ℕ) → clamped (neg_ℤ (pos v)) ≡ neg_ℤ (pos (min v 32769))
+clamped-negated zero = refl
+clamped-negated (suc n) = let same : suc (min n 32768) ≡ min (suc n) 32769 = omega arith in ap (λ k. neg_ℤ (pos k)) same
+
+-- what was read, with a minus and without one
+pub minus-read : (w : List ℕ) (n : ℕ) → get_or w 0 0 ≡ 45 → n ≡ min (digits_value 10 (take (length w - 1) (drop 1 w))) 32769
+    → to_z w32 (of_z w32 (pos 0 -ℤ to_z w32 n)) ≡ clamped (numeral_value w)
+minus-read w n first is =
+    negated n (omega (arith, is)) ∙ ap (λ k. neg_ℤ (pos k)) is ∙ sym (clamped-negated (digits_value 10 (take (length w - 1) (drop 1 w))))
+    ∙ ap clamped (sym (minus-value w first))
+
+pub plain-read : (w : List ℕ) (n : ℕ) → is_natural w ≡ true → n ≡ min (digits_value 10 w) 32769 → to_z w32 n ≡ clamped (numeral_value w)
+plain-read w n natural is =
+    let small : n ≤ 32769 = omega (arith, is) in
+    let same : to_z w32 n ≡ pos n = omega (arith, ints, small) in
+    same ∙ ap pos is ∙ ap clamped (sym (natural-value w (plain w natural)))
+
+-- a clamped number of sixteen bits is the number
+pub clamped-same : (z : ℤ) → FitsSigned w16 (clamped z) → clamped z ≡ z
+clamped-same (pos n) f = let h = f.sfits in ap pos (omega (arith, h))
+clamped-same (negsuc n) f = let h = f.sfits in ap negsuc (omega (arith, h))
+
+pub same-clamped : (z : ℤ) → FitsSigned w16 z → clamped z ≡ z
+same-clamped (pos n) f = let h = f.sfits in ap pos (omega (arith, h))
+same-clamped (negsuc n) f = let h = f.sfits in ap negsuc (omega (arith, h))
+
+fits-wider : (z : ℤ) → FitsSigned w16 z → FitsSigned w32 z
+fits-wider (pos n) f = let h = f.sfits in record { sfits = omega (arith, h) }
+fits-wider (negsuc n) f = let h = f.sfits in record { sfits = omega (arith, h) }
+
+fits-clamped : (z : ℤ) → FitsSigned w32 (clamped z)
+fits-clamped (pos n) = record { sfits = omega arith }
+fits-clamped (negsuc n) = record { sfits = omega arith }
+
+-- two numbers of 32 bits that were compared
+compared : (a b : ℤ) (t : Bool) → FitsSigned w32 a → FitsSigned w32 b → int_le (to_z w32 (of_z w32 a)) (to_z w32 (of_z w32 b)) ≡ t → int_le a b ≡ t
+compared a b t f g e = (λ i. int_le (sym (to_z-of_z w32 a f) i) (sym (to_z-of_z w32 b g) i)) ∙ e
+
+-- what was read of a word, a bound of sixteen bits, and the comparisons with it
+module _ (z n bound result : ℤ) (t : Bool) (is : n ≡ clamped z) (f : FitsSigned w16 bound) (widened : result ≡ to_z w16 (of_z w16 bound)) where
+  same : result ≡ bound
+  same = widened ∙ to_z-of_z w16 bound f
+
+  fits-read : FitsSigned w32 n
+  fits-read = subst (FitsSigned w32) (sym is) (fits-clamped z)
+
+  pub compared-low : int_le (to_z w32 (of_z w32 result)) (to_z w32 (of_z w32 n)) ≡ t → int_le bound n ≡ t
+  compared-low e = compared bound n t (fits-wider bound f) fits-read (subst (λ (k : ℤ). int_le (to_z w32 (of_z w32 k)) (to_z w32 (of_z w32 n)) ≡ t) same e)
+
+  pub compared-high : int_le (to_z w32 (of_z w32 n)) (to_z w32 (of_z w32 result)) ≡ t → int_le n bound ≡ t
+  compared-high e = compared n bound t fits-read (fits-wider bound f) (subst (λ (k : ℤ). int_le (to_z w32 (of_z w32 n)) (to_z w32 (of_z w32 k)) ≡ t) same e)
+
+-- the number that is answered, by two conversions, and what it is between
+pub converted : (n : ℤ) → FitsSigned w16 n → to_z w16 (of_z w16 (to_z w32 (of_z w32 n))) ≡ n
+converted n f = ap (λ (k : ℤ). to_z w16 (of_z w16 k)) (to_z-of_z w32 n (fits-wider n f)) ∙ to_z-of_z w16 n f
+
+pub is-between : (low n high : ℤ) → int_le low n ≡ true → int_le n high ≡ true → IsBetween low high n
+is-between low n high p q = record { at_least = le_z_yes (T_from_true (int_le low n) p); at_most = le_z_yes (T_from_true (int_le n high) q) }
+
+-- a numeral in its range
+pub fault-none : (w : List ℕ) (low high : ℤ) → is_numeral w ≡ true → int_le low (numeral_value w) ≡ true → int_le (numeral_value w) high ≡ true → place_fault (Number low high) w ≡ None
+fault-none w low high e p q = λ i. cond {A = Option ℕ} (e i) (cond {A = Option ℕ} (p i && q i) None (Some 2)) (Some 1)
+
+-- a numeral whose clamped number is out of a range of sixteen bits
+pub fault-out : (w : List ℕ) (low high : ℤ) → is_numeral w ≡ true → FitsSigned w16 low → FitsSigned w16 high
+    → (int_le low (clamped (numeral_value w)) ≡ true → int_le (clamped (numeral_value w)) high ≡ true → ⊥) → place_fault (Number low high) w ≡ Some 2
 fault-out w low high e f g beyond =
-    faulted (is_numeral w) (int_le low (numeral_value w)) (int_le (numeral_value w) high) e (λ p q. beyond (between low (numeral_value w) high f g p q))
+    let v = numeral_value w in
+    faulted (is_numeral w) (int_le low v) (int_le v high) e
+    (λ p q. let same = same-clamped v (between low v high f g p q) in beyond (ap (λ z. int_le low z) same ∙ p) (ap (λ z. int_le z high) same ∙ q))
 
 first-digit : (w : List ℕ) → all_ascii_digits w ≡ true → 0 < length w → (48 ≤ get_or w 0 0) × (get_or w 0 0 ≤ 57)
 first-digit [] e h = absurd (omega arith)
