@@ -35,15 +35,14 @@ pub one_line : (line : List ℕ) (u w : Option (List ℕ)) → Appends u w (with
 one_line line u w said = subst (λ (t : List ℕ). Appends u w t) (sym (append-nil (with_lf line))) said
 
 -- the note of one change more
-pub note_more : (name : Name8) (cs : List Change) (n : ℕ) (c d : Change) (u v w : Option (List ℕ)) → n < length cs → c ≡ get_or cs n d
-    → Appends u v (text_of (change_notes name (take n cs))) → Appends v w (with_lf (note name (change_text c))) → Appends u w (text_of (change_notes name (take (n + 1) cs)))
-note_more name cs n c d u v w within is told more =
-    let one = change_notes name (c ∷ []) in
+pub note_more : (name : Name8) (cs : List Change) (n : ℕ) (d : Change) (u v w : Option (List ℕ)) → n < length cs
+    → Appends u v (text_of (change_notes name (take n cs))) → Appends v w (with_lf (note name (change_text (get_or cs n d)))) → Appends u w (text_of (change_notes name (take (n + 1) cs)))
+note_more name cs n d u v w within told more =
+    let one = change_notes name (get_or cs n d ∷ []) in
     let all : change_notes name (take (n + 1) cs) ≡ change_notes name (take n cs) ++ one =
-    ap (change_notes name) (take_more cs n d within ∙ ap (λ (x : Change). take n cs ++ x ∷ []) (sym is))
-    ∙ map-append (λ (x : Change). note name (change_text x)) (take n cs) (c ∷ []) in
+    ap (change_notes name) (take_more cs n d within) ∙ map-append (λ (x : Change). note name (change_text x)) (take n cs) (get_or cs n d ∷ []) in
     subst (λ (t : List ℕ). Appends u w t) (sym (ap text_of all ∙ flat_map-append with_lf (change_notes name (take n cs)) one))
-    (Appends-trans u v w (text_of (change_notes name (take n cs))) (text_of one) told (one_line (note name (change_text c)) v w more))
+    (Appends-trans u v w (text_of (change_notes name (take n cs))) (text_of one) told (one_line (note name (change_text (get_or cs n d))) v w more))
 
 -- ---- A level
 
