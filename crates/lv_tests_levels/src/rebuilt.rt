@@ -104,6 +104,30 @@ fn builds_levels_anew(rt: HostRuntime) -> Result<(), Fail> {
 // A lump of a WAD: its name and its bytes.
 type Lump = (&'static [u8; 8], &'static [u8]);
 
+// A level whose only line is two-sided and has no left side, and the same built anew.
+const TWO_SIDED_WAD: &[Lump] = &[
+    (b"MAP01\0\0\0", b""),
+    (b"THINGS\0\0", b""),
+    (b"LINEDEFS", TWO_SIDED),
+    (b"SIDEDEFS", SIDES),
+    (b"VERTEXES", VERTICES),
+    (b"SECTORS\0", SECTORS),
+];
+
+const TWO_SIDED_BUILT: &[Lump] = &[
+    (b"MAP01\0\0\0", b""),
+    (b"THINGS\0\0", b""),
+    (b"LINEDEFS", TWO_SIDED),
+    (b"SIDEDEFS", SIDES),
+    (b"VERTEXES", FRONT),
+    (b"SEGS\0\0\0\0", SEGS),
+    (b"SSECTORS", SUBS),
+    (b"NODES\0\0\0", b""),
+    (b"SECTORS\0", SECTORS),
+    (b"REJECT\0\0", b"\0"),
+    (b"BLOCKMAP", BLOCKS),
+];
+
 // A level without a builder's lumps, between others.
 const BARE_WAD: &[Lump] = &[
     (b"DEMO1\0\0\0", b"demo"),
@@ -193,30 +217,6 @@ const TWO_BUILT: &[Lump] = &[
     (b"BLOCKMAP", BLOCKS),
 ];
 
-// A level whose only line is two-sided and has no left side, and the same built anew.
-const TWO_SIDED_WAD: &[Lump] = &[
-    (b"MAP01\0\0\0", b""),
-    (b"THINGS\0\0", b""),
-    (b"LINEDEFS", TWO_SIDED),
-    (b"SIDEDEFS", SIDES),
-    (b"VERTEXES", VERTICES),
-    (b"SECTORS\0", SECTORS),
-];
-
-const TWO_SIDED_BUILT: &[Lump] = &[
-    (b"MAP01\0\0\0", b""),
-    (b"THINGS\0\0", b""),
-    (b"LINEDEFS", TWO_SIDED),
-    (b"SIDEDEFS", SIDES),
-    (b"VERTEXES", FRONT),
-    (b"SEGS\0\0\0\0", SEGS),
-    (b"SSECTORS", SUBS),
-    (b"NODES\0\0\0", b""),
-    (b"SECTORS\0", SECTORS),
-    (b"REJECT\0\0", b"\0"),
-    (b"BLOCKMAP", BLOCKS),
-];
-
 // The lumps of a WAD, the name that is asked for (none: all), the lumps afterwards, and what became of each level.
 const WHOLE: &[(&[Lump], &str, &[Lump], &str)] = &[
     (BARE_WAD, "", BUILT_WAD, "made;"),
@@ -247,14 +247,6 @@ const WHOLE: &[(&[Lump], &str, &[Lump], &str)] = &[
     ),
 ];
 
-// Adds the faults that stay in a level.
-fn add_kept(told: &mut String, kept: &[KeptFault]) -> Result<(), Fail> {
-    for fault in kept {
-        write!(told, "{fault}, ")?;
-    }
-    Ok(())
-}
-
 // What became of the levels.
 fn fates(alloc: Global, levels: &[RebuiltLevel]) -> Result<String, Fail> {
     let mut told = String::new(alloc);
@@ -270,6 +262,14 @@ fn fates(alloc: Global, levels: &[RebuiltLevel]) -> Result<String, Fail> {
         }
     }
     Ok(told)
+}
+
+// Adds the faults that stay in a level.
+fn add_kept(told: &mut String, kept: &[KeptFault]) -> Result<(), Fail> {
+    for fault in kept {
+        write!(told, "{fault}, ")?;
+    }
+    Ok(())
 }
 
 // The bytes of a WAD that is built anew, and what became of its levels, or why it is refused.
