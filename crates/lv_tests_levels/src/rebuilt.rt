@@ -104,30 +104,6 @@ fn builds_levels_anew(rt: HostRuntime) -> Result<(), Fail> {
 // A lump of a WAD: its name and its bytes.
 type Lump = (&'static [u8; 8], &'static [u8]);
 
-// A level whose only line is two-sided and has no left side, and the same built anew.
-const TWO_SIDED_WAD: &[Lump] = &[
-    (b"MAP01\0\0\0", b""),
-    (b"THINGS\0\0", b""),
-    (b"LINEDEFS", TWO_SIDED),
-    (b"SIDEDEFS", SIDES),
-    (b"VERTEXES", VERTICES),
-    (b"SECTORS\0", SECTORS),
-];
-
-const TWO_SIDED_BUILT: &[Lump] = &[
-    (b"MAP01\0\0\0", b""),
-    (b"THINGS\0\0", b""),
-    (b"LINEDEFS", TWO_SIDED),
-    (b"SIDEDEFS", SIDES),
-    (b"VERTEXES", FRONT),
-    (b"SEGS\0\0\0\0", SEGS),
-    (b"SSECTORS", SUBS),
-    (b"NODES\0\0\0", b""),
-    (b"SECTORS\0", SECTORS),
-    (b"REJECT\0\0", b"\0"),
-    (b"BLOCKMAP", BLOCKS),
-];
-
 // A level without a builder's lumps, between others.
 const BARE_WAD: &[Lump] = &[
     (b"DEMO1\0\0\0", b"demo"),
@@ -264,14 +240,6 @@ fn fates(alloc: Global, levels: &[RebuiltLevel]) -> Result<String, Fail> {
     Ok(told)
 }
 
-// Adds the faults that stay in a level.
-fn add_kept(told: &mut String, kept: &[KeptFault]) -> Result<(), Fail> {
-    for fault in kept {
-        write!(told, "{fault}, ")?;
-    }
-    Ok(())
-}
-
 // The bytes of a WAD that is built anew, and what became of its levels, or why it is refused.
 fn whole(alloc: Global, wad: &[u8], name: &str) -> Result<(Vec<u8>, String), Fail> {
     let mut names = Vec::new(alloc);
@@ -286,6 +254,38 @@ fn whole(alloc: Global, wad: &[u8], name: &str) -> Result<(Vec<u8>, String), Fai
         Err(error) => Ok((Vec::new(alloc), format!(in alloc; "{error}")?)),
     }
 }
+
+// Adds the faults that stay in a level.
+fn add_kept(told: &mut String, kept: &[KeptFault]) -> Result<(), Fail> {
+    for fault in kept {
+        write!(told, "{fault}, ")?;
+    }
+    Ok(())
+}
+
+// A level whose only line is two-sided and has no left side, and the same built anew.
+const TWO_SIDED_WAD: &[Lump] = &[
+    (b"MAP01\0\0\0", b""),
+    (b"THINGS\0\0", b""),
+    (b"LINEDEFS", TWO_SIDED),
+    (b"SIDEDEFS", SIDES),
+    (b"VERTEXES", VERTICES),
+    (b"SECTORS\0", SECTORS),
+];
+
+const TWO_SIDED_BUILT: &[Lump] = &[
+    (b"MAP01\0\0\0", b""),
+    (b"THINGS\0\0", b""),
+    (b"LINEDEFS", TWO_SIDED),
+    (b"SIDEDEFS", SIDES),
+    (b"VERTEXES", FRONT),
+    (b"SEGS\0\0\0\0", SEGS),
+    (b"SSECTORS", SUBS),
+    (b"NODES\0\0\0", b""),
+    (b"SECTORS\0", SECTORS),
+    (b"REJECT\0\0", b"\0"),
+    (b"BLOCKMAP", BLOCKS),
+];
 
 #[test]
 fn builds_wads_anew(rt: HostRuntime) -> Result<(), Fail> {
