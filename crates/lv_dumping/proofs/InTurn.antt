@@ -8,7 +8,6 @@ use Rattle.std.proofs.lemmas.Grind.{flat_map-append}
 use Rattle.std.proofs.lemmas.List.{take-append-drop, take_more}
 use Rattle.std.proofs.lemmas.List.Folds.{list_any-append}
 use Rattle.lv_dump.specs.Texts.{WritesFront, text_of, with_lf}
-use Rattle.lv_dumping.specs.LevelDumps.{AreInTurn}
 
 -- ---- lines that are known
 
@@ -81,26 +80,3 @@ pub no_more : {X : Type 0} (p : X → Bool) (xs : List X) (n : ℕ) (d : X) (all
 no_more p xs n d all one within is here =
     (λ i. is i && here i) ∙ sym (none_more (list_any p (take n xs)) (p (get_or xs n d)))
     ∙ sym (ap (λ (b : Bool). not b) (ap (list_any p) (take_more xs n d within) ∙ list_any-append p (take n xs) (get_or xs n d ∷ [])))
-
--- ---- lines that items have, of one behind another
-
-join : {X : Type 0} (Has : X → List (List ℕ) → Type 0) (xs ys : List X) (lines more : List (List ℕ)) → AreInTurn Has xs lines → AreInTurn Has ys more → AreInTurn Has (xs ++ ys) (lines ++ more)
-join Has [] ys lines more none are = subst (λ (t : List (List ℕ)). AreInTurn Has ys (t ++ more)) (sym none) are
-join Has (x ∷ xs) ys lines more (first, rest, parted, has, are) also =
-    (first, rest ++ more, ap (λ (t : List (List ℕ)). t ++ more) parted ∙ append_assoc first rest more, has, join Has xs ys rest more are also)
-
--- these lines of items were written
-abbrev pub HasTold : {X : Type 0} → (X → List (List ℕ) → Type 0) → List X → Option (List ℕ) → Option (List ℕ) → Type 0
-HasTold Has xs u w = (lines : List (List ℕ)) × AreInTurn Has xs lines × Appends u w (text_of lines)
-
-pub told_none : {X : Type 0} (Has : X → List (List ℕ) → Type 0) (u : Option (List ℕ)) → HasTold Has [] u u
-told_none Has u = ([], refl, Appends-nil u)
-
-pub told_more : {X : Type 0} (Has : X → List (List ℕ) → Type 0) (xs : List X) (n : ℕ) (d : X) (u v w : Option (List ℕ)) → n < length xs → HasTold Has (take n xs) u v
-    → ((one : List (List ℕ)) × Has (get_or xs n d) one × Appends v w (text_of one)) → HasTold Has (take (n + 1) xs) u w
-told_more Has xs n d u v w within (lines, are, said) (one, has, more) =
-    let x = get_or xs n d in (
-      lines ++ one,
-      subst (λ (ks : List _). AreInTurn Has ks (lines ++ one)) (sym (take_more xs n d within)) (join Has (take n xs) (x ∷ []) lines one are (one, [], sym (append-nil one), has, refl)),
-      subst (λ (t : List ℕ). Appends u w t) (sym (flat_map-append with_lf lines one)) (Appends-trans u v w (text_of lines) (text_of one) said more),
-    )

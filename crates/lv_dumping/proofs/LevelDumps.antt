@@ -1,16 +1,18 @@
 -- Levels that are dumped, one after another, and what is told of them.
-use Rattle.std.proofs.Common.{◌≡◌, ◌+◌, ◌<◌, ℕ, List, [], ◌∷◌, ◌++◌, Option, None, Some, Ok, Err, Bool, true, false, cond, length, get_or, map, take, refl, sym, subst, append-nil}
+use Rattle.std.proofs.Common.{◌≡◌, ◌∙◌, ◌+◌, ◌<◌, ℕ, List, [], ◌∷◌, ◌++◌, Option, None, Some, Ok, Err, Bool, true, false, cond, length, get_or, map, take, refl, sym, ap, subst, append-nil}
 use Rattle.std.specs.Prelude.{All, not, ◌&&◌, filter, flat_map, codes}
 use Rattle.std.specs.List.{list_any}
 use Rattle.std.specs.Io.KnownBytes.{Appends}
-use Rattle.std.proofs.KnownBytes.{Appends-nil}
-use Rattle.std.proofs.lemmas.List.{take_more}
+use Rattle.std.proofs.KnownBytes.{Appends-nil, Appends-trans}
+use Rattle.std.proofs.lemmas.Grind.{flat_map-append}
+use Rattle.std.proofs.lemmas.List.{map-append, take_more}
 use Rattle.std.proofs.lemmas.List.Elements.{All-cons, All-head, All-nil, All-push, All-tail}
 use Rattle.lv_dump.specs.Dump.{map_dump_of}
 use Rattle.lv_dump.specs.MapDumps.{map_dumps_of}
 use Rattle.lv_dump.specs.Texts.{WritesFront, text_of, with_lf}
 use Rattle.lv_editor.specs.declared.error.EditorError.{EditorError}
 use Rattle.lv_editor.specs.declared.error.EditorError.TheVariants.{OutOfMemory, InputTooLong, ReaderFailed, WriterFailed}
+use Rattle.lv_import.specs.Texts.{change_text, import_refusal_text}
 use Rattle.lv_import.specs.declared.change.Change.{Change}
 use Rattle.lv_import.specs.declared.error.ImportError.{ImportError}
 use Rattle.lv_levels.specs.declared.entries.LevelEntries.{LevelEntries}
@@ -22,41 +24,37 @@ use Rattle.lv_maptables.specs.WellFormed.{WellFormed}
 use Rattle.lv_dumping.specs.Asked.{asked_maps, asks_for}
 use Rattle.lv_dumping.specs.Dumping.{lines_asked}
 use Rattle.lv_dumping.specs.DumpSteps.{DumpsFor, DumpsLevel, DumpsLevels, KeepsMap, LosesLines}
-use Rattle.lv_dumping.specs.LevelDumps.{AreLevelNotes, IsNote, IsSaid, dumped_maps, is_level_left, note}
+use Rattle.lv_dumping.specs.LevelDumps.{change_notes, dumped_maps, is_level_left, level_notes, note, notes_of}
 use Rattle.lv_views.specs.LevelLines.{level_map}
-use Rattle.lv_dumping.proofs.InTurn.{HasTold, lines_kept, lines_more, lines_stopped_at, lines_taken, no_more, told_more, told_none}
+use Rattle.lv_dumping.proofs.InTurn.{lines_kept, lines_more, lines_stopped_at, lines_taken, no_more}
 
 -- ---- Notes
-
--- what is known of the words in which a change tells itself
-abbrev pub change_words : Change → Option (List ℕ)
-change_words c = None
 
 -- one line alone
 pub one_line : (line : List ℕ) (u w : Option (List ℕ)) → Appends u w (with_lf line) → Appends u w (text_of (line ∷ []))
 one_line line u w said = subst (λ (t : List ℕ). Appends u w t) (sym (append-nil (with_lf line))) said
 
--- the note of one more
-pub note_more : {T : Type 0} (says : T → Option (List ℕ)) (name : Name8) (ts : List T) (n : ℕ) (t d : T) (u v w : Option (List ℕ)) → n < length ts → t ≡ get_or ts n d
-    → HasTold (IsNote says name) (take n ts) u v → ((said : List ℕ) × IsSaid (says t) said × Appends v w (with_lf (note name said)))
-    → HasTold (IsNote says name) (take (n + 1) ts) u w
-note_more {T} says name ts n t d u v w within is told (said, so, more) =
-    told_more (IsNote says name) ts n d u v w within told
-    (note name said ∷ [], subst (λ (x : T). IsNote says name x (note name said ∷ [])) is (said, so, refl), one_line (note name said) v w more)
+-- the note of one change more
+pub note_more : (name : Name8) (cs : List Change) (n : ℕ) (d : Change) (u v w : Option (List ℕ)) → n < length cs
+    → Appends u v (text_of (change_notes name (take n cs))) → Appends v w (with_lf (note name (change_text (get_or cs n d)))) → Appends u w (text_of (change_notes name (take (n + 1) cs)))
+note_more name cs n d u v w within told more =
+    let one = change_notes name (get_or cs n d ∷ []) in
+    let all : change_notes name (take (n + 1) cs) ≡ change_notes name (take n cs) ++ one =
+    ap (change_notes name) (take_more cs n d within) ∙ map-append (λ (x : Change). note name (change_text x)) (take n cs) (get_or cs n d ∷ []) in
+    subst (λ (t : List ℕ). Appends u w t) (sym (ap text_of all ∙ flat_map-append with_lf (change_notes name (take n cs)) one))
+    (Appends-trans u v w (text_of (change_notes name (take n cs))) (text_of one) told (one_line (note name (change_text (get_or cs n d))) v w more))
 
 -- ---- A level
 
 -- a level that is no map is left
-pub left_no_map : (says : Change → Option (List ℕ)) (name : Name8) (e : ImportError) (said : List ℕ) (d x : Option (List ℕ)) → Appends d x (with_lf (note name (codes "no map: " ++ said)))
-    → (first : Option Change) (cs : List Change) (m : Tables) (u : Option (List ℕ)) → DumpsFor says name (Some e) first cs m (Ok false) u u d x
-left_no_map says name e said d x told first cs m u =
-    (refl, Appends-nil u, (note name (codes "no map: " ++ said) ∷ [], (said, refl), one_line (note name (codes "no map: " ++ said)) d x told))
+pub left_no_map : (name : Name8) (e : ImportError) (d x : Option (List ℕ)) → Appends d x (with_lf (note name (codes "no map: " ++ import_refusal_text e)))
+    → (first : Option Change) (cs : List Change) (m : Tables) (u : Option (List ℕ)) → DumpsFor name (Some e) first cs m (Ok false) u u d x
+left_no_map name e d x told first cs m u = (refl, Appends-nil u, one_line (note name (codes "no map: " ++ import_refusal_text e)) d x told)
 
 -- a level is left for its first change
-pub left_changed : (says : Change → Option (List ℕ)) (name : Name8) (c : Change) (said : List ℕ) (d x : Option (List ℕ)) → IsSaid (says c) said → Appends d x (with_lf (note name (codes "not exact: " ++ said)))
-    → (cs : List Change) (m : Tables) (u : Option (List ℕ)) → DumpsFor says name None (Some c) cs m (Ok false) u u d x
-left_changed says name c said d x so told cs m u =
-    (refl, Appends-nil u, (note name (codes "not exact: " ++ said) ∷ [], (said, so, refl), one_line (note name (codes "not exact: " ++ said)) d x told))
+pub left_changed : (name : Name8) (c : Change) (d x : Option (List ℕ)) → Appends d x (with_lf (note name (codes "not exact: " ++ change_text c)))
+    → (cs : List Change) (m : Tables) (u : Option (List ℕ)) → DumpsFor name None (Some c) cs m (Ok false) u u d x
+left_changed name c d x told cs m u = (refl, Appends-nil u, one_line (note name (codes "not exact: " ++ change_text c)) d x told)
 
 -- ---- The levels
 
@@ -68,38 +66,38 @@ pub level_lines-all : (exact : Bool) (wad : List ℕ) (ls : List LevelEntries) �
 level_lines-all exact wad ls = lines_kept (level_map wad) map_dump_of (is_level_left exact wad) ls
 
 -- the levels so far were dumped or left, and all or not
-pub record HasDumped (says : Change → Option (List ℕ)) (exact : Bool) (wad : List ℕ) (ls : List LevelEntries) (all : Bool) (u w d x : Option (List ℕ)) : Type 0 where
+pub record HasDumped (exact : Bool) (wad : List ℕ) (ls : List LevelEntries) (all : Bool) (u w d x : Option (List ℕ)) : Type 0 where
   pub all_is : all ≡ not (list_any (is_level_left exact wad) ls)
   pub written : Appends u w (text_of (flat_map (level_lines exact wad) ls))
-  pub told : HasTold (AreLevelNotes says exact wad) ls d x
+  pub told : Appends d x (text_of (notes_of exact wad ls))
   pub maps : All (KeepsMap exact wad) ls
 
-pub dumped_none : (says : Change → Option (List ℕ)) (exact : Bool) (wad : List ℕ) (u d : Option (List ℕ)) → HasDumped says exact wad [] true u u d d
-dumped_none says exact wad u d = record { all_is = refl; written = Appends-nil u; told = told_none (AreLevelNotes says exact wad) d; maps = All-nil (KeepsMap exact wad) }
+pub dumped_none : (exact : Bool) (wad : List ℕ) (u d : Option (List ℕ)) → HasDumped exact wad [] true u u d d
+dumped_none exact wad u d = record { all_is = refl; written = Appends-nil u; told = Appends-nil d; maps = All-nil (KeepsMap exact wad) }
 
-pub dumped_more : (says : Change → Option (List ℕ)) (exact : Bool) (wad : List ℕ) (ls : List LevelEntries) (n : ℕ) (l0 : LevelEntries) (all one : Bool) (u v w d e x : Option (List ℕ))
-    → n < length ls → HasDumped says exact wad (take n ls) all u v d e → DumpsLevel says exact wad (get_or ls n l0) (Ok one) v w e x → KeepsMap exact wad (get_or ls n l0)
-    → HasDumped says exact wad (take (n + 1) ls) (all && one) u w d x
-dumped_more says exact wad ls n l0 all one u v w d e x within so (is, more, told) keeps = record {
+pub dumped_more : (exact : Bool) (wad : List ℕ) (ls : List LevelEntries) (n : ℕ) (l0 : LevelEntries) (all one : Bool) (u v w d e x : Option (List ℕ))
+    → n < length ls → HasDumped exact wad (take n ls) all u v d e → DumpsLevel exact wad (get_or ls n l0) (Ok one) v w e x → KeepsMap exact wad (get_or ls n l0)
+    → HasDumped exact wad (take (n + 1) ls) (all && one) u w d x
+dumped_more exact wad ls n l0 all one u v w d e x within so (is, more, told) keeps = record {
   all_is = no_more (is_level_left exact wad) ls n l0 all one within so.all_is is;
   written = lines_more (level_lines exact wad) ls n l0 u v w within so.written more;
-  told = told_more (AreLevelNotes says exact wad) ls n l0 d e x within so.told told;
+  told = lines_more (level_notes exact wad) ls n l0 d e x within so.told told;
   maps =
       subst (λ (ks : List LevelEntries). All (KeepsMap exact wad) ks) (sym (take_more ls n l0 within)) (All-push (KeepsMap exact wad) (take n ls) (get_or ls n l0) so.maps keeps);
 }
 
-pub dumped_lost : (says : Change → Option (List ℕ)) (exact : Bool) (wad : List ℕ) (ls : List LevelEntries) (n : ℕ) (l0 : LevelEntries) (all : Bool) (why : EditorError) (u v w d e x : Option (List ℕ))
-    → n < length ls → HasDumped says exact wad (take n ls) all u v d e → DumpsLevel says exact wad (get_or ls n l0) (Err why) v w e x
-    → DumpsLevels says exact wad ls (Err why) u w d x
-dumped_lost says exact wad ls n l0 all OutOfMemory u v w d e x within so lost =
+pub dumped_lost : (exact : Bool) (wad : List ℕ) (ls : List LevelEntries) (n : ℕ) (l0 : LevelEntries) (all : Bool) (why : EditorError) (u v w d e x : Option (List ℕ))
+    → n < length ls → HasDumped exact wad (take n ls) all u v d e → DumpsLevel exact wad (get_or ls n l0) (Err why) v w e x
+    → DumpsLevels exact wad ls (Err why) u w d x
+dumped_lost exact wad ls n l0 all OutOfMemory u v w d e x within so lost =
     subst (λ (lines : List (List ℕ)). WritesFront lines u w) (level_lines-all exact wad ls) (lines_stopped_at (level_lines exact wad) ls n l0 u v w within so.written lost)
-dumped_lost says exact wad ls n l0 all WriterFailed u v w d e x within so lost = tt
-dumped_lost says exact wad ls n l0 all InputTooLong u v w d e x within so lost = absurd lost
-dumped_lost says exact wad ls n l0 all ReaderFailed u v w d e x within so lost = absurd lost
+dumped_lost exact wad ls n l0 all WriterFailed u v w d e x within so lost = tt
+dumped_lost exact wad ls n l0 all InputTooLong u v w d e x within so lost = absurd lost
+dumped_lost exact wad ls n l0 all ReaderFailed u v w d e x within so lost = absurd lost
 
-pub dumped_all : (says : Change → Option (List ℕ)) (exact : Bool) (wad : List ℕ) (ls : List LevelEntries) (all : Bool) (u w d x : Option (List ℕ)) → HasDumped says exact wad ls all u w d x
-    → DumpsLevels says exact wad ls (Ok all) u w d x
-dumped_all says exact wad ls all u w d x so =
+pub dumped_all : (exact : Bool) (wad : List ℕ) (ls : List LevelEntries) (all : Bool) (u w d x : Option (List ℕ)) → HasDumped exact wad ls all u w d x
+    → DumpsLevels exact wad ls (Ok all) u w d x
+dumped_all exact wad ls all u w d x so =
     (so.all_is, subst (λ (lines : List (List ℕ)). Appends u w (text_of lines)) (level_lines-all exact wad ls) so.written, so.told)
 
 fine_by : (exact : Bool) (wad : List ℕ) (l : LevelEntries) (rest : List LevelEntries) (left : Bool) → (left ≡ false → WellFormed (level_map wad l)) → All WellFormed (map (level_map wad) rest)

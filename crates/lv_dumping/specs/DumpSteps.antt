@@ -14,7 +14,7 @@ use Rattle.lv_levels.specs.declared.entries.LevelEntries.{LevelEntries}
 use Rattle.lv_lumps.specs.declared.records.Name8.{Name8}
 use Rattle.lv_maptables.specs.Tables.{Tables}
 use Rattle.lv_maptables.specs.WellFormed.{WellFormed}
-use Rattle.lv_dumping.specs.LevelDumps.{AreNotesFor, AreNotesOf, dumped_maps, first_change, is_level_left, is_left_for, level_changes}
+use Rattle.lv_dumping.specs.LevelDumps.{dumped_maps, first_change, is_level_left, is_left_for, level_changes, notes_for, notes_of}
 use Rattle.lv_views.specs.LevelLines.{level_map, map_refusal}
 
 -- a call failed that was to write these lines: those before one that found no memory were written, or
@@ -37,22 +37,20 @@ lines_for refusal first m = if is_left_for refusal first then [] else map_dump_o
 
 -- how a call ended that was to dump a level of a name which is this map after these changes, or is
 -- left for a refusal or its first change: whether it was dumped
-abbrev pub DumpsFor : (Change → Option (List ℕ)) → Name8 → Option ImportError → Option Change
-    → List Change → Tables → Result Bool EditorError → Option (List ℕ) → Option (List ℕ)
-    → Option (List ℕ) → Option (List ℕ) → Type 0
-DumpsFor says name refusal first cs m (Ok dumped) writer-old writer-new errors-old errors-new =
-    (dumped ≡ not (is_left_for refusal first))
-    × Appends writer-old writer-new (text_of (lines_for refusal first m))
-    × ((notes : List (List ℕ)) × AreNotesFor says name refusal first cs notes
-    × Appends errors-old errors-new (text_of notes))
-DumpsFor says name refusal first cs m (Err e) writer-old writer-new errors-old errors-new =
-    LosesLines e (lines_for refusal first m) writer-old writer-new
-
-abbrev pub DumpsLevel : (Change → Option (List ℕ)) → Bool → List ℕ → LevelEntries
+abbrev pub DumpsFor : Name8 → Option ImportError → Option Change → List Change → Tables
     → Result Bool EditorError → Option (List ℕ) → Option (List ℕ) → Option (List ℕ)
     → Option (List ℕ) → Type 0
-DumpsLevel says exact wad l =
-    DumpsFor says (entry_name wad l.marker) (map_refusal wad l)
+DumpsFor name refusal first cs m (Ok dumped) writer-old writer-new errors-old errors-new =
+    (dumped ≡ not (is_left_for refusal first))
+    × Appends writer-old writer-new (text_of (lines_for refusal first m))
+    × Appends errors-old errors-new (text_of (notes_for name refusal first cs))
+DumpsFor name refusal first cs m (Err e) writer-old writer-new errors-old errors-new =
+    LosesLines e (lines_for refusal first m) writer-old writer-new
+
+abbrev pub DumpsLevel : Bool → List ℕ → LevelEntries → Result Bool EditorError
+    → Option (List ℕ) → Option (List ℕ) → Option (List ℕ) → Option (List ℕ) → Type 0
+DumpsLevel exact wad l =
+    DumpsFor (entry_name wad l.marker) (map_refusal wad l)
     (first_change exact (level_changes wad l)) (level_changes wad l) (level_map wad l)
 
 -- the level is left, or is a well-formed map
@@ -60,13 +58,11 @@ abbrev pub KeepsMap : Bool → List ℕ → LevelEntries → Type 0
 KeepsMap exact wad l = is_level_left exact wad l ≡ false → WellFormed (level_map wad l)
 
 -- the same of levels: whether all were dumped
-abbrev pub DumpsLevels : (Change → Option (List ℕ)) → Bool → List ℕ → List LevelEntries
-    → Result Bool EditorError → Option (List ℕ) → Option (List ℕ) → Option (List ℕ)
-    → Option (List ℕ) → Type 0
-DumpsLevels says exact wad ls (Ok all) writer-old writer-new errors-old errors-new =
+abbrev pub DumpsLevels : Bool → List ℕ → List LevelEntries → Result Bool EditorError
+    → Option (List ℕ) → Option (List ℕ) → Option (List ℕ) → Option (List ℕ) → Type 0
+DumpsLevels exact wad ls (Ok all) writer-old writer-new errors-old errors-new =
     (all ≡ not (list_any (is_level_left exact wad) ls))
     × Appends writer-old writer-new (text_of (map_dumps_of (dumped_maps exact wad ls)))
-    × ((notes : List (List ℕ)) × AreNotesOf says exact wad ls notes
-    × Appends errors-old errors-new (text_of notes))
-DumpsLevels says exact wad ls (Err e) writer-old writer-new errors-old errors-new =
+    × Appends errors-old errors-new (text_of (notes_of exact wad ls))
+DumpsLevels exact wad ls (Err e) writer-old writer-new errors-old errors-new =
     LosesLines e (map_dumps_of (dumped_maps exact wad ls)) writer-old writer-new

@@ -1,14 +1,14 @@
 -- What `dump` writes of the levels of a WAD, and what it tells of them beside the output
 -- (docs/COMMANDS.md, "The program").
-use Rattle.std.specs.Prelude.{◌≡◌, ℕ, All, Bool, not, ◌||◌, is_some, IfSome, if◌then◌else◌, slice_get, List, [], ◌∷◌, ◌++◌, Option, None, Some, Result, Ok, Err, codes, filter, map}
+use Rattle.std.specs.Prelude.{◌≡◌, ℕ, All, Bool, not, ◌||◌, is_some, if◌then◌else◌, slice_get, List, [], ◌∷◌, ◌++◌, Option, None, Some, Result, Ok, Err, codes, filter, flat_map, map}
 use Rattle.std.specs.List.{list_any}
-use Rattle.std.specs.Fmt.Cut.{IsTextOrCut}
 use Rattle.std.specs.Io.KnownBytes.{Appends, Keeps}
 use Rattle.lv_dump.specs.MapDumps.{map_dumps_of}
 use Rattle.lv_dump.specs.Texts.{WritesFront, text_of}
 use Rattle.lv_editor.specs.declared.error.EditorError.TheVariants.{OutOfMemory, WriterFailed}
 use Rattle.lv_editor.specs.declared.error.InspectError.TheVariants as inspecting
 use Rattle.lv_import.specs.Imported.{changes}
+use Rattle.lv_import.specs.Texts.{change_text, import_refusal_text}
 use Rattle.lv_import.specs.declared.change.Change.{Change}
 use Rattle.lv_import.specs.declared.error.ImportError.{ImportError}
 use Rattle.lv_levels.specs.Drawn.{drawn_lists}
@@ -53,78 +53,51 @@ dumped_maps exact wad ls = map (level_map wad) (filter (λ l. not (is_level_left
 abbrev pub note : Name8 → List ℕ → List ℕ
 note name said = map shown (name_text name) ++ codes ": " ++ said
 
--- the words are those in which a change tells itself, where these are known, cut where they are long
-abbrev pub IsSaid : Option (List ℕ) → List ℕ → Type 0
-IsSaid says said = IfSome says (λ text. IsTextOrCut 100 text said)
+-- the notes of the changes of a level of the name, one each
+abbrev pub change_notes : Name8 → List Change → List (List ℕ)
+change_notes name cs = map (λ c. note name (change_text c)) cs
 
--- the lines are those that each item has, of one behind another
-abbrev pub AreInTurn : {X : Type 0} → (X → List (List ℕ) → Type 0) → List X → List (List ℕ)
-    → Type 0
-AreInTurn Has [] lines = lines ≡ []
-AreInTurn Has (x ∷ xs) lines =
-    (first : List (List ℕ)) × (rest : List (List ℕ)) × (lines ≡ first ++ rest)
-    × Has x first × AreInTurn Has xs rest
+-- the notes of a level with these changes: why it is left, for a refusal or for its first change, or
+-- each change
+abbrev pub notes_for : Name8 → Option ImportError → Option Change → List Change → List (List ℕ)
+notes_for name (Some e) first cs = note name (codes "no map: " ++ import_refusal_text e) ∷ []
+notes_for name None (Some c) cs = note name (codes "not exact: " ++ change_text c) ∷ []
+notes_for name None None cs = change_notes name cs
 
--- what tells itself so has this note of a level of the name
-abbrev pub IsNote : {T : Type 0} → (T → Option (List ℕ)) → Name8 → T → List (List ℕ) → Type 0
-IsNote says name t notes = (said : List ℕ) × IsSaid (says t) said × (notes ≡ note name said ∷ [])
-
--- these are the notes of the changes of a level of the name, one each
-abbrev pub AreChangeNotes : (Change → Option (List ℕ)) → Name8 → List Change → List (List ℕ)
-    → Type 0
-AreChangeNotes says name cs notes = AreInTurn (IsNote says name) cs notes
-
--- these are the notes of a level with these changes: why it is left, for a refusal or for its first
--- change, or each change
-abbrev pub AreNotesFor : (Change → Option (List ℕ)) → Name8 → Option ImportError → Option Change
-    → List Change → List (List ℕ) → Type 0
-AreNotesFor says name (Some e) first cs notes =
-    (reason : List ℕ) × (notes ≡ note name (codes "no map: " ++ reason) ∷ [])
-AreNotesFor says name None (Some c) cs notes =
-    (said : List ℕ) × IsSaid (says c) said
-    × (notes ≡ note name (codes "not exact: " ++ said) ∷ [])
-AreNotesFor says name None None cs notes = AreChangeNotes says name cs notes
-
-abbrev pub AreLevelNotes : (Change → Option (List ℕ)) → Bool → List ℕ → LevelEntries
-    → List (List ℕ) → Type 0
-AreLevelNotes says exact wad l notes =
-    AreNotesFor says (entry_name wad l.marker) (map_refusal wad l)
-    (first_change exact (level_changes wad l)) (level_changes wad l) notes
+abbrev pub level_notes : Bool → List ℕ → LevelEntries → List (List ℕ)
+level_notes exact wad l =
+    notes_for (entry_name wad l.marker) (map_refusal wad l)
+    (first_change exact (level_changes wad l)) (level_changes wad l)
 
 -- the notes of levels, of one behind another
-abbrev pub AreNotesOf : (Change → Option (List ℕ)) → Bool → List ℕ → List LevelEntries
-    → List (List ℕ) → Type 0
-AreNotesOf says exact wad ls notes = AreInTurn (AreLevelNotes says exact wad) ls notes
+abbrev pub notes_of : Bool → List ℕ → List LevelEntries → List (List ℕ)
+notes_of exact wad ls = flat_map (level_notes exact wad) ls
 
 -- ---- the request
 
 -- the lines of the maps were written and the notes told, and the status tells whether a level was
 -- left
-pub record AreDumped (says : Change → Option (List ℕ)) (exact : Bool) (wad : List ℕ)
-    (ls : List LevelEntries) (status : ℕ)
+pub record AreDumped (exact : Bool) (wad : List ℕ) (ls : List LevelEntries) (status : ℕ)
     (writer-old writer-new errors-old errors-new : Option (List ℕ)) : Type 0 where
   pub status_is : status ≡ status_told (not (list_any (is_level_left exact wad) ls))
   pub maps : All WellFormed (dumped_maps exact wad ls)
   pub written : Appends writer-old writer-new (text_of (map_dumps_of (dumped_maps exact wad ls)))
-  pub notes : List (List ℕ)
-  pub are : AreNotesOf says exact wad ls notes
-  pub told : Appends errors-old errors-new (text_of notes)
+  pub told : Appends errors-old errors-new (text_of (notes_of exact wad ls))
 
 -- this was done with the levels of the WAD that are asked for; or, with nothing written or told, they
 -- can't be found; or the lines before one that found no memory were written; or a writer failed
-abbrev pub IsWadDumped : (Change → Option (List ℕ)) → List ℕ → List (List ℕ) → Bool
-    → Result ℕ Refusal → Option (List ℕ) → Option (List ℕ) → Option (List ℕ) → Option (List ℕ)
-    → Type 0
-IsWadDumped says wad names exact (Ok status) writer-old writer-new errors-old errors-new =
+abbrev pub IsWadDumped : List ℕ → List (List ℕ) → Bool → Result ℕ Refusal → Option (List ℕ)
+    → Option (List ℕ) → Option (List ℕ) → Option (List ℕ) → Type 0
+IsWadDumped wad names exact (Ok status) writer-old writer-new errors-old errors-new =
     (ls : List LevelEntries) × AreAsked wad names ls
-    × AreDumped says exact wad ls status writer-old writer-new errors-old errors-new
-IsWadDumped says wad names exact (Err (of.Level (inspecting.Level e))) writer-old writer-new
+    × AreDumped exact wad ls status writer-old writer-new errors-old errors-new
+IsWadDumped wad names exact (Err (of.Level (inspecting.Level e))) writer-old writer-new
     errors-old errors-new =
     RefusesAsked wad names e × Keeps writer-old writer-new × Keeps errors-old errors-new
-IsWadDumped says wad names exact (Err (of.Lines OutOfMemory)) writer-old writer-new errors-old
+IsWadDumped wad names exact (Err (of.Lines OutOfMemory)) writer-old writer-new errors-old
     errors-new =
     (ls : List LevelEntries) × AreAsked wad names ls
     × WritesFront (map_dumps_of (dumped_maps exact wad ls)) writer-old writer-new
-IsWadDumped says wad names exact (Err (of.Lines WriterFailed)) writer-old writer-new errors-old
+IsWadDumped wad names exact (Err (of.Lines WriterFailed)) writer-old writer-new errors-old
     errors-new = Unit {0}
-IsWadDumped says wad names exact _ writer-old writer-new errors-old errors-new = ⊥
+IsWadDumped wad names exact _ writer-old writer-new errors-old errors-new = ⊥

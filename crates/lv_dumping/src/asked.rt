@@ -7,9 +7,9 @@ ghost use Rattle.lv_levels.specs.Levels.{HasEntries};
 ghost use Rattle.lv_maptables.specs.Projects.{project_of};
 ghost use Rattle.lv_dumping.specs.Asked.{AreAsked, RefusesAsked, asked_among, has_level_called, has_map_called, have_levels, have_maps, asks_for};
 
-use lv_levels::{LevelEntries, ReadError, levels_in};
+use lv_levels::{LevelEntries, ReadError, entry_of, levels_in};
 use lv_maptables::Maps;
-use lv_views::{entry_name, level_called, map_called};
+use lv_views::{level_called, map_called};
 use std::alloc::Global;
 
 // Whether the text is one of the names.
@@ -29,14 +29,14 @@ pub(crate) fn asks_for(names: &[String], text: &[u8]) -> bool
     is_among(names, text)
 }
 
-// Whether there is a map of the name.
+// Whether a map has the name.
 fn has_map_called(maps: &Maps, name: &[u8]) -> bool
     ensures { result ≡ has_map_called (project_of maps.now) name.now }
 {
     map_called(maps, name).is_some()
 }
 
-/// Whether for each of the names there is a map.
+/// Whether each of the names is the name of a map.
 pub(crate) fn have_maps(maps: &Maps, names: &[String]) -> bool
     ensures { result ≡ have_maps (project_of maps.now) (map string_bytes names.now) }
 {
@@ -57,7 +57,7 @@ fn has_level_called(wad: &[u8], levels: &[LevelEntries], name: &[u8]) -> bool
     level_called(wad, levels, name).is_some()
 }
 
-// Whether for each of the names there is one of the levels.
+// Whether each of the names is the name of one of the levels.
 fn have_levels(wad: &[u8], levels: &[LevelEntries], names: &[String]) -> bool
     requires directory { HasEntries wad.now }
     requires levels { All (IsLevelAt wad.now) levels.now }
@@ -78,11 +78,11 @@ fn is_level_asked(wad: &[u8], names: &[String], level: LevelEntries) -> bool
     ensures { result
         ≡ asks_for (map string_bytes names.now) (entry_text wad.now level.marker) }
 {
-    let own = entry_name(wad, level.marker);
+    let own = entry_of(wad, level.marker).name;
     asks_for(names, own.text())
 }
 
-// Adds a level that is asked for to others.
+// Adds a level to the others if it is asked for.
 fn add_asked(
     wad: &[u8],
     names: &[String],
@@ -127,8 +127,8 @@ fn asked_among(
     Ok(asked)
 }
 
-/// The levels of a WAD that are asked for, in the order of its directory: those of the names, or all where there is no
-/// name. Each of the names has to be a level's.
+/// The levels of a WAD that are asked for, in the order of its directory: those with the names, or all if there are no
+/// names. Each of the names has to be the name of a level.
 pub(crate) fn asked_levels(
     alloc: Global,
     wad: &[u8],

@@ -16,7 +16,7 @@ use lv_reports::{DONE, Refusal};
 use std::alloc::Global;
 use std::io::Write;
 
-/// Writes the lines that draw the maps again and hands them on.
+/// Writes the lines that draw the maps again, and flushes the writer.
 pub fn tell_lines<W: Write>(alloc: Global, maps: &Maps, writer: &mut W) -> Result<u8, Refusal>
     ensures small { IfOk result (λ s. s ≤ 3) }
     ensures told { IsDumpedOf maps.now result (W.contents writer.old) (W.contents writer.new) }
@@ -32,7 +32,7 @@ pub fn tell_lines<W: Write>(alloc: Global, maps: &Maps, writer: &mut W) -> Resul
     }
 }
 
-/// Writes the lines that draw a map whatever was drawn before.
+/// Writes the lines that draw a map, whatever was drawn before.
 pub(crate) fn write_map_lines<W: Write>(
     alloc: Global,
     map: &Map,
@@ -65,7 +65,7 @@ fn write_asked<W: Write>(
     write_map_lines(alloc, drawn, writer)
 }
 
-// Writes the lines of the map of the number, if there is one and it is asked for.
+// Writes the lines of the map with the number, if there is one and it is asked for.
 fn write_nth<W: Write>(
     alloc: Global,
     maps: &Maps,
@@ -103,8 +103,8 @@ fn write_maps<W: Write>(
     Ok(())
 }
 
-/// Writes the lines that draw the maps again, or, where there are names, those that draw each map of the names whatever
-/// was drawn before, by number; and hands them on. Each of the names has to be a map's.
+/// Writes the lines that draw the maps again, or, if there are names, those that draw each map with one of the names,
+/// by number, whatever was drawn before. Flushes the writer. Each of the names has to be the name of a map.
 pub fn tell_lines_of<W: Write>(
     alloc: Global,
     maps: &Maps,

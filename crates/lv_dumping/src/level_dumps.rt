@@ -1,85 +1,65 @@
-//! What `dump` writes of the levels of a WAD: the lines that draw the map that each is, and beside them what is changed
-//! of it, or why it is left.
+//! What `dump` writes for the levels of a WAD: the lines that draw the map that each is after the changes; and, on
+//! standard error, these changes, or why a level is left.
 ghost use Rattle.std.specs.Prelude.{◌≡◌, ◌≤◌, ◌++◌, All, List, None, Option, Some, ℕ, IfOk, MatchResult, codes, map, string_bytes};
 ghost use Rattle.std.specs.Io.KnownBytes.{Appends};
 ghost use Rattle.lv_dump.specs.Texts.{text_of, with_lf};
 ghost use Rattle.lv_editor.specs.declared.error.EditorError.TheVariants.{WriterFailed};
+ghost use Rattle.lv_import.specs.Texts.{change_text, import_refusal_text};
 ghost use Rattle.lv_import.specs.declared.change.Change.{Change};
 ghost use Rattle.lv_levels.specs.Entries.{IsLevelAt};
 ghost use Rattle.lv_levels.specs.Levels.{HasEntries};
 ghost use Rattle.lv_maptables.specs.Tables.{Tables};
 ghost use Rattle.lv_maptables.specs.WellFormed.{WellFormed};
 ghost use Rattle.lv_dumping.specs.DumpSteps.{DumpsFor, DumpsLevel, DumpsLevels, KeepsMap};
-ghost use Rattle.lv_dumping.specs.LevelDumps.{AreInTurn, IsNote, IsSaid, IsWadDumped, dumped_maps, first_change, note};
+ghost use Rattle.lv_dumping.specs.LevelDumps.{IsWadDumped, change_notes, dumped_maps, first_change, note};
 
 use crate::asked::asked_levels;
 use crate::dump_lines::write_map_lines;
 use lv_editor::{EditorError, InspectError};
 use lv_import::{Change, ImportError, Imported};
-use lv_levels::LevelEntries;
+use lv_levels::{LevelEntries, entry_of};
 use lv_lumps::Name8;
 use lv_maptables::{Kind, Map};
 use lv_reports::{Refusal, status_told};
-use lv_views::{entry_name, map_of_level, write_shown};
+use lv_views::{map_of_level, write_shown};
 use std::alloc::Global;
-use std::fmt::{Display, InlineText};
 use std::io::Write;
 
-// More bytes than any text has that says what is changed, or why a level is no map, so that none is cut.
-const WORDS_LEN: usize = 100;
-
-// Writes what is said of the level of a name, behind some words.
-fn write_note<E: Write>(
+// Writes a change of the level with the name, after the words `before`.
+fn write_change<E: Write>(
     name: &Name8,
     before: &str,
-    said: &str,
+    change: Change,
     errors: &mut E,
 ) -> Result<(), EditorError>
     ensures { MatchResult result
         (λ _. Appends (E.contents errors.old) (E.contents errors.new)
-        (with_lf (note name.now (before.now ++ said.now))))
+        (with_lf (note name.now (before.now ++ change_text change))))
         (λ e. e ≡ WriterFailed) }
 {
     match write_shown(name.text(), errors) {
         Ok(()) => {}
         Err(error) => return Err(error),
     }
-    match write!(errors, ": {before}{said}\n") {
+    match write!(errors, ": {before}{change}\n") {
         Ok(()) => Ok(()),
         Err(_) => Err(EditorError::WriterFailed),
     }
 }
 
-// Writes what tells itself of the level of a name, behind some words.
-fn write_told<T: Display + Copy, E: Write>(
+// Writes the changes of the level with the name, a line each.
+fn write_changes<E: Write>(
     name: &Name8,
-    before: &str,
-    tells: T,
+    changes: &[Change],
     errors: &mut E,
 ) -> Result<(), EditorError>
     ensures { MatchResult result
-        (λ _. (said : List ℕ) × IsSaid (T.output tells) said
-        × Appends (E.contents errors.old) (E.contents errors.new)
-        (with_lf (note name.now (before.now ++ said))))
+        (λ _. Appends (E.contents errors.old) (E.contents errors.new)
+        (text_of (change_notes name.now changes.now)))
         (λ e. e ≡ WriterFailed) }
 {
-    let told = InlineText::<WORDS_LEN>::of(tells);
-    write_note(name, before, told.as_str(), errors)
-}
-
-// Writes each of what tells itself of the level of a name.
-fn write_each<T: Display + Copy, E: Write>(
-    name: &Name8,
-    all: &[T],
-    errors: &mut E,
-) -> Result<(), EditorError>
-    ensures { MatchResult result
-        (λ _. (notes : List (List ℕ)) × AreInTurn (IsNote T.output name.now) all.now notes
-        × Appends (E.contents errors.old) (E.contents errors.new) (text_of notes))
-        (λ e. e ≡ WriterFailed) }
-{
-    for tells in all {
-        match write_told(name, "", *tells, errors) {
+    for change in changes {
+        match write_change(name, "", *change, errors) {
             Ok(()) => {}
             Err(error) => return Err(error),
         }
@@ -87,7 +67,28 @@ fn write_each<T: Display + Copy, E: Write>(
     Ok(())
 }
 
-// The first change, where the level is left for it.
+// Writes why the level with the name is no map.
+fn write_refusal<E: Write>(
+    name: &Name8,
+    refusal: ImportError,
+    errors: &mut E,
+) -> Result<(), EditorError>
+    ensures { MatchResult result
+        (λ _. Appends (E.contents errors.old) (E.contents errors.new)
+        (with_lf (note name.now (codes "no map: " ++ import_refusal_text refusal))))
+        (λ e. e ≡ WriterFailed) }
+{
+    match write_shown(name.text(), errors) {
+        Ok(()) => {}
+        Err(error) => return Err(error),
+    }
+    match write!(errors, ": no map: {refusal}\n") {
+        Ok(()) => Ok(()),
+        Err(_) => Err(EditorError::WriterFailed),
+    }
+}
+
+// The first change, if the level is left because of it.
 fn first_change(changes: &[Change], is_exact: bool) -> Option<Change>
     ensures { result ≡ first_change is_exact changes.now }
 {
@@ -98,39 +99,39 @@ fn first_change(changes: &[Change], is_exact: bool) -> Option<Change>
     }
 }
 
-// Leaves a level that is no map, and says why.
+// Leaves a level that is no map, and writes why.
 fn leave_no_map<E: Write>(
     name: &Name8,
     refusal: ImportError,
     errors: &mut E,
 ) -> Result<bool, EditorError>
     ensures { (first : Option Change) → (cs : List Change) → (m : Tables) → (u : Option (List ℕ))
-        → DumpsFor ⟦<Change as Display>⟧.output name.now (Some refusal) first cs m result u u
+        → DumpsFor name.now (Some refusal) first cs m result u u
         (E.contents errors.old) (E.contents errors.new) }
 {
-    match write_told(name, "no map: ", refusal, errors) {
+    match write_refusal(name, refusal, errors) {
         Ok(()) => Ok(false),
         Err(error) => Err(error),
     }
 }
 
-// Leaves a level whose map is to be exact for its first change, and says so.
+// Leaves a level whose map is to be exact because of its first change, and writes that.
 fn leave_changed<E: Write>(
     name: &Name8,
     change: Change,
     errors: &mut E,
 ) -> Result<bool, EditorError>
     ensures { (cs : List Change) → (m : Tables) → (u : Option (List ℕ))
-        → DumpsFor ⟦<Change as Display>⟧.output name.now None (Some change) cs m result u u
+        → DumpsFor name.now None (Some change) cs m result u u
         (E.contents errors.old) (E.contents errors.new) }
 {
-    match write_told(name, "not exact: ", change, errors) {
+    match write_change(name, "not exact: ", change, errors) {
         Ok(()) => Ok(false),
         Err(error) => Err(error),
     }
 }
 
-// Tells the changes of a level, and writes the lines of the map that it is.
+// Writes the changes of a level, and the lines of the map that it is.
 fn dump_map<W: Write, E: Write>(
     alloc: Global,
     name: &Name8,
@@ -139,11 +140,11 @@ fn dump_map<W: Write, E: Write>(
     writer: &mut W,
     errors: &mut E,
 ) -> Result<bool, EditorError>
-    ensures { DumpsFor ⟦<Change as Display>⟧.output name.now None None changes.now map.now.tables
+    ensures { DumpsFor name.now None None changes.now map.now.tables
         result (W.contents writer.old) (W.contents writer.new)
         (E.contents errors.old) (E.contents errors.new) }
 {
-    match write_each(name, changes, errors) {
+    match write_changes(name, changes, errors) {
         Ok(()) => {}
         Err(error) => return Err(error),
     }
@@ -153,7 +154,7 @@ fn dump_map<W: Write, E: Write>(
     }
 }
 
-// Dumps a level that is a map, or leaves it for its first change.
+// Dumps a level that is a map, or leaves it because of its first change.
 fn dump_found<W: Write, E: Write>(
     alloc: Global,
     name: &Name8,
@@ -163,7 +164,7 @@ fn dump_found<W: Write, E: Write>(
     errors: &mut E,
 ) -> Result<bool, EditorError>
     ensures { let cs = found.now.changes.items in
-        DumpsFor ⟦<Change as Display>⟧.output name.now None (first_change is_exact cs) cs
+        DumpsFor name.now None (first_change is_exact cs) cs
         found.now.maps.tables result (W.contents writer.old) (W.contents writer.new)
         (E.contents errors.old) (E.contents errors.new) }
 {
@@ -176,7 +177,7 @@ fn dump_found<W: Write, E: Write>(
     }
 }
 
-// The map that a level is keeps what every map keeps.
+// Every map is well-formed, so that of a level is.
 fn is_well_formed(found: &Imported)
     ensures { WellFormed found.now.maps.tables }
 {
@@ -194,12 +195,12 @@ fn dump_level<W: Write, E: Write>(
 ) -> Result<bool, EditorError>
     requires directory { HasEntries wad.now }
     requires level { IsLevelAt wad.now level }
-    ensures dumped { DumpsLevel ⟦<Change as Display>⟧.output is_exact wad.now level result
+    ensures dumped { DumpsLevel is_exact wad.now level result
         (W.contents writer.old) (W.contents writer.new)
         (E.contents errors.old) (E.contents errors.new) }
     ensures map { IfOk result (λ _. KeepsMap is_exact wad.now level) }
 {
-    let name = entry_name(wad, level.marker);
+    let name = entry_of(wad, level.marker).name;
     match map_of_level(alloc, wad, level) {
         Ok(found) => {
             is_well_formed(&found);
@@ -210,7 +211,7 @@ fn dump_level<W: Write, E: Write>(
     }
 }
 
-// Dumps levels in turn, and answers whether none was left.
+// Dumps levels in turn, and returns whether none was left.
 fn dump_levels<W: Write, E: Write>(
     alloc: Global,
     wad: &[u8],
@@ -221,7 +222,7 @@ fn dump_levels<W: Write, E: Write>(
 ) -> Result<bool, EditorError>
     requires directory { HasEntries wad.now }
     requires levels { All (IsLevelAt wad.now) levels.now }
-    ensures dumped { DumpsLevels ⟦<Change as Display>⟧.output is_exact wad.now levels.now result
+    ensures dumped { DumpsLevels is_exact wad.now levels.now result
         (W.contents writer.old) (W.contents writer.new)
         (E.contents errors.old) (E.contents errors.new) }
     ensures maps { IfOk result (λ _. All WellFormed (dumped_maps is_exact wad.now levels.now)) }
@@ -236,9 +237,9 @@ fn dump_levels<W: Write, E: Write>(
     Ok(are_all)
 }
 
-/// Writes the lines that draw the levels of `wad`, all or those of the names, in the order of its directory: of each
-/// those of the map that it is after the changes of `lv_import`, and hands them on. Each change is told on `errors`. A
-/// level that is no map is left, and one of which anything is changed where that is to be exact; why is told there.
+/// Writes the lines that draw the levels of `wad`, all or those with the names, in the order of its directory: for each
+/// those of the map that it is after the changes of `lv_import`. Flushes the writer. Writes each change on `errors`. A
+/// level that is no map is left; so is one with any change, if maps are to be exact. Then `errors` has the reason.
 pub fn tell_level_dumps<W: Write, E: Write>(
     alloc: Global,
     wad: &[u8],
@@ -248,7 +249,7 @@ pub fn tell_level_dumps<W: Write, E: Write>(
     errors: &mut E,
 ) -> Result<u8, Refusal>
     ensures small { IfOk result (λ s. s ≤ 3) }
-    ensures told { IsWadDumped ⟦<Change as Display>⟧.output wad.now (map string_bytes names.now)
+    ensures told { IsWadDumped wad.now (map string_bytes names.now)
         is_exact result (W.contents writer.old) (W.contents writer.new)
         (E.contents errors.old) (E.contents errors.new) }
 {

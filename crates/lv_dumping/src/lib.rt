@@ -1,4 +1,4 @@
-//! The command lines that draw maps and levels, as `dump` writes them, and what it tells of levels.
+//! The command lines that draw maps and levels, as `dump` writes them, and what it reports of levels.
 #![tactic(auto)]
 
 mod asked;

@@ -5,3 +5,4 @@ pub mod Refused
 pub mod Outcome
 pub mod Added
 pub mod Unchanged
+pub mod Texts

@@ -1,4 +1,4 @@
-//! What is changed of a level.
+//! Finds the changes of a level.
 ghost use Rattle.std.specs.Prelude.{◌≡◌, ◌++◌, IfOk, IsOkUnless};
 ghost use Rattle.lv_levels.specs.Drawn.{drawn_view};
 ghost use Rattle.lv_import.specs.Mended.{mended_name};
@@ -20,7 +20,7 @@ fn stays(name: Name8) -> bool
     mended_name(name).bytes.as_slice() == name.bytes.as_slice()
 }
 
-// What is changed of a sector's light.
+// The change of a sector's light, if any.
 fn light_change(n: usize, sector: &Sector) -> Option<Change>
     ensures { result ≡ light_change (n, sector.now) }
 {
@@ -31,7 +31,7 @@ fn light_change(n: usize, sector: &Sector) -> Option<Change>
     Some(Change::Light(n, sector.light, new))
 }
 
-// What is changed of a sector's flats.
+// The change of a sector's flats, if any.
 fn flat_change(n: usize, sector: &Sector) -> Option<Change>
     ensures { result ≡ flat_change (n, sector.now) }
 {
@@ -41,7 +41,7 @@ fn flat_change(n: usize, sector: &Sector) -> Option<Change>
     Some(Change::Flats(n))
 }
 
-// What is changed of a side's textures.
+// The change of a side's textures, if any.
 fn texture_change(n: usize, side: &Side) -> Option<Change>
     ensures { result ≡ texture_change (n, side.now) }
 {
@@ -51,7 +51,7 @@ fn texture_change(n: usize, side: &Side) -> Option<Change>
     Some(Change::Textures(n))
 }
 
-// What is changed of a line.
+// The change of a line, if any.
 fn line_change(drawn: &Drawn, n: usize, line: &Line) -> Option<Change>
     ensures { result ≡ line_change (drawn_view drawn.now) (n, line.now) }
 {
@@ -64,7 +64,7 @@ fn line_change(drawn: &Drawn, n: usize, line: &Line) -> Option<Change>
     None
 }
 
-// What is changed of a thing.
+// The change of a thing, if any.
 fn thing_change(n: usize, thing: &Thing) -> Option<Change>
     ensures { result ≡ thing_change (n, thing.now) }
 {
@@ -78,7 +78,7 @@ fn thing_change(n: usize, thing: &Thing) -> Option<Change>
     Some(Change::Angle(n, thing.angle, new))
 }
 
-// The vertices that are left out.
+// The change for the vertices after the last one that a line uses.
 fn vertex_changes(alloc: Global, drawn: &Drawn) -> Result<Vec<Change>, ImportError>
     ensures list { IfOk result (λ list. list.items ≡ vertex_changes (drawn_view drawn.now)) }
     ensures memory { IsOkUnless result ImportError.OutOfMemory }
@@ -91,7 +91,7 @@ fn vertex_changes(alloc: Global, drawn: &Drawn) -> Result<Vec<Change>, ImportErr
     Ok(list)
 }
 
-// What is changed of the light of sectors.
+// The changes of the sectors' light.
 fn light_changes(alloc: Global, sectors: &[Sector]) -> Result<Vec<Change>, ImportError>
     ensures list { IfOk result (λ list. list.items ≡ changes_among light_change sectors.now) }
     ensures memory { IsOkUnless result ImportError.OutOfMemory }
@@ -104,7 +104,7 @@ fn light_changes(alloc: Global, sectors: &[Sector]) -> Result<Vec<Change>, Impor
     Ok(list)
 }
 
-// What is changed of the flats of sectors.
+// The changes of the sectors' flats.
 fn flat_changes(alloc: Global, sectors: &[Sector]) -> Result<Vec<Change>, ImportError>
     ensures list { IfOk result (λ list. list.items ≡ changes_among flat_change sectors.now) }
     ensures memory { IsOkUnless result ImportError.OutOfMemory }
@@ -117,7 +117,7 @@ fn flat_changes(alloc: Global, sectors: &[Sector]) -> Result<Vec<Change>, Import
     Ok(list)
 }
 
-// What is changed of sides.
+// The changes of the sides' textures.
 fn texture_changes(alloc: Global, sides: &[Side]) -> Result<Vec<Change>, ImportError>
     ensures list { IfOk result (λ list. list.items ≡ changes_among texture_change sides.now) }
     ensures memory { IsOkUnless result ImportError.OutOfMemory }
@@ -130,7 +130,7 @@ fn texture_changes(alloc: Global, sides: &[Side]) -> Result<Vec<Change>, ImportE
     Ok(list)
 }
 
-// What is changed of lines.
+// The changes of the lines.
 fn line_changes(alloc: Global, drawn: &Drawn) -> Result<Vec<Change>, ImportError>
     ensures list { let d = drawn_view drawn.now in
         IfOk result (λ list. list.items ≡ changes_among (line_change d) d.lines) }
@@ -145,7 +145,7 @@ fn line_changes(alloc: Global, drawn: &Drawn) -> Result<Vec<Change>, ImportError
     Ok(list)
 }
 
-// What is changed of things.
+// The changes of the things.
 fn thing_changes(alloc: Global, things: &[Thing]) -> Result<Vec<Change>, ImportError>
     ensures list { IfOk result (λ list. list.items ≡ changes_among thing_change things.now) }
     ensures memory { IsOkUnless result ImportError.OutOfMemory }
@@ -158,8 +158,8 @@ fn thing_changes(alloc: Global, things: &[Thing]) -> Result<Vec<Change>, ImportE
     Ok(list)
 }
 
-/// All that is changed of a level: of vertices, of sectors, of sides, of lines, of things. The vertices at the place of
-/// another are known.
+/// All changes of a level: of vertices, sectors, sides, lines and things, in this order. `again` has those of vertices
+/// at the place of an earlier one.
 pub fn changes_of(
     alloc: Global,
     drawn: &Drawn,

@@ -28,7 +28,7 @@ fn greater(a: usize, b: usize) -> usize
     if a < b { b } else { a }
 }
 
-// One more than the greater number of a vertex that a line names, or 0 where the line is left out.
+// One more than the greater of a line's two vertex numbers, or 0 if the line is left out.
 fn line_reach(drawn: &Drawn, line: &Line) -> usize
     ensures { result ≡ line_reach (drawn_view drawn.now) line.now }
 {
@@ -38,7 +38,7 @@ fn line_reach(drawn: &Drawn, line: &Line) -> usize
     greater(behind(line.v1), behind(line.v2))
 }
 
-// One more than the greatest number of a vertex that a line names which isn't left out, or 0.
+// One more than the greatest vertex number of the lines that stay, or 0.
 fn vertex_reach(drawn: &Drawn) -> usize
     ensures { result ≡ vertex_reach (kept_lines (drawn_view drawn.now)) }
 {
@@ -49,7 +49,7 @@ fn vertex_reach(drawn: &Drawn) -> usize
     reach
 }
 
-/// The vertices up to the last that a line uses which isn't left out.
+/// The vertices up to the last one that a line which stays uses.
 pub fn reached_vertices(drawn: &Drawn) -> &[Vertex]
     ensures { result.now ≡ reached_vertices (drawn_view drawn.now) }
 {
@@ -75,7 +75,7 @@ fn kept_count(things: &[Thing]) -> usize
     things.iter().filter(|thing| is_kept(thing)).count()
 }
 
-// The refusal of so many items.
+// The refusal if these are more items than a map holds.
 fn excess(kind: Kind, limit: usize, count: usize) -> Option<ImportError>
     ensures { result ≡ excess kind limit count }
 {

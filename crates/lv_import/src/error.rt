@@ -1,5 +1,6 @@
 //! Why a level is no map, whatever is changed of it.
 ghost use Rattle.std.specs.Prelude.{◌≡◌};
+ghost use Rattle.lv_import.specs.Texts.{kind_text};
 ghost use Rattle.lv_import.specs.declared.error.ImportError.TheVariants.{OutOfMemory};
 
 use lv_levels::Hindrance;
@@ -8,7 +9,7 @@ use std::alloc::{AllocError, AllocFailed};
 use std::fmt;
 use thiserror::Error;
 
-/// Why a level is no map, whatever is changed of it. Items have the numbers that the level gives them.
+/// Why a level is no map, whatever is changed of it. Item numbers are those of the level.
 #[derive(Clone, Copy, Debug, Error)]
 pub enum ImportError {
     Hindered(Hindrance),
@@ -22,8 +23,10 @@ pub enum ImportError {
     OutOfMemory,
 }
 
-// What a kind of item is called.
-fn table_text(kind: Kind) -> &'static str {
+// What the items of a kind are called.
+fn kind_text(kind: Kind) -> &'static str
+    ensures { result.now ≡ kind_text kind }
+{
     match kind {
         Kind::Vertex => "vertices",
         Kind::Sector => "sectors",
@@ -33,30 +36,32 @@ fn table_text(kind: Kind) -> &'static str {
     }
 }
 
-// What is refused, its number if it has one, and how.
-fn parts_of(error: ImportError) -> (&'static str, Option<usize>, &'static str) {
-    match error {
-        ImportError::Hindered(_) => ("the level", None, "can't be built"),
-        ImportError::NoMarker => ("the level", None, "has a name that no map may have"),
-        ImportError::TooMany(kind) => ("the level has more", None, table_text(kind)),
-        ImportError::VertexOutside(n) => ("vertex", Some(n), "is outside the coordinates"),
-        ImportError::SectorName(n) => ("sector", Some(n), "has a name that no flat may have"),
-        ImportError::SectorNumber(n) => ("sector", Some(n), "has a special or tag below 0"),
-        ImportError::SideName(n) => ("side", Some(n), "has a name that no texture may have"),
-        ImportError::LineNumber(n) => ("line", Some(n), "has flags, special or tag above 32767"),
-        ImportError::OutOfMemory => ("the program", None, "is out of memory"),
-    }
-}
-
 impl fmt::Display for ImportError {
+    ghost use Rattle.std.specs.Prelude.{Some};
+    ghost use Rattle.lv_import.specs.Texts.{import_refusal_text};
+
+    ghost output = { λ e. Some (import_refusal_text e) };
+
     fn fmt<W: fmt::Write>(&self, f: &mut fmt::Formatter<W>) -> fmt::Result {
-        if let ImportError::Hindered(hindrance) = self {
-            return hindrance.fmt(f);
-        }
-        let (what, number, how) = parts_of(*self);
-        match number {
-            Some(n) => write!(f, "{what} {n} {how}"),
-            None => write!(f, "{what} {how}"),
+        match self {
+            ImportError::Hindered(hindrance) => write!(f, "{hindrance}"),
+            ImportError::NoMarker => f.write_str("the level has a name that no map may have"),
+            ImportError::TooMany(kind) => {
+                write!(
+                    f,
+                    "the level has more {} than a map holds",
+                    kind_text(*kind)
+                )
+            }
+            ImportError::VertexOutside(n) => write!(f, "vertex {n} is outside the coordinates"),
+            ImportError::SectorName(n) => write!(f, "sector {n} has a name that no flat may have"),
+            ImportError::SectorNumber(n) => write!(f, "sector {n} has a special or tag below 0"),
+            ImportError::SideName(n) => write!(f, "side {n} has a name that no texture may have"),
+            ImportError::LineNumber(n) => write!(
+                f,
+                "line {n} has flags, special or tag above 32767"
+            ),
+            ImportError::OutOfMemory => f.write_str("the program is out of memory"),
         }
     }
 }

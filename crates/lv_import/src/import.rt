@@ -32,7 +32,7 @@ pub struct Imported {
     pub changes: Vec<Change>,
 }
 
-// A call of its own, so that who owns the map lets it go by one step.
+// Its own `drop`, so that an owner's proof has one call at each exit.
 impl Drop for Imported {
     fn drop(self) {
         let Imported {
@@ -42,7 +42,7 @@ impl Drop for Imported {
     }
 }
 
-// The empty map of a name alone.
+// A project with one empty map, which has this name.
 fn named_maps(alloc: Global, name: Name8) -> Maps
     requires { IsNamed is_marker name }
     ensures tables { result.tables ≡ with_name empty_tables name }
@@ -53,7 +53,7 @@ fn named_maps(alloc: Global, name: Name8) -> Maps
     maps
 }
 
-// The level's lines that stay, after the changes, between the vertices that have these numbers.
+// The level's lines that stay, after the changes, between the vertices with these numbers.
 fn lines_of(alloc: Global, drawn: &Drawn, numbers: &[u16]) -> Result<Vec<Line>, ImportError>
     requires fine { IsFine (drawn_view drawn.now) }
     requires numbers { let vs = reached_vertices (drawn_view drawn.now) in
@@ -66,7 +66,7 @@ fn lines_of(alloc: Global, drawn: &Drawn, numbers: &[u16]) -> Result<Vec<Line>, 
     Ok(list)
 }
 
-// Adds the level's lists after the changes to an empty map, and tells the vertices that are left out.
+// Adds the level's lists after the changes to an empty map, and lists the vertices that are left out.
 fn fill(alloc: Global, maps: &mut Maps, drawn: &Drawn) -> Result<Vec<Change>, ImportError>
     requires fine { IsFine (drawn_view drawn.now) }
     requires empty { maps.old.tables ≡ with_name empty_tables maps.old.tables.name }
@@ -85,7 +85,7 @@ fn fill(alloc: Global, maps: &mut Maps, drawn: &Drawn) -> Result<Vec<Change>, Im
     Ok(changes)
 }
 
-/// The map of this name that a level is after the changes, which are told.
+/// The map with this name that a level is after the changes, and the changes.
 ///
 /// # Errors
 ///
@@ -108,11 +108,11 @@ pub fn import_drawn(alloc: Global, drawn: &Drawn, name: Name8) -> Result<Importe
     }
 }
 
-/// The same of a level of a WAD.
+/// The same for a level of a WAD.
 ///
 /// # Errors
 ///
-/// `Hindered`, where what was drawn of it can't be read; else as `import_drawn`.
+/// `Hindered` if what was drawn can't be read; otherwise as `import_drawn`.
 pub fn import_level(
     alloc: Global,
     wad: &[u8],

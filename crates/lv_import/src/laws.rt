@@ -1,7 +1,7 @@
-//! A law of changes, the contract of a call without a body.
+//! A law about changes: the contract of a call with an empty body.
 ghost use Rattle.lv_import.specs.Unchanged.{UntoldLevelsStay};
 
-/// No change of a level is told exactly where the level has the very lists of its map.
+/// No change of a level is reported exactly if the map has the very lists of the level.
 pub fn keep_untold_lists()
     ensures { UntoldLevelsStay }
 {}

@@ -29,7 +29,7 @@ pub fn mended_sides(alloc: Global, sides: &[Side]) -> Result<Vec<Side>, ImportEr
     Ok(list)
 }
 
-// The line after the changes, between the vertices of these numbers.
+// The line after the changes, between the vertices with these numbers.
 fn linked_line(line: &Line, numbers: &[u16]) -> Line
     requires { IsBetweenSome (length numbers.now) line.now }
     ensures { result ≡ linked_line (slice_index numbers.now) line.now }
@@ -54,7 +54,7 @@ pub fn kept_lines(alloc: Global, drawn: &Drawn) -> Result<Vec<Line>, ImportError
     Ok(list)
 }
 
-/// The lines after the changes, between the vertices of these numbers.
+/// The lines after the changes, between the vertices with these numbers.
 pub fn linked_lines(
     alloc: Global,
     lines: &[Line],

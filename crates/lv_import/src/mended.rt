@@ -5,7 +5,7 @@ ghost use Rattle.lv_import.specs.Mended.{is_kept, lacks_left_side, mended_angle,
 
 use lv_lumps::{Line, Name8, Sector, Side, Thing};
 
-// The name in capitals, with NUL behind its text.
+// The name in capitals, with NUL after its text.
 fn capital_name(name: Name8) -> Name8
     ensures { result ≡ capital_name name }
 {
@@ -15,7 +15,7 @@ fn capital_name(name: Name8) -> Name8
     }
 }
 
-/// The name in capitals up to its first NUL, and `-` where that leaves nothing.
+/// The name in capitals up to its first NUL, or `-` if nothing is left.
 pub fn mended_name(name: Name8) -> Name8
     ensures { result ≡ mended_name name }
 {
@@ -25,7 +25,7 @@ pub fn mended_name(name: Name8) -> Name8
     capital_name(name)
 }
 
-/// The nearer end of 0 to 255.
+/// The light, or the nearer end of 0 to 255 if it is outside.
 pub fn mended_light(light: i16) -> i16
     ensures { result ≡ mended_light light }
 {
@@ -38,7 +38,7 @@ pub fn mended_light(light: i16) -> i16
     }
 }
 
-/// The angle modulo 360.
+/// The angle modulo 360, from 0 to 359.
 pub fn mended_angle(angle: i16) -> i16
     ensures { result ≡ mended_angle angle }
 {
@@ -74,7 +74,7 @@ pub fn mended_side(side: &Side) -> Side
     }
 }
 
-/// Whether the line is changed: it has the flag of two sides, and no left side.
+/// Whether the line is two-sided (flag 4) and has no left side, so that it is changed.
 pub fn lacks_left(line: &Line) -> bool
     ensures { result ≡ lacks_left_side line.now }
 {

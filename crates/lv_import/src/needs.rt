@@ -12,21 +12,21 @@ use crate::mended::{is_coordinate, mended_name};
 use lv_levels::{Drawn, has_no_length, other_hindrance};
 use lv_lumps::{Line, Name8, Sector, Side, Vertex, is_marker, is_name};
 
-// Whether the changed name is one of a texture or a flat.
+// Whether the name, after the changes, may be that of a texture or a flat.
 fn is_nameable(name: Name8) -> bool
     ensures { result ≡ is_nameable name }
 {
     is_name(mended_name(name).text())
 }
 
-// Whether the changed names of the sector are ones of flats.
+// Whether the sector's names, after the changes, may be those of flats.
 fn has_flat_names(sector: &Sector) -> bool
     ensures { result ≡ has_flat_names sector.now }
 {
     is_nameable(sector.floor_name) && is_nameable(sector.ceiling_name)
 }
 
-// Whether the changed names of the side are ones of textures.
+// Whether the side's names, after the changes, may be those of textures.
 fn has_texture_names(side: &Side) -> bool
     ensures { result ≡ has_texture_names side.now }
 {
@@ -47,7 +47,7 @@ fn has_line_codes(line: &Line) -> bool
     line.flags <= 32767 && line.special <= 32767 && line.tag <= 32767
 }
 
-// Whether both coordinates of the vertex are ones that maps may have.
+// Whether both coordinates of the vertex are within a map's limits.
 fn is_drawable(vertex: &Vertex) -> bool
     ensures { result ≡ is_drawable vertex.now }
 {
@@ -71,14 +71,14 @@ fn vertex_refusal(vertices: &[Vertex]) -> Option<ImportError>
     }
 }
 
-// The number of the first sector with a name that no flat has.
+// The number of the first sector with a name that no flat may have.
 fn sector_without_flat(sectors: &[Sector]) -> Option<usize>
     ensures { result ≡ position (λ x. not (has_flat_names x)) sectors.now }
 {
     sectors.iter().position(|sector| !has_flat_names(sector))
 }
 
-// The refusal of the first sector with a name that no flat has.
+// The refusal of the first sector with a name that no flat may have.
 fn flat_refusal(sectors: &[Sector]) -> Option<ImportError>
     ensures { result ≡ first_without ImportError.SectorName has_flat_names sectors.now }
 {
@@ -105,14 +105,14 @@ fn sector_refusal(sectors: &[Sector]) -> Option<ImportError>
     }
 }
 
-// The number of the first side with a name that no texture has.
+// The number of the first side with a name that no texture may have.
 fn side_without_texture(sides: &[Side]) -> Option<usize>
     ensures { result ≡ position (λ x. not (has_texture_names x)) sides.now }
 {
     sides.iter().position(|side| !has_texture_names(side))
 }
 
-// The refusal of the first side with a name that no texture has.
+// The refusal of the first side with a name that no texture may have.
 fn side_refusal(sides: &[Side]) -> Option<ImportError>
     ensures { result ≡ first_without ImportError.SideName has_texture_names sides.now }
 {
@@ -151,7 +151,7 @@ fn line_refusal(drawn: &Drawn) -> Option<ImportError>
     }
 }
 
-// The first item, kind by kind, of which a map may have none.
+// The refusal of the first item that no map may have, kind by kind.
 fn item_refusal(drawn: &Drawn) -> Option<ImportError>
     ensures { result ≡ item_refusal (drawn_view drawn.now) }
 {
@@ -161,7 +161,7 @@ fn item_refusal(drawn: &Drawn) -> Option<ImportError>
     first_of(vertex_refusal(reached_vertices(drawn)), flats)
 }
 
-// Whether the name is a map's, as a map keeps it.
+// Whether a map may have the name.
 fn is_map_name(name: Name8) -> bool
     ensures { result ≡ is_map_name name }
 {
@@ -169,7 +169,7 @@ fn is_map_name(name: Name8) -> bool
     padded.bytes.as_slice() == name.bytes.as_slice() && is_marker(name.text())
 }
 
-// A name that no map may have.
+// The refusal of a name that no map may have.
 fn name_refusal(name: Name8) -> Option<ImportError>
     ensures { result ≡ (if is_map_name name then None else Some ImportError.NoMarker) }
 {
@@ -179,7 +179,7 @@ fn name_refusal(name: Name8) -> Option<ImportError>
     Some(ImportError::NoMarker)
 }
 
-// What hinders a build of the level without its lines of no length.
+// The refusal if something prevents a build of the level without its lines of no length.
 fn build_refusal(drawn: &Drawn) -> Option<ImportError>
     ensures { result ≡ option_map Hindered (other_hindrance (drawn_view drawn.now)) }
 {

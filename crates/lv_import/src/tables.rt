@@ -9,7 +9,7 @@ use crate::error::ImportError;
 use lv_lumps::{Line, Sector, Side, Thing};
 use lv_maptables::{MapError, Maps};
 
-/// Why an item isn't added that can be: there is no memory.
+/// The refusal of an item that a map may have: there is no memory.
 pub fn lack_of(error: MapError) -> ImportError
     requires { error ≡ MapError.OutOfMemory }
     ensures { result ≡ ImportError.OutOfMemory }
@@ -54,7 +54,7 @@ fn is_thing(thing: &Thing)
     is_short(thing.options);
 }
 
-/// Adds sectors to a current map without one.
+/// Adds sectors to the current map, which has none.
 pub fn add_sectors(maps: &mut Maps, sectors: &[Sector]) -> Result<(), ImportError>
     requires empty { maps.old.tables.sectors ≡ [] }
     requires range { All HasSectorRanges sectors.now }
@@ -74,7 +74,7 @@ pub fn add_sectors(maps: &mut Maps, sectors: &[Sector]) -> Result<(), ImportErro
     Ok(())
 }
 
-/// Adds sides of its sectors to a current map without one.
+/// Adds sides that face its sectors to the current map, which has none.
 pub fn add_sides(maps: &mut Maps, sides: &[Side]) -> Result<(), ImportError>
     requires empty { maps.old.tables.sides ≡ [] }
     requires range { All HasSideRanges sides.now }
@@ -94,7 +94,7 @@ pub fn add_sides(maps: &mut Maps, sides: &[Side]) -> Result<(), ImportError>
     Ok(())
 }
 
-/// Adds lines between its vertices, with its sides, to a current map without one.
+/// Adds lines between its vertices, with its sides, to the current map, which has none.
 pub fn add_lines(maps: &mut Maps, lines: &[Line]) -> Result<(), ImportError>
     requires empty { maps.old.tables.lines ≡ [] }
     requires range { All IsLine lines.now }
@@ -114,7 +114,7 @@ pub fn add_lines(maps: &mut Maps, lines: &[Line]) -> Result<(), ImportError>
     Ok(())
 }
 
-/// Adds things to a current map without one.
+/// Adds things to the current map, which has none.
 pub fn add_things(maps: &mut Maps, things: &[Thing]) -> Result<(), ImportError>
     requires empty { maps.old.tables.things ≡ [] }
     requires range { All HasThingRanges things.now }

@@ -13,28 +13,28 @@ use lv_lumps::Vertex;
 use lv_maptables::{Kind, Maps};
 use std::alloc::Global;
 
-/// The number that each vertex has in the map, and those that are left out.
+/// The number that each vertex has in the map, and the changes for those that are left out.
 #[derive(Drop)]
 pub struct Numbered {
     pub numbers: Vec<u16>,
     pub changes: Vec<Change>,
 }
 
-// Whether the two stand at one place.
+// Whether the two vertices are at one place.
 fn is_place(a: Vertex, b: &Vertex) -> bool
     ensures { result ≡ is_place a b.now }
 {
     b.x == a.x && b.y == a.y
 }
 
-// The number of the first vertex at the place, if one stands there.
+// The number of the first vertex at the place, if there is one.
 fn first_at(vertices: &[Vertex], vertex: Vertex) -> Option<usize>
     ensures { result ≡ position (is_place vertex) vertices.now }
 {
     vertices.iter().position(|other| is_place(vertex, other))
 }
 
-// The number of the first vertex at the place, or how many there are where none stands there.
+// The number of the first vertex at the place, or the count of vertices if none is there.
 fn number_at(vertices: &[Vertex], vertex: Vertex) -> usize
     ensures { result ≡ number_at vertices.now vertex }
 {
@@ -44,7 +44,7 @@ fn number_at(vertices: &[Vertex], vertex: Vertex) -> usize
     }
 }
 
-/// Adds vertices to a current map without one, each place once.
+/// Adds vertices to the current map, which has none, each place once.
 pub fn add_vertices(
     alloc: Global,
     maps: &mut Maps,

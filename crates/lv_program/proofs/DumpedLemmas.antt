@@ -1,6 +1,5 @@
 -- From what was dumped of a disk, or of a reader, to what a file leaves open.
 use Rattle.std.proofs.Common.{inl, inr, ℕ, Bool, List, Option, [], ◌∷◌, Result, Ok, Err, sym, subst}
-use Rattle.lv_import.specs.declared.change.Change.{Change}
 use Rattle.lv_maptables.specs.Projects.{MapsView}
 use Rattle.lv_project.specs.declared.error.ProjectError.{ProjectError}
 use Rattle.lv_program.specs.Dumped.{IsDumpedAt, OverWadTold}
@@ -34,7 +33,7 @@ dumped names reads how u w (inr (maps, has, done)) = dumped_of names maps how u 
 
 -- ---- A WAD
 
-pub dumped_of_wad : (says : Change → Option (List ℕ)) (names : List (List ℕ)) (exact : Bool) (r s u w d x : Option (List ℕ)) (how : Result ℕ Refusal)
-    → OverWadTold r s how u w d x (λ wad. IsWadDumped says wad names exact how u w d x) → IsDumpedAt says names exact how u w d x
-dumped_of_wad says names exact r s u w d x how (inl (unread, kept)) = inr (inl (unread, kept))
-dumped_of_wad says names exact r s u w d x how (inr (wad, all, done)) = inr (inr (wad, done))
+pub dumped_of_wad : (names : List (List ℕ)) (exact : Bool) (r s u w d x : Option (List ℕ)) (how : Result ℕ Refusal)
+    → OverWadTold r s how u w d x (λ wad. IsWadDumped wad names exact how u w d x) → IsDumpedAt names exact how u w d x
+dumped_of_wad names exact r s u w d x how (inl (unread, kept)) = inr (inl (unread, kept))
+dumped_of_wad names exact r s u w d x how (inr (wad, all, done)) = inr (inr (wad, done))

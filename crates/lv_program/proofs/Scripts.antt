@@ -26,7 +26,7 @@ loud (Picture file map out numbers nodes lint) quiet = quiet refl
 loud (Inspect wad name) quiet = quiet refl
 loud (Levels wad) quiet = quiet refl
 loud (Build file out) quiet = quiet refl
-loud (Rebuild wad out maps) quiet = quiet refl
+loud (Rebuild wad out maps) quiet = quiet
 
 -- the status 0 is an answer
 pub quiet_end : (how : Result ℕ Refusal) → status_in how ≡ 0 → how ≡ Ok 0

@@ -4,6 +4,7 @@ pub mod Dumped
 pub mod DrawnOver
 pub mod Kinds
 pub mod LevelNames
+pub mod Notes
 pub mod Rebuilding
 pub mod Salvaging
 pub mod SomeProject

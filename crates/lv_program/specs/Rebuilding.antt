@@ -8,11 +8,12 @@ use Rattle.lv_lumps.specs.Names.{name_text}
 use Rattle.lv_lumps.specs.declared.records.Name8.{Name8}
 use Rattle.lv_program.specs.Drawing.{EndsUnread}
 use Rattle.lv_views.specs.ShownNames.{shown}
-use Rattle.lv_rebuild.specs.Rebuilt.{IsRebuiltWad, RefusesRebuild}
-use Rattle.lv_rebuild.specs.Texts.{cause_text}
+use Rattle.lv_rebuild.specs.Rebuilt.{IsRebuiltWad, RefusesRebuild, kept_in}
+use Rattle.lv_rebuild.specs.Texts.{cause_text, kept_text}
 use Rattle.lv_rebuild.specs.declared.cause.Cause.{Cause}
 use Rattle.lv_rebuild.specs.declared.error.RebuildError.{RebuildError}
 use Rattle.lv_rebuild.specs.declared.error.RebuildError.TheVariants as rebuilding
+use Rattle.lv_rebuild.specs.declared.kept.KeptFault.{KeptFault}
 use Rattle.lv_rebuild.specs.declared.levels.Fate.{Fate}
 use Rattle.lv_rebuild.specs.declared.levels.Fate.TheVariants.{NotAsked, Made, Left}
 use Rattle.lv_rebuild.specs.declared.levels.RebuiltLevel.{RebuiltLevel}
@@ -47,6 +48,25 @@ fate_text name (Left c) = map shown (name_text name) ++ left_as_text c
 -- what is told of levels, of one behind another
 abbrev pub fate_texts : List RebuiltLevel → List ℕ
 fate_texts levels = flat_map (λ l. fate_text l.name l.fate) levels
+
+-- the faults that stay in a level, as they stand beside what was made of it
+abbrev pub kept_of : Fate → List KeptFault
+kept_of NotAsked = []
+kept_of (Made m) = m.kept.items
+kept_of (Left c) = []
+
+-- the line on standard error for a fault that stays in the level of a name
+abbrev pub kept_line : Name8 → KeptFault → List ℕ
+kept_line name fault = map shown (name_text name) ++ codes ": " ++ kept_text fault ++ 10 ∷ []
+
+-- these lines of levels, of one behind another
+abbrev pub kept_notes : List RebuiltLevel → List ℕ
+kept_notes levels = flat_map (λ l. flat_map (kept_line l.name) (kept_of l.fate)) levels
+
+-- the same of levels of a WAD: a line for each fault that stays in one that is built anew
+abbrev pub kept_fault_lines : List ℕ → List RebuiltLevel → List ℕ
+kept_fault_lines wad levels =
+    flat_map (λ l. flat_map (kept_line l.name) (kept_in wad l.entries l.fate)) levels
 
 -- the level was built anew; it was left
 abbrev pub was_made : Fate → Bool
@@ -92,21 +112,30 @@ refusal_for rebuilding.NoSuchLevel = of.Level (inspecting.Level reading.NoSuchLe
 refusal_for rebuilding.LumpOutside = of.Level (inspecting.Level reading.LumpOutside)
 refusal_for rebuilding.OutOfMemory = of.Level (inspecting.Level reading.OutOfMemory)
 
--- what became of this WAD was told, and the status tells whether a level was left; or nothing was
--- told where it is refused, or else a file or the writer failed
+-- what became of this WAD was told, and beside it the faults that stay, and the status tells whether
+-- a level was left; or nothing was told where it is refused, or else a file or a writer failed
 abbrev pub IsRebuiltOf : List ℕ → List (List ℕ) → Result ℕ Refusal → Option (List ℕ)
-    → Option (List ℕ) → Type 0
-IsRebuiltOf wad names (Ok status) writer-old writer-new =
+    → Option (List ℕ) → Option (List ℕ) → Option (List ℕ) → Type 0
+IsRebuiltOf wad names (Ok status) writer-old writer-new errors-old errors-new =
     (r : RebuiltWad) × IsRebuiltWad wad names r × (status ≡ status_rebuilt r)
     × IsToldOf r writer-old writer-new
-IsRebuiltOf wad names (Err refusal) writer-old writer-new =
+    × Appends errors-old errors-new (kept_fault_lines wad r.levels.items)
+IsRebuiltOf wad names (Err refusal) writer-old writer-new errors-old errors-new =
     ((e : RebuildError) × (refusal ≡ refusal_for e) × RefusesRebuild wad names e
-    × Keeps writer-old writer-new)
+    × Keeps writer-old writer-new × Keeps errors-old errors-new)
     ⊎ (refusal ≡ of.Lines WriterFailed)
 
 -- the WAD was not read to its end, and nothing was told; or this was done with what was read
+abbrev pub IsRebuiltAt : List (List ℕ) → Result ℕ Refusal → Option (List ℕ) → Option (List ℕ)
+    → Option (List ℕ) → Option (List ℕ) → Type 0
+IsRebuiltAt names how writer-old writer-new errors-old errors-new =
+    (EndsUnread how writer-old writer-new × Keeps errors-old errors-new)
+    ⊎ ((wad : List ℕ)
+    × IsRebuiltOf wad names how writer-old writer-new errors-old errors-new)
+
+-- the same, whatever was told on standard error
 abbrev pub IsRebuiltInto : List (List ℕ) → Result ℕ Refusal → Option (List ℕ) → Option (List ℕ)
     → Type 0
 IsRebuiltInto names how writer-old writer-new =
-    EndsUnread how writer-old writer-new
-    ⊎ ((wad : List ℕ) × IsRebuiltOf wad names how writer-old writer-new)
+    (errors-old errors-new : Option (List ℕ))
+    × IsRebuiltAt names how writer-old writer-new errors-old errors-new

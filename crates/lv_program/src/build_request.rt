@@ -20,7 +20,7 @@ use std::alloc::Global;
 use std::fs::{Files, OpenFile};
 use std::io::Write;
 
-// Builds the maps of a project into a new file, which takes its path's place once it is whole, or notes why it doesn't.
+// Builds the maps of a project into a new file, which replaces the one at its path once it is whole; or notes why not.
 fn build_into<E: Files, F: Write + OpenFile + Drop>(
     alloc: Global,
     rt: &E,
@@ -48,7 +48,7 @@ fn build_into<E: Files, F: Write + OpenFile + Drop>(
     }
 }
 
-// Tells what a build made, and hands it on.
+// Writes what a build made, and flushes the writer.
 fn tell_built<W: Write>(counts: BuildCounts, writer: &mut W) -> Result<u8, Refusal>
     ensures told { MatchResult result (λ status. (status ≡ 0)
         × Appends (W.contents writer.old) (W.contents writer.new) (built_text counts))
@@ -62,7 +62,7 @@ fn tell_built<W: Write>(counts: BuildCounts, writer: &mut W) -> Result<u8, Refus
     }
 }
 
-// Builds maps into the file at the path, where nothing, an empty file or a PWAD stands, and tells what was made.
+// Builds maps into the file at the path, which may be new, empty or a PWAD, and writes what was made.
 fn build_at<E: Files, W: Write>(
     alloc: Global,
     rt: &E,
@@ -89,8 +89,8 @@ where
     }
 }
 
-/// Builds the maps of a disk's project into the file at the path, and tells what was made, or notes why the file can't
-/// be made. The file is whole or as it was; only nothing, an empty file or a PWAD is replaced. The disk is only read.
+/// Builds the maps of a disk's project into the file at the path, and writes what was made, or notes why the file can't
+/// be made. The file is whole or as it was; it may be new, empty or a PWAD. The disk is only read.
 pub fn build<E: Files, D: Disk, W: Write>(
     alloc: Global,
     rt: &E,

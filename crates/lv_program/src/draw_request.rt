@@ -14,20 +14,20 @@ use lv_scripts::{Canvas, Draft, ScriptError, Stop, write_refused};
 use std::alloc::Global;
 use std::io::Write;
 
-// The status where a line was refused.
+// The status if a line was refused.
 const STOPPED: u8 = 3;
 
 /// A script that was read.
 #[derive(Clone, Copy)]
 pub struct Script<'a> {
-    /// What it is called where a line is refused.
+    /// Its name in the report of a refused line.
     pub name: &'a str,
     pub text: &'a [u8],
-    /// Whether it is told what each command answered.
+    /// Whether the answer to each command is written.
     pub is_verbose: bool,
 }
 
-// Says which line was refused and why, if one was, where that can be written.
+// Writes which line was refused and why, if one was. Drops what can't be written.
 fn say_stop<F: Write>(
     alloc: Global,
     maps: &Maps,
@@ -46,7 +46,7 @@ fn say_stop<F: Write>(
     }
 }
 
-// The status where all lines were drawn, or a line was refused.
+// The status if all lines were drawn, or if one was refused.
 fn status_of(stop: Option<Stop>) -> u8
     ensures status { result ≡ stop_status stop }
     ensures small { result ≤ 3 }
@@ -57,7 +57,7 @@ fn status_of(stop: Option<Stop>) -> u8
     }
 }
 
-// Hands on what was written, and answers the status.
+// Flushes the writer, and returns the status.
 fn handed_on<W: Write>(
     drawn: Result<Option<Stop>, ScriptError>,
     writer: &mut W,
@@ -75,7 +75,7 @@ fn handed_on<W: Write>(
     }
 }
 
-// Draws a script onto a canvas, and says which line was refused.
+// Draws a script onto a canvas, and reports the refused line.
 fn draw_onto<C: Canvas, W: Write, F: Write>(
     alloc: Global,
     canvas: &mut C,
@@ -100,7 +100,7 @@ fn draw_onto<C: Canvas, W: Write, F: Write>(
     how
 }
 
-/// Draws a script onto the project of a disk, line by line up to the first one that is refused, which is told on
+/// Draws a script onto the project of a disk, line by line up to the first refused one, which is reported on
 /// `faults`. Each command that was done is on the disk. Answers of queries are written.
 pub fn draw<D: Disk, W: Write, F: Write>(
     alloc: Global,
@@ -125,7 +125,7 @@ pub fn draw<D: Disk, W: Write, F: Write>(
     }
 }
 
-/// Tries a script over the empty project in memory, line by line up to the first one that is refused, which is told on
+/// Tries a script over the empty project in memory, line by line up to the first refused one, which is reported on
 /// `faults`. Answers of queries are written.
 pub fn try_script<W: Write, F: Write>(
     alloc: Global,

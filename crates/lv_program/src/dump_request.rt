@@ -9,15 +9,13 @@ ghost use Rattle.lv_dumping.specs.LevelDumps.{IsWadDumped};
 use crate::over_disk::{HandedBack, open_project};
 use lv_disk::Disk;
 use lv_dumping::{tell_level_dumps, tell_lines_of};
-use lv_import::Change;
 use lv_reports::Refusal;
 use lv_views::{TURNS, read_whole};
 use std::alloc::Global;
-use std::fmt::Display;
 use std::io::{Read, Write};
 
-/// Writes the lines that draw the maps of a disk's project again, from the empty project, or, where there are names,
-/// those of each map of the names. The disk is only read.
+/// Writes the lines that draw the maps of a disk's project again, from the empty project, or, if there are names, those
+/// of each map with one of the names. The disk is only read.
 pub fn dump<D: Disk, W: Write>(
     alloc: Global,
     disk: D,
@@ -42,8 +40,8 @@ pub fn dump<D: Disk, W: Write>(
     }
 }
 
-/// Writes the lines that draw the levels of the WAD that is all that the reader gives, all or those of the names, and
-/// tells on `errors` what is changed of them, and which are left.
+/// Reads a WAD to its end and writes the lines that draw its levels, all or those with the names; reports on `errors`
+/// what is changed of them, and which are left.
 pub fn dump_wad<R: Read, W: Write, F: Write>(
     alloc: Global,
     reader: &mut R,
@@ -56,7 +54,7 @@ pub fn dump_wad<R: Read, W: Write, F: Write>(
     ensures dumped { OverWadTold (R.remaining reader.old) (R.remaining reader.new) result
         (W.contents writer.old) (W.contents writer.new)
         (F.contents errors.old) (F.contents errors.new)
-        (λ wad. IsWadDumped ⟦<Change as Display>⟧.output wad (map string_bytes names.now) is_exact
+        (λ wad. IsWadDumped wad (map string_bytes names.now) is_exact
         result (W.contents writer.old) (W.contents writer.new)
         (F.contents errors.old) (F.contents errors.new)) }
 {

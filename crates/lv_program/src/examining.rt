@@ -11,7 +11,7 @@ use std::alloc::Global;
 use std::fs::{self, Files};
 use std::io::{Read, Write};
 
-// Inspects the level of the name in all that the reader gives, hands on what is told, and answers the status.
+// Inspects the level with the name in all that the reader gives, flushes the writer, and returns the status.
 fn examine_read<R: Read, W: Write>(
     alloc: Global,
     reader: &mut R,
@@ -32,7 +32,7 @@ fn examine_read<R: Read, W: Write>(
     }
 }
 
-/// Inspects the level of the name in the WAD at the path, and answers the status, or notes why it can't be opened.
+/// Inspects the level with the name in the WAD at the path, and returns the status, or notes why it can't be opened.
 pub fn examine<E: AllocGlobal + Files, W: Write>(
     rt: &E,
     path: &str,

@@ -1,4 +1,4 @@
-//! What the words of the program ask for.
+//! Does what the program's arguments ask for.
 #![tactic(auto)]
 
 mod build_request;
@@ -10,6 +10,7 @@ mod over_disk;
 mod over_file;
 mod picture_request;
 mod program;
+mod rebuild_notes;
 mod rebuild_request;
 mod salvage_request;
 mod script_file;

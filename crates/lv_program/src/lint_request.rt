@@ -1,5 +1,5 @@
-//! The request `lint`: what there is to say of each map of a disk's project, or of each level of a WAD, perhaps beside
-//! another WAD.
+//! The request `lint`: the findings and warnings of each map of a disk's project, or of each level of a WAD; another
+//! WAD may be given for the names of flats and textures.
 ghost use Rattle.std.specs.Prelude.{◌≡◌, ◌≤◌, IfOk, is_some, option_map};
 ghost use Rattle.lv_views.specs.LevelLines.{IsWadLintedBy};
 ghost use Rattle.lv_views.specs.Linting.{IsLintedBy};
@@ -15,9 +15,9 @@ use lv_views::{TURNS, read_whole, tell_beside, tell_levels_beside};
 use std::fs::Files;
 use std::io::{Read, Write};
 
-/// Writes what there is to say of each map of a disk's project, or of the one of the name alone: the findings of
-/// `check`, then the warnings of `lv_lint`, then those of flats and textures that the WAD at the path `iwad` lacks, if
-/// one is given, each behind the map's name, and last how many lines these are; or notes why the WAD can't be opened.
+/// Writes about each map of a disk's project, or about the one with the name alone: the findings of `check`, then the
+/// warnings of `lv_lint`, then, if `iwad` is given, those of the flats and textures that the WAD at that path lacks.
+/// Each line begins with the map's name; the number of these lines comes last. Or notes why the WAD can't be opened.
 /// The disk is only read.
 pub fn lint<E: AllocGlobal + Files, D: Disk, W: Write>(
     rt: &E,
@@ -45,7 +45,7 @@ pub fn lint<E: AllocGlobal + Files, D: Disk, W: Write>(
     }
 }
 
-/// The same of the levels of the WAD that is all that the reader gives.
+/// Reads a WAD to its end and does the same with its levels.
 pub fn lint_wad<E: AllocGlobal + Files, R: Read, W: Write>(
     rt: &E,
     reader: &mut R,

@@ -1,4 +1,4 @@
-//! The requests `create`, `edit` and `check`, over a disk that is handed over and handed back.
+//! The requests `create`, `edit` and `check`, over a disk that each takes and gives back.
 ghost use Rattle.std.specs.Prelude.{◌≡◌, ◌≤◌, IfErr, IfOk, option_map};
 ghost use Rattle.std.specs.Io.KnownBytes.{Appends};
 ghost use Rattle.lv_project.specs.Opening.{IsRefusedRead};
@@ -24,7 +24,7 @@ pub struct HandedBack<D> {
     pub disk: D,
 }
 
-/// The project that a disk's bytes stand for, or how a request ends that finds none.
+/// The project that a disk's bytes stand for, or, if there is none, how the request ends.
 pub fn open_project<D: Disk>(alloc: Global, disk: D) -> Result<Project<D>, HandedBack<D>>
     ensures opened { IfOk result (IsOpenedFrom D.Disk disk) }
     ensures refused { IfErr result (λ r. NotOpened (D.reads disk) r.how
@@ -39,7 +39,7 @@ pub fn open_project<D: Disk>(alloc: Global, disk: D) -> Result<Project<D>, Hande
     }
 }
 
-// Writes a text and hands it on.
+// Writes a text, and flushes the writer.
 fn say<W: Write>(text: &[u8], writer: &mut W) -> Result<u8, Refusal>
     ensures said { IfOk result (λ status. (status ≡ 0)
         × Appends (W.contents writer.old) (W.contents writer.new) text.now) }
@@ -55,7 +55,7 @@ fn say<W: Write>(text: &[u8], writer: &mut W) -> Result<u8, Refusal>
     }
 }
 
-/// Makes a project on a disk, and says so.
+/// Makes a project on a disk, and writes `created`.
 pub fn create<D: Disk, W: Write>(
     alloc: Global,
     disk: D,
@@ -102,8 +102,8 @@ pub fn edit<D: Disk, R: Read, W: Write>(
     }
 }
 
-/// Says what is wrong or unfinished in the map of the name of a disk's project, or in the current one. The disk is only
-/// read.
+/// Writes what is wrong or unfinished in the map with the name of a disk's project, or in the current one. The disk is
+/// only read.
 pub fn check<D: Disk, W: Write>(
     alloc: Global,
     disk: D,

@@ -18,11 +18,9 @@ use crate::script_file::{read_script, script_name};
 use crate::wad_file::{begins_as_wad, check_wad};
 use lv_disk::{Disk, FileDisk};
 use lv_files::{Access, GaplessFile, Hold, NotedFile, open_held};
-use lv_import::Change;
 use lv_project::{Geometry, ProjectError};
 use lv_reports::{Causes, Refusal};
 use lv_views::Wanted;
-use std::fmt::Display;
 use std::io::{Read, Write};
 use std::os::unix::fs::FileExt;
 use std::rt::Files;
@@ -47,8 +45,7 @@ where
     }
 }
 
-// The file of a request, held until it is let go, which knows why its last call failed; or notes why it can't be
-// opened.
+// A request's file, held until it is dropped, which knows why its last call failed; or notes why it can't be opened.
 fn file_at<E: Files>(
     rt: &E,
     path: &str,
@@ -63,7 +60,7 @@ where
     Ok(NotedFile::new(file))
 }
 
-// How a request over a file ended; where the file failed, notes why.
+// How a request over a file ended; if the file failed, notes why.
 fn ended_over<F>(
     file: &NotedFile<F>,
     how: Result<u8, Refusal>,
@@ -127,8 +124,8 @@ where
     ended_over(&file, how, why)
 }
 
-/// Says what is wrong or unfinished in the map of the name of the project in the file at the path, or in the current
-/// one; or in the level of the name of the WAD there, or in the first one.
+/// Writes what is wrong or unfinished in a map of the project in the file at the path, the one with the name or the
+/// current one; if the file is a WAD, in its level with the name, or in the first one.
 pub fn check_file<E, W>(
     rt: &E,
     path: &str,
@@ -154,9 +151,9 @@ where
     ended_over(&file, how, why)
 }
 
-/// Says what is wrong, unfinished or doubtful in each map of the project in the file at the path, or in each level of
-/// the WAD there, or in the one of the name alone, and which flats and textures the WAD at the path `iwad` lacks, if
-/// one is given.
+/// Writes what is wrong, unfinished or doubtful in each map of the project in the file at the path, or in the one with
+/// the name alone, and which flats and textures the WAD at the path `iwad` lacks, if one is given. If the file is a
+/// WAD, does the same with its levels.
 pub fn lint_file<E, W>(
     rt: &E,
     path: &str,
@@ -183,7 +180,7 @@ where
     ended_over(&file, how, why)
 }
 
-/// Draws a script onto the project in the file at the path: the one in the file at `script`, or else the input.
+/// Draws a script onto the project in the file at the path. The script is the file at `script`, or the input.
 pub fn draw_file<E, R, W, F>(
     rt: &E,
     path: &str,
@@ -224,8 +221,8 @@ where
     ended_over(&file, how, why)
 }
 
-/// Writes the lines that draw the maps of the project in the file at the path again, or the levels of the WAD there,
-/// all or those of the names; and tells on `errors` what is changed of the levels, and which are left.
+/// Writes the lines that draw the maps of the project in the file at the path again, all or those with the names. If
+/// the file is a WAD, does the same with its levels, and reports on `errors` their changes, and which are left.
 pub fn dump_file<E, W, F>(
     rt: &E,
     path: &str,
@@ -241,7 +238,7 @@ where
     W: Write,
     F: Write,
     ensures small { IfOk result (λ s. s ≤ 3) }
-    ensures dumped { IsDumpedAt ⟦<Change as Display>⟧.output (map string_bytes names.now) is_exact
+    ensures dumped { IsDumpedAt (map string_bytes names.now) is_exact
         result (W.contents writer.old) (W.contents writer.new)
         (F.contents errors.old) (F.contents errors.new) }
 {
@@ -255,8 +252,8 @@ where
     ended_over(&file, how, why)
 }
 
-/// Writes the lines that draw the maps again that can be read of the project in the file at the path, be it damaged or
-/// not, and says where it is damaged.
+/// Writes the lines that draw the maps again which can be read from the project in the file at the path, damaged or
+/// not, and reports where it is damaged.
 pub fn salvage_file<E, W, F>(
     rt: &E,
     path: &str,
@@ -278,7 +275,7 @@ where
     ended_over(&file, how, why)
 }
 
-/// Draws a map of the project in the file at the path, or a level of the WAD there.
+/// Draws a map of the project in the file at the path; if the file is a WAD, a level of it.
 pub fn picture_file<E, W>(
     rt: &E,
     path: &str,

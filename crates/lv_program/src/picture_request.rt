@@ -16,8 +16,7 @@ use std::fs::Files;
 use std::io::{Read, Write};
 
 /// Draws a map of a disk's project as a picture, onto the output or into a file, or notes why the file can't be made.
-/// The file is whole or as it was; only nothing, an empty file or a picture of a map is replaced. The disk is only
-/// read.
+/// The file is whole or as it was; it may be new, empty or a picture of a map. The disk is only read.
 pub fn picture<E: Files, D: Disk, W: Write>(
     alloc: Global,
     rt: &E,
@@ -47,7 +46,7 @@ where
     }
 }
 
-/// Draws a level of the WAD that is all that the reader gives, in the same way.
+/// Reads a WAD to its end and draws a level of it in the same way.
 pub fn picture_wad<E: Files, R: Read, W: Write>(
     alloc: Global,
     rt: &E,

@@ -1,9 +1,9 @@
-//! `perform`: does what a request asks for and answers the program's status.
+//! `perform`: does what a request asks for, and returns the program's status.
 ghost use Rattle.std.specs.Prelude.{◌≡◌, ◌≤◌, ℕ, false, true, IfOk, List, Option, Result};
 ghost use Rattle.std.specs.Io.KnownBytes.{Keeps};
 ghost use Rattle.lv_program.specs.Deeds.{IsPerformed, IsScratched};
-ghost use Rattle.lv_program.specs.Dumped.{HasToldDump, TellsDump};
 ghost use Rattle.lv_program.specs.Kinds.{IsQuiet, is_over_wad, tells_beside};
+ghost use Rattle.lv_program.specs.Notes.{HasToldNotes, TellsNotes};
 ghost use Rattle.lv_reports.specs.Statuses.{status_in};
 ghost use Rattle.lv_reports.specs.declared.refusal.Refusal.{Refusal};
 
@@ -18,12 +18,10 @@ use crate::wad_levels::list_levels;
 use lv_disk::{Disk, FileDisk};
 use lv_editor::run_in_memory;
 use lv_files::{Hold, NotedFile};
-use lv_import::Change;
 use lv_reports::{Causes, Refusal, ended, report, report_causes, status_in};
 use lv_requests::Request;
 use lv_views::{TURNS, Wanted, layers_of};
 use std::alloc::Global;
-use std::fmt::Display;
 use std::io::{Read, Write};
 use std::os::unix::fs::FileExt;
 use std::rt::Files;
@@ -37,7 +35,7 @@ fn scratch<R: Read, W: Write>(alloc: Global, reader: &mut R, writer: &mut W) -> 
     ended(run_in_memory(alloc, reader, writer, TURNS))
 }
 
-// Does what a request over a WAD alone asks for.
+// Does what is asked for by a request that only reads a WAD.
 fn done_with_wad<E, W>(
     rt: &E,
     request: &Request,
@@ -55,9 +53,6 @@ where
     ensures small { IfOk result (λ s. s ≤ 3) }
 {
     match request {
-        Request::Rebuild { wad, out, maps } => {
-            rebuild(rt, wad.as_str(), out.as_str(), maps, writer, why)
-        }
         Request::Inspect { wad, name } => {
             examine(rt, wad.as_str(), name.as_str(), writer, &mut why.file)
         }
@@ -66,7 +61,7 @@ where
     }
 }
 
-// Does what a request asks for that tells nothing but a refusal on standard error, and answers the status.
+// Does what is asked for by a request that writes nothing but a refusal on standard error, and returns the status.
 fn done_quietly<E, R, W>(
     rt: &E,
     request: &Request,
@@ -105,7 +100,8 @@ where
         Request::Draw { .. }
         | Request::TryScript { .. }
         | Request::Dump { .. }
-        | Request::Salvage { .. } => unreachable!(),
+        | Request::Salvage { .. }
+        | Request::Rebuild { .. } => unreachable!(),
         Request::Picture {
             file,
             map,
@@ -126,7 +122,7 @@ where
     }
 }
 
-// Does what a request asks for, and answers the status where it isn't refused.
+// Does what a request asks for, and returns the status if it isn't refused.
 fn done<E, R, W, F>(
     rt: &E,
     request: &Request,
@@ -147,7 +143,7 @@ where
     ensures small { IfOk result (λ s. s ≤ 3) }
     ensures quiet { IsQuiet request.now (status_in result)
         → Keeps (F.contents faults.old) (F.contents faults.new) }
-    ensures told { TellsDump ⟦<Change as Display>⟧.output request.now result
+    ensures told { TellsNotes request.now result
         (W.contents writer.old) (W.contents writer.new)
         (F.contents faults.old) (F.contents faults.new) }
 {
@@ -177,15 +173,18 @@ where
             dump_file(rt, file.as_str(), names, *exact, writer, faults, why)
         }
         Request::Salvage { file } => salvage_file(rt, file.as_str(), writer, faults, why),
+        Request::Rebuild { wad, out, maps } => {
+            rebuild(rt, wad.as_str(), out.as_str(), maps, writer, faults, why)
+        }
         _ => done_quietly(rt, request, reader, writer, why),
     }
 }
 
-/// Does what the words asked for, with standard input, output and error handed in, and answers the
-/// status: 0 where it is done, 3 where maps have findings, a level a fault or a script a line that is
-/// refused, or where a level is left, which `faults` tells, and 1 where it was refused, with a line on `faults`
-/// that says why, and one more where a file can't be opened, made, read, written or synced. The writer is
-/// flushed after each turn of reading.
+/// Does what a request asks for, with standard input, output and error passed in, and returns the status: 0 if it was
+/// done; 3 if maps have findings, a level has a fault or was left, or a line of a script was refused; 1 if the request
+/// was refused, with the reason in a line on `faults`, and one more if a file can't be opened, made, read, written or
+/// synced. `dump` and `rebuild` also report on `faults` about the levels of a WAD. The writer is flushed after each
+/// turn of reading.
 pub fn perform<E, R, W, F>(
     rt: &E,
     request: &Request,
@@ -206,7 +205,7 @@ where
         (W.contents writer.old) (W.contents writer.new) }
     ensures quiet { IsQuiet request.now result
         → Keeps (F.contents faults.old) (F.contents faults.new) }
-    ensures told { HasToldDump ⟦<Change as Display>⟧.output request.now result
+    ensures told { HasToldNotes request.now result
         (W.contents writer.old) (W.contents writer.new)
         (F.contents faults.old) (F.contents faults.new) }
 {

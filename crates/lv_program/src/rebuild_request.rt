@@ -1,11 +1,12 @@
-//! The request `rebuild`: the levels of a WAD built anew, and the WAD that they stand in, written into a file.
+//! The request `rebuild`: builds the levels of a WAD anew, and writes the new WAD into a file.
 ghost use Rattle.std.specs.Prelude.{◌≡◌, ◌≤◌, count_by, IfErr, IfOk, MatchResult, map, string_bytes};
 ghost use Rattle.std.specs.Io.KnownBytes.{Appends};
 ghost use Rattle.lv_editor.specs.declared.error.EditorError.TheVariants.{WriterFailed};
 ghost use Rattle.lv_program.specs.Drawing.{IsUnread};
-ghost use Rattle.lv_program.specs.Rebuilding.{IsRebuiltInto, IsRebuiltOf, IsToldOf, fate_text, fate_texts, items_text, left_as_text, made_text, rebuilt_text, refusal_for, status_rebuilt, was_left, was_made};
+ghost use Rattle.lv_program.specs.Rebuilding.{IsRebuiltAt, IsRebuiltOf, IsToldOf, fate_text, fate_texts, items_text, kept_notes, left_as_text, made_text, rebuilt_text, refusal_for, status_rebuilt, was_left, was_made};
 ghost use Rattle.lv_reports.specs.declared.refusal.Refusal.{Refusal};
 
+use crate::rebuild_notes::write_notes;
 use lv_editor::{EditorError, InspectError};
 use lv_files::{Cause, Form, Hold, NewFile, open_new_of};
 use lv_levels::ReadError;
@@ -15,7 +16,7 @@ use lv_views::{TURNS, read_whole, write_shown};
 use std::fs::{self, Files, OpenFile};
 use std::io::Write;
 
-// The refusal of a WAD whose levels aren't built anew.
+// The refusal of the request if the whole WAD is refused.
 fn refusal_of(error: RebuildError) -> Refusal
     ensures { result ≡ refusal_for error }
 {
@@ -30,7 +31,7 @@ fn refusal_of(error: RebuildError) -> Refusal
     Refusal::Level(InspectError::Level(error))
 }
 
-// Writes that a level is built anew, with so many items.
+// Writes that a level is built anew, with these counts of its records.
 fn write_items<W: Write>(
     vertices: usize,
     segs: usize,
@@ -53,7 +54,7 @@ fn write_items<W: Write>(
     }
 }
 
-// Writes how many items a level that is built anew has.
+// Writes that a level is built anew, with the counts of its records.
 fn write_made<W: Write>(made: &MadeLumps, writer: &mut W) -> Result<(), EditorError>
     ensures { MatchResult result
         (λ _. Appends (W.contents writer.old) (W.contents writer.new) (made_text made.now))
@@ -172,12 +173,18 @@ fn write_end<W: Write>(
     }
 }
 
-// Tells what became of a WAD, hands it on, and answers the status.
-fn tell_rebuilt<W: Write>(rebuilt: &RebuiltWad, writer: &mut W) -> Result<u8, Refusal>
+// Writes what became of the levels, flushes the writer, reports the faults that stay, and returns the status.
+fn tell_rebuilt<W: Write, F: Write>(
+    rebuilt: &RebuiltWad,
+    writer: &mut W,
+    errors: &mut F,
+) -> Result<u8, Refusal>
     ensures small { IfOk result (λ s. s ≤ 3) }
     ensures told { MatchResult result
         (λ status. (status ≡ status_rebuilt rebuilt.now)
-        × IsToldOf rebuilt.now (W.contents writer.old) (W.contents writer.new))
+        × IsToldOf rebuilt.now (W.contents writer.old) (W.contents writer.new)
+        × Appends (F.contents errors.old) (F.contents errors.new)
+        (kept_notes rebuilt.now.levels.items))
         (λ refusal. refusal ≡ Refusal.Lines WriterFailed) }
 {
     let made = made_count(&rebuilt.levels);
@@ -185,12 +192,14 @@ fn tell_rebuilt<W: Write>(rebuilt: &RebuiltWad, writer: &mut W) -> Result<u8, Re
     write_levels(&rebuilt.levels, writer)?;
     write_end(made, made + left, rebuilt.bytes.len(), writer)?;
     match writer.flush() {
-        Ok(()) => Ok(status_told(left == 0)),
-        Err(_) => Err(Refusal::Lines(EditorError::WriterFailed)),
+        Ok(()) => {}
+        Err(_) => return Err(Refusal::Lines(EditorError::WriterFailed)),
     }
+    write_notes(&rebuilt.levels, errors)?;
+    Ok(status_told(left == 0))
 }
 
-// Hands the bytes of a WAD to a writer, all of them.
+// Writes all bytes of a WAD.
 fn hand_over<W: Write>(bytes: &[u8], writer: &mut W) -> Result<(), EditorError>
     ensures { MatchResult result
         (λ _. Appends (W.contents writer.old) (W.contents writer.new) bytes.now)
@@ -202,7 +211,7 @@ fn hand_over<W: Write>(bytes: &[u8], writer: &mut W) -> Result<(), EditorError>
     }
 }
 
-// Writes the WAD into a new file, which takes its path's place once it is whole, or notes why it doesn't.
+// Writes the WAD into a new file, which replaces the one at its path once it is whole; or notes why it doesn't.
 fn put_wad<E: Files, F: Write + OpenFile + Drop>(
     rt: &E,
     bytes: &[u8],
@@ -227,23 +236,26 @@ fn put_wad<E: Files, F: Write + OpenFile + Drop>(
     }
 }
 
-// Builds the levels of the WAD that was read at the path anew into the file at `out`, and tells what became of each.
-fn rebuild_into<E, W>(
+// Builds the levels of the WAD anew that was read at the path, into the file at `out`, and reports on each.
+fn rebuild_into<E, W, F>(
     rt: &E,
     path: &str,
     wad: &[u8],
     out: &str,
     names: &[String],
     writer: &mut W,
+    errors: &mut F,
     why: &mut Option<Cause>,
 ) -> Result<u8, Refusal>
 where
     E: AllocGlobal + Files,
     E::File: Hold,
     W: Write,
+    F: Write,
     ensures small { IfOk result (λ s. s ≤ 3) }
     ensures rebuilt { IsRebuiltOf wad.now (map string_bytes names.now) result
-        (W.contents writer.old) (W.contents writer.new) }
+        (W.contents writer.old) (W.contents writer.new)
+        (F.contents errors.old) (F.contents errors.new) }
 {
     let rebuilt = match rebuild_wad(rt.alloc(), wad, names) {
         Ok(rebuilt) => rebuilt,
@@ -257,7 +269,7 @@ where
         }
     };
     match put_wad(rt, &rebuilt.bytes, new, why) {
-        Ok(()) => tell_rebuilt(&rebuilt, writer),
+        Ok(()) => tell_rebuilt(&rebuilt, writer, errors),
         Err(refusal) => Err(refusal),
     }
 }
@@ -282,28 +294,32 @@ fn read_at<E: AllocGlobal + Files>(
     }
 }
 
-/// Builds the levels of the WAD at the path anew, those of the names or all, into the file at `out`, and tells what
-/// became of each, or notes why a file can't be opened or made. The WAD is read whole before, so that `out` may be its
-/// path; that file is whole or as it was, and only nothing, an empty file, a PWAD or what was read is replaced.
-pub fn rebuild<E, W>(
+/// Builds the levels of the WAD at the path anew, all or those with the names, and writes the new WAD into the file at
+/// `out`. Writes what became of each level, and on `errors` the faults that stay in those that were built anew; or
+/// notes why a file can't be opened or made. The WAD is read whole first, so `out` may be its path; otherwise `out` may
+/// be new, empty or a PWAD. That file is whole or as it was.
+pub fn rebuild<E, W, F>(
     rt: &E,
     path: &str,
     out: &str,
     names: &[String],
     writer: &mut W,
+    errors: &mut F,
     why: &mut Causes,
 ) -> Result<u8, Refusal>
 where
     E: AllocGlobal + Files,
     E::File: Hold,
     W: Write,
+    F: Write,
     ensures small { IfOk result (λ s. s ≤ 3) }
-    ensures rebuilt { IsRebuiltInto (map string_bytes names.now) result
-        (W.contents writer.old) (W.contents writer.new) }
+    ensures rebuilt { IsRebuiltAt (map string_bytes names.now) result
+        (W.contents writer.old) (W.contents writer.new)
+        (F.contents errors.old) (F.contents errors.new) }
 {
     let wad = match read_at(rt, path, &mut why.file) {
         Ok(wad) => wad,
         Err(refusal) => return Err(refusal),
     };
-    rebuild_into(rt, path, &wad, out, names, writer, &mut why.out)
+    rebuild_into(rt, path, &wad, out, names, writer, errors, &mut why.out)
 }

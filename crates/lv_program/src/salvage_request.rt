@@ -1,4 +1,4 @@
-//! The request `dump --salvage`: the lines that draw the maps again that can be read of a damaged project.
+//! The request `dump --salvage`: the lines that draw the maps again which can be read from a damaged project.
 ghost use Rattle.std.specs.Prelude.{◌≡◌, ◌≤◌, ◌⊎◌, IfErr, IfOk};
 ghost use Rattle.lv_disk.specs.Reading.{OnlyReads};
 ghost use Rattle.lv_disk.specs.Stops.{Each};
@@ -14,7 +14,7 @@ use lv_salvage::{SalvageError, Salvaged, salvage};
 use std::alloc::Global;
 use std::io::Write;
 
-// The refusal of a salvage, as a project has it.
+// The refusal of a salvage, as that of a project.
 fn refusal_of(error: SalvageError) -> ProjectError
     ensures { result ≡ refusal_for_salvage error }
 {
@@ -46,7 +46,7 @@ fn read_bytes<D: Disk>(alloc: Global, disk: &mut D) -> Result<Vec<u8>, ProjectEr
     }
 }
 
-// Says where the file is damaged, how many records are kept and how many aren't.
+// Writes where the file is damaged, how many records are kept and how many aren't.
 fn tell_damage<F: Write>(found: &Salvaged, faults: &mut F) {
     let kept = found.records;
     let behind = found.behind;
@@ -59,7 +59,7 @@ fn tell_damage<F: Write>(found: &Salvaged, faults: &mut F) {
     };
 }
 
-// Writes the lines that draw the maps again that can be read of a file's bytes.
+// Writes the lines that draw the maps again which can be read from a file's bytes.
 fn write_salvaged<W: Write, F: Write>(
     alloc: Global,
     file: &[u8],
@@ -81,7 +81,7 @@ fn write_salvaged<W: Write, F: Write>(
     how
 }
 
-/// Writes the lines that draw the maps again that can be read of a disk's project, be it damaged or not, and says where
+/// Writes the lines that draw the maps again which can be read from a disk's project, damaged or not, and reports where
 /// it is damaged. The disk is only read.
 pub fn salvage_lines<D: Disk, W: Write, F: Write>(
     alloc: Global,

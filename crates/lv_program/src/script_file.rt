@@ -1,4 +1,4 @@
-//! Scripts in files, or in the input: drawn onto the project in a file, or tried.
+//! Reads scripts from files or from the input, and tries one over the empty project.
 ghost use Rattle.std.specs.Prelude.{◌≡◌, ◌≤◌, false, Ok, IfErr, IfOk, is_some};
 ghost use Rattle.std.specs.Io.KnownBytes.{Keeps};
 ghost use Rattle.lv_program.specs.Drawing.{IsInput, IsScriptTried, IsUnread};
@@ -41,7 +41,7 @@ fn read_file<E: AllocGlobal + Files>(
     }
 }
 
-/// A script: all that the file at the path gives, or else the input; or notes why the file can't be opened.
+/// A script: the whole file at the path, or the whole input if no path is given; or notes why the file can't be opened.
 pub fn read_script<E: AllocGlobal + Files, R: Read>(
     rt: &E,
     path: Option<&str>,
@@ -58,7 +58,7 @@ pub fn read_script<E: AllocGlobal + Files, R: Read>(
     }
 }
 
-/// What a script is called where a line is refused: its path, and `-` for the input.
+/// The name of a script in the report of a refused line: its path, or `-` for the input.
 pub fn script_name<'a>(path: Option<&'a str>) -> &'a str {
     match path {
         Some(path) => path,

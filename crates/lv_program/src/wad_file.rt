@@ -16,7 +16,7 @@ fn is_wad_head(head: &[u8]) -> bool
     head == b"IWAD".as_slice() || head == b"PWAD".as_slice()
 }
 
-/// Whether a file begins as a WAD. One that can't be read is none.
+/// Whether a file begins as a WAD does. One that can't be read doesn't.
 pub fn begins_as_wad<F: FileExt>(file: &F) -> bool {
     let mut head = [0; 4];
     match file.read_exact_at(&mut head, 0) {
@@ -25,8 +25,7 @@ pub fn begins_as_wad<F: FileExt>(file: &F) -> bool {
     }
 }
 
-/// Says what is wrong or unfinished in the level of the name of the WAD that is all that the reader gives, or in its
-/// first one.
+/// Reads a WAD to its end and writes what is wrong or unfinished in its level with the name, or in the first one.
 pub fn check_wad<R: Read, W: Write>(
     alloc: Global,
     reader: &mut R,

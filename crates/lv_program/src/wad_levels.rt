@@ -65,7 +65,7 @@ fn write_levels<W: Write>(alloc: Global, wad: &[u8], writer: &mut W) -> Result<(
     }
 }
 
-// Writes the names of the levels in all that the reader gives, and hands them on.
+// Writes the names of the levels in all that the reader gives, and flushes the writer.
 fn list_read<R: Read, W: Write>(
     alloc: Global,
     reader: &mut R,

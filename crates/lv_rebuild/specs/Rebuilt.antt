@@ -1,16 +1,18 @@
 -- A WAD whose levels are built anew of their own lines, its other lumps as they were (docs/FORMAT.md, "Levels of other WADs").
 use Rattle.std.specs.Prelude.{◌≡◌, ◌≢◌, ◌⊎◌, ℕ, zero, suc, ◌+◌, ◌-◌, ◌/◌, ◌≤◌, Bool, true, false, not, ◌||◌, ◌==◌, nat_lt, List, [], ◌∷◌, ◌++◌, length, map, filter, take, All, Option, Some, None}
 use Rattle.std.specs.List.{list_all, list_any, range_with_len}
-use Rattle.lv_levels.specs.Drawn.{level_lump}
+use Rattle.lv_levels.specs.Drawn.{drawn_lists, level_lump}
 use Rattle.lv_levels.specs.Entries.{AreLevels, entry_text, is_level}
 use Rattle.lv_levels.specs.Levels.{are_inside, entry, first_failed, has_directory, is_wad, lump, lump_count, lump_names, same_bytes}
 use Rattle.lv_levels.specs.Listing.{listing_refusal}
 use Rattle.lv_levels.specs.declared.entries.LevelEntries.{LevelEntries}
 use Rattle.lv_pwad.specs.Wad.{Lump, wad_size, with_names}
+use Rattle.lv_rebuild.specs.Kept.{kept_faults}
 use Rattle.lv_rebuild.specs.Remade.{IsLeftFor, IsRemade}
 use Rattle.lv_rebuild.specs.declared.cause.Cause.{Cause}
 use Rattle.lv_rebuild.specs.declared.error.RebuildError.{RebuildError}
 use Rattle.lv_rebuild.specs.declared.error.RebuildError.TheVariants.{TooLong, NotAWad, DirectoryOutside, NoSuchLevel, LumpOutside, OutOfMemory}
+use Rattle.lv_rebuild.specs.declared.kept.KeptFault.{KeptFault}
 use Rattle.lv_rebuild.specs.declared.levels.Fate.{Fate}
 use Rattle.lv_rebuild.specs.declared.levels.Fate.TheVariants.{NotAsked, Made, Left}
 use Rattle.lv_rebuild.specs.declared.levels.RebuiltLevel.{RebuiltLevel}
@@ -62,6 +64,12 @@ pub record AreRebuilt (wad : List ℕ) (names : List (List ℕ))
     (levels : List RebuiltLevel) : Type 0 where
   pub levels_are : AreLevels wad (map (λ l. l.entries) levels)
   pub each : All (IsRebuilt wad names) levels
+
+-- the faults that stay in a level: those of its lines that prevent no build, if it is built anew
+abbrev pub kept_in : List ℕ → LevelEntries → Fate → List KeptFault
+kept_in wad l NotAsked = []
+kept_in wad l (Made m) = kept_faults (drawn_lists wad l).lines
+kept_in wad l (Left c) = []
 
 -- ---- the lumps of the new WAD
 

@@ -18,6 +18,7 @@ use Rattle.lv_levels.specs.Levels.{Lumps}
 use Rattle.lv_levels.specs.declared.entries.LevelEntries.{LevelEntries}
 use Rattle.lv_pwad.specs.Reject.{reject_size}
 use Rattle.lv_pwad.specs.Sound.{IsSoundOver, no_rejects}
+use Rattle.lv_rebuild.specs.Kept.{kept_faults}
 use Rattle.lv_rebuild.specs.declared.made.MadeLumps.{MadeLumps}
 use Rattle.lv_rebuild.specs.declared.cause.Cause.{Cause}
 use Rattle.lv_rebuild.specs.declared.cause.Cause.TheVariants.{Hindered, TooManySectors, NoTree, NoBlockmap, OutOfMemory}
@@ -70,11 +71,13 @@ pub record AreWholeLumps (m : MadeLumps) : Type 0 where
   pub nodes : length m.nodes.items % 28 ≡ 0
   pub blockmap : length m.blockmap.items % 2 ≡ 0
 
--- the lumps make the level sound over its own lines, behind the vertices that they use
+-- the lumps make the level sound over its own lines, behind the vertices that they use; beside them
+-- stand the faults of these lines that stay
 pub record IsMadeAnew (d : DrawnLists) (m : MadeLumps) : Type 0 where
   pub sound : IsSoundOver (used_front d) (remade_level d m)
   pub reject : m.reject.items ≡ reject_over (length d.sectors) d.reject
   pub whole : AreWholeLumps m
+  pub kept : m.kept.items ≡ kept_faults d.lines
 
 -- a tree is built over its lines
 abbrev pub HasFrontTree : DrawnLists → Type 0

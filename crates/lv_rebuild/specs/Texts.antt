@@ -1,5 +1,5 @@
--- The text of a cause: one line without its end.
-use Rattle.std.specs.Prelude.{ℕ, List, codes}
+-- The text of a cause, and of a fault that stays: one line without its end.
+use Rattle.std.specs.Prelude.{ℕ, List, ◌++◌, codes, decimal}
 use Rattle.lv_levels.specs.Texts.{hindrance_text}
 use Rattle.lv_nodes.specs.declared.error.TreeError.{TreeError}
 use Rattle.lv_nodes.specs.declared.error.TreeError.TheVariants as tree
@@ -7,6 +7,8 @@ use Rattle.lv_blockmap.specs.declared.error.BlockmapError.{BlockmapError}
 use Rattle.lv_blockmap.specs.declared.error.BlockmapError.TheVariants as blockmap
 use Rattle.lv_rebuild.specs.declared.cause.Cause.{Cause}
 use Rattle.lv_rebuild.specs.declared.cause.Cause.TheVariants.{Hindered, TooManySectors, NoTree, NoBlockmap, OutOfMemory}
+use Rattle.lv_rebuild.specs.declared.kept.KeptFault.{KeptFault}
+use Rattle.lv_rebuild.specs.declared.kept.KeptFault.TheVariants.{NoLeftSide}
 
 -- what is said of a level without a tree
 abbrev pub tree_text : TreeError → List ℕ
@@ -31,3 +33,7 @@ cause_text TooManySectors = codes "the level has more than 32767 sectors"
 cause_text (NoTree e) = tree_text e
 cause_text (NoBlockmap e) = blockmap_text e
 cause_text OutOfMemory = codes "out of memory"
+
+-- the text of a fault that stays
+abbrev pub kept_text : KeptFault → List ℕ
+kept_text (NoLeftSide n) = codes "line " ++ decimal n ++ codes " is two-sided and has no left side"

@@ -8,8 +8,8 @@ use lv_nodes::TreeError;
 use std::fmt;
 use thiserror::Error;
 
-/// Why a level is left as it was: what hinders a build of it, more than 32,767 sectors, or what the build of its tree
-/// or its blockmap was refused for. `OutOfMemory` is a cause of no level: it ends the whole.
+/// Why a level is left as it was: what prevents a build of it, more than 32,767 sectors, or what the build of its tree
+/// or its blockmap was refused for. `OutOfMemory` is no cause of a level: it ends the whole rebuild.
 #[derive(Clone, Copy, Debug, Error)]
 pub enum Cause {
     Hindered(Hindrance),
@@ -19,7 +19,7 @@ pub enum Cause {
     OutOfMemory,
 }
 
-// What is said of a level without a tree.
+// Why a level has no tree, in words.
 fn tree_text(error: TreeError) -> &'static str
     ensures { result.now ≡ tree_text error }
 {
@@ -33,7 +33,7 @@ fn tree_text(error: TreeError) -> &'static str
     }
 }
 
-// What is said of a level without a blockmap.
+// Why a level has no blockmap, in words.
 fn blockmap_text(error: BlockmapError) -> &'static str
     ensures { result.now ≡ blockmap_text error }
 {

@@ -1,4 +1,4 @@
-//! Why no WAD is built anew.
+//! Why a WAD isn't built anew.
 ghost use Rattle.std.specs.Prelude.{◌≡◌};
 ghost use Rattle.lv_rebuild.specs.Errors.{code_of};
 ghost use Rattle.lv_rebuild.specs.declared.error.RebuildError.TheVariants.{OutOfMemory};
@@ -7,7 +7,7 @@ use std::alloc::{AllocError, AllocFailed};
 use std::fmt;
 use thiserror::Error;
 
-/// Why no WAD is built anew of another.
+/// Why a WAD isn't built anew.
 #[derive(Clone, Copy, Debug, PartialEq, Eq, Error)]
 pub enum RebuildError {
     TooLong,

@@ -4,7 +4,7 @@ ghost use Rattle.lv_rebuild.specs.Remade.{used_count, with_number};
 
 use lv_lumps::{Line, Vertex};
 
-// So many vertices, or as many as a vertex of this number needs.
+// The count of vertices, or one more than the number `n` if that is greater.
 fn with_number(count: usize, n: u16) -> usize
     ensures { result ≡ with_number count n }
 {
@@ -23,7 +23,7 @@ fn used_count(lines: &[Line]) -> usize
     count
 }
 
-/// The vertices up to the last that a line uses.
+/// The vertices up to the last one that a line uses.
 pub fn front_of<'a>(vertices: &'a [Vertex], lines: &[Line]) -> &'a [Vertex]
     ensures { result.now ≡ take (used_count lines.now) vertices.now }
 {

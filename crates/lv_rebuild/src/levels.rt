@@ -24,7 +24,7 @@ pub enum Fate {
     Left(Cause),
 }
 
-// A call of its own, so that who owns what became of levels lets it go by one step.
+// Its own `drop`, so that an owner's proof has one call at each exit.
 impl Drop for Fate {
     fn drop(self) {
         match self {
@@ -50,7 +50,7 @@ fn is_among(names: &[String], text: &[u8]) -> bool
     names.iter().any(|name| name.as_bytes() == text)
 }
 
-// Whether the text is one of the names, or there is none.
+// Whether the text is one of the names, or there are no names.
 fn is_asked(names: &[String], text: &[u8]) -> bool
     ensures { result ≡ is_asked (map string_bytes names.now) text.now }
 {
@@ -74,7 +74,7 @@ fn is_level_name(wad: &[u8], levels: &[LevelEntries], name: &[u8]) -> bool
     false
 }
 
-/// Whether for each of the names there is a level.
+/// Whether each of the names is the name of a level.
 pub fn have_levels(wad: &[u8], levels: &[LevelEntries], names: &[String]) -> bool
     requires directory { HasEntries wad.now }
     requires levels { AreLevels wad.now levels.now }

@@ -1,9 +1,10 @@
-//! The levels of any WAD built anew, each of its own lines.
+//! The levels of any WAD built anew, each from its own lines.
 #![tactic(auto)]
 
 mod cause;
 mod error;
 mod front;
+mod kept;
 mod levels;
 mod made;
 mod parts;
@@ -14,6 +15,7 @@ mod writing;
 
 pub use cause::Cause;
 pub use error::RebuildError;
+pub use kept::KeptFault;
 pub use levels::{Fate, RebuiltLevel};
 pub use made::MadeLumps;
 pub use remade::remake;

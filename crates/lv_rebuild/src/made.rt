@@ -5,12 +5,14 @@ ghost use Rattle.lv_pwad.specs.Reject.{reject_size};
 ghost use Rattle.lv_rebuild.specs.Remade.{reject_over};
 
 use crate::cause::Cause;
+use crate::kept::KeptFault;
 use lv_lumps::{encode_nodes, encode_segs, encode_subs, encode_vertices};
 use lv_nodes::Built;
 use lv_pwad::reject;
 use std::alloc::Global;
 
-/// The lumps that a build makes of a level, as bytes: VERTEXES, SEGS, SSECTORS, NODES, REJECT, BLOCKMAP.
+/// The lumps that a build makes of a level, as bytes: VERTEXES, SEGS, SSECTORS, NODES, REJECT, BLOCKMAP; and the faults
+/// of its lines that prevent no build, and so stay.
 pub struct MadeLumps {
     pub vertices: Vec<u8>,
     pub segs: Vec<u8>,
@@ -18,9 +20,10 @@ pub struct MadeLumps {
     pub nodes: Vec<u8>,
     pub reject: Vec<u8>,
     pub blockmap: Vec<u8>,
+    pub kept: Vec<KeptFault>,
 }
 
-// A call of its own, so that who owns the lumps lets them go by one step.
+// Its own `drop`, so that an owner's proof has one call at each exit.
 impl Drop for MadeLumps {
     fn drop(self) {
         let MadeLumps {
@@ -30,11 +33,12 @@ impl Drop for MadeLumps {
             nodes: _nodes,
             reject: _reject,
             blockmap: _blockmap,
+            kept: _kept,
         } = self;
     }
 }
 
-// How many bytes REJECT has of so many sectors.
+// The length of REJECT for this many sectors, in bytes.
 fn reject_size(sectors: u16) -> u64
     ensures { result ≡ reject_size sectors }
 {
@@ -42,7 +46,7 @@ fn reject_size(sectors: u16) -> u64
     (pairs + 7) / 8
 }
 
-// The bytes, copied.
+// A copy of the bytes.
 fn copied(alloc: Global, bytes: &[u8]) -> Result<Vec<u8>, Cause>
     ensures bytes { IfOk result (λ v. v.items ≡ bytes.now) }
     ensures memory { IsOkUnless result Cause.OutOfMemory }
@@ -54,7 +58,7 @@ fn copied(alloc: Global, bytes: &[u8]) -> Result<Vec<u8>, Cause>
     }
 }
 
-/// The bytes of REJECT: the given ones where they are enough for so many sectors, else zeros.
+/// The bytes of REJECT: the given ones if they are enough for this many sectors, otherwise zeros.
 pub fn reject_over(alloc: Global, sectors: u16, given: &[u8]) -> Result<Vec<u8>, Cause>
     ensures bytes { IfOk result (λ v. v.items ≡ reject_over sectors given.now) }
     ensures memory { IsOkUnless result Cause.OutOfMemory }
@@ -68,16 +72,18 @@ pub fn reject_over(alloc: Global, sectors: u16, given: &[u8]) -> Result<Vec<u8>,
     }
 }
 
-/// The lumps of a tree, and the bytes of REJECT and BLOCKMAP.
+/// The lumps of a tree, the bytes of REJECT and BLOCKMAP, and the faults that stay.
 pub fn lumps_of(
     alloc: Global,
     tree: &Built,
     reject: Vec<u8>,
     blockmap: Vec<u8>,
+    kept: Vec<KeptFault>,
 ) -> Result<MadeLumps, Cause>
     ensures records { IfOk result (HasRecords tree.now) }
     ensures reject { IfOk result (λ m. m.reject.items ≡ reject.items) }
     ensures blockmap { IfOk result (λ m. m.blockmap.items ≡ blockmap.items) }
+    ensures kept { IfOk result (λ m. m.kept.items ≡ kept.items) }
     ensures memory { IsOkUnless result Cause.OutOfMemory }
 {
     Ok(MadeLumps {
@@ -87,5 +93,6 @@ pub fn lumps_of(
         nodes: encode_nodes(alloc, &tree.nodes).map_err(|_| Cause::OutOfMemory)?,
         reject,
         blockmap,
+        kept,
     })
 }

@@ -1,4 +1,4 @@
-//! The lumps of a WAD, those of its levels after what became of each, appended in their order.
+//! Appends the lumps of a WAD in their order, with new ones for the levels that are built anew.
 ghost use Rattle.std.specs.Prelude.{◌≡◌, ◌<◌, ◌≤◌, [], ◌∷◌, All, MatchResult, false, get_or};
 ghost use Rattle.lv_levels.specs.Entries.{IsLevelAt};
 ghost use Rattle.lv_levels.specs.Levels.{HasEntries, entry, is_outside, lump, lump_count};
@@ -12,7 +12,7 @@ use crate::made::MadeLumps;
 use crate::writing::Writing;
 use lv_levels::{LUMP_NAMES, LevelEntries, entry_of, level_lump, lump_count, standing};
 
-// The bytes of the k-th entry's lump, which stands in the file.
+// The bytes of the k-th entry's lump, which is inside the file.
 fn lump_of(wad: &[u8], k: u32) -> &[u8]
     requires directory { HasEntries wad.now }
     requires among { k < lump_count wad.now }
@@ -35,7 +35,7 @@ fn put_kept(wad: &[u8], k: u32, to: &mut Writing) -> Result<(), RebuildError>
     to.push(entry.name, lump_of(wad, k))
 }
 
-// Appends the lumps of the entries from one on up to another.
+// Appends the lumps of the entries from `from` up to `end`, which isn't among them.
 fn put_between(wad: &[u8], from: u32, end: u32, to: &mut Writing) -> Result<(), RebuildError>
     requires wad { HasLumps wad.now }
     requires among { end ≤ lump_count wad.now }
@@ -118,7 +118,7 @@ fn put_made(
     }
 }
 
-// Appends the lumps that stand in place of a level's.
+// Appends a level's lumps: the new ones if it is built anew, otherwise the old ones.
 fn put_level(wad: &[u8], level: &RebuiltLevel, to: &mut Writing) -> Result<(), RebuildError>
     requires wad { HasLumps wad.now }
     requires level { IsLevelAt wad.now level.now.entries }
@@ -134,7 +134,7 @@ fn put_level(wad: &[u8], level: &RebuiltLevel, to: &mut Writing) -> Result<(), R
     }
 }
 
-// Appends the lumps from the k-th entry on up to a level, and those in place of the level's.
+// Appends the lumps from the k-th entry up to a level, then those of the level.
 fn put_up_to(wad: &[u8], k: u32, level: &RebuiltLevel, to: &mut Writing) -> Result<(), RebuildError>
     requires wad { HasLumps wad.now }
     requires level { IsLevelAt wad.now level.now.entries }
@@ -153,7 +153,7 @@ fn put_up_to(wad: &[u8], k: u32, level: &RebuiltLevel, to: &mut Writing) -> Resu
     }
 }
 
-/// Appends the lumps of a WAD after what became of its levels.
+/// Appends the lumps of a WAD, with new ones for the levels that are built anew.
 pub fn put_rebuilt(
     wad: &[u8],
     levels: &[RebuiltLevel],

@@ -1,4 +1,4 @@
-//! One level built anew of its own lines.
+//! Builds one level anew from its own lines.
 ghost use Rattle.std.specs.Prelude.{◌≤◌, length, IfOk, IfErr, MatchResult};
 ghost use Rattle.lv_segs.specs.Edges.{edges_in};
 ghost use Rattle.lv_nodes.specs.Built.{IsBuiltOver};
@@ -12,6 +12,7 @@ ghost use Rattle.lv_rebuild.specs.Remade.{IsLeftFor, IsMadeAnew, IsRemade, IsUnm
 
 use crate::cause::Cause;
 use crate::front::front_of;
+use crate::kept::kept_faults;
 use crate::made::{MadeLumps, lumps_of, reject_over};
 use lv_blockmap::{BlockmapError, blockmap_over, ends_over};
 use lv_levels::{Drawn, Hindrance, LevelEntries, read_drawn};
@@ -20,7 +21,7 @@ use lv_nodes::{Built, TreeError, build_lines};
 use lv_segs::edges_in;
 use std::alloc::Global;
 
-// The tree over the lines, which have what a build needs, so that only memory can be lacking for their list.
+// The tree over the lines. They have what a build needs, so only lack of memory can prevent the list of their edges.
 fn tree_over(
     alloc: Global,
     front: &[Vertex],
@@ -58,7 +59,7 @@ fn blocks_over(alloc: Global, front: &[Vertex], lines: &[Line]) -> Result<Vec<u8
     }
 }
 
-// The lumps of a level that has what a build needs.
+// The lumps of a level that has what a build needs, and the faults that stay.
 fn made_of(alloc: Global, drawn: Drawn) -> Result<MadeLumps, Cause>
     ensures { MatchResult result (IsMadeAnew (drawn_view drawn)) (IsUnmade (drawn_view drawn)) }
 {
@@ -79,13 +80,17 @@ fn made_of(alloc: Global, drawn: Drawn) -> Result<MadeLumps, Cause>
         Ok(bytes) => bytes,
         Err(_) => return Err(Cause::OutOfMemory),
     };
-    match lumps_of(alloc, &tree, reject, blockmap) {
+    let kept = match kept_faults(alloc, &drawn.lines) {
+        Ok(kept) => kept,
+        Err(_) => return Err(Cause::OutOfMemory),
+    };
+    match lumps_of(alloc, &tree, reject, blockmap, kept) {
         Ok(made) => Ok(made),
         Err(_) => Err(Cause::OutOfMemory),
     }
 }
 
-/// Builds a level anew of its own lines.
+/// Builds a level anew from its own lines.
 ///
 /// # Errors
 ///

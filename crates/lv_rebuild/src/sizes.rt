@@ -1,4 +1,4 @@
-//! How long the lumps of a WAD are together.
+//! How long all lumps of a WAD are together.
 ghost use Rattle.std.specs.Prelude.{◌≡◌};
 ghost use Rattle.lv_levels.specs.Levels.{HasEntries, lump_count};
 ghost use Rattle.lv_rebuild.specs.Rebuilt.{is_crowded, sizes_below};
@@ -18,7 +18,7 @@ fn all_sizes(wad: &[u8]) -> u64
     sum
 }
 
-/// Whether the lumps lie over one another so much that together they are longer than the file four times.
+/// Whether the lumps overlap so much that together they are more than four times as long as the file.
 pub fn is_crowded(wad: &[u8]) -> bool
     requires { HasEntries wad.now }
     ensures { result ≡ is_crowded wad.now }

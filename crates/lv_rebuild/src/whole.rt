@@ -46,7 +46,7 @@ fn levels_of(alloc: Global, wad: &[u8], names: &[String]) -> Result<Vec<LevelEnt
     Ok(levels)
 }
 
-// How many bytes what was made of a level has.
+// The length of the lumps that were made of a level, in bytes.
 fn made_size(fate: &Fate) -> usize {
     match fate {
         Fate::Made(made) => made
@@ -62,7 +62,7 @@ fn made_size(fate: &Fate) -> usize {
     }
 }
 
-// Room for the file and what was made, so that few bytes move again.
+// Room for the file and what was made, so that the buffer seldom grows.
 fn room_for(wad: &[u8], levels: &[RebuiltLevel]) -> usize {
     let mut room = wad.len();
     for n in 0..levels.len() {
@@ -72,7 +72,7 @@ fn room_for(wad: &[u8], levels: &[RebuiltLevel]) -> usize {
     room
 }
 
-// The WAD after what became of its levels.
+// The bytes of the new WAD.
 fn written(alloc: Global, wad: &[u8], levels: &[RebuiltLevel]) -> Result<Vec<u8>, RebuildError>
     requires wad { HasLumps wad.now }
     requires levels { All (λ l. IsLevelAt wad.now l.entries) levels.now }
@@ -95,14 +95,14 @@ fn written(alloc: Global, wad: &[u8], levels: &[RebuiltLevel]) -> Result<Vec<u8>
     }
 }
 
-/// Builds the levels of a WAD of any editor anew, all or those of the names (docs/FORMAT.md, "Levels of other WADs").
-/// Beside them the lumps stay as they are, in their order.
+/// Builds the levels of any editor's WAD anew, all or those with the names (docs/FORMAT.md, "WADs built anew"). All
+/// other lumps stay as they are, in their order.
 ///
 /// # Errors
 ///
 /// The first that holds of `NotAWad`, `DirectoryOutside`, `LumpOutside` (of any lump that isn't empty), `TooLong` (the
-/// lumps lie over one another, and together are longer than the file four times), `NoSuchLevel` (a name is no level's).
-/// Then `TooLong` where the new WAD would have four gigabytes; or `OutOfMemory`.
+/// lumps overlap, and together are more than four times as long as the file), `NoSuchLevel` (no level has a name). Then
+/// `TooLong` if the new WAD would have four gigabytes; or `OutOfMemory`.
 pub fn rebuild_wad(alloc: Global, wad: &[u8], names: &[String]) -> Result<RebuiltWad, RebuildError>
     ensures { MatchResult result
         (IsRebuiltWad wad.now (map string_bytes names.now))

@@ -1,4 +1,4 @@
-//! A WAD that is written lump by lump.
+//! Writes a WAD lump by lump.
 ghost use Rattle.std.specs.Prelude.{◌≡◌, ◌++◌, ◌≤◌, length, drop, OnOk, IfOk, IsOkUnless};
 ghost use Rattle.lv_pwad.specs.Wad.{entry_bytes, long};
 ghost use Rattle.lv_rebuild.specs.Writing.{wad_header};
@@ -18,7 +18,7 @@ pub struct Writing {
     count: u32,
 }
 
-// How long no WAD may be.
+// A WAD has fewer bytes than this.
 const LIMIT: u64 = 0x1_0000_0000;
 
 // Appends a number of 32 bits, the lower bytes first.
@@ -86,7 +86,7 @@ impl Writing {
     ///
     /// # Errors
     ///
-    /// `TooLong` where with it and the directory the WAD would have four gigabytes, or `OutOfMemory`.
+    /// `TooLong` if the WAD with this lump and the directory would have four gigabytes, or `OutOfMemory`.
     pub fn push(&mut self, name: Name8, bytes: &[u8]) -> Result<(), RebuildError>
         requires { Fits self.old }
         ensures { MatchResult result
@@ -115,7 +115,7 @@ impl Writing {
         Ok(())
     }
 
-    /// The WAD of the kind, with its header and behind the lumps the directory.
+    /// The finished WAD of the kind, with its header, and the directory after the lumps.
     pub fn finish(self, alloc: Global, kind: &[u8]) -> Result<Vec<u8>, RebuildError>
         requires kind { length kind.now ≡ 4 }
         requires fits { Fits self }

@@ -31,7 +31,7 @@ pub enum Refusal {
     TreeOutside,
 }
 
-/// Why a request's files can't be opened or made, where that is known; of `out` and `beside` one at most.
+/// Why a request's files can't be opened or made, if that is known; at most one of `out` and `beside` is given.
 #[derive(Clone, Copy)]
 pub struct Causes {
     /// Of FILE or WAD.
@@ -95,7 +95,7 @@ impl Refusal {
     }
 }
 
-// The name of what ended a run.
+// The name of the refusal that ended a run.
 fn name_of(error: EditorError) -> &'static str {
     match error {
         EditorError::OutOfMemory => "Memory",
@@ -105,7 +105,7 @@ fn name_of(error: EditorError) -> &'static str {
     }
 }
 
-// The name of what a project file was refused for.
+// The name of a project file's refusal.
 fn name_of_project(error: ProjectError) -> &'static str {
     match error {
         ProjectError::Refused(_) => "Refused",
@@ -121,7 +121,7 @@ fn name_of_project(error: ProjectError) -> &'static str {
     }
 }
 
-// The name of what a level was not inspected for.
+// The name of a level's refusal.
 fn name_of_level(error: InspectError) -> &'static str {
     match error {
         InspectError::Level(ReadError::LumpLength) => "LumpLength",
@@ -137,7 +137,7 @@ fn name_of_level(error: InspectError) -> &'static str {
     }
 }
 
-// The name of what a map was not built for.
+// The name of a build's refusal.
 fn name_of_build(error: BuildError) -> &'static str {
     match error {
         BuildError::NothingToBuild => "NothingToBuild",
@@ -150,8 +150,8 @@ fn name_of_build(error: BuildError) -> &'static str {
     }
 }
 
-/// Says why a request was refused, as `leveled: CODE NAME`, and where a file is damaged, which map can't be
-/// built, or why a level is no map.
+/// Writes why a request was refused, as `leveled: CODE NAME`; also the place where a file is damaged, which map can't
+/// be built, or why a level is no map.
 pub fn report<F: Write>(refusal: &Refusal, faults: &mut F) {
     let code = refusal.code();
     let name = refusal.name();
@@ -203,7 +203,7 @@ fn paths_of(request: &Request) -> (&str, &str) {
     }
 }
 
-/// Says why a file can't be opened or made, as `  PATH: REASON`, where that is known.
+/// Writes why a file can't be opened or made, as `  PATH: REASON`, if that is known.
 pub fn report_causes<F: Write>(alloc: Global, request: &Request, why: &Causes, faults: &mut F) {
     let (file, other) = paths_of(request);
     if let Some(cause) = &why.file {

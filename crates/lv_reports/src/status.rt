@@ -5,13 +5,13 @@ ghost use Rattle.lv_reports.specs.Statuses.{run_end, status_after, status_in, st
 use crate::refusal::Refusal;
 use lv_editor::EditorError;
 
-/// The status where what was asked for is done.
+/// The status of a request that was done.
 pub const DONE: u8 = 0;
 
-// The status where maps have findings, or a level a fault.
+// The status if maps have findings, a level has a fault, or a level was left.
 const FOUND: u8 = 3;
 
-// The status of what was refused.
+// The status of a refused request.
 const REFUSED: u8 = 1;
 
 /// The status of a request that ended so.
@@ -36,7 +36,7 @@ pub fn ended(run: Result<u64, EditorError>) -> Result<u8, Refusal>
     }
 }
 
-/// The status after so many findings.
+/// The status after this many findings.
 pub fn status_after(found: u32) -> u8
     ensures status { result ≡ status_after found }
     ensures small { result ≤ 3 }

@@ -7,7 +7,7 @@ use lv_files::write_reason;
 use lv_pwad::{BuildError, Unbuilt};
 use std::io::{self, ErrorKind, Write};
 
-// What is said of a map that can't be built.
+// Why a map can't be built, in words.
 fn hindrance(error: BuildError) -> &'static str
     ensures { result.now ≡ hindrance_words error }
 {
@@ -22,7 +22,7 @@ fn hindrance(error: BuildError) -> &'static str
     }
 }
 
-/// Says which map can't be built, as `  MAP02: has no line`; nothing where none is named.
+/// Writes which map can't be built, as `  MAP02: has no line`; nothing if none is named.
 ///
 /// # Errors
 ///

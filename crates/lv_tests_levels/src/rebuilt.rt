@@ -3,7 +3,7 @@
 use crate::expect::same;
 use crate::foreign::wad_of;
 use lv_levels::levels_in;
-use lv_rebuild::{Fate, MadeLumps, RebuiltLevel, rebuild_wad, remake};
+use lv_rebuild::{Fate, KeptFault, MadeLumps, RebuiltLevel, rebuild_wad, remake};
 use std::alloc::Global;
 use std::test::Fail;
 
@@ -15,6 +15,9 @@ const TURNED: &[u8] = &[1, 0, 0, 0, 1, 0, 0, 0, 0, 0, 0, 0, 0xff, 0xff];
 
 // A line whose right side doesn't exist.
 const BARE: &[u8] = &[0, 0, 1, 0, 1, 0, 0, 0, 0, 0, 1, 0, 0xff, 0xff];
+
+// The line two-sided, still without a left side.
+const TWO_SIDED: &[u8] = &[0, 0, 1, 0, 4, 0, 0, 0, 0, 0, 0, 0, 0xff, 0xff];
 
 const SIDES: &[u8] = &[0; 30];
 
@@ -196,6 +199,12 @@ const TWO_BUILT: &[Lump] = &[
 const WHOLE: &[(&[Lump], &str, &[Lump], &str)] = &[
     (BARE_WAD, "", BUILT_WAD, "made;"),
     (
+        TWO_SIDED_WAD,
+        "",
+        TWO_SIDED_BUILT,
+        "line 0 is two-sided and has no left side, made;",
+    ),
+    (
         THREE_LEVELS,
         "",
         TWO_BUILT,
@@ -223,7 +232,10 @@ fn fates(alloc: Global, levels: &[RebuiltLevel]) -> Result<String, Fail> {
         let level = &levels[n];
         match &level.fate {
             Fate::NotAsked => write!(told, "not asked;")?,
-            Fate::Made(_) => write!(told, "made;")?,
+            Fate::Made(made) => {
+                add_kept(&mut told, &made.kept)?;
+                write!(told, "made;")?
+            }
             Fate::Left(cause) => write!(told, "{cause};")?,
         }
     }
@@ -244,6 +256,38 @@ fn whole(alloc: Global, wad: &[u8], name: &str) -> Result<(Vec<u8>, String), Fai
         Err(error) => Ok((Vec::new(alloc), format!(in alloc; "{error}")?)),
     }
 }
+
+// Adds the faults that stay in a level.
+fn add_kept(told: &mut String, kept: &[KeptFault]) -> Result<(), Fail> {
+    for fault in kept {
+        write!(told, "{fault}, ")?;
+    }
+    Ok(())
+}
+
+// A level whose only line is two-sided and has no left side, and the same built anew.
+const TWO_SIDED_WAD: &[Lump] = &[
+    (b"MAP01\0\0\0", b""),
+    (b"THINGS\0\0", b""),
+    (b"LINEDEFS", TWO_SIDED),
+    (b"SIDEDEFS", SIDES),
+    (b"VERTEXES", VERTICES),
+    (b"SECTORS\0", SECTORS),
+];
+
+const TWO_SIDED_BUILT: &[Lump] = &[
+    (b"MAP01\0\0\0", b""),
+    (b"THINGS\0\0", b""),
+    (b"LINEDEFS", TWO_SIDED),
+    (b"SIDEDEFS", SIDES),
+    (b"VERTEXES", FRONT),
+    (b"SEGS\0\0\0\0", SEGS),
+    (b"SSECTORS", SUBS),
+    (b"NODES\0\0\0", b""),
+    (b"SECTORS\0", SECTORS),
+    (b"REJECT\0\0", b"\0"),
+    (b"BLOCKMAP", BLOCKS),
+];
 
 #[test]
 fn builds_wads_anew(rt: HostRuntime) -> Result<(), Fail> {

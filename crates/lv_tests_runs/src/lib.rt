@@ -22,6 +22,8 @@ mod pictures;
 #[cfg(test)]
 mod project_run;
 #[cfg(test)]
+mod rebuilds;
+#[cfg(test)]
 mod scripts;
 #[cfg(test)]
 mod streams;

@@ -32,21 +32,21 @@ use Rattle.lv_views.proofs.Linting.{lines_stopped, none_written, total_told}
 -- ---- A level
 
 -- the line of a level that is no map
-abbrev pub no_map_line : Name8 → List ℕ → List ℕ
-no_map_line name reason = map shown (name_text name) ++ no_map_text reason
+abbrev pub no_map_line : Name8 → ImportError → List ℕ
+no_map_line name e = map shown (name_text name) ++ no_map_text e
 
 lines_by : (names : Option GraphicNames) (wad : List ℕ) (l : LevelEntries) (o : Option ImportError) → map_refusal wad l ≡ o → (lines : List (List ℕ)) × AreLevelLines names wad l lines
 lines_by names wad l None is = (remarks names (level_map wad l), inl (is, refl))
-lines_by names wad l (Some e) is = (no_map_line (entry_name wad l.marker) [] ∷ [], inr (e, [], is, refl))
+lines_by names wad l (Some e) is = (no_map_line (entry_name wad l.marker) e ∷ [], inr (e, is, refl))
 
 -- of each level there is something to say, or it has no lines
 pub some_lines : (names : Option GraphicNames) (wad : List ℕ) (l : LevelEntries) → (lines : List (List ℕ)) × AreLevelLines names wad l lines
 some_lines names wad l = lines_by names wad l (map_refusal wad l) refl
 
 -- the line of a level that is no map was written
-pub line_written : (name : Name8) (reason : List ℕ) (before count : ℕ) (u w : Option (List ℕ)) → count ≡ before + 1 → Appends u w (with_lf (no_map_line name reason))
-    → WritesRemarks (Ok count) before (no_map_line name reason ∷ []) u w
-line_written name reason before count u w is told = (is, subst (λ (t : List ℕ). Appends u w t) (sym (append-nil (with_lf (no_map_line name reason)))) told)
+pub line_written : (name : Name8) (e : ImportError) (before count : ℕ) (u w : Option (List ℕ)) → count ≡ before + 1 → Appends u w (with_lf (no_map_line name e))
+    → WritesRemarks (Ok count) before (no_map_line name e ∷ []) u w
+line_written name e before count u w is told = (is, subst (λ (t : List ℕ). Appends u w t) (sym (append-nil (with_lf (no_map_line name e)))) told)
 
 -- the map that a level is was told of
 pub map_told : (names : Option GraphicNames) (wad : List ℕ) (l : LevelEntries) (r : Result ℕ EditorError) (before : ℕ) (m : Tables) (u w : Option (List ℕ)) → map_refusal wad l ≡ None
@@ -55,10 +55,10 @@ map_told names wad l r before m u w none is told = (remarks names m, inl (none, 
 
 -- the line of a level that is no map was told
 pub refusal_told : (names : Option GraphicNames) (wad : List ℕ) (l : LevelEntries) (r : Result ℕ EditorError) (before : ℕ) (name : Name8) (e : ImportError) (u w : Option (List ℕ)) → name ≡ entry_name wad l.marker
-    → RefusesLevelImport wad l (entry_name wad l.marker) e → e ≢ import.OutOfMemory → ((reason : List ℕ) × WritesRemarks r before (no_map_line name reason ∷ []) u w) → WritesLevel names wad l r before u w
+    → RefusesLevelImport wad l (entry_name wad l.marker) e → e ≢ import.OutOfMemory → WritesRemarks r before (no_map_line name e ∷ []) u w → WritesLevel names wad l r before u w
 refusal_told names wad l r before name e u w is (inl lacks) some told = absurd (some lacks)
-refusal_told names wad l r before name e u w is (inr why) some (reason, told) =
-    (no_map_line (entry_name wad l.marker) reason ∷ [], inr (e, reason, why, refl), subst (λ (n : Name8). WritesRemarks r before (no_map_line n reason ∷ []) u w) is told)
+refusal_told names wad l r before name e u w is (inr why) some told =
+    (no_map_line (entry_name wad l.marker) e ∷ [], inr (e, why, refl), subst (λ (n : Name8). WritesRemarks r before (no_map_line n e ∷ []) u w) is told)
 
 -- no memory was found for the map of a level
 pub level_lost : (names : Option GraphicNames) (wad : List ℕ) (l : LevelEntries) (before : ℕ) (u : Option (List ℕ)) → WritesLevel names wad l (Err OutOfMemory) before u u

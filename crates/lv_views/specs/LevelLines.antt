@@ -8,6 +8,7 @@ use Rattle.lv_levels.specs.Listing.{entry_name}
 use Rattle.lv_levels.specs.declared.entries.LevelEntries.{LevelEntries}
 use Rattle.lv_import.specs.Imported.{imported}
 use Rattle.lv_import.specs.Refused.{level_refusal}
+use Rattle.lv_import.specs.Texts.{import_refusal_text}
 use Rattle.lv_import.specs.declared.error.ImportError.{ImportError}
 use Rattle.lv_maptables.specs.Tables.{Tables}
 use Rattle.lv_editor.specs.Runs.{Unwritten}
@@ -22,8 +23,8 @@ use Rattle.lv_views.specs.ShownNames.{shown}
 use Rattle.lv_views.specs.WantedLevels.{AreWanted, IsWanted, RefusesAllWanted, RefusesWanted}
 
 -- behind the name of a level that is no map: this, and why
-abbrev pub no_map_text : List ℕ → List ℕ
-no_map_text reason = codes " no-map " ++ reason
+abbrev pub no_map_text : ImportError → List ℕ
+no_map_text e = codes " no-map " ++ import_refusal_text e
 
 -- why the level of these entries is no map, whatever is changed of it
 abbrev pub map_refusal : List ℕ → LevelEntries → Option ImportError
@@ -40,13 +41,13 @@ IsMapRefusal wad l (of.NotAMap e) = map_refusal wad l ≡ Some e
 IsMapRefusal wad l _ = ⊥
 
 -- what there is to say of a level: what there is of the map that it is after the changes; or, where
--- it is none whatever is changed of it, a line with some reason
+-- it is none whatever is changed of it, a line that says why
 abbrev pub AreLevelLines : Option GraphicNames → List ℕ → LevelEntries → List (List ℕ) → Type 0
 AreLevelLines names wad l lines =
     ((map_refusal wad l ≡ None)
     × (lines ≡ remarks names (level_map wad l)))
-    ⊎ ((e : ImportError) × (reason : List ℕ) × (map_refusal wad l ≡ Some e)
-    × (lines ≡ (map shown (name_text (entry_name wad l.marker)) ++ no_map_text reason) ∷ []))
+    ⊎ ((e : ImportError) × (map_refusal wad l ≡ Some e)
+    × (lines ≡ (map shown (name_text (entry_name wad l.marker)) ++ no_map_text e) ∷ []))
 
 -- the same of levels, of one behind another
 abbrev pub AreLinesOf : Option GraphicNames → List ℕ → List LevelEntries → List (List ℕ) → Type 0

@@ -9,7 +9,7 @@ use lv_reports::{Refusal, status_after};
 use std::alloc::Global;
 use std::io::Write;
 
-/// Writes the findings of a map and hands them on.
+/// Writes the findings of a map, and flushes the writer.
 pub(crate) fn tell<W: Write>(alloc: Global, map: &Map, writer: &mut W) -> Result<u8, Refusal>
     ensures small { IfOk result (λ s. s ≤ 3) }
     ensures told { IsCheckedOf map.now.tables result
@@ -22,7 +22,7 @@ pub(crate) fn tell<W: Write>(alloc: Global, map: &Map, writer: &mut W) -> Result
     }
 }
 
-/// Writes the findings of the map of the name, or of the current one, and hands them on.
+/// Writes the findings of the map with the name, or of the current one, and flushes the writer.
 pub fn tell_findings<W: Write>(
     alloc: Global,
     maps: &Maps,

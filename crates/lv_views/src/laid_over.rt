@@ -1,4 +1,4 @@
-//! What a picture shows over the map: the tree that is built of it, and what there is to say of it.
+//! What a picture shows over the map: the tree that is built of it, and marks for its findings and warnings.
 ghost use Rattle.std.specs.Prelude.{◌≡◌, [], IfErr, IfOk, map, false, true};
 ghost use Rattle.lv_pwad.specs.Sound.{of_tree};
 ghost use Rattle.lv_views.specs.LaidOver.{IsLaidOver, IsTreeShown, NotLaidOver, marks_shown};
@@ -14,7 +14,7 @@ use lv_svg::{Mark, Overlay};
 use std::alloc::Global;
 
 /// What a picture shows besides the map: the numbers of vertices, lines and sectors, the tree that is built of the map,
-/// and what `lint` tells.
+/// and marks for what `lint` writes.
 #[derive(Clone, Copy)]
 pub struct Layers {
     pub numbers: bool,
@@ -33,7 +33,7 @@ pub fn layers_of(numbers: bool, nodes: bool, lint: bool) -> Layers
     }
 }
 
-// The refusal of the tree as that of a build.
+// The refusal of the tree, as that of a build.
 fn tree_refusal(error: TreeError) -> BuildError
     ensures { result ≡ of_tree error }
 {
@@ -47,7 +47,7 @@ fn tree_refusal(error: TreeError) -> BuildError
     }
 }
 
-/// The marks of the map, where they are wanted.
+/// The marks of the map, if they are wanted.
 pub(crate) fn marks_shown(alloc: Global, drawn: &Map, lint: bool) -> Result<Vec<Mark>, Refusal>
     ensures shown { IfOk result (λ marks.
         map said_at marks.items ≡ marks_shown lint drawn.now.tables) }

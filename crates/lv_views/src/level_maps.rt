@@ -1,4 +1,4 @@
-//! The maps that the levels of a WAD are, and what `check` writes of one.
+//! The maps that the levels of a WAD are after the changes, and what `check` writes about one.
 ghost use Rattle.std.specs.Prelude.{◌≡◌, ◌≤◌, None, IfErr, IfOk, MatchResult, option_map};
 ghost use Rattle.lv_import.specs.Imported.{changes};
 ghost use Rattle.lv_import.specs.Refused.{RefusesLevelImport};
@@ -11,10 +11,10 @@ ghost use Rattle.lv_maptables.specs.Projects.{project_of};
 ghost use Rattle.lv_views.specs.LevelLines.{IsMapRefusal, IsWadChecked, level_map, map_refusal};
 
 use crate::findings::tell;
-use crate::wanted::{entry_name, wanted_level};
+use crate::wanted::wanted_level;
 use lv_editor::{EditorError, InspectError};
 use lv_import::{ImportError, Imported, import_drawn};
-use lv_levels::{Hindrance, LevelEntries, read_lists};
+use lv_levels::{Hindrance, LevelEntries, entry_of, read_lists};
 use lv_reports::Refusal;
 use std::alloc::Global;
 use std::io::Write;
@@ -29,7 +29,7 @@ pub fn map_of_level(alloc: Global, wad: &[u8], level: LevelEntries) -> Result<Im
         × (i.changes.items ≡ changes (drawn_lists wad.now level)))
         (RefusesLevelImport wad.now level (entry_name wad.now level.marker)) }
 {
-    let name = entry_name(wad, level.marker);
+    let name = entry_of(wad, level.marker).name;
     match read_lists(alloc, wad, level) {
         Ok(drawn) => import_drawn(alloc, &drawn, name),
         Err(Hindrance::OutOfMemory) => Err(ImportError::OutOfMemory),
@@ -37,7 +37,7 @@ pub fn map_of_level(alloc: Global, wad: &[u8], level: LevelEntries) -> Result<Im
     }
 }
 
-/// The same, with the refusal of a request where it is none.
+/// The same; if the level is no map, with the refusal of the request.
 pub(crate) fn map_or_refusal(
     alloc: Global,
     wad: &[u8],
@@ -56,8 +56,8 @@ pub(crate) fn map_or_refusal(
     }
 }
 
-/// Writes the findings of the map that a level of a WAD is after the changes of `lv_import`, of the first level of the
-/// name or of the first of all, and hands them on.
+/// Writes the findings of the map that a level of a WAD is after the changes of `lv_import`: the first level with the
+/// name, or the first of all. Flushes the writer.
 pub fn tell_level_findings<W: Write>(
     alloc: Global,
     wad: &[u8],

@@ -1,4 +1,4 @@
-//! What `picture` draws of a WAD: a level as the map that it is, and the tree that the WAD has of it.
+//! What `picture` draws of a WAD: a level as the map that it is after the changes, and the tree that the WAD has of it.
 ghost use Rattle.std.specs.Prelude.{◌≡◌, ◌≤◌, ◌⊎◌, IfErr, IfOk, is_some, option_map};
 ghost use Rattle.lv_editor.specs.declared.error.EditorError.TheVariants.{OutOfMemory};
 ghost use Rattle.lv_levels.specs.Entries.{IsLevelAt};
@@ -21,7 +21,7 @@ use std::alloc::Global;
 use std::fs::Files;
 use std::io::Write;
 
-// The refusal of a request by that of a tree.
+// The refusal of the request if the tree is refused.
 fn refusal_for_tree(fault: TreeFault) -> Refusal
     ensures { result ≡ refusal_for_tree fault }
 {
@@ -59,7 +59,7 @@ fn laid_over_level(
     }
 }
 
-/// Draws the level of a WAD that is wanted, the first one of the name or the first of all, as the map that it is after
+/// Draws the wanted level of a WAD, the first one with the name or the first of all, as the map that it is after
 /// the changes of `lv_import`, as `draw` draws a map. The tree that is shown is the one that the WAD has of it.
 pub fn draw_level<E: Files, W: Write>(
     alloc: Global,

@@ -1,4 +1,4 @@
-//! What `lint` writes of the levels of a WAD: what there is to say of the map that each is, or why it is none.
+//! What `lint` writes about the levels of a WAD: the findings and warnings of the map that each is, or why it is none.
 ghost use Rattle.std.specs.Prelude.{◌≡◌, ◌≤◌, ◌+◌, ◌++◌, ◌∷◌, [], All, None, Some, List, ℕ, IfErr, IfOk, MatchResult, is_some, map, option_map};
 ghost use Rattle.std.specs.Option.{option_copied};
 ghost use Rattle.std.specs.Io.KnownBytes.{Appends};
@@ -16,31 +16,25 @@ use crate::level_maps::map_of_level;
 use crate::remarks::{plus, write_map};
 use crate::shown_names::write_shown;
 use crate::wad_graphics::graphics_given;
-use crate::wanted::{entry_name, wanted_levels};
+use crate::wanted::wanted_levels;
 use lv_editor::{EditorError, InspectError, write_total};
 use lv_files::Cause;
 use lv_import::ImportError;
-use lv_levels::{Graphics, LevelEntries};
+use lv_levels::{Graphics, LevelEntries, entry_of};
 use lv_lumps::Name8;
 use lv_reports::{Refusal, status_after};
 use std::alloc::Global;
-use std::fmt::InlineText;
 use std::fs::Files;
 use std::io::Write;
-
-// More bytes than any text has that says why a level is no map, so that none is cut.
-const REASON_LEN: usize = 100;
 
 // Writes that a level is no map, and why.
 fn write_why<W: Write>(error: &ImportError, writer: &mut W) -> Result<(), EditorError>
     ensures { MatchResult result
-        (λ _. (reason : List ℕ) × Appends (W.contents writer.old) (W.contents writer.new)
-        (with_lf (no_map_text reason)))
+        (λ _. Appends (W.contents writer.old) (W.contents writer.new)
+        (with_lf (no_map_text error.now)))
         (λ e. e ≡ WriterFailed) }
 {
-    let told = InlineText::<REASON_LEN>::of(*error);
-    let reason = told.as_str();
-    match write!(writer, " no-map {reason}\n") {
+    match write!(writer, " no-map {error}\n") {
         Ok(()) => Ok(()),
         Err(_) => Err(EditorError::WriterFailed),
     }
@@ -53,8 +47,8 @@ fn write_no_map<W: Write>(
     writer: &mut W,
 ) -> Result<(), EditorError>
     ensures { MatchResult result
-        (λ _. (reason : List ℕ) × Appends (W.contents writer.old) (W.contents writer.new)
-        (with_lf (map shown (name_text name.now) ++ no_map_text reason)))
+        (λ _. Appends (W.contents writer.old) (W.contents writer.new)
+        (with_lf (map shown (name_text name.now) ++ no_map_text error.now)))
         (λ e. e ≡ WriterFailed) }
 {
     match write_shown(name.text(), writer) {
@@ -70,8 +64,8 @@ fn count_no_map<W: Write>(
     before: u32,
     writer: &mut W,
 ) -> Result<u32, EditorError>
-    ensures { (reason : List ℕ) × WritesRemarks result before
-        ((map shown (name_text name.now) ++ no_map_text reason) ∷ [])
+    ensures { WritesRemarks result before
+        ((map shown (name_text name.now) ++ no_map_text error.now) ∷ [])
         (W.contents writer.old) (W.contents writer.new) }
 {
     let count = plus(before, 1)?;
@@ -81,7 +75,7 @@ fn count_no_map<W: Write>(
     }
 }
 
-// Writes what there is to say of a level, and counts the lines on.
+// Writes the lines about a level, and adds their number to the count.
 fn write_level<W: Write>(
     alloc: Global,
     wad: &[u8],
@@ -99,13 +93,13 @@ fn write_level<W: Write>(
         Ok(found) => write_map(alloc, found.maps.current(), names, before, writer),
         Err(ImportError::OutOfMemory) => Err(EditorError::OutOfMemory),
         Err(error) => {
-            let name = entry_name(wad, level.marker);
+            let name = entry_of(wad, level.marker).name;
             count_no_map(&name, &error, before, writer)
         }
     }
 }
 
-// Writes what there is to say of each level, and counts the lines.
+// Writes the lines about each level, and counts them.
 fn write_levels<W: Write>(
     alloc: Global,
     wad: &[u8],
@@ -130,7 +124,7 @@ fn write_levels<W: Write>(
     Ok(count)
 }
 
-// Writes what there is to say of the levels that are wanted, then how many lines these are, and hands it on.
+// Writes the lines about the wanted levels, then their number, and flushes the writer.
 fn tell_levels<W: Write>(
     alloc: Global,
     wad: &[u8],
@@ -155,10 +149,9 @@ fn tell_levels<W: Write>(
     }
 }
 
-/// Takes the names of the flats and textures of the WAD at the path `iwad`, if one is given, and tells what there is to
-/// say of the levels of `wad`, of all or of the first one of the name, in the order of its directory: of the map that
-/// a level is after the changes of `lv_import` as `tell_beside` does, or that it is none, and why; and last how many
-/// lines these are.
+/// Writes about the levels of `wad`, all in the order of its directory or the first one with the name: for the map that
+/// a level is after the changes of `lv_import` what `tell_beside` writes, or that it is no map, and why; and last the
+/// number of these lines. The names of flats and textures come from the WAD at the path `iwad`, if one is given.
 pub fn tell_levels_beside<E: AllocGlobal + Files, W: Write>(
     rt: &E,
     wad: &[u8],

@@ -17,7 +17,7 @@ pub enum TreeFault {
     Length,
     /// There is no subsector.
     Missing,
-    /// A seg, a subsector or a node names what isn't there.
+    /// A seg, a subsector or a node names something that doesn't exist.
     Outside,
     OutOfMemory,
 }
@@ -34,7 +34,7 @@ fn has_whole_lumps(wad: &[u8], level: LevelEntries) -> bool
         && level_lump(wad, level, 6).len() % 28 == 0
 }
 
-// The lists of a level's tree, and these marks. Only memory can be lacking where the lumps are whole records long.
+// The lists of a level's tree, and these marks. The lumps are whole records long, so only memory can be lacking.
 fn decoded(
     alloc: Global,
     wad: &[u8],
@@ -68,21 +68,21 @@ fn decoded(
     })
 }
 
-// Whether the seg's ends are among so many vertices.
+// Whether the seg's ends are below the count of vertices.
 fn is_seg_among(vertices: usize, seg: &Seg) -> bool
     ensures { result ≡ is_seg_among vertices seg.now }
 {
     (seg.first as usize) < vertices && (seg.second as usize) < vertices
 }
 
-// Whether the subsector's segs are among so many.
+// Whether the subsector's segs are below the count of segs.
 fn is_sub_among(segs: usize, sub: &Sub) -> bool
     ensures { result ≡ is_sub_among segs sub.now }
 {
     sub.first as usize + sub.count as usize <= segs
 }
 
-// Whether the child is among so many nodes, or so many subsectors.
+// Whether the child is below the count of nodes, or of subsectors.
 fn is_child_among(nodes: usize, subs: usize, child: u16) -> bool
     ensures { result ≡ is_child_among nodes subs child }
 {
@@ -93,35 +93,35 @@ fn is_child_among(nodes: usize, subs: usize, child: u16) -> bool
     }
 }
 
-// Whether the node's children are.
+// Whether both children of the node are.
 fn is_node_among(nodes: usize, subs: usize, node: &Node) -> bool
     ensures { result ≡ is_node_among nodes subs node.now }
 {
     is_child_among(nodes, subs, node.right) && is_child_among(nodes, subs, node.left)
 }
 
-// Whether the ends of each seg are among so many vertices.
+// Whether the ends of each seg are below the count of vertices.
 fn are_segs_among(vertices: usize, segs: &[Seg]) -> bool
     ensures { result ≡ list_all (is_seg_among vertices) segs.now }
 {
     segs.iter().all(|seg| is_seg_among(vertices, seg))
 }
 
-// Whether the segs of each subsector are among so many.
+// Whether the segs of each subsector are below the count of segs.
 fn are_subs_among(segs: usize, subs: &[Sub]) -> bool
     ensures { result ≡ list_all (is_sub_among segs) subs.now }
 {
     subs.iter().all(|sub| is_sub_among(segs, sub))
 }
 
-// Whether the children of each node are among so many nodes, or so many subsectors.
+// Whether the children of each node are below the count of nodes, or of subsectors.
 fn are_nodes_among(count: usize, subs: usize, nodes: &[Node]) -> bool
     ensures { result ≡ list_all (is_node_among count subs) nodes.now }
 {
     nodes.iter().all(|node| is_node_among(count, subs, node))
 }
 
-// Whether each seg, subsector and node names what is there.
+// Whether each seg, subsector and node names only what exists.
 fn are_among(vertices: &[Vertex], segs: &[Seg], subs: &[Sub], nodes: &[Node]) -> bool
     ensures { result ≡ are_among vertices.now segs.now subs.now nodes.now }
 {

@@ -1,4 +1,4 @@
-//! What is told and shown of maps in memory, wherever they come from.
+//! Writes findings and warnings of maps in memory and of the levels of WADs, and draws their pictures.
 #![tactic(auto)]
 
 mod findings;
@@ -26,4 +26,4 @@ pub use pictures::{Wanted, draw, map_called};
 pub use reading::read_whole;
 pub use remarks::tell_beside;
 pub use shown_names::write_shown;
-pub use wanted::{entry_name, level_called};
+pub use wanted::level_called;

@@ -1,4 +1,4 @@
-//! The marks of a picture for what there is to say of a map.
+//! The marks of a picture for the findings and warnings of a map.
 ghost use Rattle.std.specs.Prelude.{◌≡◌, ◌++◌, ◌∷◌, [], List, ℕ, IfErr, IfOk, Some, map};
 ghost use Rattle.lv_checks.specs.Texts.{finding_text};
 ghost use Rattle.lv_lint.specs.Texts.{warning_text};
@@ -14,7 +14,7 @@ use lv_svg::{Mark, MarkPlace};
 use std::alloc::Global;
 use std::fmt::Display;
 
-// Where the vertex of the number is.
+// The place of the vertex with the number.
 fn mark_at_vertex(drawn: &Map, n: u32) -> MarkPlace
     ensures { result ≡ mark_at_vertex drawn.now.tables n }
 {
@@ -24,14 +24,14 @@ fn mark_at_vertex(drawn: &Map, n: u32) -> MarkPlace
     }
 }
 
-// The vertex of a number.
+// The vertex with a number.
 fn line_end(drawn: &Map, n: u16) -> Vertex
     ensures { result ≡ line_end drawn.now.tables n }
 {
     drawn.vertex(u32::from(n)).unwrap_or(Vertex { x: 0, y: 0 })
 }
 
-// Along the line of the number.
+// The whole line with the number, from end to end.
 fn mark_along_line(drawn: &Map, n: u32) -> MarkPlace
     ensures { result ≡ mark_along_line drawn.now.tables n }
 {
@@ -41,7 +41,7 @@ fn mark_along_line(drawn: &Map, n: u32) -> MarkPlace
     }
 }
 
-// Where to look for what a finding tells of.
+// The place of a finding.
 fn finding_place(drawn: &Map, finding: Finding) -> MarkPlace
     ensures { result ≡ finding_place drawn.now.tables finding }
 {
@@ -55,7 +55,7 @@ fn finding_place(drawn: &Map, finding: Finding) -> MarkPlace
     }
 }
 
-// Where to look for what a warning tells of.
+// The place of a warning.
 fn warning_place(whereabouts: Whereabouts) -> MarkPlace
     ensures { result ≡ warning_place whereabouts }
 {
@@ -66,7 +66,7 @@ fn warning_place(whereabouts: Whereabouts) -> MarkPlace
     }
 }
 
-// The mark at a place that says what is told of it.
+// The mark at a place, with its text.
 fn said_at<T: Display>(alloc: Global, place: MarkPlace, told: &T) -> Result<Mark, EditorError>
     ensures said { (text : List ℕ) → T.output told.now ≡ Some text
         → IfOk result (λ mark. said_at mark ≡ (place, text)) }

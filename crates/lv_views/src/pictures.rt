@@ -18,8 +18,8 @@ use std::alloc::Global;
 use std::fs::Files;
 use std::io::Write;
 
-/// Which map is drawn, the current one where no name is given; what is shown besides; and into which file, where it
-/// isn't the output.
+/// Which map is drawn (the current one if no name is given), what is shown over it, and the file that it goes into (the
+/// output if none is given).
 #[derive(Clone, Copy)]
 pub struct Wanted<'a> {
     pub map: Option<&'a str>,
@@ -27,7 +27,7 @@ pub struct Wanted<'a> {
     pub out: Option<&'a str>,
 }
 
-// Whether the map is called so.
+// Whether the map has the name.
 fn is_called(map: &Map, name: &[u8]) -> bool
     ensures { result ≡ is_called name.now map.now.tables }
 {
@@ -35,7 +35,7 @@ fn is_called(map: &Map, name: &[u8]) -> bool
     own.text() == name
 }
 
-/// The map that is called so, the first of several.
+/// The first map with the name.
 pub fn map_called<'a>(maps: &'a Maps, name: &[u8]) -> Option<&'a Map>
     ensures { MatchOption result (find (is_called name.now) (project_of maps.now).maps ≡ None)
         (λ m. find (is_called name.now) (project_of maps.now).maps ≡ Some m.now.tables) }
@@ -80,7 +80,7 @@ fn picture_of(
     }
 }
 
-// Puts a picture into a new file, which takes its path's place once it is whole, or notes why it doesn't.
+// Writes a picture into a new file, which replaces the one at its path once it is whole; or notes why it doesn't.
 fn put_picture<E: Files>(
     alloc: Global,
     rt: &E,
@@ -116,7 +116,7 @@ where
     }
 }
 
-// Writes the picture of a map and hands it on.
+// Writes the picture of a map, and flushes the writer.
 fn show<W: Write>(
     map: &Map,
     options: PictureOptions,
@@ -167,8 +167,8 @@ where
     }
 }
 
-/// Draws the map that is wanted onto the output, or into the file that is wanted, or notes why the file can't be made.
-/// The file is whole or as it was; only nothing, an empty file or a picture of a map is replaced.
+/// Draws the wanted map onto the output or into the wanted file, or notes why the file can't be made. The file is whole
+/// or as it was; it may be new, empty or a picture of a map.
 pub fn draw<E: Files, W: Write>(
     alloc: Global,
     rt: &E,

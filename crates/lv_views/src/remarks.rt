@@ -1,4 +1,4 @@
-//! What `lint` writes: what there is to say of each map, perhaps beside a WAD.
+//! What `lint` writes: the findings and warnings of each map; with a WAD also the flats and textures that it lacks.
 ghost use Rattle.std.specs.Prelude.{◌≡◌, ◌≤◌, ◌+◌, ◌++◌, List, ℕ, IfErr, IfOk, MatchResult, Some, flat_map, is_some, length, option_map, slice_get};
 ghost use Rattle.std.specs.Option.{option_copied};
 ghost use Rattle.std.specs.Io.KnownBytes.{Appends};
@@ -67,7 +67,7 @@ fn write_each<T: Display, W: Write>(
     Ok(())
 }
 
-/// The sum, where a number of 32 bits holds it. No memory holds more findings than that.
+/// The sum, if it fits 32 bits. No memory holds more findings than that.
 pub(crate) fn plus(count: u32, more: usize) -> Result<u32, EditorError>
     ensures sum { IfOk result (λ n. n ≡ count + more) }
     ensures memory { IfErr result (λ e. e ≡ OutOfMemory) }
@@ -100,7 +100,7 @@ fn write_both<W: Write>(
     }
 }
 
-// The warnings of a map's flats and textures, where a WAD's names are given.
+// The warnings of a map's flats and textures, if a WAD's names are given.
 fn warned_by(
     alloc: Global,
     map: &Map,
@@ -119,7 +119,7 @@ fn warned_by(
     }
 }
 
-// The warnings of a map, and behind them those of its flats and textures.
+// The warnings of a map, then those of its flats and textures.
 fn warnings_of(
     alloc: Global,
     map: &Map,
@@ -139,7 +139,7 @@ fn warnings_of(
     }
 }
 
-/// Writes what there is to say of a map, and counts the lines on.
+/// Writes the lines about a map, and adds their number to the count.
 pub(crate) fn write_map<W: Write>(
     alloc: Global,
     map: &Map,
@@ -164,7 +164,7 @@ pub(crate) fn write_map<W: Write>(
     }
 }
 
-// Writes what there is to say of the map of the number, if there is one.
+// Writes the lines about the map with the number, if there is one.
 fn write_nth<W: Write>(
     alloc: Global,
     maps: &Maps,
@@ -184,7 +184,7 @@ fn write_nth<W: Write>(
     }
 }
 
-// Writes what there is to say of each map, and counts the lines.
+// Writes the lines about each map, and counts them.
 fn write_maps<W: Write>(
     alloc: Global,
     maps: &Maps,
@@ -205,7 +205,7 @@ fn write_maps<W: Write>(
     Ok(count)
 }
 
-// Writes what there is to say of the maps, then how many lines these are, and hands it on.
+// Writes the lines about the maps, then their number, and flushes the writer.
 fn tell_remarks<W: Write>(
     alloc: Global,
     maps: &Maps,
@@ -224,7 +224,7 @@ fn tell_remarks<W: Write>(
     }
 }
 
-// Writes what there is to say of a map, then how many lines these are, and hands it on.
+// Writes the lines about a map, then their number, and flushes the writer.
 fn tell_map<W: Write>(
     alloc: Global,
     map: &Map,
@@ -244,7 +244,7 @@ fn tell_map<W: Write>(
     }
 }
 
-// Tells what there is to say of the map of the name, or of all maps.
+// Writes the lines about the map with the name, or about all maps.
 fn tell_wanted<W: Write>(
     alloc: Global,
     maps: &Maps,
@@ -266,10 +266,9 @@ fn tell_wanted<W: Write>(
     }
 }
 
-/// Takes the names of a WAD's flats and textures, if one is given, and tells what there is to say of the maps, or of
-/// the one of the name alone: of each, by number, the findings of `check`, then the warnings of `lv_lint`, then those
-/// of flats and textures that the WAD lacks, each behind the map's name, and last how many lines these are; or notes
-/// why the WAD can't be opened.
+/// Writes about the maps by number, or about the one with the name alone: the findings of `check`, then the warnings of
+/// `lv_lint`, then, if a WAD is given, those of the flats and textures that it lacks. Each line begins with the map's
+/// name; the number of these lines comes last. Or notes why the WAD can't be opened.
 pub fn tell_beside<E: AllocGlobal + Files, W: Write>(
     rt: &E,
     maps: &Maps,

@@ -7,7 +7,7 @@ ghost use Rattle.lv_views.specs.ShownNames.{shown};
 use lv_editor::EditorError;
 use std::io::Write;
 
-// A byte of a name as it is shown: `?` where it is no visible character.
+// A byte of a name as it is shown: `?` if it is no visible character.
 fn shown(byte: u8) -> u8
     ensures { result ≡ shown byte }
 {

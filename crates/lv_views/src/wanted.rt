@@ -1,55 +1,23 @@
-//! The levels of a WAD that the program's words ask for.
-ghost use Rattle.std.specs.Prelude.{◌≡◌, ◌+◌, ◌≤◌, ◌<◌, ◌∷◌, [], All, IfErr, IfOk, IfSome, find, length, option_map};
+//! The levels of a WAD that a request asks for.
+ghost use Rattle.std.specs.Prelude.{◌≡◌, ◌∷◌, [], All, IfErr, IfOk, IfSome, find, option_map};
 ghost use Rattle.lv_levels.specs.Entries.{AreLevels, IsLevelAt};
-ghost use Rattle.lv_levels.specs.Levels.{HasEntries, long_at, lump_count};
-ghost use Rattle.lv_levels.specs.Listing.{entry_name};
-ghost use Rattle.lv_lumps.specs.Records.{name_at};
+ghost use Rattle.lv_levels.specs.Levels.{HasEntries};
 ghost use Rattle.lv_views.specs.WantedLevels.{AreWanted, IsWanted, RefusesAllWanted, RefusesWanted, first_wanted, is_level_called};
 
-use byteorder::{ByteOrder, LittleEndian};
-use lv_levels::{LevelEntries, ReadError, levels_in};
-use lv_lumps::Name8;
+use lv_levels::{LevelEntries, ReadError, entry_of, levels_in};
 use std::alloc::Global;
 
-// The number of 32 bits at a place, the lower bytes first.
-fn long_at(bytes: &[u8], at: usize) -> u32
-    requires { at + 4 ≤ length bytes.now }
-    ensures { result ≡ long_at at bytes.now }
-{
-    LittleEndian::read_u32(&bytes[at..])
-}
-
-// The eight bytes of a name at a place.
-fn name_at(bytes: &[u8], at: usize) -> Name8
-    requires { at + 8 ≤ length bytes.now }
-    ensures { result ≡ name_at at bytes.now }
-{
-    let mut name = [0; 8];
-    name.copy_from_slice(&bytes[at..at + 8]);
-    Name8 { bytes: name }
-}
-
-/// The name of the k-th entry of a directory.
-pub fn entry_name(wad: &[u8], k: u32) -> Name8
-    requires directory { HasEntries wad.now }
-    requires among { k < lump_count wad.now }
-    ensures { result ≡ entry_name wad.now k }
-{
-    let at = long_at(wad, 8) as usize + 16 * k as usize;
-    name_at(wad, at + 8)
-}
-
-// Whether the level is called so.
+// Whether the level has the name.
 fn is_level_called(wad: &[u8], level: LevelEntries, name: &[u8]) -> bool
     requires directory { HasEntries wad.now }
     requires level { IsLevelAt wad.now level }
     ensures { result ≡ is_level_called wad.now name.now level }
 {
-    let own = entry_name(wad, level.marker);
+    let own = entry_of(wad, level.marker).name;
     own.text() == name
 }
 
-/// The level that is called so, the first of several.
+/// The first level with the name.
 pub fn level_called(wad: &[u8], levels: &[LevelEntries], name: &[u8]) -> Option<LevelEntries>
     requires directory { HasEntries wad.now }
     requires levels { All (IsLevelAt wad.now) levels.now }
@@ -64,7 +32,7 @@ pub fn level_called(wad: &[u8], levels: &[LevelEntries], name: &[u8]) -> Option<
     None
 }
 
-// A level alone in a list.
+// A list of one level.
 fn alone(alloc: Global, level: LevelEntries) -> Result<Vec<LevelEntries>, ReadError>
     ensures alone { IfOk result (λ levels. levels.items ≡ level ∷ []) }
     ensures memory { IfErr result (λ e. e ≡ ReadError.OutOfMemory) }
@@ -76,7 +44,7 @@ fn alone(alloc: Global, level: LevelEntries) -> Result<Vec<LevelEntries>, ReadEr
     }
 }
 
-// The first level of the name, or the first of all.
+// The first level with the name, or the first of all.
 fn first_wanted(wad: &[u8], levels: &[LevelEntries], name: Option<&str>) -> Option<LevelEntries>
     requires directory { HasEntries wad.now }
     requires levels { All (IsLevelAt wad.now) levels.now }
@@ -90,7 +58,7 @@ fn first_wanted(wad: &[u8], levels: &[LevelEntries], name: Option<&str>) -> Opti
     }
 }
 
-/// The level of a WAD that is wanted: the first one of the name, or the first of all.
+/// The wanted level of a WAD: the first one with the name, or the first of all.
 pub(crate) fn wanted_level(
     alloc: Global,
     wad: &[u8],
@@ -110,7 +78,7 @@ pub(crate) fn wanted_level(
     }
 }
 
-/// The levels of a WAD that are looked at, in the order of its directory: all, or the first one of the name.
+/// The wanted levels of a WAD: all in the order of its directory, or the first one with the name.
 pub(crate) fn wanted_levels(
     alloc: Global,
     wad: &[u8],

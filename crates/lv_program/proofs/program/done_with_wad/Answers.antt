@@ -7,6 +7,6 @@ pub returns-in-Inspect-clause-performed : goal.returns-in-Inspect-clause-perform
 returns-in-Inspect-clause-performed g c = λ reader.
     rw c.in-Inspect.is (
       subst (λ (name : List ℕ). IsExamined name c.examine.result (g.W.Write.contents c.args.writer.now) (g.W.Write.contents c.examine.new.writer))
-          c.as_str-in-Inspect-2.ensures.value c.examine.ensures.examined,
+          c.as_str-in-Inspect.ensures.value c.examine.ensures.examined,
       Keeps-refl reader,
     )

@@ -1,5 +1,6 @@
 use Rattle.std.proofs.Common.{◌≡◌, ◌≤◌, ◌∙◌, ap, length, rules, arith}
 use Rattle.lv_levels.specs.Drawn.{drawn_view}
+use Rattle.lv_rebuild.specs.Kept.{kept_faults}
 use Rattle.lv_rebuild.specs.Remade.{reject_over}
 use Rattle.lv_rebuild.proofs.MadeLemmas.{blocks_refused, front_is, has_tree, made_over, tree_refused}
 use Rattle.lv_rebuild.proofs.remade.made_of.Goals as goal
@@ -28,6 +29,7 @@ returns-in-Ok-lumps_of c =
     let n : c.len-sectors.result ≡ length c.args.drawn.sectors.items = search rules in
     let reject = c.in-Ok-lumps_of.ensures.reject ∙ (c.in-Ok-reject_over.ensures.bytes ∙ (ap (λ k. reject_over k c.deref-6.result.now) n
     ∙ ap (reject_over (length d.sectors)) c.deref-6.ensures.value)) in
+    let kept = c.in-Ok-lumps_of.ensures.kept ∙ (c.in-Ok-kept_faults.ensures.list ∙ ap kept_faults c.deref-7.ensures.value) in
     made_over d c.front_of-front.result.now c.deref-4.result.now c.deref-5.result.now c.in-Ok.tree c.in-Ok-lumps_of.made c.in-Ok-blocks_over.bytes.items
     (front_is d _ _ _ c.front_of-front.ensures c.deref.ensures.value c.deref-2.ensures.value) c.deref-4.ensures.value c.deref-5.ensures.value c.in-Ok-lumps_of.ensures.records c.in-Ok.ensures.built
-    c.in-Ok-blocks_over.ensures.bytes c.in-Ok-lumps_of.ensures.blockmap reject
+    c.in-Ok-blocks_over.ensures.bytes c.in-Ok-lumps_of.ensures.blockmap reject kept

@@ -2,6 +2,7 @@ use Rattle.std.proofs.Common.{◌≡◌, ◌∙◌, ap, subst, List, ℕ, Result
 use Rattle.std.specs.Prelude.{MatchResult}
 use Rattle.lv_lumps.specs.declared.records.Name8.{Name8}
 use Rattle.lv_levels.specs.Drawn.{DrawnLists, drawn_lists, drawn_view, entries_hindrance}
+use Rattle.lv_levels.specs.declared.directory.Entry.{Entry}
 use Rattle.lv_levels.specs.declared.entries.LevelEntries.{LevelEntries}
 use Rattle.lv_maptables.specs.ProjectBody.{alone}
 use Rattle.lv_maptables.specs.Projects.{project_of}
@@ -24,5 +25,5 @@ map_ends wad l name d (Err e) none same refused = refused_level wad l name d e n
 
 pub returns-in-Ok : goal.returns-in-Ok
 returns-in-Ok c =
-    subst (λ (name : Name8). MatchResult c.import_drawn.result (IsMap c.args.wad.now c.args.level name) (RefusesLevelImport c.args.wad.now c.args.level name)) c.entry_name-name.ensures
-    (map_ends c.args.wad.now c.args.level c.entry_name-name.result (drawn_view c.in-Ok.drawn) c.import_drawn.result c.in-Ok.ensures.0 c.in-Ok.ensures.1 c.import_drawn.ensures)
+    subst (λ (name : Name8). MatchResult c.import_drawn.result (IsMap c.args.wad.now c.args.level name) (RefusesLevelImport c.args.wad.now c.args.level name)) (ap (λ (e : Entry). e.name) c.entry_of.ensures)
+    (map_ends c.args.wad.now c.args.level c.entry_of.result.name (drawn_view c.in-Ok.drawn) c.import_drawn.result c.in-Ok.ensures.0 c.in-Ok.ensures.1 c.import_drawn.ensures)
