@@ -1,5 +1,5 @@
 -- From what is told of each level of a WAD that is built anew to what the request `rebuild` promises.
-use Rattle.std.proofs.Common.{◌≡◌, ◌∙◌, ◌+◌, ◌<◌, ℕ, List, [], ◌∷◌, ◌++◌, Option, Result, Ok, Err, length, get_or, map, take, inr, refl, sym, ap, subst, append_assoc, append-nil}
+use Rattle.std.proofs.Common.{◌≡◌, ◌∙◌, ◌+◌, ◌<◌, ℕ, List, [], ◌∷◌, ◌++◌, Option, Result, Ok, Err, length, get_or, map, take, inr, refl, sym, ap, subst, append-nil}
 use Rattle.std.specs.Prelude.{All, MatchResult, flat_map}
 use Rattle.std.specs.Io.KnownBytes.{Appends}
 use Rattle.std.proofs.KnownBytes.{Appends-trans}
