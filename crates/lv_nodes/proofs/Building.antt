@@ -24,12 +24,12 @@ use Rattle.lv_nodes.specs.InRange.{greatest_number}
 use Rattle.lv_nodes.specs.References.{FollowsFrom}
 use Rattle.lv_nodes.specs.Tiling.{count_list, total}
 use Rattle.lv_nodes.specs.TreeLists.{HasNodes, IsEndOf, AreSegsOf}
-use Rattle.lv_nodes.specs.Sound.{IsTreeOfLines, IsBuiltOf, IsSound, IsSmall, HasTooManyVertices, HasTooManySegs}
+use Rattle.lv_nodes.specs.Sound.{IsTreeOfLines, IsBuiltOf, IsSound, IsSmall, HasTooManyVertices, HasTooManySegs, IsWithinLimits}
 use Rattle.lv_nodes.specs.Growth.{Lists, IsGrown, IsRefused}
 use Rattle.lv_nodes.specs.Numbers.{AreNumbered, HaveMore, AreSegsRefused}
 use Rattle.lv_nodes.specs.Refusals.{AreTreeLists, IsTreeRefused}
 use Rattle.lv_nodes.specs.Built.{IsRefusalOver}
-use Rattle.lv_nodes.proofs.Counting.{counts_many, one_leaf_more, nodes_many}
+use Rattle.lv_nodes.proofs.Counting.{counts_many, leaves_many, one_leaf_more, nodes_many}
 use Rattle.lv_nodes.proofs.Filling.{counts_some, tree_many}
 use Rattle.lv_nodes.proofs.Numbering.{none_new}
 use Rattle.lv_nodes.proofs.Laying.{counts_total, counted}
@@ -60,6 +60,18 @@ first_many n (e ∷ es) = let s = (sides_many n e).0 in let l = length-append (s
 
 pub start_reached : (lines : List Edge) → All IsEdge lines → IsReached lines (none_used lines) (first_pieces lines)
 start_reached lines all = first_reached lines (first_pieces lines) (first_are_pieces lines all)
+
+-- ---- the limits
+pub within_limits : (lines : List Edge) (lists : Lists) → AreTreeLists lines lists → IsWithinLimits lines
+within_limits lines lists a =
+    let t = a.tree in
+    let fs = a.few_segs in
+    let fz = a.few_sizes in
+    let s = ap (λ (ps : List Piece). length ps) a.segs in
+    let z = ap (λ (ns : List ℕ). length ns) a.sizes in
+    let c = counts_many t in
+    let l = leaves_many t in
+    (t, a.of_lines, omega arith, omega arith, a.shallow)
 
 -- ---- the recursion from the first list
 abbrev pub no_lists : Lists

@@ -9,8 +9,8 @@ use Rattle.lv_segs.specs.declared.edge.Edge.{Edge}
 use Rattle.lv_segs.specs.declared.frac.Frac.{Frac}
 use Rattle.lv_segs.specs.declared.piece.Piece.{Piece}
 use Rattle.lv_segs.specs.Plane.{IsEdge}
-use Rattle.lv_segs.specs.Fractions.{IsFraction, rounded, point_at}
-use Rattle.lv_segs.specs.Pieces.{IsPiece, edge_of, first_end, last_end}
+use Rattle.lv_segs.specs.Fractions.{IsFraction, rounded}
+use Rattle.lv_segs.specs.Pieces.{IsPiece, edge_of}
 use Rattle.lv_segs.specs.Boxes.{widened, box_of, boxes_of}
 use Rattle.lv_segs.proofs.Rounding.{rounded_in}
 use Rattle.lv_partition.specs.Blocks.{AreBlocks, IsWithinBox}

@@ -96,3 +96,8 @@ HasTooManySubsectors lines = (t : Tree) × IsTreeOfLines lines t
 
 abbrev pub IsTooDeep : List Edge → Type 0
 IsTooDeep lines = (t : Tree) × IsTreeOfLines lines t × (1024 < depth t)
+
+-- the tree of the lines has few enough segs and subsectors, and no path that is too long
+abbrev pub IsWithinLimits : List Edge → Type 0
+IsWithinLimits lines = (t : Tree) × IsTreeOfLines lines t × (length (pieces t) ≤ greatest_number)
+    × (length (leaves t) ≤ greatest_number) × (depth t ≤ 1024)

@@ -1,4 +1,4 @@
-//! A list of pieces with the box of each, and the same pieces in an order by their places.
+//! A list of pieces with the box of each, and the same pieces in an order by their places on the map.
 ghost use Rattle.std.specs.Prelude.{◌≡◌, [], All, IfOk};
 ghost use Rattle.lv_segs.specs.Plane.{IsEdge};
 ghost use Rattle.lv_segs.specs.Pieces.{IsPiece};
@@ -8,7 +8,7 @@ use lv_lumps::Bounds;
 use lv_segs::{Edge, Piece, boxes_in};
 use std::alloc::{AllocError, Global};
 
-/// A list of pieces, and in its order the box of each.
+/// A list of pieces, with the box of each in the same order.
 #[derive(Drop)]
 pub(crate) struct BoxedPieces {
     pub pieces: Vec<Piece>,
@@ -16,7 +16,7 @@ pub(crate) struct BoxedPieces {
 }
 
 impl BoxedPieces {
-    /// No pieces, with room for so many.
+    /// An empty list with room for so many pieces.
     pub(crate) fn with_room(alloc: Global, count: u32) -> Result<BoxedPieces, AllocError>
         ensures pieces { IfOk result (λ list. list.pieces.items ≡ []) }
         ensures boxes { IfOk result (λ list. list.boxes.items ≡ []) }
@@ -54,7 +54,8 @@ impl BoxedPieces {
     }
 }
 
-/// A list of pieces, in its order the box of each, and maybe the same pieces with theirs in an order by places.
+/// A list of pieces with the box of each in the same order. A long list also has the same pieces and boxes in an order
+/// by places.
 #[derive(Drop)]
 pub(crate) struct PlacedPieces {
     pub pieces: Vec<Piece>,
@@ -63,7 +64,7 @@ pub(crate) struct PlacedPieces {
 }
 
 impl PlacedPieces {
-    /// These pieces, each with its box, in no other order.
+    /// These pieces, each with its box, without an order by places.
     pub(crate) fn of(
         alloc: Global,
         lines: &[Edge],

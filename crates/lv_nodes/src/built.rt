@@ -1,8 +1,9 @@
-//! The calls of the crate: the tree of lines over drawn vertices, and that of a map's lines.
+//! The calls of the crate: they build the tree of lines over drawn vertices, or that of a map.
 ghost use Rattle.std.specs.Prelude.{◌≡◌, ◌<◌, ◌≤◌, length, All, ◌↔◌, Err, IfOk, IfErr, replicate, false};
 ghost use Rattle.lv_segs.specs.Plane.{IsEdge};
 ghost use Rattle.lv_nodes.specs.Growth.{lists_of};
-ghost use Rattle.lv_nodes.specs.Sound.{AllDiffer};
+ghost use Rattle.lv_segs.specs.Edges.{edges_of};
+ghost use Rattle.lv_nodes.specs.Sound.{AllDiffer, IsWithinLimits};
 ghost use Rattle.lv_nodes.specs.Built.{IsBuilt, IsBuiltOver, IsRefusalOver, IsTreeRefusal};
 ghost use Rattle.lv_nodes.specs.Refusals.{AreTreeLists, IsTreeRefused};
 
@@ -20,7 +21,7 @@ use std::alloc::{AllocError, Global};
 // How many nodes a path may have.
 const DEEPEST: u32 = 1024;
 
-/// A built tree: the drawn vertices with the added ones behind, the segs, the subsectors and the nodes.
+/// A built tree: the drawn vertices followed by the added ones, the segs, the subsectors and the nodes.
 #[derive(Drop)]
 pub struct Built {
     pub vertices: Vec<Vertex>,
@@ -29,14 +30,14 @@ pub struct Built {
     pub nodes: Vec<Node>,
 }
 
-// A flag for each line: none is used.
+// A flag for each line: no partition has used it yet.
 fn no_flags(alloc: Global, count: usize) -> Result<Vec<bool>, AllocError>
     ensures { IfOk result (λ flags. flags.items ≡ replicate count false) }
 {
     Vec::from_elem(alloc, false, count)
 }
 
-// The pieces, counts and nodes of the tree of the lines.
+// The tree of the lines: the pieces of its leaves, how many each leaf has, and its nodes.
 fn grown_of(alloc: Global, lines: &[Edge]) -> Result<Grown, TreeError>
     requires lines { All IsEdge lines.now }
     requires few { length lines.now ≤ 32767 }
@@ -79,7 +80,7 @@ fn grown_of(alloc: Global, lines: &[Edge]) -> Result<Grown, TreeError>
     }
 }
 
-// The places by number.
+// All vertices, by number.
 fn vertices_of(alloc: Global, points: &Points) -> Result<Vec<Vertex>, AllocError>
     ensures { IfOk result (λ vertices. vertices.items ≡ points.now) }
 {
@@ -91,7 +92,7 @@ fn vertices_of(alloc: Global, points: &Points) -> Result<Vec<Vertex>, AllocError
     Ok(vertices)
 }
 
-// The tree of the lines, over the drawn places.
+// The tree of the lines over the drawn vertices.
 fn build_over(alloc: Global, lines: &[Edge], points: &mut Points) -> Result<Built, TreeError>
     requires lines { All IsEdge lines.now }
     requires few { length lines.now ≤ 32767 }
@@ -99,6 +100,7 @@ fn build_over(alloc: Global, lines: &[Edge], points: &mut Points) -> Result<Buil
     requires few_places { length points.old ≤ 32767 }
     ensures built { IfOk result (IsBuiltOver lines.now points.old) }
     ensures refused { IfErr result (IsRefusalOver lines.now points.old) }
+    ensures last { result ≡ Err TreeError.TooManyVertices → IsWithinLimits lines.now }
 {
     let grown = match grown_of(alloc, lines) {
         Err(error) => return Err(error),
@@ -127,16 +129,17 @@ fn build_over(alloc: Global, lines: &[Edge], points: &mut Points) -> Result<Buil
     }
 }
 
-/// The tree over all sides of lines, behind drawn vertices: the pieces of each side are divided by the
-/// lines of one another until no piece of an unused line separates its list. Drawn vertices may be of
-/// any number and may share places; a seg names the first vertex at a place, and an end of a seg at
-/// which none stands is added behind them, once.
+/// The tree over all sides of lines. The pieces of all sides are divided by each other's lines until no piece of an
+/// unused line separates its list. There may be any number of drawn vertices, and they may share places; a seg names
+/// the first vertex at a place. An end of a seg where no vertex stands becomes a new vertex behind the drawn ones,
+/// once.
 ///
 /// # Errors
 ///
-/// - `NothingToBuild` exactly where there is no line.
-/// - `TooManyVertices`, `TooManySegs`, `TooManySubsectors`: the tree has more than 32,767 of them. More
-///   drawn vertices, or else more lines, than that are refused so before the tree is looked for.
+/// - `NothingToBuild` exactly if there is no line.
+/// - `TooManyVertices`, `TooManySegs`, `TooManySubsectors`: the tree has more than 32,767 of them. More than 32,767
+///   drawn vertices, or else more than 32,767 lines, are refused before any tree is built. Otherwise `TooManyVertices`
+///   comes last, only if the tree stays within all other limits.
 /// - `TooDeep`: a path of the tree has more than 1,024 nodes.
 /// - `OutOfMemory`.
 pub fn build_lines(alloc: Global, lines: &[Edge], drawn: &[Vertex]) -> Result<Built, TreeError>
@@ -146,6 +149,8 @@ pub fn build_lines(alloc: Global, lines: &[Edge], drawn: &[Vertex]) -> Result<Bu
     ensures nothing { result ≡ Err TreeError.NothingToBuild ↔ length lines.now ≡ 0 }
     ensures many { 0 < length lines.now → 32767 < length drawn.now →
         result ≡ Err TreeError.TooManyVertices }
+    ensures last { length drawn.now ≤ 32767 → result ≡ Err TreeError.TooManyVertices →
+        IsWithinLimits lines.now }
 {
     if lines.is_empty() {
         return Err(TreeError::NothingToBuild);
@@ -161,14 +166,16 @@ pub fn build_lines(alloc: Global, lines: &[Edge], drawn: &[Vertex]) -> Result<Bu
     build_over(alloc, lines, &mut points)
 }
 
-/// The tree over all sides of a map's lines, behind its vertices, as `build_lines` builds it. It is
-/// refused where the map has no line (`NothingToBuild`), where the tree has more than 32,767 vertices,
-/// segs or subsectors or a path of more than 1,024 nodes, and for lack of memory.
+/// The tree over all sides of a map's lines, as `build_lines` builds it over the map's vertices. It is refused if the
+/// map has no line (`NothingToBuild`), if the tree has more than 32,767 vertices, segs or subsectors or a path of more
+/// than 1,024 nodes, and for lack of memory. Too many vertices are refused last.
 pub fn build_tree(alloc: Global, map: &Map) -> Result<Built, TreeError>
     ensures built { IfOk result (λ b. IsBuilt map.now.tables b) }
     ensures differ { IfOk result (λ b. AllDiffer b.vertices.items) }
     ensures refused { IfErr result (IsTreeRefusal map.now.tables) }
     ensures nothing { result ≡ Err TreeError.NothingToBuild ↔ length map.now.tables.lines ≡ 0 }
+    ensures last { result ≡ Err TreeError.TooManyVertices →
+        IsWithinLimits (edges_of map.now.tables) }
 {
     if map.count(Kind::Line) == 0 {
         return Err(TreeError::NothingToBuild);

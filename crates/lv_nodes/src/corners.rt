@@ -1,4 +1,4 @@
-//! Least boxes of places.
+//! The least boxes that hold some places.
 ghost use Rattle.std.specs.Prelude.{◌≡◌, ◌<◌, ◌≤ℤ◌, ◌⊎◌, length, All};
 ghost use Rattle.lv_segs.specs.Plane.{IsEdge};
 ghost use Rattle.lv_segs.specs.Pieces.{IsPiece};
@@ -37,7 +37,7 @@ fn box_at(place: Vertex) -> Bounds
     }
 }
 
-// The least box of what two boxes hold.
+// The least box that holds two boxes.
 pub(crate) fn joined(a: Bounds, b: Bounds) -> Bounds
     ensures { IsJoined a b result }
 {
@@ -49,7 +49,7 @@ pub(crate) fn joined(a: Bounds, b: Bounds) -> Bounds
     }
 }
 
-// The least box of a piece's rounded ends.
+// The least box that holds a piece's rounded ends.
 fn box_of_ends(lines: &[Edge], piece: &Piece) -> Bounds
     requires lines { All IsEdge lines.now }
     requires piece { IsPiece lines.now piece.now }
@@ -61,7 +61,7 @@ fn box_of_ends(lines: &[Edge], piece: &Piece) -> Bounds
     joined(box_at(first), box_at(last))
 }
 
-/// The least box of the rounded ends of some pieces.
+/// The least box that holds the rounded ends of some pieces.
 pub(crate) fn bounds_of(lines: &[Edge], pieces: &[Piece]) -> Bounds
     requires lines { All IsEdge lines.now }
     requires pieces { All (IsPiece lines.now) pieces.now }

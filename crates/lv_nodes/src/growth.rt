@@ -1,4 +1,4 @@
-//! The tree put down: leaves and nodes, right before left.
+//! Grows the tree of a list: its leaves and nodes in the order right tree, left tree, node.
 ghost use Rattle.std.specs.Prelude.{◌≡◌, ◌<◌, ◌≤◌, ◌^◌, length, vec_len, IfOk, IfErr, All};
 ghost use Rattle.lv_segs.specs.Plane.{IsEdge};
 ghost use Rattle.lv_segs.specs.Pieces.{IsPiece};
@@ -20,7 +20,7 @@ use std::alloc::Global;
 // The greatest number of segs or of subsectors.
 const MOST: usize = 32767;
 
-/// What has been put down of a tree: the pieces of its leaves, how many each leaf has, and its nodes.
+/// What has been built of a tree so far: the pieces of its leaves, how many each leaf has, and its nodes.
 #[derive(Drop)]
 pub(crate) struct Grown {
     pub pieces: Vec<Piece>,
@@ -28,14 +28,14 @@ pub(crate) struct Grown {
     pub nodes: Vec<Node>,
 }
 
-/// A tree as the child of a node: its number, and the least box of the ends below it.
+/// A tree as the child of a node: its number, and the least box that holds all ends of segs below it.
 #[derive(Clone, Copy)]
 pub(crate) struct Child {
     pub number: u16,
     pub bounds: Bounds,
 }
 
-// Puts a leaf down.
+// Appends a leaf, as one subsector.
 fn put_leaf(lines: &[Edge], leaf: &[Piece], grown: &mut Grown) -> Result<Child, TreeError>
     requires lines { All IsEdge lines.now }
     requires pieces { All (IsPiece lines.now) leaf.now }
@@ -84,7 +84,7 @@ fn node_of(ray: Ray, right: Child, left: Child) -> Node
     }
 }
 
-// Puts a node down, behind those of its two trees.
+// Appends the node of two trees, behind the nodes of both.
 fn put_node(
     lines: &[Edge],
     partition: &Piece,
@@ -111,8 +111,8 @@ fn put_node(
     }
 }
 
-/// Puts the tree of a list of pieces down: the right tree, the left one, and then the node. `used` tells the
-/// lines of the partitions above, and `room` how many nodes a path may still have.
+/// Appends the tree of a list of pieces: the right tree, the left one, then the node. `used` marks the lines of the
+/// partitions above, and `room` is how many nodes a path may still have.
 pub(crate) fn grow(
     alloc: Global,
     lines: &[Edge],

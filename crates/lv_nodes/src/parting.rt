@@ -1,4 +1,4 @@
-//! A list parted by a partition into the parts on its two sides.
+//! Divides a list by a partition into the parts on its two sides.
 ghost use Rattle.std.specs.Prelude.{◌≡◌, ◌++◌, ◌∷◌, [], ◌&&◌, All, false, is_some, option_to_list, IfOk, IfSome, OnOk};
 ghost use Rattle.lv_segs.specs.Plane.{IsEdge};
 ghost use Rattle.lv_segs.specs.Local.{IsLineRay};
@@ -20,14 +20,14 @@ pub(crate) struct Sides {
     pub left: BoxedPieces,
 }
 
-// Both parts of a piece are kept.
+// Whether both parts of a piece are kept.
 fn is_split(parts: &Parts) -> bool
     ensures { result ≡ (is_some parts.now.right && is_some parts.now.left) }
 {
     parts.right.is_some() && parts.left.is_some()
 }
 
-// The box of a part of a piece: one of its own where the piece is split, else the piece's.
+// The box of a part of a piece: its own if the piece is split, else the piece's.
 fn box_of_part(lines: &[Edge], part: &Piece, split: bool, bounds: Bounds) -> Bounds
     requires lines { All IsEdge lines.now }
     requires part { IsPiece lines.now part.now }
@@ -42,7 +42,7 @@ fn box_of_part(lines: &[Edge], part: &Piece, split: bool, bounds: Bounds) -> Bou
     }
 }
 
-// Puts a part of a piece with its box behind a list, where it is kept.
+// Appends a part of a piece with its box, if the part is kept.
 fn put_part(
     lines: &[Edge],
     part: Option<Piece>,
@@ -69,7 +69,7 @@ fn put_part(
     }
 }
 
-// Puts the parts of a piece down that a partition may cross.
+// Appends the parts of a piece that the partition may cross.
 fn put_divided(
     lines: &[Edge],
     partition: &Piece,
@@ -98,7 +98,7 @@ fn put_divided(
     Ok(())
 }
 
-// Puts the parts of a piece down: it goes to one side whole where its box lies on that side.
+// Appends the parts of a piece. If its box lies on one side, the whole piece goes there.
 fn put_parts(
     lines: &[Edge],
     partition: &Piece,
@@ -130,8 +130,8 @@ fn put_parts(
     }
 }
 
-/// The parts of a list on the two sides of a partition, with their boxes. `choice` tells how many there will be; what
-/// it says costs time alone.
+/// The parts of a list on the two sides of a partition, with their boxes. `choice` tells how many there will be, so
+/// that there is room for them; wrong numbers would only cost time.
 pub(crate) fn part_list(
     alloc: Global,
     lines: &[Edge],

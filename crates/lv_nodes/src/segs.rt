@@ -1,4 +1,4 @@
-//! Segs from pieces, with their ends numbered.
+//! Makes segs of pieces and numbers their ends.
 ghost use Rattle.std.specs.Prelude.{◌≡◌, ◌≤◌, length, All, IfOk, IfErr};
 ghost use Rattle.lv_segs.specs.Plane.{IsEdge};
 ghost use Rattle.lv_segs.specs.Pieces.{IsPiece};
@@ -12,7 +12,7 @@ use lv_lumps::{Seg, Vertex};
 use lv_segs::{Edge, Piece, Points, SegsError};
 use std::alloc::Global;
 
-// The number of a place.
+// The number of the vertex at a place, which is added if there is none.
 fn number_of(points: &mut Points, place: Vertex) -> Result<u16, TreeError>
     requires few { length points.old ≤ 32767 }
     ensures numbered { IfOk result (λ n. IsNumbered points.old points.new place n) }
@@ -25,7 +25,7 @@ fn number_of(points: &mut Points, place: Vertex) -> Result<u16, TreeError>
     }
 }
 
-// The seg of a piece, with its start numbered before its end.
+// The seg of a piece. Its start is numbered before its end.
 fn seg_of(
     points: &mut Points,
     lines: &[Edge],
@@ -58,7 +58,8 @@ fn seg_of(
     }
 }
 
-/// The segs of pieces, in their order, by the angles of the lines. A new place is numbered behind the others.
+/// The segs of pieces, in the same order. `angles` has the angle of each line. Ends where no vertex stands become new
+/// vertices, numbered in this order.
 pub(crate) fn segs_of(
     alloc: Global,
     points: &mut Points,

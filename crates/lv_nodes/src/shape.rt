@@ -1,4 +1,4 @@
-//! What a seg takes from its piece alone: ends, side, angle, offset.
+//! The part of a seg that depends only on its piece: ends, side, angle, offset.
 ghost use Rattle.std.specs.Prelude.{◌≡◌, ◌<◌, All};
 ghost use Rattle.lv_segs.specs.Plane.{IsEdge};
 ghost use Rattle.lv_segs.specs.Pieces.{IsPiece, ray_of as piece_ray};
@@ -10,7 +10,7 @@ ghost use Rattle.lv_nodes.specs.TreeLists.{side_number, start_of, end_of};
 use lv_lumps::Vertex;
 use lv_segs::{Edge, Facing, Piece, offset, point, reversed_angle};
 
-/// What a seg takes from its piece alone: the places of its ends, its side, angle and offset.
+/// The part of a seg that depends only on its piece: the places of its ends, its side, angle and offset.
 #[derive(Clone, Copy, Debug)]
 pub(crate) struct Shape {
     pub start: Vertex,
@@ -20,7 +20,7 @@ pub(crate) struct Shape {
     pub offset: u16,
 }
 
-/// The places and fields of a piece's seg, by the angles of the lines.
+/// The ends, side, angle and offset of a piece's seg. `angles` has the angle of each line.
 pub(crate) fn shape_of(lines: &[Edge], angles: &[u16], piece: &Piece) -> Shape
     requires lines { All IsEdge lines.now }
     requires angles { AreAngles lines.now angles.now }

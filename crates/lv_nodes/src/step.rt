@@ -1,4 +1,5 @@
-//! One step of the division: a leaf, or a partition and two lists. Which choice is asked costs time alone.
+//! One step of the division: a leaf, or a partition and two lists. All ways to choose give the same partition; they
+//! differ in time alone.
 ghost use Rattle.std.specs.Prelude.{◌≡◌, ◌<◌, ◌≤◌, ◌^◌, length, vec_len, All, IfOk, IfSome, MatchOption};
 ghost use Rattle.lv_segs.specs.Plane.{IsEdge};
 ghost use Rattle.lv_segs.specs.Pieces.{IsPiece};
@@ -16,10 +17,10 @@ use lv_partition::{Choice, StraightLines, blocks_of, by_place, choose_in_boxes, 
 use lv_segs::{Edge, Piece};
 use std::alloc::{AllocError, Global};
 
-// As many pieces as these are one block.
+// The most pieces of a list that is one block.
 const FEW: usize = 16;
 
-// A box round all places.
+// A box that holds all places.
 const EVERYWHERE: Bounds = Bounds {
     top: i16::MAX,
     bottom: i16::MIN,
@@ -27,10 +28,10 @@ const EVERYWHERE: Bounds = Bounds {
     right: i16::MAX,
 };
 
-// More pieces than these have an order by their places.
+// Longer lists than this have an order by places.
 const LONG: usize = 256;
 
-/// What comes of a list of pieces: a leaf, or a partition and the two lists of the parts with their boxes.
+/// What a list of pieces becomes: a leaf, or a partition and the two lists of the parts with their boxes.
 #[derive(Drop)]
 pub(crate) enum Step {
     Leaf(Vec<Piece>),
@@ -41,21 +42,21 @@ pub(crate) enum Step {
     },
 }
 
-/// The orders of the parts on the two sides of a partition, where they have one.
+/// The orders by places of the parts on the two sides of a partition, if they are long enough to have one.
 #[derive(Drop)]
 struct Orders {
     right: Option<BoxedPieces>,
     left: Option<BoxedPieces>,
 }
 
-/// The parts of a list on the two sides of a partition, with their orders where they have one.
+/// The parts of a list on the two sides of a partition, with their orders by places if they have one.
 #[derive(Drop)]
 struct PlacedSides {
     right: PlacedPieces,
     left: PlacedPieces,
 }
 
-// The order by places of a long list: the one that came with it, or else a new one.
+// The order by places of a long list: the one that it has already, or else a new one.
 fn order_of(
     alloc: Global,
     lines: &[Edge],
@@ -80,8 +81,8 @@ fn order_of(
     }
 }
 
-// The orders of the parts, parted from the list's own one, which is quicker than to sort them. `choice` tells how many
-// parts there are; where they are few, there is no order.
+// The orders by places of the parts. They are divided from the list's order, which is quicker than sorting them.
+// `choice` tells how many parts there are; if they are few on both sides, they get no order.
 fn parted_order(
     alloc: Global,
     lines: &[Edge],
@@ -125,7 +126,7 @@ fn parted_order(
     }
 }
 
-// The parts of a list, with their boxes and their orders.
+// The parts of a list on the two sides of a partition, with their boxes and orders.
 fn part_placed(
     alloc: Global,
     lines: &[Edge],
@@ -155,7 +156,7 @@ fn part_placed(
     })
 }
 
-// The best candidate of a list, by boxes of its pieces in an order by their places.
+// The best candidate of a list that has an order by places, by the boxes in that order.
 fn choice_by_place(
     alloc: Global,
     lines: &[Edge],
@@ -184,7 +185,7 @@ fn choice_by_place(
     ))
 }
 
-// The best candidate of a list of one block. Its pieces are looked at one by one whatever its box is.
+// The best candidate of a list of one block. The choice tests such pieces one by one and never reads the block's box.
 fn choice_of_few(
     lines: &[Edge],
     list: &[Piece],
@@ -204,7 +205,7 @@ fn choice_of_few(
     choose_in_boxes(lines, list, boxes, &[EVERYWHERE], used, straight)
 }
 
-// The best candidate of a list: by the boxes that it has, or by those of its order where it has one.
+// The best candidate of a list: by the boxes of its order by places if it has one, else by its own boxes.
 fn choice_of(
     alloc: Global,
     lines: &[Edge],
@@ -235,7 +236,7 @@ fn choice_of(
     }
 }
 
-/// What comes of a list of pieces: a leaf where it has no choice, else the parts by the best one.
+/// What a list of pieces becomes: a leaf if no piece can be chosen, else the parts by the best piece.
 pub(crate) fn step_in(
     alloc: Global,
     lines: &[Edge],

@@ -1,4 +1,4 @@
-//! Subsectors from the counts of the leaves.
+//! Makes subsectors of the numbers of segs in the leaves.
 ghost use Rattle.std.specs.Prelude.{◌≡◌, ◌<◌, ◌≤◌, ℕ, map, All, IfOk};
 ghost use Rattle.lv_lumps.specs.declared.records.Sub.{Sub as SubRecord};
 ghost use Rattle.lv_nodes.specs.References.{FollowsFrom};
@@ -7,7 +7,7 @@ ghost use Rattle.lv_nodes.specs.Tiling.{total};
 use lv_lumps::Sub;
 use std::alloc::{AllocError, Global};
 
-/// The subsectors that hold so many segs each, one after the other.
+/// The subsectors that hold so many segs each, in this order, from seg 0 on.
 pub(crate) fn subs_of(alloc: Global, counts: &[usize]) -> Result<Vec<Sub>, AllocError>
     requires some { All (λ (n : ℕ). 0 < n) counts.now }
     requires few { total counts.now ≤ 32767 }

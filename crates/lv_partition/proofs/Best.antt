@@ -12,7 +12,8 @@ use Rattle.lv_segs.specs.Plane.{IsEdge}
 use Rattle.lv_segs.specs.Pieces.{IsPiece}
 use Rattle.lv_segs.specs.Tree.{is_split, cost, IsCandidate, HasNoChoice}
 use Rattle.lv_segs.proofs.Lists.{All-at}
-use Rattle.lv_segs.proofs.Straight.{OnOneLine, same_cost, candidate_too}
+use Rattle.lv_segs.proofs.Straight.{OnOneLine}
+use Rattle.lv_segs.proofs.StraightLists.{same_cost, candidate_too}
 use Rattle.lv_partition.specs.Choices.{IsChoice, HasEarlier}
 use Rattle.lv_segs.proofs.Stops.{rights, lefts, splits, rights_near, lefts_near}
 use Rattle.lv_partition.specs.declared.choice.Choice.{Choice}

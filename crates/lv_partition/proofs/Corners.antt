@@ -1,13 +1,16 @@
 -- The corners of a box with the least and the greatest side value by a ray, and their columns.
 use Rattle.std.proofs.Common.{◌≡◌, sym, ap, ◌∙◌, ℕ, Bool, true, false, List, arith}
-use Rattle.std.proofs.lemmas.Int.{ints}
-use Rattle.std.specs.Prelude.{map, if◌then◌else◌, ℤ, pos, neg_ℤ, ◌-ℤ◌, ◌*ℤ◌, ◌<ℤ◌, int_le}
+use Rattle.std.proofs.lemmas.Int.{ints, to_z-of_z}
+use Rattle.std.specs.Prelude.{map, if◌then◌else◌, ℤ, pos, neg_ℤ, ◌-ℤ◌, ◌*ℤ◌, ◌<ℤ◌, int_le, FitsSigned}
+use Rattle.std.specs.Int.{w16}
+use mir.Val.{to_z, of_z}
 use Rattle.lv_lumps.specs.declared.records.Bounds.{Bounds}
 use Rattle.lv_lumps.specs.declared.records.Vertex.{Vertex}
 use Rattle.lv_lumps.specs.declared.plane.Ray.{Ray}
 use Rattle.lv_segs.specs.Plane.{vertex_value}
 use Rattle.lv_segs.specs.Boxes.{ray_offset, least_value, greatest_value}
 use Rattle.lv_partition.specs.Sights.{low_corner, high_corner}
+use Rattle.lv_partition.specs.Columns.{left_top, left_bottom, right_top, right_bottom}
 use Rattle.lv_partition.proofs.FarPlaces.{offset_off}
 
 module _ (r : Ray) (b : Bounds) where
@@ -24,6 +27,16 @@ module _ (r : Ray) (b : Bounds) where
   pub high_is : vertex_value r (high_corner r b) ≡ greatest_value r b
   high_is = by_signs (int_le (pos 0) r.dy) (int_le (pos 0) r.dx) b.right b.left b.bottom b.top
 
+-- a place that is read from a column, by its two coordinates
+pub place_by_16 : (u v : Vertex) → FitsSigned w16 u.x → FitsSigned w16 u.y → u ≡ v → record { x = to_z w16 (of_z w16 u.x); y = to_z w16 (of_z w16 u.y) } ≡ v
+place_by_16 u v fx fy e =
+    let made : ℤ → ℤ → Vertex = λ x y. record { x = x; y = y } in
+    ap (λ (x : ℤ). made x (to_z w16 (of_z w16 u.y))) (to_z-of_z w16 u.x fx) ∙ ap (made u.x) (to_z-of_z w16 u.y fy) ∙ e
+
+-- what is read where a column has no place
+abbrev pub no_vertex : Vertex
+no_vertex = record { x = pos 0; y = pos 0 }
+
 -- twice a value beyond a blur is beyond 0
 pub above_blur : (n : ℕ) (x : ℤ) → pos n <ℤ (pos 2 *ℤ x) → pos 0 <ℤ x
 above_blur n x h = omega (arith, ints)
@@ -31,14 +44,22 @@ above_blur n x h = omega (arith, ints)
 pub below_blur : (n : ℕ) (x : ℤ) → (pos 2 *ℤ x) <ℤ neg_ℤ (pos n) → x <ℤ pos 0
 below_blur n x h = omega (arith, ints)
 
--- the columns that a sign chooses
-pub chosen : (t : Bool) (f g : Bounds → ℤ) (boxes : List Bounds) (xs ys : List ℤ) → xs ≡ map f boxes → ys ≡ map g boxes
-    → (if t then xs else ys) ≡ map (λ b. (if t then f b else g b)) boxes
-chosen true f g boxes xs ys e h = e
-chosen false f g boxes xs ys e h = h
+-- the columns that the signs choose: those of the corners with the least side values
+pub chosen : (north east : Bool) (boxes : List Bounds) (lt lb rt rb one other : List Vertex)
+    → one ≡ (if east then lt else lb) → other ≡ (if east then rt else rb)
+    → lt ≡ map left_top boxes → lb ≡ map left_bottom boxes → rt ≡ map right_top boxes → rb ≡ map right_bottom boxes
+    → (if north then one else other) ≡ map (λ b. record { x = (if north then b.left else b.right); y = (if east then b.top else b.bottom) }) boxes
+chosen true true boxes lt lb rt rb one other f g a b c d = f ∙ a
+chosen true false boxes lt lb rt rb one other f g a b c d = f ∙ b
+chosen false true boxes lt lb rt rb one other f g a b c d = g ∙ c
+chosen false false boxes lt lb rt rb one other f g a b c d = g ∙ d
 
--- a corner by its two coordinates
-pub corner_by : (a b : ℤ) (v : Vertex) → a ≡ v.x → b ≡ v.y → record { x = a; y = b } ≡ v
-corner_by a b v e f =
-    let made : ℤ → ℤ → Vertex = λ x y. record { x = x; y = y } in
-    ap (λ (x : ℤ). made x b) e ∙ ap (made v.x) f
+-- and with the greatest ones
+pub chosen_other : (north east : Bool) (boxes : List Bounds) (lt lb rt rb one other : List Vertex)
+    → one ≡ (if east then rb else rt) → other ≡ (if east then lb else lt)
+    → lt ≡ map left_top boxes → lb ≡ map left_bottom boxes → rt ≡ map right_top boxes → rb ≡ map right_bottom boxes
+    → (if north then one else other) ≡ map (λ b. record { x = (if north then b.right else b.left); y = (if east then b.bottom else b.top) }) boxes
+chosen_other true true boxes lt lb rt rb one other f g a b c d = f ∙ d
+chosen_other true false boxes lt lb rt rb one other f g a b c d = f ∙ c
+chosen_other false true boxes lt lb rt rb one other f g a b c d = g ∙ b
+chosen_other false false boxes lt lb rt rb one other f g a b c d = g ∙ a

@@ -177,9 +177,8 @@ module _ (lines : List Edge) (partition p : Piece) (ok : IsPiece lines p) where
       both true false e f = cc
       both false y e f = cc
 
--- the ends of a piece by their four coordinates
-pub ends_by : (a b u v : ℤ) (e : Ends) → a ≡ e.first.x → b ≡ e.first.y → u ≡ e.last.x → v ≡ e.last.y
-    → record { first = record { x = a; y = b }; last = record { x = u; y = v } } ≡ e
-ends_by a b u v e p q r s =
-    let made : ℤ → ℤ → ℤ → ℤ → Ends = λ x y z w. record { first = record { x = x; y = y }; last = record { x = z; y = w } } in
-    ap (λ (x : ℤ). made x b u v) p ∙ ap (λ (y : ℤ). made e.first.x y u v) q ∙ ap (λ (z : ℤ). made e.first.x e.first.y z v) r ∙ ap (λ (w : ℤ). made e.first.x e.first.y e.last.x w) s
+-- the ends of a piece
+pub ends_by : (u v : Vertex) (e : Ends) → u ≡ e.first → v ≡ e.last → record { first = u; last = v } ≡ e
+ends_by u v e p q =
+    let made : Vertex → Vertex → Ends = λ x y. record { first = x; last = y } in
+    ap (λ (x : Vertex). made x v) p ∙ ap (made e.first) q

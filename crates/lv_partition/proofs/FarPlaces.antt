@@ -1,5 +1,5 @@
 -- Side values by the rays of lines, in 32 bits.
-use Rattle.std.proofs.Common.{◌≡◌, refl, ◌∙◌, ap, subst, ◌≤◌, Bool, true, false, ◌&&◌, arith, [], ◌∷◌}
+use Rattle.std.proofs.Common.{◌≡◌, refl, sym, ◌∙◌, ap, subst, ◌≤◌, Bool, true, false, ◌&&◌, arith, [], ◌∷◌}
 use Rattle.std.proofs.lemmas.Int.{ints, to_z-of_z}
 use Rattle.std.specs.Prelude.{ℤ, pos, neg_ℤ, ◌+ℤ◌, ◌-ℤ◌, ◌*ℤ◌, ◌≤ℤ◌, ◌<ℤ◌, int_lt, unsigned_abs, FitsSigned}
 use Rattle.std.specs.Int.{w16, w32}
@@ -8,11 +8,13 @@ use Rattle.lv_lumps.specs.declared.records.Vertex.{Vertex}
 use Rattle.lv_lumps.specs.declared.plane.Ray.{Ray}
 use Rattle.lv_lumps.proofs.Ring.{by_ring, quotes}
 use Rattle.lv_lumps.proofs.Signs.{linear}
-use Rattle.lv_lumps.proofs.Wide.{IsWithin, product_within, back_sub}
+use Rattle.lv_lumps.proofs.Wide.{IsWithin, product_within}
 use Rattle.lv_segs.specs.Local.{IsLineRay}
 use Rattle.lv_segs.specs.Plane.{vertex_value, blur}
 use Rattle.lv_segs.specs.Boxes.{ray_offset}
-use Rattle.lv_partition.specs.Sights.{AreMargins}
+use Rattle.lv_segs.proofs.Bounds.{ray_dx, ray_dy}
+use Rattle.lv_partition.specs.declared.margins.Normal.{Normal}
+use Rattle.lv_partition.specs.Sights.{AreMargins, IsNormal}
 
 -- a number that stays as it is
 pub back : (z : ℤ) → IsWithin (pos 2147483647) z → to_z w32 (of_z w32 z) ≡ z
@@ -24,36 +26,65 @@ from_16 z f =
     ap (λ (x : ℤ). to_z w32 (of_z w32 x)) (to_z-of_z w16 z f) ∙ to_z-of_z w32 z g
 
 -- a product
-pub short_times : (k z : ℤ) → FitsSigned w32 k → FitsSigned w16 z → IsWithin (pos 32767) k
-    → IsWithin (pos 1073709056) (to_z w32 (of_z w32 (to_z w32 (of_z w32 k) *ℤ to_z w32 (of_z w32 (to_z w16 (of_z w16 z))))))
+pub short_times : (k z : ℤ) → FitsSigned w16 k → FitsSigned w16 z → IsWithin (pos 32767) k
+    → IsWithin (pos 1073709056) (to_z w32 (of_z w32 (to_z w32 (of_z w32 (to_z w16 (of_z w16 k))) *ℤ to_z w32 (of_z w32 (to_z w16 (of_z w16 z))))))
 short_times k z f g h =
     let w : IsWithin (pos 1073709056) (k *ℤ z) = product_within k z (pos 32767) (pos 32768) (omega (arith, ints)) (omega (arith, ints)) h (record { low = omega (arith, ints); high = omega (arith, ints) }) in
     let l = w.low in
     let m = w.high in
-    rw (to_z-of_z w32 k f, from_16 z g, back (k *ℤ z) (record { low = omega (arith, ints); high = omega (arith, ints) })) w
+    rw (from_16 k f, from_16 z g, back (k *ℤ z) (record { low = omega (arith, ints); high = omega (arith, ints) })) w
 
-pub short_is : (z : ℤ) → FitsSigned w32 z → IsWithin (pos 32767) z → IsWithin (pos 32767) (to_z w32 (of_z w32 z))
-short_is z f h = rw (to_z-of_z w32 z f) h
+pub short_is : (z : ℤ) → FitsSigned w16 z → IsWithin (pos 32767) z → IsWithin (pos 32767) (to_z w16 (of_z w16 z))
+short_is z f h = rw (to_z-of_z w16 z f) h
 
--- a difference of two products
-pub record Difference (a b : ℤ) : Type 0 where
-  pub is : to_z w32 (of_z w32 (to_z w32 (of_z w32 a) -ℤ to_z w32 (of_z w32 b))) ≡ a -ℤ b
-  pub fits : FitsSigned w32 (to_z w32 (of_z w32 a) -ℤ to_z w32 (of_z w32 b))
-  pub within : IsWithin (pos 2147418112) (a -ℤ b)
+-- a number of 32 bits that 16 hold
+pub record IsThrough (z : ℤ) : Type 0 where
+  pub is : to_z w16 (of_z w16 (to_z w32 (of_z w32 z))) ≡ z
+  pub fits : FitsSigned w16 (to_z w32 (of_z w32 z))
 
-pub difference : (a b : ℤ) → IsWithin (pos 1073709056) a → IsWithin (pos 1073709056) b → Difference a b
-difference a b p q =
+pub through_16 : (z : ℤ) → IsWithin (pos 32767) z → IsThrough z
+through_16 z h =
+    let l = h.low in
+    let k = h.high in
+    let f : FitsSigned w32 z = omega (arith, ints) in
+    let g : FitsSigned w16 z = omega (arith, ints) in
+    let e = to_z-of_z w32 z f in
+    record { is = ap (λ (x : ℤ). to_z w16 (of_z w16 x)) e ∙ to_z-of_z w16 z g; fits = rw e g }
+
+-- a sum of two products
+pub record Sum (a b : ℤ) : Type 0 where
+  pub is : to_z w32 (of_z w32 (to_z w32 (of_z w32 a) +ℤ to_z w32 (of_z w32 b))) ≡ a +ℤ b
+  pub fits : FitsSigned w32 (to_z w32 (of_z w32 a) +ℤ to_z w32 (of_z w32 b))
+  pub within : IsWithin (pos 2147418112) (a +ℤ b)
+
+pub sum : (a b : ℤ) → IsWithin (pos 1073709056) a → IsWithin (pos 1073709056) b → Sum a b
+sum a b p q =
     let al = p.low in
     let ah = p.high in
     let bl = q.low in
     let bh = q.high in
     let fa : FitsSigned w32 a = omega (arith, ints) in
     let fb : FitsSigned w32 b = omega (arith, ints) in
-    let w : IsWithin (pos 2147418112) (a -ℤ b) = record { low = omega (arith, linear); high = omega (arith, linear) } in
+    let w : IsWithin (pos 2147418112) (a +ℤ b) = record { low = omega (arith, linear); high = omega (arith, linear) } in
     let wl = w.low in
     let wh = w.high in
-    let fab : FitsSigned w32 (a -ℤ b) = omega (arith, ints) in
-    record { is = back_sub w32 a b fa fb fab; fits = rw (to_z-of_z w32 a fa, to_z-of_z w32 b fb) fab; within = w }
+    let fab : FitsSigned w32 (a +ℤ b) = omega (arith, ints) in
+    record { is = rw (to_z-of_z w32 a fa, to_z-of_z w32 b fb) (to_z-of_z w32 (a +ℤ b) fab); fits = rw (to_z-of_z w32 a fa, to_z-of_z w32 b fb) fab; within = w }
+
+-- the numbers of a vector at right angles to the ray of a line
+pub normal_x : (r : Ray) (n : Normal) → IsLineRay r → IsNormal r n → IsWithin (pos 32767) n.x
+normal_x r n line k = subst (IsWithin (pos 32767)) (sym k.x) (ray_dy r line)
+
+pub normal_y : (r : Ray) (n : Normal) → IsLineRay r → IsNormal r n → IsWithin (pos 32767) n.y
+normal_y r n line k = subst (IsWithin (pos 32767)) (sym k.y) (negated r.dx (ray_dx r line))
+  where
+    negated : (z : ℤ) → IsWithin (pos 32767) z → IsWithin (pos 32767) (neg_ℤ z)
+    negated z w = let l = w.low in let h = w.high in record { low = omega (arith, linear); high = omega (arith, linear) }
+
+pub by_normal : (r : Ray) (n : Normal) (x y : ℤ) → IsNormal r n → n.x *ℤ x +ℤ n.y *ℤ y ≡ r.dy *ℤ x -ℤ r.dx *ℤ y
+by_normal r n x y k =
+    ap (λ (u : ℤ). u *ℤ x +ℤ n.y *ℤ y) k.x ∙ ap (λ (u : ℤ). r.dy *ℤ x +ℤ u *ℤ y) k.y
+    ∙ by_ring (r.dx ∷ r.dy ∷ x ∷ y ∷ []) _ _ (search quotes depth 20) (search quotes depth 20) tt
 
 -- half of two short numbers
 pub abs_short : (z : ℤ) → IsWithin (pos 32767) z → unsigned_abs z ≤ 32767
@@ -75,10 +106,10 @@ add_within o h w l k = let a = w.low in let b = w.high in record { low = omega (
 sub_within : (o h : ℤ) → IsWithin (pos 2147418112) o → pos 0 ≤ℤ h → h ≤ℤ pos 32767 → IsWithin (pos 2147483647) (o -ℤ h)
 sub_within o h w l k = let a = w.low in let b = w.high in record { low = omega (arith, linear); high = omega (arith, linear) }
 
-pub are_margins : (r : Ray) (o h : ℤ) → IsLineRay r → o ≡ ray_offset r → IsWithin (pos 2147418112) o
+pub are_margins : (r : Ray) (n : Normal) (o h : ℤ) → IsLineRay r → IsNormal r n → o ≡ ray_offset r → IsWithin (pos 2147418112) o
     → pos (blur r) ≤ℤ (pos 2 *ℤ h +ℤ pos 1) → pos 0 ≤ℤ h → h ≤ℤ pos 32767
-    → AreMargins (record { ray = r; above = to_z w32 (of_z w32 (to_z w32 (of_z w32 o) +ℤ to_z w32 (of_z w32 h))); below = to_z w32 (of_z w32 (to_z w32 (of_z w32 o) -ℤ to_z w32 (of_z w32 h))) })
-are_margins r o h line e w enough l k =
+    → AreMargins (record { ray = r; normal = n; above = to_z w32 (of_z w32 (to_z w32 (of_z w32 o) +ℤ to_z w32 (of_z w32 h))); below = to_z w32 (of_z w32 (to_z w32 (of_z w32 o) -ℤ to_z w32 (of_z w32 h))) })
+are_margins r n o h line normal e w enough l k =
     let a = w.low in
     let b = w.high in
     let fo : IsWithin (pos 2147483647) o = record { low = omega (arith, ints); high = omega (arith, ints) } in
@@ -91,15 +122,17 @@ are_margins r o h line e w enough l k =
     rw (bo, bh) (back (o -ℤ h) (sub_within o h w l k)) ∙ ap (λ (x : ℤ). x -ℤ h) e in
     record {
       line = line;
+      normal = normal;
       right = rw up (far_above (pos (blur r)) (ray_offset r) h enough);
       left = rw down (far_below (pos (blur r)) (ray_offset r) h enough);
       order = rw (up, down) (in_order (ray_offset r) h l);
     }
 
--- the sides of a place
+-- a value from which the origin's is taken off
 pub offset_off : (r : Ray) (v : Vertex) → r.dy *ℤ v.x -ℤ r.dx *ℤ v.y -ℤ ray_offset r ≡ vertex_value r v
 offset_off r v = by_ring (r.dx ∷ r.dy ∷ r.start.x ∷ r.start.y ∷ v.x ∷ v.y ∷ []) _ _ (search quotes depth 30 fits 20000) (search quotes depth 30 fits 20000) tt
 
+-- ---- the sides of a place
 less : (a b : ℤ) → int_lt a b ≡ true → a <ℤ b
 less a b e = grind (arith, ints)
 

@@ -11,3 +11,4 @@ pub mod EndLemmas
 pub mod ClearLemmas
 pub mod Corners
 pub mod WholeLines
+pub mod ClearBlocks

@@ -1,5 +1,5 @@
 -- What a candidate's ray is asked again and again, the rounded ends of pieces, and the corners of boxes.
-use Rattle.std.specs.Prelude.{List, if◌then◌else◌, pos, ◌+ℤ◌, ◌-ℤ◌, ◌*ℤ◌, ◌≤ℤ◌, int_le}
+use Rattle.std.specs.Prelude.{◌≡◌, neg_ℤ, List, if◌then◌else◌, pos, ◌+ℤ◌, ◌-ℤ◌, ◌*ℤ◌, ◌≤ℤ◌, int_le}
 use Rattle.lv_lumps.specs.declared.records.Vertex.{Vertex}
 use Rattle.lv_lumps.specs.declared.records.Bounds.{Bounds}
 use Rattle.lv_lumps.specs.declared.plane.Ray.{Ray}
@@ -10,12 +10,19 @@ use Rattle.lv_segs.specs.Local.{IsLineRay}
 use Rattle.lv_segs.specs.Pieces.{first_end, last_end}
 use Rattle.lv_segs.specs.Boxes.{ray_offset}
 use Rattle.lv_partition.specs.declared.margins.Margins.{Margins}
+use Rattle.lv_partition.specs.declared.margins.Normal.{Normal}
 use Rattle.lv_partition.specs.declared.ends.Ends.{Ends}
+
+-- the vector at right angles to a ray, towards its right side
+pub record IsNormal (r : Ray) (n : Normal) : Type 0 where
+  pub x : n.x ≡ r.dy
+  pub y : n.y ≡ neg_ℤ r.dx
 
 -- the margins of the ray of a line are at least half of its blur, rounded down, above and below the
 -- value of its origin
 pub record AreMargins (m : Margins) : Type 0 where
   pub line : IsLineRay m.ray
+  pub normal : IsNormal m.ray m.normal
   pub right : pos (blur m.ray) ≤ℤ (pos 2 *ℤ (m.above -ℤ ray_offset m.ray) +ℤ pos 1)
   pub left : pos (blur m.ray) ≤ℤ (pos 2 *ℤ (ray_offset m.ray -ℤ m.below) +ℤ pos 1)
   pub order : m.below ≤ℤ m.above

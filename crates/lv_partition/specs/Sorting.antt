@@ -1,10 +1,11 @@
 -- What is known of the first pieces of a list once their blocks have been sorted by a partition.
-use Rattle.std.specs.Prelude.{◌≡◌, ℕ, ◌+◌, ◌*◌, ◌≤◌, ◌<◌, List, flat_map, length, All, take, drop, count_by}
+use Rattle.std.specs.Prelude.{◌≡◌, ℕ, ◌+◌, ◌*◌, ◌≤◌, ◌<◌, Bool, true, false, List, [], ◌∷◌, flat_map, length, All, take, drop, count_by}
 use Rattle.lv_segs.specs.declared.edge.Edge.{Edge}
 use Rattle.lv_segs.specs.declared.piece.Piece.{Piece}
 use Rattle.lv_segs.specs.Division.{right_parts, left_parts}
 use Rattle.lv_segs.specs.Tree.{is_split}
 use Rattle.lv_partition.specs.declared.sorting.Sorted.{Sorted}
+use Rattle.lv_partition.specs.Clear.{AreCountsBut}
 
 -- the pieces of the blocks of these numbers
 abbrev pub pieces_in : List Piece → List ℕ → List Piece
@@ -24,3 +25,18 @@ pub record IsSorted (lines : List Edge) (p : Piece) (ps : List Piece) (n : ℕ) 
   pub begin : All (λ k. 16 * k < length ps) (take s.count noted)
   pub few : s.count ≤ length noted
   pub fewer : 16 * s.count ≤ n + 15
+
+-- ---- the blocks of one run
+-- the numbers of the flagged blocks, where the first block has this number
+abbrev pub flagged_numbers : ℕ → List Bool → List ℕ
+flagged_numbers k [] = []
+flagged_numbers k (true ∷ fs) = k ∷ flagged_numbers (k + 1) fs
+flagged_numbers k (false ∷ fs) = flagged_numbers (k + 1) fs
+
+-- of n whole blocks, from one on, so many lie whole on the right and on the left; the flags say
+-- which are left open
+abbrev pub AreClearBlocks : List Edge → Piece → List Piece → ℕ → ℕ → List Bool → ℕ → ℕ → Type 0
+AreClearBlocks lines p ps from n flags right left =
+    AreCountsBut lines p (take (16 * n) (drop (16 * from) ps))
+    (pieces_in ps (flagged_numbers from flags))
+    (record { splits = 0; right = 16 * right; left = 16 * left })

@@ -24,7 +24,7 @@ fn joined(a: Bounds, b: Bounds) -> Bounds
     }
 }
 
-// The box round all boxes of a list; it holds no place where there are none.
+// The box round all boxes of a list. For an empty list it holds no place.
 fn joined_all(boxes: &[Bounds]) -> Bounds
     ensures { All (λ bounds. IsWithinBox bounds result) boxes.now }
 {
@@ -40,7 +40,7 @@ fn joined_all(boxes: &[Bounds]) -> Bounds
     all
 }
 
-/// A box round each block of sixteen boxes of a list, the last one round those that are left.
+/// A box round each block of sixteen boxes of a list; the last block may be shorter.
 pub fn blocks_of(alloc: Global, boxes: &[Bounds]) -> Result<Vec<Bounds>, AllocError>
     requires { length boxes.now < 2 ^ 32 }
     ensures { IfOk result (λ blocks. AreBlocks boxes.now blocks.items) }
@@ -55,7 +55,7 @@ pub fn blocks_of(alloc: Global, boxes: &[Bounds]) -> Result<Vec<Bounds>, AllocEr
     Ok(blocks)
 }
 
-/// Notes a box round each whole group of 256 boxes of a list; where there is no room, those of the first groups alone.
+/// Notes a box round each whole group of 256 boxes of a list. If memory runs out, only the first groups have one.
 pub(crate) fn note_groups(boxes: &[Bounds], groups: &mut Vec<Bounds>)
     ensures { AreGroups boxes.now groups.new.items }
 {

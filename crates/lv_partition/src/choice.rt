@@ -14,7 +14,7 @@ pub struct Choice {
     pub left: u32,
 }
 
-// What another candidate must cost less than.
+// The cost that another candidate must stay below to be chosen; the greatest number if there is no candidate yet.
 pub(crate) fn limit_of(best: Option<Choice>) -> u64
     ensures { result ≡ limit_by best }
 {
@@ -24,8 +24,8 @@ pub(crate) fn limit_of(best: Option<Choice>) -> u64
     }
 }
 
-// The best candidate so far, with a counted piece of an unused line taken in: it must separate, and
-// cost less.
+// The best candidate after one more piece of an unused line was counted. The new one is taken if it separates the list
+// and costs less.
 pub(crate) fn take_in(
     at: usize,
     best: Option<Choice>,

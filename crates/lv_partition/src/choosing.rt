@@ -19,7 +19,7 @@ use crate::walk::count_by_boxes;
 use lv_lumps::Bounds;
 use lv_segs::{Edge, Piece};
 
-// The best candidate among the first pieces, with the piece at a place taken in.
+// The best candidate among the pieces up to this one, by the best one before it.
 fn consider(
     lines: &[Edge],
     pieces: &[Piece],
@@ -45,7 +45,7 @@ fn consider(
     take_in(at, best, limit, counted)
 }
 
-/// The separating piece of an unused line that costs least, and the first of those that cost as little.
+/// The separating piece of an unused line that costs least; of several that cost as little, the first.
 pub fn choose_in(lines: &[Edge], pieces: &[Piece], used: &[bool]) -> Option<Choice>
     requires lines { All IsEdge lines.now }
     requires pieces { All (IsPiece lines.now) pieces.now }
@@ -61,7 +61,8 @@ pub fn choose_in(lines: &[Edge], pieces: &[Piece], used: &[bool]) -> Option<Choi
     best
 }
 
-// The same as `consider`, by boxes and rounded ends, and with no count for a piece on an earlier one's straight line.
+// The same as `consider`, but by boxes and rounded ends, and without counting a piece on the straight line of an
+// earlier one.
 fn consider_ordered(
     lines: &[Edge],
     pieces: &[Piece],

@@ -1,21 +1,21 @@
-//! The sides of the boxes of blocks, noted once for all candidates of a list, and the corners of the boxes by a ray.
+//! The corners of the boxes of blocks, noted once for all candidates of a list.
 ghost use Rattle.std.specs.Prelude.{◌≡◌, ◌≤◌, length, if◌then◌else◌, true};
 
-use lv_lumps::Bounds;
+use lv_lumps::{Bounds, Vertex};
 use std::alloc::{AllocError, Global};
 
-/// The sides of boxes, each of the four in a column of its own, so that a candidate chooses the columns of its corners
-/// once, and not for each box.
+/// The corners of boxes, each of the four in a column of its own. A candidate chooses two of the columns, once for all
+/// boxes.
 #[derive(Drop)]
 pub(crate) struct BoxColumns {
-    pub left: Vec<i16>,
-    pub right: Vec<i16>,
-    pub bottom: Vec<i16>,
-    pub top: Vec<i16>,
+    pub left_top: Vec<Vertex>,
+    pub left_bottom: Vec<Vertex>,
+    pub right_top: Vec<Vertex>,
+    pub right_bottom: Vec<Vertex>,
 }
 
 /// One of two columns.
-pub(crate) fn column<'a>(first: bool, one: &'a [i16], other: &'a [i16]) -> &'a [i16]
+pub(crate) fn column<'a>(first: bool, one: &'a [Vertex], other: &'a [Vertex]) -> &'a [Vertex]
     ensures { result.now ≡ (if first then one.now else other.now) }
 {
     if first { one } else { other }
@@ -26,38 +26,51 @@ impl BoxColumns {
 
     /// Room for so many boxes.
     pub(crate) fn with_room(alloc: Global, count: usize) -> Result<BoxColumns, AllocError> {
-        let left = Vec::from_elem(alloc, 0, count)?;
-        let right = Vec::from_elem(alloc, 0, count)?;
-        let bottom = Vec::from_elem(alloc, 0, count)?;
-        let top = Vec::from_elem(alloc, 0, count)?;
+        let nowhere = Vertex { x: 0, y: 0 };
+        let left_top = Vec::from_elem(alloc, nowhere, count)?;
+        let left_bottom = Vec::from_elem(alloc, nowhere, count)?;
+        let right_top = Vec::from_elem(alloc, nowhere, count)?;
+        let right_bottom = Vec::from_elem(alloc, nowhere, count)?;
         Ok(BoxColumns {
-            left,
-            right,
-            bottom,
-            top,
+            left_top,
+            left_bottom,
+            right_top,
+            right_bottom,
         })
     }
 
-    /// There is room for so many boxes.
+    /// Whether there is room for so many boxes.
     pub(crate) fn has_room(&self, count: usize) -> bool
         ensures { result ≡ true → IsLongEnough self.now count }
     {
-        count <= self.left.len()
-            && count <= self.right.len()
-            && count <= self.bottom.len()
-            && count <= self.top.len()
+        count <= self.left_top.len()
+            && count <= self.left_bottom.len()
+            && count <= self.right_top.len()
+            && count <= self.right_bottom.len()
     }
 
-    /// Notes the sides of each box of a list at the head of the columns.
+    /// Notes the corners of each box of a list at the head of the columns.
     pub(crate) fn note(&mut self, boxes: &[Bounds])
         requires room { IsLongEnough self.old (length boxes.now) }
         ensures { HoldsBoxes boxes.now self.new }
     {
         for (n, bounds) in boxes.iter().enumerate() {
-            self.left[n] = bounds.left;
-            self.right[n] = bounds.right;
-            self.bottom[n] = bounds.bottom;
-            self.top[n] = bounds.top;
+            self.left_top[n] = Vertex {
+                x: bounds.left,
+                y: bounds.top,
+            };
+            self.left_bottom[n] = Vertex {
+                x: bounds.left,
+                y: bounds.bottom,
+            };
+            self.right_top[n] = Vertex {
+                x: bounds.right,
+                y: bounds.top,
+            };
+            self.right_bottom[n] = Vertex {
+                x: bounds.right,
+                y: bounds.bottom,
+            };
         }
     }
 }

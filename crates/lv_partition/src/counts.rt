@@ -1,4 +1,4 @@
-//! What a partition splits, and what it leaves on its sides.
+//! How many pieces of a list a partition splits, and how many parts it leaves on each side.
 ghost use Rattle.std.specs.Prelude.{◌≡◌, ℕ, ◌≤◌, ◌<◌, ◌^◌, length, All, MatchOption, take};
 ghost use Rattle.lv_segs.specs.Plane.{IsEdge};
 ghost use Rattle.lv_segs.specs.Pieces.{IsPiece};
@@ -85,7 +85,7 @@ impl Counts {
         8 * self.splits as u64 + self.right.abs_diff(self.left) as u64
     }
 
-    // What the cost is at least, where so many pieces aren't counted yet.
+    // A lower bound of the cost, where `rest` pieces aren't counted yet.
     pub(crate) fn least_cost(self, rest: u32) -> u64
         ensures { result ≡
             8 * self.splits + ((self.right - self.left - rest) + (self.left - self.right - rest)) }
@@ -96,7 +96,7 @@ impl Counts {
 
 ghost use Rattle.lv_partition.specs.Counts.{AreCounts};
 
-// The counts of a list, or None where the cost is found to be the limit or more.
+// The counts of a list, or None as soon as the cost is known to reach the limit.
 pub(crate) fn count_below(
     lines: &[Edge],
     partition: &Piece,

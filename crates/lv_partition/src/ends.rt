@@ -1,4 +1,4 @@
-//! The coordinates of the rounded ends of pieces, noted once for all candidates of a list.
+//! The rounded ends of pieces, noted once for all candidates of a list.
 ghost use Rattle.std.specs.Prelude.{◌≡◌, ◌≤◌, length, take, drop, All, true};
 ghost use Rattle.lv_segs.specs.Plane.{IsEdge};
 ghost use Rattle.lv_segs.specs.Pieces.{IsPiece};
@@ -15,14 +15,12 @@ pub(crate) struct Ends {
     pub last: Vertex,
 }
 
-/// The rounded ends of pieces, each of their four coordinates in a column of its own, so that a machine can look at
+/// The rounded ends of pieces: the first ends in one column and the last ones in another, so that a machine can test
 /// several pieces at once.
 #[derive(Drop)]
 pub(crate) struct EndColumns {
-    pub first_x: Vec<i16>,
-    pub first_y: Vec<i16>,
-    pub last_x: Vec<i16>,
-    pub last_y: Vec<i16>,
+    pub firsts: Vec<Vertex>,
+    pub lasts: Vec<Vertex>,
 }
 
 // The rounded ends of one piece.
@@ -43,26 +41,17 @@ impl EndColumns {
 
     /// Room for the ends of so many pieces.
     pub(crate) fn with_room(alloc: Global, count: usize) -> Result<EndColumns, AllocError> {
-        let first_x = Vec::from_elem(alloc, 0, count)?;
-        let first_y = Vec::from_elem(alloc, 0, count)?;
-        let last_x = Vec::from_elem(alloc, 0, count)?;
-        let last_y = Vec::from_elem(alloc, 0, count)?;
-        Ok(EndColumns {
-            first_x,
-            first_y,
-            last_x,
-            last_y,
-        })
+        let nowhere = Vertex { x: 0, y: 0 };
+        let firsts = Vec::from_elem(alloc, nowhere, count)?;
+        let lasts = Vec::from_elem(alloc, nowhere, count)?;
+        Ok(EndColumns { firsts, lasts })
     }
 
-    /// There is room for the ends of so many pieces.
+    /// Whether there is room for the ends of so many pieces.
     pub(crate) fn has_room(&self, count: usize) -> bool
         ensures { result ≡ true → IsWideEnough self.now count }
     {
-        count <= self.first_x.len()
-            && count <= self.first_y.len()
-            && count <= self.last_x.len()
-            && count <= self.last_y.len()
+        count <= self.firsts.len() && count <= self.lasts.len()
     }
 
     /// Notes the rounded ends of each piece of a list at the head of the columns.
@@ -74,10 +63,8 @@ impl EndColumns {
     {
         for (n, piece) in pieces.iter().enumerate() {
             let ends = ends_of(lines, piece);
-            self.first_x[n] = ends.first.x;
-            self.first_y[n] = ends.first.y;
-            self.last_x[n] = ends.last.x;
-            self.last_y[n] = ends.last.y;
+            self.firsts[n] = ends.first;
+            self.lasts[n] = ends.last;
         }
     }
 }

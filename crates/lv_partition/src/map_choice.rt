@@ -1,4 +1,4 @@
-//! The choice over a map, walked plainly: the definition's own program, which the faster ones must equal.
+//! The choice over a map, piece by piece as the definition says it. The faster choices give the same.
 ghost use Rattle.std.specs.Prelude.{◌≡◌, ◌+◌, ◌≤◌, ◌<◌, ◌^◌, length, All, IsTrue, ◌↔◌, MatchOption, Some, slice_get, false};
 ghost use Rattle.lv_segs.specs.Edges.{edges_of};
 ghost use Rattle.lv_segs.specs.Pieces.{IsPiece};
@@ -12,7 +12,7 @@ use crate::counts::Counts;
 use lv_maptables::Map;
 use lv_segs::{Piece, divide};
 
-/// A partition separates a list where it leaves a part of some piece on its left.
+/// Whether a partition separates a list: it leaves a part of some piece on its left.
 pub fn separates(map: &Map, partition: &Piece, pieces: &[Piece]) -> bool
     requires partition { IsPiece (edges_of map.now.tables) partition.now }
     requires pieces { All (IsPiece (edges_of map.now.tables)) pieces.now }
@@ -26,7 +26,7 @@ pub fn separates(map: &Map, partition: &Piece, pieces: &[Piece]) -> bool
     false
 }
 
-// The counts of a list, or None where the cost is found to be the limit or more.
+// The counts of a list, or None as soon as the cost is known to reach the limit.
 fn count_in_map(map: &Map, partition: &Piece, pieces: &[Piece], limit: u64) -> Option<Counts>
     requires partition { IsPiece (edges_of map.now.tables) partition.now }
     requires pieces { All (IsPiece (edges_of map.now.tables)) pieces.now }
@@ -46,7 +46,7 @@ fn count_in_map(map: &Map, partition: &Piece, pieces: &[Piece], limit: u64) -> O
     Some(counts)
 }
 
-// The best candidate among the first pieces, with the piece at a place taken in.
+// The best candidate among the pieces up to this one, by the best one before it.
 fn consider(
     map: &Map,
     pieces: &[Piece],
@@ -71,10 +71,10 @@ fn consider(
     take_in(at, best, limit, counted)
 }
 
-/// The separating piece of an unused line that costs least, and the first of those that cost as
-/// little; None exactly where no piece of an unused line separates the list. `used` says of each
-/// line of the map whether a partition above has used it. It takes no memory, and can't be refused;
-/// `choose_in_boxes` gives the same choice sooner, by boxes that its caller has made.
+/// The separating piece of an unused line that costs least; of several that cost as little, the first. It is None
+/// exactly if no piece of an unused line separates the list. `used` says of each line of the map whether a partition
+/// above has used it. It allocates no memory and can't be refused. `choose_in_boxes` gives the same choice sooner, by
+/// boxes that its caller has made.
 pub fn choose(map: &Map, pieces: &[Piece], used: &[bool]) -> Option<Choice>
     requires pieces { All (IsPiece (edges_of map.now.tables)) pieces.now }
     requires known { length used.now ≡ length map.now.tables.lines }

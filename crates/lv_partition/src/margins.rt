@@ -1,22 +1,31 @@
-//! The side of a candidate's ray on which what rounds to a place lies, in 32 bits, so that a machine can look at
-//! several places at once.
+//! On which side of a candidate's ray all points lie that round to a place. It is found in 32 bits, so that a machine
+//! can test several places at once.
 ghost use Rattle.std.specs.Prelude.{◌≡◌, true, false, ◌&&◌, ◌||◌, if◌then◌else◌, pos, neg_ℤ, ◌≤ℤ◌, ◌<ℤ◌, ◌+ℤ◌, ◌-ℤ◌, ◌*ℤ◌};
 ghost use Rattle.lv_segs.specs.Local.{IsLineRay};
 ghost use Rattle.lv_segs.specs.Plane.{vertex_value, blur};
-ghost use Rattle.lv_partition.specs.Sights.{AreMargins};
+ghost use Rattle.lv_partition.specs.Sights.{AreMargins, IsNormal};
 
 use lv_lumps::{Ray, Vertex};
 
-/// A ray, and the values that a place's must be above to lie well on the right of it, and below to lie well on the
-/// left. The value of the ray's origin isn't taken off them.
+/// The vector at right angles to a ray, towards its right side. Its inner product with a place is the side value of the
+/// place, before that of the ray's origin is taken off.
+#[derive(Clone, Copy)]
+pub(crate) struct Normal {
+    pub x: i16,
+    pub y: i16,
+}
+
+/// A ray with two limits. A place whose value is above the first lies so far on the right that all points that round to
+/// it do too; below the second, likewise on the left. The value of the ray's origin isn't taken off the limits.
 #[derive(Clone, Copy)]
 pub(crate) struct Margins {
     pub ray: Ray,
+    pub normal: Normal,
     pub above: i32,
     pub below: i32,
 }
 
-/// Whether all places that round to one lie on the right of a ray, and whether on the left.
+/// Whether all points that round to a place lie on the right of a ray, and whether on the left.
 #[derive(Clone, Copy)]
 pub(crate) struct PlaceSides {
     pub right: bool,
@@ -24,26 +33,37 @@ pub(crate) struct PlaceSides {
 }
 
 // A number of a line's vector times a coordinate.
-fn times(k: i32, z: i16) -> i32
+fn times(k: i16, z: i16) -> i32
     requires low { neg_ℤ (pos 32767) ≤ℤ k }
     requires high { k ≤ℤ pos 32767 }
     ensures value { result ≡ k *ℤ z }
     ensures low { neg_ℤ (pos 1073709056) ≤ℤ result }
     ensures high { result ≤ℤ pos 1073709056 }
 {
-    k * z as i32
+    k as i32 * z as i32
 }
 
-// The side value of a place, from which the origin's is still to be taken off.
-fn value_of(ray: Ray, place: Vertex) -> i32
-    requires { IsLineRay ray }
+// The side value of a place, before that of the ray's origin is taken off.
+fn value_of(ray: Ray, normal: Normal, place: Vertex) -> i32
+    requires line { IsLineRay ray }
+    requires normal { IsNormal ray normal }
     ensures value { result ≡ ray.dy *ℤ place.x -ℤ ray.dx *ℤ place.y }
     ensures low { neg_ℤ (pos 2147418112) ≤ℤ result }
     ensures high { result ≤ℤ pos 2147418112 }
 {
-    let across = times(ray.dy, place.x);
-    let upward = times(ray.dx, place.y);
-    across - upward
+    let across = times(normal.x, place.x);
+    let upward = times(normal.y, place.y);
+    across + upward
+}
+
+// The vector at right angles to a ray.
+fn normal_of(ray: Ray) -> Normal
+    requires { IsLineRay ray }
+    ensures { IsNormal ray result }
+{
+    let x = ray.dy as i16;
+    let y = ray.dx as i16;
+    Normal { x, y: -y }
 }
 
 // Half of the sum of a vector's two numbers, rounded down.
@@ -57,31 +77,36 @@ fn half_of(ray: Ray) -> i32
     (sum / 2) as i32
 }
 
-/// The margins of a ray: half of the most by which rounding moves twice a side value, on both sides of its origin's.
+/// The margins of a ray: the value of its origin, plus and minus the most by which rounding moves a side value.
 pub(crate) fn margins_of(ray: Ray) -> Margins
     requires { IsLineRay ray }
     ensures ray { result.ray ≡ ray }
     ensures margins { AreMargins result }
 {
-    let offset = value_of(ray, ray.start);
+    let normal = normal_of(ray);
+    let origin = value_of(ray, normal, ray.start);
     let half = half_of(ray);
     Margins {
         ray,
-        above: offset + half,
-        below: offset - half,
+        normal,
+        above: origin + half,
+        below: origin - half,
     }
 }
 
-/// The side on which all places lie that round to this one; neither where that isn't known.
-pub(crate) fn sides_of_place(margins: Margins, place: Vertex) -> PlaceSides
-    requires { AreMargins margins }
+/// The side on which all points lie that round to this place; neither if that isn't known. `normal` is that of the
+/// margins. A loop reads it from an array in each round, so that the compiler sees products of 16 bits, which a machine
+/// multiplies and adds in one step.
+pub(crate) fn sides_of_place(margins: Margins, normal: Normal, place: Vertex) -> PlaceSides
+    requires margins { AreMargins margins }
+    requires normal { IsNormal margins.ray normal }
     ensures right { result.right ≡ true →
         pos (blur margins.ray) <ℤ (pos 2 *ℤ vertex_value margins.ray place) }
     ensures left { result.left ≡ true →
         (pos 2 *ℤ vertex_value margins.ray place) <ℤ neg_ℤ (pos (blur margins.ray)) }
     ensures one { (result.right && result.left) ≡ false }
 {
-    let value = value_of(margins.ray, place);
+    let value = value_of(margins.ray, normal, place);
     PlaceSides {
         right: margins.above < value,
         left: value < margins.below,

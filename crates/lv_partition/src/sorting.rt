@@ -1,13 +1,13 @@
-//! The blocks of a list sorted by a partition: those whole on one side, and those that their boxes leave open.
-ghost use Rattle.std.specs.Prelude.{◌≡◌, ◌+◌, ◌*◌, ◌≤◌, ◌<◌, ◌^◌, ◌&&◌, ◌||◌, not, true, if◌then◌else◌, length, take, drop, All};
+//! Sorts the blocks of a list by their boxes: those whole on one side of a partition, and the open ones.
+ghost use Rattle.std.specs.Prelude.{◌≡◌, ◌+◌, ◌*◌, ◌≤◌, ◌<◌, ◌^◌, ◌++◌, ◌&&◌, ◌||◌, not, true, if◌then◌else◌, length, take, drop, All};
 ghost use Rattle.lv_segs.specs.Plane.{IsEdge};
 ghost use Rattle.lv_segs.specs.Pieces.{IsPiece, ray_of};
 ghost use Rattle.lv_segs.specs.Boxes.{HoldsPiece, boxes_of};
 ghost use Rattle.lv_partition.specs.Blocks.{AreBlocks, AreGroups};
 ghost use Rattle.lv_partition.specs.Counts.{AreCounts};
-ghost use Rattle.lv_partition.specs.Columns.{AreCorners, HoldsBoxes, AreAbove, AreBelow};
+ghost use Rattle.lv_partition.specs.Columns.{AreCorners, HoldsBoxes};
 ghost use Rattle.lv_partition.specs.Sights.{AreMargins};
-ghost use Rattle.lv_partition.specs.Sorting.{IsSorted};
+ghost use Rattle.lv_partition.specs.Sorting.{IsSorted, AreClearBlocks, flagged_numbers};
 
 use crate::block_boxes::{BLOCK, GROUP};
 use crate::box_place::{BoxSides, side_of_box, sides_of_box, sides_of_corners};
@@ -24,7 +24,14 @@ pub(crate) struct Sorted {
     pub count: usize,
 }
 
-// What one block adds: its pieces on the right, or else on the left, or else an open block.
+/// How many of some blocks lie whole on the right, and on the left.
+#[derive(Clone, Copy)]
+pub(crate) struct ClearBlocks {
+    pub right: u32,
+    pub left: u32,
+}
+
+// What one block adds: its pieces to the right or to the left, or else one open block.
 fn added(sides: BoxSides, size: usize) -> Sorted
     requires { size ≤ 16 }
     ensures right { result.right ≡ (if sides.right then size else 0) }
@@ -40,8 +47,7 @@ fn added(sides: BoxSides, size: usize) -> Sorted
     }
 }
 
-// Sorts one block more, the sides of whose box are known: where it isn't open, the next open one's number is written
-// over it.
+// Sorts one more block by the sides of its box. If it isn't open, the number of the next open one will replace its own.
 fn add_block(
     lines: &[Edge],
     partition: &Piece,
@@ -73,54 +79,90 @@ fn add_block(
     }
 }
 
-// Notes for some blocks of a list, from one on, whether their boxes lie on the right, and whether on the left. It has
-// no branch, so that a machine does it for several blocks at once.
-fn note_sides(
+// Counts those of `size` whole blocks whose boxes lie on one side, and flags the others as open. The first block has
+// the number `from`. There is no branch, so that a machine tests several boxes at once.
+fn count_clear_blocks(
+    lines: &[Edge],
+    partition: &Piece,
     margins: Margins,
-    low_x: &[i16],
-    low_y: &[i16],
-    high_x: &[i16],
-    high_y: &[i16],
+    pieces: &[Piece],
+    blocks: &[Bounds],
+    lows: &[Vertex],
+    highs: &[Vertex],
     from: usize,
-    right: &mut [bool],
-    left: &mut [bool],
-)
+    size: usize,
+    flags: &mut [bool],
+) -> ClearBlocks
+    requires ray { margins.ray ≡ ray_of lines.now partition.now }
     requires margins { AreMargins margins }
-    requires low_x { from + length right.old ≤ length low_x.now }
-    requires low_y { from + length right.old ≤ length low_y.now }
-    requires high_x { from + length right.old ≤ length high_x.now }
-    requires high_y { from + length right.old ≤ length high_y.now }
-    requires same { length left.old ≡ length right.old }
-    ensures right { AreAbove margins.ray low_x.now low_y.now from right.new }
-    ensures left { AreBelow margins.ray high_x.now high_y.now from left.new }
+    requires pieces { All (IsPiece lines.now) pieces.now }
+    requires blocks { AreBlocks (boxes_of lines.now pieces.now) blocks.now }
+    requires corners { AreCorners margins.ray blocks.now lows.now highs.now }
+    requires whole { 16 * (from + size) ≤ length pieces.now }
+    requires few { size ≤ 16 }
+    requires room { length flags.old ≡ 16 }
+    ensures is { AreClearBlocks lines.now partition.now pieces.now from size (take size flags.new)
+        result.right result.left }
+    ensures room { length flags.new ≡ 16 }
 {
-    for n in 0..right.len() {
+    let normals = [margins.normal; BLOCK];
+    let mut right = 0;
+    let mut left = 0;
+    for n in 0..size {
         let k = from + n;
         let low = Vertex {
-            x: low_x[k],
-            y: low_y[k],
+            x: lows[k].x,
+            y: lows[k].y,
         };
         let high = Vertex {
-            x: high_x[k],
-            y: high_y[k],
+            x: highs[k].x,
+            y: highs[k].y,
         };
-        let sides = sides_of_corners(margins, low, high);
-        right[n] = sides.right;
-        left[n] = sides.left;
+        let sides = sides_of_corners(margins, normals[n], low, high);
+        let on_right = sides.right as u32;
+        let on_left = sides.left as u32;
+        right += on_right;
+        left += on_left;
+        flags[n] = (on_right | on_left) == 0;
     }
+    ClearBlocks { right, left }
 }
 
-// Sorts the whole blocks from one to another, sixteen at most, each by the corners of its box.
+// Notes the numbers of the flagged blocks behind the `count` that are noted, and returns how many are noted then. It
+// has no branch, which would often be mispredicted.
+fn note_open_blocks(
+    from: usize,
+    size: usize,
+    flags: &[bool],
+    count: usize,
+    noted: &mut [u32],
+) -> usize
+    requires small { from + size < 2 ^ 32 }
+    requires same { size ≤ length flags.now }
+    requires room { count + size ≤ length noted.old }
+    ensures is { take result noted.new ≡
+        take count noted.old ++ flagged_numbers from (take size flags.now) }
+    ensures few { result ≤ count + size }
+    ensures room { length noted.new ≡ length noted.old }
+{
+    let mut next = count;
+    for n in 0..size {
+        // if the block isn't flagged, the next number replaces its own
+        noted[next] = (from + n) as u32;
+        next += flags[n] as usize;
+    }
+    next
+}
+
+// Sorts the whole blocks with the numbers `from..to`, at most sixteen, each by two corners of its box.
 fn sort_blocks(
     lines: &[Edge],
     partition: &Piece,
     margins: Margins,
     pieces: &[Piece],
     blocks: &[Bounds],
-    low_x: &[i16],
-    low_y: &[i16],
-    high_x: &[i16],
-    high_y: &[i16],
+    lows: &[Vertex],
+    highs: &[Vertex],
     from: usize,
     to: usize,
     before: Sorted,
@@ -131,7 +173,7 @@ fn sort_blocks(
     requires margins { AreMargins margins }
     requires pieces { All (IsPiece lines.now) pieces.now }
     requires blocks { AreBlocks (boxes_of lines.now pieces.now) blocks.now }
-    requires corners { AreCorners margins.ray blocks.now low_x.now low_y.now high_x.now high_y.now }
+    requires corners { AreCorners margins.ray blocks.now lows.now highs.now }
     requires few { length pieces.now < 2 ^ 32 }
     requires forward { from ≤ to }
     requires sixteen { to ≤ from + 16 }
@@ -141,23 +183,20 @@ fn sort_blocks(
     ensures is { IsSorted lines.now partition.now pieces.now (16 * to) result noted.new }
     ensures room { length noted.new ≡ length noted.old }
 {
-    let mut all_right = [false; BLOCK];
-    let mut all_left = [false; BLOCK];
-    let right = &mut all_right[..to - from];
-    let left = &mut all_left[..to - from];
-    note_sides(margins, low_x, low_y, high_x, high_y, from, right, left);
-    let mut sorted = before;
-    for k in from..to {
-        let sides = BoxSides {
-            right: right[k - from],
-            left: left[k - from],
-        };
-        sorted = add_block(lines, partition, pieces, k, BLOCK, sides, sorted, noted);
+    let size = to - from;
+    let mut flags = [false; BLOCK];
+    let clear = count_clear_blocks(
+        lines, partition, margins, pieces, blocks, lows, highs, from, size, &mut flags,
+    );
+    let count = note_open_blocks(from, size, &flags, before.count, noted);
+    Sorted {
+        right: before.right + BLOCK * clear.right as usize,
+        left: before.left + BLOCK * clear.left as usize,
+        count,
     }
-    sorted
 }
 
-// Sorts the last block, where it isn't whole.
+// Sorts the last block if it isn't whole.
 fn sort_last(
     lines: &[Edge],
     partition: &Piece,
@@ -189,17 +228,15 @@ fn sort_last(
     add_block(lines, partition, pieces, whole, size, sides, sorted, noted)
 }
 
-// Sorts a group of sixteen blocks: by its own box, or else block by block.
+// Sorts a group of sixteen blocks: all by the group's box, or else block by block.
 fn sort_group(
     lines: &[Edge],
     partition: &Piece,
     margins: Margins,
     pieces: &[Piece],
     blocks: &[Bounds],
-    low_x: &[i16],
-    low_y: &[i16],
-    high_x: &[i16],
-    high_y: &[i16],
+    lows: &[Vertex],
+    highs: &[Vertex],
     group: usize,
     bounds: Bounds,
     sorted: Sorted,
@@ -210,7 +247,7 @@ fn sort_group(
     requires margins { AreMargins margins }
     requires pieces { All (IsPiece lines.now) pieces.now }
     requires blocks { AreBlocks (boxes_of lines.now pieces.now) blocks.now }
-    requires corners { AreCorners margins.ray blocks.now low_x.now low_y.now high_x.now high_y.now }
+    requires corners { AreCorners margins.ray blocks.now lows.now highs.now }
     requires few { length pieces.now < 2 ^ 32 }
     requires within { 256 * (group + 1) ≤ length pieces.now }
     requires holds { All (HoldsPiece lines.now bounds) (take 256 (drop (256 * group) pieces.now)) }
@@ -234,14 +271,13 @@ fn sort_group(
             let from = BLOCK * group;
             let to = from + BLOCK;
             sort_blocks(
-                lines, partition, margins, pieces, blocks, low_x, low_y, high_x, high_y, from, to,
-                sorted, noted,
+                lines, partition, margins, pieces, blocks, lows, highs, from, to, sorted, noted,
             )
         }
     }
 }
 
-/// Sorts all blocks of a list: first group by group, then those that are in no group.
+/// Sorts all blocks of a list: first group by group, then those behind the last group.
 pub(crate) fn sort_all(
     lines: &[Edge],
     partition: &Piece,
@@ -264,16 +300,18 @@ pub(crate) fn sort_all(
     ensures is { IsSorted lines.now partition.now pieces.now (length pieces.now) result noted.new }
     ensures room { length noted.new ≡ length noted.old }
 {
-    let left = &columns.left[..blocks.len()];
-    let right = &columns.right[..blocks.len()];
-    let bottom = &columns.bottom[..blocks.len()];
-    let top = &columns.top[..blocks.len()];
+    let left_top = &columns.left_top[..blocks.len()];
+    let left_bottom = &columns.left_bottom[..blocks.len()];
+    let right_top = &columns.right_top[..blocks.len()];
+    let right_bottom = &columns.right_bottom[..blocks.len()];
     let north = 0 <= margins.ray.dy;
     let east = 0 <= margins.ray.dx;
-    let low_x = column(north, left, right);
-    let low_y = column(east, top, bottom);
-    let high_x = column(north, right, left);
-    let high_y = column(east, bottom, top);
+    let low_left = column(east, left_top, left_bottom);
+    let low_right = column(east, right_top, right_bottom);
+    let lows = column(north, low_left, low_right);
+    let high_right = column(east, right_bottom, right_top);
+    let high_left = column(east, left_bottom, left_top);
+    let highs = column(north, high_right, high_left);
     let mut sorted = Sorted {
         right: 0,
         left: 0,
@@ -281,8 +319,7 @@ pub(crate) fn sort_all(
     };
     for (g, bounds) in groups.iter().enumerate() {
         sorted = sort_group(
-            lines, partition, margins, pieces, blocks, low_x, low_y, high_x, high_y, g, *bounds,
-            sorted, noted,
+            lines, partition, margins, pieces, blocks, lows, highs, g, *bounds, sorted, noted,
         );
     }
     let whole = pieces.len() / BLOCK;
@@ -290,8 +327,7 @@ pub(crate) fn sort_all(
         let from = BLOCK * g;
         let to = (from + BLOCK).min(whole);
         sorted = sort_blocks(
-            lines, partition, margins, pieces, blocks, low_x, low_y, high_x, high_y, from, to,
-            sorted, noted,
+            lines, partition, margins, pieces, blocks, lows, highs, from, to, sorted, noted,
         );
     }
     sort_last(

@@ -1,5 +1,5 @@
-//! Hints of which pieces lie on one straight line, and room for what a choice notes. Hints are tested before use, and
-//! notes are made anew by each choice, so what was left here costs time alone.
+//! Hints which pieces lie on one straight line, and room for the notes of a choice. A hint is tested before it is used,
+//! and each choice makes its notes anew, so wrong content only costs time.
 ghost use Rattle.std.specs.Prelude.{◌≡◌, ◌<◌, ◌^◌, length, All, Some, slice_get, true};
 ghost use Rattle.lv_segs.specs.Plane.{IsEdge};
 ghost use Rattle.lv_segs.specs.Pieces.{IsPiece};
@@ -11,11 +11,10 @@ use lv_lumps::Bounds;
 use lv_segs::{Edge, Facing, Piece, lies_along, ray_of};
 use std::alloc::{AllocError, Global};
 
-/// Hints that save counts: a number for the straight line of each line, and under each number the
-/// place where a piece on that straight line was met last. What they say is tested before it is
-/// used, so a choice is right whatever stands here, and old or wrong hints cost time alone. Beside
-/// them there is room for what a choice notes of as many pieces as the lines have sides: rounded
-/// ends, the sides of the boxes of blocks, boxes of groups, and the numbers of open blocks.
+/// Hints that save counts: a number for the straight line of each line, and for each number the place of the last piece
+/// met on that straight line. A hint is tested before it is used, so old or wrong hints only cost time. There is also
+/// room for the notes of a choice over as many pieces as the lines have sides: rounded ends, the corners of the boxes
+/// of blocks, boxes of groups, and the numbers of open blocks.
 #[derive(Drop)]
 pub struct StraightLines {
     numbers: Vec<u16>,
@@ -26,8 +25,8 @@ pub struct StraightLines {
     pub(crate) noted: Vec<u32>,
 }
 
-// A straight line by its direction in least whole numbers, east or else north, and by how far it is
-// from the origin, times that direction's length. Two lines lie on one where these are the same.
+// A straight line: its direction in the least whole numbers, eastward or else due north, and its distance from the
+// origin times the length of that direction. Two lines lie on one straight line if all three are the same.
 #[derive(Clone, Copy, PartialEq, Eq, Hash)]
 struct StraightLine {
     dx: i64,
@@ -36,7 +35,7 @@ struct StraightLine {
 }
 
 impl StraightLine {
-    // The numbers wrap where they would not fit, which no line of a map comes near.
+    // The wrapping operations never wrap for lines of a map.
     fn of(edge: Edge) -> StraightLine
         requires { IsEdge edge }
     {
@@ -57,7 +56,7 @@ impl StraightLine {
     }
 }
 
-// The greatest number that divides both; 0 where both are 0.
+// The greatest common divisor; 0 if both are 0.
 fn common_measure(mut a: u32, mut b: u32) -> u32 {
     while b != 0 {
         let rest = a % b;
@@ -98,8 +97,8 @@ impl StraightLines {
         })
     }
 
-    // An earlier piece of an unused line lies on the straight line of this one. It is looked for at
-    // one place alone.
+    // Whether an earlier piece of an unused line lies on the straight line of this one. Only the piece that was met
+    // last is tried.
     pub(crate) fn has_earlier(
         &mut self,
         lines: &[Edge],

@@ -7,14 +7,14 @@ use crate::block_boxes::BLOCK;
 use lv_segs::{Edge, Piece};
 use std::alloc::{AllocError, Global};
 
-// The middle of a line, moved so that neither number falls below 0.
+// The middle of a line, moved so that neither coordinate is negative.
 #[derive(Clone, Copy)]
 struct Middle {
     x: u32,
     y: u32,
 }
 
-// How a list is parted into upright strips: where the first begins, and how wide each is.
+// Upright strips over the map: where the first begins, and how wide each is.
 #[derive(Clone, Copy)]
 struct Strips {
     west: u32,
@@ -22,7 +22,7 @@ struct Strips {
 }
 
 impl Middle {
-    // No sum of two coordinates comes near to wrapping.
+    // No sum of two coordinates wraps.
     fn of(edge: Edge) -> Middle {
         let x = i32::from(edge.v1.x).wrapping_add(i32::from(edge.v2.x));
         let y = i32::from(edge.v1.y).wrapping_add(i32::from(edge.v2.y));
@@ -34,7 +34,7 @@ impl Middle {
 }
 
 impl Strips {
-    // Strips in which a block of pieces takes a square, if the pieces lie evenly.
+    // Strips so wide that a block of pieces fills a square if the pieces are spread evenly.
     fn over(lines: &[Edge], pieces: &[Piece]) -> Strips {
         let (mut west, mut east) = (u32::MAX, 0);
         let (mut south, mut north) = (u32::MAX, 0);
@@ -57,7 +57,7 @@ impl Strips {
         }
     }
 
-    // The strips from west to east, and along each northward and southward in turns.
+    // Orders places by strips from west to east, within one strip northward, within the next southward, and so on.
     fn key(self, middle: Middle) -> (u32, u32) {
         let strip = middle.x.saturating_sub(self.west).checked_div(self.width);
         let strip = strip.unwrap_or(0);
@@ -69,8 +69,8 @@ impl Strips {
     }
 }
 
-/// The pieces of a list in an order in which those that stand together mostly lie together, so that
-/// a block of them has a small box. Which order it is costs time alone.
+/// The pieces of a list in an order in which neighbours on the map mostly stand together, so that a block of them has a
+/// small box. The order only matters for speed.
 pub fn by_place(alloc: Global, lines: &[Edge], pieces: &[Piece]) -> Result<Vec<Piece>, AllocError>
     requires { All (IsPiece lines.now) pieces.now }
     ensures order { IfOk result (λ ordered. IsPermutation pieces.now ordered.items) }

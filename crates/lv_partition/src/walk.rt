@@ -1,13 +1,14 @@
 //! The counts of a list: blocks whole on one side by their boxes, the pieces of open ones by their rounded ends.
-ghost use Rattle.std.specs.Prelude.{◌≡◌, ℕ, ◌≤◌, ◌<◌, ◌^◌, ◌&&◌, ◌||◌, if◌then◌else◌, ◌∷◌, [], true, false, pos, ◌+ℤ◌, ◌≤ℤ◌, ◌<ℤ◌, length, take, All, MatchOption};
+ghost use Rattle.std.specs.Prelude.{◌≡◌, ℕ, ◌≤◌, ◌<◌, ◌^◌, ◌&&◌, ◌||◌, if◌then◌else◌, ◌∷◌, [], true, false, pos, ◌*ℤ◌, int_lt, length, take, All, MatchOption};
 ghost use Rattle.lv_segs.specs.Plane.{IsEdge};
-ghost use Rattle.lv_segs.specs.Local.{IsLineRay};
+ghost use Rattle.lv_segs.specs.Local.{IsLineRay, IsSideValue};
 ghost use Rattle.lv_segs.specs.Pieces.{IsPiece, ray_of};
+ghost use Rattle.lv_segs.specs.Division.{place_by};
 ghost use Rattle.lv_segs.specs.Tree.{cost};
 ghost use Rattle.lv_segs.specs.Boxes.{boxes_of};
 ghost use Rattle.lv_partition.specs.Counts.{AreCounts};
 ghost use Rattle.lv_partition.specs.Blocks.{AreBlocks, AreGroups};
-ghost use Rattle.lv_partition.specs.Sights.{AreMargins, ends_of};
+ghost use Rattle.lv_partition.specs.Sights.{AreMargins, IsNormal, ends_of};
 ghost use Rattle.lv_partition.specs.Columns.{AreEnds, HoldsEnds, HoldsBoxes};
 ghost use Rattle.lv_partition.specs.Sorting.{IsSorted};
 ghost use Rattle.lv_partition.specs.Clear.{AreCountsBut, flagged, pieces_at, IsClear};
@@ -16,12 +17,13 @@ use crate::block_boxes::BLOCK;
 use crate::corner_columns::BoxColumns;
 use crate::counts::Counts;
 use crate::ends::{EndColumns, Ends};
-use crate::margins::{Margins, PlaceSides, margins_of, sides_of_place};
+use crate::margins::{Margins, Normal, PlaceSides, margins_of, sides_of_place};
 use crate::sorting::{Sorted, sort_all};
-use lv_lumps::{Bounds, Ray, Vertex};
-use lv_segs::{Edge, Piece, Place, divide_on, place_on, ray_of, value_at};
+use lv_lumps::{Bounds, Ray, Vertex, product};
+use lv_segs::{Edge, Piece, Place, divide_on, dot_of, place_on, ray_of, value_at};
 
-// What the sides of its two ends tell of a piece: its counts, or none where they leave it open.
+// The counts of a piece by the sides of its two ends; zero if they leave it open. All is done in numbers of 32 bits, as
+// the sums over several pieces are.
 fn counts_by_sides(first: PlaceSides, last: PlaceSides) -> Counts
     ensures right { result.right ≡ (if (first.right && last.right) ||
         ((first.right && last.left) || (first.left && last.right)) then 1 else 0) }
@@ -30,93 +32,116 @@ fn counts_by_sides(first: PlaceSides, last: PlaceSides) -> Counts
     ensures splits { result.splits ≡
         (if (first.right && last.left) || (first.left && last.right) then 1 else 0) }
 {
-    let right = first.right & last.right;
-    let left = first.left & last.left;
-    let split = (first.right & last.left) | (first.left & last.right);
+    let first_right = first.right as u32;
+    let first_left = first.left as u32;
+    let last_right = last.right as u32;
+    let last_left = last.left as u32;
+    let right = first_right & last_right;
+    let left = first_left & last_left;
+    let split = (first_right & last_left) | (first_left & last_right);
     Counts {
-        splits: split as u32,
-        right: (right | split) as u32,
-        left: (left | split) as u32,
+        splits: split,
+        right: right | split,
+        left: left | split,
     }
 }
 
-// The counts of a piece by its rounded ends; none where these don't both lie well off the partition's straight line.
+// The counts of a piece by its rounded ends; zero unless both lie farther from the partition's straight line than
+// rounding may move them.
 fn count_clear(
     lines: &[Edge],
     partition: &Piece,
     margins: Margins,
+    normal: Normal,
     piece: &Piece,
     ends: Ends,
 ) -> Counts
     requires ray { margins.ray ≡ ray_of lines.now partition.now }
     requires margins { AreMargins margins }
+    requires normal { IsNormal margins.ray normal }
     requires piece { IsPiece lines.now piece.now }
     requires ends { ends ≡ ends_of lines.now piece.now }
     ensures { IsClear lines.now partition.now piece.now result }
 {
-    let first = sides_of_place(margins, ends.first);
-    let last = sides_of_place(margins, ends.last);
+    let first = sides_of_place(margins, normal, ends.first);
+    let last = sides_of_place(margins, normal, ends.last);
     counts_by_sides(first, last)
 }
 
-// The counts of the pieces of a short list that their rounded ends decide; the others are flagged as open. It has no
-// branch, so that a machine does it for several pieces at once.
+// The counts of those pieces of a short list that their rounded ends decide; the others are flagged as open. There is
+// no branch, so that a machine tests several pieces at once.
 fn count_clear_ones(
     lines: &[Edge],
     partition: &Piece,
     margins: Margins,
     pieces: &[Piece],
-    first_x: &[i16],
-    first_y: &[i16],
-    last_x: &[i16],
-    last_y: &[i16],
+    firsts: &[Vertex],
+    lasts: &[Vertex],
     flags: &mut [bool],
 ) -> Counts
     requires ray { margins.ray ≡ ray_of lines.now partition.now }
     requires margins { AreMargins margins }
     requires pieces { All (IsPiece lines.now) pieces.now }
-    requires ends { AreEnds lines.now pieces.now first_x.now first_y.now last_x.now last_y.now }
-    requires few { length pieces.now < 2 ^ 32 }
+    requires ends { AreEnds lines.now pieces.now firsts.now lasts.now }
+    requires few { length pieces.now ≤ 16 }
     requires room { length flags.old ≡ length pieces.now }
     ensures { AreCountsBut lines.now partition.now pieces.now (flagged flags.new pieces.now)
         result }
 {
+    let normals = [margins.normal; BLOCK];
     let mut counts = Counts::NONE;
     for (n, piece) in pieces.iter().enumerate() {
         let ends = Ends {
             first: Vertex {
-                x: first_x[n],
-                y: first_y[n],
+                x: firsts[n].x,
+                y: firsts[n].y,
             },
             last: Vertex {
-                x: last_x[n],
-                y: last_y[n],
+                x: lasts[n].x,
+                y: lasts[n].y,
             },
         };
-        let more = count_clear(lines, partition, margins, piece, ends);
+        let more = count_clear(lines, partition, margins, normals[n], piece, ends);
         counts = counts.plus(more);
         flags[n] = (more.right == 0) & (more.left == 0);
     }
     counts
 }
 
-// The side on which a line lies by the values of its ends, found without a branch; neither where the ends lie on two
-// sides, and where both are 0.
-fn sides_of_line(first: i64, last: i64) -> PlaceSides
-    ensures right { result.right ≡ true →
-        (pos 0 ≤ℤ first) × (pos 0 ≤ℤ last) × (pos 0 <ℤ (first +ℤ last)) }
-    ensures left { result.left ≡ true →
-        (first ≤ℤ pos 0) × (last ≤ℤ pos 0) × ((first +ℤ last) <ℤ pos 0) }
-    ensures one { (result.right && result.left) ≡ false }
+// Whether the ends of a line lie on two sides of a ray, by their side values. Their product needs one test, which is
+// easy to predict; their signs would need two.
+fn are_apart(first: i64, last: i64) -> bool
+    requires first { IsSideValue first }
+    requires last { IsSideValue last }
+    ensures { result ≡ int_lt (first *ℤ last) (pos 0) }
 {
-    let right = (0 <= first) & (0 <= last) & ((0 < first) | (0 < last));
-    let left = (first <= 0) & (last <= 0) & ((first < 0) | (last < 0));
-    PlaceSides { right, left }
+    product(first, last) < 0
 }
 
-// The counts of one piece: by the sides of its line's ends, where these lie on one side and not both on the partition's
-// straight line; else by its exact place. Only one that lies across the partition is divided.
-fn count_piece(lines: &[Edge], partition: &Piece, ray: Ray, piece: &Piece) -> Counts
+// The sum of the side values of a line's ends, or its direction if the sum is 0.
+fn sign_of(sum: i64, direction: i64) -> i64
+    ensures zero { sum ≡ pos 0 → result ≡ direction }
+    ensures other { (sum ≡ pos 0 → ⊥) → result ≡ sum }
+{
+    if sum == 0 { direction } else { sum }
+}
+
+// Whether a line whose ends don't lie on two sides of a ray lies on its right, else on its left: by the side values of
+// its ends, or by its direction if both are 0.
+fn lies_right(first: i64, last: i64, direction: i64) -> bool
+    requires first { IsSideValue first }
+    requires last { IsSideValue last }
+    requires together { int_lt (first *ℤ last) (pos 0) ≡ false }
+    ensures right { result ≡ true → place_by first last direction ≡ Place.Right }
+    ensures left { result ≡ false → place_by first last direction ≡ Place.Left }
+{
+    let sum = first + last;
+    let sign = sign_of(sum, direction);
+    0 < sign
+}
+
+// The counts of one piece by its exact place. Only a piece across the partition is divided.
+fn count_exactly(lines: &[Edge], partition: &Piece, ray: Ray, piece: &Piece) -> Counts
     requires lines { All IsEdge lines.now }
     requires ray { ray ≡ ray_of lines.now partition.now }
     requires line { IsLineRay ray }
@@ -124,17 +149,6 @@ fn count_piece(lines: &[Edge], partition: &Piece, ray: Ray, piece: &Piece) -> Co
     ensures { AreCounts lines.now partition.now (piece.now ∷ []) result }
 {
     let edge = lines[piece.line as usize];
-    let first = value_at(ray, edge.v1);
-    let last = value_at(ray, edge.v2);
-    let sides = sides_of_line(first, last);
-    // never both, and one test is easier to foresee than two
-    if sides.right != sides.left {
-        return Counts {
-            splits: 0,
-            right: sides.right as u32,
-            left: sides.left as u32,
-        };
-    }
     match place_on(ray, edge, piece) {
         Place::Right => Counts::ON_RIGHT,
         Place::Left => Counts::ON_LEFT,
@@ -145,8 +159,32 @@ fn count_piece(lines: &[Edge], partition: &Piece, ray: Ray, piece: &Piece) -> Co
     }
 }
 
-// Notes the places of the flagged pieces of a block, and answers how many there are. It has no branch, since no machine
-// foresees which pieces are flagged.
+// The counts of one piece: by the side of its whole line if that has one, else by its exact place.
+fn count_piece(lines: &[Edge], partition: &Piece, ray: Ray, piece: &Piece) -> Counts
+    requires lines { All IsEdge lines.now }
+    requires ray { ray ≡ ray_of lines.now partition.now }
+    requires line { IsLineRay ray }
+    requires piece { IsPiece lines.now piece.now }
+    ensures { AreCounts lines.now partition.now (piece.now ∷ []) result }
+{
+    let edge = lines[piece.line as usize];
+    let first = value_at(ray, edge.v1);
+    let last = value_at(ray, edge.v2);
+    if are_apart(first, last) {
+        return count_exactly(lines, partition, ray, piece);
+    }
+    let own = ray_of(edge, piece.side);
+    let direction = dot_of(ray, own);
+    let right = lies_right(first, last, direction);
+    Counts {
+        splits: 0,
+        right: right as u32,
+        left: !right as u32,
+    }
+}
+
+// Notes the places of the flagged pieces of a block, and returns how many there are. It has no branch, which would
+// often be mispredicted.
 fn note_open(pieces: &[Piece], flags: &[bool], places: &mut [u8]) -> usize
     requires few { length pieces.now ≤ 16 }
     requires same { length flags.now ≡ length pieces.now }
@@ -158,14 +196,14 @@ fn note_open(pieces: &[Piece], flags: &[bool], places: &mut [u8]) -> usize
 {
     let mut count = 0;
     for n in 0..pieces.len() {
-        // where the piece isn't flagged, the next one's place is written over its own
+        // if the piece isn't flagged, the next place replaces its own
         places[count] = n as u8;
         count += flags[n] as usize;
     }
     count
 }
 
-// The counts of a short list of which all but the pieces at some places are counted.
+// The counts of a short list, after those of all pieces but the ones at these places.
 fn count_open_ones(
     lines: &[Edge],
     partition: &Piece,
@@ -193,33 +231,29 @@ fn count_open_ones(
     counts
 }
 
-// The counts of a block, first of the pieces that their rounded ends decide, and then of the others, or None where the
-// first ones already tell that the cost is the limit or more.
+// The counts of a block: first of the pieces that their rounded ends decide, then of the others. It is None if the
+// first ones already make the cost reach the limit.
 fn count_list(
     lines: &[Edge],
     partition: &Piece,
     margins: Margins,
     pieces: &[Piece],
-    first_x: &[i16],
-    first_y: &[i16],
-    last_x: &[i16],
-    last_y: &[i16],
+    firsts: &[Vertex],
+    lasts: &[Vertex],
     limit: u64,
 ) -> Option<Counts>
     requires lines { All IsEdge lines.now }
     requires ray { margins.ray ≡ ray_of lines.now partition.now }
     requires margins { AreMargins margins }
     requires pieces { All (IsPiece lines.now) pieces.now }
-    requires ends { AreEnds lines.now pieces.now first_x.now first_y.now last_x.now last_y.now }
+    requires ends { AreEnds lines.now pieces.now firsts.now lasts.now }
     requires few { length pieces.now ≤ 16 }
     ensures { MatchOption result (limit ≤ cost lines.now partition.now pieces.now)
         (λ c. AreCounts lines.now partition.now pieces.now c) }
 {
     let mut all_flags = [false; BLOCK];
     let flags = &mut all_flags[..pieces.len()];
-    let clear = count_clear_ones(
-        lines, partition, margins, pieces, first_x, first_y, last_x, last_y, flags,
-    );
+    let clear = count_clear_ones(lines, partition, margins, pieces, firsts, lasts, flags);
     let all = pieces.len() as u32 + clear.splits;
     let rest = all - clear.right - clear.left;
     if limit <= clear.least_cost(rest) {
@@ -240,17 +274,15 @@ fn count_list(
     ))
 }
 
-// The counts of a list whose blocks are sorted, open block by open block, or None where the cost is found to be the
-// limit or more.
+// The counts of a list whose blocks are sorted, open block by open block, or None as soon as the cost is known to reach
+// the limit.
 fn count_open(
     lines: &[Edge],
     partition: &Piece,
     margins: Margins,
     pieces: &[Piece],
-    first_x: &[i16],
-    first_y: &[i16],
-    last_x: &[i16],
-    last_y: &[i16],
+    firsts: &[Vertex],
+    lasts: &[Vertex],
     sorted: Sorted,
     noted: &[u32],
     limit: u64,
@@ -260,7 +292,7 @@ fn count_open(
     requires ray { margins.ray ≡ ray_of lines.now partition.now }
     requires margins { AreMargins margins }
     requires pieces { All (IsPiece lines.now) pieces.now }
-    requires ends { AreEnds lines.now pieces.now first_x.now first_y.now last_x.now last_y.now }
+    requires ends { AreEnds lines.now pieces.now firsts.now lasts.now }
     requires few { length pieces.now < 2 ^ 32 }
     requires is { IsSorted lines.now partition.now pieces.now (length pieces.now) sorted noted.now }
     ensures { MatchOption result (limit ≤ cost lines.now partition.now pieces.now)
@@ -283,10 +315,8 @@ fn count_open(
             partition,
             margins,
             &pieces[from..end],
-            &first_x[from..end],
-            &first_y[from..end],
-            &last_x[from..end],
-            &last_y[from..end],
+            &firsts[from..end],
+            &lasts[from..end],
             u64::MAX,
         ) {
             None => return None,
@@ -301,9 +331,9 @@ fn count_open(
     Some(counts)
 }
 
-/// The counts of a list, or None where the cost is found to be the limit or more: piece by piece where they are few,
-/// else first by the boxes of groups and of blocks, each looked at once, and then by the pieces of the blocks that
-/// these leave open.
+/// The counts of a list, or None as soon as the cost is known to reach the limit. A short list is counted piece by
+/// piece. A longer one is sorted by the boxes of its groups and blocks, each tested once, and then the pieces of open
+/// blocks are counted.
 pub(crate) fn count_by_boxes(
     lines: &[Edge],
     partition: &Piece,
@@ -331,19 +361,15 @@ pub(crate) fn count_by_boxes(
     let along = lines[partition.line as usize];
     let ray = ray_of(along, partition.side);
     let margins = margins_of(ray);
-    let first_x = &ends.first_x[..pieces.len()];
-    let first_y = &ends.first_y[..pieces.len()];
-    let last_x = &ends.last_x[..pieces.len()];
-    let last_y = &ends.last_y[..pieces.len()];
+    let firsts = &ends.firsts[..pieces.len()];
+    let lasts = &ends.lasts[..pieces.len()];
     if pieces.len() <= BLOCK {
-        return count_list(
-            lines, partition, margins, pieces, first_x, first_y, last_x, last_y, limit,
-        );
+        return count_list(lines, partition, margins, pieces, firsts, lasts, limit);
     }
     let sorted = sort_all(
         lines, partition, margins, pieces, blocks, sides, groups, noted,
     );
     count_open(
-        lines, partition, margins, pieces, first_x, first_y, last_x, last_y, sorted, noted, limit,
+        lines, partition, margins, pieces, firsts, lasts, sorted, noted, limit,
     )
 }

@@ -16,6 +16,7 @@ pub mod BlockCounts
 pub mod LocalLemmas
 pub mod SignLemmas
 pub mod Straight
+pub mod StraightLists
 pub mod Zeros
 pub mod FirstList
 pub mod Steps

@@ -47,7 +47,7 @@ has_other k m x y hk hm e =
     }
 
 -- ---- places
-right_if : (u w z : ℤ) → pos 0 ≤ℤ u → pos 0 ≤ℤ w → (u ≡ pos 0 → w ≡ pos 0 → pos 0 <ℤ z) → place_by u w z ≡ Right
+pub right_if : (u w z : ℤ) → pos 0 ≤ℤ u → pos 0 ≤ℤ w → (u ≡ pos 0 → w ≡ pos 0 → pos 0 <ℤ z) → place_by u w z ≡ Right
 right_if u w z h k d = grind (arith, ints)
 
 pub left_if : (u w z : ℤ) → u ≤ℤ pos 0 → w ≤ℤ pos 0 → (u ≡ pos 0 → w ≡ pos 0 → z ≤ℤ pos 0) → place_by u w z ≡ Left

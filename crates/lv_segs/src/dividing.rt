@@ -1,4 +1,4 @@
-//! What a partition makes of a piece.
+//! On which side of a partition a piece lies, and how it is divided.
 ghost use Rattle.std.specs.Prelude.{◌≡◌, ◌<◌, pos, neg_ℤ, ◌≤ℤ◌, length, All, true, false, if◌then◌else◌, Some, None};
 ghost use Rattle.lv_lumps.specs.Drawing.{IsDrawable};
 ghost use Rattle.lv_segs.specs.Plane.{IsEdge, dot};
@@ -18,7 +18,7 @@ use crate::values::{dot_of, ray_of, value_at, zero_of};
 use lv_lumps::{Ray, Vertex};
 use lv_maptables::Map;
 
-// A part of a line, left out where its rounded ends are one place.
+// A part of a line, or None if both its ends round to one place.
 fn kept(piece: Piece, first: Vertex, last: Vertex) -> Option<Piece>
     ensures { result ≡ (if same_place first last then None else Some piece) }
 {
@@ -112,7 +112,7 @@ pub fn divide_on(ray: Ray, edge: Edge, piece: &Piece) -> Parts
     }
 }
 
-/// What a partition makes of a piece, over the lines of a map.
+/// The parts that a partition makes of a piece, over a list of lines.
 pub fn divide_in(lines: &[Edge], partition: &Piece, piece: &Piece) -> Parts
     requires lines { All IsEdge lines.now }
     requires partition { IsPiece lines.now partition.now }
@@ -142,9 +142,9 @@ pub fn lies_along(lines: &[Edge], first: &Piece, second: &Piece) -> bool
     start == 0 && end == 0
 }
 
-/// On which side of a partition a piece of a map lies, by the exact signs of its ends: `Across` where
-/// the partition crosses it, whether both parts will be kept or not. It takes no memory. Both lines
-/// are the map's and the piece's ends are fractions; nothing else is asked of the two.
+/// On which side of a partition a piece of a map lies, by the exact signs of its ends' side values. It is `Across` if
+/// the partition crosses the piece, even if only one part would be kept. It allocates no memory. Both lines must be the
+/// map's and the piece's ends fractions; nothing else is required of the two pieces.
 pub fn side_of(map: &Map, partition: &Piece, piece: &Piece) -> Place
     requires partition { partition.now.line < length (edges_of map.now.tables) }
     requires line { piece.now.line < length (edges_of map.now.tables) }
@@ -158,8 +158,8 @@ pub fn side_of(map: &Map, partition: &Piece, piece: &Piece) -> Place
     place_on(ray, own, piece)
 }
 
-/// What a partition makes of a piece of a map: its parts on the right and on the left, with exact
-/// fractions. A part whose ends round to one point is left out. It takes no memory.
+/// The parts that a partition makes of a piece of a map, on the right and on the left, with exact
+/// fractions. A part whose ends round to one point is left out. It allocates no memory.
 pub fn divide(map: &Map, partition: &Piece, piece: &Piece) -> Parts
     requires partition { IsPiece (edges_of map.now.tables) partition.now }
     requires piece { IsPiece (edges_of map.now.tables) piece.now }

@@ -39,8 +39,8 @@ pub fn pieces_in(alloc: Global, lines: &[Edge]) -> Result<Vec<Piece>, AllocError
     Ok(pieces)
 }
 
-/// The first list of a map's pieces: for each line by number its right side's piece, then its left
-/// side's where there is one. It is refused by lack of memory alone.
+/// The first list of a map's pieces: for each line by number its right side's piece, then its left side's if there is
+/// one. It is refused only for lack of memory.
 pub fn pieces_of(alloc: Global, map: &Map) -> Result<Vec<Piece>, SegsError>
     ensures pieces { IfOk result (λ pieces. pieces.items ≡ first_pieces (edges_of map.now.tables)) }
     ensures each { All (IsPiece (edges_of map.now.tables))

@@ -41,4 +41,4 @@ pub use map_lines::{edges_of, lines_are_drawn};
 pub use numbered::Points;
 pub use piece::{Parts, Piece, Place};
 pub use piece_box::{box_on, boxes_in};
-pub use values::{ray_of, value_at};
+pub use values::{dot_of, ray_of, value_at};

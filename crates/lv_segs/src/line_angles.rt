@@ -1,5 +1,4 @@
-//! The angles of lines, found once for the segs of both sides. How they are kept may change; a line's
-//! angle is that of its own direction.
+//! The angles of lines in their own direction, found once for the segs of both sides.
 ghost use Rattle.std.specs.Prelude.{All, IfOk};
 ghost use Rattle.lv_segs.specs.declared.edge.Facing.TheVariants.{Along};
 ghost use Rattle.lv_segs.specs.Plane.{ray, IsEdge};

@@ -1,6 +1,6 @@
-//! Why lines of a list of records can't be built.
+//! Why a list of line records can't be built.
 
-/// Why a line can't be built, in the order in which this is looked at.
+/// Why a line can't be built, in the order of the tests.
 #[derive(Clone, Copy, Debug, PartialEq, Eq)]
 pub enum LineFault {
     /// One of its vertices isn't there.

@@ -1,4 +1,4 @@
-//! The lines of a list of records with the places of their ends, or the first that can't be built.
+//! The lines of a list of records with the places of their ends, or the first line that can't be built.
 ghost use Rattle.std.specs.Prelude.{◌≡◌, ◌↔◌, IsTrue, All, pos, neg_ℤ, ◌≤ℤ◌, IfOk, IfErr, OnOk, MatchOption};
 ghost use Rattle.lv_lumps.specs.Drawing.{IsDrawable};
 ghost use Rattle.lv_segs.specs.Plane.{IsEdge};
@@ -64,10 +64,10 @@ fn edge_in(vertices: &[Vertex], sides: &[Side], line: Line) -> Result<Edge, Line
     }
 }
 
-/// The lines of a list of records over a list of vertices, by number. They are refused exactly where
-/// a line names a vertex or a right side that isn't there, or is one that no map may have: the first
-/// such line is told, with its first fault; or for lack of memory. Vertices may share places, left
-/// sides aren't looked up, and the lists may be of any length.
+/// The lines of a list of records over a list of vertices, by number. They are refused if a line names a vertex or a
+/// right side that isn't there, or is one that no map may have; the refusal has the number of the first such line, and
+/// its first fault. Otherwise they are refused only for lack of memory. Vertices may share places, left sides aren't
+/// looked up, and the lists may be of any length.
 pub fn edges_in(
     alloc: Global,
     vertices: &[Vertex],

@@ -1,4 +1,4 @@
-//! The lines of a map with the places of their ends, read once.
+//! The lines of a map with the places of their ends.
 ghost use Rattle.std.specs.Prelude.{◌≡◌, ◌≤◌, ◌<◌, length, All, IfOk, IsOkUnless};
 ghost use Rattle.lv_maptables.specs.WellFormed.{HasEnds, nth_vertex};
 ghost use Rattle.lv_segs.specs.Plane.{IsEdge};
@@ -32,7 +32,7 @@ fn edge_between(map: &Map, line: &Line) -> Edge
 }
 
 /// Each line of a map may be drawn: its ends differ, lie in the range of coordinates, and aren't too
-/// far apart. A law of every map, for those who read its lines by number.
+/// far apart. This is a law of every map, for callers that read its lines by number.
 pub fn lines_are_drawn(map: &Map)
     ensures drawn { All IsEdge (edges_of map.now.tables) }
     ensures few { length (edges_of map.now.tables) ≤ 32767 }
@@ -51,8 +51,7 @@ pub(crate) fn edge_of(map: &Map, line: u16) -> Edge
     edge_between(map, &line)
 }
 
-/// The lines of a map with the places of their ends, by number. It is refused by lack of memory
-/// alone.
+/// The lines of a map with the places of their ends, by number. They are refused only for lack of memory.
 pub fn edges_of(alloc: Global, map: &Map) -> Result<Vec<Edge>, SegsError>
     ensures edges { IfOk result (λ edges. edges.items ≡ edges_of map.now.tables) }
     ensures drawn { All IsEdge (edges_of map.now.tables) }

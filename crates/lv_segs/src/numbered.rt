@@ -59,7 +59,7 @@ impl Points {
         }
     }
 
-    // Puts a vertex behind the others, and tells its number.
+    // Appends a vertex and returns its number.
     fn push(&mut self, place: Vertex) -> Result<u32, SegsError>
         requires { length self.old < 32767 }
         ensures pushed { OnOk result (self.new ≡ self.old ++ place ∷ []) }
@@ -82,7 +82,7 @@ impl Points {
         }
     }
 
-    /// The vertices of a map, each with its own number. It is refused by lack of memory alone.
+    /// The vertices of a map, each with its own number. They are refused only for lack of memory.
     pub fn new(alloc: Global, map: &Map) -> Result<Points, SegsError>
         ensures drawn { IfOk result (λ points. points ≡ map.now.tables.vertices) }
         ensures places { IfOk result ArePlaces }
@@ -96,8 +96,8 @@ impl Points {
         Ok(points)
     }
 
-    /// Vertices of a list, each with its own number; they may share places. They are refused as
-    /// `TooManyVertices` exactly where there are more than 32,767, and for lack of memory.
+    /// The vertices of a list, each with its own number; they may share places. They are refused as `TooManyVertices`
+    /// exactly if there are more than 32,767, and for lack of memory.
     pub fn over(alloc: Global, places: &[Vertex]) -> Result<Points, SegsError>
         ensures drawn { IfOk result (λ points. points ≡ places.now) }
         ensures many { result ≡ Err SegsError.TooManyVertices ↔ 32767 < length places.now }
@@ -130,9 +130,9 @@ impl Points {
         self.places.get(n as usize).copied()
     }
 
-    /// The number of a place, the lowest where several vertices stand there. A new one goes to the
-    /// end; it is refused as `TooManyVertices` where there are 32,767 already, and for lack of
-    /// memory. After a refusal nothing has changed.
+    /// The number of the vertex at a place, the lowest if several stand there. If none does, a new vertex goes to the
+    /// end; it is refused as `TooManyVertices` if there are 32,767 already, and for lack of memory. After a refusal
+    /// nothing has changed.
     pub fn number(&mut self, place: Vertex) -> Result<u32, SegsError>
         ensures number { IfOk result (λ n. slice_get self.new n ≡ Some place) }
         ensures first { IfOk result (StandsFirst self.new) }

@@ -33,7 +33,7 @@ fn below(a: i16, b: i16) -> i16
     lesser - 1
 }
 
-// The least box of two places, one step wider on each side, so that what rounds to them lies within.
+// The least box of two places, one step wider on each side, so that all points that round to them lie within.
 fn widened(first: Vertex, last: Vertex) -> Bounds
     requires first { IsDrawable first }
     requires last { IsDrawable last }

@@ -1,4 +1,4 @@
-//! Values by the ray of a line: the side value of a place, where it is 0 on a way, and the inner product.
+//! Values by the ray of a line: the side value of a place, the fraction of a line where it is 0, and the inner product.
 ghost use Rattle.std.specs.Prelude.{◌≡◌, pos, neg_ℤ, ◌≤ℤ◌, ◌*ℤ◌};
 ghost use Rattle.lv_lumps.specs.Drawing.{IsDrawable};
 ghost use Rattle.lv_segs.specs.Plane.{vertex_value, ray, IsEdge, dot};
@@ -32,7 +32,7 @@ pub fn value_at(ray: Ray, place: Vertex) -> i64
     ray.side_value(Point::from(place))
 }
 
-// Where a value that goes evenly from one number to another is 0.
+// The fraction at which a value that goes evenly from one number to another is 0.
 pub(crate) fn zero_of(first: i64, last: i64) -> Frac
     requires first { IsSideValue first }
     requires last { IsSideValue last }
@@ -52,15 +52,15 @@ pub(crate) fn zero_of(first: i64, last: i64) -> Frac
     }
 }
 
-// The product of two numbers of vectors.
+// The product of two coordinates of vectors.
 fn times(a: i32, b: i32) -> i64
     ensures { result ≡ a *ℤ b }
 {
     product(a as i64, b as i64)
 }
 
-// The inner product of the vectors of two lines.
-pub(crate) fn dot_of(ray: Ray, other: Ray) -> i64
+/// The inner product of the directions of two lines: above 0 where lines on one straight line run the same way.
+pub fn dot_of(ray: Ray, other: Ray) -> i64
     requires ray { IsLineRay ray }
     requires other { IsLineRay other }
     ensures { result ≡ dot ray other }

@@ -15,3 +15,6 @@ returns-clause-built c = subst (λ (d : List Vertex). IfOk c.build_over.result (
 
 pub returns-clause-refused : goal.returns-clause-refused
 returns-clause-refused c = subst (λ (d : List Vertex). IfErr c.build_over.result (IsRefusalOver c.args.lines.now d)) c.in-Ok.ensures.drawn c.build_over.ensures.refused
+
+pub returns-in-Err-TooManyVertices-clause-last : goal.returns-in-Err-TooManyVertices-clause-last
+returns-in-Err-TooManyVertices-clause-last c = λ few h. let many = c.over.ensures.many.0 (cc) in absurd (omega (arith, few, many))

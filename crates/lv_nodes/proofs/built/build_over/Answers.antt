@@ -1,4 +1,4 @@
-use Rattle.std.proofs.Common.{◌≤◌, ◌<◌, ◌∙◌, sym, subst, ℕ, List, All}
+use Rattle.std.proofs.Common.{◌≡◌, ◌≤◌, ◌<◌, ◌∙◌, sym, subst, ℕ, List, All}
 use Rattle.lv_lumps.specs.declared.records.Vertex.{Vertex}
 use Rattle.lv_segs.specs.declared.piece.Piece.{Piece}
 use Rattle.lv_segs.specs.Pieces.{IsPiece}
@@ -8,7 +8,9 @@ use Rattle.lv_nodes.specs.TreeLists.{AreSegsOf}
 use Rattle.lv_nodes.specs.Sound.{IsSound, IsSmall, IsBuiltOf}
 use Rattle.lv_nodes.specs.Numbers.{AreNumbered, AreSegsRefused}
 use Rattle.lv_nodes.specs.Growth.{lists_of}
-use Rattle.lv_nodes.proofs.Building.{build_refused, built_of, lists_pieces, lists_some, lists_total, segs_refused_too, small_of, sound_of}
+use Rattle.lv_nodes.specs.Refusals.{IsTreeRefused}
+use Rattle.lv_nodes.specs.declared.error.TreeError.TheVariants.{TooManyVertices}
+use Rattle.lv_nodes.proofs.Building.{within_limits, build_refused, built_of, lists_pieces, lists_some, lists_total, segs_refused_too, small_of, sound_of}
 use Rattle.lv_nodes.proofs.built.build_over.Goals as goal
 
 pub returns-in-Err-clause-refused : goal.returns-in-Err-clause-refused
@@ -56,3 +58,10 @@ returns-in-Ok-vertices_of-clause-built c =
           (built_of lines drawn
           (lists_of c.in-Ok.grown) c.in-Ok.ensures.lists vs segs subs a sizes c.in-Ok-subs_of.ensures.follow);
     }
+
+-- the growth never refuses for vertices
+pub returns-in-Err-clause-last : goal.returns-in-Err-clause-last
+returns-in-Err-clause-last c = λ h. let e : c.in-Err.error ≡ TooManyVertices = cc h in absurd (subst (IsTreeRefused c.args.lines.now) e c.in-Err.ensures.refused)
+
+pub returns-in-Err-segs_of-clause-last : goal.returns-in-Err-segs_of-clause-last
+returns-in-Err-segs_of-clause-last c = λ h. within_limits c.args.lines.now (lists_of c.in-Ok.grown) c.in-Ok.ensures.lists

@@ -2,7 +2,7 @@ use Rattle.std.proofs.Common.{◌<◌, ◌∙◌, sym, ap, subst, length, All, a
 use Rattle.std.proofs.lemmas.List.{length-map}
 use Rattle.lv_segs.specs.Plane.{IsEdge}
 use Rattle.lv_segs.specs.Edges.{edge_between}
-use Rattle.lv_nodes.specs.Sound.{AllDiffer}
+use Rattle.lv_nodes.specs.Sound.{AllDiffer, IsWithinLimits}
 use Rattle.lv_nodes.proofs.RangeLemmas.{all_differ, built_result, differ_result, never_nothing, refused_result}
 use Rattle.lv_nodes.proofs.built.build_tree.Goals as goal
 
@@ -31,3 +31,6 @@ returns-clause-nothing c =
     let l = ap length (c.deref.ensures.value ∙ c.in-Ok.ensures.edges) in
     let n = length-map m.lines (edge_between m.vertices) in
     (λ e. absurd (never_nothing c.deref.result.now c.in-Ok-new.points c.build_over.result (omega (arith, l, n, some)) c.build_over.ensures.refused e), λ z. absurd (omega (arith, some, z)))
+
+pub returns-clause-last : goal.returns-clause-last
+returns-clause-last c = λ h. subst IsWithinLimits (c.deref.ensures.value ∙ c.in-Ok.ensures.edges) (c.build_over.ensures.last h)

@@ -10,7 +10,7 @@ returns-clause-right c =
     let v = c.value_of-value.result in
     let fa : FitsSigned w32 m.above = search rules in
     let fv : FitsSigned w32 v = search rules in
-    well_right m.ray c.args.place v fv c.value_of-value.ensures.value m.above fa c.requires.right
+    well_right m.ray c.args.place v fv c.value_of-value.ensures.value m.above fa c.requires.margins.right
 
 pub returns-clause-left : goal.returns-clause-left
 returns-clause-left c =
@@ -18,7 +18,7 @@ returns-clause-left c =
     let v = c.value_of-value.result in
     let fb : FitsSigned w32 m.below = search rules in
     let fv : FitsSigned w32 v = search rules in
-    well_left m.ray c.args.place v fv c.value_of-value.ensures.value m.below fb c.requires.left
+    well_left m.ray c.args.place v fv c.value_of-value.ensures.value m.below fb c.requires.margins.left
 
 pub returns-clause-one : goal.returns-clause-one
 returns-clause-one c =
@@ -27,4 +27,4 @@ returns-clause-one c =
     let fa : FitsSigned w32 m.above = search rules in
     let fb : FitsSigned w32 m.below = search rules in
     let fv : FitsSigned w32 v = search rules in
-    one_side m.above m.below v fa fb fv c.requires.order
+    one_side m.above m.below v fa fb fv c.requires.margins.order

@@ -1,10 +1,12 @@
-use Rattle.std.proofs.Common.{rules, ◌+◌, ◌&&◌, set, get_or, arith}
-use Rattle.std.specs.Prelude.{nat_eq, pos, FitsSigned}
+use Rattle.std.proofs.Common.{rules, ◌+◌, ◌&&◌, sym, subst, set, get_or, arith}
+use Rattle.std.proofs.lemmas.List.{get_or-replicate}
+use Rattle.std.specs.Prelude.{nat_eq, FitsSigned}
 use Rattle.std.specs.Int.{w16}
+use Rattle.lv_partition.proofs.Corners.{no_vertex, place_by_16}
 use Rattle.lv_segs.proofs.Stops.{Counted}
 use Rattle.lv_segs.specs.Pieces.{first_end, last_end}
 use Rattle.lv_partition.proofs.BoxLemmas.{no_piece}
-use Rattle.lv_partition.specs.Sights.{ends_of}
+use Rattle.lv_partition.specs.Sights.{IsNormal, ends_of}
 use Rattle.lv_partition.proofs.Columns.{column_length, read}
 use Rattle.lv_partition.proofs.EndLemmas.{ends_by}
 use Rattle.lv_partition.proofs.OpenBlocks.{counted_few}
@@ -12,17 +14,18 @@ use Rattle.lv_partition.proofs.ClearLemmas.{uncounted, clear_step, clear_all, fl
 use Rattle.lv_partition.proofs.walk.count_clear_ones.Goals as goal
 use Rattle.lv_partition.proofs.walk.count_clear_ones.Goals.{After-count_clear-more}
 
-pub bounds-first_x-n : goal.bounds-first_x-n
-bounds-first_x-n c = let l = column_length (λ p. (first_end c.args.lines.now p).x) c.args.pieces.now c.args.first_x.now c.requires.ends.first_x in omega arith
+pub bounds-firsts-n : goal.bounds-firsts-n
+bounds-firsts-n c = let l = column_length (first_end c.args.lines.now) c.args.pieces.now c.args.firsts.now c.requires.ends.firsts_are in omega arith
 
-pub bounds-first_y-n : goal.bounds-first_y-n
-bounds-first_y-n c = let l = column_length (λ p. (first_end c.args.lines.now p).y) c.args.pieces.now c.args.first_y.now c.requires.ends.first_y in omega arith
+pub bounds-lasts-n : goal.bounds-lasts-n
+bounds-lasts-n c = let l = column_length (last_end c.args.lines.now) c.args.pieces.now c.args.lasts.now c.requires.ends.lasts_are in omega arith
 
-pub bounds-last_x-n : goal.bounds-last_x-n
-bounds-last_x-n c = let l = column_length (λ p. (last_end c.args.lines.now p).x) c.args.pieces.now c.args.last_x.now c.requires.ends.last_x in omega arith
-
-pub bounds-last_y-n : goal.bounds-last_y-n
-bounds-last_y-n c = let l = column_length (λ p. (last_end c.args.lines.now p).y) c.args.pieces.now c.args.last_y.now c.requires.ends.last_y in omega arith
+pub count_clear-more-requires-clause-normal : goal.count_clear-more-requires-clause-normal
+count_clear-more-requires-clause-normal c =
+    let r = c.args.margins.ray in
+    let t = c.loop-n-test.true in
+    let few = c.requires.few in
+    subst (IsNormal r) (sym (get_or-replicate 16 c.loop-n.n c.args.margins.normal _ (omega arith))) c.requires.margins.normal
 
 pub count_clear-more-requires-clause-ends : goal.count_clear-more-requires-clause-ends
 count_clear-more-requires-clause-ends c =
@@ -31,15 +34,13 @@ count_clear-more-requires-clause-ends c =
     let n = c.loop-n.n in
     let h = c.loop-n-test.true in
     let e = c.requires.ends in
-    let ka : FitsSigned w16 (get_or c.args.first_x.now n (pos 0)) = search rules in
-    let kb : FitsSigned w16 (get_or c.args.first_y.now n (pos 0)) = search rules in
-    let ku : FitsSigned w16 (get_or c.args.last_x.now n (pos 0)) = search rules in
-    let kv : FitsSigned w16 (get_or c.args.last_y.now n (pos 0)) = search rules in
-    ends_by _ _ _ _ (ends_of lines (get_or ps n no_piece))
-    (read (λ p. (first_end lines p).x) ps c.args.first_x.now n no_piece h e.first_x ka)
-    (read (λ p. (first_end lines p).y) ps c.args.first_y.now n no_piece h e.first_y kb)
-    (read (λ p. (last_end lines p).x) ps c.args.last_x.now n no_piece h e.last_x ku)
-    (read (λ p. (last_end lines p).y) ps c.args.last_y.now n no_piece h e.last_y kv)
+    let ka : FitsSigned w16 (get_or c.args.firsts.now n no_vertex).x = search rules in
+    let kb : FitsSigned w16 (get_or c.args.firsts.now n no_vertex).y = search rules in
+    let ku : FitsSigned w16 (get_or c.args.lasts.now n no_vertex).x = search rules in
+    let kv : FitsSigned w16 (get_or c.args.lasts.now n no_vertex).y = search rules in
+    ends_by _ _ (ends_of lines (get_or ps n no_piece))
+    (place_by_16 _ (first_end lines (get_or ps n no_piece)) ka kb (read (first_end lines) ps c.args.firsts.now n no_vertex no_piece h e.firsts_are))
+    (place_by_16 _ (last_end lines (get_or ps n no_piece)) ku kv (read (last_end lines) ps c.args.lasts.now n no_vertex no_piece h e.lasts_are))
 
 -- one more piece is counted or flagged
 step : (c : After-count_clear-more) → Counted c.args.lines.now c.args.partition.now c.args.pieces.now

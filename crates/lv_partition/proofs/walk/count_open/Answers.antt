@@ -32,56 +32,28 @@ pub slice_bounds-count_list-count-in-loop-n : goal.slice_bounds-count_list-count
 slice_bounds-count_list-count-in-loop-n c =
     let b = begins c.args.lines.now c.args.partition.now c.args.pieces.now c.loop-n.n c.args.sorted c.args.noted.now c.requires.is c.loop-n-test.true in
     let e = c.min-end.ensures in
-    let l = column_length (λ p. (first_end c.args.lines.now p).x) c.args.pieces.now c.args.first_x.now c.requires.ends.first_x in
+    let l = column_length (first_end c.args.lines.now) c.args.pieces.now c.args.firsts.now c.requires.ends.firsts_are in
     omega arith
 
 pub slice_bounds-count_list-start-in-loop-n : goal.slice_bounds-count_list-start-in-loop-n
 slice_bounds-count_list-start-in-loop-n c =
     let b = begins c.args.lines.now c.args.partition.now c.args.pieces.now c.loop-n.n c.args.sorted c.args.noted.now c.requires.is c.loop-n-test.true in
     let e = c.min-end.ensures in
-    let l = column_length (λ p. (first_end c.args.lines.now p).x) c.args.pieces.now c.args.first_x.now c.requires.ends.first_x in
+    let l = column_length (first_end c.args.lines.now) c.args.pieces.now c.args.firsts.now c.requires.ends.firsts_are in
     omega arith
 
 pub slice_bounds-count_list-count-in-loop-n-2 : goal.slice_bounds-count_list-count-in-loop-n-2
 slice_bounds-count_list-count-in-loop-n-2 c =
     let b = begins c.args.lines.now c.args.partition.now c.args.pieces.now c.loop-n.n c.args.sorted c.args.noted.now c.requires.is c.loop-n-test.true in
     let e = c.min-end.ensures in
-    let l = column_length (λ p. (first_end c.args.lines.now p).y) c.args.pieces.now c.args.first_y.now c.requires.ends.first_y in
+    let l = column_length (last_end c.args.lines.now) c.args.pieces.now c.args.lasts.now c.requires.ends.lasts_are in
     omega arith
 
 pub slice_bounds-count_list-start-in-loop-n-2 : goal.slice_bounds-count_list-start-in-loop-n-2
 slice_bounds-count_list-start-in-loop-n-2 c =
     let b = begins c.args.lines.now c.args.partition.now c.args.pieces.now c.loop-n.n c.args.sorted c.args.noted.now c.requires.is c.loop-n-test.true in
     let e = c.min-end.ensures in
-    let l = column_length (λ p. (first_end c.args.lines.now p).y) c.args.pieces.now c.args.first_y.now c.requires.ends.first_y in
-    omega arith
-
-pub slice_bounds-count_list-count-in-loop-n-3 : goal.slice_bounds-count_list-count-in-loop-n-3
-slice_bounds-count_list-count-in-loop-n-3 c =
-    let b = begins c.args.lines.now c.args.partition.now c.args.pieces.now c.loop-n.n c.args.sorted c.args.noted.now c.requires.is c.loop-n-test.true in
-    let e = c.min-end.ensures in
-    let l = column_length (λ p. (last_end c.args.lines.now p).x) c.args.pieces.now c.args.last_x.now c.requires.ends.last_x in
-    omega arith
-
-pub slice_bounds-count_list-start-in-loop-n-3 : goal.slice_bounds-count_list-start-in-loop-n-3
-slice_bounds-count_list-start-in-loop-n-3 c =
-    let b = begins c.args.lines.now c.args.partition.now c.args.pieces.now c.loop-n.n c.args.sorted c.args.noted.now c.requires.is c.loop-n-test.true in
-    let e = c.min-end.ensures in
-    let l = column_length (λ p. (last_end c.args.lines.now p).x) c.args.pieces.now c.args.last_x.now c.requires.ends.last_x in
-    omega arith
-
-pub slice_bounds-count_list-count-in-loop-n-4 : goal.slice_bounds-count_list-count-in-loop-n-4
-slice_bounds-count_list-count-in-loop-n-4 c =
-    let b = begins c.args.lines.now c.args.partition.now c.args.pieces.now c.loop-n.n c.args.sorted c.args.noted.now c.requires.is c.loop-n-test.true in
-    let e = c.min-end.ensures in
-    let l = column_length (λ p. (last_end c.args.lines.now p).y) c.args.pieces.now c.args.last_y.now c.requires.ends.last_y in
-    omega arith
-
-pub slice_bounds-count_list-start-in-loop-n-4 : goal.slice_bounds-count_list-start-in-loop-n-4
-slice_bounds-count_list-start-in-loop-n-4 c =
-    let b = begins c.args.lines.now c.args.partition.now c.args.pieces.now c.loop-n.n c.args.sorted c.args.noted.now c.requires.is c.loop-n-test.true in
-    let e = c.min-end.ensures in
-    let l = column_length (λ p. (last_end c.args.lines.now p).y) c.args.pieces.now c.args.last_y.now c.requires.ends.last_y in
+    let l = column_length (last_end c.args.lines.now) c.args.pieces.now c.args.lasts.now c.requires.ends.lasts_are in
     omega arith
 
 pub returns-then-limit-least_cost : goal.returns-then-limit-least_cost
@@ -131,10 +103,8 @@ count_list-requires-clause-ends c =
     let n = c.min-end.result - from in
     let e = c.requires.ends in
     record {
-      first_x = part_column (λ p. (first_end lines p).x) ps c.args.first_x.now n from e.first_x;
-      first_y = part_column (λ p. (first_end lines p).y) ps c.args.first_y.now n from e.first_y;
-      last_x = part_column (λ p. (last_end lines p).x) ps c.args.last_x.now n from e.last_x;
-      last_y = part_column (λ p. (last_end lines p).y) ps c.args.last_y.now n from e.last_y;
+      firsts_are = part_column (first_end lines) ps c.args.firsts.now n from e.firsts_are;
+      lasts_are = part_column (last_end lines) ps c.args.lasts.now n from e.lasts_are;
     }
 
 -- what is known once the next open block is counted

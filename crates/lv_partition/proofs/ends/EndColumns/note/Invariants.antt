@@ -5,6 +5,6 @@ use Rattle.lv_partition.proofs.ends.EndColumns.note.Given as goal
 -- the ends of the pieces before the n-th are noted
 abbrev pub invariant-loop-n : goal.invariant-loop-n
 invariant-loop-n l = record {
-  ends : AreEnds l.lines (take l.n l.pieces) (take l.n l.self.first_x.items) (take l.n l.self.first_y.items) (take l.n l.self.last_x.items) (take l.n l.self.last_y.items);
+  ends : AreEnds l.lines (take l.n l.pieces) (take l.n l.self.firsts.items) (take l.n l.self.lasts.items);
   room : IsWideEnough l.self (length l.pieces);
 }
