@@ -110,6 +110,7 @@ fn count_clear_blocks(
     let mut left = 0;
     for n in 0..size {
         let k = from + n;
+        // read coordinate by coordinate, so that the compiler sees products of 16 bits
         let low = Vertex {
             x: lows[k].x,
             y: lows[k].y,

@@ -91,6 +91,7 @@ fn count_clear_ones(
     let normals = [margins.normal; BLOCK];
     let mut counts = Counts::NONE;
     for (n, piece) in pieces.iter().enumerate() {
+        // read coordinate by coordinate, so that the compiler sees products of 16 bits
         let ends = Ends {
             first: Vertex {
                 x: firsts[n].x,
