@@ -1,4 +1,4 @@
-//! The directory of a WAD: its entries, and where a level's stand.
+//! The directory of a WAD: its entries, and those of a level.
 ghost use Rattle.std.specs.Prelude.{◌≡◌, ◌+◌, ◌*◌, ◌≤◌, ◌<◌, length, take, All, IfSome};
 ghost use Rattle.lv_levels.specs.Levels.{HasEntries, are_inside, are_named, are_whole, entry, has_directory, has_lumps};
 ghost use Rattle.lv_levels.specs.Levels.{is_hexen, entry_has_name, is_outside, is_wad, long_at, lump_count, marker, record_sizes, same_bytes};
@@ -7,7 +7,7 @@ ghost use Rattle.lv_lumps.specs.Records.{name_at};
 use byteorder::{ByteOrder, LittleEndian};
 use lv_lumps::Name8;
 
-/// An entry of the directory: where its lump stands, how many bytes it has, and its name.
+/// An entry of the directory: its lump's offset and length in bytes, and its name.
 #[derive(Clone, Copy)]
 pub struct Entry {
     pub at: u32,
@@ -15,7 +15,7 @@ pub struct Entry {
     pub name: Name8,
 }
 
-/// The number of 32 bits at a place, the lower bytes first.
+/// Reads the 32-bit number at byte `at`, the lower bytes first.
 pub(crate) fn long_at(bytes: &[u8], at: usize) -> u32
     requires { at + 4 ≤ length bytes.now }
     ensures { result ≡ long_at at bytes.now }
@@ -23,7 +23,7 @@ pub(crate) fn long_at(bytes: &[u8], at: usize) -> u32
     LittleEndian::read_u32(&bytes[at..])
 }
 
-/// The eight bytes of a name at a place.
+/// Reads the name of eight bytes at byte `at`.
 pub(crate) fn name_at(bytes: &[u8], at: usize) -> Name8
     requires { at + 8 ≤ length bytes.now }
     ensures { result ≡ name_at at bytes.now }
@@ -51,7 +51,7 @@ pub fn is_wad(wad: &[u8]) -> bool
     begins_with(wad, b"IWAD") || begins_with(wad, b"PWAD")
 }
 
-/// Whether the directory stands in the file.
+/// Whether the directory lies inside the file.
 pub fn has_directory(wad: &[u8]) -> bool
     requires { 12 ≤ length wad.now }
     ensures { result ≡ has_directory wad.now }
@@ -91,7 +91,7 @@ pub fn is_named(wad: &[u8], name: &[u8], k: u32) -> bool
     entry.name.text() == name
 }
 
-/// The number of the last entry with the name.
+/// The number of the last entry with the name, if there is one.
 pub fn marker(wad: &[u8], name: &[u8]) -> Option<u32>
     requires { HasEntries wad.now }
     ensures last { result ≡ marker wad.now name.now }
@@ -107,7 +107,7 @@ pub fn marker(wad: &[u8], name: &[u8]) -> Option<u32>
     None
 }
 
-/// The names of a level's lumps behind its marker, in order.
+/// The names of a level's lumps after its marker, in order.
 pub const LUMP_NAMES: [Name8; 10] = [
     Name8 {
         bytes: *b"THINGS\0\0",
@@ -141,7 +141,7 @@ pub const LUMP_NAMES: [Name8; 10] = [
     },
 ];
 
-// How many bytes a record of each lump has.
+// The length of a record of each lump, in bytes.
 const RECORD_SIZES: [u32; 10] = [10, 14, 30, 4, 12, 4, 28, 26, 1, 2];
 
 // Whether the entries from `from` on have the names.
@@ -167,7 +167,7 @@ pub fn has_lumps(wad: &[u8], at: u32) -> bool
     at as u64 + 10 < lump_count(wad) as u64 && are_named(wad, at + 1, &LUMP_NAMES)
 }
 
-/// Whether the eleventh entry behind the marker is that of a Hexen level.
+/// Whether the eleventh entry after the marker shows a Hexen level.
 pub fn is_hexen(wad: &[u8], at: u32) -> bool
     requires directory { HasEntries wad.now }
     requires among { at + 10 < lump_count wad.now }
@@ -183,7 +183,7 @@ pub fn is_outside(wad: &[u8], entry: Entry) -> bool
     entry.size > 0 && entry.at as u64 + entry.size as u64 > wad.len() as u64
 }
 
-/// Whether each of the lumps of so many entries from `from` on stands in the file.
+/// Whether the lump of each of `count` entries from `from` on lies inside the file.
 pub fn are_inside(wad: &[u8], from: u32, count: u32) -> bool
     requires directory { HasEntries wad.now }
     requires among { from + count ≤ lump_count wad.now }
@@ -197,7 +197,7 @@ pub fn are_inside(wad: &[u8], from: u32, count: u32) -> bool
     true
 }
 
-// Whether each of the lumps of the entries from `from` on is whole records of its size long.
+// Whether the lump of each entry from `from` on is a whole number of records long.
 fn are_records(wad: &[u8], from: u32, sizes: &[u32]) -> bool
     requires directory { HasEntries wad.now }
     requires among { from + length sizes.now ≤ lump_count wad.now }
@@ -212,7 +212,7 @@ fn are_records(wad: &[u8], from: u32, sizes: &[u32]) -> bool
     true
 }
 
-/// Whether each of the ten lumps behind the marker is whole records long.
+/// Whether each of the ten lumps after the marker is a whole number of records long.
 pub fn are_whole(wad: &[u8], at: u32) -> bool
     requires directory { HasEntries wad.now }
     requires among { at + 10 < lump_count wad.now }

@@ -1,4 +1,4 @@
-//! What was drawn of a level in any WAD, or the first cause why no level can be built of it.
+//! Reads what was drawn of a level of any WAD, or finds the first cause that prevents a build.
 ghost use Rattle.std.specs.Prelude.{◌≡◌, ◌<◌, None, IfOk, IsOkUnless, MatchResult};
 ghost use Rattle.std.specs.Option.{option_or};
 ghost use Rattle.lv_levels.specs.Drawn.{Hinders, drawn_lists, drawn_view, entries_hindrance, entry_hindrance, form_hindrance, hindrance, level_lump, lump_hindrance, standing};
@@ -16,7 +16,7 @@ use lv_lumps::{
 };
 use std::alloc::Global;
 
-/// What was drawn of a level, and the bytes of its REJECT, none where it has none or one that ends beyond the file.
+/// What was drawn of a level, and the bytes of its REJECT: none if it has none, or one that ends beyond the file.
 pub struct Drawn {
     pub things: Vec<Thing>,
     pub lines: Vec<Line>,
@@ -26,7 +26,7 @@ pub struct Drawn {
     pub reject: Vec<u8>,
 }
 
-// A call of its own, so that who owns the lists lets them go by one step.
+// A call of its own, so that the owner of the lists drops them in one step.
 impl Drop for Drawn {
     fn drop(self) {
         let Drawn {
@@ -40,7 +40,7 @@ impl Drop for Drawn {
     }
 }
 
-/// The bytes of the k-th entry's lump, or none where it ends beyond the file.
+/// The bytes of the k-th entry's lump, or none if it ends beyond the file.
 pub fn standing(wad: &[u8], k: u32) -> &[u8]
     requires directory { HasEntries wad.now }
     requires among { k < lump_count wad.now }
@@ -54,7 +54,7 @@ pub fn standing(wad: &[u8], k: u32) -> &[u8]
     &wad[start..start + entry.size as usize]
 }
 
-/// The bytes of the level's lump of this number in the order of `LUMP_NAMES`: none where it has no such lump, or one
+/// The bytes of the level's lump with this number in `LUMP_NAMES`: none if the level has no such lump, or one
 /// that ends beyond the file.
 pub fn level_lump(wad: &[u8], level: LevelEntries, number: usize) -> &[u8]
     requires directory { HasEntries wad.now }
@@ -67,7 +67,7 @@ pub fn level_lump(wad: &[u8], level: LevelEntries, number: usize) -> &[u8]
     }
 }
 
-// The bytes of the level's REJECT, copied.
+// A copy of the bytes of the level's REJECT.
 fn reject_of(alloc: Global, wad: &[u8], level: LevelEntries) -> Result<Vec<u8>, Hindrance>
     requires directory { HasEntries wad.now }
     requires level { IsLevelAt wad.now level }
@@ -79,7 +79,7 @@ fn reject_of(alloc: Global, wad: &[u8], level: LevelEntries) -> Result<Vec<u8>, 
     Ok(bytes)
 }
 
-// What was drawn of a level whose lumps are whole records long, so that only memory can be lacking.
+// Reads what was drawn of a level whose lumps are whole records long, so only memory can run out.
 fn drawn_of(alloc: Global, wad: &[u8], level: LevelEntries) -> Result<Drawn, Hindrance>
     requires directory { HasEntries wad.now }
     requires level { IsLevelAt wad.now level }
@@ -112,7 +112,7 @@ pub fn first_of(first: Option<Hindrance>, second: Option<Hindrance>) -> Option<H
     }
 }
 
-// What hinders of a level's form.
+// The hindrance of the level's form, if there is one.
 fn form_hindrance(form: LevelForm) -> Option<Hindrance>
     ensures { result ≡ form_hindrance form }
 {
@@ -123,7 +123,7 @@ fn form_hindrance(form: LevelForm) -> Option<Hindrance>
     }
 }
 
-// What hinders of an entry's lump with records of this size.
+// The hindrance of an entry's lump with records of this size, if there is one.
 fn entry_hindrance(wad: &[u8], number: usize, size: u32, k: u32) -> Option<Hindrance>
     requires directory { HasEntries wad.now }
     requires among { k < lump_count wad.now }
@@ -140,7 +140,7 @@ fn entry_hindrance(wad: &[u8], number: usize, size: u32, k: u32) -> Option<Hindr
     None
 }
 
-// What hinders of the level's lump of this number.
+// The hindrance of the level's lump with this number, if there is one.
 fn lump_hindrance(wad: &[u8], level: LevelEntries, number: usize, size: u32) -> Option<Hindrance>
     requires directory { HasEntries wad.now }
     requires level { IsLevelAt wad.now level }
@@ -196,7 +196,7 @@ pub fn read_lists(alloc: Global, wad: &[u8], level: LevelEntries) -> Result<Draw
     }
 }
 
-/// The same where a level can be built of it.
+/// Reads what was drawn of a level that can be built.
 ///
 /// # Errors
 ///

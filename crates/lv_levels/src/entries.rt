@@ -1,4 +1,4 @@
-//! Where the levels of any WAD stand in its directory.
+//! Finds the entries of the levels in the directory of any WAD.
 ghost use Rattle.std.specs.Prelude.{◌≡◌, ◌+◌, ◌<◌, ◌≤◌, true, position, None, IfOk, IfSome, IsOkUnless, MatchResult};
 ghost use Rattle.lv_lumps.specs.Names.{name_text};
 ghost use Rattle.lv_levels.specs.Levels.{HasEntries, lump_count, lump_names, same_bytes};
@@ -19,8 +19,8 @@ pub enum LevelForm {
     Udmf,
 }
 
-/// The entries of a level, by their numbers in the directory: its marker, behind it its lumps up to `lumps_end`, and
-/// behind them the lumps of another builder's nodes up to `gl_end`.
+/// The entries of a level, by their numbers in the directory: its marker, after it its lumps up to `lumps_end`, and
+/// after them the lumps of another builder's nodes up to `gl_end`.
 #[derive(Clone, Copy)]
 pub struct LevelEntries {
     pub marker: u32,
@@ -68,14 +68,14 @@ fn is_level(wad: &[u8], k: u32) -> bool
     is_marker(wad, k) || is_udmf(wad, k)
 }
 
-// The number of the text among the names of a level's lumps.
+// The number of the text among the names of a level's lumps, if it is one.
 fn number_of(text: &[u8]) -> Option<usize>
     ensures { result ≡ position (λ name. same_bytes (name_text name) text.now) lump_names }
 {
     LUMP_NAMES.iter().position(|name| name.text() == text)
 }
 
-// The number of the text among the names of a level's lumps, or 10 where it is none of them.
+// The number of the text among the names of a level's lumps, or 10 if it is none of them.
 #[tactic(auto, unfolding(crate::specs::Entries::rank_of_name))]
 fn rank_of(text: &[u8]) -> usize
     ensures { result ≡ rank_of_name text.now }
@@ -86,7 +86,7 @@ fn rank_of(text: &[u8]) -> usize
     }
 }
 
-// The number of the k-th entry's name among them.
+// The number of the k-th entry's name among the names of a level's lumps.
 fn rank(wad: &[u8], k: u32) -> usize
     requires directory { HasEntries wad.now }
     requires among { k < lump_count wad.now }
@@ -107,7 +107,7 @@ fn comes_later(wad: &[u8], marker: u32, k: u32) -> bool
     k == marker + 1 || rank(wad, k - 1) < rank(wad, k)
 }
 
-// Whether the k-th entry goes on the lumps of the level with this marker.
+// Whether the k-th entry continues the lumps of the level with this marker.
 #[tactic(auto, unfolding(crate::specs::Entries::goes_on))]
 fn goes_on(wad: &[u8], marker: u32, k: u32) -> bool
     requires directory { HasEntries wad.now }
@@ -118,7 +118,7 @@ fn goes_on(wad: &[u8], marker: u32, k: u32) -> bool
     !is_level(wad, k) && rank(wad, k) < 10 && comes_later(wad, marker, k)
 }
 
-// The entry behind the lumps of the level with this marker.
+// The first entry after the lumps of the level with this marker.
 fn lumps_end(wad: &[u8], marker: u32) -> u32
     requires directory { HasEntries wad.now }
     requires among { marker < lump_count wad.now }
@@ -141,7 +141,7 @@ fn is_gl_name(text: &[u8]) -> bool
     GL_NAMES.iter().any(|name| name.text() == text)
 }
 
-// Whether the text is GL_ and behind it the name of the level.
+// Whether the text is GL_ followed by the name of the level.
 #[tactic(auto, unfolding(crate::specs::Entries::is_gl_marker))]
 fn is_gl_marker(level: &[u8], text: &[u8]) -> bool
     ensures { result ≡ is_gl_marker level.now text.now }
@@ -152,7 +152,7 @@ fn is_gl_marker(level: &[u8], text: &[u8]) -> bool
     }
 }
 
-// Whether the k-th entry is of such a lump of the level with this marker.
+// Whether the k-th entry is a lump of another builder's nodes, of the level with this marker.
 #[tactic(auto, unfolding(crate::specs::Entries::is_gl))]
 fn is_gl(wad: &[u8], marker: u32, k: u32) -> bool
     requires directory { HasEntries wad.now }
@@ -166,7 +166,7 @@ fn is_gl(wad: &[u8], marker: u32, k: u32) -> bool
     !is_level(wad, k) && (is_gl_name(text) || is_gl_marker(level.name.text(), text))
 }
 
-// The entry behind the lumps from `from` on with another builder's nodes of the level with this marker.
+// The first entry after the lumps, from `from` on, with another builder's nodes of the level with this marker.
 fn gl_end(wad: &[u8], marker: u32, from: u32) -> u32
     requires directory { HasEntries wad.now }
     requires marker { marker < lump_count wad.now }
@@ -182,7 +182,7 @@ fn gl_end(wad: &[u8], marker: u32, from: u32) -> u32
     count
 }
 
-// Whether the entry behind a level's lumps says that it is one of Hexen.
+// Whether the entry after a level's lumps shows that it is a Hexen level.
 #[tactic(auto, unfolding(crate::specs::Entries::is_behavior))]
 fn is_behavior(wad: &[u8], end: u32) -> bool
     requires { HasEntries wad.now }
@@ -223,7 +223,7 @@ fn level_at(wad: &[u8], marker: u32) -> LevelEntries
     }
 }
 
-// The levels in a directory that stands in the file.
+// The levels in a directory that lies inside the file.
 fn levels_among(alloc: Global, wad: &[u8]) -> Result<Vec<LevelEntries>, ReadError>
     requires { HasEntries wad.now }
     ensures levels { IfOk result (λ levels. AreLevels wad.now levels.items) }
@@ -239,11 +239,11 @@ fn levels_among(alloc: Global, wad: &[u8]) -> Result<Vec<LevelEntries>, ReadErro
 }
 
 /// The levels that a WAD of any editor holds, in the order of its directory (docs/FORMAT.md, "Levels of other WADs").
-/// It takes time in proportion to the directory.
+/// The time is proportional to the length of the directory.
 ///
 /// # Errors
 ///
-/// The first that holds of `NotAWad` and `DirectoryOutside`; or `OutOfMemory`.
+/// The first of `NotAWad` and `DirectoryOutside` that applies; or `OutOfMemory`.
 pub fn levels_in(alloc: Global, wad: &[u8]) -> Result<Vec<LevelEntries>, ReadError>
     ensures { MatchResult result
         (λ levels. (listing_refusal wad.now ≡ None) × HasEntries wad.now
@@ -259,7 +259,7 @@ pub fn levels_in(alloc: Global, wad: &[u8]) -> Result<Vec<LevelEntries>, ReadErr
     levels_among(alloc, wad)
 }
 
-/// The entry of the level's lump of this number in the order of `LUMP_NAMES`, if the level has one.
+/// The entry of the level's lump with this number in `LUMP_NAMES`, if the level has one.
 pub fn lump_entry(wad: &[u8], level: LevelEntries, number: usize) -> Option<u32>
     requires directory { HasEntries wad.now }
     requires among { level.lumps_end ≤ lump_count wad.now }

@@ -1,4 +1,4 @@
-//! Why bytes hold no level.
+//! Why a level can't be read from bytes.
 ghost use Rattle.std.specs.Prelude.{◌≡◌};
 ghost use Rattle.lv_levels.specs.Errors.{code_of};
 ghost use Rattle.lv_levels.specs.declared.error.ReadError.TheVariants.{OutOfMemory};
@@ -7,7 +7,7 @@ use std::alloc::{AllocError, AllocFailed};
 use std::fmt;
 use thiserror::Error;
 
-/// Why bytes hold no level of a name.
+/// Why the level of a name can't be read from bytes.
 #[derive(Clone, Copy, Debug, PartialEq, Eq, Error)]
 pub enum ReadError {
     LumpLength,
@@ -21,7 +21,7 @@ pub enum ReadError {
     OutOfMemory,
 }
 
-// One call writes each fixed text, so that the proof has one call to follow.
+// One call writes whichever fixed text it is, so that the proof has only one call to follow.
 impl fmt::Display for ReadError {
     fn fmt<W: fmt::Write>(&self, f: &mut fmt::Formatter<W>) -> fmt::Result {
         let text = match self {

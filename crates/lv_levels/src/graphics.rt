@@ -13,13 +13,13 @@ use crate::error::ReadError;
 use lv_lumps::Name8;
 use std::alloc::Global;
 
-/// The names of a WAD's flats and textures, in capitals, each with NUL behind its text.
+/// The names of a WAD's flats and textures, in capitals, each padded with NUL.
 pub struct Graphics {
     pub flats: Vec<Name8>,
     pub textures: Vec<Name8>,
 }
 
-// A call of its own, so that who owns the names lets them go by one step.
+// A call of its own, so that the owner of the names drops them in one step.
 impl Drop for Graphics {
     fn drop(self) {
         let Graphics {
@@ -29,7 +29,7 @@ impl Drop for Graphics {
     }
 }
 
-// The name in capitals, with NUL behind its text.
+// The name in capitals, padded with NUL.
 fn capital_name(name: Name8) -> Name8
     ensures { result ≡ capital_name name }
 {
@@ -39,7 +39,7 @@ fn capital_name(name: Name8) -> Name8
     }
 }
 
-// Whether flats stand behind the k-th entry, where they do or don't before it.
+// Whether the entries after the k-th are flats; `before` says whether those before it are.
 fn flats_behind(wad: &[u8], k: u32, before: bool) -> bool
     requires directory { HasEntries wad.now }
     requires among { k < lump_count wad.now }
@@ -49,7 +49,7 @@ fn flats_behind(wad: &[u8], k: u32, before: bool) -> bool
     is_named(wad, b"F_START", k) || !is_named(wad, b"F_END", k) && before
 }
 
-// The names of the flats in a directory that stands in the file.
+// The names of the flats in a directory that lies inside the file.
 fn flats_in(alloc: Global, wad: &[u8]) -> Result<Vec<Name8>, ReadError>
     requires { HasEntries wad.now }
     ensures names { IfOk result (λ names. names.items ≡ flat_names wad.now) }
@@ -67,7 +67,7 @@ fn flats_in(alloc: Global, wad: &[u8]) -> Result<Vec<Name8>, ReadError>
     Ok(names)
 }
 
-// Whether the last lump of the name, if there is one, stands in the file.
+// Whether the last lump with the name, if there is one, lies inside the file.
 fn stands_inside(wad: &[u8], name: &[u8]) -> bool
     requires { HasEntries wad.now }
     ensures { result ≡ stands_inside wad.now name.now }
@@ -78,7 +78,7 @@ fn stands_inside(wad: &[u8], name: &[u8]) -> bool
     }
 }
 
-// The bytes of the last lump of the name, or none.
+// The bytes of the last lump with the name, or none.
 fn lump_of_name<'a>(wad: &'a [u8], name: &[u8]) -> &'a [u8]
     requires { HasEntries wad.now }
     ensures { result.now ≡ lump_of_name wad.now name.now }
@@ -97,7 +97,7 @@ fn texture_count(lump: &[u8]) -> u32
     long_at(lump, 0)
 }
 
-// Whether the name of the n-th texture stands in the lump.
+// Whether the name of the n-th texture lies inside the lump.
 fn is_name_inside(lump: &[u8], n: u32) -> bool
     requires { 4 * n + 8 ≤ length lump.now }
     ensures { result ≡ is_name_inside lump.now n }
@@ -105,7 +105,7 @@ fn is_name_inside(lump: &[u8], n: u32) -> bool
     u64::from(long_at(lump, 4 * n as usize + 4)) + 8 <= lump.len() as u64
 }
 
-// Whether the names of the textures stand in the lump, whose offsets do.
+// Whether the names of all textures lie inside the lump. Their offsets do.
 fn are_names_inside(lump: &[u8]) -> bool
     requires { 4 * texture_count lump.now + 4 ≤ length lump.now }
     ensures { result
@@ -129,7 +129,7 @@ fn are_textures(lump: &[u8]) -> bool
     4 * u64::from(texture_count(lump)) + 4 <= lump.len() as u64 && are_names_inside(lump)
 }
 
-// Puts the names of the lump's textures behind the others.
+// Appends the names of the lump's textures to the list.
 fn add_textures(lump: &[u8], names: &mut Vec<Name8>) -> Result<(), ReadError>
     requires { IsTrue (are_textures lump.now) }
     ensures names { OnOk result (names.new.items ≡ names.old.items ++ texture_names lump.now) }
@@ -172,7 +172,7 @@ fn graphics_of(
 ///
 /// # Errors
 ///
-/// The first that holds of `NotAWad`, `DirectoryOutside`, `LumpOutside`, `TextureLump`; or `OutOfMemory`.
+/// The first of `NotAWad`, `DirectoryOutside`, `LumpOutside`, `TextureLump` that applies; or `OutOfMemory`.
 pub fn graphics_in(alloc: Global, wad: &[u8]) -> Result<Graphics, ReadError>
     ensures { MatchResult result
         (λ g. (graphics_refusal wad.now ≡ None) × (graphics_view g ≡ graphics wad.now))

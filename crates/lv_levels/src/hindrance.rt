@@ -1,4 +1,4 @@
-//! Why no level can be built of one that a WAD holds.
+//! What prevents the build of a level of a WAD.
 ghost use Rattle.std.specs.Prelude.{◌≡◌};
 ghost use Rattle.lv_levels.specs.Texts.{lack_text, lump_text};
 ghost use Rattle.lv_levels.specs.declared.hindrance.Hindrance.TheVariants.{OutOfMemory};
@@ -18,7 +18,7 @@ pub enum LineNeed {
     AtMostLongest,
 }
 
-/// Why no level can be built of one that a WAD holds. A lump's number is that of its name in `LUMP_NAMES`; lines and
+/// What prevents the build of a level of a WAD. A lump's number is that of its name in `LUMP_NAMES`; lines and
 /// sides have the numbers that the level gives them.
 #[derive(Clone, Copy, Debug, Error)]
 pub enum Hindrance {
@@ -46,7 +46,7 @@ fn lump_name(number: usize) -> &'static str
     }
 }
 
-// What is said of a line without it.
+// The text about a line without it.
 fn lack_of(need: LineNeed) -> &'static str
     ensures { result.now ≡ lack_text need }
 {

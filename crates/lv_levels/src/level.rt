@@ -27,7 +27,7 @@ pub struct Level {
     pub blockmap: Vec<u8>,
 }
 
-// A call of its own, so that who owns a level lets its lists go by one step.
+// A call of its own, so that the owner of a level drops its lists in one step.
 impl Drop for Level {
     fn drop(self) {
         let Level {
@@ -45,7 +45,7 @@ impl Drop for Level {
     }
 }
 
-// The bytes of the n-th lump behind a marker, whose lumps stand in the file.
+// The bytes of the n-th lump after a marker whose lumps lie inside the file.
 fn lump(wad: &[u8], at: u32, n: u32) -> &[u8]
     requires level { IsWhole wad.now at }
     requires among { n < 10 }
@@ -59,7 +59,7 @@ fn lump(wad: &[u8], at: u32, n: u32) -> &[u8]
     &wad[start..start + entry.size as usize]
 }
 
-// The n-th lump behind a marker, as bytes of its own.
+// A copy of the n-th lump after a marker.
 fn copied(alloc: Global, wad: &[u8], at: u32, n: u32) -> Result<Vec<u8>, ReadError>
     requires level { IsWhole wad.now at }
     requires among { n < 10 }
@@ -71,8 +71,8 @@ fn copied(alloc: Global, wad: &[u8], at: u32, n: u32) -> Result<Vec<u8>, ReadErr
     Ok(bytes)
 }
 
-// The level behind a marker, whose lumps stand in the file and are whole records long, so that only
-// memory can be lacking.
+// The level after a marker whose lumps lie inside the file and are whole records long, so only
+// memory can run out.
 fn level_behind(alloc: Global, wad: &[u8], at: u32) -> Result<Level, ReadError>
     requires { IsWhole wad.now at }
     ensures level { IfOk result (λ level. view level ≡ lumps_behind wad.now at) }
@@ -92,11 +92,12 @@ fn level_behind(alloc: Global, wad: &[u8], at: u32) -> Result<Level, ReadError>
     })
 }
 
-/// Reads the level of the name (docs/FORMAT.md, "WAD files"). Of two lumps with the name the later one is its marker.
+/// Reads the level with the name (docs/FORMAT.md, "WAD files"). If two lumps have the name, the later one is its
+/// marker.
 ///
 /// # Errors
 ///
-/// The first that holds of `NotAWad`, `DirectoryOutside`, `NoSuchLevel`, `LumpMissing`, `HexenLevel`, `LumpOutside`,
+/// The first that applies of `NotAWad`, `DirectoryOutside`, `NoSuchLevel`, `LumpMissing`, `HexenLevel`, `LumpOutside`,
 /// `LumpLength`, in this order; or `OutOfMemory`.
 pub fn read_level(alloc: Global, wad: &[u8], name: &[u8]) -> Result<Level, ReadError>
     ensures { MatchResult result (λ level. IsLevel wad.now name.now (view level))

@@ -1,4 +1,4 @@
-//! The levels that a WAD holds, and the level that it holds under a name.
+//! The levels of a WAD, and the level that has a name.
 #![tactic(auto)]
 
 mod directory;

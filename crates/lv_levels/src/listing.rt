@@ -1,4 +1,4 @@
-//! The levels that a WAD holds, by the names of their markers.
+//! Lists the levels of a WAD by the names of their markers.
 ghost use Rattle.std.specs.Prelude.{◌≡◌, ◌<◌, IfOk, IsOkUnless, MatchResult, None};
 ghost use Rattle.lv_levels.specs.Levels.{HasEntries, lump_count};
 ghost use Rattle.lv_levels.specs.Listing.{RefusesListing, is_level_marker, level_names, listing_refusal};
@@ -17,7 +17,7 @@ pub fn is_marker(wad: &[u8], k: u32) -> bool
     k as u64 + 1 < lump_count(wad) as u64 && is_named(wad, b"THINGS", k + 1)
 }
 
-// The names of the markers in a directory that stands in the file.
+// The names of the markers in a directory that lies inside the file.
 fn names_in(alloc: Global, wad: &[u8]) -> Result<Vec<Name8>, ReadError>
     requires { HasEntries wad.now }
     ensures names { IfOk result (λ names. names.items ≡ level_names wad.now) }
@@ -32,12 +32,12 @@ fn names_in(alloc: Global, wad: &[u8]) -> Result<Vec<Name8>, ReadError>
     Ok(names)
 }
 
-/// The names of a WAD's levels, in the order of its directory: those of the entries behind which
-/// THINGS follows. A level may stand there more than once, and may lack lumps.
+/// The names of a WAD's levels, in the order of its directory: those of the entries that
+/// THINGS follows. A name may occur more than once, and a level may lack lumps.
 ///
 /// # Errors
 ///
-/// The first that holds of `NotAWad` and `DirectoryOutside`; or `OutOfMemory`.
+/// The first of `NotAWad` and `DirectoryOutside` that applies; or `OutOfMemory`.
 pub fn level_names(alloc: Global, wad: &[u8]) -> Result<Vec<Name8>, ReadError>
     ensures { MatchResult result
         (λ names. (listing_refusal wad.now ≡ None) × (names.items ≡ level_names wad.now))

@@ -1,4 +1,4 @@
-//! What a build needs of the lists that were drawn.
+//! Tests what a build needs of the drawn lists.
 ghost use Rattle.std.specs.Prelude.{◌≡◌, ◌&&◌, ◌||◌, ◌==◌, if◌then◌else◌, not, int_le, length, negsuc, pos, position, Some, None};
 ghost use Rattle.lv_levels.specs.Drawn.{drawn_view, has_need, is_item_number, is_drawable, length_hindrance, line_hindrance, lists_hindrance, reference_hindrance, side_hindrance, squared_length, drawn_vertex};
 ghost use Rattle.lv_levels.specs.Lengths.{has_no_length, other_hindrance, other_line_hindrance, with_lengths};
@@ -8,28 +8,28 @@ use crate::drawn::{Drawn, first_of};
 use crate::hindrance::{Hindrance, LineNeed};
 use lv_lumps::{LONGEST_SQUARED, Line, Vertex, squared_distance};
 
-// Whether the number is that of one of so many items, and at most 32,767.
+// Whether the number is that of one of `count` items, and at most 32,767.
 fn is_among(n: u16, count: usize) -> bool
     ensures { result ≡ is_item_number n count }
 {
     (n as usize) < count && n <= 32767
 }
 
-// Whether both coordinates of the vertex are ones that maps may have.
+// Whether both coordinates of the vertex are within the limits of a map.
 fn is_drawable(vertex: Vertex) -> bool
     ensures { result ≡ is_drawable vertex }
 {
     is_coordinate(vertex.x) && is_coordinate(vertex.y)
 }
 
-// Whether the number is a coordinate that maps may have.
+// Whether the number is within the limits of a map's coordinates.
 fn is_coordinate(n: i16) -> bool
     ensures { result ≡ (int_le (negsuc 16383) n && int_le n (pos 16383)) }
 {
     -16384 <= n && n <= 16383
 }
 
-// The vertex of this number.
+// The vertex with this number.
 fn vertex_of(drawn: &Drawn, n: u16) -> Vertex
     ensures { result ≡ drawn_vertex (drawn_view drawn.now) n }
 {
@@ -64,7 +64,7 @@ fn has_need(drawn: &Drawn, need: LineNeed, line: &Line) -> bool
     }
 }
 
-// The number of the first line that lacks it.
+// The number of the first line that lacks what a build needs.
 fn line_without(drawn: &Drawn, need: LineNeed) -> Option<usize>
     ensures { result
         ≡ position (λ x. not (has_need (drawn_view drawn.now) need x)) drawn.now.lines.items }
@@ -75,7 +75,7 @@ fn line_without(drawn: &Drawn, need: LineNeed) -> Option<usize>
         .position(|line| !has_need(drawn, need, line))
 }
 
-// The first line that lacks it.
+// The first line that lacks what a build needs.
 fn line_hindrance(drawn: &Drawn, need: LineNeed) -> Option<Hindrance>
     ensures { result ≡ line_hindrance (drawn_view drawn.now) need }
 {
@@ -85,7 +85,7 @@ fn line_hindrance(drawn: &Drawn, need: LineNeed) -> Option<Hindrance>
     }
 }
 
-// The number of the first side whose sector isn't there.
+// The number of the first side whose sector doesn't exist.
 fn side_without(drawn: &Drawn) -> Option<usize>
     ensures { result
         ≡ position (λ s. not (is_item_number s.sector (length drawn.now.sectors.items)))
@@ -97,7 +97,7 @@ fn side_without(drawn: &Drawn) -> Option<usize>
         .position(|side| !is_among(side.sector, drawn.sectors.len()))
 }
 
-// The first side whose sector isn't there.
+// The first side whose sector doesn't exist.
 fn side_hindrance(drawn: &Drawn) -> Option<Hindrance>
     ensures { result ≡ side_hindrance (drawn_view drawn.now) }
 {
@@ -117,7 +117,7 @@ fn no_line(drawn: &Drawn) -> Option<Hindrance>
     None
 }
 
-// The first line whose vertices, or side whose sector, or line whose sides aren't there.
+// The first line whose vertices don't exist, else the first side whose sector, else the first line whose sides don't.
 fn reference_hindrance(drawn: &Drawn) -> Option<Hindrance>
     ensures { result ≡ reference_hindrance (drawn_view drawn.now) }
 {
@@ -131,7 +131,7 @@ fn reference_hindrance(drawn: &Drawn) -> Option<Hindrance>
     )
 }
 
-// The first line that lies where none may.
+// The first line at a place where no line may lie.
 fn length_hindrance(drawn: &Drawn) -> Option<Hindrance>
     ensures { result ≡ length_hindrance (drawn_view drawn.now) }
 {
@@ -150,14 +150,14 @@ pub fn lists_hindrance(drawn: &Drawn) -> Option<Hindrance>
     first_of(reference_hindrance(drawn), lengths)
 }
 
-/// Whether the line has no length: both its vertices are there, and stand at one place.
+/// Whether the line has no length: both its vertices exist, and are at one place.
 pub fn has_no_length(drawn: &Drawn, line: &Line) -> bool
     ensures { result ≡ has_no_length (drawn_view drawn.now) line.now }
 {
     has_need(drawn, LineNeed::Vertices, line) && !has_need(drawn, LineNeed::SomeLength, line)
 }
 
-// The number of the first line that has a length and lacks it.
+// The number of the first line that has a length and lacks what a build needs.
 fn other_line_without(drawn: &Drawn, need: LineNeed) -> Option<usize>
     ensures { let d = drawn_view drawn.now in
         result ≡ position (λ x. not (has_no_length d x || has_need d need x)) d.lines }
@@ -165,7 +165,7 @@ fn other_line_without(drawn: &Drawn, need: LineNeed) -> Option<usize>
     drawn.lines.iter().position(|line| !(has_no_length(drawn, line) || has_need(drawn, need, line)))
 }
 
-// The first line that has a length and lacks it.
+// The first line that has a length and lacks what a build needs.
 fn other_line_hindrance(drawn: &Drawn, need: LineNeed) -> Option<Hindrance>
     ensures { result ≡ other_line_hindrance (drawn_view drawn.now) need }
 {
