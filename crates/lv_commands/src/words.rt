@@ -63,7 +63,7 @@ fn digits_in(bytes: &[u8]) -> Option<u32>
     Some(value)
 }
 
-// Whether the bytes may begin a number without a sign: there are some, and a 0 in front stands alone.
+// Whether the bytes can begin a number without a sign: there is at least one, and a leading 0 stands alone.
 fn has_natural_front(word: &[u8]) -> bool
     ensures { result ≡ has_natural_front word.now }
 {
@@ -74,7 +74,7 @@ fn has_natural_front(word: &[u8]) -> bool
     }
 }
 
-// The number without a sign that a word is, or `BEYOND` if it is greater. None if the word is not such a number.
+// Reads a word as a number without a sign, or `BEYOND` if it is greater. None if the word is not such a number.
 fn natural_in(word: &[u8]) -> Option<u32>
     ensures none { IfNone result (is_natural word.now ≡ false) }
     ensures natural { IfSome result (λ _. is_natural word.now ≡ true) }
@@ -86,7 +86,7 @@ fn natural_in(word: &[u8]) -> Option<u32>
     digits_in(word)
 }
 
-// The number that a word is, or `BEYOND` with its sign if it is further from 0. None if the word is not a number.
+// Reads a word as a number, or as `BEYOND` with its sign if it is further from 0. None if the word is not a number.
 fn numeral_in(word: &[u8]) -> Option<i32>
     ensures none { IfNone result (is_numeral word.now ≡ false) }
     ensures numeral { IfSome result (λ _. is_numeral word.now ≡ true) }

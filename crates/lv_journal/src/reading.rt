@@ -16,7 +16,7 @@ use byteorder::{ByteOrder, LittleEndian};
 use lv_disk::{Area, DeviceFault, Disk, OPEN_GATE, read_gate};
 use std::alloc::Global;
 
-// How many bytes are read of a record at once: its payload, and what stands before the next one.
+// The length of the longest block that is read at once: a payload, and the gate and length after it.
 const BLOCK: usize = LONGEST + HEAD as usize;
 
 // Reads `len` bytes from `at` on into the front of `into`.
@@ -36,7 +36,7 @@ fn read_front<D: Disk>(
     disk.read(at, &mut into[..len])
 }
 
-// Reads the payload of `len` bytes at `at` into the front of `into`, and behind it the next gate and length, as far as
+// Reads the payload of `len` bytes at `at` into the front of `into`, followed by the next gate and length, as far as
 // `end` allows.
 fn read_payload<D: Disk>(
     disk: &mut D,
@@ -60,7 +60,7 @@ fn read_payload<D: Disk>(
     read_front(disk, at, len + behind, into)
 }
 
-// The gate and the length that five bytes are, the lowest byte of the length first.
+// The gate and the length in five bytes. The length is little-endian.
 fn parts_of(head: &[u8]) -> (u8, u32)
     requires { length head.now ≡ 5 }
     ensures { head.now ≡ result.0 ∷ to_le_bytes w32 result.1 }
