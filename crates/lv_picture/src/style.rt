@@ -32,6 +32,8 @@ text{stroke:#fff;stroke-width:.2em;paint-order:stroke}
 .of-vertex{fill:#1d4ed8}
 .of-line{fill:#222}
 .of-sector{fill:#15803d;fill-opacity:.6;stroke:none;font-size:2em;font-weight:bold}
+svg:has(#vertex299) text{font-size:12px}
+svg:has(#vertex299) .of-sector{font-size:20px}
 svg:has(#vertex299) .vertex{vector-effect:none;stroke-width:8px}
 svg:has(#vertex299) .tick{vector-effect:none;stroke-width:2px}
 @media (max-width:600px){
