@@ -7,9 +7,9 @@ use crate::{DeviceFault, Disk, OutOfMemory};
 use std::alloc::Global;
 
 // How many bytes are read at once.
-const LONGEST: usize = 65_536;
+const LONGEST: usize = 16_384;
 
-/// The memory that a disk is read into, 64 KB at a time.
+/// The memory that a disk is read into, 16 KB at a time.
 #[derive(Drop)]
 pub struct Buffer {
     bytes: Vec<u8>,
