@@ -1,13 +1,12 @@
 -- One more level, and what is read of each.
-use Rattle.std.proofs.Common.{◌≡◌, ◌∙◌, refl, sym, ap, subst, ℕ, suc, ◌+◌, ◌*◌, ◌<◌, ◌≤◌, List, [], ◌∷◌, ◌++◌, length, get_or, take, drop, arith, append-nil, append_assoc, take-append-drop}
+use Rattle.std.proofs.Common.{◌≡◌, ◌∙◌, refl, sym, ap, subst, ℕ, suc, ◌+◌, ◌*◌, ◌<◌, List, [], ◌∷◌, ◌++◌, length, get_or, take, drop, arith, append-nil, append_assoc, take-append-drop}
 use Rattle.std.specs.Prelude.{All, map, min, sum_by}
-use Rattle.std.proofs.Math.Seq.{take-suc, take_all}
+use Rattle.std.proofs.Math.Seq.{take-suc}
 use Rattle.std.proofs.lemmas.List.{map-append, get_or-map, length-map}
 use Rattle.std.proofs.lemmas.List.Elements.{All-nil, All-push, All-same, All-get_or, All-from_get_or}
 use Rattle.std.proofs.lemmas.List.Sums.{sum_by_more}
 use Rattle.std.proofs.lemmas.Grind.{flat_map-append}
 use Rattle.lv_lumps.specs.Names.{name_text}
-use Rattle.lv_lumps.specs.declared.records.Name8.{Name8}
 use Rattle.lv_lumps.specs.Lumps.{records_of}
 use Rattle.lv_lumps.specs.Records.{thing_at, line_at, side_at, vertex_at, seg_at, sub_at, node_at, sector_at}
 use Rattle.lv_pwad.specs.declared.levels.NamedLevel.{NamedLevel}
@@ -59,10 +58,6 @@ pub fits_level :
 fits_level a b levels n x h e f p =
     fits_behind a b (all_lumps (level_parts (take n levels))) (lumps_of (level_part x.name (view x.level))) (all_lumps (level_parts (drop (n + 1) levels))) p
     (subst (Fits a) (lumps_split levels n x h e) f)
-
--- all levels' lumps
-pub put_levels : (a b : WadWriter) (levels : List NamedLevel) (n : ℕ) → length levels ≤ n → Puts a b (all_lumps (level_parts (take n levels))) → Puts a b (all_lumps (level_parts levels))
-put_levels a b levels n h p = subst (λ (ls : List NamedLevel). Puts a b (all_lumps (level_parts ls))) (take_all n levels h) p
 
 -- eleven lumps a level, fewer than 2^32 in all
 pub record AreCounted (levels : List NamedLevel) : Type 0 where

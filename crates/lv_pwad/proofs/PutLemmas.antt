@@ -1,13 +1,11 @@
 -- Lumps that are appended one behind another.
-use Rattle.std.proofs.Common.{◌≡◌, ◌∙◌, refl, sym, ap, subst, ℕ, ◌+◌, ◌<◌, ◌≤◌, List, [], ◌∷◌, ◌++◌, length, take, drop, arith, append_assoc, length-append, append-nil, length-drop}
+use Rattle.std.proofs.Common.{◌≡◌, ◌∙◌, refl, sym, ap, subst, ℕ, ◌+◌, List, [], ◌∷◌, ◌++◌, length, drop, arith, append_assoc, length-append, append-nil}
 use Rattle.std.specs.Prelude.{codes, flat_map}
-use Rattle.std.proofs.Math.Seq.{take_all}
 use Rattle.std.proofs.lemmas.Grind.{flat_map-append}
-use Rattle.std.proofs.lemmas.List.{take-append-le}
 use Rattle.lv_lumps.specs.declared.records.Name8.{Name8}
 use Rattle.lv_levels.specs.declared.directory.Entry.{Entry}
 use Rattle.lv_levels.proofs.ReadLemmas.{add_zero}
-use Rattle.lv_pwad.specs.Wad.{Lump, all_bytes, entries_from, entry_bytes, long, wad_bytes, wad_head}
+use Rattle.lv_pwad.specs.Wad.{Lump, all_bytes, entries_from, entry_bytes, long, wad_bytes}
 use Rattle.lv_pwad.specs.Writer.{Fits, IsEmptyWad, Puts}
 use Rattle.lv_pwad.specs.declared.wad.WadWriter.{WadWriter}
 use Rattle.lv_pwad.proofs.WadLemmas.{drop_front}
@@ -33,8 +31,8 @@ entries_behind at (x ∷ xs) ys =
 pub put_none : (a : WadWriter) → Puts a a []
 put_none a = record { bytes = sym (append-nil a.bytes.items); directory = sym (append-nil a.directory.items) }
 
-put_long : (a b : WadWriter) (xs : List Lump) → Puts a b xs → length b.bytes.items ≡ length a.bytes.items + length (all_bytes xs)
-put_long a b xs p = ap (λ (ws : List ℕ). length ws) p.bytes ∙ length-append a.bytes.items (all_bytes xs)
+Puts-length : (a b : WadWriter) (xs : List Lump) → Puts a b xs → length b.bytes.items ≡ length a.bytes.items + length (all_bytes xs)
+Puts-length a b xs p = ap (λ (ws : List ℕ). length ws) p.bytes ∙ length-append a.bytes.items (all_bytes xs)
 
 -- one list behind another
 pub put_both : (a b c : WadWriter) (xs ys : List Lump) → Puts a b xs → Puts b c ys → Puts a c (xs ++ ys)
@@ -46,7 +44,7 @@ put_both a b c xs ys p q =
       directory =
           q.directory
           ∙ ap (λ (ws : List ℕ). ws ++ flat_map entry_bytes (entries_from (length b.bytes.items) ys)) p.directory
-          ∙ ap (λ (n : ℕ). (a.directory.items ++ flat_map entry_bytes (entries_from (length a.bytes.items) xs)) ++ flat_map entry_bytes (entries_from n ys)) (put_long a b xs p)
+          ∙ ap (λ (n : ℕ). (a.directory.items ++ flat_map entry_bytes (entries_from (length a.bytes.items) xs)) ++ flat_map entry_bytes (entries_from n ys)) (Puts-length a b xs p)
           ∙ append_assoc a.directory.items (flat_map entry_bytes (entries_from (length a.bytes.items) xs)) (flat_map entry_bytes (entries_from (length a.bytes.items + length (all_bytes xs)) ys))
           ∙ ap (λ (ws : List ℕ). a.directory.items ++ ws)
           (sym (flat_map-append entry_bytes (entries_from (length a.bytes.items) xs) (entries_from (length a.bytes.items + length (all_bytes xs)) ys))
@@ -60,7 +58,7 @@ put_next a b c xs name new known p q e = put_both a b c xs (named_lump name know
 -- what fits behind the lumps so far
 pub fits_behind : (a b : WadWriter) (xs ys zs : List Lump) → Puts a b xs → Fits a (xs ++ (ys ++ zs)) → Fits b ys
 fits_behind a b xs ys zs p f =
-    let n1 = put_long a b xs p in
+    let n1 = Puts-length a b xs p in
     let n2 = all_bytes-length xs (ys ++ zs) in
     let n3 = all_bytes-length ys zs in
     omega (arith, n1, n2, n3, f)
@@ -76,7 +74,7 @@ whole_wad a b lumps count wad s p c w =
     ∙ ap (λ (ws : List ℕ). codes "PWAD" ++ (long (length lumps) ++ long (12 + length (all_bytes lumps))) ++ (all_bytes lumps ++ ws)) entries
   where
     end : length b.bytes.items ≡ 12 + length (all_bytes lumps)
-    end = put_long a b lumps p ∙ ap (λ (k : ℕ). k + length (all_bytes lumps)) s.head
+    end = Puts-length a b lumps p ∙ ap (λ (k : ℕ). k + length (all_bytes lumps)) s.head
 
     body : drop 12 b.bytes.items ≡ all_bytes lumps
     body =

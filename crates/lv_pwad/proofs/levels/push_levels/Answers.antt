@@ -1,5 +1,5 @@
 use Rattle.std.proofs.Common.{sym}
-use Rattle.lv_pwad.proofs.LevelLemmas.{coded_more, fits_level, put_level, put_levels}
+use Rattle.lv_pwad.proofs.LevelLemmas.{coded_more, fits_level, put_level}
 use Rattle.lv_pwad.proofs.levels.push_levels.Goals as goal
 
 pub push_level-requires : goal.push_level-requires
