@@ -1,23 +1,23 @@
 -- One more level, and what is read of each.
-use Rattle.std.proofs.Common.{◌≡◌, ◌∙◌, refl, sym, ap, subst, ℕ, suc, ◌+◌, ◌*◌, ◌<◌, List, [], ◌∷◌, ◌++◌, length, get_or, take, drop, arith, append-nil, append_assoc, take-append-drop}
-use Rattle.std.specs.Prelude.{All, map, min, sum_by}
-use Rattle.std.proofs.Math.Seq.{take-suc}
+use Rattle.std.proofs.Common.{◌≡◌, ◌∙◌, refl, sym, ap, subst, ℕ, suc, ◌+◌, ◌*◌, ◌<◌, ◌≤◌, List, [], ◌∷◌, ◌++◌, length, get_or, take, drop, arith, append-nil, append_assoc, take-append-drop}
+use Rattle.std.specs.Prelude.{All, flat_map, map, min, sum_by}
+use Rattle.std.proofs.Math.Seq.{take-suc, take_all}
 use Rattle.std.proofs.lemmas.List.{map-append, get_or-map, length-map}
-use Rattle.std.proofs.lemmas.List.Elements.{All-nil, All-push, All-same, All-get_or, All-from_get_or}
-use Rattle.std.proofs.lemmas.List.Sums.{sum_by_more}
+use Rattle.std.proofs.lemmas.List.Elements.{All-head, All-tail, All-nil, All-push, All-same, All-get_or, All-from_get_or}
+use Rattle.std.proofs.lemmas.List.Sums.{sum_by-cons, sum_by_more}
 use Rattle.std.proofs.lemmas.Grind.{flat_map-append}
 use Rattle.lv_lumps.specs.Names.{name_text}
 use Rattle.lv_lumps.specs.Lumps.{records_of}
-use Rattle.lv_lumps.specs.Records.{thing_at, line_at, side_at, vertex_at, seg_at, sub_at, node_at, sector_at}
+use Rattle.lv_lumps.specs.Records.{thing_at, line_at, side_at, vertex_at, seg_at, sub_at, node_at, sector_at, thing_record, line_record, side_record, vertex_record, seg_record, sub_record, node_record, sector_record}
 use Rattle.lv_pwad.specs.declared.levels.NamedLevel.{NamedLevel}
 use Rattle.lv_levels.specs.Levels.{Lumps, IsLevel, lump, lumps_behind, marker_at}
-use Rattle.lv_pwad.specs.Wad.{Lump, Part, AreParts, IsCoded, IsReadBack, all_lumps, lumps_of, level_part, wad_bytes}
+use Rattle.lv_pwad.specs.Wad.{Lump, Part, AreParts, IsCoded, IsReadBack, all_bytes, all_lumps, lumps_of, level_part, wad_bytes, wad_size}
 use Rattle.lv_levels.specs.Views.{view}
 use Rattle.lv_pwad.specs.Views.{level_parts}
-use Rattle.lv_pwad.specs.Writer.{Fits, Puts, level_len, wad_len}
+use Rattle.lv_pwad.specs.Writer.{AreSized, Fits, Puts, level_len, wad_len}
 use Rattle.lv_pwad.specs.declared.wad.WadWriter.{WadWriter}
 use Rattle.lv_pwad.proofs.PartLemmas.{length-all, reads_back}
-use Rattle.lv_pwad.proofs.PutLemmas.{fits_behind, put_both}
+use Rattle.lv_pwad.proofs.PutLemmas.{all_bytes-length, fits_behind, put_both, ten_long}
 
 one_more : (levels : List NamedLevel) (n : ℕ) (x : NamedLevel) → n < length levels → get_or levels n x ≡ x → take (n + 1) levels ≡ take n levels ++ (x ∷ [])
 one_more levels n x h e =
@@ -132,3 +132,37 @@ len_more levels n x old len new h e o l w =
         (sum one sums old len new : ℕ) → sums ≡ sum + one → old ≡ min (12 + sum) 340282366920938463463374607431768211455 → len ≡ one
         → new ≡ min (len + old) 340282366920938463463374607431768211455 → new ≡ min (12 + sums) 340282366920938463463374607431768211455
     saturated sum one sums old len new s o l w = omega (arith, s, o, l, w)
+
+abbrev pub IsSizedLevel : NamedLevel → Type 0
+IsSizedLevel x = AreSized (view x.level)
+
+sized : (levels : List NamedLevel) → All IsSizedLevel levels
+    → sum_by level_len (map (λ (y : NamedLevel). view y.level) levels) ≡ length (all_bytes (all_lumps (level_parts levels))) + 176 * length levels
+sized [] a = refl
+sized (y ∷ levels) a =
+    let l = view y.level in
+    let s = All-head IsSizedLevel y levels a in
+    let r = sized levels (All-tail IsSizedLevel y levels a) in
+    let n = all_bytes-length (lumps_of (level_part y.name l)) (all_lumps (level_parts levels)) in
+    let t = ten_long (flat_map thing_record l.things) (flat_map line_record l.lines) (flat_map side_record l.sides) (flat_map vertex_record l.vertices) (flat_map seg_record l.segs)
+    (flat_map sub_record l.subs) (flat_map node_record l.nodes) (flat_map sector_record l.sectors) l.reject l.blockmap in
+    let e0 = s.things in let e1 = s.lines in let e2 = s.sides in let e3 = s.vertices in
+    let e4 = s.segs in let e5 = s.subs in let e6 = s.nodes in let e7 = s.sectors in
+    let more = sum_by-cons level_len l (map (λ (x : NamedLevel). view x.level) levels) in
+    omega (arith, r, n, t, more, e0, e1, e2, e3, e4, e5, e6, e7)
+
+-- the length that is told is the PWAD's
+pub total_exact :
+    (levels : List NamedLevel) (n total : ℕ) → length levels ≤ n
+    → total ≡ min (wad_len (take n (map (λ (y : NamedLevel). view y.level) levels))) 340282366920938463463374607431768211455
+    → AreParts (level_parts levels) → All IsSizedLevel levels → total ≡ wad_size (all_lumps (level_parts levels))
+total_exact levels n total h t a s =
+    let many = length-map levels (λ (y : NamedLevel). view y.level) in
+    let whole = take_all n (map (λ (y : NamedLevel). view y.level) levels) (omega (arith, many, h)) in
+    let c = are_counted levels a in
+    let count = c.count in
+    let fits = a.fits in
+    let sum = sized levels s in
+    let told : total ≡ min (wad_len (map (λ (y : NamedLevel). view y.level) levels)) 340282366920938463463374607431768211455
+    = t ∙ ap (λ (ls : List Lumps). min (wad_len ls) 340282366920938463463374607431768211455) whole in
+    omega (arith, told, sum, count, fits)

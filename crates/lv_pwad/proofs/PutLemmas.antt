@@ -85,3 +85,9 @@ whole_wad a b lumps count wad s p c w =
     entries =
         p.directory ∙ ap (λ (ws : List ℕ). ws ++ flat_map entry_bytes (entries_from (length a.bytes.items) lumps)) s.directory
         ∙ ap (λ (k : ℕ). flat_map entry_bytes (entries_from k lumps)) s.head
+
+pub ten_long :
+    (b0 b1 b2 b3 b4 b5 b6 b7 b8 b9 : List ℕ)
+    → length (b0 ++ (b1 ++ (b2 ++ (b3 ++ (b4 ++ (b5 ++ (b6 ++ (b7 ++ (b8 ++ (b9 ++ []))))))))))
+    ≡ length b0 + length b1 + length b2 + length b3 + length b4 + length b5 + length b6 + length b7 + length b8 + length b9
+ten_long b0 b1 b2 b3 b4 b5 b6 b7 b8 b9 = simp length-append (omega arith)

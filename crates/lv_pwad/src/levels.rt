@@ -3,10 +3,10 @@ ghost use Rattle.std.specs.Prelude.{◌≡◌, All, OnOk, IfOk, IsOkUnless, leng
 ghost use Rattle.lv_lumps.specs.Names.{name_text};
 ghost use Rattle.lv_levels.specs.Levels.{IsLevel};
 ghost use Rattle.lv_pwad.specs.Wad.{AreParts, IsCoded, IsDrawnCoded, IsTreeCoded, IsLastCoded};
-ghost use Rattle.lv_pwad.specs.Wad.{all_lumps, drawn_lumps, tree_lumps, last_lumps, lumps_of, level_part, wad_bytes};
+ghost use Rattle.lv_pwad.specs.Wad.{all_lumps, drawn_lumps, tree_lumps, last_lumps, lumps_of, level_part, wad_bytes, wad_size};
 ghost use Rattle.lv_levels.specs.Views.{view};
 ghost use Rattle.lv_pwad.specs.Views.{level_parts};
-ghost use Rattle.lv_pwad.specs.Writer.{Fits, Puts, level_len, wad_len};
+ghost use Rattle.lv_pwad.specs.Writer.{AreSized, Fits, Puts, level_len, wad_len};
 
 use crate::error::BuildError;
 use crate::wad::WadWriter;
@@ -122,10 +122,14 @@ fn len_of(level: &Level) -> u128
     drawn + tree + level.reject.len() as u128 + level.blockmap.len() as u128 + 176
 }
 
-// How many bytes the PWAD of the levels has, or the greatest number of the type if that is less.
+// How many bytes the PWAD of the levels has, if their records have the bytes of their kinds. The type's greatest number
+// stands for any greater one.
 fn total_len(levels: &[NamedLevel]) -> u128
-    ensures { result
+    ensures sum { result
         ≡ min (wad_len (map (λ x. view x.level) levels.now)) 340282366920938463463374607431768211455 }
+    ensures exact { AreParts (level_parts levels.now)
+        → All (λ x. AreSized (view x.level)) levels.now
+        → result ≡ wad_size (all_lumps (level_parts levels.now)) }
 {
     let mut total = 12;
     for n in 0..levels.len() {
