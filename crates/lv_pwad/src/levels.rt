@@ -64,8 +64,8 @@ fn push_last(alloc: Global, wad: &mut WadWriter, level: &Level) -> Result<(), Bu
     Ok(())
 }
 
-// Appends the marker and the ten lumps of a level. Each is encoded just before it is appended, so that only one encoded
-// lump is in memory beside the level and the PWAD.
+// Appends the marker and the ten lumps of a level. Each is encoded just before it is appended, so
+// that only one encoded lump is in memory beside the level and the PWAD.
 fn push_level(
     alloc: Global,
     wad: &mut WadWriter,
@@ -107,7 +107,8 @@ fn lump_count(levels: &[NamedLevel]) -> u32
     11 * levels.len() as u32
 }
 
-// How many bytes a level adds to a PWAD: its records, REJECT, BLOCKMAP, and eleven entries of the directory.
+// How many bytes a level adds to a PWAD: its records, REJECT, BLOCKMAP, and eleven entries of the
+// directory.
 fn len_of(level: &Level) -> u128
     ensures { result ≡ level_len (view level.now) }
 {
@@ -122,11 +123,11 @@ fn len_of(level: &Level) -> u128
     drawn + tree + level.reject.len() as u128 + level.blockmap.len() as u128 + 176
 }
 
-// How many bytes the PWAD of the levels has, if their records have the bytes of their kinds. The type's greatest number
-// stands for any greater one.
+// How many bytes the PWAD of the levels has, if their records have the bytes of their kinds. The
+// type's greatest number stands for any greater one.
 fn total_len(levels: &[NamedLevel]) -> u128
-    ensures sum { result
-        ≡ min (wad_len (map (λ x. view x.level) levels.now)) 340282366920938463463374607431768211455 }
+    ensures sum { result ≡ min (wad_len (map (λ x. view x.level) levels.now))
+        340282366920938463463374607431768211455 }
     ensures exact { AreParts (level_parts levels.now)
         → All (λ x. AreSized (view x.level)) levels.now
         → result ≡ wad_size (all_lumps (level_parts levels.now)) }

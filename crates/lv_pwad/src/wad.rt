@@ -8,7 +8,8 @@ use lv_levels::Entry;
 use lv_lumps::Name8;
 use std::alloc::Global;
 
-/// A PWAD that is being written: its bytes so far, with zeros in place of the header, and the directory of its lumps.
+/// A PWAD that is being written: its bytes so far, with zeros in place of the header, and the
+/// directory of its lumps.
 #[derive(Drop)]
 pub struct WadWriter {
     bytes: Vec<u8>,
@@ -62,8 +63,8 @@ impl WadWriter {
     ghost use Rattle.lv_pwad.specs.Wad.{long};
     ghost use Rattle.lv_pwad.specs.Writer.{Fits, IsEmptyWad, Puts};
 
-    /// Begins a PWAD of `count` lumps. Memory for all its `len` bytes is allocated here, so that no byte of a lump is
-    /// moved later.
+    /// Begins a PWAD of `count` lumps. Memory for all its `len` bytes is allocated here, so that no
+    /// byte of a lump is moved later.
     pub fn begin(alloc: Global, len: usize, count: usize) -> Result<WadWriter, BuildError>
         ensures begun { IfOk result IsEmptyWad }
         ensures memory { IsOkUnless result BuildError.OutOfMemory }
