@@ -1,5 +1,5 @@
 -- A level's lumps are whole numbers of records, and the WAD of one level is short enough.
-use Rattle.std.proofs.Common.{◌≡◌, refl, ℕ, zero, suc, ◌+◌, ◌*◌, ◌<◌, ◌≤◌, List, [], ◌∷◌, ◌++◌, length, get_or, arith, length-append}
+use Rattle.std.proofs.Common.{◌≡◌, refl, ℕ, zero, suc, ◌*◌, ◌<◌, ◌≤◌, List, [], ◌∷◌, length, get_or, arith, length-append}
 use Rattle.std.specs.Prelude.{flat_map, All, ◌%◌}
 use Rattle.std.proofs.Math.Nat.{mul-suc}
 use Rattle.std.proofs.lemmas.List.Elements.{All-head, All-tail, All-nil, All-cons}
@@ -11,6 +11,8 @@ use Rattle.lv_lumps.specs.declared.records.Sector.{Sector}
 use Rattle.lv_maptables.specs.Ranges.{IsSide, IsSector}
 use Rattle.lv_levels.specs.Levels.{Lumps, record_sizes}
 use Rattle.lv_pwad.specs.Wad.{IsPart, AreParts, all_bytes, all_lumps, lumps_of, level_part, wad_size}
+use Rattle.lv_pwad.specs.Writer.{AreSized}
+use Rattle.lv_pwad.proofs.PutLemmas.{ten_long}
 use Rattle.lv_pwad.proofs.NameLemmas.{marker_free, marker_size, texture_size}
 
 -- records of n bytes
@@ -50,18 +52,7 @@ pub record IsWritable (l : Lumps) : Type 0 where
   pub short_blockmap : length l.blockmap ≤ 131072
   pub words : length l.blockmap % 2 ≡ 0
 
--- the lengths of the ten lumps
-pub record AreLengths (l : Lumps) : Type 0 where
-  pub things : length (flat_map thing_record l.things) ≡ 10 * length l.things
-  pub lines : length (flat_map line_record l.lines) ≡ 14 * length l.lines
-  pub sides : length (flat_map side_record l.sides) ≡ 30 * length l.sides
-  pub vertices : length (flat_map vertex_record l.vertices) ≡ 4 * length l.vertices
-  pub segs : length (flat_map seg_record l.segs) ≡ 12 * length l.segs
-  pub subs : length (flat_map sub_record l.subs) ≡ 4 * length l.subs
-  pub nodes : length (flat_map node_record l.nodes) ≡ 28 * length l.nodes
-  pub sectors : length (flat_map sector_record l.sectors) ≡ 26 * length l.sectors
-
-lengths : (l : Lumps) → IsWritable l → AreLengths l
+lengths : (l : Lumps) → IsWritable l → AreSized l
 lengths l w =
     record {
       things = lump_length thing_record 10 l.things (λ k d h. refl);
@@ -75,7 +66,7 @@ lengths l w =
     }
 
 -- the lumps in order, each of whole records
-whole_lumps : (name : Name8) (l : Lumps) → AreLengths l → length l.blockmap % 2 ≡ 0 → (n : ℕ) → n < 10 → length (get_or (level_part name l).lumps n []) % get_or record_sizes n 1 ≡ 0
+whole_lumps : (name : Name8) (l : Lumps) → AreSized l → length l.blockmap % 2 ≡ 0 → (n : ℕ) → n < 10 → length (get_or (level_part name l).lumps n []) % get_or record_sizes n 1 ≡ 0
 whole_lumps name l a b zero h = let e = a.things in omega (arith, e)
 whole_lumps name l a b (suc zero) h = let e = a.lines in omega (arith, e)
 whole_lumps name l a b (suc (suc zero)) h = let e = a.sides in omega (arith, e)
@@ -87,12 +78,6 @@ whole_lumps name l a b (suc (suc (suc (suc (suc (suc (suc zero))))))) h = let e 
 whole_lumps name l a b (suc (suc (suc (suc (suc (suc (suc (suc zero)))))))) h = omega arith
 whole_lumps name l a b (suc (suc (suc (suc (suc (suc (suc (suc (suc zero))))))))) h = b
 whole_lumps name l a b (suc (suc (suc (suc (suc (suc (suc (suc (suc (suc n)))))))))) h = absurd (omega arith)
-
-ten_long :
-    (b0 b1 b2 b3 b4 b5 b6 b7 b8 b9 : List ℕ)
-    → length (b0 ++ (b1 ++ (b2 ++ (b3 ++ (b4 ++ (b5 ++ (b6 ++ (b7 ++ (b8 ++ (b9 ++ []))))))))))
-    ≡ length b0 + length b1 + length b2 + length b3 + length b4 + length b5 + length b6 + length b7 + length b8 + length b9
-ten_long b0 b1 b2 b3 b4 b5 b6 b7 b8 b9 = simp length-append (omega arith)
 
 -- one level's lumps
 pub one_long : (name : Name8) (l : Lumps) → IsWritable l → length (all_bytes (lumps_of (level_part name l))) ≤ 6000000

@@ -1,37 +1,75 @@
 -- One more level, and what is read of each.
-use Rattle.std.proofs.Common.{◌≡◌, ◌∙◌, refl, sym, ap, subst, ℕ, suc, ◌+◌, ◌<◌, List, [], ◌∷◌, ◌++◌, length, get_or, take, arith, append-nil, append_assoc}
-use Rattle.std.specs.Prelude.{All}
-use Rattle.std.proofs.Math.Seq.{take-suc}
+use Rattle.std.proofs.Common.{◌≡◌, ◌∙◌, refl, sym, ap, subst, ℕ, suc, ◌+◌, ◌*◌, ◌<◌, ◌≤◌, List, [], ◌∷◌, ◌++◌, length, get_or, take, drop, arith, append-nil, append_assoc, take-append-drop}
+use Rattle.std.specs.Prelude.{All, flat_map, map, min, sum_by}
+use Rattle.std.proofs.Math.Seq.{take-suc, take_all}
 use Rattle.std.proofs.lemmas.List.{map-append, get_or-map, length-map}
-use Rattle.std.proofs.lemmas.List.Elements.{All-nil, All-push, All-same, All-get_or, All-from_get_or}
+use Rattle.std.proofs.lemmas.List.Elements.{All-head, All-tail, All-nil, All-push, All-same, All-get_or, All-from_get_or}
+use Rattle.std.proofs.lemmas.List.Sums.{sum_by-cons, sum_by_more}
 use Rattle.std.proofs.lemmas.Grind.{flat_map-append}
 use Rattle.lv_lumps.specs.Names.{name_text}
-use Rattle.lv_lumps.specs.declared.records.Name8.{Name8}
 use Rattle.lv_lumps.specs.Lumps.{records_of}
-use Rattle.lv_lumps.specs.Records.{thing_at, line_at, side_at, vertex_at, seg_at, sub_at, node_at, sector_at}
+use Rattle.lv_lumps.specs.Records.{thing_at, line_at, side_at, vertex_at, seg_at, sub_at, node_at, sector_at, thing_record, line_record, side_record, vertex_record, seg_record, sub_record, node_record, sector_record}
 use Rattle.lv_pwad.specs.declared.levels.NamedLevel.{NamedLevel}
 use Rattle.lv_levels.specs.Levels.{Lumps, IsLevel, lump, lumps_behind, marker_at}
-use Rattle.lv_pwad.specs.Wad.{Lump, Part, AreParts, IsCoded, IsReadBack, all_lumps, lumps_of, level_part, wad_bytes}
+use Rattle.lv_pwad.specs.Wad.{Lump, Part, AreParts, IsCoded, IsReadBack, all_bytes, all_lumps, lumps_of, level_part, wad_bytes, wad_size}
 use Rattle.lv_levels.specs.Views.{view}
 use Rattle.lv_pwad.specs.Views.{level_parts}
-use Rattle.lv_pwad.proofs.PartLemmas.{reads_back}
+use Rattle.lv_pwad.specs.Writer.{AreSized, Fits, Puts, level_len, wad_len}
+use Rattle.lv_pwad.specs.declared.wad.WadWriter.{WadWriter}
+use Rattle.lv_pwad.proofs.PartLemmas.{length-all, reads_back}
+use Rattle.lv_pwad.proofs.PutLemmas.{all_bytes-length, fits_behind, put_both, ten_long}
 
 one_more : (levels : List NamedLevel) (n : ℕ) (x : NamedLevel) → n < length levels → get_or levels n x ≡ x → take (n + 1) levels ≡ take n levels ++ (x ∷ [])
 one_more levels n x h e =
     let s : n + 1 ≡ suc n = omega arith in
     ap (λ (k : ℕ). take k levels) s ∙ take-suc levels n x h ∙ ap (λ (y : NamedLevel). take n levels ++ (y ∷ [])) e
 
-pub lumps_more :
-    (levels : List NamedLevel) (n : ℕ) (x : NamedLevel) (new old : List Lump) → n < length levels → get_or levels n x ≡ x → old ≡ all_lumps (level_parts (take n levels))
-    → new ≡ old ++ lumps_of (level_part x.name (view x.level)) → new ≡ all_lumps (level_parts (take (n + 1) levels))
-lumps_more levels n x new old h e o w =
-    w ∙ ap (λ (ls : List Lump). ls ++ lumps_of (level_part x.name (view x.level))) o
-    ∙ sym
-    (ap (λ (ls : List NamedLevel). all_lumps (level_parts ls)) (one_more levels n x h e)
+lumps_more :
+    (levels : List NamedLevel) (n : ℕ) (x : NamedLevel) → n < length levels → get_or levels n x ≡ x
+    → all_lumps (level_parts (take (n + 1) levels)) ≡ all_lumps (level_parts (take n levels)) ++ lumps_of (level_part x.name (view x.level))
+lumps_more levels n x h e =
+    ap (λ (ls : List NamedLevel). all_lumps (level_parts ls)) (one_more levels n x h e)
     ∙ ap all_lumps (map-append (λ (l : NamedLevel). level_part l.name (view l.level)) (take n levels) (x ∷ []))
     ∙ flat_map-append lumps_of (level_parts (take n levels)) (level_part x.name (view x.level) ∷ [])
     ∙ ap (λ (ls : List Lump). all_lumps (level_parts (take n levels)) ++ ls) (append-nil (lumps_of (level_part x.name (view x.level))))
-    )
+
+-- one more level's lumps
+pub put_level :
+    (a b c : WadWriter) (levels : List NamedLevel) (n : ℕ) (x : NamedLevel) → n < length levels → get_or levels n x ≡ x → Puts a b (all_lumps (level_parts (take n levels)))
+    → Puts b c (lumps_of (level_part x.name (view x.level))) → Puts a c (all_lumps (level_parts (take (n + 1) levels)))
+put_level a b c levels n x h e p q =
+    subst (λ (ls : List Lump). Puts a c ls) (sym (lumps_more levels n x h e))
+    (put_both a b c (all_lumps (level_parts (take n levels))) (lumps_of (level_part x.name (view x.level))) p q)
+
+-- the lumps of the levels up to one, its own, and those after it
+lumps_split :
+    (levels : List NamedLevel) (n : ℕ) (x : NamedLevel) → n < length levels → get_or levels n x ≡ x
+    → all_lumps (level_parts levels) ≡ all_lumps (level_parts (take n levels)) ++ (lumps_of (level_part x.name (view x.level)) ++ all_lumps (level_parts (drop (n + 1) levels)))
+lumps_split levels n x h e =
+    ap (λ (ls : List NamedLevel). all_lumps (level_parts ls)) (sym (take-append-drop (n + 1) levels))
+    ∙ ap all_lumps (map-append (λ (l : NamedLevel). level_part l.name (view l.level)) (take (n + 1) levels) (drop (n + 1) levels))
+    ∙ flat_map-append lumps_of (level_parts (take (n + 1) levels)) (level_parts (drop (n + 1) levels))
+    ∙ ap (λ (ls : List Lump). ls ++ all_lumps (level_parts (drop (n + 1) levels))) (lumps_more levels n x h e)
+    ∙ append_assoc (all_lumps (level_parts (take n levels))) (lumps_of (level_part x.name (view x.level))) (all_lumps (level_parts (drop (n + 1) levels)))
+
+pub fits_level :
+    (a b : WadWriter) (levels : List NamedLevel) (n : ℕ) (x : NamedLevel) → n < length levels → get_or levels n x ≡ x → Fits a (all_lumps (level_parts levels))
+    → Puts a b (all_lumps (level_parts (take n levels))) → Fits b (lumps_of (level_part x.name (view x.level)))
+fits_level a b levels n x h e f p =
+    fits_behind a b (all_lumps (level_parts (take n levels))) (lumps_of (level_part x.name (view x.level))) (all_lumps (level_parts (drop (n + 1) levels))) p
+    (subst (Fits a) (lumps_split levels n x h e) f)
+
+-- eleven lumps a level, fewer than 2^32 in all
+pub record AreCounted (levels : List NamedLevel) : Type 0 where
+  pub count : length (all_lumps (level_parts levels)) ≡ 11 * length levels
+  pub few : 16 * (11 * length levels) < 4294967296
+
+pub are_counted : (levels : List NamedLevel) → AreParts (level_parts levels) → AreCounted levels
+are_counted levels a =
+    let l = length-all (level_parts levels) a.each in
+    let m = length-map levels (λ (l : NamedLevel). level_part l.name (view l.level)) in
+    let f = a.fits in
+    record { count = omega (arith, l, m); few = omega (arith, l, m, f) }
 
 pub coded_more :
     (levels : List NamedLevel) (n : ℕ) (x : NamedLevel) → n < length levels → get_or levels n x ≡ x → All (λ (l : NamedLevel). IsCoded (view l.level)) (take n levels) → IsCoded (view x.level)
@@ -70,30 +108,61 @@ levels_read wad (y ∷ levels) a w c =
     (subst (λ (p : Part). IsReadBack wad p) g (subst (λ (ws : List ℕ). IsReadBack ws (get_or (level_parts (y ∷ levels)) i (level_part y.name (view y.level)))) (sym w) r))
     (All-get_or (λ (l : NamedLevel). IsCoded (view l.level)) (y ∷ levels) i y h c))
 
-abbrev pub named_lump : Name8 → List ℕ → Lump
-named_lump name bytes = record { name = name; bytes = bytes }
-
--- these lumps were appended
-pub record Appended (v0 v1 xs : List Lump) : Type 0 where
-  pub same : v1 ≡ v0 ++ xs
-
-pub first_lump : (v0 v1 : List Lump) (name : Name8) (b r : List ℕ) → v1 ≡ v0 ++ (named_lump name b ∷ []) → b ≡ r → Appended v0 v1 (named_lump name r ∷ [])
-first_lump v0 v1 name b r w s = record { same = w ∙ ap (λ (ws : List ℕ). v0 ++ (named_lump name ws ∷ [])) s }
-
--- one more lump after those that were appended
-pub next_lump : (v0 v1 v2 xs : List Lump) (name : Name8) (b r : List ℕ) → Appended v0 v1 xs → v2 ≡ v1 ++ (named_lump name b ∷ []) → b ≡ r → Appended v0 v2 (xs ++ (named_lump name r ∷ []))
-next_lump v0 v1 v2 xs name b r e w s =
-    record {
-      same =
-          w ∙ ap (λ (ls : List Lump). ls ++ (named_lump name b ∷ [])) e.same ∙ append_assoc v0 xs (named_lump name b ∷ [])
-          ∙ ap (λ (ws : List ℕ). v0 ++ (xs ++ (named_lump name ws ∷ []))) s;
-    }
-
 -- the marker and three runs of lumps are a level's lumps
-pub level_lumps : (v0 v1 v2 v3 v4 d t e : List Lump) (x : Lump) → v1 ≡ v0 ++ (x ∷ []) → v2 ≡ v1 ++ d → v3 ≡ v2 ++ t → v4 ≡ v3 ++ e → v4 ≡ v0 ++ (x ∷ (d ++ (t ++ e)))
-level_lumps v0 v1 v2 v3 v4 d t e x a b f g =
-    g ∙ ap (λ (ls : List Lump). ls ++ e) (f ∙ ap (λ (ls : List Lump). ls ++ t) (b ∙ ap (λ (ls : List Lump). ls ++ d) a))
-    ∙ joined
+pub put_runs :
+    (w0 w1 w2 w3 w4 : WadWriter) (d t e : List Lump) (x : Lump) → Puts w0 w1 (x ∷ []) → Puts w1 w2 d → Puts w2 w3 t → Puts w3 w4 e → Puts w0 w4 (x ∷ (d ++ (t ++ e)))
+put_runs w0 w1 w2 w3 w4 d t e x a b f g = put_both w0 w1 w4 (x ∷ []) (d ++ (t ++ e)) a (put_both w1 w2 w4 d (t ++ e) b (put_both w2 w3 w4 t e f g))
+
+-- ---- how long the PWAD will be
+
+-- the length with one more level, or the greatest number of 128 bits
+pub len_more :
+    (levels : List NamedLevel) (n : ℕ) (x : NamedLevel) (old len new : ℕ) → n < length levels → get_or levels n x ≡ x
+    → old ≡ min (wad_len (take n (map (λ (y : NamedLevel). view y.level) levels))) 340282366920938463463374607431768211455 → len ≡ level_len (view x.level)
+    → new ≡ min (len + old) 340282366920938463463374607431768211455
+    → new ≡ min (wad_len (take (n + 1) (map (λ (y : NamedLevel). view y.level) levels))) 340282366920938463463374607431768211455
+len_more levels n x old len new h e o l w =
+    let many = length-map levels (λ (y : NamedLevel). view y.level) in
+    let at = get_or-map (λ (y : NamedLevel). view y.level) levels n x (view x.level) h ∙ ap (λ (y : NamedLevel). view y.level) e in
+    let more = sum_by_more level_len (map (λ (y : NamedLevel). view y.level) levels) n (view x.level) (omega (arith, many, h))
+    ∙ ap (λ (k : Lumps). sum_by level_len (take n (map (λ (y : NamedLevel). view y.level) levels)) + level_len k) at in
+    saturated (sum_by level_len (take n (map (λ (y : NamedLevel). view y.level) levels))) (level_len (view x.level)) _ old len new more o l w
   where
-    joined : (((v0 ++ (x ∷ [])) ++ d) ++ t) ++ e ≡ v0 ++ (x ∷ (d ++ (t ++ e)))
-    joined = simp append_assoc refl
+    saturated :
+        (sum one sums old len new : ℕ) → sums ≡ sum + one → old ≡ min (12 + sum) 340282366920938463463374607431768211455 → len ≡ one
+        → new ≡ min (len + old) 340282366920938463463374607431768211455 → new ≡ min (12 + sums) 340282366920938463463374607431768211455
+    saturated sum one sums old len new s o l w = omega (arith, s, o, l, w)
+
+abbrev pub IsSizedLevel : NamedLevel → Type 0
+IsSizedLevel x = AreSized (view x.level)
+
+sized : (levels : List NamedLevel) → All IsSizedLevel levels
+    → sum_by level_len (map (λ (y : NamedLevel). view y.level) levels) ≡ length (all_bytes (all_lumps (level_parts levels))) + 176 * length levels
+sized [] a = refl
+sized (y ∷ levels) a =
+    let l = view y.level in
+    let s = All-head IsSizedLevel y levels a in
+    let r = sized levels (All-tail IsSizedLevel y levels a) in
+    let n = all_bytes-length (lumps_of (level_part y.name l)) (all_lumps (level_parts levels)) in
+    let t = ten_long (flat_map thing_record l.things) (flat_map line_record l.lines) (flat_map side_record l.sides) (flat_map vertex_record l.vertices) (flat_map seg_record l.segs)
+    (flat_map sub_record l.subs) (flat_map node_record l.nodes) (flat_map sector_record l.sectors) l.reject l.blockmap in
+    let e0 = s.things in let e1 = s.lines in let e2 = s.sides in let e3 = s.vertices in
+    let e4 = s.segs in let e5 = s.subs in let e6 = s.nodes in let e7 = s.sectors in
+    let more = sum_by-cons level_len l (map (λ (x : NamedLevel). view x.level) levels) in
+    omega (arith, r, n, t, more, e0, e1, e2, e3, e4, e5, e6, e7)
+
+-- the length that is told is the PWAD's
+pub total_exact :
+    (levels : List NamedLevel) (n total : ℕ) → length levels ≤ n
+    → total ≡ min (wad_len (take n (map (λ (y : NamedLevel). view y.level) levels))) 340282366920938463463374607431768211455
+    → AreParts (level_parts levels) → All IsSizedLevel levels → total ≡ wad_size (all_lumps (level_parts levels))
+total_exact levels n total h t a s =
+    let many = length-map levels (λ (y : NamedLevel). view y.level) in
+    let whole = take_all n (map (λ (y : NamedLevel). view y.level) levels) (omega (arith, many, h)) in
+    let c = are_counted levels a in
+    let count = c.count in
+    let fits = a.fits in
+    let sum = sized levels s in
+    let told : total ≡ min (wad_len (map (λ (y : NamedLevel). view y.level) levels)) 340282366920938463463374607431768211455
+    = t ∙ ap (λ (ls : List Lumps). min (wad_len ls) 340282366920938463463374607431768211455) whole in
+    omega (arith, told, sum, count, fits)

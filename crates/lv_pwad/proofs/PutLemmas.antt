@@ -1,112 +1,93 @@
--- One more lump is written.
-use Rattle.std.proofs.Common.{◌≡◌, ◌∙◌, refl, sym, ap, ℕ, zero, suc, ◌+◌, ◌<◌, ◌≤◌, List, [], ◌∷◌, ◌++◌, length, get_or, take, arith, append_assoc, length-append, append-nil}
+-- Lumps that are appended one behind another.
+use Rattle.std.proofs.Common.{◌≡◌, ◌∙◌, refl, sym, ap, subst, ℕ, ◌+◌, List, [], ◌∷◌, ◌++◌, length, drop, arith, append_assoc, length-append, append-nil}
 use Rattle.std.specs.Prelude.{codes, flat_map}
-use Rattle.std.proofs.Math.Seq.{take-suc}
-use Rattle.std.proofs.lemmas.List.{map-append}
 use Rattle.std.proofs.lemmas.Grind.{flat_map-append}
 use Rattle.lv_lumps.specs.declared.records.Name8.{Name8}
 use Rattle.lv_levels.specs.declared.directory.Entry.{Entry}
-use Rattle.lv_pwad.specs.declared.wad.NamedLump.{NamedLump}
-use Rattle.lv_pwad.specs.Wad.{Lump, all_bytes, entries_from, entry_bytes, long, wad_bytes, wad_head}
-use Rattle.lv_pwad.specs.Views.{views}
 use Rattle.lv_levels.proofs.ReadLemmas.{add_zero}
-use Rattle.lv_pwad.proofs.WrittenLemmas.{length_head}
+use Rattle.lv_pwad.specs.Wad.{Lump, all_bytes, entries_from, entry_bytes, long, wad_bytes}
+use Rattle.lv_pwad.specs.Writer.{Fits, IsEmptyWad, Puts}
+use Rattle.lv_pwad.specs.declared.wad.WadWriter.{WadWriter}
+use Rattle.lv_pwad.proofs.WadLemmas.{drop_front}
 
-entries-append : (at : ℕ) (xs ys : List Lump) → entries_from at (xs ++ ys) ≡ entries_from at xs ++ entries_from (at + length (all_bytes xs)) ys
-entries-append at [] ys = let z : at + 0 ≡ at = add_zero at in rw z refl
-entries-append at (x ∷ xs) ys =
+abbrev pub named_lump : Name8 → List ℕ → Lump
+named_lump name bytes = record { name = name; bytes = bytes }
+
+all_bytes-append : (xs ys : List Lump) → all_bytes (xs ++ ys) ≡ all_bytes xs ++ all_bytes ys
+all_bytes-append xs ys = flat_map-append (λ (l : Lump). l.bytes) xs ys
+
+pub all_bytes-length : (xs ys : List Lump) → length (all_bytes (xs ++ ys)) ≡ length (all_bytes xs) + length (all_bytes ys)
+all_bytes-length xs ys = ap (λ (ws : List ℕ). length ws) (all_bytes-append xs ys) ∙ length-append (all_bytes xs) (all_bytes ys)
+
+entries_behind : (at : ℕ) (xs ys : List Lump) → entries_from at (xs ++ ys) ≡ entries_from at xs ++ entries_from (at + length (all_bytes xs)) ys
+entries_behind at [] ys = let z : at + 0 ≡ at = add_zero at in rw z refl
+entries_behind at (x ∷ xs) ys =
     let l = length-append x.bytes (all_bytes xs) in
     let s : at + length x.bytes + length (all_bytes xs) ≡ at + length (x.bytes ++ all_bytes xs) = omega (arith, l) in
     ap (λ (es : List Entry). record { at = at; size = length x.bytes; name = x.name } ∷ es)
-    (entries-append (at + length x.bytes) xs ys ∙ ap (λ (n : ℕ). entries_from (at + length x.bytes) xs ++ entries_from n ys) s)
+    (entries_behind (at + length x.bytes) xs ys ∙ ap (λ (n : ℕ). entries_from (at + length x.bytes) xs ++ entries_from n ys) s)
 
-abbrev pub as_lump : NamedLump → Lump
-as_lump l = record { name = l.name; bytes = l.bytes.items }
+-- nothing is appended
+pub put_none : (a : WadWriter) → Puts a a []
+put_none a = record { bytes = sym (append-nil a.bytes.items); directory = sym (append-nil a.directory.items) }
 
-views_step :
-    (lumps : List NamedLump) (n : ℕ) (x : NamedLump) → n < length lumps
-    → views (take (n + 1) lumps) ≡ views (take n lumps) ++ (record { name = (get_or lumps n x).name; bytes = (get_or lumps n x).bytes.items } ∷ [])
-views_step lumps n x h =
-    let e : n + 1 ≡ suc n = omega arith in
-    ap (λ (k : ℕ). views (take k lumps)) e ∙ ap views (take-suc lumps n x h)
-    ∙ map-append (λ (l : NamedLump). record { name = l.name; bytes = l.bytes.items }) (take n lumps) (get_or lumps n x ∷ [])
+Puts-length : (a b : WadWriter) (xs : List Lump) → Puts a b xs → length b.bytes.items ≡ length a.bytes.items + length (all_bytes xs)
+Puts-length a b xs p = ap (λ (ws : List ℕ). length ws) p.bytes ∙ length-append a.bytes.items (all_bytes xs)
 
-pub body_step : (lumps : List NamedLump) (n : ℕ) (x : NamedLump) → n < length lumps → all_bytes (views (take (n + 1) lumps)) ≡ all_bytes (views (take n lumps)) ++ (get_or lumps n x).bytes.items
-body_step lumps n x h =
-    ap all_bytes (views_step lumps n x h)
-    ∙ flat_map-append (λ (l : Lump). l.bytes) (views (take n lumps)) _
-    ∙ ap (λ (ws : List ℕ). all_bytes (views (take n lumps)) ++ ws) (append-nil (get_or lumps n x).bytes.items)
+-- one list behind another
+pub put_both : (a b c : WadWriter) (xs ys : List Lump) → Puts a b xs → Puts b c ys → Puts a c (xs ++ ys)
+put_both a b c xs ys p q =
+    record {
+      bytes =
+          q.bytes ∙ ap (λ (ws : List ℕ). ws ++ all_bytes ys) p.bytes ∙ append_assoc a.bytes.items (all_bytes xs) (all_bytes ys)
+          ∙ ap (λ (ws : List ℕ). a.bytes.items ++ ws) (sym (all_bytes-append xs ys));
+      directory =
+          q.directory
+          ∙ ap (λ (ws : List ℕ). ws ++ flat_map entry_bytes (entries_from (length b.bytes.items) ys)) p.directory
+          ∙ ap (λ (n : ℕ). (a.directory.items ++ flat_map entry_bytes (entries_from (length a.bytes.items) xs)) ++ flat_map entry_bytes (entries_from n ys)) (Puts-length a b xs p)
+          ∙ append_assoc a.directory.items (flat_map entry_bytes (entries_from (length a.bytes.items) xs)) (flat_map entry_bytes (entries_from (length a.bytes.items + length (all_bytes xs)) ys))
+          ∙ ap (λ (ws : List ℕ). a.directory.items ++ ws)
+          (sym (flat_map-append entry_bytes (entries_from (length a.bytes.items) xs) (entries_from (length a.bytes.items + length (all_bytes xs)) ys))
+          ∙ ap (flat_map entry_bytes) (sym (entries_behind (length a.bytes.items) xs ys)));
+    }
 
-pub directory_step :
-    (lumps : List NamedLump) (n at : ℕ) (x : NamedLump) → n < length lumps
-    → flat_map entry_bytes (entries_from at (views (take (n + 1) lumps)))
-    ≡ flat_map entry_bytes (entries_from at (views (take n lumps)))
-    ++ entry_bytes (record { at = at + length (all_bytes (views (take n lumps))); size = length (get_or lumps n x).bytes.items; name = (get_or lumps n x).name })
-directory_step lumps n at x h =
-    ap (λ (ls : List Lump). flat_map entry_bytes (entries_from at ls)) (views_step lumps n x h)
-    ∙ ap (flat_map entry_bytes) (entries-append at (views (take n lumps)) _)
-    ∙ flat_map-append entry_bytes (entries_from at (views (take n lumps))) _
-    ∙ ap (λ (ws : List ℕ). flat_map entry_bytes (entries_from at (views (take n lumps))) ++ ws) (append-nil _)
+-- one more lump, whose bytes are known
+pub put_next : (a b c : WadWriter) (xs : List Lump) (name : Name8) (new known : List ℕ) → Puts a b xs → Puts b c (named_lump name new ∷ []) → new ≡ known → Puts a c (xs ++ (named_lump name known ∷ []))
+put_next a b c xs name new known p q e = put_both a b c xs (named_lump name known ∷ []) p (subst (λ (ws : List ℕ). Puts b c (named_lump name ws ∷ [])) e q)
 
-pub body_fits :
-    (lumps : List NamedLump) (n : ℕ) (x : NamedLump) → n < length lumps → get_or lumps n x ≡ x → length (all_bytes (views (take n lumps))) + length x.bytes.items ≤ length (all_bytes (views lumps))
-body_fits [] n x h e = absurd (omega arith)
-body_fits (l ∷ lumps) zero x h e = let a = length-append l.bytes.items (all_bytes (views lumps)) in let s = ap (λ (y : NamedLump). length y.bytes.items) e in omega (arith, a, s)
-body_fits (l ∷ lumps) (suc n) x h e =
-    let a = length-append l.bytes.items (all_bytes (views lumps)) in
-    let b = length-append l.bytes.items (all_bytes (views (take n lumps))) in
-    let r = body_fits lumps n x (omega arith) e in
-    omega (arith, a, b, r)
+-- what fits behind the lumps so far
+pub fits_behind : (a b : WadWriter) (xs ys zs : List Lump) → Puts a b xs → Fits a (xs ++ (ys ++ zs)) → Fits b ys
+fits_behind a b xs ys zs p f =
+    let n1 = Puts-length a b xs p in
+    let n2 = all_bytes-length xs (ys ++ zs) in
+    let n3 = all_bytes-length ys zs in
+    omega (arith, n1, n2, n3, f)
 
--- the length of the bytes with one more lump
-pub length_more : (lumps : List NamedLump) (n : ℕ) (x : NamedLump) → n < length lumps → get_or lumps n x ≡ x
-    → length (all_bytes (views (take (n + 1) lumps))) ≡ length (all_bytes (views (take n lumps))) + length x.bytes.items
-length_more lumps n x h e =
-    ap length (body_step lumps n x h) ∙ length-append (all_bytes (views (take n lumps))) (get_or lumps n x).bytes.items
-    ∙ ap (λ (y : NamedLump). length (all_bytes (views (take n lumps))) + length y.bytes.items) e
+-- what the header is written over: the lumps and their directory stay
+pub whole_wad :
+    (a b : WadWriter) (lumps : List Lump) (count : ℕ) (wad : List ℕ) → IsEmptyWad a → Puts a b lumps → count ≡ length lumps
+    → wad ≡ codes "PWAD" ++ (long count ++ long (length b.bytes.items)) ++ (drop 12 b.bytes.items ++ b.directory.items) → wad ≡ wad_bytes lumps
+whole_wad a b lumps count wad s p c w =
+    w ∙ ap (λ (k : ℕ). codes "PWAD" ++ (long k ++ long (length b.bytes.items)) ++ (drop 12 b.bytes.items ++ b.directory.items)) c
+    ∙ ap (λ (k : ℕ). codes "PWAD" ++ (long (length lumps) ++ long k) ++ (drop 12 b.bytes.items ++ b.directory.items)) end
+    ∙ ap (λ (ws : List ℕ). codes "PWAD" ++ (long (length lumps) ++ long (12 + length (all_bytes lumps))) ++ (ws ++ b.directory.items)) body
+    ∙ ap (λ (ws : List ℕ). codes "PWAD" ++ (long (length lumps) ++ long (12 + length (all_bytes lumps))) ++ (all_bytes lumps ++ ws)) entries
+  where
+    end : length b.bytes.items ≡ 12 + length (all_bytes lumps)
+    end = Puts-length a b lumps p ∙ ap (λ (k : ℕ). k + length (all_bytes lumps)) s.head
 
--- the header that is put at the beginning
-pub head_is : (old new : List ℕ) (lumps : List Lump) (count place : ℕ) → new ≡ old ++ (codes "PWAD" ++ (long count ++ long place)) → old ≡ []
-    → count ≡ length lumps → place ≡ 12 + length (all_bytes lumps) → new ≡ wad_head lumps
-head_is old new lumps count place w o c p =
-    w ∙ ap (λ (ws : List ℕ). ws ++ (codes "PWAD" ++ (long count ++ long place))) o
-    ∙ ap (λ (k : ℕ). codes "PWAD" ++ (long k ++ long place)) c ∙ ap (λ (k : ℕ). codes "PWAD" ++ (long (length lumps) ++ long k)) p
+    body : drop 12 b.bytes.items ≡ all_bytes lumps
+    body =
+        ap (λ (k : ℕ). drop k b.bytes.items) (sym s.head) ∙ ap (drop (length a.bytes.items)) p.bytes
+        ∙ drop_front a.bytes.items (all_bytes lumps)
 
--- the file with header, lumps and directory
-pub whole_wad : (lumps : List Lump) (head body directory wad : List ℕ) → head ≡ wad_head lumps → body ≡ head ++ all_bytes lumps
-    → directory ≡ flat_map entry_bytes (entries_from (length head) lumps) → wad ≡ body ++ directory → wad ≡ wad_bytes lumps
-whole_wad lumps head body directory wad h b d w =
-    w ∙ ap (λ (ws : List ℕ). ws ++ directory) (b ∙ ap (λ (ws : List ℕ). ws ++ all_bytes lumps) h)
-    ∙ append_assoc (wad_head lumps) (all_bytes lumps) directory
-    ∙ ap (λ (ws : List ℕ). wad_head lumps ++ (all_bytes lumps ++ ws))
-    (d ∙ ap (λ (n : ℕ). flat_map entry_bytes (entries_from n lumps)) (ap length h ∙ length_head lumps))
+    entries : b.directory.items ≡ flat_map entry_bytes (entries_from 12 lumps)
+    entries =
+        p.directory ∙ ap (λ (ws : List ℕ). ws ++ flat_map entry_bytes (entries_from (length a.bytes.items) lumps)) s.directory
+        ∙ ap (λ (k : ℕ). flat_map entry_bytes (entries_from k lumps)) s.head
 
--- the body with one more lump
-pub body_more :
-    (lumps : List NamedLump) (n : ℕ) (x : NamedLump) (start body new added : List ℕ) → n < length lumps → get_or lumps n x ≡ x → body ≡ start ++ all_bytes (views (take n lumps))
-    → added ≡ x.bytes.items → new ≡ body ++ added → new ≡ start ++ all_bytes (views (take (n + 1) lumps))
-body_more lumps n x start body new added h e b a w =
-    w ∙ ap (λ (ws : List ℕ). body ++ ws) a ∙ ap (λ (ws : List ℕ). ws ++ x.bytes.items) b ∙ append_assoc start (all_bytes (views (take n lumps))) x.bytes.items
-    ∙ ap (λ (ws : List ℕ). start ++ ws) (ap (λ (y : NamedLump). all_bytes (views (take n lumps)) ++ y.bytes.items) (sym e) ∙ sym (body_step lumps n x h))
-
-abbrev pub entry_for : ℕ → NamedLump → Entry
-entry_for at l = record { at = at; size = length l.bytes.items; name = l.name }
-
--- the directory with one more entry
-pub directory_more :
-    (lumps : List NamedLump) (n at : ℕ) (x : NamedLump) (start directory new : List ℕ) (entry : Entry) → n < length lumps → get_or lumps n x ≡ x
-    → directory ≡ start ++ flat_map entry_bytes (entries_from at (views (take n lumps)))
-    → entry ≡ record { at = at + length (all_bytes (views (take n lumps))); size = length x.bytes.items; name = x.name } → new ≡ directory ++ entry_bytes entry
-    → new ≡ start ++ flat_map entry_bytes (entries_from at (views (take (n + 1) lumps)))
-directory_more lumps n at x start directory new entry h e b i w =
-    w ∙ ap (λ (y : Entry). directory ++ entry_bytes y) i ∙ ap (λ (ws : List ℕ). ws ++ entry_bytes (entry_for (at + length (all_bytes (views (take n lumps)))) x)) b ∙ append_assoc start
-    (flat_map entry_bytes (entries_from at (views (take n lumps)))) (entry_bytes (entry_for (at + length (all_bytes (views (take n lumps)))) x))
-    ∙ ap (λ (ws : List ℕ). start ++ ws)
-    (ap (λ (y : NamedLump). flat_map entry_bytes (entries_from at (views (take n lumps))) ++ entry_bytes (entry_for (at + length (all_bytes (views (take n lumps)))) y)) (sym e) ∙ sym
-    (directory_step lumps n at x h))
-
-abbrev pub raw_entry : ℕ → ℕ → Name8 → Entry
-raw_entry at size name = record { at = at; size = size; name = name }
-
-pub same_entry : (at size a s : ℕ) (name : Name8) → at ≡ a → size ≡ s → raw_entry at size name ≡ raw_entry a s name
-same_entry at size a s name e f = rw (e, f) refl
+pub ten_long :
+    (b0 b1 b2 b3 b4 b5 b6 b7 b8 b9 : List ℕ)
+    → length (b0 ++ (b1 ++ (b2 ++ (b3 ++ (b4 ++ (b5 ++ (b6 ++ (b7 ++ (b8 ++ (b9 ++ []))))))))))
+    ≡ length b0 + length b1 + length b2 + length b3 + length b4 + length b5 + length b6 + length b7 + length b8 + length b9
+ten_long b0 b1 b2 b3 b4 b5 b6 b7 b8 b9 = simp length-append (omega arith)

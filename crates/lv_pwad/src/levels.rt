@@ -1,14 +1,15 @@
 //! Writes levels as the lumps of a PWAD.
-ghost use Rattle.std.specs.Prelude.{◌≡◌, ◌++◌, [], ◌∷◌, All, OnOk, IfOk, IsOkUnless};
+ghost use Rattle.std.specs.Prelude.{◌≡◌, All, OnOk, IfOk, IsOkUnless, length, map, min};
 ghost use Rattle.lv_lumps.specs.Names.{name_text};
 ghost use Rattle.lv_levels.specs.Levels.{IsLevel};
 ghost use Rattle.lv_pwad.specs.Wad.{AreParts, IsCoded, IsDrawnCoded, IsTreeCoded, IsLastCoded};
-ghost use Rattle.lv_pwad.specs.Wad.{all_lumps, drawn_lumps, tree_lumps, last_lumps, lumps_of, level_part, wad_bytes};
+ghost use Rattle.lv_pwad.specs.Wad.{all_lumps, drawn_lumps, tree_lumps, last_lumps, lumps_of, level_part, wad_bytes, wad_size};
 ghost use Rattle.lv_levels.specs.Views.{view};
-ghost use Rattle.lv_pwad.specs.Views.{level_parts, views};
+ghost use Rattle.lv_pwad.specs.Views.{level_parts};
+ghost use Rattle.lv_pwad.specs.Writer.{AreSized, Fits, Puts, level_len, wad_len};
 
 use crate::error::BuildError;
-use crate::wad::{NamedLump, wad_of};
+use crate::wad::WadWriter;
 use lv_levels::{LUMP_NAMES, Level};
 use lv_lumps::{
     Name8, encode_lines, encode_nodes, encode_sectors, encode_segs, encode_sides, encode_subs,
@@ -23,101 +24,120 @@ pub struct NamedLevel {
     pub level: Level,
 }
 
-// Appends a lump.
-fn push_lump(lumps: &mut Vec<NamedLump>, name: Name8, bytes: Vec<u8>) -> Result<(), BuildError>
-    ensures ok { OnOk result (views lumps.new.items
-        ≡ views lumps.old.items ++ (record { name = name; bytes = bytes.items } ∷ [])) }
-    ensures memory { IsOkUnless result BuildError.OutOfMemory }
-{
-    lumps.push(NamedLump { name, bytes })?;
-    Ok(())
-}
-
-// A copy of the bytes.
-fn copied(alloc: Global, bytes: &[u8]) -> Result<Vec<u8>, BuildError>
-    ensures bytes { IfOk result (λ v. v.items ≡ bytes.now) }
-    ensures memory { IsOkUnless result BuildError.OutOfMemory }
-{
-    let mut copy = Vec::new(alloc);
-    copy.extend_from_slice(bytes)?;
-    Ok(copy)
-}
-
 // Appends the lumps before the tree: things, lines, sides, vertices.
-fn push_drawn(alloc: Global, lumps: &mut Vec<NamedLump>, level: &Level) -> Result<(), BuildError>
-    ensures lumps { OnOk result (views lumps.new.items
-        ≡ views lumps.old.items ++ drawn_lumps (view level.now)) }
+fn push_drawn(alloc: Global, wad: &mut WadWriter, level: &Level) -> Result<(), BuildError>
+    requires { Fits wad.old (drawn_lumps (view level.now)) }
+    ensures lumps { OnOk result (Puts wad.old wad.new (drawn_lumps (view level.now))) }
     ensures coded { OnOk result (IsDrawnCoded (view level.now)) }
     ensures memory { IsOkUnless result BuildError.OutOfMemory }
 {
-    push_lump(lumps, LUMP_NAMES[0], encode_things(alloc, &level.things)?)?;
-    push_lump(lumps, LUMP_NAMES[1], encode_lines(alloc, &level.lines)?)?;
-    push_lump(lumps, LUMP_NAMES[2], encode_sides(alloc, &level.sides)?)?;
-    push_lump(
-        lumps,
-        LUMP_NAMES[3],
-        encode_vertices(alloc, &level.vertices)?,
-    )?;
+    wad.push(LUMP_NAMES[0], &encode_things(alloc, &level.things)?)?;
+    wad.push(LUMP_NAMES[1], &encode_lines(alloc, &level.lines)?)?;
+    wad.push(LUMP_NAMES[2], &encode_sides(alloc, &level.sides)?)?;
+    wad.push(LUMP_NAMES[3], &encode_vertices(alloc, &level.vertices)?)?;
     Ok(())
 }
 
 // Appends the lumps of the tree: segs, subsectors, nodes.
-fn push_tree(alloc: Global, lumps: &mut Vec<NamedLump>, level: &Level) -> Result<(), BuildError>
-    ensures lumps { OnOk result (views lumps.new.items
-        ≡ views lumps.old.items ++ tree_lumps (view level.now)) }
+fn push_tree(alloc: Global, wad: &mut WadWriter, level: &Level) -> Result<(), BuildError>
+    requires { Fits wad.old (tree_lumps (view level.now)) }
+    ensures lumps { OnOk result (Puts wad.old wad.new (tree_lumps (view level.now))) }
     ensures coded { OnOk result (IsTreeCoded (view level.now)) }
     ensures memory { IsOkUnless result BuildError.OutOfMemory }
 {
-    push_lump(lumps, LUMP_NAMES[4], encode_segs(alloc, &level.segs)?)?;
-    push_lump(lumps, LUMP_NAMES[5], encode_subs(alloc, &level.subs)?)?;
-    push_lump(lumps, LUMP_NAMES[6], encode_nodes(alloc, &level.nodes)?)?;
+    wad.push(LUMP_NAMES[4], &encode_segs(alloc, &level.segs)?)?;
+    wad.push(LUMP_NAMES[5], &encode_subs(alloc, &level.subs)?)?;
+    wad.push(LUMP_NAMES[6], &encode_nodes(alloc, &level.nodes)?)?;
     Ok(())
 }
 
 // Appends the lumps after the tree: sectors, REJECT, BLOCKMAP.
-fn push_last(alloc: Global, lumps: &mut Vec<NamedLump>, level: &Level) -> Result<(), BuildError>
-    ensures lumps { OnOk result (views lumps.new.items
-        ≡ views lumps.old.items ++ last_lumps (view level.now)) }
+fn push_last(alloc: Global, wad: &mut WadWriter, level: &Level) -> Result<(), BuildError>
+    requires { Fits wad.old (last_lumps (view level.now)) }
+    ensures lumps { OnOk result (Puts wad.old wad.new (last_lumps (view level.now))) }
     ensures coded { OnOk result (IsLastCoded (view level.now)) }
     ensures memory { IsOkUnless result BuildError.OutOfMemory }
 {
-    push_lump(lumps, LUMP_NAMES[7], encode_sectors(alloc, &level.sectors)?)?;
-    push_lump(lumps, LUMP_NAMES[8], copied(alloc, &level.reject)?)?;
-    push_lump(lumps, LUMP_NAMES[9], copied(alloc, &level.blockmap)?)?;
+    wad.push(LUMP_NAMES[7], &encode_sectors(alloc, &level.sectors)?)?;
+    wad.push(LUMP_NAMES[8], &level.reject)?;
+    wad.push(LUMP_NAMES[9], &level.blockmap)?;
     Ok(())
 }
 
-// Appends the marker and the ten lumps of a level.
+// Appends the marker and the ten lumps of a level. Each is encoded just before it is appended, so
+// that only one encoded lump is in memory beside the level and the PWAD.
 fn push_level(
     alloc: Global,
-    lumps: &mut Vec<NamedLump>,
+    wad: &mut WadWriter,
     name: Name8,
     level: &Level,
 ) -> Result<(), BuildError>
-    ensures lumps { OnOk result (views lumps.new.items
-        ≡ views lumps.old.items ++ lumps_of (level_part name (view level.now))) }
+    requires { Fits wad.old (lumps_of (level_part name (view level.now))) }
+    ensures lumps { OnOk result
+        (Puts wad.old wad.new (lumps_of (level_part name (view level.now)))) }
     ensures coded { OnOk result (IsCoded (view level.now)) }
     ensures memory { IsOkUnless result BuildError.OutOfMemory }
 {
-    push_lump(lumps, name, Vec::new(alloc))?;
-    push_drawn(alloc, lumps, level)?;
-    push_tree(alloc, lumps, level)?;
-    push_last(alloc, lumps, level)?;
+    wad.push(name, &[])?;
+    push_drawn(alloc, wad, level)?;
+    push_tree(alloc, wad, level)?;
+    push_last(alloc, wad, level)?;
     Ok(())
 }
 
-// The lumps of the levels, one level after another.
-fn lumps_of(alloc: Global, levels: &[NamedLevel]) -> Result<Vec<NamedLump>, BuildError>
-    ensures lumps { IfOk result (λ v. views v.items ≡ all_lumps (level_parts levels.now)) }
-    ensures coded { IfOk result (λ v. All (λ l. IsCoded (view l.level)) levels.now) }
+// Appends the lumps of the levels, one level after another.
+fn push_levels(alloc: Global, wad: &mut WadWriter, levels: &[NamedLevel]) -> Result<(), BuildError>
+    requires { Fits wad.old (all_lumps (level_parts levels.now)) }
+    ensures lumps { OnOk result (Puts wad.old wad.new (all_lumps (level_parts levels.now))) }
+    ensures coded { OnOk result (All (λ l. IsCoded (view l.level)) levels.now) }
     ensures memory { IsOkUnless result BuildError.OutOfMemory }
 {
-    let mut lumps = Vec::new(alloc);
     for n in 0..levels.len() {
         let level = &levels[n];
-        push_level(alloc, &mut lumps, level.name, &level.level)?;
+        push_level(alloc, wad, level.name, &level.level)?;
     }
-    Ok(lumps)
+    Ok(())
+}
+
+// How many lumps the levels have: a marker and ten others each.
+fn lump_count(levels: &[NamedLevel]) -> u32
+    requires { AreParts (level_parts levels.now) }
+    ensures { result ≡ length (all_lumps (level_parts levels.now)) }
+{
+    11 * levels.len() as u32
+}
+
+// How many bytes a level adds to a PWAD: its records, REJECT, BLOCKMAP, and eleven entries of the
+// directory.
+fn len_of(level: &Level) -> u128
+    ensures { result ≡ level_len (view level.now) }
+{
+    let drawn = 10 * level.things.len() as u128
+        + 14 * level.lines.len() as u128
+        + 30 * level.sides.len() as u128
+        + 4 * level.vertices.len() as u128
+        + 26 * level.sectors.len() as u128;
+    let tree = 12 * level.segs.len() as u128
+        + 4 * level.subs.len() as u128
+        + 28 * level.nodes.len() as u128;
+    drawn + tree + level.reject.len() as u128 + level.blockmap.len() as u128 + 176
+}
+
+// How many bytes the PWAD of the levels has, if their records have the bytes of their kinds. The
+// type's greatest number stands for any greater one.
+fn total_len(levels: &[NamedLevel]) -> u128
+    ensures sum { result ≡ min (wad_len (map (λ x. view x.level) levels.now))
+        340282366920938463463374607431768211455 }
+    ensures exact { AreParts (level_parts levels.now)
+        → All (λ x. AreSized (view x.level)) levels.now
+        → result ≡ wad_size (all_lumps (level_parts levels.now)) }
+{
+    let mut total = 12;
+    for n in 0..levels.len() {
+        let named = &levels[n];
+        total = len_of(&named.level).saturating_add(total);
+    }
+    total
 }
 
 /// The PWAD of the levels, each of which reads back by its name.
@@ -129,7 +149,10 @@ pub fn wad_of_levels(alloc: Global, levels: &[NamedLevel]) -> Result<Vec<u8>, Bu
         All (λ l. IsLevel wad.items (name_text l.name) (view l.level)) levels.now) }
     ensures memory { IsOkUnless result BuildError.OutOfMemory }
 {
-    let lumps = lumps_of(alloc, levels)?;
-    let wad = wad_of(alloc, &lumps)?;
-    Ok(wad)
+    let count = lump_count(levels);
+    let len = usize::try_from(total_len(levels)).unwrap_or(usize::MAX);
+    let mut wad = WadWriter::begin(alloc, len, count as usize)?;
+    push_levels(alloc, &mut wad, levels)?;
+    let bytes = wad.finish(alloc, count)?;
+    Ok(bytes)
 }

@@ -1,7 +1,6 @@
-//! Writes lumps as a PWAD: header, lumps, directory.
-ghost use Rattle.std.specs.Prelude.{◌≡◌, ◌++◌, ◌+◌, ◌<◌, ◌^◌, codes, length, flat_map, OnOk, IfOk, IsOkUnless};
-ghost use Rattle.lv_pwad.specs.Wad.{all_bytes, entries_from, entry_bytes, long, wad_bytes, wad_size};
-ghost use Rattle.lv_pwad.specs.Views.{views};
+//! Writes a PWAD lump by lump: header, lumps, directory.
+ghost use Rattle.std.specs.Prelude.{◌≡◌, ◌++◌, ◌≤◌, codes, length, drop, OnOk, IsOkUnless};
+ghost use Rattle.lv_pwad.specs.Wad.{entry_bytes, long};
 
 use crate::error::BuildError;
 use byteorder::{ByteOrder, LittleEndian};
@@ -9,11 +8,12 @@ use lv_levels::Entry;
 use lv_lumps::Name8;
 use std::alloc::Global;
 
-/// A lump to write.
+/// A PWAD that is being written: its bytes so far, with zeros in place of the header, and the
+/// directory of its lumps.
 #[derive(Drop)]
-pub struct NamedLump {
-    pub name: Name8,
-    pub bytes: Vec<u8>,
+pub struct WadWriter {
+    bytes: Vec<u8>,
+    directory: Vec<u8>,
 }
 
 // Appends a 32-bit number, the lowest byte first.
@@ -38,19 +38,6 @@ fn put_entry(bytes: &mut Vec<u8>, entry: Entry) -> Result<(), BuildError>
     Ok(())
 }
 
-// How many bytes the lumps have in all.
-fn bytes_in(lumps: &[NamedLump]) -> u32
-    requires { length (all_bytes (views lumps.now)) < 2 ^ 32 }
-    ensures { result ≡ length (all_bytes (views lumps.now)) }
-{
-    let mut sum: u32 = 0;
-    for n in 0..lumps.len() {
-        let lump = &lumps[n];
-        sum += lump.bytes.len() as u32;
-    }
-    sum
-}
-
 // Appends the header: the number of lumps, and the offset of the directory after them.
 fn put_head(wad: &mut Vec<u8>, count: u32, directory: u32) -> Result<(), BuildError>
     ensures ok { OnOk result (wad.new.items
@@ -63,44 +50,65 @@ fn put_head(wad: &mut Vec<u8>, count: u32, directory: u32) -> Result<(), BuildEr
     Ok(())
 }
 
-// Appends the lumps' bytes to the file, and their entries to the directory.
-fn put_lumps(
-    wad: &mut Vec<u8>,
-    directory: &mut Vec<u8>,
-    lumps: &[NamedLump],
-) -> Result<(), BuildError>
-    requires fits { length wad.old.items + length (all_bytes (views lumps.now)) < 2 ^ 32 }
-    ensures bytes { OnOk result (wad.new.items ≡ wad.old.items ++ all_bytes (views lumps.now)) }
-    ensures entries { OnOk result (directory.new.items ≡ directory.old.items
-        ++ flat_map entry_bytes (entries_from (length wad.old.items) (views lumps.now))) }
-    ensures memory { IsOkUnless result BuildError.OutOfMemory }
+// Writes over the first bytes.
+fn write_over(bytes: &mut [u8], head: &[u8])
+    requires { length head.now ≤ length bytes.old }
+    ensures { bytes.new ≡ head.now ++ drop (length head.now) bytes.old }
 {
-    for n in 0..lumps.len() {
-        let lump = &lumps[n];
-        let entry = Entry {
-            at: wad.len() as u32,
-            size: lump.bytes.len() as u32,
-            name: lump.name,
-        };
-        put_entry(directory, entry)?;
-        wad.extend_from_slice(&lump.bytes)?;
-    }
-    Ok(())
+    bytes[..head.len()].copy_from_slice(head);
 }
 
-/// The PWAD of the lumps: header, lumps without gaps, directory. Its memory is allocated before the first byte is
-/// written, so that no byte of a lump is moved later.
-pub fn wad_of(alloc: Global, lumps: &[NamedLump]) -> Result<Vec<u8>, BuildError>
-    requires fits { wad_size (views lumps.now) < 2 ^ 32 }
-    ensures bytes { IfOk result (λ wad. wad.items ≡ wad_bytes (views lumps.now)) }
-    ensures memory { IsOkUnless result BuildError.OutOfMemory }
-{
-    let end = 12 + bytes_in(lumps);
-    let entries = 16 * lumps.len();
-    let mut wad = Vec::with_capacity(alloc, end as usize + entries)?;
-    let mut directory = Vec::with_capacity(alloc, entries)?;
-    put_head(&mut wad, lumps.len() as u32, end)?;
-    put_lumps(&mut wad, &mut directory, lumps)?;
-    wad.extend_from_slice(&directory)?;
-    Ok(wad)
+impl WadWriter {
+    ghost use Rattle.std.specs.Prelude.{◌≡◌, ◌++◌, ◌≤◌, ◌<◌, ◌^◌, [], ◌∷◌, codes, length, drop, OnOk, IfOk, IsOkUnless};
+    ghost use Rattle.lv_pwad.specs.Wad.{long};
+    ghost use Rattle.lv_pwad.specs.Writer.{Fits, IsEmptyWad, Puts};
+
+    /// Begins a PWAD of `count` lumps. Memory for all its `len` bytes is allocated here, so that no
+    /// byte of a lump is moved later.
+    pub fn begin(alloc: Global, len: usize, count: usize) -> Result<WadWriter, BuildError>
+        ensures begun { IfOk result IsEmptyWad }
+        ensures memory { IsOkUnless result BuildError.OutOfMemory }
+    {
+        let mut bytes = Vec::with_capacity(alloc, len)?;
+        let directory = Vec::with_capacity(alloc, count.saturating_mul(16))?;
+        bytes.extend_from_slice(&[0; 12])?;
+        Ok(WadWriter { bytes, directory })
+    }
+
+    /// Appends a lump, and its entry to the directory.
+    pub fn push(&mut self, name: Name8, bytes: &[u8]) -> Result<(), BuildError>
+        requires fits { Fits self.old (record { name = name; bytes = bytes.now } ∷ []) }
+        ensures ok { OnOk result
+            (Puts self.old self.new (record { name = name; bytes = bytes.now } ∷ [])) }
+        ensures memory { IsOkUnless result BuildError.OutOfMemory }
+    {
+        let entry = Entry {
+            at: self.bytes.len() as u32,
+            size: bytes.len() as u32,
+            name,
+        };
+        put_entry(&mut self.directory, entry)?;
+        self.bytes.extend_from_slice(bytes)?;
+        Ok(())
+    }
+
+    /// The finished PWAD of `count` lumps, with its header, and the directory after the lumps.
+    pub fn finish(self, alloc: Global, count: u32) -> Result<Vec<u8>, BuildError>
+        requires fits { length self.bytes.items < 2 ^ 32 }
+        requires long { 12 ≤ length self.bytes.items }
+        ensures bytes { IfOk result (λ wad. wad.items
+            ≡ codes "PWAD" ++ (long count ++ long (length self.bytes.items))
+            ++ (drop 12 self.bytes.items ++ self.directory.items)) }
+        ensures memory { IsOkUnless result BuildError.OutOfMemory }
+    {
+        let WadWriter {
+            mut bytes,
+            directory,
+        } = self;
+        let mut head = Vec::with_capacity(alloc, 12)?;
+        put_head(&mut head, count, bytes.len() as u32)?;
+        write_over(&mut bytes, &head);
+        bytes.extend_from_slice(&directory)?;
+        Ok(bytes)
+    }
 }

@@ -1,33 +1,19 @@
-use Rattle.std.proofs.Common.{◌∙◌, sym, ap, flat_map}
-use Rattle.lv_lumps.specs.Lumps.{records_of}
-use Rattle.lv_lumps.specs.Records.{thing_record, line_record, side_record, vertex_record, thing_at, line_at, side_at, vertex_at}
-use Rattle.lv_pwad.specs.Views.{views}
-use Rattle.lv_pwad.proofs.LevelLemmas.{first_lump, next_lump}
+use Rattle.std.proofs.Common.{◌∙◌, [], ap, flat_map}
+use Rattle.lv_lumps.specs.Records.{thing_record, line_record, side_record, vertex_record}
+use Rattle.lv_pwad.proofs.PutLemmas.{put_next, put_none}
 use Rattle.lv_pwad.proofs.levels.push_drawn.Goals as goal
 
 pub returns-clause-lumps : goal.returns-clause-lumps
 returns-clause-lumps c =
-    let v0 = first_lump (views c.args.lumps.now.items) (views c.push_lump.new.lumps.items) _ c.in_ok-encode_things.field-0.items _ c.in_ok-push_lump.ensures.ok
-    (c.in_ok-encode_things.ensures.bytes ∙ ap (flat_map thing_record) c.deref.ensures.value) in
-    let v1 = next_lump (views c.args.lumps.now.items) (views c.push_lump.new.lumps.items)
-    (views c.push_lump-2.new.lumps.items) _ _ c.in_ok-encode_lines.field-0.items _ v0 c.in_ok-push_lump-2.ensures.ok
-    (c.in_ok-encode_lines.ensures.bytes ∙ ap (flat_map line_record) c.deref-2.ensures.value) in
-    let v2 = next_lump (views c.args.lumps.now.items) (views c.push_lump-2.new.lumps.items)
-    (views c.push_lump-3.new.lumps.items) _ _ c.in_ok-encode_sides.field-0.items _ v1 c.in_ok-push_lump-3.ensures.ok
-    (c.in_ok-encode_sides.ensures.bytes ∙ ap (flat_map side_record) c.deref-3.ensures.value) in
-    (next_lump (views c.args.lumps.now.items) (views c.push_lump-3.new.lumps.items) (views c.push_lump-4.new.lumps.items) _ _ c.in_ok-encode_vertices.field-0.items _ v2 c.in_ok-push_lump-4.ensures.ok
-    (c.in_ok-encode_vertices.ensures.bytes ∙ ap (flat_map vertex_record) c.deref-4.ensures.value)).same
-
-pub returns-clause-coded : goal.returns-clause-coded
-returns-clause-coded c =
-    record {
-      things =
-          ap (records_of thing_at 10) (sym (c.in_ok-encode_things.ensures.bytes ∙ ap (flat_map thing_record) c.deref.ensures.value)) ∙ (c.in_ok-encode_things.ensures.inverse ∙ c.deref.ensures.value);
-      lines =
-          ap (records_of line_at 14) (sym (c.in_ok-encode_lines.ensures.bytes ∙ ap (flat_map line_record) c.deref-2.ensures.value)) ∙ (c.in_ok-encode_lines.ensures.inverse ∙ c.deref-2.ensures.value);
-      sides =
-          ap (records_of side_at 30) (sym (c.in_ok-encode_sides.ensures.bytes ∙ ap (flat_map side_record) c.deref-3.ensures.value)) ∙ (c.in_ok-encode_sides.ensures.inverse ∙ c.deref-3.ensures.value);
-      vertices =
-          ap (records_of vertex_at 4) (sym (c.in_ok-encode_vertices.ensures.bytes ∙ ap (flat_map vertex_record) c.deref-4.ensures.value)) ∙
-          (c.in_ok-encode_vertices.ensures.inverse ∙ c.deref-4.ensures.value);
-    }
+    let w0 = c.args.wad.now in
+    let w1 = c.push.new.self in
+    let w2 = c.push-2.new.self in
+    let w3 = c.push-3.new.self in
+    let p1 = put_next w0 w0 w1 [] _ _ _ (put_none w0) c.in_ok-push.ensures.ok
+    (c.deref-2.ensures.value ∙ c.in_ok-encode_things.ensures.bytes ∙ ap (flat_map thing_record) c.deref.ensures.value) in
+    let p2 = put_next w0 w1 w2 _ _ _ _ p1 c.in_ok-push-2.ensures.ok
+    (c.deref-4.ensures.value ∙ c.in_ok-encode_lines.ensures.bytes ∙ ap (flat_map line_record) c.deref-3.ensures.value) in
+    let p3 = put_next w0 w2 w3 _ _ _ _ p2 c.in_ok-push-3.ensures.ok
+    (c.deref-6.ensures.value ∙ c.in_ok-encode_sides.ensures.bytes ∙ ap (flat_map side_record) c.deref-5.ensures.value) in
+    put_next w0 w3 c.push-4.new.self _ _ _ _ p3 c.in_ok-push-4.ensures.ok
+    (c.deref-8.ensures.value ∙ c.in_ok-encode_vertices.ensures.bytes ∙ ap (flat_map vertex_record) c.deref-7.ensures.value)

@@ -1,23 +1,14 @@
-use Rattle.std.proofs.Common.{◌∙◌, sym, ap, flat_map}
-use Rattle.lv_lumps.specs.Lumps.{records_of}
-use Rattle.lv_lumps.specs.Records.{sector_record, sector_at}
-use Rattle.lv_pwad.specs.Views.{views}
-use Rattle.lv_pwad.proofs.LevelLemmas.{first_lump, next_lump}
+use Rattle.std.proofs.Common.{◌∙◌, [], ap, flat_map}
+use Rattle.lv_lumps.specs.Records.{sector_record}
+use Rattle.lv_pwad.proofs.PutLemmas.{put_next, put_none}
 use Rattle.lv_pwad.proofs.levels.push_last.Goals as goal
 
 pub returns-clause-lumps : goal.returns-clause-lumps
 returns-clause-lumps c =
-    let v0 = first_lump (views c.args.lumps.now.items) (views c.push_lump.new.lumps.items) _ c.in_ok-encode_sectors.field-0.items _ c.in_ok-push_lump.ensures.ok
-    (c.in_ok-encode_sectors.ensures.bytes ∙ ap (flat_map sector_record) c.deref.ensures.value) in
-    let v1 = next_lump (views c.args.lumps.now.items) (views c.push_lump.new.lumps.items) (views c.push_lump-2.new.lumps.items) _ _ c.in_ok-copied.field-0.items _ v0 c.in_ok-push_lump-2.ensures.ok
-    (c.in_ok-copied.ensures.bytes ∙ c.deref-2.ensures.value) in
-    (next_lump (views c.args.lumps.now.items) (views c.push_lump-2.new.lumps.items) (views c.push_lump-3.new.lumps.items) _ _ c.in_ok-copied-2.field-0.items _ v1 c.in_ok-push_lump-3.ensures.ok
-    (c.in_ok-copied-2.ensures.bytes ∙ c.deref-3.ensures.value)).same
-
-pub returns-clause-coded : goal.returns-clause-coded
-returns-clause-coded c =
-    record {
-      sectors =
-          ap (records_of sector_at 26) (sym (c.in_ok-encode_sectors.ensures.bytes ∙ ap (flat_map sector_record) c.deref.ensures.value)) ∙
-          (c.in_ok-encode_sectors.ensures.inverse ∙ c.deref.ensures.value);
-    }
+    let w0 = c.args.wad.now in
+    let w1 = c.push.new.self in
+    let w2 = c.push-2.new.self in
+    let p1 = put_next w0 w0 w1 [] _ _ _ (put_none w0) c.in_ok-push.ensures.ok
+    (c.deref-2.ensures.value ∙ c.in_ok-encode_sectors.ensures.bytes ∙ ap (flat_map sector_record) c.deref.ensures.value) in
+    let p2 = put_next w0 w1 w2 _ _ _ _ p1 c.in_ok-push-2.ensures.ok c.deref-3.ensures.value in
+    put_next w0 w2 c.push-3.new.self _ _ _ _ p2 c.in_ok-push-3.ensures.ok c.deref-4.ensures.value

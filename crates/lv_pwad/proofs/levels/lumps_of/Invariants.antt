@@ -1,9 +1,0 @@
--- The lumps of the levels so far.
-use Rattle.std.specs.Prelude.{◌≡◌, take, All}
-use Rattle.lv_pwad.specs.Wad.{all_lumps, IsCoded}
-use Rattle.lv_levels.specs.Views.{view}
-use Rattle.lv_pwad.specs.Views.{views, level_parts}
-use Rattle.lv_pwad.proofs.levels.lumps_of.Given as goal
-
-abbrev pub invariant-loop-n : goal.invariant-loop-n
-invariant-loop-n l = (views l.lumps.items ≡ all_lumps (level_parts (take l.n l.levels))) × All (λ x. IsCoded (view x.level)) (take l.n l.levels)
