@@ -41,27 +41,27 @@ pub returns-in-Ok-read_lines-clause-opened : goal.returns-in-Ok-read_lines-claus
 returns-in-Ok-read_lines-clause-opened g c file read =
     let places = c.places-places.result in
     let r = c.in-Ok-read_slots.found in
-    let j = c.in-Ok-read_lines.journal in
     let parts : c.parts-parts.result ≡ which_parts places (slot_of r.0) = c.parts-parts.ensures ∙ ap (which_parts places) c.slot.ensures in
     let later = c.in-Ok.ensures.reads.still file read in
     let last = c.in-Ok-read_slots.ensures.reads.still file later in
     let holds = c.in-Ok-read_slots.ensures.holds file later in
-    let sound = subst (λ (q : Parts). IsJournal q.journal j.records file) parts (c.in-Ok-read_lines.ensures.sound file last) in
+    let all = c.in-Ok-read_lines.ensures.replayed in
+    let sound = subst (λ (q : Parts). IsJournal q.journal all.lines file) parts (all.journal file last) in
     record {
       has = record { allowed = c.in-Ok.ensures.allowed; header = c.in-Ok.ensures.header file read; laid_out = c.places-places.ensures.laid_out };
       stands = record {
         base = project_of r.1;
         bytes = holds.bytes;
-        lines = j.records;
+        lines = all.lines;
         well_formed = holds.well_formed;
         body = holds.body;
         live = holds.live;
         journal = sound;
         other = subst (λ (q : Parts). q.other_journal.base < length file) parts (c.in-Ok-read_lines.ensures.other file last);
-        leads = subst (λ (n : ℕ). Leads n (project_of r.1) j.records (project_of c.read_lines.new.maps)) c.cap.ensures c.in-Ok-read_lines.ensures.led;
+        leads = subst (λ (n : ℕ). Leads n (project_of r.1) all.lines (project_of c.read_lines.new.maps)) c.cap.ensures all.replayed;
       };
       slots = c.in-Ok-read_slots.ensures.slots file later;
-      journal = sound;
+      journal = (all.lines, sound, all.len);
     }
 
 pub returns-in-Ok-read_lines-clause-count : goal.returns-in-Ok-read_lines-clause-count
