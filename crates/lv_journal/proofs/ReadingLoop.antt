@@ -12,7 +12,7 @@ use Rattle.lv_disk.specs.Stops.{Each}
 use Rattle.lv_disk.specs.Gates.{open_gate, IsClosedAt}
 use Rattle.lv_disk.specs.declared.area.Area.{Area}
 use Rattle.lv_disk.proofs.Bytes.{has_both, has_left, has_right, one_has}
-use Rattle.lv_journal.specs.Records.{record_bytes, records_bytes, IsJournal}
+use Rattle.lv_journal.specs.Records.{record_bytes, records_bytes}
 use Rattle.lv_journal.specs.Reading.{ReaderState, HasRead, IsFound}
 use Rattle.lv_journal.specs.Damage.{EndsBefore, IsBadRecord, IsJournalDamagedAt}
 use Rattle.lv_journal.proofs.Lengths.{records_bytes-push, length-push}
