@@ -1,9 +1,7 @@
 -- What is read when a project is opened, and why it is refused.
-use Rattle.std.proofs.Common.{◌≡◌, inl, inr, ◌<◌, ◌≤◌, ◌+◌, ℕ, Bool, true, false, List, [], ◌∷◌, ◌++◌, length, take, drop, get_or, eqb, cond, nat_lt, Option, None, Some, Result, Ok, Err, IfErr, refl, sym, ◌∙◌, ap, subst, arith}
-use Rattle.std.specs.Prelude.{slice_get}
+use Rattle.std.proofs.Common.{◌≡◌, inl, inr, ◌<◌, ◌≤◌, ◌+◌, ℕ, Bool, true, false, List, [], ◌∷◌, ◌++◌, length, eqb, cond, Option, None, Some, Result, Ok, Err, IfErr, refl, sym, ◌∙◌, ap, subst, arith}
 use Rattle.std.proofs.lemmas.Bool.{cases_Bool}
-use Rattle.std.proofs.lemmas.Option.{get_or_from_slice_get}
-use Rattle.std.proofs.lemmas.List.{take-append-drop, take_more, append_assoc}
+use Rattle.std.proofs.lemmas.List.{append_assoc}
 use Rattle.lv_disk.specs.Gates.{IsClosedAt}
 use Rattle.lv_disk.specs.Stops.{Each}
 use Rattle.lv_disk.specs.declared.area.Area.{Area}
@@ -33,7 +31,6 @@ use Rattle.lv_project.specs.declared.opening.Opened.{Opened}
 use Rattle.lv_project.specs.declared.error.ProjectError.{ProjectError}
 use Rattle.lv_project.specs.declared.error.ProjectError.TheVariants.{Device, OutOfMemory, Reopen, GenerationsSpent, Refused, Damaged, Blank, NotAProject, NotEmpty, BadGeometry}
 use Rattle.lv_project.proofs.Placing.{TellsParts, tells_parts}
-use Rattle.lv_project.proofs.Sound.{some_none}
 
 -- ---- the header
 

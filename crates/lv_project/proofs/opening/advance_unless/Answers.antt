@@ -1,4 +1,4 @@
-use Rattle.std.proofs.Common.{◌∷◌, [], ◌++◌, ℕ, Option, Ok, ap, subst}
+use Rattle.std.proofs.Common.{ℕ, Option, Ok, ap, subst}
 use Rattle.lv_maptables.specs.Projects.{project_of}
 use Rattle.lv_project.specs.Opening.{AreReplayed}
 use Rattle.lv_project.proofs.Openings.{now_refused, still_refused}
