@@ -115,7 +115,7 @@ pub(super) fn numbered_lines(
         (λ list. list.items ≡ map (line_of vertices.now.keys sides.now.keys) lines.now.items) }
     ensures memory { IsOkUnless result MapError.OutOfMemory }
 {
-    let mut list = Vec::new(alloc);
+    let mut list = Vec::with_capacity(alloc, lines.len())?;
     for n in 0..lines.len() {
         list.push(numbered_line(vertices, sides, &lines.at(n)))?;
     }

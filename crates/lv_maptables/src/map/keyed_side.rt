@@ -79,7 +79,7 @@ pub(super) fn numbered_sides(
         (λ list. list.items ≡ map (side_of sectors.now.keys) sides.now.items) }
     ensures memory { IsOkUnless result MapError.OutOfMemory }
 {
-    let mut list = Vec::new(alloc);
+    let mut list = Vec::with_capacity(alloc, sides.len())?;
     for n in 0..sides.len() {
         list.push(numbered_side(sectors, &sides.at(n)))?;
     }

@@ -241,7 +241,7 @@ impl<T: Copy> Table<T> {
         ensures items { IfOk result (λ list. list.items ≡ self.now.items) }
         ensures memory { IsOkUnless result MapError.OutOfMemory }
     {
-        let mut list = Vec::new(alloc);
+        let mut list = Vec::with_capacity(alloc, self.len())?;
         for n in 0..self.len() {
             list.push(self.at(n))?;
         }

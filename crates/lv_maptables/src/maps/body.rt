@@ -8,7 +8,6 @@ ghost use Rattle.lv_maptables.specs.ProjectBody.{project_body, alone, IsProjectO
 use crate::error::MapError;
 use crate::map::{Map, decode_body, first_map};
 use crate::maps::{MAP_LIMIT, Maps};
-use arrayvec::ArrayVec;
 use std::alloc::Global;
 
 // The version of a project's body that is written.
@@ -19,35 +18,6 @@ fn has_version_2(bytes: &[u8]) -> bool
     ensures { IsTrue result ↔ (bytes.now ≡ 2 ∷ slice_index bytes.now 1 ∷ drop 2 bytes.now) }
 {
     bytes.len() >= 2 && bytes[0] == VERSION
-}
-
-// The project whose maps' parts are these bytes; the last map is current.
-fn read_maps(alloc: Global, bytes: &[u8]) -> Result<Maps, MapError>
-    ensures maps { IfOk result (λ maps. AreMapsOf bytes.now (project_of maps)) }
-    ensures refused { IfErr result (RefusesFor (NoMapsHave bytes.now)) }
-{
-    let first = first_map(alloc, bytes)?;
-    let mut at = first.part_len() as usize;
-    let mut maps = Maps::alone(alloc, first);
-    while at < bytes.len() {
-        at += maps.read_next(alloc, &bytes[at..])?;
-    }
-    Ok(maps)
-}
-
-// The project that has these bytes as its body of version 2.
-fn decode_version_2(alloc: Global, bytes: &[u8]) -> Result<Maps, MapError>
-    requires { bytes.now ≡ 2 ∷ slice_index bytes.now 1 ∷ drop 2 bytes.now }
-    ensures project { IfOk result (λ maps. IsProjectOf bytes.now (project_of maps)) }
-    ensures refused { IfErr result (RefusesProject bytes.now) }
-{
-    let number = usize::from(bytes[1]);
-    let mut maps = read_maps(alloc, &bytes[2..])?;
-    if maps.len() as usize <= number {
-        return Err(MapError::Damaged(0));
-    }
-    maps.make_current(number);
-    Ok(maps)
 }
 
 impl Maps {
@@ -82,30 +52,71 @@ impl Maps {
         Ok(bytes)
     }
 
-    /// The project whose body these bytes are, of version 2 or, for a project of one map, of version 1. `Damaged`
-    /// with place 0 if no well-formed project has these bytes in either version.
+    // Leaves this map as the only one.
+    fn keep_only(&mut self, map: Map)
+        requires { WellFormed map.tables }
+        ensures project { project_of self.new ≡ alone map.tables }
+        ensures well_formed { WellFormedProject (project_of self.new) }
+    {
+        self.others.clear();
+        self.number = 0;
+        self.map = map;
+    }
+
+    // Replaces the maps by those whose parts are these bytes; the last one is current.
+    fn read_maps(&mut self, alloc: Global, bytes: &[u8]) -> Result<(), MapError>
+        ensures maps { OnOk result (AreMapsOf bytes.now (project_of self.new)) }
+        ensures refused { IfErr result (RefusesFor (NoMapsHave bytes.now)) }
+    {
+        let first = first_map(alloc, bytes)?;
+        let mut at = first.part_len() as usize;
+        self.keep_only(first);
+        while at < bytes.len() {
+            at += self.read_next(alloc, &bytes[at..])?;
+        }
+        Ok(())
+    }
+
+    // Replaces the maps by those of the project that has these bytes as its body of version 2.
+    fn read_version_2(&mut self, alloc: Global, bytes: &[u8]) -> Result<(), MapError>
+        requires { bytes.now ≡ 2 ∷ slice_index bytes.now 1 ∷ drop 2 bytes.now }
+        ensures project { OnOk result (IsProjectOf bytes.now (project_of self.new)) }
+        ensures refused { IfErr result (RefusesProject bytes.now) }
+    {
+        let number = usize::from(bytes[1]);
+        self.read_maps(alloc, &bytes[2..])?;
+        if self.len() as usize <= number {
+            return Err(MapError::Damaged(0));
+        }
+        self.make_current(number);
+        Ok(())
+    }
+
+    /// Replaces the maps by those of the project whose body these bytes are, of version 2 or, for a project of one map,
+    /// of version 1. After a refusal the maps are those of some project. `Damaged` with place 0 if no well-formed project
+    /// has these bytes in either version.
+    ///
+    /// A project has room for 32 maps in its value, so a caller reads into the place where it keeps them.
+    pub fn read_body(&mut self, alloc: Global, bytes: &[u8]) -> Result<(), MapError>
+        ensures project { OnOk result (IsProjectOf bytes.now (project_of self.new)) }
+        ensures refused { IfErr result (RefusesProject bytes.now) }
+    {
+        if has_version_2(bytes) {
+            return self.read_version_2(alloc, bytes);
+        }
+        let map = decode_body(alloc, bytes)?;
+        self.keep_only(map);
+        Ok(())
+    }
+
+    /// The project whose body these bytes are, as `read_body` reads it.
     pub fn decode_body(alloc: Global, bytes: &[u8]) -> Result<Maps, MapError>
         ensures project { IfOk result (λ maps. IsProjectOf bytes.now (project_of maps)) }
         ensures refused { IfErr result (RefusesProject bytes.now) }
     {
-        if has_version_2(bytes) {
-            return decode_version_2(alloc, bytes);
-        }
-        let map = decode_body(alloc, bytes)?;
-        Ok(Maps::alone(alloc, map))
-    }
-
-    // The project of one map.
-    fn alone(alloc: Global, map: Map) -> Self
-        requires { WellFormed map.tables }
-        ensures project { project_of result ≡ alone map.tables }
-        ensures well_formed { WellFormedProject (project_of result) }
-    {
-        Maps {
-            map,
-            number: 0,
-            others: ArrayVec::new_in(alloc),
-        }
+        let mut maps = Maps::new(alloc);
+        maps.read_body(alloc, bytes)?;
+        Ok(maps)
     }
 
     // Appends the map whose part the bytes begin with, and makes it current. It returns the length of its part.

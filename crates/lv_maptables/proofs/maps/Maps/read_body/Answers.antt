@@ -4,7 +4,7 @@ use Rattle.std.proofs.lemmas.Bool.{both_ways}
 use Rattle.lv_maptables.specs.ProjectBody.{IsProjectOf}
 use Rattle.lv_maptables.proofs.FramedLemmas.{refused_by}
 use Rattle.lv_maptables.proofs.ProjectBodyLemmas.{no_old_project, old_project}
-use Rattle.lv_maptables.proofs.maps.Maps.decode_body.Goals as goal
+use Rattle.lv_maptables.proofs.maps.Maps.read_body.Goals as goal
 
 pub returns-in_err-map-clause-refused : goal.returns-in_err-map-clause-refused
 returns-in_err-map-clause-refused c =
@@ -15,5 +15,5 @@ returns-in_err-map-clause-refused c =
 pub returns-clause-project : goal.returns-clause-project
 returns-clause-project c =
     let bs = c.args.bytes.now in
-    subst (IsProjectOf bs) (sym c.alone.ensures.project)
+    subst (IsProjectOf bs) (sym c.keep_only.ensures.project)
     (old_project bs (λ is. both_ways c.has_version_2.result c.if-has_version_2.false (c.has_version_2.ensures.1 is)) c.in_ok-map.map.tables c.in_ok-map.ensures.map)

@@ -5,7 +5,7 @@ use Rattle.lv_maptables.specs.Tables.{Tables}
 use Rattle.lv_maptables.specs.WellFormed.{WellFormed}
 use Rattle.lv_maptables.specs.Projects.{WellFormedProject}
 use Rattle.lv_maptables.specs.ProjectBody.{alone}
-use Rattle.lv_maptables.proofs.maps.Maps.alone.Goals as goal
+use Rattle.lv_maptables.proofs.maps.Maps.keep_only.Goals as goal
 
 one_fine : (m : Tables) → WellFormed m → WellFormedProject (alone m)
 one_fine m w =
@@ -16,8 +16,8 @@ one_fine m w =
       names = λ i j d before within. absurd (omega arith);
     }
 
-pub invariant_of-result : goal.invariant_of-result
-invariant_of-result c = record { number = omega arith; project = rw c.new_in.ensures (one_fine c.args.map.tables c.requires) }
+pub invariant_of-self : goal.invariant_of-self
+invariant_of-self c = record { number = omega arith; project = rw c.clear.ensures (one_fine c.args.map.tables c.requires) }
 
 pub returns-clause-well_formed : goal.returns-clause-well_formed
-returns-clause-well_formed c = rw c.new_in.ensures (one_fine c.args.map.tables c.requires)
+returns-clause-well_formed c = rw c.clear.ensures (one_fine c.args.map.tables c.requires)
