@@ -251,5 +251,5 @@ result_later {T = T} old new fewer (Err GenerationsSpent) h = absurd h
 result_later {T = T} old new fewer (Err (Refused e)) h = absurd h
 result_later {T = T} old new fewer (Err NotEmpty) h = absurd h
 
-pub stands_opened : (o : Opened) (file : List ℕ) → slot_of o.slots ≤ 1 → IsOpened o file → Stands (cap_of o.geometry) (project_of o.maps) (generation_of o.slots) file
-stands_opened o file which is = record { geometry = o.geometry; places = o.places; has = is.has; cap_is = refl; slot = slot_of o.slots; which = which; at = is.stands }
+pub stands_opened : (o : Opened) (maps : ProjectMaps) (file : List ℕ) → slot_of o.slots ≤ 1 → IsOpened o maps file → Stands (cap_of o.geometry) maps (generation_of o.slots) file
+stands_opened o maps file which is = record { geometry = o.geometry; places = o.places; has = is.has; cap_is = refl; slot = slot_of o.slots; which = which; at = is.stands }

@@ -24,10 +24,10 @@ use Rattle.lv_project.specs.declared.error.ProjectError.{ProjectError}
 use Rattle.lv_project.specs.declared.error.ProjectError.TheVariants.{Device, OutOfMemory, Damaged, Blank, NotAProject, NotEmpty, BadGeometry}
 
 -- the file stands for what was opened
-pub record IsOpened (o : Opened) (file : List ℕ) : Type 0 where
+pub record IsOpened (o : Opened) (maps : ProjectMaps) (file : List ℕ) : Type 0 where
   pub has : HasGeometry o.geometry o.places file
   pub stands : StandsAt (cap_of o.geometry) (which_parts o.places (slot_of o.slots))
-      (project_of o.maps) (generation_of o.slots) file
+      maps (generation_of o.slots) file
   pub slots : HasSomeSlots o.slots file
   pub journal : EndsAt (which_parts o.places (slot_of o.slots)).journal o.journal.next file
 

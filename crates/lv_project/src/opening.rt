@@ -26,14 +26,14 @@ use lv_journal::{Journal, JournalError, Reader, blank};
 use lv_maptables::{MapError, Maps};
 use std::alloc::{AllocError, Global};
 
-/// The parts of a project, as they were read from its file.
+/// The parts of a project, as they were read from its file, without its maps: these are large, so they are read into
+/// the place where the caller keeps them.
 #[derive(Drop)]
 pub struct Opened {
     pub geometry: Geometry,
     pub places: Places,
     pub slots: Slots,
     pub journal: Journal,
-    pub maps: Maps,
 }
 
 // Applies a line of the journal. False if it is not a command that the maps accept.
@@ -140,22 +140,23 @@ fn refusal_of_body(error: MapError, place: u64) -> ProjectError
     }
 }
 
-// Reads the slots, and the maps in the live body.
+// Reads the slots, and in place of the maps those in the live body.
 fn read_slots<D: Disk>(
     alloc: Global,
     disk: &mut D,
     geometry: Geometry,
     places: Places,
-) -> Result<(Slots, Maps), ProjectError>
+    maps: &mut Maps,
+) -> Result<Slots, ProjectError>
     requires allowed { IsAllowed geometry.slot geometry.journal }
     requires laid_out { AreLaidOut geometry places }
     requires only { Each (D.may_leave disk.old) (D.reads disk.old) }
-    ensures holds { IfOk result (λ r. Each (D.reads disk.old)
-        (HoldsMap (which_parts places (slot_of r.0)) (generation_of r.0) (project_of r.1))) }
-    ensures slots { IfOk result (λ r. Each (D.reads disk.old) (HasSomeSlots r.0)) }
-    ensures areas { IfOk result (λ r. (first_area r.0 ≡ places.a) × (second_of r.0 ≡ places.b)
-        × (slot_of r.0 ≤ 1)) }
-    ensures fits { IfOk result (λ r. body_len (project_of r.1) ≤ cap_of geometry) }
+    ensures holds { IfOk result (λ s. Each (D.reads disk.old)
+        (HoldsMap (which_parts places (slot_of s)) (generation_of s) (project_of maps.new))) }
+    ensures slots { IfOk result (λ s. Each (D.reads disk.old) (HasSomeSlots s)) }
+    ensures areas { IfOk result (λ s. (first_area s ≡ places.a) × (second_of s ≡ places.b)
+        × (slot_of s ≤ 1)) }
+    ensures fits { OnOk result (body_len (project_of maps.new) ≤ cap_of geometry) }
     ensures refused { IfErr result (RefusesSlots (D.reads disk.old) geometry places) }
     ensures reads { OnlyReads D.Disk disk.old disk.new }
     ensures only { Each (D.may_leave disk.new) (D.reads disk.new) }
@@ -166,8 +167,8 @@ fn read_slots<D: Disk>(
         Ok(live) => live,
         Err(error) => return Err(refusal_of_slots(error)),
     };
-    match Maps::decode_body(alloc, &found.body) {
-        Ok(maps) => Ok((slots, maps)),
+    match maps.read_body(alloc, &found.body) {
+        Ok(()) => Ok(slots),
         Err(error) => Err(refusal_of_body(error, places.parts(found.slot).live.base)),
     }
 }
@@ -210,10 +211,15 @@ fn read_lines<D: Disk>(
     }
 }
 
-// Reads a project from a fully synced disk. It only reads.
-fn read_synced<D: Disk>(alloc: Global, disk: &mut D) -> Result<Opened, ProjectError>
+// Reads a project from a fully synced disk, and its maps in place of those that are given. It only reads.
+fn read_synced<D: Disk>(
+    alloc: Global,
+    disk: &mut D,
+    maps: &mut Maps,
+) -> Result<Opened, ProjectError>
     requires only { Each (D.may_leave disk.old) (D.reads disk.old) }
-    ensures opened { IfOk result (λ o. Each (D.reads disk.old) (IsOpened o)) }
+    ensures opened { IfOk result
+        (λ o. Each (D.reads disk.old) (IsOpened o (project_of maps.new))) }
     ensures journal { IfOk result (λ o. o.journal
         ≡ journal_at (which_parts o.places (slot_of o.slots)).journal o.journal.next) }
     ensures places { IfOk result (λ o. IsAllowed o.geometry.slot o.geometry.journal
@@ -221,7 +227,7 @@ fn read_synced<D: Disk>(alloc: Global, disk: &mut D) -> Result<Opened, ProjectEr
     ensures areas { IfOk result
         (λ o. (first_area o.slots ≡ o.places.a) × (second_of o.slots ≡ o.places.b)
         × (slot_of o.slots ≤ 1)) }
-    ensures fits { IfOk result (λ o. body_len (project_of o.maps) ≤ cap_of o.geometry) }
+    ensures fits { IfOk result (λ o. body_len (project_of maps.new) ≤ cap_of o.geometry) }
     ensures refused { IfErr result (IsRefusedRead (D.reads disk.old)) }
     ensures reads { OnlyReads D.Disk disk.old disk.new }
     ensures count { CountsFaults ProjectError.Device (D.failures disk.old)
@@ -232,27 +238,30 @@ fn read_synced<D: Disk>(alloc: Global, disk: &mut D) -> Result<Opened, ProjectEr
         Err(error) => return Err(error),
     };
     let places = geometry.places();
-    let (slots, maps) = match read_slots(alloc, disk, geometry, places) {
-        Ok(found) => found,
+    let slots = match read_slots(alloc, disk, geometry, places, maps) {
+        Ok(slots) => slots,
         Err(error) => return Err(error),
     };
-    let mut maps = maps;
     let parts = places.parts(slots.slot());
-    match read_lines(disk, parts, &mut maps, geometry.cap()) {
+    match read_lines(disk, parts, maps, geometry.cap()) {
         Ok(journal) => Ok(Opened {
             geometry,
             places,
             slots,
             journal,
-            maps,
         }),
         Err(error) => Err(error),
     }
 }
 
-/// Reads a project: one sync, and then only reads.
-pub fn read_project<D: Disk>(alloc: Global, disk: &mut D) -> Result<Opened, ProjectError>
-    ensures opened { IfOk result (λ o. Each (D.reads disk.new) (IsOpened o)) }
+/// Reads a project, and its maps in place of those that are given: one sync, and then only reads.
+pub fn read_project<D: Disk>(
+    alloc: Global,
+    disk: &mut D,
+    maps: &mut Maps,
+) -> Result<Opened, ProjectError>
+    ensures opened { IfOk result
+        (λ o. Each (D.reads disk.new) (IsOpened o (project_of maps.new))) }
     ensures journal { IfOk result (λ o. o.journal
         ≡ journal_at (which_parts o.places (slot_of o.slots)).journal o.journal.next) }
     ensures places { IfOk result (λ o. IsAllowed o.geometry.slot o.geometry.journal
@@ -260,7 +269,7 @@ pub fn read_project<D: Disk>(alloc: Global, disk: &mut D) -> Result<Opened, Proj
     ensures areas { IfOk result
         (λ o. (first_area o.slots ≡ o.places.a) × (second_of o.slots ≡ o.places.b)
         × (slot_of o.slots ≤ 1)) }
-    ensures fits { IfOk result (λ o. body_len (project_of o.maps) ≤ cap_of o.geometry) }
+    ensures fits { IfOk result (λ o. body_len (project_of maps.new) ≤ cap_of o.geometry) }
     ensures refused { IfErr result (IsRefusedRead (D.reads disk.new)) }
     ensures only { OnOk result (Each (D.may_leave disk.new) (D.reads disk.new)) }
     ensures reads { Each (D.reads disk.new) (D.reads disk.old) }
@@ -270,7 +279,7 @@ pub fn read_project<D: Disk>(alloc: Global, disk: &mut D) -> Result<Opened, Proj
         (D.failures disk.new) result }
 {
     match disk.sync() {
-        Ok(()) => read_synced(alloc, disk),
+        Ok(()) => read_synced(alloc, disk, maps),
         Err(_) => Err(ProjectError::Device),
     }
 }

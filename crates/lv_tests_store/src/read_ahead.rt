@@ -15,7 +15,7 @@ fn counted(alloc: Global, k: u64) -> Result<ReadAhead<FaultDisk<MemoryDisk>>, Fa
     for place in 0..LONG {
         bytes.push((place % 251) as u8)?;
     }
-    let disk = MemoryDisk::new(alloc, 20_000, 20_000)?;
+    let disk = MemoryDisk::new(alloc, 30_000, 30_000)?;
     let mut ahead = ReadAhead::new(FaultDisk::new(disk, k, 0), Buffer::new(alloc)?);
     ahead.write_at(0, &bytes)?;
     Ok(ahead)

@@ -16,7 +16,7 @@ invariant_of-result g c =
     let read = c.in-Ok-read.ensures in
     let o = c.in-Ok-read.opened in
     let area = ap (λ (j : JournalState). j.area) read.journal in
-    let now : Each (g.D.Disk.may_leave c.into_inner-disk.result) (IsOpened o) = λ file left. read.opened file (read.only file (subst (λ d. g.D.Disk.may_leave d file) c.into_inner-disk.ensures left)) in
+    let now : Each (g.D.Disk.may_leave c.into_inner-disk.result) (IsOpened o (project_of c.read_project-read.new.maps)) = λ file left. read.opened file (read.only file (subst (λ d. g.D.Disk.may_leave d file) c.into_inner-disk.ensures left)) in
     record {
       framed = record {
         allowed = read.places.0;
@@ -39,18 +39,18 @@ invariant_of-result g c =
 pub returns-in-Ok-read-clause-kept : goal.returns-in-Ok-read-clause-kept
 returns-in-Ok-read-clause-kept g c = λ go file left.
     let image = subst (λ d. g.D.Disk.may_leave d file) c.into_inner-disk.ensures left in
-    stands_opened c.in-Ok-read.opened file c.in-Ok-read.ensures.areas.2 (c.in-Ok-read.ensures.opened file (c.in-Ok-read.ensures.only file image))
+    stands_opened c.in-Ok-read.opened (project_of c.read_project-read.new.maps) file c.in-Ok-read.ensures.areas.2 (c.in-Ok-read.ensures.opened file (c.in-Ok-read.ensures.only file image))
 
 pub returns-in-Ok-read-clause-opened : goal.returns-in-Ok-read-clause-opened
 returns-in-Ok-read-clause-opened g c = (
   refl,
   λ file read.
       let was = subst (λ d. g.D.Disk.reads d file) c.into_inner-disk.ensures read in
-      let stands = stands_opened c.in-Ok-read.opened file c.in-Ok-read.ensures.areas.2 (c.in-Ok-read.ensures.opened file was) in
+      let stands = stands_opened c.in-Ok-read.opened (project_of c.read_project-read.new.maps) file c.in-Ok-read.ensures.areas.2 (c.in-Ok-read.ensures.opened file was) in
       record {
         stands = stands;
         only = λ limit other k is.
-            one_map limit (cap_of c.in-Ok-read.opened.geometry) other (project_of c.in-Ok-read.opened.maps) k
+            one_map limit (cap_of c.in-Ok-read.opened.geometry) other (project_of c.read_project-read.new.maps) k
             (generation_of c.in-Ok-read.opened.slots) file is stands;
       },
 )
