@@ -14,7 +14,7 @@ use Rattle.lv_checkpoint.specs.Handles.{first_area, second_of, slot_of, generati
 use Rattle.lv_checkpoint.specs.declared.slots.Slots.{Slots}
 use Rattle.lv_checkpoint.specs.declared.error.CheckpointError.{CheckpointError}
 use Rattle.lv_checkpoint.specs.declared.error.CheckpointError.TheVariants as slot
-use Rattle.lv_maptables.specs.Projects.{ProjectMaps, body_len, project_of}
+use Rattle.lv_maptables.specs.Projects.{ProjectMaps, body_len}
 use Rattle.lv_maptables.specs.ProjectBody.{NoProjectHas, IsProjectOf, RefusesProject}
 use Rattle.lv_maptables.specs.declared.error.MapError.{MapError}
 use Rattle.lv_maptables.specs.declared.error.MapError.TheVariants as map

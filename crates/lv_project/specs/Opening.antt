@@ -8,7 +8,7 @@ use Rattle.lv_checkpoint.specs.Damage as damage
 use Rattle.lv_checkpoint.specs.Handles.{generation_of, slot_of, HasSomeSlots}
 use Rattle.lv_checkpoint.specs.declared.error.CheckpointError as slots
 use Rattle.lv_checkpoint.specs.declared.error.CheckpointError.TheVariants as slot
-use Rattle.lv_maptables.specs.Projects.{ProjectMaps, WellFormedProject, project_of}
+use Rattle.lv_maptables.specs.Projects.{ProjectMaps, WellFormedProject}
 use Rattle.lv_maptables.specs.declared.error.MapError.{MapError}
 use Rattle.lv_maptables.specs.declared.error.MapError.TheVariants as map
 use Rattle.lv_maptables.specs.ProjectBody.{HasBody}
