@@ -1,5 +1,5 @@
 -- What has been read of an area, record by record.
-use Rattle.std.proofs.Common.{◌≡◌, inl, inr, ◌⊎◌, ◌<◌, ◌≤◌, ◌+◌, ◌-◌, ◌^◌, ℕ, min, List, [], ◌∷◌, ◌++◌, length, take, drop, Option, None, Some, Result, Ok, Err, sym, ◌∙◌, ap, subst, arith}
+use Rattle.std.proofs.Common.{◌≡◌, inl, inr, ◌⊎◌, ◌<◌, ◌≤◌, ◌+◌, ◌-◌, ◌^◌, ℕ, min, List, [], ◌∷◌, ◌++◌, length, take, drop, Option, None, Some, Result, Ok, Err, sym, ◌∙◌, subst, arith}
 use Rattle.std.specs.Prelude.{slice_range, IfNone, IfSome, OnOk}
 use Rattle.std.specs.List.{All}
 use Rattle.std.specs.Int.{to_le_bytes, w32}
@@ -12,22 +12,10 @@ use Rattle.lv_disk.specs.Stops.{Each}
 use Rattle.lv_disk.specs.Gates.{open_gate, IsClosedAt}
 use Rattle.lv_disk.specs.declared.area.Area.{Area}
 use Rattle.lv_disk.proofs.Bytes.{has_both, has_left, has_right, one_has}
-use Rattle.lv_journal.specs.Records.{record_bytes, records_bytes, IsJournal}
+use Rattle.lv_journal.specs.Records.{record_bytes, records_bytes}
+use Rattle.lv_journal.specs.Reading.{ReaderState, HasRead, IsFound}
 use Rattle.lv_journal.specs.Damage.{EndsBefore, IsBadRecord, IsJournalDamagedAt}
 use Rattle.lv_journal.proofs.Lengths.{records_bytes-push, length-push}
-
--- these payloads stand at the front of the area, and their next gate before the end
-pub record HasRead (area : Area) (end next : ℕ) (payloads : List (List ℕ)) (reads : List ℕ → Type 0) : Type 0 where
-  pub len : next ≡ length (records_bytes payloads)
-  pub inside : area.base + next < end
-  pub short : All (λ payload. length payload ≤ 256) payloads
-  pub has : Each reads (HasAt area.base (records_bytes payloads))
-
--- at this place stands a closed gate, or an open one and the length of a record that fits with its next gate
-abbrev pub IsFound : ℕ → ℕ → (List ℕ → Type 0) → Option ℕ → Type 0
-IsFound place end reads None = Each reads (IsClosedAt place)
-IsFound place end reads (Some len) =
-    Each reads (HasAt place (open_gate ∷ [])) × Each reads (HasAt (place + 1) (to_le_bytes w32 len)) × (len ≤ 256) × (place + 6 + len ≤ end)
 
 -- the same of other files, all of which are among the first
 pub found_among : (place end : ℕ) (reads others : List ℕ → Type 0) (found : Option ℕ) → Each others reads → IfNone found (Each reads (IsClosedAt place))
@@ -68,48 +56,50 @@ pub on_ok : {T E P Q : Type 0} (result : Result T E) → (P → Q) → OnOk resu
 on_ok (Ok value) f h = f h
 on_ok (Err error) f h = tt
 
--- where the file or the area ends before the first gate
-pub no_gate : (area : Area) (end : ℕ) (file : List ℕ) → end ≡ min (length file) (area.base + area.length) → end ≤ area.base → EndsBefore area (area.base + 1) file
-no_gate area end file ends le =
-    elim (cases_lt (length file) (area.base + 1)) [ inl lt ↦ inl lt | inr ge ↦ inr (omega (arith, ends, le, ge)) ]
+module _ (r : ReaderState) (payloads : List (List ℕ)) (files : List ℕ → Type 0) (read : HasRead r payloads files) where
+  -- where the next gate is open: the payload behind it, from what a call read
+  module _ (n : ℕ) (bytes : List ℕ) (is_open : r.found ≡ Some n) (room : length bytes ≡ 261) (there : Each files (HasAt (r.area.base + r.next + 5) (take n bytes))) where
+    head : IsFound (r.area.base + r.next) r.end files (Some n)
+    head = subst (λ (f : Option ℕ). IsFound (r.area.base + r.next) r.end files f) is_open read.found
 
-module _ (area : Area) (end next : ℕ) (payloads : List (List ℕ)) (reads : List ℕ → Type 0) (found : HasRead area end next payloads reads) where
-  pub has_one_more : (payload : List ℕ) → length payload ≤ 256 → area.base + next + 6 + length payload ≤ end → Each reads (HasAt (area.base + next) (record_bytes payload))
-      → HasRead area end (next + (5 + length payload)) (payloads ++ payload ∷ []) reads
-  has_one_more payload short fits has = record {
-    len = omega (arith, length-push payloads payload, found.len);
-    inside = omega (arith, fits);
-    short = All-push (λ (p : List ℕ). length p ≤ 256) payloads payload found.short short;
-    has = λ file is. subst (λ (l : List ℕ). HasAt area.base l file) (sym (records_bytes-push payloads payload))
-        (has_both area.base (records_bytes payloads) (record_bytes payload) file (found.has file is)
-        (subst (λ (k : ℕ). HasAt (area.base + k) (record_bytes payload) file) found.len (has file is)));
-  }
+    is_long : length (take n bytes) ≡ n
+    is_long = length-take-le n bytes (omega (arith, room, head.2))
 
-  -- the same from what a call read, at a moment when a read gave no less
-  pub has_record : (n : ℕ) (bytes : List ℕ) (mid : List ℕ → Type 0) → Each reads mid → n ≤ length bytes → IsFound (area.base + next) end reads (Some n)
-      → Each mid (HasAt (area.base + next + 5) (take n bytes)) → HasRead area end (next + (5 + n)) (payloads ++ take n bytes ∷ []) reads
-  has_record n bytes mid among within head has =
-      let is_long = length-take-le n bytes within in
-      subst (λ (k : ℕ). HasRead area end (next + (5 + k)) (payloads ++ take n bytes ∷ []) reads) is_long
-      (has_one_more (take n bytes) (omega (arith, is_long, head.2)) (omega (arith, is_long, head.3))
-      (λ file is. whole_record (area.base + next) n (take n bytes) file is_long (head.0 file is) (head.1 file is) (has file (among file is))))
+    size : length (records_bytes (payloads ++ take n bytes ∷ [])) ≡ r.next + (5 + n)
+    size = omega (arith, length-push payloads (take n bytes), read.len, is_long)
 
-  pub is_sound : end ≤ area.base + area.length → Each reads (IsClosedAt (area.base + next)) → Each reads (IsJournal area payloads)
-  is_sound le closed file is = record {
-    records = found.has file is;
-    gate = subst (λ (k : ℕ). IsClosedAt (area.base + k) file) found.len (closed file is);
-    room = omega (arith, found.len, found.inside, le);
-    short = found.short;
-  }
+    more_short : All (λ payload. length payload ≤ 256) (payloads ++ take n bytes ∷ [])
+    more_short = All-push (λ (p : List ℕ). length p ≤ 256) payloads (take n bytes) read.short (omega (arith, is_long, head.2))
 
-  pub is_damaged : (place : ℕ) → place ≡ area.base + next → Each reads (IsBadRecord area (area.base + next)) → Each reads (IsJournalDamagedAt area place)
-  is_damaged place there bad file is = inr (record {
-    payloads = payloads;
-    records = found.has file is;
-    short = found.short;
-    there = there ∙ ap (λ (k : ℕ). area.base + k) found.len;
-    bad = subst (λ (k : ℕ). IsBadRecord area k file) (sym there) (bad file is);
-  })
+    more_bytes : Each files (HasAt r.area.base (records_bytes (payloads ++ take n bytes ∷ [])))
+    more_bytes file is =
+        let record_there = whole_record (r.area.base + r.next) n (take n bytes) file is_long (head.0 file is) (head.1 file is) (there file is) in
+        subst (λ (l : List ℕ). HasAt r.area.base l file) (sym (records_bytes-push payloads (take n bytes)))
+        (has_both r.area.base (records_bytes payloads) (record_bytes (take n bytes)) file (read.has file is)
+        (subst (λ (k : ℕ). HasAt (r.area.base + k) (record_bytes (take n bytes)) file) read.len record_there))
+
+    -- with this payload, of files that are among these
+    pub has_one_more : (place : ℕ) (later : List ℕ → Type 0) (found : Option ℕ) → place ≡ r.area.base + (r.next + (5 + n)) → Each later files → IsFound place r.end later found
+        → HasRead (record r { next = r.next + (5 + n); found = found; last = take n bytes }) (payloads ++ take n bytes ∷ []) later
+    has_one_more place later found at among is = record {
+      len = sym size;
+      inside = omega (arith, head.3);
+      within = read.within;
+      ends = λ file i. read.ends file (among file i);
+      short = more_short;
+      has = λ file i. more_bytes file (among file i);
+      found = subst (λ (k : ℕ). IsFound k r.end later found) at is;
+    }
+
+    -- a bad record behind this payload
+    pub breaks_behind : (place : ℕ) → place ≡ r.area.base + (r.next + (5 + n)) → Each files (IsBadRecord r.area place) → Each files (IsJournalDamagedAt r.area place)
+    breaks_behind place at bad file is = inr (record {
+      payloads = payloads ++ take n bytes ∷ [];
+      records = more_bytes file is;
+      short = more_short;
+      there = omega (arith, at, size);
+      bad = bad file is;
+    })
 
 -- ---- Where a head stands
 

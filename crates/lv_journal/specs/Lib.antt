@@ -5,3 +5,5 @@ pub mod Payloads
 pub mod State
 pub mod View
 pub mod Refusals
+pub mod Reading
+pub mod ReaderView

@@ -15,6 +15,10 @@ code_of (Damaged place) = 40
 abbrev pub RefusesToOpenJournal : JournalError → Type 0
 RefusesToOpenJournal e = (e ≡ Device) ⊎ ((e ≡ OutOfMemory) ⊎ ((place : ℕ) × (e ≡ Damaged place)))
 
+-- a reader refuses by these alone
+abbrev pub RefusesToRead : JournalError → Type 0
+RefusesToRead e = (e ≡ Device) ⊎ ((place : ℕ) × (e ≡ Damaged place))
+
 -- `append` refuses by these alone
 abbrev pub RefusesAppend : JournalError → Type 0
 RefusesAppend e = (e ≡ Device) ⊎ ((e ≡ Reopen) ⊎ (e ≡ JournalFull))

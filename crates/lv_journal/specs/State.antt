@@ -1,5 +1,5 @@
 -- What a journal in memory tells of.
-use Rattle.std.specs.Prelude.{◌≡◌, ◌<◌, ◌+◌, ◌-◌, ℕ, Bool, false, List, length, take, Option, Some, None, if◌then◌else◌, nat_lt}
+use Rattle.std.specs.Prelude.{◌≡◌, ◌<◌, ◌+◌, ◌-◌, ℕ, Bool, false, List, [], length, take, Option, Some, None, if◌then◌else◌, nat_lt}
 use Rattle.lv_disk.specs.Stops.{Each}
 use Rattle.lv_disk.specs.declared.area.Area.{Area}
 use Rattle.lv_journal.specs.Records.{records_bytes, EndsAt}
@@ -21,6 +21,16 @@ opened area payloads =
       must_reopen = false;
       records =
           payloads;
+    }
+
+-- a journal whose next gate stands so far into its area, and that keeps no payloads
+abbrev pub journal_at : Area → ℕ → JournalState
+journal_at area next =
+    record {
+      area = area;
+      next = next;
+      must_reopen = false;
+      records = [];
     }
 
 -- the longest payload that still fits: five bytes stand before it, and the next gate behind it

@@ -10,7 +10,7 @@ ghost use Rattle.lv_journal.specs.Damage.{IsJournalDamagedAt};
 ghost use Rattle.lv_journal.specs.Refusals.{IfGateDamaged, RefusesAppend, RefusesToOpenJournal};
 ghost use Rattle.lv_disk.specs.Reading.{OnlyReads};
 ghost use Rattle.lv_journal.specs.Records.{IsJournal};
-ghost use Rattle.lv_journal.specs.State.{opened, room_of, gate_of, IsAbove, IsReadyIn};
+ghost use Rattle.lv_journal.specs.State.{opened, journal_at, room_of, gate_of, IsAbove, IsReadyIn};
 
 use crate::JournalError;
 use crate::payloads::Payloads;
@@ -86,17 +86,25 @@ impl Journal {
         })
     }
 
+    /// The journal of an area in which its next gate stands so many bytes on. It keeps no payloads.
+    pub(crate) fn at(area: Area, next: u32) -> Journal
+        requires { next < area.length }
+        ensures { result ≡ journal_at area next }
+    {
+        Journal {
+            area,
+            next,
+            must_reopen: false,
+            records: None,
+        }
+    }
+
     // The journal of an area, without records.
     fn empty(area: Area) -> Journal
         requires { 0 < area.length }
         ensures { result ≡ opened area [] }
     {
-        Journal {
-            area,
-            next: 0,
-            must_reopen: false,
-            records: None,
-        }
+        Journal::at(area, 0)
     }
 
     /// The empty journal of an area that begins with a closed gate in every image of the disk. It makes no device call

@@ -11,3 +11,4 @@ mod record;
 pub use error::JournalError;
 pub use journal::{Journal, blank};
 pub use law::{begin_in_their_area, stand_by_themselves, stand_for_one_list};
+pub use reading::Reader;

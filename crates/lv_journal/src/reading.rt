@@ -1,20 +1,23 @@
-//! Reads the records of an area.
-ghost use Rattle.std.specs.Prelude.{◌≡◌, ◌≤◌, ◌<◌, ◌⊎◌, ◌+◌, [], ◌∷◌, slice_range, take, length, min, None, IfOk, IfErr, IfNone, IfSome, OnOk};
+//! Reads the records of an area, one by one.
+ghost use Rattle.std.specs.Prelude.{◌≡◌, ◌≤◌, ◌<◌, ◌⊎◌, ◌+◌, ℕ, List, [], ◌∷◌, ◌++◌, slice_range, take, length, min, false, true, None, Ok, IfOk, IfErr, IfNone, IfSome, OnOk, OnErr};
 ghost use Rattle.std.specs.Int.{to_le_bytes, w32};
 ghost use Rattle.lv_disk.specs.Files.{HasAt};
 ghost use Rattle.lv_disk.specs.Stops.{Counted, CountsFaults, Each};
 ghost use Rattle.lv_disk.specs.Gates.{open_gate, IsClosedAt};
 ghost use Rattle.lv_journal.specs.Damage.{IsBadRecord, IsJournalDamagedAt};
-ghost use Rattle.lv_journal.specs.Refusals.{IfGateDamaged, RefusesToOpenJournal};
+ghost use Rattle.lv_journal.specs.Refusals.{IfGateDamaged, RefusesToOpenJournal, RefusesToRead};
 ghost use Rattle.lv_disk.specs.Reading.{OnlyReads};
+ghost use Rattle.lv_journal.specs.Reading.{HasRead, IsReading};
 ghost use Rattle.lv_journal.specs.Records.{record_bytes, records_bytes, IsJournal};
+ghost use Rattle.lv_journal.specs.State.{journal_at};
 
-use crate::JournalError;
 use crate::payloads::Payloads;
 use crate::record::{HEAD, LEAST, LONGEST};
+use crate::{Journal, JournalError};
 use byteorder::{ByteOrder, LittleEndian};
 use lv_disk::{Area, DeviceFault, Disk, OPEN_GATE, read_gate};
 use std::alloc::Global;
+use std::marker::Model;
 
 // The length of the longest block that is read at once: a payload, and the gate and length after it.
 const BLOCK: usize = LONGEST + HEAD as usize;
@@ -86,7 +89,7 @@ fn read_last_gate<D: Disk>(
     ensures reads { OnlyReads D.Disk disk.old disk.new }
     ensures count { CountsFaults JournalError.Device (D.failures disk.old)
         (D.failures disk.new) result }
-    ensures no_other { IfErr result RefusesToOpenJournal }
+    ensures no_other { IfErr result RefusesToRead }
 {
     if read_gate(disk, place)? == OPEN_GATE {
         return Err(JournalError::Damaged { place });
@@ -121,7 +124,7 @@ fn record_len_at<D: Disk>(
     ensures reads { OnlyReads D.Disk disk.old disk.new }
     ensures count { CountsFaults JournalError.Device (D.failures disk.old)
         (D.failures disk.new) result }
-    ensures no_other { IfErr result RefusesToOpenJournal }
+    ensures no_other { IfErr result RefusesToRead }
 {
     if end - place < LEAST {
         return read_last_gate(disk, area, place, end);
@@ -136,42 +139,143 @@ fn record_len_at<D: Disk>(
     Ok(Some(len))
 }
 
-// The payloads that the area's bytes stand for. The file or the area ends at `end`.
-fn read_up_to<D: Disk>(
-    alloc: Global,
-    disk: &mut D,
+/// The records of an area of a disk, read one by one from the front. Only the payload that was read last is kept.
+#[derive(Drop)]
+pub struct Reader {
     area: Area,
+    // Where the file or the area ends.
     end: u64,
-) -> Result<Payloads, JournalError>
+    // Where in the area the next gate stands.
+    next: u32,
+    // The length behind that gate; none if the gate is closed.
+    found: Option<u32>,
+    // The payload that was read last, and the gate and length after it.
+    block: [u8; BLOCK],
+    // The length of that payload.
+    len: usize,
+}
+
+impl Model for Reader {
+    ghost use Rattle.lv_journal.specs.Reading.{ReaderState};
+
+    ghost Value = { ReaderState };
+
+    ghost use Rattle.lv_journal.specs.ReaderView.{reader_state, IsBeforeEnd};
+
+    ghost view = { reader_state };
+
+    ghost invariant = { IsBeforeEnd };
+}
+
+// Reads the first gate of an area. The file or the area ends at `end`.
+fn begin_before<D: Disk>(disk: &mut D, area: Area, end: u64) -> Result<Reader, JournalError>
     requires inside { area.base < end }
     requires ends { Each (D.reads disk.old)
         (λ file. end ≡ min (length file) (area.base + area.length)) }
     requires within { end ≤ area.base + area.length }
-    ensures sound { IfOk result (λ records. Each (D.reads disk.old) (IsJournal area records)) }
-    ensures room { IfOk result (λ records. length (records_bytes records) < area.length) }
+    ensures area { IfOk result (λ reader. reader.area ≡ area) }
+    ensures begun { IfOk result (λ reader. HasRead reader [] (D.reads disk.old)) }
     ensures damaged { IfErr result (λ e. IfGateDamaged e
         (λ place. Each (D.reads disk.old) (IsJournalDamagedAt area place))) }
+    ensures no_other { IfErr result RefusesToRead }
     ensures reads { OnlyReads D.Disk disk.old disk.new }
     ensures count { CountsFaults JournalError.Device (D.failures disk.old)
         (D.failures disk.new) result }
-    ensures no_other { IfErr result RefusesToOpenJournal }
 {
-    let mut records = Payloads::new(alloc);
     let mut block = [0; BLOCK];
-    let mut next = 0;
     read_payload(disk, area.base, 0, end, &mut block)?;
-    let mut found = record_len_at(disk, area, area.base, end, &block[..5])?;
-    while let Some(len) = found {
-        let len = len as usize;
-        read_payload(disk, area.base + next + HEAD, len, end, &mut block)?;
-        records.push(&block[..len])?;
-        next += HEAD + len as u64;
-        found = match record_len_at(disk, area, area.base + next, end, &block[len..len + 5]) {
+    let found = record_len_at(disk, area, area.base, end, &block[..5])?;
+    Ok(Reader {
+        area,
+        end,
+        next: 0,
+        found,
+        block,
+        len: 0,
+    })
+}
+
+impl Reader {
+    /// Begins to read an area of a disk. It writes nothing.
+    pub fn begin<D: Disk>(disk: &mut D, area: Area) -> Result<Reader, JournalError>
+        ensures area { IfOk result (λ reader. reader.area ≡ area) }
+        ensures begun { IfOk result (λ reader. HasRead reader [] (D.reads disk.old)) }
+        ensures damaged { IfErr result (λ e. IfGateDamaged e
+            (λ place. Each (D.reads disk.old) (IsJournalDamagedAt area place))) }
+        ensures no_other { IfErr result RefusesToRead }
+        ensures reads { OnlyReads D.Disk disk.old disk.new }
+        ensures count { CountsFaults JournalError.Device (D.failures disk.old)
+            (D.failures disk.new) result }
+    {
+        let end = disk.len()?.min(area.base + area.length as u64);
+        if end <= area.base {
+            return Err(JournalError::Damaged { place: area.base });
+        }
+        begin_before(disk, area, end)
+    }
+
+    /// The place in the file of the next gate.
+    pub fn place(&self) -> u64
+        ensures { result ≡ self.now.area.base + self.now.next }
+    {
+        self.area.base + self.next as u64
+    }
+
+    /// Reads the next payload. False if the next gate is closed: then all were read, and the reader is as before.
+    ///
+    /// `Damaged` gives the place in the file of a gate, as `Journal::open` does. It comes in place of the payload in
+    /// front of that gate. A refusal leaves the reader as it was, but for its `payload`.
+    pub fn read_next<D: Disk>(&mut self, disk: &mut D) -> Result<bool, JournalError>
+        requires { IsReading self.old (D.reads disk.old) }
+
+        // The payload stands behind those that were read; if there is none, those are all of the area.
+        ensures next { result ≡ Ok true → (payloads : List (List ℕ))
+            → HasRead self.old payloads (D.reads disk.old)
+            → HasRead self.new (payloads ++ self.new.last ∷ []) (D.reads disk.new) }
+        ensures all { result ≡ Ok false → (payloads : List (List ℕ))
+            → HasRead self.old payloads (D.reads disk.old)
+            → Each (D.reads disk.old) (IsJournal self.old.area payloads) }
+        ensures further { result ≡ Ok true → self.old.next < self.new.next }
+        ensures none { result ≡ Ok false → self.new ≡ self.old }
+        ensures same { (self.new.area ≡ self.old.area) × (self.new.end ≡ self.old.end) }
+        ensures stays { OnErr result (self.new ≡ record self.old { last = self.new.last }) }
+
+        ensures damaged { IfErr result (λ e. IfGateDamaged e
+            (λ place. Each (D.reads disk.old) (IsJournalDamagedAt self.old.area place))) }
+        ensures no_other { IfErr result RefusesToRead }
+        ensures reads { OnlyReads D.Disk disk.old disk.new }
+        ensures count { CountsFaults JournalError.Device (D.failures disk.old)
+            (D.failures disk.new) result }
+    {
+        let Some(len) = self.found else {
+            return Ok(false);
+        };
+        let n = len as usize;
+        let at = self.area.base + self.next as u64 + HEAD;
+        read_payload(disk, at, n, self.end, &mut self.block)?;
+        let head = &self.block[n..n + 5];
+        self.found = match record_len_at(disk, self.area, at + len as u64, self.end, head) {
             Ok(found) => found,
             Err(error) => return Err(error),
         };
+        self.next += HEAD as u32 + len;
+        self.len = n;
+        Ok(true)
     }
-    Ok(records)
+
+    /// The payload that was read last.
+    pub fn payload(&self) -> &[u8]
+        ensures { result.now ≡ self.now.last }
+    {
+        &self.block[..self.len]
+    }
+
+    /// The journal that was read, without its payloads. It is one to append to once `read_next` has answered false.
+    pub fn into_journal(self) -> Journal
+        ensures { result ≡ journal_at self.area self.next }
+    {
+        Journal::at(self.area, self.next)
+    }
 }
 
 /// The payloads that the area's bytes stand for.
@@ -189,9 +293,13 @@ pub fn read_records<D: Disk>(
         (D.failures disk.new) result }
     ensures no_other { IfErr result RefusesToOpenJournal }
 {
-    let end = disk.len()?.min(area.base + area.length as u64);
-    if end <= area.base {
-        return Err(JournalError::Damaged { place: area.base });
+    let mut reader = Reader::begin(disk, area)?;
+    let mut records = Payloads::new(alloc);
+    loop {
+        match reader.read_next(disk) {
+            Ok(true) => records.push(reader.payload())?,
+            Ok(false) => return Ok(records),
+            Err(error) => return Err(error),
+        }
     }
-    read_up_to(alloc, disk, area, end)
 }

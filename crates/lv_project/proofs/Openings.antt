@@ -1,14 +1,12 @@
 -- What is read when a project is opened, and why it is refused.
-use Rattle.std.proofs.Common.{◌≡◌, inl, inr, ◌<◌, ◌≤◌, ◌+◌, ℕ, Bool, true, false, List, [], ◌∷◌, ◌++◌, length, take, drop, get_or, eqb, cond, nat_lt, Option, None, Some, Result, Ok, Err, IfErr, refl, sym, ◌∙◌, ap, subst, arith}
-use Rattle.std.specs.Prelude.{slice_get}
+use Rattle.std.proofs.Common.{◌≡◌, inl, inr, ◌<◌, ◌≤◌, ◌+◌, ℕ, Bool, true, false, List, [], ◌∷◌, ◌++◌, length, eqb, cond, Option, None, Some, Result, Ok, Err, IfErr, refl, sym, ◌∙◌, ap, subst, arith}
 use Rattle.std.proofs.lemmas.Bool.{cases_Bool}
-use Rattle.std.proofs.lemmas.Option.{get_or_from_slice_get}
-use Rattle.std.proofs.lemmas.List.{take-append-drop, take_more, append_assoc}
+use Rattle.std.proofs.lemmas.List.{append_assoc}
 use Rattle.lv_disk.specs.Gates.{IsClosedAt}
 use Rattle.lv_disk.specs.Stops.{Each}
 use Rattle.lv_disk.specs.declared.area.Area.{Area}
+use Rattle.lv_journal.specs.Reading.{ReaderState, HasRead, IsFound}
 use Rattle.lv_journal.specs.Records.{IsJournal, records_bytes}
-use Rattle.lv_journal.specs.State as journal
 use Rattle.lv_checkpoint.specs.Bodies.{IsLive, IsOpen, IsOlder}
 use Rattle.lv_checkpoint.specs.Damage as damage
 use Rattle.lv_checkpoint.specs.Refusals as checkpoint
@@ -16,15 +14,16 @@ use Rattle.lv_checkpoint.specs.Handles.{first_area, second_of, slot_of, generati
 use Rattle.lv_checkpoint.specs.declared.slots.Slots.{Slots}
 use Rattle.lv_checkpoint.specs.declared.error.CheckpointError.{CheckpointError}
 use Rattle.lv_checkpoint.specs.declared.error.CheckpointError.TheVariants as slot
-use Rattle.lv_maptables.specs.Projects.{ProjectMaps, body_len, project_of}
+use Rattle.lv_maptables.specs.Projects.{ProjectMaps, body_len}
 use Rattle.lv_maptables.specs.ProjectBody.{NoProjectHas, IsProjectOf, RefusesProject}
 use Rattle.lv_maptables.specs.declared.error.MapError.{MapError}
 use Rattle.lv_maptables.specs.declared.error.MapError.TheVariants as map
 use Rattle.lv_project.proofs.Bodies.{project_size}
 use Rattle.lv_project.specs.Places.{IsAllowed, AreLaidOut, cap_of, which_parts}
 use Rattle.lv_project.specs.Stands.{HasGeometry, Stands}
-use Rattle.lv_project.specs.Damage.{IsBadPart}
-use Rattle.lv_project.specs.Opening.{HoldsMap, IsOpened, IsOfBody, IsOfSlots, IsRefusedRead, RefusesGates, RefusesHeader, RefusesLines, RefusesReplay, RefusesSlots}
+use Rattle.lv_commands.specs.ProjectLines.{Leads, LeadsTo}
+use Rattle.lv_project.specs.Damage.{IsBadLine, IsBadPart}
+use Rattle.lv_project.specs.Opening.{AreReplayed, HoldsMap, IsOpened, IsOfBody, IsOfSlots, IsRefusedRead, IsReplayed, RefusesHeader, RefusesLines, RefusesSlots}
 use Rattle.lv_project.specs.declared.geometry.Geometry.{Geometry}
 use Rattle.lv_project.specs.declared.places.Places.{Places}
 use Rattle.lv_project.specs.declared.places.Parts.{Parts}
@@ -32,7 +31,6 @@ use Rattle.lv_project.specs.declared.opening.Opened.{Opened}
 use Rattle.lv_project.specs.declared.error.ProjectError.{ProjectError}
 use Rattle.lv_project.specs.declared.error.ProjectError.TheVariants.{Device, OutOfMemory, Reopen, GenerationsSpent, Refused, Damaged, Blank, NotAProject, NotEmpty, BadGeometry}
 use Rattle.lv_project.proofs.Placing.{TellsParts, tells_parts}
-use Rattle.lv_project.proofs.Sound.{some_none}
 
 -- ---- the header
 
@@ -162,18 +160,6 @@ module _ (reads : List ℕ → Type 0) (g : Geometry) (p : Places) where
 -- ---- the lines
 
 module _ (reads : List ℕ → Type 0) (cap : ℕ) (q : Parts) (base : ProjectMaps) where
-  pub of_gates : (e : ProjectError) → RefusesGates reads q e → RefusesLines reads cap q base e
-  of_gates Device r = r
-  of_gates OutOfMemory r = r
-  of_gates (Damaged place) r = λ file read. inl (r file read)
-  of_gates Blank r = absurd r
-  of_gates Reopen r = absurd r
-  of_gates GenerationsSpent r = absurd r
-  of_gates (Refused e) r = absurd r
-  of_gates NotAProject r = absurd r
-  of_gates NotEmpty r = absurd r
-  of_gates BadGeometry r = absurd r
-
   pub lines_later : (later : List ℕ → Type 0) → Each reads later → (e : ProjectError) → RefusesLines later cap q base e → RefusesLines reads cap q base e
   lines_later later still Device r = r
   lines_later later still OutOfMemory r = r
@@ -186,51 +172,56 @@ module _ (reads : List ℕ → Type 0) (cap : ℕ) (q : Parts) (base : ProjectMa
   lines_later later still NotEmpty r = absurd r
   lines_later later still BadGeometry r = absurd r
 
-  pub of_replay : (j : journal.JournalState) → j ≡ journal.opened q.journal j.records → Each reads (IsJournal q.journal j.records) → Each reads (λ file. q.other_journal.base < length file)
-      → (e : ProjectError) → RefusesReplay cap base j e → RefusesLines reads cap q base e
-  of_replay j is sound other OutOfMemory r = r
-  of_replay j is sound other (Damaged place) (front, line, back, split, m, leads, refused, there) = λ file read. inr (record {
-    front = front;
-    line = line;
-    back = back;
-    journal = subst (λ (ls : List (List ℕ)). IsJournal q.journal ls file) split (sound file read);
-    other = other file read;
-    map = m;
-    leads = leads;
-    refused = refused;
-    there = there ∙ ap (λ (k : journal.JournalState). k.area.base + length (records_bytes front)) is;
-  })
-  of_replay j is sound other Device r = absurd r
-  of_replay j is sound other Blank r = absurd r
-  of_replay j is sound other Reopen r = absurd r
-  of_replay j is sound other GenerationsSpent r = absurd r
-  of_replay j is sound other (Refused e) r = absurd r
-  of_replay j is sound other NotAProject r = absurd r
-  of_replay j is sound other NotEmpty r = absurd r
-  of_replay j is sound other BadGeometry r = absurd r
+  -- a refused line, where no gate is at fault
+  pub of_replay : (next place : ℕ) (new : ProjectMaps) → IsReplayed reads cap q.journal base next (Some place) new → Each reads (λ file. q.other_journal.base < length file)
+      → Each reads (IsBadLine cap q base place)
+  of_replay next place new is other file read =
+      let (front, line, back, split, m, leads, refused, there) = is.replayed in
+      record {
+        front = front;
+        line = line;
+        back = back;
+        journal = subst (λ (ls : List (List ℕ)). IsJournal q.journal ls file) split (is.journal file read);
+        other = other file read;
+        map = m;
+        leads = leads;
+        refused = refused;
+        there = there;
+      }
+
+-- the same of other files, all of which are among the first
+pub replayed_later : {cap : ℕ} {area : Area} {base : ProjectMaps} {next : ℕ} {refused : Option ℕ} {new : ProjectMaps} (files others : List ℕ → Type 0) → Each others files
+    → IsReplayed files cap area base next refused new → IsReplayed others cap area base next refused new
+replayed_later files others among is = record { lines = is.lines; journal = λ file read. is.journal file (among file read); len = is.len; replayed = is.replayed }
 
 -- ---- the lines, one by one
 
-module _ (rs : List (List ℕ)) (n : ℕ) (line : List ℕ) (lt : n < length rs) (is : Some line ≡ slice_get rs n) where
-  found_line : get_or rs n [] ≡ line
-  found_line = get_or_from_slice_get rs n line [] (sym is)
+found_later : (place end : ℕ) (old new : List ℕ → Type 0) (found : Option ℕ) → Each new old → IsFound place end old found → IsFound place end new found
+found_later place end old new None fewer is = λ file read. is file (fewer file read)
+found_later place end old new (Some len) fewer is = (λ file read. is.0 file (fewer file read), λ file read. is.1 file (fewer file read), is.2, is.3)
 
-  pub taken : take (n + 1) rs ≡ take n rs ++ line ∷ []
-  taken = take_more rs n [] lt ∙ ap (λ (l : List ℕ). take n rs ++ l ∷ []) found_line
+-- what was read of files was read of each of fewer ones
+pub read_later : (r : ReaderState) (lines : List (List ℕ)) (old new : List ℕ → Type 0) → Each new old → HasRead r lines old → HasRead r lines new
+read_later r lines old new fewer is = record {
+  len = is.len;
+  inside = is.inside;
+  within = is.within;
+  ends = λ file read. is.ends file (fewer file read);
+  short = is.short;
+  has = λ file read. is.has file (fewer file read);
+  found = found_later (r.area.base + r.next) r.end old new r.found fewer is.found;
+}
 
-  pub split_at : rs ≡ take n rs ++ line ∷ drop (n + 1) rs
-  split_at = sym (take-append-drop (n + 1) rs) ∙ ap (λ (l : List (List ℕ)). l ++ drop (n + 1) rs) taken ∙ append_assoc (take n rs) (line ∷ []) (drop (n + 1) rs)
+module _ (cap at : ℕ) (base : ProjectMaps) (lines : List (List ℕ)) (line : List ℕ) where
+  -- one more behind a refused one
+  pub still_refused : (place : ℕ) (old new : ProjectMaps) → AreReplayed cap at base lines (Some place) old → AreReplayed cap at base (lines ++ line ∷ []) (Some place) new
+  still_refused place old new (front, first, back, split, m, leads, refused, there) =
+      (front, first, back ++ line ∷ [], ap (λ (ls : List (List ℕ)). ls ++ line ∷ []) split ∙ append_assoc front (first ∷ back) (line ∷ []), m, leads, refused, there)
 
-abbrev value_in : Option ℕ → ℕ
-value_in None = 0
-value_in (Some n) = n
-
-pub place_is : (j : journal.JournalState) (n place : ℕ) → Some place ≡ journal.gate_of j n → place ≡ j.area.base + length (records_bytes (take n j.records))
-place_is j n place is = at (nat_lt n (length j.records)) (j.area.base + length (records_bytes (take n j.records))) is
-  where
-    at : (t : Bool) (k : ℕ) → Some place ≡ cond t (Some k) None → place ≡ k
-    at true k e = ap value_in e
-    at false k e = absurd (some_none place e)
+  -- one that is refused
+  pub now_refused : (gate : ℕ) (old new : ProjectMaps) → gate ≡ at + length (records_bytes lines) → ((next : ProjectMaps) → ¬ LeadsTo cap old line next)
+      → Leads cap base lines old → AreReplayed cap at base (lines ++ line ∷ []) (Some gate) new
+  now_refused gate old new there refused leads = (lines, line, [], refl, old, leads, refused, there)
 
 -- ---- the map fits
 
@@ -260,5 +251,5 @@ result_later {T = T} old new fewer (Err GenerationsSpent) h = absurd h
 result_later {T = T} old new fewer (Err (Refused e)) h = absurd h
 result_later {T = T} old new fewer (Err NotEmpty) h = absurd h
 
-pub stands_opened : (o : Opened) (file : List ℕ) → slot_of o.slots ≤ 1 → IsOpened o file → Stands (cap_of o.geometry) (project_of o.maps) (generation_of o.slots) file
-stands_opened o file which is = record { geometry = o.geometry; places = o.places; has = is.has; cap_is = refl; slot = slot_of o.slots; which = which; at = is.stands }
+pub stands_opened : (o : Opened) (maps : ProjectMaps) (file : List ℕ) → slot_of o.slots ≤ 1 → IsOpened o maps file → Stands (cap_of o.geometry) maps (generation_of o.slots) file
+stands_opened o maps file which is = record { geometry = o.geometry; places = o.places; has = is.has; cap_is = refl; slot = slot_of o.slots; which = which; at = is.stands }

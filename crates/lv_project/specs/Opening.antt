@@ -1,14 +1,14 @@
 -- What a file is opened as, and why it isn't.
-use Rattle.std.specs.Prelude.{◌≡◌, ◌<◌, ◌⊎◌, ◌+◌, ℕ, List, ◌∷◌, ◌++◌, length}
+use Rattle.std.specs.Prelude.{◌≡◌, ◌<◌, ◌⊎◌, ◌+◌, ℕ, List, ◌∷◌, ◌++◌, length, Option, Some, None}
 use Rattle.lv_disk.specs.Stops.{Each}
-use Rattle.lv_journal.specs.State as journal
-use Rattle.lv_journal.specs.Records.{records_bytes, IsJournal}
+use Rattle.lv_journal.specs.Records.{records_bytes, EndsAt, IsJournal}
+use Rattle.lv_disk.specs.declared.area.Area.{Area}
 use Rattle.lv_checkpoint.specs.Bodies.{IsLive}
 use Rattle.lv_checkpoint.specs.Damage as damage
 use Rattle.lv_checkpoint.specs.Handles.{generation_of, slot_of, HasSomeSlots}
 use Rattle.lv_checkpoint.specs.declared.error.CheckpointError as slots
 use Rattle.lv_checkpoint.specs.declared.error.CheckpointError.TheVariants as slot
-use Rattle.lv_maptables.specs.Projects.{ProjectMaps, WellFormedProject, project_of}
+use Rattle.lv_maptables.specs.Projects.{ProjectMaps, WellFormedProject}
 use Rattle.lv_maptables.specs.declared.error.MapError.{MapError}
 use Rattle.lv_maptables.specs.declared.error.MapError.TheVariants as map
 use Rattle.lv_maptables.specs.ProjectBody.{HasBody}
@@ -24,12 +24,12 @@ use Rattle.lv_project.specs.declared.error.ProjectError.{ProjectError}
 use Rattle.lv_project.specs.declared.error.ProjectError.TheVariants.{Device, OutOfMemory, Damaged, Blank, NotAProject, NotEmpty, BadGeometry}
 
 -- the file stands for what was opened
-pub record IsOpened (o : Opened) (file : List ℕ) : Type 0 where
+pub record IsOpened (o : Opened) (maps : ProjectMaps) (file : List ℕ) : Type 0 where
   pub has : HasGeometry o.geometry o.places file
   pub stands : StandsAt (cap_of o.geometry) (which_parts o.places (slot_of o.slots))
-      (project_of o.maps) (generation_of o.slots) file
+      maps (generation_of o.slots) file
   pub slots : HasSomeSlots o.slots file
-  pub journal : IsJournal (which_parts o.places (slot_of o.slots)).journal o.journal.records file
+  pub journal : EndsAt (which_parts o.places (slot_of o.slots)).journal o.journal.next file
 
 -- the live slot of the parts holds this map, with this generation
 pub record HoldsMap (parts : Parts) (generation : ℕ) (base : ProjectMaps) (file : List ℕ) :
@@ -46,23 +46,25 @@ RefusesHeader reads NotAProject = Each reads IsForeign
 RefusesHeader reads BadGeometry = Each reads HasBadGeometry
 RefusesHeader reads _ = ⊥
 
--- the gates are refused at the least place of a fault
-abbrev pub RefusesGates : (List ℕ → Type 0) → Parts → ProjectError → Type 0
-RefusesGates reads parts Device = Unit {0}
-RefusesGates reads parts OutOfMemory = Unit {0}
-RefusesGates reads parts (Damaged place) = Each reads (IsLeastGateFault parts place)
-RefusesGates reads parts _ = ⊥
-
--- the lines are refused at the first that is no accepted command
-abbrev pub RefusesReplay : ℕ → ProjectMaps → journal.JournalState → ProjectError → Type 0
-RefusesReplay cap base j OutOfMemory = Unit {0}
-RefusesReplay cap base j (Damaged place) =
+-- These lines were applied to a map in turn: all lead to the new one; or the first of them that is
+-- no accepted command has its gate at this place, if the first gate of all stands at `at`.
+abbrev pub AreReplayed : ℕ → ℕ → ProjectMaps → List (List ℕ) → Option ℕ → ProjectMaps → Type 0
+AreReplayed cap at base lines None new = Leads cap base lines new
+AreReplayed cap at base lines (Some place) new =
     (front : List (List ℕ)) × (line : List ℕ) × (back : List (List ℕ))
-    × (j.records ≡ front ++ line ∷ back)
+    × (lines ≡ front ++ line ∷ back)
     × (map : ProjectMaps) × Leads cap base front map
-    × ((new : ProjectMaps) → ¬ LeadsTo cap map line new)
-    × (place ≡ j.area.base + length (records_bytes front))
-RefusesReplay cap base j _ = ⊥
+    × ((next : ProjectMaps) → ¬ LeadsTo cap map line next)
+    × (place ≡ at + length (records_bytes front))
+
+-- the lines for which an area of each of the files stands were applied to a map, and the closed
+-- gate behind them stands so far into the area
+pub record IsReplayed (files : List ℕ → Type 0) (cap : ℕ) (area : Area) (base : ProjectMaps)
+    (next : ℕ) (refused : Option ℕ) (new : ProjectMaps) : Type 0 where
+  pub lines : List (List ℕ)
+  pub journal : Each files (IsJournal area lines)
+  pub len : length (records_bytes lines) ≡ next
+  pub replayed : AreReplayed cap area.base base lines refused new
 
 -- the slots are refused: none is open, or they or the live body are at fault
 abbrev pub RefusesSlots : (List ℕ → Type 0) → Geometry → Places → ProjectError → Type 0

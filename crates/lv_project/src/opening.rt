@@ -1,17 +1,19 @@
 //! Reads the file of a project, or makes a new one.
-ghost use Rattle.std.specs.Prelude.{◌≡◌, ◌≤◌, ◌<◌, ◌⊎◌, ◌+◌, ◌^◌, ℕ, [], false, true, Ok, length, IfOk, IfErr, IsErrOf, OnErr, OnOk};
+ghost use Rattle.std.specs.Prelude.{◌≡◌, ◌≤◌, ◌<◌, ◌⊎◌, ◌+◌, ◌^◌, ℕ, List, [], ◌∷◌, ◌++◌, false, true, Ok, None, length, IfOk, IfErr, IsErrOf, OnErr, OnOk};
 ghost use Rattle.lv_disk.specs.Moments.{LeavesOnly};
 ghost use Rattle.lv_disk.specs.Stops.{Each};
-ghost use Rattle.lv_journal.specs.Records.{IsJournal};
-ghost use Rattle.lv_journal.specs.State as journal;
+ghost use Rattle.lv_journal.specs.Records.{records_bytes, IsJournal};
+ghost use Rattle.lv_journal.specs.Damage.{IsJournalDamagedAt};
+ghost use Rattle.lv_journal.specs.Refusals.{IfGateDamaged, RefusesToOpenJournal};
+ghost use Rattle.lv_journal.specs.State.{journal_at, opened};
 ghost use Rattle.lv_checkpoint.specs.Handles.{first_area, generation_of, second_of, slot_of, HasSomeSlots};
 ghost use Rattle.lv_disk.specs.Stops.{CountsFaults};
 ghost use Rattle.lv_disk.specs.Reading.{OnlyReads};
-ghost use Rattle.lv_maptables.specs.Projects.{body_len, empty_project, project_of};
+ghost use Rattle.lv_maptables.specs.Projects.{body_len, empty_project, project_of, ProjectMaps};
 ghost use Rattle.lv_project.specs.Places.{cap_of, which_parts, IsAllowed, IsInOrder, AreLaidOut};
 ghost use Rattle.lv_project.specs.Stands.{HasGeometry, StandsAt};
-ghost use Rattle.lv_commands.specs.ProjectLines.{Leads, LeadsTo};
-ghost use Rattle.lv_project.specs.Opening.{HoldsMap, IsOfBody, IsOfSlots, IsOpened, IsRefusedRead, RefusesCreate, RefusesGates, RefusesLines, RefusesReplay, RefusesSlots};
+ghost use Rattle.lv_commands.specs.ProjectLines.{LeadsTo};
+ghost use Rattle.lv_project.specs.Opening.{AreReplayed, HoldsMap, IsOfBody, IsOfSlots, IsOpened, IsRefusedRead, IsReplayed, RefusesCreate, RefusesLines, RefusesSlots};
 
 use crate::ProjectError;
 use crate::geometry::Geometry;
@@ -19,86 +21,98 @@ use crate::header::{header, read_header};
 use crate::places::{Parts, Places};
 use lv_checkpoint::{CheckpointError, Slots, first};
 use lv_commands::{CommandError, apply, parse};
-use lv_disk::Disk;
-use lv_journal::{Journal, JournalError, blank};
+use lv_disk::{Area, Disk};
+use lv_journal::{Journal, JournalError, Reader, blank};
 use lv_maptables::{MapError, Maps};
-use std::alloc::Global;
+use std::alloc::{AllocError, Global};
 
-/// The parts of a project, as they were read from its file.
+/// The parts of a project, as they were read from its file, without its maps: these are large, so they are read into
+/// the place where the caller keeps them.
 #[derive(Drop)]
 pub struct Opened {
     pub geometry: Geometry,
     pub places: Places,
     pub slots: Slots,
     pub journal: Journal,
-    pub maps: Maps,
 }
 
 // Applies a line of the journal. False if it is not a command that the maps accept.
-fn advance(maps: &mut Maps, line: &[u8], cap: u32) -> Result<bool, ProjectError>
+fn advance(maps: &mut Maps, line: &[u8], cap: u32) -> Result<bool, AllocError>
     requires { body_len (project_of maps.old) ≤ cap }
     ensures led { result ≡ Ok true
         → LeadsTo cap (project_of maps.old) line.now (project_of maps.new) }
     ensures not_led { result ≡ Ok false → (new : _)
         → ¬ LeadsTo cap (project_of maps.old) line.now new }
     ensures fits { body_len (project_of maps.new) ≤ cap }
-    ensures memory { IfErr result (λ e. e ≡ ProjectError.OutOfMemory) }
 {
     let Ok(command) = parse(line) else {
         return Ok(false);
     };
     match apply(maps, &command, cap) {
         Ok(_) => Ok(true),
-        Err(CommandError::OutOfMemory) => Err(ProjectError::OutOfMemory),
+        Err(CommandError::OutOfMemory) => Err(AllocError),
         Err(_) => Ok(false),
     }
 }
 
-// Applies the lines of the journal in turn. `Damaged` gives the gate of the first one that is not an accepted command.
-fn replay(maps: &mut Maps, journal: &Journal, cap: u32) -> Result<(), ProjectError>
+// Applies the line behind a gate, if none was refused before it. The gate of the first refused line, if there is one.
+fn advance_unless(
+    refused: Option<u64>,
+    maps: &mut Maps,
+    gate: u64,
+    line: &[u8],
+    cap: u32,
+) -> Result<Option<u64>, AllocError>
     requires { body_len (project_of maps.old) ≤ cap }
-    ensures led { OnOk result
-        (Leads cap (project_of maps.old) journal.now.records (project_of maps.new)) }
-    ensures refused { IfErr result (RefusesReplay cap (project_of maps.old) journal.now) }
+    ensures replayed { IfOk result (λ after. (at : ℕ) (base : ProjectMaps)
+        (lines : List (List ℕ)) → gate ≡ at + length (records_bytes lines)
+        → AreReplayed cap at base lines refused (project_of maps.old)
+        → AreReplayed cap at base (lines ++ line.now ∷ []) after (project_of maps.new)) }
     ensures fits { body_len (project_of maps.new) ≤ cap }
 {
-    for n in 0..journal.count() {
-        let line = journal.payload(n).unwrap();
-        if !advance(maps, line, cap)? {
-            return match journal.place(n) {
-                Some(place) => Err(ProjectError::Damaged { place }),
-                None => unreachable!(),
-            };
-        }
+    match refused {
+        Some(earlier) => Ok(Some(earlier)),
+        None => match advance(maps, line, cap) {
+            Ok(true) => Ok(None),
+            Ok(false) => Ok(Some(gate)),
+            Err(error) => Err(error),
+        },
     }
-    Ok(())
 }
 
-// Opens the live journal. `Damaged` gives the lowest place of a bad gate; the first gate of the other journal is one if
-// it is missing.
-fn open_journal<D: Disk>(alloc: Global, disk: &mut D, parts: Parts) -> Result<Journal, ProjectError>
-    requires only { Each (D.may_leave disk.old) (D.reads disk.old) }
-    ensures opened { IfOk result (λ j. j ≡ journal.opened parts.journal j.records) }
-    ensures sound { IfOk result (λ j. Each (D.reads disk.old) (IsJournal parts.journal j.records)) }
-    ensures other { OnOk result
-        (Each (D.reads disk.old) (λ file. parts.other_journal.base < length file)) }
-    ensures refused { IfErr result (RefusesGates (D.reads disk.old) parts) }
+// Reads the live journal and applies its lines to the maps, up to the first that is not an accepted command. It answers
+// the gate of that line only after the last one, because a damaged gate is told before it.
+fn replay<D: Disk>(
+    disk: &mut D,
+    area: Area,
+    maps: &mut Maps,
+    cap: u32,
+) -> Result<(Journal, Option<u64>), JournalError>
+    requires { body_len (project_of maps.old) ≤ cap }
+    ensures journal { IfOk result (λ r. r.0 ≡ journal_at area r.0.next) }
+    ensures replayed { IfOk result (λ r. IsReplayed (D.reads disk.old) cap area
+        (project_of maps.old) r.0.next r.1 (project_of maps.new)) }
+    ensures fits { body_len (project_of maps.new) ≤ cap }
+    ensures damaged { IfErr result (λ e. IfGateDamaged e
+        (λ place. Each (D.reads disk.old) (IsJournalDamagedAt area place))) }
+    ensures no_other { IfErr result RefusesToOpenJournal }
     ensures reads { OnlyReads D.Disk disk.old disk.new }
-    ensures count { CountsFaults ProjectError.Device (D.failures disk.old)
+    ensures count { CountsFaults JournalError.Device (D.failures disk.old)
         (D.failures disk.new) result }
 {
-    let end = disk.len()?;
-    let other = parts.other_journal.base;
-    match Journal::open(alloc, disk, parts.journal) {
-        Ok(_) if end <= other => Err(ProjectError::Damaged { place: other }),
-        Ok(journal) => Ok(journal),
-        Err(JournalError::Damaged { place }) if end <= other => Err(ProjectError::Damaged {
-            place: place.min(other),
-        }),
-        Err(JournalError::Damaged { place }) => Err(ProjectError::Damaged { place }),
-        Err(JournalError::OutOfMemory) => Err(ProjectError::OutOfMemory),
-        Err(JournalError::Device) => Err(ProjectError::Device),
-        Err(_) => unreachable!(),
+    let mut reader = Reader::begin(disk, area)?;
+    let mut refused = None;
+    loop {
+        let gate = reader.place();
+        match reader.read_next(disk) {
+            Ok(true) => {}
+            Ok(false) => return Ok((reader.into_journal(), refused)),
+            Err(error) => return Err(error),
+        }
+        refused = match advance_unless(refused, maps, gate, reader.payload(), cap) {
+            Ok(refused) => refused,
+            Err(_) => return Err(JournalError::OutOfMemory),
+        };
     }
 }
 
@@ -126,22 +140,23 @@ fn refusal_of_body(error: MapError, place: u64) -> ProjectError
     }
 }
 
-// Reads the slots, and the maps in the live body.
+// Reads the slots, and in place of the maps those in the live body.
 fn read_slots<D: Disk>(
     alloc: Global,
     disk: &mut D,
     geometry: Geometry,
     places: Places,
-) -> Result<(Slots, Maps), ProjectError>
+    maps: &mut Maps,
+) -> Result<Slots, ProjectError>
     requires allowed { IsAllowed geometry.slot geometry.journal }
     requires laid_out { AreLaidOut geometry places }
     requires only { Each (D.may_leave disk.old) (D.reads disk.old) }
-    ensures holds { IfOk result (λ r. Each (D.reads disk.old)
-        (HoldsMap (which_parts places (slot_of r.0)) (generation_of r.0) (project_of r.1))) }
-    ensures slots { IfOk result (λ r. Each (D.reads disk.old) (HasSomeSlots r.0)) }
-    ensures areas { IfOk result (λ r. (first_area r.0 ≡ places.a) × (second_of r.0 ≡ places.b)
-        × (slot_of r.0 ≤ 1)) }
-    ensures fits { IfOk result (λ r. body_len (project_of r.1) ≤ cap_of geometry) }
+    ensures holds { IfOk result (λ s. Each (D.reads disk.old)
+        (HoldsMap (which_parts places (slot_of s)) (generation_of s) (project_of maps.new))) }
+    ensures slots { IfOk result (λ s. Each (D.reads disk.old) (HasSomeSlots s)) }
+    ensures areas { IfOk result (λ s. (first_area s ≡ places.a) × (second_of s ≡ places.b)
+        × (slot_of s ≤ 1)) }
+    ensures fits { OnOk result (body_len (project_of maps.new) ≤ cap_of geometry) }
     ensures refused { IfErr result (RefusesSlots (D.reads disk.old) geometry places) }
     ensures reads { OnlyReads D.Disk disk.old disk.new }
     ensures only { Each (D.may_leave disk.new) (D.reads disk.new) }
@@ -152,28 +167,27 @@ fn read_slots<D: Disk>(
         Ok(live) => live,
         Err(error) => return Err(refusal_of_slots(error)),
     };
-    match Maps::decode_body(alloc, &found.body) {
-        Ok(maps) => Ok((slots, maps)),
+    match maps.read_body(alloc, &found.body) {
+        Ok(()) => Ok(slots),
         Err(error) => Err(refusal_of_body(error, places.parts(found.slot).live.base)),
     }
 }
 
-// Opens the live journal, and applies its lines to the maps.
+// Reads the live journal and applies its lines to the maps. `Damaged` gives the lowest place of a bad gate; the first
+// gate of the other journal is one if it is missing. If no gate is bad, it gives the gate of the first line that is not
+// an accepted command.
 fn read_lines<D: Disk>(
-    alloc: Global,
     disk: &mut D,
     parts: Parts,
     maps: &mut Maps,
     cap: u32,
 ) -> Result<Journal, ProjectError>
-    requires fits { body_len (project_of maps.old) ≤ cap }
-    requires only { Each (D.may_leave disk.old) (D.reads disk.old) }
-    ensures opened { IfOk result (λ j. j ≡ journal.opened parts.journal j.records) }
-    ensures sound { IfOk result (λ j. Each (D.reads disk.old) (IsJournal parts.journal j.records)) }
+    requires { body_len (project_of maps.old) ≤ cap }
+    ensures journal { IfOk result (λ j. j ≡ journal_at parts.journal j.next) }
+    ensures replayed { IfOk result (λ j. IsReplayed (D.reads disk.old) cap parts.journal
+        (project_of maps.old) j.next None (project_of maps.new)) }
     ensures other { OnOk result
         (Each (D.reads disk.old) (λ file. parts.other_journal.base < length file)) }
-    ensures led { IfOk result
-        (λ j. Leads cap (project_of maps.old) j.records (project_of maps.new)) }
     ensures fits { body_len (project_of maps.new) ≤ cap }
     ensures refused { IfErr result
         (RefusesLines (D.reads disk.old) cap parts (project_of maps.old)) }
@@ -181,28 +195,39 @@ fn read_lines<D: Disk>(
     ensures count { CountsFaults ProjectError.Device (D.failures disk.old)
         (D.failures disk.new) result }
 {
-    let journal = match open_journal(alloc, disk, parts) {
-        Ok(journal) => journal,
-        Err(error) => return Err(error),
-    };
-    match replay(maps, &journal, cap) {
-        Ok(()) => Ok(journal),
-        Err(error) => Err(error),
+    let end = disk.len()?;
+    let other = parts.other_journal.base;
+    match replay(disk, parts.journal, maps, cap) {
+        Ok(_) if end <= other => Err(ProjectError::Damaged { place: other }),
+        Ok((journal, None)) => Ok(journal),
+        Ok((_, Some(place))) => Err(ProjectError::Damaged { place }),
+        Err(JournalError::Damaged { place }) if end <= other => Err(ProjectError::Damaged {
+            place: place.min(other),
+        }),
+        Err(JournalError::Damaged { place }) => Err(ProjectError::Damaged { place }),
+        Err(JournalError::OutOfMemory) => Err(ProjectError::OutOfMemory),
+        Err(JournalError::Device) => Err(ProjectError::Device),
+        Err(_) => unreachable!(),
     }
 }
 
-// Reads a project from a fully synced disk. It only reads.
-fn read_synced<D: Disk>(alloc: Global, disk: &mut D) -> Result<Opened, ProjectError>
+// Reads a project from a fully synced disk, and its maps in place of those that are given. It only reads.
+fn read_synced<D: Disk>(
+    alloc: Global,
+    disk: &mut D,
+    maps: &mut Maps,
+) -> Result<Opened, ProjectError>
     requires only { Each (D.may_leave disk.old) (D.reads disk.old) }
-    ensures opened { IfOk result (λ o. Each (D.reads disk.old) (IsOpened o)) }
+    ensures opened { IfOk result
+        (λ o. Each (D.reads disk.old) (IsOpened o (project_of maps.new))) }
     ensures journal { IfOk result (λ o. o.journal
-        ≡ journal.opened (which_parts o.places (slot_of o.slots)).journal o.journal.records) }
+        ≡ journal_at (which_parts o.places (slot_of o.slots)).journal o.journal.next) }
     ensures places { IfOk result (λ o. IsAllowed o.geometry.slot o.geometry.journal
         × AreLaidOut o.geometry o.places) }
     ensures areas { IfOk result
         (λ o. (first_area o.slots ≡ o.places.a) × (second_of o.slots ≡ o.places.b)
         × (slot_of o.slots ≤ 1)) }
-    ensures fits { IfOk result (λ o. body_len (project_of o.maps) ≤ cap_of o.geometry) }
+    ensures fits { IfOk result (λ o. body_len (project_of maps.new) ≤ cap_of o.geometry) }
     ensures refused { IfErr result (IsRefusedRead (D.reads disk.old)) }
     ensures reads { OnlyReads D.Disk disk.old disk.new }
     ensures count { CountsFaults ProjectError.Device (D.failures disk.old)
@@ -213,35 +238,38 @@ fn read_synced<D: Disk>(alloc: Global, disk: &mut D) -> Result<Opened, ProjectEr
         Err(error) => return Err(error),
     };
     let places = geometry.places();
-    let (slots, maps) = match read_slots(alloc, disk, geometry, places) {
-        Ok(found) => found,
+    let slots = match read_slots(alloc, disk, geometry, places, maps) {
+        Ok(slots) => slots,
         Err(error) => return Err(error),
     };
-    let mut maps = maps;
     let parts = places.parts(slots.slot());
-    match read_lines(alloc, disk, parts, &mut maps, geometry.cap()) {
+    match read_lines(disk, parts, maps, geometry.cap()) {
         Ok(journal) => Ok(Opened {
             geometry,
             places,
             slots,
             journal,
-            maps,
         }),
         Err(error) => Err(error),
     }
 }
 
-/// Reads a project: one sync, and then only reads.
-pub fn read_project<D: Disk>(alloc: Global, disk: &mut D) -> Result<Opened, ProjectError>
-    ensures opened { IfOk result (λ o. Each (D.reads disk.new) (IsOpened o)) }
+/// Reads a project, and its maps in place of those that are given: one sync, and then only reads.
+pub fn read_project<D: Disk>(
+    alloc: Global,
+    disk: &mut D,
+    maps: &mut Maps,
+) -> Result<Opened, ProjectError>
+    ensures opened { IfOk result
+        (λ o. Each (D.reads disk.new) (IsOpened o (project_of maps.new))) }
     ensures journal { IfOk result (λ o. o.journal
-        ≡ journal.opened (which_parts o.places (slot_of o.slots)).journal o.journal.records) }
+        ≡ journal_at (which_parts o.places (slot_of o.slots)).journal o.journal.next) }
     ensures places { IfOk result (λ o. IsAllowed o.geometry.slot o.geometry.journal
         × AreLaidOut o.geometry o.places) }
     ensures areas { IfOk result
         (λ o. (first_area o.slots ≡ o.places.a) × (second_of o.slots ≡ o.places.b)
         × (slot_of o.slots ≤ 1)) }
-    ensures fits { IfOk result (λ o. body_len (project_of o.maps) ≤ cap_of o.geometry) }
+    ensures fits { IfOk result (λ o. body_len (project_of maps.new) ≤ cap_of o.geometry) }
     ensures refused { IfErr result (IsRefusedRead (D.reads disk.new)) }
     ensures only { OnOk result (Each (D.may_leave disk.new) (D.reads disk.new)) }
     ensures reads { Each (D.reads disk.new) (D.reads disk.old) }
@@ -251,7 +279,7 @@ pub fn read_project<D: Disk>(alloc: Global, disk: &mut D) -> Result<Opened, Proj
         (D.failures disk.new) result }
 {
     match disk.sync() {
-        Ok(()) => read_synced(alloc, disk),
+        Ok(()) => read_synced(alloc, disk, maps),
         Err(_) => Err(ProjectError::Device),
     }
 }
@@ -269,7 +297,7 @@ pub fn write_new<D: Disk>(
     ensures handle { IfOk result
         (λ r. (slot_of r.1 ≡ 0) × (generation_of r.1 ≡ 1) × (first_area r.1 ≡ r.0.a)
         × (second_of r.1 ≡ r.0.b)) }
-    ensures journal { IfOk result (λ r. r.2 ≡ journal.opened r.0.first []) }
+    ensures journal { IfOk result (λ r. r.2 ≡ opened r.0.first []) }
     ensures places { IfOk result
         (λ r. IsAllowed geometry.slot geometry.journal × AreLaidOut geometry r.0) }
     ensures empty { OnOk result (Each (D.reads disk.old) (λ file. length file ≡ 0)) }

@@ -188,7 +188,8 @@ impl<D: Disk> Project<D> {
             return Err(Refused { error, disk });
         };
         let mut ahead = ReadAhead::new(disk, buffer);
-        let read = read_project(alloc, &mut ahead);
+        let mut maps = Maps::new(alloc);
+        let read = read_project(alloc, &mut ahead, &mut maps);
         let disk = ahead.into_inner();
         match read {
             Ok(opened) => Ok(Project {
@@ -198,7 +199,7 @@ impl<D: Disk> Project<D> {
                 places: opened.places,
                 slots: opened.slots,
                 journal: opened.journal,
-                maps: opened.maps,
+                maps,
                 must_reopen: false,
             }),
             Err(error) => Err(Refused { error, disk }),

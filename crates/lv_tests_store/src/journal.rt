@@ -2,7 +2,7 @@
 ghost use Rattle.std.specs.Prelude.{◌≤◌, length};
 
 use crate::expect::same;
-use crate::ready::{AREA, blanked, opened, refreshed};
+use crate::ready::{AREA, blanked, opened, refreshed, reread};
 use lv_disk::{Disk, FaultDisk, Fill, MemoryDisk};
 use lv_journal::{Journal, JournalError, blank};
 use std::alloc::Global;
@@ -141,6 +141,32 @@ fn opens_what_the_area_stands_for(rt: HostRuntime) -> Result<(), Fail> {
         let found = stands_for(rt.alloc(), bytes, payloads)?;
         same(&rt, &(bytes, found), &(bytes, true));
     }
+    Ok(())
+}
+
+// Reads these payloads one by one, and appends one to the journal that their reader becomes. Returns how many payloads
+// that journal keeps, none if the area has others.
+fn append_reread<D: Disk>(
+    disk: &mut D,
+    payloads: &[&[u8]],
+    payload: &[u8],
+) -> Result<Option<usize>, JournalError>
+    requires { length payload.now ≤ 256 }
+{
+    let Some(found) = reread(disk, payloads)? else {
+        return Ok(None);
+    };
+    let mut journal = found;
+    journal.append(disk, payload)?;
+    Ok(Some(journal.count()))
+}
+
+#[test]
+fn reads_one_by_one(rt: HostRuntime) -> Result<(), Fail> {
+    let mut disk = disk_with(rt.alloc(), b"\xa5\0\0\0\0\xa5\x01\0\0\0b\0")?;
+    let kept = append_reread(&mut disk, &[b"", b"b"], b"cd")?;
+    let is_longer = is_opened_with(rt.alloc(), &mut disk, &[b"", b"b", b"cd"])?;
+    assert_eq!(rt; (kept, is_longer), (Some(0), true));
     Ok(())
 }
 

@@ -5,8 +5,8 @@ use lv_disk::{Buffer, Disk, FaultDisk, MemoryDisk, ReadAhead};
 use std::alloc::Global;
 use std::test::Fail;
 
-// The length of the file in bytes. The buffer holds 65,536 of them.
-const LONG: usize = 70_000;
+// The length of the file in bytes. The buffer holds 16,384 of them.
+const LONG: usize = 20_000;
 
 // A file whose bytes count from 0 to 250 again and again, on a disk that reads ahead; the k-th call of the inner disk
 // fails. The first call is the write of the file.
@@ -15,7 +15,7 @@ fn counted(alloc: Global, k: u64) -> Result<ReadAhead<FaultDisk<MemoryDisk>>, Fa
     for place in 0..LONG {
         bytes.push((place % 251) as u8)?;
     }
-    let disk = MemoryDisk::new(alloc, 80_000, 80_000)?;
+    let disk = MemoryDisk::new(alloc, 30_000, 30_000)?;
     let mut ahead = ReadAhead::new(FaultDisk::new(disk, k, 0), Buffer::new(alloc)?);
     ahead.write_at(0, &bytes)?;
     Ok(ahead)
@@ -49,23 +49,23 @@ const READS: &[(u64, &[(u64, usize, (u8, u8))])] = &[
         &[
             (0, 10, (0, 9)),
             (1000, 200, (247, 195)),
-            (65_526, 10, (15, 24)),
-            (65_530, 10, (255, 255)),
+            (16_374, 10, (59, 68)),
+            (16_378, 10, (255, 255)),
         ],
     ),
-    (7, &[(0, 10, (0, 9)), (65_530, 10, (255, 255))]),
+    (7, &[(0, 10, (0, 9)), (16_378, 10, (255, 255))]),
     (
         10,
         &[
             (0, 10, (0, 9)),
-            (65_530, 10, (19, 28)),
-            (69_990, 10, (212, 221)),
+            (16_378, 10, (63, 72)),
+            (19_990, 10, (161, 170)),
             (0, 1, (255, 255)),
         ],
     ),
     // A range longer than the buffer is read from the inner disk directly.
-    (0, &[(0, 70_000, (0, 221)), (1, 65_537, (1, 26))]),
-    (5, &[(0, 70_000, (255, 255))]),
+    (0, &[(0, 20_000, (0, 170)), (1, 16_385, (1, 70))]),
+    (5, &[(0, 20_000, (255, 255))]),
 ];
 
 #[test]

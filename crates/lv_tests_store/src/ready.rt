@@ -1,9 +1,9 @@
 //! Journals that are ready on their disk. This file has no tests, so that wrong bodies of its functions can be tried.
-ghost use Rattle.std.specs.Prelude.{IfOk};
+ghost use Rattle.std.specs.Prelude.{IfOk, IfSome};
 ghost use Rattle.lv_journal.specs.State.{IsReadyIn};
 
 use lv_disk::{Area, Disk};
-use lv_journal::{Journal, JournalError, blank};
+use lv_journal::{Journal, JournalError, Reader, blank};
 use std::alloc::Global;
 
 pub const AREA: Area = Area {
@@ -35,4 +35,28 @@ pub fn refreshed<D: Disk>(disk: &mut D) -> Result<Journal, JournalError>
     blank(disk, AREA)?;
     disk.sync()?;
     Ok(Journal::fresh(disk, AREA))
+}
+
+// Reads the area's payloads one by one, and returns the journal that their reader becomes; none if they are others.
+pub fn reread<D: Disk>(disk: &mut D, payloads: &[&[u8]]) -> Result<Option<Journal>, JournalError>
+    ensures ready { IfOk result (λ found. IfSome found
+        (λ journal. IsReadyIn journal (D.may_leave disk.new))) }
+{
+    disk.sync()?;
+    let mut reader = Reader::begin(disk, AREA)?;
+    for payload in payloads {
+        match reader.read_next(disk) {
+            Ok(true) => {}
+            Ok(false) => return Ok(None),
+            Err(error) => return Err(error),
+        }
+        if reader.payload() != *payload {
+            return Ok(None);
+        }
+    }
+    match reader.read_next(disk) {
+        Ok(true) => Ok(None),
+        Ok(false) => Ok(Some(reader.into_journal())),
+        Err(error) => Err(error),
+    }
 }

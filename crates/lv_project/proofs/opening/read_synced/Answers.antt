@@ -26,42 +26,44 @@ returns-in-Err-read_lines-clause-refused g c =
     let later = g.D.Disk.reads c.read_slots.new.disk in
     let geometry = c.in-Ok.geometry in
     let places = c.places-places.result in
-    let r = c.in-Ok-read_slots.found in
+    let slots = c.in-Ok-read_slots.slots in
+    let base = project_of c.read_slots.new.maps in
     let error = c.in-Err-read_lines.error in
-    let parts : c.parts-parts.result ≡ which_parts places (slot_of r.0) = c.parts-parts.ensures ∙ ap (which_parts places) c.slot.ensures in
+    let parts : c.parts-parts.result ≡ which_parts places (slot_of slots) = c.parts-parts.ensures ∙ ap (which_parts places) c.slot.ensures in
     of_lines reads geometry places (λ file read. record { allowed = c.in-Ok.ensures.allowed; header = c.in-Ok.ensures.header file read; laid_out = c.places-places.ensures.laid_out })
-    (slot_of r.0) (generation_of r.0) (project_of r.1) c.in-Ok-read_slots.ensures.areas.2 (λ file read. c.in-Ok-read_slots.ensures.holds file (c.in-Ok.ensures.reads.still file read))
+    (slot_of slots) (generation_of slots) base c.in-Ok-read_slots.ensures.areas.2 (λ file read. c.in-Ok-read_slots.ensures.holds file (c.in-Ok.ensures.reads.still file read))
     error
-    (lines_later reads (cap_of geometry) (which_parts places (slot_of r.0)) (project_of r.1) later
+    (lines_later reads (cap_of geometry) (which_parts places (slot_of slots)) base later
     (λ file read. c.in-Ok-read_slots.ensures.reads.still file (c.in-Ok.ensures.reads.still file read)) error
-    (subst (λ (q : Parts). RefusesLines later (cap_of geometry) q (project_of r.1) error) parts
-    (subst (λ (n : ℕ). RefusesLines later n c.parts-parts.result (project_of r.1) error) c.cap.ensures c.in-Err-read_lines.ensures.refused)))
+    (subst (λ (q : Parts). RefusesLines later (cap_of geometry) q base error) parts
+    (subst (λ (n : ℕ). RefusesLines later n c.parts-parts.result base error) c.cap.ensures c.in-Err-read_lines.ensures.refused)))
 
 pub returns-in-Ok-read_lines-clause-opened : goal.returns-in-Ok-read_lines-clause-opened
 returns-in-Ok-read_lines-clause-opened g c file read =
     let places = c.places-places.result in
-    let r = c.in-Ok-read_slots.found in
-    let j = c.in-Ok-read_lines.journal in
-    let parts : c.parts-parts.result ≡ which_parts places (slot_of r.0) = c.parts-parts.ensures ∙ ap (which_parts places) c.slot.ensures in
+    let slots = c.in-Ok-read_slots.slots in
+    let base = project_of c.read_slots.new.maps in
+    let parts : c.parts-parts.result ≡ which_parts places (slot_of slots) = c.parts-parts.ensures ∙ ap (which_parts places) c.slot.ensures in
     let later = c.in-Ok.ensures.reads.still file read in
     let last = c.in-Ok-read_slots.ensures.reads.still file later in
     let holds = c.in-Ok-read_slots.ensures.holds file later in
-    let sound = subst (λ (q : Parts). IsJournal q.journal j.records file) parts (c.in-Ok-read_lines.ensures.sound file last) in
+    let all = c.in-Ok-read_lines.ensures.replayed in
+    let sound = subst (λ (q : Parts). IsJournal q.journal all.lines file) parts (all.journal file last) in
     record {
       has = record { allowed = c.in-Ok.ensures.allowed; header = c.in-Ok.ensures.header file read; laid_out = c.places-places.ensures.laid_out };
       stands = record {
-        base = project_of r.1;
+        base = base;
         bytes = holds.bytes;
-        lines = j.records;
+        lines = all.lines;
         well_formed = holds.well_formed;
         body = holds.body;
         live = holds.live;
         journal = sound;
         other = subst (λ (q : Parts). q.other_journal.base < length file) parts (c.in-Ok-read_lines.ensures.other file last);
-        leads = subst (λ (n : ℕ). Leads n (project_of r.1) j.records (project_of c.read_lines.new.maps)) c.cap.ensures c.in-Ok-read_lines.ensures.led;
+        leads = subst (λ (n : ℕ). Leads n base all.lines (project_of c.read_lines.new.maps)) c.cap.ensures all.replayed;
       };
       slots = c.in-Ok-read_slots.ensures.slots file later;
-      journal = sound;
+      journal = (all.lines, sound, all.len);
     }
 
 pub returns-in-Ok-read_lines-clause-count : goal.returns-in-Ok-read_lines-clause-count

@@ -1,10 +1,19 @@
-use Rattle.std.proofs.Common.{◌≤◌, take}
+use Rattle.std.proofs.Common.{◌≡◌, ◌≤◌, ◌-◌, ℕ, List}
+use Rattle.lv_disk.specs.Reading.{OnlyReads}
+use Rattle.lv_journal.specs.Reading.{HasRead}
 use Rattle.lv_maptables.specs.Projects.{body_len, project_of}
-use Rattle.lv_commands.specs.ProjectLines.{Leads}
+use Rattle.lv_project.specs.Opening.{AreReplayed}
 use Rattle.lv_project.proofs.opening.replay.Given as goal
 
-abbrev pub invariant-loop-n : goal.invariant-loop-n
-invariant-loop-n l = record {
-  led : Leads l.cap (project_of l.fn.maps) (take l.n l.journal.records) (project_of l.maps);
+abbrev pub invariant-loop-reader : goal.invariant-loop-reader
+invariant-loop-reader g l = record {
+  read : (lines : List (List ℕ)) × HasRead l.reader lines (g.D.Disk.reads l.disk)
+      × AreReplayed l.cap l.fn.area.base (project_of l.fn.maps) lines l.refused (project_of l.maps);
+  area : l.reader.area ≡ l.fn.area;
   fits : body_len (project_of l.maps) ≤ l.cap;
+  only : OnlyReads g.D.Disk l.fn.disk l.disk;
+  count : g.D.Disk.failures l.disk ≡ g.D.Disk.failures l.fn.disk;
 }
+
+abbrev pub decreases-loop-reader : goal.decreases-loop-reader
+decreases-loop-reader g l = l.reader.end - l.reader.next
