@@ -23,7 +23,7 @@ use Rattle.lv_project.specs.Places.{IsAllowed, AreLaidOut, cap_of, which_parts}
 use Rattle.lv_project.specs.Stands.{HasGeometry, Stands}
 use Rattle.lv_commands.specs.ProjectLines.{Leads, LeadsTo}
 use Rattle.lv_project.specs.Damage.{IsBadLine, IsBadPart}
-use Rattle.lv_project.specs.Opening.{AreReplayed, HoldsMap, IsOpened, IsOfBody, IsOfSlots, IsRefusedRead, IsReplayed, RefusesHeader, RefusesLines, RefusesSlots}
+use Rattle.lv_project.specs.Opening.{AreReplayed, HoldsMap, IsOpened, IsOfBody, IsOfSlots, IsRefusedRead, IsJournalReplayed, RefusesHeader, RefusesLines, RefusesSlots}
 use Rattle.lv_project.specs.declared.geometry.Geometry.{Geometry}
 use Rattle.lv_project.specs.declared.places.Places.{Places}
 use Rattle.lv_project.specs.declared.places.Parts.{Parts}
@@ -173,7 +173,7 @@ module _ (reads : List ℕ → Type 0) (cap : ℕ) (q : Parts) (base : ProjectMa
   lines_later later still BadGeometry r = absurd r
 
   -- a refused line, where no gate is at fault
-  pub of_replay : (next place : ℕ) (new : ProjectMaps) → IsReplayed reads cap q.journal base next (Some place) new → Each reads (λ file. q.other_journal.base < length file)
+  pub of_replay : (next place : ℕ) (new : ProjectMaps) → IsJournalReplayed reads cap q.journal base next (Some place) new → Each reads (λ file. q.other_journal.base < length file)
       → Each reads (IsBadLine cap q base place)
   of_replay next place new is other file read =
       let (front, line, back, split, m, leads, refused, there) = is.replayed in
@@ -191,7 +191,7 @@ module _ (reads : List ℕ → Type 0) (cap : ℕ) (q : Parts) (base : ProjectMa
 
 -- the same of other files, all of which are among the first
 pub replayed_later : {cap : ℕ} {area : Area} {base : ProjectMaps} {next : ℕ} {refused : Option ℕ} {new : ProjectMaps} (files others : List ℕ → Type 0) → Each others files
-    → IsReplayed files cap area base next refused new → IsReplayed others cap area base next refused new
+    → IsJournalReplayed files cap area base next refused new → IsJournalReplayed others cap area base next refused new
 replayed_later files others among is = record { lines = is.lines; journal = λ file read. is.journal file (among file read); len = is.len; replayed = is.replayed }
 
 -- ---- the lines, one by one

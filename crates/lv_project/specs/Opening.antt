@@ -59,7 +59,7 @@ AreReplayed cap at base lines (Some place) new =
 
 -- the lines for which an area of each of the files stands were applied to a map, and the closed
 -- gate behind them stands so far into the area
-pub record IsReplayed (files : List ℕ → Type 0) (cap : ℕ) (area : Area) (base : ProjectMaps)
+pub record IsJournalReplayed (files : List ℕ → Type 0) (cap : ℕ) (area : Area) (base : ProjectMaps)
     (next : ℕ) (refused : Option ℕ) (new : ProjectMaps) : Type 0 where
   pub lines : List (List ℕ)
   pub journal : Each files (IsJournal area lines)

@@ -13,7 +13,7 @@ ghost use Rattle.lv_maptables.specs.Projects.{body_len, empty_project, project_o
 ghost use Rattle.lv_project.specs.Places.{cap_of, which_parts, IsAllowed, IsInOrder, AreLaidOut};
 ghost use Rattle.lv_project.specs.Stands.{HasGeometry, StandsAt};
 ghost use Rattle.lv_commands.specs.ProjectLines.{LeadsTo};
-ghost use Rattle.lv_project.specs.Opening.{AreReplayed, HoldsMap, IsOfBody, IsOfSlots, IsOpened, IsRefusedRead, IsReplayed, RefusesCreate, RefusesLines, RefusesSlots};
+ghost use Rattle.lv_project.specs.Opening.{AreReplayed, HoldsMap, IsOfBody, IsOfSlots, IsOpened, IsRefusedRead, IsJournalReplayed, RefusesCreate, RefusesLines, RefusesSlots};
 
 use crate::ProjectError;
 use crate::geometry::Geometry;
@@ -90,7 +90,7 @@ fn replay<D: Disk>(
 ) -> Result<(Journal, Option<u64>), JournalError>
     requires { body_len (project_of maps.old) ≤ cap }
     ensures journal { IfOk result (λ r. r.0 ≡ journal_at area r.0.next) }
-    ensures replayed { IfOk result (λ r. IsReplayed (D.reads disk.old) cap area
+    ensures replayed { IfOk result (λ r. IsJournalReplayed (D.reads disk.old) cap area
         (project_of maps.old) r.0.next r.1 (project_of maps.new)) }
     ensures fits { body_len (project_of maps.new) ≤ cap }
     ensures damaged { IfErr result (λ e. IfGateDamaged e
@@ -184,7 +184,7 @@ fn read_lines<D: Disk>(
 ) -> Result<Journal, ProjectError>
     requires { body_len (project_of maps.old) ≤ cap }
     ensures journal { IfOk result (λ j. j ≡ journal_at parts.journal j.next) }
-    ensures replayed { IfOk result (λ j. IsReplayed (D.reads disk.old) cap parts.journal
+    ensures replayed { IfOk result (λ j. IsJournalReplayed (D.reads disk.old) cap parts.journal
         (project_of maps.old) j.next None (project_of maps.new)) }
     ensures other { OnOk result
         (Each (D.reads disk.old) (λ file. parts.other_journal.base < length file)) }
