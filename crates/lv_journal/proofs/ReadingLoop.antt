@@ -13,14 +13,14 @@ use Rattle.lv_disk.specs.Gates.{open_gate, IsClosedAt}
 use Rattle.lv_disk.specs.declared.area.Area.{Area}
 use Rattle.lv_disk.proofs.Bytes.{has_both, has_left, has_right, one_has}
 use Rattle.lv_journal.specs.Records.{record_bytes, records_bytes}
-use Rattle.lv_journal.specs.Reading.{ReaderState, HasRead, IsFound}
+use Rattle.lv_journal.specs.Reading.{ReaderState, HasRead, HasFoundGate}
 use Rattle.lv_journal.specs.Damage.{EndsBefore, IsBadRecord, IsJournalDamagedAt}
 use Rattle.lv_journal.proofs.Lengths.{records_bytes-push, length-push}
 
 -- the same of other files, all of which are among the first
 pub found_among : (place end : ℕ) (reads others : List ℕ → Type 0) (found : Option ℕ) → Each others reads → IfNone found (Each reads (IsClosedAt place))
     → IfSome found (λ _. Each reads (HasAt place (open_gate ∷ []))) → IfSome found (λ len. Each reads (HasAt (place + 1) (to_le_bytes w32 len)))
-    → IfSome found (λ len. (len ≤ 256) × (place + 6 + len ≤ end)) → IsFound place end others found
+    → IfSome found (λ len. (len ≤ 256) × (place + 6 + len ≤ end)) → HasFoundGate place end others found
 found_among place end reads others None among closed gate told fits = λ file is. closed file (among file is)
 found_among place end reads others (Some len) among closed gate told fits =
     (λ file is. gate file (among file is), λ file is. told file (among file is), fits.0, fits.1)
@@ -59,8 +59,8 @@ on_ok (Err error) f h = tt
 module _ (r : ReaderState) (payloads : List (List ℕ)) (files : List ℕ → Type 0) (read : HasRead r payloads files) where
   -- where the next gate is open: the payload behind it, from what a call read
   module _ (n : ℕ) (bytes : List ℕ) (is_open : r.found ≡ Some n) (room : length bytes ≡ 261) (there : Each files (HasAt (r.area.base + r.next + 5) (take n bytes))) where
-    head : IsFound (r.area.base + r.next) r.end files (Some n)
-    head = subst (λ (f : Option ℕ). IsFound (r.area.base + r.next) r.end files f) is_open read.found
+    head : HasFoundGate (r.area.base + r.next) r.end files (Some n)
+    head = subst (λ (f : Option ℕ). HasFoundGate (r.area.base + r.next) r.end files f) is_open read.found
 
     is_long : length (take n bytes) ≡ n
     is_long = length-take-le n bytes (omega (arith, room, head.2))
@@ -79,7 +79,7 @@ module _ (r : ReaderState) (payloads : List (List ℕ)) (files : List ℕ → Ty
         (subst (λ (k : ℕ). HasAt (r.area.base + k) (record_bytes (take n bytes)) file) read.len record_there))
 
     -- with this payload, of files that are among these
-    pub has_one_more : (place : ℕ) (later : List ℕ → Type 0) (found : Option ℕ) → place ≡ r.area.base + (r.next + (5 + n)) → Each later files → IsFound place r.end later found
+    pub has_one_more : (place : ℕ) (later : List ℕ → Type 0) (found : Option ℕ) → place ≡ r.area.base + (r.next + (5 + n)) → Each later files → HasFoundGate place r.end later found
         → HasRead (record r { next = r.next + (5 + n); found = found; last = take n bytes }) (payloads ++ take n bytes ∷ []) later
     has_one_more place later found at among is = record {
       len = sym size;
@@ -88,7 +88,7 @@ module _ (r : ReaderState) (payloads : List (List ℕ)) (files : List ℕ → Ty
       ends = λ file i. read.ends file (among file i);
       short = more_short;
       has = λ file i. more_bytes file (among file i);
-      found = subst (λ (k : ℕ). IsFound k r.end later found) at is;
+      found = subst (λ (k : ℕ). HasFoundGate k r.end later found) at is;
     }
 
     -- a bad record behind this payload

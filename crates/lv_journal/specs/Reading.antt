@@ -19,9 +19,9 @@ pub record ReaderState : Type 0 where
 
 -- at this place stands a closed gate, or an open one and the length of a record that fits with its
 -- next gate
-abbrev pub IsFound : ℕ → ℕ → (List ℕ → Type 0) → Option ℕ → Type 0
-IsFound place end files None = Each files (IsClosedAt place)
-IsFound place end files (Some len) = Each files (HasAt place (open_gate ∷ []))
+abbrev pub HasFoundGate : ℕ → ℕ → (List ℕ → Type 0) → Option ℕ → Type 0
+HasFoundGate place end files None = Each files (IsClosedAt place)
+HasFoundGate place end files (Some len) = Each files (HasAt place (open_gate ∷ []))
     × Each files (HasAt (place + 1) (to_le_bytes w32 len)) × (len ≤ 256) × (place + 6 + len ≤ end)
 
 -- The reader has read these payloads of each of the files: their records begin the area, and the
@@ -35,7 +35,7 @@ pub record HasRead (reader : ReaderState) (payloads : List (List ℕ)) (files : 
       (λ file. reader.end ≡ min (length file) (reader.area.base + reader.area.length))
   pub short : All (λ payload. length payload ≤ 256) payloads
   pub has : Each files (HasAt reader.area.base (records_bytes payloads))
-  pub found : IsFound (reader.area.base + reader.next) reader.end files reader.found
+  pub found : HasFoundGate (reader.area.base + reader.next) reader.end files reader.found
 
 -- the reader has read some payloads of the files
 abbrev pub IsReading : ReaderState → (List ℕ → Type 0) → Type 0

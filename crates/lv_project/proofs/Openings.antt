@@ -5,7 +5,7 @@ use Rattle.std.proofs.lemmas.List.{append_assoc}
 use Rattle.lv_disk.specs.Gates.{IsClosedAt}
 use Rattle.lv_disk.specs.Stops.{Each}
 use Rattle.lv_disk.specs.declared.area.Area.{Area}
-use Rattle.lv_journal.specs.Reading.{ReaderState, HasRead, IsFound}
+use Rattle.lv_journal.specs.Reading.{ReaderState, HasRead, HasFoundGate}
 use Rattle.lv_journal.specs.Records.{IsJournal, records_bytes}
 use Rattle.lv_checkpoint.specs.Bodies.{IsLive, IsOpen, IsOlder}
 use Rattle.lv_checkpoint.specs.Damage as damage
@@ -196,7 +196,7 @@ replayed_later files others among is = record { lines = is.lines; journal = λ f
 
 -- ---- the lines, one by one
 
-found_later : (place end : ℕ) (old new : List ℕ → Type 0) (found : Option ℕ) → Each new old → IsFound place end old found → IsFound place end new found
+found_later : (place end : ℕ) (old new : List ℕ → Type 0) (found : Option ℕ) → Each new old → HasFoundGate place end old found → HasFoundGate place end new found
 found_later place end old new None fewer is = λ file read. is file (fewer file read)
 found_later place end old new (Some len) fewer is = (λ file read. is.0 file (fewer file read), λ file read. is.1 file (fewer file read), is.2, is.3)
 

@@ -14,7 +14,7 @@ use Rattle.lv_levels.specs.Levels.{Lumps, IsLevel, lump, lumps_behind, marker_at
 use Rattle.lv_pwad.specs.Wad.{Lump, Part, AreParts, IsCoded, IsReadBack, all_bytes, all_lumps, lumps_of, level_part, wad_bytes, wad_size}
 use Rattle.lv_levels.specs.Views.{view}
 use Rattle.lv_pwad.specs.Views.{level_parts}
-use Rattle.lv_pwad.specs.Writer.{AreSized, Fits, Puts, level_len, wad_len}
+use Rattle.lv_pwad.specs.Writer.{AreSized, FitsLumps, PutsLumps, level_len, wad_len}
 use Rattle.lv_pwad.specs.declared.wad.WadWriter.{WadWriter}
 use Rattle.lv_pwad.proofs.PartLemmas.{length-all, reads_back}
 use Rattle.lv_pwad.proofs.PutLemmas.{all_bytes-length, fits_behind, put_both, ten_long}
@@ -35,10 +35,10 @@ lumps_more levels n x h e =
 
 -- one more level's lumps
 pub put_level :
-    (a b c : WadWriter) (levels : List NamedLevel) (n : ℕ) (x : NamedLevel) → n < length levels → get_or levels n x ≡ x → Puts a b (all_lumps (level_parts (take n levels)))
-    → Puts b c (lumps_of (level_part x.name (view x.level))) → Puts a c (all_lumps (level_parts (take (n + 1) levels)))
+    (a b c : WadWriter) (levels : List NamedLevel) (n : ℕ) (x : NamedLevel) → n < length levels → get_or levels n x ≡ x → PutsLumps a b (all_lumps (level_parts (take n levels)))
+    → PutsLumps b c (lumps_of (level_part x.name (view x.level))) → PutsLumps a c (all_lumps (level_parts (take (n + 1) levels)))
 put_level a b c levels n x h e p q =
-    subst (λ (ls : List Lump). Puts a c ls) (sym (lumps_more levels n x h e))
+    subst (λ (ls : List Lump). PutsLumps a c ls) (sym (lumps_more levels n x h e))
     (put_both a b c (all_lumps (level_parts (take n levels))) (lumps_of (level_part x.name (view x.level))) p q)
 
 -- the lumps of the levels up to one, its own, and those after it
@@ -53,11 +53,11 @@ lumps_split levels n x h e =
     ∙ append_assoc (all_lumps (level_parts (take n levels))) (lumps_of (level_part x.name (view x.level))) (all_lumps (level_parts (drop (n + 1) levels)))
 
 pub fits_level :
-    (a b : WadWriter) (levels : List NamedLevel) (n : ℕ) (x : NamedLevel) → n < length levels → get_or levels n x ≡ x → Fits a (all_lumps (level_parts levels))
-    → Puts a b (all_lumps (level_parts (take n levels))) → Fits b (lumps_of (level_part x.name (view x.level)))
+    (a b : WadWriter) (levels : List NamedLevel) (n : ℕ) (x : NamedLevel) → n < length levels → get_or levels n x ≡ x → FitsLumps a (all_lumps (level_parts levels))
+    → PutsLumps a b (all_lumps (level_parts (take n levels))) → FitsLumps b (lumps_of (level_part x.name (view x.level)))
 fits_level a b levels n x h e f p =
     fits_behind a b (all_lumps (level_parts (take n levels))) (lumps_of (level_part x.name (view x.level))) (all_lumps (level_parts (drop (n + 1) levels))) p
-    (subst (Fits a) (lumps_split levels n x h e) f)
+    (subst (FitsLumps a) (lumps_split levels n x h e) f)
 
 -- eleven lumps a level, fewer than 2^32 in all
 pub record AreCounted (levels : List NamedLevel) : Type 0 where
@@ -110,7 +110,7 @@ levels_read wad (y ∷ levels) a w c =
 
 -- the marker and three runs of lumps are a level's lumps
 pub put_runs :
-    (w0 w1 w2 w3 w4 : WadWriter) (d t e : List Lump) (x : Lump) → Puts w0 w1 (x ∷ []) → Puts w1 w2 d → Puts w2 w3 t → Puts w3 w4 e → Puts w0 w4 (x ∷ (d ++ (t ++ e)))
+    (w0 w1 w2 w3 w4 : WadWriter) (d t e : List Lump) (x : Lump) → PutsLumps w0 w1 (x ∷ []) → PutsLumps w1 w2 d → PutsLumps w2 w3 t → PutsLumps w3 w4 e → PutsLumps w0 w4 (x ∷ (d ++ (t ++ e)))
 put_runs w0 w1 w2 w3 w4 d t e x a b f g = put_both w0 w1 w4 (x ∷ []) (d ++ (t ++ e)) a (put_both w1 w2 w4 d (t ++ e) b (put_both w2 w3 w4 t e f g))
 
 -- ---- how long the PWAD will be

@@ -6,7 +6,7 @@ use Rattle.lv_lumps.specs.declared.records.Name8.{Name8}
 use Rattle.lv_levels.specs.declared.directory.Entry.{Entry}
 use Rattle.lv_levels.proofs.ReadLemmas.{add_zero}
 use Rattle.lv_pwad.specs.Wad.{Lump, all_bytes, entries_from, entry_bytes, long, wad_bytes}
-use Rattle.lv_pwad.specs.Writer.{Fits, IsEmptyWad, Puts}
+use Rattle.lv_pwad.specs.Writer.{FitsLumps, IsEmptyWad, PutsLumps}
 use Rattle.lv_pwad.specs.declared.wad.WadWriter.{WadWriter}
 use Rattle.lv_pwad.proofs.WadLemmas.{drop_front}
 
@@ -28,14 +28,14 @@ entries_behind at (x ∷ xs) ys =
     (entries_behind (at + length x.bytes) xs ys ∙ ap (λ (n : ℕ). entries_from (at + length x.bytes) xs ++ entries_from n ys) s)
 
 -- nothing is appended
-pub put_none : (a : WadWriter) → Puts a a []
+pub put_none : (a : WadWriter) → PutsLumps a a []
 put_none a = record { bytes = sym (append-nil a.bytes.items); directory = sym (append-nil a.directory.items) }
 
-Puts-length : (a b : WadWriter) (xs : List Lump) → Puts a b xs → length b.bytes.items ≡ length a.bytes.items + length (all_bytes xs)
-Puts-length a b xs p = ap (λ (ws : List ℕ). length ws) p.bytes ∙ length-append a.bytes.items (all_bytes xs)
+PutsLumps-length : (a b : WadWriter) (xs : List Lump) → PutsLumps a b xs → length b.bytes.items ≡ length a.bytes.items + length (all_bytes xs)
+PutsLumps-length a b xs p = ap (λ (ws : List ℕ). length ws) p.bytes ∙ length-append a.bytes.items (all_bytes xs)
 
 -- one list behind another
-pub put_both : (a b c : WadWriter) (xs ys : List Lump) → Puts a b xs → Puts b c ys → Puts a c (xs ++ ys)
+pub put_both : (a b c : WadWriter) (xs ys : List Lump) → PutsLumps a b xs → PutsLumps b c ys → PutsLumps a c (xs ++ ys)
 put_both a b c xs ys p q =
     record {
       bytes =
@@ -44,7 +44,7 @@ put_both a b c xs ys p q =
       directory =
           q.directory
           ∙ ap (λ (ws : List ℕ). ws ++ flat_map entry_bytes (entries_from (length b.bytes.items) ys)) p.directory
-          ∙ ap (λ (n : ℕ). (a.directory.items ++ flat_map entry_bytes (entries_from (length a.bytes.items) xs)) ++ flat_map entry_bytes (entries_from n ys)) (Puts-length a b xs p)
+          ∙ ap (λ (n : ℕ). (a.directory.items ++ flat_map entry_bytes (entries_from (length a.bytes.items) xs)) ++ flat_map entry_bytes (entries_from n ys)) (PutsLumps-length a b xs p)
           ∙ append_assoc a.directory.items (flat_map entry_bytes (entries_from (length a.bytes.items) xs)) (flat_map entry_bytes (entries_from (length a.bytes.items + length (all_bytes xs)) ys))
           ∙ ap (λ (ws : List ℕ). a.directory.items ++ ws)
           (sym (flat_map-append entry_bytes (entries_from (length a.bytes.items) xs) (entries_from (length a.bytes.items + length (all_bytes xs)) ys))
@@ -52,20 +52,20 @@ put_both a b c xs ys p q =
     }
 
 -- one more lump, whose bytes are known
-pub put_next : (a b c : WadWriter) (xs : List Lump) (name : Name8) (new known : List ℕ) → Puts a b xs → Puts b c (named_lump name new ∷ []) → new ≡ known → Puts a c (xs ++ (named_lump name known ∷ []))
-put_next a b c xs name new known p q e = put_both a b c xs (named_lump name known ∷ []) p (subst (λ (ws : List ℕ). Puts b c (named_lump name ws ∷ [])) e q)
+pub put_next : (a b c : WadWriter) (xs : List Lump) (name : Name8) (new known : List ℕ) → PutsLumps a b xs → PutsLumps b c (named_lump name new ∷ []) → new ≡ known → PutsLumps a c (xs ++ (named_lump name known ∷ []))
+put_next a b c xs name new known p q e = put_both a b c xs (named_lump name known ∷ []) p (subst (λ (ws : List ℕ). PutsLumps b c (named_lump name ws ∷ [])) e q)
 
 -- what fits behind the lumps so far
-pub fits_behind : (a b : WadWriter) (xs ys zs : List Lump) → Puts a b xs → Fits a (xs ++ (ys ++ zs)) → Fits b ys
+pub fits_behind : (a b : WadWriter) (xs ys zs : List Lump) → PutsLumps a b xs → FitsLumps a (xs ++ (ys ++ zs)) → FitsLumps b ys
 fits_behind a b xs ys zs p f =
-    let n1 = Puts-length a b xs p in
+    let n1 = PutsLumps-length a b xs p in
     let n2 = all_bytes-length xs (ys ++ zs) in
     let n3 = all_bytes-length ys zs in
     omega (arith, n1, n2, n3, f)
 
 -- what the header is written over: the lumps and their directory stay
 pub whole_wad :
-    (a b : WadWriter) (lumps : List Lump) (count : ℕ) (wad : List ℕ) → IsEmptyWad a → Puts a b lumps → count ≡ length lumps
+    (a b : WadWriter) (lumps : List Lump) (count : ℕ) (wad : List ℕ) → IsEmptyWad a → PutsLumps a b lumps → count ≡ length lumps
     → wad ≡ codes "PWAD" ++ (long count ++ long (length b.bytes.items)) ++ (drop 12 b.bytes.items ++ b.directory.items) → wad ≡ wad_bytes lumps
 whole_wad a b lumps count wad s p c w =
     w ∙ ap (λ (k : ℕ). codes "PWAD" ++ (long k ++ long (length b.bytes.items)) ++ (drop 12 b.bytes.items ++ b.directory.items)) c
@@ -74,7 +74,7 @@ whole_wad a b lumps count wad s p c w =
     ∙ ap (λ (ws : List ℕ). codes "PWAD" ++ (long (length lumps) ++ long (12 + length (all_bytes lumps))) ++ (all_bytes lumps ++ ws)) entries
   where
     end : length b.bytes.items ≡ 12 + length (all_bytes lumps)
-    end = Puts-length a b lumps p ∙ ap (λ (k : ℕ). k + length (all_bytes lumps)) s.head
+    end = PutsLumps-length a b lumps p ∙ ap (λ (k : ℕ). k + length (all_bytes lumps)) s.head
 
     body : drop 12 b.bytes.items ≡ all_bytes lumps
     body =

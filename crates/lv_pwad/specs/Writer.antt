@@ -33,8 +33,8 @@ abbrev pub wad_len : List Lumps → ℕ
 wad_len levels = 12 + sum_by level_len levels
 
 -- with these lumps, the header and the lumps have fewer than 2^32 bytes
-abbrev pub Fits : WadWriter → List Lump → Type 0
-Fits w lumps = length w.bytes.items + length (all_bytes lumps) < 4294967296
+abbrev pub FitsLumps : WadWriter → List Lump → Type 0
+FitsLumps w lumps = length w.bytes.items + length (all_bytes lumps) < 4294967296
 
 -- a PWAD without lumps, with a header of any bytes
 pub record IsEmptyWad (w : WadWriter) : Type 0 where
@@ -42,7 +42,7 @@ pub record IsEmptyWad (w : WadWriter) : Type 0 where
   pub directory : w.directory.items ≡ []
 
 -- these lumps are appended: their bytes, and to the directory their entries
-pub record Puts (old new : WadWriter) (lumps : List Lump) : Type 0 where
+pub record PutsLumps (old new : WadWriter) (lumps : List Lump) : Type 0 where
   pub bytes : new.bytes.items ≡ old.bytes.items ++ all_bytes lumps
   pub directory : new.directory.items
       ≡ old.directory.items ++ flat_map entry_bytes (entries_from (length old.bytes.items) lumps)

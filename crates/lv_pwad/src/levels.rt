@@ -6,7 +6,7 @@ ghost use Rattle.lv_pwad.specs.Wad.{AreParts, IsCoded, IsDrawnCoded, IsTreeCoded
 ghost use Rattle.lv_pwad.specs.Wad.{all_lumps, drawn_lumps, tree_lumps, last_lumps, lumps_of, level_part, wad_bytes, wad_size};
 ghost use Rattle.lv_levels.specs.Views.{view};
 ghost use Rattle.lv_pwad.specs.Views.{level_parts};
-ghost use Rattle.lv_pwad.specs.Writer.{AreSized, Fits, Puts, level_len, wad_len};
+ghost use Rattle.lv_pwad.specs.Writer.{AreSized, FitsLumps, PutsLumps, level_len, wad_len};
 
 use crate::error::BuildError;
 use crate::wad::WadWriter;
@@ -26,8 +26,8 @@ pub struct NamedLevel {
 
 // Appends the lumps before the tree: things, lines, sides, vertices.
 fn push_drawn(alloc: Global, wad: &mut WadWriter, level: &Level) -> Result<(), BuildError>
-    requires { Fits wad.old (drawn_lumps (view level.now)) }
-    ensures lumps { OnOk result (Puts wad.old wad.new (drawn_lumps (view level.now))) }
+    requires { FitsLumps wad.old (drawn_lumps (view level.now)) }
+    ensures lumps { OnOk result (PutsLumps wad.old wad.new (drawn_lumps (view level.now))) }
     ensures coded { OnOk result (IsDrawnCoded (view level.now)) }
     ensures memory { IsOkUnless result BuildError.OutOfMemory }
 {
@@ -40,8 +40,8 @@ fn push_drawn(alloc: Global, wad: &mut WadWriter, level: &Level) -> Result<(), B
 
 // Appends the lumps of the tree: segs, subsectors, nodes.
 fn push_tree(alloc: Global, wad: &mut WadWriter, level: &Level) -> Result<(), BuildError>
-    requires { Fits wad.old (tree_lumps (view level.now)) }
-    ensures lumps { OnOk result (Puts wad.old wad.new (tree_lumps (view level.now))) }
+    requires { FitsLumps wad.old (tree_lumps (view level.now)) }
+    ensures lumps { OnOk result (PutsLumps wad.old wad.new (tree_lumps (view level.now))) }
     ensures coded { OnOk result (IsTreeCoded (view level.now)) }
     ensures memory { IsOkUnless result BuildError.OutOfMemory }
 {
@@ -53,8 +53,8 @@ fn push_tree(alloc: Global, wad: &mut WadWriter, level: &Level) -> Result<(), Bu
 
 // Appends the lumps after the tree: sectors, REJECT, BLOCKMAP.
 fn push_last(alloc: Global, wad: &mut WadWriter, level: &Level) -> Result<(), BuildError>
-    requires { Fits wad.old (last_lumps (view level.now)) }
-    ensures lumps { OnOk result (Puts wad.old wad.new (last_lumps (view level.now))) }
+    requires { FitsLumps wad.old (last_lumps (view level.now)) }
+    ensures lumps { OnOk result (PutsLumps wad.old wad.new (last_lumps (view level.now))) }
     ensures coded { OnOk result (IsLastCoded (view level.now)) }
     ensures memory { IsOkUnless result BuildError.OutOfMemory }
 {
@@ -72,9 +72,9 @@ fn push_level(
     name: Name8,
     level: &Level,
 ) -> Result<(), BuildError>
-    requires { Fits wad.old (lumps_of (level_part name (view level.now))) }
+    requires { FitsLumps wad.old (lumps_of (level_part name (view level.now))) }
     ensures lumps { OnOk result
-        (Puts wad.old wad.new (lumps_of (level_part name (view level.now)))) }
+        (PutsLumps wad.old wad.new (lumps_of (level_part name (view level.now)))) }
     ensures coded { OnOk result (IsCoded (view level.now)) }
     ensures memory { IsOkUnless result BuildError.OutOfMemory }
 {
@@ -87,8 +87,8 @@ fn push_level(
 
 // Appends the lumps of the levels, one level after another.
 fn push_levels(alloc: Global, wad: &mut WadWriter, levels: &[NamedLevel]) -> Result<(), BuildError>
-    requires { Fits wad.old (all_lumps (level_parts levels.now)) }
-    ensures lumps { OnOk result (Puts wad.old wad.new (all_lumps (level_parts levels.now))) }
+    requires { FitsLumps wad.old (all_lumps (level_parts levels.now)) }
+    ensures lumps { OnOk result (PutsLumps wad.old wad.new (all_lumps (level_parts levels.now))) }
     ensures coded { OnOk result (All (λ l. IsCoded (view l.level)) levels.now) }
     ensures memory { IsOkUnless result BuildError.OutOfMemory }
 {

@@ -61,7 +61,7 @@ fn write_over(bytes: &mut [u8], head: &[u8])
 impl WadWriter {
     ghost use Rattle.std.specs.Prelude.{◌≡◌, ◌++◌, ◌≤◌, ◌<◌, ◌^◌, [], ◌∷◌, codes, length, drop, OnOk, IfOk, IsOkUnless};
     ghost use Rattle.lv_pwad.specs.Wad.{long};
-    ghost use Rattle.lv_pwad.specs.Writer.{Fits, IsEmptyWad, Puts};
+    ghost use Rattle.lv_pwad.specs.Writer.{FitsLumps, IsEmptyWad, PutsLumps};
 
     /// Begins a PWAD of `count` lumps. Memory for all its `len` bytes is allocated here, so that no
     /// byte of a lump is moved later.
@@ -77,9 +77,9 @@ impl WadWriter {
 
     /// Appends a lump, and its entry to the directory.
     pub fn push(&mut self, name: Name8, bytes: &[u8]) -> Result<(), BuildError>
-        requires fits { Fits self.old (record { name = name; bytes = bytes.now } ∷ []) }
+        requires fits { FitsLumps self.old (record { name = name; bytes = bytes.now } ∷ []) }
         ensures ok { OnOk result
-            (Puts self.old self.new (record { name = name; bytes = bytes.now } ∷ [])) }
+            (PutsLumps self.old self.new (record { name = name; bytes = bytes.now } ∷ [])) }
         ensures memory { IsOkUnless result BuildError.OutOfMemory }
     {
         let entry = Entry {

@@ -93,8 +93,8 @@ impl Maps {
     }
 
     /// Replaces the maps by those of the project whose body these bytes are, of version 2 or, for a project of one map,
-    /// of version 1. After a refusal the maps are those of some project. `Damaged` with place 0 if no well-formed project
-    /// has these bytes in either version.
+    /// of version 1. After a refusal the maps are those of some project. `Damaged` with place 0 if no well-formed
+    /// project has these bytes in either version.
     ///
     /// A project has room for 32 maps in its value, so a caller reads into the place where it keeps them.
     pub fn read_body(&mut self, alloc: Global, bytes: &[u8]) -> Result<(), MapError>

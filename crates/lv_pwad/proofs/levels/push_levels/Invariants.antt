@@ -3,8 +3,8 @@ use Rattle.std.specs.Prelude.{take, All}
 use Rattle.lv_pwad.specs.Wad.{all_lumps, IsCoded}
 use Rattle.lv_levels.specs.Views.{view}
 use Rattle.lv_pwad.specs.Views.{level_parts}
-use Rattle.lv_pwad.specs.Writer.{Puts}
+use Rattle.lv_pwad.specs.Writer.{PutsLumps}
 use Rattle.lv_pwad.proofs.levels.push_levels.Given as goal
 
 abbrev pub invariant-loop-n : goal.invariant-loop-n
-invariant-loop-n l = Puts l.initial.wad l.wad (all_lumps (level_parts (take l.n l.levels))) × All (λ x. IsCoded (view x.level)) (take l.n l.levels)
+invariant-loop-n l = PutsLumps l.initial.wad l.wad (all_lumps (level_parts (take l.n l.levels))) × All (λ x. IsCoded (view x.level)) (take l.n l.levels)
