@@ -27,7 +27,7 @@ fn starts_of(alloc: Global, first: usize, lists: &[&[u16]]) -> Result<Vec<u16>, 
         → ¬ All (λ at. at ≤ greatest_offset) (starts first (map (λ l. l.now) lists.now)) }
     ensures some_line { ¬ IsErrOf result BlockmapError.NothingToBuild }
 {
-    let mut starts = Vec::new(alloc);
+    let mut starts = Vec::with_capacity(alloc, lists.len())?;
     let mut at = first;
     for list in lists {
         if at > GREATEST_OFFSET {

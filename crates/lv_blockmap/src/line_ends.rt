@@ -39,7 +39,7 @@ pub fn ends_of(alloc: Global, map: &Map) -> Result<Vec<LineEnds>, BlockmapError>
     ensures few { IfOk result (λ v. length v.items ≤ 32767) }
     ensures memory { IsOkUnless result BlockmapError.OutOfMemory }
 {
-    let mut ends = Vec::new(alloc);
+    let mut ends = Vec::with_capacity(alloc, map.count(Kind::Line) as usize)?;
     for n in 0..map.count(Kind::Line) {
         if let Some(line) = map.line(n) {
             ends.push(ends_in(map, line))?;
@@ -68,7 +68,7 @@ pub fn ends_over(
     ensures ends { IfOk result (λ v. v.items ≡ ends_over vertices.now lines.now) }
     ensures memory { IsOkUnless result BlockmapError.OutOfMemory }
 {
-    let mut ends = Vec::new(alloc);
+    let mut ends = Vec::with_capacity(alloc, lines.len())?;
     for line in lines {
         ends.push(LineEnds {
             start: nth_place(vertices, line.v1),

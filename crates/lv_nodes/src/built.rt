@@ -1,5 +1,5 @@
 //! The calls of the crate: they build the tree of lines over drawn vertices, or that of a map.
-ghost use Rattle.std.specs.Prelude.{◌≡◌, ◌<◌, ◌≤◌, length, All, ◌↔◌, Err, IfOk, IfErr, replicate, false};
+ghost use Rattle.std.specs.Prelude.{◌≡◌, ◌<◌, ◌≤◌, length, All, ◌↔◌, [], Err, IfOk, IfErr, replicate, false};
 ghost use Rattle.lv_segs.specs.Plane.{IsEdge};
 ghost use Rattle.lv_nodes.specs.Growth.{lists_of};
 ghost use Rattle.lv_segs.specs.Edges.{edges_of};
@@ -37,6 +37,19 @@ fn no_flags(alloc: Global, count: usize) -> Result<Vec<bool>, AllocError>
     Vec::from_elem(alloc, false, count)
 }
 
+// A tree of which nothing has grown yet, with room for one of so many pieces if few of them are parted.
+fn nothing_grown(alloc: Global, count: usize) -> Result<Grown, AllocError>
+    ensures pieces { IfOk result (λ grown. grown.pieces.items ≡ []) }
+    ensures counts { IfOk result (λ grown. grown.counts.items ≡ []) }
+    ensures nodes { IfOk result (λ grown. grown.nodes.items ≡ []) }
+{
+    Ok(Grown {
+        pieces: Vec::with_capacity(alloc, count.saturating_add(count / 8))?,
+        counts: Vec::with_capacity(alloc, count / 2)?,
+        nodes: Vec::with_capacity(alloc, count / 2)?,
+    })
+}
+
 // The tree of the lines: the pieces of its leaves, how many each leaf has, and its nodes.
 fn grown_of(alloc: Global, lines: &[Edge]) -> Result<Grown, TreeError>
     requires lines { All IsEdge lines.now }
@@ -61,10 +74,9 @@ fn grown_of(alloc: Global, lines: &[Edge]) -> Result<Grown, TreeError>
         Err(_) => return Err(TreeError::OutOfMemory),
         Ok(straight) => straight,
     };
-    let mut grown = Grown {
-        pieces: Vec::new(alloc),
-        counts: Vec::new(alloc),
-        nodes: Vec::new(alloc),
+    let mut grown = match nothing_grown(alloc, list.pieces.len()) {
+        Err(_) => return Err(TreeError::OutOfMemory),
+        Ok(grown) => grown,
     };
     match grow(
         alloc,
@@ -84,7 +96,7 @@ fn grown_of(alloc: Global, lines: &[Edge]) -> Result<Grown, TreeError>
 fn vertices_of(alloc: Global, points: &Points) -> Result<Vec<Vertex>, AllocError>
     ensures { IfOk result (λ vertices. vertices.items ≡ points.now) }
 {
-    let mut vertices = Vec::new(alloc);
+    let mut vertices = Vec::with_capacity(alloc, points.len() as usize)?;
     for n in 0..points.len() {
         let place = points.at(n).unwrap();
         vertices.push(place)?;

@@ -76,7 +76,7 @@ pub(crate) fn segs_of(
         (λ segs. AreNumbered lines.now points.old points.new pieces.now segs.items) }
     ensures refused { IfErr result (AreSegsRefused lines.now points.old pieces.now) }
 {
-    let mut segs = Vec::new(alloc);
+    let mut segs = Vec::with_capacity(alloc, pieces.len())?;
     for piece in pieces {
         let seg = match seg_of(points, lines, angles, piece) {
             Err(error) => return Err(error),

@@ -15,7 +15,7 @@ pub(crate) fn subs_of(alloc: Global, counts: &[usize]) -> Result<Vec<Sub>, Alloc
         (λ subs. map (λ (sub : SubRecord). sub.count) subs.items ≡ counts.now) }
     ensures follow { IfOk result (λ subs. FollowsFrom 0 subs.items) }
 {
-    let mut subs = Vec::new(alloc);
+    let mut subs = Vec::with_capacity(alloc, counts.len())?;
     let mut first: u16 = 0;
     for count in counts {
         let size = *count as u16;

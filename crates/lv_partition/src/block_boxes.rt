@@ -45,8 +45,8 @@ pub fn blocks_of(alloc: Global, boxes: &[Bounds]) -> Result<Vec<Bounds>, AllocEr
     requires { length boxes.now < 2 ^ 32 }
     ensures { IfOk result (λ blocks. AreBlocks boxes.now blocks.items) }
 {
-    let mut blocks = Vec::new(alloc);
     let count = boxes.len().div_ceil(BLOCK);
+    let mut blocks = Vec::with_capacity(alloc, count)?;
     for k in 0..count {
         let from = BLOCK * k;
         let end = (from + BLOCK).min(boxes.len());

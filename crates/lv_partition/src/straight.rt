@@ -74,7 +74,7 @@ impl StraightLines {
         requires { All IsEdge lines.now }
     {
         let mut known = IndexSet::new(alloc);
-        let mut numbers = Vec::new(alloc);
+        let mut numbers = Vec::with_capacity(alloc, lines.len())?;
         let mut met = Vec::new(alloc);
         for edge in lines {
             let (number, is_new) = known.insert_full(StraightLine::of(*edge))?;

@@ -29,7 +29,7 @@ pub fn pieces_in(alloc: Global, lines: &[Edge]) -> Result<Vec<Piece>, AllocError
     requires { length lines.now ≤ 32767 }
     ensures { IfOk result (λ pieces. pieces.items ≡ first_pieces lines.now) }
 {
-    let mut pieces = Vec::new(alloc);
+    let mut pieces = Vec::with_capacity(alloc, 2 * lines.len())?;
     for (line, edge) in lines.iter().enumerate() {
         pieces.push(whole(line as u16, Facing::Along))?;
         if edge.has_left {

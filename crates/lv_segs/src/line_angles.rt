@@ -24,7 +24,7 @@ pub fn angles_in(alloc: Global, lines: &[Edge]) -> Result<Vec<u16>, AllocError>
     requires { All IsEdge lines.now }
     ensures { IfOk result (λ angles. AreAngles lines.now angles.items) }
 {
-    let mut angles = Vec::new(alloc);
+    let mut angles = Vec::with_capacity(alloc, lines.len())?;
     for edge in lines {
         angles.push(line_angle(*edge))?;
     }

@@ -79,7 +79,10 @@ pub fn edges_in(
     ensures drawn { IfOk result (λ edges. All IsEdge edges.items) }
     ensures refused { IfErr result (IsLinesRefusal vertices.now sides.now lines.now) }
 {
-    let mut edges = Vec::new(alloc);
+    let mut edges = match Vec::with_capacity(alloc, lines.len()) {
+        Err(_) => return Err(LinesError::OutOfMemory),
+        Ok(edges) => edges,
+    };
     for (n, line) in lines.iter().enumerate() {
         let edge = match edge_in(vertices, sides, *line) {
             Err(fault) => return Err(LinesError::Faulty(n, fault)),

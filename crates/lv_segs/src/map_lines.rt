@@ -59,7 +59,7 @@ pub fn edges_of(alloc: Global, map: &Map) -> Result<Vec<Edge>, SegsError>
     ensures memory { IsOkUnless result SegsError.OutOfMemory }
 {
     lines_are_drawn(map);
-    let mut edges = Vec::new(alloc);
+    let mut edges = Vec::with_capacity(alloc, map.count(Kind::Line) as usize)?;
     for n in 0..map.count(Kind::Line) {
         let line = map.line(n).unwrap();
         edges.push(edge_between(map, &line))?;

@@ -66,7 +66,7 @@ pub fn boxes_in(alloc: Global, lines: &[Edge], pieces: &[Piece]) -> Result<Vec<B
     requires pieces { All (IsPiece lines.now) pieces.now }
     ensures { IfOk result (λ boxes. boxes.items ≡ boxes_of lines.now pieces.now) }
 {
-    let mut boxes = Vec::new(alloc);
+    let mut boxes = Vec::with_capacity(alloc, pieces.len())?;
     for piece in pieces {
         let edge = lines[piece.line as usize];
         boxes.push(box_on(edge, piece))?;

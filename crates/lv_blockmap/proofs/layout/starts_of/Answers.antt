@@ -4,7 +4,7 @@ use Rattle.lv_blockmap.proofs.OffsetLemmas.{starts_none, starts_more, starts_lar
 use Rattle.lv_blockmap.proofs.layout.starts_of.Goals as goal
 
 pub loop-list-init : goal.loop-list-init
-loop-list-init c = rw c.new-starts.ensures.items (starts_none (map (λ k. k.now) c.args.lists.now) c.args.first)
+loop-list-init c = rw c.in_ok-starts.ensures.items (starts_none (map (λ k. k.now) c.args.lists.now) c.args.first)
 
 pub loop-list-preserved : goal.loop-list-preserved
 loop-list-preserved c =

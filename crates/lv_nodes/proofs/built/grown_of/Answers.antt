@@ -33,11 +33,11 @@ grow-requires-clause-few c =
 pub returns-in-Err-grow-clause-refused : goal.returns-in-Err-grow-clause-refused
 returns-in-Err-grow-clause-refused c =
     refused_at c.args.lines.now c.requires.lines c.in-Ok-of.list.pieces.items c.deref_mut.result.now _ c.in-Err-grow.error (firsts (goal.at.returns-in-Err-grow-clause-refused c).In-Ok-of) (c.deref_mut.ensures.value ∙ c.in-Ok-no_flags.ensures)
-    (no_lists_yet c.new-2.result.items c.new-3.result.items c.new-4.result.items c.new-2.ensures.items c.new-3.ensures.items c.new-4.ensures.items) c.in-Err-grow.ensures.refused
+    (no_lists_yet c.in-Ok-nothing_grown.grown.pieces.items c.in-Ok-nothing_grown.grown.counts.items c.in-Ok-nothing_grown.grown.nodes.items c.in-Ok-nothing_grown.ensures.pieces c.in-Ok-nothing_grown.ensures.counts c.in-Ok-nothing_grown.ensures.nodes) c.in-Err-grow.ensures.refused
 
 pub returns-clause-lists : goal.returns-clause-lists
 returns-clause-lists c =
     lists_at c.args.lines.now c.requires.lines c.in-Ok-of.list.pieces.items c.deref_mut.result.now _
     (lists_of c.grow.new.grown) c.in-Ok-grow.field-0 (firsts (goal.at.returns-clause-lists c).In-Ok-of)
     (c.deref_mut.ensures.value ∙ c.in-Ok-no_flags.ensures)
-    (no_lists_yet c.new-2.result.items c.new-3.result.items c.new-4.result.items c.new-2.ensures.items c.new-3.ensures.items c.new-4.ensures.items) c.in-Ok-grow.ensures.ok
+    (no_lists_yet c.in-Ok-nothing_grown.grown.pieces.items c.in-Ok-nothing_grown.grown.counts.items c.in-Ok-nothing_grown.grown.nodes.items c.in-Ok-nothing_grown.ensures.pieces c.in-Ok-nothing_grown.ensures.counts c.in-Ok-nothing_grown.ensures.nodes) c.in-Ok-grow.ensures.ok

@@ -8,7 +8,7 @@ use Rattle.lv_nodes.proofs.segs.segs_of.Goals as goal
 
 pub loop-piece-init : goal.loop-piece-init
 loop-piece-init c =
-    let e = c.new-segs.ensures.items in
+    let e = c.in_ok-segs.ensures.items in
     record {
       numbered =
           subst (λ (xs : List Seg).

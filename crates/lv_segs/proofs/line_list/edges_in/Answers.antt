@@ -11,8 +11,8 @@ loop-n-preserved c =
     let n = c.loop-n.n in
     let h : n < length ls = omega (arith, c.loop-n-test.true) in
     record {
-      edges = edges_more vs ls n _ c.loop-n.edges.items c.push.new.self.items c.in-Ok.edge c.loop-n.invariant.edges (slice_get-get_or ls n _ h) c.in-Ok.ensures.edge c.in-Ok-push.ensures.items;
-      each = buildable_more vs c.args.sides.now ls n _ c.loop-n.invariant.each (slice_get-get_or ls n _ h) c.in-Ok.ensures.buildable;
+      edges = edges_more vs ls n _ c.loop-n.edges.items c.push.new.self.items c.in-Ok-edge_in.edge c.loop-n.invariant.edges (slice_get-get_or ls n _ h) c.in-Ok-edge_in.ensures.edge c.in-Ok-push.ensures.items;
+      each = buildable_more vs c.args.sides.now ls n _ c.loop-n.invariant.each (slice_get-get_or ls n _ h) c.in-Ok-edge_in.ensures.buildable;
     }
 
 pub returns-clause-drawn : goal.returns-clause-drawn
