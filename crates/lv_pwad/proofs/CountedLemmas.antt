@@ -9,13 +9,13 @@ use Rattle.lv_maptables.specs.Tables.{Tables}
 use Rattle.lv_pwad.specs.Counted.{CountsLevels, CountsMore, IsBuildCounted, level_of}
 use Rattle.lv_levels.specs.Levels.{IsLevel, Lumps, lumps_behind, marker_at}
 use Rattle.lv_pwad.specs.Projects.{AreLevelsOf, IsSoundBuildOfAll}
-use Rattle.lv_levels.specs.Views.{view}
+use Rattle.lv_pwad.specs.Views.{built_view}
 use Rattle.lv_pwad.specs.declared.counted.BuildCounts.{BuildCounts}
 use Rattle.lv_pwad.specs.declared.levels.NamedLevel.{NamedLevel}
 
 -- what the levels hold
 abbrev pub views_in : List NamedLevel → List Lumps
-views_in xs = map (λ (x : NamedLevel). view x.level) xs
+views_in xs = map (λ (x : NamedLevel). built_view x.level) xs
 
 -- a sum with one more level
 sum_more : (f : Lumps → ℕ) (ls : List Lumps) (n a b : ℕ) (l : Lumps) → n < length ls → get_or ls n l ≡ l
@@ -37,19 +37,19 @@ counts_more ls n len l old new within at before more =
 
 -- the levels that are written are those that read back from the bytes
 levels_back : (wad : List ℕ) (ms : List Tables) (xs : List NamedLevel) → AreLevelsOf ms xs
-    → All (λ (x : NamedLevel). IsLevel wad (name_text x.name) (view x.level)) xs → views_in xs ≡ map (level_of wad) ms
+    → All (λ (x : NamedLevel). IsLevel wad (name_text x.name) (built_view x.level)) xs → views_in xs ≡ map (level_of wad) ms
 levels_back wad [] [] a r = refl
 levels_back wad [] (x ∷ xs) a r = absurd a
 levels_back wad (m ∷ ms) [] a r = absurd a
 levels_back wad (m ∷ ms) (x ∷ xs) a r =
-    let P = λ (y : NamedLevel). IsLevel wad (name_text y.name) (view y.level) in
+    let P = λ (y : NamedLevel). IsLevel wad (name_text y.name) (built_view y.level) in
     let here = All-head P x xs r in
     ap (λ (l : Lumps). l ∷ views_in xs)
     (here.holds ∙ ap (λ (name : Name8). lumps_behind wad (marker_at wad (name_text name))) a.0.named)
     ∙ ap (λ (ls : List Lumps). level_of wad m ∷ ls) (levels_back wad ms xs a.1 (All-tail P x xs r))
 
 pub is_counted : (wad : List ℕ) (ms : List Tables) (xs : List NamedLevel) (c : BuildCounts) → AreLevelsOf ms xs
-    → All (λ (x : NamedLevel). IsLevel wad (name_text x.name) (view x.level)) xs → IsSoundBuildOfAll ms wad
+    → All (λ (x : NamedLevel). IsLevel wad (name_text x.name) (built_view x.level)) xs → IsSoundBuildOfAll ms wad
     → CountsLevels (views_in xs) (length wad) c → IsBuildCounted ms wad c
 is_counted wad ms xs c a r sound counts =
     record {

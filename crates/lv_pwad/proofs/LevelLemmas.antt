@@ -12,8 +12,7 @@ use Rattle.lv_lumps.specs.Records.{thing_at, line_at, side_at, vertex_at, seg_at
 use Rattle.lv_pwad.specs.declared.levels.NamedLevel.{NamedLevel}
 use Rattle.lv_levels.specs.Levels.{Lumps, IsLevel, lump, lumps_behind, marker_at}
 use Rattle.lv_pwad.specs.Wad.{Lump, Part, AreParts, IsCoded, IsReadBack, all_bytes, all_lumps, lumps_of, level_part, wad_bytes, wad_size}
-use Rattle.lv_levels.specs.Views.{view}
-use Rattle.lv_pwad.specs.Views.{level_parts}
+use Rattle.lv_pwad.specs.Views.{built_view, level_parts}
 use Rattle.lv_pwad.specs.Writer.{AreSized, FitsLumps, PutsLumps, level_len, wad_len}
 use Rattle.lv_pwad.specs.declared.wad.WadWriter.{WadWriter}
 use Rattle.lv_pwad.proofs.PartLemmas.{length-all, reads_back}
@@ -26,37 +25,37 @@ one_more levels n x h e =
 
 lumps_more :
     (levels : List NamedLevel) (n : ℕ) (x : NamedLevel) → n < length levels → get_or levels n x ≡ x
-    → all_lumps (level_parts (take (n + 1) levels)) ≡ all_lumps (level_parts (take n levels)) ++ lumps_of (level_part x.name (view x.level))
+    → all_lumps (level_parts (take (n + 1) levels)) ≡ all_lumps (level_parts (take n levels)) ++ lumps_of (level_part x.name (built_view x.level))
 lumps_more levels n x h e =
     ap (λ (ls : List NamedLevel). all_lumps (level_parts ls)) (one_more levels n x h e)
-    ∙ ap all_lumps (map-append (λ (l : NamedLevel). level_part l.name (view l.level)) (take n levels) (x ∷ []))
-    ∙ flat_map-append lumps_of (level_parts (take n levels)) (level_part x.name (view x.level) ∷ [])
-    ∙ ap (λ (ls : List Lump). all_lumps (level_parts (take n levels)) ++ ls) (append-nil (lumps_of (level_part x.name (view x.level))))
+    ∙ ap all_lumps (map-append (λ (l : NamedLevel). level_part l.name (built_view l.level)) (take n levels) (x ∷ []))
+    ∙ flat_map-append lumps_of (level_parts (take n levels)) (level_part x.name (built_view x.level) ∷ [])
+    ∙ ap (λ (ls : List Lump). all_lumps (level_parts (take n levels)) ++ ls) (append-nil (lumps_of (level_part x.name (built_view x.level))))
 
 -- one more level's lumps
 pub put_level :
     (a b c : WadWriter) (levels : List NamedLevel) (n : ℕ) (x : NamedLevel) → n < length levels → get_or levels n x ≡ x → PutsLumps a b (all_lumps (level_parts (take n levels)))
-    → PutsLumps b c (lumps_of (level_part x.name (view x.level))) → PutsLumps a c (all_lumps (level_parts (take (n + 1) levels)))
+    → PutsLumps b c (lumps_of (level_part x.name (built_view x.level))) → PutsLumps a c (all_lumps (level_parts (take (n + 1) levels)))
 put_level a b c levels n x h e p q =
     subst (λ (ls : List Lump). PutsLumps a c ls) (sym (lumps_more levels n x h e))
-    (put_both a b c (all_lumps (level_parts (take n levels))) (lumps_of (level_part x.name (view x.level))) p q)
+    (put_both a b c (all_lumps (level_parts (take n levels))) (lumps_of (level_part x.name (built_view x.level))) p q)
 
 -- the lumps of the levels up to one, its own, and those after it
 lumps_split :
     (levels : List NamedLevel) (n : ℕ) (x : NamedLevel) → n < length levels → get_or levels n x ≡ x
-    → all_lumps (level_parts levels) ≡ all_lumps (level_parts (take n levels)) ++ (lumps_of (level_part x.name (view x.level)) ++ all_lumps (level_parts (drop (n + 1) levels)))
+    → all_lumps (level_parts levels) ≡ all_lumps (level_parts (take n levels)) ++ (lumps_of (level_part x.name (built_view x.level)) ++ all_lumps (level_parts (drop (n + 1) levels)))
 lumps_split levels n x h e =
     ap (λ (ls : List NamedLevel). all_lumps (level_parts ls)) (sym (take-append-drop (n + 1) levels))
-    ∙ ap all_lumps (map-append (λ (l : NamedLevel). level_part l.name (view l.level)) (take (n + 1) levels) (drop (n + 1) levels))
+    ∙ ap all_lumps (map-append (λ (l : NamedLevel). level_part l.name (built_view l.level)) (take (n + 1) levels) (drop (n + 1) levels))
     ∙ flat_map-append lumps_of (level_parts (take (n + 1) levels)) (level_parts (drop (n + 1) levels))
     ∙ ap (λ (ls : List Lump). ls ++ all_lumps (level_parts (drop (n + 1) levels))) (lumps_more levels n x h e)
-    ∙ append_assoc (all_lumps (level_parts (take n levels))) (lumps_of (level_part x.name (view x.level))) (all_lumps (level_parts (drop (n + 1) levels)))
+    ∙ append_assoc (all_lumps (level_parts (take n levels))) (lumps_of (level_part x.name (built_view x.level))) (all_lumps (level_parts (drop (n + 1) levels)))
 
 pub fits_level :
     (a b : WadWriter) (levels : List NamedLevel) (n : ℕ) (x : NamedLevel) → n < length levels → get_or levels n x ≡ x → FitsLumps a (all_lumps (level_parts levels))
-    → PutsLumps a b (all_lumps (level_parts (take n levels))) → FitsLumps b (lumps_of (level_part x.name (view x.level)))
+    → PutsLumps a b (all_lumps (level_parts (take n levels))) → FitsLumps b (lumps_of (level_part x.name (built_view x.level)))
 fits_level a b levels n x h e f p =
-    fits_behind a b (all_lumps (level_parts (take n levels))) (lumps_of (level_part x.name (view x.level))) (all_lumps (level_parts (drop (n + 1) levels))) p
+    fits_behind a b (all_lumps (level_parts (take n levels))) (lumps_of (level_part x.name (built_view x.level))) (all_lumps (level_parts (drop (n + 1) levels))) p
     (subst (FitsLumps a) (lumps_split levels n x h e) f)
 
 -- eleven lumps a level, fewer than 2^32 in all
@@ -67,18 +66,18 @@ pub record AreCounted (levels : List NamedLevel) : Type 0 where
 pub are_counted : (levels : List NamedLevel) → AreParts (level_parts levels) → AreCounted levels
 are_counted levels a =
     let l = length-all (level_parts levels) a.each in
-    let m = length-map levels (λ (l : NamedLevel). level_part l.name (view l.level)) in
+    let m = length-map levels (λ (l : NamedLevel). level_part l.name (built_view l.level)) in
     let f = a.fits in
     record { count = omega (arith, l, m); few = omega (arith, l, m, f) }
 
 pub coded_more :
-    (levels : List NamedLevel) (n : ℕ) (x : NamedLevel) → n < length levels → get_or levels n x ≡ x → All (λ (l : NamedLevel). IsCoded (view l.level)) (take n levels) → IsCoded (view x.level)
-    → All (λ (l : NamedLevel). IsCoded (view l.level)) (take (n + 1) levels)
-coded_more levels n x h e a c = All-same (λ (l : NamedLevel). IsCoded (view l.level)) _ _ (one_more levels n x h e) (All-push (λ (l : NamedLevel). IsCoded (view l.level)) (take n levels) x a c)
+    (levels : List NamedLevel) (n : ℕ) (x : NamedLevel) → n < length levels → get_or levels n x ≡ x → All (λ (l : NamedLevel). IsCoded (built_view l.level)) (take n levels) → IsCoded (built_view x.level)
+    → All (λ (l : NamedLevel). IsCoded (built_view l.level)) (take (n + 1) levels)
+coded_more levels n x h e a c = All-same (λ (l : NamedLevel). IsCoded (built_view l.level)) _ _ (one_more levels n x h e) (All-push (λ (l : NamedLevel). IsCoded (built_view l.level)) (take n levels) x a c)
 
 -- a level whose lumps are read is read
-level_of : (wad : List ℕ) (x : NamedLevel) → IsReadBack wad (level_part x.name (view x.level)) → IsCoded (view x.level) → IsLevel wad (name_text x.name) (view x.level)
-level_of wad x r c = record { accepted = r.accepted; holds = sym (all_ten (view x.level) (marker_at wad (name_text x.name)) (λ n b. r.lumps n b) c) }
+level_of : (wad : List ℕ) (x : NamedLevel) → IsReadBack wad (level_part x.name (built_view x.level)) → IsCoded (built_view x.level) → IsLevel wad (name_text x.name) (built_view x.level)
+level_of wad x r c = record { accepted = r.accepted; holds = sym (all_ten (built_view x.level) (marker_at wad (name_text x.name)) (λ n b. r.lumps n b) c) }
   where
     all_ten : (l : Lumps) (at : ℕ) → ((n : ℕ) → n < 10 → lump wad (at + 1 + n) ≡ get_or (level_part x.name l).lumps n []) → IsCoded l → lumps_behind wad at ≡ l
     all_ten l at f c =
@@ -95,18 +94,18 @@ level_of wad x r c = record { accepted = r.accepted; holds = sym (all_ten (view 
         rw (a0, a1, a2, a3, a4, a5, a6, a7, a8, a9) refl
 
 pub levels_read :
-    (wad : List ℕ) (levels : List NamedLevel) → AreParts (level_parts levels) → wad ≡ wad_bytes (all_lumps (level_parts levels)) → All (λ (l : NamedLevel). IsCoded (view l.level)) levels
-    → All (λ (l : NamedLevel). IsLevel wad (name_text l.name) (view l.level)) levels
-levels_read wad [] a w c = All-nil (λ (l : NamedLevel). IsLevel wad (name_text l.name) (view l.level))
+    (wad : List ℕ) (levels : List NamedLevel) → AreParts (level_parts levels) → wad ≡ wad_bytes (all_lumps (level_parts levels)) → All (λ (l : NamedLevel). IsCoded (built_view l.level)) levels
+    → All (λ (l : NamedLevel). IsLevel wad (name_text l.name) (built_view l.level)) levels
+levels_read wad [] a w c = All-nil (λ (l : NamedLevel). IsLevel wad (name_text l.name) (built_view l.level))
 levels_read wad (y ∷ levels) a w c =
-    All-from_get_or (λ (l : NamedLevel). IsLevel wad (name_text l.name) (view l.level)) (y ∷ levels) y
+    All-from_get_or (λ (l : NamedLevel). IsLevel wad (name_text l.name) (built_view l.level)) (y ∷ levels) y
     (λ i h.
-    let m = length-map (y ∷ levels) (λ (l : NamedLevel). level_part l.name (view l.level)) in
-    let g = get_or-map (λ (l : NamedLevel). level_part l.name (view l.level)) (y ∷ levels) i y (level_part y.name (view y.level)) h in
-    let r = reads_back (level_parts (y ∷ levels)) i (level_part y.name (view y.level)) a (omega (arith, m, h)) in
+    let m = length-map (y ∷ levels) (λ (l : NamedLevel). level_part l.name (built_view l.level)) in
+    let g = get_or-map (λ (l : NamedLevel). level_part l.name (built_view l.level)) (y ∷ levels) i y (level_part y.name (built_view y.level)) h in
+    let r = reads_back (level_parts (y ∷ levels)) i (level_part y.name (built_view y.level)) a (omega (arith, m, h)) in
     level_of wad (get_or (y ∷ levels) i y)
-    (subst (λ (p : Part). IsReadBack wad p) g (subst (λ (ws : List ℕ). IsReadBack ws (get_or (level_parts (y ∷ levels)) i (level_part y.name (view y.level)))) (sym w) r))
-    (All-get_or (λ (l : NamedLevel). IsCoded (view l.level)) (y ∷ levels) i y h c))
+    (subst (λ (p : Part). IsReadBack wad p) g (subst (λ (ws : List ℕ). IsReadBack ws (get_or (level_parts (y ∷ levels)) i (level_part y.name (built_view y.level)))) (sym w) r))
+    (All-get_or (λ (l : NamedLevel). IsCoded (built_view l.level)) (y ∷ levels) i y h c))
 
 -- the marker and three runs of lumps are a level's lumps
 pub put_runs :
@@ -118,15 +117,15 @@ put_runs w0 w1 w2 w3 w4 d t e x a b f g = put_both w0 w1 w4 (x ∷ []) (d ++ (t 
 -- the length with one more level, or the greatest number of 128 bits
 pub len_more :
     (levels : List NamedLevel) (n : ℕ) (x : NamedLevel) (old len new : ℕ) → n < length levels → get_or levels n x ≡ x
-    → old ≡ min (wad_len (take n (map (λ (y : NamedLevel). view y.level) levels))) 340282366920938463463374607431768211455 → len ≡ level_len (view x.level)
+    → old ≡ min (wad_len (take n (map (λ (y : NamedLevel). built_view y.level) levels))) 340282366920938463463374607431768211455 → len ≡ level_len (built_view x.level)
     → new ≡ min (len + old) 340282366920938463463374607431768211455
-    → new ≡ min (wad_len (take (n + 1) (map (λ (y : NamedLevel). view y.level) levels))) 340282366920938463463374607431768211455
+    → new ≡ min (wad_len (take (n + 1) (map (λ (y : NamedLevel). built_view y.level) levels))) 340282366920938463463374607431768211455
 len_more levels n x old len new h e o l w =
-    let many = length-map levels (λ (y : NamedLevel). view y.level) in
-    let at = get_or-map (λ (y : NamedLevel). view y.level) levels n x (view x.level) h ∙ ap (λ (y : NamedLevel). view y.level) e in
-    let more = sum_by_more level_len (map (λ (y : NamedLevel). view y.level) levels) n (view x.level) (omega (arith, many, h))
-    ∙ ap (λ (k : Lumps). sum_by level_len (take n (map (λ (y : NamedLevel). view y.level) levels)) + level_len k) at in
-    saturated (sum_by level_len (take n (map (λ (y : NamedLevel). view y.level) levels))) (level_len (view x.level)) _ old len new more o l w
+    let many = length-map levels (λ (y : NamedLevel). built_view y.level) in
+    let at = get_or-map (λ (y : NamedLevel). built_view y.level) levels n x (built_view x.level) h ∙ ap (λ (y : NamedLevel). built_view y.level) e in
+    let more = sum_by_more level_len (map (λ (y : NamedLevel). built_view y.level) levels) n (built_view x.level) (omega (arith, many, h))
+    ∙ ap (λ (k : Lumps). sum_by level_len (take n (map (λ (y : NamedLevel). built_view y.level) levels)) + level_len k) at in
+    saturated (sum_by level_len (take n (map (λ (y : NamedLevel). built_view y.level) levels))) (level_len (built_view x.level)) _ old len new more o l w
   where
     saturated :
         (sum one sums old len new : ℕ) → sums ≡ sum + one → old ≡ min (12 + sum) 340282366920938463463374607431768211455 → len ≡ one
@@ -134,13 +133,13 @@ len_more levels n x old len new h e o l w =
     saturated sum one sums old len new s o l w = omega (arith, s, o, l, w)
 
 abbrev pub IsSizedLevel : NamedLevel → Type 0
-IsSizedLevel x = AreSized (view x.level)
+IsSizedLevel x = AreSized (built_view x.level)
 
 sized : (levels : List NamedLevel) → All IsSizedLevel levels
-    → sum_by level_len (map (λ (y : NamedLevel). view y.level) levels) ≡ length (all_bytes (all_lumps (level_parts levels))) + 176 * length levels
+    → sum_by level_len (map (λ (y : NamedLevel). built_view y.level) levels) ≡ length (all_bytes (all_lumps (level_parts levels))) + 176 * length levels
 sized [] a = refl
 sized (y ∷ levels) a =
-    let l = view y.level in
+    let l = built_view y.level in
     let s = All-head IsSizedLevel y levels a in
     let r = sized levels (All-tail IsSizedLevel y levels a) in
     let n = all_bytes-length (lumps_of (level_part y.name l)) (all_lumps (level_parts levels)) in
@@ -148,21 +147,21 @@ sized (y ∷ levels) a =
     (flat_map sub_record l.subs) (flat_map node_record l.nodes) (flat_map sector_record l.sectors) l.reject l.blockmap in
     let e0 = s.things in let e1 = s.lines in let e2 = s.sides in let e3 = s.vertices in
     let e4 = s.segs in let e5 = s.subs in let e6 = s.nodes in let e7 = s.sectors in
-    let more = sum_by-cons level_len l (map (λ (x : NamedLevel). view x.level) levels) in
+    let more = sum_by-cons level_len l (map (λ (x : NamedLevel). built_view x.level) levels) in
     omega (arith, r, n, t, more, e0, e1, e2, e3, e4, e5, e6, e7)
 
 -- the length that is told is the PWAD's
 pub total_exact :
     (levels : List NamedLevel) (n total : ℕ) → length levels ≤ n
-    → total ≡ min (wad_len (take n (map (λ (y : NamedLevel). view y.level) levels))) 340282366920938463463374607431768211455
+    → total ≡ min (wad_len (take n (map (λ (y : NamedLevel). built_view y.level) levels))) 340282366920938463463374607431768211455
     → AreParts (level_parts levels) → All IsSizedLevel levels → total ≡ wad_size (all_lumps (level_parts levels))
 total_exact levels n total h t a s =
-    let many = length-map levels (λ (y : NamedLevel). view y.level) in
-    let whole = take_all n (map (λ (y : NamedLevel). view y.level) levels) (omega (arith, many, h)) in
+    let many = length-map levels (λ (y : NamedLevel). built_view y.level) in
+    let whole = take_all n (map (λ (y : NamedLevel). built_view y.level) levels) (omega (arith, many, h)) in
     let c = are_counted levels a in
     let count = c.count in
     let fits = a.fits in
     let sum = sized levels s in
-    let told : total ≡ min (wad_len (map (λ (y : NamedLevel). view y.level) levels)) 340282366920938463463374607431768211455
+    let told : total ≡ min (wad_len (map (λ (y : NamedLevel). built_view y.level) levels)) 340282366920938463463374607431768211455
     = t ∙ ap (λ (ls : List Lumps). min (wad_len ls) 340282366920938463463374607431768211455) whole in
     omega (arith, told, sum, count, fits)

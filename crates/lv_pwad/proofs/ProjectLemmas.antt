@@ -9,8 +9,7 @@ use Rattle.lv_maptables.specs.Tables.{Tables}
 use Rattle.lv_maptables.specs.Projects.{ProjectMaps, WellFormedProject}
 use Rattle.lv_levels.specs.Levels.{IsLevel, Lumps}
 use Rattle.lv_pwad.specs.Wad.{Part, AreParts, IsPart, all_bytes, all_lumps, lumps_of, level_part, wad_bytes}
-use Rattle.lv_levels.specs.Views.{view}
-use Rattle.lv_pwad.specs.Views.{level_parts}
+use Rattle.lv_pwad.specs.Views.{built_view, level_parts}
 use Rattle.lv_pwad.specs.Sound.{CanBeBuilt, IsBuildRefusal, IsSoundBuild}
 use Rattle.lv_pwad.specs.Projects.{IsLevelOf, AreLevelsOf, AreSoundLevels, HoldsOnly, IsSoundBuildOfAll, IsRefusalOfAll, Blames, parts_under}
 use Rattle.lv_pwad.specs.Errors.{blamed}
@@ -94,7 +93,7 @@ pub all_buildable : (ms : List Tables) (xs : List NamedLevel) → AreLevelsOf ms
 all_buildable [] [] a = All-nil CanBeBuilt
 all_buildable [] (x ∷ xs) a = absurd a
 all_buildable (m ∷ ms) [] a = absurd a
-all_buildable (m ∷ ms) (x ∷ xs) a = All-cons CanBeBuilt m ms (buildable m (view x.level) a.0.level) (all_buildable ms xs a.1)
+all_buildable (m ∷ ms) (x ∷ xs) a = All-cons CanBeBuilt m ms (buildable m (built_view x.level) a.0.level) (all_buildable ms xs a.1)
 
 pub first_refused : (ms : List Tables) (n : ℕ) (m : Tables) (xs : List NamedLevel) (e : BuildError) → slice_get ms n ≡ Some m → AreLevelsOf (take n ms) xs → IsBuildRefusal m e
     → Blames ms (blamed e m.name).error (blamed e m.name).map
@@ -116,31 +115,31 @@ of_all ms TooManySubsectors name h = h.0
 of_all ms TooDeep name h = h.0
 of_all ms BlockmapTooLarge name h = h.0
 
-pub all_sound : (wad : List ℕ) (ms : List Tables) (xs : List NamedLevel) → AreLevelsOf ms xs → All (λ (l : NamedLevel). IsLevel wad (name_text l.name) (view l.level)) xs → IsSoundBuildOfAll ms wad
+pub all_sound : (wad : List ℕ) (ms : List Tables) (xs : List NamedLevel) → AreLevelsOf ms xs → All (λ (l : NamedLevel). IsLevel wad (name_text l.name) (built_view l.level)) xs → IsSoundBuildOfAll ms wad
 all_sound wad [] [] a r = All-nil (λ (m : Tables). IsSoundBuild m wad)
 all_sound wad [] (x ∷ xs) a r = absurd a
 all_sound wad (m ∷ ms) [] a r = absurd a
 all_sound wad (m ∷ ms) (x ∷ xs) a r =
-    let P = λ (l : NamedLevel). IsLevel wad (name_text l.name) (view l.level) in
-    All-cons (λ (k : Tables). IsSoundBuild k wad) m ms (sound_build m (view x.level) wad x.name a.0.named a.0.level (All-head P x xs r)) (all_sound wad ms xs a.1 (All-tail P x xs r))
+    let P = λ (l : NamedLevel). IsLevel wad (name_text l.name) (built_view l.level) in
+    All-cons (λ (k : Tables). IsSoundBuild k wad) m ms (sound_build m (built_view x.level) wad x.name a.0.named a.0.level (All-head P x xs r)) (all_sound wad ms xs a.1 (All-tail P x xs r))
 
 abbrev levels_in : List NamedLevel → List Lumps
 levels_in [] = []
-levels_in (x ∷ xs) = view x.level ∷ levels_in xs
+levels_in (x ∷ xs) = built_view x.level ∷ levels_in xs
 
 same_parts : (ms : List Tables) (xs : List NamedLevel) → AreLevelsOf ms xs → level_parts xs ≡ parts_under ms (levels_in xs)
 same_parts [] [] a = refl
 same_parts [] (x ∷ xs) a = absurd a
 same_parts (m ∷ ms) [] a = absurd a
 same_parts (m ∷ ms) (x ∷ xs) a =
-    ap (λ (n : Name8). level_part n (view x.level) ∷ level_parts xs) a.0.named
-    ∙ ap (λ (ps : List Part). level_part m.name (view x.level) ∷ ps) (same_parts ms xs a.1)
+    ap (λ (n : Name8). level_part n (built_view x.level) ∷ level_parts xs) a.0.named
+    ∙ ap (λ (ps : List Part). level_part m.name (built_view x.level) ∷ ps) (same_parts ms xs a.1)
 
 sound_levels : (ms : List Tables) (xs : List NamedLevel) → AreLevelsOf ms xs → AreSoundLevels ms (levels_in xs)
 sound_levels [] [] a = tt
 sound_levels [] (x ∷ xs) a = absurd a
 sound_levels (m ∷ ms) [] a = absurd a
-sound_levels (m ∷ ms) (x ∷ xs) a = (level_sound m (view x.level) a.0.level, sound_levels ms xs a.1)
+sound_levels (m ∷ ms) (x ∷ xs) a = (level_sound m (built_view x.level) a.0.level, sound_levels ms xs a.1)
 
 pub holds_only : (wad : List ℕ) (ms : List Tables) (xs : List NamedLevel) → AreLevelsOf ms xs → wad ≡ wad_bytes (all_lumps (level_parts xs)) → HoldsOnly ms wad
 holds_only wad ms xs a w =
@@ -162,7 +161,7 @@ all_parts : (ms : List Tables) (xs : List NamedLevel) → AreLevelsOf ms xs → 
 all_parts [] [] a = All-nil IsPart
 all_parts [] (x ∷ xs) a = absurd a
 all_parts (m ∷ ms) [] a = absurd a
-all_parts (m ∷ ms) (x ∷ xs) a = All-cons IsPart (level_part x.name (view x.level)) (level_parts xs) (part_of_level m (view x.level) x.name a.0.named a.0.level) (all_parts ms xs a.1)
+all_parts (m ∷ ms) (x ∷ xs) a = All-cons IsPart (level_part x.name (built_view x.level)) (level_parts xs) (part_of_level m (built_view x.level) x.name a.0.named a.0.level) (all_parts ms xs a.1)
 
 -- the name of a level is its map's
 pub record HasMapName (name : Name8) (m : Tables) : Type 0 where
@@ -213,9 +212,9 @@ all_long [] (x ∷ xs) a = absurd a
 all_long (m ∷ ms) [] a = absurd a
 all_long (m ∷ ms) (x ∷ xs) a =
     let rest = all_long ms xs a.1 in
-    let here = one_long x.name (view x.level) (level_writable m (view x.level) a.0.level) in
-    let both : length (all_bytes (all_lumps (level_parts (x ∷ xs)))) ≡ length (all_bytes (lumps_of (level_part x.name (view x.level)))) + length (all_bytes (all_lumps (level_parts xs))) =
-    ap length (flat_map-append (λ l. l.bytes) (lumps_of (level_part x.name (view x.level))) (all_lumps (level_parts xs))) ∙ length-append (all_bytes (lumps_of (level_part x.name (view x.level))))
+    let here = one_long x.name (built_view x.level) (level_writable m (built_view x.level) a.0.level) in
+    let both : length (all_bytes (all_lumps (level_parts (x ∷ xs)))) ≡ length (all_bytes (lumps_of (level_part x.name (built_view x.level)))) + length (all_bytes (all_lumps (level_parts xs))) =
+    ap length (flat_map-append (λ l. l.bytes) (lumps_of (level_part x.name (built_view x.level))) (all_lumps (level_parts xs))) ∙ length-append (all_bytes (lumps_of (level_part x.name (built_view x.level))))
     (all_bytes (all_lumps (level_parts xs))) in
     omega (arith, rest, here, both)
 
@@ -225,7 +224,7 @@ all_count [] (x ∷ xs) a = absurd a
 all_count (m ∷ ms) [] a = absurd a
 all_count (m ∷ ms) (x ∷ xs) a =
     let rest = all_count ms xs a.1 in
-    let both : length (all_lumps (level_parts (x ∷ xs))) ≡ 11 + length (all_lumps (level_parts xs)) = length-append (lumps_of (level_part x.name (view x.level))) (all_lumps (level_parts xs)) in
+    let both : length (all_lumps (level_parts (x ∷ xs))) ≡ 11 + length (all_lumps (level_parts xs)) = length-append (lumps_of (level_part x.name (built_view x.level))) (all_lumps (level_parts xs)) in
     omega (arith, rest, both)
 
 pub one_wad : (p : ProjectMaps) (xs : List NamedLevel) (d : Tables) → WellFormedProject p → AreLevelsOf p.maps xs → AreParts (level_parts xs)

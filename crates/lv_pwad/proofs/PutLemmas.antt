@@ -1,6 +1,6 @@
 -- Lumps that are appended one behind another.
-use Rattle.std.proofs.Common.{◌≡◌, ◌∙◌, refl, sym, ap, subst, ℕ, ◌+◌, List, [], ◌∷◌, ◌++◌, length, drop, arith, append_assoc, length-append, append-nil}
-use Rattle.std.specs.Prelude.{codes, flat_map}
+use Rattle.std.proofs.Common.{◌≡◌, ◌∙◌, refl, sym, ap, subst, ℕ, ◌+◌, ◌-◌, List, [], ◌∷◌, ◌++◌, length, drop, arith, append_assoc, length-append, append-nil}
+use Rattle.std.specs.Prelude.{codes, flat_map, Result, Ok, Err, OnOk}
 use Rattle.std.proofs.lemmas.Grind.{flat_map-append}
 use Rattle.lv_lumps.specs.declared.records.Name8.{Name8}
 use Rattle.lv_levels.specs.declared.directory.Entry.{Entry}
@@ -54,6 +54,34 @@ put_both a b c xs ys p q =
 -- one more lump, whose bytes are known
 pub put_next : (a b c : WadWriter) (xs : List Lump) (name : Name8) (new known : List ℕ) → PutsLumps a b xs → PutsLumps b c (named_lump name new ∷ []) → new ≡ known → PutsLumps a c (xs ++ (named_lump name known ∷ []))
 put_next a b c xs name new known p q e = put_both a b c xs (named_lump name known ∷ []) p (subst (λ (ws : List ℕ). PutsLumps b c (named_lump name ws ∷ [])) e q)
+
+-- ---- A lump whose bytes are appended before its entry
+
+appended : (old new bytes : List ℕ) → new ≡ old ++ bytes → length new ≡ length old + length bytes
+appended old new bytes is = ap (λ (ws : List ℕ). length ws) is ∙ length-append old bytes
+
+-- what holds whatever a call answers holds where it answers Ok
+pub on_ok : {X E P : Type 0} (r : Result X E) → P → OnOk r P
+on_ok (Ok x) p = p
+on_ok (Err e) p = tt
+
+pub put_noted :
+    {X E : Type 0} (a m b : WadWriter) (name : Name8) (bytes : List ℕ) (at : ℕ) (r : Result X E) → at ≡ length a.bytes.items → m.bytes.items ≡ a.bytes.items ++ bytes → m.directory ≡ a.directory
+    → b.bytes ≡ m.bytes
+    → OnOk r (b.directory.items ≡ m.directory.items ++ entry_bytes (record { at = at; size = length m.bytes.items - at; name = name }))
+    → OnOk r (PutsLumps a b (named_lump name bytes ∷ []))
+put_noted a m b name bytes at (Err e) here is stays same entry = tt
+put_noted a m b name bytes at (Ok x) here is stays same entry =
+    let size : length m.bytes.items - at ≡ length bytes = omega (arith, here, appended a.bytes.items m.bytes.items bytes is) in
+    record {
+      bytes = ap (λ v. v.items) same ∙ is ∙ ap (λ (ws : List ℕ). a.bytes.items ++ ws) (sym (append-nil bytes));
+      directory =
+          entry
+          ∙ ap (λ d. d.items ++ entry_bytes (record { at = at; size = length m.bytes.items - at; name = name })) stays
+          ∙ ap (λ (n : ℕ). a.directory.items ++ entry_bytes (record { at = at; size = n; name = name })) size
+          ∙ ap (λ (n : ℕ). a.directory.items ++ entry_bytes (record { at = n; size = length bytes; name = name })) here
+          ∙ ap (λ (ws : List ℕ). a.directory.items ++ ws) (sym (append-nil (entry_bytes (record { at = length a.bytes.items; size = length bytes; name = name }))));
+    }
 
 -- what fits behind the lumps so far
 pub fits_behind : (a b : WadWriter) (xs ys zs : List Lump) → PutsLumps a b xs → FitsLumps a (xs ++ (ys ++ zs)) → FitsLumps b ys

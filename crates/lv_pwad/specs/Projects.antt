@@ -4,7 +4,7 @@ use Rattle.lv_lumps.specs.declared.records.Name8.{Name8}
 use Rattle.lv_maptables.specs.Tables.{Tables}
 use Rattle.lv_levels.specs.Levels.{Lumps}
 use Rattle.lv_pwad.specs.Sound.{CanBeBuilt, IsBuildRefusal, IsBuiltLevel, IsSoundBuild, IsSoundLevel}
-use Rattle.lv_levels.specs.Views.{view}
+use Rattle.lv_pwad.specs.Views.{built_view}
 use Rattle.lv_pwad.specs.Wad.{Part, all_lumps, level_part, wad_bytes}
 use Rattle.lv_pwad.specs.declared.levels.NamedLevel.{NamedLevel}
 use Rattle.lv_pwad.specs.declared.error.BuildError.{BuildError}
@@ -13,7 +13,7 @@ use Rattle.lv_pwad.specs.declared.error.BuildError.TheVariants.{OutOfMemory}
 -- the level is the map's, and has its name
 pub record IsLevelOf (m : Tables) (x : NamedLevel) : Type 0 where
   pub named : x.name ≡ m.name
-  pub level : IsBuiltLevel m (view x.level)
+  pub level : IsBuiltLevel m (built_view x.level)
 
 -- the levels are those of the maps, in their order
 abbrev pub AreLevelsOf : List Tables → List NamedLevel → Type 0

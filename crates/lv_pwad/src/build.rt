@@ -12,15 +12,12 @@ ghost use Rattle.lv_levels.specs.Levels.{IsLevel, Lumps};
 ghost use Rattle.lv_pwad.specs.Projects.{HoldsOnly};
 ghost use Rattle.lv_pwad.specs.Sound.{CanBeBuilt, IsBuildRefusal, IsBuiltLevel, IsSoundBuild};
 ghost use Rattle.lv_pwad.specs.Sound.{HasTree, IsSoundOver, level_over, of_blockmap, of_tree};
-ghost use Rattle.lv_levels.specs.Views.{view};
+ghost use Rattle.lv_pwad.specs.Views.{built_view};
 ghost use Rattle.lv_pwad.specs.Wad.{AreParts, all_lumps, level_part, wad_bytes};
 
-use crate::drawn::{lines_of, sectors_of, sides_of, things_of};
 use crate::error::BuildError;
-use crate::levels::{NamedLevel, wad_of_levels};
-use crate::visibility::reject;
+use crate::levels::{BuiltLevel, NamedLevel, wad_of_levels};
 use lv_blockmap::{BlockmapError, blockmap};
-use lv_levels::Level;
 use lv_lumps::Name8;
 use lv_maptables::{Kind, Map};
 use lv_nodes::{Built, TreeError, build_tree};
@@ -52,33 +49,25 @@ fn blockmap_refusal(error: BlockmapError) -> BuildError
 }
 
 // Makes the level of a map from its tree and the bytes of its blockmap.
-fn level_of(alloc: Global, map: &Map, tree: Built, blockmap: Vec<u8>) -> Result<Level, BuildError>
-    ensures level { IfOk result (λ level. view level
-        ≡ level_over map.now.tables tree blockmap.items) }
-    ensures well_formed { IfOk result (λ level. WellFormed map.now.tables) }
-    ensures memory { IsOkUnless result BuildError.OutOfMemory }
+fn level_of<'a>(map: &'a Map, tree: Built, blockmap: Vec<u8>) -> BuiltLevel<'a>
+    ensures level { built_view result ≡ level_over map.now.tables tree blockmap.items }
+    ensures well_formed { WellFormed map.now.tables }
 {
-    let sectors = map.count(Kind::Sector) as u16;
-    Ok(Level {
-        things: things_of(alloc, map)?,
-        lines: lines_of(alloc, map)?,
-        sides: sides_of(alloc, map)?,
-        vertices: tree.vertices,
-        segs: tree.segs,
-        subs: tree.subs,
-        nodes: tree.nodes,
-        sectors: sectors_of(alloc, map)?,
-        reject: reject(alloc, sectors).map_err(|_| BuildError::OutOfMemory)?,
+    BuiltLevel {
+        map,
+        sectors: map.count(Kind::Sector) as u16,
+        tree,
         blockmap,
-    })
+    }
 }
 
 // The PWAD of one level, which reads back by its name.
-fn wad_of_level(alloc: Global, name: Name8, level: Level) -> Result<Vec<u8>, BuildError>
-    requires { AreParts (level_part name (view level) ∷ []) }
+fn wad_of_level(alloc: Global, name: Name8, level: BuiltLevel<'_>) -> Result<Vec<u8>, BuildError>
+    requires { AreParts (level_part name (built_view level) ∷ []) }
     ensures bytes { IfOk result (λ wad.
-        wad.items ≡ wad_bytes (all_lumps (level_part name (view level) ∷ []))) }
-    ensures level { IfOk result (λ wad. IsLevel wad.items (name_text name) (view level)) }
+        wad.items ≡ wad_bytes (all_lumps (level_part name (built_view level.entry) ∷ []))) }
+    ensures level { IfOk result (λ wad.
+        IsLevel wad.items (name_text name) (built_view level.entry)) }
     ensures memory { IsOkUnless result BuildError.OutOfMemory }
 {
     let levels = [NamedLevel { name, level }];
@@ -89,8 +78,8 @@ fn wad_of_level(alloc: Global, name: Name8, level: Level) -> Result<Vec<u8>, Bui
 }
 
 /// Builds the level of a map. The refusals of its tree come before those of its blockmap.
-pub fn level_of_map(alloc: Global, map: &Map) -> Result<Level, BuildError>
-    ensures level { IfOk result (λ level. IsBuiltLevel map.now.tables (view level)) }
+pub fn level_of_map<'a>(alloc: Global, map: &'a Map) -> Result<BuiltLevel<'a>, BuildError>
+    ensures level { IfOk result (λ level. IsBuiltLevel map.now.tables (built_view level)) }
     ensures refused { IfErr result (IsBuildRefusal map.now.tables) }
     ensures nothing { result ≡ Err BuildError.NothingToBuild ↔ length map.now.tables.lines ≡ 0 }
 {
@@ -102,10 +91,7 @@ pub fn level_of_map(alloc: Global, map: &Map) -> Result<Level, BuildError>
         Ok(bytes) => bytes,
         Err(error) => return Err(blockmap_refusal(error)),
     };
-    match level_of(alloc, map, tree, blockmap) {
-        Ok(level) => Ok(level),
-        Err(_) => Err(BuildError::OutOfMemory),
-    }
+    Ok(level_of(map, tree, blockmap))
 }
 
 /// Builds the PWAD of a map: its level with all eleven lumps under its name, and no other lump.

@@ -3,13 +3,11 @@ ghost use Rattle.std.specs.Prelude.{◌≡◌, ◌+◌, All, length, map, IfOk, 
 ghost use Rattle.lv_lumps.specs.Names.{name_text};
 ghost use Rattle.lv_pwad.specs.Counted.{CountsLevels, CountsMore};
 ghost use Rattle.lv_levels.specs.Levels.{IsLevel};
-ghost use Rattle.lv_levels.specs.Views.{view};
-ghost use Rattle.lv_pwad.specs.Views.{level_parts};
+ghost use Rattle.lv_pwad.specs.Views.{built_view, level_parts};
 ghost use Rattle.lv_pwad.specs.Wad.{AreParts, all_lumps, wad_bytes};
 
 use crate::error::BuildError;
-use crate::levels::{NamedLevel, wad_of_levels};
-use lv_levels::Level;
+use crate::levels::{BuiltLevel, NamedLevel, wad_of_levels};
 use std::alloc::Global;
 
 /// How many vertices, segs, subsectors and nodes the built levels have in all, and how many bytes the PWAD has.
@@ -41,23 +39,23 @@ fn with_more(count: u64, more: usize) -> Result<u64, BuildError>
 }
 
 // The counts plus those of one more level.
-fn with_level(counts: BuildCounts, level: &Level) -> Result<BuildCounts, BuildError>
-    ensures counted { IfOk result (CountsMore counts (view level.now)) }
+fn with_level(counts: BuildCounts, level: &BuiltLevel<'_>) -> Result<BuildCounts, BuildError>
+    ensures counted { IfOk result (CountsMore counts (built_view level.now)) }
     ensures memory { IsOkUnless result BuildError.OutOfMemory }
 {
     Ok(BuildCounts {
-        vertices: with_more(counts.vertices, level.vertices.len())?,
-        segs: with_more(counts.segs, level.segs.len())?,
-        subs: with_more(counts.subs, level.subs.len())?,
-        nodes: with_more(counts.nodes, level.nodes.len())?,
+        vertices: with_more(counts.vertices, level.tree.vertices.len())?,
+        segs: with_more(counts.segs, level.tree.segs.len())?,
+        subs: with_more(counts.subs, level.tree.subs.len())?,
+        nodes: with_more(counts.nodes, level.tree.nodes.len())?,
         bytes: counts.bytes,
     })
 }
 
 // The counts of the levels, whose PWAD has `len` bytes.
-fn counts_of(levels: &[NamedLevel], len: usize) -> Result<BuildCounts, BuildError>
+fn counts_of(levels: &[NamedLevel<'_>], len: usize) -> Result<BuildCounts, BuildError>
     ensures counted { IfOk result
-        (CountsLevels (map (λ x. view x.level) levels.now) len) }
+        (CountsLevels (map (λ x. built_view x.level) levels.now) len) }
     ensures memory { IsOkUnless result BuildError.OutOfMemory }
 {
     let mut counts = BuildCounts {
@@ -78,14 +76,14 @@ fn counts_of(levels: &[NamedLevel], len: usize) -> Result<BuildCounts, BuildErro
 }
 
 /// The PWAD of the levels, each of which reads back by its name, and its counts.
-pub fn counted_wad(alloc: Global, levels: &[NamedLevel]) -> Result<BuiltWad, BuildError>
+pub fn counted_wad(alloc: Global, levels: &[NamedLevel<'_>]) -> Result<BuiltWad, BuildError>
     requires { AreParts (level_parts levels.now) }
     ensures bytes { IfOk result (λ built.
         built.bytes.items ≡ wad_bytes (all_lumps (level_parts levels.now))) }
     ensures levels { IfOk result (λ built. All (λ l.
-        IsLevel built.bytes.items (name_text l.name) (view l.level)) levels.now) }
-    ensures counted { IfOk result (λ built.
-        CountsLevels (map (λ x. view x.level) levels.now) (length built.bytes.items) built.counts) }
+        IsLevel built.bytes.items (name_text l.name) (built_view l.level)) levels.now) }
+    ensures counted { IfOk result (λ built. CountsLevels
+        (map (λ x. built_view x.level) levels.now) (length built.bytes.items) built.counts) }
     ensures memory { IsOkUnless result BuildError.OutOfMemory }
 {
     let bytes = wad_of_levels(alloc, levels)?;

@@ -1,63 +1,90 @@
-//! The lists of a map, copied out.
-ghost use Rattle.std.specs.Prelude.{◌≡◌, IfOk, IsOkUnless};
+//! Appends the lumps of what a map draws to a PWAD, item by item from the map's tables.
+ghost use Rattle.std.specs.Prelude.{◌≡◌, [], ◌∷◌, flat_map, OnOk, IsOkUnless};
+ghost use Rattle.lv_lumps.specs.Lumps.{records_of};
+ghost use Rattle.lv_lumps.specs.Records.{line_at, line_record, sector_at, sector_record, side_at, side_record, thing_at, thing_record};
+ghost use Rattle.lv_pwad.specs.Writer.{FitsLumps, PutsLumps};
 
 use crate::error::BuildError;
-use lv_lumps::{Line, Sector, Side, Thing};
+use crate::wad::WadWriter;
+use lv_lumps::{Name8, line_bytes, sector_bytes, side_bytes, thing_bytes};
 use lv_maptables::{Kind, Map};
-use std::alloc::Global;
 
-/// The things of the map, by number.
-pub fn things_of(alloc: Global, map: &Map) -> Result<Vec<Thing>, BuildError>
-    ensures things { IfOk result (λ v. v.items ≡ map.now.tables.things) }
+/// Appends a lump of the map's things, by number, under the name.
+pub fn push_things(wad: &mut WadWriter, name: Name8, map: &Map) -> Result<(), BuildError>
+    requires { FitsLumps wad.old
+        (record { name = name; bytes = flat_map thing_record map.now.tables.things } ∷ []) }
+    ensures lump { OnOk result (PutsLumps wad.old wad.new
+        (record { name = name; bytes = flat_map thing_record map.now.tables.things } ∷ [])) }
+    ensures inverse { OnOk result
+        (records_of thing_at 10 (flat_map thing_record map.now.tables.things)
+        ≡ map.now.tables.things) }
     ensures memory { IsOkUnless result BuildError.OutOfMemory }
 {
-    let mut things = Vec::with_capacity(alloc, map.count(Kind::Thing) as usize)?;
+    let at = wad.bytes.len();
     for n in 0..map.count(Kind::Thing) {
         if let Some(thing) = map.thing(n) {
-            things.push(thing)?;
+            wad.bytes.extend_from_slice(&thing_bytes(&thing))?;
         }
     }
-    Ok(things)
+    wad.note(name, at)
 }
 
-/// The lines of the map, by number.
-pub fn lines_of(alloc: Global, map: &Map) -> Result<Vec<Line>, BuildError>
-    ensures lines { IfOk result (λ v. v.items ≡ map.now.tables.lines) }
+/// Appends a lump of the map's lines, by number, under the name.
+pub fn push_lines(wad: &mut WadWriter, name: Name8, map: &Map) -> Result<(), BuildError>
+    requires { FitsLumps wad.old
+        (record { name = name; bytes = flat_map line_record map.now.tables.lines } ∷ []) }
+    ensures lump { OnOk result (PutsLumps wad.old wad.new
+        (record { name = name; bytes = flat_map line_record map.now.tables.lines } ∷ [])) }
+    ensures inverse { OnOk result
+        (records_of line_at 14 (flat_map line_record map.now.tables.lines)
+        ≡ map.now.tables.lines) }
     ensures memory { IsOkUnless result BuildError.OutOfMemory }
 {
-    let mut lines = Vec::with_capacity(alloc, map.count(Kind::Line) as usize)?;
+    let at = wad.bytes.len();
     for n in 0..map.count(Kind::Line) {
         if let Some(line) = map.line(n) {
-            lines.push(line)?;
+            wad.bytes.extend_from_slice(&line_bytes(&line))?;
         }
     }
-    Ok(lines)
+    wad.note(name, at)
 }
 
-/// The sides of the map, by number.
-pub fn sides_of(alloc: Global, map: &Map) -> Result<Vec<Side>, BuildError>
-    ensures sides { IfOk result (λ v. v.items ≡ map.now.tables.sides) }
+/// Appends a lump of the map's sides, by number, under the name.
+pub fn push_sides(wad: &mut WadWriter, name: Name8, map: &Map) -> Result<(), BuildError>
+    requires { FitsLumps wad.old
+        (record { name = name; bytes = flat_map side_record map.now.tables.sides } ∷ []) }
+    ensures lump { OnOk result (PutsLumps wad.old wad.new
+        (record { name = name; bytes = flat_map side_record map.now.tables.sides } ∷ [])) }
+    ensures inverse { OnOk result
+        (records_of side_at 30 (flat_map side_record map.now.tables.sides)
+        ≡ map.now.tables.sides) }
     ensures memory { IsOkUnless result BuildError.OutOfMemory }
 {
-    let mut sides = Vec::with_capacity(alloc, map.count(Kind::Side) as usize)?;
+    let at = wad.bytes.len();
     for n in 0..map.count(Kind::Side) {
         if let Some(side) = map.side(n) {
-            sides.push(side)?;
+            wad.bytes.extend_from_slice(&side_bytes(&side))?;
         }
     }
-    Ok(sides)
+    wad.note(name, at)
 }
 
-/// The sectors of the map, by number.
-pub fn sectors_of(alloc: Global, map: &Map) -> Result<Vec<Sector>, BuildError>
-    ensures sectors { IfOk result (λ v. v.items ≡ map.now.tables.sectors) }
+/// Appends a lump of the map's sectors, by number, under the name.
+pub fn push_sectors(wad: &mut WadWriter, name: Name8, map: &Map) -> Result<(), BuildError>
+    requires { FitsLumps wad.old
+        (record { name = name; bytes = flat_map sector_record map.now.tables.sectors } ∷ []) }
+    ensures lump { OnOk result (PutsLumps wad.old wad.new
+        (record { name = name; bytes = flat_map sector_record map.now.tables.sectors } ∷ [])) }
+    ensures inverse { OnOk result
+        (records_of sector_at 26 (flat_map sector_record map.now.tables.sectors)
+        ≡ map.now.tables.sectors) }
     ensures memory { IsOkUnless result BuildError.OutOfMemory }
 {
-    let mut sectors = Vec::with_capacity(alloc, map.count(Kind::Sector) as usize)?;
+    let at = wad.bytes.len();
     for n in 0..map.count(Kind::Sector) {
         if let Some(sector) = map.sector(n) {
-            sectors.push(sector)?;
+            wad.bytes.extend_from_slice(&sector_bytes(&sector))?;
         }
     }
-    Ok(sectors)
+    wad.note(name, at)
 }

@@ -30,7 +30,7 @@ fn blamed(error: BuildError, name: Name8) -> Unbuilt
 }
 
 // Builds the level of a map, with its name.
-fn named_level(alloc: Global, map: &Map) -> Result<NamedLevel, BuildError>
+fn named_level<'a>(alloc: Global, map: &'a Map) -> Result<NamedLevel<'a>, BuildError>
     ensures level { IfOk result (λ level. IsLevelOf map.now.tables level) }
     ensures refused { IfErr result (IsBuildRefusal map.now.tables) }
     ensures nothing { result ≡ Err BuildError.NothingToBuild ↔ length map.now.tables.lines ≡ 0 }
@@ -43,7 +43,7 @@ fn named_level(alloc: Global, map: &Map) -> Result<NamedLevel, BuildError>
 }
 
 // Builds the levels of the maps, by number.
-fn levels_of(alloc: Global, maps: &Maps) -> Result<Vec<NamedLevel>, Unbuilt>
+fn levels_of<'a>(alloc: Global, maps: &'a Maps) -> Result<Vec<NamedLevel<'a>>, Unbuilt>
     ensures levels { IfOk result (λ v. AreLevelsOf (project_of maps.now).maps v.items) }
     ensures well_formed { OnOk result (WellFormedProject (project_of maps.now)) }
     ensures refused { IfErr result (λ u. Blames (project_of maps.now).maps u.error u.map) }

@@ -12,7 +12,7 @@ use std::alloc::Global;
 /// directory of its lumps.
 #[derive(Drop)]
 pub struct WadWriter {
-    bytes: Vec<u8>,
+    pub(crate) bytes: Vec<u8>,
     directory: Vec<u8>,
 }
 
@@ -59,8 +59,8 @@ fn write_over(bytes: &mut [u8], head: &[u8])
 }
 
 impl WadWriter {
-    ghost use Rattle.std.specs.Prelude.{◌≡◌, ◌++◌, ◌≤◌, ◌<◌, ◌^◌, [], ◌∷◌, codes, length, drop, OnOk, IfOk, IsOkUnless};
-    ghost use Rattle.lv_pwad.specs.Wad.{long};
+    ghost use Rattle.std.specs.Prelude.{◌≡◌, ◌++◌, ◌≤◌, ◌<◌, ◌-◌, ◌^◌, [], ◌∷◌, codes, length, drop, replicate, OnOk, IfOk, IsOkUnless};
+    ghost use Rattle.lv_pwad.specs.Wad.{entry_bytes, long};
     ghost use Rattle.lv_pwad.specs.Writer.{FitsLumps, IsEmptyWad, PutsLumps};
 
     /// Begins a PWAD of `count` lumps. Memory for all its `len` bytes is allocated here, so that no
@@ -75,6 +75,27 @@ impl WadWriter {
         Ok(WadWriter { bytes, directory })
     }
 
+    /// Appends an entry to the directory: that of the lump that begins at byte `at` and ends the bytes so far.
+    pub fn note(&mut self, name: Name8, at: usize) -> Result<(), BuildError>
+        requires begun { at ≤ length self.old.bytes.items }
+        requires fits { length self.old.bytes.items < 4294967296 }
+        ensures bytes { self.new.bytes ≡ self.old.bytes }
+        ensures entry { OnOk result (self.new.directory.items
+            ≡ self.old.directory.items ++ entry_bytes (record {
+              at = at;
+              size = length self.old.bytes.items - at;
+              name = name;
+            })) }
+        ensures memory { IsOkUnless result BuildError.OutOfMemory }
+    {
+        let entry = Entry {
+            at: at as u32,
+            size: (self.bytes.len() - at) as u32,
+            name,
+        };
+        put_entry(&mut self.directory, entry)
+    }
+
     /// Appends a lump, and its entry to the directory.
     pub fn push(&mut self, name: Name8, bytes: &[u8]) -> Result<(), BuildError>
         requires fits { FitsLumps self.old (record { name = name; bytes = bytes.now } ∷ []) }
@@ -82,14 +103,22 @@ impl WadWriter {
             (PutsLumps self.old self.new (record { name = name; bytes = bytes.now } ∷ [])) }
         ensures memory { IsOkUnless result BuildError.OutOfMemory }
     {
-        let entry = Entry {
-            at: self.bytes.len() as u32,
-            size: bytes.len() as u32,
-            name,
-        };
-        put_entry(&mut self.directory, entry)?;
+        let at = self.bytes.len();
         self.bytes.extend_from_slice(bytes)?;
-        Ok(())
+        self.note(name, at)
+    }
+
+    /// Appends a lump of `len` zero bytes, and its entry to the directory.
+    pub fn push_zeros(&mut self, name: Name8, len: usize) -> Result<(), BuildError>
+        requires fits { FitsLumps self.old
+            (record { name = name; bytes = replicate len 0 } ∷ []) }
+        ensures ok { OnOk result
+            (PutsLumps self.old self.new (record { name = name; bytes = replicate len 0 } ∷ [])) }
+        ensures memory { IsOkUnless result BuildError.OutOfMemory }
+    {
+        let at = self.bytes.len();
+        self.bytes.resize(at + len, 0)?;
+        self.note(name, at)
     }
 
     /// The finished PWAD of `count` lumps, with its header, and the directory after the lumps.

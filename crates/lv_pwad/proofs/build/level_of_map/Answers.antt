@@ -1,26 +1,23 @@
 use Rattle.std.proofs.Common.{sym, subst}
 use Rattle.lv_pwad.specs.Sound.{IsBuildRefusal}
 use Rattle.lv_pwad.specs.declared.error.BuildError.TheVariants as build
-use Rattle.lv_pwad.proofs.SoundLemmas.{tree_cause, blockmap_cause, same_error, tree_nothing, blockmap_nothing, built_some, memory_some}
+use Rattle.lv_pwad.proofs.SoundLemmas.{tree_cause, blockmap_cause, same_error, tree_nothing, blockmap_nothing, built_some}
 use Rattle.lv_pwad.proofs.build.level_of_map.Goals as goal
 
-pub returns-in-Ok-level_of-clause-level : goal.returns-in-Ok-level_of-clause-level
-returns-in-Ok-level_of-clause-level c =
+pub returns-clause-level : goal.returns-clause-level
+returns-clause-level c =
     record {
-      well_formed = c.in-Ok-level_of.ensures.well_formed;
+      well_formed = c.level_of.ensures.well_formed;
       tree = c.in-Ok.tree;
       built = c.in-Ok.ensures.built;
       blockmap = c.in-Ok-blockmap.bytes.items;
       is_blockmap = c.in-Ok-blockmap.ensures;
-      is_over = c.in-Ok-level_of.ensures.level;
+      is_over = c.level_of.ensures.level;
     }
 
-pub returns-in-Ok-level_of-clause-nothing : goal.returns-in-Ok-level_of-clause-nothing
-returns-in-Ok-level_of-clause-nothing c =
-    built_some c.args.map.now.tables c.in-Ok.tree c.in-Ok-level_of.level build.NothingToBuild c.in-Ok.ensures.built
-
-pub returns-in-Err-level_of-clause-nothing : goal.returns-in-Err-level_of-clause-nothing
-returns-in-Err-level_of-clause-nothing c = memory_some c.args.map.now.tables c.in-Ok.tree c.in-Ok.ensures.built
+pub returns-clause-nothing : goal.returns-clause-nothing
+returns-clause-nothing c =
+    built_some c.args.map.now.tables c.in-Ok.tree c.level_of.result build.NothingToBuild c.in-Ok.ensures.built
 
 pub returns-in-Err-clause-refused : goal.returns-in-Err-clause-refused
 returns-in-Err-clause-refused c =

@@ -2,10 +2,10 @@ use Rattle.std.proofs.Common.{[]}
 use Rattle.std.proofs.lemmas.List.Elements.{All-head}
 use Rattle.lv_lumps.specs.Names.{name_text}
 use Rattle.lv_levels.specs.Levels.{IsLevel}
-use Rattle.lv_levels.specs.Views.{view}
+use Rattle.lv_pwad.specs.Views.{built_view}
 use Rattle.lv_pwad.specs.declared.levels.NamedLevel.{NamedLevel}
 use Rattle.lv_pwad.proofs.build.wad_of_level.Goals as goal
 
 pub returns-in-Ok-clause-level : goal.returns-in-Ok-clause-level
 returns-in-Ok-clause-level c =
-    All-head (λ (l : NamedLevel). IsLevel c.in-Ok.wad.items (name_text l.name) (view l.level)) (record { name = c.args.name; level = c.args.level }) [] c.in-Ok.ensures.levels
+    All-head (λ (l : NamedLevel). IsLevel c.in-Ok.wad.items (name_text l.name) (built_view l.level)) (record { name = c.args.name; level = c.args.level }) [] c.in-Ok.ensures.levels

@@ -1,14 +1,12 @@
-use Rattle.std.proofs.Common.{◌∙◌, [], ap, flat_map}
-use Rattle.lv_lumps.specs.Records.{sector_record}
-use Rattle.lv_pwad.proofs.PutLemmas.{put_next, put_none}
+use Rattle.std.proofs.Common.{ap}
+use Rattle.std.specs.Prelude.{replicate}
+use Rattle.lv_pwad.proofs.PutLemmas.{put_next}
 use Rattle.lv_pwad.proofs.levels.push_last.Goals as goal
 
 pub returns-clause-lumps : goal.returns-clause-lumps
 returns-clause-lumps c =
     let w0 = c.args.wad.now in
-    let w1 = c.push.new.self in
-    let w2 = c.push-2.new.self in
-    let p1 = put_next w0 w0 w1 [] _ _ _ (put_none w0) c.in_ok-push.ensures.ok
-    (c.deref-2.ensures.value ∙ c.in_ok-encode_sectors.ensures.bytes ∙ ap (flat_map sector_record) c.deref.ensures.value) in
-    let p2 = put_next w0 w1 w2 _ _ _ _ p1 c.in_ok-push-2.ensures.ok c.deref-3.ensures.value in
-    put_next w0 w2 c.push-3.new.self _ _ _ _ p2 c.in_ok-push-3.ensures.ok c.deref-4.ensures.value
+    let w1 = c.push_sectors.new.wad in
+    let w2 = c.push_zeros.new.self in
+    let p2 = put_next w0 w1 w2 _ _ _ _ c.in_ok-push_sectors.ensures.lump c.in_ok-push_zeros.ensures.ok (ap (λ n. replicate n 0) c.reject_len.ensures) in
+    put_next w0 w2 c.push.new.self _ _ _ _ p2 c.in_ok-push.ensures.ok c.deref.ensures.value

@@ -1,10 +1,10 @@
-use Rattle.lv_levels.specs.Views.{view}
+use Rattle.lv_pwad.specs.Views.{built_view}
 use Rattle.lv_pwad.specs.Wad.{drawn_lumps, tree_lumps, last_lumps}
 use Rattle.lv_pwad.proofs.LevelLemmas.{put_runs}
 use Rattle.lv_pwad.proofs.levels.push_level.Goals as goal
 
 pub returns-clause-lumps : goal.returns-clause-lumps
 returns-clause-lumps c =
-    let l = view c.args.level.now in
+    let l = built_view c.args.level.now in
     put_runs c.args.wad.now c.push.new.self c.push_drawn.new.wad c.push_tree.new.wad c.push_last.new.wad (drawn_lumps l) (tree_lumps l) (last_lumps l) _
     c.in_ok-push.ensures.ok c.in_ok-push_drawn.ensures.lumps c.in_ok-push_tree.ensures.lumps c.in_ok-push_last.ensures.lumps

@@ -6,8 +6,7 @@ use Rattle.lv_maptables.specs.Projects.{project_of}
 use Rattle.lv_pwad.specs.declared.levels.NamedLevel.{NamedLevel}
 use Rattle.lv_pwad.specs.Counted.{CountsLevels}
 use Rattle.lv_levels.specs.Levels.{IsLevel}
-use Rattle.lv_levels.specs.Views.{view}
-use Rattle.lv_pwad.specs.Views.{level_parts}
+use Rattle.lv_pwad.specs.Views.{built_view, level_parts}
 use Rattle.lv_pwad.specs.Wad.{AreParts, all_lumps, wad_bytes}
 use Rattle.lv_pwad.specs.Errors.{blamed}
 use Rattle.lv_pwad.specs.declared.error.BuildError.TheVariants as build
@@ -25,7 +24,7 @@ returns-in-Ok-counted_wad-clause-counted c =
     let wad = c.in-Ok-counted_wad.built.bytes.items in
     let ms = (project_of c.args.maps.now).maps in
     let xs = c.in-Ok.levels.items in
-    let read = subst (λ (ys : List NamedLevel). All (λ (l : NamedLevel). IsLevel wad (name_text l.name) (view l.level)) ys)
+    let read = subst (λ (ys : List NamedLevel). All (λ (l : NamedLevel). IsLevel wad (name_text l.name) (built_view l.level)) ys)
     c.deref.ensures.value c.in-Ok-counted_wad.ensures.levels in
     let counts = subst (λ (ys : List NamedLevel). CountsLevels (views_in ys) (length wad) c.in-Ok-counted_wad.built.counts)
     c.deref.ensures.value c.in-Ok-counted_wad.ensures.counted in
