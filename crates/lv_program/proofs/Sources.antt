@@ -1,18 +1,22 @@
 -- From what was done over a disk, or of a reader, to what a file leaves open.
 use Rattle.std.proofs.Common.{◌≡◌, ◌⊎◌, inl, inr, ℕ, Bool, List, Option, None, Some, Result, Ok, Err, IfErr, IfOk, refl, sym, subst}
 use Rattle.std.specs.Io.KnownBytes.{Appends}
-use Rattle.std.specs.Prelude.{codes, ◌++◌, ◌∷◌, []}
+use Rattle.std.specs.Prelude.{codes, ◌++◌, ◌∷◌, [], MatchResult, false}
+use Rattle.lv_disk.specs.Moments.{LeavesOnly}
 use Rattle.lv_disk.specs.Stops.{Each}
 use Rattle.lv_disk.specs.declared.disk.Disk.{Ghosts}
-use Rattle.lv_maptables.specs.Projects.{MapsView, ProjectMaps, empty_project}
+use Rattle.lv_maptables.specs.Projects.{MapsView, ProjectMaps, empty_project, project_of}
 use Rattle.lv_maptables.specs.Tables.{Tables}
-use Rattle.lv_project.specs.Opening.{IsRefusedRead}
+use Rattle.lv_project.specs.Opening.{IsRefusedRead, StandsOnlyFor}
+use Rattle.lv_project.specs.States.{State}
+use Rattle.lv_project.specs.declared.project.Refused.{Refused}
 use Rattle.lv_project.specs.Places.{cap_of}
 use Rattle.lv_project.specs.Stands.{Stands}
 use Rattle.lv_project.specs.declared.error.ProjectError.{ProjectError}
-use Rattle.lv_project.specs.declared.error.ProjectError.TheVariants.{Refused, Device, OutOfMemory, Reopen, GenerationsSpent, Damaged, Blank, NotAProject, NotEmpty, BadGeometry}
+use Rattle.lv_project.specs.declared.error.ProjectError.TheVariants.{Refused as RefusedLine, Device, OutOfMemory, Reopen, GenerationsSpent, Damaged, Blank, NotAProject, NotEmpty, BadGeometry}
 use Rattle.lv_project.specs.declared.geometry.Geometry.{Geometry}
 use Rattle.lv_levels.specs.Graphics.{GraphicNames}
+use Rattle.lv_editor.specs.Recovery.{IsOnlyRead}
 use Rattle.lv_program.specs.Deeds.{IsBuiltInto, IsChecked, IsCheckedAt, IsCreated, IsEdited, IsExamined, IsLintedAt, IsPicturedAt}
 use Rattle.lv_program.specs.Drawing.{EndsUnopened, IsDrawnOntoSome}
 use Rattle.lv_program.specs.DrawnOver.{IsDrawnOver}
@@ -24,7 +28,7 @@ use Rattle.lv_views.specs.declared.laid_over.Layers.{Layers}
 use Rattle.lv_program.specs.Wads.{OverSomeWad, OverWad}
 use Rattle.lv_reports.specs.Refusals.{IsOfOpening}
 use Rattle.lv_views.specs.Checking.{IsCheckedIn, IsCheckedOf}
-use Rattle.lv_program.specs.Sources.{IsBuiltFrom, IsEditedOver, IsExaminedOf, IsMade, NotOpened, OverMaps}
+use Rattle.lv_program.specs.Sources.{IsBuiltFrom, IsEditedOver, IsExaminedOf, IsMade, IsOpenedFrom, NotOpened, OverMaps}
 use Rattle.lv_editor.specs.declared.error.EditorError.TheVariants.{WriterFailed}
 use Rattle.lv_reports.specs.declared.refusal.Refusal.{Refusal}
 use Rattle.lv_reports.specs.declared.refusal.Refusal.TheVariants.{Build, Level, Lines, NoSuchMap, NotAMap, Project, TreeOutside}
@@ -42,7 +46,7 @@ refused_before before after (Damaged place) same is = λ file reads. is file (sa
 refused_before before after NotEmpty same is = absurd is
 refused_before before after Reopen same is = absurd is
 refused_before before after GenerationsSpent same is = absurd is
-refused_before before after (Refused e) same is = absurd is
+refused_before before after (RefusedLine e) same is = absurd is
 
 pub of_opening : (reads : List ℕ → Type 0) (e : ProjectError) → IsRefusedRead reads e → IsOfOpening e
 of_opening reads Device is = tt
@@ -54,7 +58,38 @@ of_opening reads (Damaged place) is = tt
 of_opening reads NotEmpty is = absurd is
 of_opening reads Reopen is = absurd is
 of_opening reads GenerationsSpent is = absurd is
-of_opening reads (Refused e) is = absurd is
+of_opening reads (RefusedLine e) is = absurd is
+
+-- an opening reads what was read before, and a stop within it leaves what one left before
+abbrev pub Rereads : {D : Type 0} → Ghosts D → D → Result (State D) (Refused D) → Type 0
+Rereads facts before result =
+    MatchResult result
+    (λ p. Each (facts.reads p.disk) (facts.reads before) × Each (facts.reads before) (facts.reads p.disk))
+    (λ r. Each (facts.reads r.disk) (facts.reads before) × Each (facts.reads before) (facts.reads r.disk))
+
+abbrev pub LeavesSame : {D : Type 0} → Ghosts D → D → Result (State D) (Refused D) → Type 0
+LeavesSame facts before result =
+    MatchResult result
+    (λ p. LeavesOnly facts before p.disk (facts.may_leave before))
+    (λ r. LeavesOnly facts before r.disk (facts.may_leave before))
+
+pub opened_from : {D : Type 0} (facts : Ghosts D) (before : D) (result : Result (State D) (Refused D))
+    → IfOk result (λ p. (p.must_reopen ≡ false) × Each (facts.reads p.disk) (StandsOnlyFor p.cap (project_of p.maps) p.generation))
+    → Rereads facts before result → LeavesSame facts before result → IfOk result (IsOpenedFrom facts before)
+opened_from facts before (Ok p) opened reads moments =
+    record {
+      reopen = opened.0;
+      stands = λ file is. opened.1 file (reads.1 file is);
+      only_read = record { no_other = reads.0; still = reads.1; any_moment = moments };
+    }
+opened_from facts before (Err r) opened reads moments = tt
+
+pub refused_from : {D : Type 0} (facts : Ghosts D) (before : D) (result : Result (State D) (Refused D))
+    → IfErr result (λ r. IsRefusedRead (facts.reads r.disk) r.error) → Rereads facts before result → LeavesSame facts before result
+    → IfErr result (λ r. IsRefusedRead (facts.reads before) r.error × IsOnlyRead facts before r.disk)
+refused_from facts before (Ok p) refused reads moments = tt
+refused_from facts before (Err r) refused reads moments =
+    (refused_before (facts.reads before) (facts.reads r.disk) r.error reads.1 refused, record { no_other = reads.0; still = reads.1; any_moment = moments })
 
 -- what isn't opened has no status
 pub no_status : (reads : List ℕ → Type 0) (how : Result ℕ Refusal) (P : ℕ → Type 0) → NotOpened reads how → IfOk how P

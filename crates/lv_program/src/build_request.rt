@@ -9,7 +9,7 @@ ghost use Rattle.lv_reports.specs.Refusals.{RefusesFile};
 ghost use Rattle.lv_editor.specs.Recovery.{IsOnlyRead};
 ghost use Rattle.lv_program.specs.Sources.{IsBuiltFrom, OverMaps};
 
-use crate::over_disk::{HandedBack, open_project};
+use crate::over_disk::{HandedBack, not_opened, open_project};
 use lv_disk::Disk;
 use lv_editor::{EditorError, WriteError, write_counts, write_wad};
 use lv_files::{Cause, Form, Hold, NewFile, open_new};
@@ -91,6 +91,7 @@ where
 
 /// Builds the maps of a disk's project into the file at the path, and writes what was made, or notes why the file can't
 /// be made. The file is whole or as it was; it may be new, empty or a PWAD. The disk is only read.
+#[inline(never)]
 pub fn build<E: Files, D: Disk, W: Write>(
     alloc: Global,
     rt: &E,
@@ -109,7 +110,7 @@ where
 {
     let project = match open_project(alloc, disk) {
         Ok(project) => project,
-        Err(refused) => return refused,
+        Err(refused) => return not_opened(refused),
     };
     let how = build_at(alloc, rt, project.maps(), path, writer, why);
     HandedBack {

@@ -4,7 +4,7 @@ ghost use Rattle.std.specs.Io.KnownBytes.{Keeps};
 ghost use Rattle.lv_program.specs.Drawing.{IsDrawnOnto, IsHandedOn, IsTriedOn, stop_status};
 ghost use Rattle.lv_program.specs.DrawnOver.{IsDrawnOver};
 
-use crate::over_disk::{HandedBack, open_project};
+use crate::over_disk::{HandedBack, not_opened, open_project};
 use lv_disk::Disk;
 use lv_draw::{Names, ScriptLine, script_lines};
 use lv_editor::EditorError;
@@ -102,6 +102,7 @@ fn draw_onto<C: Canvas, W: Write, F: Write>(
 
 /// Draws a script onto the project of a disk, line by line up to the first refused one, which is reported on
 /// `faults`. Each command that was done is on the disk. Answers of queries are written.
+#[inline(never)]
 pub fn draw<D: Disk, W: Write, F: Write>(
     alloc: Global,
     disk: D,
@@ -116,7 +117,7 @@ pub fn draw<D: Disk, W: Write, F: Write>(
 {
     let mut project = match open_project(alloc, disk) {
         Ok(project) => project,
-        Err(refused) => return refused,
+        Err(refused) => return not_opened(refused),
     };
     let how = draw_onto(alloc, &mut project, script, writer, faults);
     HandedBack {
@@ -127,6 +128,7 @@ pub fn draw<D: Disk, W: Write, F: Write>(
 
 /// Tries a script over the empty project in memory, line by line up to the first refused one, which is reported on
 /// `faults`. Answers of queries are written.
+#[inline(never)]
 pub fn try_script<W: Write, F: Write>(
     alloc: Global,
     script: Script<'_>,

@@ -6,7 +6,7 @@ ghost use Rattle.lv_program.specs.Dumped.{OverWadTold};
 ghost use Rattle.lv_program.specs.Sources.{OverMaps};
 ghost use Rattle.lv_dumping.specs.LevelDumps.{IsWadDumped};
 
-use crate::over_disk::{HandedBack, open_project};
+use crate::over_disk::{HandedBack, not_opened, open_project};
 use lv_disk::Disk;
 use lv_dumping::{tell_level_dumps, tell_lines_of};
 use lv_reports::Refusal;
@@ -16,6 +16,7 @@ use std::io::{Read, Write};
 
 /// Writes the lines that draw the maps of a disk's project again, from the empty project, or, if there are names, those
 /// of each map with one of the names. The disk is only read.
+#[inline(never)]
 pub fn dump<D: Disk, W: Write>(
     alloc: Global,
     disk: D,
@@ -31,7 +32,7 @@ pub fn dump<D: Disk, W: Write>(
 {
     let project = match open_project(alloc, disk) {
         Ok(project) => project,
-        Err(refused) => return refused,
+        Err(refused) => return not_opened(refused),
     };
     let how = tell_lines_of(alloc, project.maps(), names, writer);
     HandedBack {

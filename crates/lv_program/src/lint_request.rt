@@ -7,7 +7,7 @@ ghost use Rattle.lv_editor.specs.Recovery.{IsOnlyRead};
 ghost use Rattle.lv_program.specs.Sources.{OverMaps};
 ghost use Rattle.lv_program.specs.Wads.{OverWad};
 
-use crate::over_disk::{HandedBack, open_project};
+use crate::over_disk::{HandedBack, not_opened, open_project};
 use lv_disk::Disk;
 use lv_files::Cause;
 use lv_reports::Refusal;
@@ -19,6 +19,7 @@ use std::io::{Read, Write};
 /// warnings of `lv_lint`, then, if `iwad` is given, those of the flats and textures that the WAD at that path lacks.
 /// Each line begins with the map's name; the number of these lines comes last. Or notes why the WAD can't be opened.
 /// The disk is only read.
+#[inline(never)]
 pub fn lint<E: AllocGlobal + Files, D: Disk, W: Write>(
     rt: &E,
     disk: D,
@@ -36,7 +37,7 @@ pub fn lint<E: AllocGlobal + Files, D: Disk, W: Write>(
 {
     let project = match open_project(rt.alloc(), disk) {
         Ok(project) => project,
-        Err(refused) => return refused,
+        Err(refused) => return not_opened(refused),
     };
     let how = tell_beside(rt, project.maps(), name, iwad, writer, why);
     HandedBack {
@@ -46,6 +47,7 @@ pub fn lint<E: AllocGlobal + Files, D: Disk, W: Write>(
 }
 
 /// Reads a WAD to its end and does the same with its levels.
+#[inline(never)]
 pub fn lint_wad<E: AllocGlobal + Files, R: Read, W: Write>(
     rt: &E,
     reader: &mut R,

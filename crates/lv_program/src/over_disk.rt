@@ -1,11 +1,14 @@
 //! The requests `create`, `edit` and `check`, over a disk that each takes and gives back.
-ghost use Rattle.std.specs.Prelude.{◌≡◌, ◌≤◌, IfErr, IfOk, option_map};
+//!
+//! A project has room for 32 maps in its value, 20 KB. So a call that holds one, or the maps of a WAD's level, is never
+//! inlined, here and in the other requests: else the frame of `perform` would have room for all of them, and touch it.
+ghost use Rattle.std.specs.Prelude.{◌≡◌, ◌≤◌, Err, IfErr, IfOk, option_map};
 ghost use Rattle.std.specs.Io.KnownBytes.{Appends};
 ghost use Rattle.lv_project.specs.Opening.{IsRefusedRead};
 ghost use Rattle.lv_program.specs.Deeds.{IsCreated};
 ghost use Rattle.lv_editor.specs.Recovery.{IsOnlyRead};
 ghost use Rattle.lv_views.specs.Checking.{IsCheckedIn};
-ghost use Rattle.lv_program.specs.Sources.{IsEditedOver, IsMade, IsOpenedFrom, NotOpened, OverMaps};
+ghost use Rattle.lv_program.specs.Sources.{IsEditedOver, IsMade, IsOpenedFrom, OverMaps};
 ghost use Rattle.lv_editor.specs.declared.error.EditorError.TheVariants.{WriterFailed};
 ghost use Rattle.lv_reports.specs.declared.refusal.Refusal.{Refusal};
 
@@ -24,18 +27,23 @@ pub struct HandedBack<D> {
     pub disk: D,
 }
 
-/// The project that a disk's bytes stand for, or, if there is none, how the request ends.
-pub fn open_project<D: Disk>(alloc: Global, disk: D) -> Result<Project<D>, HandedBack<D>>
+/// The project that a disk's bytes stand for, or why there is none, and the disk, which is only read.
+pub fn open_project<D: Disk>(alloc: Global, disk: D) -> Result<Project<D>, Refused<D>>
     ensures opened { IfOk result (IsOpenedFrom D.Disk disk) }
-    ensures refused { IfErr result (λ r. NotOpened (D.reads disk) r.how
+    ensures refused { IfErr result (λ r. IsRefusedRead (D.reads disk) r.error
         × IsOnlyRead D.Disk disk r.disk) }
 {
-    match Project::open(alloc, disk) {
-        Ok(project) => Ok(project),
-        Err(Refused { error, disk }) => Err(HandedBack {
-            how: Err(Refusal::Project(error)),
-            disk,
-        }),
+    Project::open(alloc, disk)
+}
+
+/// How a request ends whose project isn't opened, and the disk.
+pub fn not_opened<D: Disk>(refused: Refused<D>) -> HandedBack<D>
+    ensures how { result.how ≡ Err (Refusal.Project refused.error) }
+    ensures disk { result.disk ≡ refused.disk }
+{
+    HandedBack {
+        how: Err(Refusal::Project(refused.error)),
+        disk: refused.disk,
     }
 }
 
@@ -56,6 +64,7 @@ fn say<W: Write>(text: &[u8], writer: &mut W) -> Result<u8, Refusal>
 }
 
 /// Makes a project on a disk, and writes `created`.
+#[inline(never)]
 pub fn create<D: Disk, W: Write>(
     alloc: Global,
     disk: D,
@@ -80,6 +89,7 @@ pub fn create<D: Disk, W: Write>(
 }
 
 /// Answers the lines of the input over the project of a disk.
+#[inline(never)]
 pub fn edit<D: Disk, R: Read, W: Write>(
     alloc: Global,
     disk: D,
@@ -93,7 +103,7 @@ pub fn edit<D: Disk, R: Read, W: Write>(
 {
     let mut project = match open_project(alloc, disk) {
         Ok(project) => project,
-        Err(refused) => return refused,
+        Err(refused) => return not_opened(refused),
     };
     let how = ended(run(alloc, &mut project, reader, writer, TURNS));
     HandedBack {
@@ -104,6 +114,7 @@ pub fn edit<D: Disk, R: Read, W: Write>(
 
 /// Writes what is wrong or unfinished in the map with the name of a disk's project, or in the current one. The disk is
 /// only read.
+#[inline(never)]
 pub fn check<D: Disk, W: Write>(
     alloc: Global,
     disk: D,
@@ -119,7 +130,7 @@ pub fn check<D: Disk, W: Write>(
 {
     let project = match open_project(alloc, disk) {
         Ok(project) => project,
-        Err(refused) => return refused,
+        Err(refused) => return not_opened(refused),
     };
     let how = tell_findings(alloc, project.maps(), name, writer);
     HandedBack {

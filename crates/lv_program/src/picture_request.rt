@@ -6,7 +6,7 @@ ghost use Rattle.lv_program.specs.Sources.{OverMaps};
 ghost use Rattle.lv_program.specs.Wads.{OverWad};
 ghost use Rattle.lv_views.specs.LevelPicture.{IsLevelPicturedOf};
 
-use crate::over_disk::{HandedBack, open_project};
+use crate::over_disk::{HandedBack, not_opened, open_project};
 use lv_disk::Disk;
 use lv_files::{Cause, Hold};
 use lv_reports::Refusal;
@@ -17,6 +17,7 @@ use std::io::{Read, Write};
 
 /// Draws a map of a disk's project as a picture, onto the output or into a file, or notes why the file can't be made.
 /// The file is whole or as it was; it may be new, empty or a picture of a map. The disk is only read.
+#[inline(never)]
 pub fn picture<E: Files, D: Disk, W: Write>(
     alloc: Global,
     rt: &E,
@@ -37,7 +38,7 @@ where
 {
     let project = match open_project(alloc, disk) {
         Ok(project) => project,
-        Err(refused) => return refused,
+        Err(refused) => return not_opened(refused),
     };
     let how = draw(alloc, rt, project.maps(), wanted, writer, why);
     HandedBack {
@@ -47,6 +48,7 @@ where
 }
 
 /// Reads a WAD to its end and draws a level of it in the same way.
+#[inline(never)]
 pub fn picture_wad<E: Files, R: Read, W: Write>(
     alloc: Global,
     rt: &E,

@@ -27,6 +27,7 @@ use std::os::unix::fs::FileExt;
 use std::rt::Files;
 
 // Answers the lines of the input over maps in memory.
+#[inline(never)]
 fn scratch<R: Read, W: Write>(alloc: Global, reader: &mut R, writer: &mut W) -> Result<u8, Refusal>
     ensures small { IfOk result (λ s. s ≤ 3) }
     ensures answered { IsScratched result (R.remaining reader.old) (R.remaining reader.new)

@@ -83,6 +83,7 @@ fn write_salvaged<W: Write, F: Write>(
 
 /// Writes the lines that draw the maps again which can be read from a disk's project, damaged or not, and reports where
 /// it is damaged. The disk is only read.
+#[inline(never)]
 pub fn salvage_lines<D: Disk, W: Write, F: Write>(
     alloc: Global,
     disk: D,

@@ -26,6 +26,7 @@ pub fn begins_as_wad<F: FileExt>(file: &F) -> bool {
 }
 
 /// Reads a WAD to its end and writes what is wrong or unfinished in its level with the name, or in the first one.
+#[inline(never)]
 pub fn check_wad<R: Read, W: Write>(
     alloc: Global,
     reader: &mut R,

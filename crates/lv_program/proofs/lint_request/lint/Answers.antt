@@ -7,10 +7,10 @@ use Rattle.lv_program.proofs.Sources.{no_status}
 use Rattle.lv_program.proofs.lint_request.lint.Goals as goal
 
 pub returns-in-Err-clause-small : goal.returns-in-Err-clause-small
-returns-in-Err-clause-small g c = no_status (g.D.Disk.reads c.args.disk) c.in-Err.refused.how _ c.in-Err.ensures.refused.0
+returns-in-Err-clause-small g c = no_status (g.D.Disk.reads c.args.disk) c.not_opened.result.how _ (c.in-Err.refused.error, c.not_opened.ensures.how, c.in-Err.ensures.refused.0)
 
 pub returns-in-Err-clause-linted : goal.returns-in-Err-clause-linted
-returns-in-Err-clause-linted g c = inl (c.in-Err.ensures.refused.0, Keeps-refl (g.W.Write.contents c.args.writer.now))
+returns-in-Err-clause-linted g c = inl ((c.in-Err.refused.error, c.not_opened.ensures.how, c.in-Err.ensures.refused.0), Keeps-refl (g.W.Write.contents c.args.writer.now))
 
 pub returns-clause-linted : goal.returns-clause-linted
 returns-clause-linted g c =
@@ -21,6 +21,9 @@ returns-clause-linted g c =
       subst (λ (m : MapsView). IsLintedBy (is_some c.args.iwad) (option_map (λ s. s.now) c.args.name) m c.tell_beside-how.result (g.W.Write.contents c.args.writer.now) (g.W.Write.contents c.tell_beside-how.new.writer))
           c.maps.ensures c.tell_beside-how.ensures.told,
     )
+
+pub returns-in-Err-clause-only_read : goal.returns-in-Err-clause-only_read
+returns-in-Err-clause-only_read g c = rw c.not_opened.ensures.disk c.in-Err.ensures.refused.1
 
 pub returns-clause-only_read : goal.returns-clause-only_read
 returns-clause-only_read g c = rw c.into_disk.ensures.disk c.in-Ok.ensures.opened.only_read

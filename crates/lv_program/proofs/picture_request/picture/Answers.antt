@@ -7,10 +7,10 @@ use Rattle.lv_program.proofs.Sources.{no_status}
 use Rattle.lv_program.proofs.picture_request.picture.Goals as goal
 
 pub returns-in-Err-clause-small : goal.returns-in-Err-clause-small
-returns-in-Err-clause-small g c = no_status (g.D.Disk.reads c.args.disk) c.in-Err.refused.how _ c.in-Err.ensures.refused.0
+returns-in-Err-clause-small g c = no_status (g.D.Disk.reads c.args.disk) c.not_opened.result.how _ (c.in-Err.refused.error, c.not_opened.ensures.how, c.in-Err.ensures.refused.0)
 
 pub returns-in-Err-clause-pictured : goal.returns-in-Err-clause-pictured
-returns-in-Err-clause-pictured g c = inl (c.in-Err.ensures.refused.0, Keeps-refl (g.W.Write.contents c.args.writer.now))
+returns-in-Err-clause-pictured g c = inl ((c.in-Err.refused.error, c.not_opened.ensures.how, c.in-Err.ensures.refused.0), Keeps-refl (g.W.Write.contents c.args.writer.now))
 
 pub returns-clause-pictured : goal.returns-clause-pictured
 returns-clause-pictured g c =
@@ -22,6 +22,9 @@ returns-clause-pictured g c =
           c.draw-how.result (g.W.Write.contents c.args.writer.now) (g.W.Write.contents c.draw-how.new.writer))
           c.maps.ensures c.draw-how.ensures.drawn,
     )
+
+pub returns-in-Err-clause-only_read : goal.returns-in-Err-clause-only_read
+returns-in-Err-clause-only_read g c = rw c.not_opened.ensures.disk c.in-Err.ensures.refused.1
 
 pub returns-clause-only_read : goal.returns-clause-only_read
 returns-clause-only_read g c = rw c.into_disk.ensures.disk c.in-Ok.ensures.opened.only_read
