@@ -34,6 +34,11 @@ pub enum CommandError {
 }
 
 impl fmt::Display for CommandError {
+    ghost use Rattle.std.specs.Prelude.{Some};
+    ghost use Rattle.lv_commands.specs.Errors.{message_of};
+
+    ghost output = { λ e. Some (message_of e) };
+
     fn fmt<W: fmt::Write>(&self, f: &mut fmt::Formatter<W>) -> fmt::Result {
         match self.source() {
             Ok(error) => fmt::Display::fmt(&error, f),
@@ -53,7 +58,7 @@ impl From<AllocError> for CommandError {
 impl CommandError {
     ghost use Rattle.std.specs.Prelude.{◌≡◌, ◌≤◌, MatchResult};
     ghost use Rattle.lv_maptables.specs.Errors as map_error;
-    ghost use Rattle.lv_commands.specs.Errors.{code_of};
+    ghost use Rattle.lv_commands.specs.Errors.{code_of, message_of};
 
     /// The number of the refusal.
     pub fn code(&self) -> u16
@@ -93,8 +98,11 @@ impl CommandError {
 
     // The map's refusal that this one passes on, or the number and text of this one.
     fn source(&self) -> Result<MapError, (u16, &'static str)>
-        ensures { MatchResult result (λ error. code_of self.now ≡ map_error.code_of error)
+        ensures code { MatchResult result (λ error. code_of self.now ≡ map_error.code_of error)
             (λ own. code_of self.now ≡ own.0) }
+        ensures text { MatchResult result
+            (λ error. message_of self.now ≡ map_error.message_of error)
+            (λ own. message_of self.now ≡ own.1.now) }
     {
         match self {
             CommandError::NotACommand => Err((1, "not a command")),

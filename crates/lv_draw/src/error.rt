@@ -23,6 +23,11 @@ pub enum DrawError {
 }
 
 impl fmt::Display for DrawError {
+    ghost use Rattle.std.specs.Prelude.{Some};
+    ghost use Rattle.lv_draw.specs.Errors.{message_of};
+
+    ghost output = { λ e. Some (message_of e) };
+
     fn fmt<W: fmt::Write>(&self, f: &mut fmt::Formatter<W>) -> fmt::Result {
         let (_, text) = self.told();
         f.write_str(text)
@@ -46,7 +51,7 @@ impl<T: Drop> From<AllocFailed<T>> for DrawError {
 }
 
 impl DrawError {
-    ghost use Rattle.lv_draw.specs.Errors.{code_of};
+    ghost use Rattle.lv_draw.specs.Errors.{code_of, message_of};
 
     /// The refusal's number.
     pub fn code(&self) -> u16
@@ -57,7 +62,8 @@ impl DrawError {
 
     // The refusal's number and text.
     fn told(&self) -> (u16, &'static str)
-        ensures { result.0 ≡ code_of self.now }
+        ensures code { result.0 ≡ code_of self.now }
+        ensures text { result.1.now ≡ message_of self.now }
     {
         match self {
             DrawError::NotAName => (20, "a name is a letter, then letters, digits and _"),

@@ -1,5 +1,5 @@
 -- The refusals of a journal: their numbers, and when they come.
-use Rattle.std.specs.Prelude.{◌≡◌, ◌⊎◌, ℕ}
+use Rattle.std.specs.Prelude.{◌≡◌, ◌⊎◌, ℕ, List, ◌++◌, codes, decimal}
 use Rattle.lv_journal.specs.declared.error.JournalError.{JournalError}
 use Rattle.lv_journal.specs.declared.error.JournalError.TheVariants.{Device, OutOfMemory, Reopen, JournalFull, Damaged}
 
@@ -10,6 +10,14 @@ code_of OutOfMemory = 31
 code_of Reopen = 32
 code_of JournalFull = 34
 code_of (Damaged place) = 40
+
+-- the text of a refusal
+abbrev pub message_of : JournalError → List ℕ
+message_of Device = codes "the device failed"
+message_of OutOfMemory = codes "out of memory"
+message_of Reopen = codes "the journal must be opened again"
+message_of JournalFull = codes "the journal is full"
+message_of (Damaged place) = codes "damaged at " ++ decimal place
 
 -- `open` refuses by these alone
 abbrev pub RefusesToOpenJournal : JournalError → Type 0

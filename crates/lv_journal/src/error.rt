@@ -19,6 +19,11 @@ pub enum JournalError {
 }
 
 impl fmt::Display for JournalError {
+    ghost use Rattle.std.specs.Prelude.{Some};
+    ghost use Rattle.lv_journal.specs.Refusals.{message_of};
+
+    ghost output = { λ e. Some (message_of e) };
+
     fn fmt<W: fmt::Write>(&self, f: &mut fmt::Formatter<W>) -> fmt::Result {
         let text = match self {
             JournalError::Device => "the device failed",

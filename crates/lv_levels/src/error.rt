@@ -23,6 +23,11 @@ pub enum ReadError {
 
 // One call writes whichever fixed text it is, so that the proof has only one call to follow.
 impl fmt::Display for ReadError {
+    ghost use Rattle.std.specs.Prelude.{Some};
+    ghost use Rattle.lv_levels.specs.Errors.{message_of};
+
+    ghost output = { λ e. Some (message_of e) };
+
     fn fmt<W: fmt::Write>(&self, f: &mut fmt::Formatter<W>) -> fmt::Result {
         let text = match self {
             ReadError::LumpLength => "a lump is no whole number of records",

@@ -1,5 +1,5 @@
--- The numbers of a project's refusals.
-use Rattle.std.specs.Prelude.{◌≡◌, ℕ}
+-- The numbers and the texts of a project's refusals.
+use Rattle.std.specs.Prelude.{◌≡◌, ℕ, List, ◌++◌, codes, decimal}
 use Rattle.lv_commands.specs.declared.error.CommandError.{CommandError}
 use Rattle.lv_commands.specs.declared.error.CommandError.TheVariants as command
 use Rattle.lv_commands.specs.Errors as commands
@@ -18,6 +18,19 @@ code_of Blank = 41
 code_of NotAProject = 42
 code_of NotEmpty = 43
 code_of BadGeometry = 44
+
+-- the text of a refusal
+abbrev pub message_of : ProjectError → List ℕ
+message_of (Refused e) = codes "the line is refused"
+message_of Device = codes "the device failed"
+message_of Reopen = codes "the project must be opened again"
+message_of GenerationsSpent = codes "the generations are spent"
+message_of (Damaged place) = codes "damaged at " ++ decimal place
+message_of Blank = codes "no slot is open"
+message_of NotAProject = codes "not a project"
+message_of NotEmpty = codes "the file is not empty"
+message_of BadGeometry = codes "a length is outside its limits"
+message_of OutOfMemory = codes "out of memory"
 
 -- the refusal of a command as a project answers it
 abbrev pub IsRefusalOf : ProjectError → CommandError → Type 0

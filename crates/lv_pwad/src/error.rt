@@ -22,6 +22,11 @@ pub enum BuildError {
 
 // One call writes whichever text it is, so that the proof has only one call to follow.
 impl fmt::Display for BuildError {
+    ghost use Rattle.std.specs.Prelude.{Some};
+    ghost use Rattle.lv_pwad.specs.Errors.{build_message_of};
+
+    ghost output = { λ e. Some (build_message_of e) };
+
     fn fmt<W: fmt::Write>(&self, f: &mut fmt::Formatter<W>) -> fmt::Result {
         let text = match self {
             BuildError::NothingToBuild => "there is no line to build from",

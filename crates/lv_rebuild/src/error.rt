@@ -20,6 +20,11 @@ pub enum RebuildError {
 
 // One call writes each fixed text, so that the proof has one call to follow.
 impl fmt::Display for RebuildError {
+    ghost use Rattle.std.specs.Prelude.{Some};
+    ghost use Rattle.lv_rebuild.specs.Errors.{message_of};
+
+    ghost output = { λ e. Some (message_of e) };
+
     fn fmt<W: fmt::Write>(&self, f: &mut fmt::Formatter<W>) -> fmt::Result {
         let text = match self {
             RebuildError::TooLong => "the lumps are too long together",

@@ -1,5 +1,5 @@
--- The refusals of a salvage: their numbers and their causes.
-use Rattle.std.specs.Prelude.{◌≡◌, ◌≤◌, ◌⊎◌, ℕ, List}
+-- The refusals of a salvage: their numbers, their texts and their causes.
+use Rattle.std.specs.Prelude.{◌≡◌, ◌≤◌, ◌⊎◌, ℕ, List, ◌++◌, codes, decimal}
 use Rattle.lv_disk.specs.declared.area.Area.{Area}
 use Rattle.lv_checkpoint.specs.Bodies.{IsLive}
 use Rattle.lv_checkpoint.specs.Damage.{AreBlank, AreSlotsDamagedAt}
@@ -19,6 +19,14 @@ code_of Blank = 41
 code_of NotAProject = 42
 code_of BadGeometry = 44
 code_of OutOfMemory = 31
+
+-- the text of a refusal
+abbrev pub message_of : SalvageError → List ℕ
+message_of (Damaged place) = codes "damaged at " ++ decimal place
+message_of Blank = codes "no slot is open"
+message_of NotAProject = codes "not a project"
+message_of BadGeometry = codes "a length is outside its limits"
+message_of OutOfMemory = codes "out of memory"
 
 -- reading the header fails because the bytes have none, or have one with lengths outside the limits
 abbrev pub RefusesGeometry : List ℕ → SalvageError → Type 0

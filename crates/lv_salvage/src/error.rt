@@ -15,6 +15,11 @@ pub enum SalvageError {
 
 // One call writes each fixed text, so that the proof has one call to follow.
 impl fmt::Display for SalvageError {
+    ghost use Rattle.std.specs.Prelude.{Some};
+    ghost use Rattle.lv_salvage.specs.Refusals.{message_of};
+
+    ghost output = { λ e. Some (message_of e) };
+
     fn fmt<W: fmt::Write>(&self, f: &mut fmt::Formatter<W>) -> fmt::Result {
         let text = match self {
             SalvageError::Damaged { place } => return write!(f, "damaged at {place}"),
