@@ -15,7 +15,7 @@ use crate::subsectors::subs_of;
 use lv_lumps::{ITEM_LIMIT, Node, Seg, Sub, Vertex};
 use lv_maptables::{Kind, Map};
 use lv_partition::StraightLines;
-use lv_segs::{Edge, Points, SegsError, angles_in, edges_of, pieces_in};
+use lv_segs::{Edge, Points, angles_in, edges_of, pieces_in};
 use std::alloc::{AllocError, Global};
 
 // How many nodes a path may have.
@@ -104,20 +104,22 @@ fn vertices_of(alloc: Global, points: &Points) -> Result<Vec<Vertex>, AllocError
     Ok(vertices)
 }
 
-// The tree of the lines over the drawn vertices.
-fn build_over(alloc: Global, lines: &[Edge], points: &mut Points) -> Result<Built, TreeError>
+// The tree of the lines, which has grown, over the drawn vertices.
+fn number_over(
+    alloc: Global,
+    lines: &[Edge],
+    grown: Grown,
+    points: &mut Points,
+) -> Result<Built, TreeError>
     requires lines { All IsEdge lines.now }
     requires few { length lines.now ≤ 32767 }
     requires some { 0 < length lines.now }
+    requires lists { AreTreeLists lines.now (lists_of grown) }
     requires few_places { length points.old ≤ 32767 }
     ensures built { IfOk result (IsBuiltOver lines.now points.old) }
     ensures refused { IfErr result (IsRefusalOver lines.now points.old) }
     ensures last { result ≡ Err TreeError.TooManyVertices → IsWithinLimits lines.now }
 {
-    let grown = match grown_of(alloc, lines) {
-        Err(error) => return Err(error),
-        Ok(grown) => grown,
-    };
     let angles = match angles_in(alloc, lines) {
         Err(_) => return Err(TreeError::OutOfMemory),
         Ok(angles) => angles,
@@ -167,15 +169,22 @@ pub fn build_lines(alloc: Global, lines: &[Edge], drawn: &[Vertex]) -> Result<Bu
     if lines.is_empty() {
         return Err(TreeError::NothingToBuild);
     }
-    let mut points = match Points::over(alloc, drawn) {
-        Err(SegsError::TooManyVertices) => return Err(TreeError::TooManyVertices),
-        Err(SegsError::OutOfMemory) => return Err(TreeError::OutOfMemory),
-        Ok(points) => points,
-    };
+    if drawn.len() > ITEM_LIMIT {
+        return Err(TreeError::TooManyVertices);
+    }
     if lines.len() > ITEM_LIMIT {
         return Err(TreeError::TooManySegs);
     }
-    build_over(alloc, lines, &mut points)
+    let grown = match grown_of(alloc, lines) {
+        Err(error) => return Err(error),
+        Ok(grown) => grown,
+    };
+    // The vertices are numbered once the tree has grown, so that their memory isn't needed beside the divided lists.
+    let mut points = match Points::over(alloc, drawn) {
+        Err(_) => return Err(TreeError::OutOfMemory),
+        Ok(points) => points,
+    };
+    number_over(alloc, lines, grown, &mut points)
 }
 
 /// The tree over all sides of a map's lines, as `build_lines` builds it over the map's vertices. It is refused if the
@@ -196,9 +205,13 @@ pub fn build_tree(alloc: Global, map: &Map) -> Result<Built, TreeError>
         Err(_) => return Err(TreeError::OutOfMemory),
         Ok(lines) => lines,
     };
+    let grown = match grown_of(alloc, &lines) {
+        Err(error) => return Err(error),
+        Ok(grown) => grown,
+    };
     let mut points = match Points::new(alloc, map) {
         Err(_) => return Err(TreeError::OutOfMemory),
         Ok(points) => points,
     };
-    build_over(alloc, &lines, &mut points)
+    number_over(alloc, &lines, grown, &mut points)
 }

@@ -126,7 +126,8 @@ fn parted_order(
     }
 }
 
-// The parts of a list on the two sides of a partition, with their boxes and orders.
+// The parts of a list on the two sides of a partition, with their boxes and orders. The order is divided first: once
+// its parts stand, its own memory is free for those of the list.
 fn part_placed(
     alloc: Global,
     lines: &[Edge],
@@ -148,8 +149,8 @@ fn part_placed(
     ensures right_boxed { IfOk result (λ sides. IsPlacedList lines.now sides.right) }
     ensures left_boxed { IfOk result (λ sides. IsPlacedList lines.now sides.left) }
 {
-    let Sides { right, left } = part_list(alloc, lines, partition, choice, list, boxes)?;
     let orders = parted_order(alloc, lines, partition, choice, list, placed)?;
+    let Sides { right, left } = part_list(alloc, lines, partition, choice, list, boxes)?;
     Ok(PlacedSides {
         right: right.with_order(orders.right),
         left: left.with_order(orders.left),

@@ -49,14 +49,16 @@ impl Points {
     ghost use Rattle.std.specs.Prelude.{◌≡◌, ◌≤◌, ◌<◌, ◌++◌, ◌∷◌, [], ◌↔◌, length, Some, Err, slice_get, IfOk, OnOk, OnErr, IsOkUnless};
     ghost use Rattle.lv_segs.specs.Places.{ArePlaces, IsKnown, IsWithPlace, StandsFirst};
 
-    // No vertex yet.
-    fn none(alloc: Global) -> Points
-        ensures { result ≡ [] }
+    // No vertex yet, with room for so many drawn ones and a quarter as many new ones.
+    fn none(alloc: Global, drawn: usize) -> Result<Points, SegsError>
+        ensures none { IfOk result (λ points. points ≡ []) }
+        ensures memory { IsOkUnless result SegsError.OutOfMemory }
     {
-        Points {
-            places: Vec::new(alloc),
-            numbers: IndexMap::new(alloc),
-        }
+        let room = drawn.saturating_add(drawn / 4);
+        Ok(Points {
+            places: Vec::with_capacity(alloc, room)?,
+            numbers: IndexMap::with_capacity(alloc, room)?,
+        })
     }
 
     // Appends a vertex and returns its number.
@@ -88,7 +90,7 @@ impl Points {
         ensures places { IfOk result ArePlaces }
         ensures memory { IsOkUnless result SegsError.OutOfMemory }
     {
-        let mut points = Points::none(alloc);
+        let mut points = Points::none(alloc, map.count(Kind::Vertex) as usize)?;
         for n in 0..map.count(Kind::Vertex) {
             let place = map.vertex(n).unwrap();
             points.push(place)?;
@@ -105,7 +107,10 @@ impl Points {
         if places.len() > ITEM_LIMIT {
             return Err(SegsError::TooManyVertices);
         }
-        let mut points = Points::none(alloc);
+        let mut points = match Points::none(alloc, places.len()) {
+            Err(_) => return Err(SegsError::OutOfMemory),
+            Ok(points) => points,
+        };
         for place in places {
             match points.push(*place) {
                 Err(_) => return Err(SegsError::OutOfMemory),
