@@ -9,7 +9,7 @@ use Rattle.lv_maptables.specs.Projects.{MapsView, ProjectMaps, empty_project, pr
 use Rattle.lv_maptables.specs.Tables.{Tables}
 use Rattle.lv_project.specs.Opening.{IsRefusedRead, StandsOnlyFor}
 use Rattle.lv_project.specs.States.{State}
-use Rattle.lv_project.specs.declared.project.Refused.{Refused}
+use Rattle.lv_project.specs.declared.reading.Refused.{Refused}
 use Rattle.lv_project.specs.Places.{cap_of}
 use Rattle.lv_project.specs.Stands.{Stands}
 use Rattle.lv_project.specs.declared.error.ProjectError.{ProjectError}

@@ -6,7 +6,7 @@ use Rattle.lv_disk.specs.Reading.{OnlyReads}
 use Rattle.lv_disk.specs.Stops.{Each}
 use Rattle.lv_disk.specs.declared.disk.Disk.{Ghosts}
 use Rattle.lv_maptables.specs.Projects.{MapsView, empty_project, project_of}
-use Rattle.lv_project.specs.Opening.{IsRefusedRead, RefusesCreate, StandsOnlyFor}
+use Rattle.lv_project.specs.Opening.{HasMaps, IsRefusedRead, RefusesCreate, StandsOnlyFor}
 use Rattle.lv_project.specs.Places.{cap_of}
 use Rattle.lv_project.specs.Stands.{Stands}
 use Rattle.lv_project.specs.States.{State}
@@ -33,11 +33,6 @@ use Rattle.lv_reports.specs.declared.refusal.Refusal.{Refusal}
 use Rattle.lv_reports.specs.declared.refusal.Refusal.TheVariants as of
 
 -- ---- A disk
-
--- the bytes stand for these maps, and for no others
-abbrev pub HasMaps : (List ℕ → Type 0) → MapsView → Type 0
-HasMaps reads maps =
-    (cap generation : ℕ) × Each reads (StandsOnlyFor cap (project_of maps) generation)
 
 -- a project that was opened: the one that the disk's bytes stand for; the disk was only read
 pub record IsOpenedFrom {D : Type 0} (facts : Ghosts D) (before : D)

@@ -9,11 +9,12 @@ ghost use Rattle.lv_reports.specs.Refusals.{RefusesFile};
 ghost use Rattle.lv_editor.specs.Recovery.{IsOnlyRead};
 ghost use Rattle.lv_program.specs.Sources.{IsBuiltFrom, OverMaps};
 
-use crate::over_disk::{HandedBack, not_opened, open_project};
+use crate::over_disk::{HandedBack, not_opened};
 use lv_disk::Disk;
 use lv_editor::{EditorError, WriteError, write_counts, write_wad};
 use lv_files::{Cause, Form, Hold, NewFile, open_new};
 use lv_maptables::Maps;
+use lv_project::read_maps;
 use lv_pwad::BuildCounts;
 use lv_reports::Refusal;
 use std::alloc::Global;
@@ -108,13 +109,12 @@ where
         (λ maps. IsBuiltFrom maps result.how (W.contents writer.old) (W.contents writer.new)) }
     ensures only_read { IsOnlyRead D.Disk disk result.disk }
 {
-    let project = match open_project(alloc, disk) {
-        Ok(project) => project,
-        Err(refused) => return not_opened(refused),
-    };
-    let how = build_at(alloc, rt, project.maps(), path, writer, why);
-    HandedBack {
-        how,
-        disk: project.into_disk(),
+    let mut maps = Maps::new(alloc);
+    match read_maps(alloc, disk, &mut maps) {
+        Ok(disk) => HandedBack {
+            how: build_at(alloc, rt, &maps, path, writer, why),
+            disk,
+        },
+        Err(refused) => not_opened(refused),
     }
 }

@@ -6,9 +6,11 @@ ghost use Rattle.lv_program.specs.Dumped.{OverWadTold};
 ghost use Rattle.lv_program.specs.Sources.{OverMaps};
 ghost use Rattle.lv_dumping.specs.LevelDumps.{IsWadDumped};
 
-use crate::over_disk::{HandedBack, not_opened, open_project};
+use crate::over_disk::{HandedBack, not_opened};
 use lv_disk::Disk;
 use lv_dumping::{tell_level_dumps, tell_lines_of};
+use lv_maptables::Maps;
+use lv_project::read_maps;
 use lv_reports::Refusal;
 use lv_views::{TURNS, read_whole};
 use std::alloc::Global;
@@ -30,14 +32,13 @@ pub fn dump<D: Disk, W: Write>(
         (W.contents writer.old) (W.contents writer.new)) }
     ensures only_read { IsOnlyRead D.Disk disk result.disk }
 {
-    let project = match open_project(alloc, disk) {
-        Ok(project) => project,
-        Err(refused) => return not_opened(refused),
-    };
-    let how = tell_lines_of(alloc, project.maps(), names, writer);
-    HandedBack {
-        how,
-        disk: project.into_disk(),
+    let mut maps = Maps::new(alloc);
+    match read_maps(alloc, disk, &mut maps) {
+        Ok(disk) => HandedBack {
+            how: tell_lines_of(alloc, &maps, names, writer),
+            disk,
+        },
+        Err(refused) => not_opened(refused),
     }
 }
 

@@ -7,9 +7,11 @@ ghost use Rattle.lv_editor.specs.Recovery.{IsOnlyRead};
 ghost use Rattle.lv_program.specs.Sources.{OverMaps};
 ghost use Rattle.lv_program.specs.Wads.{OverWad};
 
-use crate::over_disk::{HandedBack, not_opened, open_project};
+use crate::over_disk::{HandedBack, not_opened};
 use lv_disk::Disk;
 use lv_files::Cause;
+use lv_maptables::Maps;
+use lv_project::read_maps;
 use lv_reports::Refusal;
 use lv_views::{TURNS, read_whole, tell_beside, tell_levels_beside};
 use std::fs::Files;
@@ -35,14 +37,13 @@ pub fn lint<E: AllocGlobal + Files, D: Disk, W: Write>(
         result.how (W.contents writer.old) (W.contents writer.new)) }
     ensures only_read { IsOnlyRead D.Disk disk result.disk }
 {
-    let project = match open_project(rt.alloc(), disk) {
-        Ok(project) => project,
-        Err(refused) => return not_opened(refused),
-    };
-    let how = tell_beside(rt, project.maps(), name, iwad, writer, why);
-    HandedBack {
-        how,
-        disk: project.into_disk(),
+    let mut maps = Maps::new(rt.alloc());
+    match read_maps(rt.alloc(), disk, &mut maps) {
+        Ok(disk) => HandedBack {
+            how: tell_beside(rt, &maps, name, iwad, writer, why),
+            disk,
+        },
+        Err(refused) => not_opened(refused),
     }
 }
 

@@ -14,7 +14,8 @@ ghost use Rattle.lv_reports.specs.declared.refusal.Refusal.{Refusal};
 
 use lv_disk::Disk;
 use lv_editor::{EditorError, run};
-use lv_project::{Geometry, Project, Refused};
+use lv_maptables::Maps;
+use lv_project::{Geometry, Project, Refused, read_maps};
 use lv_reports::{DONE, Refusal, ended};
 use lv_views::{TURNS, tell_findings};
 use std::alloc::Global;
@@ -27,7 +28,8 @@ pub struct HandedBack<D> {
     pub disk: D,
 }
 
-/// The project that a disk's bytes stand for, or why there is none, and the disk, which is only read.
+/// The project that a disk's bytes stand for, or why there is none, and the disk, which is only read. A request that
+/// needs the maps alone reads them by `read_maps` into its own.
 pub fn open_project<D: Disk>(alloc: Global, disk: D) -> Result<Project<D>, Refused<D>>
     ensures opened { IfOk result (IsOpenedFrom D.Disk disk) }
     ensures refused { IfErr result (λ r. IsRefusedRead (D.reads disk) r.error
@@ -36,7 +38,7 @@ pub fn open_project<D: Disk>(alloc: Global, disk: D) -> Result<Project<D>, Refus
     Project::open(alloc, disk)
 }
 
-/// How a request ends whose project isn't opened, and the disk.
+/// How a request ends whose project can't be read, and the disk.
 pub fn not_opened<D: Disk>(refused: Refused<D>) -> HandedBack<D>
     ensures how { result.how ≡ Err (Refusal.Project refused.error) }
     ensures disk { result.disk ≡ refused.disk }
@@ -128,13 +130,12 @@ pub fn check<D: Disk, W: Write>(
         (W.contents writer.old) (W.contents writer.new)) }
     ensures only_read { IsOnlyRead D.Disk disk result.disk }
 {
-    let project = match open_project(alloc, disk) {
-        Ok(project) => project,
-        Err(refused) => return not_opened(refused),
-    };
-    let how = tell_findings(alloc, project.maps(), name, writer);
-    HandedBack {
-        how,
-        disk: project.into_disk(),
+    let mut maps = Maps::new(alloc);
+    match read_maps(alloc, disk, &mut maps) {
+        Ok(disk) => HandedBack {
+            how: tell_findings(alloc, &maps, name, writer),
+            disk,
+        },
+        Err(refused) => not_opened(refused),
     }
 }

@@ -6,9 +6,11 @@ ghost use Rattle.lv_program.specs.Sources.{OverMaps};
 ghost use Rattle.lv_program.specs.Wads.{OverWad};
 ghost use Rattle.lv_views.specs.LevelPicture.{IsLevelPicturedOf};
 
-use crate::over_disk::{HandedBack, not_opened, open_project};
+use crate::over_disk::{HandedBack, not_opened};
 use lv_disk::Disk;
 use lv_files::{Cause, Hold};
+use lv_maptables::Maps;
+use lv_project::read_maps;
 use lv_reports::Refusal;
 use lv_views::{TURNS, Wanted, draw, draw_level, read_whole};
 use std::alloc::Global;
@@ -36,14 +38,13 @@ where
         (W.contents writer.old) (W.contents writer.new)) }
     ensures only_read { IsOnlyRead D.Disk disk result.disk }
 {
-    let project = match open_project(alloc, disk) {
-        Ok(project) => project,
-        Err(refused) => return not_opened(refused),
-    };
-    let how = draw(alloc, rt, project.maps(), wanted, writer, why);
-    HandedBack {
-        how,
-        disk: project.into_disk(),
+    let mut maps = Maps::new(alloc);
+    match read_maps(alloc, disk, &mut maps) {
+        Ok(disk) => HandedBack {
+            how: draw(alloc, rt, &maps, wanted, writer, why),
+            disk,
+        },
+        Err(refused) => not_opened(refused),
     }
 }
 

@@ -1,3 +1,4 @@
+pub mod Alone
 pub mod Bodies
 pub mod Placing
 pub mod Turning

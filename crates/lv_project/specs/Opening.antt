@@ -8,7 +8,7 @@ use Rattle.lv_checkpoint.specs.Damage as damage
 use Rattle.lv_checkpoint.specs.Handles.{generation_of, slot_of, HasSomeSlots}
 use Rattle.lv_checkpoint.specs.declared.error.CheckpointError as slots
 use Rattle.lv_checkpoint.specs.declared.error.CheckpointError.TheVariants as slot
-use Rattle.lv_maptables.specs.Projects.{ProjectMaps, WellFormedProject}
+use Rattle.lv_maptables.specs.Projects.{MapsView, ProjectMaps, WellFormedProject, project_of}
 use Rattle.lv_maptables.specs.declared.error.MapError.{MapError}
 use Rattle.lv_maptables.specs.declared.error.MapError.TheVariants as map
 use Rattle.lv_maptables.specs.ProjectBody.{HasBody}
@@ -88,6 +88,11 @@ pub record StandsOnlyFor (cap : ℕ) (map : ProjectMaps) (generation : ℕ) (fil
   pub stands : Stands cap map generation file
   pub only : (c : ℕ) (other : ProjectMaps) (g : ℕ) → Stands c other g file → (c ≡ cap)
       × (other ≡ map) × (g ≡ generation)
+
+-- the bytes stand for these maps, and for no others
+abbrev pub HasMaps : (List ℕ → Type 0) → MapsView → Type 0
+HasMaps reads maps =
+    (cap generation : ℕ) × Each reads (StandsOnlyFor cap (project_of maps) generation)
 
 -- why no project is made: the geometry is outside the limits, the file isn't empty, or the device
 -- failed

@@ -9,10 +9,12 @@ mod law;
 mod opening;
 mod places;
 mod project;
+mod reading;
 mod sessions;
 
 pub use error::ProjectError;
 pub use geometry::Geometry;
 pub use law::{exclude_one_another, stand_for_one_map};
-pub use project::{Project, Refused};
+pub use project::Project;
+pub use reading::{Refused, read_maps};
 pub use sessions::{applies, checkpoints, creates, hold_each_acknowledged, opens};

@@ -12,11 +12,12 @@ use crate::ProjectError;
 use crate::change::turn;
 use crate::error::refusal_of;
 use crate::geometry::Geometry;
-use crate::opening::{read_project, write_new};
+use crate::opening::write_new;
 use crate::places::Places;
+use crate::reading::{Refused, read_through};
 use lv_checkpoint::{CheckpointError, Image, Slots};
 use lv_commands::{Ready, commit, parse, ready};
-use lv_disk::{Buffer, Disk, ReadAhead};
+use lv_disk::Disk;
 use lv_journal::{Journal, JournalError};
 use lv_maptables::{Map, Maps};
 use std::alloc::Global;
@@ -48,13 +49,6 @@ impl<D: Disk + Drop> Drop for Project<D> {
             must_reopen: _,
         } = self;
     }
-}
-
-/// Why no project could be opened or made on a disk, and the disk.
-#[derive(Drop)]
-pub struct Refused<D> {
-    pub error: ProjectError,
-    pub disk: D,
 }
 
 impl<D: Disk> Model for Project<D> {
@@ -183,16 +177,9 @@ impl<D: Disk> Project<D> {
         ensures count { IfErr result (λ r. r.error ≡ ProjectError.Device
             → Rose (D.failures disk) (D.failures r.disk)) }
     {
-        let Ok(buffer) = Buffer::new(alloc) else {
-            let error = ProjectError::OutOfMemory;
-            return Err(Refused { error, disk });
-        };
-        let mut ahead = ReadAhead::new(disk, buffer);
         let mut maps = Maps::new(alloc);
-        let read = read_project(alloc, &mut ahead, &mut maps);
-        let disk = ahead.into_inner();
-        match read {
-            Ok(opened) => Ok(Project {
+        match read_through(alloc, disk, &mut maps) {
+            Ok((opened, disk)) => Ok(Project {
                 alloc,
                 disk,
                 geometry: opened.geometry,
@@ -202,7 +189,7 @@ impl<D: Disk> Project<D> {
                 maps,
                 must_reopen: false,
             }),
-            Err(error) => Err(Refused { error, disk }),
+            Err(refused) => Err(refused),
         }
     }
 

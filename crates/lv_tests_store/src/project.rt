@@ -4,7 +4,8 @@ use crate::expect::same;
 use crate::small::{FILLS, SMALL, created, empty_disk, found, opened, vertices};
 use lv_commands::CommandError;
 use lv_disk::{DeviceFault, Disk, FaultDisk, Fill, MemoryDisk};
-use lv_project::{Geometry, Project, ProjectError};
+use lv_maptables::{Kind, Maps};
+use lv_project::{Geometry, Project, ProjectError, read_maps};
 use std::alloc::Global;
 use std::process::Abort;
 use std::test::Fail;
@@ -276,6 +277,29 @@ fn opens_beside_an_older_slot(rt: HostRuntime) -> Result<(), Fail> {
     let mut disk = disk_after(rt.alloc(), &[b"vertex 0 0"])?;
     disk.write_at(80, &[165])?;
     assert_eq!(rt; found(rt.alloc(), disk)?, (1, 1));
+    Ok(())
+}
+
+// How many vertices the map has that is read from a disk, or why none is; and how long the file then is.
+fn read_alone(alloc: Global, disk: MemoryDisk) -> Result<(Result<u32, ProjectError>, u64), Fail> {
+    let mut maps = Maps::new(alloc);
+    match read_maps(alloc, disk, &mut maps) {
+        Ok(mut disk) => Ok((Ok(maps.current().count(Kind::Vertex)), disk.len()?)),
+        Err(refused) => {
+            let mut disk = refused.disk;
+            Ok((Err(refused.error), disk.len()?))
+        }
+    }
+}
+
+#[test]
+fn reads_the_maps_alone(rt: HostRuntime) -> Result<(), Fail> {
+    let disk = disk_after(rt.alloc(), &[b"vertex 0 0"])?;
+    same(&rt, &read_alone(rt.alloc(), disk)?, &(Ok(1), 657));
+    let mut disk = empty_disk(rt.alloc())?;
+    disk.write_at(0, b"LVPJ")?;
+    let refused = Err(ProjectError::NotAProject);
+    same(&rt, &read_alone(rt.alloc(), disk)?, &(refused, 4));
     Ok(())
 }
 

@@ -1,29 +1,20 @@
-use Rattle.std.proofs.Common.{inl, inr, subst}
+use Rattle.std.proofs.Common.{inl, inr}
 use Rattle.std.proofs.KnownBytes.{Keeps-refl}
-use Rattle.lv_maptables.specs.Projects.{MapsView}
-use Rattle.std.specs.Prelude.{is_some, option_map}
-use Rattle.lv_views.specs.Linting.{IsLintedBy}
 use Rattle.lv_program.proofs.Sources.{no_status}
 use Rattle.lv_program.proofs.lint_request.lint.Goals as goal
 
-pub returns-in-Err-clause-small : goal.returns-in-Err-clause-small
-returns-in-Err-clause-small g c = no_status (g.D.Disk.reads c.args.disk) c.not_opened.result.how _ (c.in-Err.refused.error, c.not_opened.ensures.how, c.in-Err.ensures.refused.0)
-
-pub returns-in-Err-clause-linted : goal.returns-in-Err-clause-linted
-returns-in-Err-clause-linted g c = inl ((c.in-Err.refused.error, c.not_opened.ensures.how, c.in-Err.ensures.refused.0), Keeps-refl (g.W.Write.contents c.args.writer.now))
+pub returns-clause-small : goal.returns-clause-small
+returns-clause-small g c = no_status (g.D.Disk.reads c.args.disk) c.not_opened.result.how _ (c.in-Err.refused.error, c.not_opened.ensures.how, c.in-Err.ensures.refused)
 
 pub returns-clause-linted : goal.returns-clause-linted
-returns-clause-linted g c =
-    let first = c.in-Ok.project in
-    inr (
-      first.maps,
-      (first.cap, first.generation, c.in-Ok.ensures.opened.stands),
-      subst (λ (m : MapsView). IsLintedBy (is_some c.args.iwad) (option_map (λ s. s.now) c.args.name) m c.tell_beside-how.result (g.W.Write.contents c.args.writer.now) (g.W.Write.contents c.tell_beside-how.new.writer))
-          c.maps.ensures c.tell_beside-how.ensures.told,
-    )
+returns-clause-linted g c = inl ((c.in-Err.refused.error, c.not_opened.ensures.how, c.in-Err.ensures.refused), Keeps-refl (g.W.Write.contents c.args.writer.now))
 
-pub returns-in-Err-clause-only_read : goal.returns-in-Err-clause-only_read
-returns-in-Err-clause-only_read g c = rw c.not_opened.ensures.disk c.in-Err.ensures.refused.1
+pub returns-in-Ok-clause-linted : goal.returns-in-Ok-clause-linted
+returns-in-Ok-clause-linted g c = inr (c.read_maps.new.maps, c.in-Ok.ensures.read, c.tell_beside.ensures.told)
 
 pub returns-clause-only_read : goal.returns-clause-only_read
-returns-clause-only_read g c = rw c.into_disk.ensures.disk c.in-Ok.ensures.opened.only_read
+returns-clause-only_read g c =
+    rw c.not_opened.ensures.disk (record { no_other = c.in-Err.ensures.reads.0; still = c.in-Err.ensures.reads.1; any_moment = c.in-Err.ensures.any_moment })
+
+pub returns-in-Ok-clause-only_read : goal.returns-in-Ok-clause-only_read
+returns-in-Ok-clause-only_read g c = record { no_other = c.in-Ok.ensures.reads.0; still = c.in-Ok.ensures.reads.1; any_moment = c.in-Ok.ensures.any_moment }

@@ -1,30 +1,20 @@
-use Rattle.std.proofs.Common.{inl, inr, subst}
-use Rattle.std.specs.Prelude.{is_some, option_map}
+use Rattle.std.proofs.Common.{inl, inr}
 use Rattle.std.proofs.KnownBytes.{Keeps-refl}
-use Rattle.lv_maptables.specs.Projects.{MapsView}
-use Rattle.lv_views.specs.Picturing.{IsPicturedOf}
 use Rattle.lv_program.proofs.Sources.{no_status}
 use Rattle.lv_program.proofs.picture_request.picture.Goals as goal
 
-pub returns-in-Err-clause-small : goal.returns-in-Err-clause-small
-returns-in-Err-clause-small g c = no_status (g.D.Disk.reads c.args.disk) c.not_opened.result.how _ (c.in-Err.refused.error, c.not_opened.ensures.how, c.in-Err.ensures.refused.0)
-
-pub returns-in-Err-clause-pictured : goal.returns-in-Err-clause-pictured
-returns-in-Err-clause-pictured g c = inl ((c.in-Err.refused.error, c.not_opened.ensures.how, c.in-Err.ensures.refused.0), Keeps-refl (g.W.Write.contents c.args.writer.now))
+pub returns-clause-small : goal.returns-clause-small
+returns-clause-small g c = no_status (g.D.Disk.reads c.args.disk) c.not_opened.result.how _ (c.in-Err.refused.error, c.not_opened.ensures.how, c.in-Err.ensures.refused)
 
 pub returns-clause-pictured : goal.returns-clause-pictured
-returns-clause-pictured g c =
-    let first = c.in-Ok.project in
-    inr (
-      first.maps,
-      (first.cap, first.generation, c.in-Ok.ensures.opened.stands),
-      subst (λ (m : MapsView). IsPicturedOf c.args.wanted.layers (option_map (λ s. s.now) c.args.wanted.map) (is_some c.args.wanted.out) m
-          c.draw-how.result (g.W.Write.contents c.args.writer.now) (g.W.Write.contents c.draw-how.new.writer))
-          c.maps.ensures c.draw-how.ensures.drawn,
-    )
+returns-clause-pictured g c = inl ((c.in-Err.refused.error, c.not_opened.ensures.how, c.in-Err.ensures.refused), Keeps-refl (g.W.Write.contents c.args.writer.now))
 
-pub returns-in-Err-clause-only_read : goal.returns-in-Err-clause-only_read
-returns-in-Err-clause-only_read g c = rw c.not_opened.ensures.disk c.in-Err.ensures.refused.1
+pub returns-in-Ok-clause-pictured : goal.returns-in-Ok-clause-pictured
+returns-in-Ok-clause-pictured g c = inr (c.read_maps.new.maps, c.in-Ok.ensures.read, c.draw.ensures.drawn)
 
 pub returns-clause-only_read : goal.returns-clause-only_read
-returns-clause-only_read g c = rw c.into_disk.ensures.disk c.in-Ok.ensures.opened.only_read
+returns-clause-only_read g c =
+    rw c.not_opened.ensures.disk (record { no_other = c.in-Err.ensures.reads.0; still = c.in-Err.ensures.reads.1; any_moment = c.in-Err.ensures.any_moment })
+
+pub returns-in-Ok-clause-only_read : goal.returns-in-Ok-clause-only_read
+returns-in-Ok-clause-only_read g c = record { no_other = c.in-Ok.ensures.reads.0; still = c.in-Ok.ensures.reads.1; any_moment = c.in-Ok.ensures.any_moment }

@@ -4,19 +4,17 @@ use Rattle.lv_disk.specs.declared.area.Area.{Area}
 use Rattle.lv_journal.specs.Records.{EndsAt}
 use Rattle.lv_journal.specs.State.{JournalState}
 use Rattle.lv_maptables.specs.Projects.{project_of}
-use Rattle.lv_checkpoint.specs.Handles.{generation_of}
 use Rattle.lv_project.specs.Opening.{IsOpened}
-use Rattle.lv_project.specs.Places.{cap_of}
 use Rattle.lv_project.proofs.Openings.{stands_opened}
-use Rattle.lv_project.proofs.OneMap.{one_map}
+use Rattle.lv_project.proofs.Alone.{stands_alone}
 use Rattle.lv_project.proofs.project.Project.open.Goals as goal
 
 pub invariant_of-result : goal.invariant_of-result
 invariant_of-result g c =
-    let read = c.in-Ok-read.ensures in
-    let o = c.in-Ok-read.opened in
+    let read = c.in-Ok.ensures in
+    let o = c.in-Ok.opened in
     let area = ap (λ (j : JournalState). j.area) read.journal in
-    let now : Each (g.D.Disk.may_leave c.into_inner-disk.result) (IsOpened o (project_of c.read_project-read.new.maps)) = λ file left. read.opened file (read.only file (subst (λ d. g.D.Disk.may_leave d file) c.into_inner-disk.ensures left)) in
+    let now : Each (g.D.Disk.may_leave c.in-Ok.disk) (IsOpened o (project_of c.read_through.new.maps)) = λ file left. read.opened file (read.only file left) in
     record {
       framed = record {
         allowed = read.places.0;
@@ -36,21 +34,12 @@ invariant_of-result g c =
       };
     }
 
-pub returns-in-Ok-read-clause-kept : goal.returns-in-Ok-read-clause-kept
-returns-in-Ok-read-clause-kept g c = λ go file left.
-    let image = subst (λ d. g.D.Disk.may_leave d file) c.into_inner-disk.ensures left in
-    stands_opened c.in-Ok-read.opened (project_of c.read_project-read.new.maps) file c.in-Ok-read.ensures.areas.2 (c.in-Ok-read.ensures.opened file (c.in-Ok-read.ensures.only file image))
+pub returns-in-Ok-clause-kept : goal.returns-in-Ok-clause-kept
+returns-in-Ok-clause-kept g c = λ go file left.
+    stands_opened c.in-Ok.opened (project_of c.read_through.new.maps) file c.in-Ok.ensures.areas.2 (c.in-Ok.ensures.opened file (c.in-Ok.ensures.only file left))
 
-pub returns-in-Ok-read-clause-opened : goal.returns-in-Ok-read-clause-opened
-returns-in-Ok-read-clause-opened g c = (
+pub returns-in-Ok-clause-opened : goal.returns-in-Ok-clause-opened
+returns-in-Ok-clause-opened g c = (
   refl,
-  λ file read.
-      let was = subst (λ d. g.D.Disk.reads d file) c.into_inner-disk.ensures read in
-      let stands = stands_opened c.in-Ok-read.opened (project_of c.read_project-read.new.maps) file c.in-Ok-read.ensures.areas.2 (c.in-Ok-read.ensures.opened file was) in
-      record {
-        stands = stands;
-        only = λ limit other k is.
-            one_map limit (cap_of c.in-Ok-read.opened.geometry) other (project_of c.read_project-read.new.maps) k
-            (generation_of c.in-Ok-read.opened.slots) file is stands;
-      },
+  λ file read. stands_alone c.in-Ok.opened (project_of c.read_through.new.maps) file c.in-Ok.ensures.areas.2 (c.in-Ok.ensures.opened file read),
 )
