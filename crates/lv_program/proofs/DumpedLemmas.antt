@@ -9,7 +9,7 @@ use Rattle.lv_reports.specs.declared.refusal.Refusal.{Refusal}
 use Rattle.lv_reports.specs.declared.refusal.Refusal.TheVariants.{Build, Level, Lines, NoSuchMap, NotAMap, Project, TreeOutside}
 use Rattle.lv_dumping.specs.Dumping.{IsDumpedIn}
 use Rattle.lv_dumping.specs.LevelDumps.{IsWadDumped}
-use Rattle.lv_program.proofs.Sources.{of_opening}
+use Rattle.lv_program.proofs.Sources.{of_opening, unread_of}
 
 -- ---- A project
 
@@ -35,5 +35,5 @@ dumped names reads how u w (inr (maps, has, done)) = dumped_of names maps how u 
 
 pub dumped_of_wad : (names : List (List ℕ)) (exact : Bool) (r s u w d x : Option (List ℕ)) (how : Result ℕ Refusal)
     → OverWadTold r s how u w d x (λ wad. IsWadDumped wad names exact how u w d x) → IsDumpedAt names exact how u w d x
-dumped_of_wad names exact r s u w d x how (inl (unread, kept)) = inr (inl (unread, kept))
+dumped_of_wad names exact r s u w d x how (inl (unread, kept)) = inr (inl (unread_of r s u w how unread, kept))
 dumped_of_wad names exact r s u w d x how (inr (wad, all, done)) = inr (inr (wad, done))

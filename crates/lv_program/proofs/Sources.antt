@@ -18,7 +18,7 @@ use Rattle.lv_project.specs.declared.geometry.Geometry.{Geometry}
 use Rattle.lv_levels.specs.Graphics.{GraphicNames}
 use Rattle.lv_editor.specs.Recovery.{IsOnlyRead}
 use Rattle.lv_program.specs.Deeds.{IsBuiltInto, IsChecked, IsCheckedAt, IsCreated, IsEdited, IsExamined, IsLintedAt, IsPicturedAt}
-use Rattle.lv_program.specs.Drawing.{EndsUnopened, IsDrawnOntoSome}
+use Rattle.lv_program.specs.Drawing.{EndsUnopened, EndsUnread, IsDrawnOntoSome, IsRefusedFor, IsUnreadOf}
 use Rattle.lv_program.specs.DrawnOver.{IsDrawnOver}
 use Rattle.lv_program.specs.SomeProject.{IsLinted}
 use Rattle.lv_views.specs.Linting.{IsLintedBy, IsLintedIn}
@@ -230,9 +230,13 @@ examined_some name (Err TreeOutside) r s u w never = absurd never
 
 -- ---- A WAD
 
+-- a file tells no bytes, and so not how long it was
+pub unread_of : (r s u w : Option (List ℕ)) (how : Result ℕ Refusal) → IsRefusedFor (IsUnreadOf r s) how u w → EndsUnread how u w
+unread_of r s u w how (refusal, is, (e, es, ends, long), kept) = (refusal, is, (e, es, ends), kept)
+
 -- what was done with all that a reader gave was done with some bytes
 pub of_some_wad : (r s u w : Option (List ℕ)) (how : Result ℕ Refusal) (does : List ℕ → Type 0) → OverWad r s how u w does → OverSomeWad how u w does
-of_some_wad r s u w how does (inl unread) = inl unread
+of_some_wad r s u w how does (inl unread) = inl (unread_of r s u w how unread)
 of_some_wad r s u w how does (inr (wad, all, done)) = inr (wad, done)
 
 -- where a WAD is asked for beside it, or not, for the same reason, and the same map

@@ -19,6 +19,7 @@ use Rattle.lv_program.specs.LevelNames.{IsListed}
 use Rattle.lv_program.specs.SomeProject.{IsLinted}
 use Rattle.lv_program.specs.SomeProject.{IsPictured}
 use Rattle.lv_program.specs.Wads.{OverSomeWad}
+use Rattle.lv_views.specs.Reading.{turns}
 use Rattle.lv_views.specs.LevelLines.{IsWadChecked, IsWadLintedBy}
 use Rattle.lv_views.specs.LevelPicture.{IsLevelPicturedOf}
 use Rattle.lv_program.specs.Rebuilding.{IsRebuiltInto}
@@ -39,10 +40,6 @@ use Rattle.lv_reports.specs.declared.refusal.Refusal.TheVariants as of
 -- the length of the longest body of one map, in bytes: what the maps in memory have room for
 abbrev pub longest_body : ℕ
 longest_body = 2007002
-
--- how many reads a run of the program makes at most
-abbrev pub turns : ℕ
-turns = 1048576
 
 -- the lines of the input were answered over the empty project, and the answers written
 abbrev pub IsScratched : Result ℕ Refusal → Option (List ℕ) → Option (List ℕ) → Option (List ℕ)

@@ -17,6 +17,7 @@ use Rattle.lv_editor.specs.declared.error.EditorError.TheVariants.{OutOfMemory, 
 use Rattle.lv_reports.specs.Refusals.{EndsReading, IsOfOpening}
 use Rattle.lv_reports.specs.declared.refusal.Refusal.{Refusal}
 use Rattle.lv_reports.specs.declared.refusal.Refusal.TheVariants as of
+use Rattle.lv_views.specs.Reading.{IsTooLongAfter, turns}
 
 -- ---- Any canvas
 
@@ -77,10 +78,26 @@ IsInput false script reader-old reader-new =
 abbrev pub IsUnread : Refusal → Type 0
 IsUnread refusal = (e : EditorError) × (refusal ≡ of.Lines e) × EndsReading e
 
--- it isn't, and nothing was written
+-- the same where a reader should give it; one that ends within so many reads isn't too long
+abbrev pub IsUnreadOf : Option (List ℕ) → Option (List ℕ) → Refusal → Type 0
+IsUnreadOf reader-old reader-new refusal =
+    (e : EditorError) × (refusal ≡ of.Lines e) × EndsReading e
+    × IsTooLongAfter turns reader-old reader-new e
+
+-- the same where a file, which tells no bytes, or the input should give it
+abbrev pub IsUnreadInput : Bool → Option (List ℕ) → Option (List ℕ) → Refusal → Type 0
+IsUnreadInput true reader-old reader-new refusal = IsUnread refusal
+IsUnreadInput false reader-old reader-new refusal = IsUnreadOf reader-old reader-new refusal
+
+-- it was refused for such a cause, and nothing was written
+abbrev pub IsRefusedFor : (Refusal → Type 0) → Result ℕ Refusal → Option (List ℕ)
+    → Option (List ℕ) → Type 0
+IsRefusedFor cause how writer-old writer-new =
+    (refusal : Refusal) × (how ≡ Err refusal) × cause refusal × Keeps writer-old writer-new
+
+-- a script or a WAD isn't read to its end, and nothing was written
 abbrev pub EndsUnread : Result ℕ Refusal → Option (List ℕ) → Option (List ℕ) → Type 0
-EndsUnread how writer-old writer-new =
-    (refusal : Refusal) × (how ≡ Err refusal) × IsUnread refusal × Keeps writer-old writer-new
+EndsUnread how writer-old writer-new = IsRefusedFor IsUnread how writer-old writer-new
 
 -- no project was opened, and nothing was written
 abbrev pub EndsUnopened : Result ℕ Refusal → Option (List ℕ) → Option (List ℕ) → Type 0
@@ -99,7 +116,7 @@ IsDrawnOntoSome {D = D} facts verbose script how writer-old writer-new =
 abbrev pub IsDrawnInto : {D : Type 0} → Ghosts D → Bool → Bool → Result ℕ Refusal → Option (List ℕ)
     → Option (List ℕ) → Option (List ℕ) → Option (List ℕ) → Type 0
 IsDrawnInto facts from_file verbose how reader-old reader-new writer-old writer-new =
-    EndsUnread how writer-old writer-new
+    IsRefusedFor (IsUnreadInput from_file reader-old reader-new) how writer-old writer-new
     ⊎ ((script : List ℕ) × IsInput from_file script reader-old reader-new
     × (EndsUnopened how writer-old writer-new
     ⊎ IsDrawnOntoSome facts verbose script how writer-old writer-new))

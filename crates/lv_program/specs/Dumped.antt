@@ -1,7 +1,7 @@
 -- What the request `dump` writes and tells (docs/COMMANDS.md, "The program").
 use Rattle.std.specs.Prelude.{◌⊎◌, ℕ, Bool, Option, Result, List}
 use Rattle.std.specs.Io.KnownBytes.{Keeps}
-use Rattle.lv_program.specs.Drawing.{EndsUnread}
+use Rattle.lv_program.specs.Drawing.{EndsUnread, IsRefusedFor, IsUnreadOf}
 use Rattle.lv_program.specs.SomeProject.{IsDumped}
 use Rattle.lv_reports.specs.declared.refusal.Refusal.{Refusal}
 use Rattle.lv_dumping.specs.LevelDumps.{IsWadDumped}
@@ -12,7 +12,8 @@ use Rattle.lv_views.specs.Reading.{ReadsAll}
 abbrev pub OverWadTold : Option (List ℕ) → Option (List ℕ) → Result ℕ Refusal → Option (List ℕ)
     → Option (List ℕ) → Option (List ℕ) → Option (List ℕ) → (List ℕ → Type 0) → Type 0
 OverWadTold reader-old reader-new how writer-old writer-new errors-old errors-new does =
-    (EndsUnread how writer-old writer-new × Keeps errors-old errors-new)
+    (IsRefusedFor (IsUnreadOf reader-old reader-new) how writer-old writer-new
+    × Keeps errors-old errors-new)
     ⊎ ((wad : List ℕ) × ReadsAll reader-old reader-new wad × does wad)
 
 -- the maps of some project were dumped, and nothing told; or some WAD was not read to its end; or its

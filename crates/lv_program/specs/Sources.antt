@@ -16,8 +16,7 @@ use Rattle.lv_project.specs.declared.geometry.Geometry.{Geometry}
 use Rattle.lv_pwad.specs.Counted.{IsBuildCounted}
 use Rattle.lv_levels.specs.Listing.{listing_refusal}
 use Rattle.lv_editor.specs.Building.{built_text}
-use Rattle.lv_views.specs.Reading.{ReadsAll}
-use Rattle.lv_program.specs.Deeds.{turns}
+use Rattle.lv_views.specs.Reading.{ReadsAll, turns}
 use Rattle.lv_editor.specs.Editing.{RepliesInProject}
 use Rattle.lv_editor.specs.Inspections.{IsInspected, RefusesInspection}
 use Rattle.lv_editor.specs.Recovery.{IsOnlyRead}

@@ -1,7 +1,7 @@
 -- What was told and shown of a WAD that stands in place of a project (docs/COMMANDS.md, "The program").
 use Rattle.std.specs.Prelude.{◌⊎◌, ℕ, Bool, ◌||◌, List, Option, Result, codes}
 use Rattle.std.specs.Str.{bytes_eq}
-use Rattle.lv_program.specs.Drawing.{EndsUnread}
+use Rattle.lv_program.specs.Drawing.{EndsUnread, IsRefusedFor, IsUnreadOf}
 use Rattle.lv_reports.specs.declared.refusal.Refusal.{Refusal}
 use Rattle.lv_views.specs.Reading.{ReadsAll}
 
@@ -14,7 +14,7 @@ is_wad_head head = bytes_eq head (codes "IWAD") || bytes_eq head (codes "PWAD")
 abbrev pub OverWad : Option (List ℕ) → Option (List ℕ) → Result ℕ Refusal → Option (List ℕ)
     → Option (List ℕ) → (List ℕ → Type 0) → Type 0
 OverWad reader-old reader-new how writer-old writer-new does =
-    EndsUnread how writer-old writer-new
+    IsRefusedFor (IsUnreadOf reader-old reader-new) how writer-old writer-new
     ⊎ ((wad : List ℕ) × ReadsAll reader-old reader-new wad × does wad)
 
 -- the same with some bytes, since a file tells none

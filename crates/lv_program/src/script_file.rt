@@ -1,7 +1,7 @@
 //! Reads scripts from files or from the input, and tries one over the empty project.
-ghost use Rattle.std.specs.Prelude.{◌≡◌, ◌≤◌, false, Ok, IfErr, IfOk, is_some};
+ghost use Rattle.std.specs.Prelude.{◌≡◌, ◌≤◌, codes, false, Ok, IfErr, IfOk, is_some, MatchOption};
 ghost use Rattle.std.specs.Io.KnownBytes.{Keeps};
-ghost use Rattle.lv_program.specs.Drawing.{IsInput, IsScriptTried, IsUnread};
+ghost use Rattle.lv_program.specs.Drawing.{IsInput, IsScriptTried, IsUnread, IsUnreadInput, IsUnreadOf};
 
 use crate::draw_request::{Script, try_script};
 use lv_editor::EditorError;
@@ -16,7 +16,8 @@ use std::io::{Read, Write};
 fn read_all<R: Read>(alloc: Global, reader: &mut R) -> Result<Vec<u8>, Refusal>
     ensures whole { IfOk result (λ bytes. IsInput false bytes.items (R.remaining reader.old)
         (R.remaining reader.new)) }
-    ensures refused { IfErr result IsUnread }
+    ensures refused { IfErr result
+        (IsUnreadOf (R.remaining reader.old) (R.remaining reader.new)) }
 {
     match read_whole(alloc, reader, TURNS) {
         Ok(bytes) => Ok(bytes),
@@ -50,7 +51,8 @@ pub fn read_script<E: AllocGlobal + Files, R: Read>(
 ) -> Result<Vec<u8>, Refusal>
     ensures whole { IfOk result (λ bytes. IsInput (is_some path.entry) bytes.items
         (R.remaining reader.old) (R.remaining reader.new)) }
-    ensures refused { IfErr result IsUnread }
+    ensures refused { IfErr result (IsUnreadInput (is_some path.entry)
+        (R.remaining reader.old) (R.remaining reader.new)) }
 {
     match path {
         Some(path) => read_file(rt, path, why),
@@ -59,7 +61,9 @@ pub fn read_script<E: AllocGlobal + Files, R: Read>(
 }
 
 /// The name of a script in the report of a refused line: its path, or `-` for the input.
-pub fn script_name<'a>(path: Option<&'a str>) -> &'a str {
+pub fn script_name<'a>(path: Option<&'a str>) -> &'a str
+    ensures { MatchOption path.entry (result.now ≡ codes "-") (λ p. result.now ≡ p.now) }
+{
     match path {
         Some(path) => path,
         None => "-",

@@ -2,6 +2,7 @@
 ghost use Rattle.std.specs.Prelude.{◌≡◌, IfErr, IfOk};
 ghost use Rattle.std.specs.Io.KnownBytes.{Consumes, IsAtEnd};
 ghost use Rattle.lv_reports.specs.Refusals.{EndsReading};
+ghost use Rattle.lv_views.specs.Reading.{IsTooLongAfter};
 
 use lv_editor::EditorError;
 use std::alloc::Global;
@@ -17,6 +18,8 @@ pub fn read_whole<R: Read>(
         Consumes (R.remaining reader.old) (R.remaining reader.new) bytes.items
         × IsAtEnd (R.remaining reader.new)) }
     ensures refused { IfErr result EndsReading }
+    ensures long { IfErr result
+        (IsTooLongAfter turns (R.remaining reader.old) (R.remaining reader.new)) }
 {
     let mut bytes = Vec::new(alloc);
     let mut buffer = [0; 4096];
