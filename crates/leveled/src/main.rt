@@ -5,8 +5,8 @@ ghost use Rattle.std.specs.Prelude.{◌≤◌};
 
 use clap::Error;
 use clap::error::ErrorKind;
-use lv_program::perform;
-use lv_requests::{CODES, Request, RequestError, request};
+use cli_program::perform;
+use cli_words::{CODES, Request, RequestError, request};
 use std::env::{self, Env, FillError};
 use std::fs::{self, File};
 use std::io::{self, BufWriter, IsTerminal};

@@ -1,0 +1,10 @@
+-- Each of the names so far is a level's.
+use Rattle.std.specs.Prelude.{◌≡◌, drop, string_bytes}
+use Rattle.std.specs.List.{list_all}
+use Rattle.cli_dump.specs.Asked.{has_level_called}
+use Rattle.cli_dump.proofs.asked.have_levels.Given as goal
+
+abbrev pub invariant-loop-name : goal.invariant-loop-name
+invariant-loop-name l =
+    list_all (λ x. has_level_called l.wad l.levels (string_bytes x)) l.names
+    ≡ list_all (λ x. has_level_called l.wad l.levels (string_bytes x)) (drop l.name-index l.names)

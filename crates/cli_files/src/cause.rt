@@ -1,0 +1,83 @@
+//! Why a file can't be opened or made, and the line that says so.
+ghost use Rattle.std.specs.Prelude.{ℕ, List, OnOk};
+ghost use Rattle.std.specs.Io.KnownBytes.{Appends};
+ghost use Rattle.cli_files.specs.Causes.{Says, cause_line};
+
+use std::alloc::{AllocError, Global};
+use std::io::{self, Write};
+
+/// Why a file can't be opened or made.
+#[derive(Clone, Copy)]
+pub enum Cause {
+    /// The system refused it.
+    System(io::Error),
+    /// Another program has it open.
+    Held,
+    /// It is a folder, a pipe or a device.
+    NotRegular,
+    /// It is neither empty nor a PWAD.
+    NoPwad,
+    /// It is neither empty nor a picture of a map.
+    NoPicture,
+    /// There is no memory for its name.
+    OutOfMemory,
+}
+
+impl From<io::Error> for Cause {
+    fn from(error: io::Error) -> Cause {
+        Cause::System(error)
+    }
+}
+
+impl From<AllocError> for Cause {
+    fn from(_error: AllocError) -> Cause {
+        Cause::OutOfMemory
+    }
+}
+
+// The system's message, without the error number that std appends.
+fn without_number(told: &str) -> &str {
+    match told.split_once(" (os error ") {
+        Some((reason, _)) => reason,
+        None => told,
+    }
+}
+
+/// Writes why a path, or something else with a name, was refused, as `  NAME: REASON`.
+///
+/// # Errors
+///
+/// Those of the writer.
+pub fn write_reason<W: Write>(name: &str, reason: &str, writer: &mut W) -> io::Result<()>
+    ensures { OnOk result (Appends (W.contents writer.old) (W.contents writer.new)
+        (cause_line name.now reason.now)) }
+{
+    writeln!(writer, "  {name}: {reason}")
+}
+
+/// Writes why the file at the path can't be opened or made, as `  PATH: REASON`.
+///
+/// # Errors
+///
+/// Those of the writer, or lack of memory.
+pub fn write_cause<W: Write>(
+    alloc: Global,
+    path: &str,
+    cause: &Cause,
+    writer: &mut W,
+) -> io::Result<()>
+    ensures { OnOk result ((reason : List ℕ) × Says cause.now reason
+        × Appends (W.contents writer.old) (W.contents writer.new) (cause_line path.now reason)) }
+{
+    match cause {
+        Cause::System(error) => {
+            let told = format!(in alloc; "{error}")?;
+            write_reason(path, without_number(told.as_str()), writer)
+        }
+        Cause::Held => write_reason(path, "is open in another program", writer),
+        Cause::NotRegular => write_reason(path, "is no regular file", writer),
+        Cause::NoPwad => write_reason(path, "is no PWAD; it is left alone", writer),
+        Cause::NoPicture => write_reason(path, "is no picture of a map; it is left alone", writer),
+        Cause::OutOfMemory => write_reason(path, "finds no memory", writer),
+    }
+}

@@ -1,0 +1,173 @@
+-- What there is to say of the levels of a WAD, of one after another.
+use Rattle.std.proofs.Common.{◌≡◌, ◌∙◌, ◌+◌, ◌<◌, inl, inr, ℕ, List, [], ◌∷◌, ◌++◌, Option, Some, None, Result, Ok, Err}
+use Rattle.std.proofs.Common.{length, get_or, map, take, drop, refl, sym, ap, subst, arith, append_assoc, append-nil, length-append}
+use Rattle.std.specs.Prelude.{◌≢◌}
+use Rattle.std.specs.Io.KnownBytes.{Appends, Keeps}
+use Rattle.std.proofs.KnownBytes.{Appends-trans, Keeps-refl}
+use Rattle.std.proofs.lemmas.Grind.{flat_map-append}
+use Rattle.std.proofs.lemmas.List.{take-append-drop, take_more}
+use Rattle.map_dump.specs.Texts.{with_lf, text_of}
+use Rattle.lump_records.specs.Names.{name_text}
+use Rattle.lump_records.specs.declared.records.Name8.{Name8}
+use Rattle.wad_levels.specs.Graphics.{GraphicNames}
+use Rattle.wad_levels.specs.Listing.{entry_name}
+use Rattle.wad_levels.specs.declared.entries.LevelEntries.{LevelEntries}
+use Rattle.wad_import.specs.Refused.{RefusesLevelImport}
+use Rattle.wad_import.specs.declared.error.ImportError.{ImportError}
+use Rattle.wad_import.specs.declared.error.ImportError.TheVariants as import
+use Rattle.map_tables.specs.Tables.{Tables}
+use Rattle.run_edit.specs.Texts.{total_text}
+use Rattle.run_edit.specs.declared.error.EditorError.{EditorError}
+use Rattle.run_edit.specs.declared.error.EditorError.TheVariants.{OutOfMemory, InputTooLong, ReaderFailed, WriterFailed}
+use Rattle.cli_refusals.specs.Statuses.{status_after}
+use Rattle.cli_refusals.specs.declared.refusal.Refusal.{Refusal}
+use Rattle.cli_refusals.specs.declared.refusal.Refusal.TheVariants.{Build, Level, Lines, NoSuchMap, NotAMap, Project, TreeOutside}
+use Rattle.cli_print.specs.LevelLines.{AreLevelLines, AreLinesOf, IsMapRefusal, IsWadChecked, IsWadLintedOf, WritesLevel, level_map, map_refusal, no_map_text}
+use Rattle.cli_print.specs.Checking.{IsCheckedOf}
+use Rattle.cli_print.specs.Linting.{WritesRemarks, remarks}
+use Rattle.cli_print.specs.ShownNames.{shown}
+use Rattle.cli_print.specs.WantedLevels.{AreWanted, IsWanted}
+use Rattle.cli_print.proofs.Linting.{lines_stopped, none_written, total_told}
+
+-- ---- A level
+
+-- the line of a level that is no map
+abbrev pub no_map_line : Name8 → ImportError → List ℕ
+no_map_line name e = map shown (name_text name) ++ no_map_text e
+
+lines_by : (names : Option GraphicNames) (wad : List ℕ) (l : LevelEntries) (o : Option ImportError) → map_refusal wad l ≡ o → (lines : List (List ℕ)) × AreLevelLines names wad l lines
+lines_by names wad l None is = (remarks names (level_map wad l), inl (is, refl))
+lines_by names wad l (Some e) is = (no_map_line (entry_name wad l.marker) e ∷ [], inr (e, is, refl))
+
+-- of each level there is something to say, or it has no lines
+pub some_lines : (names : Option GraphicNames) (wad : List ℕ) (l : LevelEntries) → (lines : List (List ℕ)) × AreLevelLines names wad l lines
+some_lines names wad l = lines_by names wad l (map_refusal wad l) refl
+
+-- the line of a level that is no map was written
+pub line_written : (name : Name8) (e : ImportError) (before count : ℕ) (u w : Option (List ℕ)) → count ≡ before + 1 → Appends u w (with_lf (no_map_line name e))
+    → WritesRemarks (Ok count) before (no_map_line name e ∷ []) u w
+line_written name e before count u w is told = (is, subst (λ (t : List ℕ). Appends u w t) (sym (append-nil (with_lf (no_map_line name e)))) told)
+
+-- the map that a level is was told of
+pub map_told : (names : Option GraphicNames) (wad : List ℕ) (l : LevelEntries) (r : Result ℕ EditorError) (before : ℕ) (m : Tables) (u w : Option (List ℕ)) → map_refusal wad l ≡ None
+    → m ≡ level_map wad l → WritesRemarks r before (remarks names m) u w → WritesLevel names wad l r before u w
+map_told names wad l r before m u w none is told = (remarks names m, inl (none, ap (remarks names) is), told)
+
+-- the line of a level that is no map was told
+pub refusal_told : (names : Option GraphicNames) (wad : List ℕ) (l : LevelEntries) (r : Result ℕ EditorError) (before : ℕ) (name : Name8) (e : ImportError) (u w : Option (List ℕ)) → name ≡ entry_name wad l.marker
+    → RefusesLevelImport wad l (entry_name wad l.marker) e → e ≢ import.OutOfMemory → WritesRemarks r before (no_map_line name e ∷ []) u w → WritesLevel names wad l r before u w
+refusal_told names wad l r before name e u w is (inl lacks) some told = absurd (some lacks)
+refusal_told names wad l r before name e u w is (inr why) some told =
+    (no_map_line (entry_name wad l.marker) e ∷ [], inr (e, why, refl), subst (λ (n : Name8). WritesRemarks r before (no_map_line n e ∷ []) u w) is told)
+
+-- no memory was found for the map of a level
+pub level_lost : (names : Option GraphicNames) (wad : List ℕ) (l : LevelEntries) (before : ℕ) (u : Option (List ℕ)) → WritesLevel names wad l (Err OutOfMemory) before u u
+level_lost names wad l before u = let some = some_lines names wad l in (some.0, some.1, none_written OutOfMemory before some.0 u refl)
+
+-- ---- The levels
+
+all_lines : (names : Option GraphicNames) (wad : List ℕ) (ls : List LevelEntries) → (lines : List (List ℕ)) × AreLinesOf names wad ls lines
+all_lines names wad [] = ([], refl)
+all_lines names wad (l ∷ ls) =
+    let one = some_lines names wad l in
+    let rest = all_lines names wad ls in
+    (one.0 ++ rest.0, (one.0, rest.0, refl, one.1, rest.1))
+
+joined : (names : Option GraphicNames) (wad : List ℕ) (ls ks : List LevelEntries) (lines more : List (List ℕ)) → AreLinesOf names wad ls lines → AreLinesOf names wad ks more
+    → AreLinesOf names wad (ls ++ ks) (lines ++ more)
+joined names wad [] ks lines more none are = subst (λ (t : List (List ℕ)). AreLinesOf names wad ks (t ++ more)) (sym none) are
+joined names wad (l ∷ ls) ks lines more (first, rest, parted, told, are) also =
+    (first, rest ++ more, ap (λ (t : List (List ℕ)). t ++ more) parted ∙ append_assoc first rest more, told, joined names wad ls ks rest more are also)
+
+alone : (names : Option GraphicNames) (wad : List ℕ) (l : LevelEntries) (one : List (List ℕ)) → AreLevelLines names wad l one → AreLinesOf names wad (l ∷ []) one
+alone names wad l one told = (one, [], sym (append-nil one), told, refl)
+
+-- this has been said of levels, and counted
+abbrev pub HasSaidOf : Option GraphicNames → List ℕ → List LevelEntries → ℕ → Option (List ℕ) → Option (List ℕ) → Type 0
+HasSaidOf names wad ls count u w = (lines : List (List ℕ)) × AreLinesOf names wad ls lines × (count ≡ length lines) × Appends u w (text_of lines)
+
+pub levels_more : (names : Option GraphicNames) (wad : List ℕ) (ls : List LevelEntries) (n : ℕ) (d : LevelEntries) (before sum : ℕ) (u v w : Option (List ℕ)) → n < length ls
+    → HasSaidOf names wad (take n ls) before u v → WritesLevel names wad (get_or ls n d) (Ok sum) before v w → HasSaidOf names wad (take (n + 1) ls) sum u w
+levels_more names wad ls n d before sum u v w within (lines, are, count, said) (one, told, (more, line)) =
+    let l = get_or ls n d in (
+      lines ++ one,
+      subst (λ (ks : List LevelEntries). AreLinesOf names wad ks (lines ++ one)) (sym (take_more ls n d within))
+          (joined names wad (take n ls) (l ∷ []) lines one are (alone names wad l one told)),
+      omega (arith, count, more, length-append lines one),
+      subst (λ (t : List ℕ). Appends u w t) (sym (flat_map-append with_lf lines one)) (Appends-trans u v w (text_of lines) (text_of one) said line),
+    )
+
+stopped : (done one rest : List (List ℕ)) (before : ℕ) (e : EditorError) (u v w : Option (List ℕ)) → Appends u v (text_of done) → WritesRemarks (Err e) before one v w
+    → WritesRemarks (Err e) 0 ((done ++ one) ++ rest) u w
+stopped done one rest before WriterFailed u v w said told = tt
+stopped done one rest before InputTooLong u v w said told = absurd told
+stopped done one rest before ReaderFailed u v w said told = absurd told
+stopped done one rest before OutOfMemory u v w said told =
+    record {
+      front = done ++ told.front;
+      back = told.back ++ rest;
+      parted =
+          ap (λ (lines : List (List ℕ)). (done ++ lines) ++ rest) told.parted
+          ∙ ap (λ (lines : List (List ℕ)). lines ++ rest) (sym (append_assoc done told.front told.back))
+          ∙ append_assoc (done ++ told.front) told.back rest;
+      written =
+          subst (λ (t : List ℕ). Appends u w t) (sym (flat_map-append with_lf done told.front))
+          (Appends-trans u v w (text_of done) (text_of told.front) said told.written);
+    }
+
+pub levels_stopped : (names : Option GraphicNames) (wad : List ℕ) (ls : List LevelEntries) (n : ℕ) (d : LevelEntries) (before : ℕ) (e : EditorError) (u v w : Option (List ℕ)) → n < length ls
+    → HasSaidOf names wad (take n ls) before u v → WritesLevel names wad (get_or ls n d) (Err e) before v w
+    → (lines : List (List ℕ)) × AreLinesOf names wad ls lines × WritesRemarks (Err e) 0 lines u w
+levels_stopped names wad ls n d before e u v w within (lines, are, count, said) (one, told, lost) =
+    let l = get_or ls n d in
+    let rest = all_lines names wad (drop (n + 1) ls) in
+    let whole : (take n ls ++ l ∷ []) ++ drop (n + 1) ls ≡ ls =
+    ap (λ (ks : List LevelEntries). ks ++ drop (n + 1) ls) (sym (take_more ls n d within)) ∙ take-append-drop (n + 1) ls in (
+      (lines ++ one) ++ rest.0,
+      subst (λ (ks : List LevelEntries). AreLinesOf names wad ks ((lines ++ one) ++ rest.0)) whole
+          (joined names wad (take n ls ++ l ∷ []) (drop (n + 1) ls) (lines ++ one) rest.0
+          (joined names wad (take n ls) (l ∷ []) lines one are (alone names wad l one told)) rest.1),
+      stopped lines one rest.0 before e u v w said lost,
+    )
+
+-- ---- The request
+
+pub levels_told : (names : Option GraphicNames) (wad : List ℕ) (name : Option (List ℕ)) (ls : List LevelEntries) (count status : ℕ) (u v w x : Option (List ℕ)) → AreWanted wad name ls
+    → ((lines : List (List ℕ)) × AreLinesOf names wad ls lines × WritesRemarks (Ok count) 0 lines u v) → status ≡ status_after count → Appends v w (total_text count) → Keeps w x
+    → IsWadLintedOf names wad name (Ok status) u x
+levels_told names wad name ls count status u v w x wanted (lines, are, told) is total kept = (ls, lines, wanted, are, total_told lines count status u v w x is told total kept)
+
+pub levels_lost : (names : Option GraphicNames) (wad : List ℕ) (name : Option (List ℕ)) (ls : List LevelEntries) (e : EditorError) (u w : Option (List ℕ)) → AreWanted wad name ls
+    → ((lines : List (List ℕ)) × AreLinesOf names wad ls lines × WritesRemarks (Err e) 0 lines u w) → IsWadLintedOf names wad name (Err (Lines e)) u w
+levels_lost names wad name ls e u w wanted (lines, are, told) = (ls, lines, wanted, are, lines_stopped lines e u w told)
+
+-- the writer failed at the end of the lines
+pub end_lost : (names : Option GraphicNames) (wad : List ℕ) (name : Option (List ℕ)) (ls : List LevelEntries) (count : ℕ) (u v w : Option (List ℕ)) → AreWanted wad name ls
+    → ((lines : List (List ℕ)) × AreLinesOf names wad ls lines × WritesRemarks (Ok count) 0 lines u v) → IsWadLintedOf names wad name (Err (Lines WriterFailed)) u w
+end_lost names wad name ls count u v w wanted (lines, are, told) = (ls, lines, wanted, are, tt)
+
+-- ---- Findings
+
+pub level_checked : (wad : List ℕ) (name : Option (List ℕ)) (how : Result ℕ Refusal) (u w : Option (List ℕ)) (l : LevelEntries) (m : Tables) → IsWanted wad name l
+    → map_refusal wad l ≡ None → m ≡ level_map wad l → IsCheckedOf m how u w → IsWadChecked wad name how u w
+level_checked wad name (Ok status) u w l m wanted none is done = (l, wanted, none, subst (λ (t : Tables). IsCheckedOf t (Ok status) u w) is done)
+level_checked wad name (Err (Lines e)) u w l m wanted none is lost = lost
+level_checked wad name (Err (Project e)) u w l m wanted none is never = absurd never
+level_checked wad name (Err (Level e)) u w l m wanted none is never = absurd never
+level_checked wad name (Err (Build e)) u w l m wanted none is never = absurd never
+level_checked wad name (Err NoSuchMap) u w l m wanted none is never = absurd never
+level_checked wad name (Err (NotAMap e)) u w l m wanted none is never = absurd never
+level_checked wad name (Err TreeOutside) u w l m wanted none is never = absurd never
+
+-- the level that is wanted is no map
+pub check_refused : (wad : List ℕ) (name : Option (List ℕ)) (r : Refusal) (u : Option (List ℕ)) (l : LevelEntries) → IsWanted wad name l → IsMapRefusal wad l r → IsWadChecked wad name (Err r) u u
+check_refused wad name (Lines OutOfMemory) u l wanted is = Keeps-refl u
+check_refused wad name (NotAMap e) u l wanted is = (l, wanted, is, Keeps-refl u)
+check_refused wad name (Lines InputTooLong) u l wanted never = absurd never
+check_refused wad name (Lines ReaderFailed) u l wanted never = absurd never
+check_refused wad name (Lines WriterFailed) u l wanted never = absurd never
+check_refused wad name (Project e) u l wanted never = absurd never
+check_refused wad name (Level e) u l wanted never = absurd never
+check_refused wad name (Build e) u l wanted never = absurd never
+check_refused wad name NoSuchMap u l wanted never = absurd never
+check_refused wad name TreeOutside u l wanted never = absurd never

@@ -1,0 +1,19 @@
+-- What was read of a reader that tells its bytes.
+use Rattle.std.specs.Prelude.{◌≡◌, ◌≤◌, ℕ, Option, List, length}
+use Rattle.std.specs.Io.KnownBytes.{Consumes, IsAtEnd}
+use Rattle.run_edit.specs.declared.error.EditorError.{EditorError}
+use Rattle.run_edit.specs.declared.error.EditorError.TheVariants.{InputTooLong}
+
+-- how many reads a run of the program makes at most
+abbrev pub turns : ℕ
+turns = 1048576
+
+-- these are all bytes that the reader gave
+abbrev pub ReadsAll : Option (List ℕ) → Option (List ℕ) → List ℕ → Type 0
+ReadsAll reader-old reader-new bytes = Consumes reader-old reader-new bytes × IsAtEnd reader-new
+
+-- too long an input ends a reading of so many reads only after at least as many bytes
+abbrev pub IsTooLongAfter : ℕ → Option (List ℕ) → Option (List ℕ) → EditorError → Type 0
+IsTooLongAfter reads reader-old reader-new e =
+    e ≡ InputTooLong
+    → (bytes : List ℕ) × Consumes reader-old reader-new bytes × (reads ≤ length bytes)

@@ -1,0 +1,194 @@
+//! What `picture` draws: a map as SVG.
+ghost use Rattle.std.specs.Prelude.{◌≡◌, ◌≤◌, None, Some, IfErr, IfOk, MatchOption, find, is_some, option_map};
+ghost use Rattle.std.specs.Io.KnownBytes.{Appends};
+ghost use Rattle.map_tables.specs.Projects.{project_of};
+ghost use Rattle.map_picture.specs.Picture.{picture_of};
+ghost use Rattle.cli_print.specs.Picturing.{IsDrawn, IsPicturedOf, drawn_map, is_called};
+ghost use Rattle.run_edit.specs.declared.error.EditorError.TheVariants.{OutOfMemory, WriterFailed};
+ghost use Rattle.cli_refusals.specs.declared.refusal.Refusal.{Refusal};
+
+use crate::laid_over::{Layers, laid_over};
+use cli_files::{Cause, Form, Hold, open_new};
+use cli_refusals::{DONE, Refusal};
+use map_picture::{PictureOptions, write_picture};
+use map_svg::Overlay;
+use map_tables::{Map, Maps};
+use run_edit::EditorError;
+use std::alloc::Global;
+use std::fs::Files;
+use std::io::Write;
+
+/// Which map is drawn (the current one if no name is given), what is shown over it, and the file that it goes into (the
+/// output if none is given).
+#[derive(Clone, Copy)]
+pub struct Wanted<'a> {
+    pub map: Option<&'a str>,
+    pub layers: Layers,
+    pub out: Option<&'a str>,
+}
+
+// Whether the map has the name.
+fn is_called(map: &Map, name: &[u8]) -> bool
+    ensures { result ≡ is_called name.now map.now.tables }
+{
+    let own = map.name();
+    own.text() == name
+}
+
+/// The first map with the name.
+pub fn map_called<'a>(maps: &'a Maps, name: &[u8]) -> Option<&'a Map>
+    ensures { MatchOption result (find (is_called name.now) (project_of maps.now).maps ≡ None)
+        (λ m. find (is_called name.now) (project_of maps.now).maps ≡ Some m.now.tables) }
+{
+    for n in 0..maps.len() {
+        if let Some(map) = maps.at(n) {
+            if is_called(map, name) {
+                return Some(map);
+            }
+        }
+    }
+    None
+}
+
+// The map that is drawn.
+fn drawn_map<'a>(maps: &'a Maps, name: Option<&str>) -> Option<&'a Map>
+    ensures { let wanted = option_map (λ s. s.now) name.entry in
+        MatchOption result (drawn_map wanted (project_of maps.now) ≡ None)
+        (λ m. drawn_map wanted (project_of maps.now) ≡ Some m.now.tables) }
+{
+    match name {
+        Some(name) => map_called(maps, name.as_bytes()),
+        None => Some(maps.current()),
+    }
+}
+
+// The picture of a map, and what is laid over it.
+fn picture_of(
+    alloc: Global,
+    map: &Map,
+    options: PictureOptions,
+    overlay: &Overlay,
+) -> Result<Vec<u8>, Refusal>
+    ensures drawn { IfOk result (λ bytes.
+        bytes.items ≡ picture_of options map.now.tables overlay.now) }
+    ensures refused { IfErr result (λ r. r ≡ Refusal.Lines OutOfMemory) }
+{
+    let mut picture = Vec::new(alloc);
+    match write_picture(map, options, overlay, &mut picture) {
+        Ok(()) => Ok(picture),
+        Err(_) => Err(Refusal::Lines(EditorError::OutOfMemory)),
+    }
+}
+
+// Writes a picture into a new file, which replaces the one at its path once it is whole; or notes why it doesn't.
+fn put_picture<E: Files>(
+    alloc: Global,
+    rt: &E,
+    path: &str,
+    picture: &[u8],
+    why: &mut Option<Cause>,
+) -> Result<u8, Refusal>
+where
+    E::File: Hold,
+    ensures done { IfOk result (λ status. status ≡ 0) }
+    ensures failed { IfErr result (λ r. r ≡ Refusal.Lines WriterFailed) }
+{
+    let mut new = match open_new(alloc, rt, path, Form::Picture) {
+        Ok(new) => new,
+        Err(cause) => {
+            *why = Some(cause);
+            return Err(Refusal::Lines(EditorError::WriterFailed));
+        }
+    };
+    let put = match new.write_all(picture) {
+        Ok(()) => new.put(rt),
+        Err(error) => {
+            new.take_away(rt);
+            Err(Cause::System(error))
+        }
+    };
+    match put {
+        Ok(()) => Ok(DONE),
+        Err(cause) => {
+            *why = Some(cause);
+            Err(Refusal::Lines(EditorError::WriterFailed))
+        }
+    }
+}
+
+// Writes the picture of a map, and flushes the writer.
+fn show<W: Write>(
+    map: &Map,
+    options: PictureOptions,
+    overlay: &Overlay,
+    writer: &mut W,
+) -> Result<u8, Refusal>
+    ensures shown { IfOk result (λ status. (status ≡ 0)
+        × Appends (W.contents writer.old) (W.contents writer.new)
+        (picture_of options map.now.tables overlay.now)) }
+    ensures failed { IfErr result (λ r. r ≡ Refusal.Lines WriterFailed) }
+{
+    let written = match write_picture(map, options, overlay, writer) {
+        Ok(()) => writer.flush().is_ok(),
+        Err(_) => false,
+    };
+    if written {
+        Ok(DONE)
+    } else {
+        Err(Refusal::Lines(EditorError::WriterFailed))
+    }
+}
+
+/// Draws a map, with what is laid over it, onto the output, or into a file.
+pub(crate) fn draw_laid<E: Files, W: Write>(
+    alloc: Global,
+    rt: &E,
+    map: &Map,
+    overlay: &Overlay,
+    wanted: Wanted<'_>,
+    writer: &mut W,
+    why: &mut Option<Cause>,
+) -> Result<u8, Refusal>
+where
+    E::File: Hold,
+    ensures small { IfOk result (λ s. s ≤ 3) }
+    ensures drawn { IsDrawn wanted.entry.layers map.now.tables overlay.now
+        (is_some wanted.entry.out) result (W.contents writer.old) (W.contents writer.new) }
+{
+    let options = PictureOptions {
+        numbers: wanted.layers.numbers,
+    };
+    match wanted.out {
+        None => show(map, options, overlay, writer),
+        Some(path) => match picture_of(alloc, map, options, overlay) {
+            Ok(picture) => put_picture(alloc, rt, path, &picture, why),
+            Err(refusal) => Err(refusal),
+        },
+    }
+}
+
+/// Draws the wanted map onto the output or into the wanted file, or notes why the file can't be made. The file is whole
+/// or as it was; it may be new, empty or a picture of a map.
+pub fn draw<E: Files, W: Write>(
+    alloc: Global,
+    rt: &E,
+    maps: &Maps,
+    wanted: Wanted<'_>,
+    writer: &mut W,
+    why: &mut Option<Cause>,
+) -> Result<u8, Refusal>
+where
+    E::File: Hold,
+    ensures small { IfOk result (λ s. s ≤ 3) }
+    ensures drawn { IsPicturedOf wanted.entry.layers (option_map (λ s. s.now) wanted.entry.map)
+        (is_some wanted.entry.out) maps.now result
+        (W.contents writer.old) (W.contents writer.new) }
+{
+    let Some(map) = drawn_map(maps, wanted.map) else {
+        return Err(Refusal::NoSuchMap);
+    };
+    match laid_over(alloc, map, wanted.layers) {
+        Ok(overlay) => draw_laid(alloc, rt, map, &overlay, wanted, writer, why),
+        Err(refusal) => Err(refusal),
+    }
+}

@@ -1,0 +1,286 @@
+//! What `lint` writes: the findings and warnings of each map; with a WAD also the flats and textures that it lacks.
+ghost use Rattle.std.specs.Prelude.{◌≡◌, ◌≤◌, ◌+◌, ◌++◌, List, ℕ, IfErr, IfOk, MatchResult, Some, flat_map, is_some, length, option_map, slice_get};
+ghost use Rattle.std.specs.Option.{option_copied};
+ghost use Rattle.std.specs.Io.KnownBytes.{Appends};
+ghost use Rattle.map_checks.specs.Texts.{finding_text};
+ghost use Rattle.map_dump.specs.Texts.{with_lf};
+ghost use Rattle.wad_levels.specs.Graphics.{graphics_view};
+ghost use Rattle.map_lint.specs.Rules.{warnings};
+ghost use Rattle.map_lint.specs.Texts.{warning_text};
+ghost use Rattle.map_tables.specs.Projects.{project_of};
+ghost use Rattle.map_tables.specs.Tables.{Tables};
+ghost use Rattle.cli_print.specs.Linting.{AreTold, IsLintedBy, IsLintedIn, IsLintedOf, WritesRemarks, behind, lint_of, remarks, warned_by};
+ghost use Rattle.run_edit.specs.declared.error.EditorError.TheVariants.{OutOfMemory, WriterFailed};
+
+use crate::pictures::map_called;
+use crate::wad_graphics::graphics_given;
+use cli_files::Cause;
+use cli_refusals::{Refusal, status_after};
+use map_checks::{Finding, check};
+use map_lint::{Warning, lint_graphics};
+use map_tables::{Map, Maps};
+use run_edit::{EditorError, write_total};
+use std::alloc::Global;
+use std::fmt::Display;
+use std::fs::Files;
+use std::io::Write;
+use wad_levels::Graphics;
+
+// Writes a line: the name, a space and the remark.
+fn write_remark<T: Display, W: Write>(
+    name: &[u8],
+    remark: &T,
+    writer: &mut W,
+) -> Result<(), EditorError>
+    ensures { (text : List ℕ) → T.output remark.now ≡ Some text → MatchResult result
+        (λ _. Appends (W.contents writer.old) (W.contents writer.new)
+        (with_lf (behind name.now text)))
+        (λ e. e ≡ WriterFailed) }
+{
+    match writer.write_all(name) {
+        Ok(()) => {}
+        Err(_) => return Err(EditorError::WriterFailed),
+    }
+    match write!(writer, " {remark}\n") {
+        Ok(()) => Ok(()),
+        Err(_) => Err(EditorError::WriterFailed),
+    }
+}
+
+// Writes a line for each remark.
+fn write_each<T: Display, W: Write>(
+    name: &[u8],
+    found: &[T],
+    writer: &mut W,
+) -> Result<(), EditorError>
+    ensures { (text : T → List ℕ) → ((t : T) → T.output t ≡ Some (text t)) → MatchResult result
+        (λ _. Appends (W.contents writer.old) (W.contents writer.new)
+        (flat_map (λ t. with_lf (behind name.now (text t))) found.now))
+        (λ e. e ≡ WriterFailed) }
+{
+    for remark in found {
+        match write_remark(name, remark, writer) {
+            Ok(()) => {}
+            Err(error) => return Err(error),
+        }
+    }
+    Ok(())
+}
+
+/// The sum, if it fits 32 bits. No memory holds more findings than that.
+pub(crate) fn plus(count: u32, more: usize) -> Result<u32, EditorError>
+    ensures sum { IfOk result (λ n. n ≡ count + more) }
+    ensures memory { IfErr result (λ e. e ≡ OutOfMemory) }
+{
+    let Ok(more) = u32::try_from(more) else {
+        return Err(EditorError::OutOfMemory);
+    };
+    match count.checked_add(more) {
+        Some(sum) => Ok(sum),
+        None => Err(EditorError::OutOfMemory),
+    }
+}
+
+// Writes a line for each finding, and then for each warning.
+fn write_both<W: Write>(
+    name: &[u8],
+    found: &[Finding],
+    warned: &[Warning],
+    writer: &mut W,
+) -> Result<(), EditorError>
+    ensures { MatchResult result
+        (λ _. Appends (W.contents writer.old) (W.contents writer.new)
+        (flat_map (λ f. with_lf (behind name.now (finding_text f))) found.now
+        ++ flat_map (λ w. with_lf (behind name.now (warning_text w))) warned.now))
+        (λ e. e ≡ WriterFailed) }
+{
+    match write_each(name, found, writer) {
+        Ok(()) => write_each(name, warned, writer),
+        Err(error) => Err(error),
+    }
+}
+
+// The warnings of a map's flats and textures, if a WAD's names are given.
+fn warned_by(
+    alloc: Global,
+    map: &Map,
+    names: Option<&Graphics>,
+) -> Result<Vec<Warning>, EditorError>
+    ensures found { IfOk result (λ found. found.items
+        ≡ warned_by (option_map graphics_view (option_copied names.entry)) map.now.tables) }
+    ensures memory { IfErr result (λ e. e ≡ OutOfMemory) }
+{
+    let Some(names) = names else {
+        return Ok(Vec::new(alloc));
+    };
+    match lint_graphics(alloc, map, &names.flats, &names.textures) {
+        Ok(found) => Ok(found),
+        Err(_) => Err(EditorError::OutOfMemory),
+    }
+}
+
+// The warnings of a map, then those of its flats and textures.
+fn warnings_of(
+    alloc: Global,
+    map: &Map,
+    names: Option<&Graphics>,
+) -> Result<Vec<Warning>, EditorError>
+    ensures found { IfOk result (λ found. found.items ≡ warnings map.now.tables
+        ++ warned_by (option_map graphics_view (option_copied names.entry)) map.now.tables) }
+    ensures memory { IfErr result (λ e. e ≡ OutOfMemory) }
+{
+    let Ok(mut warned) = map_lint::lint(alloc, map) else {
+        return Err(EditorError::OutOfMemory);
+    };
+    let mut more = warned_by(alloc, map, names)?;
+    match warned.append(&mut more) {
+        Ok(()) => Ok(warned),
+        Err(_) => Err(EditorError::OutOfMemory),
+    }
+}
+
+/// Writes the lines about a map, and adds their number to the count.
+pub(crate) fn write_map<W: Write>(
+    alloc: Global,
+    map: &Map,
+    names: Option<&Graphics>,
+    before: u32,
+    writer: &mut W,
+) -> Result<u32, EditorError>
+    ensures { WritesRemarks result before
+        (remarks (option_map graphics_view (option_copied names.entry)) map.now.tables)
+        (W.contents writer.old) (W.contents writer.new) }
+{
+    let Ok(found) = check(alloc, map) else {
+        return Err(EditorError::OutOfMemory);
+    };
+    let warned = warnings_of(alloc, map, names)?;
+    let with_findings = plus(before, found.len())?;
+    let count = plus(with_findings, warned.len())?;
+    let name = map.name();
+    match write_both(name.text(), &found, &warned, writer) {
+        Ok(()) => Ok(count),
+        Err(error) => Err(error),
+    }
+}
+
+// Writes the lines about the map with the number, if there is one.
+fn write_nth<W: Write>(
+    alloc: Global,
+    maps: &Maps,
+    names: Option<&Graphics>,
+    n: u32,
+    before: u32,
+    writer: &mut W,
+) -> Result<u32, EditorError>
+    ensures { (m : Tables) → slice_get (project_of maps.now).maps n ≡ Some m
+        → WritesRemarks result before
+        (remarks (option_map graphics_view (option_copied names.entry)) m)
+        (W.contents writer.old) (W.contents writer.new) }
+{
+    match maps.at(n) {
+        Some(map) => write_map(alloc, map, names, before, writer),
+        None => Ok(before),
+    }
+}
+
+// Writes the lines about each map, and counts them.
+fn write_maps<W: Write>(
+    alloc: Global,
+    maps: &Maps,
+    names: Option<&Graphics>,
+    writer: &mut W,
+) -> Result<u32, EditorError>
+    ensures { WritesRemarks result 0
+        (lint_of (option_map graphics_view (option_copied names.entry)) (project_of maps.now).maps)
+        (W.contents writer.old) (W.contents writer.new) }
+{
+    let mut count = 0;
+    for n in 0..maps.len() {
+        match write_nth(alloc, maps, names, n, count, writer) {
+            Ok(sum) => count = sum,
+            Err(error) => return Err(error),
+        }
+    }
+    Ok(count)
+}
+
+// Writes the lines about the maps, then their number, and flushes the writer.
+fn tell_remarks<W: Write>(
+    alloc: Global,
+    maps: &Maps,
+    names: Option<&Graphics>,
+    writer: &mut W,
+) -> Result<u8, Refusal>
+    ensures small { IfOk result (λ s. s ≤ 3) }
+    ensures told { IsLintedOf (option_map graphics_view (option_copied names.entry)) maps.now result
+        (W.contents writer.old) (W.contents writer.new) }
+{
+    let count = write_maps(alloc, maps, names, writer)?;
+    write_total(count, writer)?;
+    match writer.flush() {
+        Ok(()) => Ok(status_after(count)),
+        Err(_) => Err(Refusal::Lines(EditorError::WriterFailed)),
+    }
+}
+
+// Writes the lines about a map, then their number, and flushes the writer.
+fn tell_map<W: Write>(
+    alloc: Global,
+    map: &Map,
+    names: Option<&Graphics>,
+    writer: &mut W,
+) -> Result<u8, Refusal>
+    ensures small { IfOk result (λ s. s ≤ 3) }
+    ensures told { AreTold
+        (remarks (option_map graphics_view (option_copied names.entry)) map.now.tables) result
+        (W.contents writer.old) (W.contents writer.new) }
+{
+    let count = write_map(alloc, map, names, 0, writer)?;
+    write_total(count, writer)?;
+    match writer.flush() {
+        Ok(()) => Ok(status_after(count)),
+        Err(_) => Err(Refusal::Lines(EditorError::WriterFailed)),
+    }
+}
+
+// Writes the lines about the map with the name, or about all maps.
+fn tell_wanted<W: Write>(
+    alloc: Global,
+    maps: &Maps,
+    name: Option<&str>,
+    names: Option<&Graphics>,
+    writer: &mut W,
+) -> Result<u8, Refusal>
+    ensures small { IfOk result (λ s. s ≤ 3) }
+    ensures told { IsLintedIn (option_map (λ s. s.now) name.entry)
+        (option_map graphics_view (option_copied names.entry)) maps.now result
+        (W.contents writer.old) (W.contents writer.new) }
+{
+    let Some(name) = name else {
+        return tell_remarks(alloc, maps, names, writer);
+    };
+    match map_called(maps, name.as_bytes()) {
+        Some(map) => tell_map(alloc, map, names, writer),
+        None => Err(Refusal::NoSuchMap),
+    }
+}
+
+/// Writes about the maps by number, or about the one with the name alone: the findings of `check`, then the warnings of
+/// `map_lint`, then, if a WAD is given, those of the flats and textures that it lacks. Each line begins with the map's
+/// name; the number of these lines comes last. Or notes why the WAD can't be opened.
+pub fn tell_beside<E: AllocGlobal + Files, W: Write>(
+    rt: &E,
+    maps: &Maps,
+    name: Option<&str>,
+    iwad: Option<&str>,
+    writer: &mut W,
+    why: &mut Option<Cause>,
+) -> Result<u8, Refusal>
+    ensures small { IfOk result (λ s. s ≤ 3) }
+    ensures told { IsLintedBy (is_some iwad.entry) (option_map (λ s. s.now) name.entry) maps.now
+        result (W.contents writer.old) (W.contents writer.new) }
+{
+    let names = graphics_given(rt, iwad, why)?;
+    tell_wanted(rt.alloc(), maps, name, names.as_ref(), writer)
+}

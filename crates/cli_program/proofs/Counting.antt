@@ -1,0 +1,29 @@
+-- From the counts that are told to what the request `build` promises.
+use Rattle.std.proofs.Common.{◌≡◌, ℕ, List, Option, Result, Ok, Err, refl, sym, subst}
+use Rattle.std.specs.Prelude.{MatchResult}
+use Rattle.std.specs.Io.KnownBytes.{Appends}
+use Rattle.std.proofs.KnownBytes.{Keeps-refl}
+use Rattle.map_tables.specs.Projects.{MapsView, project_of}
+use Rattle.wad_build.specs.Counted.{IsBuildCounted}
+use Rattle.wad_build.specs.declared.counted.BuildCounts.{BuildCounts}
+use Rattle.run_edit.specs.Building.{built_text}
+use Rattle.cli_refusals.specs.Refusals.{RefusesFile}
+use Rattle.cli_program.specs.Sources.{IsBuiltFrom}
+use Rattle.run_edit.specs.declared.error.EditorError.TheVariants.{WriterFailed}
+use Rattle.cli_refusals.specs.declared.refusal.Refusal.{Refusal}
+use Rattle.cli_refusals.specs.declared.refusal.Refusal.TheVariants.{Build, Level, Lines, NoSuchMap, NotAMap, Project, TreeOutside}
+
+pub built_told : (r : Result ℕ Refusal) (maps : MapsView) (wad : List ℕ) (c : BuildCounts) (u w : Option (List ℕ)) → IsBuildCounted (project_of maps).maps wad c
+    → MatchResult r (λ status. (status ≡ 0) × Appends u w (built_text c)) (λ refusal. refusal ≡ Lines WriterFailed) → IsBuiltFrom maps r u w
+built_told (Ok status) maps wad c u w is (done, told) = (wad, c, done, is, told)
+built_told (Err refusal) maps wad c u w is same = subst (λ (why : Refusal). IsBuiltFrom maps (Err why) u w) (sym same) refl
+
+-- no PWAD of these maps was made in the file, and nothing told
+pub file_refused : (maps : MapsView) (r : Refusal) (u : Option (List ℕ)) → RefusesFile (project_of maps).maps r → IsBuiltFrom maps (Err r) u u
+file_refused maps (Build e) u is = (is, Keeps-refl u)
+file_refused maps (Lines e) u is = absurd is
+file_refused maps (Project e) u is = absurd is
+file_refused maps (Level e) u is = absurd is
+file_refused maps NoSuchMap u is = absurd is
+file_refused maps (NotAMap e) u is = absurd is
+file_refused maps TreeOutside u is = absurd is

@@ -1,0 +1,52 @@
+-- Requests about scripts, and how loud each request is.
+use Rattle.std.proofs.Common.{◌≡◌, ℕ, Bool, List, Option, None, Some, Result, Ok, Err, inl, inr, refl, ap, arith, subst}
+use Rattle.cli_words.specs.declared.asked.Request.{Request}
+use Rattle.cli_words.specs.declared.asked.Request.TheVariants.{Scratch, Create, Edit, Check, Lint, Draw, TryScript, Dump, Salvage, Picture, Inspect, Levels, Build, Rebuild}
+use Rattle.cli_refusals.specs.Statuses.{status_in}
+use Rattle.cli_refusals.specs.declared.refusal.Refusal.{Refusal}
+use Rattle.run_script.specs.declared.drawing.Stop.{Stop}
+use Rattle.run_script.specs.declared.error.ScriptError.{ScriptError}
+use Rattle.run_script.specs.declared.error.ScriptError.TheVariants as cut
+use Rattle.cli_program.specs.Kinds.{IsQuiet}
+use Rattle.store_disk.specs.declared.disk.Disk.{Ghosts}
+use Rattle.cli_program.specs.Drawing.{IsDrawnInto, IsHandedOn}
+
+-- what was refused is loud
+pub loud : (r : Request) → IsQuiet r 1 → ⊥
+loud Scratch quiet = quiet refl
+loud (Create file slot journal) quiet = quiet refl
+loud (Edit file) quiet = quiet refl
+loud (Check file map) quiet = quiet refl
+loud (Lint file map iwad) quiet = quiet refl
+loud (Draw file script verbose) quiet = cc
+loud (TryScript script verbose) quiet = cc
+loud (Dump file names exact) quiet = quiet
+loud (Salvage file) quiet = quiet
+loud (Picture file map out numbers nodes lint) quiet = quiet refl
+loud (Inspect wad name) quiet = quiet refl
+loud (Levels wad) quiet = quiet refl
+loud (Build file out) quiet = quiet refl
+loud (Rebuild wad out maps) quiet = quiet
+
+-- the status 0 is an answer
+pub quiet_end : (how : Result ℕ Refusal) → status_in how ≡ 0 → how ≡ Ok 0
+quiet_end (Ok status) is = ap Ok is
+quiet_end (Err refusal) is = cc
+
+apart : (n : ℕ) → n ≡ 3 → n ≡ 0 → ⊥
+apart n three none = omega arith
+
+-- with the status 0 no line was refused
+pub whole_end : (drawn : Result (Option Stop) ScriptError) (how : Result ℕ Refusal) (u w : Option (List ℕ)) → IsHandedOn drawn how u w → how ≡ Ok 0 → drawn ≡ Ok None
+whole_end (Ok None) how u w handed is = refl
+whole_end (Ok (Some stop)) how u w (inl (ended, kept)) is = absurd (apart (status_in how) (ap status_in ended) (ap status_in is))
+whole_end (Ok (Some stop)) how u w (inr failed) is = cc
+whole_end (Err cut.OutOfMemory) how u w (inl (ended, kept)) is = cc
+whole_end (Err cut.OutOfMemory) how u w (inr failed) is = cc
+whole_end (Err cut.WriterFailed) how u w (inl (ended, kept)) is = cc
+whole_end (Err cut.WriterFailed) how u w (inr failed) is = cc
+
+-- where the script is one of a file, or of the input, for the same reason
+pub drawn_into_as : {D : Type 0} (facts : Ghosts D) (a b verbose : Bool) (how : Result ℕ Refusal) (u v w x : Option (List ℕ)) → a ≡ b
+    → IsDrawnInto facts a verbose how u v w x → IsDrawnInto facts b verbose how u v w x
+drawn_into_as facts a b verbose how u v w x same drawn = subst (λ (t : Bool). IsDrawnInto facts t verbose how u v w x) same drawn

@@ -1,0 +1,14 @@
+use Rattle.std.proofs.Common.{inl, inr}
+use Rattle.std.proofs.KnownBytes.{Keeps-refl}
+use Rattle.cli_program.proofs.Sources.{no_status}
+use Rattle.cli_program.proofs.draw_request.draw.Goals as goal
+
+pub returns-in-Err-clause-small : goal.returns-in-Err-clause-small
+returns-in-Err-clause-small g c = no_status (g.D.Disk.reads c.args.disk) c.not_opened.result.how _ (c.in-Err.refused.error, c.not_opened.ensures.how, c.in-Err.ensures.refused.0)
+
+pub returns-in-Err-clause-drawn : goal.returns-in-Err-clause-drawn
+returns-in-Err-clause-drawn g c = inl ((c.in-Err.refused.error, c.not_opened.ensures.how, c.in-Err.ensures.refused.0), (rw c.not_opened.ensures.disk c.in-Err.ensures.refused.1), Keeps-refl (g.W.Write.contents c.args.writer.now))
+
+pub returns-clause-drawn : goal.returns-clause-drawn
+returns-clause-drawn g c =
+    inr (c.in-Ok.project, c.draw_onto-how.new.canvas, c.in-Ok.ensures.opened, c.into_disk.ensures.disk, c.draw_onto-how.ensures.drawn)

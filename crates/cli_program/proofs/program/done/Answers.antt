@@ -1,0 +1,24 @@
+use Rattle.std.proofs.Common.{List, ℕ, ap, map, string_bytes, subst}
+use Rattle.std.proofs.KnownBytes.{Keeps-refl}
+use Rattle.cli_program.specs.Rebuilding.{IsRebuiltAt}
+use Rattle.cli_program.proofs.Scripts.{drawn_into_as}
+use Rattle.cli_program.proofs.program.done.Goals as goal
+
+pub returns-in-Draw-clause-performed : goal.returns-in-Draw-clause-performed
+returns-in-Draw-clause-performed g c =
+    rw c.in-Draw.is (drawn_into_as _ _ _ _ _ _ _ _ _ c.as_deref-script.ensures.variant c.draw_file.ensures.drawn)
+
+pub returns-in-Rebuild-clause-performed : goal.returns-in-Rebuild-clause-performed
+returns-in-Rebuild-clause-performed g c =
+    let u = g.W.Write.contents c.args.writer.now in
+    let w = g.W.Write.contents c.rebuild.new.writer in
+    let d = g.F.Write.contents c.args.faults.now in
+    let x = g.F.Write.contents c.rebuild.new.errors in
+    rw c.in-Rebuild.is (
+      (
+        d,
+        x,
+        subst (λ (names : List (List ℕ)). IsRebuiltAt names c.rebuild.result u w d x) (ap (map string_bytes) c.deref-in-Rebuild.ensures.value) c.rebuild.ensures.rebuilt,
+      ),
+      Keeps-refl (g.R.Read.remaining c.args.reader.now),
+    )

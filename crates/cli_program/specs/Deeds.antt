@@ -1,0 +1,161 @@
+-- What was done for a request (docs/COMMANDS.md, "The program"). How it ended is a status, or the
+-- refusal. A file tells no bytes, so which project or WAD it was is left open.
+use Rattle.std.specs.Prelude.{◌≡◌, ◌⊎◌, ℕ, Bool, Option, Result, Ok, Err, List, [], ◌∷◌, ◌++◌, codes, string_bytes, true, false, is_some, length, map, option_map}
+use Rattle.std.specs.Io.KnownBytes.{Appends, Keeps}
+use Rattle.store_disk.specs.declared.disk.Disk.{Ghosts}
+use Rattle.map_tables.specs.Projects.{MapsView, ProjectMaps, empty_project, project_of}
+use Rattle.map_tables.specs.Tables.{Tables}
+use Rattle.map_checks.specs.Findings.{findings}
+use Rattle.store_project.specs.States.{State}
+use Rattle.store_project.specs.declared.error.ProjectError.{ProjectError}
+use Rattle.run_edit.specs.Answers.{RepliesInMemory}
+use Rattle.wad_build.specs.Counted.{IsBuildCounted}
+use Rattle.run_edit.specs.Building.{built_text}
+use Rattle.cli_program.specs.Drawing.{IsDrawnInto, IsScriptTried}
+use Rattle.cli_program.specs.Dumped.{IsDumpedInto}
+use Rattle.run_edit.specs.Editing.{RepliesInProject}
+use Rattle.run_edit.specs.Inspections.{IsInspected}
+use Rattle.cli_program.specs.LevelNames.{IsListed}
+use Rattle.cli_program.specs.SomeProject.{IsLinted}
+use Rattle.cli_program.specs.SomeProject.{IsPictured}
+use Rattle.cli_program.specs.Wads.{OverSomeWad}
+use Rattle.cli_print.specs.Reading.{turns}
+use Rattle.cli_print.specs.LevelLines.{IsWadChecked, IsWadLintedBy}
+use Rattle.cli_print.specs.LevelPicture.{IsLevelPicturedOf}
+use Rattle.cli_program.specs.Rebuilding.{IsRebuiltInto}
+use Rattle.cli_program.specs.Salvaging.{IsSalvagedInto}
+use Rattle.cli_print.specs.declared.laid_over.Layers.{Layers}
+use Rattle.cli_refusals.specs.Refusals.{IsOfOpening, NotBuilt, NotChecked, NotCreated, NotExamined}
+use Rattle.run_edit.specs.Runs.{Exchange, Ran}
+use Rattle.run_edit.specs.Sessions.{RunsOver}
+use Rattle.cli_refusals.specs.Statuses.{run_end, status_after, status_told}
+use Rattle.run_edit.specs.Texts.{findings_text}
+use Rattle.cli_words.specs.declared.asked.Request.{Request}
+use Rattle.cli_words.specs.declared.asked.Request.TheVariants.{Scratch, Create, Edit, Check, Lint, Draw, TryScript, Dump, Salvage, Picture, Inspect, Levels, Build, Rebuild}
+use Rattle.wad_build.specs.declared.counted.BuildCounts.{BuildCounts}
+use Rattle.run_edit.specs.declared.error.EditorError.{EditorError}
+use Rattle.cli_refusals.specs.declared.refusal.Refusal.{Refusal}
+use Rattle.cli_refusals.specs.declared.refusal.Refusal.TheVariants as of
+
+-- the length of the longest body of one map, in bytes: what the maps in memory have room for
+abbrev pub longest_body : ℕ
+longest_body = 2007002
+
+-- the lines of the input were answered over the empty project, and the answers written
+abbrev pub IsScratched : Result ℕ Refusal → Option (List ℕ) → Option (List ℕ) → Option (List ℕ)
+    → Option (List ℕ) → Type 0
+IsScratched how reader-old reader-new writer-old writer-new =
+    (result : Result ℕ EditorError) × (last : ProjectMaps) × (trace : List (Exchange ProjectMaps))
+    × (how ≡ run_end result)
+    × Ran (RepliesInMemory longest_body) empty_project last trace turns result reader-old reader-new
+    writer-old writer-new
+
+-- `created` was written, or it was refused
+abbrev pub IsCreated : ℕ → ℕ → Result ℕ Refusal → Option (List ℕ) → Option (List ℕ) → Type 0
+IsCreated slot journal (Ok status) writer-old writer-new =
+    (status ≡ 0) × Appends writer-old writer-new (codes "created" ++ 10 ∷ [])
+IsCreated slot journal (Err refusal) writer-old writer-new =
+    NotCreated slot journal refusal writer-old writer-new
+
+-- no project was opened and nothing read or written, or the lines of the input were answered over
+-- one, and the answers written
+abbrev pub IsEdited : {D : Type 0} → Ghosts D → Result ℕ Refusal → Option (List ℕ) → Option (List ℕ)
+    → Option (List ℕ) → Option (List ℕ) → Type 0
+IsEdited {D = D} facts how reader-old reader-new writer-old writer-new =
+    ((e : ProjectError) × (how ≡ Err (of.Project e)) × IsOfOpening e × Keeps reader-old reader-new
+    × Keeps writer-old writer-new)
+    ⊎ ((result : Result ℕ EditorError) × (first : State D) × (last : State D)
+    × (trace : List (Exchange (State D)))
+    × (first.must_reopen ≡ false) × (how ≡ run_end result)
+    × Ran (RepliesInProject facts) first last trace turns result
+    reader-old reader-new writer-old writer-new
+    × RunsOver facts first last trace)
+
+-- the findings of a map were written, and the status tells whether there are any; or it was refused
+abbrev pub IsChecked : Result ℕ Refusal → Option (List ℕ) → Option (List ℕ) → Type 0
+IsChecked (Ok status) writer-old writer-new =
+    (m : Tables) × (status ≡ status_after (length (findings m)))
+    × Appends writer-old writer-new (findings_text (findings m))
+IsChecked (Err refusal) writer-old writer-new = NotChecked refusal writer-old writer-new
+
+-- this was done with a map of some project, the one of the name where one is asked for; or there is
+-- none of this name, and nothing was written; or it was done with a level of some WAD
+abbrev pub IsCheckedAt : Option (List ℕ) → Result ℕ Refusal → Option (List ℕ) → Option (List ℕ)
+    → Type 0
+IsCheckedAt name how writer-old writer-new =
+    IsChecked how writer-old writer-new
+    ⊎ ((is_some name ≡ true) × (how ≡ Err of.NoSuchMap) × Keeps writer-old writer-new)
+    ⊎ OverSomeWad how writer-old writer-new
+    (λ wad. IsWadChecked wad name how writer-old writer-new)
+
+-- what there is to say of the maps of some project, or of the levels of some WAD, was told
+abbrev pub IsLintedAt : Bool → Option (List ℕ) → Result ℕ Refusal → Option (List ℕ)
+    → Option (List ℕ) → Type 0
+IsLintedAt asked name how writer-old writer-new =
+    IsLinted asked name how writer-old writer-new
+    ⊎ OverSomeWad how writer-old writer-new
+    (λ wad. IsWadLintedBy asked wad name how writer-old writer-new)
+
+-- a map of some project, or a level of some WAD, was drawn
+abbrev pub IsPicturedAt : Layers → Option (List ℕ) → Bool → Result ℕ Refusal → Option (List ℕ)
+    → Option (List ℕ) → Type 0
+IsPicturedAt layers name into how writer-old writer-new =
+    IsPictured layers name into how writer-old writer-new
+    ⊎ OverSomeWad how writer-old writer-new
+    (λ wad. IsLevelPicturedOf layers name into wad how writer-old writer-new)
+
+-- the level of the name in what was read of a WAD was inspected, and the status tells whether it is
+-- sound; or it was refused
+abbrev pub IsExamined : List ℕ → Result ℕ Refusal → Option (List ℕ) → Option (List ℕ) → Type 0
+IsExamined name (Ok status) writer-old writer-new =
+    (wad : List ℕ) × (sound : Bool) × (status ≡ status_told sound)
+    × IsInspected wad name sound writer-old writer-new
+IsExamined name (Err refusal) writer-old writer-new = NotExamined name refusal writer-old writer-new
+
+-- the counts of a sound build of some project's maps were told, or it was refused
+abbrev pub IsBuiltInto : Result ℕ Refusal → Option (List ℕ) → Option (List ℕ) → Type 0
+IsBuiltInto (Ok status) writer-old writer-new =
+    (maps : MapsView) × (wad : List ℕ) × (c : BuildCounts) × (status ≡ 0)
+    × IsBuildCounted (project_of maps).maps wad c
+    × Appends writer-old writer-new (built_text c)
+IsBuiltInto (Err refusal) writer-old writer-new = NotBuilt refusal writer-old writer-new
+
+-- what was done for a request that ended so; only a run reads the input
+abbrev pub IsPerformed : {D : Type 0} → Ghosts D → Request → Result ℕ Refusal → Option (List ℕ)
+    → Option (List ℕ) → Option (List ℕ) → Option (List ℕ) → Type 0
+IsPerformed facts Scratch how reader-old reader-new writer-old writer-new =
+    IsScratched how reader-old reader-new writer-old writer-new
+IsPerformed facts (Create file slot journal) how reader-old reader-new writer-old writer-new =
+    IsCreated slot journal how writer-old writer-new × Keeps reader-old reader-new
+IsPerformed facts (Edit file) how reader-old reader-new writer-old writer-new =
+    IsEdited facts how reader-old reader-new writer-old writer-new
+IsPerformed facts (Check file map) how reader-old reader-new writer-old writer-new =
+    IsCheckedAt (option_map string_bytes map) how writer-old writer-new
+    × Keeps reader-old reader-new
+IsPerformed facts (Lint file map iwad) how reader-old reader-new writer-old writer-new =
+    IsLintedAt (is_some iwad) (option_map string_bytes map) how writer-old writer-new
+    × Keeps reader-old reader-new
+IsPerformed facts (Draw file script verbose) how reader-old reader-new writer-old writer-new =
+    IsDrawnInto facts (is_some script) verbose how reader-old reader-new writer-old writer-new
+IsPerformed facts (TryScript script verbose) how reader-old reader-new writer-old writer-new =
+    IsScriptTried verbose how writer-old writer-new × Keeps reader-old reader-new
+IsPerformed facts (Dump file names exact) how reader-old reader-new writer-old writer-new =
+    IsDumpedInto (map string_bytes names.items) exact how writer-old writer-new
+    × Keeps reader-old reader-new
+IsPerformed facts (Salvage file) how reader-old reader-new writer-old writer-new =
+    IsSalvagedInto how writer-old writer-new × Keeps reader-old reader-new
+IsPerformed facts (Picture file map out numbers nodes lint) how reader-old reader-new writer-old
+    writer-new =
+    IsPicturedAt (record { numbers = numbers; nodes = nodes; lint = lint })
+    (option_map string_bytes map) (is_some out) how
+    writer-old writer-new
+    × Keeps reader-old reader-new
+IsPerformed facts (Inspect wad name) how reader-old reader-new writer-old writer-new =
+    IsExamined (string_bytes name) how writer-old writer-new × Keeps reader-old reader-new
+IsPerformed facts (Levels wad) how reader-old reader-new writer-old writer-new =
+    IsListed how writer-old writer-new × Keeps reader-old reader-new
+IsPerformed facts (Build file out) how reader-old reader-new writer-old writer-new =
+    IsBuiltInto how writer-old writer-new × Keeps reader-old reader-new
+IsPerformed facts (Rebuild wad out maps) how reader-old reader-new writer-old writer-new =
+    IsRebuiltInto (map string_bytes maps.items) how writer-old writer-new
+    × Keeps reader-old reader-new

@@ -1,0 +1,128 @@
+-- What the request `draw` does (docs/COMMANDS.md, "Scripts").
+use Rattle.std.specs.Prelude.{◌≡◌, ◌⊎◌, ℕ, Bool, true, false, List, Option, Some, None, Result, Ok, Err}
+use Rattle.std.specs.Io.KnownBytes.{Consumes, IsAtEnd, Keeps}
+use Rattle.store_disk.specs.declared.disk.Disk.{Ghosts}
+use Rattle.map_tables.specs.Projects.{ProjectMaps, empty_project}
+use Rattle.map_script.specs.Scripts.{script_lines}
+use Rattle.store_project.specs.States.{State}
+use Rattle.store_project.specs.declared.error.ProjectError.{ProjectError}
+use Rattle.run_script.specs.Canvases.{draft_canvas, project_canvas}
+use Rattle.run_script.specs.Drawn.{IsScriptDrawn}
+use Rattle.run_script.specs.declared.canvas.Canvas as canvas
+use Rattle.run_script.specs.declared.drawing.Stop.{Stop}
+use Rattle.run_script.specs.declared.error.ScriptError.{ScriptError}
+use Rattle.run_script.specs.declared.error.ScriptError.TheVariants as cut
+use Rattle.run_edit.specs.declared.error.EditorError.{EditorError}
+use Rattle.run_edit.specs.declared.error.EditorError.TheVariants.{OutOfMemory, WriterFailed}
+use Rattle.cli_refusals.specs.Refusals.{EndsReading, IsOfOpening}
+use Rattle.cli_refusals.specs.declared.refusal.Refusal.{Refusal}
+use Rattle.cli_refusals.specs.declared.refusal.Refusal.TheVariants as of
+use Rattle.cli_print.specs.Reading.{IsTooLongAfter, turns}
+
+-- ---- Any canvas
+
+-- the status 0 where no line was refused, 3 where one was
+abbrev pub stop_status : Option Stop → ℕ
+stop_status None = 0
+stop_status (Some stop) = 3
+
+-- how it ends: with the status, or as it was cut off
+abbrev pub draw_end : Result (Option Stop) ScriptError → Result ℕ Refusal
+draw_end (Ok stop) = Ok (stop_status stop)
+draw_end (Err cut.OutOfMemory) = Err (of.Lines OutOfMemory)
+draw_end (Err cut.WriterFailed) = Err (of.Lines WriterFailed)
+
+-- it ended so, with what was written handed on, or the writer failed
+abbrev pub IsHandedOn : Result (Option Stop) ScriptError → Result ℕ Refusal → Option (List ℕ)
+    → Option (List ℕ) → Type 0
+IsHandedOn drawn how writer-old writer-new =
+    ((how ≡ draw_end drawn) × Keeps writer-old writer-new) ⊎ (how ≡ Err (of.Lines WriterFailed))
+
+-- the lines of a script were drawn onto a canvas, as a script is drawn
+pub record IsScriptDone {S : Type 0} (facts : canvas.Ghosts S) (verbose : Bool) (script : List ℕ)
+    (how : Result ℕ Refusal) (old new : S) (writer-old writer-new : Option (List ℕ)) : Type 0 where
+  pub result : Result (Option Stop) ScriptError
+  pub told : Option (List ℕ)
+  pub drawn : IsScriptDrawn facts verbose (script_lines script) result old writer-old new told
+  pub handed : IsHandedOn result how told writer-new
+
+-- there was no memory for the lines of a script, and nothing was done
+pub record IsUndone {S : Type 0} (how : Result ℕ Refusal) (old new : S)
+    (writer-old writer-new : Option (List ℕ)) : Type 0 where
+  pub memory : how ≡ Err (of.Lines OutOfMemory)
+  pub stays : new ≡ old
+  pub unwritten : Keeps writer-old writer-new
+
+-- either of these
+abbrev pub IsDrawnOnto : {S : Type 0} → canvas.Ghosts S → Bool → List ℕ → Result ℕ Refusal → S → S
+    → Option (List ℕ) → Option (List ℕ) → Type 0
+IsDrawnOnto facts verbose script how old new writer-old writer-new =
+    IsUndone how old new writer-old writer-new
+    ⊎ IsScriptDone facts verbose script how old new writer-old writer-new
+
+-- ---- Memory and a file
+
+-- the lines of the script were tried over the empty project
+abbrev pub IsTriedOn : Bool → List ℕ → Result ℕ Refusal → Option (List ℕ) → Option (List ℕ) → Type 0
+IsTriedOn verbose script how writer-old writer-new =
+    (last : ProjectMaps)
+    × IsDrawnOnto draft_canvas verbose script how empty_project last writer-old writer-new
+
+-- the script is all that the input gave, or all that a file gave, which tells no bytes
+abbrev pub IsInput : Bool → List ℕ → Option (List ℕ) → Option (List ℕ) → Type 0
+IsInput true script reader-old reader-new = Keeps reader-old reader-new
+IsInput false script reader-old reader-new =
+    Consumes reader-old reader-new script × IsAtEnd reader-new
+
+-- a script isn't read to its end
+abbrev pub IsUnread : Refusal → Type 0
+IsUnread refusal = (e : EditorError) × (refusal ≡ of.Lines e) × EndsReading e
+
+-- the same where a reader should give it; one that ends within so many reads isn't too long
+abbrev pub IsUnreadOf : Option (List ℕ) → Option (List ℕ) → Refusal → Type 0
+IsUnreadOf reader-old reader-new refusal =
+    (e : EditorError) × (refusal ≡ of.Lines e) × EndsReading e
+    × IsTooLongAfter turns reader-old reader-new e
+
+-- the same where a file, which tells no bytes, or the input should give it
+abbrev pub IsUnreadInput : Bool → Option (List ℕ) → Option (List ℕ) → Refusal → Type 0
+IsUnreadInput true reader-old reader-new refusal = IsUnread refusal
+IsUnreadInput false reader-old reader-new refusal = IsUnreadOf reader-old reader-new refusal
+
+-- it was refused for such a cause, and nothing was written
+abbrev pub IsRefusedFor : (Refusal → Type 0) → Result ℕ Refusal → Option (List ℕ)
+    → Option (List ℕ) → Type 0
+IsRefusedFor cause how writer-old writer-new =
+    (refusal : Refusal) × (how ≡ Err refusal) × cause refusal × Keeps writer-old writer-new
+
+-- a script or a WAD isn't read to its end, and nothing was written
+abbrev pub EndsUnread : Result ℕ Refusal → Option (List ℕ) → Option (List ℕ) → Type 0
+EndsUnread how writer-old writer-new = IsRefusedFor IsUnread how writer-old writer-new
+
+-- no project was opened, and nothing was written
+abbrev pub EndsUnopened : Result ℕ Refusal → Option (List ℕ) → Option (List ℕ) → Type 0
+EndsUnopened how writer-old writer-new =
+    (e : ProjectError) × (how ≡ Err (of.Project e)) × IsOfOpening e × Keeps writer-old writer-new
+
+-- the lines of the script were drawn onto some project
+abbrev pub IsDrawnOntoSome : {D : Type 0} → Ghosts D → Bool → List ℕ → Result ℕ Refusal
+    → Option (List ℕ) → Option (List ℕ) → Type 0
+IsDrawnOntoSome {D = D} facts verbose script how writer-old writer-new =
+    (first : State D) × (last : State D) × (first.must_reopen ≡ false)
+    × IsDrawnOnto (project_canvas facts) verbose script how first last writer-old writer-new
+
+-- the script can't be read; or it was read whole, and no project was opened, or its lines were
+-- drawn onto one
+abbrev pub IsDrawnInto : {D : Type 0} → Ghosts D → Bool → Bool → Result ℕ Refusal → Option (List ℕ)
+    → Option (List ℕ) → Option (List ℕ) → Option (List ℕ) → Type 0
+IsDrawnInto facts from_file verbose how reader-old reader-new writer-old writer-new =
+    IsRefusedFor (IsUnreadInput from_file reader-old reader-new) how writer-old writer-new
+    ⊎ ((script : List ℕ) × IsInput from_file script reader-old reader-new
+    × (EndsUnopened how writer-old writer-new
+    ⊎ IsDrawnOntoSome facts verbose script how writer-old writer-new))
+
+-- the script can't be read, or its lines were tried over the empty project
+abbrev pub IsScriptTried : Bool → Result ℕ Refusal → Option (List ℕ) → Option (List ℕ) → Type 0
+IsScriptTried verbose how writer-old writer-new =
+    EndsUnread how writer-old writer-new
+    ⊎ ((script : List ℕ) × IsTriedOn verbose script how writer-old writer-new)

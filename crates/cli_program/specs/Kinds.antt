@@ -1,0 +1,30 @@
+-- Which requests write beside the output, and which are over a WAD alone.
+use Rattle.std.specs.Prelude.{◌≡◌, ℕ, Bool, true, false}
+use Rattle.cli_words.specs.declared.asked.Request.{Request}
+use Rattle.cli_words.specs.declared.asked.Request.TheVariants.{Draw, TryScript, Dump, Salvage, Inspect, Levels, Rebuild}
+
+-- the request tells something on standard error that is no refusal: it is about a script, about levels
+-- that are dumped or built anew, or about what can be salvaged
+abbrev pub tells_beside : Request → Bool
+tells_beside (Draw file script verbose) = true
+tells_beside (TryScript script verbose) = true
+tells_beside (Dump file names exact) = true
+tells_beside (Salvage file) = true
+tells_beside (Rebuild wad out maps) = true
+tells_beside request = false
+
+-- the request is over a WAD and no project, and only reads it
+abbrev pub is_over_wad : Request → Bool
+is_over_wad (Inspect wad name) = true
+is_over_wad (Levels wad) = true
+is_over_wad request = false
+
+-- the statuses that leave standard error alone: all but 1, of a script 0 alone, of a salvage, of a
+-- dump and of levels that are built anew none
+abbrev pub IsQuiet : Request → ℕ → Type 0
+IsQuiet (Draw file script verbose) status = status ≡ 0
+IsQuiet (TryScript script verbose) status = status ≡ 0
+IsQuiet (Dump file names exact) status = ⊥
+IsQuiet (Salvage file) status = ⊥
+IsQuiet (Rebuild wad out maps) status = ⊥
+IsQuiet request status = ¬ (status ≡ 1)

@@ -1,0 +1,116 @@
+-- Whose maps and whose level it was: what was done over a disk, or of a reader, that is handed over
+-- and tells its bytes. A real file tells none, so that `Deeds` leaves it open.
+use Rattle.std.specs.Prelude.{◌≡◌, ◌⊎◌, ℕ, Bool, false, Option, None, Result, Ok, Err, List}
+use Rattle.std.specs.Io.KnownBytes.{Appends, Keeps}
+use Rattle.store_disk.specs.Reading.{OnlyReads}
+use Rattle.store_disk.specs.Stops.{Each}
+use Rattle.store_disk.specs.declared.disk.Disk.{Ghosts}
+use Rattle.map_tables.specs.Projects.{MapsView, empty_project, project_of}
+use Rattle.store_project.specs.Opening.{HasMaps, IsRefusedRead, RefusesCreate, StandsOnlyFor}
+use Rattle.store_project.specs.Places.{cap_of}
+use Rattle.store_project.specs.Stands.{Stands}
+use Rattle.store_project.specs.States.{State}
+use Rattle.store_project.specs.declared.error.ProjectError.{ProjectError}
+use Rattle.store_project.specs.declared.error.ProjectError.TheVariants.{Device}
+use Rattle.store_project.specs.declared.geometry.Geometry.{Geometry}
+use Rattle.wad_build.specs.Counted.{IsBuildCounted}
+use Rattle.wad_levels.specs.Listing.{listing_refusal}
+use Rattle.run_edit.specs.Building.{built_text}
+use Rattle.cli_print.specs.Reading.{ReadsAll, turns}
+use Rattle.run_edit.specs.Editing.{RepliesInProject}
+use Rattle.run_edit.specs.Inspections.{IsInspected, RefusesInspection}
+use Rattle.run_edit.specs.Recovery.{IsOnlyRead}
+use Rattle.cli_program.specs.LevelNames.{RefusesNames, levels_text}
+use Rattle.cli_refusals.specs.Refusals.{RefusesFile}
+use Rattle.run_edit.specs.Runs.{Exchange, Ran}
+use Rattle.run_edit.specs.Sessions.{RunsOver}
+use Rattle.cli_refusals.specs.Statuses.{run_end, status_told}
+use Rattle.wad_build.specs.declared.counted.BuildCounts.{BuildCounts}
+use Rattle.run_edit.specs.declared.error.EditorError.{EditorError}
+use Rattle.run_edit.specs.declared.error.EditorError.TheVariants.{WriterFailed}
+use Rattle.cli_refusals.specs.declared.refusal.Refusal.{Refusal}
+use Rattle.cli_refusals.specs.declared.refusal.Refusal.TheVariants as of
+
+-- ---- A disk
+
+-- a project that was opened: the one that the disk's bytes stand for; the disk was only read
+pub record IsOpenedFrom {D : Type 0} (facts : Ghosts D) (before : D)
+    (first : State D) : Type 0 where
+  pub reopen : first.must_reopen ≡ false
+  pub stands : Each (facts.reads before)
+      (StandsOnlyFor first.cap (project_of first.maps) first.generation)
+  pub only_read : IsOnlyRead facts before first.disk
+
+-- no project was opened, because of the disk's bytes, by a fault or for lack of memory
+abbrev pub NotOpened : (List ℕ → Type 0) → Result ℕ Refusal → Type 0
+NotOpened reads how = (e : ProjectError) × (how ≡ Err (of.Project e)) × IsRefusedRead reads e
+
+-- no project was opened and nothing written, or this was done with the maps that the disk's bytes
+-- stand for
+abbrev pub OverMaps : (List ℕ → Type 0) → Result ℕ Refusal → Option (List ℕ) → Option (List ℕ)
+    → (MapsView → Type 0) → Type 0
+OverMaps reads how writer-old writer-new does =
+    (NotOpened reads how × Keeps writer-old writer-new)
+    ⊎ ((maps : MapsView) × HasMaps reads maps × does maps)
+
+-- ---- Requests
+
+-- `created` was written or the writer failed, and each image is the empty project's; or none was
+-- made, and the disk was only read where it was no fault
+abbrev pub IsMade : {D : Type 0} → Ghosts D → Geometry → D → D → Result ℕ Refusal → Type 0
+IsMade facts geometry before after (Err (of.Project e)) =
+    RefusesCreate (facts.reads before) geometry e × ((e ≡ Device) ⊎ OnlyReads facts before after)
+IsMade facts geometry before after _ =
+    Each (facts.may_leave after) (Stands (cap_of geometry) empty_project 1)
+
+-- No project was opened, and nothing read or written; or the lines of the input were answered over
+-- the one that the disk's bytes stand for, and the disk is as the run left it.
+abbrev pub IsEditedOver : {D : Type 0} → Ghosts D → D → D → Result ℕ Refusal → Option (List ℕ)
+    → Option (List ℕ) → Option (List ℕ) → Option (List ℕ) → Type 0
+IsEditedOver {D = D} facts before after how reader-old reader-new writer-old writer-new =
+    (NotOpened (facts.reads before) how × IsOnlyRead facts before after
+    × Keeps reader-old reader-new × Keeps writer-old writer-new)
+    ⊎ ((result : Result ℕ EditorError) × (first : State D) × (last : State D)
+    × (trace : List (Exchange (State D)))
+    × IsOpenedFrom facts before first × (after ≡ last.disk) × (how ≡ run_end result)
+    × Ran (RepliesInProject facts) first last trace turns result
+    reader-old reader-new writer-old writer-new
+    × RunsOver facts first last trace)
+
+-- the counts of a sound build of these maps were told; or they were not built into the file and
+-- nothing was told; or the file to be made can't be opened or holds a project, or the writer failed
+abbrev pub IsBuiltFrom : MapsView → Result ℕ Refusal → Option (List ℕ) → Option (List ℕ) → Type 0
+IsBuiltFrom maps (Ok status) writer-old writer-new =
+    (wad : List ℕ) × (c : BuildCounts) × (status ≡ 0) × IsBuildCounted (project_of maps).maps wad c
+    × Appends writer-old writer-new (built_text c)
+IsBuiltFrom maps (Err (of.Build e)) writer-old writer-new =
+    RefusesFile (project_of maps).maps (of.Build e) × Keeps writer-old writer-new
+IsBuiltFrom maps (Err (of.Lines e)) writer-old writer-new = e ≡ WriterFailed
+IsBuiltFrom maps _ writer-old writer-new = ⊥
+
+-- the level of the name in all that the reader gave was inspected, and the status tells whether it
+-- is sound; or it was refused
+abbrev pub IsExaminedOf : List ℕ → Result ℕ Refusal → Option (List ℕ) → Option (List ℕ)
+    → Option (List ℕ) → Option (List ℕ) → Type 0
+IsExaminedOf name (Ok status) reader-old reader-new writer-old writer-new =
+    (wad : List ℕ) × ReadsAll reader-old reader-new wad
+    × (sound : Bool) × (status ≡ status_told sound)
+    × IsInspected wad name sound writer-old writer-new
+IsExaminedOf name (Err (of.Level e)) reader-old reader-new writer-old writer-new =
+    (wad : List ℕ) × ReadsAll reader-old reader-new wad
+    × RefusesInspection wad name e writer-old writer-new
+IsExaminedOf name (Err (of.Lines e)) reader-old reader-new writer-old writer-new =
+    (e ≡ WriterFailed) ⊎ Keeps writer-old writer-new
+IsExaminedOf name _ reader-old reader-new writer-old writer-new = ⊥
+
+-- the names of the levels in all that the reader gave were written; or it was refused
+abbrev pub IsListedOf : Result ℕ Refusal → Option (List ℕ) → Option (List ℕ) → Option (List ℕ)
+    → Option (List ℕ) → Type 0
+IsListedOf (Ok status) reader-old reader-new writer-old writer-new =
+    (wad : List ℕ) × ReadsAll reader-old reader-new wad × (status ≡ 0)
+    × (listing_refusal wad ≡ None) × Appends writer-old writer-new (levels_text wad)
+IsListedOf (Err (of.Level e)) reader-old reader-new writer-old writer-new =
+    (wad : List ℕ) × ReadsAll reader-old reader-new wad × RefusesNames wad e writer-old writer-new
+IsListedOf (Err (of.Lines e)) reader-old reader-new writer-old writer-new =
+    (e ≡ WriterFailed) ⊎ Keeps writer-old writer-new
+IsListedOf _ reader-old reader-new writer-old writer-new = ⊥

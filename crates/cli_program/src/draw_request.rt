@@ -1,0 +1,145 @@
+//! The request `draw`: the lines of a script, drawn onto a disk's project, or tried over maps in memory.
+ghost use Rattle.std.specs.Prelude.{◌≡◌, ◌≤◌, ◌<◌, None, Ok, length, IfOk, IfSome};
+ghost use Rattle.std.specs.Io.KnownBytes.{Keeps};
+ghost use Rattle.cli_program.specs.Drawing.{IsDrawnOnto, IsHandedOn, IsTriedOn, stop_status};
+ghost use Rattle.cli_program.specs.DrawnOver.{IsDrawnOver};
+
+use crate::over_disk::{HandedBack, not_opened, open_project};
+use cli_refusals::{DONE, Refusal};
+use map_script::{Names, ScriptLine, script_lines};
+use map_tables::Maps;
+use run_edit::EditorError;
+use run_script::{Canvas, Draft, ScriptError, Stop, write_refused};
+use std::alloc::Global;
+use std::io::Write;
+use store_disk::Disk;
+
+// The status if a line was refused.
+const STOPPED: u8 = 3;
+
+/// A script that was read.
+#[derive(Clone, Copy)]
+pub struct Script<'a> {
+    /// Its name in the report of a refused line.
+    pub name: &'a str,
+    pub text: &'a [u8],
+    /// Whether the answer to each command is written.
+    pub is_verbose: bool,
+}
+
+// Writes which line was refused and why, if one was. Drops what can't be written.
+fn say_stop<F: Write>(
+    alloc: Global,
+    maps: &Maps,
+    names: &Names,
+    script: &str,
+    lines: &[ScriptLine],
+    drawn: Result<Option<Stop>, ScriptError>,
+    faults: &mut F,
+)
+    requires { IfOk drawn (λ stop. IfSome stop (λ s. s.place < length lines.now)) }
+    ensures { drawn ≡ Ok None → Keeps (F.contents faults.old) (F.contents faults.new) }
+{
+    if let Ok(Some(stop)) = drawn {
+        let line = &lines[stop.place];
+        let _ = write_refused(alloc, maps, names, script, line, stop.code, faults);
+    }
+}
+
+// The status if all lines were drawn, or if one was refused.
+fn status_of(stop: Option<Stop>) -> u8
+    ensures status { result ≡ stop_status stop }
+    ensures small { result ≤ 3 }
+{
+    match stop {
+        None => DONE,
+        Some(_) => STOPPED,
+    }
+}
+
+// Flushes the writer, and returns the status.
+fn handed_on<W: Write>(
+    drawn: Result<Option<Stop>, ScriptError>,
+    writer: &mut W,
+) -> Result<u8, Refusal>
+    ensures small { IfOk result (λ s. s ≤ 3) }
+    ensures handed { IsHandedOn drawn result (W.contents writer.old) (W.contents writer.new) }
+{
+    match drawn {
+        Ok(stop) => match writer.flush() {
+            Ok(()) => Ok(status_of(stop)),
+            Err(_) => Err(Refusal::Lines(EditorError::WriterFailed)),
+        },
+        Err(ScriptError::OutOfMemory) => Err(Refusal::Lines(EditorError::OutOfMemory)),
+        Err(ScriptError::WriterFailed) => Err(Refusal::Lines(EditorError::WriterFailed)),
+    }
+}
+
+// Draws a script onto a canvas, and reports the refused line.
+fn draw_onto<C: Canvas, W: Write, F: Write>(
+    alloc: Global,
+    canvas: &mut C,
+    script: Script<'_>,
+    writer: &mut W,
+    faults: &mut F,
+) -> Result<u8, Refusal>
+    ensures small { IfOk result (λ s. s ≤ 3) }
+    ensures drawn { IsDrawnOnto C.Canvas script.entry.is_verbose script.entry.text.now result
+        canvas.old canvas.new (W.contents writer.old) (W.contents writer.new) }
+    ensures quiet { result ≡ Ok 0 → Keeps (F.contents faults.old) (F.contents faults.new) }
+{
+    let lines = match script_lines(alloc, script.text) {
+        Ok(lines) => lines,
+        Err(_) => return Err(Refusal::Lines(EditorError::OutOfMemory)),
+    };
+    let mut names = Names::new(alloc);
+    let drawn = run_script::draw(alloc, canvas, &mut names, &lines, script.is_verbose, writer);
+    let how = handed_on(drawn, writer);
+    let maps = canvas.maps();
+    say_stop(alloc, maps, &names, script.name, &lines, drawn, faults);
+    how
+}
+
+/// Draws a script onto the project of a disk, line by line up to the first refused one, which is reported on
+/// `faults`. Each command that was done is on the disk. Answers of queries are written.
+#[inline(never)]
+pub fn draw<D: Disk, W: Write, F: Write>(
+    alloc: Global,
+    disk: D,
+    script: Script<'_>,
+    writer: &mut W,
+    faults: &mut F,
+) -> HandedBack<D>
+    ensures small { IfOk result.how (λ s. s ≤ 3) }
+    ensures drawn { IsDrawnOver D.Disk disk result.disk script.entry.is_verbose
+        script.entry.text.now result.how (W.contents writer.old) (W.contents writer.new) }
+    ensures quiet { result.how ≡ Ok 0 → Keeps (F.contents faults.old) (F.contents faults.new) }
+{
+    let mut project = match open_project(alloc, disk) {
+        Ok(project) => project,
+        Err(refused) => return not_opened(refused),
+    };
+    let how = draw_onto(alloc, &mut project, script, writer, faults);
+    HandedBack {
+        how,
+        disk: project.into_disk(),
+    }
+}
+
+/// Tries a script over the empty project in memory, line by line up to the first refused one, which is reported on
+/// `faults`. Answers of queries are written.
+#[inline(never)]
+pub fn try_script<W: Write, F: Write>(
+    alloc: Global,
+    script: Script<'_>,
+    writer: &mut W,
+    faults: &mut F,
+) -> Result<u8, Refusal>
+    ensures small { IfOk result (λ s. s ≤ 3) }
+    ensures tried { IsTriedOn script.entry.is_verbose script.entry.text.now result
+        (W.contents writer.old) (W.contents writer.new) }
+    ensures quiet { result ≡ Ok 0 → Keeps (F.contents faults.old) (F.contents faults.new) }
+{
+    let mut draft = Draft::new(alloc);
+    draw_onto(alloc, &mut draft, script, writer, faults)
+}

@@ -1,0 +1,20 @@
+//! Does what the program's arguments ask for.
+#![tactic(auto)]
+
+mod build_request;
+mod draw_request;
+mod dump_request;
+mod examining;
+mod lint_request;
+mod listing;
+mod over_disk;
+mod over_file;
+mod picture_request;
+mod program;
+mod rebuild_notes;
+mod rebuild_request;
+mod salvage_request;
+mod script_file;
+mod wad_file;
+
+pub use program::perform;

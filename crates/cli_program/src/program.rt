@@ -1,0 +1,224 @@
+//! `perform`: does what a request asks for, and returns the program's status.
+ghost use Rattle.std.specs.Prelude.{◌≡◌, ◌≤◌, ℕ, false, true, IfOk, List, Option, Result};
+ghost use Rattle.std.specs.Io.KnownBytes.{Keeps};
+ghost use Rattle.cli_program.specs.Deeds.{IsPerformed, IsScratched};
+ghost use Rattle.cli_program.specs.Kinds.{IsQuiet, is_over_wad, tells_beside};
+ghost use Rattle.cli_program.specs.Notes.{HasToldNotes, TellsNotes};
+ghost use Rattle.cli_refusals.specs.Statuses.{status_in};
+ghost use Rattle.cli_refusals.specs.declared.refusal.Refusal.{Refusal};
+
+use crate::examining::examine;
+use crate::listing::list_levels;
+use crate::over_file::{
+    build_file, check_file, create_file, draw_file, dump_file, edit_file, lint_file, picture_file,
+    salvage_file,
+};
+use crate::rebuild_request::rebuild;
+use crate::script_file::try_file;
+use cli_files::{Hold, NotedFile};
+use cli_print::{TURNS, Wanted, layers_of};
+use cli_refusals::{Causes, Refusal, ended, report, report_causes, status_in};
+use cli_words::Request;
+use run_edit::run_in_memory;
+use std::alloc::Global;
+use std::io::{Read, Write};
+use std::os::unix::fs::FileExt;
+use std::rt::Files;
+use store_disk::{Disk, FileDisk};
+
+// Answers the lines of the input over maps in memory.
+#[inline(never)]
+fn scratch<R: Read, W: Write>(alloc: Global, reader: &mut R, writer: &mut W) -> Result<u8, Refusal>
+    ensures small { IfOk result (λ s. s ≤ 3) }
+    ensures answered { IsScratched result (R.remaining reader.old) (R.remaining reader.new)
+        (W.contents writer.old) (W.contents writer.new) }
+{
+    ended(run_in_memory(alloc, reader, writer, TURNS))
+}
+
+// Does what is asked for by a request that only reads a WAD.
+fn done_with_wad<E, W>(
+    rt: &E,
+    request: &Request,
+    writer: &mut W,
+    why: &mut Causes,
+) -> Result<u8, Refusal>
+where
+    E: AllocGlobal + Files,
+    E::File: FileExt + Hold,
+    W: Write,
+    requires { is_over_wad request.now ≡ true }
+    ensures performed { (reader : Option (List ℕ))
+        → IsPerformed ⟦<FileDisk<&'static NotedFile<E::File>> as Disk>⟧ request.now result
+        reader reader (W.contents writer.old) (W.contents writer.new) }
+    ensures small { IfOk result (λ s. s ≤ 3) }
+{
+    match request {
+        Request::Inspect { wad, name } => {
+            examine(rt, wad.as_str(), name.as_str(), writer, &mut why.file)
+        }
+        Request::Levels { wad } => list_levels(rt, wad.as_str(), writer, &mut why.file),
+        _ => unreachable!(),
+    }
+}
+
+// Does what is asked for by a request that writes nothing but a refusal on standard error, and returns the status.
+fn done_quietly<E, R, W>(
+    rt: &E,
+    request: &Request,
+    reader: &mut R,
+    writer: &mut W,
+    why: &mut Causes,
+) -> Result<u8, Refusal>
+where
+    E: AllocGlobal + Files,
+    E::File: FileExt + Hold,
+    R: Read,
+    W: Write,
+    requires { tells_beside request.now ≡ false }
+    ensures performed { IsPerformed ⟦<FileDisk<&'static NotedFile<E::File>> as Disk>⟧
+        request.now result (R.remaining reader.old) (R.remaining reader.new)
+        (W.contents writer.old) (W.contents writer.new) }
+    ensures small { IfOk result (λ s. s ≤ 3) }
+{
+    match request {
+        Request::Scratch => scratch(rt.alloc(), reader, writer),
+        Request::Create {
+            file,
+            slot,
+            journal,
+        } => create_file(rt, file.as_str(), *slot, *journal, writer, why),
+        Request::Edit { file } => edit_file(rt, file.as_str(), reader, writer, why),
+        Request::Check { file, map } => {
+            let map = map.as_deref();
+            check_file(rt, file.as_str(), map, writer, why)
+        }
+        Request::Lint { file, map, iwad } => {
+            let map = map.as_deref();
+            let iwad = iwad.as_deref();
+            lint_file(rt, file.as_str(), map, iwad, writer, why)
+        }
+        Request::Draw { .. }
+        | Request::TryScript { .. }
+        | Request::Dump { .. }
+        | Request::Salvage { .. }
+        | Request::Rebuild { .. } => unreachable!(),
+        Request::Picture {
+            file,
+            map,
+            out,
+            numbers,
+            nodes,
+            lint,
+        } => {
+            let wanted = Wanted {
+                map: map.as_deref(),
+                layers: layers_of(*numbers, *nodes, *lint),
+                out: out.as_deref(),
+            };
+            picture_file(rt, file.as_str(), wanted, writer, why)
+        }
+        Request::Build { file, out } => build_file(rt, file.as_str(), out.as_str(), writer, why),
+        _ => done_with_wad(rt, request, writer, why),
+    }
+}
+
+// Does what a request asks for, and returns the status if it isn't refused.
+fn done<E, R, W, F>(
+    rt: &E,
+    request: &Request,
+    reader: &mut R,
+    writer: &mut W,
+    faults: &mut F,
+    why: &mut Causes,
+) -> Result<u8, Refusal>
+where
+    E: AllocGlobal + Files,
+    E::File: FileExt + Hold,
+    R: Read,
+    W: Write,
+    F: Write,
+    ensures performed { IsPerformed ⟦<FileDisk<&'static NotedFile<E::File>> as Disk>⟧
+        request.now result (R.remaining reader.old) (R.remaining reader.new)
+        (W.contents writer.old) (W.contents writer.new) }
+    ensures small { IfOk result (λ s. s ≤ 3) }
+    ensures quiet { IsQuiet request.now (status_in result)
+        → Keeps (F.contents faults.old) (F.contents faults.new) }
+    ensures told { TellsNotes request.now result
+        (W.contents writer.old) (W.contents writer.new)
+        (F.contents faults.old) (F.contents faults.new) }
+{
+    match request {
+        Request::Draw {
+            file,
+            script,
+            verbose,
+        } => {
+            let script = script.as_deref();
+            draw_file(
+                rt,
+                file.as_str(),
+                script,
+                *verbose,
+                reader,
+                writer,
+                faults,
+                why,
+            )
+        }
+        Request::TryScript { script, verbose } => {
+            let path = script.as_str();
+            try_file(rt, path, *verbose, writer, faults, &mut why.file)
+        }
+        Request::Dump { file, names, exact } => {
+            dump_file(rt, file.as_str(), names, *exact, writer, faults, why)
+        }
+        Request::Salvage { file } => salvage_file(rt, file.as_str(), writer, faults, why),
+        Request::Rebuild { wad, out, maps } => {
+            rebuild(rt, wad.as_str(), out.as_str(), maps, writer, faults, why)
+        }
+        _ => done_quietly(rt, request, reader, writer, why),
+    }
+}
+
+/// Does what a request asks for, with standard input, output and error passed in, and returns the status: 0 if it was
+/// done; 3 if maps have findings, a level has a fault or was left, or a line of a script was refused; 1 if the request
+/// was refused, with the reason in a line on `faults`, and one more if a file can't be opened, made, read, written or
+/// synced. `dump` and `rebuild` also report on `faults` about the levels of a WAD. The writer is flushed after each
+/// turn of reading.
+pub fn perform<E, R, W, F>(
+    rt: &E,
+    request: &Request,
+    reader: &mut R,
+    writer: &mut W,
+    faults: &mut F,
+) -> u8
+where
+    E: AllocGlobal + Files,
+    E::File: FileExt + Hold,
+    R: Read,
+    W: Write,
+    F: Write,
+    ensures status { result ≤ 3 }
+    ensures performed { (how : Result ℕ Refusal) × (result ≡ status_in how)
+        × IsPerformed ⟦<FileDisk<&'static NotedFile<E::File>> as Disk>⟧
+        request.now how (R.remaining reader.old) (R.remaining reader.new)
+        (W.contents writer.old) (W.contents writer.new) }
+    ensures quiet { IsQuiet request.now result
+        → Keeps (F.contents faults.old) (F.contents faults.new) }
+    ensures told { HasToldNotes request.now result
+        (W.contents writer.old) (W.contents writer.new)
+        (F.contents faults.old) (F.contents faults.new) }
+{
+    let mut why = Causes {
+        file: None,
+        out: None,
+        beside: None,
+    };
+    let how = done(rt, request, reader, writer, faults, &mut why);
+    if let Err(refusal) = &how {
+        report(refusal, faults);
+        report_causes(rt.alloc(), request, &why, faults);
+    }
+    status_in(&how)
+}

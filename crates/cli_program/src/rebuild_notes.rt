@@ -1,0 +1,72 @@
+//! What the request `rebuild` reports on standard error: the faults that stay in the levels that are built anew.
+ghost use Rattle.std.specs.Prelude.{◌≡◌, MatchResult, flat_map};
+ghost use Rattle.std.specs.Io.KnownBytes.{Appends};
+ghost use Rattle.run_edit.specs.declared.error.EditorError.TheVariants.{WriterFailed};
+ghost use Rattle.cli_program.specs.Rebuilding.{kept_line, kept_notes, kept_of};
+
+use cli_print::write_shown;
+use lump_records::Name8;
+use run_edit::EditorError;
+use std::io::Write;
+use wad_rebuild::{Fate, KeptFault, RebuiltLevel};
+
+// The faults that stay in a level, if it is built anew.
+fn kept_of(fate: &Fate) -> &[KeptFault]
+    ensures { result.now ≡ kept_of fate.now }
+{
+    match fate {
+        Fate::Made(made) => &made.kept,
+        Fate::NotAsked | Fate::Left(_) => &[],
+    }
+}
+
+// Writes a fault that stays in the level with the name.
+fn write_fault<F: Write>(name: &Name8, fault: KeptFault, errors: &mut F) -> Result<(), EditorError>
+    ensures { MatchResult result
+        (λ _. Appends (F.contents errors.old) (F.contents errors.new) (kept_line name.now fault))
+        (λ e. e ≡ WriterFailed) }
+{
+    match write_shown(name.text(), errors) {
+        Ok(()) => {}
+        Err(error) => return Err(error),
+    }
+    match write!(errors, ": {fault}\n") {
+        Ok(()) => Ok(()),
+        Err(_) => Err(EditorError::WriterFailed),
+    }
+}
+
+// Writes the faults that stay in the level with the name, a line each.
+fn write_faults<F: Write>(
+    name: &Name8,
+    faults: &[KeptFault],
+    errors: &mut F,
+) -> Result<(), EditorError>
+    ensures { MatchResult result
+        (λ _. Appends (F.contents errors.old) (F.contents errors.new)
+        (flat_map (kept_line name.now) faults.now))
+        (λ e. e ≡ WriterFailed) }
+{
+    for fault in faults {
+        match write_fault(name, *fault, errors) {
+            Ok(()) => {}
+            Err(error) => return Err(error),
+        }
+    }
+    Ok(())
+}
+
+/// Writes the faults that stay in the levels that are built anew, a line each, after the level's name.
+pub fn write_notes<F: Write>(levels: &[RebuiltLevel], errors: &mut F) -> Result<(), EditorError>
+    ensures { MatchResult result
+        (λ _. Appends (F.contents errors.old) (F.contents errors.new) (kept_notes levels.now))
+        (λ e. e ≡ WriterFailed) }
+{
+    for level in levels {
+        match write_faults(&level.name, kept_of(&level.fate), errors) {
+            Ok(()) => {}
+            Err(error) => return Err(error),
+        }
+    }
+    Ok(())
+}

@@ -1,0 +1,325 @@
+//! The request `rebuild`: builds the levels of a WAD anew, and writes the new WAD into a file.
+ghost use Rattle.std.specs.Prelude.{◌≡◌, ◌≤◌, count_by, IfErr, IfOk, MatchResult, map, string_bytes};
+ghost use Rattle.std.specs.Io.KnownBytes.{Appends};
+ghost use Rattle.run_edit.specs.declared.error.EditorError.TheVariants.{WriterFailed};
+ghost use Rattle.cli_program.specs.Drawing.{IsUnread};
+ghost use Rattle.cli_program.specs.Rebuilding.{IsRebuiltAt, IsRebuiltOf, IsToldOf, fate_text, fate_texts, items_text, kept_notes, left_as_text, made_text, rebuilt_text, refusal_for, status_rebuilt, was_left, was_made};
+ghost use Rattle.cli_refusals.specs.declared.refusal.Refusal.{Refusal};
+
+use crate::rebuild_notes::write_notes;
+use cli_files::{Cause, Form, Hold, NewFile, open_new_of};
+use cli_print::{TURNS, read_whole, write_shown};
+use cli_refusals::{Causes, Refusal, status_told};
+use run_edit::{EditorError, InspectError};
+use std::fs::{self, Files, OpenFile};
+use std::io::Write;
+use wad_levels::ReadError;
+use wad_rebuild::{Fate, MadeLumps, RebuildError, RebuiltLevel, RebuiltWad, rebuild_wad};
+
+// The refusal of the request if the whole WAD is refused.
+fn refusal_of(error: RebuildError) -> Refusal
+    ensures { result ≡ refusal_for error }
+{
+    let error = match error {
+        RebuildError::TooLong => return Refusal::Lines(EditorError::InputTooLong),
+        RebuildError::NotAWad => ReadError::NotAWad,
+        RebuildError::DirectoryOutside => ReadError::DirectoryOutside,
+        RebuildError::NoSuchLevel => ReadError::NoSuchLevel,
+        RebuildError::LumpOutside => ReadError::LumpOutside,
+        RebuildError::OutOfMemory => ReadError::OutOfMemory,
+    };
+    Refusal::Level(InspectError::Level(error))
+}
+
+// Writes that a level is built anew, with these counts of its records.
+fn write_items<W: Write>(
+    vertices: usize,
+    segs: usize,
+    subs: usize,
+    nodes: usize,
+    writer: &mut W,
+) -> Result<(), EditorError>
+    ensures { MatchResult result
+        (λ _. Appends (W.contents writer.old) (W.contents writer.new)
+        (items_text vertices segs subs nodes))
+        (λ e. e ≡ WriterFailed) }
+{
+    let written = write!(
+        writer,
+        " rebuilt vertices {vertices} segs {segs} subsectors {subs} nodes {nodes}\n"
+    );
+    match written {
+        Ok(()) => Ok(()),
+        Err(_) => Err(EditorError::WriterFailed),
+    }
+}
+
+// Writes that a level is built anew, with the counts of its records.
+fn write_made<W: Write>(made: &MadeLumps, writer: &mut W) -> Result<(), EditorError>
+    ensures { MatchResult result
+        (λ _. Appends (W.contents writer.old) (W.contents writer.new) (made_text made.now))
+        (λ e. e ≡ WriterFailed) }
+{
+    let vertices = made.vertices.len() / 4;
+    let segs = made.segs.len() / 12;
+    let subs = made.subs.len() / 4;
+    let nodes = made.nodes.len() / 28;
+    write_items(vertices, segs, subs, nodes, writer)
+}
+
+// Writes why a level is left as it was.
+fn write_left<W: Write>(cause: &wad_rebuild::Cause, writer: &mut W) -> Result<(), EditorError>
+    ensures { MatchResult result
+        (λ _. Appends (W.contents writer.old) (W.contents writer.new) (left_as_text cause.now))
+        (λ e. e ≡ WriterFailed) }
+{
+    match write!(writer, " left: {cause}\n") {
+        Ok(()) => Ok(()),
+        Err(_) => Err(EditorError::WriterFailed),
+    }
+}
+
+// Writes what became of a level, if it was asked for.
+fn write_level<W: Write>(level: &RebuiltLevel, writer: &mut W) -> Result<(), EditorError>
+    ensures { MatchResult result
+        (λ _. Appends (W.contents writer.old) (W.contents writer.new)
+        (fate_text level.now.name level.now.fate))
+        (λ e. e ≡ WriterFailed) }
+{
+    if let Fate::NotAsked = &level.fate {
+        return Ok(());
+    }
+    match write_shown(level.name.text(), writer) {
+        Ok(()) => {}
+        Err(error) => return Err(error),
+    }
+    match &level.fate {
+        Fate::NotAsked => Ok(()),
+        Fate::Made(made) => match write_made(made, writer) {
+            Ok(()) => Ok(()),
+            Err(error) => Err(error),
+        },
+        Fate::Left(cause) => match write_left(cause, writer) {
+            Ok(()) => Ok(()),
+            Err(error) => Err(error),
+        },
+    }
+}
+
+// Writes what became of each level.
+fn write_levels<W: Write>(levels: &[RebuiltLevel], writer: &mut W) -> Result<(), EditorError>
+    ensures { MatchResult result
+        (λ _. Appends (W.contents writer.old) (W.contents writer.new) (fate_texts levels.now))
+        (λ e. e ≡ WriterFailed) }
+{
+    for level in levels {
+        match write_level(level, writer) {
+            Ok(()) => {}
+            Err(error) => return Err(error),
+        }
+    }
+    Ok(())
+}
+
+// Whether a level was built anew.
+fn was_made(fate: &Fate) -> bool
+    ensures { result ≡ was_made fate.now }
+{
+    match fate {
+        Fate::Made(_) => true,
+        Fate::NotAsked | Fate::Left(_) => false,
+    }
+}
+
+// Whether a level was left.
+fn was_left(fate: &Fate) -> bool
+    ensures { result ≡ was_left fate.now }
+{
+    match fate {
+        Fate::Left(_) => true,
+        Fate::NotAsked | Fate::Made(_) => false,
+    }
+}
+
+// How many levels were built anew.
+fn made_count(levels: &[RebuiltLevel]) -> usize
+    ensures { result ≡ count_by (λ l. was_made l.fate) levels.now }
+{
+    levels.iter().filter(|level| was_made(&level.fate)).count()
+}
+
+// How many levels were left.
+fn left_count(levels: &[RebuiltLevel]) -> usize
+    ensures { result ≡ count_by (λ l. was_left l.fate) levels.now }
+{
+    levels.iter().filter(|level| was_left(&level.fate)).count()
+}
+
+// Writes how many levels were built anew, of how many that were asked for, and how long the WAD is.
+fn write_end<W: Write>(
+    made: usize,
+    asked: usize,
+    bytes: usize,
+    writer: &mut W,
+) -> Result<(), EditorError>
+    ensures { MatchResult result
+        (λ _. Appends (W.contents writer.old) (W.contents writer.new)
+        (rebuilt_text made asked bytes))
+        (λ e. e ≡ WriterFailed) }
+{
+    match write!(writer, "rebuilt {made} of {asked} levels, {bytes} bytes\n") {
+        Ok(()) => Ok(()),
+        Err(_) => Err(EditorError::WriterFailed),
+    }
+}
+
+// Writes what became of the levels, flushes the writer, reports the faults that stay, and returns the status.
+fn tell_rebuilt<W: Write, F: Write>(
+    rebuilt: &RebuiltWad,
+    writer: &mut W,
+    errors: &mut F,
+) -> Result<u8, Refusal>
+    ensures small { IfOk result (λ s. s ≤ 3) }
+    ensures told { MatchResult result
+        (λ status. (status ≡ status_rebuilt rebuilt.now)
+        × IsToldOf rebuilt.now (W.contents writer.old) (W.contents writer.new)
+        × Appends (F.contents errors.old) (F.contents errors.new)
+        (kept_notes rebuilt.now.levels.items))
+        (λ refusal. refusal ≡ Refusal.Lines WriterFailed) }
+{
+    let made = made_count(&rebuilt.levels);
+    let left = left_count(&rebuilt.levels);
+    write_levels(&rebuilt.levels, writer)?;
+    write_end(made, made + left, rebuilt.bytes.len(), writer)?;
+    match writer.flush() {
+        Ok(()) => {}
+        Err(_) => return Err(Refusal::Lines(EditorError::WriterFailed)),
+    }
+    write_notes(&rebuilt.levels, errors)?;
+    Ok(status_told(left == 0))
+}
+
+// Writes all bytes of a WAD.
+fn hand_over<W: Write>(bytes: &[u8], writer: &mut W) -> Result<(), EditorError>
+    ensures { MatchResult result
+        (λ _. Appends (W.contents writer.old) (W.contents writer.new) bytes.now)
+        (λ e. e ≡ WriterFailed) }
+{
+    match writer.write_all(bytes) {
+        Ok(()) => Ok(()),
+        Err(_) => Err(EditorError::WriterFailed),
+    }
+}
+
+// Writes the WAD into a new file, which replaces the one at its path once it is whole; or notes why it doesn't.
+fn put_wad<E: Files, F: Write + OpenFile + Drop>(
+    rt: &E,
+    bytes: &[u8],
+    mut new: NewFile<F>,
+    why: &mut Option<Cause>,
+) -> Result<(), Refusal>
+    ensures { IfErr result (λ refusal. refusal ≡ Refusal.Lines WriterFailed) }
+{
+    match hand_over(bytes, &mut new) {
+        Ok(()) => match new.put(rt) {
+            Ok(()) => Ok(()),
+            Err(cause) => {
+                *why = Some(cause);
+                Err(Refusal::Lines(EditorError::WriterFailed))
+            }
+        },
+        Err(error) => {
+            *why = new.fault();
+            new.take_away(rt);
+            Err(Refusal::Lines(error))
+        }
+    }
+}
+
+// Builds the levels of the WAD anew that was read at the path, into the file at `out`, and reports on each.
+fn rebuild_into<E, W, F>(
+    rt: &E,
+    path: &str,
+    wad: &[u8],
+    out: &str,
+    names: &[String],
+    writer: &mut W,
+    errors: &mut F,
+    why: &mut Option<Cause>,
+) -> Result<u8, Refusal>
+where
+    E: AllocGlobal + Files,
+    E::File: Hold,
+    W: Write,
+    F: Write,
+    ensures small { IfOk result (λ s. s ≤ 3) }
+    ensures rebuilt { IsRebuiltOf wad.now (map string_bytes names.now) result
+        (W.contents writer.old) (W.contents writer.new)
+        (F.contents errors.old) (F.contents errors.new) }
+{
+    let rebuilt = match rebuild_wad(rt.alloc(), wad, names) {
+        Ok(rebuilt) => rebuilt,
+        Err(error) => return Err(refusal_of(error)),
+    };
+    let new = match open_new_of(rt.alloc(), rt, path, out, Form::Pwad) {
+        Ok(new) => new,
+        Err(cause) => {
+            *why = Some(cause);
+            return Err(Refusal::Lines(EditorError::WriterFailed));
+        }
+    };
+    match put_wad(rt, &rebuilt.bytes, new, why) {
+        Ok(()) => tell_rebuilt(&rebuilt, writer, errors),
+        Err(refusal) => Err(refusal),
+    }
+}
+
+// The bytes of the file at the path, or notes why it can't be opened.
+fn read_at<E: AllocGlobal + Files>(
+    rt: &E,
+    path: &str,
+    why: &mut Option<Cause>,
+) -> Result<Vec<u8>, Refusal>
+    ensures { IfErr result IsUnread }
+{
+    match fs::open(rt, path) {
+        Ok(mut file) => match read_whole(rt.alloc(), &mut file, TURNS) {
+            Ok(bytes) => Ok(bytes),
+            Err(error) => Err(Refusal::Lines(error)),
+        },
+        Err(error) => {
+            *why = Some(Cause::System(error));
+            Err(Refusal::Lines(EditorError::ReaderFailed))
+        }
+    }
+}
+
+/// Builds the levels of the WAD at the path anew, all or those with the names, and writes the new WAD into the file at
+/// `out`. Writes what became of each level, and on `errors` the faults that stay in those that were built anew; or
+/// notes why a file can't be opened or made. The WAD is read whole first, so `out` may be its path; otherwise `out` may
+/// be new, empty or a PWAD. That file is whole or as it was.
+pub fn rebuild<E, W, F>(
+    rt: &E,
+    path: &str,
+    out: &str,
+    names: &[String],
+    writer: &mut W,
+    errors: &mut F,
+    why: &mut Causes,
+) -> Result<u8, Refusal>
+where
+    E: AllocGlobal + Files,
+    E::File: Hold,
+    W: Write,
+    F: Write,
+    ensures small { IfOk result (λ s. s ≤ 3) }
+    ensures rebuilt { IsRebuiltAt (map string_bytes names.now) result
+        (W.contents writer.old) (W.contents writer.new)
+        (F.contents errors.old) (F.contents errors.new) }
+{
+    let wad = match read_at(rt, path, &mut why.file) {
+        Ok(wad) => wad,
+        Err(refusal) => return Err(refusal),
+    };
+    rebuild_into(rt, path, &wad, out, names, writer, errors, &mut why.out)
+}

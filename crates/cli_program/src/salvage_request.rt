@@ -1,0 +1,108 @@
+//! The request `dump --salvage`: the lines that draw the maps again which can be read from a damaged project.
+ghost use Rattle.std.specs.Prelude.{◌≡◌, ◌≤◌, ◌⊎◌, IfErr, IfOk};
+ghost use Rattle.store_disk.specs.Reading.{OnlyReads};
+ghost use Rattle.store_disk.specs.Stops.{Each};
+ghost use Rattle.run_edit.specs.Recovery.{IsOnlyRead};
+ghost use Rattle.cli_program.specs.Salvaging.{IsSalvagedFrom, IsSalvagedOver, refusal_for_salvage};
+
+use crate::over_disk::HandedBack;
+use cli_dump::tell_lines;
+use cli_refusals::Refusal;
+use std::alloc::Global;
+use std::io::Write;
+use store_disk::Disk;
+use store_project::ProjectError;
+use store_salvage::{SalvageError, Salvaged, salvage};
+
+// The refusal of a salvage, as that of a project.
+fn refusal_of(error: SalvageError) -> ProjectError
+    ensures { result ≡ refusal_for_salvage error }
+{
+    match error {
+        SalvageError::Damaged { place } => ProjectError::Damaged { place },
+        SalvageError::Blank => ProjectError::Blank,
+        SalvageError::NotAProject => ProjectError::NotAProject,
+        SalvageError::BadGeometry => ProjectError::BadGeometry,
+        SalvageError::OutOfMemory => ProjectError::OutOfMemory,
+    }
+}
+
+// All bytes of a disk.
+fn read_bytes<D: Disk>(alloc: Global, disk: &mut D) -> Result<Vec<u8>, ProjectError>
+    ensures told { IfOk result (λ bytes. Each (D.reads disk.old) (λ file. bytes.items ≡ file)) }
+    ensures refused { IfErr result
+        (λ e. (e ≡ ProjectError.Device) ⊎ (e ≡ ProjectError.OutOfMemory)) }
+    ensures reads { OnlyReads D.Disk disk.old disk.new }
+{
+    let Ok(len) = disk.len() else {
+        return Err(ProjectError::Device);
+    };
+    let Ok(mut bytes) = vec![in alloc; 0; len as usize] else {
+        return Err(ProjectError::OutOfMemory);
+    };
+    match disk.read(0, &mut bytes) {
+        Ok(()) => Ok(bytes),
+        Err(_) => Err(ProjectError::Device),
+    }
+}
+
+// Writes where the file is damaged, how many records are kept and how many aren't.
+fn tell_damage<F: Write>(found: &Salvaged, faults: &mut F) {
+    let kept = found.records;
+    let behind = found.behind;
+    let _ = match found.damage {
+        Some(place) => writeln!(
+            faults,
+            "leveled: damaged at {place}: {kept} records are kept, {behind} behind them are not"
+        ),
+        None => writeln!(faults, "leveled: no damage: {kept} records"),
+    };
+}
+
+// Writes the lines that draw the maps again which can be read from a file's bytes.
+fn write_salvaged<W: Write, F: Write>(
+    alloc: Global,
+    file: &[u8],
+    writer: &mut W,
+    faults: &mut F,
+) -> Result<u8, Refusal>
+    ensures small { IfOk result (λ s. s ≤ 3) }
+    ensures salvaged { IsSalvagedFrom file.now result
+        (W.contents writer.old) (W.contents writer.new) }
+{
+    let found = match salvage(alloc, file) {
+        Ok(found) => found,
+        Err(error) => return Err(Refusal::Project(refusal_of(error))),
+    };
+    let how = tell_lines(alloc, &found.maps, writer);
+    if how.is_ok() {
+        tell_damage(&found, faults);
+    }
+    how
+}
+
+/// Writes the lines that draw the maps again which can be read from a disk's project, damaged or not, and reports where
+/// it is damaged. The disk is only read.
+#[inline(never)]
+pub fn salvage_lines<D: Disk, W: Write, F: Write>(
+    alloc: Global,
+    disk: D,
+    writer: &mut W,
+    faults: &mut F,
+) -> HandedBack<D>
+    ensures small { IfOk result.how (λ s. s ≤ 3) }
+    ensures salvaged { IsSalvagedOver (D.reads disk) result.how
+        (W.contents writer.old) (W.contents writer.new) }
+    ensures only_read { IsOnlyRead D.Disk disk result.disk }
+{
+    let mut disk = disk;
+    let bytes = match read_bytes(alloc, &mut disk) {
+        Ok(bytes) => bytes,
+        Err(error) => {
+            let how = Err(Refusal::Project(error));
+            return HandedBack { how, disk };
+        }
+    };
+    let how = write_salvaged(alloc, &bytes, writer, faults);
+    HandedBack { how, disk }
+}

@@ -1,0 +1,218 @@
+//! Why a request was refused, and the lines that say so.
+ghost use Rattle.std.specs.Prelude.{◌≡◌};
+ghost use Rattle.cli_refusals.specs.declared.refusal.Refusal.TheVariants.{Build, Level, Lines};
+
+use crate::unbuilt::write_unbuilt;
+use cli_files::{Cause, write_cause};
+use cli_words::Request;
+use run_edit::{EditorError, InspectError, WriteError};
+use std::alloc::Global;
+use std::io::Write;
+use store_project::ProjectError;
+use wad_build::{BuildError, ReadError};
+use wad_import::ImportError;
+
+/// Why a request was refused.
+#[derive(Clone, Copy)]
+pub enum Refusal {
+    /// The lines of the input, or the output.
+    Lines(EditorError),
+    /// The project file.
+    Project(ProjectError),
+    /// The level of a WAD.
+    Level(InspectError),
+    /// The PWAD of the maps.
+    Build(WriteError),
+    /// The project has no map of the name.
+    NoSuchMap,
+    /// The level of a WAD is no map, whatever is changed of it.
+    NotAMap(ImportError),
+    /// What the level's own tree names isn't there.
+    TreeOutside,
+}
+
+/// Why a request's files can't be opened or made, if that is known; at most one of `out` and `beside` is given.
+#[derive(Clone, Copy)]
+pub struct Causes {
+    /// Of FILE or WAD.
+    pub file: Option<Cause>,
+    /// Of OUT.
+    pub out: Option<Cause>,
+    /// Of what is read beside FILE, SCRIPT or the WAD of `lint`.
+    pub beside: Option<Cause>,
+}
+
+impl From<EditorError> for Refusal {
+    ghost from_gives = { λ error r. r ≡ Lines error };
+
+    fn from(error: EditorError) -> Refusal {
+        Refusal::Lines(error)
+    }
+}
+
+impl From<InspectError> for Refusal {
+    ghost from_gives = { λ error r. r ≡ Level error };
+
+    fn from(error: InspectError) -> Refusal {
+        Refusal::Level(error)
+    }
+}
+
+impl From<WriteError> for Refusal {
+    ghost from_gives = { λ error r. r ≡ Build error };
+
+    fn from(error: WriteError) -> Refusal {
+        Refusal::Build(error)
+    }
+}
+
+impl Refusal {
+    // The number of the refusal.
+    fn code(&self) -> u16 {
+        match self {
+            Refusal::Lines(error) => error.code(),
+            Refusal::Project(error) => error.code(),
+            Refusal::Level(error) => error.code(),
+            Refusal::Build(error) => error.code(),
+            Refusal::NoSuchMap => 18,
+            Refusal::NotAMap(_) => 77,
+            Refusal::TreeOutside => 78,
+        }
+    }
+
+    // The name of the refusal, as the program prints it.
+    fn name(&self) -> &'static str {
+        match self {
+            Refusal::Lines(error) => name_of(*error),
+            Refusal::Project(error) => name_of_project(*error),
+            Refusal::Level(error) => name_of_level(*error),
+            Refusal::Build(WriteError::Build(unbuilt)) => name_of_build(unbuilt.error),
+            Refusal::Build(WriteError::WriterFailed) => "WriterFailed",
+            Refusal::NoSuchMap => "NoSuchMap",
+            Refusal::NotAMap(_) => "NotAMap",
+            Refusal::TreeOutside => "TreeOutside",
+        }
+    }
+}
+
+// The name of the refusal that ended a run.
+fn name_of(error: EditorError) -> &'static str {
+    match error {
+        EditorError::OutOfMemory => "Memory",
+        EditorError::InputTooLong => "InputTooLong",
+        EditorError::ReaderFailed => "ReaderFailed",
+        EditorError::WriterFailed => "WriterFailed",
+    }
+}
+
+// The name of a project file's refusal.
+fn name_of_project(error: ProjectError) -> &'static str {
+    match error {
+        ProjectError::Refused(_) => "Refused",
+        ProjectError::Device => "Device",
+        ProjectError::OutOfMemory => "Memory",
+        ProjectError::Reopen => "Reopen",
+        ProjectError::GenerationsSpent => "GenerationsSpent",
+        ProjectError::Damaged { .. } => "Damaged",
+        ProjectError::Blank => "Blank",
+        ProjectError::NotAProject => "NotAProject",
+        ProjectError::NotEmpty => "NotEmpty",
+        ProjectError::BadGeometry => "BadGeometry",
+    }
+}
+
+// The name of a level's refusal.
+fn name_of_level(error: InspectError) -> &'static str {
+    match error {
+        InspectError::Level(ReadError::LumpLength) => "LumpLength",
+        InspectError::Level(ReadError::NotAWad) => "NotAWad",
+        InspectError::Level(ReadError::DirectoryOutside) => "DirectoryOutside",
+        InspectError::Level(ReadError::NoSuchLevel) => "NoSuchLevel",
+        InspectError::Level(ReadError::LumpMissing) => "LumpMissing",
+        InspectError::Level(ReadError::LumpOutside) => "LumpOutside",
+        InspectError::Level(ReadError::HexenLevel) => "HexenLevel",
+        InspectError::Level(ReadError::TextureLump) => "TextureLump",
+        InspectError::Level(ReadError::OutOfMemory) => "Memory",
+        InspectError::WriterFailed => "WriterFailed",
+    }
+}
+
+// The name of a build's refusal.
+fn name_of_build(error: BuildError) -> &'static str {
+    match error {
+        BuildError::NothingToBuild => "NothingToBuild",
+        BuildError::TooManyVertices => "TooManyVertices",
+        BuildError::TooManySegs => "TooManySegs",
+        BuildError::TooManySubsectors => "TooManySubsectors",
+        BuildError::TooDeep => "TooDeep",
+        BuildError::BlockmapTooLarge => "BlockmapTooLarge",
+        BuildError::OutOfMemory => "Memory",
+    }
+}
+
+/// Writes why a request was refused, as `leveled: CODE NAME`; also the place where a file is damaged, which map can't
+/// be built, or why a level is no map.
+pub fn report<F: Write>(refusal: &Refusal, faults: &mut F) {
+    let code = refusal.code();
+    let name = refusal.name();
+    let _ = match refusal {
+        Refusal::Project(ProjectError::Damaged { place }) => {
+            writeln!(faults, "leveled: {code} {name} at {place}")
+        }
+        _ => writeln!(faults, "leveled: {code} {name}"),
+    };
+    if let Refusal::Build(WriteError::Build(unbuilt)) = refusal {
+        let _ = write_unbuilt(*unbuilt, faults);
+    }
+    if let Refusal::NotAMap(error) = refusal {
+        let _ = writeln!(faults, "  {error}");
+    }
+}
+
+// The file that a request opens, and the one that it makes, or reads beside it.
+fn paths_of(request: &Request) -> (&str, &str) {
+    match request {
+        Request::Scratch => ("", ""),
+        Request::Create { file, .. }
+        | Request::Edit { file }
+        | Request::Check { file, .. }
+        | Request::Dump { file, .. }
+        | Request::Salvage { file } => (file.as_str(), ""),
+        Request::Inspect { wad, .. } | Request::Levels { wad } => (wad.as_str(), ""),
+        Request::TryScript { script, .. } => (script.as_str(), ""),
+        Request::Build { file, out } => (file.as_str(), out.as_str()),
+        Request::Rebuild { wad, out, .. } => (wad.as_str(), out.as_str()),
+        Request::Picture {
+            file,
+            out: other,
+            ..
+        }
+        | Request::Draw {
+            file,
+            script: other,
+            ..
+        }
+        | Request::Lint {
+            file,
+            iwad: other,
+            ..
+        } => match other {
+            Some(other) => (file.as_str(), other.as_str()),
+            None => (file.as_str(), ""),
+        },
+    }
+}
+
+/// Writes why a file can't be opened or made, as `  PATH: REASON`, if that is known.
+pub fn report_causes<F: Write>(alloc: Global, request: &Request, why: &Causes, faults: &mut F) {
+    let (file, other) = paths_of(request);
+    if let Some(cause) = &why.file {
+        let _ = write_cause(alloc, file, cause, faults);
+    }
+    if let Some(cause) = &why.out {
+        let _ = write_cause(alloc, other, cause, faults);
+    }
+    if let Some(cause) = &why.beside {
+        let _ = write_cause(alloc, other, cause, faults);
+    }
+}

@@ -1,8 +1,0 @@
--- The offsets so far are written.
-use Rattle.std.specs.Prelude.{◌≡◌, ◌++◌, take, map, slice_index}
-use Rattle.lv_blockmap.specs.Layout.{word_bytes}
-use Rattle.lv_blockmap.proofs.layout.put_offsets.Given as goal
-
-abbrev pub invariant-loop-place : goal.invariant-loop-place
-invariant-loop-place l =
-    l.bytes.items ≡ l.initial.bytes.items ++ word_bytes (map (λ place. slice_index l.starts place) (take l.place-index l.places))

@@ -1,8 +1,0 @@
-use Rattle.std.proofs.Common.{◌≡◌, ◌++◌, map, filter}
-use Rattle.lv_checks.specs.Tallies.{is_uneven, corner_open}
-use Rattle.lv_checks.proofs.corners.list_open.Given as goal
-
-abbrev pub invariant-loop-sector : goal.invariant-loop-sector
-invariant-loop-sector l =
-    l.found.items ++ map corner_open (filter is_uneven l.sector-iterator)
-    ≡ l.initial.found.items ++ map corner_open (filter is_uneven l.degrees.entries)

@@ -1,7 +1,0 @@
-use Rattle.std.proofs.Common.{take}
-use Rattle.lv_maptables.specs.Faults.{uses_vertex}
-use Rattle.lv_checks.specs.Tallies.{Marks}
-use Rattle.lv_checks.proofs.unused.used_vertices.Given as goal
-
-abbrev pub invariant-loop-n : goal.invariant-loop-n
-invariant-loop-n l = Marks uses_vertex l.map.tables.vertices (take l.n l.map.tables.lines) l.used.items

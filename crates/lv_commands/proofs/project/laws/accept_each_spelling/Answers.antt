@@ -1,5 +1,0 @@
-use Rattle.lv_commands.proofs.ProjectWords.{project_spelling-accepted}
-use Rattle.lv_commands.proofs.project.laws.accept_each_spelling.Goals as goal
-
-pub returns : goal.returns
-returns c = project_spelling-accepted

@@ -1,8 +1,0 @@
-use Rattle.std.proofs.Common.{◌∙◌, ap}
-use Rattle.lv_commands.specs.Spelling.{head_word}
-use Rattle.lv_commands.proofs.Writing.{whole}
-use Rattle.lv_commands.proofs.spelling.words.Goals as goal
-
-pub returns : goal.returns
-returns c =
-    whole _ c.in_ok-text.text c.args.command.now (c.in_ok-text.ensures ∙ c.head_text.ensures ∙ ap head_word c.head_for.ensures) c.words_behind.ensures

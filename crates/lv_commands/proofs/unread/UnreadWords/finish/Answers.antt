@@ -1,7 +1,0 @@
-use Rattle.std.proofs.Common.{rules}
-use Rattle.lv_commands.proofs.Parts.{parts-some}
-use Rattle.lv_commands.proofs.Readings.{left-over}
-use Rattle.lv_commands.proofs.unread.UnreadWords.finish.Goals as goal
-
-pub returns-in-Some-default-clause-fault : goal.returns-in-Some-default-clause-fault
-returns-in-Some-default-clause-fault c = search (rules, left-over, parts-some)

@@ -1,7 +1,0 @@
-use Rattle.std.proofs.Common.{◌≡◌, drop}
-use Rattle.lv_draw.specs.Words.{text_words}
-use Rattle.lv_draw.proofs.words.without_blanks.Given as goal
-
--- the bytes so far are blank
-abbrev pub invariant-loop-i : goal.invariant-loop-i
-invariant-loop-i l = text_words (drop l.i l.text) ≡ text_words l.text

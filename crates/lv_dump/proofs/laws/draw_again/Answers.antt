@@ -1,5 +1,0 @@
-use Rattle.lv_dump.proofs.Drawn.{draws_again}
-use Rattle.lv_dump.proofs.laws.draw_again.Goals as goal
-
-pub returns : goal.returns
-returns c = draws_again

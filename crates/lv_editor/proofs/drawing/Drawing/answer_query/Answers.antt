@@ -1,9 +1,0 @@
-use Rattle.std.proofs.Common.{subst}
-use Rattle.lv_maptables.specs.Projects.{ProjectMaps}
-use Rattle.lv_editor.specs.Queries.{WritesAnswer}
-use Rattle.lv_editor.proofs.drawing.Drawing.answer_query.Goals as goal
-
-pub returns : goal.returns
-returns g c =
-    subst (λ (p : ProjectMaps). WritesAnswer c.write_answer.result p c.args.query (g.W.Write.contents c.args.writer.now) (g.W.Write.contents c.write_answer.new.writer))
-    c.self.view_is c.write_answer.ensures

@@ -1,5 +1,0 @@
-use Rattle.std.proofs.Common.{refl}
-use Rattle.lv_editor.proofs.recovery.build_maps.Goals as goal
-
-pub returns-in-Err : goal.returns-in-Err
-returns-in-Err c = (c.in-Err.error, refl, c.in-Err.ensures.refused)

@@ -1,8 +1,0 @@
-use Rattle.std.proofs.Common.{◌++◌}
-use Rattle.lv_editor.proofs.DeedCalls.{done_calls, go_parted}
-use Rattle.lv_editor.proofs.recovery.sessions_hold_runs.Goals as goal
-
-pub returns : goal.returns
-returns g c first deeds front back last done =
-    let all = done_calls g.D.Disk deeds (front ++ back) first last done in
-    go_parted g.D.Disk front back first last all

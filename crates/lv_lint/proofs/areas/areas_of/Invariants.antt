@@ -1,5 +1,0 @@
-use Rattle.lv_lint.specs.Tallies.{AreSums}
-use Rattle.lv_lint.proofs.areas.areas_of.Given as goal
-
-abbrev pub invariant-loop-n : goal.invariant-loop-n
-invariant-loop-n l = AreSums l.map.tables l.n l.areas.items

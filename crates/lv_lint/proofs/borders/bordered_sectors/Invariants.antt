@@ -1,6 +1,0 @@
-use Rattle.std.proofs.Common.{take}
-use Rattle.lv_lint.specs.Tallies.{MarksBordered}
-use Rattle.lv_lint.proofs.borders.bordered_sectors.Given as goal
-
-abbrev pub invariant-loop-n : goal.invariant-loop-n
-invariant-loop-n l = MarksBordered l.map.tables (take l.n l.map.tables.lines) l.marks.items

@@ -1,6 +1,0 @@
-use Rattle.std.proofs.Common.{◌≡◌, flat_map, take}
-use Rattle.lv_lint.specs.Rules.{breaches}
-use Rattle.lv_lint.proofs.report.lint.Given as goal
-
-abbrev pub invariant-loop-rule : goal.invariant-loop-rule
-invariant-loop-rule l = l.found.items ≡ flat_map (breaches l.map.tables) (take l.rule-index l.rule-items)

@@ -1,9 +1,0 @@
-use Rattle.std.proofs.Common.{◌≡◌, ◌≤◌, count_by, take}
-use Rattle.lv_lint.specs.Starts.{is_of_type}
-use Rattle.lv_lint.proofs.starts.things_of_type.Given as goal
-
-abbrev pub invariant-loop-n : goal.invariant-loop-n
-invariant-loop-n l = record {
-  counted : l.count ≡ count_by (is_of_type l.kind) (take l.n l.map.tables.things);
-  few : l.count ≤ l.n;
-}

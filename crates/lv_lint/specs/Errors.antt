@@ -1,8 +1,0 @@
--- The numbers of the refusals.
-use Rattle.std.specs.Prelude.{ℕ}
-use Rattle.lv_lint.specs.declared.error.LintError.{LintError}
-use Rattle.lv_lint.specs.declared.error.LintError.TheVariants.{OutOfMemory}
-
--- the number of each refusal
-abbrev pub code_of : LintError → ℕ
-code_of OutOfMemory = 31

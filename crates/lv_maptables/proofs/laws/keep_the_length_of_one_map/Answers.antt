@@ -1,6 +1,0 @@
--- After their first two bytes both bodies are the map's part.
-use Rattle.lv_maptables.proofs.BodyLaws.{one_length}
-use Rattle.lv_maptables.proofs.laws.keep_the_length_of_one_map.Goals as goal
-
-pub returns : goal.returns
-returns c = one_length

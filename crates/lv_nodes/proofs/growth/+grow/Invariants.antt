@@ -1,4 +1,0 @@
-use Rattle.lv_nodes.proofs.growth.+grow.Given as goal
-
-abbrev pub decreases-grow : goal.decreases-grow
-decreases-grow l = l.room

@@ -1,6 +1,0 @@
-use Rattle.lv_partition.proofs.BoxLemmas.{AreFirstBlocks}
-use Rattle.lv_partition.proofs.block_boxes.blocks_of.Given as goal
-
--- the boxes of the blocks before the k-th are made
-abbrev pub invariant-loop-k : goal.invariant-loop-k
-invariant-loop-k l = AreFirstBlocks l.boxes l.blocks.items l.k

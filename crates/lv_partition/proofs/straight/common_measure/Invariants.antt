@@ -1,4 +1,0 @@
-use Rattle.lv_partition.proofs.straight.common_measure.Given as goal
-
-abbrev pub decreases-loop-b : goal.decreases-loop-b
-decreases-loop-b l = l.b

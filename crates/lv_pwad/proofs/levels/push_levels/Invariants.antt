@@ -1,9 +1,0 @@
--- The lumps of the levels so far are in the PWAD.
-use Rattle.std.specs.Prelude.{take, All}
-use Rattle.lv_pwad.specs.Wad.{all_lumps, IsCoded}
-use Rattle.lv_pwad.specs.Views.{built_view, level_parts}
-use Rattle.lv_pwad.specs.Writer.{PutsLumps}
-use Rattle.lv_pwad.proofs.levels.push_levels.Given as goal
-
-abbrev pub invariant-loop-n : goal.invariant-loop-n
-invariant-loop-n l = PutsLumps l.initial.wad l.wad (all_lumps (level_parts (take l.n l.levels))) × All (λ x. IsCoded (built_view x.level)) (take l.n l.levels)

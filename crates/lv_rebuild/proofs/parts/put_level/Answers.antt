@@ -1,4 +1,0 @@
-use Rattle.lv_rebuild.proofs.parts.put_level.Goals as goal
-
-pub returns-in-Made : goal.returns-in-Made
-returns-in-Made c = rw c.in-Made.is c.put_made.ensures

@@ -1,7 +1,0 @@
--- The lumps up to the n-th level, and those in place of it, are appended.
-use Rattle.std.specs.Prelude.{drop}
-use Rattle.lv_rebuild.proofs.PartLemmas.{IsPutUpTo}
-use Rattle.lv_rebuild.proofs.parts.put_rebuilt.Given as goal
-
-abbrev pub invariant-loop-n : goal.invariant-loop-n
-invariant-loop-n l = IsPutUpTo l.wad l.levels (drop l.n l.levels) l.next l.initial.to l.to

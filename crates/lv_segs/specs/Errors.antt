@@ -1,9 +1,0 @@
--- The numbers of the refusals.
-use Rattle.std.specs.Prelude.{ℕ}
-use Rattle.lv_segs.specs.declared.error.SegsError.{SegsError}
-use Rattle.lv_segs.specs.declared.error.SegsError.TheVariants.{OutOfMemory, TooManyVertices}
-
--- the number by which a refusal is answered
-abbrev pub code_of : SegsError → ℕ
-code_of TooManyVertices = 61
-code_of OutOfMemory = 31

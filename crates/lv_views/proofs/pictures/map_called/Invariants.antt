@@ -1,9 +1,0 @@
-use Rattle.std.proofs.Common.{◌≡◌, ◌<◌, ℕ, false, get_or}
-use Rattle.lv_maptables.specs.Projects.{project_of}
-use Rattle.lv_maptables.specs.Tables.{Tables}
-use Rattle.lv_views.specs.Picturing.{is_called}
-use Rattle.lv_views.proofs.pictures.map_called.Given as goal
-
--- no map so far is called so
-abbrev pub invariant-loop-n : goal.invariant-loop-n
-invariant-loop-n l = (k : ℕ) (d : Tables) → k < l.n → is_called l.name (get_or (project_of l.maps).maps k d) ≡ false

@@ -1,0 +1,27 @@
+-- A room that is flat.
+use Rattle.std.proofs.Common.{◌≡◌, ℕ, cond, ◌&&◌, List, [], ◌∷◌, ◌∙◌, ap, arith, ℤ, pos, negsuc, Option, Some, None, FitsSigned}
+use Rattle.std.specs.Prelude.{int_lt}
+use Rattle.std.specs.Int.{w16}
+use Rattle.std.proofs.lemmas.Int.{ints}
+use Rattle.lump_records.specs.Drawing.{IsCoordinate}
+use Rattle.map_commands.specs.declared.command.RoomPlan.{RoomPlan}
+use Rattle.map_commands.specs.CommandRanges.{IsPlan, last_of}
+use Rattle.map_commands.specs.Grammar.{room_fault, or_else, flat_fault, kind_of, kind_fault, drop_fault}
+use Rattle.map_commands.specs.Places.{Number, places_fault, room_places}
+use Rattle.map_commands.specs.Spelling.{room_words}
+use Rattle.map_commands.proofs.Numerals.{value-back}
+use Rattle.map_tables.specs.declared.kind.Kind.{Kind}
+
+fits : (z : ℤ) → IsCoordinate z → FitsSigned w16 z
+fits (pos n) h = let a = h.at_most in record { sfits = omega (arith, ints, a) }
+fits (negsuc n) h = let a = h.at_least in record { sfits = omega (arith, ints, a) }
+
+pub room-fault-is : (r : RoomPlan) (ws : List (List ℕ)) → ws ≡ room_words r → IsPlan r → places_fault room_places ws
+    ≡ None → room_fault ws ≡ cond (int_lt r.west r.east && int_lt r.south r.north) None (Some 2)
+room-fault-is r ws e h f =
+    ap (λ x. or_else x (flat_fault ws)) f ∙ ap flat_fault e
+    ∙ (λ i. cond {A = Option ℕ} (int_lt (value-back r.west (fits r.west h.west) i) (value-back r.east (fits r.east h.east) i)
+    && int_lt (value-back r.south (fits r.south h.south) i) (value-back r.north (fits r.north h.north) i)) None (Some 2))
+
+pub drop-is : (ws us : List (List ℕ)) (w : List ℕ) (k : Kind) → ws ≡ w ∷ us → kind_of w ≡ Some k → drop_fault ws ≡ places_fault (Number (pos 0) (pos (last_of k)) ∷ []) us
+drop-is ws us w k e f = ap drop_fault e ∙ ap (λ x. kind_fault x us) f

@@ -1,0 +1,12 @@
+use Rattle.map_commands.proofs.Writing.{further}
+use Rattle.map_commands.proofs.text.Text.line.Goals as goal
+
+pub returns : goal.returns
+returns c =
+    further _ _ _ _ _ c.in_ok-item.ensures
+    (further _ _ _ _ _ c.in_ok-item-2.ensures
+    (further _ _ _ _ _ c.in_ok-item-3.ensures
+    (further _ _ _ _ _ c.in_ok-item-4.ensures
+    (further _ _ _ _ _ c.in_ok-item-5.ensures
+    (further _ _ _ _ _ c.in_ok-item-6.ensures
+    (c.left.ensures))))))

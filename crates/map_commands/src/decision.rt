@@ -1,0 +1,148 @@
+//! Decides whether a map accepts a command, leaving memory aside. If several refusals apply, the one with the lowest
+//! code is given.
+ghost use Rattle.std.specs.Prelude.{◌≡◌, ◌+◌, ◌≤◌, ◌<◌, ◌||◌, nat_lt, length, [], ◌∷◌, ◌++◌};
+ghost use Rattle.std.specs.List.{list_any};
+ghost use Rattle.map_tables.specs.Faults.{is_taken, lacks_room, lacks_sector_room, is_too_long};
+ghost use Rattle.map_tables.specs.Outcomes.{Tells};
+ghost use Rattle.map_tables.specs.Tables.{count_of, table_limit};
+ghost use Rattle.lump_records.specs.Drawing.{longest_squared, squared_distance};
+ghost use Rattle.map_tables.specs.WellFormed.{HasEnds, nth_vertex};
+ghost use Rattle.map_commands.specs.Rooms.{corners, room_faults};
+ghost use Rattle.map_commands.specs.Splits.{cut_faults, cut_off, cut_short, split_faults};
+ghost use Rattle.map_commands.specs.Step.{drop_faults, faults};
+
+use crate::command::{Command, LineSplit, RoomPlan};
+use crate::room::corners_of;
+use lump_records::{LONGEST_SQUARED, Line, Vertex, squared_distance};
+use map_tables::{Kind, Map, MapError};
+
+// Whether the map has no room for `more` further items of a kind.
+fn lacks_room(map: &Map, kind: Kind, more: u32) -> bool
+    requires { more ≤ 4 }
+    ensures { result ≡ nat_lt (table_limit kind) (count_of map.now.tables kind + more) }
+{
+    map.count(kind) + more > kind.limit()
+}
+
+// Whether an item can be removed.
+fn can_drop(map: &Map, kind: Kind, n: u32) -> Result<(), MapError>
+    ensures { Tells result (drop_faults map.now.tables kind n) }
+{
+    match kind {
+        Kind::Vertex => map.can_drop_vertex(n),
+        Kind::Sector => map.can_drop_sector(n),
+        Kind::Side => map.can_drop_side(n),
+        Kind::Line => map.can_drop_line(n),
+        Kind::Thing => map.can_drop_thing(n),
+    }
+}
+
+// Whether a vertex already stands at a corner.
+fn has_corner_taken(map: &Map, plan: &RoomPlan) -> bool
+    ensures { result ≡ list_any (is_taken map.now.tables.vertices) (corners plan.now) }
+{
+    corners_of(plan).iter().any(|corner| map.has_place(*corner))
+}
+
+// Whether a table is too full for what a room adds to it.
+fn is_too_full_to_draw(map: &Map) -> bool
+    ensures { result ≡ (lacks_room map.now.tables.vertices 4
+        || lacks_sector_room map.now.tables.sectors 1
+        || lacks_room map.now.tables.sides 4 || lacks_room map.now.tables.lines 4) }
+{
+    lacks_room(map, Kind::Vertex, 4)
+        || lacks_room(map, Kind::Sector, 1)
+        || lacks_room(map, Kind::Side, 4)
+        || lacks_room(map, Kind::Line, 4)
+}
+
+// Whether a room can be drawn.
+fn can_draw(map: &Map, plan: &RoomPlan) -> Result<(), MapError>
+    ensures { Tells result (room_faults map.now.tables plan.now) }
+{
+    if has_corner_taken(map, plan) {
+        return Err(MapError::PlaceTaken);
+    }
+    if is_too_full_to_draw(map) {
+        return Err(MapError::TableFull);
+    }
+    Ok(())
+}
+
+// Whether two places are further apart than the ends of a line may be.
+fn are_too_far(a: Vertex, b: Vertex) -> bool
+    ensures { result ≡ nat_lt longest_squared (squared_distance a b) }
+{
+    squared_distance(a, b) > LONGEST_SQUARED
+}
+
+// The vertex with this number.
+fn vertex_of(map: &Map, n: u16) -> Vertex
+    requires { n < length map.now.tables.vertices }
+    ensures { result ≡ nth_vertex map.now.tables.vertices n }
+{
+    map.vertex(u32::from(n)).unwrap()
+}
+
+// Whether one of the halves would be too long if a line were cut in two at a place.
+fn has_long_half(map: &Map, line: &Line, at: Vertex) -> bool
+    requires { HasEnds map.now.tables.vertices line.now }
+    ensures { let vertices = map.now.tables.vertices ++ at ∷ [] in result
+        ≡ (is_too_long vertices (cut_short line.now (length map.now.tables.vertices))
+        || is_too_long vertices (cut_off line.now (length map.now.tables.vertices))) }
+{
+    let start = vertex_of(map, line.v1);
+    let end = vertex_of(map, line.v2);
+    are_too_far(start, at) || are_too_far(at, end)
+}
+
+// Whether a line of the map can be cut in two at a place. The refusals in order: `PlaceTaken`, `TableFull`,
+// `LineTooLong`.
+fn can_cut(map: &Map, line: &Line, at: Vertex) -> Result<(), MapError>
+    requires { HasEnds map.now.tables.vertices line.now }
+    ensures { Tells result (cut_faults map.now.tables line.now at) }
+{
+    if map.has_place(at) {
+        return Err(MapError::PlaceTaken);
+    }
+    if lacks_room(map, Kind::Vertex, 1) || lacks_room(map, Kind::Line, 1) {
+        return Err(MapError::TableFull);
+    }
+    if has_long_half(map, line, at) {
+        return Err(MapError::LineTooLong);
+    }
+    Ok(())
+}
+
+// Whether a line can be split.
+fn can_split(map: &Map, split: &LineSplit) -> Result<(), MapError>
+    ensures { Tells result (split_faults map.now.tables split.now) }
+{
+    match map.line(u32::from(split.line)) {
+        Some(line) => can_cut(map, &line, split.at),
+        None => Err(MapError::NoLine),
+    }
+}
+
+/// Decides whether a command is accepted, leaving memory and the length of the body aside. The refusal is the one with
+/// the lowest code.
+pub fn can_do(map: &Map, command: &Command) -> Result<(), MapError>
+    ensures { Tells result (faults map.now.tables command.now) }
+{
+    match command {
+        Command::Name(_) => Ok(()),
+        Command::AddVertex(vertex) => map.can_add_vertex(*vertex),
+        Command::AddSector(_) => map.can_add_sector(),
+        Command::AddSide(side) => map.can_add_side(*side),
+        Command::AddLine(line) => map.can_add_line(*line),
+        Command::AddThing(_) => map.can_add_thing(),
+        Command::SetVertex(n, vertex) => map.can_set_vertex(u32::from(*n), *vertex),
+        Command::SetSector(n, _) => map.can_set_sector(u32::from(*n)),
+        Command::SetSide(n, side) => map.can_set_side(u32::from(*n), *side),
+        Command::SetLine(n, line) => map.can_set_line(u32::from(*n), *line),
+        Command::SetThing(n, _) => map.can_set_thing(u32::from(*n)),
+        Command::Drop(kind, n) => can_drop(map, *kind, u32::from(*n)),
+        Command::Room(plan) => can_draw(map, plan),
+        Command::Split(split) => can_split(map, split),
+    }
+}

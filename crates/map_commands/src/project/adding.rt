@@ -1,0 +1,63 @@
+//! An addition that is tried at once, without a decision first.
+ghost use Rattle.std.specs.Prelude.{◌≡◌, ◌≤◌, [], Ok, IfNone, IfSome, IsErrOf, IsOk};
+ghost use Rattle.map_tables.specs.Outcomes.{Covers, EndsEdit, least, unless};
+ghost use Rattle.map_tables.specs.Projects.{body_len, project_of};
+ghost use Rattle.map_commands.specs.CommandRanges.{InRange};
+ghost use Rattle.map_commands.specs.ProjectCommands.{InProjectRange};
+ghost use Rattle.map_commands.specs.ProjectReadiness.{project_need_of};
+ghost use Rattle.map_commands.specs.ProjectStep.{naming_faults, step};
+ghost use Rattle.map_commands.specs.Readiness.{need_of};
+ghost use Rattle.map_commands.specs.Step.{after, faults, number_of};
+
+use crate::command::Command;
+use crate::project::command::ProjectCommand;
+use crate::project::decision::is_full;
+use map_tables::{MapError, Maps};
+
+// Adds the item of a command that adds exactly one. Any other command does nothing and gives none.
+fn add_item(maps: &mut Maps, command: &Command) -> Option<Result<u32, MapError>>
+    requires range { InRange command.now }
+    ensures edit { IfSome result (λ added. EndsEdit added
+        (unless (least (faults maps.old.tables command.now)) (after maps.old.tables command.now)
+        (number_of maps.old.tables command.now)) maps.old.tables maps.new.tables) }
+    ensures promised { Covers maps.old.spare (need_of command.now)
+        → IfSome result (λ added. IsErrOf added MapError.OutOfMemory → ⊥) }
+    ensures unnamed { IfSome result (λ _. naming_faults (project_of maps.old) command.now ≡ []) }
+    ensures other { IfNone result (maps.new ≡ maps.old) }
+    ensures others { maps.new.others ≡ maps.old.others }
+{
+    match command {
+        Command::AddVertex(vertex) => Some(maps.add_vertex(*vertex)),
+        Command::AddSector(sector) => Some(maps.add_sector(*sector)),
+        Command::AddSide(side) => Some(maps.add_side(*side)),
+        Command::AddLine(line) => Some(maps.add_line(*line)),
+        Command::AddThing(thing) => Some(maps.add_thing(*thing)),
+        _ => None,
+    }
+}
+
+/// Adds the item of a command that adds exactly one, and answers its number. None if the command is another one, if the
+/// new body would be too long, or if the map refuses the item: then the project stays.
+pub fn try_add(maps: &mut Maps, command: &ProjectCommand, cap: u32) -> Option<u32>
+    requires range { InProjectRange command.now }
+    requires fits { body_len (project_of maps.old) ≤ cap }
+    ensures added { IfSome result
+        (λ n. step (project_of maps.old) command.now cap ≡ Ok (project_of maps.new, n)) }
+    ensures stays { IfNone result (project_of maps.new ≡ project_of maps.old) }
+    ensures fits { body_len (project_of maps.new) ≤ cap }
+    // Memory that was there for an accepted command still is.
+    ensures covered { Covers maps.old.spare (project_need_of command.now)
+        → IsOk (step (project_of maps.old) command.now cap)
+        → IfNone result (Covers maps.new.spare (project_need_of command.now)) }
+{
+    let ProjectCommand::Edit(edit) = command else {
+        return None;
+    };
+    if is_full(maps, command, cap) {
+        return None;
+    }
+    match add_item(maps, edit) {
+        Some(Ok(number)) => Some(number),
+        Some(Err(_)) | None => None,
+    }
+}

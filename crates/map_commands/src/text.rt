@@ -1,0 +1,211 @@
+//! The line of a command of a map, as it is written.
+use crate::command::RoomPlan;
+use crate::keywords::kind_text;
+use crate::names::text_of;
+use lump_records::{Line, NO_SIDE, Name8, Sector, Side, Thing, Vertex};
+use map_tables::Kind;
+use std::alloc::{AllocError, Global};
+
+/// A command's line, written word by word from the first on.
+#[derive(Drop)]
+pub struct Text {
+    line: String,
+}
+
+impl Text {
+    ghost use Rattle.std.specs.Prelude.{◌≡◌, [], ◌∷◌, IfOk, string_bytes, decimal};
+    ghost use Rattle.std.specs.Fmt.{signed_decimal};
+    ghost use Rattle.std.specs.List.{join_with_byte};
+    ghost use Rattle.std.specs.Str.{IsUtf8};
+    ghost use Rattle.lump_records.specs.Names.{name_text};
+    ghost use Rattle.map_tables.specs.Ranges.{IsSector, IsSide};
+    ghost use Rattle.map_commands.specs.CommandRanges.{IsPlan};
+    ghost use Rattle.map_commands.specs.Spelling.{kind_word, left_word, line_words, room_words, sector_words, side_words, thing_words, vertex_words};
+    ghost use Rattle.map_commands.specs.Views.{Adds, written};
+
+    /// A line that has its first word.
+    pub fn new(alloc: Global, head: &str) -> Result<Self, AllocError>
+        ensures { IfOk result (λ t. written t ≡ head.now) }
+    {
+        let line = String::from_str(alloc, head)?;
+        Ok(Text { line })
+    }
+
+    /// The line's bytes, without an end of line.
+    pub fn into_bytes(self) -> Vec<u8>
+        ensures { result.items ≡ written self }
+    {
+        self.line.into_bytes()
+    }
+
+    // Adds a word.
+    fn word(mut self, word: &str) -> Result<Self, AllocError>
+        ensures { IfOk result (λ t. Adds self t (32 ∷ word.now)) }
+    {
+        self.line.push(' ')?;
+        self.line.push_str(word)?;
+        Ok(self)
+    }
+
+    // Adds a signed number.
+    fn number(mut self, n: &i16) -> Result<Self, AllocError>
+        ensures { IfOk result (λ t. Adds self t (32 ∷ signed_decimal n.now)) }
+    {
+        let n = *n;
+        write!(self.line, " {n}")?;
+        Ok(self)
+    }
+
+    // Adds the number of an item.
+    fn item(mut self, n: u16) -> Result<Self, AllocError>
+        ensures { IfOk result (λ t. Adds self t (32 ∷ decimal n)) }
+    {
+        write!(self.line, " {n}")?;
+        Ok(self)
+    }
+
+    // Adds the number of a left side, or `-` for none.
+    fn left(self, n: u16) -> Result<Self, AllocError>
+        ensures { IfOk result (λ t. Adds self t (32 ∷ left_word n)) }
+    {
+        if n == NO_SIDE {
+            self.word("-")
+        } else {
+            self.item(n)
+        }
+    }
+
+    /// Adds a name.
+    pub fn name(self, name: &Name8) -> Result<Self, AllocError>
+        requires { IsUtf8 (name_text name.now) }
+        ensures { IfOk result (λ t. Adds self t (32 ∷ name_text name.now)) }
+    {
+        self.word(text_of(name))
+    }
+
+    /// Adds the words of a place.
+    pub fn vertex(self, vertex: &Vertex) -> Result<Self, AllocError>
+        ensures { IfOk result
+            (λ t. Adds self t (32 ∷ join_with_byte 32 (vertex_words vertex.now))) }
+    {
+        self.number(&vertex.x)?.number(&vertex.y)
+    }
+
+    /// Adds the words of a sector.
+    pub fn sector(self, sector: &Sector) -> Result<Self, AllocError>
+        requires { IsSector sector.now }
+        ensures { IfOk result
+            (λ t. Adds self t (32 ∷ join_with_byte 32 (sector_words sector.now))) }
+    {
+        self.number(&sector.floor)?
+            .number(&sector.ceiling)?
+            .name(&sector.floor_name)?
+            .name(&sector.ceiling_name)?
+            .number(&sector.light)?
+            .number(&sector.special)?
+            .number(&sector.tag)
+    }
+
+    /// Adds the words of a side.
+    pub fn side(self, side: &Side) -> Result<Self, AllocError>
+        requires { IsSide side.now }
+        ensures { IfOk result (λ t. Adds self t (32 ∷ join_with_byte 32 (side_words side.now))) }
+    {
+        self.number(&side.x_offset)?
+            .number(&side.y_offset)?
+            .name(&side.upper)?
+            .name(&side.lower)?
+            .name(&side.middle)?
+            .item(side.sector)
+    }
+
+    /// Adds the words of a line.
+    pub fn line(self, line: &Line) -> Result<Self, AllocError>
+        ensures { IfOk result (λ t. Adds self t (32 ∷ join_with_byte 32 (line_words line.now))) }
+    {
+        self.item(line.v1)?
+            .item(line.v2)?
+            .item(line.flags)?
+            .item(line.special)?
+            .item(line.tag)?
+            .item(line.right)?
+            .left(line.left)
+    }
+
+    /// Adds the words of a thing.
+    pub fn thing(self, thing: &Thing) -> Result<Self, AllocError>
+        ensures { IfOk result (λ t. Adds self t (32 ∷ join_with_byte 32 (thing_words thing.now))) }
+    {
+        self.number(&thing.x)?
+            .number(&thing.y)?
+            .number(&thing.angle)?
+            .number(&thing.kind)?
+            .number(&thing.options)
+    }
+
+    /// Adds the words of a room.
+    pub fn room(self, plan: &RoomPlan) -> Result<Self, AllocError>
+        requires { IsPlan plan.now }
+        ensures { IfOk result (λ t. Adds self t (32 ∷ join_with_byte 32 (room_words plan.now))) }
+    {
+        self.number(&plan.west)?
+            .number(&plan.south)?
+            .number(&plan.east)?
+            .number(&plan.north)?
+            .number(&plan.floor)?
+            .number(&plan.ceiling)?
+            .name(&plan.floor_name)?
+            .name(&plan.ceiling_name)?
+            .name(&plan.wall)?
+            .number(&plan.light)
+    }
+    /// Adds the number of an item, and the words of a place.
+    pub fn numbered_vertex(self, n: u16, vertex: &Vertex) -> Result<Self, AllocError>
+        ensures { IfOk result (λ t. Adds self t
+            (32 ∷ join_with_byte 32 (decimal n ∷ vertex_words vertex.now))) }
+    {
+        self.item(n)?.vertex(vertex)
+    }
+
+    /// Adds the number of a sector, and its words.
+    pub fn numbered_sector(self, n: u16, sector: &Sector) -> Result<Self, AllocError>
+        requires { IsSector sector.now }
+        ensures { IfOk result (λ t. Adds self t
+            (32 ∷ join_with_byte 32 (decimal n ∷ sector_words sector.now))) }
+    {
+        self.item(n)?.sector(sector)
+    }
+
+    /// Adds the number of a side, and its words.
+    pub fn numbered_side(self, n: u16, side: &Side) -> Result<Self, AllocError>
+        requires { IsSide side.now }
+        ensures { IfOk result (λ t. Adds self t
+            (32 ∷ join_with_byte 32 (decimal n ∷ side_words side.now))) }
+    {
+        self.item(n)?.side(side)
+    }
+
+    /// Adds the number of a line, and its words.
+    pub fn numbered_line(self, n: u16, line: &Line) -> Result<Self, AllocError>
+        ensures { IfOk result (λ t. Adds self t
+            (32 ∷ join_with_byte 32 (decimal n ∷ line_words line.now))) }
+    {
+        self.item(n)?.line(line)
+    }
+
+    /// Adds the number of a thing, and its words.
+    pub fn numbered_thing(self, n: u16, thing: &Thing) -> Result<Self, AllocError>
+        ensures { IfOk result (λ t. Adds self t
+            (32 ∷ join_with_byte 32 (decimal n ∷ thing_words thing.now))) }
+    {
+        self.item(n)?.thing(thing)
+    }
+
+    /// Adds the word for a table, and the number of an item of it.
+    pub fn item_of(self, kind: Kind, n: u16) -> Result<Self, AllocError>
+        ensures { IfOk result (λ t. Adds self t
+            (32 ∷ join_with_byte 32 (kind_word kind ∷ decimal n ∷ []))) }
+    {
+        self.word(kind_text(kind))?.item(n)
+    }
+}

@@ -1,0 +1,123 @@
+//! The parts of a line between its spaces, and those that are numbers.
+ghost use Rattle.std.specs.Prelude.{◌≡◌, ◌∷◌, IfOk, IfNone, IfSome, false, min, option_copied, true};
+ghost use Rattle.std.specs.Str.Parse.{digits_value};
+ghost use Rattle.std.specs.Fmt.{signed_decimal};
+ghost use Rattle.std.specs.List.{list_all};
+ghost use Rattle.map_commands.specs.Errors.{TellsFault};
+ghost use Rattle.map_commands.specs.Places.{Number, place_fault};
+ghost use Rattle.map_commands.specs.Words.{clamped, has_natural_front, is_natural, is_numeral, is_printable, is_word, numeral_value, parts, parts_behind};
+ghost use Rattle.lump_records.specs.Drawing.{IsBetween};
+ghost use Rattle.lump_records.specs.Names.{is_digit};
+
+use crate::error::CommandError;
+
+// One above the greatest distance from 0 of a number of sixteen bits.
+const BEYOND: u32 = 32_769;
+
+// Whether each byte is printable and not a space.
+fn are_printable(bytes: &[u8]) -> bool
+    ensures { result ≡ list_all is_printable bytes.now }
+{
+    bytes.iter().all(|b| b'!' <= *b && *b <= b'~')
+}
+
+/// Whether the bytes are a word.
+pub fn has_word_form(bytes: &[u8]) -> bool
+    ensures { result ≡ is_word bytes.now }
+{
+    !bytes.is_empty() && are_printable(bytes)
+}
+
+/// The part before the first space, and what follows that space, if there is one.
+pub fn next_part(line: &[u8]) -> (&[u8], Option<&[u8]>)
+    ensures { parts line.now ≡ result.0.now ∷ parts_behind (option_copied result.1) }
+{
+    for (i, b) in line.iter().enumerate() {
+        if *b == b' ' {
+            return (&line[..i], Some(&line[i + 1..]));
+        }
+    }
+    (line, None)
+}
+
+// Whether a byte is a digit.
+fn is_digit(byte: u8) -> bool
+    ensures { result ≡ is_digit byte }
+{
+    b'0' <= byte && byte <= b'9'
+}
+
+// The number that digits write, or `BEYOND` if it is greater. None if a byte is not a digit.
+fn digits_in(bytes: &[u8]) -> Option<u32>
+    ensures none { IfNone result (list_all is_digit bytes.now ≡ false) }
+    ensures digits { IfSome result (λ _. list_all is_digit bytes.now ≡ true) }
+    ensures value { IfSome result (λ n. n ≡ min (digits_value 10 bytes.now) 32769) }
+{
+    let mut value = 0;
+    for byte in bytes {
+        if !is_digit(*byte) {
+            return None;
+        }
+        value = (10 * value + u32::from(*byte - b'0')).min(BEYOND);
+    }
+    Some(value)
+}
+
+// Whether the bytes can begin a number without a sign: there is at least one, and a leading 0 stands alone.
+fn has_natural_front(word: &[u8]) -> bool
+    ensures { result ≡ has_natural_front word.now }
+{
+    match word {
+        [] => false,
+        [_] => true,
+        [b, ..] => *b != b'0',
+    }
+}
+
+// Reads a word as a number without a sign, or `BEYOND` if it is greater. None if the word is not such a number.
+fn natural_in(word: &[u8]) -> Option<u32>
+    ensures none { IfNone result (is_natural word.now ≡ false) }
+    ensures natural { IfSome result (λ _. is_natural word.now ≡ true) }
+    ensures value { IfSome result (λ n. n ≡ min (digits_value 10 word.now) 32769) }
+{
+    if !has_natural_front(word) {
+        return None;
+    }
+    digits_in(word)
+}
+
+// Reads a word as a number, or as `BEYOND` with its sign if it is further from 0. None if the word is not a number.
+fn numeral_in(word: &[u8]) -> Option<i32>
+    ensures none { IfNone result (is_numeral word.now ≡ false) }
+    ensures numeral { IfSome result (λ _. is_numeral word.now ≡ true) }
+    ensures value { IfSome result (λ n. n ≡ clamped (numeral_value word.now)) }
+{
+    match word {
+        [b'-', digits @ ..] => {
+            if digits == b"0".as_slice() {
+                return None;
+            }
+            match natural_in(digits) {
+                Some(n) => Some(-(n as i32)),
+                None => None,
+            }
+        }
+        _ => match natural_in(word) {
+            Some(n) => Some(n as i32),
+            None => None,
+        },
+    }
+}
+
+/// Reads a word as a number between two bounds.
+pub fn number_in(word: &[u8], low: i16, high: i16) -> Result<i16, CommandError>
+    ensures found { IfOk result (λ n. (numeral_value word.now ≡ n)
+        × (signed_decimal n ≡ word.now) × IsBetween low high n) }
+    ensures fault { TellsFault result (place_fault (Number low high) word.now) }
+{
+    match numeral_in(word) {
+        Some(n) if i32::from(low) <= n && n <= i32::from(high) => Ok(n as i16),
+        Some(_) => Err(CommandError::OutOfRange),
+        None => Err(CommandError::NotACommand),
+    }
+}

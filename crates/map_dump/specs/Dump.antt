@@ -1,0 +1,62 @@
+-- The lines that draw a project's maps again.
+use Rattle.std.specs.Prelude.{ℕ, zero, suc, List, [], ◌∷◌, ◌++◌, map, flat_map}
+use Rattle.lump_records.specs.declared.records.Name8.{Name8}
+use Rattle.map_tables.specs.declared.kind.Kind.{Kind}
+use Rattle.map_tables.specs.declared.kind.Kind.TheVariants as kind
+use Rattle.map_tables.specs.Tables.{Tables}
+use Rattle.map_tables.specs.Projects.{ProjectMaps, current_map}
+use Rattle.map_commands.specs.Grammar.{kinds}
+use Rattle.map_commands.specs.ProjectCommands.{project_spelling}
+use Rattle.map_commands.specs.declared.command.Command.{Command}
+use Rattle.map_commands.specs.declared.command.Command.TheVariants.{Name, AddVertex, AddSector, AddSide, AddLine}
+use Rattle.map_commands.specs.declared.command.Command.TheVariants.{AddThing}
+use Rattle.map_commands.specs.declared.project.command.ProjectCommand.{ProjectCommand}
+use Rattle.map_commands.specs.declared.project.command.ProjectCommand.TheVariants.{Edit, SelectMap}
+
+-- the command that gives the map with a number its name: the first map exists and is renamed, each other one is
+-- added
+abbrev pub naming_of : ℕ → Name8 → ProjectCommand
+naming_of zero name = Edit (Name name)
+naming_of (suc n) name = SelectMap name
+
+-- the commands that add the items of a table
+abbrev pub additions_of : Tables → Kind → List Command
+additions_of m kind.Vertex = map AddVertex m.vertices
+additions_of m kind.Sector = map AddSector m.sectors
+additions_of m kind.Side = map AddSide m.sides
+additions_of m kind.Line = map AddLine m.lines
+additions_of m kind.Thing = map AddThing m.things
+
+-- the commands that add a map's items, table by table, each item after those that it names
+abbrev pub items_of : Tables → List Command
+items_of m = flat_map (additions_of m) kinds
+
+-- commands of the current map, as commands of the project
+abbrev pub edits_of : List Command → List ProjectCommand
+edits_of commands = map Edit commands
+
+-- the commands that draw the map with a number
+abbrev pub commands_of_map : ℕ → Tables → List ProjectCommand
+commands_of_map n m = naming_of n m.name ∷ edits_of (items_of m)
+
+-- the commands that draw maps, the first of which has the number
+abbrev pub commands_from : ℕ → List Tables → List ProjectCommand
+commands_from n [] = []
+commands_from n (m ∷ ms) = commands_of_map n m ++ commands_from (suc n) ms
+
+-- the commands that draw all maps, and the command that selects the project's current map
+abbrev pub commands_of : ProjectMaps → List ProjectCommand
+commands_of p = commands_from 0 p.maps ++ SelectMap (current_map p).name ∷ []
+
+-- the dump: the line of each of these commands
+abbrev pub dump_of : ProjectMaps → List (List ℕ)
+dump_of p = map project_spelling (commands_of p)
+
+-- the commands that draw a map whatever was drawn before: the first makes the map with its name current, or adds
+-- it, and the others add its items
+abbrev pub commands_of_one : Tables → List ProjectCommand
+commands_of_one m = SelectMap m.name ∷ edits_of (items_of m)
+
+-- the dump of one map: the line of each of these commands
+abbrev pub map_dump_of : Tables → List (List ℕ)
+map_dump_of m = map project_spelling (commands_of_one m)

@@ -1,0 +1,74 @@
+//! A line of a dump: its command, and how it is written.
+ghost use Rattle.std.specs.Prelude.{◌≡◌, ◌∷◌, [], IfOk, IfSome, IsOkUnless, slice_get};
+ghost use Rattle.map_commands.specs.CommandRanges as of_one_map;
+ghost use Rattle.map_commands.specs.ProjectCommands.{InProjectRange, project_spelling};
+ghost use Rattle.map_dump.specs.Dump.{additions_of, naming_of};
+ghost use Rattle.map_dump.specs.Texts.{Writes, with_lf};
+ghost use Rattle.lump_records.specs.Names.{IsNamed, is_marker};
+
+use crate::error::DumpError;
+use lump_records::Name8;
+use map_commands::{Command, ProjectCommand, print};
+use map_tables::{Kind, Map};
+use std::alloc::Global;
+use std::io::Write;
+
+/// The command that gives the map with a number its name.
+pub fn naming(n: u32, name: Name8) -> ProjectCommand
+    requires { IsNamed is_marker name }
+    ensures command { result ≡ naming_of n name }
+    ensures range { InProjectRange result }
+{
+    if n == 0 {
+        ProjectCommand::Edit(Command::Name(name))
+    } else {
+        ProjectCommand::SelectMap(name)
+    }
+}
+
+/// The command that adds the item with a number to its table.
+pub fn addition(map: &Map, kind: Kind, n: u32) -> Option<Command>
+    ensures command { result ≡ slice_get (additions_of map.now.tables kind) n }
+    ensures range { IfSome result of_one_map.InRange }
+{
+    match kind {
+        Kind::Vertex => map.vertex(n).map(Command::AddVertex),
+        Kind::Sector => map.sector(n).map(Command::AddSector),
+        Kind::Side => map.side(n).map(Command::AddSide),
+        Kind::Line => map.line(n).map(Command::AddLine),
+        Kind::Thing => map.thing(n).map(Command::AddThing),
+    }
+}
+
+// The line of the command, ended by LF.
+fn line_of(alloc: Global, command: &ProjectCommand) -> Result<Vec<u8>, DumpError>
+    requires { InProjectRange command.now }
+    ensures line { IfOk result (λ v. v.items ≡ with_lf (project_spelling command.now)) }
+    ensures memory { IsOkUnless result DumpError.OutOfMemory }
+{
+    let Ok(mut line) = print(alloc, command) else {
+        return Err(DumpError::OutOfMemory);
+    };
+    match line.push(b'\n') {
+        Ok(()) => Ok(line),
+        Err(_) => Err(DumpError::OutOfMemory),
+    }
+}
+
+/// Writes the line of the command by one call of the writer.
+pub fn write_command<W: Write>(
+    alloc: Global,
+    command: &ProjectCommand,
+    writer: &mut W,
+) -> Result<(), DumpError>
+    requires { InProjectRange command.now }
+    ensures { Writes result (command.now ∷ []) (W.contents writer.old) (W.contents writer.new) }
+{
+    match line_of(alloc, command) {
+        Ok(line) => match writer.write_all(&line) {
+            Ok(()) => Ok(()),
+            Err(_) => Err(DumpError::WriterFailed),
+        },
+        Err(error) => Err(error),
+    }
+}

@@ -1,0 +1,44 @@
+//! What is counted before the rules are tested.
+ghost use Rattle.std.specs.Prelude.{IfOk};
+ghost use Rattle.map_lint.specs.Facts.{AreFacts};
+
+use crate::areas::areas_of;
+use crate::bands::{FiledLines, file_lines};
+use crate::borders::bordered_sectors;
+use crate::error::LintError;
+use crate::starts::starts_of;
+use crate::tags::{tags_of_lines, tags_of_sectors};
+use map_tables::Map;
+use std::alloc::Global;
+
+/// The tags that sectors have, the tags that lines have, how many things have each type below 5, which sectors have
+/// a border, twice the area of each sector, and the lines in bands of rows.
+#[derive(Drop)]
+pub(crate) struct Facts {
+    pub sector_tags: Vec<bool>,
+    pub line_tags: Vec<bool>,
+    pub starts: Vec<u32>,
+    pub bordered: Vec<bool>,
+    pub areas: Vec<i128>,
+    pub filed: FiledLines,
+}
+
+/// The facts of the map.
+pub(crate) fn facts_of(alloc: Global, map: &Map) -> Result<Facts, LintError>
+    ensures { IfOk result (AreFacts map.now.tables) }
+{
+    let sector_tags = tags_of_sectors(alloc, map)?;
+    let line_tags = tags_of_lines(alloc, map)?;
+    let starts = starts_of(alloc, map)?;
+    let bordered = bordered_sectors(alloc, map)?;
+    let areas = areas_of(alloc, map)?;
+    let filed = file_lines(alloc, map)?;
+    Ok(Facts {
+        sector_tags,
+        line_tags,
+        starts,
+        bordered,
+        areas,
+        filed,
+    })
+}

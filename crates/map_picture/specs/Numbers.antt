@@ -1,0 +1,84 @@
+-- The numbers of vertices, lines and sectors.
+use Rattle.std.specs.Prelude.{ℕ, ◌*◌, Bool, ◌&&◌, ◌||◌, ◌==◌, nat_lt, if◌then◌else◌, List, [], ◌++◌, fold, Option, Some, None, pos, neg_ℤ, codes, decimal, ◌∷◌}
+use Rattle.std.specs.Fmt.{signed_decimal}
+use Rattle.std.specs.Option.{option_map_or}
+use Rattle.lump_records.specs.declared.records.Line.{Line}
+use Rattle.lump_records.specs.declared.records.Vertex.{Vertex}
+use Rattle.lump_records.specs.Drawing.{squared_distance}
+use Rattle.lump_records.specs.Sides.{has_left}
+use Rattle.map_tables.specs.Tables.{Tables}
+use Rattle.map_svg.specs.Texts.{joined}
+use Rattle.map_picture.specs.Items.{sector_of, vertex_of}
+use Rattle.map_svg.specs.Places.{middle_of, shift_right, spot_of}
+use Rattle.map_svg.specs.declared.places.Spot.{Spot}
+use Rattle.map_svg.specs.declared.places.Shift.{Shift}
+
+-- the beginning of a number's text: its class, and the place beside which it is
+unfoldable pub anchor_text : List ℕ → Spot → List ℕ
+anchor_text class p =
+    joined
+    (codes "<text class=\"" ∷ class ∷ codes "\" x=\"" ∷ signed_decimal p.x ∷ codes "\" y=\""
+    ∷ signed_decimal p.y ∷ codes "\"" ∷ [])
+
+-- the vector from the place, and the number
+unfoldable pub beside_text : Shift → ℕ → List ℕ
+beside_text s n =
+    joined
+    (codes " dx=\"" ∷ signed_decimal s.dx ∷ codes "\" dy=\"" ∷ signed_decimal s.dy ∷ codes "\">"
+    ∷ decimal n
+    ∷ codes "</text>\n" ∷ [])
+
+-- the text of a number with a class, beside a place
+unfoldable pub number_text : List ℕ → Spot → Shift → ℕ → List ℕ
+number_text class p s n = anchor_text class p ++ beside_text s n
+
+-- the vector to the upper right
+abbrev pub up_right : ℕ → Shift
+up_right step = record { dx = pos step; dy = neg_ℤ (pos step) }
+
+-- a vertex's number, on its upper right
+unfoldable pub vertex_number : ℕ → ℕ → Vertex → List ℕ
+vertex_number step n v =
+    number_text (codes "of-vertex") (spot_of v) (up_right step) n
+
+-- the middle of a line
+abbrev pub line_middle : Tables → Line → Spot
+line_middle m l = middle_of (vertex_of m l.v1) (vertex_of m l.v2)
+
+-- a line's number, as far on its left as the tick goes to the right
+unfoldable pub line_number : Tables → ℕ → ℕ → Line → List ℕ
+line_number m step n l =
+    number_text (codes "of-line") (line_middle m l)
+    (shift_right (vertex_of m l.v2) (vertex_of m l.v1) step) n
+
+-- the line has the sector on a side
+abbrev pub bounds : Tables → ℕ → Line → Bool
+bounds m s l = (sector_of m l.right == s) || (has_left l && (sector_of m l.left == s))
+
+-- the squared length of a line
+abbrev pub squared_len : Tables → Line → ℕ
+squared_len m l = squared_distance (vertex_of m l.v1) (vertex_of m l.v2)
+
+-- the longest line so far of a sector, after one line more
+abbrev pub longer : Tables → ℕ → Option Line → Line → Option Line
+longer m s longest l =
+    if bounds m s l && nat_lt (option_map_or (squared_len m) longest 0) (squared_len m l)
+    then Some l else longest
+
+-- the longest of a sector's lines; of several, the first one
+abbrev pub longest_line : Tables → ℕ → Option Line
+longest_line m s = fold (longer m s) None m.lines
+
+-- the vector from a line's middle into a sector that it has on a side
+abbrev pub sector_shift : Tables → ℕ → ℕ → Line → Shift
+sector_shift m step s l =
+    let from = vertex_of m l.v1 in
+    let to = vertex_of m l.v2 in
+    if sector_of m l.right == s then shift_right from to (3 * step)
+    else shift_right to from (3 * step)
+
+-- a sector's number, inside it beside the longest of its lines; empty if it has no line
+unfoldable pub sector_number : Tables → ℕ → ℕ → List ℕ
+sector_number m step n =
+    option_map_or (λ l. number_text (codes "of-sector") (line_middle m l)
+    (sector_shift m step n l) n) (longest_line m n) []

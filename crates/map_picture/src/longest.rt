@@ -1,0 +1,88 @@
+//! The longest line of each of several sectors, found in one pass over the lines.
+ghost use Rattle.std.specs.Prelude.{◌≡◌, ◌<◌, ℕ, length, slice_index_or};
+ghost use Rattle.map_picture.specs.Numbers.{bounds, longer, squared_len};
+ghost use Rattle.map_picture.specs.Longest.{AreLongest, LooksAt, LooksFor};
+
+use crate::items::{sector_of, vertex_of};
+use lump_records::{Line, squared_distance};
+use map_tables::{Kind, Map};
+
+// Whether the line has the sector on a side.
+fn bounds(map: &Map, sector: u32, line: &Line) -> bool
+    ensures { result ≡ bounds map.now.tables sector line.now }
+{
+    u32::from(sector_of(map, line.right)) == sector
+        || (line.has_left() && u32::from(sector_of(map, line.left)) == sector)
+}
+
+// The squared length of the line, in squared map units.
+fn squared_len(map: &Map, line: &Line) -> u64
+    ensures { result ≡ squared_len map.now.tables line.now }
+{
+    squared_distance(vertex_of(map, line.v1), vertex_of(map, line.v2))
+}
+
+// The longest line so far of the sector, after one line more.
+fn longer(map: &Map, sector: u32, longest: Option<Line>, line: Line) -> Option<Line>
+    ensures { result ≡ longer map.now.tables sector longest line }
+{
+    let len = match longest {
+        Some(longest) => squared_len(map, &longest),
+        None => 0,
+    };
+    if bounds(map, sector, &line) && len < squared_len(map, &line) {
+        Some(line)
+    } else {
+        longest
+    }
+}
+
+// Takes a line into account for the sector, if it is one of those from `first` on.
+fn look_for(longest: &mut [Option<Line>], map: &Map, first: u32, sector: u16, line: &Line)
+    ensures { LooksFor map.now.tables first sector line.now longest.old longest.new }
+{
+    let sector = u32::from(sector);
+    if sector < first {
+        return;
+    }
+    let place = (sector - first) as usize;
+    if place < longest.len() {
+        longest[place] = longer(map, sector, longest[place], *line);
+    }
+}
+
+// Takes a line into account for the sectors on its sides.
+fn look_at(longest: &mut [Option<Line>], map: &Map, first: u32, line: &Line)
+    ensures { LooksAt map.now.tables first line.now longest.old longest.new }
+{
+    let right = sector_of(map, line.right);
+    look_for(longest, map, first, right, line);
+    if line.has_left() {
+        let left = sector_of(map, line.left);
+        if right != left {
+            look_for(longest, map, first, left, line);
+        }
+    }
+}
+
+// Removes all lines found before.
+fn clear(longest: &mut [Option<Line>])
+    ensures { (i : ℕ) → i < length longest.new → slice_index_or longest.new i None ≡ None }
+{
+    for place in longest.iter_mut() {
+        *place = None;
+    }
+}
+
+/// Finds the longest line of each sector from `first` on; of several, the first one.
+pub(crate) fn find_longest(longest: &mut [Option<Line>], map: &Map, first: u32)
+    ensures { AreLongest map.now.tables first map.now.tables.lines longest.new }
+{
+    clear(longest);
+    for n in 0..map.count(Kind::Line) {
+        match map.line(n) {
+            Some(line) => look_at(longest, map, first, &line),
+            None => {}
+        }
+    }
+}

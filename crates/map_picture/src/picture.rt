@@ -1,0 +1,228 @@
+//! The call that writes a picture.
+ghost use Rattle.std.specs.Prelude.{◌≡◌, ◌≢◌, ◌≤◌, OnOk, flat_map};
+ghost use Rattle.std.specs.Io.KnownBytes.{Appends};
+ghost use Rattle.map_picture.specs.Picture.{element, head_text, opening_text, page_text, paper_text, page_corner, part_text, picture_of, style_text, map_title};
+
+use crate::lines::write_line;
+use crate::numbers::{write_line_number, write_sector_numbers, write_vertex_number};
+use crate::parts::{Part, kind_of, parts_of};
+use crate::style::STYLE;
+use crate::things::write_thing;
+use crate::vertices::write_vertex;
+use crate::view::{View, view_of};
+use lump_records::Name8;
+use map_svg::{Overlay, PictureError, Spot, write_bytes, write_overlay};
+use map_tables::Map;
+use std::io::Write;
+
+/// The options of a picture.
+#[derive(Clone, Copy, Debug, PartialEq, Eq)]
+pub struct PictureOptions {
+    /// Whether the numbers of vertices, lines and sectors are shown beside them.
+    pub numbers: bool,
+}
+
+// Writes the beginning of the picture, with the part of the plane that it shows.
+fn write_opening<W: Write>(view: &View, writer: &mut W) -> Result<(), PictureError>
+    ensures { OnOk result
+        (Appends (W.contents writer.old) (W.contents writer.new) (opening_text view.now)) }
+{
+    let (left, top, width, height, step) = (
+        view.left,
+        view.top,
+        view.width,
+        view.height,
+        view.step,
+    );
+    let written = write!(
+        writer,
+        "<svg class=\"leveled\" xmlns=\"http://www.w3.org/2000/svg\" version=\"1.1\" width=\"100%\"
+viewBox=\"{left} {top} {width} {height}\" font-size=\"{step}\">
+<title>"
+    );
+    match written {
+        Ok(()) => Ok(()),
+        Err(_) => Err(PictureError::WriterFailed),
+    }
+}
+
+// Writes the page on which the map is drawn.
+fn write_page<W: Write>(view: &View, writer: &mut W) -> Result<(), PictureError>
+    ensures { OnOk result
+        (Appends (W.contents writer.old) (W.contents writer.new) (page_text view.now)) }
+{
+    let (left, top, width, height) = (view.left, view.top, view.width, view.height);
+    let written = write!(
+        writer,
+        "<rect class=\"page\" x=\"{left}\" y=\"{top}\" width=\"{width}\" height=\"{height}\"/>\n"
+    );
+    match written {
+        Ok(()) => Ok(()),
+        Err(_) => Err(PictureError::WriterFailed),
+    }
+}
+
+// Writes the map's name, and ends the title.
+#[tactic(auto, unfolding(crate::specs::Picture::map_title))]
+fn write_name<W: Write>(name: Name8, writer: &mut W) -> Result<(), PictureError>
+    ensures { OnOk result
+        (Appends (W.contents writer.old) (W.contents writer.new) (map_title name)) }
+{
+    write_bytes(name.text(), writer)?;
+    write_bytes(b"</title>\n", writer)
+}
+
+// Writes the style.
+fn write_style<W: Write>(writer: &mut W) -> Result<(), PictureError>
+    ensures { OnOk result (Appends (W.contents writer.old) (W.contents writer.new) style_text) }
+{
+    write_bytes(STYLE.as_bytes(), writer)
+}
+
+// Writes the style and the page.
+#[tactic(auto, unfolding(crate::specs::Picture::paper_text))]
+fn write_paper<W: Write>(view: &View, writer: &mut W) -> Result<(), PictureError>
+    ensures { OnOk result
+        (Appends (W.contents writer.old) (W.contents writer.new) (paper_text view.now)) }
+{
+    write_style(writer)?;
+    write_page(view, writer)
+}
+
+// Writes the head: the view, the map's name, the style and the page.
+#[tactic(auto, unfolding(crate::specs::Picture::head_text))]
+fn write_head<W: Write>(name: Name8, view: &View, writer: &mut W) -> Result<(), PictureError>
+    ensures { OnOk result
+        (Appends (W.contents writer.old) (W.contents writer.new) (head_text view.now name)) }
+{
+    write_opening(view, writer)?;
+    write_name(name, writer)?;
+    write_paper(view, writer)
+}
+
+// Writes the element of a part for the item with the number, if there is one.
+fn write_element<W: Write>(
+    map: &Map,
+    step: u32,
+    part: Part,
+    n: u32,
+    writer: &mut W,
+) -> Result<(), PictureError>
+    requires { part ≢ Part.SectorNumbers }
+    ensures { OnOk result (Appends (W.contents writer.old) (W.contents writer.new)
+        (element map.now.tables step part n)) }
+{
+    match part {
+        Part::Lines => match map.line(n) {
+            Some(line) => write_line(map, step, n, &line, writer),
+            None => Ok(()),
+        },
+        Part::Things => match map.thing(n) {
+            Some(thing) => write_thing(n, &thing, writer),
+            None => Ok(()),
+        },
+        Part::Vertices => match map.vertex(n) {
+            Some(vertex) => write_vertex(n, vertex, writer),
+            None => Ok(()),
+        },
+        Part::VertexNumbers => match map.vertex(n) {
+            Some(vertex) => write_vertex_number(step, n, vertex, writer),
+            None => Ok(()),
+        },
+        Part::LineNumbers => match map.line(n) {
+            Some(line) => write_line_number(map, step, n, &line, writer),
+            None => Ok(()),
+        },
+        Part::SectorNumbers => unreachable!(),
+    }
+}
+
+// Writes the elements of a part, item by item.
+fn write_items<W: Write>(
+    map: &Map,
+    step: u32,
+    part: Part,
+    writer: &mut W,
+) -> Result<(), PictureError>
+    requires { part ≢ Part.SectorNumbers }
+    ensures { OnOk result (Appends (W.contents writer.old) (W.contents writer.new)
+        (part_text map.now.tables step part)) }
+{
+    for n in 0..map.count(kind_of(part)) {
+        match write_element(map, step, part, n, writer) {
+            Ok(()) => {}
+            Err(error) => return Err(error),
+        }
+    }
+    Ok(())
+}
+
+// Writes the elements of a part.
+fn write_part<W: Write>(
+    map: &Map,
+    step: u32,
+    part: Part,
+    writer: &mut W,
+) -> Result<(), PictureError>
+    requires { step ≤ 1000 }
+    ensures { OnOk result (Appends (W.contents writer.old) (W.contents writer.new)
+        (part_text map.now.tables step part)) }
+{
+    match part {
+        Part::SectorNumbers => write_sector_numbers(map, step, writer),
+        _ => write_items(map, step, part, writer),
+    }
+}
+
+// Writes the parts.
+fn write_parts<W: Write>(
+    map: &Map,
+    step: u32,
+    parts: &[Part],
+    writer: &mut W,
+) -> Result<(), PictureError>
+    requires { step ≤ 1000 }
+    ensures { OnOk result (Appends (W.contents writer.old) (W.contents writer.new)
+        (flat_map (part_text map.now.tables step) parts.now)) }
+{
+    for part in parts {
+        match write_part(map, step, *part, writer) {
+            Ok(()) => {}
+            Err(error) => return Err(error),
+        }
+    }
+    Ok(())
+}
+
+// The upper left corner of the page.
+fn page_corner(view: &View) -> Spot
+    ensures { result ≡ page_corner view.now }
+{
+    Spot {
+        x: view.left,
+        y: view.top,
+    }
+}
+
+/// Writes the map as an SVG 1.1 picture: a title and a style, then an element for each line, each thing and each
+/// vertex, the numbers if the options ask for them, and the overlay. It allocates no memory. If the writer is a
+/// file, put a buffer round it.
+///
+/// # Errors
+///
+/// `WriterFailed` (38): any part of the picture may have been written.
+pub fn write_picture<W: Write>(
+    map: &Map,
+    options: PictureOptions,
+    overlay: &Overlay,
+    writer: &mut W,
+) -> Result<(), PictureError>
+    ensures { OnOk result (Appends (W.contents writer.old) (W.contents writer.new)
+        (picture_of options map.now.tables overlay.now)) }
+{
+    let view = view_of(map);
+    write_head(map.name(), &view, writer)?;
+    write_parts(map, view.step, parts_of(options.numbers), writer)?;
+    write_overlay(overlay, view.step, page_corner(&view), writer)?;
+    write_bytes(b"</svg>\n", writer)
+}

@@ -1,0 +1,63 @@
+-- Lines with numbers in place of references, word by word.
+use Rattle.std.proofs.Common.{◌≡◌, ℕ, ◌+◌, ◌-◌, ◌*◌, cond, List, [], ◌∷◌, ◌++◌, drop, refl, sym, ◌∙◌, ap, arith, Option, Some, Result, Ok, Err}
+use Rattle.std.specs.Prelude.{bytes_eq, min}
+use Rattle.std.specs.List.{fold}
+use Rattle.map_script.specs.Lines.{in_front, joined_line, words_for}
+use Rattle.map_script.specs.Words.{text_words}
+use Rattle.map_script.specs.declared.error.DrawError.{DrawError}
+use Rattle.map_script.specs.declared.firsts.Numbers.{Numbers}
+use Rattle.map_script.proofs.Cleaning as cleaning
+use Rattle.map_script.proofs.Cleaning.{with_words}
+
+-- ---- Names
+
+-- what is found for a name after one more entry
+abbrev pub newer : List ℕ → Option Numbers → List ℕ × Numbers → Option Numbers
+newer name found entry = cond (bytes_eq entry.0 name) (Some entry.1) found
+
+-- ---- Digits
+
+-- a number with one more digit
+abbrev pub with_digit : ℕ → ℕ → ℕ
+with_digit n d = n * 10 + (d - 48)
+
+least-step : (v d : ℕ) → min 32768 (with_digit (min 32768 v) d) ≡ min 32768 (with_digit v d)
+least-step v d = omega arith
+
+-- a number above 32768 may be replaced by 32768
+pub least_fold : (v : ℕ) (ds : List ℕ) → min 32768 (fold with_digit (min 32768 v) ds) ≡ min 32768 (fold with_digit v ds)
+least_fold v [] = omega arith
+least_fold v (d ∷ ds) =
+    sym (least_fold (with_digit (min 32768 v) d) ds)
+    ∙ ap (λ n. min 32768 (fold with_digit n ds)) (least-step v d)
+    ∙ least_fold (with_digit v d) ds
+
+-- ---- Words
+
+-- a text followed by words, each after a space, or the words' error
+abbrev pub behind : List ℕ → Result (List (List ℕ)) DrawError → Result (List ℕ) DrawError
+behind text (Ok ws) = Ok (with_words text ws)
+behind text (Err e) = Err e
+
+-- without its first byte
+abbrev pub unspaced : Result (List ℕ) DrawError → Result (List ℕ) DrawError
+unspaced (Ok text) = Ok (drop 1 text)
+unspaced (Err e) = Err e
+
+pub joined_behind : (r : Result (List (List ℕ)) DrawError) → joined_line r ≡ unspaced (behind [] r)
+joined_behind (Ok ws) = ap (λ t. Ok t) (sym (cleaning.joined ws))
+joined_behind (Err e) = refl
+
+-- one more word
+pub behind_more : (text w : List ℕ) (r : Result (List (List ℕ)) DrawError) → behind text (in_front (Ok w) r) ≡ behind (text ++ (32 ∷ w)) r
+behind_more text w (Ok ws) = refl
+behind_more text w (Err e) = refl
+
+-- no word is left
+pub replaced_all : (known : List (List ℕ × Numbers)) (text rest command out : List ℕ) → text_words rest ≡ []
+    → behind text (words_for known (text_words rest)) ≡ behind [] (words_for known (text_words command)) → out
+    ≡ drop 1 text → joined_line (words_for known (text_words command)) ≡ Ok out
+replaced_all known text rest command out e h is =
+    joined_behind (words_for known (text_words command))
+    ∙ ap unspaced (sym h ∙ ap (λ ws. behind text (words_for known ws)) e)
+    ∙ ap (λ t. Ok t) (sym is)

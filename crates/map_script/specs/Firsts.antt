@@ -1,0 +1,42 @@
+-- The first item of each kind that a command adds to the current map.
+use Rattle.std.specs.Prelude.{ℕ, zero, suc, Option, Some, None}
+use Rattle.map_tables.specs.declared.kind.Kind.{Kind}
+use Rattle.map_tables.specs.declared.kind.Kind.TheVariants as kind
+use Rattle.map_tables.specs.declared.map.Need.{Need}
+use Rattle.map_tables.specs.Tables.{Tables, count_of}
+use Rattle.map_commands.specs.ProjectReadiness.{project_need_of}
+use Rattle.map_commands.specs.Readiness as of_one_map
+use Rattle.map_commands.specs.declared.command.Command.{Command}
+use Rattle.map_commands.specs.declared.project.command.ProjectCommand.{ProjectCommand}
+use Rattle.map_script.specs.declared.firsts.Firsts.{Firsts}
+
+-- the number of the first of some items that are appended to a table, if there are any
+abbrev pub first_new : ℕ → ℕ → Option ℕ
+first_new zero before = None
+first_new (suc more) before = Some before
+
+-- the first items of each kind, if these numbers of items are added to a map
+abbrev pub firsts_in : Need → Tables → Firsts
+firsts_in need m = record {
+  vertex = first_new need.vertices (count_of m kind.Vertex);
+  sector = first_new need.sectors (count_of m kind.Sector);
+  side = first_new need.sides (count_of m kind.Side);
+  line = first_new need.lines (count_of m kind.Line);
+  thing = first_new need.things (count_of m kind.Thing);
+}
+
+-- the first items that a command of one map adds
+abbrev pub edit_firsts : Command → Tables → Firsts
+edit_firsts c m = firsts_in (of_one_map.need_of c) m
+
+-- the first items that a command adds to the current map
+abbrev pub firsts_of : ProjectCommand → Tables → Firsts
+firsts_of c m = firsts_in (project_need_of c) m
+
+-- the first item of a kind
+abbrev pub first_of : Firsts → Kind → Option ℕ
+first_of f kind.Vertex = f.vertex
+first_of f kind.Sector = f.sector
+first_of f kind.Side = f.side
+first_of f kind.Line = f.line
+first_of f kind.Thing = f.thing

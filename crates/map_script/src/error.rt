@@ -1,0 +1,80 @@
+//! Why a line of a script can't be resolved to a command line, and the number of the refusal.
+ghost use Rattle.std.specs.Prelude.{◌≡◌};
+ghost use Rattle.map_script.specs.declared.error.DrawError.TheVariants.{OutOfMemory};
+
+use std::alloc::{AllocError, AllocFailed};
+use std::fmt;
+use thiserror::Error;
+
+/// Why a line of a script can't be resolved to a command line.
+#[derive(Clone, Copy, Debug, PartialEq, Eq, Error)]
+pub enum DrawError {
+    /// In `NAME = COMMAND` the word before `=` is not a name.
+    NotAName,
+    /// A word that begins with `$` isn't `$NAME` or `$NAME.KIND`, with or without `+N` after it.
+    NotAReference,
+    /// No earlier line has this name.
+    UnknownName,
+    /// The command of this name added no item of this kind.
+    NothingAdded,
+    /// The sum is greater than 32,767, the greatest number that a command may have.
+    NumberTooLarge,
+    OutOfMemory,
+}
+
+impl fmt::Display for DrawError {
+    ghost use Rattle.std.specs.Prelude.{Some};
+    ghost use Rattle.map_script.specs.Errors.{message_of};
+
+    ghost output = { λ e. Some (message_of e) };
+
+    fn fmt<W: fmt::Write>(&self, f: &mut fmt::Formatter<W>) -> fmt::Result {
+        let (_, text) = self.told();
+        f.write_str(text)
+    }
+}
+
+impl From<AllocError> for DrawError {
+    ghost from_gives = { λ _ e. e ≡ OutOfMemory };
+
+    fn from(_e: AllocError) -> DrawError {
+        DrawError::OutOfMemory
+    }
+}
+
+impl<T: Drop> From<AllocFailed<T>> for DrawError {
+    ghost from_gives = { λ _ e. e ≡ OutOfMemory };
+
+    fn from(_e: AllocFailed<T>) -> DrawError {
+        DrawError::OutOfMemory
+    }
+}
+
+impl DrawError {
+    ghost use Rattle.map_script.specs.Errors.{code_of, message_of};
+
+    /// The refusal's number.
+    pub fn code(&self) -> u16
+        ensures { result ≡ code_of self.now }
+    {
+        self.told().0
+    }
+
+    // The refusal's number and text.
+    fn told(&self) -> (u16, &'static str)
+        ensures code { result.0 ≡ code_of self.now }
+        ensures text { result.1.now ≡ message_of self.now }
+    {
+        match self {
+            DrawError::NotAName => (20, "a name is a letter, then letters, digits and _"),
+            DrawError::NotAReference => (
+                21,
+                "a reference is $NAME or $NAME.KIND, with or without +N",
+            ),
+            DrawError::UnknownName => (22, "no line before has this name"),
+            DrawError::NothingAdded => (23, "the command of this name added no such item"),
+            DrawError::NumberTooLarge => (24, "the sum is greater than 32767"),
+            DrawError::OutOfMemory => (31, "out of memory"),
+        }
+    }
+}

@@ -1,0 +1,21 @@
+use Rattle.std.proofs.Common.{List, ℕ, sym, subst}
+use Rattle.std.specs.Prelude.{flat_map}
+use Rattle.std.specs.List.{range_with_len}
+use Rattle.std.specs.Io.KnownBytes.{Appends}
+use Rattle.std.proofs.KnownBytes.{Appends-nil, Appends-trans}
+use Rattle.map_svg.specs.Subsectors.{sub_element}
+use Rattle.map_svg.specs.Texts.{of_item}
+use Rattle.map_svg.proofs.Growing.{numbered_more}
+use Rattle.map_svg.proofs.subsectors.write_subs.Goals as goal
+
+pub loop-n-init : goal.loop-n-init
+loop-n-init g c = Appends-nil (g.W.Write.contents c.args.writer.now)
+
+pub loop-n-preserved : goal.loop-n-preserved
+loop-n-preserved g c =
+    let f = λ (n : ℕ). of_item (sub_element c.args.overlay.now c.args.step n) c.args.overlay.now.subs.items n in
+    let n = c.loop-n.n in
+    let u = g.W.Write.contents c.args.writer.now in
+    let w = g.W.Write.contents c.write_nth_sub.new.writer in
+    subst (λ (t : List ℕ). Appends u w t) (sym (numbered_more f n))
+    (Appends-trans u (g.W.Write.contents c.loop-n.writer) w (flat_map f (range_with_len 0 n)) (f n) c.loop-n.invariant c.in-Ok.ensures)

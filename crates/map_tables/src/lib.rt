@@ -1,0 +1,18 @@
+//! The tables of a map.
+#![tactic(auto)]
+
+mod error;
+mod form;
+mod kind;
+mod laws;
+mod lengths;
+mod map;
+mod maps;
+mod ranges;
+
+pub use error::MapError;
+pub use kind::Kind;
+pub use laws::{keep_the_length_of_one_map, list_faults_by_rising_code, tell_projects_apart};
+pub use lump_records::{NO_SIDE, is_marker, is_name, squared_distance};
+pub use map::{Map, Need};
+pub use maps::{MAP_LIMIT, Maps};

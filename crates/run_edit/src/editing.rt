@@ -1,0 +1,155 @@
+//! A run over a project file: the session of `edit`, where a command is on the disk before it is answered.
+ghost use Rattle.std.specs.Prelude.{◌≡◌, ℕ, List, true, false, Result, MatchResult, take};
+ghost use Rattle.std.specs.Io.KnownBytes.{Appends};
+ghost use Rattle.store_disk.specs.Moments.{LeavesOnly};
+ghost use Rattle.store_disk.specs.Stops.{Each};
+ghost use Rattle.map_tables.specs.Projects.{project_of};
+ghost use Rattle.store_project.specs.Calls.{Applies};
+ghost use Rattle.store_project.specs.Stands.{IsOutcome};
+ghost use Rattle.store_project.specs.States.{IsProjectKept, State};
+ghost use Rattle.store_project.specs.declared.error.ProjectError.{ProjectError};
+ghost use Rattle.run_edit.specs.Editing.{AnswersInProject, LacksInProject, RepliesInProject, RepliesToQuery, outcome_in};
+ghost use Rattle.run_edit.specs.Runs.{AnswersLine, Exchange, Ran};
+ghost use Rattle.run_edit.specs.Sessions.{RunsOver};
+ghost use Rattle.run_edit.specs.declared.error.EditorError.TheVariants.{WriterFailed};
+
+use crate::answers::write_answer;
+use crate::error::EditorError;
+use crate::outcome::write_outcome;
+use crate::query::{Query, read_query};
+use crate::reading::run_lines;
+use crate::session::Session;
+use std::alloc::Global;
+use std::io::{Read, Write};
+use store_disk::Disk;
+use store_project::{Project, ProjectError};
+
+// The outcome of a line: its number, or the refusal's code.
+fn outcome_in(ended: Result<u32, ProjectError>) -> Result<u32, u16>
+    ensures { result ≡ outcome_in ended }
+{
+    match ended {
+        Ok(number) => Ok(number),
+        Err(error) => Err(error.code()),
+    }
+}
+
+// Applies a line that is no query, and returns its number or the refusal's code.
+fn change<D: Disk>(project: &mut Project<D>, line: &[u8]) -> Result<u32, u16>
+    ensures { (answer : Result ℕ ProjectError)
+        × Applies D.Disk project.old line.now answer project.new
+        × (result ≡ outcome_in answer) }
+{
+    outcome_in(project.apply(line))
+}
+
+// The first 257 bytes of a line, which decide what it is.
+fn front(line: &[u8]) -> &[u8]
+    ensures { result.now ≡ take 257 line.now }
+{
+    if line.len() <= 257 {
+        line
+    } else {
+        &line[..257]
+    }
+}
+
+// Writes the answer to a query.
+fn answer_query<D: Disk, W: Write>(
+    alloc: Global,
+    project: &Project<D>,
+    query: Query,
+    writer: &mut W,
+) -> Result<(), EditorError>
+    ensures { (text : List ℕ) × RepliesToQuery project.now query text
+        × MatchResult result (λ _. Appends (W.contents writer.old) (W.contents writer.new) text)
+        (λ e. e ≡ WriterFailed) }
+{
+    if project.must_reopen() {
+        return write_outcome(Err(ProjectError::Reopen.code()), writer);
+    }
+    match write_answer(alloc, project.maps(), query, writer) {
+        Ok(()) => Ok(()),
+        Err(EditorError::OutOfMemory) => {
+            write_outcome(Err(ProjectError::OutOfMemory.code()), writer)
+        }
+        Err(_) => Err(EditorError::WriterFailed),
+    }
+}
+
+impl<D: Disk> Session for Project<D> {
+    ghost answers = { AnswersInProject D.Disk };
+
+    ghost lacks = { LacksInProject };
+
+    fn answer<W: Write>(
+        &mut self,
+        alloc: Global,
+        line: &[u8],
+        writer: &mut W,
+    ) -> Result<(), EditorError> {
+        let Some(query) = read_query(line) else {
+            let outcome = change(self, line);
+            return write_outcome(outcome, writer);
+        };
+        answer_query(alloc, self, query, writer)
+    }
+}
+
+/// Answers a line over a project. A command is on the disk before its number is answered.
+///
+/// # Errors
+///
+/// Only `WriterFailed`; the line's command may then be on the disk.
+pub fn answer<D: Disk, W: Write>(
+    alloc: Global,
+    project: &mut Project<D>,
+    line: &[u8],
+    writer: &mut W,
+) -> Result<(), EditorError>
+    ensures answered { AnswersLine (RepliesInProject D.Disk) result
+        project.old project.new line.now (W.contents writer.old) (W.contents writer.new) }
+
+    // A stop at any moment of the call leaves the maps as they were, or as the line changes them.
+    ensures any_moment { project.old.must_reopen ≡ false
+        → LeavesOnly D.Disk project.old.disk project.new.disk
+        (IsOutcome project.old.cap (project_of project.old.maps) line.now) }
+
+    // Each image now stands for the maps; if the project must be reopened, for these maps or these maps after the line.
+    ensures kept { IsProjectKept D.Disk project.new }
+    ensures in_doubt { project.old.must_reopen ≡ false → project.new.must_reopen ≡ true
+        → Each (D.may_leave project.new.disk)
+        (IsOutcome project.new.cap (project_of project.new.maps) line.now) }
+{
+    // Only for its contract: it says what each image stands for as the call begins.
+    let _ = project.must_reopen();
+    project.answer(alloc, front(line), writer)
+}
+
+/// Answers the lines of the reader over a project, and returns how many lines it answered. It makes at most `turns`
+/// reads of at most 4,096 bytes each, and flushes the writer after each of these turns.
+///
+/// After a line that was answered `no 30`, every line is answered `no 32`, queries too, until the file is reopened.
+///
+/// # Errors
+///
+/// - `InputTooLong` if that many reads don't reach the end of the input, and `ReaderFailed`: every line that was read
+///   whole has been answered, and the rest is dropped.
+/// - `WriterFailed`: no further line was answered.
+pub fn run<D: Disk, R: Read, W: Write>(
+    alloc: Global,
+    project: &mut Project<D>,
+    reader: &mut R,
+    writer: &mut W,
+    turns: u32,
+) -> Result<u64, EditorError>
+    ensures { (trace : List (Exchange (State D)))
+        × Ran (RepliesInProject D.Disk) project.old project.new trace turns result
+        (R.remaining reader.old) (R.remaining reader.new)
+        (W.contents writer.old) (W.contents writer.new)
+        × RunsOver D.Disk project.old project.new trace }
+{
+    // Only for its contract: it says what each image stands for as the run begins.
+    let _ = project.must_reopen();
+    run_lines(alloc, project, reader, writer, turns)
+}

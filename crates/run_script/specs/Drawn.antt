@@ -1,0 +1,163 @@
+-- What the lines of a script draw, one after the other (docs/COMMANDS.md, "Scripts").
+use Rattle.std.specs.Prelude.{◌≡◌, ◌⊎◌, ℕ, Bool, true, false, ◌&&◌, not, is_some, List, [], ◌∷◌, ◌++◌, Option, Some, None, Result, Ok, Err, MatchResult, codes, decimal, length}
+use Rattle.std.specs.Io.KnownBytes.{Appends, Keeps}
+use Rattle.map_tables.specs.Projects.{ProjectMaps, current_map}
+use Rattle.map_commands.specs.ProjectCommands.{InProjectRange, project_spelling}
+use Rattle.map_commands.specs.declared.project.command.ProjectCommand.{ProjectCommand}
+use Rattle.map_script.specs.Errors.{code_of}
+use Rattle.map_script.specs.Firsts.{firsts_of}
+use Rattle.map_script.specs.Lines.{line_for, name_in}
+use Rattle.map_script.specs.Words.{text_words}
+use Rattle.map_script.specs.declared.firsts.Firsts.{Firsts}
+use Rattle.map_script.specs.declared.firsts.Numbers.{Numbers}
+use Rattle.run_script.specs.declared.canvas.Canvas.{Ghosts}
+use Rattle.run_script.specs.declared.drawing.Stop.{Stop}
+use Rattle.run_script.specs.declared.error.ScriptError.{ScriptError}
+use Rattle.run_script.specs.declared.error.ScriptError.TheVariants.{OutOfMemory, WriterFailed}
+
+-- the state while a script is drawn: what it is drawn onto, the names so far, and what the writer
+-- holds
+pub record Sketch (S : Type 0) : Type 0 where
+  pub canvas : S
+  pub names : List (List ℕ × Numbers)
+  pub written : Option (List ℕ)
+
+-- the sketch with this canvas, these names, and a writer that holds this
+abbrev pub sketch_of : {S : Type 0} → S → List (List ℕ × Numbers) → Option (List ℕ) → Sketch S
+sketch_of canvas names written = record { canvas = canvas; names = names; written = written }
+
+-- nothing has changed
+pub record Stays {S : Type 0} (old new : Sketch S) : Type 0 where
+  pub canvas : new.canvas ≡ old.canvas
+  pub names : new.names ≡ old.names
+  pub written : Keeps old.written new.written
+
+-- ---- A command
+
+-- if a line is a command, these are the first items that it adds to the maps
+abbrev pub AddsFirst : List ℕ → ProjectMaps → Firsts → Type 0
+AddsFirst text p firsts =
+    (c : ProjectCommand) → InProjectRange c → text ≡ project_spelling c
+    → firsts ≡ firsts_of c (current_map p)
+
+-- the names, with the one that a line gives to its numbers
+abbrev pub with_given_name : Option (List ℕ) → Numbers → List (List ℕ × Numbers)
+    → List (List ℕ × Numbers)
+with_given_name None numbers names = names
+with_given_name (Some name) numbers names = names ++ (name, numbers) ∷ []
+
+-- `NUMBER: ok N`, if the answers to commands are written
+abbrev pub noted_text : Bool → ℕ → ℕ → List ℕ
+noted_text true number n = decimal number ++ codes ": ok " ++ decimal n ++ 10 ∷ []
+noted_text false number n = []
+
+-- how a line ends whose command had this outcome: refused with the code; or its name keeps the
+-- numbers, and its answer is written if wanted
+abbrev pub EndsChange : {S : Type 0} → Bool → ℕ × List ℕ → List ℕ → ProjectMaps → Result ℕ ℕ
+    → Sketch S → Option ℕ → Sketch S → Type 0
+EndsChange verbose line text p (Err code) old refusal new =
+    (refusal ≡ Some code) × (new.names ≡ old.names) × Keeps old.written new.written
+EndsChange verbose line text p (Ok n) old refusal new =
+    (refusal ≡ None) × Appends old.written new.written (noted_text verbose line.0 n)
+    × ((firsts : Firsts) × AddsFirst text p firsts
+    × (new.names ≡ with_given_name (name_in (text_words line.1))
+    (record { answer = n; firsts = firsts }) old.names))
+
+-- the command of a line was tried, and it ended so
+abbrev pub IsTried : {S : Type 0} → Ghosts S → Bool → ℕ × List ℕ → List ℕ → Sketch S → Option ℕ
+    → Sketch S → Type 0
+IsTried facts verbose line text old refusal new =
+    (outcome : Result ℕ ℕ) × facts.changes old.canvas text outcome new.canvas
+    × EndsChange verbose line text (facts.maps_in old.canvas) outcome old refusal new
+
+-- ---- A line
+
+-- whether a line of a script, with this text once its names are resolved, is a query: it gives no
+-- name
+abbrev pub asks : {S : Type 0} → Ghosts S → List ℕ → List ℕ → Bool
+asks facts line text = not (is_some (name_in (text_words line))) && facts.is_query text
+
+-- a query was answered or refused, and the canvas and the names stay
+abbrev pub IsQueryTold : {S : Type 0} → Ghosts S → List ℕ → Sketch S → Option ℕ → Sketch S → Type 0
+IsQueryTold facts text old refusal new =
+    facts.tells old.canvas text refusal old.written new.written
+    × (new.canvas ≡ old.canvas) × (new.names ≡ old.names)
+
+-- the first if the test holds, else the second
+abbrev pub OneOf : Bool → Type 0 → Type 0 → Type 0
+OneOf true P Q = P
+OneOf false P Q = Q
+
+-- a line, with this text once its names are resolved, was drawn, or refused with this code
+abbrev pub DrawsText : {S : Type 0} → Ghosts S → Bool → ℕ × List ℕ → Sketch S → Option ℕ → Sketch S
+    → List ℕ → Type 0
+DrawsText facts verbose line old refusal new text =
+    OneOf (asks facts line.1 text) (IsQueryTold facts text old refusal new)
+    (IsTried facts verbose line text old refusal new)
+
+-- A line of a script was drawn, or refused with this code: for its text, because its names can't be
+-- resolved, or for lack of memory.
+abbrev pub DrawsLine : {S : Type 0} → Ghosts S → Bool → ℕ × List ℕ → Sketch S → Option ℕ → Sketch S
+    → Type 0
+DrawsLine facts verbose line old refusal new =
+    MatchResult (line_for old.names line.1) (DrawsText facts verbose line old refusal new)
+    (λ fault. (refusal ≡ Some (code_of fault)) × Stays old new)
+    ⊎ ((refusal ≡ Some 31) × Stays old new)
+
+-- ---- A script
+
+-- each of these lines was drawn in turn, and none was refused
+abbrev pub DrawsAll : {S : Type 0} → Ghosts S → Bool → Sketch S → List (ℕ × List ℕ) → Sketch S
+    → Type 0
+DrawsAll facts verbose old [] new = new ≡ old
+DrawsAll {S = S} facts verbose old (line ∷ lines) new =
+    (mid : Sketch S) × DrawsLine facts verbose line old None mid
+    × DrawsAll facts verbose mid lines new
+
+-- the first lines were drawn in turn, and none was refused; these lines are left
+pub record DrawsFront {S : Type 0} (facts : Ghosts S) (verbose : Bool) (old : Sketch S)
+    (lines : List (ℕ × List ℕ)) (new : Sketch S) (left : List (ℕ × List ℕ)) : Type 0 where
+  pub front : List (ℕ × List ℕ)
+  pub split : lines ≡ front ++ left
+  pub drawn : DrawsAll facts verbose old front new
+
+-- the lines before one were drawn in turn, and that one was refused; its index is how many lines
+-- came before it
+abbrev pub StopsAt : {S : Type 0} → Ghosts S → Bool → Sketch S → List (ℕ × List ℕ) → Stop
+    → Sketch S → Type 0
+StopsAt {S = S} facts verbose old lines stop new =
+    (mid : Sketch S) × (line : ℕ × List ℕ) × (back : List (ℕ × List ℕ))
+    × (drawn : DrawsFront facts verbose old lines mid (line ∷ back))
+    × (stop.place ≡ length drawn.front)
+    × DrawsLine facts verbose line mid (Some stop.code) new
+
+-- this is the canvas after the lines that were drawn before memory ran out or the writer failed
+abbrev pub IsCutOff : {S : Type 0} → Ghosts S → Bool → Sketch S → List (ℕ × List ℕ) → S → Type 0
+IsCutOff {S = S} facts verbose old lines canvas =
+    (new : Sketch S) × (left : List (ℕ × List ℕ))
+    × DrawsFront facts verbose old lines new left × (canvas ≡ new.canvas)
+
+-- ---- How a call ended
+
+-- the sketch before the first line: no name yet
+abbrev pub first_sketch : {S : Type 0} → S → Option (List ℕ) → Sketch S
+first_sketch canvas written = sketch_of canvas [] written
+
+-- the sketch has this canvas, and its writer holds this
+abbrev pub Has : {S : Type 0} → Sketch S → S → Option (List ℕ) → Type 0
+Has sketch canvas written = (canvas ≡ sketch.canvas) × (written ≡ sketch.written)
+
+-- how a call ended that should draw these lines: all were drawn; or those before a refused one; or
+-- those before memory ran out or the writer failed
+abbrev pub IsScriptDrawn : {S : Type 0} → Ghosts S → Bool → List (ℕ × List ℕ)
+    → Result (Option Stop) ScriptError → S → Option (List ℕ) → S → Option (List ℕ) → Type 0
+IsScriptDrawn {S = S} facts verbose lines (Ok None) canvas-old writer-old canvas-new writer-new =
+    (new : Sketch S) × DrawsAll facts verbose (first_sketch canvas-old writer-old) lines new
+    × Has new canvas-new writer-new
+IsScriptDrawn {S = S} facts verbose lines
+    (Ok (Some stop)) canvas-old writer-old canvas-new writer-new =
+    (new : Sketch S) × StopsAt facts verbose (first_sketch canvas-old writer-old) lines stop new
+    × Has new canvas-new writer-new
+IsScriptDrawn facts verbose lines (Err error) canvas-old writer-old canvas-new writer-new =
+    ((error ≡ OutOfMemory) ⊎ (error ≡ WriterFailed))
+    × IsCutOff facts verbose (first_sketch canvas-old writer-old) lines canvas-new

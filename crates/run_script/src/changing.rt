@@ -1,0 +1,118 @@
+//! Applies the commands of a script, keeps their numbers under names, and prints their answers if asked to.
+ghost use Rattle.std.specs.Prelude.{◌≡◌, ◌⊎◌, None, IfErr, IfOk, MatchResult};
+ghost use Rattle.std.specs.Option.{option_copied};
+ghost use Rattle.std.specs.Io.KnownBytes.{Appends};
+ghost use Rattle.map_tables.specs.Projects.{project_of};
+ghost use Rattle.map_script.specs.Known.{known};
+ghost use Rattle.map_script.specs.Views.{seen};
+ghost use Rattle.run_script.specs.declared.error.ScriptError.TheVariants.{OutOfMemory, WriterFailed};
+ghost use Rattle.run_script.specs.Drawn.{AddsFirst, IsTried, Sketch, noted_text, sketch_of, with_given_name};
+
+use crate::canvas::Canvas;
+use crate::error::ScriptError;
+use map_commands::parse;
+use map_script::{Firsts, Names, Numbers, ScriptLine, defined_name, firsts_of};
+use map_tables::Maps;
+use std::alloc::Global;
+use std::io::Write;
+
+// No item is added.
+const NONE: Firsts = Firsts {
+    vertex: None,
+    sector: None,
+    side: None,
+    line: None,
+    thing: None,
+};
+
+// The first items that a line is about to add to the current map.
+fn added_by(maps: &Maps, text: &[u8]) -> Firsts
+    ensures { AddsFirst text.now (project_of maps.now) result }
+{
+    match parse(text) {
+        Ok(command) => firsts_of(&command, maps.current()),
+        Err(_) => NONE,
+    }
+}
+
+// Keeps the numbers of a command under the name that its line gives, if it gives one.
+fn keep_name(
+    alloc: Global,
+    names: &mut Names,
+    name: Option<&[u8]>,
+    numbers: Numbers,
+) -> Result<(), ScriptError>
+    ensures ok { IfOk result (λ _.
+        known names.new ≡ with_given_name (option_copied name.entry) numbers (known names.old)) }
+    ensures refused { IfErr result (λ e. e ≡ OutOfMemory) }
+{
+    match name {
+        Some(name) => match names.define(alloc, name, numbers) {
+            Ok(()) => Ok(()),
+            Err(_) => Err(ScriptError::OutOfMemory),
+        },
+        None => Ok(()),
+    }
+}
+
+// Writes the answer to the command of a line, if `is_verbose`.
+fn note<W: Write>(
+    is_verbose: bool,
+    number: usize,
+    answer: u32,
+    writer: &mut W,
+) -> Result<(), ScriptError>
+    ensures { MatchResult result
+        (λ _. Appends (W.contents writer.old) (W.contents writer.new)
+        (noted_text is_verbose number answer))
+        (λ e. e ≡ WriterFailed) }
+{
+    if !is_verbose {
+        return Ok(());
+    }
+    match write!(writer, "{number}: ok {answer}\n") {
+        Ok(()) => Ok(()),
+        Err(_) => Err(ScriptError::WriterFailed),
+    }
+}
+
+/// Tries the command of a line; `text` is the line with its names replaced by numbers. If it is accepted, its numbers
+/// are kept under the line's name, and its answer is written if `is_verbose`. Returns the code of a refusal.
+///
+/// # Errors
+///
+/// `OutOfMemory` and `WriterFailed`; the command was then done.
+pub fn try_command<C: Canvas, W: Write>(
+    alloc: Global,
+    canvas: &mut C,
+    names: &mut Names,
+    line: &ScriptLine,
+    text: &[u8],
+    is_verbose: bool,
+    writer: &mut W,
+) -> Result<Option<u16>, ScriptError>
+    ensures { MatchResult result
+        (λ refusal. IsTried C.Canvas is_verbose (seen line.now) text.now
+        (sketch_of canvas.old (known names.old) (W.contents writer.old))
+        refusal
+        (sketch_of canvas.new (known names.new) (W.contents writer.new)))
+        (λ e. ((e ≡ OutOfMemory) ⊎ (e ≡ WriterFailed))
+        × ((new : Sketch C) × IsTried C.Canvas is_verbose (seen line.now) text.now
+        (sketch_of canvas.old (known names.old) (W.contents writer.old))
+        None new × (canvas.new ≡ new.canvas))) }
+{
+    let firsts = added_by(canvas.maps(), text);
+    let answer = match canvas.change(text) {
+        Ok(answer) => answer,
+        Err(code) => return Ok(Some(code)),
+    };
+    let numbers = Numbers { answer, firsts };
+    match keep_name(alloc, names, defined_name(&line.text), numbers) {
+        Ok(()) => {}
+        Err(error) => return Err(error),
+    }
+    match note(is_verbose, line.number, answer, writer) {
+        Ok(()) => Ok(None),
+        Err(error) => Err(error),
+    }
+}

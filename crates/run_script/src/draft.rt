@@ -1,0 +1,87 @@
+//! Maps in memory, on which a script is tried.
+ghost use Rattle.std.specs.Prelude.{◌≡◌, ◌≤◌};
+ghost use Rattle.run_edit.specs.declared.limits.TheConstants.{LONGEST_BODY};
+ghost use Rattle.run_edit.specs.Answers.{ChangesBy, outcome_of};
+ghost use Rattle.map_tables.specs.Projects.{ProjectMaps, body_len, empty_project, project_of};
+ghost use Rattle.run_script.specs.Canvases.{TellsOfMaps, is_query_line};
+
+use crate::asking::{is_query_line, tell_of};
+use crate::canvas::Canvas;
+use crate::error::ScriptError;
+use map_commands::{CommandError, apply, parse};
+use map_tables::Maps;
+use run_edit::LONGEST_BODY;
+use std::alloc::Global;
+use std::io::Write;
+use std::marker::Model;
+
+/// The maps of a project in memory, at first the empty map MAP01 alone. They may be as long as those of any project
+/// file.
+#[derive(Drop)]
+pub struct Draft {
+    maps: Maps,
+}
+
+impl Model for Draft {
+    ghost Value = { ProjectMaps };
+
+    ghost view = { λ d. project_of d.maps };
+
+    ghost invariant = { λ d. body_len (project_of d.maps) ≤ 2007002 };
+}
+
+impl Draft {
+    /// The empty map MAP01 alone. Allocates nothing.
+    pub fn new(alloc: Global) -> Self
+        ensures { result ≡ empty_project }
+    {
+        Draft {
+            maps: Maps::new(alloc),
+        }
+    }
+}
+
+// The outcome of a command: its number, or the refusal's code.
+fn outcome_of(ended: Result<u32, CommandError>) -> Result<u32, u16>
+    ensures { result ≡ outcome_of ended }
+{
+    match ended {
+        Ok(number) => Ok(number),
+        Err(error) => Err(error.code()),
+    }
+}
+
+impl Canvas for Draft {
+    ghost changes = { ChangesBy LONGEST_BODY };
+
+    ghost maps_in = { λ p. p };
+
+    ghost is_query = { is_query_line };
+
+    ghost tells = { TellsOfMaps };
+
+    fn change(&mut self, line: &[u8]) -> Result<u32, u16> {
+        let command = match parse(line) {
+            Ok(command) => command,
+            Err(error) => return Err(error.code()),
+        };
+        outcome_of(apply(&mut self.maps, &command, LONGEST_BODY))
+    }
+
+    fn maps(&self) -> &Maps {
+        &self.maps
+    }
+
+    fn is_query(line: &[u8]) -> bool {
+        is_query_line(line)
+    }
+
+    fn tell<W: Write>(
+        &self,
+        alloc: Global,
+        line: &[u8],
+        writer: &mut W,
+    ) -> Result<Option<u16>, ScriptError> {
+        tell_of(alloc, &self.maps, line, writer)
+    }
+}

@@ -1,0 +1,56 @@
+//! Draws one line of a script, a command or a query.
+ghost use Rattle.std.specs.Prelude.{◌≡◌, ◌⊎◌, None, MatchResult};
+ghost use Rattle.map_script.specs.Known.{known};
+ghost use Rattle.map_script.specs.Views.{seen};
+ghost use Rattle.run_script.specs.declared.error.ScriptError.TheVariants.{OutOfMemory, WriterFailed};
+ghost use Rattle.run_script.specs.Drawn.{DrawsLine, Sketch, asks, sketch_of};
+
+use crate::canvas::Canvas;
+use crate::changing::try_command;
+use crate::error::ScriptError;
+use map_script::{Names, ScriptLine, defined_name, resolve};
+use std::alloc::Global;
+use std::io::Write;
+
+// Whether a line of a script is a query; `text` is the line with its names resolved. A line that gives a name never is.
+fn asks<C: Canvas>(line: &[u8], text: &[u8]) -> bool
+    ensures { result ≡ asks C.Canvas line.now text.now }
+{
+    match defined_name(line) {
+        Some(_) => false,
+        None => C::is_query(text),
+    }
+}
+
+/// Draws a line of a script, or returns the code of its refusal.
+///
+/// # Errors
+///
+/// `OutOfMemory` and `WriterFailed`; a command was then done, or nothing was changed.
+pub fn draw_line<C: Canvas, W: Write>(
+    alloc: Global,
+    canvas: &mut C,
+    names: &mut Names,
+    line: &ScriptLine,
+    is_verbose: bool,
+    writer: &mut W,
+) -> Result<Option<u16>, ScriptError>
+    ensures { let old = sketch_of canvas.old (known names.old) (W.contents writer.old) in
+        MatchResult result
+        (λ refusal. DrawsLine C.Canvas is_verbose (seen line.now) old refusal
+        (sketch_of canvas.new (known names.new) (W.contents writer.new)))
+        (λ e. ((e ≡ OutOfMemory) ⊎ (e ≡ WriterFailed))
+        × ((canvas.new ≡ canvas.old) ⊎ ((new : Sketch C)
+        × DrawsLine C.Canvas is_verbose (seen line.now) old None new
+        × (canvas.new ≡ new.canvas)))) }
+{
+    let text = match resolve(alloc, names, &line.text) {
+        Ok(text) => text,
+        Err(error) => return Ok(Some(error.code())),
+    };
+    if asks::<C>(&line.text, &text) {
+        canvas.tell(alloc, &text, writer)
+    } else {
+        try_command(alloc, canvas, names, line, &text, is_verbose, writer)
+    }
+}

@@ -1,0 +1,197 @@
+//! Says what was wrong with a refused line.
+use crate::calling::says;
+use crate::forms::{count_words, first_word, form_near, form_of, range_at};
+use lump_records::{Vertex, is_marker, is_name};
+use map_commands::{Command, ProjectCommand, RoomPlan, parse};
+use map_script::{Names, ScriptLine, resolve};
+use map_tables::{Kind, Map, Maps};
+use run_edit::read_query;
+use std::alloc::{AllocError, Global};
+use std::str;
+
+// What is probably meant by a line that is neither a command nor a query.
+fn meant(alloc: Global, text: &str) -> Result<String, AllocError> {
+    if text.len() > 256 {
+        return format!(in alloc; "a line has 256 bytes at most");
+    }
+    if read_query(text.as_bytes()).is_some() {
+        return format!(in alloc; "a query answers no number that a name could keep");
+    }
+    let first = first_word(text);
+    let count = count_words(text);
+    match form_of(first) {
+        Some(form) => {
+            let wanted = count_words(form);
+            if wanted == count {
+                format!(in alloc; "a word hasn't the form of its place in: {form}")
+            } else {
+                format!(in alloc; "it has {count} words in place of {wanted}: {form}")
+            }
+        }
+        None => match form_near(first) {
+            Some(form) => format!(in alloc; "perhaps this is meant: {form}"),
+            None => format!(in alloc; "no command and no query begins with {first}"),
+        },
+    }
+}
+
+// Whether a word other than `-` is no number within the range.
+fn is_outside(word: &str, low: i32, high: i32) -> bool {
+    if word == "-" {
+        return false;
+    }
+    match word.parse::<i32>() {
+        Ok(number) => number < low || high < number,
+        Err(_) => true,
+    }
+}
+
+// Says which number of a line is out of its range, and what the range is.
+fn out_of_range(alloc: Global, text: &str, form: &str) -> Result<String, AllocError> {
+    for (place, word) in form.split(' ').zip(text.split(' ')) {
+        if let Some((low, high)) = range_at(place) {
+            if is_outside(word, low, high) {
+                return format!(in alloc;
+                    "{word} stands for {place}, a number from {low} to {high}"
+                );
+            }
+        }
+    }
+    match first_word(form) {
+        "room" => format!(in alloc; "X1 is to be less than X2, and Y1 less than Y2"),
+        _ => format!(in alloc; "the number of a sector is 4095 at most"),
+    }
+}
+
+// Whether a name must stand at this place of a form, and the word isn't one.
+fn is_bad_name(place: &str, word: &str) -> bool {
+    if place == "MARKER" {
+        return !is_marker(word.as_bytes());
+    }
+    // The first word of a form is in small letters, so it is no name and never counts as a place for one.
+    is_name(place.as_bytes()) && range_at(place).is_none() && !is_name(word.as_bytes())
+}
+
+// Says what a name at this place of a form must be.
+fn wanted_name(alloc: Global, place: &str, word: &str) -> Result<String, AllocError> {
+    if place == "MARKER" {
+        return format!(in alloc; "{word} stands for a map's name: MAP01 to MAP99, or E1M1 to E9M9");
+    }
+    format!(in alloc;
+        "{word} stands for {place}, a name of one to eight of A-Z, 0-9, _, -, [, ] and \\"
+    )
+}
+
+// Says which word of a line is no name, and what it must be.
+fn bad_name(alloc: Global, text: &str, form: &str) -> Result<String, AllocError> {
+    for (place, word) in form.split(' ').zip(text.split(' ')) {
+        if is_bad_name(place, word) {
+            return wanted_name(alloc, place, word);
+        }
+    }
+    says(alloc, 15)
+}
+
+// Says how many items of a kind the map has.
+fn counted(alloc: Global, map: &Map, kind: Kind, items: &str) -> Result<String, AllocError> {
+    let count = map.count(kind);
+    format!(in alloc; "{items} of the map: {count}, numbered from 0")
+}
+
+// The vertex that stands at a place, if there is one.
+fn vertex_at(map: &Map, at: Vertex) -> Option<u32> {
+    for n in 0..map.count(Kind::Vertex) {
+        if let Some(vertex) = map.vertex(n) {
+            if vertex.x == at.x && vertex.y == at.y {
+                return Some(n);
+            }
+        }
+    }
+    None
+}
+
+// The first corner of a room at which a vertex stands; if there is none, the first corner.
+fn taken_corner(map: &Map, plan: &RoomPlan) -> Vertex {
+    let corners = [
+        Vertex {
+            x: plan.west,
+            y: plan.south,
+        },
+        Vertex {
+            x: plan.west,
+            y: plan.north,
+        },
+        Vertex {
+            x: plan.east,
+            y: plan.north,
+        },
+        Vertex {
+            x: plan.east,
+            y: plan.south,
+        },
+    ];
+    for corner in corners {
+        if vertex_at(map, corner).is_some() {
+            return corner;
+        }
+    }
+    corners[0]
+}
+
+// The place for which a command would add or move a vertex, and where another one may stand.
+fn wanted_place(map: &Map, text: &str) -> Option<Vertex> {
+    match parse(text.as_bytes()) {
+        Ok(ProjectCommand::Edit(Command::AddVertex(at))) => Some(at),
+        Ok(ProjectCommand::Edit(Command::SetVertex(_, at))) => Some(at),
+        Ok(ProjectCommand::Edit(Command::Split(split))) => Some(split.at),
+        Ok(ProjectCommand::Edit(Command::Room(plan))) => Some(taken_corner(map, &plan)),
+        _ => None,
+    }
+}
+
+// Says which vertex stands at the place for which a command would add or move one.
+fn taken(alloc: Global, map: &Map, text: &str) -> Result<String, AllocError> {
+    if let Some(at) = wanted_place(map, text) {
+        if let Some(n) = vertex_at(map, at) {
+            let x = at.x;
+            let y = at.y;
+            return format!(in alloc; "vertex {n} stands at {x} {y}");
+        }
+    }
+    says(alloc, 10)
+}
+
+// Says what was wrong with a line whose names are resolved.
+fn reason_of_text(alloc: Global, maps: &Maps, text: &str, code: u16) -> Result<String, AllocError> {
+    let map = maps.current();
+    let form = form_of(first_word(text)).unwrap_or("");
+    match code {
+        1 => meant(alloc, text),
+        2 => out_of_range(alloc, text, form),
+        3 => counted(alloc, map, Kind::Vertex, "vertices"),
+        4 => counted(alloc, map, Kind::Sector, "sectors"),
+        5 => counted(alloc, map, Kind::Side, "sides"),
+        6 => counted(alloc, map, Kind::Line, "lines"),
+        7 => counted(alloc, map, Kind::Thing, "things"),
+        10 => taken(alloc, map, text),
+        15 => bad_name(alloc, text, form),
+        _ => says(alloc, code),
+    }
+}
+
+/// Says what was wrong with a line of a script, given the maps as they are and the names of the earlier lines.
+pub fn reason_of(
+    alloc: Global,
+    maps: &Maps,
+    names: &Names,
+    line: &ScriptLine,
+    code: u16,
+) -> Result<String, AllocError> {
+    let Ok(text) = resolve(alloc, names, &line.text) else {
+        return says(alloc, code);
+    };
+    match str::from_utf8(&text) {
+        Ok(text) => reason_of_text(alloc, maps, text, code),
+        Err(_) => format!(in alloc; "a word has a byte that is no letter, digit or sign"),
+    }
+}

@@ -1,0 +1,201 @@
+//! The choice of a partition: worked examples, and the same choice by brute force.
+
+ghost use Rattle.std.specs.Prelude.{◌≡◌, ◌<◌, length, All};
+ghost use Rattle.tree_pieces.specs.Edges.{edges_of};
+ghost use Rattle.tree_pieces.specs.Pieces.{IsPiece};
+
+use crate::expect::{holds, same};
+use crate::tangle::{Sequence, draw_tangle};
+use map_tables::Map;
+use std::alloc::Global;
+use std::process::Abort;
+use std::test::Fail;
+use tests_maps::drawing::{L, SECTOR, SIDE, SLIVER, drawn};
+use tree_choice::{
+    Choice, StraightLines, blocks_of, by_place, choose, choose_in_boxes, choose_ordered, separates,
+};
+use tree_pieces::{Piece, boxes_in, divide, edges_of, pieces_of};
+
+// The choice among a map's whole sides, if these lines are used. All three calls and brute force make the same choice.
+fn chosen(
+    rt: &impl Abort,
+    alloc: Global,
+    map: &Map,
+    used: &[bool],
+) -> Result<Option<Choice>, Fail> {
+    let pieces = pieces_of(alloc, map)?;
+    let edges = edges_of(alloc, map)?;
+    holds(rt, used.len() == edges.len());
+    holds(rt, pieces.len() <= 60);
+    let boxes = boxes_in(alloc, &edges, &pieces)?;
+    holds(rt, boxes.len() <= 60);
+    let blocks = blocks_of(alloc, &boxes)?;
+    let mut straight = StraightLines::new(alloc, &edges)?;
+    let choice = choose(map, &pieces, used);
+    let by_boxes = choose_in_boxes(&edges, &pieces, &boxes, &blocks, used, &mut straight);
+    same(rt, &choice, &by_boxes);
+    same(rt, &choice, &chosen_by_place(rt, alloc, map, used)?);
+    same(rt, &choice, &walked(map, &pieces, used));
+    Ok(choice)
+}
+
+// The same choice by `choose_ordered`, over the pieces ordered by their places.
+fn chosen_by_place(
+    rt: &impl Abort,
+    alloc: Global,
+    map: &Map,
+    used: &[bool],
+) -> Result<Option<Choice>, Fail> {
+    let pieces = pieces_of(alloc, map)?;
+    let edges = edges_of(alloc, map)?;
+    holds(rt, used.len() == edges.len());
+    holds(rt, pieces.len() <= 60);
+    let ordered = by_place(alloc, &edges, &pieces)?;
+    let boxes = boxes_in(alloc, &edges, &ordered)?;
+    holds(rt, boxes.len() <= 60);
+    let blocks = blocks_of(alloc, &boxes)?;
+    let mut straight = StraightLines::new(alloc, &edges)?;
+    let choice = choose_ordered(
+        &edges,
+        &pieces,
+        &ordered,
+        &boxes,
+        &blocks,
+        used,
+        &mut straight,
+    );
+    Ok(choice)
+}
+
+// How many pieces a partition splits, and how many parts it has on its right and on its left. `at` isn't set.
+fn counted(map: &Map, partition: &Piece, pieces: &[Piece]) -> Choice
+    requires partition { IsPiece (edges_of map.now.tables) partition.now }
+    requires pieces { All (IsPiece (edges_of map.now.tables)) pieces.now }
+{
+    let mut counts = Choice {
+        at: 0,
+        splits: 0,
+        right: 0,
+        left: 0,
+    };
+    for piece in pieces {
+        let parts = divide(map, partition, piece);
+        let right = u32::from(parts.right.is_some());
+        let left = u32::from(parts.left.is_some());
+        counts.right = counts.right.wrapping_add(right);
+        counts.left = counts.left.wrapping_add(left);
+        counts.splits = counts.splits.wrapping_add(u32::from(right + left == 2));
+    }
+    counts
+}
+
+// The choice by brute force: it counts all pieces for each candidate.
+fn walked(map: &Map, pieces: &[Piece], used: &[bool]) -> Option<Choice>
+    requires { All (IsPiece (edges_of map.now.tables)) pieces.now }
+{
+    let mut best: Option<Choice> = None;
+    let mut least = u32::MAX;
+    for (at, partition) in pieces.iter().enumerate() {
+        let counts = counted(map, partition, pieces);
+        let cost = counts
+            .splits
+            .wrapping_mul(8)
+            .wrapping_add(counts.right.abs_diff(counts.left));
+        let is_used = used.get(partition.line as usize).copied().unwrap_or(true);
+        if !is_used && counts.left > 0 && cost < least {
+            least = cost;
+            let at = u32::try_from(at).unwrap_or(u32::MAX);
+            best = Some(Choice { at, ..counts });
+        }
+    }
+    best
+}
+
+// Two lines on one straight line that run in opposite directions. Each has the other on its left.
+#[rattlefmt::skip]
+const AGAINST: [&[u8]; 8] = [
+    b"vertex 0 0", b"vertex 64 0", b"vertex 128 0", b"vertex 192 0", SECTOR, SIDE,
+    b"line 0 1 1 0 0 0 -", b"line 3 2 1 0 0 0 -",
+];
+
+// Lines; which of their map's lines are used; and the choice as `at`, `splits`, `right` and `left`. In the L the third
+// and the fourth line both cost nine: eight for a split, and one. In the sliver no line has anything on its left.
+#[rattlefmt::skip]
+const CHOICES: &[(&[&[u8]], &[bool], Option<[u32; 4]>)] = &[
+    (&L, &[false, false, false, false, false, false], Some([2, 1, 4, 3])),
+    (&L, &[false, false, true, false, false, false], Some([3, 1, 4, 3])),
+    (&L, &[false, false, true, true, false, false], None),
+    (&AGAINST, &[false, false], Some([0, 0, 1, 1])),
+    (&AGAINST, &[true, false], Some([1, 0, 1, 1])),
+    (&SLIVER, &[false, false], None),
+];
+
+fn numbers(choice: Option<Choice>) -> Option<[u32; 4]> {
+    let choice = choice?;
+    Some([choice.at, choice.splits, choice.right, choice.left])
+}
+
+#[test]
+fn takes_the_first_of_the_cheapest(rt: HostRuntime) -> Result<(), Fail> {
+    for &(lines, used, want) in CHOICES {
+        let maps = drawn(rt.alloc(), lines)?;
+        let choice = chosen(&rt, rt.alloc(), maps.current(), used)?;
+        same(&rt, &(used, numbers(choice)), &(used, want));
+    }
+    Ok(())
+}
+
+// How many of a map's pieces separate the others.
+fn separating(alloc: Global, map: &Map) -> Result<u32, Fail> {
+    let mut count = 0_u32;
+    let pieces = pieces_of(alloc, map)?;
+    for partition in &pieces {
+        if separates(map, partition, &pieces) {
+            count = count.saturating_add(1);
+        }
+    }
+    Ok(count)
+}
+
+#[test]
+fn a_sliver_separates_nothing(rt: HostRuntime) -> Result<(), Fail> {
+    let maps = drawn(rt.alloc(), &SLIVER)?;
+    let count = separating(rt.alloc(), maps.current())?;
+    assert_eq!(rt; count, 0);
+    Ok(())
+}
+
+// Which of the lines are used: about one in four.
+fn used_of(alloc: Global, numbers: &mut Sequence, lines: u32) -> Result<Vec<bool>, Fail> {
+    let mut used = Vec::new(alloc);
+    for _ in 0..lines {
+        used.push(numbers.below(4) == 0)?;
+    }
+    Ok(used)
+}
+
+// Whether there is a choice among the pieces of the next map.
+fn next_has_choice(
+    rt: &impl Abort,
+    alloc: Global,
+    numbers: &mut Sequence,
+    lines: u32,
+) -> Result<bool, Fail> {
+    let maps = draw_tangle(alloc, numbers, lines, 12)?;
+    let used = used_of(alloc, numbers, lines)?;
+    Ok(chosen(rt, alloc, maps.current(), &used)?.is_some())
+}
+
+// For lists of 5 to 60 pieces, each call chooses what brute force does.
+#[test]
+fn chooses_as_a_plain_walk(rt: HostRuntime) -> Result<(), Fail> {
+    let mut numbers = Sequence { state: 1 };
+    let mut found = 0u32;
+    for list in 0..200 {
+        if next_has_choice(&rt, rt.alloc(), &mut numbers, 5 + list % 26)? {
+            found = found.wrapping_add(1);
+        }
+    }
+    holds(&rt, found > 150);
+    Ok(())
+}

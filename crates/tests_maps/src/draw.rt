@@ -1,0 +1,83 @@
+//! Scripts: how their lines are cleaned, and how the names in them are resolved.
+
+use crate::drawing::{AMPLE, answer};
+use crate::expect::same;
+use map_commands::parse;
+use map_script::{Names, Numbers, defined_name, firsts_of, resolve, script_lines};
+use map_tables::Maps;
+use std::alloc::Global;
+use std::test::Fail;
+
+// A script with every kind of white space, comments, and a `#` within a word, which begins no comment.
+const SCRIPT: &[u8] =
+    b"\xef\xbb\xbf# a level\r\n\r\n  vertex\t0   0 \r\n\t\nvertex 128 0 # the second\nname MAP01#x\nsplit 0 64 0";
+
+// Its lines that aren't blank, with their numbers.
+#[rattlefmt::skip]
+const LINES: &[(usize, &[u8])] = &[
+    (3, b"vertex 0 0"), (5, b"vertex 128 0"), (6, b"name MAP01#x"), (7, b"split 0 64 0"),
+];
+
+#[test]
+fn cleans_a_script(rt: HostRuntime) -> Result<(), Fail> {
+    let lines = script_lines(rt.alloc(), SCRIPT)?;
+    same(&rt, &lines.len(), &LINES.len());
+    let mut wanted = LINES.iter();
+    for line in &lines {
+        let want = wanted.next();
+        assert!(rt; want.is_some_and(|it| it.0 == line.number && it.1 == line.text.as_slice()));
+    }
+    Ok(())
+}
+
+// Lines, and each with its names resolved, or the code of its refusal. A room adds its corners, its sector, its sides
+// and its walls; a split adds a vertex and a line.
+#[rattlefmt::skip]
+const NAMED: &[(&[u8], Result<&[u8], u16>)] = &[
+    (b"hall = room 0 0 256 256 0 128 FLOOR4_8 CEIL3_5 STARTAN3 160",
+        Ok(b"room 0 0 256 256 0 128 FLOOR4_8 CEIL3_5 STARTAN3 160")),
+    (b"cut = split $hall.line+2 256 128", Ok(b"split 2 256 128")),
+    (b"line $cut.vertex $hall.vertex+1 1 0 0 $hall.side -", Ok(b"line 4 1 1 0 0 0 -")),
+    (b"vertex $cut $cut.line", Ok(b"vertex 4 4")),
+    (b"hall = vertex $hall+7 9", Ok(b"vertex 7 9")),
+    (b"thing $hall 0 90 1 7", Ok(b"thing 6 0 90 1 7")),
+    (b"thing 0 0 90 $hall+32761 7", Ok(b"thing 0 0 90 32767 7")),
+    (b"thing $hall+32762 0 90 1 7", Err(24)), (b"thing $hall+99999999999 0 90 1 7", Err(24)),
+    (b"split $cut.side 0 0", Err(23)), (b"split $hal 0 0", Err(22)), (b"split $hall.wall 0 0", Err(21)),
+    (b"split $hall+ 0 0", Err(21)), (b"split $ 0 0", Err(21)), (b"1st = vertex $hal 9", Err(20)),
+    (b"vertex 9 9 = $", Err(21)), (b"vertex 9 9", Ok(b"vertex 9 9")),
+];
+
+// Draws a line, and keeps its numbers if it gives a name.
+fn draw(
+    alloc: Global,
+    maps: &mut Maps,
+    names: &mut Names,
+    line: &[u8],
+    text: &[u8],
+) -> Result<(), Fail> {
+    let firsts = firsts_of(&parse(text)?, maps.current());
+    let drawn = answer(maps, text, AMPLE);
+    match (defined_name(line), drawn) {
+        (Some(name), Ok(answer)) => Ok(names.define(alloc, name, Numbers { answer, firsts })?),
+        _ => Ok(()),
+    }
+}
+
+#[test]
+fn replaces_names(rt: HostRuntime) -> Result<(), Fail> {
+    let mut maps = Maps::new(rt.alloc());
+    let mut names = Names::new(rt.alloc());
+    for &(line, want) in NAMED {
+        let found = resolve(rt.alloc(), &names, line);
+        let text = found
+            .as_ref()
+            .map(|text| text.as_slice())
+            .map_err(|error| error.code());
+        same(&rt, &(line, text), &(line, want));
+        if let Ok(text) = text {
+            draw(rt.alloc(), &mut maps, &mut names, line, text)?;
+        }
+    }
+    Ok(())
+}

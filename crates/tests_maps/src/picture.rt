@@ -1,0 +1,284 @@
+//! The pictures of worked maps.
+
+use crate::drawing::{ROOM, SECTOR, SIDE, drawn};
+use crate::expect::same;
+use lump_records::{Bounds, Node, Seg, Sub, Vertex};
+use map_picture::{PictureOptions, STYLE, write_picture};
+use map_svg::{Mark, MarkPlace, Overlay, PictureError};
+use std::alloc::Global;
+use std::io;
+use std::io::Write;
+use std::test::Fail;
+
+// A room of 128 by 128 with a player's start that faces north.
+const DRAWING: [&[u8]; 3] = [b"name E1M1", ROOM, b"thing 64 64 90 1 7"];
+
+// The part of its picture before the style, worked by hand: the room and 64 units on each side. In SVG y grows
+// downwards, so the upper edge is 64 above -128.
+const FRONT: &[u8] =
+    br#"<svg class="leveled" xmlns="http://www.w3.org/2000/svg" version="1.1" width="100%"
+viewBox="-64 -192 256 256" font-size="8">
+<title>E1M1</title>
+"#;
+
+// The part after the style. The corners go clockwise from the lower left one, so each line has the room on its right:
+// to the east, down, to the west, and up.
+const BACK: &[u8] = br#"<rect class="page" x="-64" y="-192" width="256" height="256"/>
+<g id="line0" class="one">
+<title>line 0: vertices 0 1, flags 1, special 0, tag 0, right side 0 (sector 0), no left side</title>
+<path d="M0 0L0 -128"/><path class="tick" d="M0 -64l8 0"/></g>
+<g id="line1" class="one">
+<title>line 1: vertices 1 2, flags 1, special 0, tag 0, right side 1 (sector 0), no left side</title>
+<path d="M0 -128L128 -128"/><path class="tick" d="M64 -128l0 8"/></g>
+<g id="line2" class="one">
+<title>line 2: vertices 2 3, flags 1, special 0, tag 0, right side 2 (sector 0), no left side</title>
+<path d="M128 -128L128 0"/><path class="tick" d="M128 -64l-8 0"/></g>
+<g id="line3" class="one">
+<title>line 3: vertices 3 0, flags 1, special 0, tag 0, right side 3 (sector 0), no left side</title>
+<path d="M128 0L0 0"/><path class="tick" d="M64 0l0 -8"/></g>
+<g id="thing0" class="player" transform="translate(64 -64) rotate(-90)">
+<title>thing 0: type 1, angle 90, options 7</title>
+<path d="M16 0L-12 12L-5 0L-12 -12Z"/></g>
+<path id="vertex0" class="vertex" d="M0 0h0"><title>vertex 0: 0 0</title></path>
+<path id="vertex1" class="vertex" d="M0 -128h0"><title>vertex 1: 0 128</title></path>
+<path id="vertex2" class="vertex" d="M128 -128h0"><title>vertex 2: 128 128</title></path>
+<path id="vertex3" class="vertex" d="M128 0h0"><title>vertex 3: 128 0</title></path>
+"#;
+
+// Its numbers: a vertex's to the upper right, a line's on the left, and the sector's on the right of line 0, the first
+// of the four longest lines.
+const NUMBERS: &[u8] = br#"<text class="of-vertex" x="0" y="0" dx="8" dy="-8">0</text>
+<text class="of-vertex" x="0" y="-128" dx="8" dy="-8">1</text>
+<text class="of-vertex" x="128" y="-128" dx="8" dy="-8">2</text>
+<text class="of-vertex" x="128" y="0" dx="8" dy="-8">3</text>
+<text class="of-line" x="0" y="-64" dx="-8" dy="0">0</text>
+<text class="of-line" x="64" y="-128" dx="0" dy="-8">1</text>
+<text class="of-line" x="128" y="-64" dx="8" dy="0">2</text>
+<text class="of-line" x="64" y="0" dx="0" dy="8">3</text>
+<text class="of-sector" x="0" y="-64" dx="24" dy="0">0</text>
+"#;
+
+// A slanting line between two sectors, with a special, and a thing of each other group.
+#[rattlefmt::skip]
+const SLANT: [&[u8]; 11] = [
+    b"vertex 0 0", b"vertex 101 -30", SECTOR, SECTOR, SIDE, b"side 0 0 - - - 1", b"line 0 1 4 1 5 0 1",
+    b"thing 50 -10 45 11 7", b"thing 51 -11 0 3001 7", b"thing 52 -12 270 2001 7", b"thing 53 -13 180 2035 0",
+];
+
+const SLANT_FRONT: &[u8] =
+    br#"<svg class="leveled" xmlns="http://www.w3.org/2000/svg" version="1.1" width="100%"
+viewBox="-64 -64 229 158" font-size="8">
+<title>MAP01</title>
+"#;
+
+// The middle is at 50.5, which is rounded to 50. The tick's x changes by -30 * 8 / 101 = -2.4, which is rounded to -2.
+const SLANT_BACK: &[u8] = br#"<rect class="page" x="-64" y="-64" width="229" height="158"/>
+<g id="line0" class="two special">
+<title>line 0: vertices 0 1, flags 4, special 1, tag 5, right side 0 (sector 0), left side 1 (sector 1)</title>
+<path d="M0 0L101 30"/><path class="tick" d="M50 15l-2 8"/></g>
+<g id="thing0" class="deathmatch" transform="translate(50 10) rotate(-45)">
+<title>thing 0: type 11, angle 45, options 7</title>
+<path d="M16 0L-12 12L-12 -12Z"/></g>
+<g id="thing1" class="monster" transform="translate(51 11) rotate(0)">
+<title>thing 1: type 3001, angle 0, options 7</title>
+<path d="M20 0L8 12L-12 12L-12 -12L8 -12Z"/></g>
+<g id="thing2" class="item" transform="translate(52 12) rotate(-270)">
+<title>thing 2: type 2001, angle 270, options 7</title>
+<path d="M8 0L0 8L-8 0L0 -8ZM8 0L14 0"/></g>
+<g id="thing3" class="other" transform="translate(53 13) rotate(-180)">
+<title>thing 3: type 2035, angle 180, options 0</title>
+<path d="M8 -8L8 8L-8 8L-8 -8ZM8 0L14 0"/></g>
+<path id="vertex0" class="vertex" d="M0 0h0"><title>vertex 0: 0 0</title></path>
+<path id="vertex1" class="vertex" d="M101 30h0"><title>vertex 1: 101 -30</title></path>
+"#;
+
+// Sector 1 is on the left, opposite to the tick and three times as far: 30 * 24 / 101 = 7.1, rounded.
+const SLANT_NUMBERS: &[u8] = br#"<text class="of-vertex" x="0" y="0" dx="8" dy="-8">0</text>
+<text class="of-vertex" x="101" y="30" dx="8" dy="-8">1</text>
+<text class="of-line" x="50" y="15" dx="2" dy="-8">0</text>
+<text class="of-sector" x="50" y="15" dx="-7" dy="24">0</text>
+<text class="of-sector" x="50" y="15" dx="7" dy="-24">1</text>
+"#;
+
+const END: &[u8] = b"</svg>\n";
+
+// A made-up tree: two subsectors, one with two segs and one with one, and a node whose partition runs from (32,0) by
+// (0,64) beyond the boxes of its children. These reach from 0 to 128 in x, and from -16 to 100 in y.
+#[rattlefmt::skip]
+const SEGS: [Seg; 3] = [
+    Seg { first: 0, second: 1, angle: 0, line: 0, side: 0, offset: 0 },
+    Seg { first: 1, second: 2, angle: 0, line: 1, side: 0, offset: 0 },
+    Seg { first: 2, second: 0, angle: 0, line: 2, side: 0, offset: 0 },
+];
+
+#[rattlefmt::skip]
+const NODE: Node = Node {
+    x: 32, y: 0, dx: 0, dy: 64, right: 0x8000, left: 0x8001,
+    right_box: Bounds { top: 100, bottom: 0, left: 32, right: 128 },
+    left_box: Bounds { top: 64, bottom: -16, left: 0, right: 32 },
+};
+
+// The overlay with this tree, worked by hand. A seg is drawn 8 / 3 = 2 units to its right: the first one goes north, so
+// its right is the east; the second one goes east, so its right is the south; the third one goes by (-128,-128), so it
+// is drawn 2 to the west and, in the picture, 2 up. The partition is lengthened so that its greater component is
+// 65,536. The text of a mark is escaped for XML.
+const LAID_OVER: &[u8] = br#"<g id="sub0" class="sub0">
+<title>subsector 0: first seg 0, count 2</title>
+<path d="M0 0m2 0l0 -128M0 -128m0 2l128 0"/></g>
+<g id="sub1" class="sub1">
+<title>subsector 1: first seg 2, count 1</title>
+<path d="M128 -128m-2 -2l-128 128"/></g>
+<g id="node0" class="node">
+<title>node 0: from 32 0 by 0 64</title>
+<clipPath id="box0">
+<rect x="0" y="-100" width="128" height="116"/></clipPath>
+<path clip-path="url(#box0)" d="M32 0l0 -65536M32 0l0 65536"/></g>
+<g id="lint0" class="lint">
+<title>a &lt;b&gt; &amp; c</title>
+<path d="M-64 -192m32 32h0"/></g>
+<g id="lint1" class="lint">
+<title>thing 0</title>
+<path d="M64 -64L64 -64"/></g>
+<g id="lint2" class="lint">
+<title></title>
+<path d="M0 0L0 -128"/></g>
+"#;
+
+// An empty overlay.
+fn nothing(alloc: Global) -> Overlay {
+    Overlay {
+        vertices: Vec::new(alloc),
+        segs: Vec::new(alloc),
+        subs: Vec::new(alloc),
+        nodes: Vec::new(alloc),
+        marks: Vec::new(alloc),
+    }
+}
+
+// A mark with this text.
+fn mark(alloc: Global, place: MarkPlace, text: &str) -> Result<Mark, Fail> {
+    let text = String::from_str(alloc, text)?;
+    Ok(Mark { place, text })
+}
+
+// The tree above, and marks of each kind.
+fn tree_and_marks(alloc: Global) -> Result<Overlay, Fail> {
+    let corner = Vertex { x: 0, y: 0 };
+    let north = Vertex { x: 0, y: 128 };
+    let mut overlay = nothing(alloc);
+    overlay.vertices.push(corner)?;
+    overlay.vertices.push(north)?;
+    overlay.vertices.push(Vertex { x: 128, y: 128 })?;
+    overlay.segs.extend_from_slice(&SEGS)?;
+    overlay.subs.push(Sub { count: 2, first: 0 })?;
+    overlay.subs.push(Sub { count: 1, first: 2 })?;
+    overlay.nodes.push(NODE)?;
+    overlay
+        .marks
+        .push(mark(alloc, MarkPlace::Corner, "a <b> & c")?)?;
+    let thing = MarkPlace::At(Vertex { x: 64, y: 64 });
+    overlay.marks.push(mark(alloc, thing, "thing 0")?)?;
+    overlay
+        .marks
+        .push(mark(alloc, MarkPlace::Along(corner, north), "")?)?;
+    Ok(overlay)
+}
+
+// The picture of what these lines draw, with this overlay.
+fn laid_over(
+    alloc: Global,
+    lines: &[&[u8]],
+    numbers: bool,
+    overlay: &Overlay,
+) -> Result<Vec<u8>, Fail> {
+    let maps = drawn(alloc, lines)?;
+    let mut text = Vec::new(alloc);
+    write_picture(
+        maps.current(),
+        PictureOptions { numbers },
+        overlay,
+        &mut text,
+    )?;
+    Ok(text)
+}
+
+// The picture of what these lines draw.
+fn picture(alloc: Global, lines: &[&[u8]], numbers: bool) -> Result<Vec<u8>, Fail> {
+    laid_over(alloc, lines, numbers, &nothing(alloc))
+}
+
+// These texts one after the other, with the style after the first.
+fn joined(alloc: Global, front: &[u8], rest: &[&[u8]]) -> Result<Vec<u8>, Fail> {
+    let mut text = front.to_vec(alloc)?;
+    text.extend_from_slice(STYLE.as_bytes())?;
+    for part in rest {
+        text.extend_from_slice(part)?;
+    }
+    Ok(text)
+}
+
+#[test]
+fn draws_a_room(rt: HostRuntime) -> Result<(), Fail> {
+    let found = picture(rt.alloc(), &DRAWING, false)?;
+    same(&rt, &found, &joined(rt.alloc(), FRONT, &[BACK, END])?);
+    Ok(())
+}
+
+#[test]
+fn numbers_a_room(rt: HostRuntime) -> Result<(), Fail> {
+    let found = picture(rt.alloc(), &DRAWING, true)?;
+    same(
+        &rt,
+        &found,
+        &joined(rt.alloc(), FRONT, &[BACK, NUMBERS, END])?,
+    );
+    Ok(())
+}
+
+#[test]
+fn draws_a_slanting_line(rt: HostRuntime) -> Result<(), Fail> {
+    let found = picture(rt.alloc(), &SLANT, true)?;
+    same(
+        &rt,
+        &found,
+        &joined(rt.alloc(), SLANT_FRONT, &[SLANT_BACK, SLANT_NUMBERS, END])?,
+    );
+    Ok(())
+}
+
+#[test]
+fn lays_a_tree_and_marks_over_a_room(rt: HostRuntime) -> Result<(), Fail> {
+    let overlay = tree_and_marks(rt.alloc())?;
+    let found = laid_over(rt.alloc(), &DRAWING, true, &overlay)?;
+    same(
+        &rt,
+        &found,
+        &joined(rt.alloc(), FRONT, &[BACK, NUMBERS, LAID_OVER, END])?,
+    );
+    Ok(())
+}
+
+// A writer that takes no byte.
+#[derive(Drop)]
+struct Full;
+
+impl Write for Full {
+    fn write(&mut self, _buf: &[u8]) -> io::Result<usize> {
+        Err(io::Error::from(io::ErrorKind::StorageFull))
+    }
+
+    fn flush(&mut self) -> io::Result<()> {
+        Ok(())
+    }
+}
+
+#[test]
+fn tells_of_a_full_writer(rt: HostRuntime) -> Result<(), Fail> {
+    let maps = drawn(rt.alloc(), &DRAWING)?;
+    let overlay = nothing(rt.alloc());
+    let options = PictureOptions { numbers: false };
+    let told = write_picture(maps.current(), options, &overlay, &mut Full);
+    same(&rt, &told, &Err(PictureError::WriterFailed));
+    same(&rt, &PictureError::WriterFailed.code(), &38);
+    Ok(())
+}

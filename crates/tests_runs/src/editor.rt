@@ -1,0 +1,331 @@
+//! Lines and their answers in memory, and the program's arguments.
+
+use crate::expect::same;
+use crate::streams::{Drip, Endless, Held, Narrow};
+use cli_program::perform;
+use cli_words::{Request, RequestError, request};
+use map_tables::Map;
+use run_edit::{EditorError, run_in_memory, write_findings};
+use std::alloc::Global;
+use std::io::{Read, Write};
+use std::process::Abort;
+use std::test::Fail;
+
+const ROW: &[u8] = b"vertex 0 0\nvertex 128 0\nhex VERTEXES\n";
+
+const ROW_ANSWERS: &[u8] = b"ok 0\nok 1\n00 00 00 00 80 00 00 00\n";
+
+/// Runs over these bytes: how many lines it answered, or why it ended, and what it wrote.
+pub fn run(alloc: Global, input: &[u8], turns: u32) -> (Result<u64, EditorError>, Vec<u8>) {
+    let mut reader = input;
+    let mut out = Vec::new(alloc);
+    let answered = run_in_memory(alloc, &mut reader, &mut out, turns);
+    (answered, out)
+}
+
+// Input, how many lines it has, and their answers.
+#[rattlefmt::skip]
+const LINES: &[(&[u8], u64, &[u8])] = &[
+    (b"", 0, b""),
+    (ROW, 3, ROW_ANSWERS),
+    (b"hex VERTEXES", 1, b"-\n"),
+    (b"vertex -16384 16383\nhex VERTEXES\nvertex 16384 0\nvertex -16384 16383\nhex VERTEXES\n", 5,
+        b"ok 0\n00 c0 ff 3f\nno 2\nno 10\n00 c0 ff 3f\n"),
+    (b"vertex 00 0\nvertex -0 0\nvertex  1 1\n\nvertex 1\n", 5, b"no 1\nno 1\nno 1\nno 1\nno 1\n"),
+    (b"hex\nhex  VERTEXES\nhex VERTEXES \nhex vertexes\n hex VERTEXES\n", 5, b"no 1\nno 1\nno 1\nno 1\nno 1\n"),
+    (b"vertex 0 0\r\nvertex 0 0\n", 2, b"no 1\nok 0\n"),
+    (b"vertex 1 2\nvertex 3 4", 2, b"ok 0\nok 1\n"),
+    (b"\n\n\n", 3, b"no 1\nno 1\nno 1\n"),
+];
+
+// A run over this input answers this many lines, with this output.
+fn expect_run(rt: &impl Abort, alloc: Global, input: &[u8], turns: u32, want: (u64, &[u8])) {
+    let (answered, out) = run(alloc, input, turns);
+    let found = (input, answered, out.as_slice());
+    same(rt, &found, &(input, Ok(want.0), want.1));
+}
+
+#[test]
+fn answers_lines(rt: HostRuntime) {
+    for &(input, count, wanted) in LINES {
+        expect_run(&rt, rt.alloc(), input, 2, (count, wanted));
+    }
+}
+
+// The line `vertex 0 ` with this many digits after it.
+fn long_line(alloc: Global, digits: usize) -> Result<Vec<u8>, Fail> {
+    let mut line = Vec::from_slice(alloc, b"vertex 0 ")?;
+    for _ in 0..digits {
+        line.push(b'1')?;
+    }
+    line.push(b'\n')?;
+    Ok(line)
+}
+
+// How many digits the line has, and its answer. In a line of 256 bytes the number is out of its range; a longer line is
+// no command, however long it is.
+const DIGITS: &[(usize, &[u8])] = &[
+    (247, b"no 2\n"),
+    (248, b"no 1\n"),
+    (249, b"no 1\n"),
+    (9000, b"no 1\n"),
+];
+
+#[test]
+fn refuses_long_lines(rt: HostRuntime) -> Result<(), Fail> {
+    for &(digits, wanted) in DIGITS {
+        let line = long_line(rt.alloc(), digits)?;
+        expect_run(&rt, rt.alloc(), &line, 4, (1, wanted));
+    }
+    Ok(())
+}
+
+// The lines after a long one are answered as usual.
+#[test]
+fn answers_lines_behind_a_long_one(rt: HostRuntime) -> Result<(), Fail> {
+    let mut lines = long_line(rt.alloc(), 4090)?;
+    lines.extend_from_slice(ROW)?;
+    let wanted = b"no 1\nok 0\nok 1\n00 00 00 00 80 00 00 00\n";
+    expect_run(&rt, rt.alloc(), &lines, 3, (4, wanted));
+    Ok(())
+}
+
+// Whether a run over this input uses up its turns, with this output.
+fn is_too_long<R: Read>(alloc: Global, reader: &mut R, turns: u32, wanted: &[u8]) -> bool {
+    let mut out = Vec::new(alloc);
+    let answered = run_in_memory(alloc, reader, &mut out, turns);
+    answered == Err(EditorError::InputTooLong) && out.as_slice() == wanted
+}
+
+#[test]
+fn counts_turns(rt: HostRuntime) {
+    let (mut one, mut none) = (ROW, ROW);
+    assert!(rt; is_too_long(rt.alloc(), &mut one, 1, ROW_ANSWERS));
+    assert!(rt; is_too_long(rt.alloc(), &mut none, 0, b""));
+    // A run makes no more reads than it has turns.
+    let mut endless = Endless { reads: 0 };
+    assert!(rt;
+        is_too_long(
+            rt.alloc(),
+            &mut endless,
+            5,
+            b"no 1\nno 1\nno 1\nno 1\nno 1\n"
+        )
+    );
+    assert_eq!(rt; endless.reads, 5);
+}
+
+// 37 reads of one byte each, and one that finds the end.
+#[test]
+fn takes_a_turn_for_each_read(rt: HostRuntime) {
+    assert!(rt; is_too_long(rt.alloc(), &mut Drip::of(ROW, false), 37, ROW_ANSWERS));
+    let mut out = Vec::new(rt.alloc());
+    let answered = run_in_memory(rt.alloc(), &mut Drip::of(ROW, false), &mut out, 38);
+    assert_eq!(rt; answered, Ok(3));
+    assert!(rt; out.as_slice() == ROW_ANSWERS);
+}
+
+#[test]
+fn stops_where_the_reader_fails(rt: HostRuntime) {
+    let mut reader = Drip::of(b"vertex 0 0\nvert", true);
+    let mut out = Vec::new(rt.alloc());
+    let answered = run_in_memory(rt.alloc(), &mut reader, &mut out, 100);
+    assert_eq!(rt; answered, Err(EditorError::ReaderFailed));
+    assert_eq!(rt; out.as_slice(), b"ok 0\n".as_slice());
+}
+
+// How a run ends whose writer takes this many bytes.
+fn answered_in(alloc: Global, room: usize) -> Result<u64, EditorError> {
+    run_in_memory(alloc, &mut ROW, &mut Narrow::of(room), 2)
+}
+
+#[test]
+fn stops_where_the_writer_fails(rt: HostRuntime) {
+    let failed = Err(EditorError::WriterFailed);
+    for room in 0..34 {
+        same(&rt, &(room, answered_in(rt.alloc(), room)), &(room, failed));
+    }
+    same(&rt, &answered_in(rt.alloc(), 34), &Ok(3));
+}
+
+// No further line is read after a failed write: the writer takes two bytes of the first answer and then fails.
+#[test]
+fn reads_no_line_after_one_that_was_not_told(rt: HostRuntime) {
+    let mut reader = Drip::of(ROW, false);
+    let mut writer = Narrow::of(2);
+    let answered = run_in_memory(rt.alloc(), &mut reader, &mut writer, 100);
+    assert_eq!(rt; answered, Err(EditorError::WriterFailed));
+    assert_eq!(rt; reader.left, b"vertex 128 0\nhex VERTEXES\n".as_slice());
+}
+
+// No further line is answered after a failed write, even if it was read already.
+#[test]
+fn answers_no_line_after_one_that_was_not_told(rt: HostRuntime) {
+    let mut writer = Narrow::of(2);
+    let answered = run_in_memory(rt.alloc(), &mut ROW, &mut writer, 100);
+    assert_eq!(rt; answered, Err(EditorError::WriterFailed));
+    assert_eq!(rt; writer.failures, 1);
+}
+
+// Runs with a writer that shows only flushed bytes: how the run ended, and which answers are seen.
+fn seen<R: Read>(alloc: Global, reader: &mut R, turns: u32) -> (Result<u64, EditorError>, Vec<u8>) {
+    let mut writer = Held {
+        held: Vec::new(alloc),
+        seen: Vec::new(alloc),
+    };
+    let answered = run_in_memory(alloc, reader, &mut writer, turns);
+    let Held { held: _, seen } = writer;
+    (answered, seen)
+}
+
+// Such a run ends so, and these answers are seen.
+fn expect_seen<R: Read>(
+    rt: &impl Abort,
+    alloc: Global,
+    reader: &mut R,
+    turns: u32,
+    want: (Result<u64, EditorError>, &[u8]),
+) {
+    let (answered, out) = seen(alloc, reader, turns);
+    same(rt, &(answered, out.as_slice()), &want);
+}
+
+#[test]
+fn hands_on_the_answers_of_a_turn(rt: HostRuntime) {
+    let too_long = (Err(EditorError::InputTooLong), ROW_ANSWERS);
+    expect_seen(&rt, rt.alloc(), &mut ROW, 1, too_long);
+    let mut broken = Drip::of(b"vertex 0 0\nvert", true);
+    let failed = (Err(EditorError::ReaderFailed), b"ok 0\n".as_slice());
+    expect_seen(&rt, rt.alloc(), &mut broken, 100, failed);
+    let mut unended: &[u8] = b"vertex 0 0\nvertex 1 0";
+    let ended = (Ok(2), b"ok 0\nok 1\n".as_slice());
+    expect_seen(&rt, rt.alloc(), &mut unended, 2, ended);
+}
+
+const CODES: &[(EditorError, u16)] = &[
+    (EditorError::OutOfMemory, 31),
+    (EditorError::InputTooLong, 36),
+    (EditorError::ReaderFailed, 37),
+    (EditorError::WriterFailed, 38),
+];
+
+#[test]
+fn numbers_refusals(rt: HostRuntime) {
+    for &(error, code) in CODES {
+        same(&rt, &(error, error.code()), &(error, code));
+    }
+}
+
+// The status of `scratch` over this reader; it must print this on standard error.
+fn scratch<R: Read, W: Write>(
+    rt: &HostRuntime,
+    reader: &mut R,
+    writer: &mut W,
+    said: &[u8],
+) -> Result<u8, Fail> {
+    let mut faults = Vec::new(rt.alloc());
+    let status = match request(rt.alloc(), &["leveled", "scratch"]) {
+        Ok(asked) => perform(rt, &asked, reader, writer, &mut faults),
+        Err(_) => return Err(Fail::from("no request")),
+    };
+    if faults.as_slice() == said {
+        Ok(status)
+    } else {
+        Err(Fail::from("other faults"))
+    }
+}
+
+// The status of `scratch`, and its output.
+fn written<R: Read>(rt: &HostRuntime, reader: &mut R, said: &[u8]) -> Result<(u8, Vec<u8>), Fail> {
+    let mut out = Vec::new(rt.alloc());
+    let status = scratch(rt, reader, &mut out, said)?;
+    Ok((status, out))
+}
+
+#[test]
+fn performs_scratch(rt: HostRuntime) -> Result<(), Fail> {
+    let (status, out) = written(&rt, &mut ROW, b"")?;
+    assert_eq!(rt; (status, out.as_slice()), (0, ROW_ANSWERS));
+    Ok(())
+}
+
+// Each turn reads one byte, so the run takes many turns.
+#[test]
+fn performs_scratch_byte_by_byte(rt: HostRuntime) -> Result<(), Fail> {
+    let (status, out) = written(&rt, &mut Drip::of(ROW, false), b"")?;
+    assert_eq!(rt; (status, out.as_slice()), (0, ROW_ANSWERS));
+    Ok(())
+}
+
+#[test]
+fn tells_of_a_reader_that_fails(rt: HostRuntime) -> Result<(), Fail> {
+    let mut broken = Drip::of(b"vertex 0 0\nvert", true);
+    let (status, out) = written(&rt, &mut broken, b"leveled: 37 ReaderFailed\n")?;
+    assert_eq!(rt; (status, out.as_slice()), (1, b"ok 0\n".as_slice()));
+    Ok(())
+}
+
+#[test]
+fn tells_of_a_writer_that_fails(rt: HostRuntime) -> Result<(), Fail> {
+    let said = b"leveled: 38 WriterFailed\n";
+    let status = scratch(&rt, &mut ROW, &mut Narrow::of(2), said)?;
+    assert_eq!(rt; status, 1);
+    Ok(())
+}
+
+#[test]
+fn reads_a_request(rt: HostRuntime) {
+    let asked = request(rt.alloc(), &["leveled", "scratch"]);
+    assert!(rt; matches!(asked, Ok(Request::Scratch)));
+}
+
+// Arguments, the status with which clap answers them, and a part of its text.
+#[rattlefmt::skip]
+const WORDS: &[(&[&str], i32, &str)] = &[
+    (&["leveled"], 2, "requires a subcommand"),
+    (&["leveled", "help"], 0, "Usage: leveled <COMMAND>"),
+    (&["leveled", "help", "lint"], 0, "Usage: leveled lint [OPTIONS] <FILE>"),
+    (&["leveled", "help", "bogus"], 2, "unrecognized subcommand 'bogus'"),
+    (&["leveled", "scratch", "x"], 2, "unexpected argument 'x'"),
+    (&["leveled", "--slot"], 2, "unexpected argument '--slot'"),
+    (&["leveled", "--help"], 0, "Usage: leveled <COMMAND>"),
+    (&["leveled", "--version"], 0, "leveled 0.1.0"),
+];
+
+// The status with which clap answers these arguments, and whether its text contains the part.
+fn answered_by_clap(alloc: Global, words: &[&str], part: &str) -> Result<(i32, bool), Fail> {
+    match request(alloc, words) {
+        Err(RequestError::Words(error)) => {
+            let text = error.to_string(alloc)?;
+            Ok((error.exit_code(), text.as_str().contains(part)))
+        }
+        _ => Err(Fail::from("not refused by clap")),
+    }
+}
+
+#[test]
+fn reads_words(rt: HostRuntime) -> Result<(), Fail> {
+    for &(words, status, part) in WORDS {
+        let found = answered_by_clap(rt.alloc(), words, part)?;
+        same(&rt, &(words, found), &(words, (status, true)));
+    }
+    Ok(())
+}
+
+#[test]
+fn reads_a_wish_for_the_refusals(rt: HostRuntime) {
+    let asked = request(rt.alloc(), &["leveled", "help", "codes"]);
+    assert!(rt; matches!(asked, Err(RequestError::Codes)));
+}
+
+#[test]
+fn writes_findings(rt: HostRuntime) {
+    let map = Map::new(rt.alloc());
+    let mut out = Vec::new(rt.alloc());
+    assert_eq!(rt; write_findings(rt.alloc(), &map, &mut out), Ok(1));
+    assert_eq!(rt; out.as_slice(), b"no player start\nfindings 1\n".as_slice());
+
+    let mut writer = Narrow::of(20);
+    let written = write_findings(rt.alloc(), &map, &mut writer);
+    assert_eq!(rt; written, Err(EditorError::WriterFailed));
+}

@@ -1,0 +1,166 @@
+//! Scripts, drawn onto maps in memory and onto a project, and what is reported about a refused line.
+
+use crate::expect::same;
+use crate::project_run::{Ended, over_file, status_of};
+use map_script::{Names, ScriptLine, script_lines};
+use run_script::{Canvas, Draft, draw, write_refused};
+use std::alloc::Global;
+use std::fs;
+use std::test::Fail;
+
+// Draws lines: the output, and what is reported about the refused line.
+fn draw_lines(
+    alloc: Global,
+    lines: &[ScriptLine],
+    verbose: bool,
+) -> Result<(Vec<u8>, Vec<u8>), Fail> {
+    let mut draft = Draft::new(alloc);
+    let mut names = Names::new(alloc);
+    let mut out = Vec::new(alloc);
+    let mut faults = Vec::new(alloc);
+    let stop = draw(alloc, &mut draft, &mut names, lines, verbose, &mut out)?;
+    if let Some(stop) = stop {
+        let line = &lines[stop.place];
+        write_refused(
+            alloc,
+            draft.maps(),
+            &names,
+            "level.txt",
+            line,
+            stop.code,
+            &mut faults,
+        )?;
+    }
+    Ok((out, faults))
+}
+
+// Scripts, whether the answers to commands are printed, the output, and what is reported about the refused line.
+#[rattlefmt::skip]
+const SCRIPTS: &[(&[u8], bool, &[u8], &[u8])] = &[
+    (b"\xef\xbb\xbf# a level\r\n\r\n  vertex\t0   0 \r\n\t\nvertex 128 0 # the second\ncount", true,
+        b"3: ok 0\n5: ok 1\nvertices 2 sectors 0 sides 0 lines 0 things 0\n", b""),
+    (b"", true, b"", b""),
+    (b"hall = room 0 0 256 256 0 128 FLOOR4_8 CEIL3_5 STARTAN3 160\ncut = split $hall.line+2 256 128\n\
+        vertex 9 $cut.vertex\ncount\n", false, b"vertices 6 sectors 1 sides 4 lines 5 things 0\n", b""),
+    (b"vertex 0 0\ncount\nsplt 2 256 160\nvertex 9 9\ncount\n", false,
+        b"vertices 1 sectors 0 sides 0 lines 0 things 0\n",
+        b"level.txt:3: splt 2 256 160: 1 NotACommand\n  perhaps this is meant: split LINE X Y\n"),
+];
+
+// The same for a script.
+fn draw_script(alloc: Global, script: &[u8], verbose: bool) -> Result<(Vec<u8>, Vec<u8>), Fail> {
+    let lines = script_lines(alloc, script)?;
+    draw_lines(alloc, &lines, verbose)
+}
+
+#[test]
+fn draws_scripts(rt: HostRuntime) -> Result<(), Fail> {
+    for &(script, verbose, wanted, said) in SCRIPTS {
+        let (out, faults) = draw_script(rt.alloc(), script, verbose)?;
+        let told = (script, out.as_slice(), faults.as_slice());
+        same(&rt, &told, &(script, wanted, said));
+    }
+    Ok(())
+}
+
+// A line after `vertex 0 0`, `room 16 0 32 9 ..` and `v = vertex 9 9`, and the end of what is reported about it.
+#[rattlefmt::skip]
+const REFUSED: &[(&[u8], &[u8])] = &[
+    (b"split 2 256", b"1 NotACommand\n  it has 3 words in place of 4: split LINE X Y\n"),
+    (b"vertex 00 0", b"1 NotACommand\n  a word hasn't the form of its place in: vertex X Y\n"),
+    (b"frame = count", b"1 NotACommand\n  a query answers no number that a name could keep\n"),
+    (b"corner 0 0", b"1 NotACommand\n  no command and no query begins with corner\n"),
+    (b"thing 0 0 400 1 7", b"2 OutOfRange\n  400 stands for ANGLE, a number from 0 to 359\n"),
+    (b"room 64 0 64 9 0 128 FLOOR4_8 CEIL3_5 STARTAN3 160",
+        b"2 OutOfRange\n  X1 is to be less than X2, and Y1 less than Y2\n"),
+    (b"line 0 9 1 0 0 0 -", b"3 NoVertex\n  vertices of the map: 6, numbered from 0\n"),
+    (b"side 0 0 - - - 1", b"4 NoSector\n  sectors of the map: 1, numbered from 0\n"),
+    (b"vertex $v 9\nvertex 9 9", b"10 PlaceTaken\n  vertex 5 stands at 9 9\n"),
+    (b"room 16 0 40 12 0 128 FLOOR4_8 CEIL3_5 STARTAN3 160", b"10 PlaceTaken\n  vertex 1 stands at 16 0\n"),
+    (b"name E0M1", b"15 BadName\n  E0M1 stands for a map's name: MAP01 to MAP99, or E1M1 to E9M9\n"),
+    (b"sector 0 128 FLOOR4_8 sky 160 0 0",
+        b"15 BadName\n  sky stands for CN, a name of one to eight of A-Z, 0-9, _, -, [, ] and \\\n"),
+    (b"drop-map MAP01", b"19 CurrentMap\n  the map is the current one\n"),
+    (b"split $hal 0 0", b"22 UnknownName\n  no line before has this name\n"),
+];
+
+// The lines before it.
+const FRONT: &[u8] =
+    b"vertex 0 0\nroom 16 0 32 9 0 128 FLOOR4_8 CEIL3_5 STARTAN3 160\nv = vertex 9 9\n";
+
+// What is reported about a line after those.
+fn said_of(alloc: Global, line: &[u8]) -> Result<Vec<u8>, Fail> {
+    let mut script = FRONT.to_vec(alloc)?;
+    script.extend_from_slice(line)?;
+    let (_, faults) = draw_script(alloc, &script, false)?;
+    Ok(faults)
+}
+
+#[test]
+fn says_what_was_wrong(rt: HostRuntime) -> Result<(), Fail> {
+    for &(line, said) in REFUSED {
+        let faults = said_of(rt.alloc(), line)?;
+        same(&rt, &(line, faults.ends_with(said)), &(line, true));
+    }
+    Ok(())
+}
+
+// A project file, and a path without a file.
+const FILE: &str = "leveled_scripts_file";
+
+const NO_SCRIPT: &str = "leveled_scripts_missing";
+// A script file whose third line is refused.
+const SCRIPT: &str = "leveled_scripts_script";
+
+const SCRIPT_TEXT: &[u8] = b"# corners\nhere = vertex 0 0\nvertx $here 9\nvertex 1 1\n";
+
+// Arguments after `leveled draw`, the input, the status, the output, and standard error. What was drawn stays: the
+// second row finds the vertex of the first.
+#[rattlefmt::skip]
+const RUNS: &[(&[&str], &[u8], u8, &[u8], &[u8])] = &[
+    (&[FILE, SCRIPT, "--verbose"], b"count\n", 3, b"2: ok 0\n",
+        b"leveled_scripts_script:3: vertx $here 9: 1 NotACommand\n  perhaps this is meant: vertex X Y\n"),
+    (&[FILE], b"\tcount\r\nvertex 0 0 # again\ncount\n", 3, b"vertices 1 sectors 0 sides 0 lines 0 things 0\n",
+        b"-:2: vertex 0 0: 10 PlaceTaken\n  vertex 0 stands at 0 0\n"),
+    (&[FILE], b"vertex 1 1\ncount", 0, b"vertices 2 sectors 0 sides 0 lines 0 things 0\n", b""),
+    (&[FILE, NO_SCRIPT], b"vertex 2 2\n", 1, b"",
+        b"leveled: 37 ReaderFailed\n  leveled_scripts_missing: No such file or directory\n"),
+    (&[NO_SCRIPT, SCRIPT], b"", 1, b"", b"leveled: 30 Device\n  leveled_scripts_missing: No such file or directory\n"),
+    (&["--check", SCRIPT, "--verbose"], b"count\n", 3, b"2: ok 0\n",
+        b"leveled_scripts_script:3: vertx $here 9: 1 NotACommand\n  perhaps this is meant: vertex X Y\n"),
+    (&["--check", NO_SCRIPT], b"", 1, b"",
+        b"leveled: 37 ReaderFailed\n  leveled_scripts_missing: No such file or directory\n"),
+];
+
+// Makes the project file and the script file.
+fn make_files(rt: &HostRuntime) -> Result<(), Fail> {
+    let _ = fs::remove_file(rt, FILE);
+    let _ = fs::remove_file(rt, NO_SCRIPT);
+    let _ = over_file(rt, "create", FILE, b"")?;
+    fs::write(rt, SCRIPT, SCRIPT_TEXT)?;
+    Ok(())
+}
+
+// Calls `draw` with these arguments and this input: its status, its output, and its standard error.
+fn drawn(rt: &HostRuntime, words: &[&str], input: &[u8]) -> Result<Ended, Fail> {
+    let mut all = Vec::new(rt.alloc());
+    all.push("leveled")?;
+    all.push("draw")?;
+    all.extend_from_slice(words)?;
+    let mut out = Vec::new(rt.alloc());
+    let (status, faults) = status_of(rt, &all, input, &mut out)?;
+    Ok((status, out, faults))
+}
+
+#[test]
+fn draws_scripts_onto_a_file(rt: HostRuntime) -> Result<(), Fail> {
+    make_files(&rt)?;
+    for &(words, input, status, wanted, said) in RUNS {
+        let (found, out, faults) = drawn(&rt, words, input)?;
+        let told = (words, found, out.as_slice(), faults.as_slice());
+        same(&rt, &told, &(words, status, wanted, said));
+    }
+    fs::remove_file(&rt, FILE)?;
+    fs::remove_file(&rt, SCRIPT)?;
+    Ok(())
+}

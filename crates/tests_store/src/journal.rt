@@ -1,0 +1,371 @@
+//! A journal's bytes, the payloads that it is opened with, and calls that fail.
+ghost use Rattle.std.specs.Prelude.{◌≤◌, length};
+
+use crate::expect::same;
+use crate::ready::{AREA, blanked, opened, refreshed, reread};
+use std::alloc::Global;
+use std::process::Abort;
+use std::test::Fail;
+use store_disk::{Disk, FaultDisk, Fill, MemoryDisk};
+use store_journal::{Journal, JournalError, blank};
+
+/// A disk whose k-th call fails, none if `k` is 0, after the first `part` bytes of its write.
+pub type Failing = FaultDisk<MemoryDisk>;
+
+pub fn failing(alloc: Global, k: u64, part: u32) -> Result<Failing, Fail> {
+    Ok(FaultDisk::new(MemoryDisk::new(alloc, 1024, 4096)?, k, part))
+}
+
+// A synced disk with these bytes from the start of the journal's area on.
+fn disk_with(alloc: Global, bytes: &[u8]) -> Result<MemoryDisk, Fail> {
+    let mut disk = MemoryDisk::new(alloc, 1024, 4096)?;
+    disk.write_at(143, &[7])?;
+    disk.write_at(144, bytes)?;
+    disk.sync()?;
+    Ok(disk)
+}
+
+// Whether the journal was opened with these payloads.
+fn holds(journal: &Journal, payloads: &[&[u8]]) -> bool {
+    journal.count() == payloads.len()
+        && payloads
+            .iter()
+            .enumerate()
+            .all(|(n, payload)| journal.payload(n) == Some(*payload))
+        && journal.payload(payloads.len()) == None
+}
+
+/// Whether the disk's journal is opened with these payloads.
+pub fn is_opened_with<D: Disk>(
+    alloc: Global,
+    disk: &mut D,
+    payloads: &[&[u8]],
+) -> Result<bool, JournalError> {
+    let journal = opened(alloc, disk)?;
+    Ok(holds(&journal, payloads))
+}
+
+/// Opens the disk's journal, appends to it, and returns how many records it was opened with.
+pub fn append<D: Disk>(alloc: Global, disk: &mut D, payload: &[u8]) -> Result<usize, JournalError>
+    requires { length payload.now ≤ 256 }
+{
+    let mut journal = opened(alloc, disk)?;
+    journal.append(disk, payload)?;
+    Ok(journal.count())
+}
+
+// Reads the disk from an offset to its end.
+fn bytes_from<D: Disk>(alloc: Global, disk: &mut D, at: u64) -> Result<Vec<u8>, Fail> {
+    let n = disk.len()?.saturating_sub(at);
+    let mut bytes = vec![in alloc; 0; n as usize]?;
+    if n > 0 {
+        disk.read(at, &mut bytes)?;
+    }
+    Ok(bytes)
+}
+
+// The disk has these bytes from an offset to its end.
+fn expect_bytes<D: Disk>(
+    rt: &impl Abort,
+    alloc: Global,
+    disk: &mut D,
+    at: u64,
+    want: &[u8],
+) -> Result<(), Fail> {
+    let bytes = bytes_from(alloc, disk, at)?;
+    same(rt, &(at, bytes.as_slice()), &(at, want));
+    Ok(())
+}
+
+// The room of a journal, and the offsets of its first two records.
+fn told(journal: &Journal) -> (Option<u32>, [Option<u64>; 2]) {
+    (journal.room(), [journal.place(0), journal.place(1)])
+}
+
+// The first record in a blank area.
+fn expect_first_line(rt: &impl Abort, disk: &mut MemoryDisk) -> Result<(), Fail> {
+    let mut journal = blanked(disk)?;
+    same(rt, &told(&journal), &(Some(506), [None, None]));
+    journal.append(disk, b"vertex 0 0")?;
+    // A journal keeps the payloads that it was opened with, and not those that are appended.
+    same(
+        rt,
+        &(journal.room(), holds(&journal, &[])),
+        &(Some(491), true),
+    );
+    Ok(())
+}
+
+// The same journal, opened again.
+fn expect_line(rt: &impl Abort, alloc: Global, disk: &mut MemoryDisk) -> Result<(), Fail> {
+    let again = opened(alloc, disk)?;
+    same(rt, &holds(&again, &[b"vertex 0 0"]), &true);
+    same(rt, &told(&again), &(Some(491), [Some(144), None]));
+    Ok(())
+}
+
+#[test]
+fn appends_behind_a_closed_gate(rt: HostRuntime) -> Result<(), Fail> {
+    let mut disk = MemoryDisk::new(rt.alloc(), 1024, 4096)?;
+    expect_first_line(&rt, &mut disk)?;
+    expect_bytes(
+        &rt,
+        rt.alloc(),
+        &mut disk,
+        144,
+        b"\xa5\x0a\0\0\0vertex 0 0\0",
+    )?;
+    expect_line(&rt, rt.alloc(), &mut disk)
+}
+
+// Bytes of the area, and the payloads that they stand for.
+#[rattlefmt::skip]
+const OPENED: &[(&[u8], &[&[u8]])] = &[
+    (b"\0", &[]),
+    (b"\0\x0a\0\0\0vertex 0 0\0", &[]),
+    (b"\x01\xff\xff\xff\xff\xa5\xa5", &[]),
+    (b"\xa5\x0a\0\0\0vertex 0 0\0", &[b"vertex 0 0"]),
+    (b"\xa5\x0a\0\0\0vertex 0 0\x07\xa5", &[b"vertex 0 0"]),
+    (b"\xa5\0\0\0\0\xa5\x01\0\0\0b\xa4", &[b"", b"b"]),
+];
+
+// Whether these bytes stand for these payloads.
+fn stands_for(alloc: Global, bytes: &[u8], payloads: &[&[u8]]) -> Result<bool, Fail> {
+    let mut disk = disk_with(alloc, bytes)?;
+    Ok(is_opened_with(alloc, &mut disk, payloads)?)
+}
+
+#[test]
+fn opens_what_the_area_stands_for(rt: HostRuntime) -> Result<(), Fail> {
+    for &(bytes, payloads) in OPENED {
+        let found = stands_for(rt.alloc(), bytes, payloads)?;
+        same(&rt, &(bytes, found), &(bytes, true));
+    }
+    Ok(())
+}
+
+// Reads these payloads one by one, and appends one to the journal that their reader becomes. Returns how many payloads
+// that journal keeps, none if the area has others.
+fn append_reread<D: Disk>(
+    disk: &mut D,
+    payloads: &[&[u8]],
+    payload: &[u8],
+) -> Result<Option<usize>, JournalError>
+    requires { length payload.now ≤ 256 }
+{
+    let Some(found) = reread(disk, payloads)? else {
+        return Ok(None);
+    };
+    let mut journal = found;
+    journal.append(disk, payload)?;
+    Ok(Some(journal.count()))
+}
+
+#[test]
+fn reads_one_by_one(rt: HostRuntime) -> Result<(), Fail> {
+    let mut disk = disk_with(rt.alloc(), b"\xa5\0\0\0\0\xa5\x01\0\0\0b\0")?;
+    let kept = append_reread(&mut disk, &[b"", b"b"], b"cd")?;
+    let is_longer = is_opened_with(rt.alloc(), &mut disk, &[b"", b"b", b"cd"])?;
+    assert_eq!(rt; (kept, is_longer), (Some(0), true));
+    Ok(())
+}
+
+// Bytes of the area, and the offset where opening finds the damage.
+#[rattlefmt::skip]
+const DAMAGED: &[(&[u8], u64)] = &[
+    // no gate, an open gate alone, and records that are cut off
+    (b"", 144),
+    (b"\xa5", 144),
+    (b"\xa5\x0a\0\0", 144),
+    (b"\xa5\0\0\0\0", 144),
+    (b"\xa5\x0a\0\0\0vertex 0 0", 144),
+    // lengths of 255 in a short file, of 257, and of more
+    (b"\xa5\xff\0\0\0vertex 0 0\0", 144),
+    (b"\xa5\x01\x01\0\0vertex 0 0\0", 144),
+    (b"\xa5\x0a\0\0\x80vertex 0 0\0", 144),
+    // a second record that is cut off
+    (b"\xa5\x01\0\0\0a\xa5\x01\0\0\0b", 150),
+];
+
+// How opening a disk's journal is refused.
+fn refusal_of<D: Disk>(alloc: Global, disk: &mut D) -> Option<JournalError> {
+    opened(alloc, disk).err()
+}
+
+#[test]
+fn finds_damage_at_its_gate(rt: HostRuntime) -> Result<(), Fail> {
+    for &(bytes, place) in DAMAGED {
+        let mut disk = disk_with(rt.alloc(), bytes)?;
+        let found = refusal_of(rt.alloc(), &mut disk);
+        let damaged = Some(JournalError::Damaged { place });
+        same(&rt, &(bytes, found), &(bytes, damaged));
+    }
+    Ok(())
+}
+
+// Appends to a blank area until it is full.
+fn fill(rt: &impl Abort, alloc: Global, disk: &mut MemoryDisk) -> Result<(), JournalError> {
+    refreshed(disk)?;
+    for n in 0..34 {
+        same(rt, &append(alloc, disk, b"name MAP01")?, &n);
+    }
+    Ok(())
+}
+
+// The journal of a full area takes no further record.
+fn expect_full(rt: &impl Abort, alloc: Global, disk: &mut MemoryDisk) -> Result<(), JournalError> {
+    let mut journal = opened(alloc, disk)?;
+    let places = [journal.place(33), journal.place(34)];
+    let found = (journal.count(), journal.room(), places);
+    same(rt, &found, &(34, None, [Some(639), None]));
+    let full = Err(JournalError::JournalFull);
+    same(rt, &journal.append(disk, b"name MAP01"), &full);
+    same(rt, &journal.append(disk, b""), &full);
+    Ok(())
+}
+
+#[test]
+fn fills_the_area(rt: HostRuntime) -> Result<(), Fail> {
+    let mut disk = MemoryDisk::new(rt.alloc(), 1024, 8192)?;
+    fill(&rt, rt.alloc(), &mut disk)?;
+    expect_full(&rt, rt.alloc(), &mut disk)?;
+    expect_bytes(
+        &rt,
+        rt.alloc(),
+        &mut disk,
+        639,
+        b"\xa5\x0a\0\0\0name MAP01\0",
+    )
+}
+
+// Blanks an area, which takes two device calls, and appends a record. Returns how the append ended.
+fn append_first<D: Disk>(disk: &mut D) -> Result<Result<(), JournalError>, JournalError> {
+    let mut journal = blanked(disk)?;
+    Ok(journal.append(disk, b"vertex 0 0"))
+}
+
+// The call of an append that fails, how many bytes it still writes, and the bytes that the area then has.
+#[rattlefmt::skip]
+const WRITES: &[(u64, u32, &[u8])] = &[
+    (1, 0, b"\0"),
+    (1, 3, b"\0\x0a\0\0"),
+    (1, 15, b"\0\x0a\0\0\0vertex 0 0\0"),
+    (2, 0, b"\0\x0a\0\0\0vertex 0 0\0"),
+    (3, 0, b"\0\x0a\0\0\0vertex 0 0\0"),
+    (3, 1, b"\xa5\x0a\0\0\0vertex 0 0\0"),
+    (4, 0, b"\xa5\x0a\0\0\0vertex 0 0\0"),
+];
+
+// After an append in which this call fails, the area has these bytes.
+fn expect_write(
+    rt: &impl Abort,
+    alloc: Global,
+    disk: &mut Failing,
+    call: (u64, u32),
+    want: &[u8],
+) -> Result<(), Fail> {
+    let appended = append_first(disk)?;
+    let bytes = bytes_from(alloc, disk, 144)?;
+    same(
+        rt,
+        &(call, appended, bytes.as_slice()),
+        &(call, Err(JournalError::Device), want),
+    );
+    Ok(())
+}
+
+#[test]
+fn writes_the_record_and_then_its_gate(rt: HostRuntime) -> Result<(), Fail> {
+    for &(k, part, want) in WRITES {
+        let mut disk = failing(rt.alloc(), k.saturating_add(2), part)?;
+        expect_write(&rt, rt.alloc(), &mut disk, (k, part), want)?;
+    }
+    Ok(())
+}
+
+#[test]
+fn makes_four_device_calls(rt: HostRuntime) -> Result<(), Fail> {
+    let mut disk = failing(rt.alloc(), 7, 0)?;
+    let appended = append_first(&mut disk)?;
+    assert_eq!(rt; (appended, disk.len().is_err()), (Ok(()), true));
+    Ok(())
+}
+
+// A disk with a journal of one record, whose k-th call fails.
+fn failing_with_record(alloc: Global, k: u64) -> Result<Failing, Fail> {
+    let disk = disk_with(alloc, b"\xa5\x01\0\0\0a\0")?;
+    Ok(FaultDisk::new(disk, k, 0))
+}
+
+#[test]
+fn opens_by_its_reads_alone(rt: HostRuntime) -> Result<(), Fail> {
+    // Five calls: the test's own sync, the length of the disk, the record's gate and length, its payload, the last
+    // gate.
+    let mut disk = failing_with_record(rt.alloc(), 6)?;
+    let is_a = is_opened_with(rt.alloc(), &mut disk, &[b"a"])?;
+    assert_eq!(rt; (is_a, disk.len().is_err()), (true, true));
+    Ok(())
+}
+
+#[test]
+fn blanks_by_one_device_call(rt: HostRuntime) -> Result<(), Fail> {
+    let mut disk = failing(rt.alloc(), 2, 0)?;
+    blank(&mut disk, AREA)?;
+    assert!(rt; disk.len().is_err());
+    Ok(())
+}
+
+#[test]
+fn answers_a_device_that_fails(rt: HostRuntime) -> Result<(), Fail> {
+    // The test's own sync, the length of the disk, the record's gate and length, its payload, the last gate.
+    for k in 1..6 {
+        let mut disk = failing_with_record(rt.alloc(), k)?;
+        let refused = refusal_of(rt.alloc(), &mut disk);
+        let is_a = is_opened_with(rt.alloc(), &mut disk, &[b"a"])?;
+        let device = Some(JournalError::Device);
+        same(&rt, &(k, refused, is_a), &(k, device, true));
+    }
+    let mut disk = failing(rt.alloc(), 1, 0)?;
+    let refused = blank(&mut disk, AREA).err();
+    assert_eq!(rt; refused, Some(JournalError::Device));
+    Ok(())
+}
+
+// A stop leaves the closed gate of such a journal, with the old record after it.
+fn expect_closed(rt: &impl Abort, alloc: Global, disk: &MemoryDisk) -> Result<(), Fail> {
+    let mut left = disk.stop(alloc, Fill::Stable, false)?;
+    expect_bytes(rt, alloc, &mut left, 143, b"\x07\0\x01\0\0\0a\0")
+}
+
+// Blanks the journal of an area with a record, and appends to it.
+fn expect_refreshed(rt: &impl Abort, alloc: Global, disk: &mut MemoryDisk) -> Result<(), Fail> {
+    let mut journal = refreshed(disk)?;
+    same(rt, &journal.room(), &Some(506));
+    expect_closed(rt, alloc, disk)?;
+    journal.append(disk, b"bc")?;
+    Ok(())
+}
+
+#[test]
+fn blanks_a_journal(rt: HostRuntime) -> Result<(), Fail> {
+    let mut disk = disk_with(rt.alloc(), b"\xa5\x01\0\0\0a\0")?;
+    expect_refreshed(&rt, rt.alloc(), &mut disk)?;
+    let is_bc = is_opened_with(rt.alloc(), &mut disk, &[b"bc"])?;
+    assert!(rt; is_bc);
+    Ok(())
+}
+
+const CODES: &[(JournalError, u16)] = &[
+    (JournalError::Device, 30),
+    (JournalError::OutOfMemory, 31),
+    (JournalError::Reopen, 32),
+    (JournalError::JournalFull, 34),
+    (JournalError::Damaged { place: 144 }, 40),
+];
+
+#[test]
+fn numbers_its_refusals(rt: HostRuntime) {
+    for &(error, code) in CODES {
+        same(&rt, &(error, error.code()), &(error, code));
+    }
+}

@@ -1,0 +1,325 @@
+//! Calls that fail during the lines and checkpoints of a project, and what the project has when it is opened again.
+
+use crate::expect::same;
+use crate::project::bytes_from;
+use crate::small::{FILLS, SMALL, created, empty_disk, found, opened, vertices};
+use std::alloc::Global;
+use std::process::Abort;
+use std::test::Fail;
+use store_disk::{DeviceFault, Disk, FaultDisk, Fill, MemoryDisk};
+use store_project::{Project, ProjectError};
+
+// A new project on a disk with an injected fault. The first 8 device calls are those of `create`.
+type Failing = Project<FaultDisk<MemoryDisk>>;
+
+// A new project whose k-th device call fails, after the first `part` bytes of its write.
+fn failing(alloc: Global, k: u64, part: u32) -> Result<Failing, Fail> {
+    Ok(created(alloc, FaultDisk::new(empty_disk(alloc)?, k, part), SMALL)?)
+}
+
+// The ways in which the four calls of an append can fail: the call, counted from the first one of `create`, and how
+// many bytes it still writes; and whether the record's gate is open if all that was written stays.
+const FAULTS: &[(u64, u32, bool)] = &[
+    (9, 15, false),
+    (10, 0, false),
+    (11, 0, false),
+    (11, 1, true),
+    (12, 0, true),
+];
+
+// The first line of a project fails, and the project accepts nothing from then on.
+fn expect_closed<D: Disk>(rt: &impl Abort, project: &mut Project<D>) {
+    let failed = project.apply(b"vertex 0 0");
+    same(rt, &failed, &Err(ProjectError::Device));
+    same(rt, &(project.must_reopen(), vertices(project)), &(true, 0));
+    let further = [project.apply(b"vertex 1 0"), project.apply(b"no command")];
+    same(rt, &further, &[Err(ProjectError::Reopen); 2]);
+    same(rt, &project.checkpoint(), &Err(ProjectError::Reopen));
+}
+
+#[test]
+fn wants_to_be_opened_again_after_a_fault(rt: HostRuntime) -> Result<(), Fail> {
+    for &(k, part, _) in FAULTS {
+        let mut project = failing(rt.alloc(), k, part)?;
+        expect_closed(&rt, &mut project);
+    }
+    Ok(())
+}
+
+// Applies lines, and one more, during which a call fails.
+fn fail_in<D: Disk>(
+    rt: &impl Abort,
+    project: &mut Project<D>,
+    before: &[&[u8]],
+    line: &[u8],
+) -> Result<(), Fail> {
+    for earlier in before {
+        project.apply(*earlier)?;
+    }
+    assert_eq!(rt; project.apply(line), Err(ProjectError::Device));
+    Ok(())
+}
+
+// The disk of a project after these lines, during the last of which a call failed.
+fn failed(
+    rt: &impl Abort,
+    alloc: Global,
+    fault: (u64, u32),
+    before: &[&[u8]],
+    line: &[u8],
+) -> Result<FaultDisk<MemoryDisk>, Fail> {
+    let mut project = failing(alloc, fault.0, fault.1)?;
+    fail_in(rt, &mut project, before, line)?;
+    Ok(project.into_disk())
+}
+
+// A fill, and whether it keeps what was written but not synced.
+const KEEPS: &[(Fill, bool)] = &[
+    (Fill::Stable, false),
+    (Fill::Written, true),
+    (Fill::Byte(0), false),
+    (Fill::Byte(165), true),
+];
+
+// How many vertices and how many maps the project of a disk has.
+fn counts<D: Disk + Drop>(alloc: Global, disk: D) -> Result<[u32; 2], Fail> {
+    let project = opened(alloc, disk)?;
+    Ok([vertices(&project), project.maps().len()])
+}
+
+// The lines before one during which a call fails, how many device calls they make, that line, and how many vertices and
+// maps the project has before it and after it.
+type Line = (
+    &'static [&'static [u8]],
+    u64,
+    &'static [u8],
+    [u32; 2],
+    [u32; 2],
+);
+
+const LINES: &[Line] = &[
+    (&[], 0, b"vertex 0 0", [0, 1], [1, 1]),
+    (&[], 0, b"map MAP02", [0, 1], [0, 2]),
+    (&[b"map MAP02"], 4, b"drop-map MAP01", [0, 2], [0, 1]),
+];
+
+// Opens the project of a disk after a failed call, after stops and without one: it has the counts `new` if what was
+// written is kept, and else `old`.
+fn expect_counts(
+    rt: &impl Abort,
+    alloc: Global,
+    disk: FaultDisk<MemoryDisk>,
+    old: [u32; 2],
+    new: [u32; 2],
+) -> Result<(), Fail> {
+    for &(fill, keeps) in KEEPS {
+        let want = if keeps { new } else { old };
+        let left = disk.inner().stop(alloc, fill, true)?;
+        same(rt, &(fill, counts(alloc, left)?), &(fill, want));
+    }
+    same(rt, &counts(alloc, disk)?, &new);
+    Ok(())
+}
+
+#[test]
+fn opens_again_after_a_fault(rt: HostRuntime) -> Result<(), Fail> {
+    for &(before, calls, line, old, new) in LINES {
+        for &(k, part, is_open) in FAULTS {
+            let fault = (k.saturating_add(calls), part);
+            let disk = failed(&rt, rt.alloc(), fault, before, line)?;
+            let left = if is_open { new } else { old };
+            expect_counts(&rt, rt.alloc(), disk, old, left)?;
+        }
+    }
+    Ok(())
+}
+
+// A project of one vertex, whose k-th device call fails. The first 12 calls are those of `create` and of one append.
+fn one_vertex(alloc: Global, k: u64, part: u32) -> Result<Failing, Fail> {
+    let mut project = failing(alloc, k, part)?;
+    project.apply(b"vertex 0 0")?;
+    Ok(project)
+}
+
+// The first device call after those of checkpoints with these generations.
+const CALLS: &[(u64, &[u64])] = &[(18, &[2]), (25, &[2, 3])];
+
+// Takes checkpoints, and tests that they have these generations.
+fn take<D: Disk>(rt: &impl Abort, project: &mut Project<D>, generations: &[u64]) {
+    for generation in generations {
+        let found = (project.checkpoint(), project.generation());
+        same(rt, &found, &(Ok(*generation), *generation));
+    }
+}
+
+// The disk of a project of one vertex after checkpoints with these generations.
+fn disk_of_taken(
+    rt: &impl Abort,
+    alloc: Global,
+    k: u64,
+    generations: &[u64],
+) -> Result<FaultDisk<MemoryDisk>, Fail> {
+    let mut project = one_vertex(alloc, k, 0)?;
+    take(rt, &mut project, generations);
+    Ok(project.into_disk())
+}
+
+#[test]
+fn changes_its_slot_by_five_calls_and_by_seven(rt: HostRuntime) -> Result<(), Fail> {
+    for &(k, generations) in CALLS {
+        let mut disk = disk_of_taken(&rt, rt.alloc(), k, generations)?;
+        same(&rt, &(k, disk.len()), &(k, Err(DeviceFault)));
+    }
+    Ok(())
+}
+
+const STAGED_B: &[u8] = b"\0\x02\0\0\0\0\0\0\0\x18\0\0\0\
+\x02\0MAP01\0\0\0\0\0\0\0\0\0\x01\0\0\0\0\0\0\0";
+
+const OPEN_B: &[u8] = b"\xa5\x02\0\0\0\0\0\0\0\x18\0\0\0\
+\x02\0MAP01\0\0\0\0\0\0\0\0\0\x01\0\0\0\0\0\0\0";
+
+const STAGED_A: &[u8] = b"\0\x03\0\0\0\0\0\0\0\x18\0\0\0\
+\x02\0MAP01\0\0\0\0\0\0\0\0\0\x01\0\0\0\0\0\0\0";
+
+const OPEN_A: &[u8] = b"\xa5\x03\0\0\0\0\0\0\0\x18\0\0\0\
+\x02\0MAP01\0\0\0\0\0\0\0\0\0\x01\0\0\0\0\0\0\0";
+
+// How many checkpoints come before one; the device call during it that fails, and how many bytes it still writes; an
+// offset, and the bytes that the file then has there. The first checkpoint fills slot B and opens it; the second one
+// closes slot A first.
+#[rattlefmt::skip]
+const WRITES: &[(u32, u64, u32, u64, &[u8])] = &[
+    (0, 13, 0, 80, b"\0\0\0"), (0, 13, 36, 80, STAGED_B), (0, 14, 0, 80, STAGED_B), (0, 16, 0, 80, STAGED_B),
+    (0, 16, 1, 80, OPEN_B), (0, 17, 0, 80, OPEN_B), (0, 17, 0, 16, b"\xa5\x01"), (0, 17, 0, 144, b"\xa5\x0a"),
+    (0, 17, 0, 656, b"\0"),
+    (1, 18, 0, 16, b"\xa5\x01"), (1, 18, 1, 16, b"\0\x01"), (1, 20, 0, 16, b"\0\x01"), (1, 20, 36, 16, STAGED_A),
+    (1, 21, 0, 144, b"\xa5\x0a"), (1, 21, 1, 144, b"\0\x0a"), (1, 23, 0, 16, STAGED_A), (1, 23, 1, 16, OPEN_A),
+    (1, 24, 0, 80, b"\xa5\x02"),
+];
+
+// Takes `before` checkpoints, and one more, during which a call fails.
+fn fail_to_take<D: Disk>(
+    rt: &impl Abort,
+    project: &mut Project<D>,
+    before: u32,
+) -> Result<(), Fail> {
+    for _ in 0..before {
+        project.checkpoint()?;
+    }
+    let found = (project.checkpoint(), project.must_reopen());
+    same(rt, &found, &(Err(ProjectError::Device), true));
+    same(rt, &vertices(project), &1);
+    Ok(())
+}
+
+// The disk of a project of one vertex after `before` checkpoints and one more, during which a call failed.
+fn failed_checkpoint(
+    rt: &impl Abort,
+    alloc: Global,
+    before: u32,
+    k: u64,
+    part: u32,
+) -> Result<FaultDisk<MemoryDisk>, Fail> {
+    let mut project = one_vertex(alloc, k, part)?;
+    fail_to_take(rt, &mut project, before)?;
+    Ok(project.into_disk())
+}
+
+#[test]
+fn fills_a_slot_and_then_opens_it(rt: HostRuntime) -> Result<(), Fail> {
+    for &(before, k, part, at, want) in WRITES {
+        let mut disk = failed_checkpoint(&rt, rt.alloc(), before, k, part)?;
+        let bytes = bytes_from(rt.alloc(), &mut disk, at, want.len())?;
+        same(&rt, &(k, part, at, bytes.as_slice()), &(k, part, at, want));
+    }
+    Ok(())
+}
+
+// After a stop with any fill the project has this many vertices, and one of these generations: the first one if bytes
+// that weren't synced are as before or zero, else the second.
+fn expect_stops(
+    rt: &impl Abort,
+    alloc: Global,
+    disk: &FaultDisk<MemoryDisk>,
+    vertex_count: u32,
+    generations: (u64, u64),
+) -> Result<(), Fail> {
+    for &fill in FILLS {
+        let want = match fill {
+            Fill::Stable | Fill::Byte(0) => generations.0,
+            _ => generations.1,
+        };
+        let short = found(alloc, disk.inner().stop(alloc, fill, false)?)?;
+        let long = found(alloc, disk.inner().stop(alloc, fill, true)?)?;
+        same(
+            rt,
+            &(fill, [short, long]),
+            &(fill, [(vertex_count, want); 2]),
+        );
+    }
+    Ok(())
+}
+
+// The device call of a checkpoint that fails, how many bytes it still writes, and the generation of the project when it
+// is opened again.
+const STOPS: &[(u64, u32, u64)] = &[
+    (13, 0, 1),
+    (13, 36, 1),
+    (14, 0, 1),
+    (14, 1, 1),
+    (15, 0, 1),
+    (16, 0, 1),
+    (16, 1, 2),
+    (17, 0, 2),
+];
+
+#[test]
+fn stops_within_a_checkpoint(rt: HostRuntime) -> Result<(), Fail> {
+    for &(k, part, generation) in STOPS {
+        let disk = failed_checkpoint(&rt, rt.alloc(), 0, k, part)?;
+        expect_stops(&rt, rt.alloc(), &disk, 1, (1, generation))?;
+        assert_eq!(rt; found(rt.alloc(), disk)?, (1, generation));
+    }
+    Ok(())
+}
+
+// The disk of a project of one vertex after a checkpoint whose sync failed.
+fn unsynced_disk(alloc: Global) -> Result<FaultDisk<MemoryDisk>, Fail> {
+    let mut project = one_vertex(alloc, 15, 0)?;
+    let _failed = project.checkpoint();
+    Ok(project.into_disk())
+}
+
+// That disk after a second vertex and one more checkpoint, during which the k-th call failed. The calls are counted
+// from the opening, which makes 7; the append makes 4.
+fn failed_again(
+    rt: &impl Abort,
+    alloc: Global,
+    k: u64,
+) -> Result<FaultDisk<FaultDisk<MemoryDisk>>, Fail> {
+    let disk = unsynced_disk(alloc)?;
+    let mut project = opened(alloc, FaultDisk::new(disk, k, 1))?;
+    project.apply(b"vertex 1 1")?;
+    let refused = project.checkpoint();
+    assert_eq!(rt;
+        (refused, vertices(&project)),
+        (Err(ProjectError::Device), 2),
+        "{k}"
+    );
+    Ok(project.into_disk())
+}
+
+// The device call that fails during a checkpoint after a failed one, and the generation of the project when it is
+// opened again.
+const AGAIN: &[(u64, u64)] = &[(12, 1), (13, 1), (14, 1), (15, 2), (16, 2)];
+
+#[test]
+fn stops_within_a_checkpoint_after_one_that_failed(rt: HostRuntime) -> Result<(), Fail> {
+    for &(k, generation) in AGAIN {
+        let disk = failed_again(&rt, rt.alloc(), k)?;
+        expect_stops(&rt, rt.alloc(), disk.inner(), 2, (1, generation))?;
+        assert_eq!(rt; found(rt.alloc(), disk)?, (2, generation));
+    }
+    Ok(())
+}

@@ -1,0 +1,47 @@
+use Rattle.std.proofs.Common.{◌≤◌, ◌+◌, ◌∙◌, ap, sym, subst, ℕ, Some, false, arith}
+use Rattle.std.proofs.lemmas.Option.{slice_get_within}
+use Rattle.std.proofs.lemmas.List.Sorted.{length_permutation, All-permutation}
+use Rattle.std.specs.Prelude.{MatchOption}
+use Rattle.tree_pieces.specs.Pieces.{IsPiece}
+use Rattle.tree_pieces.specs.Tree.{cost}
+use Rattle.tree_choice.specs.Counts.{AreCounts}
+use Rattle.tree_choice.specs.SoFar.{SoFar}
+use Rattle.tree_choice.proofs.Best.{stands_at, skips, taken, line_known, used_stays}
+use Rattle.tree_choice.proofs.Reordered.{reordered}
+use Rattle.tree_choice.proofs.choosing.consider_ordered.Goals as goal
+
+pub take_in-requires-clause-place : goal.take_in-requires-clause-place
+take_in-requires-clause-place c = let w = slice_get_within c.args.pieces.now c.args.at c.args.piece.now c.requires.stands in let f = c.requires.few in omega arith
+
+pub count_by_boxes-counted-requires-clause-pieces : goal.count_by_boxes-counted-requires-clause-pieces
+count_by_boxes-counted-requires-clause-pieces c = All-permutation (IsPiece c.args.lines.now) c.args.pieces.now c.args.ordered.now c.requires.ordered c.requires.pieces
+
+pub count_by_boxes-counted-requires-clause-few : goal.count_by_boxes-counted-requires-clause-few
+count_by_boxes-counted-requires-clause-few c = let l = length_permutation c.args.pieces.now c.args.ordered.now c.requires.ordered in let f = c.requires.few in omega arith
+
+pub returns-then-has_earlier-clause-so_far : goal.returns-then-has_earlier-clause-so_far
+returns-then-has_earlier-clause-so_far c =
+    skips c.args.lines.now c.args.pieces.now c.args.used.now c.args.at c.args.piece.now c.requires.stands c.requires.lines c.requires.pieces c.args.best c.requires.few c.requires.so_far (c.has_earlier.ensures.earlier c.if-has_earlier.true)
+
+pub returns-clause-so_far : goal.returns-clause-so_far
+returns-clause-so_far c =
+    let lines = c.args.lines.now in
+    let p = c.args.piece.now in
+    let ps = c.args.pieces.now in
+    let within = line_known lines c.args.used.now p c.requires.piece c.requires.known in
+    let free = stands_at c.args.used.now p.line false within ∙ ap Some c.if-used-piece.false in
+    let o = c.count_by_boxes-counted.result in
+    let e = reordered lines p ps c.args.ordered.now c.requires.ordered c.limit_of-limit.result o c.count_by_boxes-counted.ensures.counts in
+    let m = subst (λ (limit : ℕ). MatchOption o (limit ≤ cost lines p ps) (λ k. AreCounts lines p ps k)) c.limit_of-limit.ensures e in
+    subst (SoFar lines ps c.args.used.now (c.args.at + 1)) (sym c.take_in.ensures)
+    (taken lines ps c.args.used.now c.args.at p c.requires.stands c.args.best o c.requires.few c.requires.so_far free m)
+
+pub returns-then-used-piece-clause-so_far : goal.returns-then-used-piece-clause-so_far
+returns-then-used-piece-clause-so_far c =
+    let lines = c.args.lines.now in
+    let used = c.args.used.now in
+    let p = c.args.piece.now in
+    used_stays lines c.args.pieces.now used c.args.at p c.requires.stands c.args.best c.requires.few (line_known lines used p c.requires.piece c.requires.known) c.if-used-piece.true c.requires.so_far
+
+pub count_by_boxes-counted-requires-clause-ends : goal.count_by_boxes-counted-requires-clause-ends
+count_by_boxes-counted-requires-clause-ends c = rw c.has_earlier.ensures.ends c.requires.noted

@@ -1,0 +1,18 @@
+-- What a partition makes of a list: how many pieces it splits, and the parts on its two sides.
+use Rattle.std.specs.Prelude.{◌≡◌, ℕ, ◌+◌, ◌*◌, ◌-◌, List, length, count_by}
+use Rattle.tree_pieces.specs.declared.edge.Edge.{Edge}
+use Rattle.tree_pieces.specs.declared.piece.Piece.{Piece}
+use Rattle.tree_pieces.specs.Division.{right_parts, left_parts}
+use Rattle.tree_pieces.specs.Tree.{is_split}
+use Rattle.tree_choice.specs.declared.counts.Counts.{Counts}
+
+-- the counts are those of the list
+pub record AreCounts (lines : List Edge) (partition : Piece) (ps : List Piece) (c : Counts) :
+    Type 0 where
+  pub splits : c.splits ≡ count_by (is_split lines partition) ps
+  pub right : c.right ≡ length (right_parts lines partition ps)
+  pub left : c.left ≡ length (left_parts lines partition ps)
+
+-- the cost by the counts
+abbrev pub cost_by : Counts → ℕ
+cost_by c = 8 * c.splits + ((c.right - c.left) + (c.left - c.right))

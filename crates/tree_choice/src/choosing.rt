@@ -1,0 +1,177 @@
+//! The choice by boxes and rounded ends, in the list's order or in one by places.
+ghost use Rattle.std.specs.Prelude.{◌≡◌, ◌+◌, ◌≤◌, ◌<◌, ◌^◌, length, All, MatchOption, Some, slice_get, false};
+ghost use Rattle.std.specs.List.Sorted.{IsPermutation};
+ghost use Rattle.tree_pieces.specs.Plane.{IsEdge};
+ghost use Rattle.tree_pieces.specs.Pieces.{IsPiece};
+ghost use Rattle.tree_pieces.specs.Tree.{HasNoChoice, cost};
+ghost use Rattle.tree_pieces.specs.Boxes.{boxes_of};
+ghost use Rattle.tree_choice.specs.Blocks.{AreBlocks, AreGroups};
+ghost use Rattle.tree_choice.specs.Counts.{AreCounts};
+ghost use Rattle.tree_choice.specs.Choices.{IsChoice};
+ghost use Rattle.tree_choice.specs.SoFar.{SoFar};
+ghost use Rattle.tree_choice.specs.Columns.{HoldsEnds, HoldsBoxes};
+
+use crate::block_boxes::note_groups;
+use crate::choice::{Choice, limit_of, take_in};
+use crate::counts::count_below;
+use crate::straight::StraightLines;
+use crate::walk::count_by_boxes;
+use lump_records::Bounds;
+use tree_pieces::{Edge, Piece};
+
+// The best candidate among the pieces up to this one, by the best one before it.
+fn consider(
+    lines: &[Edge],
+    pieces: &[Piece],
+    used: &[bool],
+    at: usize,
+    piece: &Piece,
+    best: Option<Choice>,
+) -> Option<Choice>
+    requires lines { All IsEdge lines.now }
+    requires pieces { All (IsPiece lines.now) pieces.now }
+    requires known { length used.now ≡ length lines.now }
+    requires few { length pieces.now < 2 ^ 32 }
+    requires piece { IsPiece lines.now piece.now }
+    requires stands { slice_get pieces.now at ≡ Some piece.now }
+    requires so_far { SoFar lines.now pieces.now used.now at best }
+    ensures { SoFar lines.now pieces.now used.now (at + 1) result }
+{
+    if used[piece.line as usize] {
+        return best;
+    }
+    let limit = limit_of(best);
+    let counted = count_below(lines, piece, pieces, limit);
+    take_in(at, best, limit, counted)
+}
+
+/// The separating piece of an unused line that costs least; of several that cost as little, the first.
+pub fn choose_in(lines: &[Edge], pieces: &[Piece], used: &[bool]) -> Option<Choice>
+    requires lines { All IsEdge lines.now }
+    requires pieces { All (IsPiece lines.now) pieces.now }
+    requires known { length used.now ≡ length lines.now }
+    requires few { length pieces.now < 2 ^ 32 }
+    ensures { MatchOption result (HasNoChoice lines.now pieces.now used.now)
+        (λ c. IsChoice lines.now pieces.now used.now c) }
+{
+    let mut best = None;
+    for (at, piece) in pieces.iter().enumerate() {
+        best = consider(lines, pieces, used, at, piece, best);
+    }
+    best
+}
+
+// The same as `consider`, but by boxes and rounded ends, and without counting a piece on the straight line of an
+// earlier one.
+fn consider_ordered(
+    lines: &[Edge],
+    pieces: &[Piece],
+    ordered: &[Piece],
+    blocks: &[Bounds],
+    used: &[bool],
+    at: usize,
+    piece: &Piece,
+    best: Option<Choice>,
+    straight: &mut StraightLines,
+) -> Option<Choice>
+    requires lines { All IsEdge lines.now }
+    requires pieces { All (IsPiece lines.now) pieces.now }
+    requires ordered { IsPermutation pieces.now ordered.now }
+    requires blocks { AreBlocks (boxes_of lines.now ordered.now) blocks.now }
+    requires known { length used.now ≡ length lines.now }
+    requires few { length pieces.now < 2 ^ 32 }
+    requires piece { IsPiece lines.now piece.now }
+    requires stands { slice_get pieces.now at ≡ Some piece.now }
+    requires noted { HoldsEnds lines.now ordered.now straight.old.ends }
+    requires sides { HoldsBoxes blocks.now straight.old.sides }
+    requires groups { AreGroups (boxes_of lines.now ordered.now) straight.old.groups.items }
+    requires room { length blocks.now ≤ length straight.old.noted.items }
+    requires so_far { SoFar lines.now pieces.now used.now at best }
+    ensures so_far { SoFar lines.now pieces.now used.now (at + 1) result }
+    ensures ends { straight.new.ends ≡ straight.old.ends }
+    ensures sides { straight.new.sides ≡ straight.old.sides }
+    ensures groups { straight.new.groups ≡ straight.old.groups }
+    ensures room { length straight.new.noted.items ≡ length straight.old.noted.items }
+{
+    if used[piece.line as usize] {
+        return best;
+    }
+    if straight.has_earlier(lines, pieces, used, at, piece) {
+        return best;
+    }
+    let limit = limit_of(best);
+    let counted = count_by_boxes(
+        lines,
+        piece,
+        ordered,
+        &straight.ends,
+        blocks,
+        &straight.sides,
+        &straight.groups,
+        &mut straight.noted,
+        limit,
+    );
+    take_in(at, best, limit, counted)
+}
+
+/// The same choice as `choose_in`, by the boxes of the pieces and of blocks of sixteen of them.
+/// `straight` saves counts, whatever it holds. `ordered` holds the same pieces in any order, as
+/// `by_place` gives one, and the boxes are those of this list.
+pub fn choose_ordered(
+    lines: &[Edge],
+    pieces: &[Piece],
+    ordered: &[Piece],
+    boxes: &[Bounds],
+    blocks: &[Bounds],
+    used: &[bool],
+    straight: &mut StraightLines,
+) -> Option<Choice>
+    requires lines { All IsEdge lines.now }
+    requires pieces { All (IsPiece lines.now) pieces.now }
+    requires ordered { IsPermutation pieces.now ordered.now }
+    requires boxes { boxes.now ≡ boxes_of lines.now ordered.now }
+    requires blocks { AreBlocks boxes.now blocks.now }
+    requires known { length used.now ≡ length lines.now }
+    requires few { length pieces.now < 2 ^ 32 }
+    ensures { MatchOption result (HasNoChoice lines.now pieces.now used.now)
+        (λ c. IsChoice lines.now pieces.now used.now c) }
+{
+    if !straight.ends.has_room(ordered.len())
+        || !straight.sides.has_room(blocks.len())
+        || straight.noted.len() < blocks.len()
+    {
+        return choose_in(lines, pieces, used);
+    }
+    straight.ends.note(lines, ordered);
+    straight.sides.note(blocks);
+    note_groups(boxes, &mut straight.groups);
+    let mut best = None;
+    for (at, piece) in pieces.iter().enumerate() {
+        best = consider_ordered(
+            lines, pieces, ordered, blocks, used, at, piece, best, straight,
+        );
+    }
+    best
+}
+
+/// The same choice as `choose_in`, by the boxes of the pieces and of blocks of sixteen of them.
+/// `straight` saves counts, whatever it holds.
+pub fn choose_in_boxes(
+    lines: &[Edge],
+    pieces: &[Piece],
+    boxes: &[Bounds],
+    blocks: &[Bounds],
+    used: &[bool],
+    straight: &mut StraightLines,
+) -> Option<Choice>
+    requires lines { All IsEdge lines.now }
+    requires pieces { All (IsPiece lines.now) pieces.now }
+    requires boxes { boxes.now ≡ boxes_of lines.now pieces.now }
+    requires blocks { AreBlocks boxes.now blocks.now }
+    requires known { length used.now ≡ length lines.now }
+    requires few { length pieces.now < 2 ^ 32 }
+    ensures { MatchOption result (HasNoChoice lines.now pieces.now used.now)
+        (λ c. IsChoice lines.now pieces.now used.now c) }
+{
+    choose_ordered(lines, pieces, pieces, boxes, blocks, used, straight)
+}

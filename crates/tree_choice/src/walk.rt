@@ -1,0 +1,376 @@
+//! The counts of a list: blocks whole on one side by their boxes, the pieces of open ones by their rounded ends.
+ghost use Rattle.std.specs.Prelude.{◌≡◌, ℕ, ◌≤◌, ◌<◌, ◌^◌, ◌&&◌, ◌||◌, if◌then◌else◌, ◌∷◌, [], true, false, pos, ◌*ℤ◌, int_lt, length, take, All, MatchOption};
+ghost use Rattle.tree_pieces.specs.Plane.{IsEdge};
+ghost use Rattle.tree_pieces.specs.Local.{IsLineRay, IsSideValue};
+ghost use Rattle.tree_pieces.specs.Pieces.{IsPiece, ray_of};
+ghost use Rattle.tree_pieces.specs.Division.{place_by};
+ghost use Rattle.tree_pieces.specs.Tree.{cost};
+ghost use Rattle.tree_pieces.specs.Boxes.{boxes_of};
+ghost use Rattle.tree_choice.specs.Counts.{AreCounts};
+ghost use Rattle.tree_choice.specs.Blocks.{AreBlocks, AreGroups};
+ghost use Rattle.tree_choice.specs.Sights.{AreMargins, IsNormal, ends_of};
+ghost use Rattle.tree_choice.specs.Columns.{AreEnds, HoldsEnds, HoldsBoxes};
+ghost use Rattle.tree_choice.specs.Sorting.{IsSorted};
+ghost use Rattle.tree_choice.specs.Clear.{AreCountsBut, flagged, pieces_at, IsClear};
+
+use crate::block_boxes::BLOCK;
+use crate::corner_columns::BoxColumns;
+use crate::counts::Counts;
+use crate::ends::{EndColumns, Ends};
+use crate::margins::{Margins, Normal, PlaceSides, margins_of, sides_of_place};
+use crate::sorting::{Sorted, sort_all};
+use lump_records::{Bounds, Ray, Vertex, product};
+use tree_pieces::{Edge, Piece, Place, divide_on, dot_of, place_on, ray_of, value_at};
+
+// The counts of a piece by the sides of its two ends; zero if they leave it open. All is done in numbers of 32 bits, as
+// the sums over several pieces are.
+fn counts_by_sides(first: PlaceSides, last: PlaceSides) -> Counts
+    ensures right { result.right ≡ (if (first.right && last.right) ||
+        ((first.right && last.left) || (first.left && last.right)) then 1 else 0) }
+    ensures left { result.left ≡ (if (first.left && last.left) ||
+        ((first.right && last.left) || (first.left && last.right)) then 1 else 0) }
+    ensures splits { result.splits ≡
+        (if (first.right && last.left) || (first.left && last.right) then 1 else 0) }
+{
+    let first_right = first.right as u32;
+    let first_left = first.left as u32;
+    let last_right = last.right as u32;
+    let last_left = last.left as u32;
+    let right = first_right & last_right;
+    let left = first_left & last_left;
+    let split = (first_right & last_left) | (first_left & last_right);
+    Counts {
+        splits: split,
+        right: right | split,
+        left: left | split,
+    }
+}
+
+// The counts of a piece by its rounded ends; zero unless both lie farther from the partition's straight line than
+// rounding may move them.
+fn count_clear(
+    lines: &[Edge],
+    partition: &Piece,
+    margins: Margins,
+    normal: Normal,
+    piece: &Piece,
+    ends: Ends,
+) -> Counts
+    requires ray { margins.ray ≡ ray_of lines.now partition.now }
+    requires margins { AreMargins margins }
+    requires normal { IsNormal margins.ray normal }
+    requires piece { IsPiece lines.now piece.now }
+    requires ends { ends ≡ ends_of lines.now piece.now }
+    ensures { IsClear lines.now partition.now piece.now result }
+{
+    let first = sides_of_place(margins, normal, ends.first);
+    let last = sides_of_place(margins, normal, ends.last);
+    counts_by_sides(first, last)
+}
+
+// The counts of those pieces of a short list that their rounded ends decide; the others are flagged as open. There is
+// no branch, so that a machine tests several pieces at once.
+fn count_clear_ones(
+    lines: &[Edge],
+    partition: &Piece,
+    margins: Margins,
+    pieces: &[Piece],
+    firsts: &[Vertex],
+    lasts: &[Vertex],
+    flags: &mut [bool],
+) -> Counts
+    requires ray { margins.ray ≡ ray_of lines.now partition.now }
+    requires margins { AreMargins margins }
+    requires pieces { All (IsPiece lines.now) pieces.now }
+    requires ends { AreEnds lines.now pieces.now firsts.now lasts.now }
+    requires few { length pieces.now ≤ 16 }
+    requires room { length flags.old ≡ length pieces.now }
+    ensures { AreCountsBut lines.now partition.now pieces.now (flagged flags.new pieces.now)
+        result }
+{
+    let normals = [margins.normal; BLOCK];
+    let mut counts = Counts::NONE;
+    for (n, piece) in pieces.iter().enumerate() {
+        // read coordinate by coordinate, so that the compiler sees products of 16 bits
+        let ends = Ends {
+            first: Vertex {
+                x: firsts[n].x,
+                y: firsts[n].y,
+            },
+            last: Vertex {
+                x: lasts[n].x,
+                y: lasts[n].y,
+            },
+        };
+        let more = count_clear(lines, partition, margins, normals[n], piece, ends);
+        counts = counts.plus(more);
+        flags[n] = (more.right == 0) & (more.left == 0);
+    }
+    counts
+}
+
+// Whether the ends of a line lie on two sides of a ray, by their side values. Their product needs one test, which is
+// easy to predict; their signs would need two.
+fn are_apart(first: i64, last: i64) -> bool
+    requires first { IsSideValue first }
+    requires last { IsSideValue last }
+    ensures { result ≡ int_lt (first *ℤ last) (pos 0) }
+{
+    product(first, last) < 0
+}
+
+// The sum of the side values of a line's ends, or its direction if the sum is 0.
+fn sign_of(sum: i64, direction: i64) -> i64
+    ensures zero { sum ≡ pos 0 → result ≡ direction }
+    ensures other { (sum ≡ pos 0 → ⊥) → result ≡ sum }
+{
+    if sum == 0 { direction } else { sum }
+}
+
+// Whether a line whose ends don't lie on two sides of a ray lies on its right, else on its left: by the side values of
+// its ends, or by its direction if both are 0.
+fn lies_right(first: i64, last: i64, direction: i64) -> bool
+    requires first { IsSideValue first }
+    requires last { IsSideValue last }
+    requires together { int_lt (first *ℤ last) (pos 0) ≡ false }
+    ensures right { result ≡ true → place_by first last direction ≡ Place.Right }
+    ensures left { result ≡ false → place_by first last direction ≡ Place.Left }
+{
+    let sum = first + last;
+    let sign = sign_of(sum, direction);
+    0 < sign
+}
+
+// The counts of one piece by its exact place. Only a piece across the partition is divided.
+fn count_exactly(lines: &[Edge], partition: &Piece, ray: Ray, piece: &Piece) -> Counts
+    requires lines { All IsEdge lines.now }
+    requires ray { ray ≡ ray_of lines.now partition.now }
+    requires line { IsLineRay ray }
+    requires piece { IsPiece lines.now piece.now }
+    ensures { AreCounts lines.now partition.now (piece.now ∷ []) result }
+{
+    let edge = lines[piece.line as usize];
+    match place_on(ray, edge, piece) {
+        Place::Right => Counts::ON_RIGHT,
+        Place::Left => Counts::ON_LEFT,
+        Place::Across => {
+            let parts = divide_on(ray, edge, piece);
+            Counts::of_parts(&parts)
+        }
+    }
+}
+
+// The counts of one piece: by the side of its whole line if that has one, else by its exact place.
+fn count_piece(lines: &[Edge], partition: &Piece, ray: Ray, piece: &Piece) -> Counts
+    requires lines { All IsEdge lines.now }
+    requires ray { ray ≡ ray_of lines.now partition.now }
+    requires line { IsLineRay ray }
+    requires piece { IsPiece lines.now piece.now }
+    ensures { AreCounts lines.now partition.now (piece.now ∷ []) result }
+{
+    let edge = lines[piece.line as usize];
+    let first = value_at(ray, edge.v1);
+    let last = value_at(ray, edge.v2);
+    if are_apart(first, last) {
+        return count_exactly(lines, partition, ray, piece);
+    }
+    let own = ray_of(edge, piece.side);
+    let direction = dot_of(ray, own);
+    let right = lies_right(first, last, direction);
+    Counts {
+        splits: 0,
+        right: right as u32,
+        left: !right as u32,
+    }
+}
+
+// Notes the places of the flagged pieces of a block, and returns how many there are. It has no branch, which would
+// often be mispredicted.
+fn note_open(pieces: &[Piece], flags: &[bool], places: &mut [u8]) -> usize
+    requires few { length pieces.now ≤ 16 }
+    requires same { length flags.now ≡ length pieces.now }
+    requires room { length places.old ≡ 16 }
+    ensures is { pieces_at pieces.now (take result places.new) ≡ flagged flags.now pieces.now }
+    ensures each { All (λ k. k < length pieces.now) (take result places.new) }
+    ensures few { result ≤ 16 }
+    ensures room { length places.new ≡ 16 }
+{
+    let mut count = 0;
+    for n in 0..pieces.len() {
+        // if the piece isn't flagged, the next place replaces its own
+        places[count] = n as u8;
+        count += flags[n] as usize;
+    }
+    count
+}
+
+// The counts of a short list, after those of all pieces but the ones at these places.
+fn count_open_ones(
+    lines: &[Edge],
+    partition: &Piece,
+    ray: Ray,
+    pieces: &[Piece],
+    places: &[u8],
+    clear: Counts,
+) -> Counts
+    requires lines { All IsEdge lines.now }
+    requires ray { ray ≡ ray_of lines.now partition.now }
+    requires line { IsLineRay ray }
+    requires pieces { All (IsPiece lines.now) pieces.now }
+    requires few { length pieces.now < 2 ^ 32 }
+    requires each { All (λ k. k < length pieces.now) places.now }
+    requires clear { AreCountsBut lines.now partition.now pieces.now
+        (pieces_at pieces.now places.now) clear }
+    ensures { AreCounts lines.now partition.now pieces.now result }
+{
+    let mut counts = clear;
+    for place in places {
+        let piece = &pieces[*place as usize];
+        let more = count_piece(lines, partition, ray, piece);
+        counts = counts.plus(more);
+    }
+    counts
+}
+
+// The counts of a block: first of the pieces that their rounded ends decide, then of the others. It is None if the
+// first ones already make the cost reach the limit.
+fn count_list(
+    lines: &[Edge],
+    partition: &Piece,
+    margins: Margins,
+    pieces: &[Piece],
+    firsts: &[Vertex],
+    lasts: &[Vertex],
+    limit: u64,
+) -> Option<Counts>
+    requires lines { All IsEdge lines.now }
+    requires ray { margins.ray ≡ ray_of lines.now partition.now }
+    requires margins { AreMargins margins }
+    requires pieces { All (IsPiece lines.now) pieces.now }
+    requires ends { AreEnds lines.now pieces.now firsts.now lasts.now }
+    requires few { length pieces.now ≤ 16 }
+    ensures { MatchOption result (limit ≤ cost lines.now partition.now pieces.now)
+        (λ c. AreCounts lines.now partition.now pieces.now c) }
+{
+    let mut all_flags = [false; BLOCK];
+    let flags = &mut all_flags[..pieces.len()];
+    let clear = count_clear_ones(lines, partition, margins, pieces, firsts, lasts, flags);
+    let all = pieces.len() as u32 + clear.splits;
+    let rest = all - clear.right - clear.left;
+    if limit <= clear.least_cost(rest) {
+        return None;
+    }
+    if rest == 0 {
+        return Some(clear);
+    }
+    let mut places = [0; BLOCK];
+    let count = note_open(pieces, flags, &mut places);
+    Some(count_open_ones(
+        lines,
+        partition,
+        margins.ray,
+        pieces,
+        &places[..count],
+        clear,
+    ))
+}
+
+// The counts of a list whose blocks are sorted, open block by open block, or None as soon as the cost is known to reach
+// the limit.
+fn count_open(
+    lines: &[Edge],
+    partition: &Piece,
+    margins: Margins,
+    pieces: &[Piece],
+    firsts: &[Vertex],
+    lasts: &[Vertex],
+    sorted: Sorted,
+    noted: &[u32],
+    limit: u64,
+) -> Option<Counts>
+    requires lines { All IsEdge lines.now }
+    requires partition { IsPiece lines.now partition.now }
+    requires ray { margins.ray ≡ ray_of lines.now partition.now }
+    requires margins { AreMargins margins }
+    requires pieces { All (IsPiece lines.now) pieces.now }
+    requires ends { AreEnds lines.now pieces.now firsts.now lasts.now }
+    requires few { length pieces.now < 2 ^ 32 }
+    requires is { IsSorted lines.now partition.now pieces.now (length pieces.now) sorted noted.now }
+    ensures { MatchOption result (limit ≤ cost lines.now partition.now pieces.now)
+        (λ c. AreCounts lines.now partition.now pieces.now c) }
+{
+    let mut rest = pieces.len() - sorted.right - sorted.left;
+    let mut counts = Counts {
+        splits: 0,
+        right: sorted.right as u32,
+        left: sorted.left as u32,
+    };
+    if limit <= counts.least_cost(rest as u32) {
+        return None;
+    }
+    for n in 0..sorted.count {
+        let from = BLOCK * noted[n] as usize;
+        let end = (from + BLOCK).min(pieces.len());
+        let more = match count_list(
+            lines,
+            partition,
+            margins,
+            &pieces[from..end],
+            &firsts[from..end],
+            &lasts[from..end],
+            u64::MAX,
+        ) {
+            None => return None,
+            Some(more) => more,
+        };
+        counts = counts.plus(more);
+        rest -= end - from;
+        if limit <= counts.least_cost(rest as u32) {
+            return None;
+        }
+    }
+    Some(counts)
+}
+
+/// The counts of a list, or None as soon as the cost is known to reach the limit. A short list is counted piece by
+/// piece. A longer one is sorted by the boxes of its groups and blocks, each tested once, and then the pieces of open
+/// blocks are counted.
+pub(crate) fn count_by_boxes(
+    lines: &[Edge],
+    partition: &Piece,
+    pieces: &[Piece],
+    ends: &EndColumns,
+    blocks: &[Bounds],
+    sides: &BoxColumns,
+    groups: &[Bounds],
+    noted: &mut [u32],
+    limit: u64,
+) -> Option<Counts>
+    requires lines { All IsEdge lines.now }
+    requires partition { IsPiece lines.now partition.now }
+    requires pieces { All (IsPiece lines.now) pieces.now }
+    requires ends { HoldsEnds lines.now pieces.now ends.now }
+    requires blocks { AreBlocks (boxes_of lines.now pieces.now) blocks.now }
+    requires sides { HoldsBoxes blocks.now sides.now }
+    requires groups { AreGroups (boxes_of lines.now pieces.now) groups.now }
+    requires few { length pieces.now < 2 ^ 32 }
+    requires room { length blocks.now ≤ length noted.old }
+    ensures counts { MatchOption result (limit ≤ cost lines.now partition.now pieces.now)
+        (λ c. AreCounts lines.now partition.now pieces.now c) }
+    ensures room { length noted.new ≡ length noted.old }
+{
+    let along = lines[partition.line as usize];
+    let ray = ray_of(along, partition.side);
+    let margins = margins_of(ray);
+    let firsts = &ends.firsts[..pieces.len()];
+    let lasts = &ends.lasts[..pieces.len()];
+    if pieces.len() <= BLOCK {
+        return count_list(lines, partition, margins, pieces, firsts, lasts, limit);
+    }
+    let sorted = sort_all(
+        lines, partition, margins, pieces, blocks, sides, groups, noted,
+    );
+    count_open(
+        lines, partition, margins, pieces, firsts, lasts, sorted, noted, limit,
+    )
+}

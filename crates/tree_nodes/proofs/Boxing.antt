@@ -1,0 +1,139 @@
+-- Boxes beside pieces: a piece that isn't split keeps its own, and one more part is put down with its box.
+use Rattle.std.proofs.Common.{◌≡◌, refl, sym, ap, ◌∙◌, subst, ℕ, zero, suc, ◌+◌, ◌<◌, Bool, true, false, ◌&&◌, List, [], ◌∷◌, ◌++◌, append_assoc, length, get_or, drop, Option, Some, None, Result, Ok, Err, add-one, arith, drop-cons}
+use Rattle.std.specs.Prelude.{pos, int_lt, filter_map, option_to_list, is_some, IfSome, OnOk, if◌then◌else◌}
+use Rattle.std.specs.List.{cons_option}
+use Rattle.lump_records.specs.declared.records.Vertex.{Vertex}
+use Rattle.lump_records.specs.declared.records.Bounds.{Bounds}
+use Rattle.tree_pieces.specs.declared.edge.Edge.{Edge}
+use Rattle.tree_pieces.specs.declared.frac.Frac.{Frac}
+use Rattle.tree_pieces.specs.declared.piece.Piece.{Piece}
+use Rattle.tree_pieces.specs.declared.piece.Parts.{Parts}
+use Rattle.tree_pieces.specs.declared.piece.Place.{Place}
+use Rattle.tree_pieces.specs.declared.piece.Place.TheVariants.{Right, Left, Across}
+use Rattle.tree_pieces.specs.Fractions.{point_at, crossing}
+use Rattle.tree_pieces.specs.Pieces.{IsPiece, edge_of, ray_of, same_place}
+use Rattle.tree_pieces.specs.Division.{parts_of, parts_by, place_of_piece, value_by, cut_at, right_parts, left_parts, IsDivided}
+use Rattle.tree_pieces.specs.Boxes.{box_of, boxes_of, widened}
+use Rattle.tree_pieces.proofs.Division.{same_vertex_is}
+
+-- ---- a piece that isn't split
+-- the part of a piece whose other part is left out has the piece's box
+abbrev HasBox : List Edge → Bounds → Option Piece → Type 0
+HasBox lines b o = IfSome o (λ q. b ≡ box_of lines q)
+
+abbrev is_split : Parts → Bool
+is_split x = is_some x.right && is_some x.left
+
+-- what a piece's box holds of its parts where it isn't split
+record KeepBox (lines : List Edge) (b : Bounds) (x : Parts) : Type 0 where
+  right : HasBox lines b x.right
+  left : HasBox lines b x.left
+
+module _ (lines : List Edge) (p : Piece) (b : Bounds) (own : b ≡ box_of lines p) where
+  abbrev start : Vertex
+  start = point_at (edge_of lines p) p.from
+
+  abbrev end : Vertex
+  end = point_at (edge_of lines p) p.to
+
+  before_has : (at : Frac) → same_place (point_at (edge_of lines p) at) end ≡ true → b ≡ box_of lines (record p { to = at })
+  before_has at e = own ∙ ap (widened start) (sym (same_vertex_is (point_at (edge_of lines p) at) end e))
+
+  after_has : (at : Frac) → same_place start (point_at (edge_of lines p) at) ≡ true → b ≡ box_of lines (record p { from = at })
+  after_has at e = own ∙ ap (λ (v : Vertex). widened v end) (same_vertex_is start (point_at (edge_of lines p) at) e)
+
+  by_start : (at : Frac) (right : Bool) → is_split (cut_at lines p at right) ≡ false → KeepBox lines b (cut_at lines p at right)
+  by_start at true = tests (same_place start (point_at (edge_of lines p) at)) (same_place (point_at (edge_of lines p) at) end) refl refl
+    where
+      tests : (x y : Bool) → same_place start (point_at (edge_of lines p) at) ≡ x → same_place (point_at (edge_of lines p) at) end ≡ y →
+          (is_some (if x then None else Some (record p { to = at })) && is_some (if y then None else Some (record p { from = at }))) ≡ false →
+          KeepBox lines b (record { right = (if x then None else Some (record p { to = at })); left = (if y then None else Some (record p { from = at })) })
+      tests true true e f h = record { right = tt; left = tt }
+      tests true false e f h = record { right = tt; left = after_has at e }
+      tests false true e f h = record { right = before_has at f; left = tt }
+      tests false false e f h = cc
+  by_start at false = tests (same_place start (point_at (edge_of lines p) at)) (same_place (point_at (edge_of lines p) at) end) refl refl
+    where
+      tests : (x y : Bool) → same_place start (point_at (edge_of lines p) at) ≡ x → same_place (point_at (edge_of lines p) at) end ≡ y →
+          (is_some (if y then None else Some (record p { from = at })) && is_some (if x then None else Some (record p { to = at }))) ≡ false →
+          KeepBox lines b (record { right = (if y then None else Some (record p { from = at })); left = (if x then None else Some (record p { to = at })) })
+      tests true true e f h = record { right = tt; left = tt }
+      tests true false e f h = record { right = after_has at e; left = tt }
+      tests false true e f h = record { right = tt; left = before_has at f }
+      tests false false e f h = cc
+
+  unsplit_by : (partition : Piece) (place : Place) → is_split (parts_by lines partition p place) ≡ false → KeepBox lines b (parts_by lines partition p place)
+  unsplit_by partition Right h = record { right = own; left = tt }
+  unsplit_by partition Left h = record { right = tt; left = own }
+  unsplit_by partition Across h = by_start (crossing (ray_of lines partition) (edge_of lines p)) (int_lt (pos 0) (value_by lines partition p p.from)) h
+
+  unsplit : (partition : Piece) (parts : Parts) → parts ≡ parts_of lines partition p → (is_some parts.right && is_some parts.left) ≡ false → KeepBox lines b parts
+  unsplit partition parts e h = subst (KeepBox lines b) (sym e) (unsplit_by partition (place_of_piece lines partition p) (subst (λ (x : Parts). is_split x ≡ false) e h))
+
+  pub right_keeps : (partition : Piece) (parts : Parts) → parts ≡ parts_of lines partition p → (is_some parts.right && is_some parts.left) ≡ false → IfSome parts.right (λ q. b ≡ box_of lines q)
+  right_keeps partition parts e h = (unsplit partition parts e h).right
+
+  pub left_keeps : (partition : Piece) (parts : Parts) → parts ≡ parts_of lines partition p → (is_some parts.right && is_some parts.left) ≡ false → IfSome parts.left (λ q. b ≡ box_of lines q)
+  left_keeps partition parts e h = (unsplit partition parts e h).left
+
+-- the parts of a division are pieces
+if_some_by : {X : Type 0} (P Q : X → Type 0) → ((x : X) → P x → Q x) → (o : Option X) → IfSome o P → IfSome o Q
+if_some_by P Q f None h = tt
+if_some_by P Q f (Some x) h = f x h
+
+pub right_piece : (lines : List Edge) (partition p : Piece) (parts : Parts) → IsDivided lines partition p parts → IfSome parts.right (IsPiece lines)
+right_piece lines partition p parts d = if_some_by _ (IsPiece lines) (λ q h. h.0.piece) parts.right d.right
+
+pub left_piece : (lines : List Edge) (partition p : Piece) (parts : Parts) → IsDivided lines partition p parts → IfSome parts.left (IsPiece lines)
+left_piece lines partition p parts d = if_some_by _ (IsPiece lines) (λ q h. h.0.piece) parts.left d.left
+
+-- ---- one more
+consed : {X : Type 0} (o : Option X) → cons_option o [] ≡ option_to_list o
+consed None = refl
+consed (Some x) = refl
+
+-- the parts of a single piece
+pub one_right : (lines : List Edge) (partition p : Piece) (parts : Parts) → parts ≡ parts_of lines partition p → option_to_list parts.right ≡ right_parts lines partition (p ∷ [])
+one_right lines partition p parts e = ap (λ (x : Parts). option_to_list x.right) e ∙ sym (consed (parts_of lines partition p).right)
+
+pub one_left : (lines : List Edge) (partition p : Piece) (parts : Parts) → parts ≡ parts_of lines partition p → option_to_list parts.left ≡ left_parts lines partition (p ∷ [])
+one_left lines partition p parts e = ap (λ (x : Parts). option_to_list x.left) e ∙ sym (consed (parts_of lines partition p).left)
+
+-- a list keeps its boxes when a piece comes with its own
+pub boxed_more : (lines : List Edge) (ps : List Piece) (bs : List Bounds) (p : Piece) (b : Bounds) → bs ≡ boxes_of lines ps → b ≡ box_of lines p → bs ++ b ∷ [] ≡ boxes_of lines (ps ++ p ∷ [])
+boxed_more lines ps bs p b e f = ap (λ (x : List Bounds). x ++ b ∷ []) e ∙ ap (λ (x : Bounds). boxes_of lines ps ++ x ∷ []) f ∙ spread ps
+  where
+    spread : (qs : List Piece) → boxes_of lines qs ++ box_of lines p ∷ [] ≡ boxes_of lines (qs ++ p ∷ [])
+    spread [] = refl
+    spread (q ∷ qs) = ap (λ (x : List Bounds). box_of lines q ∷ x) (spread qs)
+
+-- what is listed with the parts of the next piece, and what the pieces behind it will add
+pub gained : (f : Piece → Option Piece) (ps : List Piece) (n : ℕ) (d : Piece) (old new : List Piece) → n < length ps
+    → new ≡ old ++ filter_map f (get_or ps n d ∷ []) → old ++ filter_map f (drop n ps) ≡ filter_map f ps → new
+    ++ filter_map f (drop (n + 1) ps) ≡ filter_map f ps
+gained f ps n d old new h e k =
+    let q = get_or ps n d in
+    let s : drop n ps ≡ q ∷ drop (n + 1) ps = drop-cons ps n d h ∙ ap (λ (i : ℕ). q ∷ drop i ps) (sym (add-one n)) in
+    ap (λ (x : List Piece). x ++ filter_map f (drop (n + 1) ps)) e
+    ∙ append_assoc old (filter_map f (q ∷ [])) (filter_map f (drop (n + 1) ps))
+    ∙ ap (λ (x : List Piece). old ++ x) (front (f q) (drop (n + 1) ps))
+    ∙ ap (λ (x : List Piece). old ++ filter_map f x) (sym s) ∙ k
+  where
+    front : (o : Option Piece) (qs : List Piece) → cons_option o [] ++ filter_map f qs ≡ cons_option o (filter_map f qs)
+    front None qs = refl
+    front (Some x) qs = refl
+
+-- the box at a place
+pub box_there : (lines : List Edge) (ps : List Piece) (n : ℕ) (d : Bounds) (e : Piece) → n < length ps → get_or (boxes_of lines ps) n d ≡ box_of lines (get_or ps n e)
+box_there lines [] n d e h = absurd (omega arith)
+box_there lines (p ∷ ps) zero d e h = refl
+box_there lines (p ∷ ps) (suc n) d e h = box_there lines ps n d e (omega arith)
+
+-- a piece goes to one side whole, and the other one gains nothing
+pub nothing_more : {X E : Type 0} (r : Result X E) (xs : List Piece) → OnOk r (xs ≡ xs ++ [])
+nothing_more (Ok x) xs = same xs
+  where
+    same : (ys : List Piece) → ys ≡ ys ++ []
+    same [] = refl
+    same (y ∷ ys) = ap (λ (l : List Piece). y ∷ l) (same ys)
+nothing_more (Err e) xs = tt

@@ -1,0 +1,4 @@
+use Rattle.tree_nodes.proofs.growth.+grow.Given as goal
+
+abbrev pub decreases-grow : goal.decreases-grow
+decreases-grow l = l.room

@@ -1,0 +1,55 @@
+//! The part of a seg that depends only on its piece: ends, side, angle, offset.
+ghost use Rattle.std.specs.Prelude.{◌≡◌, ◌<◌, All};
+ghost use Rattle.tree_pieces.specs.Plane.{IsEdge};
+ghost use Rattle.tree_pieces.specs.Pieces.{IsPiece, ray_of as piece_ray};
+ghost use Rattle.tree_pieces.specs.Angle.{IsAngle};
+ghost use Rattle.tree_pieces.specs.LineAngles.{AreAngles};
+ghost use Rattle.tree_pieces.specs.Offset.{IsOffset};
+ghost use Rattle.tree_nodes.specs.TreeLists.{side_number, start_of, end_of};
+
+use lump_records::Vertex;
+use tree_pieces::{Edge, Facing, Piece, offset, point, reversed_angle};
+
+/// The part of a seg that depends only on its piece: the places of its ends, its side, angle and offset.
+#[derive(Clone, Copy, Debug)]
+pub(crate) struct Shape {
+    pub start: Vertex,
+    pub end: Vertex,
+    pub side: u16,
+    pub angle: u16,
+    pub offset: u16,
+}
+
+/// The ends, side, angle and offset of a piece's seg. `angles` has the angle of each line.
+pub(crate) fn shape_of(lines: &[Edge], angles: &[u16], piece: &Piece) -> Shape
+    requires lines { All IsEdge lines.now }
+    requires angles { AreAngles lines.now angles.now }
+    requires piece { IsPiece lines.now piece.now }
+    ensures start { result.start ≡ start_of lines.now piece.now.side piece.now }
+    ensures end { result.end ≡ end_of lines.now piece.now.side piece.now }
+    ensures side { result.side ≡ side_number piece.now.side }
+    ensures angle { IsAngle (piece_ray lines.now piece.now).dx
+        (piece_ray lines.now piece.now).dy result.angle }
+    ensures offset { IsOffset (piece_ray lines.now piece.now).start result.start result.offset }
+{
+    let edge = lines[piece.line as usize];
+    let along = angles[piece.line as usize];
+    let from = point(edge.v1, edge.v2, piece.from);
+    let to = point(edge.v1, edge.v2, piece.to);
+    match piece.side {
+        Facing::Along => Shape {
+            start: from,
+            end: to,
+            side: 0,
+            angle: along,
+            offset: offset(edge.v1, from),
+        },
+        Facing::Against => Shape {
+            start: to,
+            end: from,
+            side: 1,
+            angle: reversed_angle(along),
+            offset: offset(edge.v2, to),
+        },
+    }
+}

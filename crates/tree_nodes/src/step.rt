@@ -1,0 +1,275 @@
+//! One step of the division: a leaf, or a partition and two lists. All ways to choose give the same partition; they
+//! differ in time alone.
+ghost use Rattle.std.specs.Prelude.{◌≡◌, ◌<◌, ◌≤◌, ◌^◌, length, vec_len, All, IfOk, IfSome, MatchOption};
+ghost use Rattle.tree_pieces.specs.Plane.{IsEdge};
+ghost use Rattle.tree_pieces.specs.Pieces.{IsPiece};
+ghost use Rattle.tree_pieces.specs.Boxes.{boxes_of};
+ghost use Rattle.tree_pieces.specs.Division.{right_parts, left_parts};
+ghost use Rattle.tree_pieces.specs.Tree.{HasNoChoice};
+ghost use Rattle.tree_choice.specs.Choices.{IsChoice};
+ghost use Rattle.tree_nodes.specs.Boxed.{IsPlaced, IsPlacedList};
+ghost use Rattle.tree_nodes.specs.Growth.{IsListStep, HasBoxes};
+
+use crate::boxed::{BoxedPieces, PlacedPieces};
+use crate::parting::{Sides, part_list};
+use lump_records::Bounds;
+use std::alloc::{AllocError, Global};
+use tree_choice::{Choice, StraightLines, blocks_of, by_place, choose_in_boxes, choose_ordered};
+use tree_pieces::{Edge, Piece};
+
+// The most pieces of a list that is one block.
+const FEW: usize = 16;
+
+// A box that holds all places.
+const EVERYWHERE: Bounds = Bounds {
+    top: i16::MAX,
+    bottom: i16::MIN,
+    left: i16::MIN,
+    right: i16::MAX,
+};
+
+// Longer lists than this have an order by places.
+const LONG: usize = 256;
+
+/// What a list of pieces becomes: a leaf, or a partition and the two lists of the parts with their boxes.
+#[derive(Drop)]
+pub(crate) enum Step {
+    Leaf(Vec<Piece>),
+    Parts {
+        partition: Piece,
+        right: PlacedPieces,
+        left: PlacedPieces,
+    },
+}
+
+/// The orders by places of the parts on the two sides of a partition, if they are long enough to have one.
+#[derive(Drop)]
+struct Orders {
+    right: Option<BoxedPieces>,
+    left: Option<BoxedPieces>,
+}
+
+/// The parts of a list on the two sides of a partition, with their orders by places if they have one.
+#[derive(Drop)]
+struct PlacedSides {
+    right: PlacedPieces,
+    left: PlacedPieces,
+}
+
+// The order by places of a long list: the one that it has already, or else a new one.
+fn order_of(
+    alloc: Global,
+    lines: &[Edge],
+    list: &[Piece],
+    placed: Option<BoxedPieces>,
+) -> Result<Option<BoxedPieces>, AllocError>
+    requires lines { All IsEdge lines.now }
+    requires pieces { All (IsPiece lines.now) list.now }
+    requires placed { IfSome placed (IsPlaced lines.now list.now) }
+    ensures { IfOk result (λ order. IfSome order (IsPlaced lines.now list.now)) }
+{
+    if list.len() <= LONG {
+        return Ok(None);
+    }
+    match placed {
+        Some(order) => Ok(Some(order)),
+        None => {
+            let ordered = by_place(alloc, lines, list)?;
+            let order = BoxedPieces::of(alloc, lines, ordered)?;
+            Ok(Some(order))
+        }
+    }
+}
+
+// The orders by places of the parts. They are divided from the list's order, which is quicker than sorting them.
+// `choice` tells how many parts there are; if they are few on both sides, they get no order.
+fn parted_order(
+    alloc: Global,
+    lines: &[Edge],
+    partition: &Piece,
+    choice: Choice,
+    list: &[Piece],
+    placed: Option<BoxedPieces>,
+) -> Result<Orders, AllocError>
+    requires lines { All IsEdge lines.now }
+    requires partition { IsPiece lines.now partition.now }
+    requires pieces { All (IsPiece lines.now) list.now }
+    requires placed { IfSome placed (IsPlaced lines.now list.now) }
+    ensures right { IfOk result (λ orders. IfSome orders.right
+        (IsPlaced lines.now (right_parts lines.now partition.now list.now))) }
+    ensures left { IfOk result (λ orders. IfSome orders.left
+        (IsPlaced lines.now (left_parts lines.now partition.now list.now))) }
+{
+    let none = Orders {
+        right: None,
+        left: None,
+    };
+    if choice.right.max(choice.left) as usize <= LONG {
+        return Ok(none);
+    }
+    match placed {
+        None => Ok(none),
+        Some(order) => {
+            let Sides { right, left } = part_list(
+                alloc,
+                lines,
+                partition,
+                choice,
+                &order.pieces,
+                &order.boxes,
+            )?;
+            Ok(Orders {
+                right: Some(right),
+                left: Some(left),
+            })
+        }
+    }
+}
+
+// The parts of a list on the two sides of a partition, with their boxes and orders. The order is divided first: once
+// its parts stand, its own memory is free for those of the list.
+fn part_placed(
+    alloc: Global,
+    lines: &[Edge],
+    partition: &Piece,
+    choice: Choice,
+    list: &[Piece],
+    boxes: &[Bounds],
+    placed: Option<BoxedPieces>,
+) -> Result<PlacedSides, AllocError>
+    requires lines { All IsEdge lines.now }
+    requires partition { IsPiece lines.now partition.now }
+    requires pieces { All (IsPiece lines.now) list.now }
+    requires boxes { boxes.now ≡ boxes_of lines.now list.now }
+    requires placed { IfSome placed (IsPlaced lines.now list.now) }
+    ensures right { IfOk result
+        (λ sides. sides.right.pieces.items ≡ right_parts lines.now partition.now list.now) }
+    ensures left { IfOk result
+        (λ sides. sides.left.pieces.items ≡ left_parts lines.now partition.now list.now) }
+    ensures right_boxed { IfOk result (λ sides. IsPlacedList lines.now sides.right) }
+    ensures left_boxed { IfOk result (λ sides. IsPlacedList lines.now sides.left) }
+{
+    let orders = parted_order(alloc, lines, partition, choice, list, placed)?;
+    let Sides { right, left } = part_list(alloc, lines, partition, choice, list, boxes)?;
+    Ok(PlacedSides {
+        right: right.with_order(orders.right),
+        left: left.with_order(orders.left),
+    })
+}
+
+// The best candidate of a list that has an order by places, by the boxes in that order.
+fn choice_by_place(
+    alloc: Global,
+    lines: &[Edge],
+    list: &[Piece],
+    order: &BoxedPieces,
+    used: &[bool],
+    straight: &mut StraightLines,
+) -> Result<Option<Choice>, AllocError>
+    requires lines { All IsEdge lines.now }
+    requires pieces { All (IsPiece lines.now) list.now }
+    requires order { IsPlaced lines.now list.now order.now }
+    requires known { length used.now ≡ length lines.now }
+    requires few { length list.now < 2 ^ 31 }
+    ensures { IfOk result (λ choice. MatchOption choice (HasNoChoice lines.now list.now used.now)
+        (λ c. IsChoice lines.now list.now used.now c)) }
+{
+    let blocks = blocks_of(alloc, &order.boxes)?;
+    Ok(choose_ordered(
+        lines,
+        list,
+        &order.pieces,
+        &order.boxes,
+        &blocks,
+        used,
+        straight,
+    ))
+}
+
+// The best candidate of a list of one block. The choice tests such pieces one by one and never reads the block's box.
+fn choice_of_few(
+    lines: &[Edge],
+    list: &[Piece],
+    boxes: &[Bounds],
+    used: &[bool],
+    straight: &mut StraightLines,
+) -> Option<Choice>
+    requires lines { All IsEdge lines.now }
+    requires pieces { All (IsPiece lines.now) list.now }
+    requires boxes { boxes.now ≡ boxes_of lines.now list.now }
+    requires known { length used.now ≡ length lines.now }
+    requires some { 0 < length list.now }
+    requires few { length list.now ≤ 16 }
+    ensures { MatchOption result (HasNoChoice lines.now list.now used.now)
+        (λ c. IsChoice lines.now list.now used.now c) }
+{
+    choose_in_boxes(lines, list, boxes, &[EVERYWHERE], used, straight)
+}
+
+// The best candidate of a list: by the boxes of its order by places if it has one, else by its own boxes.
+fn choice_of(
+    alloc: Global,
+    lines: &[Edge],
+    list: &[Piece],
+    boxes: &[Bounds],
+    placed: &Option<BoxedPieces>,
+    used: &[bool],
+    straight: &mut StraightLines,
+) -> Result<Option<Choice>, AllocError>
+    requires lines { All IsEdge lines.now }
+    requires pieces { All (IsPiece lines.now) list.now }
+    requires boxes { boxes.now ≡ boxes_of lines.now list.now }
+    requires placed { IfSome placed.now (IsPlaced lines.now list.now) }
+    requires known { length used.now ≡ length lines.now }
+    requires few { length list.now < 2 ^ 31 }
+    ensures { IfOk result (λ choice. MatchOption choice (HasNoChoice lines.now list.now used.now)
+        (λ c. IsChoice lines.now list.now used.now c)) }
+{
+    match placed {
+        Some(order) => choice_by_place(alloc, lines, list, order, used, straight),
+        None => {
+            if 0 < list.len() && list.len() <= FEW {
+                return Ok(choice_of_few(lines, list, boxes, used, straight));
+            }
+            let blocks = blocks_of(alloc, boxes)?;
+            Ok(choose_in_boxes(lines, list, boxes, &blocks, used, straight))
+        }
+    }
+}
+
+/// What a list of pieces becomes: a leaf if no piece can be chosen, else the parts by the best piece.
+pub(crate) fn step_in(
+    alloc: Global,
+    lines: &[Edge],
+    list: PlacedPieces,
+    used: &[bool],
+    straight: &mut StraightLines,
+) -> Result<Step, AllocError>
+    requires lines { All IsEdge lines.now }
+    requires pieces { All (IsPiece lines.now) list.pieces.items }
+    requires boxed { IsPlacedList lines.now list }
+    requires known { length used.now ≡ length lines.now }
+    requires few { vec_len list.pieces < 2 ^ 31 }
+    ensures step { IfOk result (λ step. IsListStep lines.now list.pieces.items used.now step) }
+    ensures boxed { IfOk result (HasBoxes lines.now) }
+{
+    let PlacedPieces {
+        pieces,
+        boxes,
+        placed,
+    } = list;
+    let order = order_of(alloc, lines, &pieces, placed)?;
+    let choice = match choice_of(alloc, lines, &pieces, &boxes, &order, used, straight)? {
+        None => return Ok(Step::Leaf(pieces)),
+        Some(choice) => choice,
+    };
+    let partition = pieces[choice.at as usize];
+    let PlacedSides { right, left } = part_placed(
+        alloc, lines, &partition, choice, &pieces, &boxes, order,
+    )?;
+    Ok(Step::Parts {
+        partition,
+        right,
+        left,
+    })
+}

@@ -1,0 +1,117 @@
+-- The names of a WAD's flats and textures (docs/FORMAT.md, "Flats and textures").
+use Rattle.std.specs.Prelude.{◌≡◌, ℕ, zero, suc, ◌+◌, ◌*◌, Bool, true, false, not, ◌&&◌, ◌||◌, ◌==◌, nat_lt, nat_le, List, [], ◌∷◌, ◌++◌, length, map, filter, Option, Some, codes}
+use Rattle.std.specs.Char.{to_ascii_uppercase}
+use Rattle.std.specs.List.{list_all, range_with_len}
+use Rattle.std.specs.Option.{option_map_or}
+use Rattle.lump_records.specs.Names.{name_of, name_text}
+use Rattle.lump_records.specs.Records.{name_at}
+use Rattle.lump_records.specs.declared.records.Name8.{Name8}
+use Rattle.wad_levels.specs.declared.error.ReadError.{ReadError}
+use Rattle.wad_levels.specs.declared.error.ReadError.TheVariants.{NotAWad, DirectoryOutside, LumpOutside, TextureLump, OutOfMemory}
+use Rattle.wad_levels.specs.declared.graphics.Graphics.{Graphics}
+use Rattle.wad_levels.specs.Levels.{entry, entry_has_name, first_failed, has_directory, is_outside, is_wad, long_at, lump_count, marker}
+use Rattle.wad_levels.specs.Drawn.{standing}
+
+-- the names of flats and of textures
+pub record GraphicNames : Type 0 where
+  pub flats : List Name8
+  pub textures : List Name8
+
+-- a name in capitals, with NUL behind its text
+abbrev pub capital_name : Name8 → Name8
+capital_name name = record { bytes = map to_ascii_uppercase (name_of (name_text name)).bytes }
+
+-- ---- flats
+
+-- of the entries F_START and F_END among the first k the last is F_START
+abbrev pub are_flats_open : List ℕ → ℕ → Bool
+are_flats_open wad zero = false
+are_flats_open wad (suc k) =
+    entry_has_name wad (codes "F_START") k
+    || (not (entry_has_name wad (codes "F_END") k) && are_flats_open wad k)
+
+-- the k-th entry is of a flat: it stands between the two, and isn't empty
+abbrev pub is_flat : List ℕ → ℕ → Bool
+is_flat wad k = are_flats_open wad k && nat_lt 0 (entry wad k).size
+
+-- the name of the k-th entry in capitals
+abbrev pub flat_name : List ℕ → ℕ → Name8
+flat_name wad k = capital_name (entry wad k).name
+
+-- the names of all flats, in the order of the directory
+abbrev pub flat_names : List ℕ → List Name8
+flat_names wad = map (flat_name wad) (filter (is_flat wad) (range_with_len 0 (lump_count wad)))
+
+-- ---- textures
+
+-- how many textures a lump lists
+abbrev pub texture_count : List ℕ → ℕ
+texture_count lump = long_at 0 lump
+
+-- where the name of the n-th one stands
+abbrev pub texture_at : List ℕ → ℕ → ℕ
+texture_at lump n = long_at (4 * n + 4) lump
+
+-- that name stands in the lump
+abbrev pub is_name_inside : List ℕ → ℕ → Bool
+is_name_inside lump n = nat_le (texture_at lump n + 8) (length lump)
+
+-- the lump is empty, or a list of textures: their count, the offset of each, and at each offset a name
+abbrev pub are_textures : List ℕ → Bool
+are_textures lump =
+    (length lump == 0)
+    || (nat_le 4 (length lump) && nat_le (4 * texture_count lump + 4) (length lump)
+    && list_all (is_name_inside lump) (range_with_len 0 (texture_count lump)))
+
+-- the name of the n-th texture in capitals
+abbrev pub texture_name : List ℕ → ℕ → Name8
+texture_name lump n = capital_name (name_at (texture_at lump n) lump)
+
+-- the names of the lump's textures
+abbrev pub texture_names : List ℕ → List Name8
+texture_names lump = map (texture_name lump) (range_with_len 0 (texture_count lump))
+
+-- ---- the WAD
+
+-- the last lump of the name, if there is one, stands in the file
+abbrev pub stands_inside : List ℕ → List ℕ → Bool
+stands_inside wad name =
+    option_map_or (λ k. not (is_outside wad (entry wad k))) (marker wad name) true
+
+-- the bytes of the last lump of the name, or none
+abbrev pub lump_of_name : List ℕ → List ℕ → List ℕ
+lump_of_name wad name = option_map_or (standing wad) (marker wad name) []
+
+-- the names of the flats, and of the textures of TEXTURE1 and behind them of TEXTURE2
+abbrev pub graphics : List ℕ → GraphicNames
+graphics wad =
+    record {
+      flats = flat_names wad;
+      textures =
+          texture_names (lump_of_name wad (codes "TEXTURE1"))
+          ++ texture_names (lump_of_name wad (codes "TEXTURE2"));
+    }
+
+-- the names that a `Graphics` holds
+abbrev pub graphics_view : Graphics → GraphicNames
+graphics_view g = record { flats = g.flats.items; textures = g.textures.items }
+
+-- the first refusal that holds of bytes whose flats and textures are to be named
+abbrev pub graphics_refusal : List ℕ → Option ReadError
+graphics_refusal wad =
+    first_failed
+    ((is_wad wad, NotAWad)
+    ∷ (has_directory wad, DirectoryOutside)
+    ∷ (stands_inside wad (codes "TEXTURE1") && stands_inside wad (codes "TEXTURE2"), LumpOutside)
+    ∷ (
+      are_textures (lump_of_name wad (codes "TEXTURE1"))
+          && are_textures (lump_of_name wad (codes "TEXTURE2")),
+      TextureLump,
+    )
+    ∷ []
+    )
+
+-- that refusal, or lack of memory
+abbrev pub RefusesGraphics : List ℕ → ReadError → Type 0
+RefusesGraphics wad OutOfMemory = Unit {0}
+RefusesGraphics wad e = graphics_refusal wad ≡ Some e

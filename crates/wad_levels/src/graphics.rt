@@ -1,0 +1,196 @@
+//! The names of a WAD's flats and textures.
+ghost use Rattle.std.specs.Prelude.{◌≡◌, ◌+◌, ◌*◌, ◌≤◌, ◌<◌, ◌++◌, true, length, map, IfOk, IsOkUnless, IsTrue, MatchResult, None, OnOk, Option};
+ghost use Rattle.std.specs.Char.{to_ascii_uppercase};
+ghost use Rattle.std.specs.List.{list_all, range_with_len};
+ghost use Rattle.wad_levels.specs.Levels.{HasEntries, lump_count};
+ghost use Rattle.wad_levels.specs.Graphics.{RefusesGraphics, are_flats_open, are_textures, capital_name, flat_names, graphics, graphics_refusal, graphics_view, is_name_inside, lump_of_name, stands_inside, texture_count, texture_name, texture_names};
+
+use crate::directory::{
+    entry_of, has_directory, is_named, is_outside, is_wad, long_at, lump_count, marker, name_at,
+};
+use crate::drawn::standing;
+use crate::error::ReadError;
+use lump_records::Name8;
+use std::alloc::Global;
+
+/// The names of a WAD's flats and textures, in capitals, each padded with NUL.
+pub struct Graphics {
+    pub flats: Vec<Name8>,
+    pub textures: Vec<Name8>,
+}
+
+// A call of its own, so that the owner of the names drops them in one step.
+impl Drop for Graphics {
+    fn drop(self) {
+        let Graphics {
+            flats: _flats,
+            textures: _textures,
+        } = self;
+    }
+}
+
+// The name in capitals, padded with NUL.
+fn capital_name(name: Name8) -> Name8
+    ensures { result ≡ capital_name name }
+{
+    let padded = Name8::from_text(name.text());
+    Name8 {
+        bytes: padded.bytes.map(|byte| byte.to_ascii_uppercase()),
+    }
+}
+
+// Whether the entries after the k-th are flats; `before` says whether those before it are.
+fn flats_behind(wad: &[u8], k: u32, before: bool) -> bool
+    requires directory { HasEntries wad.now }
+    requires among { k < lump_count wad.now }
+    requires before { before ≡ are_flats_open wad.now k }
+    ensures { result ≡ are_flats_open wad.now (k + 1) }
+{
+    is_named(wad, b"F_START", k) || !is_named(wad, b"F_END", k) && before
+}
+
+// The names of the flats in a directory that lies inside the file.
+fn flats_in(alloc: Global, wad: &[u8]) -> Result<Vec<Name8>, ReadError>
+    requires { HasEntries wad.now }
+    ensures names { IfOk result (λ names. names.items ≡ flat_names wad.now) }
+    ensures memory { IsOkUnless result ReadError.OutOfMemory }
+{
+    let mut names = Vec::new(alloc);
+    let mut among_flats = false;
+    for k in 0..lump_count(wad) {
+        let entry = entry_of(wad, k);
+        if among_flats && entry.size > 0 {
+            names.push(capital_name(entry.name))?;
+        }
+        among_flats = flats_behind(wad, k, among_flats);
+    }
+    Ok(names)
+}
+
+// Whether the last lump with the name, if there is one, lies inside the file.
+fn stands_inside(wad: &[u8], name: &[u8]) -> bool
+    requires { HasEntries wad.now }
+    ensures { result ≡ stands_inside wad.now name.now }
+{
+    match marker(wad, name) {
+        Some(k) => !is_outside(wad, entry_of(wad, k)),
+        None => true,
+    }
+}
+
+// The bytes of the last lump with the name, or none.
+fn lump_of_name<'a>(wad: &'a [u8], name: &[u8]) -> &'a [u8]
+    requires { HasEntries wad.now }
+    ensures { result.now ≡ lump_of_name wad.now name.now }
+{
+    match marker(wad, name) {
+        Some(k) => standing(wad, k),
+        None => &[],
+    }
+}
+
+// How many textures the lump lists.
+fn texture_count(lump: &[u8]) -> u32
+    requires { 4 ≤ length lump.now }
+    ensures { result ≡ texture_count lump.now }
+{
+    long_at(lump, 0)
+}
+
+// Whether the name of the n-th texture lies inside the lump.
+fn is_name_inside(lump: &[u8], n: u32) -> bool
+    requires { 4 * n + 8 ≤ length lump.now }
+    ensures { result ≡ is_name_inside lump.now n }
+{
+    u64::from(long_at(lump, 4 * n as usize + 4)) + 8 <= lump.len() as u64
+}
+
+// Whether the names of all textures lie inside the lump. Their offsets do.
+fn are_names_inside(lump: &[u8]) -> bool
+    requires { 4 * texture_count lump.now + 4 ≤ length lump.now }
+    ensures { result
+        ≡ list_all (is_name_inside lump.now) (range_with_len 0 (texture_count lump.now)) }
+{
+    for n in 0..texture_count(lump) {
+        if !is_name_inside(lump, n) {
+            return false;
+        }
+    }
+    true
+}
+
+// Whether the lump is empty, or a whole list of textures.
+fn are_textures(lump: &[u8]) -> bool
+    ensures { result ≡ are_textures lump.now }
+{
+    if lump.len() < 4 {
+        return lump.is_empty();
+    }
+    4 * u64::from(texture_count(lump)) + 4 <= lump.len() as u64 && are_names_inside(lump)
+}
+
+// Appends the names of the lump's textures to the list.
+fn add_textures(lump: &[u8], names: &mut Vec<Name8>) -> Result<(), ReadError>
+    requires { IsTrue (are_textures lump.now) }
+    ensures names { OnOk result (names.new.items ≡ names.old.items ++ texture_names lump.now) }
+    ensures memory { IsOkUnless result ReadError.OutOfMemory }
+{
+    if lump.is_empty() {
+        return Ok(());
+    }
+    for n in 0..texture_count(lump) {
+        let at = long_at(lump, 4 * n as usize + 4) as usize;
+        names.push(capital_name(name_at(lump, at)))?;
+    }
+    Ok(())
+}
+
+// The names of the flats and of the textures of two lumps.
+fn graphics_of(
+    alloc: Global,
+    wad: &[u8],
+    first: &[u8],
+    second: &[u8],
+) -> Result<Graphics, ReadError>
+    requires directory { HasEntries wad.now }
+    requires first { IsTrue (are_textures first.now) }
+    requires second { IsTrue (are_textures second.now) }
+    ensures flats { IfOk result (λ g. g.flats.items ≡ flat_names wad.now) }
+    ensures textures { IfOk result
+        (λ g. g.textures.items ≡ texture_names first.now ++ texture_names second.now) }
+    ensures memory { IsOkUnless result ReadError.OutOfMemory }
+{
+    let flats = flats_in(alloc, wad)?;
+    let mut textures = Vec::new(alloc);
+    add_textures(first, &mut textures)?;
+    add_textures(second, &mut textures)?;
+    Ok(Graphics { flats, textures })
+}
+
+/// The names of a WAD's flats, in the order of its directory, and of its textures, those of TEXTURE1 before those of
+/// TEXTURE2 (docs/FORMAT.md, "Flats and textures").
+///
+/// # Errors
+///
+/// The first of `NotAWad`, `DirectoryOutside`, `LumpOutside`, `TextureLump` that applies; or `OutOfMemory`.
+pub fn graphics_in(alloc: Global, wad: &[u8]) -> Result<Graphics, ReadError>
+    ensures { MatchResult result
+        (λ g. (graphics_refusal wad.now ≡ None) × (graphics_view g ≡ graphics wad.now))
+        (RefusesGraphics wad.now) }
+{
+    if !is_wad(wad) {
+        return Err(ReadError::NotAWad);
+    }
+    if !has_directory(wad) {
+        return Err(ReadError::DirectoryOutside);
+    }
+    if !stands_inside(wad, b"TEXTURE1") || !stands_inside(wad, b"TEXTURE2") {
+        return Err(ReadError::LumpOutside);
+    }
+    let first = lump_of_name(wad, b"TEXTURE1");
+    let second = lump_of_name(wad, b"TEXTURE2");
+    if !are_textures(first) || !are_textures(second) {
+        return Err(ReadError::TextureLump);
+    }
+    graphics_of(alloc, wad, first, second)
+}

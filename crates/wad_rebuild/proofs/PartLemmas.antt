@@ -1,0 +1,161 @@
+-- The lumps of a WAD in their parts.
+use Rattle.std.proofs.Common.{◌≡◌, ◌≢◌, ◌∙◌, refl, sym, ap, subst, ℕ, zero, suc, ◌+◌, ◌-◌, ◌<◌, ◌≤◌, List, [], ◌∷◌, ◌++◌, length, get_or, take, drop, arith, append_assoc, false}
+use Rattle.std.proofs.lemmas.List.FromFn.{get_or-map-range_with_len, length-map-range_with_len}
+use Rattle.wad_levels.specs.Drawn.{level_lump}
+use Rattle.wad_levels.specs.Levels.{entry, is_outside, lump_count, lump_names}
+use Rattle.wad_levels.specs.declared.entries.LevelEntries.{LevelEntries}
+use Rattle.wad_levels.proofs.ReadLemmas.{inside_at}
+use Rattle.lump_records.specs.declared.records.Name8.{Name8}
+use Rattle.wad_build.specs.Wad.{Lump, with_names}
+use Rattle.wad_rebuild.specs.Parts.{HasLumps, lumps_up_to}
+use Rattle.wad_rebuild.specs.Rebuilt.{lump_at, lumps_after, lumps_between, lumps_from, sizes_below, ten_bytes, ten_lumps}
+use Rattle.wad_rebuild.specs.Writing.{Puts, RefusesPut}
+use Rattle.wad_rebuild.specs.declared.error.RebuildError.{RebuildError}
+use Rattle.wad_rebuild.specs.declared.levels.RebuiltLevel.{RebuiltLevel}
+use Rattle.wad_rebuild.specs.declared.made.MadeLumps.{MadeLumps}
+use Rattle.wad_rebuild.specs.declared.writing.Writing.{Writing}
+use Rattle.wad_rebuild.proofs.WritingLemmas.{put_all, put_both, put_next, put_none, refuse_behind, refuse_front, refuse_next}
+
+pub sizes_step : (wad : List ℕ) (k : ℕ) → sizes_below wad (k + 1) ≡ sizes_below wad k + (entry wad k).size
+sizes_step wad k = let s : k + 1 ≡ suc k = omega arith in ap (sizes_below wad) s
+
+-- each lump stands in the file
+pub stands : (wad : List ℕ) (k : ℕ) → HasLumps wad → k < lump_count wad → is_outside wad (entry wad k) ≡ false
+stands wad k h l = let z : 0 + k ≡ k = omega arith in rw z at (inside_at wad 0 (lump_count wad) k h.inside l)
+
+-- ---- the lumps of entries one behind another
+pub between_long : (wad : List ℕ) (from end : ℕ) → length (lumps_between wad from end) ≡ end - from
+between_long wad from end = length-map-range_with_len (lump_at wad) from (end - from)
+
+pub between_at :
+    (wad : List ℕ) (from end k : ℕ) (x : Lump) → from ≤ k → k < end → get_or (lumps_between wad from end) (k - from) x ≡ lump_at wad k
+between_at wad from end k x low high = get_or-map-range_with_len (lump_at wad) from (end - from) (k - from) k x (omega arith) (omega arith)
+
+between_here : (wad : List ℕ) (from end k : ℕ) → from ≤ k → k < end → k - from < length (lumps_between wad from end)
+between_here wad from end k low high = let n = between_long wad from end in omega (arith, n)
+
+pub between_next :
+    (wad : List ℕ) (from end k : ℕ) (a b c : Writing) → from ≤ k → k < end → Puts a b (take (k - from) (lumps_between wad from end))
+    → Puts b c (lump_at wad k ∷ []) → Puts a c (take (k + 1 - from) (lumps_between wad from end))
+between_next wad from end k a b c low high p q =
+    let s : k - from + 1 ≡ k + 1 - from = omega arith in
+    subst (λ (n : ℕ). Puts a c (take n (lumps_between wad from end))) s
+    (put_next a b c (lumps_between wad from end) (k - from) (lump_at wad k) (between_here wad from end k low high) (between_at wad from end k (lump_at wad k) low high) p q)
+
+pub between_refuses :
+    (wad : List ℕ) (from end k : ℕ) (a b : Writing) (e : RebuildError) → from ≤ k → k < end → Puts a b (take (k - from) (lumps_between wad from end))
+    → RefusesPut b (lump_at wad k ∷ []) e → RefusesPut a (lumps_between wad from end) e
+between_refuses wad from end k a b e low high p r =
+    refuse_next a b (lumps_between wad from end) (k - from) (lump_at wad k) e (between_here wad from end k low high) (between_at wad from end k (lump_at wad k) low high) p r
+
+pub between_all :
+    (wad : List ℕ) (from end k : ℕ) (a b : Writing) → end ≤ k → Puts a b (take (k - from) (lumps_between wad from end)) → Puts a b (lumps_between wad from end)
+between_all wad from end k a b h p =
+    let n = between_long wad from end in
+    put_all a b (lumps_between wad from end) (k - from) (omega (arith, n)) p
+
+-- ---- the ten lumps of a level that is built anew
+pub made_other :
+    (wad : List ℕ) (l : LevelEntries) (m : MadeLumps) (n : ℕ) → n < 10 → n ≢ 3 → n ≢ 4 → n ≢ 5 → n ≢ 6 → n ≢ 8 → n ≢ 9
+    → level_lump wad l n ≡ get_or (ten_bytes wad l m) n []
+made_other wad l m zero h a b c d e f = refl
+made_other wad l m (suc zero) h a b c d e f = refl
+made_other wad l m (suc (suc zero)) h a b c d e f = refl
+made_other wad l m (suc (suc (suc zero))) h a b c d e f = absurd (a refl)
+made_other wad l m (suc (suc (suc (suc zero)))) h a b c d e f = absurd (b refl)
+made_other wad l m (suc (suc (suc (suc (suc zero))))) h a b c d e f = absurd (c refl)
+made_other wad l m (suc (suc (suc (suc (suc (suc zero)))))) h a b c d e f = absurd (d refl)
+made_other wad l m (suc (suc (suc (suc (suc (suc (suc zero))))))) h a b c d e f = refl
+made_other wad l m (suc (suc (suc (suc (suc (suc (suc (suc zero)))))))) h a b c d e f = absurd (e refl)
+made_other wad l m (suc (suc (suc (suc (suc (suc (suc (suc (suc zero))))))))) h a b c d e f = absurd (f refl)
+made_other wad l m (suc (suc (suc (suc (suc (suc (suc (suc (suc (suc n)))))))))) h a b c d e f = absurd (omega arith)
+
+pub named_at :
+    (names : List Name8) (bytes : List (List ℕ)) (n : ℕ) (d : Name8) (b : List ℕ) (x : Lump) → length names ≡ length bytes → n < length names
+    → get_or bytes n [] ≡ b → get_or (with_names names bytes) n x ≡ record { name = get_or names n d; bytes = b }
+named_at [] bytes n d b x e h g = absurd (omega arith)
+named_at (y ∷ names) [] n d b x e h g = absurd (omega (arith, e))
+named_at (y ∷ names) (z ∷ bytes) zero d b x e h g = rw g refl
+named_at (y ∷ names) (z ∷ bytes) (suc n) d b x e h g = named_at names bytes n d b x (omega (arith, e)) (omega arith) g
+
+abbrev ten_lump : ℕ → Name8 → List ℕ → Lump
+ten_lump n d bytes = record { name = get_or lump_names n d; bytes = bytes }
+
+pub ten_next :
+    (wad : List ℕ) (l : LevelEntries) (m : MadeLumps) (n : ℕ) (d : Name8) (bytes : List ℕ) (a b c : Writing) → n < 10
+    → bytes ≡ get_or (ten_bytes wad l m) n [] → Puts a b (take n (ten_lumps wad l m)) → Puts b c (record { name = get_or lump_names n d; bytes = bytes } ∷ [])
+    → Puts a c (take (n + 1) (ten_lumps wad l m))
+ten_next wad l m n d bytes a b c h g p q =
+    put_next a b c (ten_lumps wad l m) n (ten_lump n d bytes) h (named_at lump_names (ten_bytes wad l m) n d bytes (ten_lump n d bytes) refl h (sym g)) p q
+
+pub ten_refuses :
+    (wad : List ℕ) (l : LevelEntries) (m : MadeLumps) (n : ℕ) (d : Name8) (bytes : List ℕ) (a b : Writing) (e : RebuildError) → n < 10
+    → bytes ≡ get_or (ten_bytes wad l m) n [] → Puts a b (take n (ten_lumps wad l m)) → RefusesPut b (record { name = get_or lump_names n d; bytes = bytes } ∷ []) e
+    → RefusesPut a (ten_lumps wad l m) e
+ten_refuses wad l m n d bytes a b e h g p r =
+    refuse_next a b (ten_lumps wad l m) n (ten_lump n d bytes) e h (named_at lump_names (ten_bytes wad l m) n d bytes (ten_lump n d bytes) refl h (sym g)) p r
+
+-- ---- what was appended of a WAD up to the k-th entry, before the levels that are left
+pub record IsPutUpTo (wad : List ℕ) (levels left : List RebuiltLevel) (k : ℕ) (a b : Writing) : Type 0 where
+  pub done : List Lump
+  pub are : Puts a b done
+  pub whole : lumps_from wad 0 levels ≡ done ++ lumps_from wad k left
+
+pub begun_up_to : (wad : List ℕ) (levels : List RebuiltLevel) (a : Writing) → IsPutUpTo wad levels levels 0 a a
+begun_up_to wad levels a = record { done = []; are = put_none a; whole = refl }
+
+from_step :
+    (wad : List ℕ) (levels left more : List RebuiltLevel) (k : ℕ) (x : RebuiltLevel) (done : List Lump) → left ≡ x ∷ more
+    → lumps_from wad 0 levels ≡ done ++ lumps_from wad k left
+    → lumps_from wad 0 levels ≡ (done ++ lumps_up_to wad k x) ++ lumps_from wad x.entries.gl_end more
+from_step wad levels left more k x done s w =
+    w ∙ ap (λ (ls : List RebuiltLevel). done ++ lumps_from wad k ls) s
+    ∙ ap (λ (l : List Lump). done ++ l)
+    (sym (append_assoc (lumps_between wad k x.entries.marker) (lumps_after wad x.entries x.fate) (lumps_from wad x.entries.gl_end more)))
+    ∙ sym (append_assoc done (lumps_up_to wad k x) (lumps_from wad x.entries.gl_end more))
+
+drop_at_level : (levels : List RebuiltLevel) (n : ℕ) (x : RebuiltLevel) → n < length levels → get_or levels n x ≡ x → drop n levels ≡ x ∷ drop (n + 1) levels
+drop_at_level [] n x h e = absurd (omega arith)
+drop_at_level (l ∷ levels) zero x h e = rw e refl
+drop_at_level (l ∷ levels) (suc n) x h e = let s : suc n + 1 ≡ suc (n + 1) = omega arith in rw s (drop_at_level levels n x (omega arith) e)
+
+pub up_to_next :
+    (wad : List ℕ) (levels : List RebuiltLevel) (n k : ℕ) (x : RebuiltLevel) (a b c : Writing) → n < length levels → get_or levels n x ≡ x
+    → IsPutUpTo wad levels (drop n levels) k a b → Puts b c (lumps_up_to wad k x) → IsPutUpTo wad levels (drop (n + 1) levels) x.entries.gl_end a c
+up_to_next wad levels n k x a b c h e i p =
+    record {
+      done = i.done ++ lumps_up_to wad k x;
+      are = put_both a b c i.done (lumps_up_to wad k x) i.are p;
+      whole = from_step wad levels (drop n levels) (drop (n + 1) levels) k x i.done (drop_at_level levels n x h e) i.whole;
+    }
+
+pub up_to_refuses :
+    (wad : List ℕ) (levels : List RebuiltLevel) (n k : ℕ) (x : RebuiltLevel) (a b : Writing) (f : RebuildError) → n < length levels → get_or levels n x ≡ x
+    → IsPutUpTo wad levels (drop n levels) k a b → RefusesPut b (lumps_up_to wad k x) f → RefusesPut a (lumps_from wad 0 levels) f
+up_to_refuses wad levels n k x a b f h e i r =
+    let w = from_step wad levels (drop n levels) (drop (n + 1) levels) k x i.done (drop_at_level levels n x h e) i.whole in
+    subst (λ (l : List Lump). RefusesPut a l f) (sym w)
+    (refuse_front a (i.done ++ lumps_up_to wad k x) (lumps_from wad x.entries.gl_end (drop (n + 1) levels)) f (refuse_behind a b i.done (lumps_up_to wad k x) f i.are r))
+
+drop_none : (levels : List RebuiltLevel) (n : ℕ) → length levels ≤ n → drop n levels ≡ []
+drop_none [] zero h = refl
+drop_none [] (suc n) h = refl
+drop_none (l ∷ levels) zero h = absurd (omega arith)
+drop_none (l ∷ levels) (suc n) h = drop_none levels n (omega arith)
+
+end_whole :
+    (wad : List ℕ) (levels : List RebuiltLevel) (n k : ℕ) (a b : Writing) (i : IsPutUpTo wad levels (drop n levels) k a b) → length levels ≤ n
+    → lumps_from wad 0 levels ≡ i.done ++ lumps_between wad k (lump_count wad)
+end_whole wad levels n k a b i h = i.whole ∙ ap (λ (ls : List RebuiltLevel). i.done ++ lumps_from wad k ls) (drop_none levels n h)
+
+pub up_to_end :
+    (wad : List ℕ) (levels : List RebuiltLevel) (n k : ℕ) (a b c : Writing) → length levels ≤ n → IsPutUpTo wad levels (drop n levels) k a b
+    → Puts b c (lumps_between wad k (lump_count wad)) → Puts a c (lumps_from wad 0 levels)
+up_to_end wad levels n k a b c h i p =
+    subst (λ (l : List Lump). Puts a c l) (sym (end_whole wad levels n k a b i h)) (put_both a b c i.done (lumps_between wad k (lump_count wad)) i.are p)
+
+pub end_refuses :
+    (wad : List ℕ) (levels : List RebuiltLevel) (n k : ℕ) (a b : Writing) (f : RebuildError) → length levels ≤ n → IsPutUpTo wad levels (drop n levels) k a b
+    → RefusesPut b (lumps_between wad k (lump_count wad)) f → RefusesPut a (lumps_from wad 0 levels) f
+end_refuses wad levels n k a b f h i r =
+    subst (λ (l : List Lump). RefusesPut a l f) (sym (end_whole wad levels n k a b i h)) (refuse_behind a b i.done (lumps_between wad k (lump_count wad)) f i.are r)

@@ -1,0 +1,156 @@
+-- A WAD whose levels are built anew of their own lines, its other lumps as they were (docs/FORMAT.md, "Levels of other WADs").
+use Rattle.std.specs.Prelude.{◌≡◌, ◌≢◌, ◌⊎◌, ℕ, zero, suc, ◌+◌, ◌-◌, ◌/◌, ◌≤◌, Bool, true, false, not, ◌||◌, ◌==◌, nat_lt, List, [], ◌∷◌, ◌++◌, length, map, filter, take, All, Option, Some, None}
+use Rattle.std.specs.List.{list_all, list_any, range_with_len}
+use Rattle.wad_levels.specs.Drawn.{drawn_lists, level_lump}
+use Rattle.wad_levels.specs.Entries.{AreLevels, entry_text, is_level}
+use Rattle.wad_levels.specs.Levels.{are_inside, entry, first_failed, has_directory, is_wad, lump, lump_count, lump_names, same_bytes}
+use Rattle.wad_levels.specs.Listing.{listing_refusal}
+use Rattle.wad_levels.specs.declared.entries.LevelEntries.{LevelEntries}
+use Rattle.wad_build.specs.Wad.{Lump, wad_size, with_names}
+use Rattle.wad_rebuild.specs.Kept.{kept_faults}
+use Rattle.wad_rebuild.specs.Remade.{IsLeftFor, IsRemade}
+use Rattle.wad_rebuild.specs.declared.cause.Cause.{Cause}
+use Rattle.wad_rebuild.specs.declared.error.RebuildError.{RebuildError}
+use Rattle.wad_rebuild.specs.declared.error.RebuildError.TheVariants.{TooLong, NotAWad, DirectoryOutside, NoSuchLevel, LumpOutside, OutOfMemory}
+use Rattle.wad_rebuild.specs.declared.kept.KeptFault.{KeptFault}
+use Rattle.wad_rebuild.specs.declared.levels.Fate.{Fate}
+use Rattle.wad_rebuild.specs.declared.levels.Fate.TheVariants.{NotAsked, Made, Left}
+use Rattle.wad_rebuild.specs.declared.levels.RebuiltLevel.{RebuiltLevel}
+use Rattle.wad_rebuild.specs.declared.made.MadeLumps.{MadeLumps}
+use Rattle.wad_rebuild.specs.declared.whole.RebuiltWad.{RebuiltWad}
+
+-- ---- the lumps of a WAD
+
+-- the lump of the k-th entry: its name and its bytes
+abbrev pub lump_at : List ℕ → ℕ → Lump
+lump_at wad k = record { name = (entry wad k).name; bytes = lump wad k }
+
+-- the lumps of the entries from one on up to another, which isn't among them
+abbrev pub lumps_between : List ℕ → ℕ → ℕ → List Lump
+lumps_between wad from end = map (lump_at wad) (range_with_len from (end - from))
+
+-- all lumps of a WAD, in the order of its directory
+abbrev pub lumps_in : List ℕ → List Lump
+lumps_in wad = lumps_between wad 0 (lump_count wad)
+
+-- the bytes are a WAD of a kind, IWAD or PWAD, with these lumps, each of which stands in it
+pub record IsWadOf (kind : List ℕ) (lumps : List Lump) (wad : List ℕ) : Type 0 where
+  pub accepted : listing_refusal wad ≡ None
+  pub kind_is : take 4 wad ≡ kind
+  pub lumps_are : lumps_in wad ≡ lumps
+  pub inside : are_inside wad 0 (lump_count wad) ≡ true
+
+-- ---- what becomes of its levels
+
+-- the names are none, or the text is one of them
+abbrev pub is_asked : List (List ℕ) → List ℕ → Bool
+is_asked names text = (length names == 0) || list_any (λ name. same_bytes name text) names
+
+-- what became of a level is what it had to be: it isn't asked for, or its lumps are built anew of
+-- its own lines, or it is left for its cause
+abbrev pub IsFate : List ℕ → List (List ℕ) → LevelEntries → Fate → Type 0
+IsFate wad names l NotAsked = is_asked names (entry_text wad l.marker) ≡ false
+IsFate wad names l (Made m) = (is_asked names (entry_text wad l.marker) ≡ true) × IsRemade wad l m
+IsFate wad names l (Left c) =
+    (is_asked names (entry_text wad l.marker) ≡ true) × IsLeftFor wad l c × (c ≢ Cause.OutOfMemory)
+
+-- a level is told under its name with what became of it
+pub record IsRebuilt (wad : List ℕ) (names : List (List ℕ)) (l : RebuiltLevel) : Type 0 where
+  pub name_is : l.name ≡ (entry wad l.entries.marker).name
+  pub fate_is : IsFate wad names l.entries l.fate
+
+-- they are all levels of the WAD in the order of its directory, each with what became of it
+pub record AreRebuilt (wad : List ℕ) (names : List (List ℕ))
+    (levels : List RebuiltLevel) : Type 0 where
+  pub levels_are : AreLevels wad (map (λ l. l.entries) levels)
+  pub each : All (IsRebuilt wad names) levels
+
+-- the faults that stay in a level: those of its lines that prevent no build, if it is built anew
+abbrev pub kept_in : List ℕ → LevelEntries → Fate → List KeptFault
+kept_in wad l NotAsked = []
+kept_in wad l (Made m) = kept_faults (drawn_lists wad l).lines
+kept_in wad l (Left c) = []
+
+-- ---- the lumps of the new WAD
+
+-- the bytes of the ten lumps of a level that is built anew: what was drawn, as it was, and what
+-- was made
+abbrev pub ten_bytes : List ℕ → LevelEntries → MadeLumps → List (List ℕ)
+ten_bytes wad l m =
+    level_lump wad l 0 ∷ level_lump wad l 1 ∷ level_lump wad l 2 ∷ m.vertices.items
+    ∷ m.segs.items ∷ m.subs.items ∷ m.nodes.items ∷ level_lump wad l 7 ∷ m.reject.items
+    ∷ m.blockmap.items ∷ []
+
+-- these lumps
+abbrev pub ten_lumps : List ℕ → LevelEntries → MadeLumps → List Lump
+ten_lumps wad l m = with_names lump_names (ten_bytes wad l m)
+
+-- its lumps: the marker, as it was, and these
+abbrev pub made_lumps : List ℕ → LevelEntries → MadeLumps → List Lump
+made_lumps wad l m = lump_at wad l.marker ∷ ten_lumps wad l m
+
+-- the lumps that stand in place of a level's: of one that isn't built anew they stay
+abbrev pub lumps_after : List ℕ → LevelEntries → Fate → List Lump
+lumps_after wad l (Made m) = made_lumps wad l m
+lumps_after wad l NotAsked = lumps_between wad l.marker l.gl_end
+lumps_after wad l (Left c) = lumps_between wad l.marker l.gl_end
+
+-- the lumps from the k-th entry on, those of each level, with another builder's behind them, after
+-- what became of it
+abbrev pub lumps_from : List ℕ → ℕ → List RebuiltLevel → List Lump
+lumps_from wad k [] = lumps_between wad k (lump_count wad)
+lumps_from wad k (l ∷ levels) =
+    lumps_between wad k l.entries.marker
+    ++ (lumps_after wad l.entries l.fate ++ lumps_from wad l.entries.gl_end levels)
+
+-- the lumps of a WAD after what became of its levels
+abbrev pub rebuilt_lumps : List ℕ → List RebuiltLevel → List Lump
+rebuilt_lumps wad levels = lumps_from wad 0 levels
+
+-- ---- what refuses the whole
+
+-- how many bytes the first n entries give their lumps
+abbrev pub sizes_below : List ℕ → ℕ → ℕ
+sizes_below wad zero = 0
+sizes_below wad (suc n) = sizes_below wad n + (entry wad n).size
+
+-- a quarter of what the lumps have together is more than the file has
+abbrev pub is_crowded : List ℕ → Bool
+is_crowded wad = nat_lt (length wad) (sizes_below wad (lump_count wad) / 4)
+
+-- a level has the name
+abbrev pub has_level : List ℕ → List ℕ → Bool
+has_level wad name =
+    list_any (λ k. same_bytes (entry_text wad k) name)
+    (filter (is_level wad) (range_with_len 0 (lump_count wad)))
+
+-- the first refusal that holds before a level is looked at
+abbrev pub whole_refusal : List ℕ → List (List ℕ) → Option RebuildError
+whole_refusal wad names =
+    first_failed
+    ((is_wad wad, NotAWad)
+    ∷ (has_directory wad, DirectoryOutside)
+    ∷ (are_inside wad 0 (lump_count wad), LumpOutside)
+    ∷ (not (is_crowded wad), TooLong)
+    ∷ (list_all (has_level wad) names, NoSuchLevel)
+    ∷ []
+    )
+
+-- nothing refuses the WAD, but with its levels built anew it would have four gigabytes
+pub record Outgrows (wad : List ℕ) (names : List (List ℕ)) : Type 0 where
+  pub accepted : whole_refusal wad names ≡ None
+  pub levels : List RebuiltLevel
+  pub are : AreRebuilt wad names levels
+  pub long : 4294967296 ≤ wad_size (rebuilt_lumps wad levels)
+
+-- that refusal, or the new WAD would be too long, or lack of memory
+abbrev pub RefusesRebuild : List ℕ → List (List ℕ) → RebuildError → Type 0
+RefusesRebuild wad names OutOfMemory = Unit {0}
+RefusesRebuild wad names TooLong = (whole_refusal wad names ≡ Some TooLong) ⊎ Outgrows wad names
+RefusesRebuild wad names e = whole_refusal wad names ≡ Some e
+
+-- the WAD with its levels built anew, and what became of each
+pub record IsRebuiltWad (wad : List ℕ) (names : List (List ℕ)) (r : RebuiltWad) : Type 0 where
+  pub accepted : whole_refusal wad names ≡ None
+  pub levels_are : AreRebuilt wad names r.levels.items
+  pub bytes_are : IsWadOf (take 4 wad) (rebuilt_lumps wad r.levels.items) r.bytes.items

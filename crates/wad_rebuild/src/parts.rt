@@ -1,0 +1,182 @@
+//! Appends the lumps of a WAD in their order, with new ones for the levels that are built anew.
+ghost use Rattle.std.specs.Prelude.{◌≡◌, ◌<◌, ◌≤◌, [], ◌∷◌, All, MatchResult, false, get_or};
+ghost use Rattle.wad_levels.specs.Entries.{IsLevelAt};
+ghost use Rattle.wad_levels.specs.Levels.{HasEntries, entry, is_outside, lump, lump_count};
+ghost use Rattle.wad_rebuild.specs.Parts.{HasLumps, lumps_up_to};
+ghost use Rattle.wad_rebuild.specs.Rebuilt.{lump_at, lumps_after, lumps_between, made_lumps, rebuilt_lumps, ten_bytes, ten_lumps};
+ghost use Rattle.wad_rebuild.specs.Writing.{Fits, Puts, RefusesPut};
+
+use crate::error::RebuildError;
+use crate::levels::{Fate, RebuiltLevel};
+use crate::made::MadeLumps;
+use crate::writing::Writing;
+use wad_levels::{LUMP_NAMES, LevelEntries, entry_of, level_lump, lump_count, standing};
+
+// The bytes of the k-th entry's lump, which is inside the file.
+fn lump_of(wad: &[u8], k: u32) -> &[u8]
+    requires directory { HasEntries wad.now }
+    requires among { k < lump_count wad.now }
+    requires inside { is_outside wad.now (entry wad.now k) ≡ false }
+    ensures { result.now ≡ lump wad.now k }
+{
+    standing(wad, k)
+}
+
+// Appends the lump of the k-th entry.
+fn put_kept(wad: &[u8], k: u32, to: &mut Writing) -> Result<(), RebuildError>
+    requires wad { HasLumps wad.now }
+    requires among { k < lump_count wad.now }
+    requires fits { Fits to.old }
+    ensures { MatchResult result
+        (λ _. Puts to.old to.new (lump_at wad.now k ∷ []))
+        (RefusesPut to.old (lump_at wad.now k ∷ [])) }
+{
+    let entry = entry_of(wad, k);
+    to.push(entry.name, lump_of(wad, k))
+}
+
+// Appends the lumps of the entries from `from` up to `end`, which isn't among them.
+fn put_between(wad: &[u8], from: u32, end: u32, to: &mut Writing) -> Result<(), RebuildError>
+    requires wad { HasLumps wad.now }
+    requires among { end ≤ lump_count wad.now }
+    requires fits { Fits to.old }
+    ensures { MatchResult result
+        (λ _. Puts to.old to.new (lumps_between wad.now from end))
+        (RefusesPut to.old (lumps_between wad.now from end)) }
+{
+    for k in from..end {
+        match put_kept(wad, k, to) {
+            Ok(()) => {}
+            Err(error) => return Err(error),
+        }
+    }
+    Ok(())
+}
+
+// The bytes of a lump of a level that is built anew, by its number in the order of `LUMP_NAMES`.
+fn made_lump<'a>(wad: &'a [u8], level: LevelEntries, made: &'a MadeLumps, n: usize) -> &'a [u8]
+    requires wad { HasLumps wad.now }
+    requires level { IsLevelAt wad.now level }
+    requires number { n < 10 }
+    ensures { result.now ≡ get_or (ten_bytes wad.now level made.now) n [] }
+{
+    match n {
+        3 => &made.vertices,
+        4 => &made.segs,
+        5 => &made.subs,
+        6 => &made.nodes,
+        8 => &made.reject,
+        9 => &made.blockmap,
+        _ => level_lump(wad, level, n),
+    }
+}
+
+// Appends the ten lumps of a level that is built anew.
+fn put_ten(
+    wad: &[u8],
+    level: LevelEntries,
+    made: &MadeLumps,
+    to: &mut Writing,
+) -> Result<(), RebuildError>
+    requires wad { HasLumps wad.now }
+    requires level { IsLevelAt wad.now level }
+    requires fits { Fits to.old }
+    ensures { MatchResult result
+        (λ _. Puts to.old to.new (ten_lumps wad.now level made.now))
+        (RefusesPut to.old (ten_lumps wad.now level made.now)) }
+{
+    for n in 0..LUMP_NAMES.len() {
+        match to.push(LUMP_NAMES[n], made_lump(wad, level, made, n)) {
+            Ok(()) => {}
+            Err(error) => return Err(error),
+        }
+    }
+    Ok(())
+}
+
+// Appends the lumps of a level that is built anew.
+fn put_made(
+    wad: &[u8],
+    level: LevelEntries,
+    made: &MadeLumps,
+    to: &mut Writing,
+) -> Result<(), RebuildError>
+    requires wad { HasLumps wad.now }
+    requires level { IsLevelAt wad.now level }
+    requires fits { Fits to.old }
+    ensures { MatchResult result
+        (λ _. Puts to.old to.new (made_lumps wad.now level made.now))
+        (RefusesPut to.old (made_lumps wad.now level made.now)) }
+{
+    match put_kept(wad, level.marker, to) {
+        Ok(()) => {}
+        Err(error) => return Err(error),
+    }
+    match put_ten(wad, level, made, to) {
+        Ok(()) => Ok(()),
+        Err(error) => Err(error),
+    }
+}
+
+// Appends a level's lumps: the new ones if it is built anew, otherwise the old ones.
+fn put_level(wad: &[u8], level: &RebuiltLevel, to: &mut Writing) -> Result<(), RebuildError>
+    requires wad { HasLumps wad.now }
+    requires level { IsLevelAt wad.now level.now.entries }
+    requires fits { Fits to.old }
+    ensures { MatchResult result
+        (λ _. Puts to.old to.new (lumps_after wad.now level.now.entries level.now.fate))
+        (RefusesPut to.old (lumps_after wad.now level.now.entries level.now.fate)) }
+{
+    match &level.fate {
+        Fate::Made(made) => put_made(wad, level.entries, made, to),
+        Fate::NotAsked => put_between(wad, level.entries.marker, level.entries.gl_end, to),
+        Fate::Left(_) => put_between(wad, level.entries.marker, level.entries.gl_end, to),
+    }
+}
+
+// Appends the lumps from the k-th entry up to a level, then those of the level.
+fn put_up_to(wad: &[u8], k: u32, level: &RebuiltLevel, to: &mut Writing) -> Result<(), RebuildError>
+    requires wad { HasLumps wad.now }
+    requires level { IsLevelAt wad.now level.now.entries }
+    requires fits { Fits to.old }
+    ensures { MatchResult result
+        (λ _. Puts to.old to.new (lumps_up_to wad.now k level.now))
+        (RefusesPut to.old (lumps_up_to wad.now k level.now)) }
+{
+    match put_between(wad, k, level.entries.marker, to) {
+        Ok(()) => {}
+        Err(error) => return Err(error),
+    }
+    match put_level(wad, level, to) {
+        Ok(()) => Ok(()),
+        Err(error) => Err(error),
+    }
+}
+
+/// Appends the lumps of a WAD, with new ones for the levels that are built anew.
+pub fn put_rebuilt(
+    wad: &[u8],
+    levels: &[RebuiltLevel],
+    to: &mut Writing,
+) -> Result<(), RebuildError>
+    requires wad { HasLumps wad.now }
+    requires levels { All (λ l. IsLevelAt wad.now l.entries) levels.now }
+    requires fits { Fits to.old }
+    ensures { MatchResult result
+        (λ _. Puts to.old to.new (rebuilt_lumps wad.now levels.now))
+        (RefusesPut to.old (rebuilt_lumps wad.now levels.now)) }
+{
+    let mut next = 0;
+    for n in 0..levels.len() {
+        let level = &levels[n];
+        match put_up_to(wad, next, level, to) {
+            Ok(()) => {}
+            Err(error) => return Err(error),
+        }
+        next = level.entries.gl_end;
+    }
+    match put_between(wad, next, lump_count(wad), to) {
+        Ok(()) => Ok(()),
+        Err(error) => Err(error),
+    }
+}
