@@ -18,7 +18,7 @@ all:
 demo:
 	scripts/demo $(EXAMPLE)
 
-# every test and each program's stored run, unproved, with every access and sum checked as it runs
+# every test, and the program on real files, unproved, with every access and sum checked as it runs
 test:
 	scripts/kit
 	scripts/house
@@ -27,15 +27,14 @@ test:
 
 # the gate: every proof from nothing, the wrong bodies, the tests proved and run, the programs as two compilers build them
 prove:
-	rt ci
+	scripts/gate
 
-# what the gate can't test: kills at any moment, edits at once, closed and full outputs, full disks, files that are no
-# project or can't be read, damaged projects and PWADs, projects drawn again from their dumps, trees of maps just at each limit
-# and just above it, and each allocation refused in turn
+# what takes too long for the gate: kills at any moment, edits at once, a full disk at each call, damaged projects and PWADs,
+# projects drawn again from their dumps, trees of maps just at each limit and just above it, and each allocation refused in
+# turn; before them the proved program runs on real files, as the unproved one does in `make test`
 stress: all
+	scripts/edge bin/leveled
 	bench/stops bin/leveled 200
-	sh crates/leveled/edges.sh bin/leveled
-	sh bench/faults bin/leveled
 	bench/full bin/leveled
 	bench/damage bin/leveled
 	bench/round bin/leveled

@@ -1,11 +1,19 @@
-"""The crates of this repository as crates.txt lists them, for the other scripts."""
+"""The crates of this repository as crates.txt lists them, the gate and the program, for the other scripts."""
 
+import hashlib
 import os
 import re
 import shutil
 import subprocess
+import sys
+import threading
+import time
 
 TOP = os.path.dirname(os.path.dirname(os.path.abspath(__file__)))
+
+# The proved program, and the checksum of what it was built from.
+PROGRAM = f"{TOP}/bin/leveled"
+SUM = f"{TOP}/bin/leveled.sum"
 
 
 def listed():
@@ -66,3 +74,108 @@ def copy(lines, to, *left_out):
         file.writelines(lines.values())
     shutil.copy(f"{TOP}/HANDLES", f"{to}/HANDLES")
     subprocess.run(["git", "init", "-q", to], check=True)
+
+
+def sum_of(lines):
+    """Returns a checksum of everything that the program is built from."""
+    found = hashlib.sha256(subprocess.run(["rt", "version"], stdout=subprocess.PIPE, check=True).stdout)
+    for name, line in lines.items():
+        found.update(line.encode())
+        for part in ("src", "specs", "proofs", "stdin", "stdout", "args"):
+            for at, folders, files in os.walk(f"{TOP}/crates/{name}/{part}"):
+                folders.sort()
+                for it in sorted(files):
+                    with open(f"{at}/{it}", "rb") as file:
+                        found.update(f"{os.path.relpath(at, TOP)}/{it} ".encode() + file.read())
+    return found.hexdigest()
+
+
+def is_built(whole):
+    """Returns whether bin/leveled was built from what has this checksum."""
+    try:
+        with open(SUM, encoding="utf-8") as file:
+            return file.read() == whole and os.path.isfile(PROGRAM)
+    except OSError:
+        return False
+
+
+def holder_of(path):
+    """Returns another process that has the file at the path open, if there is one."""
+    for it in os.listdir("/proc"):
+        try:
+            if it.isdigit() and int(it) != os.getpid() and path in (os.readlink(f"/proc/{it}/fd/{n}") for n in os.listdir(f"/proc/{it}/fd")):
+                return it
+        except OSError:
+            # the process has ended, or another user runs it
+            continue
+    return None
+
+
+def tried(folder):
+    """Compiles the program into this folder, unproved, with every access and sum checked, and returns the words that run it.
+
+    `rt try` keeps no program. So the program is given a pipe to read, and copied while it waits there.
+    """
+    pipe, copied = os.path.realpath(f"{folder}/pipe"), f"{folder}/leveled"
+    os.mkfifo(pipe)
+    words = ["rt", "try", "--seconds", "300", "--", "inspect", pipe]
+    how = {"stdin": subprocess.DEVNULL, "stdout": subprocess.PIPE, "stderr": subprocess.STDOUT, "text": True, "errors": "replace"}
+    with subprocess.Popen(words, cwd=f"{TOP}/crates/leveled", **how) as run:
+        end = process = None
+        while not process:
+            if run.poll() is not None:
+                sys.exit(f"the program does not compile:\n{run.stdout.read()[-3000:]}")
+            time.sleep(0.1)
+            try:
+                # this is refused as long as nobody reads the pipe
+                end = end or os.open(pipe, os.O_WRONLY | os.O_NONBLOCK)
+                process = holder_of(pipe)
+            except OSError:
+                continue
+        with open(f"/proc/{process}/cmdline", encoding="utf-8") as file:
+            *loader, program, _, _ = file.read().rstrip("\0").split("\0")
+        shutil.copyfile(os.path.join(os.readlink(f"/proc/{process}/cwd"), program), copied)
+        os.chmod(copied, 0o755)
+        os.close(end)
+        run.communicate()
+    os.remove(pipe)
+    return [*loader, copied]
+
+
+def took(began):
+    """Returns the time since then, as MM:SS."""
+    seconds = int(time.monotonic() - began)
+    return f"{seconds // 60:02}:{seconds % 60:02}"
+
+
+def tell(lines, proved, tries, began):
+    """Prints how far the gate is over these crates, and what is under way or comes next."""
+    below = needs(lines)
+    now = [name for name in lines if name not in proved and all(it in proved for it in below[name])]
+    parts = [f"{took(began)} {len(proved)} of {len(lines)} crates are proved", f"now: {' '.join(now) or 'the tests and the program are run'}"]
+    parts += [f"wrong bodies begun: {' '.join(tries)}"] if tries else []
+    print("; ".join(parts), flush=True)
+
+
+def run_gate(words, lines, folder=TOP, is_told=True, watch=None):
+    """Runs `rt ci` with these options in a folder, prints how far it is over these crates, and returns its status and lines.
+
+    If `is_told`, prints each of its lines too. Meanwhile another thread calls `watch` with the process.
+    """
+    began, proved, tries, said = time.monotonic(), set(), [], []
+    tell(lines, proved, tries, began)
+    with subprocess.Popen(["rt", "ci", *words], cwd=folder, stdout=subprocess.PIPE, text=True, errors="replace") as gate:
+        watcher = threading.Thread(target=watch or (lambda _: None), args=(gate,))
+        watcher.start()
+        for line in gate.stdout:
+            said.append(line)
+            if is_told:
+                print(line, end="", flush=True)
+            done = re.match(r"rt: (\w+)(?: proved$| is kept:|: trying its must-fail edits)", line)
+            if done and done[1] in lines:
+                if line.startswith(f"rt: {done[1]}:"):
+                    tries.append(done[1])
+                proved.add(done[1])
+                tell(lines, proved, tries, began)
+    watcher.join()
+    return gate.returncode, said
