@@ -22,6 +22,7 @@ demo:
 test:
 	scripts/kit
 	scripts/house
+	scripts/unused
 	scripts/pages
 	scripts/test
 

@@ -1,5 +1,6 @@
 //! Encodes lists of records as whole lumps, and decodes them.
 ghost use Rattle.std.specs.Prelude.{◌≡◌, ◌≢◌, ◌%◌, ◌↔◌, ◌<◌, ◌^◌, ℕ, List, length, flat_map, IfOk, IsOkUnless, IsErrOf};
+ghost use Rattle.lump_records.specs.Lists.{DecodesList, EncodesList};
 ghost use Rattle.lump_records.specs.Lumps.{records_of};
 ghost use Rattle.lump_records.specs.Records.{line_at, line_record, node_at, node_record, sector_at, sector_record, seg_at, seg_record};
 ghost use Rattle.lump_records.specs.Records.{side_at, side_record, sub_at, sub_record, thing_at, thing_record, vertex_at, vertex_record};
@@ -175,144 +176,112 @@ fn decode<const N: usize, R: Record<N>>(alloc: Global, bytes: &[u8]) -> Result<V
 
 /// The bytes of THINGS: the things' bytes, one after the other.
 pub fn encode_things(alloc: Global, things: &[Thing]) -> Result<Vec<u8>, LumpError>
-    ensures bytes { IfOk result (λ v. v.items ≡ flat_map thing_record things.now) }
-    ensures inverse { IfOk result (λ v. records_of thing_at 10 v.items ≡ things.now) }
-    ensures memory { IsOkUnless result LumpError.OutOfMemory }
+    ensures { EncodesList thing_record thing_at 10 things.now result }
 {
     encode(alloc, things)
 }
 
 /// The things that the bytes of THINGS hold.
 pub fn decode_things(alloc: Global, bytes: &[u8]) -> Result<Vec<Thing>, LumpError>
-    ensures things { IfOk result (λ v. v.items ≡ records_of thing_at 10 bytes.now) }
-    ensures bytes { IfOk result (λ v. flat_map thing_record v.items ≡ bytes.now) }
-    ensures length { IsErrOf result LumpError.LumpLength ↔ (length bytes.now % 10 ≢ 0) }
+    ensures { DecodesList thing_record thing_at 10 bytes.now result }
 {
-    decode::<10, Thing>(alloc, bytes)
+    decode(alloc, bytes)
 }
 
 /// The bytes of LINEDEFS: the lines' bytes, one after the other.
 pub fn encode_lines(alloc: Global, lines: &[Line]) -> Result<Vec<u8>, LumpError>
-    ensures bytes { IfOk result (λ v. v.items ≡ flat_map line_record lines.now) }
-    ensures inverse { IfOk result (λ v. records_of line_at 14 v.items ≡ lines.now) }
-    ensures memory { IsOkUnless result LumpError.OutOfMemory }
+    ensures { EncodesList line_record line_at 14 lines.now result }
 {
     encode(alloc, lines)
 }
 
 /// The lines that the bytes of LINEDEFS hold.
 pub fn decode_lines(alloc: Global, bytes: &[u8]) -> Result<Vec<Line>, LumpError>
-    ensures lines { IfOk result (λ v. v.items ≡ records_of line_at 14 bytes.now) }
-    ensures bytes { IfOk result (λ v. flat_map line_record v.items ≡ bytes.now) }
-    ensures length { IsErrOf result LumpError.LumpLength ↔ (length bytes.now % 14 ≢ 0) }
+    ensures { DecodesList line_record line_at 14 bytes.now result }
 {
-    decode::<14, Line>(alloc, bytes)
+    decode(alloc, bytes)
 }
 
 /// The bytes of SIDEDEFS: the sides' bytes, one after the other.
 pub fn encode_sides(alloc: Global, sides: &[Side]) -> Result<Vec<u8>, LumpError>
-    ensures bytes { IfOk result (λ v. v.items ≡ flat_map side_record sides.now) }
-    ensures inverse { IfOk result (λ v. records_of side_at 30 v.items ≡ sides.now) }
-    ensures memory { IsOkUnless result LumpError.OutOfMemory }
+    ensures { EncodesList side_record side_at 30 sides.now result }
 {
     encode(alloc, sides)
 }
 
 /// The sides that the bytes of SIDEDEFS hold.
 pub fn decode_sides(alloc: Global, bytes: &[u8]) -> Result<Vec<Side>, LumpError>
-    ensures sides { IfOk result (λ v. v.items ≡ records_of side_at 30 bytes.now) }
-    ensures bytes { IfOk result (λ v. flat_map side_record v.items ≡ bytes.now) }
-    ensures length { IsErrOf result LumpError.LumpLength ↔ (length bytes.now % 30 ≢ 0) }
+    ensures { DecodesList side_record side_at 30 bytes.now result }
 {
-    decode::<30, Side>(alloc, bytes)
+    decode(alloc, bytes)
 }
 
 /// The bytes of VERTEXES: the vertices' bytes, one after the other.
 pub fn encode_vertices(alloc: Global, vertices: &[Vertex]) -> Result<Vec<u8>, LumpError>
-    ensures bytes { IfOk result (λ v. v.items ≡ flat_map vertex_record vertices.now) }
-    ensures inverse { IfOk result (λ v. records_of vertex_at 4 v.items ≡ vertices.now) }
-    ensures memory { IsOkUnless result LumpError.OutOfMemory }
+    ensures { EncodesList vertex_record vertex_at 4 vertices.now result }
 {
     encode(alloc, vertices)
 }
 
 /// The vertices that the bytes of VERTEXES hold.
 pub fn decode_vertices(alloc: Global, bytes: &[u8]) -> Result<Vec<Vertex>, LumpError>
-    ensures vertices { IfOk result (λ v. v.items ≡ records_of vertex_at 4 bytes.now) }
-    ensures bytes { IfOk result (λ v. flat_map vertex_record v.items ≡ bytes.now) }
-    ensures length { IsErrOf result LumpError.LumpLength ↔ (length bytes.now % 4 ≢ 0) }
+    ensures { DecodesList vertex_record vertex_at 4 bytes.now result }
 {
-    decode::<4, Vertex>(alloc, bytes)
+    decode(alloc, bytes)
 }
 
 /// The bytes of SEGS: the segs' bytes, one after the other.
 pub fn encode_segs(alloc: Global, segs: &[Seg]) -> Result<Vec<u8>, LumpError>
-    ensures bytes { IfOk result (λ v. v.items ≡ flat_map seg_record segs.now) }
-    ensures inverse { IfOk result (λ v. records_of seg_at 12 v.items ≡ segs.now) }
-    ensures memory { IsOkUnless result LumpError.OutOfMemory }
+    ensures { EncodesList seg_record seg_at 12 segs.now result }
 {
     encode(alloc, segs)
 }
 
 /// The segs that the bytes of SEGS hold.
 pub fn decode_segs(alloc: Global, bytes: &[u8]) -> Result<Vec<Seg>, LumpError>
-    ensures segs { IfOk result (λ v. v.items ≡ records_of seg_at 12 bytes.now) }
-    ensures bytes { IfOk result (λ v. flat_map seg_record v.items ≡ bytes.now) }
-    ensures length { IsErrOf result LumpError.LumpLength ↔ (length bytes.now % 12 ≢ 0) }
+    ensures { DecodesList seg_record seg_at 12 bytes.now result }
 {
-    decode::<12, Seg>(alloc, bytes)
+    decode(alloc, bytes)
 }
 
 /// The bytes of SSECTORS: the subsectors' bytes, one after the other.
 pub fn encode_subs(alloc: Global, subs: &[Sub]) -> Result<Vec<u8>, LumpError>
-    ensures bytes { IfOk result (λ v. v.items ≡ flat_map sub_record subs.now) }
-    ensures inverse { IfOk result (λ v. records_of sub_at 4 v.items ≡ subs.now) }
-    ensures memory { IsOkUnless result LumpError.OutOfMemory }
+    ensures { EncodesList sub_record sub_at 4 subs.now result }
 {
     encode(alloc, subs)
 }
 
 /// The subsectors that the bytes of SSECTORS hold.
 pub fn decode_subs(alloc: Global, bytes: &[u8]) -> Result<Vec<Sub>, LumpError>
-    ensures subs { IfOk result (λ v. v.items ≡ records_of sub_at 4 bytes.now) }
-    ensures bytes { IfOk result (λ v. flat_map sub_record v.items ≡ bytes.now) }
-    ensures length { IsErrOf result LumpError.LumpLength ↔ (length bytes.now % 4 ≢ 0) }
+    ensures { DecodesList sub_record sub_at 4 bytes.now result }
 {
-    decode::<4, Sub>(alloc, bytes)
+    decode(alloc, bytes)
 }
 
 /// The bytes of NODES: the nodes' bytes, one after the other.
 pub fn encode_nodes(alloc: Global, nodes: &[Node]) -> Result<Vec<u8>, LumpError>
-    ensures bytes { IfOk result (λ v. v.items ≡ flat_map node_record nodes.now) }
-    ensures inverse { IfOk result (λ v. records_of node_at 28 v.items ≡ nodes.now) }
-    ensures memory { IsOkUnless result LumpError.OutOfMemory }
+    ensures { EncodesList node_record node_at 28 nodes.now result }
 {
     encode(alloc, nodes)
 }
 
 /// The nodes that the bytes of NODES hold.
 pub fn decode_nodes(alloc: Global, bytes: &[u8]) -> Result<Vec<Node>, LumpError>
-    ensures nodes { IfOk result (λ v. v.items ≡ records_of node_at 28 bytes.now) }
-    ensures bytes { IfOk result (λ v. flat_map node_record v.items ≡ bytes.now) }
-    ensures length { IsErrOf result LumpError.LumpLength ↔ (length bytes.now % 28 ≢ 0) }
+    ensures { DecodesList node_record node_at 28 bytes.now result }
 {
-    decode::<28, Node>(alloc, bytes)
+    decode(alloc, bytes)
 }
 
 /// The bytes of SECTORS: the sectors' bytes, one after the other.
 pub fn encode_sectors(alloc: Global, sectors: &[Sector]) -> Result<Vec<u8>, LumpError>
-    ensures bytes { IfOk result (λ v. v.items ≡ flat_map sector_record sectors.now) }
-    ensures inverse { IfOk result (λ v. records_of sector_at 26 v.items ≡ sectors.now) }
-    ensures memory { IsOkUnless result LumpError.OutOfMemory }
+    ensures { EncodesList sector_record sector_at 26 sectors.now result }
 {
     encode(alloc, sectors)
 }
 
 /// The sectors that the bytes of SECTORS hold.
 pub fn decode_sectors(alloc: Global, bytes: &[u8]) -> Result<Vec<Sector>, LumpError>
-    ensures sectors { IfOk result (λ v. v.items ≡ records_of sector_at 26 bytes.now) }
-    ensures bytes { IfOk result (λ v. flat_map sector_record v.items ≡ bytes.now) }
-    ensures length { IsErrOf result LumpError.LumpLength ↔ (length bytes.now % 26 ≢ 0) }
+    ensures { DecodesList sector_record sector_at 26 bytes.now result }
 {
-    decode::<26, Sector>(alloc, bytes)
+    decode(alloc, bytes)
 }

@@ -51,6 +51,21 @@ pub struct Thing {
     pub options: i16,
 }
 
+impl Thing {
+    ghost use Rattle.std.specs.Prelude.{◌≡◌};
+    ghost use Rattle.lump_records.specs.Things.{thing_place};
+
+    /// Where the thing stands.
+    pub fn place(&self) -> Vertex
+        ensures { result ≡ thing_place self.now }
+    {
+        Vertex {
+            x: self.x,
+            y: self.y,
+        }
+    }
+}
+
 /// A linedef of LINEDEFS, from vertex `v1` to vertex `v2`. The right side is on the right of that
 /// direction; a `left` of `NO_SIDE` means that there is no left side.
 #[derive(Clone, Copy, Debug, PartialEq, Eq)]
