@@ -1,10 +1,10 @@
 //! The commands of a project of maps: those that draw its current map, and those that select or drop a map.
 
 mod adding;
-mod additions;
 mod changes;
 mod command;
 mod decision;
+mod edits;
 mod grammar;
 mod laws;
 mod room;

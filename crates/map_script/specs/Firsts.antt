@@ -2,7 +2,7 @@
 use Rattle.std.specs.Prelude.{ℕ, zero, suc, Option, Some, None}
 use Rattle.map_tables.specs.declared.kind.Kind.{Kind}
 use Rattle.map_tables.specs.declared.kind.Kind.TheVariants as kind
-use Rattle.map_tables.specs.declared.map.Need.{Need}
+use Rattle.map_tables.specs.declared.edit.Need.{Need}
 use Rattle.map_tables.specs.Tables.{Tables, count_of}
 use Rattle.map_commands.specs.ProjectReadiness.{project_need_of}
 use Rattle.map_commands.specs.Readiness as of_one_map

@@ -3,7 +3,7 @@ ghost use Rattle.std.specs.Prelude.{◌≡◌};
 ghost use Rattle.map_script.specs.Firsts.{edit_firsts, first_of, firsts_of};
 
 use map_commands::{Command, ProjectCommand};
-use map_tables::{Kind, Map};
+use map_tables::{Edit, Item, Kind, Map};
 
 /// The number of the first item of each kind that a command added, if it added one.
 #[derive(Clone, Copy)]
@@ -56,11 +56,11 @@ fn edit_firsts(command: &Command, map: &Map) -> Firsts
     let side = Some(map.count(Kind::Side));
     let line = Some(map.count(Kind::Line));
     match command {
-        Command::AddVertex(_) => Firsts { vertex, ..NONE },
-        Command::AddSector(_) => Firsts { sector, ..NONE },
-        Command::AddSide(_) => Firsts { side, ..NONE },
-        Command::AddLine(_) => Firsts { line, ..NONE },
-        Command::AddThing(_) => Firsts {
+        Command::Edit(Edit::Add(Item::Vertex(_))) => Firsts { vertex, ..NONE },
+        Command::Edit(Edit::Add(Item::Sector(_))) => Firsts { sector, ..NONE },
+        Command::Edit(Edit::Add(Item::Side(_))) => Firsts { side, ..NONE },
+        Command::Edit(Edit::Add(Item::Line(_))) => Firsts { line, ..NONE },
+        Command::Edit(Edit::Add(Item::Thing(_))) => Firsts {
             thing: Some(map.count(Kind::Thing)),
             ..NONE
         },
@@ -85,7 +85,7 @@ pub fn firsts_of(command: &ProjectCommand, map: &Map) -> Firsts
     ensures { result ≡ firsts_of command.now map.now.tables }
 {
     match command {
-        ProjectCommand::Edit(edit) => edit_firsts(edit, map),
+        ProjectCommand::Current(edit) => edit_firsts(edit, map),
         _ => NONE,
     }
 }
