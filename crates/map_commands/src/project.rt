@@ -13,6 +13,7 @@ mod split;
 
 pub use changes::{apply, commit, ready};
 pub use command::{ProjectCommand, Ready};
+pub use decision::need_of;
 pub use grammar::parse;
 pub use laws::{accept_each_spelling, end_in_one_way, lead_to_one_project, spell_one_command};
 pub use spelling::print;

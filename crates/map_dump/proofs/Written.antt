@@ -100,7 +100,7 @@ each_stopped make xs n d e u v w within p q =
 
 -- no item of a map
 abbrev pub no_item : Command
-no_item = Drop kind.Vertex 0
+no_item = Edit (edit.Drop kind.Vertex 0)
 
 -- a command of the current map, alone
 abbrev pub alone : Command → List ProjectCommand
