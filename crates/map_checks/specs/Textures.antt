@@ -29,6 +29,7 @@ some_side =
       sector = 0;
     }
 
+-- a sector, for a side that has none
 abbrev pub some_sector : Sector
 some_sector =
     record {
@@ -61,6 +62,7 @@ is_sky s = bytes_eq (name_text s.ceiling_name) (codes "F_SKY1")
 abbrev pub own_side : Line → Bool → ℕ
 own_side l left = if left then l.left else l.right
 
+-- the side on the other side of a line
 abbrev pub side_behind : Line → Bool → ℕ
 side_behind l left = if left then l.right else l.left
 

@@ -6,11 +6,14 @@ use Rattle.std.proofs.lemmas.Int.{ints}
 use Rattle.map_tables.specs.declared.kind.Kind.{Kind}
 use Rattle.map_tables.specs.declared.kind.Kind.TheVariants as kind
 use Rattle.map_commands.specs.declared.command.Command.{Command}
-use Rattle.map_commands.specs.declared.command.Command.TheVariants.{Name, AddVertex, AddSector, AddSide, AddLine, AddThing, SetVertex, SetSector, SetSide, SetLine, SetThing, Drop, Room, Split}
+use Rattle.map_commands.specs.declared.command.Command.TheVariants.{Name, Edit, Room, Split}
+use Rattle.map_tables.specs.declared.edit.Edit.TheVariants as edit
+use Rattle.map_tables.specs.declared.edit.Item.TheVariants as item
 use Rattle.map_commands.specs.declared.command.RoomPlan.{RoomPlan}
 use Rattle.map_commands.specs.declared.head.Head.{Head}
 use Rattle.map_commands.specs.declared.head.Head.TheVariants as head
-use Rattle.map_commands.specs.CommandRanges.{InRange, IsRoom, last_of}
+use Rattle.map_commands.specs.CommandRanges.{InRange, IsRoom}
+use Rattle.map_tables.specs.Ranges.{last_of}
 use Rattle.map_commands.specs.Grammar.{command_fault, fault_of}
 use Rattle.map_commands.specs.Spelling.{head_word, room_words, spelling, words_of}
 use Rattle.map_commands.specs.Words.{parts}
@@ -48,37 +51,37 @@ drop-texts kind.Thing n h = number-text n 32766 h (lit≤ tt)
 
 texts : (c : Command) → InRange c → AreTexts (words_of c)
 texts (Name n) h = (head-text head.Name, (marker-is-text n h, tt))
-texts (AddVertex v) h = (head-text head.Vertex, vertex-texts v h)
-texts (AddSector s) h = (head-text head.Sector, sector-texts s h)
-texts (AddSide s) h = (head-text head.Side, side-texts s h)
-texts (AddLine l) h = (head-text head.Line, line-texts l h)
-texts (AddThing t) h = (head-text head.Thing, thing-texts t h)
-texts (SetVertex n v) h = (head-text head.MoveVertex, (number-text n 32766 h.0 (lit≤ tt), vertex-texts v h.1))
-texts (SetSector n s) h = (head-text head.SetSector, (number-text n 4095 h.0 (lit≤ tt), sector-texts s h.1))
-texts (SetSide n s) h = (head-text head.SetSide, (number-text n 32766 h.0 (lit≤ tt), side-texts s h.1))
-texts (SetLine n l) h = (head-text head.SetLine, (number-text n 32766 h.0 (lit≤ tt), line-texts l h.1))
-texts (SetThing n t) h = (head-text head.SetThing, (number-text n 32766 h.0 (lit≤ tt), thing-texts t h.1))
-texts (Drop k n) h = (head-text head.Drop, (kind-text k, (drop-texts k n h, tt)))
+texts (Edit (edit.Add (item.Vertex v))) h = (head-text head.Vertex, vertex-texts v h)
+texts (Edit (edit.Add (item.Sector s))) h = (head-text head.Sector, sector-texts s h)
+texts (Edit (edit.Add (item.Side s))) h = (head-text head.Side, side-texts s h)
+texts (Edit (edit.Add (item.Line l))) h = (head-text head.Line, line-texts l h)
+texts (Edit (edit.Add (item.Thing t))) h = (head-text head.Thing, thing-texts t h)
+texts (Edit (edit.Set n (item.Vertex v))) h = (head-text head.MoveVertex, (number-text n 32766 h.0 (lit≤ tt), vertex-texts v h.1))
+texts (Edit (edit.Set n (item.Sector s))) h = (head-text head.SetSector, (number-text n 4095 h.0 (lit≤ tt), sector-texts s h.1))
+texts (Edit (edit.Set n (item.Side s))) h = (head-text head.SetSide, (number-text n 32766 h.0 (lit≤ tt), side-texts s h.1))
+texts (Edit (edit.Set n (item.Line l))) h = (head-text head.SetLine, (number-text n 32766 h.0 (lit≤ tt), line-texts l h.1))
+texts (Edit (edit.Set n (item.Thing t))) h = (head-text head.SetThing, (number-text n 32766 h.0 (lit≤ tt), thing-texts t h.1))
+texts (Edit (edit.Drop k n)) h = (head-text head.Drop, (kind-text k, (drop-texts k n h, tt)))
 texts (Room r) h = (head-text head.Room, room-texts r h.plan)
 texts (Split s) h = (head-text head.Split, (number-text s.line 32766 h.0 (lit≤ tt), vertex-texts s.at h.1))
 
 few : (c : Command) → length (words_of c) ≤ 11
 few (Name n) = lit≤ tt
-few (AddVertex v) = lit≤ tt
-few (AddSector s) = lit≤ tt
-few (AddSide s) = lit≤ tt
-few (AddLine l) = lit≤ tt
-few (AddThing t) = lit≤ tt
-few (SetVertex n v) = lit≤ tt
-few (SetSector n s) = lit≤ tt
-few (SetSide n s) = lit≤ tt
-few (SetLine n l) = lit≤ tt
-few (SetThing n t) = lit≤ tt
-few (Drop k n) = lit≤ tt
+few (Edit (edit.Add (item.Vertex v))) = lit≤ tt
+few (Edit (edit.Add (item.Sector s))) = lit≤ tt
+few (Edit (edit.Add (item.Side s))) = lit≤ tt
+few (Edit (edit.Add (item.Line l))) = lit≤ tt
+few (Edit (edit.Add (item.Thing t))) = lit≤ tt
+few (Edit (edit.Set n (item.Vertex v))) = lit≤ tt
+few (Edit (edit.Set n (item.Sector s))) = lit≤ tt
+few (Edit (edit.Set n (item.Side s))) = lit≤ tt
+few (Edit (edit.Set n (item.Line l))) = lit≤ tt
+few (Edit (edit.Set n (item.Thing t))) = lit≤ tt
+few (Edit (edit.Drop k n)) = lit≤ tt
 few (Room r) = lit≤ tt
 few (Split s) = lit≤ tt
 
-drop-fits : (k : Kind) (n : ℕ) → n ≤ last_of k → command_fault (words_of (Drop k n)) ≡ None
+drop-fits : (k : Kind) (n : ℕ) → n ≤ last_of k → command_fault (words_of (Edit (edit.Drop k n))) ≡ None
 drop-fits kind.Vertex n h = (next _ _ _ _ (item-ok n 32766 h (lit≤ tt)) all-read).none
 drop-fits kind.Sector n h = (next _ _ _ _ (item-ok n 4095 h (lit≤ tt)) all-read).none
 drop-fits kind.Side n h = (next _ _ _ _ (item-ok n 32766 h (lit≤ tt)) all-read).none
@@ -98,34 +101,34 @@ room-fits r h =
 -- the words of a command in range have no fault
 fits : (c : Command) → InRange c → command_fault (words_of c) ≡ None
 fits (Name n) h = (next _ _ _ _ (marker-ok n h) all-read).none
-fits (AddVertex v) h = (vertex-ok v h).none
-fits (AddSector s) h = (sector-ok s h).none
-fits (AddSide s) h = (side-ok s h).none
-fits (AddLine l) h = (line-ok l h).none
-fits (AddThing t) h = (thing-ok t h).none
-fits (SetVertex n v) h = (next _ _ _ _ (item-ok n 32766 h.0 (lit≤ tt)) (vertex-ok v h.1)).none
-fits (SetSector n s) h = (next _ _ _ _ (item-ok n 4095 h.0 (lit≤ tt)) (sector-ok s h.1)).none
-fits (SetSide n s) h = (next _ _ _ _ (item-ok n 32766 h.0 (lit≤ tt)) (side-ok s h.1)).none
-fits (SetLine n l) h = (next _ _ _ _ (item-ok n 32766 h.0 (lit≤ tt)) (line-ok l h.1)).none
-fits (SetThing n t) h = (next _ _ _ _ (item-ok n 32766 h.0 (lit≤ tt)) (thing-ok t h.1)).none
-fits (Drop k n) h = drop-fits k n h
+fits (Edit (edit.Add (item.Vertex v))) h = (vertex-ok v h).none
+fits (Edit (edit.Add (item.Sector s))) h = (sector-ok s h).none
+fits (Edit (edit.Add (item.Side s))) h = (side-ok s h).none
+fits (Edit (edit.Add (item.Line l))) h = (line-ok l h).none
+fits (Edit (edit.Add (item.Thing t))) h = (thing-ok t h).none
+fits (Edit (edit.Set n (item.Vertex v))) h = (next _ _ _ _ (item-ok n 32766 h.0 (lit≤ tt)) (vertex-ok v h.1)).none
+fits (Edit (edit.Set n (item.Sector s))) h = (next _ _ _ _ (item-ok n 4095 h.0 (lit≤ tt)) (sector-ok s h.1)).none
+fits (Edit (edit.Set n (item.Side s))) h = (next _ _ _ _ (item-ok n 32766 h.0 (lit≤ tt)) (side-ok s h.1)).none
+fits (Edit (edit.Set n (item.Line l))) h = (next _ _ _ _ (item-ok n 32766 h.0 (lit≤ tt)) (line-ok l h.1)).none
+fits (Edit (edit.Set n (item.Thing t))) h = (next _ _ _ _ (item-ok n 32766 h.0 (lit≤ tt)) (thing-ok t h.1)).none
+fits (Edit (edit.Drop k n)) h = drop-fits k n h
 fits (Room r) h = room-fits r h
 fits (Split s) h = (next _ _ _ _ (item-ok s.line 32766 h.0 (lit≤ tt)) (vertex-ok s.at h.1)).none
 
 -- the parts of a command's line are its words
 pub parts-spelling : (c : Command) → InRange c → parts (spelling c) ≡ words_of c
 parts-spelling (Name n) h = parts-join _ _ (texts (Name n) h)
-parts-spelling (AddVertex v) h = parts-join _ _ (texts (AddVertex v) h)
-parts-spelling (AddSector s) h = parts-join _ _ (texts (AddSector s) h)
-parts-spelling (AddSide s) h = parts-join _ _ (texts (AddSide s) h)
-parts-spelling (AddLine l) h = parts-join _ _ (texts (AddLine l) h)
-parts-spelling (AddThing t) h = parts-join _ _ (texts (AddThing t) h)
-parts-spelling (SetVertex n v) h = parts-join _ _ (texts (SetVertex n v) h)
-parts-spelling (SetSector n s) h = parts-join _ _ (texts (SetSector n s) h)
-parts-spelling (SetSide n s) h = parts-join _ _ (texts (SetSide n s) h)
-parts-spelling (SetLine n l) h = parts-join _ _ (texts (SetLine n l) h)
-parts-spelling (SetThing n t) h = parts-join _ _ (texts (SetThing n t) h)
-parts-spelling (Drop k n) h = parts-join _ _ (texts (Drop k n) h)
+parts-spelling (Edit (edit.Add (item.Vertex v))) h = parts-join _ _ (texts (Edit (edit.Add (item.Vertex v))) h)
+parts-spelling (Edit (edit.Add (item.Sector s))) h = parts-join _ _ (texts (Edit (edit.Add (item.Sector s))) h)
+parts-spelling (Edit (edit.Add (item.Side s))) h = parts-join _ _ (texts (Edit (edit.Add (item.Side s))) h)
+parts-spelling (Edit (edit.Add (item.Line l))) h = parts-join _ _ (texts (Edit (edit.Add (item.Line l))) h)
+parts-spelling (Edit (edit.Add (item.Thing t))) h = parts-join _ _ (texts (Edit (edit.Add (item.Thing t))) h)
+parts-spelling (Edit (edit.Set n (item.Vertex v))) h = parts-join _ _ (texts (Edit (edit.Set n (item.Vertex v))) h)
+parts-spelling (Edit (edit.Set n (item.Sector s))) h = parts-join _ _ (texts (Edit (edit.Set n (item.Sector s))) h)
+parts-spelling (Edit (edit.Set n (item.Side s))) h = parts-join _ _ (texts (Edit (edit.Set n (item.Side s))) h)
+parts-spelling (Edit (edit.Set n (item.Line l))) h = parts-join _ _ (texts (Edit (edit.Set n (item.Line l))) h)
+parts-spelling (Edit (edit.Set n (item.Thing t))) h = parts-join _ _ (texts (Edit (edit.Set n (item.Thing t))) h)
+parts-spelling (Edit (edit.Drop k n)) h = parts-join _ _ (texts (Edit (edit.Drop k n)) h)
 parts-spelling (Room r) h = parts-join _ _ (texts (Room r) h)
 parts-spelling (Split s) h = parts-join _ _ (texts (Split s) h)
 

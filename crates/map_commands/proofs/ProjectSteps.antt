@@ -18,11 +18,13 @@ use Rattle.map_tables.specs.Tables.{Tables, empty_tables, part_len}
 use Rattle.map_tables.specs.Tables as of_one
 use Rattle.map_tables.proofs.ProjectLemmas.{body_len_with, current_of, with_current_of}
 use Rattle.map_commands.specs.declared.command.Command.{Command}
-use Rattle.map_commands.specs.declared.command.Command.TheVariants.{Name, AddVertex, AddSector, AddSide, AddLine, AddThing, SetVertex, SetSector, SetSide, SetLine, SetThing, Drop, Room, Split}
+use Rattle.map_commands.specs.declared.command.Command.TheVariants.{Name, Edit, Room, Split}
+use Rattle.map_tables.specs.declared.edit.Edit.TheVariants as edit
+use Rattle.map_tables.specs.declared.edit.Item.TheVariants as item
 use Rattle.map_commands.specs.declared.error.CommandError.{CommandError}
 use Rattle.map_commands.specs.declared.error.CommandError.TheVariants.{NotACommand, OutOfRange, NoVertex, NoSector, NoSide, NoLine, NoThing, InUse, SameEnds, PlaceTaken, TwoSidedWithoutLeft, TableFull, LineTooLong, ProjectFull, BadName, TooManyMaps, MapNameTaken, NoSuchMap, CurrentMap, OutOfMemory}
 use Rattle.map_commands.specs.declared.project.command.ProjectCommand.{ProjectCommand}
-use Rattle.map_commands.specs.declared.project.command.ProjectCommand.TheVariants.{Edit, SelectMap, DropMap}
+use Rattle.map_commands.specs.declared.project.command.ProjectCommand.TheVariants.{Current, SelectMap, DropMap}
 use Rattle.map_commands.specs.Errors.{code_of}
 use Rattle.map_commands.specs.ProjectCommands.{InProjectRange}
 use Rattle.map_commands.specs.ProjectReadiness.{CanCommit, RefusesStep, project_growth_of, project_need_of}
@@ -93,27 +95,27 @@ one-of-two false u i j k e h g = let is = alone u j k e in omega (arith, is)
 
 naming-low : (p : ProjectMaps) (c : Command) (k : ℕ) → least (naming_faults p c) ≡ Some k → k ≤ 19
 naming-low p (Name name) k e = let is = alone _ 17 k e in omega (arith, is)
-naming-low p (AddVertex v) k e = absurd cc
-naming-low p (AddSector s) k e = absurd cc
-naming-low p (AddSide s) k e = absurd cc
-naming-low p (AddLine l) k e = absurd cc
-naming-low p (AddThing t) k e = absurd cc
-naming-low p (SetVertex n v) k e = absurd cc
-naming-low p (SetSector n s) k e = absurd cc
-naming-low p (SetSide n s) k e = absurd cc
-naming-low p (SetLine n l) k e = absurd cc
-naming-low p (SetThing n t) k e = absurd cc
-naming-low p (Drop kind n) k e = absurd cc
+naming-low p (Edit (edit.Add (item.Vertex v))) k e = absurd cc
+naming-low p (Edit (edit.Add (item.Sector s))) k e = absurd cc
+naming-low p (Edit (edit.Add (item.Side s))) k e = absurd cc
+naming-low p (Edit (edit.Add (item.Line l))) k e = absurd cc
+naming-low p (Edit (edit.Add (item.Thing t))) k e = absurd cc
+naming-low p (Edit (edit.Set n (item.Vertex v))) k e = absurd cc
+naming-low p (Edit (edit.Set n (item.Sector s))) k e = absurd cc
+naming-low p (Edit (edit.Set n (item.Side s))) k e = absurd cc
+naming-low p (Edit (edit.Set n (item.Line l))) k e = absurd cc
+naming-low p (Edit (edit.Set n (item.Thing t))) k e = absurd cc
+naming-low p (Edit (edit.Drop kind n)) k e = absurd cc
 naming-low p (Room r) k e = absurd cc
 naming-low p (Split s) k e = absurd cc
 
 maps-low : (p : ProjectMaps) (c : ProjectCommand) (k : ℕ) → least (map_faults p c) ≡ Some k → k ≤ 19
-maps-low p (Edit c) k e = naming-low p c k e
+maps-low p (Current c) k e = naming-low p c k e
 maps-low p (SelectMap name) k e = let is = alone _ 16 k e in omega (arith, is)
 maps-low p (DropMap name) k e = one-of-two _ _ 18 19 k e (omega arith) (omega arith)
 
 current-low : (p : ProjectMaps) (c : ProjectCommand) (k : ℕ) → least (current_faults p c) ≡ Some k → k ≤ 19
-current-low p (Edit c) k e = let low = code_is_low (current_map p) c k e in omega (arith, low)
+current-low p (Current c) k e = let low = code_is_low (current_map p) c k e in omega (arith, low)
 current-low p (SelectMap name) k e = absurd cc
 current-low p (DropMap name) k e = absurd cc
 
@@ -165,12 +167,12 @@ with-others : (cap k o a b x y : ℕ) → cap ≡ k + o → x ≡ a + o → y �
 with-others cap k o a b x y e f g h = (λ i. nat_lt (e i) (f i)) ∙ shifted k a o ∙ h ∙ sym (shifted k b o) ∙ (λ i. nat_lt (sym e i) (sym g i))
 
 -- the project with another current map, as a contract sees it
-pub edited-project : (v w : MapsView) (c : Command) → w.others ≡ v.others → w.tables ≡ step_one.after v.tables c → project_of w ≡ project_after (project_of v) (Edit c)
+pub edited-project : (v w : MapsView) (c : Command) → w.others ≡ v.others → w.tables ≡ step_one.after v.tables c → project_of w ≡ project_after (project_of v) (Current c)
 edited-project v w c same is =
     with_current_of v w same ∙ ap (with_current (project_of v)) (is ∙ ap (λ m. step_one.after m c) (sym (current_of v)))
 
 edit-fullness : (v : MapsView) (c : Command) (cap : ℕ) → body_len (project_of v) ≤ cap
-    → nat_lt cap (body_len (project_after (project_of v) (Edit c))) ≡ nat_lt cap (body_len (project_of v) + project_growth_of (project_of v) (Edit c))
+    → nat_lt cap (body_len (project_after (project_of v) (Current c))) ≡ nat_lt cap (body_len (project_of v) + project_growth_of (project_of v) (Current c))
 edit-fullness v c cap fits =
     let w : MapsView = record v { tables = step_one.after v.tables c } in
     let old = body_len (project_of v) in
@@ -179,7 +181,7 @@ edit-fullness v c cap fits =
     let new = ap body_len (edited-project v w c refl refl) in
     let o = old - (part_len v.tables + 2) in
     let growth = ready_one.growth_of (ready_one.need_of c) in
-    with-others cap (cap - o) o (of_one.body_len_of_one w.tables) (of_one.body_len_of_one v.tables + growth) (body_len (project_after (project_of v) (Edit c))) (old + growth)
+    with-others cap (cap - o) o (of_one.body_len_of_one w.tables) (of_one.body_len_of_one v.tables + growth) (body_len (project_after (project_of v) (Current c))) (old + growth)
     (omega (arith, fits, part)) (omega (arith, part, whole, new)) (omega (arith, part))
     (steps.fullness v.tables c (cap - o) (omega (arith, fits, part)))
 
@@ -203,7 +205,7 @@ both-fit a b cap h i = le-ltb cap a h ∙ sym (le-ltb cap b i)
 -- the new body is too long exactly where the old one and what is added are
 pub fullness : (v : MapsView) (c : ProjectCommand) (cap : ℕ) → body_len (project_of v) ≤ cap
     → nat_lt cap (body_len (project_after (project_of v) c)) ≡ nat_lt cap (body_len (project_of v) + project_growth_of (project_of v) c)
-fullness v (Edit c) cap fits = edit-fullness v c cap fits
+fullness v (Current c) cap fits = edit-fullness v c cap fits
 fullness v (SelectMap name) cap fits =
     ap (nat_lt cap) (selected-len (project_of v).maps (with_name empty_tables name) (has_map (project_of v) name) refl)
 fullness v (DropMap name) cap fits =
@@ -247,7 +249,7 @@ pub renamed : (v w : MapsView) (name : Name8) (r : Result ⊤ MapError) → leas
 renamed v w name r free same ends =
     let u : MapsView = record v { tables = with_name v.tables name } in
     let there = edited-project v u (Name name) refl refl in
-    let here = ends-as r (least (name_faults (project_of v) name)) (project_after (project_of v) (Edit (Name name))) tt (project_of v) (project_of w) free ends in
+    let here = ends-as r (least (name_faults (project_of v) name)) (project_after (project_of v) (Current (Name name))) tt (project_of v) (project_of w) free ends in
     sym (current_of w) ∙ ap current_map (sym here ∙ sym there) ∙ current_of u
 
 -- ---- An addition without a decision first
@@ -290,38 +292,38 @@ edit_of m c = unless (least (step_one.faults m c)) (step_one.after m c) (step_on
 
 -- an addition that was made in a body with room for it is the step
 pub added-step : (v w : MapsView) (c : Command) (cap n : ℕ) → body_len (project_of v) ≤ cap
-    → nat_lt cap (body_len (project_of v) + project_growth_of (project_of v) (Edit c)) ≡ false → naming_faults (project_of v) c ≡ []
+    → nat_lt cap (body_len (project_of v) + project_growth_of (project_of v) (Current c)) ≡ false → naming_faults (project_of v) c ≡ []
     → edit_of v.tables c ≡ Ok (w.tables, n) → w.others ≡ v.others
-    → (step (project_of v) (Edit c) cap ≡ Ok (project_of w, n)) × (body_len (project_of w) ≤ cap)
+    → (step (project_of v) (Current c) cap ≡ Ok (project_of w, n)) × (body_len (project_of w) ≤ cap)
 added-step v w c cap n fits room unnamed edit same =
     let p = project_of v in
     let made = made-by (least (step_one.faults v.tables c)) (step_one.after v.tables c) w.tables (step_one.number_of v.tables c) n edit in
     let none : least (step_one.faults (current_map p) c) ≡ None = ap (λ m. least (step_one.faults m c)) (current_of v) ∙ made.0 in
     let free : least (step_one.faults (current_map p) c ++ naming_faults p c) ≡ None =
     least-none (step_one.faults (current_map p) c) (naming_faults p c) none ∙ ap least unnamed in
-    let short = fullness v (Edit c) cap fits ∙ room in
+    let short = fullness v (Current c) cap fits ∙ room in
     let is = edited-project v w c same (sym made.1) in
     let number : step_one.number_of (current_map p) c ≡ n = ap (λ m. step_one.number_of m c) (current_of v) ∙ made.2 in
-    let answer : ◌≡◌ {A = Result (ProjectMaps × ℕ) ℕ} (Ok (project_after p (Edit c), project_number_of p (Edit c))) (Ok (project_of w, n)) =
+    let answer : ◌≡◌ {A = Result (ProjectMaps × ℕ) ℕ} (Ok (project_after p (Current c), project_number_of p (Current c))) (Ok (project_of w, n)) =
     λ i. Ok (sym is i, number i) in (
-      step-accepts p (Edit c) cap free short ∙ answer,
+      step-accepts p (Current c) cap free short ∙ answer,
       ltb-false cap (body_len (project_of w)) (ap (λ q. nat_lt cap (body_len q)) is ∙ short),
     )
 
 -- an addition that was refused other than by lack of memory is refused by the step
 refused-step : (v : MapsView) (c : Command) (cap : ℕ) (e : MapError) → (e ≡ map_error.OutOfMemory → ⊥)
-    → RefusesEdit e (edit_of v.tables c) → IsOk (step (project_of v) (Edit c) cap) → ⊥
+    → RefusesEdit e (edit_of v.tables c) → IsOk (step (project_of v) (Current c) cap) → ⊥
 refused-step v c cap e other h accepted =
     let p = project_of v in
     let code = of_map.code_of e in
     let some = refused-with (least (step_one.faults v.tables c)) (step_one.after v.tables c) (step_one.number_of v.tables c) code (refused-edit e (edit_of v.tables c) other h) in
     let current : least (step_one.faults (current_map p) c) ≡ Some code = ap (λ m. least (step_one.faults m c)) (current_of v) ∙ some in
-    let refused = step-refuses p (Edit c) cap code (least-some (step_one.faults (current_map p) c) (naming_faults p c) code current) in
+    let refused = step-refuses p (Current c) cap code (least-some (step_one.faults (current_map p) c) (naming_faults p c) code current) in
     let never = subst IsOk refused accepted in
     absurd (cc never)
 
 -- the same of a call that was refused
 pub not-accepted : (v : MapsView) (c : Command) (cap : ℕ) (new : Tables) (r : Result ℕ MapError) → (IsErrOf r map_error.OutOfMemory → ⊥) → is_err r ≡ true
-    → EndsEdit r (edit_of v.tables c) v.tables new → IsOk (step (project_of v) (Edit c) cap) → ⊥
+    → EndsEdit r (edit_of v.tables c) v.tables new → IsOk (step (project_of v) (Current c) cap) → ⊥
 not-accepted v c cap new (Ok n) other err h accepted = absurd (cc err)
 not-accepted v c cap new (Err e) other err h accepted = refused-step v c cap e (λ is. other (ap Err is)) h.0 accepted

@@ -11,7 +11,7 @@ use Rattle.map_commands.specs.declared.head.Head.TheVariants as head
 use Rattle.map_commands.specs.declared.project.command.MapHead.{MapHead}
 use Rattle.map_commands.specs.declared.project.command.MapHead.TheVariants as map_head
 use Rattle.map_commands.specs.declared.project.command.ProjectCommand.{ProjectCommand}
-use Rattle.map_commands.specs.declared.project.command.ProjectCommand.TheVariants.{Edit, SelectMap, DropMap}
+use Rattle.map_commands.specs.declared.project.command.ProjectCommand.TheVariants.{Current, SelectMap, DropMap}
 use Rattle.map_commands.specs.Errors.{code_of}
 use Rattle.map_commands.specs.Grammar as of_one_map
 use Rattle.map_commands.specs.Places.{Named, places_fault}
@@ -46,7 +46,7 @@ other-head head.Split = refl
 
 -- the first word behind which a command names a map
 abbrev head_in : ProjectCommand → Option MapHead
-head_in (Edit c) = None
+head_in (Current c) = None
 head_in (SelectMap name) = Some map_head.Select
 head_in (DropMap name) = Some map_head.Drop
 
@@ -59,7 +59,7 @@ second [] = []
 second (w ∷ ws) = first ws
 
 first-word : (c : ProjectCommand) → map_head_of (first (project_words_of c)) ≡ head_in c
-first-word (Edit c) = other-head (spell_one_map.head_for c)
+first-word (Current c) = other-head (spell_one_map.head_for c)
 first-word (SelectMap name) = refl
 first-word (DropMap name) = refl
 
@@ -100,7 +100,7 @@ named-accepted h name is =
 
 -- the line of a command in range has no fault
 pub project_spelling-accepted : (c : ProjectCommand) → InProjectRange c → project_fault_of (project_spelling c) ≡ None
-project_spelling-accepted (Edit c) h =
+project_spelling-accepted (Current c) h =
     as-one-map (spell_one_map.spelling c) (spell_one_map.head_word (spell_one_map.head_for c))
     (spell_one_map.words_behind c) (words_of_one_map.parts-spelling c h) (other-head (spell_one_map.head_for c))
     ∙ words_of_one_map.spelling-accepted c h
@@ -111,7 +111,7 @@ project_spelling-accepted (DropMap name) h = named-accepted map_head.Drop name h
 
 -- the parts of a command's line are its words
 parts-spelling : (c : ProjectCommand) → InProjectRange c → parts (project_spelling c) ≡ project_words_of c
-parts-spelling (Edit c) h = words_of_one_map.parts-spelling c h
+parts-spelling (Current c) h = words_of_one_map.parts-spelling c h
 parts-spelling (SelectMap name) h = parts-join (map_word map_head.Select) (name_text name ∷ []) (named-texts map_head.Select name h)
 parts-spelling (DropMap name) h = parts-join (map_word map_head.Drop) (name_text name ∷ []) (named-texts map_head.Drop name h)
 
@@ -119,13 +119,13 @@ one-name : (m n : Name8) (w v : List ℕ) → IsNamed is_marker m → IsNamed is
 one-name m n w v h g e = h.padded ∙ ap (λ ws. name_of (second ws)) e ∙ sym g.padded
 
 one-command : (c d : ProjectCommand) → InProjectRange c → InProjectRange d → head_in c ≡ head_in d → project_words_of c ≡ project_words_of d → project_spelling c ≡ project_spelling d → c ≡ d
-one-command (Edit c) (Edit d) h g e w s = ap Edit (complete_of_one_map.spelling-one c d h g s)
-one-command (Edit c) (SelectMap n) h g e w s = absurd (cc e)
-one-command (Edit c) (DropMap n) h g e w s = absurd (cc e)
-one-command (SelectMap m) (Edit d) h g e w s = absurd (cc e)
+one-command (Current c) (Current d) h g e w s = ap Current (complete_of_one_map.spelling-one c d h g s)
+one-command (Current c) (SelectMap n) h g e w s = absurd (cc e)
+one-command (Current c) (DropMap n) h g e w s = absurd (cc e)
+one-command (SelectMap m) (Current d) h g e w s = absurd (cc e)
 one-command (SelectMap m) (SelectMap n) h g e w s = ap SelectMap (one-name m n (map_word map_head.Select) (map_word map_head.Select) h g w)
 one-command (SelectMap m) (DropMap n) h g e w s = absurd (cc e)
-one-command (DropMap m) (Edit d) h g e w s = absurd (cc e)
+one-command (DropMap m) (Current d) h g e w s = absurd (cc e)
 one-command (DropMap m) (SelectMap n) h g e w s = absurd (cc e)
 one-command (DropMap m) (DropMap n) h g e w s = ap DropMap (one-name m n (map_word map_head.Drop) (map_word map_head.Drop) h g w)
 

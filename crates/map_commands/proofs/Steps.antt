@@ -9,14 +9,18 @@ use Rattle.map_tables.specs.Tables.{Tables, body_len_of_one}
 use Rattle.map_tables.specs.Outcomes.{least}
 use Rattle.map_tables.specs.Edits.{line_without_vertex, line_without_side, side_without_sector}
 use Rattle.map_commands.specs.declared.command.Command.{Command}
-use Rattle.map_commands.specs.declared.command.Command.TheVariants.{Name, AddVertex, AddSector, AddSide, AddLine, AddThing, SetVertex, SetSector, SetSide, SetLine, SetThing, Drop, Room, Split}
+use Rattle.map_commands.specs.declared.command.Command.TheVariants.{Name, Edit, Room, Split}
+use Rattle.map_tables.specs.declared.edit.Edit.TheVariants as edit
+use Rattle.map_tables.specs.declared.edit.Item.TheVariants as item
 use Rattle.map_commands.specs.Errors.{code_of}
 use Rattle.map_commands.specs.declared.error.CommandError.{CommandError}
 use Rattle.map_commands.specs.declared.error.CommandError.TheVariants.{OutOfMemory}
 use Rattle.map_commands.specs.Readiness.{growth_of, need_of}
 use Rattle.map_commands.specs.Rooms.{corners, room_sector, room_sides, walls}
 use Rattle.map_commands.specs.Splits.{cut_off, cut_short, line_or_some}
-use Rattle.map_commands.specs.Step.{after, drop_faults, faults, without}
+use Rattle.map_commands.specs.Step.{after, faults}
+use Rattle.map_tables.specs.Edits.{without}
+use Rattle.map_tables.specs.Faults.{drop_faults}
 
 -- ---- The least code
 
@@ -60,17 +64,17 @@ drop-low m kind.Thing n = search arith
 
 faults-low : (m : Tables) (c : Command) → are_low (faults m c)
 faults-low m (Name name) = tt
-faults-low m (AddVertex v) = search arith
-faults-low m (AddSector s) = search arith
-faults-low m (AddSide s) = search arith
-faults-low m (AddLine l) = search arith
-faults-low m (AddThing t) = search arith
-faults-low m (SetVertex n v) = search arith
-faults-low m (SetSector n s) = search arith
-faults-low m (SetSide n s) = search arith
-faults-low m (SetLine n l) = search arith
-faults-low m (SetThing n t) = search arith
-faults-low m (Drop k n) = drop-low m k n
+faults-low m (Edit (edit.Add (item.Vertex v))) = search arith
+faults-low m (Edit (edit.Add (item.Sector s))) = search arith
+faults-low m (Edit (edit.Add (item.Side s))) = search arith
+faults-low m (Edit (edit.Add (item.Line l))) = search arith
+faults-low m (Edit (edit.Add (item.Thing t))) = search arith
+faults-low m (Edit (edit.Set n (item.Vertex v))) = search arith
+faults-low m (Edit (edit.Set n (item.Sector s))) = search arith
+faults-low m (Edit (edit.Set n (item.Side s))) = search arith
+faults-low m (Edit (edit.Set n (item.Line l))) = search arith
+faults-low m (Edit (edit.Set n (item.Thing t))) = search arith
+faults-low m (Edit (edit.Drop k n)) = drop-low m k n
 faults-low m (Room r) = search arith
 faults-low m (Split s) = search arith
 
@@ -96,17 +100,17 @@ without-shorter m kind.Thing n = let a = shorter-remove m.things n in omega (ari
 -- the new body is too long exactly where the old one and what is added are
 pub fullness : (m : Tables) (c : Command) (cap : ℕ) → body_len_of_one m ≤ cap → nat_lt cap (body_len_of_one (after m c)) ≡ nat_lt cap (body_len_of_one m + growth_of (need_of c))
 fullness m (Name name) cap fits = ap (nat_lt cap) (omega arith)
-fullness m (AddVertex v) cap fits = ap (nat_lt cap) (omega (arith, length-append m.vertices (v ∷ [])))
-fullness m (AddSector s) cap fits = ap (nat_lt cap) (omega (arith, length-append m.sectors (s ∷ [])))
-fullness m (AddSide s) cap fits = ap (nat_lt cap) (omega (arith, length-append m.sides (s ∷ [])))
-fullness m (AddLine l) cap fits = ap (nat_lt cap) (omega (arith, length-append m.lines (l ∷ [])))
-fullness m (AddThing t) cap fits = ap (nat_lt cap) (omega (arith, length-append m.things (t ∷ [])))
-fullness m (SetVertex n v) cap fits = ap (nat_lt cap) (omega (arith, length-set m.vertices n v))
-fullness m (SetSector n s) cap fits = ap (nat_lt cap) (omega (arith, length-set m.sectors n s))
-fullness m (SetSide n s) cap fits = ap (nat_lt cap) (omega (arith, length-set m.sides n s))
-fullness m (SetLine n l) cap fits = ap (nat_lt cap) (omega (arith, length-set m.lines n l))
-fullness m (SetThing n t) cap fits = ap (nat_lt cap) (omega (arith, length-set m.things n t))
-fullness m (Drop k n) cap fits = let h = without-shorter m k n in both-fit (body_len_of_one (without m k n)) (body_len_of_one m + growth_of (need_of (Drop k n))) cap (omega (arith, h)) (omega arith)
+fullness m (Edit (edit.Add (item.Vertex v))) cap fits = ap (nat_lt cap) (omega (arith, length-append m.vertices (v ∷ [])))
+fullness m (Edit (edit.Add (item.Sector s))) cap fits = ap (nat_lt cap) (omega (arith, length-append m.sectors (s ∷ [])))
+fullness m (Edit (edit.Add (item.Side s))) cap fits = ap (nat_lt cap) (omega (arith, length-append m.sides (s ∷ [])))
+fullness m (Edit (edit.Add (item.Line l))) cap fits = ap (nat_lt cap) (omega (arith, length-append m.lines (l ∷ [])))
+fullness m (Edit (edit.Add (item.Thing t))) cap fits = ap (nat_lt cap) (omega (arith, length-append m.things (t ∷ [])))
+fullness m (Edit (edit.Set n (item.Vertex v))) cap fits = ap (nat_lt cap) (omega (arith, length-set m.vertices n v))
+fullness m (Edit (edit.Set n (item.Sector s))) cap fits = ap (nat_lt cap) (omega (arith, length-set m.sectors n s))
+fullness m (Edit (edit.Set n (item.Side s))) cap fits = ap (nat_lt cap) (omega (arith, length-set m.sides n s))
+fullness m (Edit (edit.Set n (item.Line l))) cap fits = ap (nat_lt cap) (omega (arith, length-set m.lines n l))
+fullness m (Edit (edit.Set n (item.Thing t))) cap fits = ap (nat_lt cap) (omega (arith, length-set m.things n t))
+fullness m (Edit (edit.Drop k n)) cap fits = let h = without-shorter m k n in both-fit (body_len_of_one (without m k n)) (body_len_of_one m + growth_of (need_of (Edit (edit.Drop k n)))) cap (omega (arith, h)) (omega arith)
 fullness m (Room r) cap fits =
     ap (nat_lt cap) (omega (
       arith,

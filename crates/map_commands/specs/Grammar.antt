@@ -5,7 +5,7 @@ use Rattle.map_tables.specs.declared.kind.Kind.TheVariants as kind
 use Rattle.lump_records.specs.Names.{is_marker}
 use Rattle.map_commands.specs.declared.error.CommandError.TheVariants.{NotACommand, OutOfRange}
 use Rattle.map_commands.specs.Errors.{code_of}
-use Rattle.map_commands.specs.CommandRanges.{last_of}
+use Rattle.map_tables.specs.Ranges.{last_of}
 use Rattle.map_commands.specs.Places.{Number, Named, places_fault, item, sector_item, vertex_places, sector_places, side_places, line_places, thing_places, room_places}
 use Rattle.map_commands.specs.Spelling.{head_word, kind_word}
 use Rattle.map_commands.specs.Words.{numeral_value}

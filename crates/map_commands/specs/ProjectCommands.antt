@@ -7,11 +7,11 @@ use Rattle.map_commands.specs.Spelling as of_one_map
 use Rattle.map_commands.specs.declared.project.command.MapHead.{MapHead}
 use Rattle.map_commands.specs.declared.project.command.MapHead.TheVariants as head
 use Rattle.map_commands.specs.declared.project.command.ProjectCommand.{ProjectCommand}
-use Rattle.map_commands.specs.declared.project.command.ProjectCommand.TheVariants.{Edit, SelectMap, DropMap}
+use Rattle.map_commands.specs.declared.project.command.ProjectCommand.TheVariants.{Current, SelectMap, DropMap}
 
 -- each number and name of the command is in its range
 abbrev pub InProjectRange : ProjectCommand → Type 0
-InProjectRange (Edit c) = of_one.InRange c
+InProjectRange (Current c) = of_one.InRange c
 InProjectRange (SelectMap name) = IsNamed is_marker name
 InProjectRange (DropMap name) = IsNamed is_marker name
 
@@ -22,7 +22,7 @@ map_word head.Drop = codes "drop-map"
 
 -- the words of a command
 abbrev pub project_words_of : ProjectCommand → List (List ℕ)
-project_words_of (Edit c) = of_one_map.words_of c
+project_words_of (Current c) = of_one_map.words_of c
 project_words_of (SelectMap name) = map_word head.Select ∷ name_text name ∷ []
 project_words_of (DropMap name) = map_word head.Drop ∷ name_text name ∷ []
 

@@ -12,11 +12,11 @@ use Rattle.map_commands.specs.Step as of_one_map
 use Rattle.map_commands.specs.declared.command.Command.{Command}
 use Rattle.map_commands.specs.declared.command.Command.TheVariants.{Name}
 use Rattle.map_commands.specs.declared.project.command.ProjectCommand.{ProjectCommand}
-use Rattle.map_commands.specs.declared.project.command.ProjectCommand.TheVariants.{Edit, SelectMap, DropMap}
+use Rattle.map_commands.specs.declared.project.command.ProjectCommand.TheVariants.{Current, SelectMap, DropMap}
 
 -- why the current map refuses it, from NoVertex to LineTooLong
 abbrev pub current_faults : ProjectMaps → ProjectCommand → List (ℕ × Bool)
-current_faults p (Edit c) = of_one_map.faults (current_map p) c
+current_faults p (Current c) = of_one_map.faults (current_map p) c
 current_faults p (SelectMap name) = []
 current_faults p (DropMap name) = []
 
@@ -27,19 +27,19 @@ naming_faults p _ = []
 
 -- why the list of maps refuses it, from TooManyMaps to CurrentMap
 abbrev pub map_faults : ProjectMaps → ProjectCommand → List (ℕ × Bool)
-map_faults p (Edit c) = naming_faults p c
+map_faults p (Current c) = naming_faults p c
 map_faults p (SelectMap name) = select_faults p name
 map_faults p (DropMap name) = drop_map_faults p name
 
 -- the project that a command leaves, where it is accepted
 abbrev pub project_after : ProjectMaps → ProjectCommand → ProjectMaps
-project_after p (Edit c) = with_current p (of_one_map.after (current_map p) c)
+project_after p (Current c) = with_current p (of_one_map.after (current_map p) c)
 project_after p (SelectMap name) = with_selected p name
 project_after p (DropMap name) = without_map p name
 
 -- the number that is answered: as for the current map alone, and else that of the named map
 abbrev pub project_number_of : ProjectMaps → ProjectCommand → ℕ
-project_number_of p (Edit c) = of_one_map.number_of (current_map p) c
+project_number_of p (Current c) = of_one_map.number_of (current_map p) c
 project_number_of p (SelectMap name) = project.map_number_of p name
 project_number_of p (DropMap name) = project.map_number_of p name
 

@@ -9,7 +9,8 @@ use Rattle.lump_records.specs.Names.{name_of}
 use Rattle.lump_records.specs.Sides.{no_side}
 use Rattle.map_commands.specs.declared.error.CommandError.TheVariants.{PlaceTaken, TableFull}
 use Rattle.map_commands.specs.Errors.{code_of}
-use Rattle.map_tables.specs.Tables.{Tables, Counts}
+use Rattle.map_tables.specs.declared.edit.Need.{Need}
+use Rattle.map_tables.specs.Tables.{Tables}
 use Rattle.map_tables.specs.Faults.{is_taken, lacks_room, lacks_sector_room}
 use Rattle.map_commands.specs.declared.command.RoomPlan.{RoomPlan}
 
@@ -61,14 +62,15 @@ abbrev pub walls : ℕ → ℕ → List Line
 walls v d = wall v (v + 1) d ∷ wall (v + 1) (v + 2) (d + 1) ∷ wall (v + 2) (v + 3) (d + 2)
     ∷ wall (v + 3) v (d + 3) ∷ []
 
--- the map with more vertices, sides or lines
-
+-- the map with more vertices
 abbrev pub with_vertices : Tables → List Vertex → Tables
 with_vertices m vertices = record m { vertices = m.vertices ++ vertices }
 
+-- the map with more sides
 abbrev pub with_sides : Tables → List Side → Tables
 with_sides m sides = record m { sides = m.sides ++ sides }
 
+-- the map with more lines
 abbrev pub with_lines : Tables → List Line → Tables
 with_lines m lines = record m { lines = m.lines ++ lines }
 
@@ -93,10 +95,10 @@ room_faults m r =
     )
     ∷ []
 
--- four items of one kind
-
-abbrev pub four_vertices : Counts
+-- four vertices
+abbrev pub four_vertices : Need
 four_vertices = record { vertices = 4; sectors = 0; sides = 0; lines = 0; things = 0 }
 
-abbrev pub four_sides : Counts
+-- four sides
+abbrev pub four_sides : Need
 four_sides = record { vertices = 0; sectors = 0; sides = 4; lines = 0; things = 0 }

@@ -15,7 +15,10 @@ use Rattle.map_commands.specs.declared.head.Head.{Head}
 use Rattle.map_commands.specs.declared.head.Head.TheVariants as head
 use Rattle.map_commands.specs.declared.command.RoomPlan.{RoomPlan}
 use Rattle.map_commands.specs.declared.command.Command.{Command}
-use Rattle.map_commands.specs.declared.command.Command.TheVariants.{Name, AddVertex, AddSector, AddSide, AddLine, AddThing, SetVertex, SetSector, SetSide, SetLine, SetThing, Drop, Room, Split}
+use Rattle.map_commands.specs.declared.command.Command.TheVariants.{Name, Edit, Room, Split}
+use Rattle.map_tables.specs.declared.edit.Edit.TheVariants as edit
+use Rattle.map_tables.specs.declared.edit.Item.{Item}
+use Rattle.map_tables.specs.declared.edit.Item.TheVariants as item
 
 -- the first word of a command
 abbrev pub head_word : Head → List ℕ
@@ -86,37 +89,45 @@ room_words r =
     ∷ name_text r.ceiling_name
     ∷ name_text r.wall ∷ signed_decimal r.light ∷ []
 
+-- the words of an item
+abbrev pub item_words : Item → List (List ℕ)
+item_words (item.Vertex v) = vertex_words v
+item_words (item.Sector s) = sector_words s
+item_words (item.Side s) = side_words s
+item_words (item.Line l) = line_words l
+item_words (item.Thing t) = thing_words t
+
+-- the first word of the command that adds an item
+abbrev pub add_head : Item → Head
+add_head (item.Vertex v) = head.Vertex
+add_head (item.Sector s) = head.Sector
+add_head (item.Side s) = head.Side
+add_head (item.Line l) = head.Line
+add_head (item.Thing t) = head.Thing
+
+-- the first word of the command that changes one
+abbrev pub set_head : Item → Head
+set_head (item.Vertex v) = head.MoveVertex
+set_head (item.Sector s) = head.SetSector
+set_head (item.Side s) = head.SetSide
+set_head (item.Line l) = head.SetLine
+set_head (item.Thing t) = head.SetThing
+
 -- the first word of a command
 abbrev pub head_for : Command → Head
 head_for (Name n) = head.Name
-head_for (AddVertex v) = head.Vertex
-head_for (AddSector s) = head.Sector
-head_for (AddSide s) = head.Side
-head_for (AddLine l) = head.Line
-head_for (AddThing t) = head.Thing
-head_for (SetVertex i v) = head.MoveVertex
-head_for (SetSector i s) = head.SetSector
-head_for (SetSide i s) = head.SetSide
-head_for (SetLine i l) = head.SetLine
-head_for (SetThing i t) = head.SetThing
-head_for (Drop k i) = head.Drop
+head_for (Edit (edit.Add i)) = add_head i
+head_for (Edit (edit.Set n i)) = set_head i
+head_for (Edit (edit.Drop k i)) = head.Drop
 head_for (Room r) = head.Room
 head_for (Split s) = head.Split
 
 -- the words behind the first
 abbrev pub words_behind : Command → List (List ℕ)
 words_behind (Name n) = name_text n ∷ []
-words_behind (AddVertex v) = vertex_words v
-words_behind (AddSector s) = sector_words s
-words_behind (AddSide s) = side_words s
-words_behind (AddLine l) = line_words l
-words_behind (AddThing t) = thing_words t
-words_behind (SetVertex i v) = decimal i ∷ vertex_words v
-words_behind (SetSector i s) = decimal i ∷ sector_words s
-words_behind (SetSide i s) = decimal i ∷ side_words s
-words_behind (SetLine i l) = decimal i ∷ line_words l
-words_behind (SetThing i t) = decimal i ∷ thing_words t
-words_behind (Drop k i) = kind_word k ∷ decimal i ∷ []
+words_behind (Edit (edit.Add i)) = item_words i
+words_behind (Edit (edit.Set n i)) = decimal n ∷ item_words i
+words_behind (Edit (edit.Drop k i)) = kind_word k ∷ decimal i ∷ []
 words_behind (Room r) = room_words r
 words_behind (Split s) = decimal s.line ∷ vertex_words s.at
 

@@ -1,6 +1,6 @@
 //! The commands of a map.
-use lump_records::{Line, Name8, Sector, Side, Thing, Vertex};
-use map_tables::Kind;
+use lump_records::{Name8, Vertex};
+use map_tables::Edit;
 
 /// A rectangular sector between two corners, with a line and a side along each edge. The right side of each line faces
 /// inwards. Coordinates and heights are in map units.
@@ -30,19 +30,8 @@ pub struct LineSplit {
 pub enum Command {
     /// The map's name.
     Name(Name8),
-    AddVertex(Vertex),
-    AddSector(Sector),
-    AddSide(Side),
-    AddLine(Line),
-    AddThing(Thing),
-    /// The number of an item and its new value, as in the other `Set` commands.
-    SetVertex(u16, Vertex),
-    SetSector(u16, Sector),
-    SetSide(u16, Side),
-    SetLine(u16, Line),
-    SetThing(u16, Thing),
-    /// A table, and the number of the item to remove.
-    Drop(Kind, u16),
+    /// A change of one item.
+    Edit(Edit),
     Room(RoomPlan),
     Split(LineSplit),
 }

@@ -9,7 +9,7 @@ ghost use Rattle.lump_records.specs.Drawing.{longest_squared, squared_distance};
 ghost use Rattle.map_tables.specs.WellFormed.{HasEnds, nth_vertex};
 ghost use Rattle.map_commands.specs.Rooms.{corners, room_faults};
 ghost use Rattle.map_commands.specs.Splits.{cut_faults, cut_off, cut_short, split_faults};
-ghost use Rattle.map_commands.specs.Step.{drop_faults, faults};
+ghost use Rattle.map_commands.specs.Step.{faults};
 
 use crate::command::{Command, LineSplit, RoomPlan};
 use crate::room::corners_of;
@@ -22,19 +22,6 @@ fn lacks_room(map: &Map, kind: Kind, more: u32) -> bool
     ensures { result ≡ nat_lt (table_limit kind) (count_of map.now.tables kind + more) }
 {
     map.count(kind) + more > kind.limit()
-}
-
-// Whether an item can be removed.
-fn can_drop(map: &Map, kind: Kind, n: u32) -> Result<(), MapError>
-    ensures { Tells result (drop_faults map.now.tables kind n) }
-{
-    match kind {
-        Kind::Vertex => map.can_drop_vertex(n),
-        Kind::Sector => map.can_drop_sector(n),
-        Kind::Side => map.can_drop_side(n),
-        Kind::Line => map.can_drop_line(n),
-        Kind::Thing => map.can_drop_thing(n),
-    }
 }
 
 // Whether a vertex already stands at a corner.
@@ -131,17 +118,7 @@ pub fn can_do(map: &Map, command: &Command) -> Result<(), MapError>
 {
     match command {
         Command::Name(_) => Ok(()),
-        Command::AddVertex(vertex) => map.can_add_vertex(*vertex),
-        Command::AddSector(_) => map.can_add_sector(),
-        Command::AddSide(side) => map.can_add_side(*side),
-        Command::AddLine(line) => map.can_add_line(*line),
-        Command::AddThing(_) => map.can_add_thing(),
-        Command::SetVertex(n, vertex) => map.can_set_vertex(u32::from(*n), *vertex),
-        Command::SetSector(n, _) => map.can_set_sector(u32::from(*n)),
-        Command::SetSide(n, side) => map.can_set_side(u32::from(*n), *side),
-        Command::SetLine(n, line) => map.can_set_line(u32::from(*n), *line),
-        Command::SetThing(n, _) => map.can_set_thing(u32::from(*n)),
-        Command::Drop(kind, n) => can_drop(map, *kind, u32::from(*n)),
+        Command::Edit(edit) => map.can_edit(edit),
         Command::Room(plan) => can_draw(map, plan),
         Command::Split(split) => can_split(map, split),
     }

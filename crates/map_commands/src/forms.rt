@@ -16,6 +16,7 @@ use crate::error::CommandError;
 use crate::keywords::{LAST_ITEM, LAST_SECTOR, kind_in, last_number};
 use crate::unread::UnreadWords;
 use lump_records::{Line, Name8, Sector, Side, Thing, Vertex};
+use map_tables::{Edit, Item};
 
 const LEAST_COORDINATE: i16 = -16384;
 
@@ -166,7 +167,7 @@ impl<'a> UnreadWords<'a> {
     {
         let number = self.item(LAST_SECTOR);
         match self.sector() {
-            Ok(sector) => Ok(Command::SetSector(number, sector)),
+            Ok(sector) => Ok(Command::Edit(Edit::Set(number, Item::Sector(sector)))),
             Err(error) => Err(error),
         }
     }
@@ -181,7 +182,7 @@ impl<'a> UnreadWords<'a> {
     {
         let number = self.item(LAST_ITEM);
         match self.side() {
-            Ok(side) => Ok(Command::SetSide(number, side)),
+            Ok(side) => Ok(Command::Edit(Edit::Set(number, Item::Side(side)))),
             Err(error) => Err(error),
         }
     }
@@ -196,7 +197,7 @@ impl<'a> UnreadWords<'a> {
     {
         let number = self.item(LAST_ITEM);
         match self.line() {
-            Ok(line) => Ok(Command::SetLine(number, line)),
+            Ok(line) => Ok(Command::Edit(Edit::Set(number, Item::Line(line)))),
             Err(error) => Err(error),
         }
     }
@@ -211,7 +212,7 @@ impl<'a> UnreadWords<'a> {
     {
         let number = self.item(LAST_ITEM);
         match self.thing() {
-            Ok(thing) => Ok(Command::SetThing(number, thing)),
+            Ok(thing) => Ok(Command::Edit(Edit::Set(number, Item::Thing(thing)))),
             Err(error) => Err(error),
         }
     }
@@ -281,7 +282,7 @@ impl<'a> UnreadWords<'a> {
         };
         let number = self.item(last_number(kind));
         match self.finish() {
-            Ok(()) => Ok(Command::Drop(kind, number)),
+            Ok(()) => Ok(Command::Edit(Edit::Drop(kind, number))),
             Err(error) => Err(error),
         }
     }

@@ -12,6 +12,7 @@ use crate::error::CommandError;
 use crate::head::Head;
 use crate::keywords::head_in;
 use crate::unread::UnreadWords;
+use map_tables::{Edit, Item};
 
 // Reads the command that begins with this first word.
 fn command(head: Head, words: UnreadWords) -> Result<Command, CommandError>
@@ -22,14 +23,14 @@ fn command(head: Head, words: UnreadWords) -> Result<Command, CommandError>
 {
     match head {
         Head::Name => Ok(Command::Name(words.map_name()?)),
-        Head::Vertex => Ok(Command::AddVertex(words.vertex()?)),
-        Head::Sector => Ok(Command::AddSector(words.sector()?)),
-        Head::Side => Ok(Command::AddSide(words.side()?)),
-        Head::Line => Ok(Command::AddLine(words.line()?)),
-        Head::Thing => Ok(Command::AddThing(words.thing()?)),
+        Head::Vertex => Ok(Command::Edit(Edit::Add(Item::Vertex(words.vertex()?)))),
+        Head::Sector => Ok(Command::Edit(Edit::Add(Item::Sector(words.sector()?)))),
+        Head::Side => Ok(Command::Edit(Edit::Add(Item::Side(words.side()?)))),
+        Head::Line => Ok(Command::Edit(Edit::Add(Item::Line(words.line()?)))),
+        Head::Thing => Ok(Command::Edit(Edit::Add(Item::Thing(words.thing()?)))),
         Head::MoveVertex => {
             let (n, vertex) = words.numbered_vertex()?;
-            Ok(Command::SetVertex(n, vertex))
+            Ok(Command::Edit(Edit::Set(n, Item::Vertex(vertex))))
         }
         Head::SetSector => words.set_sector(),
         Head::SetSide => words.set_side(),

@@ -1,9 +1,11 @@
 //! What a command adds to the tables of a map, and by how much that lengthens a body.
 ghost use Rattle.std.specs.Prelude.{◌≡◌};
 ghost use Rattle.map_commands.specs.Readiness.{growth_of, need_of};
+ghost use Rattle.map_tables.specs.Outcomes.{one_of};
+ghost use Rattle.map_tables.specs.Tables.{kind_of_item};
 
 use crate::command::Command;
-use map_tables::Need;
+use map_tables::{Edit, Item, Need};
 
 /// No item.
 pub const NO_NEED: Need = Need {
@@ -14,31 +16,40 @@ pub const NO_NEED: Need = Need {
     things: 0,
 };
 
+// One item, in its table.
+fn one_of(item: &Item) -> Need
+    ensures { result ≡ one_of (kind_of_item item.now) }
+{
+    match item {
+        Item::Vertex(_) => Need {
+            vertices: 1,
+            ..NO_NEED
+        },
+        Item::Sector(_) => Need {
+            sectors: 1,
+            ..NO_NEED
+        },
+        Item::Side(_) => Need {
+            sides: 1,
+            ..NO_NEED
+        },
+        Item::Line(_) => Need {
+            lines: 1,
+            ..NO_NEED
+        },
+        Item::Thing(_) => Need {
+            things: 1,
+            ..NO_NEED
+        },
+    }
+}
+
 /// How many items a command adds to each table.
 pub fn need_of(command: &Command) -> Need
     ensures { result ≡ need_of command.now }
 {
     match command {
-        Command::AddVertex(_) => Need {
-            vertices: 1,
-            ..NO_NEED
-        },
-        Command::AddSector(_) => Need {
-            sectors: 1,
-            ..NO_NEED
-        },
-        Command::AddSide(_) => Need {
-            sides: 1,
-            ..NO_NEED
-        },
-        Command::AddLine(_) => Need {
-            lines: 1,
-            ..NO_NEED
-        },
-        Command::AddThing(_) => Need {
-            things: 1,
-            ..NO_NEED
-        },
+        Command::Edit(Edit::Add(item)) => one_of(item),
         Command::Room(_) => Need {
             vertices: 4,
             sectors: 1,

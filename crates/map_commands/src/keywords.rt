@@ -1,6 +1,6 @@
 //! The spelling of first words and of tables, and the greatest number of an item of each.
 ghost use Rattle.std.specs.Prelude.{◌≡◌, ◌≤◌, IfSome, bytes_eq};
-ghost use Rattle.map_commands.specs.CommandRanges.{last_of};
+ghost use Rattle.map_tables.specs.Ranges.{last_of};
 ghost use Rattle.map_commands.specs.Grammar.{head_of, kind_of};
 ghost use Rattle.map_commands.specs.Spelling.{head_word, kind_word};
 

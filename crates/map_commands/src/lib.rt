@@ -22,5 +22,5 @@ pub use command::{Command, LineSplit, RoomPlan};
 pub use error::CommandError;
 pub use project::{
     ProjectCommand, Ready, accept_each_spelling, apply, commit, end_in_one_way,
-    lead_to_one_project, parse, print, ready, spell_one_command,
+    lead_to_one_project, need_of, parse, print, ready, spell_one_command,
 };

@@ -2,7 +2,7 @@
 ghost use Rattle.std.specs.Prelude.{◌≡◌, ◌∷◌, IfOk, IsOkUnless};
 ghost use Rattle.std.specs.List.{join_with_byte};
 ghost use Rattle.map_commands.specs.CommandRanges.{InRange};
-ghost use Rattle.map_commands.specs.Spelling.{head_for, spelling, words_behind};
+ghost use Rattle.map_commands.specs.Spelling.{add_head, head_for, set_head, spelling, words_behind};
 ghost use Rattle.map_commands.specs.Views.{Adds, written};
 
 use crate::command::Command;
@@ -10,7 +10,34 @@ use crate::error::CommandError;
 use crate::head::Head;
 use crate::keywords::head_text;
 use crate::text::Text;
+use map_tables::{Edit, Item};
 use std::alloc::{AllocError, Global};
+
+// The first word of a command that adds an item.
+fn add_head(item: &Item) -> Head
+    ensures { result ≡ add_head item.now }
+{
+    match item {
+        Item::Vertex(_) => Head::Vertex,
+        Item::Sector(_) => Head::Sector,
+        Item::Side(_) => Head::Side,
+        Item::Line(_) => Head::Line,
+        Item::Thing(_) => Head::Thing,
+    }
+}
+
+// The first word of a command that changes an item.
+fn set_head(item: &Item) -> Head
+    ensures { result ≡ set_head item.now }
+{
+    match item {
+        Item::Vertex(_) => Head::MoveVertex,
+        Item::Sector(_) => Head::SetSector,
+        Item::Side(_) => Head::SetSide,
+        Item::Line(_) => Head::SetLine,
+        Item::Thing(_) => Head::SetThing,
+    }
+}
 
 // The first word of a command.
 fn head_for(command: &Command) -> Head
@@ -18,17 +45,9 @@ fn head_for(command: &Command) -> Head
 {
     match command {
         Command::Name(_) => Head::Name,
-        Command::AddVertex(_) => Head::Vertex,
-        Command::AddSector(_) => Head::Sector,
-        Command::AddSide(_) => Head::Side,
-        Command::AddLine(_) => Head::Line,
-        Command::AddThing(_) => Head::Thing,
-        Command::SetVertex(_, _) => Head::MoveVertex,
-        Command::SetSector(_, _) => Head::SetSector,
-        Command::SetSide(_, _) => Head::SetSide,
-        Command::SetLine(_, _) => Head::SetLine,
-        Command::SetThing(_, _) => Head::SetThing,
-        Command::Drop(_, _) => Head::Drop,
+        Command::Edit(Edit::Add(item)) => add_head(item),
+        Command::Edit(Edit::Set(_, item)) => set_head(item),
+        Command::Edit(Edit::Drop(_, _)) => Head::Drop,
         Command::Room(_) => Head::Room,
         Command::Split(_) => Head::Split,
     }
@@ -42,19 +61,11 @@ fn words_behind(text: Text, command: &Command) -> Result<Text, AllocError>
 {
     match command {
         Command::Name(name) => text.name(name),
-        Command::AddVertex(vertex) => text.vertex(vertex),
-        Command::AddSector(sector) => text.sector(sector),
-        Command::AddSide(side) => text.side(side),
-        Command::AddLine(line) => text.line(line),
-        Command::AddThing(thing) => text.thing(thing),
-        Command::SetVertex(n, vertex) => text.numbered_vertex(*n, vertex),
-        Command::SetSector(n, sector) => text.numbered_sector(*n, sector),
-        Command::SetSide(n, side) => text.numbered_side(*n, side),
-        Command::SetLine(n, line) => text.numbered_line(*n, line),
-        Command::SetThing(n, thing) => text.numbered_thing(*n, thing),
-        Command::Drop(kind, n) => text.item_of(*kind, *n),
+        Command::Edit(Edit::Add(item)) => text.item(item),
+        Command::Edit(Edit::Set(n, item)) => text.numbered(*n, item),
+        Command::Edit(Edit::Drop(kind, n)) => text.item_of(*kind, *n),
         Command::Room(plan) => text.room(plan),
-        Command::Split(split) => text.numbered_vertex(split.line, &split.at),
+        Command::Split(split) => text.numbered(split.line, &Item::Vertex(split.at)),
     }
 }
 

@@ -3,7 +3,7 @@ use crate::command::RoomPlan;
 use crate::keywords::kind_text;
 use crate::names::text_of;
 use lump_records::{Line, NO_SIDE, Name8, Sector, Side, Thing, Vertex};
-use map_tables::Kind;
+use map_tables::{Item, Kind};
 use std::alloc::{AllocError, Global};
 
 /// A command's line, written word by word from the first on.
@@ -18,9 +18,9 @@ impl Text {
     ghost use Rattle.std.specs.List.{join_with_byte};
     ghost use Rattle.std.specs.Str.{IsUtf8};
     ghost use Rattle.lump_records.specs.Names.{name_text};
-    ghost use Rattle.map_tables.specs.Ranges.{IsSector, IsSide};
+    ghost use Rattle.map_tables.specs.Ranges.{IsItem, IsSector, IsSide};
     ghost use Rattle.map_commands.specs.CommandRanges.{IsPlan};
-    ghost use Rattle.map_commands.specs.Spelling.{kind_word, left_word, line_words, room_words, sector_words, side_words, thing_words, vertex_words};
+    ghost use Rattle.map_commands.specs.Spelling.{item_words, kind_word, left_word, line_words, room_words, sector_words, side_words, thing_words, vertex_words};
     ghost use Rattle.map_commands.specs.Views.{Adds, written};
 
     /// A line that has its first word.
@@ -56,8 +56,8 @@ impl Text {
         Ok(self)
     }
 
-    // Adds the number of an item.
-    fn item(mut self, n: u16) -> Result<Self, AllocError>
+    // Adds a number that isn't negative.
+    fn natural(mut self, n: u16) -> Result<Self, AllocError>
         ensures { IfOk result (λ t. Adds self t (32 ∷ decimal n)) }
     {
         write!(self.line, " {n}")?;
@@ -71,7 +71,7 @@ impl Text {
         if n == NO_SIDE {
             self.word("-")
         } else {
-            self.item(n)
+            self.natural(n)
         }
     }
 
@@ -116,19 +116,19 @@ impl Text {
             .name(&side.upper)?
             .name(&side.lower)?
             .name(&side.middle)?
-            .item(side.sector)
+            .natural(side.sector)
     }
 
     /// Adds the words of a line.
     pub fn line(self, line: &Line) -> Result<Self, AllocError>
         ensures { IfOk result (λ t. Adds self t (32 ∷ join_with_byte 32 (line_words line.now))) }
     {
-        self.item(line.v1)?
-            .item(line.v2)?
-            .item(line.flags)?
-            .item(line.special)?
-            .item(line.tag)?
-            .item(line.right)?
+        self.natural(line.v1)?
+            .natural(line.v2)?
+            .natural(line.flags)?
+            .natural(line.special)?
+            .natural(line.tag)?
+            .natural(line.right)?
             .left(line.left)
     }
 
@@ -159,46 +159,28 @@ impl Text {
             .name(&plan.wall)?
             .number(&plan.light)
     }
-    /// Adds the number of an item, and the words of a place.
-    pub fn numbered_vertex(self, n: u16, vertex: &Vertex) -> Result<Self, AllocError>
-        ensures { IfOk result (λ t. Adds self t
-            (32 ∷ join_with_byte 32 (decimal n ∷ vertex_words vertex.now))) }
+
+    /// Adds the words of an item.
+    pub fn item(self, item: &Item) -> Result<Self, AllocError>
+        requires { IsItem item.now }
+        ensures { IfOk result (λ t. Adds self t (32 ∷ join_with_byte 32 (item_words item.now))) }
     {
-        self.item(n)?.vertex(vertex)
+        match item {
+            Item::Vertex(vertex) => self.vertex(vertex),
+            Item::Sector(sector) => self.sector(sector),
+            Item::Side(side) => self.side(side),
+            Item::Line(line) => self.line(line),
+            Item::Thing(thing) => self.thing(thing),
+        }
     }
 
-    /// Adds the number of a sector, and its words.
-    pub fn numbered_sector(self, n: u16, sector: &Sector) -> Result<Self, AllocError>
-        requires { IsSector sector.now }
+    /// Adds the number of an item, and its words.
+    pub fn numbered(self, n: u16, item: &Item) -> Result<Self, AllocError>
+        requires { IsItem item.now }
         ensures { IfOk result (λ t. Adds self t
-            (32 ∷ join_with_byte 32 (decimal n ∷ sector_words sector.now))) }
+            (32 ∷ join_with_byte 32 (decimal n ∷ item_words item.now))) }
     {
-        self.item(n)?.sector(sector)
-    }
-
-    /// Adds the number of a side, and its words.
-    pub fn numbered_side(self, n: u16, side: &Side) -> Result<Self, AllocError>
-        requires { IsSide side.now }
-        ensures { IfOk result (λ t. Adds self t
-            (32 ∷ join_with_byte 32 (decimal n ∷ side_words side.now))) }
-    {
-        self.item(n)?.side(side)
-    }
-
-    /// Adds the number of a line, and its words.
-    pub fn numbered_line(self, n: u16, line: &Line) -> Result<Self, AllocError>
-        ensures { IfOk result (λ t. Adds self t
-            (32 ∷ join_with_byte 32 (decimal n ∷ line_words line.now))) }
-    {
-        self.item(n)?.line(line)
-    }
-
-    /// Adds the number of a thing, and its words.
-    pub fn numbered_thing(self, n: u16, thing: &Thing) -> Result<Self, AllocError>
-        ensures { IfOk result (λ t. Adds self t
-            (32 ∷ join_with_byte 32 (decimal n ∷ thing_words thing.now))) }
-    {
-        self.item(n)?.thing(thing)
+        self.natural(n)?.item(item)
     }
 
     /// Adds the word for a table, and the number of an item of it.
@@ -206,6 +188,6 @@ impl Text {
         ensures { IfOk result (λ t. Adds self t
             (32 ∷ join_with_byte 32 (kind_word kind ∷ decimal n ∷ []))) }
     {
-        self.word(kind_text(kind))?.item(n)
+        self.word(kind_text(kind))?.natural(n)
     }
 }

@@ -17,7 +17,7 @@ use Rattle.map_tables.specs.Projects as project
 use Rattle.map_tables.proofs.ProjectLemmas.{added_is}
 use Rattle.map_commands.specs.declared.command.Command.TheVariants.{Name}
 use Rattle.map_commands.specs.declared.project.command.ProjectCommand.{ProjectCommand}
-use Rattle.map_commands.specs.declared.project.command.ProjectCommand.TheVariants.{Edit, SelectMap}
+use Rattle.map_commands.specs.declared.project.command.ProjectCommand.TheVariants.{Current, SelectMap}
 use Rattle.map_commands.specs.ProjectCommands.{project_spelling}
 use Rattle.map_commands.specs.ProjectStep.{project_number_of}
 use Rattle.map_commands.specs.ProjectLines.{Leads, LeadsTo}
@@ -62,7 +62,7 @@ rename_free m name = by (is_named name m) refl
 
 -- ---- The first map is renamed, each other is added
 
-leads_name : (cap : ℕ) (m : Tables) → WellFormed m → body_len (drawing [] m) ≤ cap → LeadsTo cap empty_project (project_spelling (Edit (Name m.name))) (drawing [] (with_name empty_tables m.name))
+leads_name : (cap : ℕ) (m : Tables) → WellFormed m → body_len (drawing [] m) ≤ cap → LeadsTo cap empty_project (project_spelling (Current (Name m.name))) (drawing [] (with_name empty_tables m.name))
 leads_name cap m w fits =
     leads_one cap [] [] m empty_tables (with_name empty_tables m.name) (Name m.name) (record { range = w.name; free = refl; made = refl; short = omega arith }) (rename_free empty_tables m.name) fits
 
@@ -115,7 +115,7 @@ leads_maps cap p k done m (x ∷ ms) w fits e =
         drawing front (with_name empty_tables x.name),
         leads_new cap (drawing done m) x.name fine.name new room short,
         Draws-append cap (drawing front (with_name empty_tables x.name)) (drawing front x)
-            (record { maps = p.maps; current = rest.0 }) (map Edit (items_of x)) (commands_from (suc (suc k)) ms)
+            (record { maps = p.maps; current = rest.0 }) (map Current (items_of x)) (commands_from (suc (suc k)) ms)
             (leads_items cap front [] x fine part) rest.1,
       ),
     )
@@ -158,7 +158,7 @@ draws_maps cap p m ms w fits e =
         drawing [] (with_name empty_tables m.name),
         leads_name cap m fine part,
         Draws-append cap (drawing [] (with_name empty_tables m.name)) (drawing [] m)
-            (record { maps = p.maps; current = rest.0 }) (map Edit (items_of m)) (commands_from 1 ms)
+            (record { maps = p.maps; current = rest.0 }) (map Current (items_of m)) (commands_from 1 ms)
             (leads_items cap [] [] m fine part) rest.1,
       ),
     )

@@ -16,9 +16,11 @@ use Rattle.map_tables.specs.Edits.{with_name}
 use Rattle.map_tables.specs.Projects.{ProjectMaps, body_len, current_map, with_current}
 use Rattle.map_tables.proofs.ProjectLemmas.{get_middle, set_middle}
 use Rattle.map_commands.specs.declared.command.Command.{Command}
-use Rattle.map_commands.specs.declared.command.Command.TheVariants.{AddVertex, AddSector, AddSide, AddLine, AddThing}
+use Rattle.map_commands.specs.declared.command.Command.TheVariants.{Edit}
+use Rattle.map_tables.specs.declared.edit.Edit.TheVariants as edit
+use Rattle.map_tables.specs.declared.edit.Item.TheVariants as item
 use Rattle.map_commands.specs.declared.project.command.ProjectCommand.{ProjectCommand}
-use Rattle.map_commands.specs.declared.project.command.ProjectCommand.TheVariants.{Edit}
+use Rattle.map_commands.specs.declared.project.command.ProjectCommand.TheVariants.{Current}
 use Rattle.map_commands.specs.CommandRanges as of_one
 use Rattle.map_commands.specs.Step as of_one_map
 use Rattle.map_commands.specs.ProjectCommands.{project_spelling}
@@ -39,8 +41,8 @@ pub Draws-append : (cap : ℕ) (old mid new : ProjectMaps) (cs ds : List Project
 Draws-append cap old mid new [] ds f g = subst (λ p. Draws cap p ds new) f g
 Draws-append cap old mid new (c ∷ cs) ds f g = (f.0, f.1, Draws-append cap f.0 mid new cs ds f.2 g)
 
-edits-append : (cap : ℕ) (old mid new : ProjectMaps) (cs ds : List Command) → Draws cap old (map Edit cs) mid → Draws cap mid (map Edit ds) new → Draws cap old (map Edit (cs ++ ds)) new
-edits-append cap old mid new [] ds f g = subst (λ p. Draws cap p (map Edit ds) new) f g
+edits-append : (cap : ℕ) (old mid new : ProjectMaps) (cs ds : List Command) → Draws cap old (map Current cs) mid → Draws cap mid (map Current ds) new → Draws cap old (map Current (cs ++ ds)) new
+edits-append cap old mid new [] ds f g = subst (λ p. Draws cap p (map Current ds) new) f g
 edits-append cap old mid new (c ∷ cs) ds f g = (f.0, f.1, edits-append cap f.0 mid new cs ds f.2 g)
 
 -- ---- The current map is drawn
@@ -61,22 +63,22 @@ pub record Adds (whole old : Tables) (c : Command) (new : Tables) : Type 0 where
   pub short : part_len new ≤ part_len whole
 
 pub leads_one : (cap : ℕ) (done behind : List Tables) (whole old new : Tables) (c : Command) → Adds whole old c new
-    → least (naming_faults (between done old behind) c) ≡ None → body_len (between done whole behind) ≤ cap → LeadsTo cap (between done old behind) (project_spelling (Edit c)) (between done new behind)
+    → least (naming_faults (between done old behind) c) ≡ None → body_len (between done whole behind) ≤ cap → LeadsTo cap (between done old behind) (project_spelling (Current c)) (between done new behind)
 leads_one cap done behind whole old new c a naming fits =
     let p = between done old behind in
     let here : current_map p ≡ old = get_middle done behind old empty_tables in
     let none = least-none (of_one_map.faults (current_map p) c) (naming_faults p c) (ap (λ m. least (of_one_map.faults m c)) here ∙ a.free) ∙ naming in
-    let is : project_after p (Edit c) ≡ between done new behind =
+    let is : project_after p (Current c) ≡ between done new behind =
     ap (λ m. with_current p (of_one_map.after m c)) here ∙ ap (with_current p) a.made
     ∙ (λ i. record { maps = set_middle done behind old new i; current = length done }) in
     let few : body_len (between done new behind) ≤ cap = omega (arith, fits, a.short, sum_by-append part_len done (new ∷ behind), sum_by-cons part_len new behind, sum_by-append part_len done (whole ∷ behind), sum_by-cons part_len whole behind) in
-    let short : nat_lt cap (body_len (project_after p (Edit c))) ≡ false = ap (λ q. nat_lt cap (body_len q)) is ∙ le-ltb cap (body_len (between done new behind)) few in (
-      project_number_of p (Edit c),
+    let short : nat_lt cap (body_len (project_after p (Current c))) ≡ false = ap (λ q. nat_lt cap (body_len q)) is ∙ le-ltb cap (body_len (between done new behind)) few in (
+      project_number_of p (Current c),
       record {
-        command = Edit c;
+        command = Current c;
         range = a.range;
         line_is = refl;
-        stepped = step-accepts p (Edit c) cap none short ∙ ap (λ q. Ok (q, project_number_of p (Edit c))) is;
+        stepped = step-accepts p (Current c) cap none short ∙ ap (λ q. Ok (q, project_number_of p (Current c))) is;
       },
     )
 
@@ -90,7 +92,7 @@ EachAdds {X} whole make stage all =
 
 leads_table : {X : Type 0} (cap : ℕ) (done behind : List Tables) (whole : Tables) (make : X → Command) (stage : List X → Tables) (all front back : List X)
     → body_len (between done whole behind) ≤ cap → all ≡ front ++ back → EachAdds whole make stage all
-    → Draws cap (between done (stage front) behind) (map Edit (map make back)) (between done (stage all) behind)
+    → Draws cap (between done (stage front) behind) (map Current (map make back)) (between done (stage all) behind)
 leads_table cap done behind whole make stage all front [] fits e each = ap (λ xs. between done (stage xs) behind) (e ∙ append-nil front)
 leads_table {X} cap done behind whole make stage all front (x ∷ back) fits e each =
     let one = each front back x e in
@@ -120,7 +122,7 @@ abbrev to_things : Tables → List Thing → Tables
 to_things m ts =
     record { name = m.name; vertices = m.vertices; sectors = m.sectors; sides = m.sides; lines = m.lines; things = ts }
 
-vertex_adds : (m : Tables) → WellFormed m → EachAdds m AddVertex (to_vertices m) m.vertices
+vertex_adds : (m : Tables) → WellFormed m → EachAdds m (λ v. Edit (edit.Add (item.Vertex v))) (to_vertices m) m.vertices
 vertex_adds m w front back v e =
     let few = fewer m.vertices front back v e in (
       record {
@@ -132,7 +134,7 @@ vertex_adds m w front back v e =
       λ p. refl,
     )
 
-sector_adds : (m : Tables) → WellFormed m → EachAdds m AddSector (to_sectors m) m.sectors
+sector_adds : (m : Tables) → WellFormed m → EachAdds m (λ v. Edit (edit.Add (item.Sector v))) (to_sectors m) m.sectors
 sector_adds m w front back s e =
     let few = fewer m.sectors front back s e in (
       record {
@@ -144,7 +146,7 @@ sector_adds m w front back s e =
       λ p. refl,
     )
 
-side_adds : (m : Tables) → WellFormed m → EachAdds m AddSide (to_sides m) m.sides
+side_adds : (m : Tables) → WellFormed m → EachAdds m (λ v. Edit (edit.Add (item.Side v))) (to_sides m) m.sides
 side_adds m w front back s e =
     let few = fewer m.sides front back s e in (
       record {
@@ -156,7 +158,7 @@ side_adds m w front back s e =
       λ p. refl,
     )
 
-line_adds : (m : Tables) → WellFormed m → EachAdds m AddLine (to_lines m) m.lines
+line_adds : (m : Tables) → WellFormed m → EachAdds m (λ v. Edit (edit.Add (item.Line v))) (to_lines m) m.lines
 line_adds m w front back l e =
     let few = fewer m.lines front back l e in (
       record {
@@ -168,7 +170,7 @@ line_adds m w front back l e =
       λ p. refl,
     )
 
-thing_adds : (m : Tables) → WellFormed m → EachAdds m AddThing (to_things m) m.things
+thing_adds : (m : Tables) → WellFormed m → EachAdds m (λ v. Edit (edit.Add (item.Thing v))) (to_things m) m.things
 thing_adds m w front back t e =
     let few = fewer m.things front back t e in (
       record {
@@ -184,25 +186,25 @@ thing_adds m w front back t e =
 
 -- the items of a map lead from the empty map with its name to the map
 pub leads_items : (cap : ℕ) (done behind : List Tables) (m : Tables) → WellFormed m → body_len (between done m behind) ≤ cap
-    → Draws cap (between done (with_name empty_tables m.name) behind) (map Edit (items_of m)) (between done m behind)
+    → Draws cap (between done (with_name empty_tables m.name) behind) (map Current (items_of m)) (between done m behind)
 leads_items cap done behind m w fits =
-    let vertices = leads_table cap done behind m AddVertex (to_vertices m) m.vertices [] m.vertices fits refl (vertex_adds m w) in
-    let sectors = leads_table cap done behind m AddSector (to_sectors m) m.sectors [] m.sectors fits refl (sector_adds m w) in
-    let sides = leads_table cap done behind m AddSide (to_sides m) m.sides [] m.sides fits refl (side_adds m w) in
-    let lines = leads_table cap done behind m AddLine (to_lines m) m.lines [] m.lines fits refl (line_adds m w) in
-    let things = leads_table cap done behind m AddThing (to_things m) m.things [] m.things fits refl (thing_adds m w) in
+    let vertices = leads_table cap done behind m (λ v. Edit (edit.Add (item.Vertex v))) (to_vertices m) m.vertices [] m.vertices fits refl (vertex_adds m w) in
+    let sectors = leads_table cap done behind m (λ v. Edit (edit.Add (item.Sector v))) (to_sectors m) m.sectors [] m.sectors fits refl (sector_adds m w) in
+    let sides = leads_table cap done behind m (λ v. Edit (edit.Add (item.Side v))) (to_sides m) m.sides [] m.sides fits refl (side_adds m w) in
+    let lines = leads_table cap done behind m (λ v. Edit (edit.Add (item.Line v))) (to_lines m) m.lines [] m.lines fits refl (line_adds m w) in
+    let things = leads_table cap done behind m (λ v. Edit (edit.Add (item.Thing v))) (to_things m) m.things [] m.things fits refl (thing_adds m w) in
     let start = between done (with_name empty_tables m.name) behind in
     let to_one = between done (to_vertices m m.vertices) behind in
     let to_two = between done (to_sectors m m.sectors) behind in
     let to_three = between done (to_sides m m.sides) behind in
     let to_four = between done (to_lines m m.lines) behind in
     let end = between done m behind in
-    let behind_four = map AddThing m.things ++ [] in
-    let behind_three = map AddLine m.lines ++ behind_four in
-    let behind_two = map AddSide m.sides ++ behind_three in
-    let behind_one = map AddSector m.sectors ++ behind_two in
-    let from_four = edits-append cap to_four end end (map AddThing m.things) [] things refl in
-    let from_three = edits-append cap to_three to_four end (map AddLine m.lines) behind_four lines from_four in
-    let from_two = edits-append cap to_two to_three end (map AddSide m.sides) behind_three sides from_three in
-    let from_one = edits-append cap to_one to_two end (map AddSector m.sectors) behind_two sectors from_two in
-    edits-append cap start to_one end (map AddVertex m.vertices) behind_one vertices from_one
+    let behind_four = map (λ v. Edit (edit.Add (item.Thing v))) m.things ++ [] in
+    let behind_three = map (λ v. Edit (edit.Add (item.Line v))) m.lines ++ behind_four in
+    let behind_two = map (λ v. Edit (edit.Add (item.Side v))) m.sides ++ behind_three in
+    let behind_one = map (λ v. Edit (edit.Add (item.Sector v))) m.sectors ++ behind_two in
+    let from_four = edits-append cap to_four end end (map (λ v. Edit (edit.Add (item.Thing v))) m.things) [] things refl in
+    let from_three = edits-append cap to_three to_four end (map (λ v. Edit (edit.Add (item.Line v))) m.lines) behind_four lines from_four in
+    let from_two = edits-append cap to_two to_three end (map (λ v. Edit (edit.Add (item.Side v))) m.sides) behind_three sides from_three in
+    let from_one = edits-append cap to_one to_two end (map (λ v. Edit (edit.Add (item.Sector v))) m.sectors) behind_two sectors from_two in
+    edits-append cap start to_one end (map (λ v. Edit (edit.Add (item.Vertex v))) m.vertices) behind_one vertices from_one

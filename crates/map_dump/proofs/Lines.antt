@@ -22,9 +22,11 @@ use Rattle.map_commands.specs.ProjectCommands.{project_spelling}
 use Rattle.map_commands.specs.Spelling.{line_words, sector_words, side_words, thing_words, vertex_words}
 use Rattle.map_commands.specs.Words.{is_natural, is_numeral, is_printable, is_word}
 use Rattle.map_commands.specs.declared.command.Command.{Command}
-use Rattle.map_commands.specs.declared.command.Command.TheVariants.{AddVertex, AddSector, AddSide, AddLine, AddThing}
+use Rattle.map_commands.specs.declared.command.Command.TheVariants.{Edit}
+use Rattle.map_tables.specs.declared.edit.Edit.TheVariants as edit
+use Rattle.map_tables.specs.declared.edit.Item.TheVariants as item
 use Rattle.map_commands.specs.declared.project.command.ProjectCommand.{ProjectCommand}
-use Rattle.map_commands.specs.declared.project.command.ProjectCommand.TheVariants.{Edit, SelectMap}
+use Rattle.map_commands.specs.declared.project.command.ProjectCommand.TheVariants.{Current, SelectMap}
 use Rattle.map_commands.proofs.Accepted.{marker-ok}
 use Rattle.map_commands.proofs.Numerals.{both}
 use Rattle.map_commands.proofs.Padding.{apart}
@@ -112,19 +114,19 @@ join-line (w ∷ v ∷ vs) e =
     let h = both (is_one_line w) (list_all is_one_line (v ∷ vs)) e in
     all-append is_inside w (32 ∷ join_with_byte 32 (v ∷ vs)) h.0 (join-line (v ∷ vs) h.1)
 
-vertex-line : (v : Vertex) → IsVertex v → is_one_line (project_spelling (Edit (AddVertex v))) ≡ true
+vertex-line : (v : Vertex) → IsVertex v → is_one_line (project_spelling (Current (Edit (edit.Add (item.Vertex v))))) ≡ true
 vertex-line v h = join-line (codes "vertex" ∷ vertex_words v) (places-lines vertex_places (vertex_words v) (vertex-ok v h).none)
 
-sector-line : (s : Sector) → IsSector s → is_one_line (project_spelling (Edit (AddSector s))) ≡ true
+sector-line : (s : Sector) → IsSector s → is_one_line (project_spelling (Current (Edit (edit.Add (item.Sector s))))) ≡ true
 sector-line s h = join-line (codes "sector" ∷ sector_words s) (places-lines sector_places (sector_words s) (sector-ok s h).none)
 
-side-line : (s : Side) → IsSide s → is_one_line (project_spelling (Edit (AddSide s))) ≡ true
+side-line : (s : Side) → IsSide s → is_one_line (project_spelling (Current (Edit (edit.Add (item.Side s))))) ≡ true
 side-line s h = join-line (codes "side" ∷ side_words s) (places-lines side_places (side_words s) (side-ok s h).none)
 
-line-line : (l : Line) → IsLine l → is_one_line (project_spelling (Edit (AddLine l))) ≡ true
+line-line : (l : Line) → IsLine l → is_one_line (project_spelling (Current (Edit (edit.Add (item.Line l))))) ≡ true
 line-line l h = join-line (codes "line" ∷ line_words l) (places-lines line_places (line_words l) (line-ok l h).none)
 
-thing-line : (t : Thing) → IsThing t → is_one_line (project_spelling (Edit (AddThing t))) ≡ true
+thing-line : (t : Thing) → IsThing t → is_one_line (project_spelling (Current (Edit (edit.Add (item.Thing t))))) ≡ true
 thing-line t h = join-line (codes "thing" ∷ thing_words t) (places-lines thing_places (thing_words t) (thing-ok t h).none)
 
 name-inside : (name : Name8) → IsNamed is_marker name → is_one_line (name_text name) ≡ true
@@ -143,32 +145,32 @@ AreLines cs = list_all is_one_line (map project_spelling cs) ≡ true
 AreLines-append : (cs ds : List ProjectCommand) → AreLines cs → AreLines ds → AreLines (cs ++ ds)
 AreLines-append cs ds e f = ap (list_all is_one_line) (map-append project_spelling cs ds) ∙ all-append is_one_line (map project_spelling cs) (map project_spelling ds) e f
 
-edits-append : (cs ds : List Command) → AreLines (map Edit cs) → AreLines (map Edit ds) → AreLines (map Edit (cs ++ ds))
-edits-append cs ds e f = subst AreLines (sym (map-append Edit cs ds)) (AreLines-append (map Edit cs) (map Edit ds) e f)
+edits-append : (cs ds : List Command) → AreLines (map Current cs) → AreLines (map Current ds) → AreLines (map Current (cs ++ ds))
+edits-append cs ds e f = subst AreLines (sym (map-append Current cs ds)) (AreLines-append (map Current cs) (map Current ds) e f)
 
-table-lines : {X : Type 0} (P : X → Type 0) (make : X → Command) → ((x : X) → P x → is_one_line (project_spelling (Edit (make x))) ≡ true) → (xs : List X) → All P xs
-    → AreLines (map Edit (map make xs))
+table-lines : {X : Type 0} (P : X → Type 0) (make : X → Command) → ((x : X) → P x → is_one_line (project_spelling (Current (make x))) ≡ true) → (xs : List X) → All P xs
+    → AreLines (map Current (map make xs))
 table-lines P make one [] all = refl
 table-lines P make one (x ∷ xs) all =
-    both-back (is_one_line (project_spelling (Edit (make x)))) (list_all is_one_line (map project_spelling (map Edit (map make xs)))) (one x (all 0 x (omega arith)))
+    both-back (is_one_line (project_spelling (Current (make x)))) (list_all is_one_line (map project_spelling (map Current (map make xs)))) (one x (all 0 x (omega arith)))
     (table-lines P make one xs (λ k d h. all (suc k) d (omega arith)))
 
-items-lines : (m : Tables) → WellFormed m → AreLines (map Edit (items_of m))
+items-lines : (m : Tables) → WellFormed m → AreLines (map Current (items_of m))
 items-lines m w =
-    let vertices = table-lines IsVertex AddVertex vertex-line m.vertices w.vertices in
-    let sectors = table-lines IsSector AddSector sector-line m.sectors w.sectors in
-    let sides = table-lines IsSide AddSide side-line m.sides w.sides in
-    let lines = table-lines IsLine AddLine line-line m.lines w.lines in
-    let things = table-lines IsThing AddThing thing-line m.things w.things in
-    edits-append (map AddVertex m.vertices) (map AddSector m.sectors ++ (map AddSide m.sides ++ (map AddLine m.lines ++ (map AddThing m.things ++ [])))) vertices
-    (edits-append (map AddSector m.sectors) (map AddSide m.sides ++ (map AddLine m.lines ++ (map AddThing m.things ++ []))) sectors
-    (edits-append (map AddSide m.sides) (map AddLine m.lines ++ (map AddThing m.things ++ [])) sides
-    (edits-append (map AddLine m.lines) (map AddThing m.things ++ []) lines
-    (edits-append (map AddThing m.things) [] things refl))))
+    let vertices = table-lines IsVertex (λ v. Edit (edit.Add (item.Vertex v))) vertex-line m.vertices w.vertices in
+    let sectors = table-lines IsSector (λ v. Edit (edit.Add (item.Sector v))) sector-line m.sectors w.sectors in
+    let sides = table-lines IsSide (λ v. Edit (edit.Add (item.Side v))) side-line m.sides w.sides in
+    let lines = table-lines IsLine (λ v. Edit (edit.Add (item.Line v))) line-line m.lines w.lines in
+    let things = table-lines IsThing (λ v. Edit (edit.Add (item.Thing v))) thing-line m.things w.things in
+    edits-append (map (λ v. Edit (edit.Add (item.Vertex v))) m.vertices) (map (λ v. Edit (edit.Add (item.Sector v))) m.sectors ++ (map (λ v. Edit (edit.Add (item.Side v))) m.sides ++ (map (λ v. Edit (edit.Add (item.Line v))) m.lines ++ (map (λ v. Edit (edit.Add (item.Thing v))) m.things ++ [])))) vertices
+    (edits-append (map (λ v. Edit (edit.Add (item.Sector v))) m.sectors) (map (λ v. Edit (edit.Add (item.Side v))) m.sides ++ (map (λ v. Edit (edit.Add (item.Line v))) m.lines ++ (map (λ v. Edit (edit.Add (item.Thing v))) m.things ++ []))) sectors
+    (edits-append (map (λ v. Edit (edit.Add (item.Side v))) m.sides) (map (λ v. Edit (edit.Add (item.Line v))) m.lines ++ (map (λ v. Edit (edit.Add (item.Thing v))) m.things ++ [])) sides
+    (edits-append (map (λ v. Edit (edit.Add (item.Line v))) m.lines) (map (λ v. Edit (edit.Add (item.Thing v))) m.things ++ []) lines
+    (edits-append (map (λ v. Edit (edit.Add (item.Thing v))) m.things) [] things refl))))
 
 map-lines : (n : ℕ) (m : Tables) → WellFormed m → AreLines (commands_of_map n m)
 map-lines n m w =
-    both-back (is_one_line (project_spelling (naming_of n m.name))) (list_all is_one_line (map project_spelling (map Edit (items_of m)))) (naming-line n m.name w.name) (items-lines m w)
+    both-back (is_one_line (project_spelling (naming_of n m.name))) (list_all is_one_line (map project_spelling (map Current (items_of m)))) (naming-line n m.name w.name) (items-lines m w)
 
 maps-lines : (n : ℕ) (ms : List Tables) → All WellFormed ms → AreLines (commands_from n ms)
 maps-lines n [] all = refl

@@ -14,7 +14,7 @@ use Rattle.map_tables.specs.Edits.{with_name}
 use Rattle.map_tables.specs.ProjectEdits.{with_selected}
 use Rattle.map_tables.specs.Projects.{ProjectMaps, body_len, current_map, has_map, is_named, map_number_of, with_current}
 use Rattle.map_tables.proofs.ProjectLemmas.{same_name, set_middle}
-use Rattle.map_commands.specs.declared.project.command.ProjectCommand.TheVariants.{Edit, SelectMap}
+use Rattle.map_commands.specs.declared.project.command.ProjectCommand.TheVariants.{Current, SelectMap}
 use Rattle.map_commands.specs.ProjectCommands.{project_spelling}
 use Rattle.map_commands.specs.ProjectStep.{project_number_of}
 use Rattle.map_commands.specs.ProjectLines.{LeadsTo}
@@ -157,11 +157,11 @@ leads_over cap p m w room fits =
     let q = with_selected p m.name in
     let is = placed_is p m in
     let whole : body_len (end p m) ≤ cap = omega (arith, fits, ap body_len is) in
-    let items : Draws cap (start p m) (map Edit (items_of m)) (end p m) = leads_items cap (front q) (behind q) m w whole in (
+    let items : Draws cap (start p m) (map Current (items_of m)) (end p m) = leads_items cap (front q) (behind q) m w whole in (
       q,
       leads_selected cap p m.name w.name room (omega (arith, fits, no_shorter p m room)),
-      subst (λ old. Draws cap old (map Edit (items_of m)) (with_map p m)) (sym (selected_is p m room))
-          (subst (λ new. Draws cap (start p m) (map Edit (items_of m)) new) (sym is) items),
+      subst (λ old. Draws cap old (map Current (items_of m)) (with_map p m)) (sym (selected_is p m room))
+          (subst (λ new. Draws cap (start p m) (map Current (items_of m)) new) (sym is) items),
     )
 
 -- ---- The other maps

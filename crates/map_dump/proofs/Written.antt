@@ -18,9 +18,11 @@ use Rattle.map_tables.proofs.ProjectLemmas.{current_of}
 use Rattle.map_commands.specs.Grammar.{kinds}
 use Rattle.map_commands.specs.ProjectCommands.{project_spelling}
 use Rattle.map_commands.specs.declared.command.Command.{Command}
-use Rattle.map_commands.specs.declared.command.Command.TheVariants.{AddVertex, AddSector, AddSide, AddLine, AddThing, Drop, Name}
+use Rattle.map_commands.specs.declared.command.Command.TheVariants.{Edit, Name}
+use Rattle.map_tables.specs.declared.edit.Edit.TheVariants as edit
+use Rattle.map_tables.specs.declared.edit.Item.TheVariants as item
 use Rattle.map_commands.specs.declared.project.command.ProjectCommand.{ProjectCommand}
-use Rattle.map_commands.specs.declared.project.command.ProjectCommand.TheVariants.{Edit, SelectMap}
+use Rattle.map_commands.specs.declared.project.command.ProjectCommand.TheVariants.{Current, SelectMap}
 use Rattle.map_dump.specs.Dump.{additions_of, commands_from, commands_of_map, items_of, naming_of}
 use Rattle.map_dump.specs.Texts.{Writes, WritesFront, with_lf, text_of}
 use Rattle.map_dump.specs.declared.error.DumpError.{DumpError}
@@ -98,25 +100,25 @@ each_stopped make xs n d e u v w within p q =
 
 -- no item of a map
 abbrev pub no_item : Command
-no_item = Drop kind.Vertex 0
+no_item = Edit (edit.Drop kind.Vertex 0)
 
 -- a command of the current map, alone
 abbrev pub alone : Command → List ProjectCommand
-alone c = Edit c ∷ []
+alone c = Current c ∷ []
 
-pub items-all : (cs : List Command) → flat_map alone cs ≡ map Edit cs
-items-all cs = flat_map_single Edit cs
+pub items-all : (cs : List Command) → flat_map alone cs ≡ map Current cs
+items-all cs = flat_map_single Current cs
 
 -- ---- The tables of a map
 
 abbrev pub table : Tables → Kind → List ProjectCommand
-table m k = map Edit (additions_of m k)
+table m k = map Current (additions_of m k)
 
-tables-of : (m : Tables) (ks : List Kind) → flat_map (table m) ks ≡ map Edit (flat_map (additions_of m) ks)
+tables-of : (m : Tables) (ks : List Kind) → flat_map (table m) ks ≡ map Current (flat_map (additions_of m) ks)
 tables-of m [] = refl
-tables-of m (k ∷ ks) = ap (λ (cs : List ProjectCommand). table m k ++ cs) (tables-of m ks) ∙ sym (map-append Edit (additions_of m k) (flat_map (additions_of m) ks))
+tables-of m (k ∷ ks) = ap (λ (cs : List ProjectCommand). table m k ++ cs) (tables-of m ks) ∙ sym (map-append Current (additions_of m k) (flat_map (additions_of m) ks))
 
-pub tables-all : (m : Tables) → flat_map (table m) kinds ≡ map Edit (items_of m)
+pub tables-all : (m : Tables) → flat_map (table m) kinds ≡ map Current (items_of m)
 tables-all m = tables-of m kinds
 
 -- ---- The maps
@@ -167,11 +169,11 @@ maps_stopped ms n e u v w within p q =
 -- ---- The item, and the map, of a number
 
 pub length-additions : (m : Tables) (k : Kind) → length (additions_of m k) ≡ count_of m k
-length-additions m kind.Vertex = length-map m.vertices AddVertex
-length-additions m kind.Sector = length-map m.sectors AddSector
-length-additions m kind.Side = length-map m.sides AddSide
-length-additions m kind.Line = length-map m.lines AddLine
-length-additions m kind.Thing = length-map m.things AddThing
+length-additions m kind.Vertex = length-map m.vertices (λ v. Edit (edit.Add (item.Vertex v)))
+length-additions m kind.Sector = length-map m.sectors (λ v. Edit (edit.Add (item.Sector v)))
+length-additions m kind.Side = length-map m.sides (λ v. Edit (edit.Add (item.Side v)))
+length-additions m kind.Line = length-map m.lines (λ v. Edit (edit.Add (item.Line v)))
+length-additions m kind.Thing = length-map m.things (λ v. Edit (edit.Add (item.Thing v)))
 
 pub item_told : {U : Type 0} (r : Result U DumpError) (o : Option Command) (c : Command) (u w : Option (List ℕ)) → Some c ≡ o → Writes r (alone c) u w
     → (d : Command) → o ≡ Some d → Writes r (alone d) u w
@@ -196,7 +198,7 @@ pub current_named : (v : MapsView) → WellFormedProject (project_of v) → IsNa
 current_named v w =
     subst (λ (t : Tables). IsNamed is_marker t.name) (current_of v) (w.maps (project_of v).current empty_tables w.current).name
 
-pub first_named : (n : ℕ) (name : Name8) → n ≡ 0 → Edit (Name name) ≡ naming_of n name
+pub first_named : (n : ℕ) (name : Name8) → n ≡ 0 → Current (Name name) ≡ naming_of n name
 first_named n name is = ap (λ (k : ℕ). naming_of k name) (sym is)
 
 pub later_named : (n : ℕ) (name : Name8) → (n ≡ 0 → ⊥) → SelectMap name ≡ naming_of n name

@@ -8,24 +8,25 @@ use Rattle.map_tables.specs.Projects.{ProjectMaps, current_map}
 use Rattle.map_commands.specs.Grammar.{kinds}
 use Rattle.map_commands.specs.ProjectCommands.{project_spelling}
 use Rattle.map_commands.specs.declared.command.Command.{Command}
-use Rattle.map_commands.specs.declared.command.Command.TheVariants.{Name, AddVertex, AddSector, AddSide, AddLine}
-use Rattle.map_commands.specs.declared.command.Command.TheVariants.{AddThing}
+use Rattle.map_commands.specs.declared.command.Command.TheVariants.{Name, Edit}
+use Rattle.map_tables.specs.declared.edit.Edit.TheVariants as edit
+use Rattle.map_tables.specs.declared.edit.Item.TheVariants as item
 use Rattle.map_commands.specs.declared.project.command.ProjectCommand.{ProjectCommand}
-use Rattle.map_commands.specs.declared.project.command.ProjectCommand.TheVariants.{Edit, SelectMap}
+use Rattle.map_commands.specs.declared.project.command.ProjectCommand.TheVariants.{Current, SelectMap}
 
 -- the command that gives the map with a number its name: the first map exists and is renamed, each other one is
 -- added
 abbrev pub naming_of : ℕ → Name8 → ProjectCommand
-naming_of zero name = Edit (Name name)
+naming_of zero name = Current (Name name)
 naming_of (suc n) name = SelectMap name
 
 -- the commands that add the items of a table
 abbrev pub additions_of : Tables → Kind → List Command
-additions_of m kind.Vertex = map AddVertex m.vertices
-additions_of m kind.Sector = map AddSector m.sectors
-additions_of m kind.Side = map AddSide m.sides
-additions_of m kind.Line = map AddLine m.lines
-additions_of m kind.Thing = map AddThing m.things
+additions_of m kind.Vertex = map (λ v. Edit (edit.Add (item.Vertex v))) m.vertices
+additions_of m kind.Sector = map (λ v. Edit (edit.Add (item.Sector v))) m.sectors
+additions_of m kind.Side = map (λ v. Edit (edit.Add (item.Side v))) m.sides
+additions_of m kind.Line = map (λ v. Edit (edit.Add (item.Line v))) m.lines
+additions_of m kind.Thing = map (λ v. Edit (edit.Add (item.Thing v))) m.things
 
 -- the commands that add a map's items, table by table, each item after those that it names
 abbrev pub items_of : Tables → List Command
@@ -33,7 +34,7 @@ items_of m = flat_map (additions_of m) kinds
 
 -- commands of the current map, as commands of the project
 abbrev pub edits_of : List Command → List ProjectCommand
-edits_of commands = map Edit commands
+edits_of commands = map Current commands
 
 -- the commands that draw the map with a number
 abbrev pub commands_of_map : ℕ → Tables → List ProjectCommand

@@ -1,7 +1,7 @@
 //! The calls that write a dump.
 ghost use Rattle.std.specs.Prelude.{◌≡◌, ◌∷◌, [], Some, slice_get};
 ghost use Rattle.map_commands.specs.declared.command.Command.{Command};
-ghost use Rattle.map_commands.specs.declared.project.command.ProjectCommand.TheVariants.{Edit, SelectMap};
+ghost use Rattle.map_commands.specs.declared.project.command.ProjectCommand.TheVariants.{Current, SelectMap};
 ghost use Rattle.map_dump.specs.Dump.{additions_of, commands_from, commands_of_map, dump_of, edits_of, items_of, map_dump_of};
 ghost use Rattle.map_dump.specs.Texts.{Writes, WritesLines};
 ghost use Rattle.lump_records.specs.Names.{IsNamed, is_marker};
@@ -34,10 +34,10 @@ fn write_item<W: Write>(
     writer: &mut W,
 ) -> Result<(), DumpError>
     ensures { (c : Command) → slice_get (additions_of map.now.tables kind) n ≡ Some c
-        → Writes result (Edit c ∷ []) (W.contents writer.old) (W.contents writer.new) }
+        → Writes result (Current c ∷ []) (W.contents writer.old) (W.contents writer.new) }
 {
     match addition(map, kind, n) {
-        Some(command) => write_command(alloc, &ProjectCommand::Edit(command), writer),
+        Some(command) => write_command(alloc, &ProjectCommand::Current(command), writer),
         None => Ok(()),
     }
 }

@@ -9,7 +9,7 @@ ghost use Rattle.lump_records.specs.Names.{IsNamed, is_marker};
 use crate::error::DumpError;
 use lump_records::Name8;
 use map_commands::{Command, ProjectCommand, print};
-use map_tables::{Kind, Map};
+use map_tables::{Edit, Item, Kind, Map};
 use std::alloc::Global;
 use std::io::Write;
 
@@ -20,7 +20,7 @@ pub fn naming(n: u32, name: Name8) -> ProjectCommand
     ensures range { InProjectRange result }
 {
     if n == 0 {
-        ProjectCommand::Edit(Command::Name(name))
+        ProjectCommand::Current(Command::Name(name))
     } else {
         ProjectCommand::SelectMap(name)
     }
@@ -31,13 +31,14 @@ pub fn addition(map: &Map, kind: Kind, n: u32) -> Option<Command>
     ensures command { result ≡ slice_get (additions_of map.now.tables kind) n }
     ensures range { IfSome result of_one_map.InRange }
 {
-    match kind {
-        Kind::Vertex => map.vertex(n).map(Command::AddVertex),
-        Kind::Sector => map.sector(n).map(Command::AddSector),
-        Kind::Side => map.side(n).map(Command::AddSide),
-        Kind::Line => map.line(n).map(Command::AddLine),
-        Kind::Thing => map.thing(n).map(Command::AddThing),
-    }
+    let item = match kind {
+        Kind::Vertex => Item::Vertex(map.vertex(n)?),
+        Kind::Sector => Item::Sector(map.sector(n)?),
+        Kind::Side => Item::Side(map.side(n)?),
+        Kind::Line => Item::Line(map.line(n)?),
+        Kind::Thing => Item::Thing(map.thing(n)?),
+    };
+    Some(Command::Edit(Edit::Add(item)))
 }
 
 // The line of the command, ended by LF.

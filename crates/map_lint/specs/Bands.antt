@@ -6,10 +6,11 @@ use Rattle.map_tables.specs.Tables.{Tables}
 use Rattle.map_lint.specs.Meeting.{spans_meet}
 use Rattle.map_lint.specs.Places.{placed_lines}
 
--- the lowest row of band b; below, its highest row
+-- the lowest row of band b
 abbrev pub band_bottom : ℕ → ℤ
 band_bottom b = pos (128 * b) -ℤ pos 32768
 
+-- the highest row of band b
 abbrev pub band_top : ℕ → ℤ
 band_top b = band_bottom b +ℤ pos 127
 

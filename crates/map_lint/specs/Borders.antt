@@ -6,10 +6,11 @@ use Rattle.lump_records.specs.Sides.{has_left}
 use Rattle.map_tables.specs.Tables.{Tables}
 use Rattle.map_checks.specs.Textures.{side_in}
 
--- the sector on a line's right; below, on its left
+-- the sector on a line's right
 abbrev pub right_sector_of : Tables → Line → ℕ
 right_sector_of m l = (side_in m l.right).sector
 
+-- the sector on a line's left
 abbrev pub left_sector_of : Tables → Line → ℕ
 left_sector_of m l = (side_in m l.left).sector
 

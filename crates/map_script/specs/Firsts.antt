@@ -2,11 +2,9 @@
 use Rattle.std.specs.Prelude.{ℕ, zero, suc, Option, Some, None}
 use Rattle.map_tables.specs.declared.kind.Kind.{Kind}
 use Rattle.map_tables.specs.declared.kind.Kind.TheVariants as kind
-use Rattle.map_tables.specs.declared.map.Need.{Need}
+use Rattle.map_tables.specs.declared.edit.Need.{Need}
 use Rattle.map_tables.specs.Tables.{Tables, count_of}
 use Rattle.map_commands.specs.ProjectReadiness.{project_need_of}
-use Rattle.map_commands.specs.Readiness as of_one_map
-use Rattle.map_commands.specs.declared.command.Command.{Command}
 use Rattle.map_commands.specs.declared.project.command.ProjectCommand.{ProjectCommand}
 use Rattle.map_script.specs.declared.firsts.Firsts.{Firsts}
 
@@ -24,10 +22,6 @@ firsts_in need m = record {
   line = first_new need.lines (count_of m kind.Line);
   thing = first_new need.things (count_of m kind.Thing);
 }
-
--- the first items that a command of one map adds
-abbrev pub edit_firsts : Command → Tables → Firsts
-edit_firsts c m = firsts_in (of_one_map.need_of c) m
 
 -- the first items that a command adds to the current map
 abbrev pub firsts_of : ProjectCommand → Tables → Firsts

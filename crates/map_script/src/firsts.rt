@@ -1,8 +1,8 @@
 //! The numbers that a name keeps: its command's answer, and the first items that the command added.
 ghost use Rattle.std.specs.Prelude.{◌≡◌};
-ghost use Rattle.map_script.specs.Firsts.{edit_firsts, first_of, firsts_of};
+ghost use Rattle.map_script.specs.Firsts.{first_new, first_of, firsts_of};
 
-use map_commands::{Command, ProjectCommand};
+use map_commands::{ProjectCommand, need_of};
 use map_tables::{Kind, Map};
 
 /// The number of the first item of each kind that a command added, if it added one.
@@ -23,15 +23,6 @@ pub struct Numbers {
     pub firsts: Firsts,
 }
 
-// The value for a command that adds no item.
-const NONE: Firsts = Firsts {
-    vertex: None,
-    sector: None,
-    side: None,
-    line: None,
-    thing: None,
-};
-
 impl Firsts {
     /// The number of the first item of the kind.
     pub fn of(&self, kind: Kind) -> Option<u32>
@@ -47,45 +38,23 @@ impl Firsts {
     }
 }
 
-// The first items that a command of one map adds to it.
-fn edit_firsts(command: &Command, map: &Map) -> Firsts
-    ensures { result ≡ edit_firsts command.now map.now.tables }
+// The number of the first of some items that are appended to a table.
+fn first_new(more: u32, before: u32) -> Option<u32>
+    ensures { result ≡ first_new more before }
 {
-    let vertex = Some(map.count(Kind::Vertex));
-    let sector = Some(map.count(Kind::Sector));
-    let side = Some(map.count(Kind::Side));
-    let line = Some(map.count(Kind::Line));
-    match command {
-        Command::AddVertex(_) => Firsts { vertex, ..NONE },
-        Command::AddSector(_) => Firsts { sector, ..NONE },
-        Command::AddSide(_) => Firsts { side, ..NONE },
-        Command::AddLine(_) => Firsts { line, ..NONE },
-        Command::AddThing(_) => Firsts {
-            thing: Some(map.count(Kind::Thing)),
-            ..NONE
-        },
-        Command::Room(_) => Firsts {
-            vertex,
-            sector,
-            side,
-            line,
-            thing: None,
-        },
-        Command::Split(_) => Firsts {
-            vertex,
-            line,
-            ..NONE
-        },
-        _ => NONE,
-    }
+    if more == 0 { None } else { Some(before) }
 }
 
 /// The first items that a command is about to add to the current map.
 pub fn firsts_of(command: &ProjectCommand, map: &Map) -> Firsts
     ensures { result ≡ firsts_of command.now map.now.tables }
 {
-    match command {
-        ProjectCommand::Edit(edit) => edit_firsts(edit, map),
-        _ => NONE,
+    let need = need_of(command);
+    Firsts {
+        vertex: first_new(need.vertices, map.count(Kind::Vertex)),
+        sector: first_new(need.sectors, map.count(Kind::Sector)),
+        side: first_new(need.sides, map.count(Kind::Side)),
+        line: first_new(need.lines, map.count(Kind::Line)),
+        thing: first_new(need.things, map.count(Kind::Thing)),
     }
 }

@@ -15,8 +15,14 @@ use Rattle.map_tables.specs.declared.error.MapError.{MapError}
 use Rattle.map_tables.specs.declared.maps.Maps.TheInside.{Inside}
 use Rattle.map_tables.specs.Tables.{Tables, MapView, empty_tables, part_len}
 use Rattle.map_tables.specs.WellFormed.{WellFormed}
-use Rattle.map_tables.specs.Outcomes.{EndsEdit, EndsExactly, unless, least}
-use Rattle.map_tables.specs.Edits.{with_name, lowered}
+use Rattle.map_tables.specs.Outcomes.{EndsEdit, unless, least}
+use Rattle.map_tables.specs.declared.edit.Edit.{Edit}
+use Rattle.map_tables.specs.declared.edit.Edit.TheVariants.{Add, Set, Drop}
+use Rattle.map_tables.specs.declared.edit.Item.TheVariants as item
+use Rattle.map_tables.specs.declared.kind.Kind.TheVariants as kind
+use Rattle.map_tables.specs.Faults.{edit_faults}
+use Rattle.map_tables.specs.Edits.{after_edit, edit_number, with_name, lowered}
+use Rattle.map_tables.specs.Edits as edits
 use Rattle.map_tables.specs.ProjectEdits.{name_faults, drop_map_faults, named_map, with_current_named, with_selected}
 use Rattle.lump_records.specs.declared.records.Name8.{Name8}
 use Rattle.map_tables.specs.Projects.{ProjectMaps, MapsView, WellFormedProject, project_of, tables_of_each, current_map, with_current, body_len, map_limit, is_named, has_map, map_number_of}
@@ -30,27 +36,41 @@ pub record Stays (old new : Tables) : Type 0 where
   pub name : new.name ≡ old.name
   pub well_formed : WellFormed new
 
+-- an edit keeps a map's name
+after_edit-name : (m : Tables) (e : Edit) → (after_edit m e).name ≡ m.name
+after_edit-name m (Add (item.Vertex v)) = refl
+after_edit-name m (Add (item.Sector s)) = refl
+after_edit-name m (Add (item.Side s)) = refl
+after_edit-name m (Add (item.Line l)) = refl
+after_edit-name m (Add (item.Thing t)) = refl
+after_edit-name m (Set n (item.Vertex v)) = refl
+after_edit-name m (Set n (item.Sector s)) = refl
+after_edit-name m (Set n (item.Side s)) = refl
+after_edit-name m (Set n (item.Line l)) = refl
+after_edit-name m (Set n (item.Thing t)) = refl
+after_edit-name m (Drop kind.Vertex n) = refl
+after_edit-name m (Drop kind.Sector n) = refl
+after_edit-name m (Drop kind.Side n) = refl
+after_edit-name m (Drop kind.Line n) = refl
+after_edit-name m (Drop kind.Thing n) = refl
+
 abbrev made : {S X : Type 0} → S → Result (S × X) ℕ → S
 made d (Ok p) = p.0
 made d (Err code) = d
 
-pub stays_exactly : {X : Type 0} (result : Result X MapError) (faults : Option ℕ) (after : Tables) (answer : X) (old new : Tables)
-    → EndsExactly result (unless faults after answer) old new → (faults ≡ None → WellFormed after) → after.name ≡ old.name → WellFormed old → Stays old new
-stays_exactly (Ok a) None after answer old new e keeps same w =
-    let is : after ≡ new = ap (made after) e in
-    record { name = ap (λ m. m.name) (sym is) ∙ same; well_formed = subst WellFormed is (keeps refl) }
-stays_exactly (Ok a) (Some code) after answer old new e keeps same w = cc
-stays_exactly (Err x) faults after answer old new e keeps same w =
-    record { name = ap (λ m. m.name) e.1; well_formed = subst WellFormed (sym e.1) w }
+ended-name : (result : Result ℕ MapError) (faults : Option ℕ) (after : Tables) (answer : ℕ) (old new : Tables)
+    → EndsEdit result (unless faults after answer) old new → after.name ≡ old.name → new.name ≡ old.name
+ended-name (Ok a) None after answer old new e same = ap (λ m. m.name) (sym (ap (made after) e)) ∙ same
+ended-name (Ok a) (Some code) after answer old new e same = cc
+ended-name (Err x) faults after answer old new e same = ap (λ m. m.name) e.1
 
-pub stays_ended : {X : Type 0} (result : Result X MapError) (faults : Option ℕ) (after : Tables) (answer : X) (old new : Tables)
-    → EndsEdit result (unless faults after answer) old new → (faults ≡ None → WellFormed after) → after.name ≡ old.name → WellFormed old → Stays old new
-stays_ended (Ok a) None after answer old new e keeps same w =
-    let is : after ≡ new = ap (made after) e in
-    record { name = ap (λ m. m.name) (sym is) ∙ same; well_formed = subst WellFormed is (keeps refl) }
-stays_ended (Ok a) (Some code) after answer old new e keeps same w = cc
-stays_ended (Err x) faults after answer old new e keeps same w =
-    record { name = ap (λ m. m.name) e.1; well_formed = subst WellFormed (sym e.1) w }
+-- so does the call that makes it, whatever its outcome is
+pub edited-stays : (result : Result ℕ MapError) (edit : Edit) (old new : Tables) → EndsEdit result (edits.edited old edit) old new → WellFormed new → Stays old new
+edited-stays result edit old new e w =
+    record {
+      name = ended-name result (least (edit_faults old edit)) (after_edit old edit) (edit_number old edit) old new e (after_edit-name old edit);
+      well_formed = w;
+    }
 
 -- ---- One map replaced
 
@@ -103,27 +123,6 @@ keeps_edit a m stays k =
       number = k.number;
       project = edited (tables_of_each (take a.number a.others.items)) (tables_of_each (drop a.number a.others.items)) (length (take a.number a.others.items)) a.map.tables m.tables stays k.project;
     }
-
-pub current_well_formed : (a : Inside) → KeepsMaps a → WellFormed a.map.tables
-current_well_formed a k =
-    let before = tables_of_each (take a.number a.others.items) in
-    let behind = tables_of_each (drop a.number a.others.items) in
-    subst WellFormed (get_middle before behind a.map.tables a.map.tables)
-    (k.project.maps (length before) a.map.tables (length_middle before behind a.map.tables))
-
-pub keeps_exactly : {X : Type 0} (a : Inside) (m : MapView) (result : Result X MapError) (faults : Option ℕ) (after : Tables) (answer : X)
-    → EndsExactly result (unless faults after answer) a.map.tables m.tables → (WellFormed a.map.tables → faults ≡ None → WellFormed after) → after.name ≡ a.map.tables.name
-    → KeepsMaps a → KeepsMaps (record { map = m; number = a.number; others = a.others })
-keeps_exactly a m result faults after answer e keeps same k =
-    let w = current_well_formed a k in
-    keeps_edit a m (stays_exactly result faults after answer a.map.tables m.tables e (keeps w) same w) k
-
-pub keeps_ended : {X : Type 0} (a : Inside) (m : MapView) (result : Result X MapError) (faults : Option ℕ) (after : Tables) (answer : X)
-    → EndsEdit result (unless faults after answer) a.map.tables m.tables → (WellFormed a.map.tables → faults ≡ None → WellFormed after) → after.name ≡ a.map.tables.name
-    → KeepsMaps a → KeepsMaps (record { map = m; number = a.number; others = a.others })
-keeps_ended a m result faults after answer e keeps same k =
-    let w = current_well_formed a k in
-    keeps_edit a m (stays_ended result faults after answer a.map.tables m.tables e (keeps w) same w) k
 
 -- ---- For the crates above
 

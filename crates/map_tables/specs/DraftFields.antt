@@ -2,6 +2,7 @@
 use Rattle.map_tables.specs.declared.map.draft.Draft.TheInside.{Inside}
 use Rattle.map_tables.specs.Tables.{Tables}
 
+-- the name and the tables
 abbrev pub drafted : Inside → Tables
 drafted a =
     record {

@@ -9,6 +9,12 @@ use Rattle.lump_records.specs.Drawing.{squared_distance, longest_squared}
 use Rattle.lump_records.specs.Limits.{item_limit, sector_limit}
 pub use Rattle.lump_records.specs.Sides.{has_left, is_two_sided}
 use Rattle.map_tables.specs.declared.error.MapError.TheVariants.{NoVertex, NoSector, NoSide, NoLine, NoThing, InUse, SameEnds, PlaceTaken, TwoSidedWithoutLeft, TableFull, LineTooLong}
+use Rattle.map_tables.specs.declared.edit.Edit.{Edit}
+use Rattle.map_tables.specs.declared.edit.Edit.TheVariants.{Add, Set, Drop}
+use Rattle.map_tables.specs.declared.edit.Item.{Item}
+use Rattle.map_tables.specs.declared.edit.Item.TheVariants as item
+use Rattle.map_tables.specs.declared.kind.Kind.{Kind}
+use Rattle.map_tables.specs.declared.kind.Kind.TheVariants as kind
 use Rattle.map_tables.specs.Errors.{code_of}
 use Rattle.map_tables.specs.Tables.{Tables}
 use Rattle.map_tables.specs.WellFormed.{nth_vertex}
@@ -58,10 +64,12 @@ is_too_long vs l =
 
 -- ---- Vertices
 
+-- why a vertex can't be added: its place is taken, or the table is full
 abbrev pub vertex_faults : Tables → Vertex → List (ℕ × Bool)
 vertex_faults m v = (code_of PlaceTaken, is_taken m.vertices v)
     ∷ (code_of TableFull, lacks_room m.vertices 1) ∷ []
 
+-- why a vertex can't be moved: it isn't there, another one has the place, or a line of it would be too long
 abbrev pub set_vertex_faults : Tables → ℕ → Vertex → List (ℕ × Bool)
 set_vertex_faults m n v =
     (code_of NoVertex, lacks m.vertices n)
@@ -72,32 +80,39 @@ set_vertex_faults m n v =
           && is_too_long (slice_set m.vertices n v) l) m.lines,
     ) ∷ []
 
+-- why a vertex can't be removed: it isn't there, or a line has it
 abbrev pub drop_vertex_faults : Tables → ℕ → List (ℕ × Bool)
 drop_vertex_faults m n =
     (code_of NoVertex, lacks m.vertices n) ∷ (code_of InUse, list_any (uses_vertex n) m.lines) ∷ []
 
 -- ---- Sectors
 
+-- why a sector can't be added: the table is full
 abbrev pub sector_faults : Tables → List (ℕ × Bool)
 sector_faults m = (code_of TableFull, lacks_sector_room m.sectors 1) ∷ []
 
+-- why a sector can't be changed: it isn't there
 abbrev pub set_sector_faults : Tables → ℕ → List (ℕ × Bool)
 set_sector_faults m n = (code_of NoSector, lacks m.sectors n) ∷ []
 
+-- why a sector can't be removed: it isn't there, or a side faces it
 abbrev pub drop_sector_faults : Tables → ℕ → List (ℕ × Bool)
 drop_sector_faults m n = (code_of NoSector, lacks m.sectors n)
     ∷ (code_of InUse, list_any (in_sector n) m.sides) ∷ []
 
 -- ---- Sides
 
+-- why a side can't be added: its sector isn't there, or the table is full
 abbrev pub side_faults : Tables → Side → List (ℕ × Bool)
 side_faults m s = (code_of NoSector, lacks m.sectors s.sector)
     ∷ (code_of TableFull, lacks_room m.sides 1) ∷ []
 
+-- why a side can't be changed: its new sector isn't there, or it isn't
 abbrev pub set_side_faults : Tables → ℕ → Side → List (ℕ × Bool)
 set_side_faults m n s = (code_of NoSector, lacks m.sectors s.sector)
     ∷ (code_of NoSide, lacks m.sides n) ∷ []
 
+-- why a side can't be removed: it isn't there, or a line has it
 abbrev pub drop_side_faults : Tables → ℕ → List (ℕ × Bool)
 drop_side_faults m n = (code_of NoSide, lacks m.sides n)
     ∷ (code_of InUse, list_any (uses_side n) m.lines) ∷ []
@@ -115,27 +130,65 @@ abbrev pub shape_faults : Line → List (ℕ × Bool)
 shape_faults l = (code_of SameEnds, l.v1 == l.v2)
     ∷ (code_of TwoSidedWithoutLeft, is_two_sided l && not (has_left l)) ∷ []
 
+-- why a line can't be added: what it names isn't there, its fields aren't consistent, the table is full, or it is too long
 abbrev pub line_faults : Tables → Line → List (ℕ × Bool)
 line_faults m l =
     reference_faults m l ++ shape_faults l
     ++ (code_of TableFull, lacks_room m.lines 1) ∷ (code_of LineTooLong, is_too_long m.vertices l)
     ∷ []
 
+-- why a line can't be changed: as for a new one, or it isn't there
 abbrev pub set_line_faults : Tables → ℕ → Line → List (ℕ × Bool)
 set_line_faults m n l =
     reference_faults m l ++ (code_of NoLine, lacks m.lines n) ∷ shape_faults l
     ++ (code_of LineTooLong, is_too_long m.vertices l) ∷ []
 
+-- why a line can't be removed: it isn't there
 abbrev pub drop_line_faults : Tables → ℕ → List (ℕ × Bool)
 drop_line_faults m n = (code_of NoLine, lacks m.lines n) ∷ []
 
 -- ---- Things
 
+-- why a thing can't be added: the table is full
 abbrev pub thing_faults : Tables → List (ℕ × Bool)
 thing_faults m = (code_of TableFull, lacks_room m.things 1) ∷ []
 
+-- why a thing can't be changed: it isn't there
 abbrev pub set_thing_faults : Tables → ℕ → List (ℕ × Bool)
 set_thing_faults m n = (code_of NoThing, lacks m.things n) ∷ []
 
+-- why a thing can't be removed: it isn't there
 abbrev pub drop_thing_faults : Tables → ℕ → List (ℕ × Bool)
 drop_thing_faults m n = (code_of NoThing, lacks m.things n) ∷ []
+
+-- ---- Any item
+
+-- why an item can't be added
+abbrev pub add_faults : Tables → Item → List (ℕ × Bool)
+add_faults m (item.Vertex v) = vertex_faults m v
+add_faults m (item.Sector s) = sector_faults m
+add_faults m (item.Side s) = side_faults m s
+add_faults m (item.Line l) = line_faults m l
+add_faults m (item.Thing t) = thing_faults m
+
+-- why an item can't replace the one with the number
+abbrev pub set_faults : Tables → ℕ → Item → List (ℕ × Bool)
+set_faults m n (item.Vertex v) = set_vertex_faults m n v
+set_faults m n (item.Sector s) = set_sector_faults m n
+set_faults m n (item.Side s) = set_side_faults m n s
+set_faults m n (item.Line l) = set_line_faults m n l
+set_faults m n (item.Thing t) = set_thing_faults m n
+
+-- why the item with the number can't be removed
+abbrev pub drop_faults : Tables → Kind → ℕ → List (ℕ × Bool)
+drop_faults m kind.Vertex n = drop_vertex_faults m n
+drop_faults m kind.Sector n = drop_sector_faults m n
+drop_faults m kind.Side n = drop_side_faults m n
+drop_faults m kind.Line n = drop_line_faults m n
+drop_faults m kind.Thing n = drop_thing_faults m n
+
+-- why an edit is refused
+abbrev pub edit_faults : Tables → Edit → List (ℕ × Bool)
+edit_faults m (Add i) = add_faults m i
+edit_faults m (Set n i) = set_faults m n i
+edit_faults m (Drop k n) = drop_faults m k n

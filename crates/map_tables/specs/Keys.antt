@@ -4,6 +4,7 @@ use Rattle.std.specs.List.{position_or_len}
 use Rattle.slab.specs.Slab.{Slab, get, slab_len, ContainsKey}
 use Rattle.map_tables.specs.Edits.{lowered}
 
+-- the items in order, the key of each, and how many more fit without allocating
 pub record TableView (T : Type 0) : Type 0 where
   pub items : List T
   pub keys : List ℕ

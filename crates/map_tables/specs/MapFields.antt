@@ -5,6 +5,7 @@ use Rattle.map_tables.specs.Tables.{MapView, Tables}
 use Rattle.map_tables.specs.WellFormed.{WellFormed}
 use Rattle.map_tables.specs.Keyed.{line_of, side_of}
 
+-- the name, and each table with numbers in place of keys
 abbrev pub tables_of : Inside → Tables
 tables_of a =
     record {

@@ -2,7 +2,9 @@
 use Rattle.std.specs.Prelude.{◌≡◌, ℕ, ◌+◌, ◌≤◌, Bool, if◌then◌else◌, List, [], ◌∷◌, length, Option, Some, None, Result, Ok, Err, MatchResult}
 use Rattle.map_tables.specs.declared.error.MapError.{MapError}
 use Rattle.map_tables.specs.declared.error.MapError.TheVariants.{OutOfMemory}
-use Rattle.map_tables.specs.declared.map.Need.{Need}
+use Rattle.map_tables.specs.declared.edit.Need.{Need}
+use Rattle.map_tables.specs.declared.kind.Kind.{Kind}
+use Rattle.map_tables.specs.declared.kind.Kind.TheVariants as kind
 use Rattle.map_tables.specs.Errors.{code_of}
 use Rattle.map_tables.specs.Tables.{Tables, Counts}
 
@@ -46,7 +48,7 @@ pub record Covers (spare : Counts) (need : Need) : Type 0 where
   pub things : need.things ≤ spare.things
 
 -- an edit used at most this number of spare places of each kind
-pub record Spends (taken old new : Counts) : Type 0 where
+pub record Spends (taken : Need) (old new : Counts) : Type 0 where
   pub vertices : old.vertices ≤ new.vertices + taken.vertices
   pub sectors : old.sectors ≤ new.sectors + taken.sectors
   pub sides : old.sides ≤ new.sides + taken.sides
@@ -64,23 +66,18 @@ places m spare =
       things = length m.things + spare.things;
     }
 
--- no item
+-- no spare place
 abbrev pub nothing : Counts
 nothing = record { vertices = 0; sectors = 0; sides = 0; lines = 0; things = 0 }
 
--- one item of one kind
+-- no item is needed
+abbrev pub no_need : Need
+no_need = record { vertices = 0; sectors = 0; sides = 0; lines = 0; things = 0 }
 
-abbrev pub one_vertex : Counts
-one_vertex = record { vertices = 1; sectors = 0; sides = 0; lines = 0; things = 0 }
-
-abbrev pub one_sector : Counts
-one_sector = record { vertices = 0; sectors = 1; sides = 0; lines = 0; things = 0 }
-
-abbrev pub one_side : Counts
-one_side = record { vertices = 0; sectors = 0; sides = 1; lines = 0; things = 0 }
-
-abbrev pub one_line : Counts
-one_line = record { vertices = 0; sectors = 0; sides = 0; lines = 1; things = 0 }
-
-abbrev pub one_thing : Counts
-one_thing = record { vertices = 0; sectors = 0; sides = 0; lines = 0; things = 1 }
+-- one item of a kind is needed
+abbrev pub one_of : Kind → Need
+one_of kind.Vertex = record no_need { vertices = 1 }
+one_of kind.Sector = record no_need { sectors = 1 }
+one_of kind.Side = record no_need { sides = 1 }
+one_of kind.Line = record no_need { lines = 1 }
+one_of kind.Thing = record no_need { things = 1 }

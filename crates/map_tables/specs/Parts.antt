@@ -49,23 +49,27 @@ pub record IsFramed (bytes : List ℕ) : Type 0 where
   pub whole : 18 + 10 * unsigned_at 8 bytes + 14 * unsigned_at 10 bytes + 30 * unsigned_at 12 bytes
       + 4 * unsigned_at 14 bytes + 26 * unsigned_at 16 bytes ≤ length bytes
 
--- the bytes after the head, and after each table
-
+-- the bytes after the head
 abbrev pub behind_head : List ℕ → List ℕ
 behind_head bytes = drop 18 bytes
 
+-- the bytes after the things
 abbrev pub behind_things : List ℕ → List ℕ
 behind_things bytes = drop (10 * unsigned_at 8 bytes) (behind_head bytes)
 
+-- the bytes after the lines
 abbrev pub behind_lines : List ℕ → List ℕ
 behind_lines bytes = drop (14 * unsigned_at 10 bytes) (behind_things bytes)
 
+-- the bytes after the sides
 abbrev pub behind_sides : List ℕ → List ℕ
 behind_sides bytes = drop (30 * unsigned_at 12 bytes) (behind_lines bytes)
 
+-- the bytes after the vertices
 abbrev pub behind_vertices : List ℕ → List ℕ
 behind_vertices bytes = drop (4 * unsigned_at 14 bytes) (behind_sides bytes)
 
+-- the bytes after the sectors
 abbrev pub behind_sectors : List ℕ → List ℕ
 behind_sectors bytes = drop (26 * unsigned_at 16 bytes) (behind_vertices bytes)
 

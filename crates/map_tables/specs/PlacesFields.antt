@@ -4,6 +4,7 @@ use Rattle.std.specs.HashSet.{keys, hash_set_len, spare}
 use Rattle.map_tables.specs.declared.map.places.Places.TheInside.{Inside}
 use Rattle.map_tables.specs.Places.{PlacesView}
 
+-- the places that are marked, and how many may be
 abbrev pub places_of : Inside → PlacesView
 places_of a = record { marked = keys a.taken; room = a.room }
 

@@ -50,13 +50,16 @@ with_current_named p name = with_current p (with_name (current_map p) name)
 
 -- ---- The outcome of each: the new project and the map's number, or the least code that refuses it
 
+-- the outcome of `map`
 abbrev pub selected_map : ProjectMaps → Name8 → Result (ProjectMaps × ℕ) ℕ
 selected_map p name =
     unless (least (select_faults p name)) (with_selected p name) (map_number_of p name)
 
+-- the outcome of `drop-map`
 abbrev pub dropped_map : ProjectMaps → Name8 → Result (ProjectMaps × ℕ) ℕ
 dropped_map p name =
     unless (least (drop_map_faults p name)) (without_map p name) (map_number_of p name)
 
+-- the outcome of `name`
 abbrev pub named_map : ProjectMaps → Name8 → Result (ProjectMaps × ⊤) ℕ
 named_map p name = unless (least (name_faults p name)) (with_current_named p name) tt

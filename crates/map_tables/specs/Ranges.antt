@@ -1,5 +1,5 @@
 -- The ranges of the fields of a map's items.
-use Rattle.std.specs.Prelude.{◌≤◌, ◌||◌, ◌==◌, nat_le, ℤ, pos, negsuc, IsTrue}
+use Rattle.std.specs.Prelude.{ℕ, ◌≤◌, ◌||◌, ◌==◌, nat_le, ℤ, pos, negsuc, IsTrue}
 pub use Rattle.lump_records.specs.Names.{name_of, name_text, is_name_byte, is_name, is_nonzero_digit, is_digit, is_marker, IsNamed}
 pub use Rattle.lump_records.specs.Drawing.{IsBetween, IsCoordinate, IsDrawable, squared_distance, longest_squared}
 use Rattle.lump_records.specs.declared.records.Thing.{Thing}
@@ -8,6 +8,13 @@ use Rattle.lump_records.specs.declared.records.Side.{Side}
 use Rattle.lump_records.specs.declared.records.Vertex.{Vertex}
 use Rattle.lump_records.specs.declared.records.Sector.{Sector}
 use Rattle.lump_records.specs.Sides.{no_side}
+use Rattle.map_tables.specs.declared.edit.Edit.{Edit}
+use Rattle.map_tables.specs.declared.edit.Edit.TheVariants.{Add, Set, Drop}
+use Rattle.map_tables.specs.declared.edit.Item.{Item}
+use Rattle.map_tables.specs.declared.edit.Item.TheVariants as item
+use Rattle.map_tables.specs.declared.kind.Kind.{Kind}
+use Rattle.map_tables.specs.declared.kind.Kind.TheVariants as kind
+use Rattle.map_tables.specs.Tables.{kind_of_item}
 
 -- a height or an offset: any signed 16-bit number
 abbrev pub IsShort : ℤ → Type 0
@@ -57,3 +64,22 @@ pub record IsThing (t : Thing) : Type 0 where
   pub angle : IsBetween (pos 0) (pos 359) t.angle
   pub kind : IsCode t.kind
   pub options : IsCode t.options
+
+-- the ranges of an item
+abbrev pub IsItem : Item → Type 0
+IsItem (item.Vertex v) = IsVertex v
+IsItem (item.Sector s) = IsSector s
+IsItem (item.Side s) = IsSide s
+IsItem (item.Line l) = IsLine l
+IsItem (item.Thing t) = IsThing t
+
+-- the greatest number of an item of a table
+abbrev pub last_of : Kind → ℕ
+last_of kind.Sector = 4095
+last_of _ = 32766
+
+-- the ranges of an edit, its number's too
+abbrev pub IsEdit : Edit → Type 0
+IsEdit (Add i) = IsItem i
+IsEdit (Set n i) = (n ≤ last_of (kind_of_item i)) × IsItem i
+IsEdit (Drop k n) = n ≤ last_of k

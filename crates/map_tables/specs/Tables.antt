@@ -9,9 +9,12 @@ use Rattle.lump_records.specs.declared.records.Line.{Line}
 use Rattle.lump_records.specs.declared.records.Side.{Side}
 use Rattle.lump_records.specs.declared.records.Vertex.{Vertex}
 use Rattle.lump_records.specs.declared.records.Sector.{Sector}
+use Rattle.map_tables.specs.declared.edit.Item.{Item}
+use Rattle.map_tables.specs.declared.edit.Item.TheVariants as item
 use Rattle.map_tables.specs.declared.kind.Kind.{Kind}
 use Rattle.map_tables.specs.declared.kind.Kind.TheVariants as kind
 
+-- a map: its name, and its items by number
 pub record Tables : Type 0 where
   pub name : Name8
   pub vertices : List Vertex
@@ -40,6 +43,14 @@ count_of m kind.Sector = length m.sectors
 count_of m kind.Side = length m.sides
 count_of m kind.Line = length m.lines
 count_of m kind.Thing = length m.things
+
+-- the table of an item
+abbrev pub kind_of_item : Item → Kind
+kind_of_item (item.Vertex v) = kind.Vertex
+kind_of_item (item.Sector s) = kind.Sector
+kind_of_item (item.Side s) = kind.Side
+kind_of_item (item.Line l) = kind.Line
+kind_of_item (item.Thing t) = kind.Thing
 
 -- how many items a map may have of a kind
 abbrev pub table_limit : Kind → ℕ

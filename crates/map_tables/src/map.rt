@@ -1,6 +1,7 @@
 //! A map: its name and its tables, and the calls that read them.
 mod body;
 mod draft;
+mod edits;
 mod header;
 mod keyed_line;
 mod keyed_side;
@@ -19,8 +20,9 @@ ghost use Rattle.map_tables.specs.Tables.{empty_tables, count_of, table_limit};
 ghost use Rattle.map_tables.specs.Edits.{with_name};
 ghost use Rattle.map_tables.specs.Ranges.{IsNamed, is_marker, IsVertex, IsSector, IsSide, IsLine, IsThing};
 ghost use Rattle.map_tables.specs.WellFormed.{WellFormed, HasEnds, HasSides, HasSector};
-ghost use Rattle.map_tables.specs.Outcomes.{Covers, Spends, nothing};
+ghost use Rattle.map_tables.specs.Outcomes.{Covers, Spends, no_need, nothing};
 
+use crate::edit::Need;
 use crate::error::MapError;
 use crate::kind::Kind;
 use crate::map::keyed_line::{KeyedLine, numbered_line};
@@ -32,16 +34,6 @@ use lump_records::{Line, Name8, Sector, Side, Thing, Vertex};
 pub(crate) use part::first_map;
 use std::alloc::Global;
 use std::marker::Model;
-
-/// How many items of each kind are to be added.
-#[derive(Clone, Copy)]
-pub struct Need {
-    pub vertices: u32,
-    pub sectors: u32,
-    pub sides: u32,
-    pub lines: u32,
-    pub things: u32,
-}
 
 /// A map: its name and its tables. An item's number is its index in its table.
 pub struct Map {
@@ -194,7 +186,7 @@ impl Map {
     /// Makes room: after `Ok`, the needed number of additions of each kind allocate no memory.
     pub fn reserve(&mut self, need: Need) -> Result<(), MapError>
         ensures tables { self.new.tables ≡ self.old.tables }
-        ensures spare { Spends nothing self.old.spare self.new.spare }
+        ensures spare { Spends no_need self.old.spare self.new.spare }
         ensures ok { OnOk result (Covers self.new.spare need) }
         ensures promised { Covers self.old.spare need → IsErrOf result MapError.OutOfMemory → ⊥ }
         ensures memory { IsOkUnless result MapError.OutOfMemory }

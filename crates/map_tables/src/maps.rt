@@ -1,16 +1,18 @@
 //! The maps of a project, one of them current.
 mod body;
-mod edits;
 mod names;
 
 ghost use Rattle.std.specs.Prelude.{◌≡◌, ◌≤◌, ◌<◌, length, get_or, slice_get, MatchOption, Some, None, OnOk, IsOkUnless, IsErrOf};
 ghost use Rattle.map_tables.specs.Projects.{WellFormedProject, project_of, empty_project, body_len};
 ghost use Rattle.map_tables.specs.Tables.{Tables, count_of};
-ghost use Rattle.map_tables.specs.Outcomes.{Covers, Spends, nothing};
+ghost use Rattle.map_tables.specs.Outcomes.{Covers, EndsEdit, Spends, no_need, nothing, places};
+ghost use Rattle.map_tables.specs.Edits.{edit_need, edited};
+ghost use Rattle.map_tables.specs.Ranges.{IsEdit};
 
+use crate::edit::{Edit, Need};
 use crate::error::MapError;
 use crate::kind::Kind;
-use crate::map::{Map, Need};
+use crate::map::Map;
 use arrayvec::ArrayVec;
 use std::alloc::Global;
 use std::default::MadeWith;
@@ -143,12 +145,28 @@ impl Maps {
     /// Makes room in the current map: after `Ok`, the needed number of additions of each kind allocate no memory.
     pub fn reserve(&mut self, need: Need) -> Result<(), MapError>
         ensures tables { self.new.tables ≡ self.old.tables }
-        ensures spare { Spends nothing self.old.spare self.new.spare }
+        ensures spare { Spends no_need self.old.spare self.new.spare }
         ensures ok { OnOk result (Covers self.new.spare need) }
         ensures promised { Covers self.old.spare need → IsErrOf result MapError.OutOfMemory → ⊥ }
         ensures memory { IsOkUnless result MapError.OutOfMemory }
         ensures others { self.new.others ≡ self.old.others }
     {
         self.map.reserve(need)
+    }
+
+    /// Makes an edit of the current map, and returns the item's number. Only an addition may lack memory, and only if no
+    /// place is spare.
+    pub fn edit(&mut self, edit: Edit) -> Result<u32, MapError>
+        requires { IsEdit edit }
+        ensures edit { EndsEdit result
+            (edited self.old.tables edit) self.old.tables self.new.tables }
+        ensures promised { Covers self.old.spare (edit_need edit)
+            → IsErrOf result MapError.OutOfMemory → ⊥ }
+        ensures spare { Spends (edit_need edit) self.old.spare self.new.spare }
+        ensures places { Covers self.old.spare (edit_need edit)
+            → places self.new.tables self.new.spare ≡ places self.old.tables self.old.spare }
+        ensures others { self.new.others ≡ self.old.others }
+    {
+        self.map.edit(edit)
     }
 }

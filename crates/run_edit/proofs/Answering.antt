@@ -5,14 +5,14 @@ use Rattle.std.specs.Option.{option_map}
 use Rattle.map_tables.specs.Outcomes.{Covers}
 use Rattle.map_tables.specs.Projects.{ProjectMaps}
 use Rattle.map_tables.specs.Tables.{Counts}
-use Rattle.map_tables.specs.declared.map.Need.{Need}
+use Rattle.map_tables.specs.declared.edit.Need.{Need}
 use Rattle.map_commands.specs.Errors.{code_of}
 use Rattle.map_commands.specs.ProjectCommands.{InProjectRange, project_spelling}
 use Rattle.map_commands.specs.ProjectGrammar.{project_fault_of}
 use Rattle.map_commands.specs.ProjectLines.{EndsLine, RefusesCommand}
 use Rattle.map_commands.specs.ProjectReadiness.{EndsStep, RefusesStep, project_need_of}
 use Rattle.map_commands.specs.ProjectStep.{step}
-use Rattle.map_commands.specs.Readiness.{no_need}
+use Rattle.map_tables.specs.Outcomes.{no_need}
 use Rattle.map_commands.specs.declared.error.CommandError.{CommandError}
 use Rattle.map_commands.specs.declared.error.CommandError.TheVariants.{NotACommand, OutOfRange, NoVertex, NoSector, NoSide, NoLine, NoThing, InUse, SameEnds, PlaceTaken, TwoSidedWithoutLeft, TableFull, LineTooLong, ProjectFull, BadName, TooManyMaps, MapNameTaken, NoSuchMap, CurrentMap, OutOfMemory}
 use Rattle.map_commands.specs.declared.project.command.ProjectCommand.{ProjectCommand}

@@ -5,7 +5,7 @@ use Rattle.map_tables.specs.Projects.{ProjectMaps}
 use Rattle.map_commands.specs.Errors.{code_of}
 use Rattle.map_commands.specs.ProjectLines.{Accepts, EndsLine}
 use Rattle.map_commands.specs.ProjectReadiness.{project_need_of}
-use Rattle.map_commands.specs.Readiness.{no_need}
+use Rattle.map_tables.specs.Outcomes.{no_need}
 use Rattle.map_commands.specs.declared.error.CommandError.{CommandError}
 use Rattle.run_edit.specs.Queries.{IsAnswer, TakesMemory, query_of}
 use Rattle.run_edit.specs.Runs.{Replies}

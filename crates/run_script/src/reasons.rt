@@ -4,7 +4,7 @@ use crate::forms::{count_words, first_word, form_near, form_of, range_at};
 use lump_records::{Vertex, is_marker, is_name};
 use map_commands::{Command, ProjectCommand, RoomPlan, parse};
 use map_script::{Names, ScriptLine, resolve};
-use map_tables::{Kind, Map, Maps};
+use map_tables::{Edit, Item, Kind, Map, Maps};
 use run_edit::read_query;
 use std::alloc::{AllocError, Global};
 use std::str;
@@ -141,10 +141,10 @@ fn taken_corner(map: &Map, plan: &RoomPlan) -> Vertex {
 // The place for which a command would add or move a vertex, and where another one may stand.
 fn wanted_place(map: &Map, text: &str) -> Option<Vertex> {
     match parse(text.as_bytes()) {
-        Ok(ProjectCommand::Edit(Command::AddVertex(at))) => Some(at),
-        Ok(ProjectCommand::Edit(Command::SetVertex(_, at))) => Some(at),
-        Ok(ProjectCommand::Edit(Command::Split(split))) => Some(split.at),
-        Ok(ProjectCommand::Edit(Command::Room(plan))) => Some(taken_corner(map, &plan)),
+        Ok(ProjectCommand::Current(Command::Edit(Edit::Add(Item::Vertex(at))))) => Some(at),
+        Ok(ProjectCommand::Current(Command::Edit(Edit::Set(_, Item::Vertex(at))))) => Some(at),
+        Ok(ProjectCommand::Current(Command::Split(split))) => Some(split.at),
+        Ok(ProjectCommand::Current(Command::Room(plan))) => Some(taken_corner(map, &plan)),
         _ => None,
     }
 }

@@ -17,10 +17,11 @@ calls_of d = calls_in d.calls
 abbrev pub medium_of : MemoryDisk → Medium
 medium_of d = after_calls (first_medium d) (calls_of d)
 
--- how many bytes its file may have; below, how many its record may have
+-- how many bytes its file may have
 abbrev pub memory_room : MemoryDisk → ℕ
 memory_room d = most_of d.file
 
+-- how many bytes its record may have
 abbrev pub log_of : MemoryDisk → ℕ
 log_of d = record_room d.calls
 

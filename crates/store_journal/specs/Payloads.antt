@@ -12,6 +12,7 @@ abbrev pub RiseTo : ℕ → ℕ → List ℕ → Type 0
 RiseTo last from [] = from ≡ last
 RiseTo last from (end ∷ ends) = (from ≤ end) × RiseTo last end ends
 
+-- the payloads, each up to its end
 abbrev pub kept_payloads : Inside → List (List ℕ)
 kept_payloads fields = parts_up_to 0 fields.ends.items fields.bytes.items
 

@@ -9,6 +9,7 @@ abbrev pub found_in : Option (List (List ℕ)) → List (List ℕ)
 found_in None = []
 found_in (Some records) = records
 
+-- the area, the next gate, whether the file must be opened again, and the records
 abbrev pub journal_state : Inside → JournalState
 journal_state fields = record {
   area = fields.area;

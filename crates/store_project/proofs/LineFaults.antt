@@ -2,7 +2,7 @@
 use Rattle.std.proofs.Common.{◌≡◌, ◌≤◌, ℕ, ℤ, Bool, true, false, cond, List, [], ◌∷◌, length, nat_lt, Option, None, Some, subst, arith}
 use Rattle.std.specs.Prelude.{IfSome, ◌&&◌, int_le, int_lt, pos}
 use Rattle.lump_records.specs.Names.{is_marker}
-use Rattle.map_commands.specs.CommandRanges.{last_of}
+use Rattle.map_tables.specs.Ranges.{last_of}
 use Rattle.map_commands.specs.Grammar.{drop_fault, fault_behind, flat_fault, head_fault, head_of, kind_fault, kind_of, command_fault, or_else, parts}
 use Rattle.map_commands.specs.ProjectGrammar as of_project
 use Rattle.map_commands.specs.ProjectGrammar.{fault_by_head, project_fault_of, map_head_of}

@@ -3,12 +3,12 @@ use Rattle.std.proofs.Common.{◌≡◌, ℕ, Bool, true, false, List, Some, Res
 use Rattle.std.proofs.lemmas.Bool.{true≢false}
 use Rattle.map_tables.specs.Outcomes.{Covers}
 use Rattle.map_tables.specs.Tables.{Counts}
-use Rattle.map_tables.specs.declared.map.Need.{Need}
+use Rattle.map_tables.specs.declared.edit.Need.{Need}
 use Rattle.map_commands.specs.Errors as commands
 use Rattle.map_commands.specs.ProjectCommands.{InProjectRange, project_spelling}
 use Rattle.map_commands.specs.ProjectGrammar.{project_fault_of}
 use Rattle.map_commands.specs.ProjectReadiness.{project_need_of}
-use Rattle.map_commands.specs.Readiness.{no_need}
+use Rattle.map_tables.specs.Outcomes.{no_need}
 use Rattle.map_commands.specs.declared.error.CommandError.{CommandError}
 use Rattle.map_commands.specs.declared.error.CommandError.TheVariants as command
 use Rattle.map_commands.specs.declared.project.command.ProjectCommand.{ProjectCommand}

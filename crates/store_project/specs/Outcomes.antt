@@ -9,7 +9,7 @@ use Rattle.map_commands.specs.ProjectCommands.{InProjectRange, project_spelling}
 use Rattle.map_commands.specs.ProjectLines.{RefusesLine}
 use Rattle.map_commands.specs.ProjectLines.{Accepts, LeadsTo}
 use Rattle.map_commands.specs.ProjectReadiness.{project_need_of}
-use Rattle.map_commands.specs.Readiness.{no_need}
+use Rattle.map_tables.specs.Outcomes.{no_need}
 use Rattle.map_commands.specs.declared.project.command.ProjectCommand.{ProjectCommand}
 use Rattle.store_project.specs.States.{State}
 use Rattle.store_project.specs.declared.error.ProjectError.{ProjectError}

@@ -7,7 +7,7 @@ ghost use Rattle.wad_import.specs.Added.{HasSectorRanges, HasSideRanges, HasThin
 
 use crate::error::ImportError;
 use lump_records::{Line, Sector, Side, Thing};
-use map_tables::{MapError, Maps};
+use map_tables::{Edit, Item, MapError, Maps};
 
 /// The refusal of an item that a map may have: there is no memory.
 pub fn lack_of(error: MapError) -> ImportError
@@ -66,7 +66,7 @@ pub fn add_sectors(maps: &mut Maps, sectors: &[Sector]) -> Result<(), ImportErro
 {
     for sector in sectors {
         is_sector(sector);
-        match maps.add_sector(*sector) {
+        match maps.edit(Edit::Add(Item::Sector(*sector))) {
             Ok(_) => {}
             Err(error) => return Err(lack_of(error)),
         }
@@ -86,7 +86,7 @@ pub fn add_sides(maps: &mut Maps, sides: &[Side]) -> Result<(), ImportError>
 {
     for side in sides {
         is_side(side);
-        match maps.add_side(*side) {
+        match maps.edit(Edit::Add(Item::Side(*side))) {
             Ok(_) => {}
             Err(error) => return Err(lack_of(error)),
         }
@@ -106,7 +106,7 @@ pub fn add_lines(maps: &mut Maps, lines: &[Line]) -> Result<(), ImportError>
     ensures others { maps.new.others ≡ maps.old.others }
 {
     for line in lines {
-        match maps.add_line(*line) {
+        match maps.edit(Edit::Add(Item::Line(*line))) {
             Ok(_) => {}
             Err(error) => return Err(lack_of(error)),
         }
@@ -126,7 +126,7 @@ pub fn add_things(maps: &mut Maps, things: &[Thing]) -> Result<(), ImportError>
 {
     for thing in things {
         is_thing(thing);
-        match maps.add_thing(*thing) {
+        match maps.edit(Edit::Add(Item::Thing(*thing))) {
             Ok(_) => {}
             Err(error) => return Err(lack_of(error)),
         }

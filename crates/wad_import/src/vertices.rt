@@ -10,7 +10,7 @@ use crate::change::Change;
 use crate::error::ImportError;
 use crate::tables::lack_of;
 use lump_records::Vertex;
-use map_tables::{Kind, Maps};
+use map_tables::{Edit, Item, Kind, Maps};
 use std::alloc::Global;
 
 /// The number that each vertex has in the map, and the changes for those that are left out.
@@ -71,7 +71,7 @@ pub fn add_vertices(
             changes.push(Change::VertexAgain(n, first))?;
         } else {
             numbers.push(maps.current().count(Kind::Vertex) as u16)?;
-            match maps.add_vertex(vertex) {
+            match maps.edit(Edit::Add(Item::Vertex(vertex))) {
                 Ok(_) => {}
                 Err(error) => return Err(lack_of(error)),
             }

@@ -12,7 +12,7 @@ ghost use Rattle.map_commands.specs.Step.{after, faults, number_of};
 use crate::command::Command;
 use crate::project::command::ProjectCommand;
 use crate::project::decision::is_full;
-use map_tables::{MapError, Maps};
+use map_tables::{Edit, MapError, Maps};
 
 // Adds the item of a command that adds exactly one. Any other command does nothing and gives none.
 fn add_item(maps: &mut Maps, command: &Command) -> Option<Result<u32, MapError>>
@@ -27,11 +27,7 @@ fn add_item(maps: &mut Maps, command: &Command) -> Option<Result<u32, MapError>>
     ensures others { maps.new.others ≡ maps.old.others }
 {
     match command {
-        Command::AddVertex(vertex) => Some(maps.add_vertex(*vertex)),
-        Command::AddSector(sector) => Some(maps.add_sector(*sector)),
-        Command::AddSide(side) => Some(maps.add_side(*side)),
-        Command::AddLine(line) => Some(maps.add_line(*line)),
-        Command::AddThing(thing) => Some(maps.add_thing(*thing)),
+        Command::Edit(Edit::Add(item)) => Some(maps.edit(Edit::Add(*item))),
         _ => None,
     }
 }
@@ -50,7 +46,7 @@ pub fn try_add(maps: &mut Maps, command: &ProjectCommand, cap: u32) -> Option<u3
         → IsOk (step (project_of maps.old) command.now cap)
         → IfNone result (Covers maps.new.spare (project_need_of command.now)) }
 {
-    let ProjectCommand::Edit(edit) = command else {
+    let ProjectCommand::Current(edit) = command else {
         return None;
     };
     if is_full(maps, command, cap) {

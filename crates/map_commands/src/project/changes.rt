@@ -1,6 +1,6 @@
 //! The calls that change a project: `ready` decides and allocates, `commit` then makes the change, `apply` does both.
-ghost use Rattle.std.specs.Prelude.{◌≡◌, ◌≤◌, None, IfOk, IfErr, IsErrOf, IsOk, Ok};
-ghost use Rattle.map_tables.specs.Outcomes.{Covers, EndsExactly, least, unless};
+ghost use Rattle.std.specs.Prelude.{◌≡◌, ◌≤◌, None, IfOk, IfErr, IsErrOf, Ok};
+ghost use Rattle.map_tables.specs.Outcomes.{Covers, least};
 ghost use Rattle.map_tables.specs.Projects.{body_len, project_of};
 ghost use Rattle.map_commands.specs.CommandRanges as of_one;
 ghost use Rattle.map_commands.specs.ProjectCommands.{InProjectRange};
@@ -8,17 +8,17 @@ ghost use Rattle.map_commands.specs.ProjectReadiness.{CanCommit, EndsStep, Refus
 ghost use Rattle.map_commands.specs.ProjectStep.{project_after, naming_faults, project_number_of, step};
 ghost use Rattle.map_commands.specs.Readiness as of_one_map;
 ghost use Rattle.map_commands.specs.Step as step_of_one_map;
-ghost use Rattle.map_commands.specs.Step.{drop_faults, faults, without};
+ghost use Rattle.map_commands.specs.Step.{faults};
 
 use crate::command::Command;
 use crate::error::CommandError;
 use crate::project::adding::try_add;
-use crate::project::additions::{put_line, put_name, put_sector, put_side, put_thing, put_vertex};
 use crate::project::command::{ProjectCommand, Ready};
 use crate::project::decision::{can_do, is_full, need_of};
+use crate::project::edits::{put, put_name};
 use crate::project::room::draw;
 use crate::project::split::cut;
-use map_tables::{Kind, MapError, Maps};
+use map_tables::Maps;
 
 /// Decides whether a command may be done, and allocates all memory that it needs. The project stays as it is. The
 /// refusal is the lowest of the codes 3 to 14 and 16 to 19 that apply. `cap` is the greatest length of the new body, in
@@ -51,33 +51,8 @@ pub fn ready(maps: &mut Maps, command: &ProjectCommand, cap: u32) -> Result<Read
     }
 }
 
-// Removes an item from the current map.
-fn drop_item(maps: &mut Maps, kind: Kind, n: u32) -> Result<(), MapError>
-    ensures edit { EndsExactly result
-        (unless (least (drop_faults maps.old.tables kind n)) (without maps.old.tables kind n) tt)
-        maps.old.tables maps.new.tables }
-    ensures others { maps.new.others ≡ maps.old.others }
-{
-    match kind {
-        Kind::Vertex => maps.drop_vertex(n),
-        Kind::Sector => maps.drop_sector(n),
-        Kind::Side => maps.drop_side(n),
-        Kind::Line => maps.drop_line(n),
-        Kind::Thing => maps.drop_thing(n),
-    }
-}
-
-// The number of an item, after an edit of it that can't have been refused.
-fn edited(n: u16, edit: Result<(), MapError>) -> u32
-    requires { IsOk edit }
-    ensures { result ≡ n }
-{
-    edit.unwrap();
-    u32::from(n)
-}
-
 // Makes a change that the current map accepts and has memory for, and returns its number.
-fn edit(maps: &mut Maps, command: Command) -> u32
+fn change(maps: &mut Maps, command: Command) -> u32
     requires range { of_one.InRange command }
     requires accepted { least (faults maps.old.tables command) ≡ None }
     requires named { least (naming_faults (project_of maps.old) command) ≡ None }
@@ -91,31 +66,21 @@ fn edit(maps: &mut Maps, command: Command) -> u32
             put_name(maps, name);
             0
         }
-        Command::AddVertex(vertex) => put_vertex(maps, vertex),
-        Command::AddSector(sector) => put_sector(maps, sector),
-        Command::AddSide(side) => put_side(maps, side),
-        Command::AddLine(line) => put_line(maps, line),
-        Command::AddThing(thing) => put_thing(maps, thing),
-        Command::SetVertex(n, vertex) => edited(n, maps.set_vertex(u32::from(n), vertex)),
-        Command::SetSector(n, sector) => edited(n, maps.set_sector(u32::from(n), sector)),
-        Command::SetSide(n, side) => edited(n, maps.set_side(u32::from(n), side)),
-        Command::SetLine(n, line) => edited(n, maps.set_line(u32::from(n), line)),
-        Command::SetThing(n, thing) => edited(n, maps.set_thing(u32::from(n), thing)),
-        Command::Drop(kind, n) => edited(n, drop_item(maps, kind, u32::from(n))),
+        Command::Edit(edit) => put(maps, edit),
         Command::Room(plan) => draw(maps, &plan),
         Command::Split(split) => cut(maps, &split),
     }
 }
 
 // Makes a change of the current map, stated as a step of the project.
-fn commit_edit(maps: &mut Maps, command: Command) -> u32
-    requires { CanCommit maps.old (ProjectCommand.Edit command) }
+fn commit_current(maps: &mut Maps, command: Command) -> u32
+    requires { CanCommit maps.old (ProjectCommand.Current command) }
     ensures project { project_of maps.new
-        ≡ project_after (project_of maps.old) (ProjectCommand.Edit command) }
+        ≡ project_after (project_of maps.old) (ProjectCommand.Current command) }
     ensures number { result
-        ≡ project_number_of (project_of maps.old) (ProjectCommand.Edit command) }
+        ≡ project_number_of (project_of maps.old) (ProjectCommand.Current command) }
 {
-    edit(maps, command)
+    change(maps, command)
 }
 
 /// Makes the change that `ready` has accepted, and returns its number. It allocates no memory and can't be refused.
@@ -125,7 +90,7 @@ pub fn commit(maps: &mut Maps, ready: Ready) -> u32
     ensures number { result ≡ project_number_of (project_of maps.old) ready.command }
 {
     match ready.command {
-        ProjectCommand::Edit(command) => commit_edit(maps, command),
+        ProjectCommand::Current(command) => commit_current(maps, command),
         ProjectCommand::SelectMap(name) => maps.select(name).unwrap(),
         ProjectCommand::DropMap(name) => maps.drop_map(name).unwrap(),
     }

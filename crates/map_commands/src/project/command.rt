@@ -6,7 +6,7 @@ use lump_records::Name8;
 #[derive(Clone, Copy)]
 pub enum ProjectCommand {
     /// A change to the current map.
-    Edit(Command),
+    Current(Command),
     /// The name of the map that becomes current. If no map has it, an empty one is added at the end.
     SelectMap(Name8),
     /// The name of the map to remove.

@@ -47,7 +47,7 @@ pub fn can_do(maps: &Maps, command: &ProjectCommand) -> Result<(), MapError>
         Tells result (current_faults p command.now ++ map_faults p command.now) }
 {
     match command {
-        ProjectCommand::Edit(edit) => can_edit(maps, edit),
+        ProjectCommand::Current(edit) => can_edit(maps, edit),
         ProjectCommand::SelectMap(name) => maps.can_select(*name),
         ProjectCommand::DropMap(name) => maps.can_drop_map(*name),
     }
@@ -58,7 +58,7 @@ pub fn need_of(command: &ProjectCommand) -> Need
     ensures { result ≡ project_need_of command.now }
 {
     match command {
-        ProjectCommand::Edit(edit) => growth::need_of(edit),
+        ProjectCommand::Current(edit) => growth::need_of(edit),
         ProjectCommand::SelectMap(_) | ProjectCommand::DropMap(_) => growth::NO_NEED,
     }
 }
@@ -75,7 +75,7 @@ fn growth_of(maps: &Maps, command: &ProjectCommand) -> u64
     ensures { result ≡ project_growth_of (project_of maps.now) command.now }
 {
     match command {
-        ProjectCommand::Edit(edit) => growth::growth_of(growth::need_of(edit)),
+        ProjectCommand::Current(edit) => growth::growth_of(growth::need_of(edit)),
         ProjectCommand::SelectMap(name) => if has_map(maps, *name) { 0 } else { 18 },
         ProjectCommand::DropMap(_) => 0,
     }

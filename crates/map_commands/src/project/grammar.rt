@@ -70,7 +70,7 @@ fn edit(word: &[u8], rest: Option<&[u8]>) -> Result<ProjectCommand, CommandError
         (of_one_map.command_fault (word.now ∷ parts_behind (option_copied rest.entry))) }
 {
     match grammar::read(word, rest) {
-        Ok(command) => Ok(ProjectCommand::Edit(command)),
+        Ok(command) => Ok(ProjectCommand::Current(command)),
         Err(error) => Err(error),
     }
 }

@@ -8,9 +8,9 @@ ghost use Rattle.map_commands.specs.Readiness.{need_of};
 ghost use Rattle.map_commands.specs.Rooms.{corners, four_sides, four_vertices, room_faults, room_sides, walls, with_lines, with_room, with_sides, with_vertices};
 
 use crate::command::{Command, RoomPlan};
-use crate::project::additions::{count, put_line, put_sector, put_side, put_vertex};
+use crate::project::edits::{count, put};
 use crate::room::{corners_of, sector_of, side_of, wall};
-use map_tables::{Kind, Maps};
+use map_tables::{Edit, Item, Kind, Maps};
 
 // Adds the corners.
 fn put_corners(maps: &mut Maps, plan: &RoomPlan)
@@ -23,10 +23,10 @@ fn put_corners(maps: &mut Maps, plan: &RoomPlan)
     ensures others { maps.new.others ≡ maps.old.others }
 {
     let [south_west, north_west, north_east, south_east] = corners_of(plan);
-    put_vertex(maps, south_west);
-    put_vertex(maps, north_west);
-    put_vertex(maps, north_east);
-    put_vertex(maps, south_east);
+    put(maps, Edit::Add(Item::Vertex(south_west)));
+    put(maps, Edit::Add(Item::Vertex(north_west)));
+    put(maps, Edit::Add(Item::Vertex(north_east)));
+    put(maps, Edit::Add(Item::Vertex(south_east)));
 }
 
 // Adds the sides.
@@ -40,11 +40,11 @@ fn put_sides(maps: &mut Maps, plan: &RoomPlan, sector: u16)
     ensures spare { Spends four_sides maps.old.spare maps.new.spare }
     ensures others { maps.new.others ≡ maps.old.others }
 {
-    let side = side_of(plan, sector);
-    put_side(maps, side);
-    put_side(maps, side);
-    put_side(maps, side);
-    put_side(maps, side);
+    let side = Edit::Add(Item::Side(side_of(plan, sector)));
+    put(maps, side);
+    put(maps, side);
+    put(maps, side);
+    put(maps, side);
 }
 
 // Adds the walls between four corners, each with a side.
@@ -59,10 +59,19 @@ fn put_walls(maps: &mut Maps, plan: &RoomPlan, corner: u16, side: u16)
     ensures tables { maps.new.tables ≡ with_lines maps.old.tables (walls corner side) }
     ensures others { maps.new.others ≡ maps.old.others }
 {
-    put_line(maps, wall(corner, corner + 1, side));
-    put_line(maps, wall(corner + 1, corner + 2, side + 1));
-    put_line(maps, wall(corner + 2, corner + 3, side + 2));
-    put_line(maps, wall(corner + 3, corner, side + 3));
+    put(maps, Edit::Add(Item::Line(wall(corner, corner + 1, side))));
+    put(
+        maps,
+        Edit::Add(Item::Line(wall(corner + 1, corner + 2, side + 1))),
+    );
+    put(
+        maps,
+        Edit::Add(Item::Line(wall(corner + 2, corner + 3, side + 2))),
+    );
+    put(
+        maps,
+        Edit::Add(Item::Line(wall(corner + 3, corner, side + 3))),
+    );
 }
 
 /// Draws a room that the map accepts and has memory for, and returns its sector's number.
@@ -76,7 +85,7 @@ pub fn draw(maps: &mut Maps, plan: &RoomPlan) -> u32
 {
     let corner = count(maps, Kind::Vertex) as u16;
     let side = count(maps, Kind::Side) as u16;
-    let sector = put_sector(maps, sector_of(plan));
+    let sector = put(maps, Edit::Add(Item::Sector(sector_of(plan))));
     put_sides(maps, plan, sector as u16);
     put_corners(maps, plan);
     put_walls(maps, plan, corner, side);

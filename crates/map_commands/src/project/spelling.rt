@@ -31,7 +31,7 @@ pub fn print(alloc: Global, command: &ProjectCommand) -> Result<Vec<u8>, Command
     ensures memory { IsOkUnless result CommandError.OutOfMemory }
 {
     match command {
-        ProjectCommand::Edit(edit) => spelling::print(alloc, edit),
+        ProjectCommand::Current(edit) => spelling::print(alloc, edit),
         ProjectCommand::SelectMap(name) => line(alloc, MapHead::Select, name),
         ProjectCommand::DropMap(name) => line(alloc, MapHead::Drop, name),
     }

@@ -2,12 +2,14 @@
 ghost use Rattle.std.specs.Prelude.{◌≡◌, [], ◌∷◌, ◌<◌, IsErrOf};
 ghost use Rattle.map_tables.specs.Errors.{code_of};
 ghost use Rattle.map_tables.specs.Ranges.{IsLine};
-ghost use Rattle.map_tables.specs.Outcomes.{EndsEdit, EndsExactly, Tells, Spends, places, one_line, nothing};
+ghost use Rattle.map_tables.specs.Outcomes.{EndsEdit, EndsExactly, Tells, Spends, places, no_need, one_of};
 ghost use Rattle.map_tables.specs.Faults.{is_too_long, lacks, reference_faults, shape_faults, line_faults, set_line_faults, drop_line_faults};
-ghost use Rattle.map_tables.specs.Edits.{added_line, changed_line, dropped_line};
+ghost use Rattle.map_tables.specs.Edits.{added, changed, dropped};
 
+use crate::edit::Item;
 use crate::error::MapError;
 use crate::form::{has_same_ends, lacks_left, lacks_side, lacks_vertex};
+use crate::kind::Kind;
 use crate::lengths::is_too_far;
 use crate::map::Map;
 use crate::map::keyed_line::keyed_line;
@@ -57,9 +59,9 @@ impl Map {
         is_too_far(self.vertices.nth(line.v1), self.vertices.nth(line.v2))
     }
 
-    /// Whether a line can be added, memory aside: `NoVertex`, `NoSide`, `SameEnds`,
-    /// `TwoSidedWithoutLeft`, `TableFull`, `LineTooLong`.
-    pub fn can_add_line(&self, line: Line) -> Result<(), MapError>
+    // Whether a line can be added, memory aside: `NoVertex`, `NoSide`, `SameEnds`,
+    // `TwoSidedWithoutLeft`, `TableFull`, `LineTooLong`.
+    pub(crate) fn can_add_line(&self, line: Line) -> Result<(), MapError>
         ensures { Tells result (line_faults self.now.tables line) }
     {
         self.check_references(&line)?;
@@ -77,9 +79,9 @@ impl Map {
     pub fn add_line(&mut self, line: Line) -> Result<u32, MapError>
         requires { IsLine line }
         ensures edit { EndsEdit result
-            (added_line self.old.tables line) self.old.tables self.new.tables }
+            (added self.old.tables (Item.Line line)) self.old.tables self.new.tables }
         ensures promised { 0 < self.old.spare.lines → IsErrOf result MapError.OutOfMemory → ⊥ }
-        ensures spare { Spends one_line self.old.spare self.new.spare }
+        ensures spare { Spends (one_of Kind.Line) self.old.spare self.new.spare }
         ensures places { 0 < self.old.spare.lines
             → places self.new.tables self.new.spare ≡ places self.old.tables self.old.spare }
     {
@@ -90,9 +92,9 @@ impl Map {
         Ok(number)
     }
 
-    /// Whether a line can be changed: `NoVertex`, `NoSide`, `NoLine`, `SameEnds`,
-    /// `TwoSidedWithoutLeft`, `LineTooLong`.
-    pub fn can_set_line(&self, n: u32, line: Line) -> Result<(), MapError>
+    // Whether a line can be changed: `NoVertex`, `NoSide`, `NoLine`, `SameEnds`,
+    // `TwoSidedWithoutLeft`, `LineTooLong`.
+    pub(crate) fn can_set_line(&self, n: u32, line: Line) -> Result<(), MapError>
         ensures { Tells result (set_line_faults self.now.tables n line) }
     {
         self.check_references(&line)?;
@@ -107,9 +109,9 @@ impl Map {
     /// Replaces the line with the number.
     pub fn set_line(&mut self, n: u32, line: Line) -> Result<(), MapError>
         requires { IsLine line }
-        ensures edit { EndsExactly result (changed_line self.old.tables n line)
+        ensures edit { EndsExactly result (changed self.old.tables n (Item.Line line))
             self.old.tables self.new.tables }
-        ensures spare { Spends nothing self.old.spare self.new.spare }
+        ensures spare { Spends no_need self.old.spare self.new.spare }
         ensures places { places self.new.tables self.new.spare
             ≡ places self.old.tables self.old.spare }
     {
@@ -119,8 +121,8 @@ impl Map {
         Ok(())
     }
 
-    /// Whether a line can be removed: `NoLine`.
-    pub fn can_drop_line(&self, n: u32) -> Result<(), MapError>
+    // Whether a line can be removed: `NoLine`.
+    pub(crate) fn can_drop_line(&self, n: u32) -> Result<(), MapError>
         ensures { Tells result (drop_line_faults self.now.tables n) }
     {
         self.check_has_line(n)
@@ -129,8 +131,8 @@ impl Map {
     /// Removes a line, and lowers each greater number by one.
     pub fn drop_line(&mut self, n: u32) -> Result<(), MapError>
         ensures edit { EndsExactly result
-            (dropped_line self.old.tables n) self.old.tables self.new.tables }
-        ensures spare { Spends nothing self.old.spare self.new.spare }
+            (dropped self.old.tables Kind.Line n) self.old.tables self.new.tables }
+        ensures spare { Spends no_need self.old.spare self.new.spare }
         ensures places { places self.new.tables self.new.spare
             ≡ places self.old.tables self.old.spare }
     {

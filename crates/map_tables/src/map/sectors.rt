@@ -3,11 +3,13 @@ ghost use Rattle.std.specs.Prelude.{◌≡◌, [], ◌∷◌, ◌<◌, ◌==◌,
 ghost use Rattle.std.specs.List.{list_any};
 ghost use Rattle.map_tables.specs.Errors.{code_of};
 ghost use Rattle.map_tables.specs.Ranges.{IsSector};
-ghost use Rattle.map_tables.specs.Outcomes.{EndsEdit, EndsExactly, Tells, Spends, places, one_sector, nothing};
+ghost use Rattle.map_tables.specs.Outcomes.{EndsEdit, EndsExactly, Tells, Spends, places, no_need, one_of};
 ghost use Rattle.map_tables.specs.Faults.{lacks, in_sector, sector_faults, set_sector_faults, drop_sector_faults};
-ghost use Rattle.map_tables.specs.Edits.{added_sector, changed_sector, dropped_sector};
+ghost use Rattle.map_tables.specs.Edits.{added, changed, dropped};
 
+use crate::edit::Item;
 use crate::error::MapError;
+use crate::kind::Kind;
 use crate::map::Map;
 use crate::map::keyed_side::KeyedSide;
 use crate::map::table::Table;
@@ -36,8 +38,8 @@ impl Map {
         Ok(())
     }
 
-    /// Whether a sector can be added, memory aside: `TableFull`.
-    pub fn can_add_sector(&self) -> Result<(), MapError>
+    // Whether a sector can be added, memory aside: `TableFull`.
+    pub(crate) fn can_add_sector(&self) -> Result<(), MapError>
         ensures { Tells result (sector_faults self.now.tables) }
     {
         if self.sectors.len() >= SECTOR_LIMIT {
@@ -50,9 +52,9 @@ impl Map {
     pub fn add_sector(&mut self, sector: Sector) -> Result<u32, MapError>
         requires { IsSector sector }
         ensures edit { EndsEdit result
-            (added_sector self.old.tables sector) self.old.tables self.new.tables }
+            (added self.old.tables (Item.Sector sector)) self.old.tables self.new.tables }
         ensures promised { 0 < self.old.spare.sectors → IsErrOf result MapError.OutOfMemory → ⊥ }
-        ensures spare { Spends one_sector self.old.spare self.new.spare }
+        ensures spare { Spends (one_of Kind.Sector) self.old.spare self.new.spare }
         ensures places { 0 < self.old.spare.sectors
             → places self.new.tables self.new.spare ≡ places self.old.tables self.old.spare }
     {
@@ -62,8 +64,8 @@ impl Map {
         Ok(number)
     }
 
-    /// Whether a sector can be changed: `NoSector`.
-    pub fn can_set_sector(&self, n: u32) -> Result<(), MapError>
+    // Whether a sector can be changed: `NoSector`.
+    pub(crate) fn can_set_sector(&self, n: u32) -> Result<(), MapError>
         ensures { Tells result (set_sector_faults self.now.tables n) }
     {
         self.check_has_sector(n)
@@ -72,9 +74,9 @@ impl Map {
     /// Replaces the sector with the number.
     pub fn set_sector(&mut self, n: u32, sector: Sector) -> Result<(), MapError>
         requires { IsSector sector }
-        ensures edit { EndsExactly result (changed_sector self.old.tables n sector)
+        ensures edit { EndsExactly result (changed self.old.tables n (Item.Sector sector))
             self.old.tables self.new.tables }
-        ensures spare { Spends nothing self.old.spare self.new.spare }
+        ensures spare { Spends no_need self.old.spare self.new.spare }
         ensures places { places self.new.tables self.new.spare
             ≡ places self.old.tables self.old.spare }
     {
@@ -91,8 +93,8 @@ impl Map {
         has_side_with(&self.sides, self.sectors.key_at(n as usize))
     }
 
-    /// Whether a sector can be removed: `NoSector`, `InUse`.
-    pub fn can_drop_sector(&self, n: u32) -> Result<(), MapError>
+    // Whether a sector can be removed: `NoSector`, `InUse`.
+    pub(crate) fn can_drop_sector(&self, n: u32) -> Result<(), MapError>
         ensures { Tells result (drop_sector_faults self.now.tables n) }
     {
         self.check_has_sector(n)?;
@@ -105,8 +107,8 @@ impl Map {
     /// Removes a sector, and lowers each greater number by one, in the sides too.
     pub fn drop_sector(&mut self, n: u32) -> Result<(), MapError>
         ensures edit { EndsExactly result
-            (dropped_sector self.old.tables n) self.old.tables self.new.tables }
-        ensures spare { Spends nothing self.old.spare self.new.spare }
+            (dropped self.old.tables Kind.Sector n) self.old.tables self.new.tables }
+        ensures spare { Spends no_need self.old.spare self.new.spare }
         ensures places { places self.new.tables self.new.spare
             ≡ places self.old.tables self.old.spare }
     {

@@ -3,12 +3,14 @@ ghost use Rattle.std.specs.Prelude.{◌≡◌, [], ◌∷◌, ◌<◌, ◌==◌,
 ghost use Rattle.std.specs.List.{list_any};
 ghost use Rattle.map_tables.specs.Errors.{code_of};
 ghost use Rattle.map_tables.specs.Ranges.{IsSide};
-ghost use Rattle.map_tables.specs.Outcomes.{EndsEdit, EndsExactly, Tells, Spends, places, one_side, nothing};
+ghost use Rattle.map_tables.specs.Outcomes.{EndsEdit, EndsExactly, Tells, Spends, places, no_need, one_of};
 ghost use Rattle.map_tables.specs.Faults.{lacks, uses_side, side_faults, set_side_faults, drop_side_faults};
 ghost use Rattle.map_tables.specs.Keyed.{is_left};
-ghost use Rattle.map_tables.specs.Edits.{added_side, changed_side, dropped_side};
+ghost use Rattle.map_tables.specs.Edits.{added, changed, dropped};
 
+use crate::edit::Item;
 use crate::error::MapError;
+use crate::kind::Kind;
 use crate::map::Map;
 use crate::map::keyed_line::KeyedLine;
 use crate::map::keyed_side::keyed_side;
@@ -51,8 +53,8 @@ impl Map {
         Ok(())
     }
 
-    /// Whether a side can be added, memory aside: `NoSector`, `TableFull`.
-    pub fn can_add_side(&self, side: Side) -> Result<(), MapError>
+    // Whether a side can be added, memory aside: `NoSector`, `TableFull`.
+    pub(crate) fn can_add_side(&self, side: Side) -> Result<(), MapError>
         ensures { Tells result (side_faults self.now.tables side) }
     {
         self.check_has_sector(u32::from(side.sector))?;
@@ -66,9 +68,9 @@ impl Map {
     pub fn add_side(&mut self, side: Side) -> Result<u32, MapError>
         requires { IsSide side }
         ensures edit { EndsEdit result
-            (added_side self.old.tables side) self.old.tables self.new.tables }
+            (added self.old.tables (Item.Side side)) self.old.tables self.new.tables }
         ensures promised { 0 < self.old.spare.sides → IsErrOf result MapError.OutOfMemory → ⊥ }
-        ensures spare { Spends one_side self.old.spare self.new.spare }
+        ensures spare { Spends (one_of Kind.Side) self.old.spare self.new.spare }
         ensures places { 0 < self.old.spare.sides
             → places self.new.tables self.new.spare ≡ places self.old.tables self.old.spare }
     {
@@ -79,8 +81,8 @@ impl Map {
         Ok(number)
     }
 
-    /// Whether a side can be changed: `NoSector`, `NoSide`.
-    pub fn can_set_side(&self, n: u32, side: Side) -> Result<(), MapError>
+    // Whether a side can be changed: `NoSector`, `NoSide`.
+    pub(crate) fn can_set_side(&self, n: u32, side: Side) -> Result<(), MapError>
         ensures { Tells result (set_side_faults self.now.tables n side) }
     {
         self.check_has_sector(u32::from(side.sector))?;
@@ -90,9 +92,9 @@ impl Map {
     /// Replaces the side with the number.
     pub fn set_side(&mut self, n: u32, side: Side) -> Result<(), MapError>
         requires { IsSide side }
-        ensures edit { EndsExactly result (changed_side self.old.tables n side)
+        ensures edit { EndsExactly result (changed self.old.tables n (Item.Side side))
             self.old.tables self.new.tables }
-        ensures spare { Spends nothing self.old.spare self.new.spare }
+        ensures spare { Spends no_need self.old.spare self.new.spare }
         ensures places { places self.new.tables self.new.spare
             ≡ places self.old.tables self.old.spare }
     {
@@ -110,8 +112,8 @@ impl Map {
         has_line_with_key(&self.lines, self.sides.key_at(n as usize))
     }
 
-    /// Whether a side can be removed: `NoSide`, `InUse`.
-    pub fn can_drop_side(&self, n: u32) -> Result<(), MapError>
+    // Whether a side can be removed: `NoSide`, `InUse`.
+    pub(crate) fn can_drop_side(&self, n: u32) -> Result<(), MapError>
         ensures { Tells result (drop_side_faults self.now.tables n) }
     {
         self.check_has_side(n)?;
@@ -124,8 +126,8 @@ impl Map {
     /// Removes a side, and lowers each greater number by one, in the lines too.
     pub fn drop_side(&mut self, n: u32) -> Result<(), MapError>
         ensures edit { EndsExactly result
-            (dropped_side self.old.tables n) self.old.tables self.new.tables }
-        ensures spare { Spends nothing self.old.spare self.new.spare }
+            (dropped self.old.tables Kind.Side n) self.old.tables self.new.tables }
+        ensures spare { Spends no_need self.old.spare self.new.spare }
         ensures places { places self.new.tables self.new.spare
             ≡ places self.old.tables self.old.spare }
     {

@@ -2,11 +2,13 @@
 ghost use Rattle.std.specs.Prelude.{◌≡◌, [], ◌∷◌, ◌<◌, IsErrOf};
 ghost use Rattle.map_tables.specs.Errors.{code_of};
 ghost use Rattle.map_tables.specs.Ranges.{IsThing};
-ghost use Rattle.map_tables.specs.Outcomes.{EndsEdit, EndsExactly, Tells, Spends, places, one_thing, nothing};
+ghost use Rattle.map_tables.specs.Outcomes.{EndsEdit, EndsExactly, Tells, Spends, places, no_need, one_of};
 ghost use Rattle.map_tables.specs.Faults.{lacks, thing_faults, set_thing_faults, drop_thing_faults};
-ghost use Rattle.map_tables.specs.Edits.{added_thing, changed_thing, dropped_thing};
+ghost use Rattle.map_tables.specs.Edits.{added, changed, dropped};
 
+use crate::edit::Item;
 use crate::error::MapError;
+use crate::kind::Kind;
 use crate::map::Map;
 use lump_records::{ITEM_LIMIT, Thing};
 
@@ -21,8 +23,8 @@ impl Map {
         Ok(())
     }
 
-    /// Whether a thing can be added, memory aside: `TableFull`.
-    pub fn can_add_thing(&self) -> Result<(), MapError>
+    // Whether a thing can be added, memory aside: `TableFull`.
+    pub(crate) fn can_add_thing(&self) -> Result<(), MapError>
         ensures { Tells result (thing_faults self.now.tables) }
     {
         if self.things.len() >= ITEM_LIMIT {
@@ -35,9 +37,9 @@ impl Map {
     pub fn add_thing(&mut self, thing: Thing) -> Result<u32, MapError>
         requires { IsThing thing }
         ensures edit { EndsEdit result
-            (added_thing self.old.tables thing) self.old.tables self.new.tables }
+            (added self.old.tables (Item.Thing thing)) self.old.tables self.new.tables }
         ensures promised { 0 < self.old.spare.things → IsErrOf result MapError.OutOfMemory → ⊥ }
-        ensures spare { Spends one_thing self.old.spare self.new.spare }
+        ensures spare { Spends (one_of Kind.Thing) self.old.spare self.new.spare }
         ensures places { 0 < self.old.spare.things
             → places self.new.tables self.new.spare ≡ places self.old.tables self.old.spare }
     {
@@ -47,8 +49,8 @@ impl Map {
         Ok(number)
     }
 
-    /// Whether a thing can be changed: `NoThing`.
-    pub fn can_set_thing(&self, n: u32) -> Result<(), MapError>
+    // Whether a thing can be changed: `NoThing`.
+    pub(crate) fn can_set_thing(&self, n: u32) -> Result<(), MapError>
         ensures { Tells result (set_thing_faults self.now.tables n) }
     {
         self.check_has_thing(n)
@@ -57,9 +59,9 @@ impl Map {
     /// Replaces the thing with the number.
     pub fn set_thing(&mut self, n: u32, thing: Thing) -> Result<(), MapError>
         requires { IsThing thing }
-        ensures edit { EndsExactly result (changed_thing self.old.tables n thing)
+        ensures edit { EndsExactly result (changed self.old.tables n (Item.Thing thing))
             self.old.tables self.new.tables }
-        ensures spare { Spends nothing self.old.spare self.new.spare }
+        ensures spare { Spends no_need self.old.spare self.new.spare }
         ensures places { places self.new.tables self.new.spare
             ≡ places self.old.tables self.old.spare }
     {
@@ -68,8 +70,8 @@ impl Map {
         Ok(())
     }
 
-    /// Whether a thing can be removed: `NoThing`.
-    pub fn can_drop_thing(&self, n: u32) -> Result<(), MapError>
+    // Whether a thing can be removed: `NoThing`.
+    pub(crate) fn can_drop_thing(&self, n: u32) -> Result<(), MapError>
         ensures { Tells result (drop_thing_faults self.now.tables n) }
     {
         self.check_has_thing(n)
@@ -78,8 +80,8 @@ impl Map {
     /// Removes a thing, and lowers each greater number by one.
     pub fn drop_thing(&mut self, n: u32) -> Result<(), MapError>
         ensures edit { EndsExactly result
-            (dropped_thing self.old.tables n) self.old.tables self.new.tables }
-        ensures spare { Spends nothing self.old.spare self.new.spare }
+            (dropped self.old.tables Kind.Thing n) self.old.tables self.new.tables }
+        ensures spare { Spends no_need self.old.spare self.new.spare }
         ensures places { places self.new.tables self.new.spare
             ≡ places self.old.tables self.old.spare }
     {

@@ -4,13 +4,15 @@ ghost use Rattle.std.specs.List.{list_any};
 ghost use Rattle.map_tables.specs.Errors.{code_of};
 ghost use Rattle.map_tables.specs.Ranges.{IsVertex};
 ghost use Rattle.map_tables.specs.WellFormed.{nth_vertex};
-ghost use Rattle.map_tables.specs.Outcomes.{EndsEdit, EndsExactly, Tells, Spends, places, one_vertex, nothing};
+ghost use Rattle.map_tables.specs.Outcomes.{EndsEdit, EndsExactly, Tells, Spends, places, no_need, one_of};
 ghost use Rattle.map_tables.specs.Faults.{lacks, is_taken, is_taken_beside, is_too_long, uses_vertex, vertex_faults, set_vertex_faults, drop_vertex_faults};
 ghost use Rattle.map_tables.specs.Keys.{rank_of};
 ghost use Rattle.map_tables.specs.Keyed.{stretches};
-ghost use Rattle.map_tables.specs.Edits.{added_vertex, changed_vertex, dropped_vertex};
+ghost use Rattle.map_tables.specs.Edits.{added, changed, dropped};
 
+use crate::edit::Item;
 use crate::error::MapError;
+use crate::kind::Kind;
 use crate::lengths::is_too_far;
 use crate::map::Map;
 use crate::map::keyed_line::KeyedLine;
@@ -101,8 +103,8 @@ impl Map {
         self.vertices.has(vertex)
     }
 
-    /// Whether a vertex can be added, memory aside: `PlaceTaken`, `TableFull`.
-    pub fn can_add_vertex(&self, vertex: Vertex) -> Result<(), MapError>
+    // Whether a vertex can be added, memory aside: `PlaceTaken`, `TableFull`.
+    pub(crate) fn can_add_vertex(&self, vertex: Vertex) -> Result<(), MapError>
         ensures { Tells result (vertex_faults self.now.tables vertex) }
     {
         if self.has_place(vertex) {
@@ -118,9 +120,9 @@ impl Map {
     pub fn add_vertex(&mut self, vertex: Vertex) -> Result<u32, MapError>
         requires { IsVertex vertex }
         ensures edit { EndsEdit result
-            (added_vertex self.old.tables vertex) self.old.tables self.new.tables }
+            (added self.old.tables (Item.Vertex vertex)) self.old.tables self.new.tables }
         ensures promised { 0 < self.old.spare.vertices → IsErrOf result MapError.OutOfMemory → ⊥ }
-        ensures spare { Spends one_vertex self.old.spare self.new.spare }
+        ensures spare { Spends (one_of Kind.Vertex) self.old.spare self.new.spare }
         ensures places { 0 < self.old.spare.vertices
             → places self.new.tables self.new.spare ≡ places self.old.tables self.old.spare }
     {
@@ -160,8 +162,8 @@ impl Map {
         has_line_stretched(&self.lines, &self.vertices, n, to)
     }
 
-    /// Whether a vertex can be moved to the place: `NoVertex`, `PlaceTaken`, `LineTooLong`.
-    pub fn can_set_vertex(&self, n: u32, vertex: Vertex) -> Result<(), MapError>
+    // Whether a vertex can be moved to the place: `NoVertex`, `PlaceTaken`, `LineTooLong`.
+    pub(crate) fn can_set_vertex(&self, n: u32, vertex: Vertex) -> Result<(), MapError>
         ensures { Tells result (set_vertex_faults self.now.tables n vertex) }
     {
         self.check_has_vertex(n)?;
@@ -177,9 +179,9 @@ impl Map {
     /// Moves a vertex, and with it the ends of its lines.
     pub fn set_vertex(&mut self, n: u32, vertex: Vertex) -> Result<(), MapError>
         requires { IsVertex vertex }
-        ensures edit { EndsExactly result (changed_vertex self.old.tables n vertex)
+        ensures edit { EndsExactly result (changed self.old.tables n (Item.Vertex vertex))
             self.old.tables self.new.tables }
-        ensures spare { Spends nothing self.old.spare self.new.spare }
+        ensures spare { Spends no_need self.old.spare self.new.spare }
         ensures places { places self.new.tables self.new.spare
             ≡ places self.old.tables self.old.spare }
     {
@@ -188,8 +190,8 @@ impl Map {
         Ok(())
     }
 
-    /// Whether a vertex can be removed: `NoVertex`, `InUse`.
-    pub fn can_drop_vertex(&self, n: u32) -> Result<(), MapError>
+    // Whether a vertex can be removed: `NoVertex`, `InUse`.
+    pub(crate) fn can_drop_vertex(&self, n: u32) -> Result<(), MapError>
         ensures { Tells result (drop_vertex_faults self.now.tables n) }
     {
         self.check_has_vertex(n)?;
@@ -202,8 +204,8 @@ impl Map {
     /// Removes a vertex, and lowers each greater number by one, in the lines too.
     pub fn drop_vertex(&mut self, n: u32) -> Result<(), MapError>
         ensures edit { EndsExactly result
-            (dropped_vertex self.old.tables n) self.old.tables self.new.tables }
-        ensures spare { Spends nothing self.old.spare self.new.spare }
+            (dropped self.old.tables Kind.Vertex n) self.old.tables self.new.tables }
+        ensures spare { Spends no_need self.old.spare self.new.spare }
         ensures places { places self.new.tables self.new.spare
             ≡ places self.old.tables self.old.spare }
     {

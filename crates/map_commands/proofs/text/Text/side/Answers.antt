@@ -18,4 +18,4 @@ returns c =
     (further _ _ _ _ _ c.in_ok-name.ensures
     (further _ _ _ _ _ c.in_ok-name-2.ensures
     (further _ _ _ _ _ c.in_ok-name-3.ensures
-    (c.item.ensures)))))
+    (c.natural.ensures)))))

@@ -1,5 +1,5 @@
 use Rattle.std.proofs.Common.{◌∙◌, sym, ap, pos, [], ◌∷◌}
-use Rattle.map_commands.specs.CommandRanges.{last_of}
+use Rattle.map_tables.specs.Ranges.{last_of}
 use Rattle.map_commands.specs.Places.{Number}
 use Rattle.map_commands.specs.Reading.{fault_with}
 use Rattle.map_commands.specs.Views.{reading}
