@@ -20,7 +20,7 @@ use Rattle.map_commands.specs.Rooms.{corners, room_sector, room_sides, walls}
 use Rattle.map_commands.specs.Splits.{cut_off, cut_short, line_or_some}
 use Rattle.map_commands.specs.Step.{after, faults}
 use Rattle.map_tables.specs.Edits.{without}
-use Rattle.map_tables.specs.Faults.{drop_faults}
+use Rattle.map_tables.specs.EditFaults.{drop_faults}
 
 -- ---- The least code
 

@@ -1,7 +1,7 @@
 -- Why a command of a map is refused, the map that it leaves, and its number.
 use Rattle.std.specs.Prelude.{ℕ, Bool, List, [], length}
 use Rattle.map_tables.specs.Tables.{Tables}
-use Rattle.map_tables.specs.Faults.{edit_faults}
+use Rattle.map_tables.specs.EditFaults.{edit_faults}
 use Rattle.map_tables.specs.Edits.{after_edit, edit_number, with_name}
 use Rattle.map_commands.specs.Rooms.{with_room, room_faults}
 use Rattle.map_commands.specs.Splits.{with_split, split_faults}

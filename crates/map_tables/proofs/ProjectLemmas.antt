@@ -20,7 +20,7 @@ use Rattle.map_tables.specs.declared.edit.Edit.{Edit}
 use Rattle.map_tables.specs.declared.edit.Edit.TheVariants.{Add, Set, Drop}
 use Rattle.map_tables.specs.declared.edit.Item.TheVariants as item
 use Rattle.map_tables.specs.declared.kind.Kind.TheVariants as kind
-use Rattle.map_tables.specs.Faults.{edit_faults}
+use Rattle.map_tables.specs.EditFaults.{edit_faults}
 use Rattle.map_tables.specs.Edits.{after_edit, edit_number, with_name, lowered}
 use Rattle.map_tables.specs.Edits as edits
 use Rattle.map_tables.specs.ProjectEdits.{name_faults, drop_map_faults, named_map, with_current_named, with_selected}

@@ -15,7 +15,7 @@ use Rattle.map_tables.specs.declared.kind.Kind.{Kind}
 use Rattle.map_tables.specs.declared.kind.Kind.TheVariants as kind
 use Rattle.map_tables.specs.Tables.{Tables, count_of, kind_of_item, no_side}
 use Rattle.map_tables.specs.Outcomes.{least, no_need, one_of, unless}
-use Rattle.map_tables.specs.Faults.{add_faults, set_faults, drop_faults, edit_faults}
+use Rattle.map_tables.specs.EditFaults.{add_faults, set_faults, drop_faults, edit_faults}
 
 -- ---- Names and numbers
 

@@ -9,12 +9,6 @@ use Rattle.lump_records.specs.Drawing.{squared_distance, longest_squared}
 use Rattle.lump_records.specs.Limits.{item_limit, sector_limit}
 pub use Rattle.lump_records.specs.Sides.{has_left, is_two_sided}
 use Rattle.map_tables.specs.declared.error.MapError.TheVariants.{NoVertex, NoSector, NoSide, NoLine, NoThing, InUse, SameEnds, PlaceTaken, TwoSidedWithoutLeft, TableFull, LineTooLong}
-use Rattle.map_tables.specs.declared.edit.Edit.{Edit}
-use Rattle.map_tables.specs.declared.edit.Edit.TheVariants.{Add, Set, Drop}
-use Rattle.map_tables.specs.declared.edit.Item.{Item}
-use Rattle.map_tables.specs.declared.edit.Item.TheVariants as item
-use Rattle.map_tables.specs.declared.kind.Kind.{Kind}
-use Rattle.map_tables.specs.declared.kind.Kind.TheVariants as kind
 use Rattle.map_tables.specs.Errors.{code_of}
 use Rattle.map_tables.specs.Tables.{Tables}
 use Rattle.map_tables.specs.WellFormed.{nth_vertex}
@@ -130,7 +124,7 @@ abbrev pub shape_faults : Line → List (ℕ × Bool)
 shape_faults l = (code_of SameEnds, l.v1 == l.v2)
     ∷ (code_of TwoSidedWithoutLeft, is_two_sided l && not (has_left l)) ∷ []
 
--- why a line can't be added: what it names isn't there, its fields aren't consistent, the table is full, or it is too long
+-- why a line can't be added: what it names isn't there, its fields don't fit, the table is full, or it is too long
 abbrev pub line_faults : Tables → Line → List (ℕ × Bool)
 line_faults m l =
     reference_faults m l ++ shape_faults l
@@ -160,35 +154,3 @@ set_thing_faults m n = (code_of NoThing, lacks m.things n) ∷ []
 -- why a thing can't be removed: it isn't there
 abbrev pub drop_thing_faults : Tables → ℕ → List (ℕ × Bool)
 drop_thing_faults m n = (code_of NoThing, lacks m.things n) ∷ []
-
--- ---- Any item
-
--- why an item can't be added
-abbrev pub add_faults : Tables → Item → List (ℕ × Bool)
-add_faults m (item.Vertex v) = vertex_faults m v
-add_faults m (item.Sector s) = sector_faults m
-add_faults m (item.Side s) = side_faults m s
-add_faults m (item.Line l) = line_faults m l
-add_faults m (item.Thing t) = thing_faults m
-
--- why an item can't replace the one with the number
-abbrev pub set_faults : Tables → ℕ → Item → List (ℕ × Bool)
-set_faults m n (item.Vertex v) = set_vertex_faults m n v
-set_faults m n (item.Sector s) = set_sector_faults m n
-set_faults m n (item.Side s) = set_side_faults m n s
-set_faults m n (item.Line l) = set_line_faults m n l
-set_faults m n (item.Thing t) = set_thing_faults m n
-
--- why the item with the number can't be removed
-abbrev pub drop_faults : Tables → Kind → ℕ → List (ℕ × Bool)
-drop_faults m kind.Vertex n = drop_vertex_faults m n
-drop_faults m kind.Sector n = drop_sector_faults m n
-drop_faults m kind.Side n = drop_side_faults m n
-drop_faults m kind.Line n = drop_line_faults m n
-drop_faults m kind.Thing n = drop_thing_faults m n
-
--- why an edit is refused
-abbrev pub edit_faults : Tables → Edit → List (ℕ × Bool)
-edit_faults m (Add i) = add_faults m i
-edit_faults m (Set n i) = set_faults m n i
-edit_faults m (Drop k n) = drop_faults m k n

@@ -154,8 +154,8 @@ impl Maps {
         self.map.reserve(need)
     }
 
-    /// Makes an edit of the current map, and returns the item's number. Only an addition may lack memory, and only if no
-    /// place is spare.
+    /// Makes an edit of the current map, and returns the item's number. Only an addition may lack memory, and only if
+    /// no place is spare.
     pub fn edit(&mut self, edit: Edit) -> Result<u32, MapError>
         requires { IsEdit edit }
         ensures edit { EndsEdit result

@@ -1,7 +1,7 @@
 //! Edits of the current map that can't be refused, because `ready` has already accepted them.
 ghost use Rattle.std.specs.Prelude.{◌≡◌, ◌≤◌, None, IfSome, slice_get};
 ghost use Rattle.map_tables.specs.Edits.{after_edit, edit_need, edit_number, with_name};
-ghost use Rattle.map_tables.specs.Faults.{edit_faults};
+ghost use Rattle.map_tables.specs.EditFaults.{edit_faults};
 ghost use Rattle.map_tables.specs.Outcomes.{Covers, Spends, least};
 ghost use Rattle.map_tables.specs.ProjectEdits.{name_faults};
 ghost use Rattle.map_tables.specs.Projects.{project_of};

@@ -1,7 +1,7 @@
 //! The edits of a map, each as a call of its table.
 ghost use Rattle.std.specs.Prelude.{◌≡◌, IsErrOf};
 ghost use Rattle.map_tables.specs.Edits.{added, changed, dropped, edit_need, edited};
-ghost use Rattle.map_tables.specs.Faults.{add_faults, drop_faults, edit_faults, set_faults};
+ghost use Rattle.map_tables.specs.EditFaults.{add_faults, drop_faults, edit_faults, set_faults};
 ghost use Rattle.map_tables.specs.Outcomes.{Covers, EndsEdit, EndsExactly, Spends, Tells, no_need, one_of, places};
 ghost use Rattle.map_tables.specs.Ranges.{IsEdit, IsItem};
 ghost use Rattle.map_tables.specs.Tables.{kind_of_item};
