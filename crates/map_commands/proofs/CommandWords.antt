@@ -10,12 +10,12 @@ use Rattle.map_commands.specs.declared.command.Command.TheVariants.{Name, Edit, 
 use Rattle.map_tables.specs.declared.edit.Edit.TheVariants as edit
 use Rattle.map_tables.specs.declared.edit.Item.TheVariants as item
 use Rattle.map_commands.specs.declared.command.RoomPlan.{RoomPlan}
-use Rattle.map_commands.specs.declared.head.Head.{Head}
-use Rattle.map_commands.specs.declared.head.Head.TheVariants as head
-use Rattle.map_commands.specs.CommandRanges.{InRange, IsRoom}
+use Rattle.map_commands.specs.declared.keywords.Head.{Head}
+use Rattle.map_commands.specs.declared.keywords.Head.TheVariants as head
+use Rattle.map_commands.specs.Step.{InRange, IsRoom}
 use Rattle.map_tables.specs.Ranges.{last_of}
 use Rattle.map_commands.specs.Grammar.{command_fault, fault_of}
-use Rattle.map_commands.specs.Spelling.{head_word, room_words, spelling, words_of}
+use Rattle.map_commands.specs.Spelling.{head_for, head_word, room_words, spelling, words_behind, words_of}
 use Rattle.map_commands.specs.Words.{parts}
 use Rattle.map_commands.proofs.Accepted.{all-read, item-ok, marker-ok, next}
 use Rattle.map_commands.proofs.Rooms.{room-fault-is}
@@ -117,20 +117,7 @@ fits (Split s) h = (next _ _ _ _ (item-ok s.line 32766 h.0 (lit≤ tt)) (vertex-
 
 -- the parts of a command's line are its words
 pub parts-spelling : (c : Command) → InRange c → parts (spelling c) ≡ words_of c
-parts-spelling (Name n) h = parts-join _ _ (texts (Name n) h)
-parts-spelling (Edit (edit.Add (item.Vertex v))) h = parts-join _ _ (texts (Edit (edit.Add (item.Vertex v))) h)
-parts-spelling (Edit (edit.Add (item.Sector s))) h = parts-join _ _ (texts (Edit (edit.Add (item.Sector s))) h)
-parts-spelling (Edit (edit.Add (item.Side s))) h = parts-join _ _ (texts (Edit (edit.Add (item.Side s))) h)
-parts-spelling (Edit (edit.Add (item.Line l))) h = parts-join _ _ (texts (Edit (edit.Add (item.Line l))) h)
-parts-spelling (Edit (edit.Add (item.Thing t))) h = parts-join _ _ (texts (Edit (edit.Add (item.Thing t))) h)
-parts-spelling (Edit (edit.Set n (item.Vertex v))) h = parts-join _ _ (texts (Edit (edit.Set n (item.Vertex v))) h)
-parts-spelling (Edit (edit.Set n (item.Sector s))) h = parts-join _ _ (texts (Edit (edit.Set n (item.Sector s))) h)
-parts-spelling (Edit (edit.Set n (item.Side s))) h = parts-join _ _ (texts (Edit (edit.Set n (item.Side s))) h)
-parts-spelling (Edit (edit.Set n (item.Line l))) h = parts-join _ _ (texts (Edit (edit.Set n (item.Line l))) h)
-parts-spelling (Edit (edit.Set n (item.Thing t))) h = parts-join _ _ (texts (Edit (edit.Set n (item.Thing t))) h)
-parts-spelling (Edit (edit.Drop k n)) h = parts-join _ _ (texts (Edit (edit.Drop k n)) h)
-parts-spelling (Room r) h = parts-join _ _ (texts (Room r) h)
-parts-spelling (Split s) h = parts-join _ _ (texts (Split s) h)
+parts-spelling c h = parts-join (head_word (head_for c)) (words_behind c) (texts c h)
 
 short-enough : (n : ℕ) → n ≤ 256 → nat_lt 256 n ≡ false
 short-enough n h = le-ltb 256 n h

@@ -7,9 +7,9 @@ use Rattle.map_commands.specs.declared.command.Command.{Command}
 use Rattle.map_commands.specs.declared.command.Command.TheVariants.{Name, Edit, Room, Split}
 use Rattle.map_tables.specs.declared.edit.Edit.TheVariants as edit
 use Rattle.map_tables.specs.declared.edit.Item.TheVariants as item
-use Rattle.map_commands.specs.declared.head.Head.{Head}
-use Rattle.map_commands.specs.declared.head.Head.TheVariants as head
-use Rattle.map_commands.specs.CommandRanges.{InRange}
+use Rattle.map_commands.specs.declared.keywords.Head.{Head}
+use Rattle.map_commands.specs.declared.keywords.Head.TheVariants as head
+use Rattle.map_commands.specs.Step.{InRange}
 use Rattle.map_tables.specs.Ranges.{last_of}
 use Rattle.map_commands.specs.Grammar.{head_of, kind_of}
 use Rattle.map_commands.specs.Spelling.{spelling, words_of}

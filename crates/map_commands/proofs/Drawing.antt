@@ -14,7 +14,7 @@ use Rattle.map_tables.specs.Outcomes.{least}
 use Rattle.map_tables.specs.Faults.{lacks, lacks_room, line_faults}
 use Rattle.map_tables.specs.Edits.{with_line}
 use Rattle.map_commands.specs.declared.command.RoomPlan.{RoomPlan}
-use Rattle.map_commands.specs.CommandRanges.{IsRoom}
+use Rattle.map_commands.specs.Step.{IsRoom}
 use Rattle.map_commands.specs.Rooms.{corners, wall, with_lines}
 
 -- several lines, one after another

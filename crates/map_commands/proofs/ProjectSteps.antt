@@ -19,8 +19,6 @@ use Rattle.map_tables.specs.Tables as of_one
 use Rattle.map_tables.proofs.ProjectLemmas.{body_len_with, current_of, with_current_of}
 use Rattle.map_commands.specs.declared.command.Command.{Command}
 use Rattle.map_commands.specs.declared.command.Command.TheVariants.{Name, Edit, Room, Split}
-use Rattle.map_tables.specs.declared.edit.Edit.TheVariants as edit
-use Rattle.map_tables.specs.declared.edit.Item.TheVariants as item
 use Rattle.map_commands.specs.declared.error.CommandError.{CommandError}
 use Rattle.map_commands.specs.declared.error.CommandError.TheVariants.{NotACommand, OutOfRange, NoVertex, NoSector, NoSide, NoLine, NoThing, InUse, SameEnds, PlaceTaken, TwoSidedWithoutLeft, TableFull, LineTooLong, ProjectFull, BadName, TooManyMaps, MapNameTaken, NoSuchMap, CurrentMap, OutOfMemory}
 use Rattle.map_commands.specs.declared.project.command.ProjectCommand.{ProjectCommand}
@@ -29,7 +27,6 @@ use Rattle.map_commands.specs.Errors.{code_of}
 use Rattle.map_commands.specs.ProjectCommands.{InProjectRange}
 use Rattle.map_commands.specs.ProjectReadiness.{CanCommit, RefusesStep, project_growth_of, project_need_of}
 use Rattle.map_commands.specs.ProjectStep.{project_after, current_faults, map_faults, naming_faults, project_number_of, step}
-use Rattle.map_commands.specs.Readiness as ready_one
 use Rattle.map_commands.specs.Step as step_one
 use Rattle.map_commands.proofs.Steps as steps
 use Rattle.map_commands.proofs.Steps.{code_is_low, least-none, least-some}
@@ -95,17 +92,7 @@ one-of-two false u i j k e h g = let is = alone u j k e in omega (arith, is)
 
 naming-low : (p : ProjectMaps) (c : Command) (k : ℕ) → least (naming_faults p c) ≡ Some k → k ≤ 19
 naming-low p (Name name) k e = let is = alone _ 17 k e in omega (arith, is)
-naming-low p (Edit (edit.Add (item.Vertex v))) k e = absurd cc
-naming-low p (Edit (edit.Add (item.Sector s))) k e = absurd cc
-naming-low p (Edit (edit.Add (item.Side s))) k e = absurd cc
-naming-low p (Edit (edit.Add (item.Line l))) k e = absurd cc
-naming-low p (Edit (edit.Add (item.Thing t))) k e = absurd cc
-naming-low p (Edit (edit.Set n (item.Vertex v))) k e = absurd cc
-naming-low p (Edit (edit.Set n (item.Sector s))) k e = absurd cc
-naming-low p (Edit (edit.Set n (item.Side s))) k e = absurd cc
-naming-low p (Edit (edit.Set n (item.Line l))) k e = absurd cc
-naming-low p (Edit (edit.Set n (item.Thing t))) k e = absurd cc
-naming-low p (Edit (edit.Drop kind n)) k e = absurd cc
+naming-low p (Edit e) k h = absurd cc
 naming-low p (Room r) k e = absurd cc
 naming-low p (Split s) k e = absurd cc
 
@@ -180,7 +167,7 @@ edit-fullness v c cap fits =
     let whole = body_len_with v w refl in
     let new = ap body_len (edited-project v w c refl refl) in
     let o = old - (part_len v.tables + 2) in
-    let growth = ready_one.growth_of (ready_one.need_of c) in
+    let growth = step_one.growth_of (step_one.need_of c) in
     with-others cap (cap - o) o (of_one.body_len_of_one w.tables) (of_one.body_len_of_one v.tables + growth) (body_len (project_after (project_of v) (Current c))) (old + growth)
     (omega (arith, fits, part)) (omega (arith, part, whole, new)) (omega (arith, part))
     (steps.fullness v.tables c (cap - o) (omega (arith, fits, part)))

@@ -6,8 +6,8 @@ use Rattle.std.proofs.lemmas.Bool.{le-ltb, ltb-false}
 use Rattle.lump_records.specs.declared.records.Name8.{Name8}
 use Rattle.lump_records.specs.Names.{IsNamed, is_marker, name_of, name_text}
 use Rattle.map_commands.specs.declared.error.CommandError.{CommandError}
-use Rattle.map_commands.specs.declared.head.Head.{Head}
-use Rattle.map_commands.specs.declared.head.Head.TheVariants as head
+use Rattle.map_commands.specs.declared.keywords.Head.{Head}
+use Rattle.map_commands.specs.declared.keywords.Head.TheVariants as head
 use Rattle.map_commands.specs.declared.project.command.MapHead.{MapHead}
 use Rattle.map_commands.specs.declared.project.command.MapHead.TheVariants as map_head
 use Rattle.map_commands.specs.declared.project.command.ProjectCommand.{ProjectCommand}

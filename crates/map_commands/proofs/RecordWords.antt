@@ -8,7 +8,7 @@ use Rattle.lump_records.specs.declared.records.Vertex.{Vertex}
 use Rattle.lump_records.specs.Names.{name_of}
 use Rattle.map_tables.specs.Ranges.{IsLine, IsSector, IsSide, IsThing, IsVertex}
 use Rattle.map_commands.specs.declared.command.RoomPlan.{RoomPlan}
-use Rattle.map_commands.specs.CommandRanges.{IsPlan}
+use Rattle.map_commands.specs.Step.{IsPlan}
 use Rattle.map_commands.specs.Places.{line_places, room_places, sector_places, side_places, thing_places, vertex_places}
 use Rattle.map_commands.specs.Spelling.{line_words, room_words, sector_words, side_words, thing_words, vertex_words}
 use Rattle.map_commands.specs.Words.{numeral_value}

@@ -5,7 +5,7 @@ use Rattle.std.specs.Int.{w16}
 use Rattle.std.proofs.lemmas.Int.{ints}
 use Rattle.lump_records.specs.Drawing.{IsCoordinate}
 use Rattle.map_commands.specs.declared.command.RoomPlan.{RoomPlan}
-use Rattle.map_commands.specs.CommandRanges.{IsPlan}
+use Rattle.map_commands.specs.Step.{IsPlan}
 use Rattle.map_tables.specs.Ranges.{last_of}
 use Rattle.map_commands.specs.Grammar.{room_fault, or_else, flat_fault, kind_of, kind_fault, drop_fault}
 use Rattle.map_commands.specs.Places.{Number, places_fault, room_places}

@@ -15,10 +15,9 @@ use Rattle.map_tables.specs.declared.edit.Item.TheVariants as item
 use Rattle.map_commands.specs.Errors.{code_of}
 use Rattle.map_commands.specs.declared.error.CommandError.{CommandError}
 use Rattle.map_commands.specs.declared.error.CommandError.TheVariants.{OutOfMemory}
-use Rattle.map_commands.specs.Readiness.{growth_of, need_of}
+use Rattle.map_commands.specs.Step.{growth_of, need_of, after, faults}
 use Rattle.map_commands.specs.Rooms.{corners, room_sector, room_sides, walls}
 use Rattle.map_commands.specs.Splits.{cut_off, cut_short, line_or_some}
-use Rattle.map_commands.specs.Step.{after, faults}
 use Rattle.map_tables.specs.Edits.{without}
 use Rattle.map_tables.specs.EditFaults.{drop_faults}
 

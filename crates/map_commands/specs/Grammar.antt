@@ -10,8 +10,8 @@ use Rattle.map_commands.specs.Places.{Number, Named, places_fault, item, sector_
 use Rattle.map_commands.specs.Spelling.{head_word, kind_word}
 use Rattle.map_commands.specs.Words.{numeral_value}
 pub use Rattle.map_commands.specs.Words.{parts}
-use Rattle.map_commands.specs.declared.head.Head.{Head}
-use Rattle.map_commands.specs.declared.head.Head.TheVariants as head
+use Rattle.map_commands.specs.declared.keywords.Head.{Head}
+use Rattle.map_commands.specs.declared.keywords.Head.TheVariants as head
 
 -- OutOfRange for a room of no width or no height
 abbrev pub flat_fault : List (List ℕ) → Option ℕ

@@ -1,4 +1,3 @@
-pub mod CommandRanges
 pub mod Errors
 pub mod Grammar
 pub mod Places
@@ -8,7 +7,6 @@ pub mod ProjectLaws
 pub mod ProjectLines
 pub mod ProjectReadiness
 pub mod ProjectStep
-pub mod Readiness
 pub mod Reading
 pub mod Rooms
 pub mod Spelling

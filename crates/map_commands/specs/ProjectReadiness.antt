@@ -6,7 +6,7 @@ use Rattle.map_tables.specs.Projects.{MapsView, ProjectMaps, has_map, project_of
 use Rattle.map_commands.specs.Errors.{code_of}
 use Rattle.map_commands.specs.ProjectCommands.{InProjectRange}
 use Rattle.map_commands.specs.ProjectStep.{current_faults, map_faults}
-use Rattle.map_commands.specs.Readiness as of_one_map
+use Rattle.map_commands.specs.Step as of_one_map
 use Rattle.map_tables.specs.Outcomes.{no_need}
 use Rattle.map_commands.specs.declared.error.CommandError.{CommandError}
 use Rattle.map_commands.specs.declared.error.CommandError.TheVariants.{OutOfMemory}

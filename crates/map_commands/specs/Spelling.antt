@@ -11,8 +11,8 @@ use Rattle.map_tables.specs.declared.kind.Kind.{Kind}
 use Rattle.map_tables.specs.declared.kind.Kind.TheVariants as kind
 use Rattle.lump_records.specs.Names.{name_text}
 use Rattle.lump_records.specs.Sides.{no_side}
-use Rattle.map_commands.specs.declared.head.Head.{Head}
-use Rattle.map_commands.specs.declared.head.Head.TheVariants as head
+use Rattle.map_commands.specs.declared.keywords.Head.{Head}
+use Rattle.map_commands.specs.declared.keywords.Head.TheVariants as head
 use Rattle.map_commands.specs.declared.command.RoomPlan.{RoomPlan}
 use Rattle.map_commands.specs.declared.command.Command.{Command}
 use Rattle.map_commands.specs.declared.command.Command.TheVariants.{Name, Edit, Room, Split}

@@ -1,20 +1,20 @@
-//! Decides whether a map accepts a command, leaving memory aside. If several refusals apply, the one with the lowest
-//! code is given.
+//! Decides whether a map accepts a command, leaving memory aside, and what the command adds. If several refusals apply,
+//! the one with the lowest code is given.
 ghost use Rattle.std.specs.Prelude.{◌≡◌, ◌+◌, ◌≤◌, ◌<◌, ◌||◌, nat_lt, length, [], ◌∷◌, ◌++◌};
 ghost use Rattle.std.specs.List.{list_any};
 ghost use Rattle.map_tables.specs.Faults.{is_taken, lacks_room, lacks_sector_room, is_too_long};
-ghost use Rattle.map_tables.specs.Outcomes.{Tells};
-ghost use Rattle.map_tables.specs.Tables.{count_of, table_limit};
+ghost use Rattle.map_tables.specs.Outcomes.{Tells, one_of};
+ghost use Rattle.map_tables.specs.Tables.{count_of, kind_of_item, table_limit};
 ghost use Rattle.lump_records.specs.Drawing.{longest_squared, squared_distance};
 ghost use Rattle.map_tables.specs.WellFormed.{HasEnds, nth_vertex};
 ghost use Rattle.map_commands.specs.Rooms.{corners, room_faults};
 ghost use Rattle.map_commands.specs.Splits.{cut_faults, cut_off, cut_short, split_faults};
-ghost use Rattle.map_commands.specs.Step.{faults};
+ghost use Rattle.map_commands.specs.Step.{faults, growth_of, need_of};
 
 use crate::command::{Command, LineSplit, RoomPlan};
 use crate::room::corners_of;
 use lump_records::{LONGEST_SQUARED, Line, Vertex, squared_distance};
-use map_tables::{Kind, Map, MapError};
+use map_tables::{Edit, Item, Kind, Map, MapError, Need};
 
 // Whether the map has no room for `more` further items of a kind.
 fn lacks_room(map: &Map, kind: Kind, more: u32) -> bool
@@ -122,4 +122,74 @@ pub fn can_do(map: &Map, command: &Command) -> Result<(), MapError>
         Command::Room(plan) => can_draw(map, plan),
         Command::Split(split) => can_split(map, split),
     }
+}
+
+/// No item.
+pub const NO_NEED: Need = Need {
+    vertices: 0,
+    sectors: 0,
+    sides: 0,
+    lines: 0,
+    things: 0,
+};
+
+// One item, in its table.
+fn one_of(item: &Item) -> Need
+    ensures { result ≡ one_of (kind_of_item item.now) }
+{
+    match item {
+        Item::Vertex(_) => Need {
+            vertices: 1,
+            ..NO_NEED
+        },
+        Item::Sector(_) => Need {
+            sectors: 1,
+            ..NO_NEED
+        },
+        Item::Side(_) => Need {
+            sides: 1,
+            ..NO_NEED
+        },
+        Item::Line(_) => Need {
+            lines: 1,
+            ..NO_NEED
+        },
+        Item::Thing(_) => Need {
+            things: 1,
+            ..NO_NEED
+        },
+    }
+}
+
+/// How many items a command adds to each table.
+pub fn need_of(command: &Command) -> Need
+    ensures { result ≡ need_of command.now }
+{
+    match command {
+        Command::Edit(Edit::Add(item)) => one_of(item),
+        Command::Room(_) => Need {
+            vertices: 4,
+            sectors: 1,
+            sides: 4,
+            lines: 4,
+            ..NO_NEED
+        },
+        Command::Split(_) => Need {
+            vertices: 1,
+            lines: 1,
+            ..NO_NEED
+        },
+        _ => NO_NEED,
+    }
+}
+
+/// By how many bytes these items lengthen a body.
+pub fn growth_of(need: Need) -> u64
+    ensures { result ≡ growth_of need }
+{
+    10 * u64::from(need.things)
+        + 14 * u64::from(need.lines)
+        + 30 * u64::from(need.sides)
+        + 4 * u64::from(need.vertices)
+        + 26 * u64::from(need.sectors)
 }

@@ -2,14 +2,14 @@
 ghost use Rattle.std.specs.Prelude.{◌≡◌, ◌&&◌, int_lt, [], ◌∷◌, ◌≤◌, Some, None, IfOk, decimal};
 ghost use Rattle.lump_records.specs.Names.{IsNamed, is_marker, name_text};
 ghost use Rattle.map_tables.specs.Ranges.{IsLine, IsSector, IsSide, IsThing, IsVertex};
-ghost use Rattle.map_commands.specs.CommandRanges.{InRange, IsPlan};
+ghost use Rattle.map_commands.specs.Step.{InRange, IsPlan};
 ghost use Rattle.map_commands.specs.Errors.{TellsFault};
 ghost use Rattle.map_commands.specs.Grammar.{drop_fault, room_fault};
 ghost use Rattle.map_commands.specs.Places.{Named, item, line_places, places_fault, room_places, sector_item, sector_places, side_places, thing_places, vertex_places};
 ghost use Rattle.map_commands.specs.Reading.{fault_with};
 ghost use Rattle.map_commands.specs.Spelling.{head_word, line_words, room_words, sector_words, side_words, thing_words, vertex_words, words_of};
 ghost use Rattle.map_commands.specs.Views.{reading};
-ghost use Rattle.map_commands.specs.declared.head.Head.TheVariants as head;
+ghost use Rattle.map_commands.specs.declared.keywords.Head.TheVariants as head;
 
 use crate::command::{Command, RoomPlan};
 use crate::error::CommandError;

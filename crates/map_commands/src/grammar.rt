@@ -1,6 +1,6 @@
 //! Which words are commands of a map.
 ghost use Rattle.std.specs.Prelude.{◌≡◌, ◌∷◌, None, IfOk, option_copied};
-ghost use Rattle.map_commands.specs.CommandRanges.{InRange};
+ghost use Rattle.map_commands.specs.Step.{InRange};
 ghost use Rattle.map_commands.specs.Errors.{TellsFault};
 ghost use Rattle.map_commands.specs.Grammar.{command_fault, fault_behind};
 ghost use Rattle.map_commands.specs.Spelling.{head_word, words_of};
@@ -9,8 +9,7 @@ ghost use Rattle.map_commands.specs.Words.{parts_behind};
 
 use crate::command::{Command, LineSplit};
 use crate::error::CommandError;
-use crate::head::Head;
-use crate::keywords::head_in;
+use crate::keywords::{Head, head_in};
 use crate::unread::UnreadWords;
 use map_tables::{Edit, Item};
 

@@ -1,11 +1,29 @@
-//! The spelling of first words and of tables, and the greatest number of an item of each.
+//! The first words of the commands of a map, the words for tables, and the greatest number of an item of each.
 ghost use Rattle.std.specs.Prelude.{◌≡◌, ◌≤◌, IfSome, bytes_eq};
 ghost use Rattle.map_tables.specs.Ranges.{last_of};
 ghost use Rattle.map_commands.specs.Grammar.{head_of, kind_of};
 ghost use Rattle.map_commands.specs.Spelling.{head_word, kind_word};
 
-use crate::head::Head;
 use map_tables::Kind;
+
+/// The first word of a command, which decides what follows it.
+#[derive(Clone, Copy)]
+pub enum Head {
+    Name,
+    Vertex,
+    Sector,
+    Side,
+    Line,
+    Thing,
+    MoveVertex,
+    SetSector,
+    SetSide,
+    SetLine,
+    SetThing,
+    Drop,
+    Room,
+    Split,
+}
 
 /// The greatest number of a vertex, a side, a line or a thing.
 pub const LAST_ITEM: u16 = 32766;

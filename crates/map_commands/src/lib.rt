@@ -7,8 +7,6 @@ mod decision;
 mod error;
 mod forms;
 mod grammar;
-mod growth;
-mod head;
 mod keywords;
 mod names;
 mod project;

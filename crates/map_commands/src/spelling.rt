@@ -1,14 +1,13 @@
 //! Prints a command of one map as a line.
 ghost use Rattle.std.specs.Prelude.{◌≡◌, ◌∷◌, IfOk, IsOkUnless};
 ghost use Rattle.std.specs.List.{join_with_byte};
-ghost use Rattle.map_commands.specs.CommandRanges.{InRange};
+ghost use Rattle.map_commands.specs.Step.{InRange};
 ghost use Rattle.map_commands.specs.Spelling.{add_head, head_for, set_head, spelling, words_behind};
 ghost use Rattle.map_commands.specs.Views.{Adds, written};
 
 use crate::command::Command;
 use crate::error::CommandError;
-use crate::head::Head;
-use crate::keywords::head_text;
+use crate::keywords::{Head, head_text};
 use crate::text::Text;
 use map_tables::{Edit, Item};
 use std::alloc::{AllocError, Global};

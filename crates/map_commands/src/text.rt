@@ -19,7 +19,7 @@ impl Text {
     ghost use Rattle.std.specs.Str.{IsUtf8};
     ghost use Rattle.lump_records.specs.Names.{name_text};
     ghost use Rattle.map_tables.specs.Ranges.{IsItem, IsSector, IsSide};
-    ghost use Rattle.map_commands.specs.CommandRanges.{IsPlan};
+    ghost use Rattle.map_commands.specs.Step.{IsPlan};
     ghost use Rattle.map_commands.specs.Spelling.{item_words, kind_word, left_word, line_words, room_words, sector_words, side_words, thing_words, vertex_words};
     ghost use Rattle.map_commands.specs.Views.{Adds, written};
 

@@ -21,7 +21,7 @@ use Rattle.map_tables.specs.declared.edit.Edit.TheVariants as edit
 use Rattle.map_tables.specs.declared.edit.Item.TheVariants as item
 use Rattle.map_commands.specs.declared.project.command.ProjectCommand.{ProjectCommand}
 use Rattle.map_commands.specs.declared.project.command.ProjectCommand.TheVariants.{Current}
-use Rattle.map_commands.specs.CommandRanges as of_one
+use Rattle.map_commands.specs.Step as of_one
 use Rattle.map_commands.specs.Step as of_one_map
 use Rattle.map_commands.specs.ProjectCommands.{project_spelling}
 use Rattle.map_commands.specs.ProjectStep.{project_after, naming_faults, project_number_of}

@@ -1,6 +1,6 @@
 //! A line of a dump: its command, and how it is written.
 ghost use Rattle.std.specs.Prelude.{◌≡◌, ◌∷◌, [], IfOk, IfSome, IsOkUnless, slice_get};
-ghost use Rattle.map_commands.specs.CommandRanges as of_one_map;
+ghost use Rattle.map_commands.specs.Step as of_one_map;
 ghost use Rattle.map_commands.specs.ProjectCommands.{InProjectRange, project_spelling};
 ghost use Rattle.map_dump.specs.Dump.{additions_of, naming_of};
 ghost use Rattle.map_dump.specs.Texts.{Writes, with_lf};

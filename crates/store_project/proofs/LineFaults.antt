@@ -10,8 +10,8 @@ use Rattle.map_commands.specs.declared.project.command.MapHead.{MapHead}
 use Rattle.map_commands.specs.Places.{Place, Number, NumberOrNone, Named, fault_at, prior_fault, has_form, is_form_fault, item, line_places, place_fault, places_fault, range_fault, room_places, sector_item, sector_places, side_places, thing_places, vertex_places}
 use Rattle.map_commands.specs.Words.{is_numeral, numeral_value}
 use Rattle.map_tables.specs.declared.kind.Kind.{Kind}
-use Rattle.map_commands.specs.declared.head.Head.{Head}
-use Rattle.map_commands.specs.declared.head.Head.TheVariants as head
+use Rattle.map_commands.specs.declared.keywords.Head.{Head}
+use Rattle.map_commands.specs.declared.keywords.Head.TheVariants as head
 
 -- no fault, or one of at most 15
 abbrev IsLow : Option ℕ → Type 0

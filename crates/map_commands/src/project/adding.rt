@@ -2,12 +2,10 @@
 ghost use Rattle.std.specs.Prelude.{◌≡◌, ◌≤◌, [], Ok, IfNone, IfSome, IsErrOf, IsOk};
 ghost use Rattle.map_tables.specs.Outcomes.{Covers, EndsEdit, least, unless};
 ghost use Rattle.map_tables.specs.Projects.{body_len, project_of};
-ghost use Rattle.map_commands.specs.CommandRanges.{InRange};
+ghost use Rattle.map_commands.specs.Step.{InRange, need_of, after, faults, number_of};
 ghost use Rattle.map_commands.specs.ProjectCommands.{InProjectRange};
 ghost use Rattle.map_commands.specs.ProjectReadiness.{project_need_of};
 ghost use Rattle.map_commands.specs.ProjectStep.{naming_faults, step};
-ghost use Rattle.map_commands.specs.Readiness.{need_of};
-ghost use Rattle.map_commands.specs.Step.{after, faults, number_of};
 
 use crate::command::Command;
 use crate::project::command::ProjectCommand;

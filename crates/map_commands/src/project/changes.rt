@@ -2,12 +2,10 @@
 ghost use Rattle.std.specs.Prelude.{◌≡◌, ◌≤◌, None, IfOk, IfErr, IsErrOf, Ok};
 ghost use Rattle.map_tables.specs.Outcomes.{Covers, least};
 ghost use Rattle.map_tables.specs.Projects.{body_len, project_of};
-ghost use Rattle.map_commands.specs.CommandRanges as of_one;
 ghost use Rattle.map_commands.specs.ProjectCommands.{InProjectRange};
 ghost use Rattle.map_commands.specs.ProjectReadiness.{CanCommit, EndsStep, RefusesStep, project_need_of};
 ghost use Rattle.map_commands.specs.ProjectStep.{project_after, naming_faults, project_number_of, step};
-ghost use Rattle.map_commands.specs.Readiness as of_one_map;
-ghost use Rattle.map_commands.specs.Step as step_of_one_map;
+ghost use Rattle.map_commands.specs.Step as of_one_map;
 ghost use Rattle.map_commands.specs.Step.{faults};
 
 use crate::command::Command;
@@ -53,12 +51,12 @@ pub fn ready(maps: &mut Maps, command: &ProjectCommand, cap: u32) -> Result<Read
 
 // Makes a change that the current map accepts and has memory for, and returns its number.
 fn change(maps: &mut Maps, command: Command) -> u32
-    requires range { of_one.InRange command }
+    requires range { of_one_map.InRange command }
     requires accepted { least (faults maps.old.tables command) ≡ None }
     requires named { least (naming_faults (project_of maps.old) command) ≡ None }
     requires covered { Covers maps.old.spare (of_one_map.need_of command) }
-    ensures tables { maps.new.tables ≡ step_of_one_map.after maps.old.tables command }
-    ensures number { result ≡ step_of_one_map.number_of maps.old.tables command }
+    ensures tables { maps.new.tables ≡ of_one_map.after maps.old.tables command }
+    ensures number { result ≡ of_one_map.number_of maps.old.tables command }
     ensures others { maps.new.others ≡ maps.old.others }
 {
     match command {

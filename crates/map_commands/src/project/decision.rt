@@ -7,8 +7,8 @@ ghost use Rattle.map_commands.specs.ProjectReadiness.{project_growth_of, project
 ghost use Rattle.map_commands.specs.Step.{faults};
 
 use crate::command::Command;
+use crate::decision;
 use crate::project::command::ProjectCommand;
-use crate::{decision, growth};
 use lump_records::Name8;
 use map_tables::{MapError, Maps, Need};
 
@@ -58,8 +58,8 @@ pub fn need_of(command: &ProjectCommand) -> Need
     ensures { result ≡ project_need_of command.now }
 {
     match command {
-        ProjectCommand::Current(edit) => growth::need_of(edit),
-        ProjectCommand::SelectMap(_) | ProjectCommand::DropMap(_) => growth::NO_NEED,
+        ProjectCommand::Current(edit) => decision::need_of(edit),
+        ProjectCommand::SelectMap(_) | ProjectCommand::DropMap(_) => decision::NO_NEED,
     }
 }
 
@@ -75,7 +75,7 @@ fn growth_of(maps: &Maps, command: &ProjectCommand) -> u64
     ensures { result ≡ project_growth_of (project_of maps.now) command.now }
 {
     match command {
-        ProjectCommand::Current(edit) => growth::growth_of(growth::need_of(edit)),
+        ProjectCommand::Current(edit) => decision::growth_of(decision::need_of(edit)),
         ProjectCommand::SelectMap(name) => if has_map(maps, *name) { 0 } else { 18 },
         ProjectCommand::DropMap(_) => 0,
     }

@@ -3,8 +3,7 @@ ghost use Rattle.std.specs.Prelude.{◌≡◌, ◌+◌, ◌≤◌, None, false, 
 ghost use Rattle.std.specs.List.{list_any};
 ghost use Rattle.map_tables.specs.Faults.{is_taken};
 ghost use Rattle.map_tables.specs.Outcomes.{Covers, Spends, least};
-ghost use Rattle.map_commands.specs.CommandRanges.{IsRoom};
-ghost use Rattle.map_commands.specs.Readiness.{need_of};
+ghost use Rattle.map_commands.specs.Step.{IsRoom, need_of};
 ghost use Rattle.map_commands.specs.Rooms.{corners, four_sides, four_vertices, room_faults, room_sides, walls, with_lines, with_room, with_sides, with_vertices};
 
 use crate::command::{Command, RoomPlan};

@@ -2,7 +2,7 @@
 ghost use Rattle.std.specs.Prelude.{◌≡◌, ◌≤◌, None, length};
 ghost use Rattle.map_tables.specs.Outcomes.{Covers, least};
 ghost use Rattle.map_tables.specs.Ranges.{IsVertex};
-ghost use Rattle.map_commands.specs.Readiness.{need_of};
+ghost use Rattle.map_commands.specs.Step.{need_of};
 ghost use Rattle.map_commands.specs.Splits.{split_faults, with_split};
 
 use crate::command::{Command, LineSplit};
