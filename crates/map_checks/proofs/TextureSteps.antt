@@ -1,11 +1,9 @@
 -- What a loop that adds to a list has added, after one more step and at its end; and the flag of a two-sided line.
-use Rattle.std.proofs.Common.{◌≡◌, ℕ, suc, add-zero, zero-add, ◌+◌, ◌*◌, ◌/◌, ◌%◌, ◌<◌, ◌≤◌, Bool, true, false, cond, eqb, not, bit_and, List, [], ◌∷◌, ◌++◌, length, get_or, map, filter, flat_map, take, Some, sym, ap, ◌∙◌, arith, append_assoc}
+use Rattle.std.proofs.Common.{◌≡◌, ℕ, suc, add-zero, zero-add, ◌+◌, ◌<◌, ◌≤◌, Bool, true, false, cond, List, [], ◌∷◌, ◌++◌, length, get_or, map, filter, flat_map, take, Some, sym, ap, ◌∙◌, arith, append_assoc}
 use Rattle.std.specs.List.{slice_get, enumerate_from}
-use Rattle.std.proofs.lemmas.Bool.Decides.{nat_tests}
 use Rattle.std.proofs.lemmas.List.{append-nil, map-append, take_all, take_more, length-take-le}
 use Rattle.std.proofs.lemmas.List.Concat.{flat_map-append}
 use Rattle.std.proofs.lemmas.List.Elements.{filter_more}
-use Rattle.std.proofs.lemmas.Nat.Bits.{and_pow}
 use Rattle.std.proofs.lemmas.Option.{slice_get_within, get_or_from_slice_get}
 
 module _ {X Y : Type 0} (p : X → Bool) (f : X → Y) (xs : List X) (i : ℕ) (init found : List Y) (so_far : found ≡ init ++ map f (filter p (take i xs))) where
@@ -54,9 +52,3 @@ numbered_more f xs n x is init found so_far =
     (sym
     (ap (flat_map f) all ∙ flat_map-append f (enumerate_from 0 (take n xs)) ((n, x) ∷ [])
     ∙ ap (λ l. flat_map f (enumerate_from 0 (take n xs)) ++ l) (append-nil (f (n, x)))))
-
-flag : (x : ℕ) → x < 2 → not (eqb (x * 4) 0) ≡ eqb x 1
-flag x h = grind (arith, nat_tests)
-
-pub two_sided_flag : (flags : ℕ) → not (eqb (bit_and flags 4) 0) ≡ eqb (flags / 4 % 2) 1
-two_sided_flag flags = ap (λ n. not (eqb n 0)) (and_pow flags 2) ∙ flag (flags / 4 % 2) (omega arith)

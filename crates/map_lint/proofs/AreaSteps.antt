@@ -5,7 +5,7 @@ use Rattle.std.proofs.lemmas.Bool.{cases_eq, eq-eqb, ne_eqb}
 use Rattle.std.specs.Prelude.{FitsSigned}
 use Rattle.std.specs.Int.{w128}
 use Rattle.std.proofs.lemmas.Int.{ints}
-use Rattle.std.proofs.lemmas.List.{append-nil, take_all, take_more, length-set, get_or-set_same, get_or-set_other}
+use Rattle.std.proofs.lemmas.List.{append-nil, take_more, length-set, get_or-set_same, get_or-set_other}
 use Rattle.std.proofs.lemmas.List.Concat.{flat_map-append}
 use Rattle.std.proofs.lemmas.List.Sums.{fold-append}
 use Rattle.std.proofs.lemmas.Option.{slice_get_within, get_or_from_slice_get}
@@ -13,7 +13,7 @@ use Rattle.lump_records.specs.declared.records.Line.{Line}
 use Rattle.map_tables.specs.Tables.{Tables}
 use Rattle.map_checks.specs.Corners.{Edge, edges_of_line}
 use Rattle.map_lint.specs.Areas.{edge_area, part_in}
-use Rattle.map_lint.specs.Tallies.{IsNear, AreWithin, AddsArea, AddsAreas, AreSums, AreAreas}
+use Rattle.map_lint.specs.Tallies.{IsNear, AreWithin, AddsArea, AddsAreas, AreSums}
 
 plus_zero : (z : ℤ) → z ≡ z +ℤ pos 0
 plus_zero z = omega (arith, ints)
@@ -127,11 +127,4 @@ sums_more m n l is old new t a = record {
     near = λ s.
         near_both (2 ^ 49 * n) (2 ^ 49) (2 ^ 49 * (n + 1)) (pos 0) (get_or old s (pos 0)) (get_or new s (pos 0)) (t.within.near s) (a.near s) (omega arith);
   };
-}
-
--- all lines are added
-pub areas_from_sums : (m : Tables) (n : ℕ) (sums : List ℤ) → length m.lines ≤ n → AreSums m n sums → AreAreas m sums
-areas_from_sums m n sums h t = record {
-  count = t.count;
-  sums = λ s. t.sums s ∙ ap (λ ls. fold (λ sum e. sum +ℤ part_in m s e) (pos 0) (flat_map (edges_of_line m) ls)) (take_all n m.lines h);
 }

@@ -17,11 +17,6 @@ or_assoc : (a b c : Bool) → (a || b || c) ≡ (a || (b || c))
 or_assoc true b c = refl
 or_assoc false b c = refl
 
--- a line with one side has its sector on exactly that side
-borders_one : (m : Tables) (l : Line) (s : ℕ) → has_left l ≡ false → borders m s l ≡ eqb (right_sector_of m l) s
-borders_one m l s none =
-    ap (λ b. cond b (not (eqb (right_sector_of m l) (left_sector_of m l)) && (eqb (right_sector_of m l) s || eqb (left_sector_of m l) s)) (eqb (right_sector_of m l) s)) none
-
 -- a line with two sides has both sectors on exactly one side if they differ, and otherwise none
 borders_two : (m : Tables) (l : Line) (s : ℕ) (same : Bool) → has_left l ≡ true → eqb (right_sector_of m l) (left_sector_of m l) ≡ same
     → borders m s l ≡ (not same && (eqb (right_sector_of m l) s || eqb (left_sector_of m l) s))
@@ -30,15 +25,6 @@ borders_two m l s same some is =
     ∙ ap (λ b. not b && (eqb (right_sector_of m l) s || eqb (left_sector_of m l) s)) is
 
 module _ (m : Tables) (l : Line) (old : List Bool) (right : Side) (is : side_in m l.right ≡ right) where
-  -- the sector of a line with one side is marked
-  pub marks_one : has_left l ≡ false → (k : ℕ) → k ≡ right.sector → k < length old → MarksSides m l old (set old k true)
-  marks_one none k at within = record {
-    count = length-set old k true;
-    marked = λ s h.
-        get_or-set_mark old k s within
-        ∙ ap (λ b. get_or old s false || b) (ap (λ j. eqb j s) (at ∙ ap (λ (x : Side). x.sector) (sym is)) ∙ sym (borders_one m l s none));
-  }
-
   module _ (left : Side) (at : side_in m l.left ≡ left) (some : has_left l ≡ true) where
     sides_are : (b : Bool) → eqb right.sector left.sector ≡ b → eqb (right_sector_of m l) (left_sector_of m l) ≡ b
     sides_are b h = (λ i. eqb (is i).sector (at i).sector) ∙ h

@@ -1,16 +1,16 @@
 -- Boxes round the lines of a band: what they hold as lines are added, and what they rule out.
-use Rattle.std.proofs.Common.{◌≡◌, ◌≢◌, ℕ, zero, ◌⊎◌, ⊎_elim, inl, inr, ◌+◌, ◌*◌, ◌/◌, ◌<◌, ◌≤◌, Bool, true, false, ◌&&◌, List, [], ◌∷◌, ◌++◌, length, get_or, suc, ℤ, ◌≤ℤ◌, refl, sym, subst, not, below_more, ◌||◌, length-append, arith}
+use Rattle.std.proofs.Common.{◌≡◌, ◌≢◌, ℕ, zero, ◌⊎◌, ⊎_elim, inl, inr, ◌+◌, ◌/◌, ◌<◌, ◌≤◌, Bool, true, false, ◌&&◌, List, [], ◌∷◌, length, get_or, suc, ℤ, ◌≤ℤ◌, refl, sym, subst, not, ◌||◌, arith}
 use Rattle.std.specs.Prelude.{◌==◌, ◌%◌}
 use Rattle.std.specs.Int.{int_min, int_max}
 use Rattle.std.specs.List.{list_any}
 use Rattle.std.proofs.lemmas.Int.{ints, clamps}
 use Rattle.std.proofs.Math.ListN.{set}
 use Rattle.std.proofs.lemmas.Bool.Decides.{eqb_tells}
-use Rattle.std.proofs.lemmas.List.{get_or_append_left, get_or_push, get_or_default, get_or-set_same, get_or-set_other, length-set}
+use Rattle.std.proofs.lemmas.List.{get_or_default, get_or-set_same, get_or-set_other, length-set}
 use Rattle.lump_records.specs.declared.records.Bounds.{Bounds}
 use Rattle.map_lint.specs.declared.places.PlacedLine.{PlacedLine}
 use Rattle.map_lint.specs.Meeting.{is_under, spans_meet, boxes_meet, share, meets}
-use Rattle.map_lint.specs.Boxes.{round_line, widened_by, may_meet, IsWithin, KeepsBoxes, GrowsBoxes, HasBox}
+use Rattle.map_lint.specs.Boxes.{widened_by, may_meet, IsWithin, KeepsBoxes, GrowsBoxes, HasBox}
 use Rattle.map_lint.proofs.Tests.{and_both, both}
 use Rattle.map_lint.proofs.BandLemmas.{under_top, under_bottom, spans_begin}
 
@@ -52,9 +52,6 @@ lt_or_le (suc m) (suc n) = elim (lt_or_le m n) [ inl e ↦ inl (omega arith) | i
 
 -- ---- as lines are added
 
-pub within_round : (l : PlacedLine) → IsWithin l (round_line l)
-within_round l = record { top = omega (arith, ints); bottom = omega (arith, ints); left = omega (arith, ints); right = omega (arith, ints) }
-
 pub within_with : (b : Bounds) (l : PlacedLine) → IsWithin l (widened_by b l)
 within_with b l =
     record { top = omega (arith, ints, clamps); bottom = omega (arith, ints, clamps); left = omega (arith, ints, clamps); right = omega (arith, ints, clamps) }
@@ -65,24 +62,6 @@ within_still b l k w = record {
   bottom = omega (arith, ints, clamps, w.bottom);
   left = omega (arith, ints, clamps, w.left);
   right = omega (arith, ints, clamps, w.right);
-}
-
--- the boxes grew
-pub keeps_grown : (ls : List PlacedLine) (old new : List Bounds) → KeepsBoxes ls old → GrowsBoxes old new → KeepsBoxes ls new
-keeps_grown ls old new k g = record {
-  count = omega (arith, k.count, g.count);
-  within = λ i l b there. g.within (i / 16) (get_or ls i l) b (omega (arith, k.count)) (k.within i l b there);
-}
-
--- and a line was added
-pub keeps_more : (ls : List PlacedLine) (boxes : List Bounds) (l : PlacedLine) → KeepsBoxes ls boxes → HasBox boxes (length ls) l → KeepsBoxes (ls ++ l ∷ []) boxes
-keeps_more ls boxes l k h = record {
-  count = omega (arith, h.count, length-append ls (l ∷ []));
-  within = λ i d b there.
-      below_more (λ j. IsWithin (get_or (ls ++ l ∷ []) j d) (get_or boxes (j / 16) b)) (length ls)
-      (λ j lt. subst (λ (x : PlacedLine). IsWithin x (get_or boxes (j / 16) b)) (sym (get_or_append_left ls (l ∷ []) d j lt)) (k.within j d b lt))
-      (subst (λ (x : PlacedLine). IsWithin x (get_or boxes (length ls / 16) b)) (sym (get_or_push ls l d (length ls) refl)) (h.within b))
-      i (omega (arith, there, length-append ls (l ∷ [])));
 }
 
 -- ---- the search
@@ -123,32 +102,7 @@ box_at boxes n l b there is = record {
       (subst (λ (x : Bounds). IsWithin l x) (sym is) (within_with (get_or boxes (n / 16) b) l));
 }
 
--- a box was appended
-pub grown_end : (boxes : List Bounds) (b : Bounds) → GrowsBoxes boxes (boxes ++ b ∷ [])
-grown_end boxes b = record {
-  count = omega (arith, length-append boxes (b ∷ []));
-  within = λ i k d among w. subst (λ (x : Bounds). IsWithin k x) (sym (get_or_append_left boxes (b ∷ []) d i among)) w;
-}
-
-pub box_end : (boxes : List Bounds) (n : ℕ) (l : PlacedLine) → n ≤ 16 * length boxes → length boxes ≤ n / 16 → HasBox (boxes ++ round_line l ∷ []) n l
-box_end boxes n l few none =
-    let at : length boxes ≡ n / 16 = omega arith in
-    record {
-      count = omega (arith, length-append boxes (round_line l ∷ []));
-      within = λ d. subst (λ (x : Bounds). IsWithin l x) (sym (get_or_push boxes (round_line l) d (n / 16) at)) (within_round l);
-    }
-
-pub grown_none : (boxes : List Bounds) → GrowsBoxes boxes boxes
-grown_none boxes = record { count = omega arith; within = λ i k d among w. w }
-
 -- ---- steps of the search
-
-pub none_yet : (l : PlacedLine) (ls : List PlacedLine) → NoneBelow l ls 0
-none_yet l ls = λ i d below there. absurd (omega arith)
-
--- one more line that doesn't meet the line
-pub none_more : (l : PlacedLine) (ls : List PlacedLine) (n : ℕ) → ((d : PlacedLine) → meets l (get_or ls n d) ≡ false) → NoneBelow l ls n → NoneBelow l ls (n + 1)
-none_more l ls n here none = λ i d below there. below_more (λ k. k < length ls → meets l (get_or ls k d) ≡ false) n (λ k lt among. none k d lt among) (λ among. here d) i below there
 
 -- a box that rules out sixteen
 pub none_in_box : (l : PlacedLine) (ls : List PlacedLine) (boxes : List Bounds) (n : ℕ) (b : Bounds) → KeepsBoxes ls boxes → n % 16 ≡ 0 → may_meet l (get_or boxes (n / 16) b) ≡ false

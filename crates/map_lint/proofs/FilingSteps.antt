@@ -1,11 +1,10 @@
 -- A line is added to the bands from that of its lowest row to that of its highest.
-use Rattle.std.proofs.Common.{◌≡◌, ℕ, ◌+◌, ◌<◌, ◌≤◌, Bool, true, false, cond, List, [], ◌∷◌, ◌++◌, length, get_or, take, filter, below_more, zero, suc, refl, sym, ap, subst, ◌∙◌, ◌⊎◌, ⊎_elim, inl, inr, append-nil, arith}
+use Rattle.std.proofs.Common.{◌≡◌, ℕ, ◌+◌, ◌<◌, ◌≤◌, Bool, true, false, cond, List, [], ◌∷◌, ◌++◌, length, get_or, filter, below_more, zero, suc, refl, sym, ap, subst, ◌∙◌, ◌⊎◌, ⊎_elim, inl, inr, append-nil, arith}
 use Rattle.std.specs.Prelude.{replicate}
 use Rattle.std.specs.Int.{int_min, int_max}
 use Rattle.std.proofs.Math.ListN.{set}
 use Rattle.std.proofs.lemmas.Int.{ints, clamps}
-use Rattle.std.proofs.lemmas.List.{get_or-replicate, get_or-set_other, get_or-set_same, length-replicate, length-set, take_more}
-use Rattle.std.proofs.lemmas.List.Elements.{filter-append}
+use Rattle.std.proofs.lemmas.List.{get_or-replicate, get_or-set_other, get_or-set_same, length-replicate, length-set}
 use Rattle.map_lint.specs.declared.places.PlacedLine.{PlacedLine}
 use Rattle.map_lint.specs.Meeting.{is_under, spans_meet}
 use Rattle.map_lint.specs.Bands.{band_bottom, band_top, is_in_band, IsBandOf, AreBands, FilesLine}
@@ -107,14 +106,3 @@ no_lines n bands all is = record {
   count = ap length is ∙ length-replicate n [] ∙ all;
   filed = λ b within. ap (λ (bs : List (List PlacedLine)). get_or bs b []) is ∙ get_or-replicate n b [] [] (omega (arith, all));
 }
-
-pub lines_more : (ls : List PlacedLine) (i : ℕ) (l : PlacedLine) (old new : List (List PlacedLine)) → i < length ls → AreBands (take i ls) old
-    → FilesLine (get_or ls i l) old new → AreBands (take (i + 1) ls) new
-lines_more ls i d old new there a f =
-    let l = get_or ls i d in
-    record {
-      count = f.count ∙ a.count;
-      filed = λ b within.
-          f.each b within ∙ ap (λ (xs : List PlacedLine). xs ++ filter (is_in_band b) (l ∷ [])) (a.filed b within)
-          ∙ sym (filter-append (is_in_band b) (take i ls) (l ∷ [])) ∙ ap (filter (is_in_band b)) (sym (take_more ls i d there));
-    }

@@ -1,14 +1,10 @@
 -- The types and specials of Doom, as the "Unofficial Doom Specs" 1.666 list them: runs of numbers, each given by
 -- its first and its last.
-use Rattle.std.specs.Prelude.{Bool, ◌&&◌, not, List, [], ◌∷◌, ℤ, pos, int_le}
-use Rattle.std.specs.List.{list_any}
+use Rattle.std.specs.Prelude.{Bool, ◌&&◌, not, List, [], ◌∷◌, ℤ, pos}
 use Rattle.lump_records.specs.declared.records.Thing.{Thing}
 use Rattle.lump_records.specs.declared.records.Line.{Line}
 use Rattle.lump_records.specs.declared.records.Sector.{Sector}
-
--- the number lies in one of the runs
-abbrev pub is_among : List (ℤ × ℤ) → ℤ → Bool
-is_among runs z = list_any (λ run. int_le run.0 z && int_le z run.1) runs
+use Rattle.lump_records.specs.Runs.{is_among}
 
 -- the types of things
 abbrev pub known_things : List (ℤ × ℤ)

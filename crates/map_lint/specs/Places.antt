@@ -1,9 +1,7 @@
--- The lines of a map with their numbers and the places of their ends, and the places of things.
+-- The lines of a map with their numbers and the places of their ends.
 use Rattle.std.specs.Prelude.{ℕ, not, List, map}
 use Rattle.std.specs.List.{enumerate_from}
 use Rattle.lump_records.specs.declared.records.Line.{Line}
-use Rattle.lump_records.specs.declared.records.Thing.{Thing}
-use Rattle.lump_records.specs.declared.records.Vertex.{Vertex}
 use Rattle.lump_records.specs.Sides.{has_left}
 use Rattle.map_tables.specs.Tables.{Tables}
 use Rattle.map_tables.specs.WellFormed.{nth_vertex}
@@ -21,7 +19,3 @@ placed m e = record {
 -- all lines of the map, with their numbers and the places of their ends
 abbrev pub placed_lines : Tables → List PlacedLine
 placed_lines m = map (placed m) (enumerate_from 0 m.lines)
-
--- where a thing stands
-abbrev pub thing_place : Thing → Vertex
-thing_place t = record { x = t.x; y = t.y }

@@ -16,7 +16,8 @@ use Rattle.map_lint.specs.Known.{is_known_thing, is_known_line, is_known_sector}
 use Rattle.map_lint.specs.Starts.{things_of_type, starts_twice}
 use Rattle.map_lint.specs.Tags.{tag_missing, tag_of_no_sector, tag_of_no_line}
 use Rattle.map_lint.specs.Areas.{is_inside_out}
-use Rattle.map_lint.specs.Places.{placed_lines, thing_place}
+use Rattle.lump_records.specs.Things.{thing_place}
+use Rattle.map_lint.specs.Places.{placed_lines}
 use Rattle.map_lint.specs.Meeting.{meets_another}
 use Rattle.map_lint.specs.Outside.{is_place_outside}
 use Rattle.map_lint.specs.Whereabouts.{whereabouts_of}

@@ -7,7 +7,7 @@ use Rattle.map_lint.specs.declared.warning.Rule.{Rule}
 use Rattle.map_lint.specs.declared.warning.Rule.TheVariants.{OneStart, TagGiven, TagOfSector, LineSpecialKnown, ThingKnown, TextureShows, LinesApart, ThingInside, TextureKnown}
 use Rattle.map_lint.specs.declared.whereabouts.Whereabouts.{Whereabouts}
 use Rattle.map_lint.specs.declared.whereabouts.Whereabouts.TheVariants.{Unplaced, At, Between}
-use Rattle.map_lint.specs.Places.{thing_place}
+use Rattle.lump_records.specs.Things.{thing_place}
 
 -- where thing n stands
 abbrev pub at_thing : Tables → ℕ → Whereabouts

@@ -1,8 +1,8 @@
 //! The types and specials of Doom, as the "Unofficial Doom Specs" 1.666 list them.
 ghost use Rattle.std.specs.Prelude.{◌≡◌};
-ghost use Rattle.map_lint.specs.Known.{is_among, is_known_thing, is_known_line, is_known_sector, needs_tag};
+ghost use Rattle.map_lint.specs.Known.{is_known_thing, is_known_line, is_known_sector, needs_tag};
 
-use lump_records::{Line, Sector, Thing};
+use lump_records::{Line, Sector, Thing, is_among};
 
 // The types of things: the first and the last number of each run.
 #[rattlefmt::skip]
@@ -22,13 +22,6 @@ const TAGLESS_SPECIALS: [(i32, i32); 8] = [
 
 // The specials of sectors.
 const SECTOR_SPECIALS: [(i32, i32); 3] = [(0, 5), (7, 14), (16, 17)];
-
-// Whether the number lies in one of the runs.
-fn is_among(runs: &[(i32, i32)], number: i32) -> bool
-    ensures { result ≡ is_among runs.now number }
-{
-    runs.iter().any(|run| run.0 <= number && number <= run.1)
-}
 
 /// Whether the thing's type is one of Doom's.
 pub(crate) fn is_known_thing(thing: &Thing) -> bool

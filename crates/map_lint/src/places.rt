@@ -1,10 +1,9 @@
 //! The lines of a map with the places of their ends.
-ghost use Rattle.std.specs.Prelude.{◌≡◌, ◌<◌, length, IfOk};
-ghost use Rattle.map_tables.specs.WellFormed.{HasEnds, nth_vertex};
-ghost use Rattle.map_lint.specs.Places.{placed, placed_lines, thing_place};
+ghost use Rattle.std.specs.Prelude.{◌≡◌, IfOk};
+ghost use Rattle.map_lint.specs.Places.{placed, placed_lines};
 
 use crate::error::LintError;
-use lump_records::{Line, Thing, Vertex};
+use lump_records::{Line, Vertex};
 use map_tables::{Kind, Map};
 use std::alloc::Global;
 
@@ -17,39 +16,11 @@ pub(crate) struct PlacedLine {
     pub is_wall: bool,
 }
 
-// The vertex with the number.
-fn vertex_of(map: &Map, n: u16) -> Vertex
-    requires { n < length map.now.tables.vertices }
-    ensures { result ≡ nth_vertex map.now.tables.vertices n }
-{
-    map.vertex(u32::from(n)).unwrap()
-}
-
-/// The places of the line's ends.
-pub(crate) fn ends_of(map: &Map, line: &Line) -> (Vertex, Vertex)
-    requires { HasEnds map.now.tables.vertices line.now }
-    ensures from { result.0 ≡ nth_vertex map.now.tables.vertices line.now.v1 }
-    ensures to { result.1 ≡ nth_vertex map.now.tables.vertices line.now.v2 }
-{
-    (vertex_of(map, line.v1), vertex_of(map, line.v2))
-}
-
-/// Where the thing stands.
-pub(crate) fn place_of(thing: &Thing) -> Vertex
-    ensures { result ≡ thing_place thing.now }
-{
-    Vertex {
-        x: thing.x,
-        y: thing.y,
-    }
-}
-
 // A line with its number and the places of its ends.
 fn placed(map: &Map, number: u32, line: &Line) -> PlacedLine
-    requires { HasEnds map.now.tables.vertices line.now }
     ensures { result ≡ placed map.now.tables (number, line.now) }
 {
-    let (from, to) = ends_of(map, line);
+    let (from, to) = map.ends_of(line);
     PlacedLine {
         number,
         from,

@@ -7,14 +7,14 @@ ghost use Rattle.map_lint.specs.Tags.{tag_of, line_tag, tag_of_no_sector, tag_of
 ghost use Rattle.map_lint.specs.Areas.{is_inside_out};
 ghost use Rattle.map_lint.specs.Bands.{AreFiledLines};
 ghost use Rattle.map_lint.specs.Outside.{is_place_outside};
-ghost use Rattle.map_lint.specs.Places.{placed_lines, thing_place};
+ghost use Rattle.lump_records.specs.Things.{thing_place};
+ghost use Rattle.map_lint.specs.Places.{placed_lines};
 ghost use Rattle.map_lint.specs.Facts.{AreFacts};
 ghost use Rattle.map_lint.specs.Rules.{at_item, names_wall, texture_hidden, number_breaks, sector_breaks, line_breaks, thing_breaks, breaks, reach};
 
 use crate::bands::{FiledLines, is_in_no_sector, meets_another};
 use crate::facts::Facts;
 use crate::known::{is_known_line, is_known_sector, is_known_thing, needs_tag};
-use crate::places::place_of;
 use crate::starts::{starts_twice, things_of_type};
 use crate::tags::tag_of;
 use crate::warning::Rule;
@@ -131,7 +131,7 @@ fn is_out(map: &Map, filed: &FiledLines, thing: &Thing) -> bool
     requires { AreFiledLines map.now.tables filed.now }
     ensures { result ≡ is_place_outside (placed_lines map.now.tables) (thing_place thing.now) }
 {
-    is_in_no_sector(filed, place_of(thing))
+    is_in_no_sector(filed, thing.place())
 }
 
 // Whether the thing breaks the rule.

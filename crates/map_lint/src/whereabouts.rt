@@ -2,7 +2,6 @@
 ghost use Rattle.std.specs.Prelude.{◌≡◌};
 ghost use Rattle.map_lint.specs.Whereabouts.{at_thing, along_line, whereabouts_of};
 
-use crate::places::{ends_of, place_of};
 use crate::warning::Rule;
 use lump_records::Vertex;
 use map_tables::Map;
@@ -22,7 +21,7 @@ fn at_thing(map: &Map, n: u32) -> Whereabouts
     ensures { result ≡ at_thing map.now.tables n }
 {
     match map.thing(n) {
-        Some(thing) => Whereabouts::At(place_of(&thing)),
+        Some(thing) => Whereabouts::At(thing.place()),
         None => Whereabouts::Unplaced,
     }
 }
@@ -33,7 +32,7 @@ fn along_line(map: &Map, n: u32) -> Whereabouts
 {
     match map.line(n) {
         Some(line) => {
-            let (from, to) = ends_of(map, &line);
+            let (from, to) = map.ends_of(&line);
             Whereabouts::Between(from, to)
         }
         None => Whereabouts::Unplaced,

@@ -1,13 +1,9 @@
 -- The groups of things, by type; the types are those of the "Unofficial Doom Specs" 1.666.
-use Rattle.std.specs.Prelude.{ℕ, Bool, ◌&&◌, if◌then◌else◌, List, [], ◌∷◌, ℤ, pos, int_le, codes}
+use Rattle.std.specs.Prelude.{ℕ, Bool, if◌then◌else◌, List, [], ◌∷◌, ℤ, pos, codes}
 use Rattle.std.specs.Ordering.{int_eq}
-use Rattle.std.specs.List.{list_any}
+use Rattle.lump_records.specs.Runs.{is_among}
 use Rattle.map_picture.specs.declared.groups.Group.{Group}
 use Rattle.map_picture.specs.declared.groups.Group.TheVariants.{Player, Deathmatch, Monster, Item, Other}
-
--- the number lies in one of the runs, each given by its first and its last
-abbrev pub is_among : List (ℤ × ℤ) → ℤ → Bool
-is_among runs z = list_any (λ run. int_le run.0 z && int_le z run.1) runs
 
 -- the starts of the four players
 abbrev pub players : List (ℤ × ℤ)

@@ -5,7 +5,8 @@ use Rattle.lump_records.specs.declared.records.Line.{Line}
 use Rattle.lump_records.specs.Sides.{has_left, is_two_sided}
 use Rattle.map_tables.specs.Tables.{Tables}
 use Rattle.map_svg.specs.Texts.{joined, path_text}
-use Rattle.map_picture.specs.Items.{sector_of, vertex_of}
+use Rattle.map_tables.specs.WellFormed.{nth_vertex}
+use Rattle.map_picture.specs.Items.{sector_of}
 use Rattle.map_svg.specs.Places.{middle_of, shift_right, spot_of}
 use Rattle.map_svg.specs.declared.places.Spot.{Spot}
 use Rattle.map_svg.specs.declared.places.Shift.{Shift}
@@ -61,7 +62,7 @@ tick_text middle right =
 -- the element of a line, with a tick of this length
 unfoldable pub line_text : Tables → ℕ → ℕ → Line → List ℕ
 line_text m step n l =
-    let from = vertex_of m l.v1 in
-    let to = vertex_of m l.v2 in
+    let from = nth_vertex m.vertices l.v1 in
+    let to = nth_vertex m.vertices l.v2 in
     title_text m n l ++ path_text (spot_of from) (spot_of to)
     ++ tick_text (middle_of from to) (shift_right from to step)

@@ -8,7 +8,8 @@ use Rattle.lump_records.specs.Drawing.{squared_distance}
 use Rattle.lump_records.specs.Sides.{has_left}
 use Rattle.map_tables.specs.Tables.{Tables}
 use Rattle.map_svg.specs.Texts.{joined}
-use Rattle.map_picture.specs.Items.{sector_of, vertex_of}
+use Rattle.map_tables.specs.WellFormed.{nth_vertex}
+use Rattle.map_picture.specs.Items.{sector_of}
 use Rattle.map_svg.specs.Places.{middle_of, shift_right, spot_of}
 use Rattle.map_svg.specs.declared.places.Spot.{Spot}
 use Rattle.map_svg.specs.declared.places.Shift.{Shift}
@@ -43,13 +44,13 @@ vertex_number step n v =
 
 -- the middle of a line
 abbrev pub line_middle : Tables → Line → Spot
-line_middle m l = middle_of (vertex_of m l.v1) (vertex_of m l.v2)
+line_middle m l = middle_of (nth_vertex m.vertices l.v1) (nth_vertex m.vertices l.v2)
 
 -- a line's number, as far on its left as the tick goes to the right
 unfoldable pub line_number : Tables → ℕ → ℕ → Line → List ℕ
 line_number m step n l =
     number_text (codes "of-line") (line_middle m l)
-    (shift_right (vertex_of m l.v2) (vertex_of m l.v1) step) n
+    (shift_right (nth_vertex m.vertices l.v2) (nth_vertex m.vertices l.v1) step) n
 
 -- the line has the sector on a side
 abbrev pub bounds : Tables → ℕ → Line → Bool
@@ -57,7 +58,7 @@ bounds m s l = (sector_of m l.right == s) || (has_left l && (sector_of m l.left 
 
 -- the squared length of a line
 abbrev pub squared_len : Tables → Line → ℕ
-squared_len m l = squared_distance (vertex_of m l.v1) (vertex_of m l.v2)
+squared_len m l = squared_distance (nth_vertex m.vertices l.v1) (nth_vertex m.vertices l.v2)
 
 -- the longest line so far of a sector, after one line more
 abbrev pub longer : Tables → ℕ → Option Line → Line → Option Line
@@ -72,8 +73,8 @@ longest_line m s = fold (longer m s) None m.lines
 -- the vector from a line's middle into a sector that it has on a side
 abbrev pub sector_shift : Tables → ℕ → ℕ → Line → Shift
 sector_shift m step s l =
-    let from = vertex_of m l.v1 in
-    let to = vertex_of m l.v2 in
+    let from = nth_vertex m.vertices l.v1 in
+    let to = nth_vertex m.vertices l.v2 in
     if sector_of m l.right == s then shift_right from to (3 * step)
     else shift_right to from (3 * step)
 

@@ -3,7 +3,7 @@ use Rattle.std.specs.Prelude.{ℕ, List, ◌++◌, ℤ, neg_ℤ, codes, decimal,
 use Rattle.std.specs.Fmt.{signed_decimal}
 use Rattle.lump_records.specs.declared.records.Thing.{Thing}
 use Rattle.map_svg.specs.Places.{spot_of}
-use Rattle.map_picture.specs.View.{thing_place}
+use Rattle.lump_records.specs.Things.{thing_place}
 use Rattle.map_svg.specs.declared.places.Spot.{Spot}
 use Rattle.map_svg.specs.Texts.{joined}
 use Rattle.map_picture.specs.Groups.{class_of, group_of, shape_of}

@@ -3,13 +3,10 @@ use Rattle.std.specs.Prelude.{ℕ, ◌+◌, ◌/◌, max, fold, Option, Some, No
 use Rattle.lump_records.specs.declared.records.Bounds.{Bounds}
 use Rattle.lump_records.specs.declared.records.Vertex.{Vertex}
 use Rattle.lump_records.specs.declared.records.Thing.{Thing}
+use Rattle.lump_records.specs.Things.{thing_place}
 use Rattle.map_tables.specs.Tables.{Tables}
 use Rattle.map_svg.specs.Boxes.{box_round}
 use Rattle.map_picture.specs.declared.view.View.{View}
-
--- the place of a thing
-abbrev pub thing_place : Thing → Vertex
-thing_place t = record { x = t.x; y = t.y }
 
 -- the box round a single place
 abbrev pub box_at : Vertex → Bounds

@@ -1,6 +1,8 @@
 //! The groups of things that the picture distinguishes.
 ghost use Rattle.std.specs.Prelude.{◌≡◌};
-ghost use Rattle.map_picture.specs.Groups.{class_of, group_of, is_among, is_item, is_monster, is_player, shape_of};
+ghost use Rattle.map_picture.specs.Groups.{class_of, group_of, is_item, is_monster, is_player, shape_of};
+
+use lump_records::is_among;
 
 /// The group of a thing, by its type.
 #[derive(Clone, Copy, Debug, PartialEq, Eq)]
@@ -30,13 +32,6 @@ const ITEMS: [(i32, i32); 11] = [
     (5, 6), (8, 8), (13, 13), (17, 17), (38, 40), (82, 83), (2001, 2008), (2010, 2015), (2018, 2019), (2022, 2026),
     (2045, 2049),
 ];
-
-// Whether the number lies in one of the runs.
-fn is_among(runs: &[(i32, i32)], number: i32) -> bool
-    ensures { result ≡ is_among runs.now number }
-{
-    runs.iter().any(|run| run.0 <= number && number <= run.1)
-}
 
 // Whether the type is that of a start of one of the four players.
 #[tactic(auto, unfolding(crate::specs::Groups::is_player))]

@@ -1,16 +1,8 @@
 //! The items that a line names.
 ghost use Rattle.std.specs.Prelude.{◌≡◌};
-ghost use Rattle.map_picture.specs.Items.{sector_of, vertex_of};
+ghost use Rattle.map_picture.specs.Items.{sector_of};
 
-use lump_records::Vertex;
 use map_tables::Map;
-
-/// The vertex with the number.
-pub(crate) fn vertex_of(map: &Map, n: u16) -> Vertex
-    ensures { result ≡ vertex_of map.now.tables n }
-{
-    map.vertex(u32::from(n)).unwrap_or(Vertex { x: 0, y: 0 })
-}
 
 /// The sector of the side with the number.
 pub(crate) fn sector_of(map: &Map, n: u16) -> u16

@@ -3,7 +3,7 @@ ghost use Rattle.std.specs.Prelude.{◌≡◌, OnOk};
 ghost use Rattle.std.specs.Io.KnownBytes.{Appends};
 ghost use Rattle.map_picture.specs.Lines.{ends_text, fields_text, left_side_text, left_text, line_text, special_class, tick_text, title_text, width_class};
 
-use crate::items::{sector_of, vertex_of};
+use crate::items::sector_of;
 use lump_records::Line;
 use map_svg::{PictureError, Shift, Spot, middle_of, right_of, spot_of, write_bytes, write_path};
 use map_tables::Map;
@@ -120,8 +120,7 @@ pub(crate) fn write_line<W: Write>(
     ensures { OnOk result (Appends (W.contents writer.old) (W.contents writer.new)
         (line_text map.now.tables step n line.now)) }
 {
-    let from = vertex_of(map, line.v1);
-    let to = vertex_of(map, line.v2);
+    let (from, to) = map.ends_of(line);
     write_title(map, n, line, writer)?;
     write_path(spot_of(from), spot_of(to), writer)?;
     write_tick(middle_of(from, to), right_of(from, to, step), writer)

@@ -3,7 +3,7 @@ ghost use Rattle.std.specs.Prelude.{◌≡◌, ◌<◌, ℕ, length, slice_index
 ghost use Rattle.map_picture.specs.Numbers.{bounds, longer, squared_len};
 ghost use Rattle.map_picture.specs.Longest.{AreLongest, LooksAt, LooksFor};
 
-use crate::items::{sector_of, vertex_of};
+use crate::items::sector_of;
 use lump_records::{Line, squared_distance};
 use map_tables::{Kind, Map};
 
@@ -19,7 +19,8 @@ fn bounds(map: &Map, sector: u32, line: &Line) -> bool
 fn squared_len(map: &Map, line: &Line) -> u64
     ensures { result ≡ squared_len map.now.tables line.now }
 {
-    squared_distance(vertex_of(map, line.v1), vertex_of(map, line.v2))
+    let (from, to) = map.ends_of(line);
+    squared_distance(from, to)
 }
 
 // The longest line so far of the sector, after one line more.

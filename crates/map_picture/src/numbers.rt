@@ -5,7 +5,7 @@ ghost use Rattle.map_picture.specs.Numbers.{anchor_text, beside_text, line_numbe
 ghost use Rattle.map_picture.specs.Picture.{part_text};
 ghost use Rattle.map_picture.specs.declared.parts.Part.{Part};
 
-use crate::items::{sector_of, vertex_of};
+use crate::items::sector_of;
 use crate::longest::find_longest;
 use lump_records::{Line, Vertex};
 use map_svg::{PictureError, Shift, Spot, middle_of, right_of, spot_of};
@@ -88,8 +88,7 @@ pub(crate) fn write_line_number<W: Write>(
     ensures { OnOk result (Appends (W.contents writer.old) (W.contents writer.new)
         (line_number map.now.tables step n line.now)) }
 {
-    let from = vertex_of(map, line.v1);
-    let to = vertex_of(map, line.v2);
+    let (from, to) = map.ends_of(line);
     let shift = right_of(to, from, step);
     write_number("of-line", middle_of(from, to), shift, n, writer)
 }
@@ -99,8 +98,7 @@ fn sector_shift(map: &Map, step: u32, sector: u32, line: &Line) -> Shift
     requires { step ≤ 1000 }
     ensures { result ≡ sector_shift map.now.tables step sector line.now }
 {
-    let from = vertex_of(map, line.v1);
-    let to = vertex_of(map, line.v2);
+    let (from, to) = map.ends_of(line);
     if u32::from(sector_of(map, line.right)) == sector {
         right_of(from, to, 3 * step)
     } else {
@@ -124,7 +122,8 @@ fn write_sector_number<W: Write>(
 {
     match longest {
         Some(line) => {
-            let middle = middle_of(vertex_of(map, line.v1), vertex_of(map, line.v2));
+            let (from, to) = map.ends_of(&line);
+            let middle = middle_of(from, to);
             let shift = sector_shift(map, step, n, &line);
             write_number("of-sector", middle, shift, n, writer)
         }

@@ -4,7 +4,6 @@ ghost use Rattle.std.specs.Io.KnownBytes.{Appends};
 ghost use Rattle.map_picture.specs.Things.{mark_text, shape_text, thing_text};
 
 use crate::groups::{class_of, group_of, shape_of};
-use crate::view::place_of;
 use lump_records::Thing;
 use map_svg::{PictureError, Spot, spot_of};
 use std::io::Write;
@@ -70,7 +69,7 @@ pub(crate) fn write_thing<W: Write>(
         (Appends (W.contents writer.old) (W.contents writer.new) (thing_text n thing.now)) }
 {
     let group = group_of(thing.kind);
-    let place = spot_of(place_of(thing));
+    let place = spot_of(thing.place());
     write_mark(n, class_of(group), place, turn_of(thing.angle), writer)?;
     write_shape(n, thing, shape_of(group), writer)
 }

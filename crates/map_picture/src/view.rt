@@ -1,9 +1,9 @@
 //! The part of the plane that the picture shows.
 ghost use Rattle.std.specs.Prelude.{◌≡◌, ◌≤◌, ◌-ℤ◌, pos, neg_ℤ, slice_get};
 ghost use Rattle.std.specs.Option.{option_map_or};
-ghost use Rattle.map_picture.specs.View.{box_at, picture_box, box_of_vertices, box_with, grown, grown_by, thing_place, picture_side, step_of, view_of, view_of_box};
+ghost use Rattle.map_picture.specs.View.{box_at, picture_box, box_of_vertices, box_with, grown, grown_by, picture_side, step_of, view_of, view_of_box};
 
-use lump_records::{Bounds, Thing, Vertex};
+use lump_records::{Bounds, Vertex};
 use map_svg::box_round;
 use map_tables::{Kind, Map};
 
@@ -15,16 +15,6 @@ pub(crate) struct View {
     pub width: u32,
     pub height: u32,
     pub step: u32,
-}
-
-/// The place of a thing.
-pub(crate) fn place_of(thing: &Thing) -> Vertex
-    ensures { result ≡ thing_place thing.now }
-{
-    Vertex {
-        x: thing.x,
-        y: thing.y,
-    }
 }
 
 // The box round a single place.
@@ -71,7 +61,7 @@ fn with_thing(map: &Map, n: u32, bounds: Option<Bounds>) -> Option<Bounds>
     ensures { result ≡ option_map_or (grown_by bounds) (slice_get map.now.tables.things n) bounds }
 {
     match map.thing(n) {
-        Some(thing) => grown(bounds, place_of(&thing)),
+        Some(thing) => grown(bounds, thing.place()),
         None => bounds,
     }
 }

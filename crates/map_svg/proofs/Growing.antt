@@ -4,7 +4,6 @@ use Rattle.std.specs.Prelude.{Option, flat_map, fold, slice_get}
 use Rattle.std.specs.List.{range_with_len}
 use Rattle.std.specs.Option.{option_map_or}
 use Rattle.std.proofs.lemmas.Grind.{flat_map-append}
-use Rattle.std.proofs.lemmas.List.{take_more}
 use Rattle.std.proofs.lemmas.List.Sums.{fold_more}
 use Rattle.std.proofs.lemmas.Option.{slice_get-get_or}
 
@@ -30,14 +29,6 @@ counted_more f a n =
     ap (λ (k : ℕ). flat_map f (range_with_len a k)) next ∙ ap (flat_map f) (range_more a n)
     ∙ flat_map-append f (range_with_len a n) ((a + n) ∷ [])
     ∙ ap (λ (t : List ℕ). flat_map f (range_with_len a n) ++ t) (append-nil (f (a + n)))
-
--- the texts of the first items, followed by that of one more
-pub listed_more : {X : Type 0} (f : X → List ℕ) (xs : List X) (i : ℕ) (d : X) → i < length xs
-    → flat_map f (take (i + 1) xs) ≡ flat_map f (take i xs) ++ f (get_or xs i d)
-listed_more f xs i d within =
-    let x = get_or xs i d in
-    ap (flat_map f) (take_more xs i d within) ∙ flat_map-append f (take i xs) (x ∷ [])
-    ∙ ap (λ (t : List ℕ). flat_map f (take i xs) ++ t) (append-nil (f x))
 
 -- a fold over the first items, and over one more
 pub folded_more : {X Y : Type 0} (f : Y → X → Y) (a : Y) (xs : List X) (i : ℕ) (d : X) → i < length xs → (y : Y) → y ≡ fold f a (take i xs)

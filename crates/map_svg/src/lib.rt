@@ -15,4 +15,4 @@ pub use error::PictureError;
 pub use marks::{Mark, MarkPlace};
 pub use overlay::{Overlay, write_overlay};
 pub use places::{Shift, Spot, middle_of, right_of, spot_of};
-pub use text::{write_bytes, write_escaped, write_path};
+pub use text::{write_bytes, write_path};

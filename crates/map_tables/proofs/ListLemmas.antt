@@ -1,5 +1,5 @@
 -- Lists with an element set or removed, and the numbers of the elements that stay.
-use Rattle.std.proofs.Common.{◌≡◌, ◌≢◌, ℕ, zero, suc, ◌<◌, ◌≤◌, ◌+◌, ◌-◌, Bool, true, false, ◌||◌, List, [], ◌∷◌, ◌++◌, length, map, take, take_all, refl, sym, ap, subst, ◌∙◌, inl, inr, arith, ltb, get_or}
+use Rattle.std.proofs.Common.{◌≡◌, ◌≢◌, ℕ, zero, suc, ◌<◌, ◌≤◌, ◌+◌, ◌-◌, Bool, true, false, ◌||◌, List, [], ◌∷◌, ◌++◌, length, map, take, refl, sym, ap, subst, ◌∙◌, inl, inr, arith, ltb, get_or}
 use Rattle.std.specs.Prelude.{Some, slice_get}
 use Rattle.std.proofs.lemmas.Option.{get_or_from_slice_get, same_Some}
 use Rattle.std.proofs.lemmas.List.Folds.{list_any_more, list_any_at}
@@ -116,7 +116,3 @@ pub one_here : {X : Type 0} (p : X → Bool) (xs : List X) (n : ℕ) (x : X) →
 one_here p xs n x at is passes =
     let here : get_or xs n x ≡ x = get_or_from_slice_get xs n x x is in
     list_any_at p xs n x at (rw here passes)
-
--- none at all
-pub none_ever : {X : Type 0} (p : X → Bool) (xs : List X) (n : ℕ) → length xs ≤ n → list_any p (take n xs) ≡ false → list_any p xs ≡ false
-none_ever {X} p xs n end none = sym (ap (λ (ys : List X). list_any p ys) (take_all n xs end)) ∙ none

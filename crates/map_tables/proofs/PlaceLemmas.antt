@@ -1,12 +1,12 @@
 -- The set of places after each step.
-use Rattle.std.proofs.Common.{◌≡◌, ◌≢◌, ◌∙◌, refl, sym, ap, ℕ, suc, zero, ◌+◌, ◌<◌, Bool, if◌then◌else◌, true, false, ◌&&◌, ◌||◌, cond, not, List, [], ◌∷◌, ◌++◌, length, take, get_or, arith, Decides, ◌==◌}
+use Rattle.std.proofs.Common.{◌≡◌, ◌≢◌, ◌∙◌, refl, sym, ap, ℕ, suc, zero, ◌+◌, ◌<◌, Bool, if◌then◌else◌, true, false, ◌&&◌, ◌||◌, cond, not, List, [], ◌∷◌, length, take, get_or, arith, Decides, ◌==◌}
 use Rattle.std.specs.List.{list_any, AllPairs, remove, enumerate_from}
 use Rattle.std.specs.Ordering.{int_eq}
 use Rattle.std.proofs.Math.Bool.{or_comm}
 use Rattle.std.specs.Cmp.{IsEquivalence}
 use Rattle.std.specs.HashSet as bag
 use Rattle.std.specs.HashSet.{HashSet}
-use Rattle.std.proofs.lemmas.List.Folds.{list_any_none, list_any_more, list_any_at, list_any-append}
+use Rattle.std.proofs.lemmas.List.Folds.{list_any_none, list_any_more, list_any_at}
 use Rattle.std.proofs.lemmas.List.Edits.{length-remove}
 use Rattle.std.proofs.lemmas.Bool.{ne_eqb, eq-eqb, both_ways}
 use Rattle.std.proofs.Math.ListN.{set}
@@ -85,16 +85,6 @@ pub taken_step : (marked vs : List Vertex) (i : ℕ) (d v : Vertex) → i < leng
 taken_step marked vs i d v at e = rw (list_any_more (is_place v) vs i d at, e) (or_comm (is_place v (get_or vs i d)) (is_taken (take i vs) v))
 
 -- ---- The places of a list of vertices after each edit
-
--- with one more
-pub taken_push : (vs : List Vertex) (v w : Vertex) → is_taken (vs ++ v ∷ []) w ≡ (is_place w v || is_taken vs w)
-taken_push vs v w = list_any-append (is_place w) vs (v ∷ []) ∙ by (is_taken vs w) (is_place w v)
-  where
-    by : (b c : Bool) → (b || (c || false)) ≡ (c || b)
-    by true true = refl
-    by true false = refl
-    by false true = refl
-    by false false = refl
 
 -- without one
 pub taken_remove : (vs : List Vertex) (n : ℕ) (d v : Vertex) → n < length vs → AllPairs (λ v w. v ≢ w) vs → is_taken (remove vs n) v ≡ (not (is_place v (get_or vs n d)) && is_taken vs v)

@@ -10,7 +10,7 @@ use Rattle.std.proofs.lemmas.List.Sums.{fails_before_first, passes_at_first, pos
 use Rattle.std.proofs.lemmas.List.Quantifiers.{all_pairs_push, all_pairs_remove}
 use Rattle.std.proofs.lemmas.List.{map-append, length-set, length-map, get_or-map}
 use Rattle.std.proofs.lemmas.List.Elements.{All-set, All-push}
-use Rattle.std.proofs.lemmas.List.Edits.{length-insert, length-remove, get_or-insert_at, get_or-insert_below, get_or-insert_above}
+use Rattle.std.proofs.lemmas.List.Edits.{length-insert, length-remove, get_or-insert_below, get_or-insert_above}
 use Rattle.map_tables.specs.declared.error.MapError.{MapError}
 use Rattle.map_tables.specs.declared.maps.Maps.TheInside.{Inside}
 use Rattle.map_tables.specs.Tables.{Tables, MapView, empty_tables, part_len}
@@ -170,12 +170,6 @@ pub map_below : (items : List MapView) (i k : ℕ) (m x : MapView) (d : Tables) 
 map_below items i k m x d le below is =
     ap (λ ms. get_or ms k d) (maps_are items i m) ∙ get_or-map (λ m. m.tables) (insert items i m) k x d (omega (arith, length-insert items i m le))
     ∙ ap (λ v. v.tables) (get_or-insert_below items i m x k below le ∙ is)
-
-pub map_at : (items : List MapView) (i : ℕ) (m : MapView) (d : Tables) → i ≤ length items
-    → get_or (tables_of_each (take i items) ++ m.tables ∷ tables_of_each (drop i items)) i d ≡ m.tables
-map_at items i m d le =
-    ap (λ ms. get_or ms i d) (maps_are items i m) ∙ get_or-map (λ m. m.tables) (insert items i m) i m d (omega (arith, length-insert items i m le))
-    ∙ ap (λ v. v.tables) (get_or-insert_at items i m m le)
 
 pub map_above : (items : List MapView) (i k : ℕ) (m x : MapView) (d : Tables) → i ≤ k → k < length items → get_or items k x ≡ x
     → get_or (tables_of_each (take i items) ++ m.tables ∷ tables_of_each (drop i items)) (k + 1) d ≡ x.tables

@@ -4,7 +4,7 @@ use Rattle.std.specs.List.{cons_option}
 use Rattle.std.specs.Prelude.{Option, Some, None, IsSome, All, AllPairs, remove, slice_set, filter_map, position}
 use Rattle.std.proofs.lemmas.Bool.{eqb-true, eqb-false, eq-eqb, ne_eqb, ltb-false}
 use Rattle.std.proofs.lemmas.List.Elements.{All-push, All-get_or, All-from_get_or, All-weaker, filter_map-append}
-use Rattle.std.proofs.lemmas.List.Quantifiers.{all_pairs_push, all_pairs_remove, position-Some}
+use Rattle.std.proofs.lemmas.List.Quantifiers.{all_pairs_push, all_pairs_remove}
 use Rattle.std.proofs.lemmas.List.Sums.{position_or_len_is, passes_at_first, prefix_len-le-length}
 use Rattle.std.proofs.lemmas.List.Folds.{position_or_len_push}
 use Rattle.std.proofs.lemmas.List.Edits.{length-remove}
@@ -98,11 +98,6 @@ rank_at keys n key differ at here =
     position_or_len_is (λ k. k == key) keys n 0 (omega arith)
     (λ k before. ne_eqb (get_or keys k 0) key (λ e. differ k n 0 before at (e ∙ sym here)))
     (λ _. eq-eqb (get_or keys n 0) key here)
-
-pub rank_found : (keys : List ℕ) (n key : ℕ) → AllPairs (λ j k. j ≢ k) keys → position (λ k. k == key) keys ≡ Some n → rank_of keys key ≡ n
-rank_found keys n key differ e =
-    let p = position-Some (λ k. k == key) keys n 0 e in
-    rank_at keys n key differ p.0 (eqb-true (get_or keys n 0) key p.1)
 
 -- a key that isn't in the list
 pub rank_missing : (keys : List ℕ) (key : ℕ) → position (λ k. k == key) keys ≡ None → rank_of keys key ≡ length keys

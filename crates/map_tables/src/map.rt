@@ -72,6 +72,8 @@ impl Model for Map {
 }
 
 impl Map {
+    ghost use Rattle.map_tables.specs.WellFormed.{nth_vertex};
+
     /// The empty map with the name MAP01. It allocates no memory.
     pub fn new(alloc: Global) -> Self
         ensures tables { result.tables ≡ empty_tables }
@@ -158,6 +160,14 @@ impl Map {
     {
         let line = self.lines.get(n as usize)?;
         Some(numbered_line(&self.vertices, &self.sides, &line))
+    }
+
+    /// The places of a line's ends; the origin for a vertex that the map doesn't have.
+    pub fn ends_of(&self, line: &Line) -> (Vertex, Vertex)
+        ensures from { result.0 ≡ nth_vertex self.now.tables.vertices line.now.v1 }
+        ensures to { result.1 ≡ nth_vertex self.now.tables.vertices line.now.v2 }
+    {
+        (self.vertices.nth(line.v1), self.vertices.nth(line.v2))
     }
 
     /// The thing with the number.

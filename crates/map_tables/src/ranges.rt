@@ -3,7 +3,9 @@ ghost use Rattle.std.specs.Prelude.{◌≡◌, ◌↔◌, ◌≤◌, IsTrue, All
 ghost use Rattle.map_tables.specs.Ranges.{IsBetween, IsCoordinate, IsShort, IsCode, is_name, is_marker, IsNamed, name_of, name_text};
 ghost use Rattle.map_tables.specs.Ranges.{IsVertex, IsSector, IsSide, IsLine, IsThing};
 
-use lump_records::{Line, NO_SIDE, Name8, Sector, Side, Thing, Vertex, is_marker, is_name};
+use lump_records::{
+    Line, NO_SIDE, Name8, Sector, Side, Thing, Vertex, is_coordinate, is_marker, is_name,
+};
 
 // The greatest number that an item may have.
 const LAST_ITEM: u16 = 32766;
@@ -30,13 +32,6 @@ fn is_map_name(name: &Name8) -> bool
     ensures { IsTrue result ↔ IsNamed is_marker name.now }
 {
     is_padded(name) && is_marker(name.text())
-}
-
-// Whether the number may be a coordinate of a place.
-fn is_coordinate(z: i16) -> bool
-    ensures { IsTrue result ↔ IsCoordinate z }
-{
-    -16384 <= z && z <= 16383
 }
 
 // Whether the number may be a height or an offset: any may.

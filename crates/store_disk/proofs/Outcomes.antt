@@ -20,7 +20,3 @@ if_ok (Err e) f was = was
 pub on_err_any : {T E P : Type 0} (r : Result T E) → P → OnErr r P
 on_err_any (Ok x) p = tt
 on_err_any (Err e) p = p
-
-pub if_ok_both : {T E : Type 0} {P Q R : T → Type 0} (r : Result T E) → ((x : T) → P x → Q x → R x) → IfOk r P → IfOk r Q → IfOk r R
-if_ok_both (Ok x) f was too = f x was too
-if_ok_both (Err e) f was too = was

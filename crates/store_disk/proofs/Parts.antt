@@ -1,9 +1,8 @@
 -- The file after a write that fails after a part of its bytes.
 use Rattle.std.proofs.Common.{◌≤◌, ℕ, List, length, arith}
-use Rattle.std.proofs.lemmas.List.{get_or_past}
 use Rattle.store_disk.specs.Files.{Failed, Torn, Written}
 use Rattle.store_disk.specs.Stops.{Follows, LeadsBy}
-use Rattle.store_disk.proofs.Bytes.{keeps_wider, torn_itself, written_torn}
+use Rattle.store_disk.proofs.Bytes.{keeps_wider, written_torn}
 
 pub torn_wider : (at m n : ℕ) (old new : List ℕ) → m ≤ n → Torn at m old new → Torn at n old new
 torn_wider at m n old new le torn = record {
@@ -14,9 +13,6 @@ torn_wider at m n old new le torn = record {
 
 pub failed_wider : (at m n : ℕ) (old new : List ℕ) → m ≤ n → Failed at m old new → Failed at n old new
 failed_wider at m n old new le failed = record { torn = torn_wider at m n old new le failed.torn; gap = failed.gap }
-
-pub failed_itself : (at n : ℕ) (file : List ℕ) → Failed at n file file
-failed_itself at n file = record { torn = torn_itself at n file; gap = λ i past before. get_or_past file i 0 past }
 
 pub written_failed : (at n : ℕ) (bytes old new : List ℕ) → length bytes ≤ n → Written at bytes old new → Failed at n old new
 written_failed at n bytes old new le written =
@@ -29,11 +25,3 @@ module _ (step wider : List ℕ → List ℕ → Type 0) (so : (old new : List �
 
   pub leads_by : LeadsBy step old new → LeadsBy wider old new
   leads_by leads file is = let next = leads file is in (next.0, next.1, so file next.0 next.2)
-
--- no step
-module _ (step : List ℕ → List ℕ → Type 0) (itself : (file : List ℕ) → step file file) (files : List ℕ → Type 0) where
-  pub follows_itself : Follows step files files
-  follows_itself file is = (file, is, itself file)
-
-  pub leads_itself : LeadsBy step files files
-  leads_itself file is = (file, is, itself file)

@@ -1,8 +1,7 @@
 -- A disk with one injected fault: what it shows, and what each of its calls does.
-use Rattle.std.specs.Prelude.{◌≡◌, ◌≢◌, ◌⊎◌, ◌-◌, ℕ, List, Result, IsErr, length}
+use Rattle.std.specs.Prelude.{◌≡◌, ◌≢◌, ◌⊎◌, ◌-◌, if◌then◌else◌, ℕ, List, Result, IsErr, length}
 use Rattle.store_disk.specs.Files.{Failed, Torn, Written}
 use Rattle.store_disk.specs.Stops.{Counted, Follows, Rose}
-use Rattle.store_disk.specs.FaultCount.{one_if}
 use Rattle.store_disk.specs.declared.disk.Disk.{Ghosts}
 use Rattle.store_disk.specs.declared.fault.FaultDisk.{FaultDisk}
 
@@ -20,7 +19,7 @@ part_of disk = disk.countdown.part
 
 -- 1 if the injected fault has happened and the inner disk did not fail in that call, else 0
 abbrev pub own_failures : {D : Type 0} → FaultDisk D → ℕ
-own_failures disk = one_if disk.countdown.failed
+own_failures disk = if disk.countdown.failed then 1 else 0
 
 -- The call fails if the countdown is at 1. Any other call returns what the inner disk returns.
 pub record IsCounted {D T E : Type 0} (facts : Ghosts D) (old new : FaultDisk D)

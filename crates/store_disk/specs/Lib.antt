@@ -2,7 +2,6 @@ pub mod Areas
 pub mod Calls
 pub mod Entries
 pub mod Fault
-pub mod FaultCount
 pub mod File
 pub mod Files
 pub mod Fill

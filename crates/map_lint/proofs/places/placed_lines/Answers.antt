@@ -4,8 +4,7 @@ use Rattle.std.specs.Prelude.{Some}
 use Rattle.std.proofs.lemmas.List.{take_more, take_all, map-append}
 use Rattle.std.proofs.lemmas.List.FromFn.{length-enumerate_from, get_or-enumerate_from}
 use Rattle.std.proofs.lemmas.Option.{slice_get_within, get_or_from_slice_get}
-use Rattle.map_tables.specs.WellFormed.{HasEnds}
-use Rattle.map_checks.proofs.ItemReads.{is_there, at_some}
+use Rattle.map_checks.proofs.ItemReads.{is_there}
 use Rattle.map_lint.specs.declared.places.PlacedLine.{PlacedLine}
 use Rattle.map_lint.specs.Places.{placed}
 use Rattle.map_lint.proofs.places.placed_lines.Goals as goal
@@ -25,9 +24,6 @@ numbered_more f xs n x is =
 
 pub unwrap-line-requires : goal.unwrap-line-requires
 unwrap-line-requires c = is_there c.args.map.now.tables.lines c.loop-n.n _ c.line.ensures.item (omega arith)
-
-pub placed-requires : goal.placed-requires
-placed-requires c = at_some (HasEnds c.args.map.now.tables.vertices) c.unwrap-line.result c.unwrap-line.ensures c.line.ensures.ends
 
 pub loop-n-preserved : goal.loop-n-preserved
 loop-n-preserved c =
