@@ -15,12 +15,10 @@ use crate::command::{Command, RoomPlan};
 use crate::error::CommandError;
 use crate::keywords::{LAST_ITEM, LAST_SECTOR, kind_in, last_number};
 use crate::unread::UnreadWords;
-use lump_records::{Line, Name8, Sector, Side, Thing, Vertex};
+use lump_records::{
+    GREATEST_COORDINATE, LEAST_COORDINATE, Line, Name8, Sector, Side, Thing, Vertex,
+};
 use map_tables::{Edit, Item};
-
-const LEAST_COORDINATE: i16 = -16384;
-
-const GREATEST_COORDINATE: i16 = 16383;
 
 const GREATEST_LIGHT: i16 = 255;
 // In degrees.

@@ -21,7 +21,6 @@ use Rattle.map_tables.specs.declared.edit.Edit.TheVariants as edit
 use Rattle.map_tables.specs.declared.edit.Item.TheVariants as item
 use Rattle.map_commands.specs.declared.project.command.ProjectCommand.{ProjectCommand}
 use Rattle.map_commands.specs.declared.project.command.ProjectCommand.TheVariants.{Current}
-use Rattle.map_commands.specs.Step as of_one
 use Rattle.map_commands.specs.Step as of_one_map
 use Rattle.map_commands.specs.ProjectCommands.{project_spelling}
 use Rattle.map_commands.specs.ProjectStep.{project_after, naming_faults, project_number_of}
@@ -57,7 +56,7 @@ drawing done m = between done m []
 
 -- a command leads from one map to another, and the new one is no longer than the final one
 pub record Adds (whole old : Tables) (c : Command) (new : Tables) : Type 0 where
-  pub range : of_one.InRange c
+  pub range : of_one_map.InRange c
   pub free : least (of_one_map.faults old c) ≡ None
   pub made : of_one_map.after old c ≡ new
   pub short : part_len new ≤ part_len whole
