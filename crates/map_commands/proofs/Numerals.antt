@@ -4,11 +4,10 @@ use Rattle.std.specs.Prelude.{decimal, neg_ℤ, int_le, nat_le, not, bytes_eq, c
 use Rattle.std.specs.Int.{w16, w32}
 use Rattle.std.specs.Fmt.{signed_decimal, digits}
 use Rattle.std.specs.List.{list_all}
-use Rattle.std.specs.Str.{all_ascii_digits, IsAscii, IsUtf8}
-use Rattle.std.specs.Str.Parse.{digits_value, IsNumeral, without_leading_sign}
-use Rattle.std.proofs.lemmas.Grind.{common_steps}
+use Rattle.std.specs.Str.{all_ascii_digits}
+use Rattle.std.specs.Str.Parse.{digits_value, without_leading_sign}
 use Rattle.std.proofs.lemmas.Bool.{and_from, cases_lt, eqb-true, le-leb, leb-true, lt-leb, ne_eqb}
-use Rattle.std.proofs.lemmas.Str.{IsUtf8-from_ascii, digit_value_digit}
+use Rattle.std.proofs.lemmas.Str.{digit_value_digit}
 use Rattle.std.proofs.lemmas.Int.Digits.{digits_value_more}
 use Rattle.std.proofs.lemmas.Str.Parse.{IsNumeralModel, numerals_by_value, tells_all_ascii_digits}
 use Rattle.std.proofs.lemmas.List.{take_all}
@@ -135,26 +134,6 @@ canonical w e fits =
     let ne : v ≡ 0 → ⊥ = λ z. some (sym written ∙ ap decimal z ∙ zero-written) in
     ap signed_decimal value ∙ neg-written v ds ne written ∙ sym is)
 
-pub numeral-parses : (w : List ℕ) → is_numeral w ≡ true → IsNumeral 10 (without_leading_sign w)
-numeral-parses w e =
-    numeral-by w e
-    (λ p. subst (IsNumeral 10) (sym (natural-sign w p)) (p.some, own.to w p.digits))
-    (λ ds is p some. subst (λ x. IsNumeral 10 (without_leading_sign x)) (sym is) (p.some, own.to ds p.digits))
-
-digits-ascii : (w : List ℕ) → all_ascii_digits w ≡ true → IsAscii w
-digits-ascii [] e i = grind (arith, common_steps)
-digits-ascii (b ∷ bs) e zero = let range = digit-range b (both (is_digit b) (all_ascii_digits bs) e).0 in omega (arith, range.1)
-digits-ascii (b ∷ bs) e (suc i) = digits-ascii bs (both (is_digit b) (all_ascii_digits bs) e).1 i
-
-minus-ascii : (w : List ℕ) → IsAscii w → IsAscii (45 ∷ w)
-minus-ascii w h zero = omega arith
-minus-ascii w h (suc i) = h i
-
-pub numeral-utf8 : (w : List ℕ) → is_numeral w ≡ true → IsUtf8 w
-numeral-utf8 w e =
-    IsUtf8-from_ascii w (numeral-by w e (λ p. digits-ascii w p.digits)
-    (λ ds is p some. subst IsAscii (sym is) (minus-ascii ds (digits-ascii ds p.digits))))
-
 pub between : (low v high : ℤ) → FitsSigned w16 low → FitsSigned w16 high → int_le low v ≡ true → int_le v high ≡ true → FitsSigned w16 v
 between (pos a) (pos n) (pos b) f g p q = let h = g.sfits in record { sfits = omega (arith, h, leb-true n b q) }
 between (pos a) (pos n) (negsuc b) f g p q = absurd cc
@@ -214,23 +193,6 @@ natural-front [] = refl
 natural-front (b ∷ []) = and-true (is_digit b)
 natural-front (b ∷ c ∷ bs) = nonzero-digit b (list_all is_digit (c ∷ bs))
 
--- what stands behind a minus
-pub minus-numeral : (w : List ℕ) → get_or w 0 0 ≡ 45
-    → is_numeral w ≡ (is_natural (take (length w - 1) (drop 1 w)) && not (bytes_eq (take (length w - 1) (drop 1 w)) (codes "0")))
-minus-numeral [] e = absurd (omega (arith, e))
-minus-numeral (b ∷ bs) e =
-    let tail : take (length (b ∷ bs) - 1) bs ≡ bs = take_all (length (b ∷ bs) - 1) bs (omega arith) in
-    let minus : nat_eq b 45 ≡ true = eq-eqb b 45 e in
-    (λ i. cond (minus i) (is_natural bs && not (bytes_eq bs (codes "0"))) (is_natural (b ∷ bs)))
-    ∙ ap (λ ds. is_natural ds && not (bytes_eq ds (codes "0"))) (sym tail)
-
--- a number without a minus
-pub plain-numeral : (w : List ℕ) → (get_or w 0 0 ≡ 45 → ⊥) → is_numeral w ≡ is_natural w
-plain-numeral [] e = refl
-plain-numeral (b ∷ bs) e =
-    let plus : nat_eq b 45 ≡ false = ne_eqb b 45 e in
-    λ i. cond (plus i) (is_natural bs && not (bytes_eq bs (codes "0"))) (is_natural (b ∷ bs))
-
 clamped-negated : (v : ℕ) → clamped (neg_ℤ (pos v)) ≡ neg_ℤ (pos (min v 32769))
 clamped-negated zero = refl
 clamped-negated (suc n) = let same : suc (min n 32768) ≡ min (suc n) 32769 = omega arith in ap (λ k. neg_ℤ (pos k)) same
@@ -241,12 +203,6 @@ pub minus-read : (w : List ℕ) (n : ℕ) → get_or w 0 0 ≡ 45 → n ≡ min 
 minus-read w n first is =
     negated n (omega (arith, is)) ∙ ap (λ k. neg_ℤ (pos k)) is ∙ sym (clamped-negated (digits_value 10 (take (length w - 1) (drop 1 w))))
     ∙ ap clamped (sym (minus-value w first))
-
-pub plain-read : (w : List ℕ) (n : ℕ) → is_natural w ≡ true → n ≡ min (digits_value 10 w) 32769 → to_z w32 n ≡ clamped (numeral_value w)
-plain-read w n natural is =
-    let small : n ≤ 32769 = omega (arith, is) in
-    let same : to_z w32 n ≡ pos n = omega (arith, ints, small) in
-    same ∙ ap pos is ∙ ap clamped (sym (natural-value w (plain w natural)))
 
 -- a clamped number of sixteen bits is the number
 pub clamped-same : (z : ℤ) → FitsSigned w16 (clamped z) → clamped z ≡ z

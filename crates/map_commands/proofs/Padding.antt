@@ -140,20 +140,6 @@ found-name w n is e =
 pub found-marker : (w : List ℕ) (n : Name8) → n ≡ name_of w → is_marker w ≡ true → (name_text n ≡ w) × IsNamed is_marker n
 found-marker w n is e = named is_marker w n is (marker-text w e) e
 
--- neither is longer than eight bytes
-pub name-short : (w : List ℕ) → is_name w ≡ true → length w ≤ 8
-name-short w e =
-    leb-true (length w) 8 (both (nat_le 1 (length w)) (nat_le (length w) 8) (both (nat_le 1 (length w) && nat_le (length w) 8) (list_all is_name_byte w) e).0).1
-
-pub marker-short : (w : List ℕ) → is_marker w ≡ true → length w ≤ 8
-marker-short [] e = absurd cc
-marker-short (a ∷ []) e = absurd cc
-marker-short (a ∷ b ∷ []) e = absurd cc
-marker-short (a ∷ b ∷ c ∷ []) e = absurd cc
-marker-short (a ∷ b ∷ c ∷ d ∷ []) e = lit≤ tt
-marker-short (a ∷ b ∷ c ∷ d ∷ f ∷ []) e = lit≤ tt
-marker-short (a ∷ b ∷ c ∷ d ∷ f ∷ g ∷ ws) e = absurd cc
-
 name-ascii : (w : List ℕ) → list_all is_name_byte w ≡ true → IsAscii w
 name-ascii [] e i = grind (arith, common_steps)
 name-ascii (b ∷ bs) e zero = let range = name-range b (both (is_name_byte b) (list_all is_name_byte bs) e).0 in omega (arith, range.1)

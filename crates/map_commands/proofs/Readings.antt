@@ -5,9 +5,6 @@ use Rattle.map_commands.specs.Places.{Place, Number, NumberOrNone, fault_at, pla
 use Rattle.map_commands.specs.Words.{is_numeral}
 use Rattle.map_commands.specs.Reading.{Reading, Reads, IsDone, fault_with}
 
-pub first-nil : (x : Option ℕ) → prior_fault None x ≡ x
-first-nil x = refl
-
 first-end : (x : Option ℕ) → prior_fault x None ≡ x
 first-end None = refl
 first-end (Some k) = refl
@@ -15,14 +12,6 @@ first-end (Some k) = refl
 first-one : (x : Option ℕ) → prior_fault x (Some 1) ≡ Some 1
 first-one None = refl
 first-one (Some k) = refl
-
-same : (b : Bool) → ◌≡◌ {A = Option ℕ} (cond b (Some 1) (Some 1)) (Some 1)
-same true = refl
-same false = refl
-
-one-first : (x : Option ℕ) → prior_fault (Some 1) x ≡ Some 1
-one-first None = refl
-one-first (Some k) = same (nat_eq k 1)
 
 if-some : (b : Bool) (i j : ℕ) → ◌≡◌ {A = Option ℕ} (cond b (Some i) (Some j)) None → ⊥
 if-some true i j e = absurd cc

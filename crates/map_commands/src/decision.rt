@@ -1,12 +1,12 @@
 //! Decides whether a map accepts a command, leaving memory aside, and what the command adds. If several refusals apply,
 //! the one with the lowest code is given.
-ghost use Rattle.std.specs.Prelude.{◌≡◌, ◌+◌, ◌≤◌, ◌<◌, ◌||◌, nat_lt, length, [], ◌∷◌, ◌++◌};
+ghost use Rattle.std.specs.Prelude.{◌≡◌, ◌+◌, ◌≤◌, ◌||◌, nat_lt, length, [], ◌∷◌, ◌++◌};
 ghost use Rattle.std.specs.List.{list_any};
 ghost use Rattle.map_tables.specs.Faults.{is_taken, lacks_room, lacks_sector_room, is_too_long};
 ghost use Rattle.map_tables.specs.Outcomes.{Tells, one_of};
 ghost use Rattle.map_tables.specs.Tables.{count_of, kind_of_item, table_limit};
 ghost use Rattle.lump_records.specs.Drawing.{longest_squared, squared_distance};
-ghost use Rattle.map_tables.specs.WellFormed.{HasEnds, nth_vertex};
+ghost use Rattle.map_tables.specs.WellFormed.{HasEnds};
 ghost use Rattle.map_commands.specs.Rooms.{corners, room_faults};
 ghost use Rattle.map_commands.specs.Splits.{cut_faults, cut_off, cut_short, split_faults};
 ghost use Rattle.map_commands.specs.Step.{faults, growth_of, need_of};
@@ -63,14 +63,6 @@ fn are_too_far(a: Vertex, b: Vertex) -> bool
     squared_distance(a, b) > LONGEST_SQUARED
 }
 
-// The vertex with this number.
-fn vertex_of(map: &Map, n: u16) -> Vertex
-    requires { n < length map.now.tables.vertices }
-    ensures { result ≡ nth_vertex map.now.tables.vertices n }
-{
-    map.vertex(u32::from(n)).unwrap()
-}
-
 // Whether one of the halves would be too long if a line were cut in two at a place.
 fn has_long_half(map: &Map, line: &Line, at: Vertex) -> bool
     requires { HasEnds map.now.tables.vertices line.now }
@@ -78,8 +70,7 @@ fn has_long_half(map: &Map, line: &Line, at: Vertex) -> bool
         ≡ (is_too_long vertices (cut_short line.now (length map.now.tables.vertices))
         || is_too_long vertices (cut_off line.now (length map.now.tables.vertices))) }
 {
-    let start = vertex_of(map, line.v1);
-    let end = vertex_of(map, line.v2);
+    let (start, end) = map.ends_of(line);
     are_too_far(start, at) || are_too_far(at, end)
 }
 

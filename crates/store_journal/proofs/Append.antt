@@ -9,7 +9,7 @@ use Rattle.store_disk.specs.Stops.{From, Follows, Each}
 use Rattle.store_disk.specs.declared.disk.Disk.{Ghosts}
 use Rattle.store_disk.proofs.Moments.{weaker, and_then}
 use Rattle.store_disk.specs.declared.area.Area.{Area}
-use Rattle.store_disk.proofs.Bytes.{keeps_itself, keeps_wider, keeps_then, has_kept, has_left, has_right, has_both, has_one, one_has}
+use Rattle.store_disk.proofs.Bytes.{keeps_wider, keeps_then, has_kept, has_left, has_right, has_both, has_one, one_has}
 use Rattle.store_journal.specs.Records.{record_bytes, records_bytes, IsJournal, EndsAt}
 use Rattle.store_journal.specs.Append.{Appends, MayAppend}
 use Rattle.store_journal.proofs.Lengths.{records_bytes-push}
@@ -28,9 +28,6 @@ some_block payload = omega (arith, length-block payload)
 module _ (area : Area) (next : ℕ) (payload : List ℕ) (short : length payload ≤ 256) (fits : next + length payload + 6 ≤ area.length) where
   abbrev gate : ℕ
   gate = area.base + next
-
-  pub itself : (file : List ℕ) → MayAppend area payload file file
-  itself file = record { keeps = keeps_itself area.base area.length file; no_longer = omega arith; journal = λ payloads is. inl is }
 
   -- all that stood up to the gate stands, and it's closed
   stays : (payloads : List (List ℕ)) (old new : List ℕ) → length (records_bytes payloads) ≡ next

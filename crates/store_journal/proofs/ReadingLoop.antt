@@ -1,5 +1,5 @@
 -- What has been read of an area, record by record.
-use Rattle.std.proofs.Common.{◌≡◌, inl, inr, ◌⊎◌, ◌<◌, ◌≤◌, ◌+◌, ◌-◌, ◌^◌, ℕ, min, List, [], ◌∷◌, ◌++◌, length, take, drop, Option, None, Some, Result, Ok, Err, sym, ◌∙◌, subst, arith}
+use Rattle.std.proofs.Common.{◌≡◌, inl, inr, ◌⊎◌, ◌<◌, ◌≤◌, ◌+◌, ◌-◌, ◌^◌, ℕ, min, List, [], ◌∷◌, ◌++◌, length, take, drop, Option, None, Some, Result, Ok, Err, sym, subst, arith}
 use Rattle.std.specs.Prelude.{slice_range, IfNone, IfSome, OnOk}
 use Rattle.std.specs.List.{All}
 use Rattle.std.specs.Int.{to_le_bytes, w32}
@@ -11,7 +11,7 @@ use Rattle.store_disk.specs.Files.{HasAt}
 use Rattle.store_disk.specs.Stops.{Each}
 use Rattle.store_disk.specs.Gates.{open_gate, IsClosedAt}
 use Rattle.store_disk.specs.declared.area.Area.{Area}
-use Rattle.store_disk.proofs.Bytes.{has_both, has_left, has_right, one_has}
+use Rattle.store_disk.proofs.Bytes.{has_both, has_left, has_right}
 use Rattle.store_journal.specs.Records.{record_bytes, records_bytes}
 use Rattle.store_journal.specs.Reading.{ReaderState, HasRead, HasFoundGate}
 use Rattle.store_journal.specs.Damage.{EndsBefore, IsBadRecord, IsJournalDamagedAt}
@@ -112,12 +112,6 @@ module _ (place gate : ℕ) (len head file : List ℕ) (is : head ≡ gate ∷ l
 
   pub has_length : HasAt (place + 1) len file
   has_length = has_right place (gate ∷ []) len file has_parts
-
-  pub is_closed : (gate ≡ open_gate → ⊥) → IsClosedAt place file
-  is_closed other = record {
-    within = let within = has_gate.within in omega (arith, within);
-    closed = λ opened. other (sym (one_has place gate len file has_parts) ∙ opened);
-  }
 
 ends_before : (area : Area) (place end : ℕ) (file : List ℕ) → end ≡ min (length file) (area.base + area.length) → end < place → EndsBefore area place file
 ends_before area place end file ends lt =

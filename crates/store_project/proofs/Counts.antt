@@ -1,7 +1,7 @@
 -- How a disk counts its failures over several calls, of which all but the last went well.
 use Rattle.std.proofs.Common.{◌≡◌, ℕ, Bool, true, false, ◌-◌, ◌<◌, ◌^◌, inl, inr, Result, Ok, Err, refl, sym, ◌∙◌, ap, subst, ⊎_elim, arith}
 use Rattle.std.proofs.lemmas.Bool.{both_ways}
-use Rattle.store_disk.specs.Stops.{Counted, CountsFaults}
+use Rattle.store_disk.specs.Stops.{CountsFaults}
 use Rattle.store_journal.specs.declared.error.JournalError.{JournalError}
 use Rattle.store_journal.specs.declared.error.JournalError.TheVariants as journal
 use Rattle.store_project.specs.declared.error.ProjectError.{ProjectError}
@@ -25,16 +25,6 @@ pub refused_well : {U F : Type 0} (own e : F) (mid now : ℕ) → (e ≡ own →
 refused_well {U = U} own e mid now apart c = ⊎_elim (λ (is : ◌≡◌ {A = Result U _} (Err e) (Err own)). absurd (apart cc)) (λ same. same) c.no_other
 
 module _ {T U E F : Type 0} (device : E) (before mid now : ℕ) (same : mid ≡ before) where
-  -- a call failed
-  pub device_failed : (fault : F) → Counted {T = U} mid now (Err fault) → CountsFaults {T = T} device before now (Err device)
-  device_failed fault c =
-      let later = c.later in
-      record {
-        later = omega (arith, same, later);
-        rose = λ e low. let up = c.failed (subst (λ n. n < 2 ^ 64 - 1) (sym same) low) in omega (arith, same, up);
-        no_other = inl refl;
-      }
-
   -- a part answers that one did
   pub part_failed : (own e : F) → e ≡ own → CountsFaults {T = U} own mid now (Err e) → CountsFaults {T = T} device before now (Err device)
   part_failed own e is c =

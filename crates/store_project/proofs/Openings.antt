@@ -23,7 +23,7 @@ use Rattle.store_project.specs.Places.{IsAllowed, AreLaidOut, cap_of, which_part
 use Rattle.store_project.specs.Stands.{HasGeometry, Stands}
 use Rattle.map_commands.specs.ProjectLines.{Leads, LeadsTo}
 use Rattle.store_project.specs.Damage.{IsBadLine, IsBadPart}
-use Rattle.store_project.specs.Opening.{AreReplayed, HoldsMap, IsOpened, IsOfBody, IsOfSlots, IsRefusedRead, IsJournalReplayed, RefusesHeader, RefusesLines, RefusesSlots}
+use Rattle.store_project.specs.Opening.{AreReplayed, HoldsMap, IsOpened, IsOfBody, IsOfSlots, IsRefusedRead, IsJournalReplayed, RefusesLines, RefusesSlots}
 use Rattle.store_project.specs.declared.geometry.Geometry.{Geometry}
 use Rattle.store_project.specs.declared.places.Places.{Places}
 use Rattle.store_project.specs.declared.places.Parts.{Parts}
@@ -31,20 +31,6 @@ use Rattle.store_project.specs.declared.opening.Opened.{Opened}
 use Rattle.store_project.specs.declared.error.ProjectError.{ProjectError}
 use Rattle.store_project.specs.declared.error.ProjectError.TheVariants.{Device, OutOfMemory, Reopen, GenerationsSpent, Refused, Damaged, Blank, NotAProject, NotEmpty, BadGeometry}
 use Rattle.store_project.proofs.Placing.{TellsParts, tells_parts}
-
--- ---- the header
-
-pub header_refused : (reads : List ℕ → Type 0) (e : ProjectError) → RefusesHeader reads e → IsRefusedRead reads e
-header_refused reads Device r = r
-header_refused reads NotAProject r = r
-header_refused reads BadGeometry r = r
-header_refused reads OutOfMemory r = absurd r
-header_refused reads Reopen r = absurd r
-header_refused reads GenerationsSpent r = absurd r
-header_refused reads (Refused e) r = absurd r
-header_refused reads (Damaged place) r = absurd r
-header_refused reads Blank r = absurd r
-header_refused reads NotEmpty r = absurd r
 
 -- ---- the slots
 

@@ -1,7 +1,6 @@
 -- The parts of a project file, and what stays of the file where one of them changes.
-use Rattle.std.proofs.Common.{◌≡◌, inl, inr, ◌≤◌, ◌+◌, ℕ, Bool, true, false, List, eqb, cond, refl, ap, subst, arith}
+use Rattle.std.proofs.Common.{◌≡◌, inl, inr, ◌≤◌, ℕ, Bool, true, false, List, eqb, cond, refl, subst, arith}
 use Rattle.store_disk.specs.Files.{KeepsOutside}
-use Rattle.store_disk.specs.declared.area.Area.{Area}
 use Rattle.store_disk.proofs.Bytes.{has_kept}
 use Rattle.store_slots.specs.Handles.{live_of, other_of, first_area, second_of, slot_of}
 use Rattle.store_slots.specs.declared.slots.Slots.{Slots}
@@ -62,16 +61,6 @@ module _ (g : Geometry) (p : Places) (allowed : IsAllowed g.slot g.journal) (lai
           × (cond t s.b s.a ≡ (picked t).other)
       at true = (first, second)
       at false = (second, first)
-
-  pub behind_slots : (s : Slots) (slot : ℕ) → second_of s ≡ p.b → (second_of s).base + (second_of s).length ≤ (which_parts p slot).other_journal.base
-  behind_slots s slot second =
-      let base : (second_of s).base ≡ p.b.base = ap (λ (a : Area). a.base) second in
-      let len : (second_of s).length ≡ p.b.length = ap (λ (a : Area). a.length) second in
-      subst (λ (q : Parts). (second_of s).base + (second_of s).length ≤ q.other_journal.base) (is_picked (eqb slot 0)) (at (eqb slot 0) base len)
-    where
-      at : (t : Bool) → (second_of s).base ≡ p.b.base → (second_of s).length ≡ p.b.length → (second_of s).base + (second_of s).length ≤ (picked t).other_journal.base
-      at true base len = omega (arith, base, len, laid.b_base, laid.b_length, laid.second_base)
-      at false base len = omega (arith, base, len, laid.b_base, laid.b_length, laid.first_base)
 
   pub other_length : (slot : ℕ) → (which_parts p slot).other.length ≡ g.slot
   other_length slot = subst (λ (q : Parts). q.other.length ≡ g.slot) (is_picked (eqb slot 0)) (at (eqb slot 0))

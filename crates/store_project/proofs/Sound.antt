@@ -26,7 +26,7 @@ use Rattle.store_project.specs.Fields.{project_state, parts_in, IsProjectFramed,
 use Rattle.store_project.specs.declared.places.Places.{Places}
 use Rattle.store_project.specs.declared.places.Parts.{Parts}
 use Rattle.store_project.specs.declared.project.Project.TheInside.{Inside}
-use Rattle.store_project.proofs.Placing.{in_order, tells_parts, behind_slots, geometry_kept, other_length}
+use Rattle.store_project.proofs.Placing.{in_order, tells_parts, geometry_kept, other_length}
 use Rattle.store_project.proofs.Bodies.{project_size}
 use Rattle.store_project.proofs.Recording.{appended, may_append, append_header, slots_kept}
 use Rattle.store_disk.specs.Files.{KeepsOutside}
@@ -108,9 +108,6 @@ module _ {D : Type 0} (facts : Ghosts D) (p : Inside D) (framed : IsProjectFrame
 
   pub other_is : other_of p.slots ≡ q.other
   other_is = (tells_parts p.geometry p.places framed.allowed framed.laid_out p.slots framed.first framed.second).other_is
-
-  pub behind : (second_of p.slots).base + (second_of p.slots).length ≤ q.other_journal.base
-  behind = behind_slots p.geometry p.places framed.allowed framed.laid_out p.slots (slot_of p.slots) framed.second
 
   -- a file that stands at the parts stands
   stands_here : (map : ProjectMaps) (file : List ℕ) → HasGeometry p.geometry p.places file → StandsAt cap q map g file → Stands cap map g file
@@ -251,9 +248,6 @@ module _ {D : Type 0} (facts : Ghosts D) (v : State D) (kept : IsProjectKept fac
     (only : (file : List ℕ) → facts.left_since v.disk (facts.moment v.disk) file → facts.may_leave v.disk file) where
   pub still_moment : v.must_reopen ≡ false → LeavesOnly facts v.disk v.disk (StandsFor v.cap (project_of v.maps))
   still_moment go = started facts v.disk (StandsFor v.cap (project_of v.maps)) (λ file left. (v.generation, kept go file (only file left)))
-
-  pub still_outcome : (line : List ℕ) → v.must_reopen ≡ false → LeavesOnly facts v.disk v.disk (IsOutcome v.cap (project_of v.maps) line)
-  still_outcome line go = weaker facts v.disk v.disk (StandsFor v.cap (project_of v.maps)) (IsOutcome v.cap (project_of v.maps) line) (still_moment go) (λ file st. inl st)
 
 -- a checkpoint, and then an append
 pub both_moments : {D : Type 0} (facts : Ghosts D) (cap : ℕ) (old mid : ProjectMaps) (mid_cap : ℕ) (line : List ℕ) (d0 d1 d2 : D) → mid ≡ old → mid_cap ≡ cap

@@ -1,5 +1,5 @@
 -- When no generation is left.
-use Rattle.std.proofs.Common.{◌≡◌, ◌⊎◌, inl, inr, ℕ, Bool, true, false, List, Result, Ok, Err, IfErr, IsOk, sym, ◌∙◌, ap, subst, arith}
+use Rattle.std.proofs.Common.{◌≡◌, ◌⊎◌, inl, inr, ℕ, Bool, true, false, List, Result, Ok, Err, IfErr, IsOk, sym, ◌∙◌, ap}
 use Rattle.std.proofs.lemmas.Bool.{true≢false}
 use Rattle.map_tables.specs.Projects.{ProjectMaps}
 use Rattle.map_commands.specs.ProjectCommands.{InProjectRange}
@@ -33,12 +33,6 @@ error_same {T = T} {U = U} {E = E} e d is = ap (λ (x : E). the_err x) (ap (λ (
   where
     the_err : E → Result U E
     the_err x = Err x
-
-pub only_device : {T : Type 0} (r : Result T ProjectError) → IfErr r (λ e. e ≡ Device) → r ≡ Err GenerationsSpent → ⊥
-only_device {T = T} r device is =
-    let same : GenerationsSpent ≡ Device = subst (λ (q : Result T ProjectError). IfErr q (λ e. e ≡ Device)) is device in
-    let codes : 33 ≡ 30 = ap code_of same in
-    omega (arith, codes)
 
 -- a line that leads on isn't refused, but for lack of memory
 pub not_refused : {T : Type 0} (m : ProjectMaps) (n : ℕ) (line : List ℕ) (c : ProjectCommand) (e : CommandError)

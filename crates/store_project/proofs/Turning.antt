@@ -103,9 +103,6 @@ module _ (s : Slots) (q : Parts) (order : IsInOrder q) (live_is : live_of s ≡ 
 
   -- the three steps, each from a file of before
   module _ (bytes : List ℕ) where
-    pub turn_itself : (file : List ℕ) → MayTurn cap g q bytes file file
-    turn_itself file = record { header = λ b short has. has; stands = λ map formed is st. inl st }
-
     pub turn_closing : (old new : List ℕ) → KeepsLive s old new → MayTurn cap g q bytes old new
     turn_closing old new keeps = record {
       header = slot_header old new keeps.keeps;

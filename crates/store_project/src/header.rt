@@ -1,11 +1,10 @@
 //! The first bytes of a project file.
-ghost use Rattle.std.specs.Prelude.{ℕ, ◌≡◌, ◌≤◌, ◌<◌, ◌+◌, ◌++◌, ◌^◌, length, IfOk, IfErr, IfSome, IfNone};
+ghost use Rattle.std.specs.Prelude.{ℕ, ◌≡◌, ◌<◌, ◌^◌, IfOk, IfErr, IfSome, IfNone};
 ghost use Rattle.store_disk.specs.Files.{HasAt};
 ghost use Rattle.store_disk.specs.Stops.{Each};
 ghost use Rattle.store_disk.specs.Stops.{CountsFaults};
 ghost use Rattle.store_disk.specs.Reading.{OnlyReads};
 ghost use Rattle.store_project.specs.Places.{header_bytes, IsAllowed};
-ghost use Rattle.store_project.specs.Damage.{HasBadGeometry, IsForeign};
 ghost use Rattle.store_project.specs.Opening.{RefusesHeader};
 
 use crate::ProjectError;
@@ -36,8 +35,8 @@ fn lengths_of(bytes: [u8; 16]) -> Geometry
     }
 }
 
-// The lengths in a header. None if the bytes are not a header.
-fn lengths_in(bytes: [u8; 16]) -> Option<Geometry>
+/// The lengths in a header; `None` if the bytes are not a header.
+pub fn lengths_in(bytes: [u8; 16]) -> Option<Geometry>
     ensures some { IfSome result (λ g. bytes ≡ header_bytes g.slot g.journal) }
     ensures small { IfSome result (λ g. (g.slot < 2 ^ 32) × (g.journal < 2 ^ 32)) }
     ensures none { IfNone result ((slot : ℕ) → (journal : ℕ) → slot < 2 ^ 32 → journal < 2 ^ 32

@@ -14,6 +14,7 @@ mod sessions;
 
 pub use error::ProjectError;
 pub use geometry::Geometry;
+pub use header::lengths_in;
 pub use law::{exclude_one_another, stand_for_one_map};
 pub use project::Project;
 pub use reading::{Refused, read_maps};
