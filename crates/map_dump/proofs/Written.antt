@@ -1,16 +1,15 @@
 -- Lines that are written one after another, and the lines before one that fails.
-use Rattle.std.proofs.Common.{◌≡◌, ◌∙◌, ◌+◌, ◌<◌, ℕ, zero, suc, List, [], ◌∷◌, ◌++◌, Option, Some, None, Result, Ok, Err}
+use Rattle.std.proofs.Common.{◌≡◌, ◌∙◌, ◌+◌, ◌<◌, ℕ, suc, List, [], ◌∷◌, ◌++◌, Option, Some, None, Result, Ok, Err}
 use Rattle.std.proofs.Common.{length, get_or, map, take, drop, refl, sym, ap, subst, arith, append_assoc, append-nil}
 use Rattle.std.specs.Prelude.{flat_map, slice_get}
 use Rattle.std.specs.Io.KnownBytes.{Appends}
-use Rattle.std.proofs.KnownBytes.{Appends-nil, Appends-trans}
+use Rattle.std.proofs.KnownBytes.{Appends-trans}
 use Rattle.std.proofs.lemmas.Grind.{flat_map-append}
 use Rattle.std.proofs.lemmas.Option.{get_or_from_slice_get, slice_get_within}
 use Rattle.std.proofs.lemmas.List.{length-map, length-take-le, map-append, take-append-drop, take_more}
 use Rattle.std.proofs.lemmas.List.Concat.{flat_map_single}
 use Rattle.map_tables.specs.declared.kind.Kind.{Kind}
 use Rattle.map_tables.specs.declared.kind.Kind.TheVariants as kind
-use Rattle.lump_records.specs.declared.records.Name8.{Name8}
 use Rattle.lump_records.specs.Names.{IsNamed, is_marker}
 use Rattle.map_tables.specs.Projects.{MapsView, ProjectMaps, WellFormedProject, project_of}
 use Rattle.map_tables.specs.Tables.{Tables, count_of, empty_tables}
@@ -18,13 +17,13 @@ use Rattle.map_tables.proofs.ProjectLemmas.{current_of}
 use Rattle.map_commands.specs.Grammar.{kinds}
 use Rattle.map_commands.specs.ProjectCommands.{project_spelling}
 use Rattle.map_commands.specs.declared.command.Command.{Command}
-use Rattle.map_commands.specs.declared.command.Command.TheVariants.{Edit, Name}
+use Rattle.map_commands.specs.declared.command.Command.TheVariants.{Edit}
 use Rattle.map_tables.specs.declared.edit.Edit.TheVariants as edit
 use Rattle.map_tables.specs.declared.edit.Item.TheVariants as item
 use Rattle.map_commands.specs.declared.project.command.ProjectCommand.{ProjectCommand}
-use Rattle.map_commands.specs.declared.project.command.ProjectCommand.TheVariants.{Current, SelectMap}
-use Rattle.map_dump.specs.Dump.{additions_of, commands_from, commands_of_map, items_of, naming_of}
-use Rattle.map_dump.specs.Texts.{Writes, WritesFront, with_lf, text_of}
+use Rattle.map_commands.specs.declared.project.command.ProjectCommand.TheVariants.{Current}
+use Rattle.map_dump.specs.Dump.{additions_of, commands_from, commands_of_map, items_of}
+use Rattle.map_dump.specs.Texts.{Writes, with_lf, text_of}
 use Rattle.map_dump.specs.declared.error.DumpError.{DumpError}
 use Rattle.map_dump.specs.declared.error.DumpError.TheVariants.{OutOfMemory, WriterFailed}
 
@@ -59,13 +58,6 @@ Writes-stopped OutOfMemory cs ds u w q = record {
   parted = map-append project_spelling cs ds ∙ ap (λ (xs : List (List ℕ)). xs ++ map project_spelling ds) q.parted ∙ append_assoc q.front q.back (map project_spelling ds);
   written = q.written;
 }
-
--- no line
-pub Writes-none : (cs : List ProjectCommand) (u : Option (List ℕ)) → WritesFront (map project_spelling cs) u u
-Writes-none cs u = record { front = []; back = map project_spelling cs; parted = refl; written = Appends-nil u }
-
-pub Appends-line : (c : ProjectCommand) (u w : Option (List ℕ)) (line : List ℕ) → line ≡ with_lf (project_spelling c) → Appends u w line → Appends u w (text (c ∷ []))
-Appends-line c u w line is p = subst (λ (t : List ℕ). Appends u w t) (is ∙ sym (append-nil (with_lf (project_spelling c)))) p
 
 -- ---- A list of pieces, each some commands
 
@@ -197,10 +189,3 @@ nth_named p n m w at =
 pub current_named : (v : MapsView) → WellFormedProject (project_of v) → IsNamed is_marker v.tables.name
 current_named v w =
     subst (λ (t : Tables). IsNamed is_marker t.name) (current_of v) (w.maps (project_of v).current empty_tables w.current).name
-
-pub first_named : (n : ℕ) (name : Name8) → n ≡ 0 → Current (Name name) ≡ naming_of n name
-first_named n name is = ap (λ (k : ℕ). naming_of k name) (sym is)
-
-pub later_named : (n : ℕ) (name : Name8) → (n ≡ 0 → ⊥) → SelectMap name ≡ naming_of n name
-later_named zero name other = absurd (other refl)
-later_named (suc n) name other = refl
