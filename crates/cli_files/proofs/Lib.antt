@@ -1,1 +1,2 @@
+mod Causing
 pub mod Replacing

@@ -1,7 +1,9 @@
 -- The line that says why a file can't be opened or made (docs/COMMANDS.md, "Reasons and statuses").
-use Rattle.std.specs.Prelude.{◌≡◌, ◌++◌, ◌∷◌, ℕ, List, [], codes}
+use Rattle.std.specs.Prelude.{◌≡◌, ◌++◌, ◌∷◌, ℕ, List, [], Option, Some, codes}
 use Rattle.cli_files.specs.declared.cause.Cause.{Cause}
 use Rattle.cli_files.specs.declared.cause.Cause.TheVariants.{System, Held, NotRegular, NoPwad, NoPicture, OutOfMemory}
+use Rattle.cli_files.specs.declared.replaceable.Form.{Form}
+use Rattle.cli_files.specs.declared.replaceable.Form.TheVariants.{Pwad, Picture}
 
 -- two spaces, the path or another name, a colon, the reason
 abbrev pub cause_line : List ℕ → List ℕ → List ℕ
@@ -15,6 +17,23 @@ Says NotRegular reason = reason ≡ codes "is no regular file"
 Says NoPwad reason = reason ≡ codes "is no PWAD; it is left alone"
 Says NoPicture reason = reason ≡ codes "is no picture of a map; it is left alone"
 Says OutOfMemory reason = reason ≡ codes "finds no memory"
+
+-- why a file that is there can't be opened and locked
+abbrev pub IsOfHolding : Cause → Type 0
+IsOfHolding (System error) = Unit {0}
+IsOfHolding Held = Unit {0}
+IsOfHolding NotRegular = Unit {0}
+IsOfHolding _ = ⊥
+
+-- why a new file can't be opened, or the one in its place not be replaced by one of the form, if one
+-- is given
+abbrev pub IsOfMaking : Option Form → Cause → Type 0
+IsOfMaking form (System error) = Unit {0}
+IsOfMaking form Held = Unit {0}
+IsOfMaking form NotRegular = ⊥
+IsOfMaking form NoPwad = form ≡ Some Pwad
+IsOfMaking form NoPicture = form ≡ Some Picture
+IsOfMaking form OutOfMemory = Unit {0}
 
 -- the system refused it
 abbrev pub IsOfSystem : Cause → Type 0

@@ -1,7 +1,8 @@
 //! Why a file can't be opened or made, and the line that says so.
-ghost use Rattle.std.specs.Prelude.{ℕ, List, OnOk};
+ghost use Rattle.std.specs.Prelude.{◌≡◌, ℕ, List, OnOk};
 ghost use Rattle.std.specs.Io.KnownBytes.{Appends};
 ghost use Rattle.cli_files.specs.Causes.{Says, cause_line};
+ghost use Rattle.cli_files.specs.declared.cause.Cause.TheVariants.{OutOfMemory, System};
 
 use std::alloc::{AllocError, Global};
 use std::io::{self, Write};
@@ -24,12 +25,16 @@ pub enum Cause {
 }
 
 impl From<io::Error> for Cause {
+    ghost from_gives = { λ error cause. cause ≡ System error };
+
     fn from(error: io::Error) -> Cause {
         Cause::System(error)
     }
 }
 
 impl From<AllocError> for Cause {
+    ghost from_gives = { λ _ cause. cause ≡ OutOfMemory };
+
     fn from(_error: AllocError) -> Cause {
         Cause::OutOfMemory
     }

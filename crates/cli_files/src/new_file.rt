@@ -1,5 +1,8 @@
 //! A new file that replaces the file at a path once it is whole.
-ghost use Rattle.std.specs.Prelude.{◌≡◌};
+ghost use Rattle.std.specs.Prelude.{◌≡◌, None, Some, Ok, true, IfErr, IfOk, OnOk};
+ghost use Rattle.cli_files.specs.Causes.{IsOfMaking};
+ghost use Rattle.cli_files.specs.Locks.{IsLocked};
+ghost use Rattle.cli_files.specs.Replaced.{WasAllowed};
 
 use crate::hold::{Hold, held};
 use crate::name::beside;
@@ -65,6 +68,7 @@ fn make<E: Files>(rt: &E, path: &str) -> io::Result<E::File> {
 fn make_again<E: Files>(rt: &E, path: &str) -> Result<E::File, Cause>
 where
     E::File: Hold,
+    ensures { IfErr result (IsOfMaking None) }
 {
     let left = fs::open(rt, path)?;
     held(&left, true)?;
@@ -76,6 +80,8 @@ where
 fn make_held<E: Files>(rt: &E, path: &str) -> Result<E::File, Cause>
 where
     E::File: Hold,
+    ensures locked { IfOk result (λ file. IsLocked E.File.locks file true (Ok tt)) }
+    ensures refused { IfErr result (IsOfMaking None) }
 {
     let file = match make(rt, path) {
         Ok(file) => file,
@@ -96,7 +102,10 @@ fn check_replaceable<E: Files>(
     rt: &E,
     path: &str,
     form: Option<Form>,
-) -> Result<(), Cause> {
+) -> Result<(), Cause>
+    ensures allowed { OnOk result (WasAllowed E.File.remaining form) }
+    ensures refused { IfErr result (IsOfMaking form) }
+{
     let file = OpenOptions::new().read(true).write(true).open(rt, path)?;
     let Some(form) = form else {
         return Ok(());
@@ -120,6 +129,7 @@ fn open_beside<E: Files>(
 ) -> Result<NewFile<E::File>, Cause>
 where
     E::File: Hold,
+    ensures { IfErr result (IsOfMaking form) }
 {
     let target = target_of(alloc, rt, path)?;
     if permissions.is_some() {
@@ -141,7 +151,9 @@ where
 }
 
 // Opens a pipe or a device, which is written directly.
-fn open_itself<E: Files>(rt: &E, path: &str) -> Result<NewFile<E::File>, Cause> {
+fn open_itself<E: Files>(rt: &E, path: &str) -> Result<NewFile<E::File>, Cause>
+    ensures { IfErr result (IsOfMaking None) }
+{
     let file = OpenOptions::new().write(true).open(rt, path)?;
     Ok(NewFile {
         file,
@@ -159,6 +171,7 @@ fn open_for<E: Files>(
 ) -> Result<NewFile<E::File>, Cause>
 where
     E::File: Hold,
+    ensures { IfErr result (IsOfMaking form) }
 {
     match rt.metadata(path) {
         Ok(found) if found.is_file() => {
@@ -187,6 +200,7 @@ pub fn open_new<E: Files>(
 ) -> Result<NewFile<E::File>, Cause>
 where
     E::File: Hold,
+    ensures { IfErr result (IsOfMaking (Some form)) }
 {
     open_for(alloc, rt, path, Some(form))
 }
@@ -213,6 +227,7 @@ pub fn open_new_of<E: Files>(
 ) -> Result<NewFile<E::File>, Cause>
 where
     E::File: Hold,
+    ensures { IfErr result (IsOfMaking (Some form)) }
 {
     match lead_to_one(rt, read, path) {
         Ok(true) => open_for(alloc, rt, path, None),
@@ -232,29 +247,39 @@ fn sync_folder<E: Files>(rt: &E, path: &PathBuf) {
 }
 
 impl<F: OpenFile + Drop> NewFile<F> {
+    ghost use Rattle.std.specs.Prelude.{◌≡◌, IfErr, IfOk, IfSome};
+    ghost use Rattle.cli_files.specs.Causes.{IsOfSystem};
+    ghost use Rattle.cli_files.specs.NewFile.{file_of};
+
     /// Why the last failed write failed; `None` if none failed.
-    pub fn fault(&self) -> Option<Cause> {
+    pub fn fault(&self) -> Option<Cause>
+        ensures { IfSome result IsOfSystem }
+    {
         self.fault.map(Cause::System)
     }
 
-    /// Syncs the new file and renames it to the path. If that fails, removes the new file.
+    /// Syncs the new file, renames it to the path and returns it. If that fails, removes the new file.
     ///
     /// # Errors
     ///
     /// `System`; the file at the path is then as it was.
-    pub fn put<E: Files>(self, rt: &E) -> Result<(), Cause> {
-        let Some(names) = &self.names else {
-            return Ok(());
+    pub fn put<E: Files>(self, rt: &E) -> Result<F, Cause>
+        ensures put { IfOk result (λ file. file ≡ file_of self) }
+        ensures refused { IfErr result IsOfSystem }
+    {
+        let NewFile { file, names, .. } = self;
+        let Some(names) = names else {
+            return Ok(file);
         };
         let new = names.new.as_path().as_str();
-        let put = match self.file.sync_all() {
+        let put = match file.sync_all() {
             Ok(()) => rt.rename(new, names.target.as_path().as_str()),
             Err(error) => Err(error),
         };
         match put {
             Ok(()) => {
                 sync_folder(rt, &names.target);
-                Ok(())
+                Ok(file)
             }
             Err(error) => {
                 let _ = rt.remove_file(new);

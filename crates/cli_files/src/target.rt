@@ -1,4 +1,7 @@
 //! The file that a path leads to.
+ghost use Rattle.std.specs.Prelude.{None, IfErr};
+ghost use Rattle.cli_files.specs.Causes.{IsOfMaking};
+
 use crate::Cause;
 use std::alloc::Global;
 use std::fs::Files;
@@ -9,7 +12,9 @@ use std::path::PathBuf;
 const LINKS: u32 = 40;
 
 /// The path to which the symbolic links at the end of a path lead; there may be no file at it yet.
-pub fn target_of<E: Files>(alloc: Global, rt: &E, path: &str) -> Result<PathBuf, Cause> {
+pub fn target_of<E: Files>(alloc: Global, rt: &E, path: &str) -> Result<PathBuf, Cause>
+    ensures { IfErr result (IsOfMaking None) }
+{
     let mut at = PathBuf::from_str(alloc, path)?;
     for _ in 0..LINKS {
         match rt.symlink_metadata(at.as_path().as_str()) {

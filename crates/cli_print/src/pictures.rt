@@ -1,21 +1,22 @@
 //! What `picture` draws: a map as SVG.
-ghost use Rattle.std.specs.Prelude.{◌≡◌, ◌≤◌, None, Some, IfErr, IfOk, MatchOption, find, is_some, option_map};
+ghost use Rattle.std.specs.Prelude.{◌≡◌, ◌≤◌, ◌⊎◌, None, Some, IfErr, IfOk, MatchOption, find, is_some, option_map};
 ghost use Rattle.std.specs.Io.KnownBytes.{Appends};
 ghost use Rattle.map_tables.specs.Projects.{project_of};
 ghost use Rattle.map_picture.specs.Picture.{picture_of};
+ghost use Rattle.cli_files.specs.NewFile.{IsMadeOf, file_of};
 ghost use Rattle.cli_print.specs.Picturing.{IsDrawn, IsPicturedOf, drawn_map, is_called};
 ghost use Rattle.run_edit.specs.declared.error.EditorError.TheVariants.{OutOfMemory, WriterFailed};
 ghost use Rattle.cli_refusals.specs.declared.refusal.Refusal.{Refusal};
 
 use crate::laid_over::{Layers, laid_over};
-use cli_files::{Cause, Form, Hold, open_new};
+use cli_files::{Cause, Form, Hold, NewFile, open_new};
 use cli_refusals::{DONE, Refusal};
 use map_picture::{PictureOptions, write_picture};
 use map_svg::Overlay;
 use map_tables::{Map, Maps};
 use run_edit::EditorError;
 use std::alloc::Global;
-use std::fs::Files;
+use std::fs::{Files, OpenFile};
 use std::io::Write;
 
 /// Which map is drawn (the current one if no name is given), what is shown over it, and the file that it goes into (the
@@ -80,26 +81,18 @@ fn picture_of(
     }
 }
 
-// Writes a picture into a new file, which replaces the one at its path once it is whole; or notes why it doesn't.
-fn put_picture<E: Files>(
-    alloc: Global,
+// Writes a picture into a new file, which replaces the one at its path once it is whole, and returns that file; or
+// notes why it doesn't.
+fn put_picture<E: Files, F: Write + OpenFile + Drop>(
     rt: &E,
-    path: &str,
     picture: &[u8],
+    mut new: NewFile<F>,
     why: &mut Option<Cause>,
-) -> Result<u8, Refusal>
-where
-    E::File: Hold,
-    ensures done { IfOk result (λ status. status ≡ 0) }
+) -> Result<F, Refusal>
+    ensures put { IfOk result (λ file.
+        Appends (F.contents (file_of new)) (F.contents file) picture.now) }
     ensures failed { IfErr result (λ r. r ≡ Refusal.Lines WriterFailed) }
 {
-    let mut new = match open_new(alloc, rt, path, Form::Picture) {
-        Ok(new) => new,
-        Err(cause) => {
-            *why = Some(cause);
-            return Err(Refusal::Lines(EditorError::WriterFailed));
-        }
-    };
     let put = match new.write_all(picture) {
         Ok(()) => new.put(rt),
         Err(error) => {
@@ -108,7 +101,37 @@ where
         }
     };
     match put {
-        Ok(()) => Ok(DONE),
+        Ok(file) => Ok(file),
+        Err(cause) => {
+            *why = Some(cause);
+            Err(Refusal::Lines(EditorError::WriterFailed))
+        }
+    }
+}
+
+// Draws a map into the file at the path, and returns that file; or notes why it can't be made.
+fn draw_into<E: Files>(
+    alloc: Global,
+    rt: &E,
+    path: &str,
+    map: &Map,
+    options: PictureOptions,
+    overlay: &Overlay,
+    why: &mut Option<Cause>,
+) -> Result<E::File, Refusal>
+where
+    E::File: Hold,
+    ensures put { IfOk result (λ file. IsMadeOf E.File.contents file
+        (picture_of options map.now.tables overlay.now)) }
+    ensures failed { IfErr result (λ r. (r ≡ Refusal.Lines OutOfMemory)
+        ⊎ (r ≡ Refusal.Lines WriterFailed)) }
+{
+    let picture = match picture_of(alloc, map, options, overlay) {
+        Ok(picture) => picture,
+        Err(refusal) => return Err(refusal),
+    };
+    match open_new(alloc, rt, path, Form::Picture) {
+        Ok(new) => put_picture(rt, &picture, new, why),
         Err(cause) => {
             *why = Some(cause);
             Err(Refusal::Lines(EditorError::WriterFailed))
@@ -160,8 +183,8 @@ where
     };
     match wanted.out {
         None => show(map, options, overlay, writer),
-        Some(path) => match picture_of(alloc, map, options, overlay) {
-            Ok(picture) => put_picture(alloc, rt, path, &picture, why),
+        Some(path) => match draw_into(alloc, rt, path, map, options, overlay, why) {
+            Ok(_) => Ok(DONE),
             Err(refusal) => Err(refusal),
         },
     }

@@ -217,7 +217,7 @@ where
     };
     let how = done(rt, request, reader, writer, faults, &mut why);
     if let Err(refusal) = &how {
-        report(refusal, faults);
+        let _ = report(refusal, faults);
         report_causes(rt.alloc(), request, &why, faults);
     }
     status_in(&how)

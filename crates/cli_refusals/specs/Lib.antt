@@ -1,3 +1,4 @@
 pub mod Refusals
+pub mod Reports
 pub mod Statuses
 pub mod Unbuilt

@@ -1,5 +1,7 @@
 //! Why a request was refused, and the lines that say so.
-ghost use Rattle.std.specs.Prelude.{◌≡◌};
+ghost use Rattle.std.specs.Prelude.{◌≡◌, OnOk};
+ghost use Rattle.std.specs.Io.KnownBytes.{Appends};
+ghost use Rattle.cli_refusals.specs.Reports.{build_name, inspect_name, project_name, refusal_line, refusal_report, run_name, why_text};
 ghost use Rattle.cli_refusals.specs.declared.refusal.Refusal.TheVariants.{Build, Level, Lines};
 
 use crate::unbuilt::write_unbuilt;
@@ -7,7 +9,7 @@ use cli_files::{Cause, write_cause};
 use cli_words::Request;
 use run_edit::{EditorError, InspectError, WriteError};
 use std::alloc::Global;
-use std::io::Write;
+use std::io::{self, Write};
 use store_project::ProjectError;
 use wad_build::{BuildError, ReadError};
 use wad_import::ImportError;
@@ -67,8 +69,13 @@ impl From<WriteError> for Refusal {
 }
 
 impl Refusal {
+    ghost use Rattle.std.specs.Prelude.{◌≡◌};
+    ghost use Rattle.cli_refusals.specs.Reports.{code_of, name_of};
+
     // The number of the refusal.
-    fn code(&self) -> u16 {
+    fn code(&self) -> u16
+        ensures { result ≡ code_of self.now }
+    {
         match self {
             Refusal::Lines(error) => error.code(),
             Refusal::Project(error) => error.code(),
@@ -81,12 +88,14 @@ impl Refusal {
     }
 
     // The name of the refusal, as the program prints it.
-    fn name(&self) -> &'static str {
+    fn name(&self) -> &'static str
+        ensures { result.now ≡ name_of self.now }
+    {
         match self {
-            Refusal::Lines(error) => name_of(*error),
-            Refusal::Project(error) => name_of_project(*error),
-            Refusal::Level(error) => name_of_level(*error),
-            Refusal::Build(WriteError::Build(unbuilt)) => name_of_build(unbuilt.error),
+            Refusal::Lines(error) => run_name(*error),
+            Refusal::Project(error) => project_name(*error),
+            Refusal::Level(error) => inspect_name(*error),
+            Refusal::Build(WriteError::Build(unbuilt)) => build_name(unbuilt.error),
             Refusal::Build(WriteError::WriterFailed) => "WriterFailed",
             Refusal::NoSuchMap => "NoSuchMap",
             Refusal::NotAMap(_) => "NotAMap",
@@ -96,7 +105,9 @@ impl Refusal {
 }
 
 // The name of the refusal that ended a run.
-fn name_of(error: EditorError) -> &'static str {
+fn run_name(error: EditorError) -> &'static str
+    ensures { result.now ≡ run_name error }
+{
     match error {
         EditorError::OutOfMemory => "Memory",
         EditorError::InputTooLong => "InputTooLong",
@@ -106,7 +117,9 @@ fn name_of(error: EditorError) -> &'static str {
 }
 
 // The name of a project file's refusal.
-fn name_of_project(error: ProjectError) -> &'static str {
+fn project_name(error: ProjectError) -> &'static str
+    ensures { result.now ≡ project_name error }
+{
     match error {
         ProjectError::Refused(_) => "Refused",
         ProjectError::Device => "Device",
@@ -122,7 +135,9 @@ fn name_of_project(error: ProjectError) -> &'static str {
 }
 
 // The name of a level's refusal.
-fn name_of_level(error: InspectError) -> &'static str {
+fn inspect_name(error: InspectError) -> &'static str
+    ensures { result.now ≡ inspect_name error }
+{
     match error {
         InspectError::Level(ReadError::LumpLength) => "LumpLength",
         InspectError::Level(ReadError::NotAWad) => "NotAWad",
@@ -138,7 +153,9 @@ fn name_of_level(error: InspectError) -> &'static str {
 }
 
 // The name of a build's refusal.
-fn name_of_build(error: BuildError) -> &'static str {
+fn build_name(error: BuildError) -> &'static str
+    ensures { result.now ≡ build_name error }
+{
     match error {
         BuildError::NothingToBuild => "NothingToBuild",
         BuildError::TooManyVertices => "TooManyVertices",
@@ -150,22 +167,48 @@ fn name_of_build(error: BuildError) -> &'static str {
     }
 }
 
-/// Writes why a request was refused, as `leveled: CODE NAME`; also the place where a file is damaged, which map can't
-/// be built, or why a level is no map.
-pub fn report<F: Write>(refusal: &Refusal, faults: &mut F) {
+// Writes the number and the name of a refusal, and the place where a file is damaged.
+fn write_refusal<F: Write>(refusal: &Refusal, faults: &mut F) -> io::Result<()>
+    ensures { OnOk result (Appends (F.contents faults.old) (F.contents faults.new)
+        (refusal_line refusal.now)) }
+{
     let code = refusal.code();
     let name = refusal.name();
-    let _ = match refusal {
+    match refusal {
         Refusal::Project(ProjectError::Damaged { place }) => {
             writeln!(faults, "leveled: {code} {name} at {place}")
         }
         _ => writeln!(faults, "leveled: {code} {name}"),
-    };
-    if let Refusal::Build(WriteError::Build(unbuilt)) = refusal {
-        let _ = write_unbuilt(*unbuilt, faults);
     }
-    if let Refusal::NotAMap(error) = refusal {
-        let _ = writeln!(faults, "  {error}");
+}
+
+// Writes which map can't be built, or why a level is no map.
+fn write_why<F: Write>(refusal: &Refusal, faults: &mut F) -> io::Result<()>
+    ensures { OnOk result (Appends (F.contents faults.old) (F.contents faults.new)
+        (why_text refusal.now)) }
+{
+    match refusal {
+        Refusal::Build(WriteError::Build(unbuilt)) => write_unbuilt(*unbuilt, faults),
+        Refusal::NotAMap(error) => writeln!(faults, "  {error}"),
+        _ => Ok(()),
+    }
+}
+
+/// Writes why a request was refused, as `leveled: CODE NAME`; also the place where a file is damaged, which map can't
+/// be built, or why a level is no map.
+///
+/// # Errors
+///
+/// The writer's first; the second line is tried even if the first one failed.
+pub fn report<F: Write>(refusal: &Refusal, faults: &mut F) -> io::Result<()>
+    ensures { OnOk result (Appends (F.contents faults.old) (F.contents faults.new)
+        (refusal_report refusal.now)) }
+{
+    let line = write_refusal(refusal, faults);
+    let why = write_why(refusal, faults);
+    match line {
+        Ok(()) => why,
+        Err(error) => Err(error),
     }
 }
 

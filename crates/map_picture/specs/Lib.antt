@@ -3,6 +3,7 @@ pub mod Items
 pub mod Lines
 pub mod Numbers
 pub mod Picture
+pub mod Style
 pub mod Things
 pub mod Vertices
 pub mod View

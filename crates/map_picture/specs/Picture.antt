@@ -11,13 +11,13 @@ use Rattle.map_svg.specs.Overlays.{overlay_text}
 use Rattle.map_svg.specs.Texts.{joined, of_item}
 use Rattle.map_svg.specs.declared.overlay.Overlay.{Overlay}
 use Rattle.map_svg.specs.declared.places.Spot.{Spot}
-use Rattle.map_picture.specs.declared.style.TheConstants.{STYLE}
 use Rattle.map_picture.specs.declared.parts.Part.{Part}
 use Rattle.map_picture.specs.declared.parts.Part.TheVariants.{Lines, Things, Vertices, VertexNumbers, LineNumbers, SectorNumbers}
 use Rattle.map_picture.specs.declared.picture.PictureOptions.{PictureOptions}
 use Rattle.map_picture.specs.declared.view.View.{View}
 use Rattle.map_picture.specs.Lines.{line_text}
 use Rattle.map_picture.specs.Numbers.{line_number, sector_number, vertex_number}
+use Rattle.map_picture.specs.Style.{style_text}
 use Rattle.map_picture.specs.Things.{thing_text}
 use Rattle.map_picture.specs.Vertices.{vertex_text}
 use Rattle.map_picture.specs.View.{view_of}
@@ -43,10 +43,6 @@ page_text v =
 -- the title: the map's name
 unfoldable pub map_title : Name8 → List ℕ
 map_title name = name_text name ++ codes "</title>\n"
-
--- the style
-unfoldable pub style_text : List ℕ
-style_text = STYLE.now
 
 -- the style and the page
 unfoldable pub paper_text : View → List ℕ

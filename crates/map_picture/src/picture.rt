@@ -1,7 +1,8 @@
 //! The call that writes a picture.
 ghost use Rattle.std.specs.Prelude.{◌≡◌, ◌≢◌, ◌≤◌, OnOk, flat_map};
 ghost use Rattle.std.specs.Io.KnownBytes.{Appends};
-ghost use Rattle.map_picture.specs.Picture.{element, head_text, opening_text, page_text, paper_text, page_corner, part_text, picture_of, style_text, map_title};
+ghost use Rattle.map_picture.specs.Picture.{element, head_text, opening_text, page_text, paper_text, page_corner, part_text, picture_of, map_title};
+ghost use Rattle.map_picture.specs.Style.{style_text};
 
 use crate::lines::write_line;
 use crate::numbers::{write_line_number, write_sector_numbers, write_vertex_number};

@@ -1,4 +1,5 @@
 pub mod Canvases
 pub mod Drawn
 pub mod Errors
+pub mod Names
 pub mod Refused

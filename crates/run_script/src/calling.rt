@@ -1,8 +1,11 @@
 //! The name of each refusal of a line, and what it says, by its number.
+ghost use Rattle.std.specs.Prelude.{◌≡◌};
+ghost use Rattle.run_script.specs.Names.{command_name, file_name, name_of, script_name};
+
 use map_commands::CommandError;
 use map_script::DrawError;
 use std::alloc::{AllocError, Global};
-use std::fmt::{Debug, Display};
+use std::fmt::Display;
 use store_project::ProjectError;
 
 // The refusals of lines that come from map_commands.
@@ -44,28 +47,76 @@ const OF_FILES: &[ProjectError] = &[
     ProjectError::GenerationsSpent,
 ];
 
-// The name of a refusal.
-fn called<E: Debug>(alloc: Global, error: &E) -> Result<String, AllocError> {
-    format!(in alloc; "{error:?}")
-}
-
 // What a refusal says.
 fn said<E: Display>(alloc: Global, error: &E) -> Result<String, AllocError> {
     format!(in alloc; "{error}")
 }
 
+// The name of a refusal that comes from map_commands.
+fn command_name(code: u16) -> &'static str
+    ensures { result.now ≡ command_name code }
+{
+    match code {
+        1 => "NotACommand",
+        2 => "OutOfRange",
+        3 => "NoVertex",
+        4 => "NoSector",
+        5 => "NoSide",
+        6 => "NoLine",
+        7 => "NoThing",
+        8 => "InUse",
+        9 => "SameEnds",
+        10 => "PlaceTaken",
+        11 => "TwoSidedWithoutLeft",
+        12 => "TableFull",
+        13 => "LineTooLong",
+        14 => "ProjectFull",
+        15 => "BadName",
+        16 => "TooManyMaps",
+        17 => "MapNameTaken",
+        18 => "NoSuchMap",
+        19 => "CurrentMap",
+        _ => "Memory",
+    }
+}
+
+// The name of a refusal that comes from map_script.
+fn script_name(code: u16) -> &'static str
+    ensures { result.now ≡ script_name code }
+{
+    match code {
+        20 => "NotAName",
+        21 => "NotAReference",
+        22 => "UnknownName",
+        23 => "NothingAdded",
+        24 => "NumberTooLarge",
+        _ => "Memory",
+    }
+}
+
+// The name of a refusal that comes from store_project.
+fn file_name(code: u16) -> &'static str
+    ensures { result.now ≡ file_name code }
+{
+    match code {
+        30 => "Device",
+        32 => "Reopen",
+        33 => "GenerationsSpent",
+        _ => "Memory",
+    }
+}
+
 /// The name of the refusal with this number.
-pub fn name_of(alloc: Global, code: u16) -> Result<String, AllocError> {
-    if let Some(error) = OF_COMMANDS.iter().find(|error| error.code() == code) {
-        return called(alloc, error);
+pub fn name_of(code: u16) -> &'static str
+    ensures { result.now ≡ name_of code }
+{
+    if code < 20 {
+        command_name(code)
+    } else if code < 30 {
+        script_name(code)
+    } else {
+        file_name(code)
     }
-    if let Some(error) = OF_NAMES.iter().find(|error| error.code() == code) {
-        return called(alloc, error);
-    }
-    if let Some(error) = OF_FILES.iter().find(|error| error.code() == code) {
-        return called(alloc, error);
-    }
-    format!(in alloc; "Memory")
 }
 
 /// What the refusal with this number says.

@@ -100,11 +100,8 @@ pub fn write_refused<W: Write>(
     ensures { TellsStop result script.now (seen line.now) code
         (W.contents writer.old) (W.contents writer.new) }
 {
-    let Ok(name) = name_of(alloc, code) else {
-        return Err(ScriptError::OutOfMemory);
-    };
     let Ok(reason) = reason_of(alloc, maps, names, line, code) else {
         return Err(ScriptError::OutOfMemory);
     };
-    write_both(script, line, code, name.as_str(), reason.as_str(), writer)
+    write_both(script, line, code, name_of(code), reason.as_str(), writer)
 }

@@ -1,4 +1,4 @@
-use Rattle.map_picture.specs.Picture.{style_text}
+use Rattle.map_picture.specs.Style.{style_text}
 use Rattle.std.proofs.Common.{OnOk, List, ℕ, subst}
 use Rattle.std.specs.Io.KnownBytes.{Appends}
 use Rattle.map_picture.proofs.picture.write_style.Goals as goal
