@@ -1,9 +1,11 @@
 //! Sessions of calls and runs, each stopped at any moment, and the PWAD that is built from the disk that they leave.
-ghost use Rattle.std.specs.Prelude.{◌≡◌, ◌++◌, List, ℕ, MatchResult};
+ghost use Rattle.std.specs.Prelude.{◌≡◌, ◌++◌, List, ℕ, Err, MatchResult};
+ghost use Rattle.store_disk.specs.Stops.{Rose};
 ghost use Rattle.map_tables.specs.Projects.{project_of};
 ghost use Rattle.store_project.specs.Calls.{AllMade, ProjectCall};
 ghost use Rattle.store_project.specs.Sessions.{IsLeftBy, Session};
 ghost use Rattle.store_project.specs.States.{State};
+ghost use Rattle.store_project.specs.declared.error.ProjectError.{ProjectError};
 ghost use Rattle.wad_build.specs.Projects.{IsRefusalOfAll, IsSoundBuildOfAll};
 ghost use Rattle.wad_build.specs.declared.error.BuildError.{BuildError};
 ghost use Rattle.run_edit.specs.Recovery.{BuildsKept, IsOnlyRead, RefusesKept};
@@ -55,8 +57,8 @@ fn build_maps(alloc: Global, maps: &Maps) -> Result<Vec<u8>, RecoveryError>
 ///
 /// # Errors
 ///
-/// `Open` only for a fault of the device or lack of memory, and `Build` if `build_all` refuses those maps: 30, 31, 60
-/// to 64 and 66.
+/// `Open` only for a fault of the device, which the disk counts as a failure during the call, or for lack of memory;
+/// `Build` if `build_all` refuses those maps: 30, 31, 60 to 64 and 66.
 pub fn build_after_any_stop<D: Disk>(alloc: Global, disk: D) -> Recovery<D>
     ensures built { (cap : ℕ) (sessions : List Session) (file : List ℕ) → D.reads disk file
         → IsLeftBy D.Disk cap sessions disk
@@ -64,6 +66,8 @@ pub fn build_after_any_stop<D: Disk>(alloc: Global, disk: D) -> Recovery<D>
         (RefusesKept cap sessions file) }
     // So a stop at any moment of the call leaves what a stop before the call left.
     ensures only_read { IsOnlyRead D.Disk disk result.disk }
+    ensures count { result.wad ≡ Err (RecoveryError.Open ProjectError.Device)
+        → Rose (D.failures disk) (D.failures result.disk) }
 {
     hold_each_acknowledged::<D>();
     match Project::open(alloc, disk) {

@@ -3,7 +3,7 @@ use Rattle.std.proofs.lemmas.Result.{MatchResult-weaker}
 use Rattle.map_tables.specs.Projects.{MapsView, empty_project, project_of}
 use Rattle.store_project.specs.Sessions.{KeepEach}
 use Rattle.store_project.specs.Stands.{StandsFor}
-use Rattle.run_edit.proofs.Recovering.{refused_kept, stands_for}
+use Rattle.run_edit.proofs.Recovering.{no_fault, refused_kept, stands_for}
 use Rattle.run_edit.proofs.recovery.build_after_any_stop.Goals as goal
 
 pub returns-in-Err-clause-built : goal.returns-in-Err-clause-built
@@ -34,3 +34,6 @@ pub returns-in-Ok-clause-only_read : goal.returns-in-Ok-clause-only_read
 returns-in-Ok-clause-only_read g c =
     let is = c.in-Ok.ensures in
     rw c.into_disk.ensures.disk (record { no_other = is.reads.0; still = is.reads.1; any_moment = is.any_moment })
+
+pub returns-in-Ok-clause-count : goal.returns-in-Ok-clause-count
+returns-in-Ok-clause-count g c = λ is. absurd (no_fault _ _ _ c.build_maps.ensures is)
