@@ -26,16 +26,16 @@ IsOfOpening BadGeometry = Unit {0}
 IsOfOpening _ = ⊥
 
 -- a refusal that a project file which is made with this slot and this journal can have
-abbrev pub IsOfMaking : ℕ → ℕ → ProjectError → Type 0
-IsOfMaking slot journal Device = Unit {0}
-IsOfMaking slot journal NotEmpty = IsAllowed slot journal
-IsOfMaking slot journal BadGeometry = ¬ IsAllowed slot journal
-IsOfMaking slot journal _ = ⊥
+abbrev pub IsOfCreating : ℕ → ℕ → ProjectError → Type 0
+IsOfCreating slot journal Device = Unit {0}
+IsOfCreating slot journal NotEmpty = IsAllowed slot journal
+IsOfCreating slot journal BadGeometry = ¬ IsAllowed slot journal
+IsOfCreating slot journal _ = ⊥
 
 -- no project was made, and then nothing written; or the writer failed
 abbrev pub NotCreated : ℕ → ℕ → Refusal → Option (List ℕ) → Option (List ℕ) → Type 0
 NotCreated slot journal (of.Project e) writer-old writer-new =
-    IsOfMaking slot journal e × Keeps writer-old writer-new
+    IsOfCreating slot journal e × Keeps writer-old writer-new
 NotCreated slot journal (of.Lines e) writer-old writer-new = e ≡ WriterFailed
 NotCreated slot journal _ writer-old writer-new = ⊥
 
