@@ -135,13 +135,3 @@ pub candidate_too : (lines : List Edge) (used : List Bool) (a b : Piece) (ps : L
     → All (IsPiece lines) ps → slice_get ps n ≡ Some b → slice_get used a.line ≡ Some false
     → IsCandidate lines ps used b → IsCandidate lines ps used a
 candidate_too lines used a b ps n on each at free can = (free, separates_too lines a b ps n on each at can.1)
-
--- so a piece on the straight line of an earlier one of an unused line is never the first best
-pub never_best : (lines : List Edge) (used : List Bool) (a b : Piece) (ps : List Piece) (k n : ℕ) → OnOneLine lines a b
-    → All (IsPiece lines) ps → k < n → slice_get ps k ≡ Some a → slice_get used a.line ≡ Some false
-    → IsBestAt lines ps used n b → ⊥
-never_best lines used a b ps k n on each before at free best =
-    let c = candidate_too lines used a b ps n on each best.stands free best.candidate in
-    let f = best.first k a before at c in
-    let e = same_cost lines a b ps on each in
-    absurd (omega arith)
