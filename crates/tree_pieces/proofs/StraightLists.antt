@@ -1,5 +1,5 @@
 -- Two partitions on one straight line: the counts that they make of a list agree, or have right and left exchanged.
-use Rattle.std.proofs.Common.{◌≡◌, refl, sym, ap, ◌∙◌, ⊎_elim, ◌⊎◌, inl, inr, slice_get, ℕ, ◌+◌, ◌*◌, ◌-◌, ◌<◌, List, [], ◌∷◌, length, Option, Some, None, Bool, true, false, cond, ◌&&◌, arith, All}
+use Rattle.std.proofs.Common.{◌≡◌, refl, sym, ap, ◌∙◌, ⊎_elim, ◌⊎◌, inl, inr, slice_get, ℕ, ◌+◌, ◌*◌, ◌-◌, List, [], ◌∷◌, length, Option, Some, None, Bool, true, false, cond, ◌&&◌, arith, All}
 use Rattle.std.proofs.lemmas.Int.{by_lt_z}
 use Rattle.std.proofs.lemmas.Bool.{cases_lt}
 use Rattle.std.proofs.lemmas.List.Elements.{All-head, All-tail}
@@ -14,7 +14,7 @@ use Rattle.tree_pieces.specs.Plane.{vertex_value, dot, RunsWith, RunsAgainst}
 use Rattle.tree_pieces.specs.Fractions.{between}
 use Rattle.tree_pieces.specs.Pieces.{edge_of, ray_of, IsPiece}
 use Rattle.tree_pieces.specs.Division.{value_by, LiesAlong, parts_by, parts_of}
-use Rattle.tree_pieces.specs.Tree.{is_split, cost, Separates, IsCandidate, IsBestAt}
+use Rattle.tree_pieces.specs.Tree.{is_split, cost, Separates, IsCandidate}
 use Rattle.lump_records.proofs.Signs.{linear}
 use Rattle.tree_pieces.proofs.Crossing.{zero_everywhere}
 use Rattle.tree_pieces.proofs.Lengths.{dot_not_zero}
