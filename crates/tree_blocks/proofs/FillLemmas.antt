@@ -1,9 +1,8 @@
 -- The blocks that a line touches, column by column, and the lists of the blocks, line by line.
-use Rattle.std.proofs.Common.{rules, ◌≡◌, sym, ◌∙◌, subst, ℕ, ◌+◌, ◌*◌, ◌<◌, ◌≤◌, ◌⊎◌, inl, inr, List, [], ◌∷◌, ◌++◌, length, get_or, replicate, arith}
+use Rattle.std.proofs.Common.{◌≡◌, sym, ◌∙◌, subst, ℕ, ◌+◌, ◌*◌, ◌<◌, ◌≤◌, ◌⊎◌, inl, inr, List, [], ◌∷◌, ◌++◌, length, get_or, arith}
 use Rattle.std.specs.Prelude.{◌↔◌, ◌/◌, ◌%◌, pos, ◌+ℤ◌, AllPairs, Contains, All, slice_get, Some}
-use Rattle.std.proofs.lemmas.List.Elements.{All-nil, All-push, All-weaker, All-get_or, Contains-append_left, Contains-push, Contains-push_cases}
+use Rattle.std.proofs.lemmas.List.Elements.{All-push, All-weaker, All-get_or, Contains-append_left, Contains-push, Contains-push_cases}
 use Rattle.std.proofs.lemmas.List.Quantifiers.{all_pairs_push}
-use Rattle.std.proofs.lemmas.List.{get_or-replicate, length-replicate}
 use Rattle.std.proofs.lemmas.Option.{slice_get_within}
 use Rattle.std.proofs.Math.Nat.{mod-lt, div-lt_iff_lt-mul}
 use Rattle.tree_blocks.specs.declared.line_ends.LineEnds.{LineEnds}
@@ -109,22 +108,6 @@ pub record IsFiled (lines : List LineEnds) (g : Grid) (n k : ℕ) (list : List �
 pub record AreFiled (lines : List LineEnds) (g : Grid) (k : ℕ) (lists : List (List ℕ)) : Type 0 where
   pub count : length lists ≡ block_count g
   pub each : (n : ℕ) → n < length lists → IsFiled lines g n k (get_or lists n [])
-
--- no line yet
-none_filed : (lines : List LineEnds) (g : Grid) (n : ℕ) → IsFiled lines g n 0 []
-none_filed lines g n =
-    record { rising = search rules; below = All-nil (λ j. j < 0); exactly = λ j. (λ c. absurd (no_member j c), λ b. let h = b.0 in absurd (omega arith)) }
-  where
-    no_member : (j : ℕ) → Contains [] j → ⊥
-    no_member j c = let h = c.1 in absurd (omega arith)
-
-pub are_filed-none : (lines : List LineEnds) (g : Grid) → AreFiled lines g 0 (replicate (block_count g) [])
-are_filed-none lines g =
-    let l : length (replicate (block_count g) []) ≡ block_count g = length-replicate (block_count g) [] in
-    record {
-      count = l;
-      each = λ n h. subst (λ (xs : List ℕ). IsFiled lines g n 0 xs) (sym (get_or-replicate (block_count g) n [] [] (omega (arith, l)))) (none_filed lines g n);
-    }
 
 -- one more line
 filed_more :

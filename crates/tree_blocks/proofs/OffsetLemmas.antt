@@ -31,17 +31,6 @@ words_more (list ∷ lists) (suc k) h =
     let e : suc k + 1 ≡ suc (k + 1) = omega arith in
     ap (words_before (list ∷ lists)) e ∙ omega (arith, r)
 
--- one more word is written
-pub word_more :
-    (front bytes old : List ℕ) (words : List ℕ) (k : ℕ) (word : ℕ) → k < length words → get_or words k 0 ≡ word → bytes ≡ front ++ word_bytes (take k words)
-    → bytes ++ unsigned word ≡ front ++ word_bytes (take (k + 1) words)
-word_more front bytes old words k word h is e =
-    ap (λ (bs : List ℕ). bs ++ unsigned word) e ∙ append_assoc front (word_bytes (take k words)) (unsigned word)
-    ∙ ap (λ (bs : List ℕ). front ++ bs)
-    (ap (λ (bs : List ℕ). word_bytes (take k words) ++ bs) (sym (append-nil (unsigned word)))
-    ∙ sym (flat_map-append unsigned (take k words) (word ∷ []))
-    ∙ ap word_bytes (ap (λ (w : ℕ). take k words ++ w ∷ []) (sym is) ∙ sym (take_more words k 0 h)))
-
 -- one more list is written
 pub list_more :
     (front bytes : List ℕ) (lists : List (List ℕ)) (k : ℕ) (list : List ℕ) → k < length lists → get_or lists k [] ≡ list → bytes ≡ front ++ word_bytes (flat_map list_words (take k lists))

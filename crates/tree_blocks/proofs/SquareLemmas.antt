@@ -183,10 +183,6 @@ mirrored_meets s x u m =
       not_above = elim m.not_below [ inl k ↦ inl (omega (arith, linear)) | inr k ↦ inr (omega (arith, linear)) ];
     }
 
--- a corner keeps its place and changes its side
-mirrored_corner : (s x y u v p q : ℤ) → corner (s -ℤ x) y (neg_ℤ u) v (s -ℤ p) q ≡ neg_ℤ (corner x y u v p q)
-mirrored_corner s x y u v p q = by_ring (s ∷ x ∷ y ∷ u ∷ v ∷ p ∷ q ∷ []) _ _ (search quotes depth 20) (search quotes depth 20) tt
-
 mirrored_parted : (s x y u v : ℤ) → Parted s x y u v → Parted s (s -ℤ x) y (neg_ℤ u) v
 mirrored_parted s x y u v p =
     let e1 : corner (s -ℤ x) y (neg_ℤ u) v (pos 0) (pos 0) ≡ neg_ℤ (corner x y u v s (pos 0)) = by_ring (s ∷ x ∷ y ∷ u ∷ v ∷ []) _ _ (search quotes depth 20) (search quotes depth 20) tt in

@@ -35,9 +35,6 @@ pub record IsTouched (a b : Vertex) (left bottom : ℤ) : Type 0 where
 value_shift : (a b : Vertex) (left bottom p q : ℤ) → side_value a b (left +ℤ p) (bottom +ℤ q) ≡ corner (a.x -ℤ left) (a.y -ℤ bottom) (b.x -ℤ a.x) (b.y -ℤ a.y) p q
 value_shift a b left bottom p q = by_ring (a.x ∷ a.y ∷ b.x ∷ b.y ∷ left ∷ bottom ∷ p ∷ q ∷ []) _ _ (search quotes depth 30 fits 20000) (search quotes depth 30 fits 20000) tt
 
-plus_zero : (z : ℤ) → z +ℤ pos 0 ≡ z
-plus_zero z = omega (arith, ints)
-
 lower_left : (a b : Vertex) (left bottom : ℤ) → side_value a b left bottom ≡ corner (a.x -ℤ left) (a.y -ℤ bottom) (b.x -ℤ a.x) (b.y -ℤ a.y) (pos 0) (pos 0)
 lower_left a b left bottom = by_ring (a.x ∷ a.y ∷ b.x ∷ b.y ∷ left ∷ bottom ∷ []) _ _ (search quotes depth 30 fits 20000) (search quotes depth 30 fits 20000) tt
 

@@ -1,5 +1,5 @@
 -- Wider boxes hold what the boxes in them hold, and a list of blocks grows one by one.
-use Rattle.std.proofs.Common.{◌≡◌, refl, sym, ap, ◌∙◌, subst, ℕ, zero, suc, ◌+◌, ◌*◌, ◌-◌, ◌<◌, ◌≤◌, ⊎_elim, min, List, [], ◌∷◌, ◌++◌, length, take, drop, get_or, Some, arith, All, slice_get}
+use Rattle.std.proofs.Common.{◌≡◌, sym, ap, ◌∙◌, subst, ℕ, zero, suc, ◌+◌, ◌*◌, ◌-◌, ◌<◌, ◌≤◌, ⊎_elim, min, List, [], ◌∷◌, ◌++◌, length, take, drop, get_or, Some, arith, All, slice_get}
 use Rattle.std.proofs.lemmas.Bool.{cases_lt}
 use Rattle.std.proofs.lemmas.List.{take_all, length-drop, length-map, take-map, drop-map}
 use Rattle.std.proofs.lemmas.List.Elements.{All-nil, All-cons, All-head, All-tail, All-get_or}
@@ -100,14 +100,7 @@ one_more_block boxes blocks n m b k h e all =
     longer [] = omega arith
     longer (x ∷ xs) = let r = longer xs in omega arith
 
--- all of them are made
-pub all_blocks : (boxes blocks : List Bounds) (n : ℕ) → AreFirstBlocks boxes blocks n → length boxes ≤ 16 * n → 16 * n < length boxes + 16 → AreBlocks boxes blocks
-all_blocks boxes blocks n k h l = let m = k.made in record { enough = omega arith; each_needed = omega arith; holds = k.holds }
-
 -- ---- the groups of a list
-pub no_groups : (boxes : List Bounds) → AreGroups boxes []
-no_groups boxes = record { within = omega arith; holds = λ k b e. cc }
-
 pub one_more_group : (boxes groups : List Bounds) (n : ℕ) (b : Bounds) → AreGroups boxes groups → length groups ≡ n
     → 256 * n + 256 ≤ length boxes → All (λ a. IsWithinBox a b) (take 256 (drop (256 * n) boxes))
     → AreGroups boxes (groups ++ (b ∷ []))
@@ -136,20 +129,7 @@ no_piece = let zero : Frac = record { n = pos 0; d = pos 0 } in record { line = 
 pub piece_before : (lines : List Edge) (ps : List Piece) (i n : ℕ) (p : Piece) → i < n → slice_get ps n ≡ Some p → All (IsPiece lines) ps → IsPiece lines (get_or ps i no_piece)
 piece_before lines ps i n p h e all = All-get_or (IsPiece lines) ps i no_piece (before_within ps i n p h e) all
 
--- a block begins in the list
-pub block_begins : (lines : List Edge) (ps : List Piece) (boxes blocks : List Bounds) (k : ℕ) → boxes ≡ boxes_of lines ps → AreBlocks boxes blocks → k < length blocks → 16 * k ≤ length ps
-block_begins lines ps boxes blocks k e a h =
-    let b = a.each_needed in
-    let l = ap length e ∙ length-map ps (box_of lines) in
-    omega arith
-
 module _ (lines : List Edge) where
-  -- each piece lies in its own box
-  pub box_at : (ps : List Piece) (n : ℕ) (d : Bounds) (e : Piece) → n < length ps → HoldsPiece lines (get_or (boxes_of lines ps) n d) (get_or ps n e)
-  box_at [] n d e h = absurd (omega arith)
-  box_at (p ∷ ps) zero d e h = box_holds lines p
-  box_at (p ∷ ps) (suc n) d e h = box_at ps n d e (omega arith)
-
   pub boxes_length : (ps : List Piece) (boxes : List Bounds) → boxes ≡ boxes_of lines ps → length boxes ≡ length ps
   boxes_length ps boxes e = ap length e ∙ length-map ps (box_of lines)
 
@@ -172,14 +152,3 @@ module _ (lines : List Edge) where
   pub group_holds : (ps : List Piece) (groups : List Bounds) (k : ℕ) (b : Bounds) → AreGroups (boxes_of lines ps) groups
       → slice_get groups k ≡ Some b → All (HoldsPiece lines b) (take 256 (drop (256 * k) ps))
   group_holds ps groups k b are at = all_in b (take 256 (drop (256 * k) ps)) (subst (All (λ (a : Bounds). IsWithinBox a b)) (part_boxes ps 256 (256 * k)) (are.holds k b at))
-
-  -- a group lies in the list, and so do its blocks
-  pub group_within : (ps : List Piece) (groups : List Bounds) (k : ℕ) → AreGroups (boxes_of lines ps) groups → k < length groups → 256 * (k + 1) ≤ length ps
-  group_within ps groups k are h = let w = are.within in let l = boxes_length ps (boxes_of lines ps) refl in omega arith
-
-  pub blocks_within : (ps : List Piece) (blocks : List Bounds) (k : ℕ) → AreBlocks (boxes_of lines ps) blocks → 256 * (k + 1) ≤ length ps → 16 * k + 16 ≤ length blocks
-  blocks_within ps blocks k are h = let w = are.enough in let l = boxes_length ps (boxes_of lines ps) refl in omega arith
-
-  -- behind the last block all pieces are seen
-  pub blocks_end : (ps : List Piece) (blocks : List Bounds) → AreBlocks (boxes_of lines ps) blocks → (length ps ≤ 16 * length blocks) × (16 * length blocks < length ps + 16)
-  blocks_end ps blocks are = let w = are.enough in let n = are.each_needed in let l = boxes_length ps (boxes_of lines ps) refl in (omega arith, omega arith)

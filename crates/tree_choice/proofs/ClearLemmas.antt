@@ -217,18 +217,6 @@ module _ (lines : List Edge) (p : Piece) where
       let g = rw e at h in
       omega arith
 
-  -- where none is flagged, all are counted
-  pub none_flagged : (ps : List Piece) (flags : List Bool) (c : Counts) → AreCountsBut lines p ps (flagged flags ps) c → length (flagged flags ps) ≡ 0 → AreCounts lines p ps c
-  none_flagged ps flags c k e = by_list (flagged flags ps) k e
-    where
-      by_list : (rest : List Piece) → AreCountsBut lines p ps rest c → length rest ≡ 0 → AreCounts lines p ps c
-      by_list [] k e =
-          let kr = k.right in
-          let kl = k.left in
-          let ks = k.splits in
-          record { right = omega arith; left = omega arith; splits = omega arith }
-      by_list (q ∷ qs) k e = absurd (omega arith)
-
   -- behind the last piece the flagged ones are left
   pub clear_all : (ps : List Piece) (flags : List Bool) (n : ℕ) (r l s : ℕ) → length ps ≤ n → length flags ≡ length ps
       → Counted lines p ps (uncounted flags ps n) r l s → Counted lines p ps (flagged flags ps) r l s

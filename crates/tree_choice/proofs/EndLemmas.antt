@@ -18,7 +18,7 @@ use Rattle.tree_pieces.proofs.Rounding.{near_right, near_left}
 use Rattle.tree_pieces.proofs.Crossing.{crossing_down, crossing_up, zero_there}
 use Rattle.tree_pieces.proofs.Division.{same_vertex_is}
 use Rattle.tree_choice.specs.declared.counts.Counts.{Counts}
-use Rattle.tree_choice.specs.declared.ends.Ends.{Ends}
+use Rattle.tree_pieces.specs.declared.piece.Ends.{Ends}
 use Rattle.tree_choice.specs.Counts.{AreCounts}
 use Rattle.tree_choice.proofs.OneMore.{one, piece_counts}
 

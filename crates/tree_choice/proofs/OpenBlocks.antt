@@ -43,10 +43,6 @@ module _ (lines : List Edge) (p : Piece) (ps : List Piece) where
       → noted' ≡ noted → IsSorted lines p ps n' (record { right = r'; left = l'; count = m' }) noted'
   same_sorted n n' r r' l l' m m' noted noted' h a b c d e = rw (a, b, c, d, e) h
 
-  -- no piece is sorted yet
-  pub none_sorted : (noted : List ℕ) → IsSorted lines p ps 0 (record { right = 0; left = 0; count = 0 }) noted
-  none_sorted noted = record { right = refl; left = refl; splits = refl; others = refl; begin = All-nil (λ (k : ℕ). 16 * k < length ps); few = omega arith; fewer = omega arith }
-
   -- what stands behind the open blocks is no matter
   pub spare_sorted : (n r l m k : ℕ) (noted : List ℕ) → IsSorted lines p ps n (record { right = r; left = l; count = m }) noted
       → IsSorted lines p ps n (record { right = r; left = l; count = m }) (set noted m k)
@@ -126,21 +122,6 @@ module _ (lines : List Edge) (p : Piece) (ps : List Piece) where
             (All-append (λ (j : ℕ). 16 * j < length ps) (take m noted) (k ∷ []) h.begin
             (All-cons (λ (j : ℕ). 16 * j < length ps) k [] within (All-nil (λ (j : ℕ). 16 * j < length ps))));
         few = omega arith;
-        fewer = omega arith;
-      }
-
-  -- behind the last block all pieces are sorted
-  pub all_sorted : (n : ℕ) (s : Sorted) (noted : List ℕ) → IsSorted lines p ps (16 * n) s noted → length ps ≤ 16 * n → 16 * n < length ps + 16 → IsSorted lines p ps (length ps) s noted
-  all_sorted n s noted h over near =
-      let e : take (length ps) ps ≡ take (16 * n) ps = take_all (length ps) ps (omega arith) ∙ sym (take_all (16 * n) ps over) in
-      let g = h.fewer in
-      record {
-        right = ap (rights lines p) e ∙ h.right;
-        left = ap (lefts lines p) e ∙ h.left;
-        splits = ap (splits lines p) e ∙ h.splits;
-        others = ap (λ (qs : List Piece). length qs) e ∙ h.others;
-        begin = h.begin;
-        few = h.few;
         fewer = omega arith;
       }
 

@@ -1,17 +1,13 @@
--- What a candidate's ray is asked again and again, the rounded ends of pieces, and the corners of boxes.
-use Rattle.std.specs.Prelude.{◌≡◌, neg_ℤ, List, if◌then◌else◌, pos, ◌+ℤ◌, ◌-ℤ◌, ◌*ℤ◌, ◌≤ℤ◌, int_le}
+-- What a candidate's ray is asked again and again, and the corners of boxes.
+use Rattle.std.specs.Prelude.{◌≡◌, neg_ℤ, if◌then◌else◌, pos, ◌+ℤ◌, ◌-ℤ◌, ◌*ℤ◌, ◌≤ℤ◌, int_le}
 use Rattle.lump_records.specs.declared.records.Vertex.{Vertex}
 use Rattle.lump_records.specs.declared.records.Bounds.{Bounds}
 use Rattle.lump_records.specs.declared.plane.Ray.{Ray}
-use Rattle.tree_pieces.specs.declared.edge.Edge.{Edge}
-use Rattle.tree_pieces.specs.declared.piece.Piece.{Piece}
 use Rattle.tree_pieces.specs.Plane.{blur}
 use Rattle.tree_pieces.specs.Local.{IsLineRay}
-use Rattle.tree_pieces.specs.Pieces.{first_end, last_end}
 use Rattle.tree_pieces.specs.Boxes.{ray_offset}
 use Rattle.tree_choice.specs.declared.margins.Margins.{Margins}
 use Rattle.tree_choice.specs.declared.margins.Normal.{Normal}
-use Rattle.tree_choice.specs.declared.ends.Ends.{Ends}
 
 -- the vector at right angles to a ray, towards its right side
 pub record IsNormal (r : Ray) (n : Normal) : Type 0 where
@@ -26,10 +22,6 @@ pub record AreMargins (m : Margins) : Type 0 where
   pub right : pos (blur m.ray) ≤ℤ (pos 2 *ℤ (m.above -ℤ ray_offset m.ray) +ℤ pos 1)
   pub left : pos (blur m.ray) ≤ℤ (pos 2 *ℤ (ray_offset m.ray -ℤ m.below) +ℤ pos 1)
   pub order : m.below ≤ℤ m.above
-
--- the rounded ends of a piece
-abbrev pub ends_of : List Edge → Piece → Ends
-ends_of lines p = record { first = first_end lines p; last = last_end lines p }
 
 -- the corners of a box with the least and with the greatest side value by a ray
 abbrev pub low_corner : Ray → Bounds → Vertex

@@ -5,7 +5,10 @@ use Rattle.tree_pieces.specs.declared.piece.Piece.{Piece}
 use Rattle.tree_pieces.specs.Division.{right_parts, left_parts}
 use Rattle.tree_pieces.specs.Tree.{is_split}
 use Rattle.tree_choice.specs.declared.sorting.Sorted.{Sorted}
+use Rattle.tree_choice.specs.declared.box_place.BoxSides.{BoxSides}
+use Rattle.tree_choice.specs.declared.candidate.Candidate.{Candidate}
 use Rattle.tree_choice.specs.Clear.{AreCountsBut}
+use Rattle.tree_choice.specs.Candidates.{AreCountsBy}
 
 -- the pieces of the blocks of these numbers
 abbrev pub pieces_in : List Piece → List ℕ → List Piece
@@ -26,7 +29,27 @@ pub record IsSorted (lines : List Edge) (p : Piece) (ps : List Piece) (n : ℕ) 
   pub few : s.count ≤ length noted
   pub fewer : 16 * s.count ≤ n + 15
 
+abbrev pub IsSortedBy : Candidate → List Piece → ℕ → Sorted → List ℕ → Type 0
+IsSortedBy by ps n s noted = IsSorted by.lines.now by.piece.now ps n s noted
+
+-- the pieces of the block of this number
+abbrev pub block_at : List Piece → ℕ → List Piece
+block_at ps block = take 16 (drop (16 * block) ps)
+
+-- on the sides that are named, the pieces of a block lie whole
+pub record AreSidesOf (by : Candidate) (block : List Piece) (sides : BoxSides) : Type 0 where
+  pub right : sides.right ≡ true →
+      AreCountsBy by block (record { splits = 0; right = length block; left = 0 })
+  pub left : sides.left ≡ true →
+      AreCountsBy by block (record { splits = 0; right = 0; left = length block })
+
 -- ---- the blocks of one run
+-- at most sixteen blocks from one number to another, all of them whole
+pub record IsRun (ps : List Piece) (from to : ℕ) : Type 0 where
+  pub forward : from ≤ to
+  pub sixteen : to ≤ from + 16
+  pub whole : 16 * to ≤ length ps
+
 -- the numbers of the flagged blocks, where the first block has this number
 abbrev pub flagged_numbers : ℕ → List Bool → List ℕ
 flagged_numbers k [] = []

@@ -1,34 +1,33 @@
 //! The choice by boxes and rounded ends, in the list's order or in one by places.
 ghost use Rattle.std.specs.Prelude.{◌≡◌, ◌+◌, ◌≤◌, ◌<◌, ◌^◌, length, All, MatchOption, Some, slice_get, false};
 ghost use Rattle.std.specs.List.Sorted.{IsPermutation};
-ghost use Rattle.tree_pieces.specs.Plane.{IsEdge};
 ghost use Rattle.tree_pieces.specs.Pieces.{IsPiece};
 ghost use Rattle.tree_pieces.specs.Tree.{HasNoChoice, cost};
 ghost use Rattle.tree_pieces.specs.Boxes.{boxes_of};
 ghost use Rattle.tree_choice.specs.Blocks.{AreBlocks, AreGroups};
-ghost use Rattle.tree_choice.specs.Counts.{AreCounts};
-ghost use Rattle.tree_choice.specs.Choices.{IsChoice};
+ghost use Rattle.tree_choice.specs.Counts.{AreCountsBelow};
+ghost use Rattle.tree_choice.specs.Choices.{IsChosen};
 ghost use Rattle.tree_choice.specs.SoFar.{SoFar};
 ghost use Rattle.tree_choice.specs.Columns.{HoldsEnds, HoldsBoxes};
 
 use crate::block_boxes::note_groups;
+use crate::candidate::NotedPieces;
 use crate::choice::{Choice, limit_of, take_in};
 use crate::counts::count_below;
 use crate::straight::StraightLines;
 use crate::walk::count_by_boxes;
 use lump_records::Bounds;
-use tree_pieces::{Edge, Piece};
+use tree_pieces::{Lines, Piece};
 
 // The best candidate among the pieces up to this one, by the best one before it.
 fn consider(
-    lines: &[Edge],
+    lines: &Lines,
     pieces: &[Piece],
     used: &[bool],
     at: usize,
     piece: &Piece,
     best: Option<Choice>,
 ) -> Option<Choice>
-    requires lines { All IsEdge lines.now }
     requires pieces { All (IsPiece lines.now) pieces.now }
     requires known { length used.now ≡ length lines.now }
     requires few { length pieces.now < 2 ^ 32 }
@@ -46,13 +45,11 @@ fn consider(
 }
 
 /// The separating piece of an unused line that costs least; of several that cost as little, the first.
-pub fn choose_in(lines: &[Edge], pieces: &[Piece], used: &[bool]) -> Option<Choice>
-    requires lines { All IsEdge lines.now }
+pub fn choose_in(lines: &Lines, pieces: &[Piece], used: &[bool]) -> Option<Choice>
     requires pieces { All (IsPiece lines.now) pieces.now }
     requires known { length used.now ≡ length lines.now }
     requires few { length pieces.now < 2 ^ 32 }
-    ensures { MatchOption result (HasNoChoice lines.now pieces.now used.now)
-        (λ c. IsChoice lines.now pieces.now used.now c) }
+    ensures { IsChosen lines.now pieces.now used.now result }
 {
     let mut best = None;
     for (at, piece) in pieces.iter().enumerate() {
@@ -64,7 +61,7 @@ pub fn choose_in(lines: &[Edge], pieces: &[Piece], used: &[bool]) -> Option<Choi
 // The same as `consider`, but by boxes and rounded ends, and without counting a piece on the straight line of an
 // earlier one.
 fn consider_ordered(
-    lines: &[Edge],
+    lines: &Lines,
     pieces: &[Piece],
     ordered: &[Piece],
     blocks: &[Bounds],
@@ -74,7 +71,6 @@ fn consider_ordered(
     best: Option<Choice>,
     straight: &mut StraightLines,
 ) -> Option<Choice>
-    requires lines { All IsEdge lines.now }
     requires pieces { All (IsPiece lines.now) pieces.now }
     requires ordered { IsPermutation pieces.now ordered.now }
     requires blocks { AreBlocks (boxes_of lines.now ordered.now) blocks.now }
@@ -97,20 +93,18 @@ fn consider_ordered(
         return best;
     }
     if straight.has_earlier(lines, pieces, used, at, piece) {
+        lines.are_drawn();
         return best;
     }
     let limit = limit_of(best);
-    let counted = count_by_boxes(
-        lines,
-        piece,
-        ordered,
-        &straight.ends,
+    let list = NotedPieces {
+        pieces: ordered,
+        ends: &straight.ends,
         blocks,
-        &straight.sides,
-        &straight.groups,
-        &mut straight.noted,
-        limit,
-    );
+        corners: &straight.sides,
+        groups: &straight.groups,
+    };
+    let counted = count_by_boxes(lines, piece, &list, &mut straight.noted, limit);
     take_in(at, best, limit, counted)
 }
 
@@ -118,7 +112,7 @@ fn consider_ordered(
 /// `straight` saves counts, whatever it holds. `ordered` holds the same pieces in any order, as
 /// `by_place` gives one, and the boxes are those of this list.
 pub fn choose_ordered(
-    lines: &[Edge],
+    lines: &Lines,
     pieces: &[Piece],
     ordered: &[Piece],
     boxes: &[Bounds],
@@ -126,15 +120,13 @@ pub fn choose_ordered(
     used: &[bool],
     straight: &mut StraightLines,
 ) -> Option<Choice>
-    requires lines { All IsEdge lines.now }
     requires pieces { All (IsPiece lines.now) pieces.now }
     requires ordered { IsPermutation pieces.now ordered.now }
     requires boxes { boxes.now ≡ boxes_of lines.now ordered.now }
     requires blocks { AreBlocks boxes.now blocks.now }
     requires known { length used.now ≡ length lines.now }
     requires few { length pieces.now < 2 ^ 32 }
-    ensures { MatchOption result (HasNoChoice lines.now pieces.now used.now)
-        (λ c. IsChoice lines.now pieces.now used.now c) }
+    ensures { IsChosen lines.now pieces.now used.now result }
 {
     if !straight.ends.has_room(ordered.len())
         || !straight.sides.has_room(blocks.len())
@@ -157,21 +149,19 @@ pub fn choose_ordered(
 /// The same choice as `choose_in`, by the boxes of the pieces and of blocks of sixteen of them.
 /// `straight` saves counts, whatever it holds.
 pub fn choose_in_boxes(
-    lines: &[Edge],
+    lines: &Lines,
     pieces: &[Piece],
     boxes: &[Bounds],
     blocks: &[Bounds],
     used: &[bool],
     straight: &mut StraightLines,
 ) -> Option<Choice>
-    requires lines { All IsEdge lines.now }
     requires pieces { All (IsPiece lines.now) pieces.now }
     requires boxes { boxes.now ≡ boxes_of lines.now pieces.now }
     requires blocks { AreBlocks boxes.now blocks.now }
     requires known { length used.now ≡ length lines.now }
     requires few { length pieces.now < 2 ^ 32 }
-    ensures { MatchOption result (HasNoChoice lines.now pieces.now used.now)
-        (λ c. IsChoice lines.now pieces.now used.now c) }
+    ensures { IsChosen lines.now pieces.now used.now result }
 {
     choose_ordered(lines, pieces, pieces, boxes, blocks, used, straight)
 }

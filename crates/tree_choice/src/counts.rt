@@ -1,10 +1,9 @@
 //! How many pieces of a list a partition splits, and how many parts it leaves on each side.
 ghost use Rattle.std.specs.Prelude.{◌≡◌, ℕ, ◌≤◌, ◌<◌, ◌^◌, length, All, MatchOption, take};
-ghost use Rattle.tree_pieces.specs.Plane.{IsEdge};
 ghost use Rattle.tree_pieces.specs.Pieces.{IsPiece};
 ghost use Rattle.tree_pieces.specs.Tree.{cost};
 
-use tree_pieces::{Edge, Parts, Piece, divide_in};
+use tree_pieces::{Lines, Parts, Piece, divide_in};
 
 /// How many pieces a partition splits, and how many parts it leaves on its right and on its left.
 #[derive(Clone, Copy)]
@@ -94,21 +93,19 @@ impl Counts {
     }
 }
 
-ghost use Rattle.tree_choice.specs.Counts.{AreCounts};
+ghost use Rattle.tree_choice.specs.Counts.{AreCountsBelow};
 
 // The counts of a list, or None as soon as the cost is known to reach the limit.
 pub(crate) fn count_below(
-    lines: &[Edge],
+    lines: &Lines,
     partition: &Piece,
     pieces: &[Piece],
     limit: u64,
 ) -> Option<Counts>
-    requires lines { All IsEdge lines.now }
     requires partition { IsPiece lines.now partition.now }
     requires pieces { All (IsPiece lines.now) pieces.now }
     requires few { length pieces.now < 2 ^ 32 }
-    ensures { MatchOption result (limit ≤ cost lines.now partition.now pieces.now)
-        (λ c. AreCounts lines.now partition.now pieces.now c) }
+    ensures { AreCountsBelow lines.now partition.now pieces.now limit result }
 {
     let mut counts = Counts::NONE;
     for (n, piece) in pieces.iter().enumerate() {

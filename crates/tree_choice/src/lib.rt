@@ -3,6 +3,7 @@
 
 mod block_boxes;
 mod box_place;
+mod candidate;
 mod choice;
 mod choosing;
 mod corner_columns;

@@ -2,9 +2,9 @@
 ghost use Rattle.std.specs.Prelude.{◌≡◌, ◌+◌, ◌≤◌, ◌<◌, ◌^◌, length, All, IsTrue, ◌↔◌, MatchOption, Some, slice_get, false};
 ghost use Rattle.tree_pieces.specs.Edges.{edges_of};
 ghost use Rattle.tree_pieces.specs.Pieces.{IsPiece};
-ghost use Rattle.tree_pieces.specs.Tree.{HasNoChoice, Separates, cost};
-ghost use Rattle.tree_choice.specs.Counts.{AreCounts};
-ghost use Rattle.tree_choice.specs.Choices.{IsChoice};
+ghost use Rattle.tree_pieces.specs.Tree.{Separates};
+ghost use Rattle.tree_choice.specs.Counts.{AreCountsBelow};
+ghost use Rattle.tree_choice.specs.Choices.{IsChosen};
 ghost use Rattle.tree_choice.specs.SoFar.{SoFar};
 
 use crate::choice::{Choice, limit_of, take_in};
@@ -31,8 +31,7 @@ fn count_in_map(map: &Map, partition: &Piece, pieces: &[Piece], limit: u64) -> O
     requires partition { IsPiece (edges_of map.now.tables) partition.now }
     requires pieces { All (IsPiece (edges_of map.now.tables)) pieces.now }
     requires few { length pieces.now < 2 ^ 32 }
-    ensures { MatchOption result (limit ≤ cost (edges_of map.now.tables) partition.now pieces.now)
-        (λ c. AreCounts (edges_of map.now.tables) partition.now pieces.now c) }
+    ensures { AreCountsBelow (edges_of map.now.tables) partition.now pieces.now limit result }
 {
     let mut counts = Counts::NONE;
     for (n, piece) in pieces.iter().enumerate() {
@@ -79,8 +78,7 @@ pub fn choose(map: &Map, pieces: &[Piece], used: &[bool]) -> Option<Choice>
     requires pieces { All (IsPiece (edges_of map.now.tables)) pieces.now }
     requires known { length used.now ≡ length map.now.tables.lines }
     requires few { length pieces.now < 2 ^ 32 }
-    ensures { MatchOption result (HasNoChoice (edges_of map.now.tables) pieces.now used.now)
-        (λ c. IsChoice (edges_of map.now.tables) pieces.now used.now c) }
+    ensures { IsChosen (edges_of map.now.tables) pieces.now used.now result }
 {
     let mut best = None;
     for (at, piece) in pieces.iter().enumerate() {

@@ -1,20 +1,25 @@
-//! Sorts the blocks of a list by their boxes: those whole on one side of a partition, and the open ones.
-ghost use Rattle.std.specs.Prelude.{◌≡◌, ◌+◌, ◌*◌, ◌≤◌, ◌<◌, ◌^◌, ◌++◌, ◌&&◌, ◌||◌, not, true, if◌then◌else◌, length, take, drop, All};
-ghost use Rattle.tree_pieces.specs.Plane.{IsEdge};
-ghost use Rattle.tree_pieces.specs.Pieces.{IsPiece, ray_of};
-ghost use Rattle.tree_pieces.specs.Boxes.{HoldsPiece, boxes_of};
-ghost use Rattle.tree_choice.specs.Blocks.{AreBlocks, AreGroups};
-ghost use Rattle.tree_choice.specs.Counts.{AreCounts};
-ghost use Rattle.tree_choice.specs.Columns.{AreCorners, HoldsBoxes};
-ghost use Rattle.tree_choice.specs.Sights.{AreMargins};
-ghost use Rattle.tree_choice.specs.Sorting.{IsSorted, AreClearBlocks, flagged_numbers};
+//! Sorts the blocks of a list by their boxes: those whole on one side of a candidate's ray, and the open ones.
+ghost use Rattle.std.specs.Prelude.{◌≡◌, ◌+◌, ◌*◌, ◌≤◌, ◌<◌, ◌^◌, ◌++◌, ◌&&◌, ◌||◌, not, if◌then◌else◌, length, take, drop, All};
+ghost use Rattle.tree_pieces.specs.Boxes.{HoldsPiece};
+ghost use Rattle.tree_choice.specs.Candidates.{IsSighted, AreBoxed, AreNoted};
+ghost use Rattle.tree_choice.specs.Sorting.{IsSortedBy, AreSidesOf, IsRun, AreClearBlocks, block_at, flagged_numbers};
 
 use crate::block_boxes::{BLOCK, GROUP};
 use crate::box_place::{BoxSides, side_of_box, sides_of_box, sides_of_corners};
-use crate::corner_columns::{BoxColumns, column};
-use crate::margins::Margins;
+use crate::candidate::{Candidate, NotedPieces};
+use crate::corner_columns::column;
 use lump_records::{Bounds, Vertex};
-use tree_pieces::{Edge, Piece, Place};
+use tree_pieces::{Piece, Place};
+
+/// The blocks of a list: its pieces, a box for each block, and the two corners of each box that have the least and the
+/// greatest side value by a candidate's ray.
+#[derive(Clone, Copy)]
+pub(crate) struct Blocks<'a> {
+    pub pieces: &'a [Piece],
+    pub boxes: &'a [Bounds],
+    pub lows: &'a [Vertex],
+    pub highs: &'a [Vertex],
+}
 
 /// How many pieces lie whole on the right and on the left, and how many blocks are noted as open.
 #[derive(Clone, Copy)]
@@ -49,8 +54,7 @@ fn added(sides: BoxSides, size: usize) -> Sorted
 
 // Sorts one more block by the sides of its box. If it isn't open, the number of the next open one will replace its own.
 fn add_block(
-    lines: &[Edge],
-    partition: &Piece,
+    by: &Candidate,
     pieces: &[Piece],
     block: usize,
     size: usize,
@@ -59,15 +63,12 @@ fn add_block(
     noted: &mut [u32],
 ) -> Sorted
     requires begins { 16 * block < length pieces.now }
-    requires size { size ≡ length (take 16 (drop (16 * block) pieces.now)) }
-    requires right { sides.right ≡ true → AreCounts lines.now partition.now
-        (take 16 (drop (16 * block) pieces.now)) (record { splits = 0; right = size; left = 0 }) }
-    requires left { sides.left ≡ true → AreCounts lines.now partition.now
-        (take 16 (drop (16 * block) pieces.now)) (record { splits = 0; right = 0; left = size }) }
     requires few { length pieces.now < 2 ^ 32 }
+    requires size { size ≡ length (block_at pieces.now block) }
+    requires sides { AreSidesOf by.now (block_at pieces.now block) sides }
     requires room { sorted.count < length noted.old }
-    requires before { IsSorted lines.now partition.now pieces.now (16 * block) sorted noted.old }
-    ensures is { IsSorted lines.now partition.now pieces.now (16 * (block + 1)) result noted.new }
+    requires before { IsSortedBy by.now pieces.now (16 * block) sorted noted.old }
+    ensures is { IsSortedBy by.now pieces.now (16 * (block + 1)) result noted.new }
     ensures room { length noted.new ≡ length noted.old }
 {
     noted[sorted.count] = block as u32;
@@ -82,29 +83,24 @@ fn add_block(
 // Counts those of `size` whole blocks whose boxes lie on one side, and flags the others as open. The first block has
 // the number `from`. There is no branch, so that a machine tests several boxes at once.
 fn count_clear_blocks(
-    lines: &[Edge],
-    partition: &Piece,
-    margins: Margins,
-    pieces: &[Piece],
-    blocks: &[Bounds],
-    lows: &[Vertex],
-    highs: &[Vertex],
+    by: &Candidate,
+    blocks: &Blocks,
     from: usize,
     size: usize,
     flags: &mut [bool],
 ) -> ClearBlocks
-    requires ray { margins.ray ≡ ray_of lines.now partition.now }
-    requires margins { AreMargins margins }
-    requires pieces { All (IsPiece lines.now) pieces.now }
-    requires blocks { AreBlocks (boxes_of lines.now pieces.now) blocks.now }
-    requires corners { AreCorners margins.ray blocks.now lows.now highs.now }
-    requires whole { 16 * (from + size) ≤ length pieces.now }
+    requires candidate { IsSighted by.now }
+    requires blocks { AreBoxed by.now blocks.now }
+    requires whole { 16 * (from + size) ≤ length blocks.now.pieces.now }
     requires few { size ≤ 16 }
     requires room { length flags.old ≡ 16 }
-    ensures is { AreClearBlocks lines.now partition.now pieces.now from size (take size flags.new)
-        result.right result.left }
+    ensures is { AreClearBlocks by.now.lines.now by.now.piece.now blocks.now.pieces.now
+        from size (take size flags.new) result.right result.left }
     ensures room { length flags.new ≡ 16 }
 {
+    let lows = blocks.lows;
+    let highs = blocks.highs;
+    let margins = by.margins;
     let normals = [margins.normal; BLOCK];
     let mut right = 0;
     let mut left = 0;
@@ -157,38 +153,24 @@ fn note_open_blocks(
 
 // Sorts the whole blocks with the numbers `from..to`, at most sixteen, each by two corners of its box.
 fn sort_blocks(
-    lines: &[Edge],
-    partition: &Piece,
-    margins: Margins,
-    pieces: &[Piece],
-    blocks: &[Bounds],
-    lows: &[Vertex],
-    highs: &[Vertex],
+    by: &Candidate,
+    blocks: &Blocks,
     from: usize,
     to: usize,
     before: Sorted,
     noted: &mut [u32],
 ) -> Sorted
-    requires partition { IsPiece lines.now partition.now }
-    requires ray { margins.ray ≡ ray_of lines.now partition.now }
-    requires margins { AreMargins margins }
-    requires pieces { All (IsPiece lines.now) pieces.now }
-    requires blocks { AreBlocks (boxes_of lines.now pieces.now) blocks.now }
-    requires corners { AreCorners margins.ray blocks.now lows.now highs.now }
-    requires few { length pieces.now < 2 ^ 32 }
-    requires forward { from ≤ to }
-    requires sixteen { to ≤ from + 16 }
-    requires whole { 16 * to ≤ length pieces.now }
-    requires room { length blocks.now ≤ length noted.old }
-    requires before { IsSorted lines.now partition.now pieces.now (16 * from) before noted.old }
-    ensures is { IsSorted lines.now partition.now pieces.now (16 * to) result noted.new }
+    requires candidate { IsSighted by.now }
+    requires blocks { AreBoxed by.now blocks.now }
+    requires run { IsRun blocks.now.pieces.now from to }
+    requires room { length blocks.now.boxes.now ≤ length noted.old }
+    requires before { IsSortedBy by.now blocks.now.pieces.now (16 * from) before noted.old }
+    ensures is { IsSortedBy by.now blocks.now.pieces.now (16 * to) result noted.new }
     ensures room { length noted.new ≡ length noted.old }
 {
     let size = to - from;
     let mut flags = [false; BLOCK];
-    let clear = count_clear_blocks(
-        lines, partition, margins, pieces, blocks, lows, highs, from, size, &mut flags,
-    );
+    let clear = count_clear_blocks(by, blocks, from, size, &mut flags);
     let count = note_open_blocks(from, size, &flags, before.count, noted);
     Sorted {
         right: before.right + BLOCK * clear.right as usize,
@@ -199,65 +181,52 @@ fn sort_blocks(
 
 // Sorts the last block if it isn't whole.
 fn sort_last(
-    lines: &[Edge],
-    partition: &Piece,
-    margins: Margins,
-    pieces: &[Piece],
-    blocks: &[Bounds],
+    by: &Candidate,
+    blocks: &Blocks,
     whole: usize,
     sorted: Sorted,
     noted: &mut [u32],
 ) -> Sorted
-    requires partition { IsPiece lines.now partition.now }
-    requires ray { margins.ray ≡ ray_of lines.now partition.now }
-    requires margins { AreMargins margins }
-    requires pieces { All (IsPiece lines.now) pieces.now }
-    requires blocks { AreBlocks (boxes_of lines.now pieces.now) blocks.now }
-    requires few { length pieces.now < 2 ^ 32 }
-    requires whole { 16 * whole ≤ length pieces.now }
-    requires last { length pieces.now < 16 * (whole + 1) }
-    requires room { length blocks.now ≤ length noted.old }
-    requires before { IsSorted lines.now partition.now pieces.now (16 * whole) sorted noted.old }
-    ensures is { IsSorted lines.now partition.now pieces.now (length pieces.now) result noted.new }
+    requires candidate { IsSighted by.now }
+    requires blocks { AreBoxed by.now blocks.now }
+    requires whole { 16 * whole ≤ length blocks.now.pieces.now }
+    requires last { length blocks.now.pieces.now < 16 * (whole + 1) }
+    requires room { length blocks.now.boxes.now ≤ length noted.old }
+    requires before { IsSortedBy by.now blocks.now.pieces.now (16 * whole) sorted noted.old }
+    ensures is { IsSortedBy by.now blocks.now.pieces.now
+        (length blocks.now.pieces.now) result noted.new }
     ensures room { length noted.new ≡ length noted.old }
 {
+    let pieces = blocks.pieces;
+    let boxes = blocks.boxes;
     let size = pieces.len() - BLOCK * whole;
     if size == 0 {
         return sorted;
     }
-    let sides = sides_of_box(margins, blocks[whole]);
-    add_block(lines, partition, pieces, whole, size, sides, sorted, noted)
+    let sides = sides_of_box(by.margins, boxes[whole]);
+    add_block(by, pieces, whole, size, sides, sorted, noted)
 }
 
 // Sorts a group of sixteen blocks: all by the group's box, or else block by block.
 fn sort_group(
-    lines: &[Edge],
-    partition: &Piece,
-    margins: Margins,
-    pieces: &[Piece],
-    blocks: &[Bounds],
-    lows: &[Vertex],
-    highs: &[Vertex],
+    by: &Candidate,
+    blocks: &Blocks,
     group: usize,
     bounds: Bounds,
     sorted: Sorted,
     noted: &mut [u32],
 ) -> Sorted
-    requires partition { IsPiece lines.now partition.now }
-    requires ray { margins.ray ≡ ray_of lines.now partition.now }
-    requires margins { AreMargins margins }
-    requires pieces { All (IsPiece lines.now) pieces.now }
-    requires blocks { AreBlocks (boxes_of lines.now pieces.now) blocks.now }
-    requires corners { AreCorners margins.ray blocks.now lows.now highs.now }
-    requires few { length pieces.now < 2 ^ 32 }
-    requires within { 256 * (group + 1) ≤ length pieces.now }
-    requires holds { All (HoldsPiece lines.now bounds) (take 256 (drop (256 * group) pieces.now)) }
-    requires room { length blocks.now ≤ length noted.old }
-    requires before { IsSorted lines.now partition.now pieces.now (256 * group) sorted noted.old }
-    ensures is { IsSorted lines.now partition.now pieces.now (256 * (group + 1)) result noted.new }
+    requires candidate { IsSighted by.now }
+    requires blocks { AreBoxed by.now blocks.now }
+    requires within { 256 * (group + 1) ≤ length blocks.now.pieces.now }
+    requires holds { All (HoldsPiece by.now.lines.now bounds)
+        (take 256 (drop (256 * group) blocks.now.pieces.now)) }
+    requires room { length blocks.now.boxes.now ≤ length noted.old }
+    requires before { IsSortedBy by.now blocks.now.pieces.now (256 * group) sorted noted.old }
+    ensures is { IsSortedBy by.now blocks.now.pieces.now (256 * (group + 1)) result noted.new }
     ensures room { length noted.new ≡ length noted.old }
 {
-    match side_of_box(margins, bounds) {
+    match side_of_box(by.margins, bounds) {
         Place::Right => Sorted {
             right: sorted.right + GROUP,
             left: sorted.left,
@@ -270,68 +239,64 @@ fn sort_group(
         },
         Place::Across => {
             let from = BLOCK * group;
-            let to = from + BLOCK;
-            sort_blocks(
-                lines, partition, margins, pieces, blocks, lows, highs, from, to, sorted, noted,
-            )
+            sort_blocks(by, blocks, from, from + BLOCK, sorted, noted)
         }
     }
 }
 
-/// Sorts all blocks of a list: first group by group, then those behind the last group.
-pub(crate) fn sort_all(
-    lines: &[Edge],
-    partition: &Piece,
-    margins: Margins,
-    pieces: &[Piece],
-    blocks: &[Bounds],
-    columns: &BoxColumns,
-    groups: &[Bounds],
-    noted: &mut [u32],
-) -> Sorted
-    requires partition { IsPiece lines.now partition.now }
-    requires ray { margins.ray ≡ ray_of lines.now partition.now }
-    requires margins { AreMargins margins }
-    requires pieces { All (IsPiece lines.now) pieces.now }
-    requires blocks { AreBlocks (boxes_of lines.now pieces.now) blocks.now }
-    requires columns { HoldsBoxes blocks.now columns.now }
-    requires groups { AreGroups (boxes_of lines.now pieces.now) groups.now }
-    requires few { length pieces.now < 2 ^ 32 }
-    requires room { length blocks.now ≤ length noted.old }
-    ensures is { IsSorted lines.now partition.now pieces.now (length pieces.now) result noted.new }
-    ensures room { length noted.new ≡ length noted.old }
+// The blocks of a list, with the columns of corners that the signs of the candidate's ray choose.
+fn blocks_for<'a>(by: &Candidate, list: &NotedPieces<'a>) -> Blocks<'a>
+    requires { AreNoted by.now.lines.now list.now }
+    ensures pieces { result.pieces.now ≡ list.now.pieces.now }
+    ensures boxes { result.boxes.now ≡ list.now.blocks.now }
+    ensures blocks { AreBoxed by.now result }
 {
-    let left_top = &columns.left_top[..blocks.len()];
-    let left_bottom = &columns.left_bottom[..blocks.len()];
-    let right_top = &columns.right_top[..blocks.len()];
-    let right_bottom = &columns.right_bottom[..blocks.len()];
-    let north = 0 <= margins.ray.dy;
-    let east = 0 <= margins.ray.dx;
+    let boxes = list.blocks;
+    let corners = list.corners;
+    let left_top = &corners.left_top[..boxes.len()];
+    let left_bottom = &corners.left_bottom[..boxes.len()];
+    let right_top = &corners.right_top[..boxes.len()];
+    let right_bottom = &corners.right_bottom[..boxes.len()];
+    let north = 0 <= by.margins.ray.dy;
+    let east = 0 <= by.margins.ray.dx;
     let low_left = column(east, left_top, left_bottom);
     let low_right = column(east, right_top, right_bottom);
-    let lows = column(north, low_left, low_right);
     let high_right = column(east, right_bottom, right_top);
     let high_left = column(east, left_bottom, left_top);
+    let lows = column(north, low_left, low_right);
     let highs = column(north, high_right, high_left);
+    Blocks {
+        pieces: list.pieces,
+        boxes,
+        lows,
+        highs,
+    }
+}
+
+/// Sorts all blocks of a list: first group by group, then those behind the last group.
+pub(crate) fn sort_all(by: &Candidate, list: &NotedPieces, noted: &mut [u32]) -> Sorted
+    requires candidate { IsSighted by.now }
+    requires list { AreNoted by.now.lines.now list.now }
+    requires room { length list.now.blocks.now ≤ length noted.old }
+    ensures is { IsSortedBy by.now list.now.pieces.now
+        (length list.now.pieces.now) result noted.new }
+    ensures room { length noted.new ≡ length noted.old }
+{
+    let groups = list.groups;
+    let blocks = blocks_for(by, list);
     let mut sorted = Sorted {
         right: 0,
         left: 0,
         count: 0,
     };
     for (g, bounds) in groups.iter().enumerate() {
-        sorted = sort_group(
-            lines, partition, margins, pieces, blocks, lows, highs, g, *bounds, sorted, noted,
-        );
+        sorted = sort_group(by, &blocks, g, *bounds, sorted, noted);
     }
-    let whole = pieces.len() / BLOCK;
+    let whole = blocks.pieces.len() / BLOCK;
     for g in groups.len()..whole.div_ceil(BLOCK) {
         let from = BLOCK * g;
         let to = (from + BLOCK).min(whole);
-        sorted = sort_blocks(
-            lines, partition, margins, pieces, blocks, lows, highs, from, to, sorted, noted,
-        );
+        sorted = sort_blocks(by, &blocks, from, to, sorted, noted);
     }
-    sort_last(
-        lines, partition, margins, pieces, blocks, whole, sorted, noted,
-    )
+    sort_last(by, &blocks, whole, sorted, noted)
 }

@@ -9,7 +9,7 @@ use crate::ends::EndColumns;
 use indexmap::IndexSet;
 use lump_records::Bounds;
 use std::alloc::{AllocError, Global};
-use tree_pieces::{Edge, Facing, Piece, lies_along, ray_of};
+use tree_pieces::{Edge, Facing, Lines, Piece, lies_along, ray_of};
 
 /// Hints that save counts: a number for the straight line of each line, and for each number the place of the last piece
 /// met on that straight line. A hint is tested before it is used, so old or wrong hints only cost time. There is also
@@ -70,23 +70,22 @@ impl StraightLines {
     ghost use Rattle.tree_choice.specs.Choices.{HasEarlier};
 
     /// The straight lines of a map's lines, with no piece met.
-    pub fn new(alloc: Global, lines: &[Edge]) -> Result<StraightLines, AllocError>
-        requires { All IsEdge lines.now }
-    {
+    pub fn new(alloc: Global, lines: &Lines) -> Result<StraightLines, AllocError> {
+        let edges = lines.as_slice();
         let mut known = IndexSet::new(alloc);
-        let mut numbers = Vec::with_capacity(alloc, lines.len())?;
+        let mut numbers = Vec::with_capacity(alloc, edges.len())?;
         let mut met = Vec::new(alloc);
-        for edge in lines {
+        for edge in edges {
             let (number, is_new) = known.insert_full(StraightLine::of(*edge))?;
             if is_new {
                 met.push(0)?;
             }
             numbers.push(u16::try_from(number).unwrap_or(u16::MAX))?;
         }
-        let ends = EndColumns::with_room(alloc, lines.len().saturating_mul(2))?;
-        let sides = BoxColumns::with_room(alloc, lines.len() / 8 + 1)?;
-        let groups = Vec::with_capacity(alloc, lines.len() / 128 + 1)?;
-        let noted = Vec::from_elem(alloc, 0, lines.len() / 8 + 1)?;
+        let ends = EndColumns::with_room(alloc, edges.len().saturating_mul(2))?;
+        let sides = BoxColumns::with_room(alloc, edges.len() / 8 + 1)?;
+        let groups = Vec::with_capacity(alloc, edges.len() / 128 + 1)?;
+        let noted = Vec::from_elem(alloc, 0, edges.len() / 8 + 1)?;
         Ok(StraightLines {
             numbers,
             met,
@@ -101,13 +100,12 @@ impl StraightLines {
     // last is tried.
     pub(crate) fn has_earlier(
         &mut self,
-        lines: &[Edge],
+        lines: &Lines,
         pieces: &[Piece],
         used: &[bool],
         at: usize,
         piece: &Piece,
     ) -> bool
-        requires lines { All IsEdge lines.now }
         requires pieces { All (IsPiece lines.now) pieces.now }
         requires known { length used.now ≡ length lines.now }
         requires few { length pieces.now < 2 ^ 32 }

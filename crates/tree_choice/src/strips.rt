@@ -5,7 +5,7 @@ ghost use Rattle.tree_pieces.specs.Pieces.{IsPiece};
 
 use crate::block_boxes::BLOCK;
 use std::alloc::{AllocError, Global};
-use tree_pieces::{Edge, Piece};
+use tree_pieces::{Edge, Lines, Piece};
 
 // The middle of a line, moved so that neither coordinate is negative.
 #[derive(Clone, Copy)]
@@ -71,14 +71,15 @@ impl Strips {
 
 /// The pieces of a list in an order in which neighbours on the map mostly stand together, so that a block of them has a
 /// small box. The order only matters for speed.
-pub fn by_place(alloc: Global, lines: &[Edge], pieces: &[Piece]) -> Result<Vec<Piece>, AllocError>
+pub fn by_place(alloc: Global, lines: &Lines, pieces: &[Piece]) -> Result<Vec<Piece>, AllocError>
     requires { All (IsPiece lines.now) pieces.now }
     ensures order { IfOk result (λ ordered. IsPermutation pieces.now ordered.items) }
     ensures each { IfOk result (λ ordered. All (IsPiece lines.now) ordered.items) }
 {
-    let strips = Strips::over(lines, pieces);
+    let edges = lines.as_slice();
+    let strips = Strips::over(edges, pieces);
     let mut ordered = pieces.to_vec(alloc)?;
-    ordered.sort_by_cached_key(|piece| match lines.get(piece.line as usize) {
+    ordered.sort_by_cached_key(|piece| match edges.get(piece.line as usize) {
         Some(edge) => strips.key(Middle::of(*edge)),
         None => (0, 0),
     })?;

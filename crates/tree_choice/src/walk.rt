@@ -1,26 +1,22 @@
 //! The counts of a list: blocks whole on one side by their boxes, the pieces of open ones by their rounded ends.
-ghost use Rattle.std.specs.Prelude.{◌≡◌, ℕ, ◌≤◌, ◌<◌, ◌^◌, ◌&&◌, ◌||◌, if◌then◌else◌, ◌∷◌, [], true, false, pos, ◌*ℤ◌, int_lt, length, take, All, MatchOption};
-ghost use Rattle.tree_pieces.specs.Plane.{IsEdge};
-ghost use Rattle.tree_pieces.specs.Local.{IsLineRay, IsSideValue};
-ghost use Rattle.tree_pieces.specs.Pieces.{IsPiece, ray_of};
+ghost use Rattle.std.specs.Prelude.{◌≡◌, ◌≤◌, ◌<◌, ◌^◌, ◌&&◌, ◌||◌, if◌then◌else◌, ◌∷◌, [], true, false, pos, ◌*ℤ◌, int_lt, length, take, All};
+ghost use Rattle.tree_pieces.specs.Local.{IsSideValue};
+ghost use Rattle.tree_pieces.specs.Pieces.{IsPiece, ends_of};
 ghost use Rattle.tree_pieces.specs.Division.{place_by};
-ghost use Rattle.tree_pieces.specs.Tree.{cost};
-ghost use Rattle.tree_pieces.specs.Boxes.{boxes_of};
-ghost use Rattle.tree_choice.specs.Counts.{AreCounts};
-ghost use Rattle.tree_choice.specs.Blocks.{AreBlocks, AreGroups};
-ghost use Rattle.tree_choice.specs.Sights.{AreMargins, IsNormal, ends_of};
-ghost use Rattle.tree_choice.specs.Columns.{AreEnds, HoldsEnds, HoldsBoxes};
-ghost use Rattle.tree_choice.specs.Sorting.{IsSorted};
+ghost use Rattle.tree_choice.specs.Candidates.{IsSighted, AreCountsBy, AreEnded, AreNoted};
+ghost use Rattle.tree_choice.specs.Counts.{AreCountsBelow};
+ghost use Rattle.tree_choice.specs.Sights.{IsNormal};
+ghost use Rattle.tree_choice.specs.Sorting.{IsSortedBy};
 ghost use Rattle.tree_choice.specs.Clear.{AreCountsBut, flagged, pieces_at, IsClear};
 
 use crate::block_boxes::BLOCK;
-use crate::corner_columns::BoxColumns;
+use crate::candidate::{Candidate, NotedPieces};
 use crate::counts::Counts;
-use crate::ends::{EndColumns, Ends};
-use crate::margins::{Margins, Normal, PlaceSides, margins_of, sides_of_place};
+use crate::ends::EndedPieces;
+use crate::margins::{Normal, PlaceSides, margins_of, sides_of_place};
 use crate::sorting::{Sorted, sort_all};
-use lump_records::{Bounds, Ray, Vertex, product};
-use tree_pieces::{Edge, Piece, Place, divide_on, dot_of, place_on, ray_of, value_at};
+use lump_records::{Vertex, product};
+use tree_pieces::{Ends, Lines, Piece, Place, divide_on, dot_of, place_on, ray_of, value_at};
 
 // The counts of a piece by the sides of its two ends; zero if they leave it open. All is done in numbers of 32 bits, as
 // the sums over several pieces are.
@@ -48,47 +44,33 @@ fn counts_by_sides(first: PlaceSides, last: PlaceSides) -> Counts
 
 // The counts of a piece by its rounded ends; zero unless both lie farther from the partition's straight line than
 // rounding may move them.
-fn count_clear(
-    lines: &[Edge],
-    partition: &Piece,
-    margins: Margins,
-    normal: Normal,
-    piece: &Piece,
-    ends: Ends,
-) -> Counts
-    requires ray { margins.ray ≡ ray_of lines.now partition.now }
-    requires margins { AreMargins margins }
-    requires normal { IsNormal margins.ray normal }
-    requires piece { IsPiece lines.now piece.now }
-    requires ends { ends ≡ ends_of lines.now piece.now }
-    ensures { IsClear lines.now partition.now piece.now result }
+fn count_clear(by: &Candidate, normal: Normal, piece: &Piece, ends: Ends) -> Counts
+    requires candidate { IsSighted by.now }
+    requires normal { IsNormal by.now.margins.ray normal }
+    requires piece { IsPiece by.now.lines.now piece.now }
+    requires ends { ends ≡ ends_of by.now.lines.now piece.now }
+    ensures { IsClear by.now.lines.now by.now.piece.now piece.now result }
 {
-    let first = sides_of_place(margins, normal, ends.first);
-    let last = sides_of_place(margins, normal, ends.last);
+    let first = sides_of_place(by.margins, normal, ends.first);
+    let last = sides_of_place(by.margins, normal, ends.last);
     counts_by_sides(first, last)
 }
 
 // The counts of those pieces of a short list that their rounded ends decide; the others are flagged as open. There is
 // no branch, so that a machine tests several pieces at once.
-fn count_clear_ones(
-    lines: &[Edge],
-    partition: &Piece,
-    margins: Margins,
-    pieces: &[Piece],
-    firsts: &[Vertex],
-    lasts: &[Vertex],
-    flags: &mut [bool],
-) -> Counts
-    requires ray { margins.ray ≡ ray_of lines.now partition.now }
-    requires margins { AreMargins margins }
-    requires pieces { All (IsPiece lines.now) pieces.now }
-    requires ends { AreEnds lines.now pieces.now firsts.now lasts.now }
-    requires few { length pieces.now ≤ 16 }
-    requires room { length flags.old ≡ length pieces.now }
-    ensures { AreCountsBut lines.now partition.now pieces.now (flagged flags.new pieces.now)
-        result }
+fn count_clear_ones(by: &Candidate, list: &EndedPieces, flags: &mut [bool]) -> Counts
+    requires candidate { IsSighted by.now }
+    requires list { AreEnded by.now.lines.now list.now }
+    requires few { length list.now.pieces.now ≤ 16 }
+    requires room { length flags.old ≡ length list.now.pieces.now }
+    ensures { AreCountsBut by.now.lines.now by.now.piece.now list.now.pieces.now
+        (flagged flags.new list.now.pieces.now) result }
 {
-    let normals = [margins.normal; BLOCK];
+    let pieces = list.pieces;
+    let firsts = list.firsts;
+    let lasts = list.lasts;
+    let candidate = *by;
+    let normals = [candidate.margins.normal; BLOCK];
     let mut counts = Counts::NONE;
     for (n, piece) in pieces.iter().enumerate() {
         // read coordinate by coordinate, so that the compiler sees products of 16 bits
@@ -102,7 +84,7 @@ fn count_clear_ones(
                 y: lasts[n].y,
             },
         };
-        let more = count_clear(lines, partition, margins, normals[n], piece, ends);
+        let more = count_clear(&candidate, normals[n], piece, ends);
         counts = counts.plus(more);
         flags[n] = (more.right == 0) & (more.left == 0);
     }
@@ -142,14 +124,13 @@ fn lies_right(first: i64, last: i64, direction: i64) -> bool
 }
 
 // The counts of one piece by its exact place. Only a piece across the partition is divided.
-fn count_exactly(lines: &[Edge], partition: &Piece, ray: Ray, piece: &Piece) -> Counts
-    requires lines { All IsEdge lines.now }
-    requires ray { ray ≡ ray_of lines.now partition.now }
-    requires line { IsLineRay ray }
-    requires piece { IsPiece lines.now piece.now }
-    ensures { AreCounts lines.now partition.now (piece.now ∷ []) result }
+fn count_exactly(by: &Candidate, piece: &Piece) -> Counts
+    requires candidate { IsSighted by.now }
+    requires piece { IsPiece by.now.lines.now piece.now }
+    ensures { AreCountsBy by.now (piece.now ∷ []) result }
 {
-    let edge = lines[piece.line as usize];
+    let ray = by.margins.ray;
+    let edge = by.lines.line_of(piece);
     match place_on(ray, edge, piece) {
         Place::Right => Counts::ON_RIGHT,
         Place::Left => Counts::ON_LEFT,
@@ -161,18 +142,17 @@ fn count_exactly(lines: &[Edge], partition: &Piece, ray: Ray, piece: &Piece) -> 
 }
 
 // The counts of one piece: by the side of its whole line if that has one, else by its exact place.
-fn count_piece(lines: &[Edge], partition: &Piece, ray: Ray, piece: &Piece) -> Counts
-    requires lines { All IsEdge lines.now }
-    requires ray { ray ≡ ray_of lines.now partition.now }
-    requires line { IsLineRay ray }
-    requires piece { IsPiece lines.now piece.now }
-    ensures { AreCounts lines.now partition.now (piece.now ∷ []) result }
+fn count_piece(by: &Candidate, piece: &Piece) -> Counts
+    requires candidate { IsSighted by.now }
+    requires piece { IsPiece by.now.lines.now piece.now }
+    ensures { AreCountsBy by.now (piece.now ∷ []) result }
 {
-    let edge = lines[piece.line as usize];
+    let ray = by.margins.ray;
+    let edge = by.lines.line_of(piece);
     let first = value_at(ray, edge.v1);
     let last = value_at(ray, edge.v2);
     if are_apart(first, last) {
-        return count_exactly(lines, partition, ray, piece);
+        return count_exactly(by, piece);
     }
     let own = ray_of(edge, piece.side);
     let direction = dot_of(ray, own);
@@ -205,28 +185,19 @@ fn note_open(pieces: &[Piece], flags: &[bool], places: &mut [u8]) -> usize
 }
 
 // The counts of a short list, after those of all pieces but the ones at these places.
-fn count_open_ones(
-    lines: &[Edge],
-    partition: &Piece,
-    ray: Ray,
-    pieces: &[Piece],
-    places: &[u8],
-    clear: Counts,
-) -> Counts
-    requires lines { All IsEdge lines.now }
-    requires ray { ray ≡ ray_of lines.now partition.now }
-    requires line { IsLineRay ray }
-    requires pieces { All (IsPiece lines.now) pieces.now }
+fn count_open_ones(by: &Candidate, pieces: &[Piece], places: &[u8], clear: Counts) -> Counts
+    requires candidate { IsSighted by.now }
+    requires pieces { All (IsPiece by.now.lines.now) pieces.now }
     requires few { length pieces.now < 2 ^ 32 }
     requires each { All (λ k. k < length pieces.now) places.now }
-    requires clear { AreCountsBut lines.now partition.now pieces.now
+    requires clear { AreCountsBut by.now.lines.now by.now.piece.now pieces.now
         (pieces_at pieces.now places.now) clear }
-    ensures { AreCounts lines.now partition.now pieces.now result }
+    ensures { AreCountsBy by.now pieces.now result }
 {
     let mut counts = clear;
     for place in places {
         let piece = &pieces[*place as usize];
-        let more = count_piece(lines, partition, ray, piece);
+        let more = count_piece(by, piece);
         counts = counts.plus(more);
     }
     counts
@@ -234,27 +205,16 @@ fn count_open_ones(
 
 // The counts of a block: first of the pieces that their rounded ends decide, then of the others. It is None if the
 // first ones already make the cost reach the limit.
-fn count_list(
-    lines: &[Edge],
-    partition: &Piece,
-    margins: Margins,
-    pieces: &[Piece],
-    firsts: &[Vertex],
-    lasts: &[Vertex],
-    limit: u64,
-) -> Option<Counts>
-    requires lines { All IsEdge lines.now }
-    requires ray { margins.ray ≡ ray_of lines.now partition.now }
-    requires margins { AreMargins margins }
-    requires pieces { All (IsPiece lines.now) pieces.now }
-    requires ends { AreEnds lines.now pieces.now firsts.now lasts.now }
-    requires few { length pieces.now ≤ 16 }
-    ensures { MatchOption result (limit ≤ cost lines.now partition.now pieces.now)
-        (λ c. AreCounts lines.now partition.now pieces.now c) }
+fn count_list(by: &Candidate, list: &EndedPieces, limit: u64) -> Option<Counts>
+    requires candidate { IsSighted by.now }
+    requires list { AreEnded by.now.lines.now list.now }
+    requires few { length list.now.pieces.now ≤ 16 }
+    ensures { AreCountsBelow by.now.lines.now by.now.piece.now list.now.pieces.now limit result }
 {
+    let pieces = list.pieces;
     let mut all_flags = [false; BLOCK];
     let flags = &mut all_flags[..pieces.len()];
-    let clear = count_clear_ones(lines, partition, margins, pieces, firsts, lasts, flags);
+    let clear = count_clear_ones(by, list, flags);
     let all = pieces.len() as u32 + clear.splits;
     let rest = all - clear.right - clear.left;
     if limit <= clear.least_cost(rest) {
@@ -265,40 +225,28 @@ fn count_list(
     }
     let mut places = [0; BLOCK];
     let count = note_open(pieces, flags, &mut places);
-    Some(count_open_ones(
-        lines,
-        partition,
-        margins.ray,
-        pieces,
-        &places[..count],
-        clear,
-    ))
+    Some(count_open_ones(by, pieces, &places[..count], clear))
 }
 
 // The counts of a list whose blocks are sorted, open block by open block, or None as soon as the cost is known to reach
 // the limit.
 fn count_open(
-    lines: &[Edge],
-    partition: &Piece,
-    margins: Margins,
-    pieces: &[Piece],
-    firsts: &[Vertex],
-    lasts: &[Vertex],
+    by: &Candidate,
+    list: &EndedPieces,
     sorted: Sorted,
     noted: &[u32],
     limit: u64,
 ) -> Option<Counts>
-    requires lines { All IsEdge lines.now }
-    requires partition { IsPiece lines.now partition.now }
-    requires ray { margins.ray ≡ ray_of lines.now partition.now }
-    requires margins { AreMargins margins }
-    requires pieces { All (IsPiece lines.now) pieces.now }
-    requires ends { AreEnds lines.now pieces.now firsts.now lasts.now }
-    requires few { length pieces.now < 2 ^ 32 }
-    requires is { IsSorted lines.now partition.now pieces.now (length pieces.now) sorted noted.now }
-    ensures { MatchOption result (limit ≤ cost lines.now partition.now pieces.now)
-        (λ c. AreCounts lines.now partition.now pieces.now c) }
+    requires candidate { IsSighted by.now }
+    requires list { AreEnded by.now.lines.now list.now }
+    requires few { length list.now.pieces.now < 2 ^ 32 }
+    requires is { IsSortedBy by.now list.now.pieces.now
+        (length list.now.pieces.now) sorted noted.now }
+    ensures { AreCountsBelow by.now.lines.now by.now.piece.now list.now.pieces.now limit result }
 {
+    let pieces = list.pieces;
+    let firsts = list.firsts;
+    let lasts = list.lasts;
     let mut rest = pieces.len() - sorted.right - sorted.left;
     let mut counts = Counts {
         splits: 0,
@@ -311,15 +259,12 @@ fn count_open(
     for n in 0..sorted.count {
         let from = BLOCK * noted[n] as usize;
         let end = (from + BLOCK).min(pieces.len());
-        let more = match count_list(
-            lines,
-            partition,
-            margins,
-            &pieces[from..end],
-            &firsts[from..end],
-            &lasts[from..end],
-            u64::MAX,
-        ) {
+        let block = EndedPieces {
+            pieces: &pieces[from..end],
+            firsts: &firsts[from..end],
+            lasts: &lasts[from..end],
+        };
+        let more = match count_list(by, &block, u64::MAX) {
             None => return None,
             Some(more) => more,
         };
@@ -336,41 +281,32 @@ fn count_open(
 /// piece. A longer one is sorted by the boxes of its groups and blocks, each tested once, and then the pieces of open
 /// blocks are counted.
 pub(crate) fn count_by_boxes(
-    lines: &[Edge],
+    lines: &Lines,
     partition: &Piece,
-    pieces: &[Piece],
-    ends: &EndColumns,
-    blocks: &[Bounds],
-    sides: &BoxColumns,
-    groups: &[Bounds],
+    list: &NotedPieces,
     noted: &mut [u32],
     limit: u64,
 ) -> Option<Counts>
-    requires lines { All IsEdge lines.now }
     requires partition { IsPiece lines.now partition.now }
-    requires pieces { All (IsPiece lines.now) pieces.now }
-    requires ends { HoldsEnds lines.now pieces.now ends.now }
-    requires blocks { AreBlocks (boxes_of lines.now pieces.now) blocks.now }
-    requires sides { HoldsBoxes blocks.now sides.now }
-    requires groups { AreGroups (boxes_of lines.now pieces.now) groups.now }
-    requires few { length pieces.now < 2 ^ 32 }
-    requires room { length blocks.now ≤ length noted.old }
-    ensures counts { MatchOption result (limit ≤ cost lines.now partition.now pieces.now)
-        (λ c. AreCounts lines.now partition.now pieces.now c) }
+    requires list { AreNoted lines.now list.now }
+    requires room { length list.now.blocks.now ≤ length noted.old }
+    ensures counts { AreCountsBelow lines.now partition.now list.now.pieces.now limit result }
     ensures room { length noted.new ≡ length noted.old }
 {
-    let along = lines[partition.line as usize];
-    let ray = ray_of(along, partition.side);
-    let margins = margins_of(ray);
-    let firsts = &ends.firsts[..pieces.len()];
-    let lasts = &ends.lasts[..pieces.len()];
+    let by = Candidate {
+        lines,
+        piece: partition,
+        margins: margins_of(lines.ray_of(partition)),
+    };
+    let pieces = list.pieces;
+    let ended = EndedPieces {
+        pieces,
+        firsts: &list.ends.firsts[..pieces.len()],
+        lasts: &list.ends.lasts[..pieces.len()],
+    };
     if pieces.len() <= BLOCK {
-        return count_list(lines, partition, margins, pieces, firsts, lasts, limit);
+        return count_list(&by, &ended, limit);
     }
-    let sorted = sort_all(
-        lines, partition, margins, pieces, blocks, sides, groups, noted,
-    );
-    count_open(
-        lines, partition, margins, pieces, firsts, lasts, sorted, noted, limit,
-    )
+    let sorted = sort_all(&by, list, noted);
+    count_open(&by, &ended, sorted, noted, limit)
 }

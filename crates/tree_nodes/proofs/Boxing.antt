@@ -99,14 +99,6 @@ one_right lines partition p parts e = ap (λ (x : Parts). option_to_list x.right
 pub one_left : (lines : List Edge) (partition p : Piece) (parts : Parts) → parts ≡ parts_of lines partition p → option_to_list parts.left ≡ left_parts lines partition (p ∷ [])
 one_left lines partition p parts e = ap (λ (x : Parts). option_to_list x.left) e ∙ sym (consed (parts_of lines partition p).left)
 
--- a list keeps its boxes when a piece comes with its own
-pub boxed_more : (lines : List Edge) (ps : List Piece) (bs : List Bounds) (p : Piece) (b : Bounds) → bs ≡ boxes_of lines ps → b ≡ box_of lines p → bs ++ b ∷ [] ≡ boxes_of lines (ps ++ p ∷ [])
-boxed_more lines ps bs p b e f = ap (λ (x : List Bounds). x ++ b ∷ []) e ∙ ap (λ (x : Bounds). boxes_of lines ps ++ x ∷ []) f ∙ spread ps
-  where
-    spread : (qs : List Piece) → boxes_of lines qs ++ box_of lines p ∷ [] ≡ boxes_of lines (qs ++ p ∷ [])
-    spread [] = refl
-    spread (q ∷ qs) = ap (λ (x : List Bounds). box_of lines q ∷ x) (spread qs)
-
 -- what is listed with the parts of the next piece, and what the pieces behind it will add
 pub gained : (f : Piece → Option Piece) (ps : List Piece) (n : ℕ) (d : Piece) (old new : List Piece) → n < length ps
     → new ≡ old ++ filter_map f (get_or ps n d ∷ []) → old ++ filter_map f (drop n ps) ≡ filter_map f ps → new

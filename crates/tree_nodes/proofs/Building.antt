@@ -116,10 +116,6 @@ module _ (lines : List Edge) (all : All IsEdge lines) where
       let l = first_many 0 lines in
       (t, tree_of t the_tree.1, omega arith)
 
-  -- the first list is made of pieces
-  pub first_pieced : All (IsPiece lines) (first_pieces lines)
-  first_pieced = first_are_pieces lines all
-
   -- what the recursion was given
   pub reached_at : (ps : List Piece) (used : List Bool) → ps ≡ first_pieces lines → used ≡ none_used lines → IsReached lines used ps
   reached_at ps used e f = subst (λ (u : List Bool). IsReached lines u ps) (sym f) (subst (IsReached lines (none_used lines)) (sym e) (start_reached lines all))

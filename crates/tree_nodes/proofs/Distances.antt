@@ -16,7 +16,6 @@ use Rattle.tree_pieces.specs.declared.piece.Piece.{Piece}
 use Rattle.tree_pieces.specs.Pieces.{edge_of, ray_of}
 use Rattle.tree_pieces.specs.Angle.{IsAngle}
 use Rattle.tree_pieces.specs.LineAngles.{IsRayAngle, AreAngles}
-use Rattle.lump_records.specs.declared.records.Vertex.{Vertex}
 use Rattle.tree_pieces.proofs.Rounding.{rounded_in}
 
 part_square : (u w : ℤ) → pos 0 ≤ℤ u → u ≤ℤ w → (u *ℤ u) ≤ℤ (w *ℤ w)
@@ -105,10 +104,3 @@ against_angle lines angles p opposite a l line e h =
     let x = subst (λ (z : ℤ). IsAngle z (neg_ℤ r.dy) opposite) (sym (turned_dx own)) k in
     let y = subst (λ (z : ℤ). IsAngle (ray own Against).dx z opposite) (sym (turned_dy own)) x in
     subst (λ (f : Facing). IsRayAngle (ray own f) opposite) (sym e) y
-
--- ---- places
-pub place_is : (v : Vertex) (e : Edge) (t : Frac) → v.x ≡ rounded e.v1.x e.v2.x t → v.y ≡ rounded e.v1.y e.v2.y t → v ≡ point_at e t
-place_is v e t a b =
-    let across : ℤ → Vertex = λ x. record { x = x; y = v.y } in
-    let upward : ℤ → Vertex = λ y. record { x = rounded e.v1.x e.v2.x t; y = y } in
-    ap across a ∙ ap upward b

@@ -127,9 +127,6 @@ root_last : (t : Tree) → 0 < branch_count t → child_of t 0 0 + 1 ≡ branch_
 root_last (Leaf ps) h = absurd (omega arith)
 root_last (Branch p right left) h = omega arith
 
-no_branch : (t : Tree) → branch_count t ≡ 0 → leaf_count t ≡ 1
-no_branch t e = let o = one_leaf_more t in omega arith
-
 pub are_tree : (lines : List Edge) (t : Tree) (subs : List Sub) (nodes : List Node) → HasNodes lines t 0 0 nodes
     → IsLaid nodes subs lines t 0 0 0 → length subs ≡ leaf_count t → length subs ≤ 32767 → AreTree subs nodes
 are_tree lines t subs nodes has lay many few =

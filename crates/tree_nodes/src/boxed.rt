@@ -1,12 +1,11 @@
 //! A list of pieces with the box of each, and the same pieces in an order by their places on the map.
 ghost use Rattle.std.specs.Prelude.{◌≡◌, [], All, IfOk};
-ghost use Rattle.tree_pieces.specs.Plane.{IsEdge};
 ghost use Rattle.tree_pieces.specs.Pieces.{IsPiece};
 ghost use Rattle.tree_nodes.specs.Boxed.{IsBoxed, IsPlacedList};
 
 use lump_records::Bounds;
 use std::alloc::{AllocError, Global};
-use tree_pieces::{Edge, Piece, boxes_in};
+use tree_pieces::{Lines, Piece, boxes_in};
 
 /// A list of pieces, with the box of each in the same order.
 #[derive(Drop)]
@@ -29,11 +28,10 @@ impl BoxedPieces {
     /// These pieces, each with its box.
     pub(crate) fn of(
         alloc: Global,
-        lines: &[Edge],
+        lines: &Lines,
         pieces: Vec<Piece>,
     ) -> Result<BoxedPieces, AllocError>
-        requires lines { All IsEdge lines.now }
-        requires pieces { All (IsPiece lines.now) pieces.items }
+        requires { All (IsPiece lines.now) pieces.items }
         ensures pieces { IfOk result (λ list. list.pieces.items ≡ pieces.items) }
         ensures boxed { IfOk result (IsBoxed lines.now) }
     {
@@ -67,11 +65,10 @@ impl PlacedPieces {
     /// These pieces, each with its box, without an order by places.
     pub(crate) fn of(
         alloc: Global,
-        lines: &[Edge],
+        lines: &Lines,
         pieces: Vec<Piece>,
     ) -> Result<PlacedPieces, AllocError>
-        requires lines { All IsEdge lines.now }
-        requires pieces { All (IsPiece lines.now) pieces.items }
+        requires { All (IsPiece lines.now) pieces.items }
         ensures pieces { IfOk result (λ list. list.pieces.items ≡ pieces.items) }
         ensures listed { IfOk result (IsPlacedList lines.now) }
     {

@@ -1,6 +1,5 @@
 //! The calls of the crate: they build the tree of lines over drawn vertices, or that of a map.
 ghost use Rattle.std.specs.Prelude.{◌≡◌, ◌<◌, ◌≤◌, length, All, ◌↔◌, [], Err, IfOk, IfErr, replicate, false};
-ghost use Rattle.tree_pieces.specs.Plane.{IsEdge};
 ghost use Rattle.tree_nodes.specs.Growth.{lists_of};
 ghost use Rattle.tree_pieces.specs.Edges.{edges_of};
 ghost use Rattle.tree_nodes.specs.Sound.{AllDiffer, IsWithinLimits};
@@ -16,7 +15,7 @@ use lump_records::{ITEM_LIMIT, Node, Seg, Sub, Vertex};
 use map_tables::{Kind, Map};
 use std::alloc::{AllocError, Global};
 use tree_choice::StraightLines;
-use tree_pieces::{Edge, Points, angles_in, edges_of, pieces_in};
+use tree_pieces::{Lines, Points, angles_in, edges_of, pieces_in};
 
 // How many nodes a path may have.
 const DEEPEST: u32 = 1024;
@@ -51,13 +50,13 @@ fn nothing_grown(alloc: Global, count: usize) -> Result<Grown, AllocError>
 }
 
 // The tree of the lines: the pieces of its leaves, how many each leaf has, and its nodes.
-fn grown_of(alloc: Global, lines: &[Edge]) -> Result<Grown, TreeError>
-    requires lines { All IsEdge lines.now }
+fn grown_of(alloc: Global, lines: &Lines) -> Result<Grown, TreeError>
     requires few { length lines.now ≤ 32767 }
     requires some { 0 < length lines.now }
     ensures lists { IfOk result (λ grown. AreTreeLists lines.now (lists_of grown)) }
     ensures refused { IfErr result (IsTreeRefused lines.now) }
 {
+    lines.are_drawn();
     let pieces = match pieces_in(alloc, lines) {
         Err(_) => return Err(TreeError::OutOfMemory),
         Ok(pieces) => pieces,
@@ -107,11 +106,10 @@ fn vertices_of(alloc: Global, points: &Points) -> Result<Vec<Vertex>, AllocError
 // The tree of the lines, which has grown, over the drawn vertices.
 fn number_over(
     alloc: Global,
-    lines: &[Edge],
+    lines: &Lines,
     grown: Grown,
     points: &mut Points,
 ) -> Result<Built, TreeError>
-    requires lines { All IsEdge lines.now }
     requires few { length lines.now ≤ 32767 }
     requires some { 0 < length lines.now }
     requires lists { AreTreeLists lines.now (lists_of grown) }
@@ -156,8 +154,7 @@ fn number_over(
 ///   comes last, only if the tree stays within all other limits.
 /// - `TooDeep`: a path of the tree has more than 1,024 nodes.
 /// - `OutOfMemory`.
-pub fn build_lines(alloc: Global, lines: &[Edge], drawn: &[Vertex]) -> Result<Built, TreeError>
-    requires { All IsEdge lines.now }
+pub fn build_lines(alloc: Global, lines: &Lines, drawn: &[Vertex]) -> Result<Built, TreeError>
     ensures built { IfOk result (IsBuiltOver lines.now drawn.now) }
     ensures refused { IfErr result (IsRefusalOver lines.now drawn.now) }
     ensures nothing { result ≡ Err TreeError.NothingToBuild ↔ length lines.now ≡ 0 }
@@ -166,7 +163,8 @@ pub fn build_lines(alloc: Global, lines: &[Edge], drawn: &[Vertex]) -> Result<Bu
     ensures last { length drawn.now ≤ 32767 → result ≡ Err TreeError.TooManyVertices →
         IsWithinLimits lines.now }
 {
-    if lines.is_empty() {
+    lines.are_drawn();
+    if lines.len() == 0 {
         return Err(TreeError::NothingToBuild);
     }
     if drawn.len() > ITEM_LIMIT {

@@ -1,13 +1,12 @@
 //! The least boxes that hold some places.
 ghost use Rattle.std.specs.Prelude.{◌≡◌, ◌<◌, ◌≤ℤ◌, ◌⊎◌, length, All};
-ghost use Rattle.tree_pieces.specs.Plane.{IsEdge};
 ghost use Rattle.tree_pieces.specs.Pieces.{IsPiece};
 ghost use Rattle.tree_pieces.specs.Nodes.{IsLeastBox};
 ghost use Rattle.tree_nodes.specs.TreeLists.{IsEndOf};
 ghost use Rattle.tree_nodes.specs.Corners.{IsBoxAt, IsJoined, IsOneEnd};
 
 use lump_records::{Bounds, Vertex};
-use tree_pieces::{Edge, Piece, point};
+use tree_pieces::{Lines, Piece};
 
 fn lesser(a: i16, b: i16) -> i16
     ensures first { result ≤ℤ a }
@@ -50,20 +49,16 @@ pub(crate) fn joined(a: Bounds, b: Bounds) -> Bounds
 }
 
 // The least box that holds a piece's rounded ends.
-fn box_of_ends(lines: &[Edge], piece: &Piece) -> Bounds
-    requires lines { All IsEdge lines.now }
+fn box_of_ends(lines: &Lines, piece: &Piece) -> Bounds
     requires piece { IsPiece lines.now piece.now }
     ensures { IsLeastBox result (IsOneEnd lines.now piece.now) }
 {
-    let edge = lines[piece.line as usize];
-    let first = point(edge.v1, edge.v2, piece.from);
-    let last = point(edge.v1, edge.v2, piece.to);
-    joined(box_at(first), box_at(last))
+    let ends = lines.ends_of(piece);
+    joined(box_at(ends.first), box_at(ends.last))
 }
 
 /// The least box that holds the rounded ends of some pieces.
-pub(crate) fn bounds_of(lines: &[Edge], pieces: &[Piece]) -> Bounds
-    requires lines { All IsEdge lines.now }
+pub(crate) fn bounds_of(lines: &Lines, pieces: &[Piece]) -> Bounds
     requires pieces { All (IsPiece lines.now) pieces.now }
     requires some { 0 < length pieces.now }
     ensures { IsLeastBox result (IsEndOf lines.now pieces.now) }

@@ -1,6 +1,5 @@
 //! Grows the tree of a list: its leaves and nodes in the order right tree, left tree, node.
 ghost use Rattle.std.specs.Prelude.{◌≡◌, ◌<◌, ◌≤◌, ◌^◌, length, vec_len, IfOk, IfErr, All};
-ghost use Rattle.tree_pieces.specs.Plane.{IsEdge};
 ghost use Rattle.tree_pieces.specs.Pieces.{IsPiece};
 ghost use Rattle.tree_pieces.specs.Tree.{IsReached};
 ghost use Rattle.tree_pieces.specs.Local.{IsLineRay};
@@ -15,7 +14,7 @@ use crate::step::{Step, step_in};
 use lump_records::{Bounds, Node, Ray};
 use std::alloc::Global;
 use tree_choice::StraightLines;
-use tree_pieces::{Edge, Piece, ray_of};
+use tree_pieces::{Lines, Piece};
 
 // The greatest number of segs or of subsectors.
 const MOST: usize = 32767;
@@ -36,8 +35,7 @@ pub(crate) struct Child {
 }
 
 // Appends a leaf, as one subsector.
-fn put_leaf(lines: &[Edge], leaf: &[Piece], grown: &mut Grown) -> Result<Child, TreeError>
-    requires lines { All IsEdge lines.now }
+fn put_leaf(lines: &Lines, leaf: &[Piece], grown: &mut Grown) -> Result<Child, TreeError>
     requires pieces { All (IsPiece lines.now) leaf.now }
     requires some { 0 < length leaf.now }
     ensures ok { IfOk result
@@ -86,20 +84,19 @@ fn node_of(ray: Ray, right: Child, left: Child) -> Node
 
 // Appends the node of two trees, behind the nodes of both.
 fn put_node(
-    lines: &[Edge],
+    lines: &Lines,
     partition: &Piece,
     right: Child,
     left: Child,
     grown: &mut Grown,
 ) -> Result<Child, TreeError>
-    requires lines { All IsEdge lines.now }
     requires partition { IsPiece lines.now partition.now }
     requires few { length grown.old.nodes.items < 32768 }
     ensures ok { IfOk result
         (IsNodePut lines.now partition.now right left (lists_of grown.old) (lists_of grown.new)) }
     ensures memory { IfErr result (λ e. e ≡ TreeError.OutOfMemory) }
 {
-    let ray = ray_of(lines[partition.line as usize], partition.side);
+    let ray = lines.ray_of(partition);
     let number = grown.nodes.len();
     let node = node_of(ray, right, left);
     match grown.nodes.push(node) {
@@ -115,14 +112,13 @@ fn put_node(
 /// partitions above, and `room` is how many nodes a path may still have.
 pub(crate) fn grow(
     alloc: Global,
-    lines: &[Edge],
+    lines: &Lines,
     list: PlacedPieces,
     used: &mut [bool],
     straight: &mut StraightLines,
     room: u32,
     grown: &mut Grown,
 ) -> Result<Child, TreeError>
-    requires lines { All IsEdge lines.now }
     requires reached { IsReached lines.now used.old list.pieces.items }
     requires boxed { IsPlacedList lines.now list }
     requires some { 0 < length list.pieces.items }
@@ -135,6 +131,7 @@ pub(crate) fn grow(
     ensures refused { IfErr result
         (IsRefused lines.now list.pieces.items used.old room (lists_of grown.old)) }
 {
+    lines.are_drawn();
     let step = match step_in(alloc, lines, list, used, straight) {
         Err(_) => return Err(TreeError::OutOfMemory),
         Ok(step) => step,

@@ -1,6 +1,5 @@
 //! Divides a list by a partition into the parts on its two sides.
 ghost use Rattle.std.specs.Prelude.{◌≡◌, ◌++◌, ◌∷◌, [], ◌&&◌, All, false, is_some, option_to_list, IfOk, IfSome, OnOk};
-ghost use Rattle.tree_pieces.specs.Plane.{IsEdge};
 ghost use Rattle.tree_pieces.specs.Local.{IsLineRay};
 ghost use Rattle.tree_pieces.specs.Pieces.{IsPiece, ray_of};
 ghost use Rattle.tree_pieces.specs.Division.{right_parts, left_parts};
@@ -11,7 +10,7 @@ use crate::boxed::BoxedPieces;
 use lump_records::{Bounds, Ray};
 use std::alloc::{AllocError, Global};
 use tree_choice::{Choice, box_side};
-use tree_pieces::{Edge, Parts, Piece, Place, box_on, divide_in, ray_of};
+use tree_pieces::{Lines, Parts, Piece, Place, box_on, divide_in};
 
 /// The parts of a list on the two sides of a partition, in the list's order.
 #[derive(Drop)]
@@ -28,14 +27,13 @@ fn is_split(parts: &Parts) -> bool
 }
 
 // The box of a part of a piece: its own if the piece is split, else the piece's.
-fn box_of_part(lines: &[Edge], part: &Piece, split: bool, bounds: Bounds) -> Bounds
-    requires lines { All IsEdge lines.now }
+fn box_of_part(lines: &Lines, part: &Piece, split: bool, bounds: Bounds) -> Bounds
     requires part { IsPiece lines.now part.now }
     requires bounds { split ≡ false → bounds ≡ box_of lines.now part.now }
     ensures { result ≡ box_of lines.now part.now }
 {
     if split {
-        let edge = lines[part.line as usize];
+        let edge = lines.line_of(part);
         box_on(edge, part)
     } else {
         bounds
@@ -44,13 +42,12 @@ fn box_of_part(lines: &[Edge], part: &Piece, split: bool, bounds: Bounds) -> Bou
 
 // Appends a part of a piece with its box, if the part is kept.
 fn put_part(
-    lines: &[Edge],
+    lines: &Lines,
     part: Option<Piece>,
     split: bool,
     bounds: Bounds,
     list: &mut BoxedPieces,
 ) -> Result<(), AllocError>
-    requires lines { All IsEdge lines.now }
     requires part { IfSome part (IsPiece lines.now) }
     requires bounds { split ≡ false → IfSome part (λ p. bounds ≡ box_of lines.now p) }
     requires boxed { IsBoxed lines.now list.old }
@@ -71,14 +68,13 @@ fn put_part(
 
 // Appends the parts of a piece that the partition may cross.
 fn put_divided(
-    lines: &[Edge],
+    lines: &Lines,
     partition: &Piece,
     piece: &Piece,
     bounds: Bounds,
     right: &mut BoxedPieces,
     left: &mut BoxedPieces,
 ) -> Result<(), AllocError>
-    requires lines { All IsEdge lines.now }
     requires partition { IsPiece lines.now partition.now }
     requires piece { IsPiece lines.now piece.now }
     requires bounds { bounds ≡ box_of lines.now piece.now }
@@ -100,7 +96,7 @@ fn put_divided(
 
 // Appends the parts of a piece. If its box lies on one side, the whole piece goes there.
 fn put_parts(
-    lines: &[Edge],
+    lines: &Lines,
     partition: &Piece,
     ray: Ray,
     piece: &Piece,
@@ -108,7 +104,6 @@ fn put_parts(
     right: &mut BoxedPieces,
     left: &mut BoxedPieces,
 ) -> Result<(), AllocError>
-    requires lines { All IsEdge lines.now }
     requires partition { IsPiece lines.now partition.now }
     requires ray { ray ≡ ray_of lines.now partition.now }
     requires line { IsLineRay ray }
@@ -134,13 +129,12 @@ fn put_parts(
 /// that there is room for them; wrong numbers would only cost time.
 pub(crate) fn part_list(
     alloc: Global,
-    lines: &[Edge],
+    lines: &Lines,
     partition: &Piece,
     choice: Choice,
     pieces: &[Piece],
     boxes: &[Bounds],
 ) -> Result<Sides, AllocError>
-    requires lines { All IsEdge lines.now }
     requires partition { IsPiece lines.now partition.now }
     requires pieces { All (IsPiece lines.now) pieces.now }
     requires boxes { boxes.now ≡ boxes_of lines.now pieces.now }
@@ -151,8 +145,7 @@ pub(crate) fn part_list(
     ensures right_boxed { IfOk result (λ sides. IsBoxed lines.now sides.right) }
     ensures left_boxed { IfOk result (λ sides. IsBoxed lines.now sides.left) }
 {
-    let along = lines[partition.line as usize];
-    let ray = ray_of(along, partition.side);
+    let ray = lines.ray_of(partition);
     let mut right = BoxedPieces::with_room(alloc, choice.right)?;
     let mut left = BoxedPieces::with_room(alloc, choice.left)?;
     for (n, piece) in pieces.iter().enumerate() {

@@ -1,6 +1,5 @@
 //! Makes segs of pieces and numbers their ends.
 ghost use Rattle.std.specs.Prelude.{◌≡◌, ◌≤◌, length, All, IfOk, IfErr};
-ghost use Rattle.tree_pieces.specs.Plane.{IsEdge};
 ghost use Rattle.tree_pieces.specs.Pieces.{IsPiece};
 ghost use Rattle.tree_pieces.specs.LineAngles.{AreAngles};
 ghost use Rattle.tree_nodes.specs.TreeLists.{IsSegOf, AreSegsOf};
@@ -10,7 +9,7 @@ use crate::error::TreeError;
 use crate::shape::shape_of;
 use lump_records::{Seg, Vertex};
 use std::alloc::Global;
-use tree_pieces::{Edge, Piece, Points, SegsError};
+use tree_pieces::{Lines, Piece, Points, SegsError};
 
 // The number of the vertex at a place, which is added if there is none.
 fn number_of(points: &mut Points, place: Vertex) -> Result<u16, TreeError>
@@ -28,11 +27,10 @@ fn number_of(points: &mut Points, place: Vertex) -> Result<u16, TreeError>
 // The seg of a piece. Its start is numbered before its end.
 fn seg_of(
     points: &mut Points,
-    lines: &[Edge],
+    lines: &Lines,
     angles: &[u16],
     piece: &Piece,
 ) -> Result<Seg, TreeError>
-    requires lines { All IsEdge lines.now }
     requires angles { AreAngles lines.now angles.now }
     requires piece { IsPiece lines.now piece.now }
     requires few { length points.old ≤ 32767 }
@@ -63,11 +61,10 @@ fn seg_of(
 pub(crate) fn segs_of(
     alloc: Global,
     points: &mut Points,
-    lines: &[Edge],
+    lines: &Lines,
     pieces: &[Piece],
     angles: &[u16],
 ) -> Result<Vec<Seg>, TreeError>
-    requires lines { All IsEdge lines.now }
     requires angles { AreAngles lines.now angles.now }
     requires pieces { All (IsPiece lines.now) pieces.now }
     requires few { length points.old ≤ 32767 }

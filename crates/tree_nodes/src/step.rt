@@ -1,12 +1,10 @@
 //! One step of the division: a leaf, or a partition and two lists. All ways to choose give the same partition; they
 //! differ in time alone.
-ghost use Rattle.std.specs.Prelude.{◌≡◌, ◌<◌, ◌≤◌, ◌^◌, length, vec_len, All, IfOk, IfSome, MatchOption};
-ghost use Rattle.tree_pieces.specs.Plane.{IsEdge};
+ghost use Rattle.std.specs.Prelude.{◌≡◌, ◌<◌, ◌≤◌, ◌^◌, length, vec_len, All, IfOk, IfSome};
 ghost use Rattle.tree_pieces.specs.Pieces.{IsPiece};
 ghost use Rattle.tree_pieces.specs.Boxes.{boxes_of};
 ghost use Rattle.tree_pieces.specs.Division.{right_parts, left_parts};
-ghost use Rattle.tree_pieces.specs.Tree.{HasNoChoice};
-ghost use Rattle.tree_choice.specs.Choices.{IsChoice};
+ghost use Rattle.tree_choice.specs.Choices.{IsChosen};
 ghost use Rattle.tree_nodes.specs.Boxed.{IsPlaced, IsPlacedList};
 ghost use Rattle.tree_nodes.specs.Growth.{IsListStep, HasBoxes};
 
@@ -15,7 +13,7 @@ use crate::parting::{Sides, part_list};
 use lump_records::Bounds;
 use std::alloc::{AllocError, Global};
 use tree_choice::{Choice, StraightLines, blocks_of, by_place, choose_in_boxes, choose_ordered};
-use tree_pieces::{Edge, Piece};
+use tree_pieces::{Lines, Piece};
 
 // The most pieces of a list that is one block.
 const FEW: usize = 16;
@@ -59,11 +57,10 @@ struct PlacedSides {
 // The order by places of a long list: the one that it has already, or else a new one.
 fn order_of(
     alloc: Global,
-    lines: &[Edge],
+    lines: &Lines,
     list: &[Piece],
     placed: Option<BoxedPieces>,
 ) -> Result<Option<BoxedPieces>, AllocError>
-    requires lines { All IsEdge lines.now }
     requires pieces { All (IsPiece lines.now) list.now }
     requires placed { IfSome placed (IsPlaced lines.now list.now) }
     ensures { IfOk result (λ order. IfSome order (IsPlaced lines.now list.now)) }
@@ -85,13 +82,12 @@ fn order_of(
 // `choice` tells how many parts there are; if they are few on both sides, they get no order.
 fn parted_order(
     alloc: Global,
-    lines: &[Edge],
+    lines: &Lines,
     partition: &Piece,
     choice: Choice,
     list: &[Piece],
     placed: Option<BoxedPieces>,
 ) -> Result<Orders, AllocError>
-    requires lines { All IsEdge lines.now }
     requires partition { IsPiece lines.now partition.now }
     requires pieces { All (IsPiece lines.now) list.now }
     requires placed { IfSome placed (IsPlaced lines.now list.now) }
@@ -130,14 +126,13 @@ fn parted_order(
 // its parts stand, its own memory is free for those of the list.
 fn part_placed(
     alloc: Global,
-    lines: &[Edge],
+    lines: &Lines,
     partition: &Piece,
     choice: Choice,
     list: &[Piece],
     boxes: &[Bounds],
     placed: Option<BoxedPieces>,
 ) -> Result<PlacedSides, AllocError>
-    requires lines { All IsEdge lines.now }
     requires partition { IsPiece lines.now partition.now }
     requires pieces { All (IsPiece lines.now) list.now }
     requires boxes { boxes.now ≡ boxes_of lines.now list.now }
@@ -160,19 +155,17 @@ fn part_placed(
 // The best candidate of a list that has an order by places, by the boxes in that order.
 fn choice_by_place(
     alloc: Global,
-    lines: &[Edge],
+    lines: &Lines,
     list: &[Piece],
     order: &BoxedPieces,
     used: &[bool],
     straight: &mut StraightLines,
 ) -> Result<Option<Choice>, AllocError>
-    requires lines { All IsEdge lines.now }
     requires pieces { All (IsPiece lines.now) list.now }
     requires order { IsPlaced lines.now list.now order.now }
     requires known { length used.now ≡ length lines.now }
     requires few { length list.now < 2 ^ 31 }
-    ensures { IfOk result (λ choice. MatchOption choice (HasNoChoice lines.now list.now used.now)
-        (λ c. IsChoice lines.now list.now used.now c)) }
+    ensures { IfOk result (IsChosen lines.now list.now used.now) }
 {
     let blocks = blocks_of(alloc, &order.boxes)?;
     Ok(choose_ordered(
@@ -188,42 +181,39 @@ fn choice_by_place(
 
 // The best candidate of a list of one block. The choice tests such pieces one by one and never reads the block's box.
 fn choice_of_few(
-    lines: &[Edge],
+    lines: &Lines,
     list: &[Piece],
     boxes: &[Bounds],
     used: &[bool],
     straight: &mut StraightLines,
 ) -> Option<Choice>
-    requires lines { All IsEdge lines.now }
     requires pieces { All (IsPiece lines.now) list.now }
     requires boxes { boxes.now ≡ boxes_of lines.now list.now }
     requires known { length used.now ≡ length lines.now }
     requires some { 0 < length list.now }
     requires few { length list.now ≤ 16 }
-    ensures { MatchOption result (HasNoChoice lines.now list.now used.now)
-        (λ c. IsChoice lines.now list.now used.now c) }
+    ensures { IsChosen lines.now list.now used.now result }
 {
+    lines.are_drawn();
     choose_in_boxes(lines, list, boxes, &[EVERYWHERE], used, straight)
 }
 
 // The best candidate of a list: by the boxes of its order by places if it has one, else by its own boxes.
 fn choice_of(
     alloc: Global,
-    lines: &[Edge],
+    lines: &Lines,
     list: &[Piece],
     boxes: &[Bounds],
     placed: &Option<BoxedPieces>,
     used: &[bool],
     straight: &mut StraightLines,
 ) -> Result<Option<Choice>, AllocError>
-    requires lines { All IsEdge lines.now }
     requires pieces { All (IsPiece lines.now) list.now }
     requires boxes { boxes.now ≡ boxes_of lines.now list.now }
     requires placed { IfSome placed.now (IsPlaced lines.now list.now) }
     requires known { length used.now ≡ length lines.now }
     requires few { length list.now < 2 ^ 31 }
-    ensures { IfOk result (λ choice. MatchOption choice (HasNoChoice lines.now list.now used.now)
-        (λ c. IsChoice lines.now list.now used.now c)) }
+    ensures { IfOk result (IsChosen lines.now list.now used.now) }
 {
     match placed {
         Some(order) => choice_by_place(alloc, lines, list, order, used, straight),
@@ -240,12 +230,11 @@ fn choice_of(
 /// What a list of pieces becomes: a leaf if no piece can be chosen, else the parts by the best piece.
 pub(crate) fn step_in(
     alloc: Global,
-    lines: &[Edge],
+    lines: &Lines,
     list: PlacedPieces,
     used: &[bool],
     straight: &mut StraightLines,
 ) -> Result<Step, AllocError>
-    requires lines { All IsEdge lines.now }
     requires pieces { All (IsPiece lines.now) list.pieces.items }
     requires boxed { IsPlacedList lines.now list }
     requires known { length used.now ≡ length lines.now }

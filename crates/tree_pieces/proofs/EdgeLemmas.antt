@@ -12,9 +12,7 @@ use Rattle.lump_records.specs.Drawing.{IsDrawable, squared_distance}
 use Rattle.map_tables.specs.Tables.{Tables}
 use Rattle.map_tables.specs.WellFormed.{WellFormed, HasEnds, nth_vertex}
 use Rattle.tree_pieces.specs.declared.edge.Edge.{Edge}
-use Rattle.tree_pieces.specs.declared.piece.Piece.{Piece}
 use Rattle.tree_pieces.specs.Plane.{IsEdge}
-use Rattle.tree_pieces.specs.Pieces.{IsPiece, edge_of, no_edge}
 use Rattle.tree_pieces.specs.Edges.{edge_between, edges_in, edges_of, IsBuildable}
 use Rattle.tree_pieces.proofs.ItemReads.{one_more, mapped}
 use Rattle.tree_pieces.proofs.Lengths.{square_not_negative}
@@ -94,9 +92,6 @@ edges_are m h = All-map IsEdge (edge_between m.vertices) m.lines (each m.lines h
         (each ls (All-tail (HasEnds m.vertices) l ls a))
 
 -- ---- the line of a piece
-pub edge_drawn : (lines : List Edge) (p : Piece) → All IsEdge lines → IsPiece lines p → IsEdge (edge_of lines p)
-edge_drawn lines p all h = All-get_or IsEdge lines p.line no_edge h.line_in all
-
 -- a map has as many edges as lines
 pub as_many : (m : Tables) → length (edges_of m) ≡ length m.lines
 as_many m = length-map m.lines (edge_between m.vertices)

@@ -77,9 +77,6 @@ zero_and : (n : ℕ) → 0 + n ≡ n
 zero_and n = omega arith
 
 module _ (lines : List Edge) (line k : ℕ) (side : Facing) where
-  weight : Piece → ℕ
-  weight p = cond (covers lines line side k p) 1 0
-
   one_piece : (p : Piece) (b : Bool) → covers lines line side k p ≡ b → cover lines line side k (p ∷ []) ≡ cond b 1 0
   one_piece p b e = sum_by-cons (λ (q : Piece). cond (covers lines line side k q) 1 0) p [] ∙ ap (λ (c : Bool). cond c 1 0 + 0) e ∙ by_bool b
     where

@@ -1,11 +1,10 @@
 -- What reading an item of a list by its number gives, and the items before it.
-use Rattle.std.proofs.Common.{◌≡◌, ◌≢◌, ℕ, zero, suc, ◌+◌, ◌<◌, ◌≤◌, List, [], ◌∷◌, ◌++◌, length, map, take, drop, get_or, append_assoc, Option, Some, IfSome, refl, sym, ap, ◌∙◌, subst, add-one, arith}
+use Rattle.std.proofs.Common.{◌≡◌, ℕ, zero, suc, ◌+◌, ◌<◌, ◌≤◌, List, [], ◌∷◌, ◌++◌, length, map, take, drop, get_or, append_assoc, Option, Some, IfSome, refl, sym, ap, ◌∙◌, subst, add-one, arith}
 use Rattle.std.proofs.lemmas.List.{append-nil, at_drop_more, at_drop_all}
-use Rattle.std.specs.Prelude.{AllPairs}
 use Rattle.std.specs.Bool.{⊤}
 use Rattle.std.specs.List.{slice_get}
 use Rattle.std.specs.Option.{IsSome}
-use Rattle.std.proofs.lemmas.Option.{MatchOption-at_some, slice_get-get_or, get_or_from_slice_get, slice_get_within}
+use Rattle.std.proofs.lemmas.Option.{MatchOption-at_some, slice_get-get_or}
 
 -- what a clause says of the item that was read
 pub at_some : {A : Type 0} {o : Option A} (P : A → Type 0) (x : A) → o ≡ Some x → IfSome o P → P x
@@ -29,18 +28,6 @@ pub mapped : {A B : Type 0} (f : A → B) (xs : List A) (n : ℕ) (x : A) → sl
 mapped f [] n x e = cc
 mapped f (y ∷ xs) zero x e = let s : y ≡ x = cc in ap (λ z. f z ∷ []) (sym s)
 mapped f (y ∷ xs) (suc n) x e = ap (λ zs. f y ∷ zs) (mapped f xs n x e)
-
--- an item of the first n stands before them
-pub is_before : {A : Type 0} (xs : List A) (n k : ℕ) (x : A) → slice_get (take n xs) k ≡ Some x → (k < n) × (slice_get xs k ≡ Some x)
-is_before xs zero k x e = cc
-is_before [] (suc n) k x e = cc
-is_before (y ∷ xs) (suc n) zero x e = (omega arith, e)
-is_before (y ∷ xs) (suc n) (suc k) x e = let h = is_before xs n k x e in let l = h.0 in (omega arith, h.1)
-
--- where no two items are one, an item stands at one place
-pub one_place : {A : Type 0} (xs : List A) → AllPairs (λ x y. x ≢ y) xs → (i j : ℕ) (x : A) → i < j → slice_get xs i ≡ Some x → slice_get xs j ≡ Some x → ⊥
-one_place xs all i j x l a b =
-    all i j x l (slice_get_within xs j x b) (get_or_from_slice_get xs i x x a ∙ sym (get_or_from_slice_get xs j x x b))
 
 -- what is made of the first items, and of the others, is made of all
 pub map_more : {A B : Type 0} (f : A → B) (xs : List A) (ys : List B) (n : ℕ) (d : A) → n < length xs → ys

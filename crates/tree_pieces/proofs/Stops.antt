@@ -62,9 +62,6 @@ pub record Counted (lines : List Edge) (p : Piece) (ps qs : List Piece) (r l s :
   pub left : lefts lines p ps ≡ l + lefts lines p qs
   pub splits : splits lines p ps ≡ s + splits lines p qs
 
-pub nothing_counted : (lines : List Edge) (p : Piece) (ps : List Piece) → Counted lines p ps ps 0 0 0
-nothing_counted lines p ps = record { right = omega arith; left = omega arith; splits = omega arith }
-
 -- the next block is counted
 pub block_counted : (lines : List Edge) (p : Piece) (ps block qs : List Piece) (r l s a b c : ℕ)
     → Counted lines p ps (block ++ qs) r l s → rights lines p block ≡ a → lefts lines p block ≡ b → splits lines p block
@@ -89,10 +86,3 @@ cost_at_least lines p ps qs r l s k =
   where
     by_numbers : (R L S r l s a b c n : ℕ) → R ≡ r + a → L ≡ l + b → S ≡ s + c → a ≤ b + n → b ≤ a + n → 8 * s + ((r - l - n) + (l - r - n)) ≤ 8 * S + ((R - L) + (L - R))
     by_numbers R L S r l s a b c n e f g h i = omega arith
-
--- and the cost is known once all is counted
-pub cost_is : (lines : List Edge) (p : Piece) (ps : List Piece) (r l s : ℕ) → Counted lines p ps [] r l s → 8 * s + ((r - l) + (l - r)) ≡ cost lines p ps
-cost_is lines p ps r l s k = by_numbers _ _ _ r l s k.right k.left k.splits
-  where
-    by_numbers : (R L S r l s : ℕ) → R ≡ r + 0 → L ≡ l + 0 → S ≡ s + 0 → 8 * s + ((r - l) + (l - r)) ≡ 8 * S + ((R - L) + (L - R))
-    by_numbers R L S r l s e f g = omega arith

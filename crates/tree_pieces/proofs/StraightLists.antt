@@ -1,5 +1,5 @@
 -- Two partitions on one straight line: the counts that they make of a list agree, or have right and left exchanged.
-use Rattle.std.proofs.Common.{◌≡◌, refl, sym, ap, ◌∙◌, ⊎_elim, ◌⊎◌, inl, inr, slice_get, ℕ, ◌+◌, ◌*◌, ◌-◌, ◌<◌, List, [], ◌∷◌, length, Option, Some, None, Bool, true, false, cond, ◌&&◌, arith, All}
+use Rattle.std.proofs.Common.{◌≡◌, refl, sym, ap, ◌∙◌, ⊎_elim, ◌⊎◌, inl, inr, slice_get, ℕ, ◌+◌, ◌*◌, ◌-◌, List, [], ◌∷◌, length, Option, Some, None, Bool, true, false, cond, ◌&&◌, arith, All}
 use Rattle.std.proofs.lemmas.Int.{by_lt_z}
 use Rattle.std.proofs.lemmas.Bool.{cases_lt}
 use Rattle.std.proofs.lemmas.List.Elements.{All-head, All-tail}
@@ -14,7 +14,7 @@ use Rattle.tree_pieces.specs.Plane.{vertex_value, dot, RunsWith, RunsAgainst}
 use Rattle.tree_pieces.specs.Fractions.{between}
 use Rattle.tree_pieces.specs.Pieces.{edge_of, ray_of, IsPiece}
 use Rattle.tree_pieces.specs.Division.{value_by, LiesAlong, parts_by, parts_of}
-use Rattle.tree_pieces.specs.Tree.{is_split, cost, Separates, IsCandidate, IsBestAt}
+use Rattle.tree_pieces.specs.Tree.{is_split, cost, Separates, IsCandidate}
 use Rattle.lump_records.proofs.Signs.{linear}
 use Rattle.tree_pieces.proofs.Crossing.{zero_everywhere}
 use Rattle.tree_pieces.proofs.Lengths.{dot_not_zero}
@@ -135,13 +135,3 @@ pub candidate_too : (lines : List Edge) (used : List Bool) (a b : Piece) (ps : L
     → All (IsPiece lines) ps → slice_get ps n ≡ Some b → slice_get used a.line ≡ Some false
     → IsCandidate lines ps used b → IsCandidate lines ps used a
 candidate_too lines used a b ps n on each at free can = (free, separates_too lines a b ps n on each at can.1)
-
--- so a piece on the straight line of an earlier one of an unused line is never the first best
-pub never_best : (lines : List Edge) (used : List Bool) (a b : Piece) (ps : List Piece) (k n : ℕ) → OnOneLine lines a b
-    → All (IsPiece lines) ps → k < n → slice_get ps k ≡ Some a → slice_get used a.line ≡ Some false
-    → IsBestAt lines ps used n b → ⊥
-never_best lines used a b ps k n on each before at free best =
-    let c = candidate_too lines used a b ps n on each best.stands free best.candidate in
-    let f = best.first k a before at c in
-    let e = same_cost lines a b ps on each in
-    absurd (omega arith)

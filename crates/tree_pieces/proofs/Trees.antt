@@ -71,14 +71,15 @@ module _ (lines : List Edge) (h p q : Piece) (ok : IsPiece lines p) (part : IsPa
       }
 
 -- ---- one division of a list that the tree reaches
-pub may_divide : (lines : List Edge) → All IsEdge lines → (p q : Piece) → IsPiece lines p → IsPiece lines q → MayDivide lines p q
-may_divide lines all p q hp hq =
-    let lp = All-get_or IsEdge lines p.line no_edge hp.line_in all in
-    let lq = All-get_or IsEdge lines q.line no_edge hq.line_in all in
+pub may_divide_by : (lines : List Edge) (p q : Piece) → IsEdge (edge_of lines p) → IsEdge (edge_of lines q) → IsPiece lines q → MayDivide lines p q
+may_divide_by lines p q lp lq hq =
     let s = ray_along (edge_of lines p) p.side in
     let a = lp.apart in
     let b = lp.short in
     record { long = omega (arith, linear); short = omega (arith, linear); line = lq; piece = hq }
+
+pub may_divide : (lines : List Edge) → All IsEdge lines → (p q : Piece) → IsPiece lines p → IsPiece lines q → MayDivide lines p q
+may_divide lines all p q hp hq = may_divide_by lines p q (All-get_or IsEdge lines p.line no_edge hp.line_in all) (All-get_or IsEdge lines q.line no_edge hq.line_in all) hq
 
 module _ (lines : List Edge) (all : All IsEdge lines) (used : List Bool) (ps : List Piece) (reached : IsReached lines used ps) (p : Piece) (ok : IsPiece lines p) where
   divided_at : (q : Piece) → IsPiece lines q → IsDivided lines p q (parts_of lines p q)

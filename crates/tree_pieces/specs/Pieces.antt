@@ -6,6 +6,7 @@ use Rattle.lump_records.specs.declared.plane.Ray.{Ray}
 use Rattle.tree_pieces.specs.declared.edge.Facing.{Facing}
 use Rattle.tree_pieces.specs.declared.edge.Facing.TheVariants.{Along, Against}
 use Rattle.tree_pieces.specs.declared.piece.Piece.{Piece}
+use Rattle.tree_pieces.specs.declared.piece.Ends.{Ends}
 use Rattle.tree_pieces.specs.Plane.{ray}
 use Rattle.tree_pieces.specs.Fractions.{IsFraction, IsBelow, point_at, step_within}
 
@@ -33,6 +34,9 @@ first_end lines p = point_at (edge_of lines p) p.from
 
 abbrev pub last_end : List Edge → Piece → Vertex
 last_end lines p = point_at (edge_of lines p) p.to
+
+abbrev pub ends_of : List Edge → Piece → Ends
+ends_of lines p = record { first = first_end lines p; last = last_end lines p }
 
 -- two places are one
 abbrev pub same_place : Vertex → Vertex → Bool

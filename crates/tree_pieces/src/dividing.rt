@@ -1,5 +1,5 @@
 //! On which side of a partition a piece lies, and how it is divided.
-ghost use Rattle.std.specs.Prelude.{◌≡◌, ◌<◌, pos, neg_ℤ, ◌≤ℤ◌, length, All, true, false, if◌then◌else◌, Some, None};
+ghost use Rattle.std.specs.Prelude.{◌≡◌, ◌<◌, pos, neg_ℤ, ◌≤ℤ◌, length, true, false, if◌then◌else◌, Some, None};
 ghost use Rattle.lump_records.specs.Drawing.{IsDrawable};
 ghost use Rattle.tree_pieces.specs.Plane.{IsEdge, dot};
 ghost use Rattle.tree_pieces.specs.Fractions.{IsFraction};
@@ -11,6 +11,7 @@ ghost use Rattle.tree_pieces.specs.Local.{IsLineRay, HasFractions, place_on, par
 use crate::edge::Edge;
 use crate::frac::Frac;
 use crate::line_points::point;
+use crate::lines::Lines;
 use crate::map_lines::{edge_of, lines_are_drawn};
 use crate::piece::{Parts, Piece, Place};
 use crate::signs::{place_by_signs, value_between};
@@ -113,30 +114,26 @@ pub fn divide_on(ray: Ray, edge: Edge, piece: &Piece) -> Parts
 }
 
 /// The parts that a partition makes of a piece, over a list of lines.
-pub fn divide_in(lines: &[Edge], partition: &Piece, piece: &Piece) -> Parts
-    requires lines { All IsEdge lines.now }
+pub fn divide_in(lines: &Lines, partition: &Piece, piece: &Piece) -> Parts
     requires partition { IsPiece lines.now partition.now }
     requires piece { IsPiece lines.now piece.now }
     ensures exact { result ≡ parts_of lines.now partition.now piece.now }
     ensures law { IsDivided lines.now partition.now piece.now result }
 {
-    let along = lines[partition.line as usize];
-    let edge = lines[piece.line as usize];
-    let ray = ray_of(along, partition.side);
+    let ray = lines.ray_of(partition);
+    let edge = lines.line_of(piece);
     divide_on(ray, edge, piece)
 }
 
 /// The line of the second piece lies on the straight line of the first one.
-pub fn lies_along(lines: &[Edge], first: &Piece, second: &Piece) -> bool
-    requires lines { All IsEdge lines.now }
+pub fn lies_along(lines: &Lines, first: &Piece, second: &Piece) -> bool
     requires first { IsPiece lines.now first.now }
     requires second { IsPiece lines.now second.now }
     ensures yes { result ≡ true → LiesAlong lines.now first.now second.now }
     ensures no { LiesAlong lines.now first.now second.now → result ≡ true }
 {
-    let along = lines[first.line as usize];
-    let edge = lines[second.line as usize];
-    let ray = ray_of(along, first.side);
+    let ray = lines.ray_of(first);
+    let edge = lines.line_of(second);
     let start = value_at(ray, edge.v1);
     let end = value_at(ray, edge.v2);
     start == 0 && end == 0

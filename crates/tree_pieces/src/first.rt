@@ -4,9 +4,10 @@ ghost use Rattle.tree_pieces.specs.Pieces.{IsPiece};
 ghost use Rattle.tree_pieces.specs.Edges.{edges_of};
 ghost use Rattle.tree_pieces.specs.First.{whole, first_pieces};
 
-use crate::edge::{Edge, Facing};
+use crate::edge::Facing;
 use crate::error::SegsError;
 use crate::frac::Frac;
+use crate::lines::Lines;
 use crate::map_lines::{edges_of, lines_are_drawn};
 use crate::piece::Piece;
 use map_tables::Map;
@@ -25,12 +26,14 @@ fn whole(line: u16, side: Facing) -> Piece
 }
 
 /// The first list of pieces: for each line by number its right side's, then its left side's.
-pub fn pieces_in(alloc: Global, lines: &[Edge]) -> Result<Vec<Piece>, AllocError>
+pub fn pieces_in(alloc: Global, lines: &Lines) -> Result<Vec<Piece>, AllocError>
     requires { length lines.now ≤ 32767 }
-    ensures { IfOk result (λ pieces. pieces.items ≡ first_pieces lines.now) }
+    ensures list { IfOk result (λ pieces. pieces.items ≡ first_pieces lines.now) }
+    ensures each { IfOk result (λ pieces. All (IsPiece lines.now) pieces.items) }
 {
-    let mut pieces = Vec::with_capacity(alloc, 2 * lines.len())?;
-    for (line, edge) in lines.iter().enumerate() {
+    let edges = lines.as_slice();
+    let mut pieces = Vec::with_capacity(alloc, 2 * edges.len())?;
+    for (line, edge) in edges.iter().enumerate() {
         pieces.push(whole(line as u16, Facing::Along))?;
         if edge.has_left {
             pieces.push(whole(line as u16, Facing::Against))?;
@@ -48,7 +51,7 @@ pub fn pieces_of(alloc: Global, map: &Map) -> Result<Vec<Piece>, SegsError>
     ensures memory { IsOkUnless result SegsError.OutOfMemory }
 {
     lines_are_drawn(map);
-    let edges = edges_of(alloc, map)?;
-    let pieces = pieces_in(alloc, &edges)?;
+    let lines = edges_of(alloc, map)?;
+    let pieces = pieces_in(alloc, &lines)?;
     Ok(pieces)
 }

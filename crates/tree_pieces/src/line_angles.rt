@@ -6,6 +6,7 @@ ghost use Rattle.tree_pieces.specs.LineAngles.{IsRayAngle, AreAngles};
 
 use crate::angle::angle16;
 use crate::edge::{Edge, Facing};
+use crate::lines::Lines;
 use crate::values::ray_of;
 use std::alloc::{AllocError, Global};
 
@@ -20,12 +21,12 @@ fn line_angle(edge: Edge) -> u16
 
 /// The angle of each line in its own direction, by number. The segs of its left side run at the
 /// `reversed_angle`.
-pub fn angles_in(alloc: Global, lines: &[Edge]) -> Result<Vec<u16>, AllocError>
-    requires { All IsEdge lines.now }
+pub fn angles_in(alloc: Global, lines: &Lines) -> Result<Vec<u16>, AllocError>
     ensures { IfOk result (λ angles. AreAngles lines.now angles.items) }
 {
-    let mut angles = Vec::with_capacity(alloc, lines.len())?;
-    for edge in lines {
+    let edges = lines.as_slice();
+    let mut angles = Vec::with_capacity(alloc, edges.len())?;
+    for edge in edges {
         angles.push(line_angle(*edge))?;
     }
     Ok(angles)

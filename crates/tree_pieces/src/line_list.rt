@@ -6,6 +6,7 @@ ghost use Rattle.tree_pieces.specs.Edges.{edge_between, edges_in, IsBuildable, I
 
 use crate::edge::Edge;
 use crate::line_fault::{LineFault, LinesError};
+use crate::lines::Lines;
 use lump_records::{LONGEST_SQUARED, Line, Side, Vertex, squared_distance};
 use std::alloc::Global;
 
@@ -73,10 +74,9 @@ pub fn edges_in(
     vertices: &[Vertex],
     sides: &[Side],
     lines: &[Line],
-) -> Result<Vec<Edge>, LinesError>
-    ensures edges { IfOk result (λ edges. edges.items ≡ edges_in vertices.now lines.now) }
+) -> Result<Lines, LinesError>
+    ensures edges { IfOk result (λ made. made ≡ edges_in vertices.now lines.now) }
     ensures buildable { OnOk result (All (IsBuildable vertices.now sides.now) lines.now) }
-    ensures drawn { IfOk result (λ edges. All IsEdge edges.items) }
     ensures refused { IfErr result (IsLinesRefusal vertices.now sides.now lines.now) }
 {
     let mut edges = match Vec::with_capacity(alloc, lines.len()) {
@@ -93,5 +93,5 @@ pub fn edges_in(
             Ok(()) => {}
         }
     }
-    Ok(edges)
+    Ok(Lines::of(edges))
 }

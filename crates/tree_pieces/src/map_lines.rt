@@ -7,6 +7,7 @@ ghost use Rattle.tree_pieces.specs.Edges.{edge_between, edges_of};
 
 use crate::edge::Edge;
 use crate::error::SegsError;
+use crate::lines::Lines;
 use lump_records::{Line, Vertex};
 use map_tables::{Kind, Map};
 use std::alloc::Global;
@@ -52,9 +53,8 @@ pub(crate) fn edge_of(map: &Map, line: u16) -> Edge
 }
 
 /// The lines of a map with the places of their ends, by number. They are refused only for lack of memory.
-pub fn edges_of(alloc: Global, map: &Map) -> Result<Vec<Edge>, SegsError>
-    ensures edges { IfOk result (λ edges. edges.items ≡ edges_of map.now.tables) }
-    ensures drawn { All IsEdge (edges_of map.now.tables) }
+pub fn edges_of(alloc: Global, map: &Map) -> Result<Lines, SegsError>
+    ensures edges { IfOk result (λ lines. lines ≡ edges_of map.now.tables) }
     ensures few { length (edges_of map.now.tables) ≤ 32767 }
     ensures memory { IsOkUnless result SegsError.OutOfMemory }
 {
@@ -64,5 +64,5 @@ pub fn edges_of(alloc: Global, map: &Map) -> Result<Vec<Edge>, SegsError>
         let line = map.line(n).unwrap();
         edges.push(edge_between(map, &line))?;
     }
-    Ok(edges)
+    Ok(Lines::of(edges))
 }

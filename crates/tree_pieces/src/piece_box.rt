@@ -9,6 +9,7 @@ ghost use Rattle.tree_pieces.specs.Boxes.{widened, box_on, boxes_of};
 
 use crate::edge::Edge;
 use crate::line_points::point;
+use crate::lines::Lines;
 use crate::piece::Piece;
 use lump_records::{Bounds, Vertex};
 use std::alloc::{AllocError, Global};
@@ -61,14 +62,13 @@ pub fn box_on(edge: Edge, piece: &Piece) -> Bounds
 
 /// The box of each piece of a list, in its order. A piece that a partition leaves whole keeps its
 /// box; the parts of one that is cut have boxes of their own.
-pub fn boxes_in(alloc: Global, lines: &[Edge], pieces: &[Piece]) -> Result<Vec<Bounds>, AllocError>
-    requires lines { All IsEdge lines.now }
-    requires pieces { All (IsPiece lines.now) pieces.now }
+pub fn boxes_in(alloc: Global, lines: &Lines, pieces: &[Piece]) -> Result<Vec<Bounds>, AllocError>
+    requires { All (IsPiece lines.now) pieces.now }
     ensures { IfOk result (λ boxes. boxes.items ≡ boxes_of lines.now pieces.now) }
 {
     let mut boxes = Vec::with_capacity(alloc, pieces.len())?;
     for piece in pieces {
-        let edge = lines[piece.line as usize];
+        let edge = lines.line_of(piece);
         boxes.push(box_on(edge, piece))?;
     }
     Ok(boxes)

@@ -13,15 +13,22 @@ use Rattle.tree_choice.proofs.choosing.consider_ordered.Goals as goal
 pub take_in-requires-clause-place : goal.take_in-requires-clause-place
 take_in-requires-clause-place c = let w = slice_get_within c.args.pieces.now c.args.at c.args.piece.now c.requires.stands in let f = c.requires.few in omega arith
 
-pub count_by_boxes-counted-requires-clause-pieces : goal.count_by_boxes-counted-requires-clause-pieces
-count_by_boxes-counted-requires-clause-pieces c = All-permutation (IsPiece c.args.lines.now) c.args.pieces.now c.args.ordered.now c.requires.ordered c.requires.pieces
-
-pub count_by_boxes-counted-requires-clause-few : goal.count_by_boxes-counted-requires-clause-few
-count_by_boxes-counted-requires-clause-few c = let l = length_permutation c.args.pieces.now c.args.ordered.now c.requires.ordered in let f = c.requires.few in omega arith
+pub count_by_boxes-counted-requires-clause-list : goal.count_by_boxes-counted-requires-clause-list
+count_by_boxes-counted-requires-clause-list c =
+    let l = length_permutation c.args.pieces.now c.args.ordered.now c.requires.ordered in
+    let f = c.requires.few in
+    record {
+      each = All-permutation (IsPiece c.args.lines.now) c.args.pieces.now c.args.ordered.now c.requires.ordered c.requires.pieces;
+      few = omega arith;
+      ends = rw c.has_earlier.ensures.ends c.requires.noted;
+      blocks = c.requires.blocks;
+      corners = rw c.has_earlier.ensures.sides c.requires.sides;
+      groups = rw (c.deref.ensures.value, c.has_earlier.ensures.groups) c.requires.groups;
+    }
 
 pub returns-then-has_earlier-clause-so_far : goal.returns-then-has_earlier-clause-so_far
 returns-then-has_earlier-clause-so_far c =
-    skips c.args.lines.now c.args.pieces.now c.args.used.now c.args.at c.args.piece.now c.requires.stands c.requires.lines c.requires.pieces c.args.best c.requires.few c.requires.so_far (c.has_earlier.ensures.earlier c.if-has_earlier.true)
+    skips c.args.lines.now c.args.pieces.now c.args.used.now c.args.at c.args.piece.now c.requires.stands c.are_drawn.ensures c.requires.pieces c.args.best c.requires.few c.requires.so_far (c.has_earlier.ensures.earlier c.if-has_earlier.true)
 
 pub returns-clause-so_far : goal.returns-clause-so_far
 returns-clause-so_far c =
@@ -42,6 +49,3 @@ returns-then-used-piece-clause-so_far c =
     let used = c.args.used.now in
     let p = c.args.piece.now in
     used_stays lines c.args.pieces.now used c.args.at p c.requires.stands c.args.best c.requires.few (line_known lines used p c.requires.piece c.requires.known) c.if-used-piece.true c.requires.so_far
-
-pub count_by_boxes-counted-requires-clause-ends : goal.count_by_boxes-counted-requires-clause-ends
-count_by_boxes-counted-requires-clause-ends c = rw c.has_earlier.ensures.ends c.requires.noted

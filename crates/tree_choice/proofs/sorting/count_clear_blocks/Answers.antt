@@ -20,39 +20,39 @@ use Rattle.tree_choice.proofs.sorting.count_clear_blocks.Goals as goal
 use Rattle.tree_choice.proofs.sorting.count_clear_blocks.Goals.{In-loop-n}
 
 -- the block has a box
-has_box : (c : In-loop-n) → c.args.from + c.loop-n.n < length c.args.blocks.now
+has_box : (c : In-loop-n) → c.args.from + c.loop-n.n < length c.args.blocks.now.boxes.now
 has_box c =
-    let ps = c.args.pieces.now in
+    let ps = c.args.blocks.now.pieces.now in
     let t = c.loop-n-test.true in
     let w = c.requires.whole in
-    let n = c.requires.blocks.enough in
-    let same = boxes_length c.args.lines.now ps (boxes_of c.args.lines.now ps) refl in
+    let n = c.requires.blocks.boxes.enough in
+    let same = boxes_length c.args.by.now.lines.now ps (boxes_of c.args.by.now.lines.now ps) refl in
     omega arith
 
 pub bounds-lows-k : goal.bounds-lows-k
 bounds-lows-k c =
     let w = has_box (goal.at.bounds-lows-k c).In-loop-n in
-    let l = column_length (low_corner c.args.margins.ray) c.args.blocks.now c.args.lows.now c.requires.corners.lows_are in
+    let l = column_length (low_corner c.args.by.now.margins.ray) c.args.blocks.now.boxes.now c.args.blocks.now.lows.now c.requires.blocks.corners.lows_are in
     omega arith
 
 pub bounds-highs-k : goal.bounds-highs-k
 bounds-highs-k c =
     let w = has_box (goal.at.bounds-highs-k c).In-loop-n in
-    let l = column_length (high_corner c.args.margins.ray) c.args.blocks.now c.args.highs.now c.requires.corners.highs_are in
+    let l = column_length (high_corner c.args.by.now.margins.ray) c.args.blocks.now.boxes.now c.args.blocks.now.highs.now c.requires.blocks.corners.highs_are in
     omega arith
 
 pub sides_of_corners-sides-requires-clause-normal : goal.sides_of_corners-sides-requires-clause-normal
 sides_of_corners-sides-requires-clause-normal c =
-    let r = c.args.margins.ray in
+    let r = c.args.by.now.margins.ray in
     let t = c.loop-n-test.true in
     let few = c.requires.few in
-    subst (IsNormal r) (sym (get_or-replicate 16 c.loop-n.n c.args.margins.normal _ (omega arith))) c.requires.margins.normal
+    subst (IsNormal r) (sym (get_or-replicate 16 c.loop-n.n c.args.by.now.margins.normal _ (omega arith))) c.requires.candidate.margins.normal
 
 pub loop-n-init : goal.loop-n-init
 loop-n-init c =
     let room = c.requires.room in
     record {
-      is = no_blocks c.args.lines.now c.args.partition.now c.args.pieces.now c.args.from c.args.flags.now;
+      is = no_blocks c.args.by.now.lines.now c.args.by.now.piece.now c.args.blocks.now.pieces.now c.args.from c.args.flags.now;
       right = omega arith;
       left = omega arith;
       room = room;
@@ -60,11 +60,11 @@ loop-n-init c =
 
 pub loop-n-preserved : goal.loop-n-preserved
 loop-n-preserved c =
-    let lines = c.args.lines.now in
-    let p = c.args.partition.now in
-    let ps = c.args.pieces.now in
-    let blocks = c.args.blocks.now in
-    let r = c.args.margins.ray in
+    let lines = c.args.by.now.lines.now in
+    let p = c.args.by.now.piece.now in
+    let ps = c.args.blocks.now.pieces.now in
+    let blocks = c.args.blocks.now.boxes.now in
+    let r = c.args.by.now.margins.ray in
     let n = c.loop-n.n in
     let k = c.args.from + n in
     let t = c.loop-n-test.true in
@@ -77,14 +77,14 @@ loop-n-preserved c =
     let within = c.requires.whole in
     let b = get_or blocks k no_box in
     let block = take 16 (drop (16 * k) ps) in
-    let ok : All (IsPiece lines) block = All-take (IsPiece lines) 16 (drop (16 * k) ps) (All-drop (IsPiece lines) (16 * k) ps c.requires.pieces) in
-    let holds = block_holds lines ps blocks k b c.requires.blocks (stands_at blocks k no_box w) in
-    let lr = read (low_corner r) blocks c.args.lows.now k no_vertex no_box w c.requires.corners.lows_are in
-    let hr = read (high_corner r) blocks c.args.highs.now k no_vertex no_box w c.requires.corners.highs_are in
-    let ka : FitsSigned w16 (get_or c.args.lows.now k no_vertex).x = search rules in
-    let kb : FitsSigned w16 (get_or c.args.lows.now k no_vertex).y = search rules in
-    let ku : FitsSigned w16 (get_or c.args.highs.now k no_vertex).x = search rules in
-    let kv : FitsSigned w16 (get_or c.args.highs.now k no_vertex).y = search rules in
+    let ok : All (IsPiece lines) block = All-take (IsPiece lines) 16 (drop (16 * k) ps) (All-drop (IsPiece lines) (16 * k) ps c.requires.blocks.each) in
+    let holds = block_holds lines ps blocks k b c.requires.blocks.boxes (stands_at blocks k no_box w) in
+    let lr = read (low_corner r) blocks c.args.blocks.now.lows.now k no_vertex no_box w c.requires.blocks.corners.lows_are in
+    let hr = read (high_corner r) blocks c.args.blocks.now.highs.now k no_vertex no_box w c.requires.blocks.corners.highs_are in
+    let ka : FitsSigned w16 (get_or c.args.blocks.now.lows.now k no_vertex).x = search rules in
+    let kb : FitsSigned w16 (get_or c.args.blocks.now.lows.now k no_vertex).y = search rules in
+    let ku : FitsSigned w16 (get_or c.args.blocks.now.highs.now k no_vertex).x = search rules in
+    let kv : FitsSigned w16 (get_or c.args.blocks.now.highs.now k no_vertex).y = search rules in
     let low = ap (vertex_value r) (place_by_16 _ (low_corner r b) ka kb lr) ∙ low_is r b in
     let high = ap (vertex_value r) (place_by_16 _ (high_corner r b) ku kv hr) ∙ high_is r b in
     let sides = c.sides_of_corners-sides.result in
@@ -96,8 +96,8 @@ loop-n-preserved c =
       is = subst (λ (f : Bool). AreClearBlocks lines p ps c.args.from (n + 1) (take (n + 1) (set c.loop-n.flags n f)) (c.loop-n.right + bool_byte sides.right) (c.loop-n.left + bool_byte sides.left))
           (sym (flag_is sides.right sides.left))
           (blocks_step lines p ps c.args.from n c.loop-n.right c.loop-n.left c.loop-n.flags sides.right sides.left (omega arith) (omega arith)
-          (λ h. block_right lines p block b ok holds (subst (λ (x : Ray). pos 0 <ℤ least_value x b) c.requires.ray (subst (λ (z : ℤ). pos 0 <ℤ z) low (e.right h))))
-          (λ h. block_left lines p block b ok holds (subst (λ (x : Ray). greatest_value x b <ℤ pos 0) c.requires.ray (subst (λ (z : ℤ). z <ℤ pos 0) high (e.left h))))
+          (λ h. block_right lines p block b ok holds (subst (λ (x : Ray). pos 0 <ℤ least_value x b) c.requires.candidate.ray (subst (λ (z : ℤ). pos 0 <ℤ z) low (e.right h))))
+          (λ h. block_left lines p block b ok holds (subst (λ (x : Ray). greatest_value x b <ℤ pos 0) c.requires.candidate.ray (subst (λ (z : ℤ). z <ℤ pos 0) high (e.left h))))
           i.is);
       right = omega arith;
       left = omega arith;

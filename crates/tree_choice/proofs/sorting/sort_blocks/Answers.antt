@@ -11,11 +11,11 @@ use Rattle.tree_choice.proofs.sorting.sort_blocks.Goals.{Start}
 -- there is room for the numbers of all blocks of the run
 has_room : (c : Start) → c.args.before.count + (c.args.to - c.args.from) ≤ length c.args.noted.now
 has_room c =
-    let ps = c.args.pieces.now in
-    let f = c.requires.forward in
-    let w = c.requires.whole in
-    let n = c.requires.blocks.enough in
-    let same = boxes_length c.args.lines.now ps (boxes_of c.args.lines.now ps) refl in
+    let ps = c.args.blocks.now.pieces.now in
+    let f = c.requires.run.forward in
+    let w = c.requires.run.whole in
+    let n = c.requires.blocks.boxes.enough in
+    let same = boxes_length c.args.by.now.lines.now ps (boxes_of c.args.by.now.lines.now ps) refl in
     let few = c.requires.before.fewer in
     let room = c.requires.room in
     omega arith
@@ -25,17 +25,17 @@ note_open_blocks-count-requires-clause-room c = has_room (goal.at.note_open_bloc
 
 pub returns-clause-is : goal.returns-clause-is
 returns-clause-is c =
-    let lines = c.args.lines.now in
-    let p = c.args.partition.now in
-    let ps = c.args.pieces.now in
+    let lines = c.args.by.now.lines.now in
+    let p = c.args.by.now.piece.now in
+    let ps = c.args.blocks.now.pieces.now in
     let from = c.args.from in
     let to = c.args.to in
     let s = c.args.before in
     let clear = c.count_clear_blocks-clear in
     let flags = take (to - from) clear.new.flags in
     let noted = c.note_open_blocks-count in
-    let f = c.requires.forward in
-    let w = c.requires.whole in
+    let f = c.requires.run.forward in
+    let w = c.requires.run.whole in
     let few = c.requires.before.fewer in
     let room = has_room (goal.at.returns-clause-is c).Start in
     let lt = length-take (to - from) clear.new.flags in

@@ -11,9 +11,9 @@ use Rattle.tree_choice.proofs.sorting.sort_group.Goals as goal
 
 pub returns-in-Right-clause-is : goal.returns-in-Right-clause-is
 returns-in-Right-clause-is c =
-    let lines = c.args.lines.now in
-    let p = c.args.partition.now in
-    let ps = c.args.pieces.now in
+    let lines = c.args.by.now.lines.now in
+    let p = c.args.by.now.piece.now in
+    let ps = c.args.blocks.now.pieces.now in
     let g = c.args.group in
     let s = c.args.sorted in
     let block = take 256 (drop (256 * g) ps) in
@@ -21,17 +21,17 @@ returns-in-Right-clause-is c =
     let ld = length-drop (256 * g) ps in
     let w = c.requires.within in
     let size : length block ≡ 256 = omega arith in
-    let ok : All (IsPiece lines) block = All-take (IsPiece lines) 256 (drop (256 * g) ps) (All-drop (IsPiece lines) (256 * g) ps c.requires.pieces) in
-    let h = subst (λ (x : Ray). pos 0 <ℤ least_value x c.args.bounds) c.requires.ray (c.side_of_box.ensures.right c.in-Right.is) in
+    let ok : All (IsPiece lines) block = All-take (IsPiece lines) 256 (drop (256 * g) ps) (All-drop (IsPiece lines) (256 * g) ps c.requires.blocks.each) in
+    let h = subst (λ (x : Ray). pos 0 <ℤ least_value x c.args.bounds) c.requires.candidate.ray (c.side_of_box.ensures.right c.in-Right.is) in
     same_sorted lines p ps (256 * g + 256) (256 * (g + 1)) (s.right + length block) (s.right + 256) (s.left + 0) s.left s.count s.count _ _
     (part_sorted lines p ps (256 * g) 256 s.right s.left s.count (length block) 0 _ c.requires.before (block_right lines p block c.args.bounds ok c.requires.holds h) (omega arith))
     (omega arith) (omega arith) (omega arith) refl refl
 
 pub returns-in-Left-clause-is : goal.returns-in-Left-clause-is
 returns-in-Left-clause-is c =
-    let lines = c.args.lines.now in
-    let p = c.args.partition.now in
-    let ps = c.args.pieces.now in
+    let lines = c.args.by.now.lines.now in
+    let p = c.args.by.now.piece.now in
+    let ps = c.args.blocks.now.pieces.now in
     let g = c.args.group in
     let s = c.args.sorted in
     let block = take 256 (drop (256 * g) ps) in
@@ -39,8 +39,8 @@ returns-in-Left-clause-is c =
     let ld = length-drop (256 * g) ps in
     let w = c.requires.within in
     let size : length block ≡ 256 = omega arith in
-    let ok : All (IsPiece lines) block = All-take (IsPiece lines) 256 (drop (256 * g) ps) (All-drop (IsPiece lines) (256 * g) ps c.requires.pieces) in
-    let h = subst (λ (x : Ray). greatest_value x c.args.bounds <ℤ pos 0) c.requires.ray (c.side_of_box.ensures.left c.in-Left.is) in
+    let ok : All (IsPiece lines) block = All-take (IsPiece lines) 256 (drop (256 * g) ps) (All-drop (IsPiece lines) (256 * g) ps c.requires.blocks.each) in
+    let h = subst (λ (x : Ray). greatest_value x c.args.bounds <ℤ pos 0) c.requires.candidate.ray (c.side_of_box.ensures.left c.in-Left.is) in
     same_sorted lines p ps (256 * g + 256) (256 * (g + 1)) (s.right + 0) s.right (s.left + length block) (s.left + 256) s.count s.count _ _
     (part_sorted lines p ps (256 * g) 256 s.right s.left s.count 0 (length block) _ c.requires.before (block_left lines p block c.args.bounds ok c.requires.holds h) (omega arith))
     (omega arith) (omega arith) (omega arith) refl refl

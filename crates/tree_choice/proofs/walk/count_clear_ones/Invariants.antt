@@ -7,6 +7,6 @@ use Rattle.tree_choice.proofs.walk.count_clear_ones.Given as goal
 -- the pieces before the n-th are counted or flagged
 abbrev pub invariant-loop-n : goal.invariant-loop-n
 invariant-loop-n l = record {
-  counted : Counted l.lines l.partition l.pieces (uncounted l.flags l.pieces l.n) l.counts.right l.counts.left l.counts.splits;
+  counted : Counted l.candidate.lines.now l.candidate.piece.now l.pieces (uncounted l.flags l.pieces l.n) l.counts.right l.counts.left l.counts.splits;
   flags : l.n + l.counts.splits ≡ l.counts.right + l.counts.left + length (flagged (take l.n l.flags) (take l.n l.pieces));
 }

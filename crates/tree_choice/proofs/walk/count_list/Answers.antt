@@ -6,4 +6,4 @@ pub returns-then-limit-least_cost : goal.returns-then-limit-least_cost
 returns-then-limit-least_cost c =
     let e = c.least_cost.ensures in
     let t = c.if-limit-least_cost.true in
-    dear_by_clear c.args.lines.now c.args.partition.now c.args.pieces.now _ c.count_clear_ones-clear.result c.args.limit c.count_clear_ones-clear.ensures (omega arith)
+    dear_by_clear c.args.by.now.lines.now c.args.by.now.piece.now c.args.list.now.pieces.now _ c.count_clear_ones-clear.result c.args.limit c.count_clear_ones-clear.ensures (omega arith)

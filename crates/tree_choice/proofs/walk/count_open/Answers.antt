@@ -16,51 +16,51 @@ use Rattle.tree_choice.proofs.walk.count_open.Goals as goal
 use Rattle.tree_choice.proofs.walk.count_open.Goals.{In-Some, After-plus-counts}
 
 -- an open block begins in the list
-pub slice_bounds-count_list-count : goal.slice_bounds-count_list-count
-slice_bounds-count_list-count c =
-    let b = begins c.args.lines.now c.args.partition.now c.args.pieces.now c.loop-n.n c.args.sorted c.args.noted.now c.requires.is c.loop-n-test.true in
+pub slice_bounds-block-count : goal.slice_bounds-block-count
+slice_bounds-block-count c =
+    let b = begins c.args.by.now.lines.now c.args.by.now.piece.now c.args.list.now.pieces.now c.loop-n.n c.args.sorted c.args.noted.now c.requires.is c.loop-n-test.true in
     let e = c.min-end.ensures in
     omega arith
 
-pub slice_bounds-count_list-start : goal.slice_bounds-count_list-start
-slice_bounds-count_list-start c =
-    let b = begins c.args.lines.now c.args.partition.now c.args.pieces.now c.loop-n.n c.args.sorted c.args.noted.now c.requires.is c.loop-n-test.true in
+pub slice_bounds-block-start : goal.slice_bounds-block-start
+slice_bounds-block-start c =
+    let b = begins c.args.by.now.lines.now c.args.by.now.piece.now c.args.list.now.pieces.now c.loop-n.n c.args.sorted c.args.noted.now c.requires.is c.loop-n-test.true in
     let e = c.min-end.ensures in
     omega arith
 
-pub slice_bounds-count_list-count-in-loop-n : goal.slice_bounds-count_list-count-in-loop-n
-slice_bounds-count_list-count-in-loop-n c =
-    let b = begins c.args.lines.now c.args.partition.now c.args.pieces.now c.loop-n.n c.args.sorted c.args.noted.now c.requires.is c.loop-n-test.true in
+pub slice_bounds-block-count-in-loop-n : goal.slice_bounds-block-count-in-loop-n
+slice_bounds-block-count-in-loop-n c =
+    let b = begins c.args.by.now.lines.now c.args.by.now.piece.now c.args.list.now.pieces.now c.loop-n.n c.args.sorted c.args.noted.now c.requires.is c.loop-n-test.true in
     let e = c.min-end.ensures in
-    let l = column_length (first_end c.args.lines.now) c.args.pieces.now c.args.firsts.now c.requires.ends.firsts_are in
+    let l = column_length (first_end c.args.by.now.lines.now) c.args.list.now.pieces.now c.args.list.now.firsts.now c.requires.list.ends.firsts_are in
     omega arith
 
-pub slice_bounds-count_list-start-in-loop-n : goal.slice_bounds-count_list-start-in-loop-n
-slice_bounds-count_list-start-in-loop-n c =
-    let b = begins c.args.lines.now c.args.partition.now c.args.pieces.now c.loop-n.n c.args.sorted c.args.noted.now c.requires.is c.loop-n-test.true in
+pub slice_bounds-block-start-in-loop-n : goal.slice_bounds-block-start-in-loop-n
+slice_bounds-block-start-in-loop-n c =
+    let b = begins c.args.by.now.lines.now c.args.by.now.piece.now c.args.list.now.pieces.now c.loop-n.n c.args.sorted c.args.noted.now c.requires.is c.loop-n-test.true in
     let e = c.min-end.ensures in
-    let l = column_length (first_end c.args.lines.now) c.args.pieces.now c.args.firsts.now c.requires.ends.firsts_are in
+    let l = column_length (first_end c.args.by.now.lines.now) c.args.list.now.pieces.now c.args.list.now.firsts.now c.requires.list.ends.firsts_are in
     omega arith
 
-pub slice_bounds-count_list-count-in-loop-n-2 : goal.slice_bounds-count_list-count-in-loop-n-2
-slice_bounds-count_list-count-in-loop-n-2 c =
-    let b = begins c.args.lines.now c.args.partition.now c.args.pieces.now c.loop-n.n c.args.sorted c.args.noted.now c.requires.is c.loop-n-test.true in
+pub slice_bounds-block-count-in-loop-n-2 : goal.slice_bounds-block-count-in-loop-n-2
+slice_bounds-block-count-in-loop-n-2 c =
+    let b = begins c.args.by.now.lines.now c.args.by.now.piece.now c.args.list.now.pieces.now c.loop-n.n c.args.sorted c.args.noted.now c.requires.is c.loop-n-test.true in
     let e = c.min-end.ensures in
-    let l = column_length (last_end c.args.lines.now) c.args.pieces.now c.args.lasts.now c.requires.ends.lasts_are in
+    let l = column_length (last_end c.args.by.now.lines.now) c.args.list.now.pieces.now c.args.list.now.lasts.now c.requires.list.ends.lasts_are in
     omega arith
 
-pub slice_bounds-count_list-start-in-loop-n-2 : goal.slice_bounds-count_list-start-in-loop-n-2
-slice_bounds-count_list-start-in-loop-n-2 c =
-    let b = begins c.args.lines.now c.args.partition.now c.args.pieces.now c.loop-n.n c.args.sorted c.args.noted.now c.requires.is c.loop-n-test.true in
+pub slice_bounds-block-start-in-loop-n-2 : goal.slice_bounds-block-start-in-loop-n-2
+slice_bounds-block-start-in-loop-n-2 c =
+    let b = begins c.args.by.now.lines.now c.args.by.now.piece.now c.args.list.now.pieces.now c.loop-n.n c.args.sorted c.args.noted.now c.requires.is c.loop-n-test.true in
     let e = c.min-end.ensures in
-    let l = column_length (last_end c.args.lines.now) c.args.pieces.now c.args.lasts.now c.requires.ends.lasts_are in
+    let l = column_length (last_end c.args.by.now.lines.now) c.args.list.now.pieces.now c.args.list.now.lasts.now c.requires.list.ends.lasts_are in
     omega arith
 
 pub returns-then-limit-least_cost : goal.returns-then-limit-least_cost
 returns-then-limit-least_cost c =
-    let lines = c.args.lines.now in
-    let p = c.args.partition.now in
-    let ps = c.args.pieces.now in
+    let lines = c.args.by.now.lines.now in
+    let p = c.args.by.now.piece.now in
+    let ps = c.args.list.now.pieces.now in
     let s = c.args.sorted in
     let noted = c.args.noted.now in
     let k = cost_at_least lines p ps (pieces_in ps (take s.count noted)) s.right s.left 0 (open_left lines p ps s noted c.requires.is) in
@@ -73,57 +73,55 @@ returns-then-limit-least_cost c =
 pub returns-in-None : goal.returns-in-None
 returns-in-None c =
     let from = 16 * get_or c.args.noted.now c.loop-n.n 0 in
-    let block = take (c.min-end.result - from) (drop from c.args.pieces.now) in
-    let d = cost_small c.args.lines.now c.args.partition.now block in
-    let l = part_length c.args.pieces.now from (c.min-end.result - from) in
+    let block = take (c.min-end.result - from) (drop from c.args.list.now.pieces.now) in
+    let d = cost_small c.args.by.now.lines.now c.args.by.now.piece.now block in
+    let l = part_length c.args.list.now.pieces.now from (c.min-end.result - from) in
     let e = c.min-end.ensures in
     let n = c.in-None.ensures in
     absurd (omega arith)
 
 pub loop-n-init : goal.loop-n-init
 loop-n-init c =
-    let lines = c.args.lines.now in
-    let p = c.args.partition.now in
-    let ps = c.args.pieces.now in
+    let lines = c.args.by.now.lines.now in
+    let p = c.args.by.now.piece.now in
+    let ps = c.args.list.now.pieces.now in
     let s = c.args.sorted in
     let noted = c.args.noted.now in
     let l = all_length lines p ps s noted c.requires.is in
     record { counted = open_left lines p ps s noted c.requires.is; rest = omega arith; most = omega arith }
 
-pub count_list-requires-clause-pieces : goal.count_list-requires-clause-pieces
-count_list-requires-clause-pieces c =
-    let from = 16 * get_or c.args.noted.now c.loop-n.n 0 in
-    All-take (IsPiece c.args.lines.now) (c.min-end.result - from) (drop from c.args.pieces.now) (All-drop (IsPiece c.args.lines.now) from c.args.pieces.now c.requires.pieces)
-
-pub count_list-requires-clause-ends : goal.count_list-requires-clause-ends
-count_list-requires-clause-ends c =
-    let lines = c.args.lines.now in
-    let ps = c.args.pieces.now in
+pub count_list-requires-clause-list : goal.count_list-requires-clause-list
+count_list-requires-clause-list c =
+    let lines = c.args.by.now.lines.now in
+    let ps = c.args.list.now.pieces.now in
     let from = 16 * get_or c.args.noted.now c.loop-n.n 0 in
     let n = c.min-end.result - from in
-    let e = c.requires.ends in
+    let e = c.requires.list.ends in
     record {
-      firsts_are = part_column (first_end lines) ps c.args.firsts.now n from e.firsts_are;
-      lasts_are = part_column (last_end lines) ps c.args.lasts.now n from e.lasts_are;
+      each = All-take (IsPiece lines) n (drop from ps) (All-drop (IsPiece lines) from ps c.requires.list.each);
+      ends = record {
+        firsts_are = part_column (first_end lines) ps c.args.list.now.firsts.now n from e.firsts_are;
+        lasts_are = part_column (last_end lines) ps c.args.list.now.lasts.now n from e.lasts_are;
+      };
     }
 
 -- what is known once the next open block is counted
 record Next (c : In-Some) : Type 0 where
-  counted : Counted c.args.lines.now c.args.partition.now c.args.pieces.now
-      (pieces_in c.args.pieces.now (drop (c.loop-n.n + 1) (take c.args.sorted.count c.args.noted.now)))
+  counted : Counted c.args.by.now.lines.now c.args.by.now.piece.now c.args.list.now.pieces.now
+      (pieces_in c.args.list.now.pieces.now (drop (c.loop-n.n + 1) (take c.args.sorted.count c.args.noted.now)))
       (c.loop-n.counts.right + c.in-Some.more.right) (c.loop-n.counts.left + c.in-Some.more.left)
       (c.loop-n.counts.splits + c.in-Some.more.splits)
   right : c.loop-n.counts.right + c.in-Some.more.right < 2 ^ 32
   left : c.loop-n.counts.left + c.in-Some.more.left < 2 ^ 32
   splits : c.loop-n.counts.splits + c.in-Some.more.splits < 2 ^ 32
-  rest : c.loop-n.rest ≡ (c.min-end.result - 16 * get_or c.args.noted.now c.loop-n.n 0) + length (pieces_in c.args.pieces.now (drop (c.loop-n.n + 1) (take c.args.sorted.count c.args.noted.now)))
+  rest : c.loop-n.rest ≡ (c.min-end.result - 16 * get_or c.args.noted.now c.loop-n.n 0) + length (pieces_in c.args.list.now.pieces.now (drop (c.loop-n.n + 1) (take c.args.sorted.count c.args.noted.now)))
   forward : 16 * get_or c.args.noted.now c.loop-n.n 0 ≤ c.min-end.result
 
 next : (c : In-Some) → Next c
 next c =
-    let lines = c.args.lines.now in
-    let p = c.args.partition.now in
-    let ps = c.args.pieces.now in
+    let lines = c.args.by.now.lines.now in
+    let p = c.args.by.now.piece.now in
+    let ps = c.args.list.now.pieces.now in
     let noted = c.args.noted.now in
     let m = c.args.sorted.count in
     let n = c.loop-n.n in
@@ -172,7 +170,7 @@ returns-then-limit-least_cost-2 c =
     let er = e.right in
     let el = e.left in
     let es = e.splits in
-    let k = cost_at_least c.args.lines.now c.args.partition.now c.args.pieces.now _ _ _ _ x.counted in
+    let k = cost_at_least c.args.by.now.lines.now c.args.by.now.piece.now c.args.list.now.pieces.now _ _ _ _ x.counted in
     omega arith
 
 pub loop-n-preserved : goal.loop-n-preserved
@@ -193,6 +191,6 @@ loop-n-preserved c =
 pub returns : goal.returns
 returns c =
     let f = c.loop-n-test.false in
-    let a = counted_all c.args.lines.now c.args.partition.now c.args.pieces.now _ _ _ _
-    (none_open c.args.lines.now c.args.partition.now c.args.pieces.now c.args.sorted.count c.loop-n.n c.args.noted.now (omega arith)) c.loop-n.invariant.counted in
+    let a = counted_all c.args.by.now.lines.now c.args.by.now.piece.now c.args.list.now.pieces.now _ _ _ _
+    (none_open c.args.by.now.lines.now c.args.by.now.piece.now c.args.list.now.pieces.now c.args.sorted.count c.loop-n.n c.args.noted.now (omega arith)) c.loop-n.invariant.counted in
     record { splits = a.0; right = a.1; left = a.2 }

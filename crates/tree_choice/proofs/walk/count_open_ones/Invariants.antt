@@ -5,4 +5,4 @@ use Rattle.tree_choice.proofs.walk.count_open_ones.Given as goal
 
 -- the pieces at the places before this one are counted
 abbrev pub invariant-loop-place : goal.invariant-loop-place
-invariant-loop-place l = Counted l.lines l.partition l.pieces (pieces_at l.pieces (drop l.place-index l.places)) l.counts.right l.counts.left l.counts.splits
+invariant-loop-place l = Counted l.by.lines.now l.by.piece.now l.pieces (pieces_at l.pieces (drop l.place-index l.places)) l.counts.right l.counts.left l.counts.splits

@@ -8,9 +8,8 @@ use Rattle.tree_pieces.specs.declared.edge.Edge.{Edge}
 use Rattle.tree_pieces.specs.declared.piece.Piece.{Piece}
 use Rattle.tree_pieces.specs.declared.piece.Place.TheVariants.{Right, Left}
 use Rattle.tree_pieces.specs.Plane.{dot, ray}
-use Rattle.tree_pieces.specs.Pieces.{edge_of}
 use Rattle.tree_pieces.specs.Division.{parts_of}
-use Rattle.tree_pieces.specs.Local.{HasFractions}
+use Rattle.tree_pieces.specs.Local.{HasFractions, place_on}
 use Rattle.tree_choice.specs.declared.counts.Counts.{Counts}
 use Rattle.tree_choice.specs.Counts.{AreCounts}
 use Rattle.tree_choice.proofs.OneMore.{piece_counts}
@@ -29,11 +28,12 @@ lies_right-right-requires-clause-together c = sym c.are_apart.ensures ∙ c.if-a
 
 pub returns : goal.returns
 returns c =
-    let lines = c.args.lines.now in
-    let h = c.args.partition.now in
+    let lines = c.args.by.now.lines.now in
+    let h = c.args.by.now.piece.now in
     let q = c.args.piece.now in
-    let r = c.args.ray in
-    let e = edge_of lines q in
+    let r = c.args.by.now.margins.ray in
+    let e = c.line_of-edge.result in
+    let own = c.line_of-edge.ensures.line in
     let a = c.value_at-first.result in
     let b = c.value_at-last.result in
     let z = c.dot_of-direction.result in
@@ -45,7 +45,7 @@ returns c =
     let d : z ≡ dot r (ray e q.side) = c.dot_of-direction.ensures ∙ ap (dot r) c.ray_of-own.ensures.ray in
     by_side lines h q c.lies_right-right.result
     (λ t. let n = simp (to_z-of_z w64 a fa, to_z-of_z w64 b fb, to_z-of_z w64 z fz) at o.right t in
-    parts_by_place lines h q r Right c.requires.ray (sym (whole_right r e q ok a b z c.value_at-first.ensures.value c.value_at-last.ensures.value d n)))
+    parts_by_place lines h q r Right c.requires.candidate.ray (sym (whole_right r e q ok a b z c.value_at-first.ensures.value c.value_at-last.ensures.value d n) ∙ ap (λ (x : Edge). place_on r x q) own))
     (λ t. let n = simp (to_z-of_z w64 a fa, to_z-of_z w64 b fb, to_z-of_z w64 z fz) at o.left t in
-    parts_by_place lines h q r Left c.requires.ray (sym (whole_left r e q ok a b z c.value_at-first.ensures.value c.value_at-last.ensures.value d n)))
+    parts_by_place lines h q r Left c.requires.candidate.ray (sym (whole_left r e q ok a b z c.value_at-first.ensures.value c.value_at-last.ensures.value d n) ∙ ap (λ (x : Edge). place_on r x q) own))
     _ refl refl refl

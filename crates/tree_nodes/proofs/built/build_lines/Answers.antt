@@ -7,10 +7,10 @@ use Rattle.tree_nodes.proofs.Building.{build_refused, too_many_drawn, too_many_l
 use Rattle.tree_nodes.proofs.built.build_lines.Goals as goal
 
 pub returns-then-drawn-gt-ITEM_LIMIT-clause-refused : goal.returns-then-drawn-gt-ITEM_LIMIT-clause-refused
-returns-then-drawn-gt-ITEM_LIMIT-clause-refused c = too_many_drawn c.args.lines.now c.requires c.args.drawn.now (omega (arith, c.if-drawn-gt-ITEM_LIMIT.true))
+returns-then-drawn-gt-ITEM_LIMIT-clause-refused c = too_many_drawn c.args.lines.now c.are_drawn.ensures c.args.drawn.now (omega (arith, c.if-drawn-gt-ITEM_LIMIT.true))
 
-pub returns-then-lines-gt-ITEM_LIMIT-clause-refused : goal.returns-then-lines-gt-ITEM_LIMIT-clause-refused
-returns-then-lines-gt-ITEM_LIMIT-clause-refused c = too_many_lines c.args.lines.now c.requires (omega (arith, c.if-lines-gt-ITEM_LIMIT.true))
+pub returns-then-len-gt-ITEM_LIMIT-clause-refused : goal.returns-then-len-gt-ITEM_LIMIT-clause-refused
+returns-then-len-gt-ITEM_LIMIT-clause-refused c = too_many_lines c.args.lines.now c.are_drawn.ensures (omega (arith, c.if-len-gt-ITEM_LIMIT.true))
 
 pub returns-in-Err-clause-refused : goal.returns-in-Err-clause-refused
 returns-in-Err-clause-refused c = build_refused c.args.lines.now c.args.drawn.now c.in-Err.error c.in-Err.ensures.refused

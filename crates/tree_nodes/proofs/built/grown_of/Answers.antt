@@ -1,22 +1,19 @@
-use Rattle.std.proofs.Common.{◌≡◌, ◌∙◌, sym, subst, ap, length, arith, All}
+use Rattle.std.proofs.Common.{◌≡◌, ◌∙◌, ap, length, arith}
+use Rattle.std.specs.Prelude.{ℕ, false, replicate}
 use Rattle.tree_pieces.specs.First.{first_pieces}
-use Rattle.tree_pieces.specs.Pieces.{IsPiece}
 use Rattle.tree_nodes.specs.Growth.{lists_of}
-use Rattle.tree_nodes.proofs.Building.{first_some, first_few, first_pieced, reached_at, lists_at, refused_at, no_lists_yet}
+use Rattle.tree_nodes.proofs.Building.{first_some, first_few, reached_at, lists_at, refused_at, no_lists_yet}
 use Rattle.tree_nodes.proofs.built.grown_of.Goals as goal
 use Rattle.tree_nodes.proofs.built.grown_of.Goals.{In-Ok-of}
 
-pub of-requires-clause-pieces : goal.of-requires-clause-pieces
-of-requires-clause-pieces c = subst (All (IsPiece c.args.lines.now)) (sym c.in-Ok.ensures) (first_pieced c.args.lines.now c.requires.lines)
-
 -- the pieces of the first list
 firsts : (c : In-Ok-of) → c.in-Ok-of.list.pieces.items ≡ first_pieces c.args.lines.now
-firsts c = c.in-Ok-of.ensures.pieces ∙ c.in-Ok.ensures
+firsts c = c.in-Ok-of.ensures.pieces ∙ c.in-Ok.ensures.list
 
 pub grow-requires-clause-reached : goal.grow-requires-clause-reached
 grow-requires-clause-reached c =
-    reached_at c.args.lines.now c.requires.lines c.in-Ok-of.list.pieces.items c.deref_mut.result.now
-    (firsts (goal.at.grow-requires-clause-reached c).In-Ok-of) (c.deref_mut.ensures.value ∙ c.in-Ok-no_flags.ensures)
+    reached_at c.args.lines.now c.are_drawn.ensures c.in-Ok-of.list.pieces.items c.deref_mut.result.now
+    (firsts (goal.at.grow-requires-clause-reached c).In-Ok-of) (c.deref_mut.ensures.value ∙ c.in-Ok-no_flags.ensures ∙ ap (λ (n : ℕ). replicate n false) c.len.ensures)
 
 pub grow-requires-clause-some : goal.grow-requires-clause-some
 grow-requires-clause-some c =
@@ -32,12 +29,12 @@ grow-requires-clause-few c =
 
 pub returns-in-Err-grow-clause-refused : goal.returns-in-Err-grow-clause-refused
 returns-in-Err-grow-clause-refused c =
-    refused_at c.args.lines.now c.requires.lines c.in-Ok-of.list.pieces.items c.deref_mut.result.now _ c.in-Err-grow.error (firsts (goal.at.returns-in-Err-grow-clause-refused c).In-Ok-of) (c.deref_mut.ensures.value ∙ c.in-Ok-no_flags.ensures)
+    refused_at c.args.lines.now c.are_drawn.ensures c.in-Ok-of.list.pieces.items c.deref_mut.result.now _ c.in-Err-grow.error (firsts (goal.at.returns-in-Err-grow-clause-refused c).In-Ok-of) (c.deref_mut.ensures.value ∙ c.in-Ok-no_flags.ensures ∙ ap (λ (n : ℕ). replicate n false) c.len.ensures)
     (no_lists_yet c.in-Ok-nothing_grown.grown.pieces.items c.in-Ok-nothing_grown.grown.counts.items c.in-Ok-nothing_grown.grown.nodes.items c.in-Ok-nothing_grown.ensures.pieces c.in-Ok-nothing_grown.ensures.counts c.in-Ok-nothing_grown.ensures.nodes) c.in-Err-grow.ensures.refused
 
 pub returns-clause-lists : goal.returns-clause-lists
 returns-clause-lists c =
-    lists_at c.args.lines.now c.requires.lines c.in-Ok-of.list.pieces.items c.deref_mut.result.now _
+    lists_at c.args.lines.now c.are_drawn.ensures c.in-Ok-of.list.pieces.items c.deref_mut.result.now _
     (lists_of c.grow.new.grown) c.in-Ok-grow.field-0 (firsts (goal.at.returns-clause-lists c).In-Ok-of)
-    (c.deref_mut.ensures.value ∙ c.in-Ok-no_flags.ensures)
+    (c.deref_mut.ensures.value ∙ c.in-Ok-no_flags.ensures ∙ ap (λ (n : ℕ). replicate n false) c.len.ensures)
     (no_lists_yet c.in-Ok-nothing_grown.grown.pieces.items c.in-Ok-nothing_grown.grown.counts.items c.in-Ok-nothing_grown.grown.nodes.items c.in-Ok-nothing_grown.ensures.pieces c.in-Ok-nothing_grown.ensures.counts c.in-Ok-nothing_grown.ensures.nodes) c.in-Ok-grow.ensures.ok

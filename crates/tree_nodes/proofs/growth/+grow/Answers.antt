@@ -21,21 +21,18 @@ pub grow-requires : goal.grow-requires
 grow-requires t c =
     let d = division_of c.args.lines.now c.args.list.pieces.items c.args.used.now c.in-Ok.step c.in-Parts.partition c.in-Parts.right c.in-Parts.left c.in-Parts.is c.in-Ok.ensures.step in
     let boxed = boxes_are c.args.lines.now c.in-Ok.step c.in-Parts.partition c.in-Parts.right c.in-Parts.left c.in-Parts.is c.in-Ok.ensures.boxed in
-    let some = right_side_some _ _ _ _ _ _ d c.requires.lines c.requires.reached in
+    let some = right_side_some _ _ _ _ _ _ d c.are_drawn.ensures c.requires.reached in
     let few = right_side_few _ _ _ _ _ _ d in (
       omega arith,
       (
-        c.requires.lines,
+        right_side_reached _ _ _ _ _ _ d c.are_drawn.ensures c.requires.reached,
         (
-          right_side_reached _ _ _ _ _ _ d c.requires.lines c.requires.reached,
+          boxed.0,
           (
-            boxed.0,
+            some,
             (
-              some,
-              (
-                omega (arith, c.in-Parts.right.pieces.ok.0, c.args.list.pieces.ok.0, c.requires.few),
-                c.requires.fewer,
-              ),
+              omega (arith, c.in-Parts.right.pieces.ok.0, c.args.list.pieces.ok.0, c.requires.few),
+              c.requires.fewer,
             ),
           ),
         ),
@@ -54,21 +51,18 @@ grow-requires-in-Parts t c =
     let some = left_side_some _ _ _ _ _ _ d in
     let few = left_side_few _ _ _ _ _ _ d in
     let reached = subst (λ (x : List Bool). IsReached c.args.lines.now x c.in-Parts.left.pieces.items)
-    (sym c.in-Ok-grow.ensures.used) (left_side_reached _ _ _ _ _ _ d c.requires.lines c.requires.reached) in (
+    (sym c.in-Ok-grow.ensures.used) (left_side_reached _ _ _ _ _ _ d c.are_drawn.ensures c.requires.reached) in (
       omega arith,
       (
-        c.requires.lines,
+        reached,
         (
-          reached,
+          boxed.1,
           (
-            boxed.1,
+            some,
             (
-              some,
-              (
-                omega (arith, c.in-Parts.left.pieces.ok.0, c.args.list.pieces.ok.0, c.requires.few),
-                fewer_mid _ _ _ _ _ _ d c.args.room (lists_of c.args.grown.now)
-                    (lists_of c.grow.new.grown) c.in-Ok-grow.child c.in-Ok-grow.ensures.ok c.requires.fewer,
-              ),
+              omega (arith, c.in-Parts.left.pieces.ok.0, c.args.list.pieces.ok.0, c.requires.few),
+              fewer_mid _ _ _ _ _ _ d c.args.room (lists_of c.args.grown.now)
+                  (lists_of c.grow.new.grown) c.in-Ok-grow.child c.in-Ok-grow.ensures.ok c.requires.fewer,
             ),
           ),
         ),
@@ -92,7 +86,7 @@ bounds-used-line-in-Parts t c =
 pub put_node-requires-clause-partition : goal.put_node-requires-clause-partition
 put_node-requires-clause-partition t c =
     let d = division_of c.args.lines.now c.args.list.pieces.items c.args.used.now c.in-Ok.step c.in-Parts.partition c.in-Parts.right c.in-Parts.left c.in-Parts.is c.in-Ok.ensures.step in
-    partition_is _ _ _ _ _ _ d c.requires.lines c.requires.reached
+    partition_is _ _ _ _ _ _ d c.are_drawn.ensures c.requires.reached
 
 pub put_node-requires-clause-few : goal.put_node-requires-clause-few
 put_node-requires-clause-few t c =

@@ -4,21 +4,12 @@ use Rattle.std.specs.Prelude.{FitsSigned}
 use Rattle.std.specs.Int.{w64}
 use mir.Val.{of_z}
 use Rattle.lump_records.specs.declared.plane.Ray.{Ray}
+use Rattle.tree_pieces.specs.declared.edge.Edge.{Edge}
 use Rattle.tree_pieces.specs.Plane.{vertex_value}
 use Rattle.tree_pieces.specs.Pieces.{edge_of, ray_of}
-use Rattle.tree_pieces.proofs.EdgeLemmas.{edge_drawn}
 use Rattle.tree_pieces.proofs.Zeros.{zero_is, zero_if, zero_then}
 use Rattle.tree_pieces.proofs.dividing.lies_along.Goals as goal
 use Rattle.tree_pieces.proofs.dividing.lies_along.Goals.{After-value_at-end}
-
-pub ray_of-ray-requires : goal.ray_of-ray-requires
-ray_of-ray-requires c = edge_drawn c.args.lines.now c.args.first.now c.requires.lines c.requires.first
-
-pub value_at-start-requires-clause-place : goal.value_at-start-requires-clause-place
-value_at-start-requires-clause-place c = (edge_drawn c.args.lines.now c.args.second.now c.requires.lines c.requires.second).start
-
-pub value_at-end-requires-clause-place : goal.value_at-end-requires-clause-place
-value_at-end-requires-clause-place c = (edge_drawn c.args.lines.now c.args.second.now c.requires.lines c.requires.second).end
 
 record Facts (c : After-value_at-end) : Type 0 where
   start : c.value_at-start.result ≡ vertex_value (ray_of c.args.lines.now c.args.first.now) (edge_of c.args.lines.now c.args.second.now).v1
@@ -28,10 +19,10 @@ record Facts (c : After-value_at-end) : Type 0 where
 
 facts : (c : After-value_at-end) → Facts c
 facts c =
-    let e = edge_of c.args.lines.now c.args.second.now in
+    let r = ray_of c.args.lines.now c.args.first.now in
     record {
-      start = c.value_at-start.ensures.value ∙ ap (λ (r : Ray). vertex_value r e.v1) c.ray_of-ray.ensures.ray;
-      end = c.value_at-end.ensures.value ∙ ap (λ (r : Ray). vertex_value r e.v2) c.ray_of-ray.ensures.ray;
+      start = c.value_at-start.ensures.value ∙ ap (λ (r : Ray). vertex_value r c.line_of-edge.result.v1) c.ray_of-ray.ensures.ray ∙ ap (λ (e : Edge). vertex_value r e.v1) c.line_of-edge.ensures.line;
+      end = c.value_at-end.ensures.value ∙ ap (λ (r : Ray). vertex_value r c.line_of-edge.result.v2) c.ray_of-ray.ensures.ray ∙ ap (λ (e : Edge). vertex_value r e.v2) c.line_of-edge.ensures.line;
       fits_start = search rules;
       fits_end = search rules;
     }

@@ -4,4 +4,4 @@ use Rattle.tree_pieces.proofs.first.pieces_in.Given as goal
 
 -- what is listed, and what the lines from here on will add
 abbrev pub invariant-loop-line : goal.invariant-loop-line
-invariant-loop-line l = l.pieces.items ++ pieces_from l.line (drop l.line l.lines) ≡ first_pieces l.lines
+invariant-loop-line l = l.pieces.items ++ pieces_from l.line (drop l.line l.edges) ≡ first_pieces l.edges

@@ -9,5 +9,5 @@ use Rattle.tree_pieces.proofs.line_angles.angles_in.Given as goal
 abbrev pub invariant-loop-edge : goal.invariant-loop-edge
 invariant-loop-edge l = record {
   as_many : length l.angles.items ≡ l.edge-index;
-  each : (line : ℕ) → line < l.edge-index → IsRayAngle (ray (edge_at l.lines line) Along) (get_or l.angles.items line 0);
+  each : (line : ℕ) → line < l.edge-index → IsRayAngle (ray (edge_at l.fn.lines line) Along) (get_or l.angles.items line 0);
 }

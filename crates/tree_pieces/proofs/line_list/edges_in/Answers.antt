@@ -15,7 +15,7 @@ loop-n-preserved c =
       each = buildable_more vs c.args.sides.now ls n _ c.loop-n.invariant.each (slice_get-get_or ls n _ h) c.in-Ok-edge_in.ensures.buildable;
     }
 
-pub returns-clause-drawn : goal.returns-clause-drawn
-returns-clause-drawn c =
+pub of-requires : goal.of-requires
+of-requires c =
     subst (All IsEdge) (sym c.loop-n.invariant.edges)
     (buildable_drawn c.args.vertices.now c.args.sides.now (take c.loop-n.n c.args.lines.now) c.loop-n.invariant.each)
