@@ -3,3 +3,4 @@ pub mod LevelPicture
 pub mod Linting
 pub mod MarkList
 pub mod Picturing
+pub mod Unread
