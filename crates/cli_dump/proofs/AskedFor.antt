@@ -1,13 +1,16 @@
 -- What names ask for, one name after another and one level after another.
-use Rattle.std.proofs.Common.{◌≡◌, ◌∙◌, ◌+◌, ◌<◌, ◌≤◌, ℕ, zero, suc, List, [], ◌∷◌, ◌++◌, Bool, true, false, cond, length, get_or, map, take, drop, refl, sym, ap, arith, All}
-use Rattle.std.specs.Prelude.{◌==◌, ◌||◌, ◌&&◌}
-use Rattle.std.specs.List.{list_all, list_any}
-use Rattle.std.specs.Str.{bytes_eq}
-use Rattle.std.proofs.lemmas.List.{length-map, take_more}
+use Rattle.std.proofs.Common.{◌≡◌, ◌∙◌, ◌+◌, ◌<◌, ◌≤◌, ℕ, zero, suc, List, [], ◌∷◌, ◌++◌, Bool, true, false, cond, length, get_or, map, take, drop, refl, sym, ap, arith, All, Some}
+use Rattle.std.specs.Prelude.{◌&&◌}
+use Rattle.std.specs.List.{list_all}
+use Rattle.std.proofs.lemmas.List.{take_more}
 use Rattle.std.proofs.lemmas.List.Elements.{All-cons, All-head, All-nil, All-tail, filter-append}
-use Rattle.wad_levels.specs.Entries.{entry_text}
+use Rattle.wad_file.specs.Directory.{entry_text}
 use Rattle.wad_levels.specs.declared.entries.LevelEntries.{LevelEntries}
-use Rattle.cli_dump.specs.Asked.{asked_among, asks_for}
+use Rattle.wad_levels.specs.Listing.{listing_refusal}
+use Rattle.wad_levels.specs.declared.error.ReadError.{ReadError}
+use Rattle.wad_levels.proofs.ListingLemmas.{by_bytes}
+use Rattle.cli_dump.specs.Asked.{RefusesAsked, asked_among}
+use Rattle.wad_file.specs.Names.{is_asked}
 
 -- ---- names
 
@@ -28,31 +31,13 @@ pub all_map : {X Y : Type 0} (f : X → Y) (p : Y → Bool) (xs : List X) → li
 all_map f p [] = refl
 all_map f p (x ∷ xs) = ap (λ (b : Bool). p (f x) && b) (all_map f p xs)
 
-any_map : {X Y : Type 0} (f : X → Y) (p : Y → Bool) (xs : List X) → list_any p (map f xs) ≡ list_any (λ (x : X). p (f x)) xs
-any_map f p [] = refl
-any_map f p (x ∷ xs) = ap (λ (b : Bool). p (f x) || b) (any_map f p xs)
-
--- the text is asked for where it is one of the names
-pub asked_by : {X : Type 0} (f : X → List ℕ) (names : List X) (text : List ℕ) (b : Bool) → (length names == 0) ≡ false
-    → b ≡ list_any (λ (n : X). bytes_eq (f n) text) names → b ≡ asks_for (map f names) text
-asked_by f names text b some is =
-    let more : (length (map f names) == 0) ≡ false = ap (λ (n : ℕ). n == 0) (length-map names f) ∙ some in
-    is ∙ sym (any_map f (λ (n : List ℕ). bytes_eq n text) names)
-    ∙ sym (ap (λ (c : Bool). c || list_any (λ (n : List ℕ). bytes_eq n text) (map f names)) more)
-
--- where there is no name each text is asked for
-pub asked_all : {X : Type 0} (f : X → List ℕ) (names : List X) (text : List ℕ) → (length names == 0) ≡ true → true ≡ asks_for (map f names) text
-asked_all f names text none =
-    let all : (length (map f names) == 0) ≡ true = ap (λ (n : ℕ). n == 0) (length-map names f) ∙ none in
-    sym (ap (λ (c : Bool). c || list_any (λ (n : List ℕ). bytes_eq n text) (map f names)) all)
-
 -- ---- levels
 
 -- one level more was looked at
 pub asked_more : (wad : List ℕ) (names : List (List ℕ)) (ls : List LevelEntries) (n : ℕ) (d : LevelEntries) (old new : List LevelEntries) → n < length ls
     → old ≡ asked_among wad names (take n ls) → new ≡ old ++ asked_among wad names (get_or ls n d ∷ []) → new ≡ asked_among wad names (take (n + 1) ls)
 asked_more wad names ls n d old new within is more =
-    let test = λ (l : LevelEntries). asks_for names (entry_text wad l.marker) in
+    let test = λ (l : LevelEntries). is_asked names (entry_text wad l.marker) in
     more ∙ ap (λ (ks : List LevelEntries). ks ++ asked_among wad names (get_or ls n d ∷ [])) is
     ∙ sym (ap (asked_among wad names) (take_more ls n d within) ∙ filter-append test (take n ls) (get_or ls n d ∷ []))
 
@@ -64,4 +49,8 @@ still_by P l ls false here rest = rest
 pub still : (P : LevelEntries → Type 0) (wad : List ℕ) (names : List (List ℕ)) (ls : List LevelEntries) → All P ls → All P (asked_among wad names ls)
 still P wad names [] all = All-nil P
 still P wad names (l ∷ ls) all =
-    still_by P l (asked_among wad names ls) (asks_for names (entry_text wad l.marker)) (All-head P l ls all) (still P wad names ls (All-tail P l ls all))
+    still_by P l (asked_among wad names ls) (is_asked names (entry_text wad l.marker)) (All-head P l ls all) (still P wad names ls (All-tail P l ls all))
+
+-- bytes that are no WAD have no level that is asked for
+pub unread : (wad : List ℕ) (names : List (List ℕ)) (e : ReadError) → listing_refusal wad ≡ Some e → RefusesAsked wad names e
+unread wad names e r = by_bytes wad e (RefusesAsked wad names) (λ q. q) (λ q. q) r

@@ -21,7 +21,8 @@ use Rattle.lump_records.specs.Names.{name_text}
 use Rattle.map_tables.specs.Projects.{ProjectMaps}
 use Rattle.map_tables.specs.Tables.{Tables}
 use Rattle.map_tables.specs.WellFormed.{WellFormed}
-use Rattle.cli_dump.specs.Asked.{asked_maps, asks_for}
+use Rattle.cli_dump.specs.Asked.{asked_maps}
+use Rattle.wad_file.specs.Names.{is_asked}
 use Rattle.cli_dump.specs.Dumping.{lines_asked}
 use Rattle.cli_dump.specs.DumpSteps.{DumpsFor, DumpsLevel, DumpsLevels, KeepsMap, LosesLines}
 use Rattle.cli_dump.specs.LevelDumps.{change_notes, dumped_maps, is_level_left, level_notes, note, notes_of}
@@ -119,7 +120,7 @@ pub asked_more : (names : List (List ℕ)) (ms : List Tables) (n : ℕ) (d : Tab
 asked_more names ms n d u v w within said more = lines_more (lines_asked names) ms n d u v w within said more
 
 lines_asked-all : (names : List (List ℕ)) (p : ProjectMaps) → flat_map (lines_asked names) p.maps ≡ map_dumps_of (asked_maps names p)
-lines_asked-all names p = lines_taken map_dump_of (λ (m : Tables). asks_for names (name_text m.name)) p.maps
+lines_asked-all names p = lines_taken map_dump_of (λ (m : Tables). is_asked names (name_text m.name)) p.maps
 
 pub asked_all_written : (names : List (List ℕ)) (p : ProjectMaps) (u w : Option (List ℕ)) → Appends u w (text_of (flat_map (lines_asked names) p.maps))
     → Appends u w (text_of (map_dumps_of (asked_maps names p)))

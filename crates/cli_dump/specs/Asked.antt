@@ -2,21 +2,18 @@
 -- (docs/COMMANDS.md, "The program").
 use Rattle.std.specs.Prelude.{◌≡◌, ℕ, Bool, true, false, ◌||◌, ◌==◌, is_some, filter, find, length, List}
 use Rattle.std.specs.List.{list_all, list_any}
-use Rattle.std.specs.Str.{bytes_eq}
 use Rattle.lump_records.specs.Names.{name_text}
-use Rattle.wad_levels.specs.Entries.{AreLevels, entry_text}
+use Rattle.wad_levels.specs.Entries.{AreLevels}
+use Rattle.wad_file.specs.Directory.{entry_text}
 use Rattle.wad_levels.specs.Listing.{RefusesListing}
 use Rattle.wad_levels.specs.declared.entries.LevelEntries.{LevelEntries}
 use Rattle.wad_levels.specs.declared.error.ReadError.{ReadError}
 use Rattle.wad_levels.specs.declared.error.ReadError.TheVariants.{NoSuchLevel}
 use Rattle.map_tables.specs.Projects.{ProjectMaps}
 use Rattle.map_tables.specs.Tables.{Tables}
+use Rattle.wad_file.specs.Names.{is_asked}
 use Rattle.cli_print.specs.Picturing.{is_called}
 use Rattle.cli_print.specs.WantedLevels.{is_level_called}
-
--- the text is one of the names, or there is no name
-abbrev pub asks_for : List (List ℕ) → List ℕ → Bool
-asks_for names text = (length names == 0) || list_any (λ name. bytes_eq name text) names
 
 -- ---- maps
 
@@ -29,7 +26,7 @@ have_maps p names = list_all (has_map_called p) names
 
 -- the maps that are asked for, by number
 abbrev pub asked_maps : List (List ℕ) → ProjectMaps → List Tables
-asked_maps names p = filter (λ m. asks_for names (name_text m.name)) p.maps
+asked_maps names p = filter (λ m. is_asked names (name_text m.name)) p.maps
 
 -- ---- levels
 
@@ -42,7 +39,7 @@ have_levels wad levels names = list_all (has_level_called wad levels) names
 
 -- those of these levels that are asked for
 abbrev pub asked_among : List ℕ → List (List ℕ) → List LevelEntries → List LevelEntries
-asked_among wad names levels = filter (λ l. asks_for names (entry_text wad l.marker)) levels
+asked_among wad names levels = filter (λ l. is_asked names (entry_text wad l.marker)) levels
 
 -- these are the levels of the WAD that are asked for, in the order of its directory, and for each of
 -- the names there is one

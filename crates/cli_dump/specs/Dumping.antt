@@ -10,7 +10,8 @@ use Rattle.map_dump.specs.Texts.{WritesFront, text_of}
 use Rattle.run_edit.specs.declared.error.EditorError.TheVariants.{OutOfMemory, WriterFailed}
 use Rattle.cli_refusals.specs.declared.refusal.Refusal.{Refusal}
 use Rattle.cli_refusals.specs.declared.refusal.Refusal.TheVariants as of
-use Rattle.cli_dump.specs.Asked.{asked_maps, have_maps, asks_for}
+use Rattle.cli_dump.specs.Asked.{asked_maps, have_maps}
+use Rattle.wad_file.specs.Names.{is_asked}
 
 -- the lines that draw these maps again were written, each with LF behind it; or those before one
 -- that found no memory; or the writer failed
@@ -24,7 +25,7 @@ IsDumpedOf maps _ writer-old writer-new = ⊥
 
 -- the lines of a map that is asked for
 abbrev pub lines_asked : List (List ℕ) → Tables → List (List ℕ)
-lines_asked names m = if asks_for names (name_text m.name) then map_dump_of m else []
+lines_asked names m = if is_asked names (name_text m.name) then map_dump_of m else []
 
 -- the lines that draw each map of the names were written, or those before one that found no memory;
 -- or, with nothing written, one of the names is no map's; or the writer failed

@@ -1,33 +1,16 @@
 //! The maps of a project and the levels of a WAD that names ask for.
 ghost use Rattle.std.specs.Prelude.{◌≡◌, ◌∷◌, [], ◌++◌, All, IfErr, IfOk, IsOkUnless, OnOk, map, string_bytes};
-ghost use Rattle.std.specs.List.{list_any};
-ghost use Rattle.std.specs.Str.{bytes_eq};
-ghost use Rattle.wad_levels.specs.Entries.{IsLevelAt, entry_text};
-ghost use Rattle.wad_levels.specs.Levels.{HasEntries};
+ghost use Rattle.wad_levels.specs.Entries.{IsLevelAt};
+ghost use Rattle.wad_file.specs.Directory.{entry_text};
 ghost use Rattle.map_tables.specs.Projects.{project_of};
-ghost use Rattle.cli_dump.specs.Asked.{AreAsked, RefusesAsked, asked_among, has_level_called, has_map_called, have_levels, have_maps, asks_for};
+ghost use Rattle.wad_file.specs.Names.{is_asked};
+ghost use Rattle.cli_dump.specs.Asked.{AreAsked, RefusesAsked, asked_among, has_level_called, has_map_called, have_levels, have_maps};
 
 use cli_print::{level_called, map_called};
 use map_tables::Maps;
 use std::alloc::Global;
-use wad_levels::{LevelEntries, ReadError, entry_of, levels_in};
-
-// Whether the text is one of the names.
-fn is_among(names: &[String], text: &[u8]) -> bool
-    ensures { result ≡ list_any (λ name. bytes_eq (string_bytes name) text.now) names.now }
-{
-    names.iter().any(|name| name.as_bytes() == text)
-}
-
-/// Whether the text is one of the names, or there is no name.
-pub(crate) fn asks_for(names: &[String], text: &[u8]) -> bool
-    ensures { result ≡ asks_for (map string_bytes names.now) text.now }
-{
-    if names.is_empty() {
-        return true;
-    }
-    is_among(names, text)
-}
+use wad_file::{Wad, is_asked};
+use wad_levels::{LevelEntries, ReadError, levels_in};
 
 // Whether a map has the name.
 fn has_map_called(maps: &Maps, name: &[u8]) -> bool
@@ -49,8 +32,7 @@ pub(crate) fn have_maps(maps: &Maps, names: &[String]) -> bool
 }
 
 // Whether one of the levels has the name.
-fn has_level_called(wad: &[u8], levels: &[LevelEntries], name: &[u8]) -> bool
-    requires directory { HasEntries wad.now }
+fn has_level_called(wad: &Wad<'_>, levels: &[LevelEntries], name: &[u8]) -> bool
     requires levels { All (IsLevelAt wad.now) levels.now }
     ensures { result ≡ has_level_called wad.now levels.now name.now }
 {
@@ -58,8 +40,7 @@ fn has_level_called(wad: &[u8], levels: &[LevelEntries], name: &[u8]) -> bool
 }
 
 // Whether each of the names is the name of one of the levels.
-fn have_levels(wad: &[u8], levels: &[LevelEntries], names: &[String]) -> bool
-    requires directory { HasEntries wad.now }
+fn have_levels(wad: &Wad<'_>, levels: &[LevelEntries], names: &[String]) -> bool
     requires levels { All (IsLevelAt wad.now) levels.now }
     ensures { result ≡ have_levels wad.now levels.now (map string_bytes names.now) }
 {
@@ -72,24 +53,22 @@ fn have_levels(wad: &[u8], levels: &[LevelEntries], names: &[String]) -> bool
 }
 
 // Whether the level is asked for.
-fn is_level_asked(wad: &[u8], names: &[String], level: LevelEntries) -> bool
-    requires directory { HasEntries wad.now }
+fn is_level_asked(wad: &Wad<'_>, names: &[String], level: LevelEntries) -> bool
     requires level { IsLevelAt wad.now level }
     ensures { result
-        ≡ asks_for (map string_bytes names.now) (entry_text wad.now level.marker) }
+        ≡ is_asked (map string_bytes names.now) (entry_text wad.now level.marker) }
 {
-    let own = entry_of(wad, level.marker).name;
-    asks_for(names, own.text())
+    let own = wad.name(level.marker);
+    is_asked(names, own.text())
 }
 
 // Adds a level to the others if it is asked for.
 fn add_asked(
-    wad: &[u8],
+    wad: &Wad<'_>,
     names: &[String],
     level: LevelEntries,
     asked: &mut Vec<LevelEntries>,
 ) -> Result<(), ReadError>
-    requires directory { HasEntries wad.now }
     requires level { IsLevelAt wad.now level }
     ensures added { OnOk result (asked.new.items ≡ asked.old.items
         ++ asked_among wad.now (map string_bytes names.now) (level ∷ [])) }
@@ -107,11 +86,10 @@ fn add_asked(
 // Those of the levels that are asked for.
 fn asked_among(
     alloc: Global,
-    wad: &[u8],
+    wad: &Wad<'_>,
     names: &[String],
     levels: &[LevelEntries],
 ) -> Result<Vec<LevelEntries>, ReadError>
-    requires directory { HasEntries wad.now }
     requires levels { All (IsLevelAt wad.now) levels.now }
     ensures asked { IfOk result (λ asked. asked.items
         ≡ asked_among wad.now (map string_bytes names.now) levels.now) }
@@ -131,18 +109,17 @@ fn asked_among(
 /// names. Each of the names has to be the name of a level.
 pub(crate) fn asked_levels(
     alloc: Global,
-    wad: &[u8],
+    wad: &Wad<'_>,
     names: &[String],
 ) -> Result<Vec<LevelEntries>, ReadError>
     ensures asked { IfOk result (λ asked.
         AreAsked wad.now (map string_bytes names.now) asked.items) }
-    ensures entries { IfOk result (λ asked. HasEntries wad.now
-        × All (IsLevelAt wad.now) asked.items) }
+    ensures entries { IfOk result (λ asked. All (IsLevelAt wad.now) asked.items) }
     ensures refused { IfErr result (RefusesAsked wad.now (map string_bytes names.now)) }
 {
     let levels = match levels_in(alloc, wad) {
         Ok(levels) => levels,
-        Err(error) => return Err(error),
+        Err(_) => return Err(ReadError::OutOfMemory),
     };
     if !have_levels(wad, &levels, names) {
         return Err(ReadError::NoSuchLevel);

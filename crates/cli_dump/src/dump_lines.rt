@@ -8,13 +8,14 @@ ghost use Rattle.cli_dump.specs.Asked.{asked_maps};
 ghost use Rattle.cli_dump.specs.DumpSteps.{WritesOrLoses};
 ghost use Rattle.cli_dump.specs.Dumping.{IsDumpedIn, IsDumpedOf, lines_asked};
 
-use crate::asked::{asks_for, have_maps};
+use crate::asked::have_maps;
 use cli_refusals::{DONE, Refusal};
 use map_dump::{DumpError, write_dump, write_map_dump};
 use map_tables::{Map, Maps};
 use run_edit::EditorError;
 use std::alloc::Global;
 use std::io::Write;
+use wad_file::is_asked;
 
 /// Writes the lines that draw the maps again, and flushes the writer.
 pub fn tell_lines<W: Write>(alloc: Global, maps: &Maps, writer: &mut W) -> Result<u8, Refusal>
@@ -59,7 +60,7 @@ fn write_asked<W: Write>(
         (W.contents writer.old) (W.contents writer.new) }
 {
     let own = drawn.name();
-    if !asks_for(names, own.text()) {
+    if !is_asked(names, own.text()) {
         return Ok(());
     }
     write_map_lines(alloc, drawn, writer)

@@ -7,7 +7,6 @@ ghost use Rattle.run_edit.specs.declared.error.EditorError.TheVariants.{WriterFa
 ghost use Rattle.wad_import.specs.Texts.{change_text, import_refusal_text};
 ghost use Rattle.wad_import.specs.declared.change.Change.{Change};
 ghost use Rattle.wad_levels.specs.Entries.{IsLevelAt};
-ghost use Rattle.wad_levels.specs.Levels.{HasEntries};
 ghost use Rattle.map_tables.specs.Tables.{Tables};
 ghost use Rattle.map_tables.specs.WellFormed.{WellFormed};
 ghost use Rattle.cli_dump.specs.DumpSteps.{DumpsFor, DumpsLevel, DumpsLevels, KeepsMap};
@@ -22,8 +21,9 @@ use map_tables::{Kind, Map};
 use run_edit::{EditorError, InspectError};
 use std::alloc::Global;
 use std::io::Write;
+use wad_file::Wad;
 use wad_import::{Change, ImportError, Imported};
-use wad_levels::{LevelEntries, entry_of};
+use wad_levels::{LevelEntries, read_wad};
 
 // Writes a change of the level with the name, after the words `before`.
 fn write_change<E: Write>(
@@ -187,20 +187,19 @@ fn is_well_formed(found: &Imported)
 // Dumps a level, or leaves it.
 fn dump_level<W: Write, E: Write>(
     alloc: Global,
-    wad: &[u8],
+    wad: &Wad<'_>,
     level: LevelEntries,
     is_exact: bool,
     writer: &mut W,
     errors: &mut E,
 ) -> Result<bool, EditorError>
-    requires directory { HasEntries wad.now }
     requires level { IsLevelAt wad.now level }
     ensures dumped { DumpsLevel is_exact wad.now level result
         (W.contents writer.old) (W.contents writer.new)
         (E.contents errors.old) (E.contents errors.new) }
     ensures map { IfOk result (λ _. KeepsMap is_exact wad.now level) }
 {
-    let name = entry_of(wad, level.marker).name;
+    let name = wad.name(level.marker);
     match map_of_level(alloc, wad, level) {
         Ok(found) => {
             is_well_formed(&found);
@@ -214,13 +213,12 @@ fn dump_level<W: Write, E: Write>(
 // Dumps levels in turn, and returns whether none was left.
 fn dump_levels<W: Write, E: Write>(
     alloc: Global,
-    wad: &[u8],
+    wad: &Wad<'_>,
     levels: &[LevelEntries],
     is_exact: bool,
     writer: &mut W,
     errors: &mut E,
 ) -> Result<bool, EditorError>
-    requires directory { HasEntries wad.now }
     requires levels { All (IsLevelAt wad.now) levels.now }
     ensures dumped { DumpsLevels is_exact wad.now levels.now result
         (W.contents writer.old) (W.contents writer.new)
@@ -237,12 +235,10 @@ fn dump_levels<W: Write, E: Write>(
     Ok(are_all)
 }
 
-/// Writes the lines that draw the levels of `wad`, all or those with the names, in the order of its directory: for each
-/// those of the map that it is after the changes of `wad_import`. Flushes the writer. Writes each change on `errors`. A
-/// level that is no map is left; so is one with any change, if maps are to be exact. Then `errors` has the reason.
-pub fn tell_level_dumps<W: Write, E: Write>(
+// Writes the lines that draw the levels that are asked for, and what is said of them.
+fn tell_asked<W: Write, E: Write>(
     alloc: Global,
-    wad: &[u8],
+    wad: &Wad<'_>,
     names: &[String],
     is_exact: bool,
     writer: &mut W,
@@ -261,5 +257,27 @@ pub fn tell_level_dumps<W: Write, E: Write>(
     match writer.flush() {
         Ok(()) => Ok(status_told(are_all)),
         Err(_) => Err(Refusal::Lines(EditorError::WriterFailed)),
+    }
+}
+
+/// Writes the lines that draw the levels of `wad`, all or those with the names, in the order of its directory: for each
+/// those of the map that it is after the changes of `wad_import`. Flushes the writer. Writes each change on `errors`. A
+/// level that is no map is left; so is one with any change, if maps are to be exact. Then `errors` has the reason.
+pub fn tell_level_dumps<W: Write, E: Write>(
+    alloc: Global,
+    wad: &[u8],
+    names: &[String],
+    is_exact: bool,
+    writer: &mut W,
+    errors: &mut E,
+) -> Result<u8, Refusal>
+    ensures small { IfOk result (λ s. s ≤ 3) }
+    ensures told { IsWadDumped wad.now (map string_bytes names.now)
+        is_exact result (W.contents writer.old) (W.contents writer.new)
+        (E.contents errors.old) (E.contents errors.new) }
+{
+    match read_wad(wad) {
+        Ok(wad) => tell_asked(alloc, &wad, names, is_exact, writer, errors),
+        Err(error) => Err(Refusal::Level(InspectError::Level(error))),
     }
 }

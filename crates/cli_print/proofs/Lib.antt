@@ -4,3 +4,4 @@ pub mod Linting
 pub mod MarkList
 pub mod Picturing
 mod Putting
+pub mod Unread

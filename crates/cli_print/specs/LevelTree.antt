@@ -8,7 +8,7 @@ use Rattle.lump_records.specs.declared.records.Seg.{Seg}
 use Rattle.lump_records.specs.declared.records.Sub.{Sub}
 use Rattle.lump_records.specs.declared.records.Vertex.{Vertex}
 use Rattle.wad_levels.specs.Drawn.{level_lump}
-use Rattle.wad_levels.specs.Levels.{first_failed}
+use Rattle.wad_file.specs.Directory.{first_failed}
 use Rattle.wad_levels.specs.declared.entries.LevelEntries.{LevelEntries}
 use Rattle.map_svg.specs.declared.overlay.Overlay.{Overlay}
 use Rattle.cli_print.specs.declared.level_tree.TreeFault.{TreeFault}

@@ -1,7 +1,8 @@
 -- The levels of a WAD that the program's words ask for (docs/COMMANDS.md, "The program").
 use Rattle.std.specs.Prelude.{◌≡◌, ℕ, Bool, List, [], ◌∷◌, find, slice_get, Option, Some, None}
 use Rattle.std.specs.Str.{bytes_eq}
-use Rattle.wad_levels.specs.Entries.{AreLevels, entry_text}
+use Rattle.wad_levels.specs.Entries.{AreLevels}
+use Rattle.wad_file.specs.Directory.{entry_text}
 use Rattle.wad_levels.specs.Listing.{RefusesListing}
 use Rattle.wad_levels.specs.declared.entries.LevelEntries.{LevelEntries}
 use Rattle.wad_levels.specs.declared.error.ReadError.{ReadError}

@@ -4,7 +4,6 @@ ghost use Rattle.wad_import.specs.Imported.{changes};
 ghost use Rattle.wad_import.specs.Refused.{RefusesLevelImport};
 ghost use Rattle.wad_levels.specs.Drawn.{drawn_lists};
 ghost use Rattle.wad_levels.specs.Entries.{IsLevelAt};
-ghost use Rattle.wad_levels.specs.Levels.{HasEntries};
 ghost use Rattle.wad_levels.specs.Listing.{entry_name};
 ghost use Rattle.map_tables.specs.ProjectBody.{alone};
 ghost use Rattle.map_tables.specs.Projects.{project_of};
@@ -16,12 +15,16 @@ use cli_refusals::Refusal;
 use run_edit::{EditorError, InspectError};
 use std::alloc::Global;
 use std::io::Write;
+use wad_file::Wad;
 use wad_import::{ImportError, Imported, import_drawn};
-use wad_levels::{Hindrance, LevelEntries, entry_of, read_lists};
+use wad_levels::{Hindrance, LevelEntries, read_lists, read_wad};
 
 /// The map that a level is after the changes, alone in a project, and the changes; or why it is none.
-pub fn map_of_level(alloc: Global, wad: &[u8], level: LevelEntries) -> Result<Imported, ImportError>
-    requires directory { HasEntries wad.now }
+pub fn map_of_level(
+    alloc: Global,
+    wad: &Wad<'_>,
+    level: LevelEntries,
+) -> Result<Imported, ImportError>
     requires level { IsLevelAt wad.now level }
     ensures { MatchResult result
         (λ i. (map_refusal wad.now level ≡ None)
@@ -29,7 +32,7 @@ pub fn map_of_level(alloc: Global, wad: &[u8], level: LevelEntries) -> Result<Im
         × (i.changes.items ≡ changes (drawn_lists wad.now level)))
         (RefusesLevelImport wad.now level (entry_name wad.now level.marker)) }
 {
-    let name = entry_of(wad, level.marker).name;
+    let name = wad.name(level.marker);
     match read_lists(alloc, wad, level) {
         Ok(drawn) => import_drawn(alloc, &drawn, name),
         Err(Hindrance::OutOfMemory) => Err(ImportError::OutOfMemory),
@@ -40,10 +43,9 @@ pub fn map_of_level(alloc: Global, wad: &[u8], level: LevelEntries) -> Result<Im
 /// The same; if the level is no map, with the refusal of the request.
 pub(crate) fn map_or_refusal(
     alloc: Global,
-    wad: &[u8],
+    wad: &Wad<'_>,
     level: LevelEntries,
 ) -> Result<Imported, Refusal>
-    requires directory { HasEntries wad.now }
     requires level { IsLevelAt wad.now level }
     ensures map { IfOk result (λ i. (map_refusal wad.now level ≡ None)
         × (project_of i.maps ≡ alone (level_map wad.now level))) }
@@ -53,6 +55,27 @@ pub(crate) fn map_or_refusal(
         Ok(found) => Ok(found),
         Err(ImportError::OutOfMemory) => Err(Refusal::Lines(EditorError::OutOfMemory)),
         Err(error) => Err(Refusal::NotAMap(error)),
+    }
+}
+
+// Writes the findings of the map that the wanted level is, and flushes the writer.
+fn tell_wanted<W: Write>(
+    alloc: Global,
+    wad: &Wad<'_>,
+    name: Option<&str>,
+    writer: &mut W,
+) -> Result<u8, Refusal>
+    ensures small { IfOk result (λ s. s ≤ 3) }
+    ensures told { IsWadChecked wad.now (option_map (λ s. s.now) name.entry) result
+        (W.contents writer.old) (W.contents writer.new) }
+{
+    let level = match wanted_level(alloc, wad, name) {
+        Ok(level) => level,
+        Err(error) => return Err(Refusal::Level(InspectError::Level(error))),
+    };
+    match map_or_refusal(alloc, wad, level) {
+        Ok(found) => tell(alloc, found.maps.current(), writer),
+        Err(refusal) => Err(refusal),
     }
 }
 
@@ -68,12 +91,8 @@ pub fn tell_level_findings<W: Write>(
     ensures told { IsWadChecked wad.now (option_map (λ s. s.now) name.entry) result
         (W.contents writer.old) (W.contents writer.new) }
 {
-    let level = match wanted_level(alloc, wad, name) {
-        Ok(level) => level,
-        Err(error) => return Err(Refusal::Level(InspectError::Level(error))),
-    };
-    match map_or_refusal(alloc, wad, level) {
-        Ok(found) => tell(alloc, found.maps.current(), writer),
-        Err(refusal) => Err(refusal),
+    match read_wad(wad) {
+        Ok(wad) => tell_wanted(alloc, &wad, name, writer),
+        Err(error) => Err(Refusal::Level(InspectError::Level(error))),
     }
 }

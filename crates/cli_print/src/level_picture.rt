@@ -2,7 +2,6 @@
 ghost use Rattle.std.specs.Prelude.{◌≡◌, ◌≤◌, ◌⊎◌, IfErr, IfOk, is_some, option_map};
 ghost use Rattle.run_edit.specs.declared.error.EditorError.TheVariants.{OutOfMemory};
 ghost use Rattle.wad_levels.specs.Entries.{IsLevelAt};
-ghost use Rattle.wad_levels.specs.Levels.{HasEntries};
 ghost use Rattle.cli_refusals.specs.declared.refusal.Refusal.{Refusal};
 ghost use Rattle.cli_print.specs.LevelPicture.{IsLaidOverLevel, IsLevelPicturedOf, RefusesLayers, refusal_for_tree};
 
@@ -19,7 +18,8 @@ use run_edit::{EditorError, InspectError};
 use std::alloc::Global;
 use std::fs::Files;
 use std::io::Write;
-use wad_levels::{LevelEntries, ReadError};
+use wad_file::Wad;
+use wad_levels::{LevelEntries, ReadError, read_wad};
 
 // The refusal of the request if the tree is refused.
 fn refusal_for_tree(fault: TreeFault) -> Refusal
@@ -36,12 +36,11 @@ fn refusal_for_tree(fault: TreeFault) -> Refusal
 // What is laid over the picture of a level that is this map.
 fn laid_over_level(
     alloc: Global,
-    wad: &[u8],
+    wad: &Wad<'_>,
     level: LevelEntries,
     drawn: &Map,
     layers: Layers,
 ) -> Result<Overlay, Refusal>
-    requires directory { HasEntries wad.now }
     requires level { IsLevelAt wad.now level }
     ensures laid { IfOk result (IsLaidOverLevel layers wad.now level drawn.now.tables) }
     ensures refused { IfErr result (λ r. RefusesLayers layers wad.now level r
@@ -59,12 +58,11 @@ fn laid_over_level(
     }
 }
 
-/// Draws the wanted level of a WAD, the first one with the name or the first of all, as the map that it is after
-/// the changes of `wad_import`, as `draw` draws a map. The tree that is shown is the one that the WAD has of it.
-pub fn draw_level<E: Files, W: Write>(
+// Draws the wanted level as the map that it is.
+fn draw_wanted<E: Files, W: Write>(
     alloc: Global,
     rt: &E,
-    wad: &[u8],
+    wad: &Wad<'_>,
     wanted: Wanted<'_>,
     writer: &mut W,
     why: &mut Option<Cause>,
@@ -88,5 +86,28 @@ where
     match laid_over_level(alloc, wad, level, map, wanted.layers) {
         Ok(overlay) => draw_laid(alloc, rt, map, &overlay, wanted, writer, why),
         Err(refusal) => Err(refusal),
+    }
+}
+
+/// Draws the wanted level of a WAD, the first one with the name or the first of all, as the map that it is after
+/// the changes of `wad_import`, as `draw` draws a map. The tree that is shown is the one that the WAD has of it.
+pub fn draw_level<E: Files, W: Write>(
+    alloc: Global,
+    rt: &E,
+    wad: &[u8],
+    wanted: Wanted<'_>,
+    writer: &mut W,
+    why: &mut Option<Cause>,
+) -> Result<u8, Refusal>
+where
+    E::File: Hold,
+    ensures small { IfOk result (λ s. s ≤ 3) }
+    ensures drawn { IsLevelPicturedOf wanted.entry.layers
+        (option_map (λ s. s.now) wanted.entry.map) (is_some wanted.entry.out) wad.now result
+        (W.contents writer.old) (W.contents writer.new) }
+{
+    match read_wad(wad) {
+        Ok(wad) => draw_wanted(alloc, rt, &wad, wanted, writer, why),
+        Err(error) => Err(Refusal::Level(InspectError::Level(error))),
     }
 }

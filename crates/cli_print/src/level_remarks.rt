@@ -6,7 +6,6 @@ ghost use Rattle.map_dump.specs.Texts.{with_lf};
 ghost use Rattle.run_edit.specs.declared.error.EditorError.TheVariants.{OutOfMemory, WriterFailed};
 ghost use Rattle.wad_levels.specs.Entries.{IsLevelAt};
 ghost use Rattle.wad_levels.specs.Graphics.{graphics_view};
-ghost use Rattle.wad_levels.specs.Levels.{HasEntries};
 ghost use Rattle.lump_records.specs.Names.{name_text};
 ghost use Rattle.cli_print.specs.LevelLines.{AreLinesOf, IsWadLintedBy, IsWadLintedOf, WritesLevel, no_map_text};
 ghost use Rattle.cli_print.specs.Linting.{WritesRemarks};
@@ -24,8 +23,9 @@ use run_edit::{EditorError, InspectError, write_total};
 use std::alloc::Global;
 use std::fs::Files;
 use std::io::Write;
+use wad_file::Wad;
 use wad_import::ImportError;
-use wad_levels::{Graphics, LevelEntries, entry_of};
+use wad_levels::{Graphics, LevelEntries, read_wad};
 
 // Writes that a level is no map, and why.
 fn write_why<W: Write>(error: &ImportError, writer: &mut W) -> Result<(), EditorError>
@@ -78,13 +78,12 @@ fn count_no_map<W: Write>(
 // Writes the lines about a level, and adds their number to the count.
 fn write_level<W: Write>(
     alloc: Global,
-    wad: &[u8],
+    wad: &Wad<'_>,
     level: LevelEntries,
     names: Option<&Graphics>,
     before: u32,
     writer: &mut W,
 ) -> Result<u32, EditorError>
-    requires directory { HasEntries wad.now }
     requires level { IsLevelAt wad.now level }
     ensures { WritesLevel (option_map graphics_view (option_copied names.entry)) wad.now level
         result before (W.contents writer.old) (W.contents writer.new) }
@@ -93,7 +92,7 @@ fn write_level<W: Write>(
         Ok(found) => write_map(alloc, found.maps.current(), names, before, writer),
         Err(ImportError::OutOfMemory) => Err(EditorError::OutOfMemory),
         Err(error) => {
-            let name = entry_of(wad, level.marker).name;
+            let name = wad.name(level.marker);
             count_no_map(&name, &error, before, writer)
         }
     }
@@ -102,12 +101,11 @@ fn write_level<W: Write>(
 // Writes the lines about each level, and counts them.
 fn write_levels<W: Write>(
     alloc: Global,
-    wad: &[u8],
+    wad: &Wad<'_>,
     levels: &[LevelEntries],
     names: Option<&Graphics>,
     writer: &mut W,
 ) -> Result<u32, EditorError>
-    requires directory { HasEntries wad.now }
     requires levels { All (IsLevelAt wad.now) levels.now }
     ensures { (lines : List (List ℕ))
         × AreLinesOf (option_map graphics_view (option_copied names.entry))
@@ -125,9 +123,9 @@ fn write_levels<W: Write>(
 }
 
 // Writes the lines about the wanted levels, then their number, and flushes the writer.
-fn tell_levels<W: Write>(
+fn tell_wanted<W: Write>(
     alloc: Global,
-    wad: &[u8],
+    wad: &Wad<'_>,
     name: Option<&str>,
     names: Option<&Graphics>,
     writer: &mut W,
@@ -146,6 +144,25 @@ fn tell_levels<W: Write>(
     match writer.flush() {
         Ok(()) => Ok(status_after(count)),
         Err(_) => Err(Refusal::Lines(EditorError::WriterFailed)),
+    }
+}
+
+// The same of the levels that the bytes hold.
+fn tell_levels<W: Write>(
+    alloc: Global,
+    wad: &[u8],
+    name: Option<&str>,
+    names: Option<&Graphics>,
+    writer: &mut W,
+) -> Result<u8, Refusal>
+    ensures small { IfOk result (λ s. s ≤ 3) }
+    ensures told { IsWadLintedOf (option_map graphics_view (option_copied names.entry)) wad.now
+        (option_map (λ s. s.now) name.entry) result
+        (W.contents writer.old) (W.contents writer.new) }
+{
+    match read_wad(wad) {
+        Ok(wad) => tell_wanted(alloc, &wad, name, names, writer),
+        Err(error) => Err(Refusal::Level(InspectError::Level(error))),
     }
 }
 

@@ -2,7 +2,6 @@
 ghost use Rattle.std.specs.Prelude.{◌≡◌, None, IfErr, IfOk};
 ghost use Rattle.std.specs.List.{list_all};
 ghost use Rattle.wad_levels.specs.Entries.{IsLevelAt};
-ghost use Rattle.wad_levels.specs.Levels.{HasEntries};
 ghost use Rattle.cli_print.specs.LevelTree.{IsOwnTree, RefusesTree, are_among, has_whole_lumps, is_child_among, is_node_among, is_seg_among, is_sub_among, tree_refusal};
 
 use lump_records::{
@@ -10,6 +9,7 @@ use lump_records::{
 };
 use map_svg::{Mark, Overlay};
 use std::alloc::Global;
+use wad_file::Wad;
 use wad_levels::{LevelEntries, level_lump};
 
 /// Why the tree that a WAD has of a level isn't shown.
@@ -25,8 +25,7 @@ pub enum TreeFault {
 }
 
 // Whether the lumps of a level's tree are whole records long.
-fn has_whole_lumps(wad: &[u8], level: LevelEntries) -> bool
-    requires directory { HasEntries wad.now }
+fn has_whole_lumps(wad: &Wad<'_>, level: LevelEntries) -> bool
     requires level { IsLevelAt wad.now level }
     ensures { result ≡ has_whole_lumps wad.now level }
 {
@@ -39,11 +38,10 @@ fn has_whole_lumps(wad: &[u8], level: LevelEntries) -> bool
 // The lists of a level's tree, and these marks. The lumps are whole records long, so only memory can be lacking.
 fn decoded(
     alloc: Global,
-    wad: &[u8],
+    wad: &Wad<'_>,
     level: LevelEntries,
     marks: Vec<Mark>,
 ) -> Result<Overlay, TreeFault>
-    requires directory { HasEntries wad.now }
     requires level { IsLevelAt wad.now level }
     ensures tree { IfOk result (IsOwnTree wad.now level) }
     ensures marks { IfOk result (λ o. o.marks ≡ marks) }
@@ -135,11 +133,10 @@ fn are_among(vertices: &[Vertex], segs: &[Seg], subs: &[Sub], nodes: &[Node]) ->
 /// The tree that a WAD has of a level, and these marks; or why it isn't shown.
 pub(crate) fn own_tree(
     alloc: Global,
-    wad: &[u8],
+    wad: &Wad<'_>,
     level: LevelEntries,
     marks: Vec<Mark>,
 ) -> Result<Overlay, TreeFault>
-    requires directory { HasEntries wad.now }
     requires level { IsLevelAt wad.now level }
     ensures shown { IfOk result (λ o. (tree_refusal wad.now level ≡ None)
         × IsOwnTree wad.now level o × (o.marks ≡ marks)) }

@@ -1,25 +1,23 @@
 //! The levels of a WAD that a request asks for.
 ghost use Rattle.std.specs.Prelude.{◌≡◌, ◌∷◌, [], All, IfErr, IfOk, IfSome, find, option_map};
 ghost use Rattle.wad_levels.specs.Entries.{AreLevels, IsLevelAt};
-ghost use Rattle.wad_levels.specs.Levels.{HasEntries};
 ghost use Rattle.cli_print.specs.WantedLevels.{AreWanted, IsWanted, RefusesAllWanted, RefusesWanted, first_wanted, is_level_called};
 
 use std::alloc::Global;
-use wad_levels::{LevelEntries, ReadError, entry_of, levels_in};
+use wad_file::Wad;
+use wad_levels::{LevelEntries, ReadError, levels_in};
 
 // Whether the level has the name.
-fn is_level_called(wad: &[u8], level: LevelEntries, name: &[u8]) -> bool
-    requires directory { HasEntries wad.now }
+fn is_level_called(wad: &Wad<'_>, level: LevelEntries, name: &[u8]) -> bool
     requires level { IsLevelAt wad.now level }
     ensures { result ≡ is_level_called wad.now name.now level }
 {
-    let own = entry_of(wad, level.marker).name;
+    let own = wad.name(level.marker);
     own.text() == name
 }
 
 /// The first level with the name.
-pub fn level_called(wad: &[u8], levels: &[LevelEntries], name: &[u8]) -> Option<LevelEntries>
-    requires directory { HasEntries wad.now }
+pub fn level_called(wad: &Wad<'_>, levels: &[LevelEntries], name: &[u8]) -> Option<LevelEntries>
     requires levels { All (IsLevelAt wad.now) levels.now }
     ensures found { result ≡ find (is_level_called wad.now name.now) levels.now }
     ensures level { IfSome result (IsLevelAt wad.now) }
@@ -45,8 +43,7 @@ fn alone(alloc: Global, level: LevelEntries) -> Result<Vec<LevelEntries>, ReadEr
 }
 
 // The first level with the name, or the first of all.
-fn first_wanted(wad: &[u8], levels: &[LevelEntries], name: Option<&str>) -> Option<LevelEntries>
-    requires directory { HasEntries wad.now }
+fn first_wanted(wad: &Wad<'_>, levels: &[LevelEntries], name: Option<&str>) -> Option<LevelEntries>
     requires levels { All (IsLevelAt wad.now) levels.now }
     ensures first { result
         ≡ first_wanted wad.now (option_map (λ s. s.now) name.entry) levels.now }
@@ -61,16 +58,16 @@ fn first_wanted(wad: &[u8], levels: &[LevelEntries], name: Option<&str>) -> Opti
 /// The wanted level of a WAD: the first one with the name, or the first of all.
 pub(crate) fn wanted_level(
     alloc: Global,
-    wad: &[u8],
+    wad: &Wad<'_>,
     name: Option<&str>,
 ) -> Result<LevelEntries, ReadError>
     ensures wanted { IfOk result (IsWanted wad.now (option_map (λ s. s.now) name.entry)) }
-    ensures entries { IfOk result (λ level. HasEntries wad.now × IsLevelAt wad.now level) }
+    ensures entries { IfOk result (IsLevelAt wad.now) }
     ensures refused { IfErr result (RefusesWanted wad.now (option_map (λ s. s.now) name.entry)) }
 {
     let levels = match levels_in(alloc, wad) {
         Ok(levels) => levels,
-        Err(error) => return Err(error),
+        Err(_) => return Err(ReadError::OutOfMemory),
     };
     match first_wanted(wad, &levels, name) {
         Some(level) => Ok(level),
@@ -81,13 +78,12 @@ pub(crate) fn wanted_level(
 /// The wanted levels of a WAD: all in the order of its directory, or the first one with the name.
 pub(crate) fn wanted_levels(
     alloc: Global,
-    wad: &[u8],
+    wad: &Wad<'_>,
     name: Option<&str>,
 ) -> Result<Vec<LevelEntries>, ReadError>
     ensures wanted { IfOk result (λ levels.
         AreWanted wad.now (option_map (λ s. s.now) name.entry) levels.items) }
-    ensures entries { IfOk result (λ levels. HasEntries wad.now
-        × All (IsLevelAt wad.now) levels.items) }
+    ensures entries { IfOk result (λ levels. All (IsLevelAt wad.now) levels.items) }
     ensures refused { IfErr result
         (RefusesAllWanted wad.now (option_map (λ s. s.now) name.entry)) }
 {

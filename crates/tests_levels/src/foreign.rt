@@ -3,7 +3,7 @@
 use crate::expect::same;
 use std::alloc::Global;
 use std::test::Fail;
-use wad_levels::{LevelForm, levels_in, read_drawn};
+use wad_levels::{LevelForm, levels_in, read_drawn, read_wad};
 
 // A number as 32 bits, little-endian.
 fn long(n: usize) -> [u8; 4] {
@@ -93,7 +93,7 @@ fn finds_levels_of_other_editors(rt: HostRuntime) -> Result<(), Fail> {
             lumps.push((name, b"".as_slice()))?;
         }
         let wad = wad_of(rt.alloc(), &lumps)?;
-        let levels = levels_in(rt.alloc(), &wad)?;
+        let levels = levels_in(rt.alloc(), &read_wad(&wad)?)?;
         let mut found = Vec::new(rt.alloc());
         for level in &levels {
             let form = form_number(level.form);
@@ -163,11 +163,12 @@ fn level_of(lines: &'static [u8]) -> [(&'static [u8; 8], &'static [u8]); 7] {
 
 // How many vertices are read from the first level of a WAD, or what prevents a build of it.
 fn read_of(alloc: Global, wad: &[u8]) -> Result<String, Fail> {
-    let levels = levels_in(alloc, wad)?;
+    let wad = read_wad(wad)?;
+    let levels = levels_in(alloc, &wad)?;
     let Some(level) = levels.first() else {
         return Ok(format!(in alloc; "no level")?);
     };
-    match read_drawn(alloc, wad, *level) {
+    match read_drawn(alloc, &wad, *level) {
         Ok(drawn) => {
             let count = drawn.vertices.len();
             Ok(format!(in alloc; "{count} vertices")?)

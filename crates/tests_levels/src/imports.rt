@@ -7,7 +7,7 @@ use map_tables::Kind;
 use std::alloc::Global;
 use std::test::Fail;
 use wad_import::{ImportError, Imported, import_level};
-use wad_levels::levels_in;
+use wad_levels::{levels_in, read_wad};
 
 // A line from (0, 0) to (64, 0) with a right side in the only sector and the flags 1; and with the flags 4.
 const LINES: &[u8] = &[0, 0, 1, 0, 1, 0, 0, 0, 0, 0, 0, 0, 0xff, 0xff];
@@ -235,11 +235,12 @@ fn lines_told_of(alloc: Global, imported: &Imported) -> Result<String, Fail> {
 
 // The map of the first level of a WAD, if it has one.
 fn imported(alloc: Global, wad: &[u8]) -> Result<Result<Imported, ImportError>, Fail> {
-    let levels = levels_in(alloc, wad)?;
+    let wad = read_wad(wad)?;
+    let levels = levels_in(alloc, &wad)?;
     let Some(level) = levels.first() else {
         return Ok(Err(ImportError::NoMarker));
     };
-    Ok(import_level(alloc, wad, *level, Name8::from_text(b"MAP01")))
+    Ok(import_level(alloc, &wad, *level, Name8::from_text(b"MAP01")))
 }
 
 // The report on the first level of a WAD.

@@ -4,7 +4,7 @@ use crate::expect::same;
 use crate::foreign::wad_of;
 use std::alloc::Global;
 use std::test::Fail;
-use wad_levels::levels_in;
+use wad_levels::{levels_in, read_wad};
 use wad_rebuild::{Fate, KeptFault, MadeLumps, RebuiltLevel, rebuild_wad, remake};
 
 // A line from (0, 0) to (64, 0) with a right side in the only sector.
@@ -59,11 +59,12 @@ fn are_common(made: &MadeLumps) -> bool {
 fn remade(alloc: Global, wad: &[u8]) -> Result<(Vec<u8>, Vec<u8>, String), Fail> {
     let mut segs = Vec::new(alloc);
     let mut reject = Vec::new(alloc);
-    let levels = levels_in(alloc, wad)?;
+    let wad = read_wad(wad)?;
+    let levels = levels_in(alloc, &wad)?;
     let Some(level) = levels.first() else {
         return Ok((segs, reject, format!(in alloc; "no level")?));
     };
-    let told = match remake(alloc, wad, *level) {
+    let told = match remake(alloc, &wad, *level) {
         Ok(made) => {
             segs.extend_from_slice(&made.segs)?;
             reject.extend_from_slice(&made.reject)?;

@@ -47,8 +47,3 @@ flag_set lines words place size flags ends new near e s =
         by (inr q) =
             let l = length-set flags place new in
             get_or-set_other flags place p new false q ∙ s.flagged.each p (omega arith) (omega (arith, l, below))
-
--- no word yet
-pub none_yet : (lines : ℕ) (words : List ℕ) (size : ℕ) (flags : List Bool) → length flags ≡ size → size ≤ length words → SoFar lines words (length words) size flags false
-none_yet lines words size flags l h =
-    record { here = sym (ap (ends_in_lines lines) (drop_all (length words) words (omega arith))); flagged = record { each = λ p from below. absurd (omega arith) }; whole = l }

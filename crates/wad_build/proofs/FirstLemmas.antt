@@ -28,11 +28,6 @@ pub one_of : {X : Type 0} (o : Option X) → first_some (o ∷ []) ≡ o
 one_of None = refl
 one_of (Some x) = refl
 
--- two of several, and the rest
-pub first_rest : {X : Type 0} (o : Option X) (os : List (Option X)) → first_some (o ∷ first_some os ∷ []) ≡ first_some (o ∷ os)
-first_rest None os = one_of (first_some os)
-first_rest (Some x) os = refl
-
 -- the first of some, followed by others
 pub first_append : {X : Type 0} (xs ys : List (Option X)) → first_some (xs ++ ys) ≡ first_some (first_some xs ∷ first_some ys ∷ [])
 first_append [] ys = sym (one_of (first_some ys))
@@ -42,9 +37,6 @@ first_append (Some x ∷ xs) ys = refl
 -- the first n are right
 abbrev pub IsBelow : {X : Type 0} → (X → Bool) → List X → ℕ → Type 0
 IsBelow {X} right xs n = (k : ℕ) → k < n → (d : X) → right (get_or xs k d) ≡ true
-
-not_yes : (b : Bool) → b ≡ true → not b ≡ false
-not_yes b e = cc
 
 pub wrong_found : {X : Type 0} (right : X → Bool) (xs : List X) (n : ℕ) (d : X) → n < length xs → IsBelow right xs n → right (get_or xs n d) ≡ false → first_wrong right xs ≡ Some n
 wrong_found right xs n d h before here =
@@ -77,9 +69,6 @@ pub record SubsSoFar (subs : List Sub) (n at : ℕ) : Type 0 where
   pub at_is : at ≡ sum_by (λ s. s.count) (take n subs)
   pub small : at ≤ 98302
   pub before : IsBelow sub_range (after_counts 0 subs) n
-
-pub subs_none : (subs : List Sub) → SubsSoFar subs 0 0
-subs_none subs = record { at_is = refl; small = omega arith; before = λ k h d. absurd (omega arith) }
 
 begins : (at : ℕ) (s : Sub) → sub_range (at, s) ≡ true → at ≤ 32767
 begins at s e = grind (arith, nat_tests)

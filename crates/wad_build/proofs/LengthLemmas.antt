@@ -10,8 +10,9 @@ use Rattle.lump_records.specs.declared.records.Side.{Side}
 use Rattle.lump_records.specs.declared.records.Sector.{Sector}
 use Rattle.map_tables.specs.Ranges.{IsSide, IsSector}
 use Rattle.wad_levels.specs.Levels.{Lumps, record_sizes}
-use Rattle.wad_build.specs.Wad.{IsPart, AreParts, all_bytes, all_lumps, lumps_of, level_part, wad_size}
-use Rattle.wad_build.specs.Writer.{AreSized}
+use Rattle.wad_build.specs.Wad.{IsPart, AreParts, all_lumps, lumps_of, level_part}
+use Rattle.wad_file.specs.Lumps.{all_bytes, wad_size}
+use Rattle.wad_build.specs.Sizes.{AreSized}
 use Rattle.wad_build.proofs.PutLemmas.{ten_long}
 use Rattle.wad_build.proofs.NameLemmas.{marker_free, marker_size, texture_size}
 

@@ -10,13 +10,16 @@ use Rattle.lump_records.specs.Names.{name_text}
 use Rattle.lump_records.specs.Lumps.{records_of}
 use Rattle.lump_records.specs.Records.{thing_at, line_at, side_at, vertex_at, seg_at, sub_at, node_at, sector_at, thing_record, line_record, side_record, vertex_record, seg_record, sub_record, node_record, sector_record}
 use Rattle.wad_build.specs.declared.levels.NamedLevel.{NamedLevel}
-use Rattle.wad_levels.specs.Levels.{Lumps, IsLevel, lump, lumps_behind, marker_at}
-use Rattle.wad_build.specs.Wad.{Lump, Part, AreParts, IsCoded, IsReadBack, all_bytes, all_lumps, lumps_of, level_part, wad_bytes, wad_size}
+use Rattle.wad_levels.specs.Levels.{Lumps, IsLevel, lumps_behind, marker_at}
+use Rattle.wad_file.specs.Directory.{lump}
+use Rattle.wad_build.specs.Wad.{Part, AreParts, IsCoded, IsReadBack, all_lumps, lumps_of, level_part, wad_bytes}
+use Rattle.wad_file.specs.Lumps.{Lump, all_bytes, wad_size}
 use Rattle.wad_build.specs.Views.{built_view, level_parts}
-use Rattle.wad_build.specs.Writer.{AreSized, FitsLumps, PutsLumps, level_len, wad_len}
-use Rattle.wad_build.specs.declared.wad.WadWriter.{WadWriter}
+use Rattle.wad_build.specs.Sizes.{AreSized, level_len, wad_len}
+use Rattle.wad_file.specs.Drafts.{Draft, Puts, Takes, no_lumps}
 use Rattle.wad_build.proofs.PartLemmas.{length-all, reads_back}
-use Rattle.wad_build.proofs.PutLemmas.{all_bytes-length, fits_behind, put_both, ten_long}
+use Rattle.wad_build.proofs.PutLemmas.{ten_long}
+use Rattle.wad_file.proofs.DraftLemmas.{all_bytes-length, put_both, takes_behind, takes_front}
 
 one_more : (levels : List NamedLevel) (n : ℕ) (x : NamedLevel) → n < length levels → get_or levels n x ≡ x → take (n + 1) levels ≡ take n levels ++ (x ∷ [])
 one_more levels n x h e =
@@ -34,10 +37,10 @@ lumps_more levels n x h e =
 
 -- one more level's lumps
 pub put_level :
-    (a b c : WadWriter) (levels : List NamedLevel) (n : ℕ) (x : NamedLevel) → n < length levels → get_or levels n x ≡ x → PutsLumps a b (all_lumps (level_parts (take n levels)))
-    → PutsLumps b c (lumps_of (level_part x.name (built_view x.level))) → PutsLumps a c (all_lumps (level_parts (take (n + 1) levels)))
+    (a b c : Draft) (levels : List NamedLevel) (n : ℕ) (x : NamedLevel) → n < length levels → get_or levels n x ≡ x → Puts a b (all_lumps (level_parts (take n levels)))
+    → Puts b c (lumps_of (level_part x.name (built_view x.level))) → Puts a c (all_lumps (level_parts (take (n + 1) levels)))
 put_level a b c levels n x h e p q =
-    subst (λ (ls : List Lump). PutsLumps a c ls) (sym (lumps_more levels n x h e))
+    subst (λ (ls : List Lump). Puts a c ls) (sym (lumps_more levels n x h e))
     (put_both a b c (all_lumps (level_parts (take n levels))) (lumps_of (level_part x.name (built_view x.level))) p q)
 
 -- the lumps of the levels up to one, its own, and those after it
@@ -52,23 +55,19 @@ lumps_split levels n x h e =
     ∙ append_assoc (all_lumps (level_parts (take n levels))) (lumps_of (level_part x.name (built_view x.level))) (all_lumps (level_parts (drop (n + 1) levels)))
 
 pub fits_level :
-    (a b : WadWriter) (levels : List NamedLevel) (n : ℕ) (x : NamedLevel) → n < length levels → get_or levels n x ≡ x → FitsLumps a (all_lumps (level_parts levels))
-    → PutsLumps a b (all_lumps (level_parts (take n levels))) → FitsLumps b (lumps_of (level_part x.name (built_view x.level)))
+    (a b : Draft) (levels : List NamedLevel) (n : ℕ) (x : NamedLevel) → n < length levels → get_or levels n x ≡ x → Takes a (all_lumps (level_parts levels))
+    → Puts a b (all_lumps (level_parts (take n levels))) → Takes b (lumps_of (level_part x.name (built_view x.level)))
 fits_level a b levels n x h e f p =
-    fits_behind a b (all_lumps (level_parts (take n levels))) (lumps_of (level_part x.name (built_view x.level))) (all_lumps (level_parts (drop (n + 1) levels))) p
-    (subst (FitsLumps a) (lumps_split levels n x h e) f)
+    let mine = lumps_of (level_part x.name (built_view x.level)) in
+    let others = all_lumps (level_parts (drop (n + 1) levels)) in
+    takes_front b mine others (takes_behind a b (all_lumps (level_parts (take n levels))) (mine ++ others) p (subst (Takes a) (lumps_split levels n x h e) f))
 
--- eleven lumps a level, fewer than 2^32 in all
-pub record AreCounted (levels : List NamedLevel) : Type 0 where
-  pub count : length (all_lumps (level_parts levels)) ≡ 11 * length levels
-  pub few : 16 * (11 * length levels) < 4294967296
-
-pub are_counted : (levels : List NamedLevel) → AreParts (level_parts levels) → AreCounted levels
+-- eleven lumps a level
+are_counted : (levels : List NamedLevel) → AreParts (level_parts levels) → length (all_lumps (level_parts levels)) ≡ 11 * length levels
 are_counted levels a =
     let l = length-all (level_parts levels) a.each in
     let m = length-map levels (λ (l : NamedLevel). level_part l.name (built_view l.level)) in
-    let f = a.fits in
-    record { count = omega (arith, l, m); few = omega (arith, l, m, f) }
+    omega (arith, l, m)
 
 pub coded_more :
     (levels : List NamedLevel) (n : ℕ) (x : NamedLevel) → n < length levels → get_or levels n x ≡ x → All (λ (l : NamedLevel). IsCoded (built_view l.level)) (take n levels) → IsCoded (built_view x.level)
@@ -109,7 +108,7 @@ levels_read wad (y ∷ levels) a w c =
 
 -- the marker and three runs of lumps are a level's lumps
 pub put_runs :
-    (w0 w1 w2 w3 w4 : WadWriter) (d t e : List Lump) (x : Lump) → PutsLumps w0 w1 (x ∷ []) → PutsLumps w1 w2 d → PutsLumps w2 w3 t → PutsLumps w3 w4 e → PutsLumps w0 w4 (x ∷ (d ++ (t ++ e)))
+    (w0 w1 w2 w3 w4 : Draft) (d t e : List Lump) (x : Lump) → Puts w0 w1 (x ∷ []) → Puts w1 w2 d → Puts w2 w3 t → Puts w3 w4 e → Puts w0 w4 (x ∷ (d ++ (t ++ e)))
 put_runs w0 w1 w2 w3 w4 d t e x a b f g = put_both w0 w1 w4 (x ∷ []) (d ++ (t ++ e)) a (put_both w1 w2 w4 d (t ++ e) b (put_both w2 w3 w4 t e f g))
 
 -- ---- how long the PWAD will be
@@ -158,10 +157,25 @@ pub total_exact :
 total_exact levels n total h t a s =
     let many = length-map levels (λ (y : NamedLevel). built_view y.level) in
     let whole = take_all n (map (λ (y : NamedLevel). built_view y.level) levels) (omega (arith, many, h)) in
-    let c = are_counted levels a in
-    let count = c.count in
+    let count = are_counted levels a in
     let fits = a.fits in
     let sum = sized levels s in
     let told : total ≡ min (wad_len (map (λ (y : NamedLevel). built_view y.level) levels)) 340282366920938463463374607431768211455
     = t ∙ ap (λ (ls : List Lumps). min (wad_len ls) 340282366920938463463374607431768211455) whole in
     omega (arith, told, sum, count, fits)
+
+-- ---- the whole PWAD
+
+-- the levels fit into a WAD without lumps
+pub takes_levels : (w : Draft) (levels : List NamedLevel) → w ≡ no_lumps → AreParts (level_parts levels) → Takes w (all_lumps (level_parts levels))
+takes_levels w levels none a =
+    let f = a.fits in
+    let n = ap (λ (d : Draft). wad_size d.lumps) none in
+    record { ready = ap (λ (d : Draft). d.begun) none; fits = omega (arith, f, n) }
+
+-- the finished WAD fits
+pub takes_none : (w v : Draft) (lumps : List Lump) → Takes w lumps → Puts w v lumps → Takes v []
+takes_none w v lumps t p = takes_behind w v lumps [] p (subst (Takes w) (sym (append-nil lumps)) t)
+
+pub put_whole : (w v : Draft) (lumps : List Lump) (out : List ℕ) → w ≡ no_lumps → Puts w v lumps → out ≡ wad_bytes v.lumps → out ≡ wad_bytes lumps
+put_whole w v lumps out none p o = o ∙ ap wad_bytes (p.lumps_are ∙ ap (λ (d : Draft). d.lumps ++ lumps) none)

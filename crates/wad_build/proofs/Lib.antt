@@ -3,8 +3,6 @@ pub mod Nones
 pub mod AuditLemmas
 pub mod EndingLemmas
 pub mod FirstLemmas
-pub mod WadLemmas
-pub mod WrittenLemmas
 pub mod PartLemmas
 pub mod PutLemmas
 pub mod LevelLemmas

@@ -9,10 +9,14 @@ use Rattle.std.proofs.lemmas.Bool.Decides.{nat_tests}
 use Rattle.std.proofs.lemmas.Bool.{cases_lt}
 use Rattle.lump_records.specs.Names.{name_text}
 use Rattle.lump_records.specs.declared.records.Name8.{Name8}
-use Rattle.wad_levels.specs.Levels.{entry, lump, lump_count, lump_names, record_sizes, entry_has_name, last_named, marker, marker_at, are_named, are_inside, are_whole, is_outside, lumps_behind, has_lumps, is_hexen, same_bytes}
-use Rattle.wad_build.specs.Wad.{Lump, Part, with_names, lumps_of, all_lumps, IsPart, AreParts, IsReadBack, wad_bytes}
-use Rattle.wad_build.proofs.WrittenLemmas.{Written, written}
-use Rattle.wad_levels.proofs.ReadLemmas.{add_zero, accepts}
+use Rattle.wad_levels.specs.Levels.{lump_names, record_sizes, marker, marker_at, are_named, are_whole, has_lumps, is_hexen}
+use Rattle.wad_file.specs.Directory.{entry, lump, lump_count, entry_has_name, last_named, are_inside, is_outside}
+use Rattle.wad_file.specs.Fields.{same_bytes}
+use Rattle.wad_build.specs.Wad.{Part, with_names, lumps_of, all_lumps, IsPart, AreParts, IsReadBack, wad_bytes}
+use Rattle.wad_file.specs.Lumps.{Lump}
+use Rattle.wad_file.proofs.WrittenLemmas.{Written, written}
+use Rattle.wad_levels.proofs.ReadLemmas.{accepts}
+use Rattle.wad_file.proofs.DirectoryLemmas.{add_zero}
 
 -- ---- the lumps of the levels, by number
 
@@ -124,7 +128,7 @@ All-at P (x ∷ parts) (suc i) p a h = All-at P parts i p (All-tail P x parts a)
 -- ---- the entries of levels in a WAD
 
 pub marker_named :
-    (wad : List ℕ) (parts : List Part) (p : Part) (x : Lump) → Written wad (all_lumps parts) → All IsPart parts → (text : List ℕ) (q : ℕ) → q < length parts
+    (wad : List ℕ) (parts : List Part) (p : Part) (x : Lump) → Written (codes "PWAD") wad (all_lumps parts) → All IsPart parts → (text : List ℕ) (q : ℕ) → q < length parts
     → entry_has_name wad text (11 * q + 0) ≡ same_bytes (name_text (get_or parts q p).name) text
 marker_named wad parts p x w a text q h =
     let l = length-all parts a in
@@ -139,7 +143,7 @@ pub record IsNth (wad : List ℕ) (k : ℕ) (name : Name8) (bytes : List ℕ) : 
   pub holds : lump wad k ≡ bytes
 
 pub nth :
-    (wad : List ℕ) (parts : List Part) (p : Part) (x : Lump) (d : Name8) → Written wad (all_lumps parts) → All IsPart parts → (q n : ℕ) → q < length parts → n < 10
+    (wad : List ℕ) (parts : List Part) (p : Part) (x : Lump) (d : Name8) → Written (codes "PWAD") wad (all_lumps parts) → All IsPart parts → (q n : ℕ) → q < length parts → n < 10
     → IsNth wad (11 * q + suc n) (get_or lump_names n d) (get_or (get_or parts q p).lumps n [])
 nth wad parts p x d w a q n h s =
     let l = length-all parts a in
@@ -155,7 +159,7 @@ nth wad parts p x d w a q n h s =
     }
 
 pub marker_is :
-    (wad : List ℕ) (parts : List Part) (p : Part) (x : Lump) (d : Name8) → Written wad (all_lumps parts) → AreParts parts → (i : ℕ) → i < length parts
+    (wad : List ℕ) (parts : List Part) (p : Part) (x : Lump) (d : Name8) → Written (codes "PWAD") wad (all_lumps parts) → AreParts parts → (i : ℕ) → i < length parts
     → marker wad (name_text (get_or parts i p).name) ≡ Some (11 * i + 0)
 marker_is wad parts p x d w a i h =
     ap (last_named wad text) (w.count ∙ length-all parts a.each)
@@ -213,7 +217,7 @@ all_long (p ∷ parts) a =
     (All-cons (λ (l : Lump). length l.name.bytes ≡ 8) (record { name = p.name; bytes = [] }) (with_names lump_names p.lumps) (All-head IsPart p parts a).long (with_long lump_names p.lumps names_long))
     (all_long parts (All-tail IsPart p parts a))
 
-not_hexen : (wad : List ℕ) (parts : List Part) (p : Part) (x : Lump) → Written wad (all_lumps parts) → All IsPart parts → (i : ℕ) → i < length parts → is_hexen wad (11 * i + 0) ≡ false
+not_hexen : (wad : List ℕ) (parts : List Part) (p : Part) (x : Lump) → Written (codes "PWAD") wad (all_lumps parts) → All IsPart parts → (i : ℕ) → i < length parts → is_hexen wad (11 * i + 0) ≡ false
 not_hexen wad parts p x w a i h = by (cases_lt (11 * i + 0 + 11) (lump_count wad))
   where
     c : lump_count wad ≡ 11 * length parts
@@ -230,7 +234,7 @@ not_hexen wad parts p x w a i h = by (cases_lt (11 * i + 0 + 11) (lump_count wad
         rw (t, n) refl
     by (inr l) = let t = not_lt (11 * i + 0 + 11) (lump_count wad) l in rw t refl
 
-pub level_reads : (wad : List ℕ) (parts : List Part) (p : Part) (x : Lump) (d : Name8) → Written wad (all_lumps parts) → AreParts parts → (i : ℕ) → i < length parts → IsReadBack wad (get_or parts i p)
+pub level_reads : (wad : List ℕ) (parts : List Part) (p : Part) (x : Lump) (d : Name8) → Written (codes "PWAD") wad (all_lumps parts) → AreParts parts → (i : ℕ) → i < length parts → IsReadBack wad (get_or parts i p)
 level_reads wad parts p x d w a i h =
     let m = marker_is wad parts p x d w a i h in
     let c = w.count in
@@ -248,12 +252,12 @@ level_reads wad parts p x d w a i h =
     let at = marker_unwrapped wad (name_text (get_or parts i p).name) (11 * i + 0) m in
     record {
       accepted =
-          (accepts wad (name_text (get_or parts i p).name) (11 * i + 0) (lumps_behind wad (11 * i + 0)) w.wad_like w.directory m (has_both wad (11 * i + 0) room named)
-          (not_hexen wad parts p x w a.each i h) inside whole refl).accepted;
+          accepts wad (name_text (get_or parts i p).name) (11 * i + 0) w.wad_like w.directory m (has_both wad (11 * i + 0) room named)
+          (not_hexen wad parts p x w a.each i h) inside whole;
       lumps = λ n b. let s : 11 * i + 0 + 1 + n ≡ 11 * i + suc n = omega arith in let v = nth wad parts p x d w a.each i n h b in ap (λ (j : ℕ). lump wad (j + 1 + n)) at ∙ ap (lump wad) s ∙ v.holds;
     }
 
 -- each of the levels that one WAD holds is read by its name
 pub reads_back : (parts : List Part) (i : ℕ) (p : Part) → AreParts parts → i < length parts → IsReadBack (wad_bytes (all_lumps parts)) (get_or parts i p)
 reads_back parts i p a h =
-    level_reads (wad_bytes (all_lumps parts)) parts p (record { name = no_name; bytes = [] }) no_name (written (all_lumps parts) (all_long parts a.each) a.fits) a i h
+    level_reads (wad_bytes (all_lumps parts)) parts p (record { name = no_name; bytes = [] }) no_name (written (codes "PWAD") (all_lumps parts) refl (all_long parts a.each) a.fits) a i h

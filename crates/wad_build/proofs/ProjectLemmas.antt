@@ -8,7 +8,8 @@ use Rattle.lump_records.specs.declared.records.Name8.{Name8}
 use Rattle.map_tables.specs.Tables.{Tables}
 use Rattle.map_tables.specs.Projects.{ProjectMaps, WellFormedProject}
 use Rattle.wad_levels.specs.Levels.{IsLevel, Lumps}
-use Rattle.wad_build.specs.Wad.{Part, AreParts, IsPart, all_bytes, all_lumps, lumps_of, level_part, wad_bytes}
+use Rattle.wad_build.specs.Wad.{Part, AreParts, IsPart, all_lumps, lumps_of, level_part, wad_bytes}
+use Rattle.wad_file.specs.Lumps.{all_bytes}
 use Rattle.wad_build.specs.Views.{built_view, level_parts}
 use Rattle.wad_build.specs.Sound.{CanBeBuilt, IsBuildRefusal, IsSoundBuild}
 use Rattle.wad_build.specs.Projects.{IsLevelOf, AreLevelsOf, AreSoundLevels, HoldsOnly, IsSoundBuildOfAll, IsRefusalOfAll, Blames, parts_under}

@@ -1,7 +1,7 @@
 pub mod Errors
 pub mod Wad
 pub mod Views
-pub mod Writer
+pub mod Sizes
 pub mod Reject
 pub mod Words
 pub mod Range

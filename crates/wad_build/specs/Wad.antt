@@ -1,45 +1,18 @@
--- The bytes of a PWAD with these lumps: header, lumps, directory (docs/FORMAT.md, "Writing").
+-- The bytes of a PWAD with levels, and how they read back (docs/FORMAT.md, "Writing").
 use Rattle.std.specs.Prelude.{◌≡◌, ◌≢◌, ℕ, ◌+◌, ◌*◌, ◌%◌, ◌<◌, Bool, false, ◌||◌, List, [], ◌∷◌, ◌++◌, length, get_or, take, drop, flat_map, All, None, codes}
 use Rattle.std.specs.List.{list_any}
-use Rattle.std.specs.Int.{w32, to_le_bytes}
 use Rattle.lump_records.specs.Names.{name_text}
 use Rattle.lump_records.specs.declared.records.Name8.{Name8}
-use Rattle.wad_levels.specs.declared.directory.Entry.{Entry}
 use Rattle.lump_records.specs.Lumps.{records_of}
 use Rattle.lump_records.specs.Records.{thing_record, line_record, side_record, vertex_record, seg_record, sub_record, node_record, sector_record, thing_at, line_at, side_at, vertex_at, seg_at, sub_at, node_at, sector_at}
-use Rattle.wad_levels.specs.Levels.{Lumps, lump_names, record_sizes, lump, marker_at, refusal, same_bytes}
+use Rattle.wad_file.specs.Lumps.{Lump, wad_of, wad_size}
+use Rattle.wad_levels.specs.Levels.{Lumps, lump_names, record_sizes, marker_at, refusal}
+use Rattle.wad_file.specs.Directory.{lump}
+use Rattle.wad_file.specs.Fields.{same_bytes}
 
--- a 32-bit number, the lowest byte first
-abbrev pub long : ℕ → List ℕ
-long n = to_le_bytes w32 n
-
-abbrev pub entry_bytes : Entry → List ℕ
-entry_bytes e = long e.at ++ long e.size ++ e.name.bytes
-
-pub record Lump : Type 0 where
-  pub name : Name8
-  pub bytes : List ℕ
-
--- the entries of lumps that follow one another from an offset on
-abbrev pub entries_from : ℕ → List Lump → List Entry
-entries_from at [] = []
-entries_from at (l ∷ lumps) =
-    record { at = at; size = length l.bytes; name = l.name }
-    ∷ entries_from (at + length l.bytes) lumps
-
-abbrev pub all_bytes : List Lump → List ℕ
-all_bytes lumps = flat_map (λ l. l.bytes) lumps
-
-abbrev pub wad_head : List Lump → List ℕ
-wad_head lumps = codes "PWAD" ++ (long (length lumps) ++ long (12 + length (all_bytes lumps)))
-
+-- the PWAD with these lumps
 abbrev pub wad_bytes : List Lump → List ℕ
-wad_bytes lumps =
-    wad_head lumps ++ (all_bytes lumps ++ flat_map entry_bytes (entries_from 12 lumps))
-
--- the number of bytes of a PWAD of these lumps
-abbrev pub wad_size : List Lump → ℕ
-wad_size lumps = 12 + length (all_bytes lumps) + 16 * length lumps
+wad_bytes lumps = wad_of (codes "PWAD") lumps
 
 -- ---- levels, one after another
 

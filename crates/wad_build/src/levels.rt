@@ -3,18 +3,20 @@ ghost use Rattle.std.specs.Prelude.{◌≡◌, All, OnOk, IfOk, IsOkUnless, leng
 ghost use Rattle.lump_records.specs.Names.{name_text};
 ghost use Rattle.wad_levels.specs.Levels.{IsLevel};
 ghost use Rattle.wad_build.specs.Wad.{AreParts, IsCoded, IsDrawnCoded, IsTreeCoded, IsLastCoded};
-ghost use Rattle.wad_build.specs.Wad.{all_lumps, drawn_lumps, tree_lumps, last_lumps, lumps_of, level_part, wad_bytes, wad_size};
+ghost use Rattle.wad_build.specs.Wad.{all_lumps, drawn_lumps, tree_lumps, last_lumps, lumps_of, level_part, wad_bytes};
+ghost use Rattle.wad_file.specs.Lumps.{wad_size};
 ghost use Rattle.wad_build.specs.Views.{built_view, level_parts};
-ghost use Rattle.wad_build.specs.Writer.{AreSized, FitsLumps, PutsLumps, level_len, wad_len};
+ghost use Rattle.wad_build.specs.Sizes.{AreSized, level_len, wad_len};
+ghost use Rattle.wad_file.specs.Drafts.{Puts, Takes};
 
 use crate::drawn::{push_lines, push_sectors, push_sides, push_things};
 use crate::error::BuildError;
 use crate::visibility::reject_len;
-use crate::wad::WadWriter;
 use lump_records::{Name8, encode_nodes, encode_segs, encode_subs, encode_vertices};
 use map_tables::{Kind, Map};
 use std::alloc::Global;
 use tree_nodes::Built;
+use wad_file::WadWriter;
 use wad_levels::LUMP_NAMES;
 
 /// A level that was built: its map, how many sectors that has, its tree, and the bytes of its BLOCKMAP. What is drawn
@@ -36,8 +38,8 @@ pub struct NamedLevel<'a> {
 
 // Appends the lumps before the tree: things, lines, sides, vertices.
 fn push_drawn(alloc: Global, wad: &mut WadWriter, level: &BuiltLevel<'_>) -> Result<(), BuildError>
-    requires { FitsLumps wad.old (drawn_lumps (built_view level.now)) }
-    ensures lumps { OnOk result (PutsLumps wad.old wad.new (drawn_lumps (built_view level.now))) }
+    requires { Takes wad.old (drawn_lumps (built_view level.now)) }
+    ensures lumps { OnOk result (Puts wad.old wad.new (drawn_lumps (built_view level.now))) }
     ensures coded { OnOk result (IsDrawnCoded (built_view level.now)) }
     ensures memory { IsOkUnless result BuildError.OutOfMemory }
 {
@@ -53,8 +55,8 @@ fn push_drawn(alloc: Global, wad: &mut WadWriter, level: &BuiltLevel<'_>) -> Res
 
 // Appends the lumps of the tree: segs, subsectors, nodes.
 fn push_tree(alloc: Global, wad: &mut WadWriter, level: &BuiltLevel<'_>) -> Result<(), BuildError>
-    requires { FitsLumps wad.old (tree_lumps (built_view level.now)) }
-    ensures lumps { OnOk result (PutsLumps wad.old wad.new (tree_lumps (built_view level.now))) }
+    requires { Takes wad.old (tree_lumps (built_view level.now)) }
+    ensures lumps { OnOk result (Puts wad.old wad.new (tree_lumps (built_view level.now))) }
     ensures coded { OnOk result (IsTreeCoded (built_view level.now)) }
     ensures memory { IsOkUnless result BuildError.OutOfMemory }
 {
@@ -66,8 +68,8 @@ fn push_tree(alloc: Global, wad: &mut WadWriter, level: &BuiltLevel<'_>) -> Resu
 
 // Appends the lumps after the tree: sectors, REJECT, BLOCKMAP.
 fn push_last(wad: &mut WadWriter, level: &BuiltLevel<'_>) -> Result<(), BuildError>
-    requires { FitsLumps wad.old (last_lumps (built_view level.now)) }
-    ensures lumps { OnOk result (PutsLumps wad.old wad.new (last_lumps (built_view level.now))) }
+    requires { Takes wad.old (last_lumps (built_view level.now)) }
+    ensures lumps { OnOk result (Puts wad.old wad.new (last_lumps (built_view level.now))) }
     ensures coded { OnOk result (IsLastCoded (built_view level.now)) }
     ensures memory { IsOkUnless result BuildError.OutOfMemory }
 {
@@ -85,9 +87,9 @@ fn push_level(
     name: Name8,
     level: &BuiltLevel<'_>,
 ) -> Result<(), BuildError>
-    requires { FitsLumps wad.old (lumps_of (level_part name (built_view level.now))) }
+    requires { Takes wad.old (lumps_of (level_part name (built_view level.now))) }
     ensures lumps { OnOk result
-        (PutsLumps wad.old wad.new (lumps_of (level_part name (built_view level.now)))) }
+        (Puts wad.old wad.new (lumps_of (level_part name (built_view level.now)))) }
     ensures coded { OnOk result (IsCoded (built_view level.now)) }
     ensures memory { IsOkUnless result BuildError.OutOfMemory }
 {
@@ -104,8 +106,8 @@ fn push_levels(
     wad: &mut WadWriter,
     levels: &[NamedLevel<'_>],
 ) -> Result<(), BuildError>
-    requires { FitsLumps wad.old (all_lumps (level_parts levels.now)) }
-    ensures lumps { OnOk result (PutsLumps wad.old wad.new (all_lumps (level_parts levels.now))) }
+    requires { Takes wad.old (all_lumps (level_parts levels.now)) }
+    ensures lumps { OnOk result (Puts wad.old wad.new (all_lumps (level_parts levels.now))) }
     ensures coded { OnOk result (All (λ l. IsCoded (built_view l.level)) levels.now) }
     ensures memory { IsOkUnless result BuildError.OutOfMemory }
 {
@@ -114,14 +116,6 @@ fn push_levels(
         push_level(alloc, wad, level.name, &level.level)?;
     }
     Ok(())
-}
-
-// How many lumps the levels have: a marker and ten others each.
-fn lump_count(levels: &[NamedLevel<'_>]) -> u32
-    requires { AreParts (level_parts levels.now) }
-    ensures { result ≡ length (all_lumps (level_parts levels.now)) }
-{
-    11 * levels.len() as u32
 }
 
 // How many bytes a level adds to a PWAD: its records, REJECT, BLOCKMAP, and eleven entries of the
@@ -166,10 +160,9 @@ pub fn wad_of_levels(alloc: Global, levels: &[NamedLevel<'_>]) -> Result<Vec<u8>
         All (λ l. IsLevel wad.items (name_text l.name) (built_view l.level)) levels.now) }
     ensures memory { IsOkUnless result BuildError.OutOfMemory }
 {
-    let count = lump_count(levels);
     let len = usize::try_from(total_len(levels)).unwrap_or(usize::MAX);
-    let mut wad = WadWriter::begin(alloc, len, count as usize)?;
+    let mut wad = WadWriter::begin(alloc, len, levels.len().saturating_mul(11))?;
     push_levels(alloc, &mut wad, levels)?;
-    let bytes = wad.finish(alloc, count)?;
+    let bytes = wad.finish(alloc, b"PWAD")?;
     Ok(bytes)
 }

@@ -17,7 +17,6 @@ mod projects;
 mod ranges;
 mod subs;
 mod visibility;
-mod wad;
 
 pub use auditing::audit;
 pub use build::{build_wad, built_levels_are_sound};

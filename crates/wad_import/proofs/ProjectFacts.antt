@@ -40,7 +40,3 @@ alone_parts v m e =
     let none : v.others.before ≡ [] = nil_from_length v.others.before (ap (λ (p : ProjectMaps). p.current) e) in
     let one = one_map v.others.before v.others.behind v.tables m none (ap (λ (p : ProjectMaps). p.maps) e) in
     (one.0, λ i. record { before = none i; behind = one.1 i })
-
--- and back
-pub alone_from : (v : MapsView) (m : Tables) → v.tables ≡ m → v.others ≡ no_others → project_of v ≡ alone m
-alone_from v m e none = λ i. project_of (record v { tables = e i; others = none i })

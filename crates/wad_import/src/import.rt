@@ -1,7 +1,6 @@
 //! A map of a level of any WAD.
 ghost use Rattle.std.specs.Prelude.{◌≡◌, IfOk, IsOkUnless, MatchResult, OnOk, length, map};
 ghost use Rattle.std.specs.List.{range_with_len};
-ghost use Rattle.wad_levels.specs.Levels.{HasEntries};
 ghost use Rattle.wad_levels.specs.Entries.{IsLevelAt};
 ghost use Rattle.wad_levels.specs.Drawn.{drawn_lists, drawn_view};
 ghost use Rattle.map_tables.specs.Ranges.{IsNamed, is_marker};
@@ -24,6 +23,7 @@ use crate::vertices::{Numbered, add_vertices};
 use lump_records::{Line, Name8};
 use map_tables::Maps;
 use std::alloc::Global;
+use wad_file::Wad;
 use wad_levels::{Drawn, Hindrance, LevelEntries, read_lists};
 
 /// The map that a level is, and what was changed of the level.
@@ -115,11 +115,10 @@ pub fn import_drawn(alloc: Global, drawn: &Drawn, name: Name8) -> Result<Importe
 /// `Hindered` if what was drawn can't be read; otherwise as `import_drawn`.
 pub fn import_level(
     alloc: Global,
-    wad: &[u8],
+    wad: &Wad<'_>,
     level: LevelEntries,
     name: Name8,
 ) -> Result<Imported, ImportError>
-    requires directory { HasEntries wad.now }
     requires level { IsLevelAt wad.now level }
     ensures { MatchResult result (IsImported name (drawn_lists wad.now level))
         (RefusesLevelImport wad.now level name) }

@@ -1,20 +1,17 @@
 -- Numbers that all pass a test, one more at a time.
-use Rattle.std.proofs.Common.{◌≡◌, ◌∙◌, sym, ap, refl, cond, ℕ, Bool, true, false, ◌&&◌, ◌||◌, List, [], ◌∷◌, ◌++◌, ◌+◌, ◌<◌, ◌≤◌, length, filter, map, zero-add, arith}
+use Rattle.std.proofs.Common.{◌≡◌, ◌∙◌, sym, ap, refl, cond, ℕ, Bool, true, false, ◌&&◌, ◌||◌, List, [], ◌∷◌, ◌++◌, ◌+◌, ◌<◌, ◌≤◌, length, filter, map, zero-add, arith, Some}
 use Rattle.std.specs.List.{list_all, range_with_len}
 use Rattle.std.specs.Prelude.{◌==◌, ◌*◌, nat_le, nat_lt}
-use Rattle.wad_levels.specs.Levels.{entry}
-use Rattle.wad_levels.specs.declared.directory.Entry.{Entry}
+use Rattle.wad_file.specs.Directory.{entry}
+use Rattle.wad_file.specs.declared.entry.Entry.{Entry}
 use Rattle.std.proofs.lemmas.Bool.Decides.{nat_tests}
-use Rattle.wad_levels.specs.Graphics.{are_flats_open, are_textures, is_flat, is_name_inside, texture_at, texture_count}
+use Rattle.wad_levels.specs.Graphics.{are_flats_open, are_textures, is_flat, graphics_refusal, is_name_inside, texture_at, texture_count}
+use Rattle.wad_levels.specs.Listing.{listing_refusal}
+use Rattle.wad_levels.specs.declared.error.ReadError.{ReadError}
+use Rattle.wad_levels.proofs.RunLemmas.{passing_more}
 use Rattle.std.proofs.lemmas.List.{map-append, map-id, append_assoc}
 use Rattle.std.proofs.lemmas.List.Folds.{list_all-append, list_all_at}
-use Rattle.std.proofs.lemmas.List.FromFn.{filter_of_map_range_with_len_more, get_or-range_with_len, length-range_with_len, map-range_with_len_more}
-
--- the numbers up to n + 1 that pass a test
-passing_more : (p : ℕ → Bool) (n : ℕ) → filter p (range_with_len 0 (n + 1)) ≡ filter p (range_with_len 0 n) ++ cond (p n) (n ∷ []) []
-passing_more p n =
-    sym (ap (filter p) (map-id _)) ∙ filter_of_map_range_with_len_more p (λ x. x) 0 n n (zero-add n)
-    ∙ ap (λ l. filter p l ++ cond (p n) (n ∷ []) []) (map-id _)
+use Rattle.std.proofs.lemmas.List.FromFn.{get_or-range_with_len, length-range_with_len, map-range_with_len_more}
 
 -- what one number more adds to the list of those that pass
 pub listed_more : {Y : Type 0} (f : ℕ → Y) (p : ℕ → Bool) (n : ℕ) (found : List Y) → found ≡ map f (filter p (range_with_len 0 n))
@@ -82,3 +79,7 @@ name_stands lump n are some among =
 pub flat_at : (wad : List ℕ) (k : ℕ) (before : Bool) (e : Entry) → before ≡ are_flats_open wad k → e ≡ entry wad k → (size : Bool) → nat_lt 0 e.size ≡ size
     → is_flat wad k ≡ (before && size)
 flat_at wad k before e so is size tells = (λ i. sym so i && nat_lt 0 (sym is i).size) ∙ ap (λ b. before && b) tells
+
+-- what refuses the bytes refuses their names
+pub refused : (wad : List ℕ) (e : ReadError) → listing_refusal wad ≡ Some e → graphics_refusal wad ≡ Some e
+refused wad e q = rw q refl

@@ -1,3 +1,4 @@
+pub mod ListingLemmas
 pub mod ReadLemmas
 pub mod RunLemmas
 pub mod DrawnLemmas

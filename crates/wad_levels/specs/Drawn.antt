@@ -11,7 +11,7 @@ use Rattle.lump_records.specs.declared.records.Line.{Line}
 use Rattle.lump_records.specs.declared.records.Side.{Side}
 use Rattle.lump_records.specs.declared.records.Vertex.{Vertex}
 use Rattle.lump_records.specs.declared.records.Sector.{Sector}
-use Rattle.wad_levels.specs.Levels.{entry, is_outside, lump}
+use Rattle.wad_file.specs.Directory.{entry, is_outside, standing}
 use Rattle.wad_levels.specs.Entries.{lump_entry}
 use Rattle.wad_levels.specs.declared.drawn.Drawn.{Drawn}
 use Rattle.wad_levels.specs.declared.entries.LevelEntries.{LevelEntries}
@@ -30,10 +30,6 @@ pub record DrawnLists : Type 0 where
   pub vertices : List Vertex
   pub sectors : List Sector
   pub reject : List ℕ
-
--- the bytes of the k-th entry's lump, or none where it isn't empty and ends beyond the file
-abbrev pub standing : List ℕ → ℕ → List ℕ
-standing wad k = if is_outside wad (entry wad k) then [] else lump wad k
 
 -- the bytes of the level's lump of this number, or none where it has none
 abbrev pub level_lump : List ℕ → LevelEntries → ℕ → List ℕ

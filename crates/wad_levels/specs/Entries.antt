@@ -6,12 +6,10 @@ use Rattle.lump_records.specs.declared.records.Name8.{Name8}
 use Rattle.wad_levels.specs.declared.entries.LevelEntries.{LevelEntries}
 use Rattle.wad_levels.specs.declared.entries.LevelForm.{LevelForm}
 use Rattle.wad_levels.specs.declared.entries.LevelForm.TheVariants.{Doom, Hexen, Udmf}
-use Rattle.wad_levels.specs.Levels.{entry, entry_has_name, lump_count, lump_names, same_bytes}
+use Rattle.wad_levels.specs.Levels.{lump_names}
+use Rattle.wad_file.specs.Directory.{entry_has_name, entry_text, lump_count}
+use Rattle.wad_file.specs.Fields.{same_bytes}
 use Rattle.wad_levels.specs.Listing.{is_level_marker}
-
--- the text of the k-th entry's name
-abbrev pub entry_text : List ℕ → ℕ → List ℕ
-entry_text wad k = name_text (entry wad k).name
 
 -- TEXTMAP follows the k-th entry
 unfoldable pub is_udmf : List ℕ → ℕ → Bool

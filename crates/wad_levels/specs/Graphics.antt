@@ -2,15 +2,17 @@
 use Rattle.std.specs.Prelude.{◌≡◌, ℕ, zero, suc, ◌+◌, ◌*◌, Bool, true, false, not, ◌&&◌, ◌||◌, ◌==◌, nat_lt, nat_le, List, [], ◌∷◌, ◌++◌, length, map, filter, Option, Some, codes}
 use Rattle.std.specs.Char.{to_ascii_uppercase}
 use Rattle.std.specs.List.{list_all, range_with_len}
-use Rattle.std.specs.Option.{option_map_or}
+use Rattle.std.specs.Option.{option_map_or, option_or}
 use Rattle.lump_records.specs.Names.{name_of, name_text}
 use Rattle.lump_records.specs.Records.{name_at}
 use Rattle.lump_records.specs.declared.records.Name8.{Name8}
 use Rattle.wad_levels.specs.declared.error.ReadError.{ReadError}
-use Rattle.wad_levels.specs.declared.error.ReadError.TheVariants.{NotAWad, DirectoryOutside, LumpOutside, TextureLump, OutOfMemory}
+use Rattle.wad_levels.specs.declared.error.ReadError.TheVariants.{LumpOutside, TextureLump, OutOfMemory}
 use Rattle.wad_levels.specs.declared.graphics.Graphics.{Graphics}
-use Rattle.wad_levels.specs.Levels.{entry, entry_has_name, first_failed, has_directory, is_outside, is_wad, long_at, lump_count, marker}
-use Rattle.wad_levels.specs.Drawn.{standing}
+use Rattle.wad_levels.specs.Levels.{marker}
+use Rattle.wad_levels.specs.Listing.{listing_refusal}
+use Rattle.wad_file.specs.Directory.{entry, entry_has_name, first_failed, is_outside, lump_count, standing}
+use Rattle.wad_file.specs.Fields.{long_at}
 
 -- the names of flats and of textures
 pub record GraphicNames : Type 0 where
@@ -99,17 +101,16 @@ graphics_view g = record { flats = g.flats.items; textures = g.textures.items }
 -- the first refusal that holds of bytes whose flats and textures are to be named
 abbrev pub graphics_refusal : List ℕ → Option ReadError
 graphics_refusal wad =
-    first_failed
-    ((is_wad wad, NotAWad)
-    ∷ (has_directory wad, DirectoryOutside)
-    ∷ (stands_inside wad (codes "TEXTURE1") && stands_inside wad (codes "TEXTURE2"), LumpOutside)
+    option_or (listing_refusal wad)
+    (first_failed
+    ((stands_inside wad (codes "TEXTURE1") && stands_inside wad (codes "TEXTURE2"), LumpOutside)
     ∷ (
       are_textures (lump_of_name wad (codes "TEXTURE1"))
           && are_textures (lump_of_name wad (codes "TEXTURE2")),
       TextureLump,
     )
     ∷ []
-    )
+    ))
 
 -- that refusal, or lack of memory
 abbrev pub RefusesGraphics : List ℕ → ReadError → Type 0

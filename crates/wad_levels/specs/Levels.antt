@@ -1,11 +1,9 @@
 -- The level that a WAD holds under a name, and what refuses it (docs/FORMAT.md, "WAD files").
-use Rattle.std.specs.Prelude.{◌≡◌, ℕ, zero, suc, ◌+◌, ◌*◌, ◌%◌, ◌<◌, ◌≤◌, Bool, true, if◌then◌else◌, not, ◌&&◌, ◌||◌, ◌==◌, nat_eq, nat_lt, nat_le, List, [], ◌∷◌, length, take, drop, Option, Some, None, is_some, codes}
-use Rattle.std.specs.Cmp.Lexicographic.{pointwise}
-use Rattle.std.specs.Option.{unwrap_or}
-use Rattle.lump_records.specs.Fields.{unsigned_at}
+use Rattle.std.specs.Prelude.{◌≡◌, ℕ, ◌+◌, ◌*◌, ◌%◌, ◌<◌, ◌≤◌, Bool, true, if◌then◌else◌, not, ◌&&◌, ◌||◌, ◌==◌, nat_lt, List, [], ◌∷◌, Option, None, is_some, codes}
+use Rattle.std.specs.Option.{option_or, unwrap_or}
 use Rattle.lump_records.specs.Lumps.{records_of}
 use Rattle.lump_records.specs.Names.{name_of, name_text}
-use Rattle.lump_records.specs.Records.{thing_at, line_at, side_at, vertex_at, seg_at, sub_at, node_at, sector_at, name_at}
+use Rattle.lump_records.specs.Records.{thing_at, line_at, side_at, vertex_at, seg_at, sub_at, node_at, sector_at}
 use Rattle.lump_records.specs.declared.records.Name8.{Name8}
 use Rattle.lump_records.specs.declared.records.Thing.{Thing}
 use Rattle.lump_records.specs.declared.records.Line.{Line}
@@ -15,9 +13,10 @@ use Rattle.lump_records.specs.declared.records.Sector.{Sector}
 use Rattle.lump_records.specs.declared.records.Seg.{Seg}
 use Rattle.lump_records.specs.declared.records.Sub.{Sub}
 use Rattle.lump_records.specs.declared.records.Node.{Node}
-use Rattle.wad_levels.specs.declared.directory.Entry.{Entry}
 use Rattle.wad_levels.specs.declared.error.ReadError.{ReadError}
-use Rattle.wad_levels.specs.declared.error.ReadError.TheVariants.{NotAWad, DirectoryOutside, NoSuchLevel, LumpMissing, HexenLevel, LumpOutside, LumpLength}
+use Rattle.wad_levels.specs.declared.error.ReadError.TheVariants.{NoSuchLevel, LumpMissing, HexenLevel, LumpOutside, LumpLength}
+use Rattle.wad_file.specs.Directory.{are_inside, entry, entry_has_name, first_failed, last_named, lump, lump_count}
+use Rattle.wad_levels.specs.Listing.{listing_refusal}
 
 -- what a level's ten lumps hold
 pub record Lumps : Type 0 where
@@ -32,40 +31,7 @@ pub record Lumps : Type 0 where
   pub reject : List ℕ
   pub blockmap : List ℕ
 
--- ---- the directory
-
--- the number of 32 bits at place i, the lower bytes first
-abbrev pub long_at : ℕ → List ℕ → ℕ
-long_at i bytes = unsigned_at i bytes + 65536 * unsigned_at (i + 2) bytes
-
--- byte for byte the same
-abbrev pub same_bytes : List ℕ → List ℕ → Bool
-same_bytes a b = pointwise nat_eq a b
-
-abbrev pub lump_count : List ℕ → ℕ
-lump_count wad = long_at 4 wad
-
-abbrev pub directory_at : List ℕ → ℕ
-directory_at wad = long_at 8 wad
-
--- where the k-th entry stands
-abbrev pub entry_place : List ℕ → ℕ → ℕ
-entry_place wad k = directory_at wad + 16 * k
-
--- the k-th entry: offset, size, name
-abbrev pub entry : List ℕ → ℕ → Entry
-entry wad k =
-    let at = entry_place wad k in
-    record { at = long_at at wad; size = long_at (at + 4) wad; name = name_at (at + 8) wad }
-
-abbrev pub entry_has_name : List ℕ → List ℕ → ℕ → Bool
-entry_has_name wad name k = same_bytes (name_text (entry wad k).name) name
-
--- the last of the first n entries that has the name
-abbrev pub last_named : List ℕ → List ℕ → ℕ → Option ℕ
-last_named wad name zero = None
-last_named wad name (suc n) = if entry_has_name wad name n then Some n else last_named wad name n
-
+-- the number of the last entry with the name
 abbrev pub marker : List ℕ → List ℕ → Option ℕ
 marker wad name = last_named wad name (lump_count wad)
 
@@ -96,15 +62,6 @@ abbrev pub is_hexen : List ℕ → ℕ → Bool
 is_hexen wad at =
     nat_lt (at + 11) (lump_count wad) && entry_has_name wad (codes "BEHAVIOR") (at + 11)
 
--- a lump that isn't empty ends beyond the file
-abbrev pub is_outside : List ℕ → Entry → Bool
-is_outside wad e = nat_lt 0 e.size && nat_lt (length wad) (e.at + e.size)
-
--- none of the n entries from k on is of such a lump
-abbrev pub are_inside : List ℕ → ℕ → ℕ → Bool
-are_inside wad k zero = true
-are_inside wad k (suc n) = not (is_outside wad (entry wad k)) && are_inside wad (k + 1) n
-
 -- the lumps from k on are whole records of these sizes
 abbrev pub are_whole : List ℕ → ℕ → List ℕ → Bool
 are_whole wad k [] = true
@@ -112,46 +69,25 @@ are_whole wad k (size ∷ sizes) = (((entry wad k).size % size) == 0) && are_who
 
 -- ---- what refuses a level
 
-abbrev pub is_wad : List ℕ → Bool
-is_wad wad = nat_le 12 (length wad)
-    && (same_bytes (take 4 wad) (codes "IWAD") || same_bytes (take 4 wad) (codes "PWAD"))
-
-abbrev pub has_directory : List ℕ → Bool
-has_directory wad = nat_le (entry_place wad (lump_count wad)) (length wad)
-
--- the bytes of a WAD whose directory stands in the file
-pub record HasEntries (wad : List ℕ) : Type 0 where
-  pub long : 12 ≤ length wad
-  pub directory : entry_place wad (lump_count wad) ≤ length wad
-
 -- the marker, or 0 where there is none
 abbrev pub marker_at : List ℕ → List ℕ → ℕ
 marker_at wad name = unwrap_or (marker wad name) 0
-
--- the error of the first test that fails
-abbrev pub first_failed : {E : Type 0} → List (Bool × E) → Option E
-first_failed [] = None
-first_failed (test ∷ tests) = if test.0 then first_failed tests else Some test.1
 
 -- the first refusal that holds
 abbrev pub refusal : List ℕ → List ℕ → Option ReadError
 refusal wad name =
     let at = marker_at wad name in
-    first_failed
-    ((is_wad wad, NotAWad)
-    ∷ (has_directory wad, DirectoryOutside)
-    ∷ (is_some (marker wad name), NoSuchLevel)
+    option_or (listing_refusal wad)
+    (first_failed
+    ((is_some (marker wad name), NoSuchLevel)
     ∷ (has_lumps wad at, LumpMissing)
     ∷ (not (is_hexen wad at), HexenLevel)
     ∷ (are_inside wad (at + 1) 10, LumpOutside)
     ∷ (are_whole wad (at + 1) record_sizes, LumpLength)
     ∷ []
-    )
+    ))
 
--- the bytes of the k-th entry's lump
-abbrev pub lump : List ℕ → ℕ → List ℕ
-lump wad k = let e = entry wad k in take e.size (drop e.at wad)
-
+-- what the ten lumps behind a marker hold
 abbrev pub lumps_behind : List ℕ → ℕ → Lumps
 lumps_behind wad at =
     record {
@@ -169,7 +105,6 @@ lumps_behind wad at =
 
 -- ten lumps behind the marker stand in the file
 pub record IsWhole (wad : List ℕ) (at : ℕ) : Type 0 where
-  pub entries : HasEntries wad
   pub among : at + 10 < lump_count wad
   pub inside : are_inside wad (at + 1) 10 ≡ true
 

@@ -1,12 +1,11 @@
 //! Reads what was drawn of a level of any WAD, or finds the first cause that prevents a build.
 ghost use Rattle.std.specs.Prelude.{◌≡◌, ◌<◌, None, IfOk, IsOkUnless, MatchResult};
 ghost use Rattle.std.specs.Option.{option_or};
-ghost use Rattle.wad_levels.specs.Drawn.{Hinders, drawn_lists, drawn_view, entries_hindrance, entry_hindrance, form_hindrance, hindrance, level_lump, lump_hindrance, standing};
+ghost use Rattle.wad_levels.specs.Drawn.{Hinders, drawn_lists, drawn_view, entries_hindrance, entry_hindrance, form_hindrance, hindrance, level_lump, lump_hindrance};
+ghost use Rattle.wad_file.specs.Directory.{lump_count};
 ghost use Rattle.wad_levels.specs.Entries.{IsLevelAt};
 ghost use Rattle.wad_levels.specs.Lengths.{HindersReading};
-ghost use Rattle.wad_levels.specs.Levels.{HasEntries, lump_count};
 
-use crate::directory::{entry_of, is_outside};
 use crate::entries::{LevelEntries, LevelForm, lump_entry};
 use crate::hindrance::Hindrance;
 use crate::needs::lists_hindrance;
@@ -15,6 +14,7 @@ use lump_records::{
     decode_vertices,
 };
 use std::alloc::Global;
+use wad_file::Wad;
 
 /// What was drawn of a level, and the bytes of its REJECT: none if it has none, or one that ends beyond the file.
 pub struct Drawn {
@@ -40,36 +40,20 @@ impl Drop for Drawn {
     }
 }
 
-/// The bytes of the k-th entry's lump, or none if it ends beyond the file.
-pub fn standing(wad: &[u8], k: u32) -> &[u8]
-    requires directory { HasEntries wad.now }
-    requires among { k < lump_count wad.now }
-    ensures { result.now ≡ standing wad.now k }
-{
-    let entry = entry_of(wad, k);
-    if is_outside(wad, entry) || entry.size == 0 {
-        return &[];
-    }
-    let start = entry.at as usize;
-    &wad[start..start + entry.size as usize]
-}
-
 /// The bytes of the level's lump with this number in `LUMP_NAMES`: none if the level has no such lump, or one
 /// that ends beyond the file.
-pub fn level_lump(wad: &[u8], level: LevelEntries, number: usize) -> &[u8]
-    requires directory { HasEntries wad.now }
+pub fn level_lump<'a>(wad: &Wad<'a>, level: LevelEntries, number: usize) -> &'a [u8]
     requires level { IsLevelAt wad.now level }
     ensures { result.now ≡ level_lump wad.now level number }
 {
     match lump_entry(wad, level, number) {
-        Some(k) => standing(wad, k),
+        Some(k) => wad.standing(k),
         None => &[],
     }
 }
 
 // A copy of the bytes of the level's REJECT.
-fn reject_of(alloc: Global, wad: &[u8], level: LevelEntries) -> Result<Vec<u8>, Hindrance>
-    requires directory { HasEntries wad.now }
+fn reject_of(alloc: Global, wad: &Wad<'_>, level: LevelEntries) -> Result<Vec<u8>, Hindrance>
     requires level { IsLevelAt wad.now level }
     ensures bytes { IfOk result (λ v. v.items ≡ level_lump wad.now level 8) }
     ensures memory { IsOkUnless result Hindrance.OutOfMemory }
@@ -80,8 +64,7 @@ fn reject_of(alloc: Global, wad: &[u8], level: LevelEntries) -> Result<Vec<u8>, 
 }
 
 // Reads what was drawn of a level whose lumps are whole records long, so only memory can run out.
-fn drawn_of(alloc: Global, wad: &[u8], level: LevelEntries) -> Result<Drawn, Hindrance>
-    requires directory { HasEntries wad.now }
+fn drawn_of(alloc: Global, wad: &Wad<'_>, level: LevelEntries) -> Result<Drawn, Hindrance>
     requires level { IsLevelAt wad.now level }
     ensures drawn { IfOk result (λ drawn. drawn_view drawn ≡ drawn_lists wad.now level) }
     ensures memory { IsOkUnless result Hindrance.OutOfMemory }
@@ -124,14 +107,13 @@ fn form_hindrance(form: LevelForm) -> Option<Hindrance>
 }
 
 // The hindrance of an entry's lump with records of this size, if there is one.
-fn entry_hindrance(wad: &[u8], number: usize, size: u32, k: u32) -> Option<Hindrance>
-    requires directory { HasEntries wad.now }
+fn entry_hindrance(wad: &Wad<'_>, number: usize, size: u32, k: u32) -> Option<Hindrance>
     requires among { k < lump_count wad.now }
     requires some { 0 < size }
     ensures { result ≡ entry_hindrance wad.now number size k }
 {
-    let entry = entry_of(wad, k);
-    if is_outside(wad, entry) {
+    let entry = wad.entry(k);
+    if wad.is_outside(entry) {
         return Some(Hindrance::LumpOutside(number));
     }
     if entry.size % size != 0 {
@@ -141,8 +123,7 @@ fn entry_hindrance(wad: &[u8], number: usize, size: u32, k: u32) -> Option<Hindr
 }
 
 // The hindrance of the level's lump with this number, if there is one.
-fn lump_hindrance(wad: &[u8], level: LevelEntries, number: usize, size: u32) -> Option<Hindrance>
-    requires directory { HasEntries wad.now }
+fn lump_hindrance(wad: &Wad<'_>, level: LevelEntries, number: usize, size: u32) -> Option<Hindrance>
     requires level { IsLevelAt wad.now level }
     requires some { 0 < size }
     ensures { result ≡ lump_hindrance wad.now level number size }
@@ -154,8 +135,7 @@ fn lump_hindrance(wad: &[u8], level: LevelEntries, number: usize, size: u32) -> 
 }
 
 // The first hindrance of the level's form and of its drawn lumps.
-fn entries_hindrance(wad: &[u8], level: LevelEntries) -> Option<Hindrance>
-    requires directory { HasEntries wad.now }
+fn entries_hindrance(wad: &Wad<'_>, level: LevelEntries) -> Option<Hindrance>
     requires level { IsLevelAt wad.now level }
     ensures { result ≡ entries_hindrance wad.now level }
 {
@@ -179,8 +159,7 @@ fn entries_hindrance(wad: &[u8], level: LevelEntries) -> Option<Hindrance>
 ///
 /// The first cause of the level's form or of its drawn lumps why they can't be read, in the order of docs/FORMAT.md,
 /// "Levels of other WADs"; or `OutOfMemory`.
-pub fn read_lists(alloc: Global, wad: &[u8], level: LevelEntries) -> Result<Drawn, Hindrance>
-    requires directory { HasEntries wad.now }
+pub fn read_lists(alloc: Global, wad: &Wad<'_>, level: LevelEntries) -> Result<Drawn, Hindrance>
     requires level { IsLevelAt wad.now level }
     ensures { MatchResult result
         (λ drawn. (entries_hindrance wad.now level ≡ None)
@@ -201,8 +180,7 @@ pub fn read_lists(alloc: Global, wad: &[u8], level: LevelEntries) -> Result<Draw
 /// # Errors
 ///
 /// The first cause why none can be built, in the order of docs/FORMAT.md, "Levels of other WADs"; or `OutOfMemory`.
-pub fn read_drawn(alloc: Global, wad: &[u8], level: LevelEntries) -> Result<Drawn, Hindrance>
-    requires directory { HasEntries wad.now }
+pub fn read_drawn(alloc: Global, wad: &Wad<'_>, level: LevelEntries) -> Result<Drawn, Hindrance>
     requires level { IsLevelAt wad.now level }
     ensures { MatchResult result
         (λ drawn. (hindrance wad.now level ≡ None) × (drawn_view drawn ≡ drawn_lists wad.now level))

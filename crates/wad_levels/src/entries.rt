@@ -1,15 +1,17 @@
 //! Finds the entries of the levels in the directory of any WAD.
-ghost use Rattle.std.specs.Prelude.{◌≡◌, ◌+◌, ◌<◌, ◌≤◌, true, position, None, IfOk, IfSome, IsOkUnless, MatchResult};
+ghost use Rattle.std.specs.Prelude.{◌≡◌, ◌+◌, ◌<◌, ◌≤◌, true, position, IfOk, IfSome, IsOkUnless};
 ghost use Rattle.lump_records.specs.Names.{name_text};
-ghost use Rattle.wad_levels.specs.Levels.{HasEntries, lump_count, lump_names, same_bytes};
-ghost use Rattle.wad_levels.specs.Listing.{RefusesListing, listing_refusal};
+ghost use Rattle.wad_levels.specs.Levels.{lump_names};
+ghost use Rattle.wad_file.specs.Directory.{lump_count};
+ghost use Rattle.wad_file.specs.Fields.{same_bytes};
 ghost use Rattle.wad_levels.specs.Entries.{AreLevels, IsLevelAt, IsRunEnd, comes_later, form_of, goes_on, is_behavior, is_gl, is_gl_marker, is_gl_name, is_level, is_udmf, lump_entry, rank, rank_of_name};
 
-use crate::directory::{LUMP_NAMES, entry_of, has_directory, is_named, is_wad, lump_count};
 use crate::error::ReadError;
 use crate::listing::is_marker;
+use crate::lumps::LUMP_NAMES;
 use lump_records::Name8;
 use std::alloc::Global;
+use wad_file::Wad;
 
 /// The form of a level: Doom's, with records; Hexen's, whose records differ; or text (UDMF).
 #[derive(Clone, Copy)]
@@ -50,18 +52,16 @@ const GL_NAMES: [Name8; 5] = [
 
 // Whether TEXTMAP follows the k-th entry.
 #[tactic(auto, unfolding(crate::specs::Entries::is_udmf))]
-fn is_udmf(wad: &[u8], k: u32) -> bool
-    requires directory { HasEntries wad.now }
+fn is_udmf(wad: &Wad<'_>, k: u32) -> bool
     requires among { k < lump_count wad.now }
     ensures { result ≡ is_udmf wad.now k }
 {
-    k as u64 + 1 < lump_count(wad) as u64 && is_named(wad, b"TEXTMAP", k + 1)
+    k as u64 + 1 < wad.count() as u64 && wad.is_named(b"TEXTMAP", k + 1)
 }
 
 // Whether the k-th entry is the marker of a level.
 #[tactic(auto, unfolding(crate::specs::Entries::is_level))]
-fn is_level(wad: &[u8], k: u32) -> bool
-    requires directory { HasEntries wad.now }
+fn is_level(wad: &Wad<'_>, k: u32) -> bool
     requires among { k < lump_count wad.now }
     ensures { result ≡ is_level wad.now k }
 {
@@ -87,19 +87,17 @@ fn rank_of(text: &[u8]) -> usize
 }
 
 // The number of the k-th entry's name among the names of a level's lumps.
-fn rank(wad: &[u8], k: u32) -> usize
-    requires directory { HasEntries wad.now }
+fn rank(wad: &Wad<'_>, k: u32) -> usize
     requires among { k < lump_count wad.now }
     ensures { result ≡ rank wad.now k }
 {
-    let entry = entry_of(wad, k);
+    let entry = wad.entry(k);
     rank_of(entry.name.text())
 }
 
 // Whether the k-th entry's name comes later in a level's order than that of the entry before it.
 #[tactic(auto, unfolding(crate::specs::Entries::comes_later))]
-fn comes_later(wad: &[u8], marker: u32, k: u32) -> bool
-    requires directory { HasEntries wad.now }
+fn comes_later(wad: &Wad<'_>, marker: u32, k: u32) -> bool
     requires among { k < lump_count wad.now }
     requires behind { marker < k }
     ensures { result ≡ comes_later wad.now marker k }
@@ -109,8 +107,7 @@ fn comes_later(wad: &[u8], marker: u32, k: u32) -> bool
 
 // Whether the k-th entry continues the lumps of the level with this marker.
 #[tactic(auto, unfolding(crate::specs::Entries::goes_on))]
-fn goes_on(wad: &[u8], marker: u32, k: u32) -> bool
-    requires directory { HasEntries wad.now }
+fn goes_on(wad: &Wad<'_>, marker: u32, k: u32) -> bool
     requires among { k < lump_count wad.now }
     requires behind { marker < k }
     ensures { result ≡ goes_on wad.now marker k }
@@ -119,12 +116,11 @@ fn goes_on(wad: &[u8], marker: u32, k: u32) -> bool
 }
 
 // The first entry after the lumps of the level with this marker.
-fn lumps_end(wad: &[u8], marker: u32) -> u32
-    requires directory { HasEntries wad.now }
+fn lumps_end(wad: &Wad<'_>, marker: u32) -> u32
     requires among { marker < lump_count wad.now }
     ensures { IsRunEnd (goes_on wad.now marker) (marker + 1) (lump_count wad.now) result }
 {
-    let count = lump_count(wad);
+    let count = wad.count();
     for k in marker + 1..count {
         if !goes_on(wad, marker, k) {
             return k;
@@ -154,26 +150,24 @@ fn is_gl_marker(level: &[u8], text: &[u8]) -> bool
 
 // Whether the k-th entry is a lump of another builder's nodes, of the level with this marker.
 #[tactic(auto, unfolding(crate::specs::Entries::is_gl))]
-fn is_gl(wad: &[u8], marker: u32, k: u32) -> bool
-    requires directory { HasEntries wad.now }
+fn is_gl(wad: &Wad<'_>, marker: u32, k: u32) -> bool
     requires among { k < lump_count wad.now }
     requires marker { marker < lump_count wad.now }
     ensures { result ≡ is_gl wad.now marker k }
 {
-    let level = entry_of(wad, marker);
-    let entry = entry_of(wad, k);
+    let level = wad.entry(marker);
+    let entry = wad.entry(k);
     let text = entry.name.text();
     !is_level(wad, k) && (is_gl_name(text) || is_gl_marker(level.name.text(), text))
 }
 
 // The first entry after the lumps, from `from` on, with another builder's nodes of the level with this marker.
-fn gl_end(wad: &[u8], marker: u32, from: u32) -> u32
-    requires directory { HasEntries wad.now }
+fn gl_end(wad: &Wad<'_>, marker: u32, from: u32) -> u32
     requires marker { marker < lump_count wad.now }
     requires among { from ≤ lump_count wad.now }
     ensures { IsRunEnd (is_gl wad.now marker) from (lump_count wad.now) result }
 {
-    let count = lump_count(wad);
+    let count = wad.count();
     for k in from..count {
         if !is_gl(wad, marker, k) {
             return k;
@@ -184,16 +178,14 @@ fn gl_end(wad: &[u8], marker: u32, from: u32) -> u32
 
 // Whether the entry after a level's lumps shows that it is a Hexen level.
 #[tactic(auto, unfolding(crate::specs::Entries::is_behavior))]
-fn is_behavior(wad: &[u8], end: u32) -> bool
-    requires { HasEntries wad.now }
+fn is_behavior(wad: &Wad<'_>, end: u32) -> bool
     ensures { result ≡ is_behavior wad.now end }
 {
-    end < lump_count(wad) && is_named(wad, b"BEHAVIOR", end)
+    end < wad.count() && wad.is_named(b"BEHAVIOR", end)
 }
 
 // The form of a level whose lumps end here.
-fn form_of(wad: &[u8], marker: u32, end: u32) -> LevelForm
-    requires directory { HasEntries wad.now }
+fn form_of(wad: &Wad<'_>, marker: u32, end: u32) -> LevelForm
     requires among { marker < lump_count wad.now }
     ensures { result ≡ form_of wad.now marker end }
 {
@@ -207,8 +199,7 @@ fn form_of(wad: &[u8], marker: u32, end: u32) -> LevelForm
 }
 
 // The entries of the level with this marker.
-fn level_at(wad: &[u8], marker: u32) -> LevelEntries
-    requires directory { HasEntries wad.now }
+fn level_at(wad: &Wad<'_>, marker: u32) -> LevelEntries
     requires among { marker < lump_count wad.now }
     requires is_marker { is_level wad.now marker ≡ true }
     ensures level { IsLevelAt wad.now result }
@@ -223,14 +214,14 @@ fn level_at(wad: &[u8], marker: u32) -> LevelEntries
     }
 }
 
-// The levels in a directory that lies inside the file.
-fn levels_among(alloc: Global, wad: &[u8]) -> Result<Vec<LevelEntries>, ReadError>
-    requires { HasEntries wad.now }
+/// The levels that a WAD of any editor holds, in the order of its directory (docs/FORMAT.md, "Levels of other WADs").
+/// The time is proportional to the length of the directory. It fails only if memory runs out.
+pub fn levels_in(alloc: Global, wad: &Wad<'_>) -> Result<Vec<LevelEntries>, ReadError>
     ensures levels { IfOk result (λ levels. AreLevels wad.now levels.items) }
     ensures memory { IsOkUnless result ReadError.OutOfMemory }
 {
     let mut levels = Vec::new(alloc);
-    for k in 0..lump_count(wad) {
+    for k in 0..wad.count() {
         if is_level(wad, k) {
             levels.push(level_at(wad, k))?;
         }
@@ -238,30 +229,8 @@ fn levels_among(alloc: Global, wad: &[u8]) -> Result<Vec<LevelEntries>, ReadErro
     Ok(levels)
 }
 
-/// The levels that a WAD of any editor holds, in the order of its directory (docs/FORMAT.md, "Levels of other WADs").
-/// The time is proportional to the length of the directory.
-///
-/// # Errors
-///
-/// The first of `NotAWad` and `DirectoryOutside` that applies; or `OutOfMemory`.
-pub fn levels_in(alloc: Global, wad: &[u8]) -> Result<Vec<LevelEntries>, ReadError>
-    ensures { MatchResult result
-        (λ levels. (listing_refusal wad.now ≡ None) × HasEntries wad.now
-        × AreLevels wad.now levels.items)
-        (RefusesListing wad.now) }
-{
-    if !is_wad(wad) {
-        return Err(ReadError::NotAWad);
-    }
-    if !has_directory(wad) {
-        return Err(ReadError::DirectoryOutside);
-    }
-    levels_among(alloc, wad)
-}
-
 /// The entry of the level's lump with this number in `LUMP_NAMES`, if the level has one.
-pub fn lump_entry(wad: &[u8], level: LevelEntries, number: usize) -> Option<u32>
-    requires directory { HasEntries wad.now }
+pub fn lump_entry(wad: &Wad<'_>, level: LevelEntries, number: usize) -> Option<u32>
     requires among { level.lumps_end ≤ lump_count wad.now }
     requires behind { level.marker < level.lumps_end }
     ensures entry { result ≡ lump_entry wad.now level number }

@@ -2,16 +2,14 @@
 ghost use Rattle.std.specs.Prelude.{◌≡◌, ◌+◌, ◌*◌, ◌≤◌, ◌<◌, ◌++◌, true, length, map, IfOk, IsOkUnless, IsTrue, MatchResult, None, OnOk, Option};
 ghost use Rattle.std.specs.Char.{to_ascii_uppercase};
 ghost use Rattle.std.specs.List.{list_all, range_with_len};
-ghost use Rattle.wad_levels.specs.Levels.{HasEntries, lump_count};
+ghost use Rattle.wad_file.specs.Directory.{lump_count};
 ghost use Rattle.wad_levels.specs.Graphics.{RefusesGraphics, are_flats_open, are_textures, capital_name, flat_names, graphics, graphics_refusal, graphics_view, is_name_inside, lump_of_name, stands_inside, texture_count, texture_name, texture_names};
 
-use crate::directory::{
-    entry_of, has_directory, is_named, is_outside, is_wad, long_at, lump_count, marker, name_at,
-};
-use crate::drawn::standing;
 use crate::error::ReadError;
+use crate::listing::read_wad;
 use lump_records::Name8;
 use std::alloc::Global;
+use wad_file::{Wad, long_at, name_at};
 
 /// The names of a WAD's flats and textures, in capitals, each padded with NUL.
 pub struct Graphics {
@@ -40,25 +38,23 @@ fn capital_name(name: Name8) -> Name8
 }
 
 // Whether the entries after the k-th are flats; `before` says whether those before it are.
-fn flats_behind(wad: &[u8], k: u32, before: bool) -> bool
-    requires directory { HasEntries wad.now }
+fn flats_behind(wad: &Wad<'_>, k: u32, before: bool) -> bool
     requires among { k < lump_count wad.now }
     requires before { before ≡ are_flats_open wad.now k }
     ensures { result ≡ are_flats_open wad.now (k + 1) }
 {
-    is_named(wad, b"F_START", k) || !is_named(wad, b"F_END", k) && before
+    wad.is_named(b"F_START", k) || !wad.is_named(b"F_END", k) && before
 }
 
 // The names of the flats in a directory that lies inside the file.
-fn flats_in(alloc: Global, wad: &[u8]) -> Result<Vec<Name8>, ReadError>
-    requires { HasEntries wad.now }
+fn flats_in(alloc: Global, wad: &Wad<'_>) -> Result<Vec<Name8>, ReadError>
     ensures names { IfOk result (λ names. names.items ≡ flat_names wad.now) }
     ensures memory { IsOkUnless result ReadError.OutOfMemory }
 {
     let mut names = Vec::new(alloc);
     let mut among_flats = false;
-    for k in 0..lump_count(wad) {
-        let entry = entry_of(wad, k);
+    for k in 0..wad.count() {
+        let entry = wad.entry(k);
         if among_flats && entry.size > 0 {
             names.push(capital_name(entry.name))?;
         }
@@ -68,23 +64,21 @@ fn flats_in(alloc: Global, wad: &[u8]) -> Result<Vec<Name8>, ReadError>
 }
 
 // Whether the last lump with the name, if there is one, lies inside the file.
-fn stands_inside(wad: &[u8], name: &[u8]) -> bool
-    requires { HasEntries wad.now }
+fn stands_inside(wad: &Wad<'_>, name: &[u8]) -> bool
     ensures { result ≡ stands_inside wad.now name.now }
 {
-    match marker(wad, name) {
-        Some(k) => !is_outside(wad, entry_of(wad, k)),
+    match wad.last_named(name) {
+        Some(k) => !wad.is_outside(wad.entry(k)),
         None => true,
     }
 }
 
 // The bytes of the last lump with the name, or none.
-fn lump_of_name<'a>(wad: &'a [u8], name: &[u8]) -> &'a [u8]
-    requires { HasEntries wad.now }
+fn lump_of_name<'a>(wad: &Wad<'a>, name: &[u8]) -> &'a [u8]
     ensures { result.now ≡ lump_of_name wad.now name.now }
 {
-    match marker(wad, name) {
-        Some(k) => standing(wad, k),
+    match wad.last_named(name) {
+        Some(k) => wad.standing(k),
         None => &[],
     }
 }
@@ -148,11 +142,10 @@ fn add_textures(lump: &[u8], names: &mut Vec<Name8>) -> Result<(), ReadError>
 // The names of the flats and of the textures of two lumps.
 fn graphics_of(
     alloc: Global,
-    wad: &[u8],
+    wad: &Wad<'_>,
     first: &[u8],
     second: &[u8],
 ) -> Result<Graphics, ReadError>
-    requires directory { HasEntries wad.now }
     requires first { IsTrue (are_textures first.now) }
     requires second { IsTrue (are_textures second.now) }
     ensures flats { IfOk result (λ g. g.flats.items ≡ flat_names wad.now) }
@@ -167,23 +160,13 @@ fn graphics_of(
     Ok(Graphics { flats, textures })
 }
 
-/// The names of a WAD's flats, in the order of its directory, and of its textures, those of TEXTURE1 before those of
-/// TEXTURE2 (docs/FORMAT.md, "Flats and textures").
-///
-/// # Errors
-///
-/// The first of `NotAWad`, `DirectoryOutside`, `LumpOutside`, `TextureLump` that applies; or `OutOfMemory`.
-pub fn graphics_in(alloc: Global, wad: &[u8]) -> Result<Graphics, ReadError>
+// The names of the WAD's flats and textures.
+fn graphics_named(alloc: Global, wad: &Wad<'_>) -> Result<Graphics, ReadError>
     ensures { MatchResult result
         (λ g. (graphics_refusal wad.now ≡ None) × (graphics_view g ≡ graphics wad.now))
         (RefusesGraphics wad.now) }
 {
-    if !is_wad(wad) {
-        return Err(ReadError::NotAWad);
-    }
-    if !has_directory(wad) {
-        return Err(ReadError::DirectoryOutside);
-    }
+    let _ = wad.count();
     if !stands_inside(wad, b"TEXTURE1") || !stands_inside(wad, b"TEXTURE2") {
         return Err(ReadError::LumpOutside);
     }
@@ -193,4 +176,21 @@ pub fn graphics_in(alloc: Global, wad: &[u8]) -> Result<Graphics, ReadError>
         return Err(ReadError::TextureLump);
     }
     graphics_of(alloc, wad, first, second)
+}
+
+/// The names of a WAD's flats, in the order of its directory, and of its textures, those of TEXTURE1 before those of
+/// TEXTURE2 (docs/FORMAT.md, "Flats and textures").
+///
+/// # Errors
+///
+/// The first of `NotAWad`, `DirectoryOutside`, `LumpOutside`, `TextureLump` that applies; or `OutOfMemory`.
+pub fn graphics_in(alloc: Global, bytes: &[u8]) -> Result<Graphics, ReadError>
+    ensures { MatchResult result
+        (λ g. (graphics_refusal bytes.now ≡ None) × (graphics_view g ≡ graphics bytes.now))
+        (RefusesGraphics bytes.now) }
+{
+    match read_wad(bytes) {
+        Ok(wad) => graphics_named(alloc, &wad),
+        Err(error) => Err(error),
+    }
 }

@@ -1,17 +1,18 @@
 //! A level read from a WAD's bytes.
 ghost use Rattle.std.specs.Prelude.{◌≡◌, ◌+◌, ◌<◌, IfOk, IsOkUnless, MatchResult};
-ghost use Rattle.wad_levels.specs.Levels.{IsLevel, IsWhole, lump, lumps_behind};
+ghost use Rattle.wad_levels.specs.Levels.{IsLevel, IsWhole, lumps_behind};
+ghost use Rattle.wad_file.specs.Directory.{lump};
 ghost use Rattle.wad_levels.specs.Views.{RefusesLevel, view};
 
-use crate::directory::{
-    are_inside, are_whole, entry_of, has_directory, has_lumps, is_hexen, is_wad, marker,
-};
 use crate::error::ReadError;
+use crate::listing::read_wad;
+use crate::lumps::{are_whole, has_lumps, is_hexen};
 use lump_records::{
     Line, Node, Sector, Seg, Side, Sub, Thing, Vertex, decode_lines, decode_nodes, decode_sectors,
     decode_segs, decode_sides, decode_subs, decode_things, decode_vertices,
 };
 use std::alloc::Global;
+use wad_file::Wad;
 
 /// What a level's ten lumps hold: the records of eight, and the bytes of REJECT and BLOCKMAP.
 pub struct Level {
@@ -46,21 +47,18 @@ impl Drop for Level {
 }
 
 // The bytes of the n-th lump after a marker whose lumps lie inside the file.
-fn lump(wad: &[u8], at: u32, n: u32) -> &[u8]
+fn lump<'a>(wad: &Wad<'a>, at: u32, n: u32) -> &'a [u8]
     requires level { IsWhole wad.now at }
     requires among { n < 10 }
     ensures { result.now ≡ lump wad.now (at + 1 + n) }
 {
-    let entry = entry_of(wad, at + 1 + n);
-    if entry.size == 0 {
-        return &[];
-    }
-    let start = entry.at as usize;
-    &wad[start..start + entry.size as usize]
+    // There are fewer than 2^32 entries; below too.
+    let _ = wad.count();
+    wad.standing(at + 1 + n)
 }
 
 // A copy of the n-th lump after a marker.
-fn copied(alloc: Global, wad: &[u8], at: u32, n: u32) -> Result<Vec<u8>, ReadError>
+fn copied(alloc: Global, wad: &Wad<'_>, at: u32, n: u32) -> Result<Vec<u8>, ReadError>
     requires level { IsWhole wad.now at }
     requires among { n < 10 }
     ensures bytes { IfOk result (λ v. v.items ≡ lump wad.now (at + 1 + n)) }
@@ -73,7 +71,7 @@ fn copied(alloc: Global, wad: &[u8], at: u32, n: u32) -> Result<Vec<u8>, ReadErr
 
 // The level after a marker whose lumps lie inside the file and are whole records long, so only
 // memory can run out.
-fn level_behind(alloc: Global, wad: &[u8], at: u32) -> Result<Level, ReadError>
+fn level_behind(alloc: Global, wad: &Wad<'_>, at: u32) -> Result<Level, ReadError>
     requires { IsWhole wad.now at }
     ensures level { IfOk result (λ level. view level ≡ lumps_behind wad.now at) }
     ensures memory { IsOkUnless result ReadError.OutOfMemory }
@@ -92,24 +90,13 @@ fn level_behind(alloc: Global, wad: &[u8], at: u32) -> Result<Level, ReadError>
     })
 }
 
-/// Reads the level with the name (docs/FORMAT.md, "WAD files"). If two lumps have the name, the later one is its
-/// marker.
-///
-/// # Errors
-///
-/// The first that applies of `NotAWad`, `DirectoryOutside`, `NoSuchLevel`, `LumpMissing`, `HexenLevel`, `LumpOutside`,
-/// `LumpLength`, in this order; or `OutOfMemory`.
-pub fn read_level(alloc: Global, wad: &[u8], name: &[u8]) -> Result<Level, ReadError>
+// Reads the level with the name.
+fn level_named(alloc: Global, wad: &Wad<'_>, name: &[u8]) -> Result<Level, ReadError>
     ensures { MatchResult result (λ level. IsLevel wad.now name.now (view level))
         (λ e. RefusesLevel wad.now name.now e) }
 {
-    if !is_wad(wad) {
-        return Err(ReadError::NotAWad);
-    }
-    if !has_directory(wad) {
-        return Err(ReadError::DirectoryOutside);
-    }
-    match marker(wad, name) {
+    let _ = wad.count();
+    match wad.last_named(name) {
         Some(at) => {
             if !has_lumps(wad, at) {
                 return Err(ReadError::LumpMissing);
@@ -117,7 +104,7 @@ pub fn read_level(alloc: Global, wad: &[u8], name: &[u8]) -> Result<Level, ReadE
             if is_hexen(wad, at) {
                 return Err(ReadError::HexenLevel);
             }
-            if !are_inside(wad, at + 1, 10) {
+            if !wad.are_inside(at + 1, 10) {
                 return Err(ReadError::LumpOutside);
             }
             if !are_whole(wad, at) {
@@ -126,5 +113,22 @@ pub fn read_level(alloc: Global, wad: &[u8], name: &[u8]) -> Result<Level, ReadE
             level_behind(alloc, wad, at)
         }
         None => Err(ReadError::NoSuchLevel),
+    }
+}
+
+/// Reads the level with the name (docs/FORMAT.md, "WAD files"). If two lumps have the name, the later one is its
+/// marker.
+///
+/// # Errors
+///
+/// The first that applies of `NotAWad`, `DirectoryOutside`, `NoSuchLevel`, `LumpMissing`, `HexenLevel`, `LumpOutside`,
+/// `LumpLength`, in this order; or `OutOfMemory`.
+pub fn read_level(alloc: Global, bytes: &[u8], name: &[u8]) -> Result<Level, ReadError>
+    ensures { MatchResult result (λ level. IsLevel bytes.now name.now (view level))
+        (λ e. RefusesLevel bytes.now name.now e) }
+{
+    match read_wad(bytes) {
+        Ok(wad) => level_named(alloc, &wad, name),
+        Err(error) => Err(error),
     }
 }

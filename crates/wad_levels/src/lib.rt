@@ -1,7 +1,6 @@
 //! The levels of a WAD, and the level that has a name.
 #![tactic(auto)]
 
-mod directory;
 mod drawn;
 mod entries;
 mod error;
@@ -10,15 +9,16 @@ mod hindrance;
 mod laws;
 mod level;
 mod listing;
+mod lumps;
 mod needs;
 
-pub use directory::{Entry, LUMP_NAMES, are_inside, entry_of, lump_count};
-pub use drawn::{Drawn, level_lump, read_drawn, read_lists, standing};
+pub use drawn::{Drawn, level_lump, read_drawn, read_lists};
 pub use entries::{LevelEntries, LevelForm, levels_in, lump_entry};
 pub use error::ReadError;
 pub use graphics::{Graphics, graphics_in};
 pub use hindrance::{Hindrance, LineNeed};
 pub use laws::others_hinder_the_rest;
 pub use level::{Level, read_level};
-pub use listing::level_names;
+pub use listing::{level_names, read_wad};
+pub use lumps::LUMP_NAMES;
 pub use needs::{has_no_length, other_hindrance};

@@ -1,5 +1,4 @@
 pub mod MadeLemmas
-pub mod WritingLemmas
-pub mod ReadingLemmas
+pub mod AddLemmas
 pub mod PartLemmas
 pub mod WholeLemmas

@@ -2,26 +2,27 @@
 use Rattle.std.proofs.Common.{◌≡◌, ◌≢◌, ◌∙◌, refl, sym, ap, subst, ℕ, zero, suc, ◌+◌, ◌-◌, ◌<◌, ◌≤◌, List, [], ◌∷◌, ◌++◌, length, get_or, take, drop, arith, append_assoc, false}
 use Rattle.std.proofs.lemmas.List.FromFn.{get_or-map-range_with_len, length-map-range_with_len}
 use Rattle.wad_levels.specs.Drawn.{level_lump}
-use Rattle.wad_levels.specs.Levels.{entry, is_outside, lump_count, lump_names}
+use Rattle.wad_levels.specs.Levels.{lump_names}
+use Rattle.wad_file.specs.Directory.{entry, is_outside, lump_count}
 use Rattle.wad_levels.specs.declared.entries.LevelEntries.{LevelEntries}
-use Rattle.wad_levels.proofs.ReadLemmas.{inside_at}
+use Rattle.wad_file.proofs.DirectoryLemmas.{inside_at}
 use Rattle.lump_records.specs.declared.records.Name8.{Name8}
-use Rattle.wad_build.specs.Wad.{Lump, with_names}
-use Rattle.wad_rebuild.specs.Parts.{HasLumps, lumps_up_to}
-use Rattle.wad_rebuild.specs.Rebuilt.{lump_at, lumps_after, lumps_between, lumps_from, sizes_below, ten_bytes, ten_lumps}
-use Rattle.wad_rebuild.specs.Writing.{Puts, RefusesPut}
+use Rattle.wad_build.specs.Wad.{with_names}
+use Rattle.wad_file.specs.Lumps.{Lump, lump_at, lumps_between}
+use Rattle.wad_rebuild.specs.Parts.{Adds, HasLumps, RefusesPut, lumps_up_to}
+use Rattle.wad_file.specs.Drafts.{Draft, Takes}
+use Rattle.wad_rebuild.specs.Rebuilt.{lumps_after, lumps_from, sizes_below, ten_bytes, ten_lumps}
 use Rattle.wad_rebuild.specs.declared.error.RebuildError.{RebuildError}
 use Rattle.wad_rebuild.specs.declared.levels.RebuiltLevel.{RebuiltLevel}
 use Rattle.wad_rebuild.specs.declared.made.MadeLumps.{MadeLumps}
-use Rattle.wad_rebuild.specs.declared.writing.Writing.{Writing}
-use Rattle.wad_rebuild.proofs.WritingLemmas.{put_all, put_both, put_next, put_none, refuse_behind, refuse_front, refuse_next}
+use Rattle.wad_rebuild.proofs.AddLemmas.{add_all, add_both, add_next, add_none, refuse_behind, refuse_front, refuse_next}
 
 pub sizes_step : (wad : List ℕ) (k : ℕ) → sizes_below wad (k + 1) ≡ sizes_below wad k + (entry wad k).size
 sizes_step wad k = let s : k + 1 ≡ suc k = omega arith in ap (sizes_below wad) s
 
 -- each lump stands in the file
 pub stands : (wad : List ℕ) (k : ℕ) → HasLumps wad → k < lump_count wad → is_outside wad (entry wad k) ≡ false
-stands wad k h l = let z : 0 + k ≡ k = omega arith in rw z at (inside_at wad 0 (lump_count wad) k h.inside l)
+stands wad k h l = let z : 0 + k ≡ k = omega arith in rw z at (inside_at wad 0 (lump_count wad) k h l)
 
 -- ---- the lumps of entries one behind another
 pub between_long : (wad : List ℕ) (from end : ℕ) → length (lumps_between wad from end) ≡ end - from
@@ -35,24 +36,29 @@ between_here : (wad : List ℕ) (from end k : ℕ) → from ≤ k → k < end �
 between_here wad from end k low high = let n = between_long wad from end in omega (arith, n)
 
 pub between_next :
-    (wad : List ℕ) (from end k : ℕ) (a b c : Writing) → from ≤ k → k < end → Puts a b (take (k - from) (lumps_between wad from end))
-    → Puts b c (lump_at wad k ∷ []) → Puts a c (take (k + 1 - from) (lumps_between wad from end))
+    (wad : List ℕ) (from end k : ℕ) (a b c : Draft) → from ≤ k → k < end → Adds a b (take (k - from) (lumps_between wad from end))
+    → Adds b c (lump_at wad k ∷ []) → Adds a c (take (k + 1 - from) (lumps_between wad from end))
 between_next wad from end k a b c low high p q =
     let s : k - from + 1 ≡ k + 1 - from = omega arith in
-    subst (λ (n : ℕ). Puts a c (take n (lumps_between wad from end))) s
-    (put_next a b c (lumps_between wad from end) (k - from) (lump_at wad k) (between_here wad from end k low high) (between_at wad from end k (lump_at wad k) low high) p q)
+    subst (λ (n : ℕ). Adds a c (take n (lumps_between wad from end))) s
+    (add_next a b c (lumps_between wad from end) (k - from) (lump_at wad k) (between_here wad from end k low high) (between_at wad from end k (lump_at wad k) low high) p q)
 
 pub between_refuses :
-    (wad : List ℕ) (from end k : ℕ) (a b : Writing) (e : RebuildError) → from ≤ k → k < end → Puts a b (take (k - from) (lumps_between wad from end))
+    (wad : List ℕ) (from end k : ℕ) (a b : Draft) (e : RebuildError) → from ≤ k → k < end → Adds a b (take (k - from) (lumps_between wad from end))
     → RefusesPut b (lump_at wad k ∷ []) e → RefusesPut a (lumps_between wad from end) e
 between_refuses wad from end k a b e low high p r =
     refuse_next a b (lumps_between wad from end) (k - from) (lump_at wad k) e (between_here wad from end k low high) (between_at wad from end k (lump_at wad k) low high) p r
 
+pub between_none : (xs : List Lump) (from : ℕ) (a : Draft) → Takes a [] → Adds a a (take (from - from) xs)
+between_none xs from a t =
+    let z : from - from ≡ 0 = omega arith in
+    subst (λ (n : ℕ). Adds a a (take n xs)) (sym z) (add_none a t)
+
 pub between_all :
-    (wad : List ℕ) (from end k : ℕ) (a b : Writing) → end ≤ k → Puts a b (take (k - from) (lumps_between wad from end)) → Puts a b (lumps_between wad from end)
+    (wad : List ℕ) (from end k : ℕ) (a b : Draft) → end ≤ k → Adds a b (take (k - from) (lumps_between wad from end)) → Adds a b (lumps_between wad from end)
 between_all wad from end k a b h p =
     let n = between_long wad from end in
-    put_all a b (lumps_between wad from end) (k - from) (omega (arith, n)) p
+    add_all a b (lumps_between wad from end) (k - from) (omega (arith, n)) p
 
 -- ---- the ten lumps of a level that is built anew
 pub made_other :
@@ -82,27 +88,27 @@ abbrev ten_lump : ℕ → Name8 → List ℕ → Lump
 ten_lump n d bytes = record { name = get_or lump_names n d; bytes = bytes }
 
 pub ten_next :
-    (wad : List ℕ) (l : LevelEntries) (m : MadeLumps) (n : ℕ) (d : Name8) (bytes : List ℕ) (a b c : Writing) → n < 10
-    → bytes ≡ get_or (ten_bytes wad l m) n [] → Puts a b (take n (ten_lumps wad l m)) → Puts b c (record { name = get_or lump_names n d; bytes = bytes } ∷ [])
-    → Puts a c (take (n + 1) (ten_lumps wad l m))
+    (wad : List ℕ) (l : LevelEntries) (m : MadeLumps) (n : ℕ) (d : Name8) (bytes : List ℕ) (a b c : Draft) → n < 10
+    → bytes ≡ get_or (ten_bytes wad l m) n [] → Adds a b (take n (ten_lumps wad l m)) → Adds b c (record { name = get_or lump_names n d; bytes = bytes } ∷ [])
+    → Adds a c (take (n + 1) (ten_lumps wad l m))
 ten_next wad l m n d bytes a b c h g p q =
-    put_next a b c (ten_lumps wad l m) n (ten_lump n d bytes) h (named_at lump_names (ten_bytes wad l m) n d bytes (ten_lump n d bytes) refl h (sym g)) p q
+    add_next a b c (ten_lumps wad l m) n (ten_lump n d bytes) h (named_at lump_names (ten_bytes wad l m) n d bytes (ten_lump n d bytes) refl h (sym g)) p q
 
 pub ten_refuses :
-    (wad : List ℕ) (l : LevelEntries) (m : MadeLumps) (n : ℕ) (d : Name8) (bytes : List ℕ) (a b : Writing) (e : RebuildError) → n < 10
-    → bytes ≡ get_or (ten_bytes wad l m) n [] → Puts a b (take n (ten_lumps wad l m)) → RefusesPut b (record { name = get_or lump_names n d; bytes = bytes } ∷ []) e
+    (wad : List ℕ) (l : LevelEntries) (m : MadeLumps) (n : ℕ) (d : Name8) (bytes : List ℕ) (a b : Draft) (e : RebuildError) → n < 10
+    → bytes ≡ get_or (ten_bytes wad l m) n [] → Adds a b (take n (ten_lumps wad l m)) → RefusesPut b (record { name = get_or lump_names n d; bytes = bytes } ∷ []) e
     → RefusesPut a (ten_lumps wad l m) e
 ten_refuses wad l m n d bytes a b e h g p r =
     refuse_next a b (ten_lumps wad l m) n (ten_lump n d bytes) e h (named_at lump_names (ten_bytes wad l m) n d bytes (ten_lump n d bytes) refl h (sym g)) p r
 
 -- ---- what was appended of a WAD up to the k-th entry, before the levels that are left
-pub record IsPutUpTo (wad : List ℕ) (levels left : List RebuiltLevel) (k : ℕ) (a b : Writing) : Type 0 where
+pub record IsPutUpTo (wad : List ℕ) (levels left : List RebuiltLevel) (k : ℕ) (a b : Draft) : Type 0 where
   pub done : List Lump
-  pub are : Puts a b done
+  pub are : Adds a b done
   pub whole : lumps_from wad 0 levels ≡ done ++ lumps_from wad k left
 
-pub begun_up_to : (wad : List ℕ) (levels : List RebuiltLevel) (a : Writing) → IsPutUpTo wad levels levels 0 a a
-begun_up_to wad levels a = record { done = []; are = put_none a; whole = refl }
+pub begun_up_to : (wad : List ℕ) (levels : List RebuiltLevel) (a : Draft) → Takes a [] → IsPutUpTo wad levels levels 0 a a
+begun_up_to wad levels a t = record { done = []; are = add_none a t; whole = refl }
 
 from_step :
     (wad : List ℕ) (levels left more : List RebuiltLevel) (k : ℕ) (x : RebuiltLevel) (done : List Lump) → left ≡ x ∷ more
@@ -120,17 +126,17 @@ drop_at_level (l ∷ levels) zero x h e = rw e refl
 drop_at_level (l ∷ levels) (suc n) x h e = let s : suc n + 1 ≡ suc (n + 1) = omega arith in rw s (drop_at_level levels n x (omega arith) e)
 
 pub up_to_next :
-    (wad : List ℕ) (levels : List RebuiltLevel) (n k : ℕ) (x : RebuiltLevel) (a b c : Writing) → n < length levels → get_or levels n x ≡ x
-    → IsPutUpTo wad levels (drop n levels) k a b → Puts b c (lumps_up_to wad k x) → IsPutUpTo wad levels (drop (n + 1) levels) x.entries.gl_end a c
+    (wad : List ℕ) (levels : List RebuiltLevel) (n k : ℕ) (x : RebuiltLevel) (a b c : Draft) → n < length levels → get_or levels n x ≡ x
+    → IsPutUpTo wad levels (drop n levels) k a b → Adds b c (lumps_up_to wad k x) → IsPutUpTo wad levels (drop (n + 1) levels) x.entries.gl_end a c
 up_to_next wad levels n k x a b c h e i p =
     record {
       done = i.done ++ lumps_up_to wad k x;
-      are = put_both a b c i.done (lumps_up_to wad k x) i.are p;
+      are = add_both a b c i.done (lumps_up_to wad k x) i.are p;
       whole = from_step wad levels (drop n levels) (drop (n + 1) levels) k x i.done (drop_at_level levels n x h e) i.whole;
     }
 
 pub up_to_refuses :
-    (wad : List ℕ) (levels : List RebuiltLevel) (n k : ℕ) (x : RebuiltLevel) (a b : Writing) (f : RebuildError) → n < length levels → get_or levels n x ≡ x
+    (wad : List ℕ) (levels : List RebuiltLevel) (n k : ℕ) (x : RebuiltLevel) (a b : Draft) (f : RebuildError) → n < length levels → get_or levels n x ≡ x
     → IsPutUpTo wad levels (drop n levels) k a b → RefusesPut b (lumps_up_to wad k x) f → RefusesPut a (lumps_from wad 0 levels) f
 up_to_refuses wad levels n k x a b f h e i r =
     let w = from_step wad levels (drop n levels) (drop (n + 1) levels) k x i.done (drop_at_level levels n x h e) i.whole in
@@ -144,18 +150,18 @@ drop_none (l ∷ levels) zero h = absurd (omega arith)
 drop_none (l ∷ levels) (suc n) h = drop_none levels n (omega arith)
 
 end_whole :
-    (wad : List ℕ) (levels : List RebuiltLevel) (n k : ℕ) (a b : Writing) (i : IsPutUpTo wad levels (drop n levels) k a b) → length levels ≤ n
+    (wad : List ℕ) (levels : List RebuiltLevel) (n k : ℕ) (a b : Draft) (i : IsPutUpTo wad levels (drop n levels) k a b) → length levels ≤ n
     → lumps_from wad 0 levels ≡ i.done ++ lumps_between wad k (lump_count wad)
 end_whole wad levels n k a b i h = i.whole ∙ ap (λ (ls : List RebuiltLevel). i.done ++ lumps_from wad k ls) (drop_none levels n h)
 
 pub up_to_end :
-    (wad : List ℕ) (levels : List RebuiltLevel) (n k : ℕ) (a b c : Writing) → length levels ≤ n → IsPutUpTo wad levels (drop n levels) k a b
-    → Puts b c (lumps_between wad k (lump_count wad)) → Puts a c (lumps_from wad 0 levels)
+    (wad : List ℕ) (levels : List RebuiltLevel) (n k : ℕ) (a b c : Draft) → length levels ≤ n → IsPutUpTo wad levels (drop n levels) k a b
+    → Adds b c (lumps_between wad k (lump_count wad)) → Adds a c (lumps_from wad 0 levels)
 up_to_end wad levels n k a b c h i p =
-    subst (λ (l : List Lump). Puts a c l) (sym (end_whole wad levels n k a b i h)) (put_both a b c i.done (lumps_between wad k (lump_count wad)) i.are p)
+    subst (λ (l : List Lump). Adds a c l) (sym (end_whole wad levels n k a b i h)) (add_both a b c i.done (lumps_between wad k (lump_count wad)) i.are p)
 
 pub end_refuses :
-    (wad : List ℕ) (levels : List RebuiltLevel) (n k : ℕ) (a b : Writing) (f : RebuildError) → length levels ≤ n → IsPutUpTo wad levels (drop n levels) k a b
+    (wad : List ℕ) (levels : List RebuiltLevel) (n k : ℕ) (a b : Draft) (f : RebuildError) → length levels ≤ n → IsPutUpTo wad levels (drop n levels) k a b
     → RefusesPut b (lumps_between wad k (lump_count wad)) f → RefusesPut a (lumps_from wad 0 levels) f
 end_refuses wad levels n k a b f h i r =
     subst (λ (l : List Lump). RefusesPut a l f) (sym (end_whole wad levels n k a b i h)) (refuse_behind a b i.done (lumps_between wad k (lump_count wad)) f i.are r)

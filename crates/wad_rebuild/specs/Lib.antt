@@ -5,6 +5,5 @@ pub mod Causes
 pub mod Errors
 pub mod Texts
 pub mod Rebuilt
-pub mod Writing
 pub mod Parts
 pub mod Whole

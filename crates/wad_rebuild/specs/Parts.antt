@@ -1,16 +1,36 @@
--- The parts in which the lumps of a WAD are appended.
-use Rattle.std.specs.Prelude.{◌≡◌, ℕ, true, List, ◌++◌}
-use Rattle.wad_levels.specs.Levels.{HasEntries, are_inside, is_wad, lump_count}
-use Rattle.wad_build.specs.Wad.{Lump}
-use Rattle.wad_rebuild.specs.Rebuilt.{lumps_after, lumps_between}
+-- The parts in which the lumps of a WAD are appended, and when a WAD would be too long.
+use Rattle.std.specs.Prelude.{◌≡◌, ℕ, ◌+◌, ◌*◌, ◌≤◌, true, List, [], ◌++◌, length}
+use Rattle.wad_file.specs.Directory.{are_inside, lump_count}
+use Rattle.wad_file.specs.Drafts.{Draft, Puts, Takes}
+use Rattle.wad_file.specs.Lumps.{Lump, all_bytes, lumps_between, wad_size}
+use Rattle.wad_rebuild.specs.Rebuilt.{lumps_after}
+use Rattle.wad_rebuild.specs.declared.error.RebuildError.{RebuildError}
+use Rattle.wad_rebuild.specs.declared.error.RebuildError.TheVariants.{TooLong, NotAWad, DirectoryOutside, NoSuchLevel, LumpOutside, OutOfMemory}
 use Rattle.wad_rebuild.specs.declared.levels.RebuiltLevel.{RebuiltLevel}
 
--- the bytes of a WAD whose directory and lumps stand in the file
-pub record HasLumps (wad : List ℕ) : Type 0 where
-  pub like : is_wad wad ≡ true
-  pub entries : HasEntries wad
-  pub inside : are_inside wad 0 (lump_count wad) ≡ true
+-- each lump of a WAD stands in the file
+abbrev pub HasLumps : List ℕ → Type 0
+HasLumps wad = are_inside wad 0 (lump_count wad) ≡ true
 
 -- the lumps from the k-th entry on up to a level, and those in place of the level's
 abbrev pub lumps_up_to : List ℕ → ℕ → RebuiltLevel → List Lump
 lumps_up_to wad k l = lumps_between wad k l.entries.marker ++ lumps_after wad l.entries l.fate
+
+-- these lumps are appended, and the WAD has fewer than four gigabytes
+pub record Adds (old new : Draft) (lumps : List Lump) : Type 0 where
+  pub puts : Puts old new lumps
+  pub fits : Takes new []
+
+-- with these lumps the WAD would have four gigabytes or more
+abbrev pub Overfills : Draft → List Lump → Type 0
+Overfills d lumps =
+    4294967296 ≤ wad_size d.lumps + length (all_bytes lumps) + 16 * length lumps
+
+-- why they aren't appended
+abbrev pub RefusesPut : Draft → List Lump → RebuildError → Type 0
+RefusesPut d lumps TooLong = Overfills d lumps
+RefusesPut d lumps NotAWad = ⊥
+RefusesPut d lumps DirectoryOutside = ⊥
+RefusesPut d lumps NoSuchLevel = ⊥
+RefusesPut d lumps LumpOutside = ⊥
+RefusesPut d lumps OutOfMemory = Unit {0}

@@ -1,12 +1,17 @@
 -- A WAD whose levels are built anew of their own lines, its other lumps as they were (docs/FORMAT.md, "Levels of other WADs").
 use Rattle.std.specs.Prelude.{◌≡◌, ◌≢◌, ◌⊎◌, ℕ, zero, suc, ◌+◌, ◌-◌, ◌/◌, ◌≤◌, Bool, true, false, not, ◌||◌, ◌==◌, nat_lt, List, [], ◌∷◌, ◌++◌, length, map, filter, take, All, Option, Some, None}
+use Rattle.std.specs.Option.{option_map, option_or}
 use Rattle.std.specs.List.{list_all, list_any, range_with_len}
 use Rattle.wad_levels.specs.Drawn.{drawn_lists, level_lump}
-use Rattle.wad_levels.specs.Entries.{AreLevels, entry_text, is_level}
-use Rattle.wad_levels.specs.Levels.{are_inside, entry, first_failed, has_directory, is_wad, lump, lump_count, lump_names, same_bytes}
-use Rattle.wad_levels.specs.Listing.{listing_refusal}
+use Rattle.wad_levels.specs.Entries.{AreLevels, is_level}
+use Rattle.wad_file.specs.Directory.{are_inside, entry, entry_text, first_failed, lump_count, wad_refusal}
+use Rattle.wad_levels.specs.Levels.{lump_names}
+use Rattle.wad_file.specs.Fields.{same_bytes}
+use Rattle.wad_file.specs.declared.error.WadError.{WadError}
+use Rattle.wad_file.specs.declared.error.WadError.TheVariants as bytes
 use Rattle.wad_levels.specs.declared.entries.LevelEntries.{LevelEntries}
-use Rattle.wad_build.specs.Wad.{Lump, wad_size, with_names}
+use Rattle.wad_build.specs.Wad.{with_names}
+use Rattle.wad_file.specs.Lumps.{IsWadOf, Lump, lump_at, lumps_between, wad_size}
 use Rattle.wad_rebuild.specs.Kept.{kept_faults}
 use Rattle.wad_rebuild.specs.Remade.{IsLeftFor, IsRemade}
 use Rattle.wad_rebuild.specs.declared.cause.Cause.{Cause}
@@ -18,33 +23,9 @@ use Rattle.wad_rebuild.specs.declared.levels.Fate.TheVariants.{NotAsked, Made, L
 use Rattle.wad_rebuild.specs.declared.levels.RebuiltLevel.{RebuiltLevel}
 use Rattle.wad_rebuild.specs.declared.made.MadeLumps.{MadeLumps}
 use Rattle.wad_rebuild.specs.declared.whole.RebuiltWad.{RebuiltWad}
-
--- ---- the lumps of a WAD
-
--- the lump of the k-th entry: its name and its bytes
-abbrev pub lump_at : List ℕ → ℕ → Lump
-lump_at wad k = record { name = (entry wad k).name; bytes = lump wad k }
-
--- the lumps of the entries from one on up to another, which isn't among them
-abbrev pub lumps_between : List ℕ → ℕ → ℕ → List Lump
-lumps_between wad from end = map (lump_at wad) (range_with_len from (end - from))
-
--- all lumps of a WAD, in the order of its directory
-abbrev pub lumps_in : List ℕ → List Lump
-lumps_in wad = lumps_between wad 0 (lump_count wad)
-
--- the bytes are a WAD of a kind, IWAD or PWAD, with these lumps, each of which stands in it
-pub record IsWadOf (kind : List ℕ) (lumps : List Lump) (wad : List ℕ) : Type 0 where
-  pub accepted : listing_refusal wad ≡ None
-  pub kind_is : take 4 wad ≡ kind
-  pub lumps_are : lumps_in wad ≡ lumps
-  pub inside : are_inside wad 0 (lump_count wad) ≡ true
+use Rattle.wad_file.specs.Names.{is_asked}
 
 -- ---- what becomes of its levels
-
--- the names are none, or the text is one of them
-abbrev pub is_asked : List (List ℕ) → List ℕ → Bool
-is_asked names text = (length names == 0) || list_any (λ name. same_bytes name text) names
 
 -- what became of a level is what it had to be: it isn't asked for, or its lumps are built anew of
 -- its own lines, or it is left for its cause
@@ -124,17 +105,25 @@ has_level wad name =
     list_any (λ k. same_bytes (entry_text wad k) name)
     (filter (is_level wad) (range_with_len 0 (lump_count wad)))
 
--- the first refusal that holds before a level is looked at
-abbrev pub whole_refusal : List ℕ → List (List ℕ) → Option RebuildError
-whole_refusal wad names =
+-- the first refusal that holds of a WAD before a level is looked at
+abbrev pub lumps_refusal : List ℕ → List (List ℕ) → Option RebuildError
+lumps_refusal wad names =
     first_failed
-    ((is_wad wad, NotAWad)
-    ∷ (has_directory wad, DirectoryOutside)
-    ∷ (are_inside wad 0 (lump_count wad), LumpOutside)
+    ((are_inside wad 0 (lump_count wad), LumpOutside)
     ∷ (not (is_crowded wad), TooLong)
     ∷ (list_all (has_level wad) names, NoSuchLevel)
     ∷ []
     )
+
+-- the refusal of bytes that are no WAD
+abbrev pub not_rebuilt : WadError → RebuildError
+not_rebuilt bytes.NotAWad = NotAWad
+not_rebuilt bytes.DirectoryOutside = DirectoryOutside
+
+-- that of bytes, or else that of the WAD
+abbrev pub whole_refusal : List ℕ → List (List ℕ) → Option RebuildError
+whole_refusal wad names =
+    option_or (option_map not_rebuilt (wad_refusal wad)) (lumps_refusal wad names)
 
 -- nothing refuses the WAD, but with its levels built anew it would have four gigabytes
 pub record Outgrows (wad : List ℕ) (names : List (List ℕ)) : Type 0 where

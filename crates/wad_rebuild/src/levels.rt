@@ -1,10 +1,12 @@
 //! What becomes of each level of a WAD.
 ghost use Rattle.std.specs.Prelude.{◌≡◌, All, IfOk, IsOkUnless, map, string_bytes};
 ghost use Rattle.std.specs.List.{list_all, list_any};
-ghost use Rattle.wad_levels.specs.Entries.{AreLevels, IsLevelAt, entry_text};
-ghost use Rattle.wad_levels.specs.Levels.{HasEntries, same_bytes};
+ghost use Rattle.wad_levels.specs.Entries.{AreLevels, IsLevelAt};
+ghost use Rattle.wad_file.specs.Directory.{entry_text};
+ghost use Rattle.wad_file.specs.Fields.{same_bytes};
 ghost use Rattle.lump_records.specs.Names.{name_text};
-ghost use Rattle.wad_rebuild.specs.Rebuilt.{AreRebuilt, IsFate, IsRebuilt, has_level, is_asked};
+ghost use Rattle.wad_rebuild.specs.Rebuilt.{AreRebuilt, IsFate, IsRebuilt, has_level};
+ghost use Rattle.wad_file.specs.Names.{is_asked};
 
 use crate::cause::Cause;
 use crate::error::RebuildError;
@@ -12,7 +14,8 @@ use crate::made::MadeLumps;
 use crate::remade::remake;
 use lump_records::Name8;
 use std::alloc::Global;
-use wad_levels::{LevelEntries, entry_of};
+use wad_file::{Wad, is_asked};
+use wad_levels::LevelEntries;
 
 /// What became of a level.
 pub enum Fate {
@@ -43,31 +46,13 @@ pub struct RebuiltLevel {
     pub fate: Fate,
 }
 
-// Whether the text is one of the names.
-fn is_among(names: &[String], text: &[u8]) -> bool
-    ensures { result ≡ list_any (λ name. same_bytes (string_bytes name) text.now) names.now }
-{
-    names.iter().any(|name| name.as_bytes() == text)
-}
-
-// Whether the text is one of the names, or there are no names.
-fn is_asked(names: &[String], text: &[u8]) -> bool
-    ensures { result ≡ is_asked (map string_bytes names.now) text.now }
-{
-    if names.is_empty() {
-        return true;
-    }
-    is_among(names, text)
-}
-
 // Whether a level has the name.
-fn is_level_name(wad: &[u8], levels: &[LevelEntries], name: &[u8]) -> bool
-    requires directory { HasEntries wad.now }
+fn is_level_name(wad: &Wad<'_>, levels: &[LevelEntries], name: &[u8]) -> bool
     requires levels { AreLevels wad.now levels.now }
     ensures { result ≡ has_level wad.now name.now }
 {
     for level in levels {
-        if entry_of(wad, level.marker).name.text() == name {
+        if wad.name(level.marker).text() == name {
             return true;
         }
     }
@@ -75,8 +60,7 @@ fn is_level_name(wad: &[u8], levels: &[LevelEntries], name: &[u8]) -> bool
 }
 
 /// Whether each of the names is the name of a level.
-pub fn have_levels(wad: &[u8], levels: &[LevelEntries], names: &[String]) -> bool
-    requires directory { HasEntries wad.now }
+pub fn have_levels(wad: &Wad<'_>, levels: &[LevelEntries], names: &[String]) -> bool
     requires levels { AreLevels wad.now levels.now }
     ensures { result ≡ list_all (has_level wad.now) (map string_bytes names.now) }
 {
@@ -91,12 +75,11 @@ pub fn have_levels(wad: &[u8], levels: &[LevelEntries], names: &[String]) -> boo
 // What becomes of a level.
 fn fate_of(
     alloc: Global,
-    wad: &[u8],
+    wad: &Wad<'_>,
     names: &[String],
     name: &Name8,
     level: LevelEntries,
 ) -> Result<Fate, RebuildError>
-    requires directory { HasEntries wad.now }
     requires level { IsLevelAt wad.now level }
     requires name { name_text name.now ≡ entry_text wad.now level.marker }
     ensures fate { IfOk result (IsFate wad.now (map string_bytes names.now) level) }
@@ -115,17 +98,16 @@ fn fate_of(
 // A level and what becomes of it.
 fn rebuilt_level(
     alloc: Global,
-    wad: &[u8],
+    wad: &Wad<'_>,
     names: &[String],
     level: LevelEntries,
 ) -> Result<RebuiltLevel, RebuildError>
-    requires directory { HasEntries wad.now }
     requires level { IsLevelAt wad.now level }
     ensures rebuilt { IfOk result (IsRebuilt wad.now (map string_bytes names.now)) }
     ensures entries { IfOk result (λ l. l.entries ≡ level) }
     ensures memory { IsOkUnless result RebuildError.OutOfMemory }
 {
-    let name = entry_of(wad, level.marker).name;
+    let name = wad.name(level.marker);
     let fate = fate_of(alloc, wad, names, &name, level)?;
     Ok(RebuiltLevel {
         name,
@@ -137,11 +119,10 @@ fn rebuilt_level(
 /// What becomes of the levels, each with its entries.
 pub fn rebuilt_levels(
     alloc: Global,
-    wad: &[u8],
+    wad: &Wad<'_>,
     names: &[String],
     levels: &[LevelEntries],
 ) -> Result<Vec<RebuiltLevel>, RebuildError>
-    requires directory { HasEntries wad.now }
     requires levels { AreLevels wad.now levels.now }
     ensures rebuilt { IfOk result (λ v. AreRebuilt wad.now (map string_bytes names.now) v.items) }
     ensures memory { IsOkUnless result RebuildError.OutOfMemory }

@@ -11,7 +11,6 @@ mod parts;
 mod remade;
 mod sizes;
 mod whole;
-mod writing;
 
 pub use cause::Cause;
 pub use error::RebuildError;

@@ -1,47 +1,63 @@
 //! Appends the lumps of a WAD in their order, with new ones for the levels that are built anew.
-ghost use Rattle.std.specs.Prelude.{◌≡◌, ◌<◌, ◌≤◌, [], ◌∷◌, All, MatchResult, false, get_or};
+ghost use Rattle.std.specs.Prelude.{◌≡◌, ◌<◌, ◌≤◌, [], ◌∷◌, All, MatchResult, get_or};
 ghost use Rattle.wad_levels.specs.Entries.{IsLevelAt};
-ghost use Rattle.wad_levels.specs.Levels.{HasEntries, entry, is_outside, lump, lump_count};
-ghost use Rattle.wad_rebuild.specs.Parts.{HasLumps, lumps_up_to};
-ghost use Rattle.wad_rebuild.specs.Rebuilt.{lump_at, lumps_after, lumps_between, made_lumps, rebuilt_lumps, ten_bytes, ten_lumps};
-ghost use Rattle.wad_rebuild.specs.Writing.{Fits, Puts, RefusesPut};
+ghost use Rattle.wad_file.specs.Directory.{lump, lump_count};
+ghost use Rattle.wad_file.specs.Drafts.{Takes};
+ghost use Rattle.wad_file.specs.Lumps.{lump_at, lumps_between};
+ghost use Rattle.wad_rebuild.specs.Parts.{Adds, HasLumps, RefusesPut, lumps_up_to};
+ghost use Rattle.wad_rebuild.specs.Rebuilt.{lumps_after, made_lumps, rebuilt_lumps, ten_bytes, ten_lumps};
 
 use crate::error::RebuildError;
 use crate::levels::{Fate, RebuiltLevel};
 use crate::made::MadeLumps;
-use crate::writing::Writing;
-use wad_levels::{LUMP_NAMES, LevelEntries, entry_of, level_lump, lump_count, standing};
+use lump_records::Name8;
+use wad_file::{Wad, WadWriter};
+use wad_levels::{LUMP_NAMES, LevelEntries, level_lump};
+
+// Appends a lump.
+fn put_lump(to: &mut WadWriter, name: Name8, bytes: &[u8]) -> Result<(), RebuildError>
+    requires { Takes to.old [] }
+    ensures { MatchResult result
+        (λ _. Adds to.old to.new (record { name = name; bytes = bytes.now } ∷ []))
+        (RefusesPut to.old (record { name = name; bytes = bytes.now } ∷ [])) }
+{
+    if !to.has_room(bytes.len()) {
+        return Err(RebuildError::TooLong);
+    }
+    match to.push(name, bytes) {
+        Ok(()) => Ok(()),
+        Err(_) => Err(RebuildError::OutOfMemory),
+    }
+}
 
 // The bytes of the k-th entry's lump, which is inside the file.
-fn lump_of(wad: &[u8], k: u32) -> &[u8]
-    requires directory { HasEntries wad.now }
+fn lump_of<'a>(wad: &Wad<'a>, k: u32) -> &'a [u8]
+    requires wad { HasLumps wad.now }
     requires among { k < lump_count wad.now }
-    requires inside { is_outside wad.now (entry wad.now k) ≡ false }
     ensures { result.now ≡ lump wad.now k }
 {
-    standing(wad, k)
+    wad.standing(k)
 }
 
 // Appends the lump of the k-th entry.
-fn put_kept(wad: &[u8], k: u32, to: &mut Writing) -> Result<(), RebuildError>
+fn put_kept(wad: &Wad<'_>, k: u32, to: &mut WadWriter) -> Result<(), RebuildError>
     requires wad { HasLumps wad.now }
     requires among { k < lump_count wad.now }
-    requires fits { Fits to.old }
+    requires fits { Takes to.old [] }
     ensures { MatchResult result
-        (λ _. Puts to.old to.new (lump_at wad.now k ∷ []))
+        (λ _. Adds to.old to.new (lump_at wad.now k ∷ []))
         (RefusesPut to.old (lump_at wad.now k ∷ [])) }
 {
-    let entry = entry_of(wad, k);
-    to.push(entry.name, lump_of(wad, k))
+    put_lump(to, wad.name(k), lump_of(wad, k))
 }
 
 // Appends the lumps of the entries from `from` up to `end`, which isn't among them.
-fn put_between(wad: &[u8], from: u32, end: u32, to: &mut Writing) -> Result<(), RebuildError>
+fn put_between(wad: &Wad<'_>, from: u32, end: u32, to: &mut WadWriter) -> Result<(), RebuildError>
     requires wad { HasLumps wad.now }
     requires among { end ≤ lump_count wad.now }
-    requires fits { Fits to.old }
+    requires fits { Takes to.old [] }
     ensures { MatchResult result
-        (λ _. Puts to.old to.new (lumps_between wad.now from end))
+        (λ _. Adds to.old to.new (lumps_between wad.now from end))
         (RefusesPut to.old (lumps_between wad.now from end)) }
 {
     for k in from..end {
@@ -54,8 +70,7 @@ fn put_between(wad: &[u8], from: u32, end: u32, to: &mut Writing) -> Result<(), 
 }
 
 // The bytes of a lump of a level that is built anew, by its number in the order of `LUMP_NAMES`.
-fn made_lump<'a>(wad: &'a [u8], level: LevelEntries, made: &'a MadeLumps, n: usize) -> &'a [u8]
-    requires wad { HasLumps wad.now }
+fn made_lump<'a>(wad: &Wad<'a>, level: LevelEntries, made: &'a MadeLumps, n: usize) -> &'a [u8]
     requires level { IsLevelAt wad.now level }
     requires number { n < 10 }
     ensures { result.now ≡ get_or (ten_bytes wad.now level made.now) n [] }
@@ -73,20 +88,20 @@ fn made_lump<'a>(wad: &'a [u8], level: LevelEntries, made: &'a MadeLumps, n: usi
 
 // Appends the ten lumps of a level that is built anew.
 fn put_ten(
-    wad: &[u8],
+    wad: &Wad<'_>,
     level: LevelEntries,
     made: &MadeLumps,
-    to: &mut Writing,
+    to: &mut WadWriter,
 ) -> Result<(), RebuildError>
     requires wad { HasLumps wad.now }
     requires level { IsLevelAt wad.now level }
-    requires fits { Fits to.old }
+    requires fits { Takes to.old [] }
     ensures { MatchResult result
-        (λ _. Puts to.old to.new (ten_lumps wad.now level made.now))
+        (λ _. Adds to.old to.new (ten_lumps wad.now level made.now))
         (RefusesPut to.old (ten_lumps wad.now level made.now)) }
 {
     for n in 0..LUMP_NAMES.len() {
-        match to.push(LUMP_NAMES[n], made_lump(wad, level, made, n)) {
+        match put_lump(to, LUMP_NAMES[n], made_lump(&*wad, level, made, n)) {
             Ok(()) => {}
             Err(error) => return Err(error),
         }
@@ -96,16 +111,16 @@ fn put_ten(
 
 // Appends the lumps of a level that is built anew.
 fn put_made(
-    wad: &[u8],
+    wad: &Wad<'_>,
     level: LevelEntries,
     made: &MadeLumps,
-    to: &mut Writing,
+    to: &mut WadWriter,
 ) -> Result<(), RebuildError>
     requires wad { HasLumps wad.now }
     requires level { IsLevelAt wad.now level }
-    requires fits { Fits to.old }
+    requires fits { Takes to.old [] }
     ensures { MatchResult result
-        (λ _. Puts to.old to.new (made_lumps wad.now level made.now))
+        (λ _. Adds to.old to.new (made_lumps wad.now level made.now))
         (RefusesPut to.old (made_lumps wad.now level made.now)) }
 {
     match put_kept(wad, level.marker, to) {
@@ -119,12 +134,12 @@ fn put_made(
 }
 
 // Appends a level's lumps: the new ones if it is built anew, otherwise the old ones.
-fn put_level(wad: &[u8], level: &RebuiltLevel, to: &mut Writing) -> Result<(), RebuildError>
+fn put_level(wad: &Wad<'_>, level: &RebuiltLevel, to: &mut WadWriter) -> Result<(), RebuildError>
     requires wad { HasLumps wad.now }
     requires level { IsLevelAt wad.now level.now.entries }
-    requires fits { Fits to.old }
+    requires fits { Takes to.old [] }
     ensures { MatchResult result
-        (λ _. Puts to.old to.new (lumps_after wad.now level.now.entries level.now.fate))
+        (λ _. Adds to.old to.new (lumps_after wad.now level.now.entries level.now.fate))
         (RefusesPut to.old (lumps_after wad.now level.now.entries level.now.fate)) }
 {
     match &level.fate {
@@ -135,12 +150,17 @@ fn put_level(wad: &[u8], level: &RebuiltLevel, to: &mut Writing) -> Result<(), R
 }
 
 // Appends the lumps from the k-th entry up to a level, then those of the level.
-fn put_up_to(wad: &[u8], k: u32, level: &RebuiltLevel, to: &mut Writing) -> Result<(), RebuildError>
+fn put_up_to(
+    wad: &Wad<'_>,
+    k: u32,
+    level: &RebuiltLevel,
+    to: &mut WadWriter,
+) -> Result<(), RebuildError>
     requires wad { HasLumps wad.now }
     requires level { IsLevelAt wad.now level.now.entries }
-    requires fits { Fits to.old }
+    requires fits { Takes to.old [] }
     ensures { MatchResult result
-        (λ _. Puts to.old to.new (lumps_up_to wad.now k level.now))
+        (λ _. Adds to.old to.new (lumps_up_to wad.now k level.now))
         (RefusesPut to.old (lumps_up_to wad.now k level.now)) }
 {
     match put_between(wad, k, level.entries.marker, to) {
@@ -155,15 +175,15 @@ fn put_up_to(wad: &[u8], k: u32, level: &RebuiltLevel, to: &mut Writing) -> Resu
 
 /// Appends the lumps of a WAD, with new ones for the levels that are built anew.
 pub fn put_rebuilt(
-    wad: &[u8],
+    wad: &Wad<'_>,
     levels: &[RebuiltLevel],
-    to: &mut Writing,
+    to: &mut WadWriter,
 ) -> Result<(), RebuildError>
     requires wad { HasLumps wad.now }
     requires levels { All (λ l. IsLevelAt wad.now l.entries) levels.now }
-    requires fits { Fits to.old }
+    requires fits { Takes to.old [] }
     ensures { MatchResult result
-        (λ _. Puts to.old to.new (rebuilt_lumps wad.now levels.now))
+        (λ _. Adds to.old to.new (rebuilt_lumps wad.now levels.now))
         (RefusesPut to.old (rebuilt_lumps wad.now levels.now)) }
 {
     let mut next = 0;
@@ -175,7 +195,7 @@ pub fn put_rebuilt(
         }
         next = level.entries.gl_end;
     }
-    match put_between(wad, next, lump_count(wad), to) {
+    match put_between(wad, next, wad.count(), to) {
         Ok(()) => Ok(()),
         Err(error) => Err(error),
     }

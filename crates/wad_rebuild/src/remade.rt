@@ -6,7 +6,6 @@ ghost use Rattle.tree_blocks.specs.Blocks.{ends_over};
 ghost use Rattle.tree_blocks.specs.Lump.{IsBlockmapOver};
 ghost use Rattle.wad_levels.specs.Drawn.{drawn_view};
 ghost use Rattle.wad_levels.specs.Entries.{IsLevelAt};
-ghost use Rattle.wad_levels.specs.Levels.{HasEntries};
 ghost use Rattle.wad_rebuild.specs.Causes.{IsBlockmapCause, IsTreeCause};
 ghost use Rattle.wad_rebuild.specs.Remade.{IsLeftFor, IsMadeAnew, IsRemade, IsUnmade};
 
@@ -19,6 +18,7 @@ use std::alloc::Global;
 use tree_blocks::{BlockmapError, blockmap_over, ends_over};
 use tree_nodes::{Built, TreeError, build_lines};
 use tree_pieces::edges_in;
+use wad_file::Wad;
 use wad_levels::{Drawn, Hindrance, LevelEntries, read_drawn};
 
 // The tree over the lines. They have what a build needs, so only lack of memory can prevent the list of their edges.
@@ -95,8 +95,7 @@ fn made_of(alloc: Global, drawn: Drawn) -> Result<MadeLumps, Cause>
 /// # Errors
 ///
 /// The first cause why the level is left as it was, or `OutOfMemory`.
-pub fn remake(alloc: Global, wad: &[u8], level: LevelEntries) -> Result<MadeLumps, Cause>
-    requires directory { HasEntries wad.now }
+pub fn remake(alloc: Global, wad: &Wad<'_>, level: LevelEntries) -> Result<MadeLumps, Cause>
     requires level { IsLevelAt wad.now level }
     ensures { MatchResult result (IsRemade wad.now level) (IsLeftFor wad.now level) }
 {

@@ -1,19 +1,18 @@
 //! A WAD whose levels are built anew.
 ghost use Rattle.std.specs.Prelude.{◌≡◌, IfErr, IfOk, MatchResult, map, take, string_bytes, All};
 ghost use Rattle.wad_levels.specs.Entries.{AreLevels, IsLevelAt};
-ghost use Rattle.wad_levels.specs.Levels.{HasEntries};
-ghost use Rattle.wad_levels.specs.Listing.{listing_refusal};
 ghost use Rattle.wad_rebuild.specs.Parts.{HasLumps};
-ghost use Rattle.wad_rebuild.specs.Rebuilt.{IsRebuiltWad, IsWadOf, RefusesRebuild, rebuilt_lumps};
+ghost use Rattle.wad_rebuild.specs.Rebuilt.{IsRebuiltWad, RefusesRebuild, rebuilt_lumps};
+ghost use Rattle.wad_file.specs.Lumps.{IsWadOf};
 ghost use Rattle.wad_rebuild.specs.Whole.{IsAcceptedWad, RefusesFinding, RefusesBytes};
 
 use crate::error::RebuildError;
 use crate::levels::{Fate, RebuiltLevel, have_levels, rebuilt_levels};
 use crate::parts::put_rebuilt;
 use crate::sizes::is_crowded;
-use crate::writing::Writing;
 use std::alloc::Global;
-use wad_levels::{LevelEntries, ReadError, are_inside, levels_in, lump_count};
+use wad_file::{Wad, WadError, WadWriter};
+use wad_levels::{LevelEntries, levels_in};
 
 /// A WAD whose levels were built anew, and what became of each of its levels, in the order of the directory.
 #[derive(Drop)]
@@ -23,18 +22,20 @@ pub struct RebuiltWad {
 }
 
 // The levels of a WAD that nothing refuses.
-fn levels_of(alloc: Global, wad: &[u8], names: &[String]) -> Result<Vec<LevelEntries>, RebuildError>
+fn levels_of(
+    alloc: Global,
+    wad: &Wad<'_>,
+    names: &[String],
+) -> Result<Vec<LevelEntries>, RebuildError>
     ensures { MatchResult result
         (λ v. IsAcceptedWad wad.now (map string_bytes names.now) v.items)
         (RefusesFinding wad.now (map string_bytes names.now)) }
 {
     let levels = match levels_in(alloc, wad) {
         Ok(levels) => levels,
-        Err(ReadError::NotAWad) => return Err(RebuildError::NotAWad),
-        Err(ReadError::DirectoryOutside) => return Err(RebuildError::DirectoryOutside),
         Err(_) => return Err(RebuildError::OutOfMemory),
     };
-    if !are_inside(wad, 0, lump_count(wad)) {
+    if !wad.are_inside(0, wad.count()) {
         return Err(RebuildError::LumpOutside);
     }
     if is_crowded(wad) {
@@ -63,8 +64,8 @@ fn made_size(fate: &Fate) -> usize {
 }
 
 // Room for the file and what was made, so that the buffer seldom grows.
-fn room_for(wad: &[u8], levels: &[RebuiltLevel]) -> usize {
-    let mut room = wad.len();
+fn room_for(wad: &Wad<'_>, levels: &[RebuiltLevel]) -> usize {
+    let mut room = wad.bytes().len();
     for n in 0..levels.len() {
         let level = &levels[n];
         room = room.saturating_add(made_size(&level.fate));
@@ -73,15 +74,14 @@ fn room_for(wad: &[u8], levels: &[RebuiltLevel]) -> usize {
 }
 
 // The bytes of the new WAD.
-fn written(alloc: Global, wad: &[u8], levels: &[RebuiltLevel]) -> Result<Vec<u8>, RebuildError>
+fn written(alloc: Global, wad: &Wad<'_>, levels: &[RebuiltLevel]) -> Result<Vec<u8>, RebuildError>
     requires wad { HasLumps wad.now }
     requires levels { All (λ l. IsLevelAt wad.now l.entries) levels.now }
     ensures { MatchResult result
         (λ v. IsWadOf (take 4 wad.now) (rebuilt_lumps wad.now levels.now) v.items)
         (RefusesBytes (rebuilt_lumps wad.now levels.now)) }
 {
-    let entries = 16 * lump_count(wad) as usize;
-    let mut to = match Writing::begin(alloc, room_for(wad, levels), entries) {
+    let mut to = match WadWriter::begin(alloc, room_for(wad, levels), wad.count() as usize) {
         Ok(to) => to,
         Err(_) => return Err(RebuildError::OutOfMemory),
     };
@@ -89,25 +89,19 @@ fn written(alloc: Global, wad: &[u8], levels: &[RebuiltLevel]) -> Result<Vec<u8>
         Ok(()) => {}
         Err(error) => return Err(error),
     }
-    match to.finish(alloc, &wad[..4]) {
+    match to.finish(alloc, wad.kind()) {
         Ok(bytes) => Ok(bytes),
         Err(_) => Err(RebuildError::OutOfMemory),
     }
 }
 
-/// Builds the levels of any editor's WAD anew, all or those with the names (docs/FORMAT.md, "WADs built anew"). All
-/// other lumps stay as they are, in their order.
-///
-/// # Errors
-///
-/// The first that holds of `NotAWad`, `DirectoryOutside`, `LumpOutside` (of any lump that isn't empty), `TooLong` (the
-/// lumps overlap, and together are more than four times as long as the file), `NoSuchLevel` (no level has a name). Then
-/// `TooLong` if the new WAD would have four gigabytes; or `OutOfMemory`.
-pub fn rebuild_wad(alloc: Global, wad: &[u8], names: &[String]) -> Result<RebuiltWad, RebuildError>
+// Builds the levels of a WAD anew, all or those with the names.
+fn rebuilt(alloc: Global, wad: &Wad<'_>, names: &[String]) -> Result<RebuiltWad, RebuildError>
     ensures { MatchResult result
         (IsRebuiltWad wad.now (map string_bytes names.now))
         (RefusesRebuild wad.now (map string_bytes names.now)) }
 {
+    let _ = wad.count();
     let found = match levels_of(alloc, wad, names) {
         Ok(found) => found,
         Err(error) => return Err(error),
@@ -119,5 +113,29 @@ pub fn rebuild_wad(alloc: Global, wad: &[u8], names: &[String]) -> Result<Rebuil
     match written(alloc, wad, &levels) {
         Ok(bytes) => Ok(RebuiltWad { bytes, levels }),
         Err(error) => Err(error),
+    }
+}
+
+/// Builds the levels of any editor's WAD anew, all or those with the names (docs/FORMAT.md, "WADs built anew"). All
+/// other lumps stay as they are, in their order.
+///
+/// # Errors
+///
+/// The first that holds of `NotAWad`, `DirectoryOutside`, `LumpOutside` (of any lump that isn't empty), `TooLong` (the
+/// lumps overlap, and together are more than four times as long as the file), `NoSuchLevel` (no level has a name). Then
+/// `TooLong` if the new WAD would have four gigabytes; or `OutOfMemory`.
+pub fn rebuild_wad(
+    alloc: Global,
+    bytes: &[u8],
+    names: &[String],
+) -> Result<RebuiltWad, RebuildError>
+    ensures { MatchResult result
+        (IsRebuiltWad bytes.now (map string_bytes names.now))
+        (RefusesRebuild bytes.now (map string_bytes names.now)) }
+{
+    match Wad::read(bytes) {
+        Ok(wad) => rebuilt(alloc, &wad, names),
+        Err(WadError::NotAWad) => Err(RebuildError::NotAWad),
+        Err(WadError::DirectoryOutside) => Err(RebuildError::DirectoryOutside),
     }
 }

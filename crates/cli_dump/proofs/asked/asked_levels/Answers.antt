@@ -9,7 +9,7 @@ pub returns-clause-entries : goal.returns-clause-entries
 returns-clause-entries c =
     let wad = c.args.wad.now in
     let P = λ (ls : List LevelEntries). All (IsLevelAt wad) ls in
-    let all : P c.deref-2.result.now = subst P (sym c.deref-2.ensures.value) c.in-Ok.ensures.2.each in
+    let all : P c.deref-2.result.now = subst P (sym c.deref-2.ensures.value) c.in-Ok.ensures.levels.each in
     IfOk-weaker c.asked_among.result _ _
-    (λ asked is. (c.in-Ok.ensures.1, subst P (sym is) (still (IsLevelAt wad) wad (map string_bytes c.args.names.now) c.deref-2.result.now all)))
+    (λ asked is. subst P (sym is) (still (IsLevelAt wad) wad (map string_bytes c.args.names.now) c.deref-2.result.now all))
     c.asked_among.ensures.asked

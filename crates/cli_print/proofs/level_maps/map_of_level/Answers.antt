@@ -2,7 +2,6 @@ use Rattle.std.proofs.Common.{◌≡◌, ◌∙◌, ap, subst, List, ℕ, Result
 use Rattle.std.specs.Prelude.{MatchResult}
 use Rattle.lump_records.specs.declared.records.Name8.{Name8}
 use Rattle.wad_levels.specs.Drawn.{DrawnLists, drawn_lists, drawn_view, entries_hindrance}
-use Rattle.wad_levels.specs.declared.directory.Entry.{Entry}
 use Rattle.wad_levels.specs.declared.entries.LevelEntries.{LevelEntries}
 use Rattle.map_tables.specs.ProjectBody.{alone}
 use Rattle.map_tables.specs.Projects.{project_of}
@@ -25,5 +24,5 @@ map_ends wad l name d (Err e) none same refused = refused_level wad l name d e n
 
 pub returns-in-Ok : goal.returns-in-Ok
 returns-in-Ok c =
-    subst (λ (name : Name8). MatchResult c.import_drawn.result (IsMap c.args.wad.now c.args.level name) (RefusesLevelImport c.args.wad.now c.args.level name)) (ap (λ (e : Entry). e.name) c.entry_of.ensures)
-    (map_ends c.args.wad.now c.args.level c.entry_of.result.name (drawn_view c.in-Ok.drawn) c.import_drawn.result c.in-Ok.ensures.0 c.in-Ok.ensures.1 c.import_drawn.ensures)
+    subst (λ (name : Name8). MatchResult c.import_drawn.result (IsMap c.args.wad.now c.args.level name) (RefusesLevelImport c.args.wad.now c.args.level name)) c.name.ensures
+    (map_ends c.args.wad.now c.args.level c.name.result (drawn_view c.in-Ok.drawn) c.import_drawn.result c.in-Ok.ensures.0 c.in-Ok.ensures.1 c.import_drawn.ensures)

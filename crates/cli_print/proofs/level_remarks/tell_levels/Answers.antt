@@ -1,12 +1,18 @@
-use Rattle.std.specs.Prelude.{option_map}
+use Rattle.std.specs.Prelude.{List, option_map}
 use Rattle.std.specs.Option.{option_copied}
+use Rattle.std.proofs.Common.{ℕ, subst}
+use Rattle.std.proofs.KnownBytes.{Keeps-refl}
 use Rattle.wad_levels.specs.Graphics.{graphics_view}
-use Rattle.cli_print.proofs.LevelLines.{levels_told}
+use Rattle.cli_print.specs.LevelLines.{IsWadLintedOf}
+use Rattle.cli_print.proofs.Unread.{all_unread}
 use Rattle.cli_print.proofs.level_remarks.tell_levels.Goals as goal
 
-pub returns-in-Ok-flush-clause-told : goal.returns-in-Ok-flush-clause-told
-returns-in-Ok-flush-clause-told g c =
-    let names = option_map graphics_view (option_copied c.args.names) in
-    levels_told names c.args.wad.now (option_map (λ s. s.now) c.args.name) c.deref.result.now c.in_ok-count.count c.status_after.result (g.W.Write.contents c.args.writer.now)
-    (g.W.Write.contents c.write_levels.new.writer) (g.W.Write.contents c.write_total.new.writer) (g.W.Write.contents c.flush.new.self)
-    (rw c.deref.ensures.value c.in-Ok.ensures.wanted) c.in_ok-count.ensures c.status_after.ensures.status c.in_ok-write_total.ensures c.in-Ok-flush.ensures.bytes
+pub returns-in-Ok-clause-told : goal.returns-in-Ok-clause-told
+returns-in-Ok-clause-told g c =
+    subst
+    (λ (wad : List ℕ). IsWadLintedOf (option_map graphics_view (option_copied c.args.names)) wad (option_map (λ s. s.now) c.args.name) c.tell_wanted.result
+    (g.W.Write.contents c.args.writer.now) (g.W.Write.contents c.tell_wanted.new.writer))
+    c.in-Ok.ensures.1 c.tell_wanted.ensures.told
+
+pub returns-in-Err-clause-told : goal.returns-in-Err-clause-told
+returns-in-Err-clause-told g c = (all_unread c.args.wad.now (option_map (λ s. s.now) c.args.name) c.in-Err.error c.in-Err.ensures, Keeps-refl (g.W.Write.contents c.args.writer.now))

@@ -1,4 +1,4 @@
--- The lines so far are encoded behind the bytes before, and no entry is added.
+-- The lines so far are encoded behind the bytes before, and no lump is added.
 use Rattle.std.specs.Prelude.{◌≡◌}
 use Rattle.lump_records.specs.Records.{line_at, line_record}
 use Rattle.wad_build.proofs.CopyLemmas.{Encodes}
@@ -6,4 +6,4 @@ use Rattle.wad_build.proofs.drawn.push_lines.Given as goal
 
 abbrev pub invariant-loop-n : goal.invariant-loop-n
 invariant-loop-n l =
-    Encodes line_at line_record 14 l.map.tables.lines l.n l.initial.wad.bytes.items l.wad.bytes.items × (l.wad.directory ≡ l.initial.wad.directory)
+    Encodes line_at line_record 14 l.map.tables.lines l.n l.initial.wad.begun l.wad.begun × (l.wad.lumps ≡ l.initial.wad.lumps)

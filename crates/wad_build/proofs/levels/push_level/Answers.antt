@@ -7,4 +7,4 @@ pub returns-clause-lumps : goal.returns-clause-lumps
 returns-clause-lumps c =
     let l = built_view c.args.level.now in
     put_runs c.args.wad.now c.push.new.self c.push_drawn.new.wad c.push_tree.new.wad c.push_last.new.wad (drawn_lumps l) (tree_lumps l) (last_lumps l) _
-    c.in_ok-push.ensures.ok c.in_ok-push_drawn.ensures.lumps c.in_ok-push_tree.ensures.lumps c.in_ok-push_last.ensures.lumps
+    c.in_ok-push.ensures c.in_ok-push_drawn.ensures.lumps c.in_ok-push_tree.ensures.lumps c.in_ok-push_last.ensures.lumps

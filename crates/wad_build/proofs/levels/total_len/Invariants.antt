@@ -1,7 +1,7 @@
 -- The bytes of the levels so far.
 use Rattle.std.specs.Prelude.{◌≡◌, map, min, take}
 use Rattle.wad_build.specs.Views.{built_view}
-use Rattle.wad_build.specs.Writer.{wad_len}
+use Rattle.wad_build.specs.Sizes.{wad_len}
 use Rattle.wad_build.proofs.levels.total_len.Given as goal
 
 abbrev pub invariant-loop-n : goal.invariant-loop-n

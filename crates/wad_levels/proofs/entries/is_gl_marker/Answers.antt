@@ -1,6 +1,6 @@
 use Rattle.std.proofs.Common.{◌≡◌, ◌∙◌, ap, take, drop, List, ℕ, true}
 use Rattle.std.specs.Prelude.{codes}
-use Rattle.wad_levels.specs.Levels.{same_bytes}
+use Rattle.wad_file.specs.Fields.{same_bytes}
 use Rattle.wad_levels.specs.Entries.{is_gl_marker}
 use Rattle.wad_levels.proofs.entries.is_gl_marker.Goals as goal
 

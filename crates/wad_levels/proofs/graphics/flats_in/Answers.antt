@@ -14,8 +14,8 @@ loop-k-preserved c =
     let wad = c.args.wad.now in
     let k = c.loop-k.k in
     let more = listed_more (flat_name wad) (is_flat wad) k c.loop-k.names.items c.loop-k.invariant.0 in
-    let e = c.entry_of-entry.result in
-    let at = flat_at wad k c.loop-k.among_flats e c.loop-k.invariant.1 c.entry_of-entry.ensures in
+    let e = c.entry-entry.result in
+    let at = flat_at wad k c.loop-k.among_flats e c.loop-k.invariant.1 c.entry-entry.ensures in
     let names : c.if-among_flats.names.items ≡ map (flat_name wad) (filter (is_flat wad) (range_with_len 0 (k + 1))) =
     elim c.if-among_flats.branch [
       | then-among_flats+then-entry-gt0+in_ok-push w ↦
@@ -23,7 +23,7 @@ loop-k-preserved c =
           let flat = at true some ∙ ap (λ b. b && true) w.if-among_flats.true in
           rw w.names-is
           (w.in_ok-push.ensures.items
-          ∙ ap (λ (n : Name8). c.loop-k.names.items ++ n ∷ []) (w.capital_name.ensures ∙ ap (λ e. capital_name e.name) c.entry_of-entry.ensures)
+          ∙ ap (λ (n : Name8). c.loop-k.names.items ++ n ∷ []) (w.capital_name.ensures ∙ ap (λ e. capital_name e.name) c.entry-entry.ensures)
           ∙ more true flat)
       | else-among_flats w ↦
           let none : is_flat wad k ≡ false = elim w.else-among_flats.branch [

@@ -11,7 +11,7 @@ loop-k-preserved c =
     elim c.if-is_marker.branch [
       | then-is_marker+in_ok-push w ↦
           rw w.names-is
-          (w.in_ok-push.ensures.items ∙ ap (λ e. c.loop-k.names.items ++ e.name ∷ []) w.entry_of.ensures
+          (w.in_ok-push.ensures.items ∙ ap (λ n. c.loop-k.names.items ++ n ∷ []) w.name.ensures
           ∙ more true (sym c.is_marker.ensures ∙ w.if-is_marker.true))
       | else-is_marker w ↦
           rw w.names-is

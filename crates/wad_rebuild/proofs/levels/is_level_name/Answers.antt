@@ -1,7 +1,6 @@
 use Rattle.std.proofs.Common.{◌∙◌, sym, ap, List, ℕ}
-use Rattle.wad_levels.specs.Entries.{entry_text}
-use Rattle.wad_levels.specs.Levels.{same_bytes}
-use Rattle.wad_levels.specs.declared.directory.Entry.{Entry}
+use Rattle.wad_file.specs.Directory.{entry_text}
+use Rattle.wad_file.specs.Fields.{same_bytes}
 use Rattle.wad_levels.specs.declared.entries.LevelEntries.{LevelEntries}
 use Rattle.lump_records.specs.Names.{name_text}
 use Rattle.wad_rebuild.proofs.WholeLemmas.{any_here, any_none, level_of_name}
@@ -12,7 +11,7 @@ returns-then-eq c =
     let wad = c.args.wad.now in
     let name = c.args.name.now in
     let passes =
-    ap (λ (ws : List ℕ). same_bytes ws name) (sym (c.text.ensures.text ∙ ap (λ (e : Entry). name_text e.name) c.entry_of.ensures)) ∙ sym c.if-eq.ensures in
+    ap (λ (ws : List ℕ). same_bytes ws name) (sym (c.text.ensures.text ∙ ap name_text c.name.ensures)) ∙ sym c.if-eq.ensures in
     sym (level_of_name wad name c.args.levels.now c.requires.levels ∙ c.loop-level.invariant
     ∙ any_here (λ (l : LevelEntries). same_bytes (entry_text wad l.marker) name) c.args.levels.now c.loop-level.level-index _ c.loop-level-test.true passes)
 

@@ -1,5 +1,9 @@
-use Rattle.wad_rebuild.proofs.PartLemmas.{between_all, between_next, between_refuses}
+use Rattle.wad_file.specs.Lumps.{lumps_between}
+use Rattle.wad_rebuild.proofs.PartLemmas.{between_all, between_next, between_none, between_refuses}
 use Rattle.wad_rebuild.proofs.parts.put_between.Goals as goal
+
+pub loop-k-init : goal.loop-k-init
+loop-k-init c = between_none (lumps_between c.args.wad.now c.args.from c.args.end) c.args.from c.args.to.now c.requires.fits
 
 pub returns-in-Err : goal.returns-in-Err
 returns-in-Err c =

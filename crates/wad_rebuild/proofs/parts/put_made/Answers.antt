@@ -1,11 +1,12 @@
 use Rattle.std.proofs.Common.{[], ◌∷◌}
-use Rattle.wad_rebuild.specs.Rebuilt.{lump_at, ten_lumps}
-use Rattle.wad_rebuild.proofs.WritingLemmas.{put_both, refuse_behind}
+use Rattle.wad_rebuild.specs.Rebuilt.{ten_lumps}
+use Rattle.wad_file.specs.Lumps.{lump_at}
+use Rattle.wad_rebuild.proofs.AddLemmas.{add_both, refuse_behind}
 use Rattle.wad_rebuild.proofs.parts.put_made.Goals as goal
 
 pub returns-in-Ok-put_ten : goal.returns-in-Ok-put_ten
 returns-in-Ok-put_ten c =
-    put_both c.args.to.now c.put_kept.new.to c.put_ten.new.to (lump_at c.args.wad.now c.args.level.marker ∷ []) (ten_lumps c.args.wad.now c.args.level c.args.made.now) c.in-Ok.ensures
+    add_both c.args.to.now c.put_kept.new.to c.put_ten.new.to (lump_at c.args.wad.now c.args.level.marker ∷ []) (ten_lumps c.args.wad.now c.args.level c.args.made.now) c.in-Ok.ensures
     c.in-Ok-put_ten.ensures
 
 pub returns-in-Err-put_ten : goal.returns-in-Err-put_ten

@@ -1,0 +1,31 @@
+-- How long a PWAD will be, by the records of its levels.
+use Rattle.std.specs.Prelude.{◌≡◌, ℕ, ◌+◌, ◌*◌, List, length, flat_map, sum_by}
+use Rattle.lump_records.specs.Records.{thing_record, line_record, side_record, vertex_record, seg_record, sub_record, node_record, sector_record}
+use Rattle.wad_levels.specs.Levels.{Lumps}
+
+-- the records of each lump have the bytes of their kind
+pub record AreSized (l : Lumps) : Type 0 where
+  pub things : length (flat_map thing_record l.things) ≡ 10 * length l.things
+  pub lines : length (flat_map line_record l.lines) ≡ 14 * length l.lines
+  pub sides : length (flat_map side_record l.sides) ≡ 30 * length l.sides
+  pub vertices : length (flat_map vertex_record l.vertices) ≡ 4 * length l.vertices
+  pub segs : length (flat_map seg_record l.segs) ≡ 12 * length l.segs
+  pub subs : length (flat_map sub_record l.subs) ≡ 4 * length l.subs
+  pub nodes : length (flat_map node_record l.nodes) ≡ 28 * length l.nodes
+  pub sectors : length (flat_map sector_record l.sectors) ≡ 26 * length l.sectors
+
+-- the bytes of a level's lumps and of their eleven entries, by the size of each record
+abbrev pub level_len : Lumps → ℕ
+level_len l =
+    10 * length l.things + 14 * length l.lines + 30 * length l.sides + 4 * length l.vertices
+    + 12 * length l.segs
+    + 4 * length l.subs
+    + 28 * length l.nodes
+    + 26 * length l.sectors
+    + length l.reject
+    + length l.blockmap
+    + 16 * 11
+
+-- the bytes of the PWAD of these levels, with its header
+abbrev pub wad_len : List Lumps → ℕ
+wad_len levels = 12 + sum_by level_len levels

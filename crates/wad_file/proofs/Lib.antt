@@ -1,0 +1,4 @@
+pub mod NameLemmas
+pub mod DirectoryLemmas
+pub mod WrittenLemmas
+pub mod DraftLemmas
