@@ -1,7 +1,7 @@
 //! The request `draw`: the lines of a script, drawn onto a disk's project, or tried over maps in memory.
 ghost use Rattle.std.specs.Prelude.{◌≡◌, ◌≤◌, ◌<◌, None, Ok, length, IfOk, IfSome};
 ghost use Rattle.std.specs.Io.KnownBytes.{Keeps};
-ghost use Rattle.cli_program.specs.Drawing.{IsDrawnOnto, IsHandedOn, IsTriedOn, stop_status};
+ghost use Rattle.cli_program.specs.Drawing.{IsDrawnOnto, IsHandedOn, IsTriedOn, TellsRefused, stop_status};
 ghost use Rattle.cli_program.specs.DrawnOver.{IsDrawnOver};
 
 use crate::over_disk::{HandedBack, not_opened, open_project};
@@ -38,7 +38,9 @@ fn say_stop<F: Write>(
     faults: &mut F,
 ) -> Result<(), ScriptError>
     requires { IfOk drawn (λ stop. IfSome stop (λ s. s.place < length lines.now)) }
-    ensures { drawn ≡ Ok None → Keeps (F.contents faults.old) (F.contents faults.new) }
+    ensures told { TellsRefused result script.now lines.now drawn
+        (F.contents faults.old) (F.contents faults.new) }
+    ensures quiet { drawn ≡ Ok None → Keeps (F.contents faults.old) (F.contents faults.new) }
 {
     let stopped = match drawn {
         Ok(stopped) => stopped,
