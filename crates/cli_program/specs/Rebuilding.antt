@@ -113,8 +113,8 @@ refusal_for rebuilding.LumpOutside = of.Level (inspecting.Level reading.LumpOuts
 refusal_for rebuilding.OutOfMemory = of.Level (inspecting.Level reading.OutOfMemory)
 
 -- why no file was made of this WAD: it is refused, or else the file can't be made
-abbrev pub IsUnmade : List ℕ → List (List ℕ) → Refusal → Type 0
-IsUnmade wad names refusal =
+abbrev pub MakesNone : List ℕ → List (List ℕ) → Refusal → Type 0
+MakesNone wad names refusal =
     ((e : RebuildError) × (refusal ≡ refusal_for e) × RefusesRebuild wad names e)
     ⊎ (refusal ≡ of.Lines WriterFailed)
 
@@ -135,7 +135,7 @@ IsRebuiltOf wad names (Ok status) writer-old writer-new errors-old errors-new =
     × IsToldOf r writer-old writer-new
     × Appends errors-old errors-new (kept_fault_lines wad r.levels.items)
 IsRebuiltOf wad names (Err refusal) writer-old writer-new errors-old errors-new =
-    (IsUnmade wad names refusal × Keeps writer-old writer-new × Keeps errors-old errors-new)
+    (MakesNone wad names refusal × Keeps writer-old writer-new × Keeps errors-old errors-new)
     ⊎ ((refusal ≡ of.Lines WriterFailed)
     × IsCutShort wad names writer-old writer-new errors-old errors-new)
 

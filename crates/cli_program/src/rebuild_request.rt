@@ -5,7 +5,7 @@ ghost use Rattle.cli_files.specs.NewFile.{IsMadeOf, file_of};
 ghost use Rattle.wad_rebuild.specs.Rebuilt.{IsRebuiltWad};
 ghost use Rattle.run_edit.specs.declared.error.EditorError.TheVariants.{WriterFailed};
 ghost use Rattle.cli_program.specs.Dumped.{OverWadTold};
-ghost use Rattle.cli_program.specs.Rebuilding.{IsRebuiltAt, IsRebuiltOf, IsToldOf, IsUnmade, fate_text, fate_texts, items_text, kept_notes, left_as_text, made_text, rebuilt_text, refusal_for, status_rebuilt, was_left, was_made};
+ghost use Rattle.cli_program.specs.Rebuilding.{IsRebuiltAt, IsRebuiltOf, IsToldOf, MakesNone, fate_text, fate_texts, items_text, kept_notes, left_as_text, made_text, rebuilt_text, refusal_for, status_rebuilt, was_left, was_made};
 ghost use Rattle.cli_refusals.specs.declared.refusal.Refusal.{Refusal};
 
 use crate::rebuild_notes::write_notes;
@@ -264,7 +264,7 @@ where
     ensures { MatchResult result
         (λ made. IsRebuiltWad wad.now (map string_bytes names.now) made.rebuilt
         × IsMadeOf E.File.contents made.file made.rebuilt.bytes.items)
-        (IsUnmade wad.now (map string_bytes names.now)) }
+        (MakesNone wad.now (map string_bytes names.now)) }
 {
     let rebuilt = match rebuild_wad(rt.alloc(), wad, names) {
         Ok(rebuilt) => rebuilt,

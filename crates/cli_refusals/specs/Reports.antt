@@ -73,28 +73,28 @@ build_name build.BlockmapTooLarge = codes "BlockmapTooLarge"
 build_name build.OutOfMemory = codes "Memory"
 
 -- the name of a refusal
-abbrev pub name_of : Refusal → List ℕ
-name_of (of.Lines e) = run_name e
-name_of (of.Project e) = project_name e
-name_of (of.Level e) = inspect_name e
-name_of (of.Build (writing.Build unbuilt)) = build_name unbuilt.error
-name_of (of.Build writing.WriterFailed) = codes "WriterFailed"
-name_of of.NoSuchMap = codes "NoSuchMap"
-name_of (of.NotAMap e) = codes "NotAMap"
-name_of of.TreeOutside = codes "TreeOutside"
+abbrev pub refusal_name : Refusal → List ℕ
+refusal_name (of.Lines e) = run_name e
+refusal_name (of.Project e) = project_name e
+refusal_name (of.Level e) = inspect_name e
+refusal_name (of.Build (writing.Build unbuilt)) = build_name unbuilt.error
+refusal_name (of.Build writing.WriterFailed) = codes "WriterFailed"
+refusal_name of.NoSuchMap = codes "NoSuchMap"
+refusal_name (of.NotAMap e) = codes "NotAMap"
+refusal_name of.TreeOutside = codes "TreeOutside"
 
 -- ---- Lines
 
 -- where a file is damaged
-abbrev pub place_text : Refusal → List ℕ
-place_text (of.Project (opening.Damaged place)) = codes " at " ++ decimal place
-place_text refusal = []
+abbrev pub damage_place : Refusal → List ℕ
+damage_place (of.Project (opening.Damaged place)) = codes " at " ++ decimal place
+damage_place refusal = []
 
 -- `leveled: CODE NAME`, and where a file is damaged
 abbrev pub refusal_line : Refusal → List ℕ
 refusal_line refusal =
-    codes "leveled: " ++ decimal (code_of refusal) ++ codes " " ++ name_of refusal
-    ++ place_text refusal ++ 10 ∷ []
+    codes "leveled: " ++ decimal (code_of refusal) ++ codes " " ++ refusal_name refusal
+    ++ damage_place refusal ++ 10 ∷ []
 
 -- the line behind it: which map can't be built, or why a level is no map
 abbrev pub why_text : Refusal → List ℕ

@@ -70,7 +70,7 @@ impl From<WriteError> for Refusal {
 
 impl Refusal {
     ghost use Rattle.std.specs.Prelude.{◌≡◌};
-    ghost use Rattle.cli_refusals.specs.Reports.{code_of, name_of};
+    ghost use Rattle.cli_refusals.specs.Reports.{code_of, refusal_name};
 
     // The number of the refusal.
     fn code(&self) -> u16
@@ -89,7 +89,7 @@ impl Refusal {
 
     // The name of the refusal, as the program prints it.
     fn name(&self) -> &'static str
-        ensures { result.now ≡ name_of self.now }
+        ensures { result.now ≡ refusal_name self.now }
     {
         match self {
             Refusal::Lines(error) => run_name(*error),
