@@ -27,13 +27,13 @@ IsOfHolding _ = ⊥
 
 -- why a new file can't be opened, or the one in its place not be replaced by one of the form, if one
 -- is given
-abbrev pub IsOfMaking : Option Form → Cause → Type 0
-IsOfMaking form (System error) = Unit {0}
-IsOfMaking form Held = Unit {0}
-IsOfMaking form NotRegular = ⊥
-IsOfMaking form NoPwad = form ≡ Some Pwad
-IsOfMaking form NoPicture = form ≡ Some Picture
-IsOfMaking form OutOfMemory = Unit {0}
+abbrev pub IsOfOpeningNew : Option Form → Cause → Type 0
+IsOfOpeningNew form (System error) = Unit {0}
+IsOfOpeningNew form Held = Unit {0}
+IsOfOpeningNew form NotRegular = ⊥
+IsOfOpeningNew form NoPwad = form ≡ Some Pwad
+IsOfOpeningNew form NoPicture = form ≡ Some Picture
+IsOfOpeningNew form OutOfMemory = Unit {0}
 
 -- the system refused it
 abbrev pub IsOfSystem : Cause → Type 0

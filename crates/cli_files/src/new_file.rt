@@ -1,6 +1,6 @@
 //! A new file that replaces the file at a path once it is whole.
 ghost use Rattle.std.specs.Prelude.{◌≡◌, None, Some, Ok, true, IfErr, IfOk, OnOk};
-ghost use Rattle.cli_files.specs.Causes.{IsOfMaking};
+ghost use Rattle.cli_files.specs.Causes.{IsOfOpeningNew};
 ghost use Rattle.cli_files.specs.Locks.{IsLocked};
 ghost use Rattle.cli_files.specs.Replaced.{WasAllowed};
 
@@ -68,7 +68,7 @@ fn make<E: Files>(rt: &E, path: &str) -> io::Result<E::File> {
 fn make_again<E: Files>(rt: &E, path: &str) -> Result<E::File, Cause>
 where
     E::File: Hold,
-    ensures { IfErr result (IsOfMaking None) }
+    ensures { IfErr result (IsOfOpeningNew None) }
 {
     let left = fs::open(rt, path)?;
     held(&left, true)?;
@@ -81,7 +81,7 @@ fn make_held<E: Files>(rt: &E, path: &str) -> Result<E::File, Cause>
 where
     E::File: Hold,
     ensures locked { IfOk result (λ file. IsLocked E.File.locks file true (Ok tt)) }
-    ensures refused { IfErr result (IsOfMaking None) }
+    ensures refused { IfErr result (IsOfOpeningNew None) }
 {
     let file = match make(rt, path) {
         Ok(file) => file,
@@ -104,7 +104,7 @@ fn check_replaceable<E: Files>(
     form: Option<Form>,
 ) -> Result<(), Cause>
     ensures allowed { OnOk result (WasAllowed E.File.remaining form) }
-    ensures refused { IfErr result (IsOfMaking form) }
+    ensures refused { IfErr result (IsOfOpeningNew form) }
 {
     let file = OpenOptions::new().read(true).write(true).open(rt, path)?;
     let Some(form) = form else {
@@ -129,7 +129,7 @@ fn open_beside<E: Files>(
 ) -> Result<NewFile<E::File>, Cause>
 where
     E::File: Hold,
-    ensures { IfErr result (IsOfMaking form) }
+    ensures { IfErr result (IsOfOpeningNew form) }
 {
     let target = target_of(alloc, rt, path)?;
     if permissions.is_some() {
@@ -152,7 +152,7 @@ where
 
 // Opens a pipe or a device, which is written directly.
 fn open_itself<E: Files>(rt: &E, path: &str) -> Result<NewFile<E::File>, Cause>
-    ensures { IfErr result (IsOfMaking None) }
+    ensures { IfErr result (IsOfOpeningNew None) }
 {
     let file = OpenOptions::new().write(true).open(rt, path)?;
     Ok(NewFile {
@@ -171,7 +171,7 @@ fn open_for<E: Files>(
 ) -> Result<NewFile<E::File>, Cause>
 where
     E::File: Hold,
-    ensures { IfErr result (IsOfMaking form) }
+    ensures { IfErr result (IsOfOpeningNew form) }
 {
     match rt.metadata(path) {
         Ok(found) if found.is_file() => {
@@ -200,7 +200,7 @@ pub fn open_new<E: Files>(
 ) -> Result<NewFile<E::File>, Cause>
 where
     E::File: Hold,
-    ensures { IfErr result (IsOfMaking (Some form)) }
+    ensures { IfErr result (IsOfOpeningNew (Some form)) }
 {
     open_for(alloc, rt, path, Some(form))
 }
@@ -227,7 +227,7 @@ pub fn open_new_of<E: Files>(
 ) -> Result<NewFile<E::File>, Cause>
 where
     E::File: Hold,
-    ensures { IfErr result (IsOfMaking (Some form)) }
+    ensures { IfErr result (IsOfOpeningNew (Some form)) }
 {
     match lead_to_one(rt, read, path) {
         Ok(true) => open_for(alloc, rt, path, None),

@@ -1,6 +1,6 @@
 //! The file that a path leads to.
 ghost use Rattle.std.specs.Prelude.{None, IfErr};
-ghost use Rattle.cli_files.specs.Causes.{IsOfMaking};
+ghost use Rattle.cli_files.specs.Causes.{IsOfOpeningNew};
 
 use crate::Cause;
 use std::alloc::Global;
@@ -13,7 +13,7 @@ const LINKS: u32 = 40;
 
 /// The path to which the symbolic links at the end of a path lead; there may be no file at it yet.
 pub fn target_of<E: Files>(alloc: Global, rt: &E, path: &str) -> Result<PathBuf, Cause>
-    ensures { IfErr result (IsOfMaking None) }
+    ensures { IfErr result (IsOfOpeningNew None) }
 {
     let mut at = PathBuf::from_str(alloc, path)?;
     for _ in 0..LINKS {

@@ -1,7 +1,7 @@
 -- From what is told of each level of a WAD that is built anew to what the request `rebuild` promises.
-use Rattle.std.proofs.Common.{◌≡◌, ◌∙◌, ◌+◌, ◌<◌, ℕ, List, [], ◌∷◌, ◌++◌, Option, Result, Ok, Err, length, get_or, map, take, inr, refl, sym, ap, subst, append-nil}
+use Rattle.std.proofs.Common.{◌≡◌, ◌∙◌, ◌+◌, ◌<◌, ℕ, List, [], ◌∷◌, ◌++◌, Option, Result, Ok, Err, length, get_or, map, take, ◌⊎◌, inl, inr, refl, sym, ap, subst, append-nil}
 use Rattle.std.specs.Prelude.{All, MatchResult, flat_map}
-use Rattle.std.specs.Io.KnownBytes.{Appends}
+use Rattle.std.specs.Io.KnownBytes.{Appends, Keeps}
 use Rattle.std.proofs.KnownBytes.{Appends-trans}
 use Rattle.std.proofs.lemmas.Grind.{flat_map-append}
 use Rattle.std.proofs.lemmas.List.{take_more}
@@ -9,8 +9,11 @@ use Rattle.std.proofs.lemmas.List.Elements.{All-head, All-tail}
 use Rattle.wad_levels.specs.declared.entries.LevelEntries.{LevelEntries}
 use Rattle.lump_records.specs.Names.{name_text}
 use Rattle.lump_records.specs.declared.records.Name8.{Name8}
+use Rattle.cli_files.specs.NewFile.{IsMadeOf}
 use Rattle.cli_print.specs.ShownNames.{shown}
-use Rattle.cli_program.specs.Rebuilding.{IsRebuiltOf, IsToldOf, fate_text, kept_line, kept_fault_lines, kept_notes, kept_of, left_as_text, made_text, status_rebuilt}
+use Rattle.cli_program.proofs.Sources.{unread_of}
+use Rattle.cli_program.specs.Dumped.{OverWadTold}
+use Rattle.cli_program.specs.Rebuilding.{IsRebuiltAt, IsRebuiltOf, IsToldOf, fate_text, kept_line, kept_fault_lines, kept_notes, kept_of, left_as_text, made_text, status_rebuilt}
 use Rattle.run_edit.specs.declared.error.EditorError.TheVariants.{WriterFailed}
 use Rattle.wad_rebuild.specs.Rebuilt.{IsFate, IsRebuilt, IsRebuiltWad, kept_in}
 use Rattle.wad_rebuild.specs.declared.cause.Cause.{Cause}
@@ -64,10 +67,21 @@ kept_all wad names (l ∷ ls) all =
 
 -- ---- The WAD
 
+-- a file into which these bytes were written behind what a new one had was made of them
+pub made_of : {F : Type 0} (contents : F → Option (List ℕ)) (new file : F) (a b : List ℕ) → a ≡ b → Appends (contents new) (contents file) a → IsMadeOf contents file b
+made_of contents new file a b same put = (new, subst (Appends (contents new) (contents file)) same put)
+
 -- a WAD was built anew, and told, or a writer failed
 pub rebuilt_told : (how : Result ℕ Refusal) (wad : List ℕ) (names : List (List ℕ)) (r : RebuiltWad) (u w d x : Option (List ℕ)) → IsRebuiltWad wad names r
-    → MatchResult how (λ status. (status ≡ status_rebuilt r) × IsToldOf r u w × Appends d x (kept_notes r.levels.items)) (λ refusal. refusal ≡ Lines WriterFailed)
+    → MatchResult how (λ status. (status ≡ status_rebuilt r) × IsToldOf r u w × Appends d x (kept_notes r.levels.items)) (λ refusal. (refusal ≡ Lines WriterFailed) × (IsToldOf r u w ⊎ Keeps d x))
     → IsRebuiltOf wad names how u w d x
 rebuilt_told (Ok status) wad names r u w d x is (same, told, beside) =
     (r, is, same, told, subst (Appends d x) (kept_all wad names r.levels.items is.levels_are.each) beside)
-rebuilt_told (Err refusal) wad names r u w d x is failed = inr failed
+rebuilt_told (Err refusal) wad names r u w d x is (failed, inl told) = inr (failed, inl (r, is, told))
+rebuilt_told (Err refusal) wad names r u w d x is (failed, inr kept) = inr (failed, inr kept)
+
+-- the same of a file, which tells no bytes
+pub rebuilt_of_wad : (names : List (List ℕ)) (r s u w d x : Option (List ℕ)) (how : Result ℕ Refusal)
+    → OverWadTold r s how u w d x (λ wad. IsRebuiltOf wad names how u w d x) → IsRebuiltAt names how u w d x
+rebuilt_of_wad names r s u w d x how (inl (unread, kept)) = inl (unread_of r s u w how unread, kept)
+rebuilt_of_wad names r s u w d x how (inr (wad, all, done)) = inr (wad, done)

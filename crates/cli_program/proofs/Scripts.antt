@@ -1,5 +1,5 @@
 -- Requests about scripts, and how loud each request is.
-use Rattle.std.proofs.Common.{◌≡◌, ℕ, Bool, List, Option, None, Some, Result, Ok, Err, inl, inr, refl, ap, arith, subst}
+use Rattle.std.proofs.Common.{◌≡◌, ℕ, Bool, false, true, List, Option, None, Some, Result, Ok, Err, ◌∙◌, ◌<◌, get_or, inl, inr, length, refl, ap, arith, subst, sym}
 use Rattle.cli_words.specs.declared.asked.Request.{Request}
 use Rattle.cli_words.specs.declared.asked.Request.TheVariants.{Scratch, Create, Edit, Check, Lint, Draw, TryScript, Dump, Salvage, Picture, Inspect, Levels, Build, Rebuild}
 use Rattle.cli_refusals.specs.Statuses.{status_in}
@@ -8,8 +8,15 @@ use Rattle.run_script.specs.declared.drawing.Stop.{Stop}
 use Rattle.run_script.specs.declared.error.ScriptError.{ScriptError}
 use Rattle.run_script.specs.declared.error.ScriptError.TheVariants as cut
 use Rattle.cli_program.specs.Kinds.{IsQuiet}
+use Rattle.cli_program.proofs.Sources.{unread_of}
+use Rattle.std.proofs.KnownBytes.{Keeps-refl}
+use Rattle.std.proofs.lemmas.Option.{slice_get_read}
+use Rattle.std.specs.Prelude.{IfOk, IfSome}
+use Rattle.map_script.specs.Views.{seen}
+use Rattle.map_script.specs.declared.script.ScriptLine.{ScriptLine}
+use Rattle.run_script.specs.Refused.{TellsStop}
 use Rattle.store_disk.specs.declared.disk.Disk.{Ghosts}
-use Rattle.cli_program.specs.Drawing.{IsDrawnInto, IsHandedOn}
+use Rattle.cli_program.specs.Drawing.{IsDrawnInto, IsHandedOn, IsReadTried, IsScriptTried, TellsRefused}
 
 -- what was refused is loud
 pub loud : (r : Request) → IsQuiet r 1 → ⊥
@@ -50,3 +57,24 @@ whole_end (Err cut.WriterFailed) how u w (inr failed) is = cc
 pub drawn_into_as : {D : Type 0} (facts : Ghosts D) (a b verbose : Bool) (how : Result ℕ Refusal) (u v w x : Option (List ℕ)) → a ≡ b
     → IsDrawnInto facts a verbose how u v w x → IsDrawnInto facts b verbose how u v w x
 drawn_into_as facts a b verbose how u v w x same drawn = subst (λ (t : Bool). IsDrawnInto facts t verbose how u v w x) same drawn
+
+-- from a reader to a file, which tells no bytes
+pub drawn_of_file : {D : Type 0} (facts : Ghosts D) (verbose : Bool) (how : Result ℕ Refusal) (r s x u w : Option (List ℕ))
+    → IsDrawnInto facts false verbose how r s u w → IsDrawnInto facts true verbose how x x u w
+drawn_of_file facts verbose how r s x u w (inl unread) = inl (unread_of r s u w how unread)
+drawn_of_file facts verbose how r s x u w (inr (script, input, done)) = inr (script, Keeps-refl x, done)
+
+pub tried_of_file : (verbose : Bool) (how : Result ℕ Refusal) (r s u w : Option (List ℕ)) → IsReadTried verbose r s how u w → IsScriptTried verbose how u w
+tried_of_file verbose how r s u w (inl unread) = inl (unread_of r s u w how unread)
+tried_of_file verbose how r s u w (inr (script, input, done)) = inr (script, done)
+
+-- the line was told that was refused
+pub told_refused : {U : Type 0} (told : Result U ScriptError) (script : List ℕ) (lines : List ScriptLine) (drawn : Result (Option Stop) ScriptError) (field : Option Stop)
+    (stop : Stop) (line : ScriptLine) (d x : Option (List ℕ)) → drawn ≡ Ok field → field ≡ Some stop → IfOk drawn (λ o. IfSome o (λ s. s.place < length lines))
+    → line ≡ get_or lines stop.place line → TellsStop told script (seen line) stop.code d x → TellsRefused told script lines drawn d x
+told_refused told script lines drawn field stop line d x whole some inside is said =
+    let here : drawn ≡ Ok (Some stop) = whole ∙ ap Ok some in
+    let below : stop.place < length lines =
+    subst (λ (r : Result (Option Stop) ScriptError). IfOk r (λ o. IfSome o (λ s. s.place < length lines))) here inside in
+    subst (λ (r : Result (Option Stop) ScriptError). TellsRefused told script lines r d x) (sym here)
+    (line, slice_get_read lines (length lines) stop.place line refl below is, said)

@@ -1,13 +1,16 @@
 -- What the request `draw` does (docs/COMMANDS.md, "Scripts").
-use Rattle.std.specs.Prelude.{◌≡◌, ◌⊎◌, ℕ, Bool, true, false, List, Option, Some, None, Result, Ok, Err}
+use Rattle.std.specs.Prelude.{◌≡◌, ◌⊎◌, ℕ, Bool, true, false, List, Option, Some, None, Result, Ok, Err, slice_get}
 use Rattle.std.specs.Io.KnownBytes.{Consumes, IsAtEnd, Keeps}
 use Rattle.store_disk.specs.declared.disk.Disk.{Ghosts}
 use Rattle.map_tables.specs.Projects.{ProjectMaps, empty_project}
 use Rattle.map_script.specs.Scripts.{script_lines}
+use Rattle.map_script.specs.Views.{seen}
+use Rattle.map_script.specs.declared.script.ScriptLine.{ScriptLine}
 use Rattle.store_project.specs.States.{State}
 use Rattle.store_project.specs.declared.error.ProjectError.{ProjectError}
 use Rattle.run_script.specs.Canvases.{draft_canvas, project_canvas}
 use Rattle.run_script.specs.Drawn.{IsScriptDrawn}
+use Rattle.run_script.specs.Refused.{TellsStop}
 use Rattle.run_script.specs.declared.canvas.Canvas as canvas
 use Rattle.run_script.specs.declared.drawing.Stop.{Stop}
 use Rattle.run_script.specs.declared.error.ScriptError.{ScriptError}
@@ -59,6 +62,16 @@ abbrev pub IsDrawnOnto : {S : Type 0} → canvas.Ghosts S → Bool → List ℕ 
 IsDrawnOnto facts verbose script how old new writer-old writer-new =
     IsUndone how old new writer-old writer-new
     ⊎ IsScriptDone facts verbose script how old new writer-old writer-new
+
+-- this was told of the lines of a script that were drawn so: which one was refused, and why; and
+-- nothing where none was
+abbrev pub TellsRefused : {U : Type 0} → Result U ScriptError → List ℕ → List ScriptLine
+    → Result (Option Stop) ScriptError → Option (List ℕ) → Option (List ℕ) → Type 0
+TellsRefused told script lines (Ok (Some stop)) faults-old faults-new =
+    (line : ScriptLine) × (slice_get lines stop.place ≡ Some line)
+    × TellsStop told script (seen line) stop.code faults-old faults-new
+TellsRefused told script lines (Ok None) faults-old faults-new = Keeps faults-old faults-new
+TellsRefused told script lines (Err e) faults-old faults-new = Keeps faults-old faults-new
 
 -- ---- Memory and a file
 
@@ -121,7 +134,16 @@ IsDrawnInto facts from_file verbose how reader-old reader-new writer-old writer-
     × (EndsUnopened how writer-old writer-new
     ⊎ IsDrawnOntoSome facts verbose script how writer-old writer-new))
 
--- the script can't be read, or its lines were tried over the empty project
+-- the script can't be read, or the lines of all that the reader gave were tried over the empty
+-- project
+abbrev pub IsReadTried : Bool → Option (List ℕ) → Option (List ℕ) → Result ℕ Refusal
+    → Option (List ℕ) → Option (List ℕ) → Type 0
+IsReadTried verbose reader-old reader-new how writer-old writer-new =
+    IsRefusedFor (IsUnreadOf reader-old reader-new) how writer-old writer-new
+    ⊎ ((script : List ℕ) × IsInput false script reader-old reader-new
+    × IsTriedOn verbose script how writer-old writer-new)
+
+-- the same of a file, which tells no bytes
 abbrev pub IsScriptTried : Bool → Result ℕ Refusal → Option (List ℕ) → Option (List ℕ) → Type 0
 IsScriptTried verbose how writer-old writer-new =
     EndsUnread how writer-old writer-new

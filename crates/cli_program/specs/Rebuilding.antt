@@ -112,8 +112,22 @@ refusal_for rebuilding.NoSuchLevel = of.Level (inspecting.Level reading.NoSuchLe
 refusal_for rebuilding.LumpOutside = of.Level (inspecting.Level reading.LumpOutside)
 refusal_for rebuilding.OutOfMemory = of.Level (inspecting.Level reading.OutOfMemory)
 
+-- why no file was made of this WAD: it is refused, or else the file can't be made
+abbrev pub MakesNone : List ℕ → List (List ℕ) → Refusal → Type 0
+MakesNone wad names refusal =
+    ((e : RebuildError) × (refusal ≡ refusal_for e) × RefusesRebuild wad names e)
+    ⊎ (refusal ≡ of.Lines WriterFailed)
+
+-- what was made of this WAD was told and the faults that stay could not be, or they were not told,
+-- and a writer failed
+abbrev pub IsCutShort : List ℕ → List (List ℕ) → Option (List ℕ) → Option (List ℕ)
+    → Option (List ℕ) → Option (List ℕ) → Type 0
+IsCutShort wad names writer-old writer-new errors-old errors-new =
+    ((r : RebuiltWad) × IsRebuiltWad wad names r × IsToldOf r writer-old writer-new)
+    ⊎ Keeps errors-old errors-new
+
 -- what became of this WAD was told, and beside it the faults that stay, and the status tells whether
--- a level was left; or nothing was told where it is refused, or else a file or a writer failed
+-- a level was left; or no file was made of it, and nothing told; or a writer failed
 abbrev pub IsRebuiltOf : List ℕ → List (List ℕ) → Result ℕ Refusal → Option (List ℕ)
     → Option (List ℕ) → Option (List ℕ) → Option (List ℕ) → Type 0
 IsRebuiltOf wad names (Ok status) writer-old writer-new errors-old errors-new =
@@ -121,9 +135,9 @@ IsRebuiltOf wad names (Ok status) writer-old writer-new errors-old errors-new =
     × IsToldOf r writer-old writer-new
     × Appends errors-old errors-new (kept_fault_lines wad r.levels.items)
 IsRebuiltOf wad names (Err refusal) writer-old writer-new errors-old errors-new =
-    ((e : RebuildError) × (refusal ≡ refusal_for e) × RefusesRebuild wad names e
-    × Keeps writer-old writer-new × Keeps errors-old errors-new)
-    ⊎ (refusal ≡ of.Lines WriterFailed)
+    (MakesNone wad names refusal × Keeps writer-old writer-new × Keeps errors-old errors-new)
+    ⊎ ((refusal ≡ of.Lines WriterFailed)
+    × IsCutShort wad names writer-old writer-new errors-old errors-new)
 
 -- the WAD was not read to its end, and nothing was told; or this was done with what was read
 abbrev pub IsRebuiltAt : List (List ℕ) → Result ℕ Refusal → Option (List ℕ) → Option (List ℕ)

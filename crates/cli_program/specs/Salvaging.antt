@@ -1,5 +1,5 @@
 -- What the request `dump --salvage` writes (docs/COMMANDS.md, "The program").
-use Rattle.std.specs.Prelude.{◌≡◌, ◌⊎◌, ℕ, Option, Result, Err, List}
+use Rattle.std.specs.Prelude.{◌≡◌, ◌⊎◌, ℕ, Option, None, Some, Result, Err, List, ◌++◌, codes, decimal}
 use Rattle.std.specs.Io.KnownBytes.{Keeps}
 use Rattle.store_disk.specs.Stops.{Each}
 use Rattle.map_tables.specs.Projects.{MapsView, project_of}
@@ -20,6 +20,21 @@ refusal_for_salvage Blank = opening.Blank
 refusal_for_salvage NotAProject = opening.NotAProject
 refusal_for_salvage BadGeometry = opening.BadGeometry
 refusal_for_salvage OutOfMemory = opening.OutOfMemory
+
+-- where a file is damaged, how many records are kept and how many are not
+abbrev pub damage_text : ℕ → ℕ → ℕ → List ℕ
+damage_text place records behind =
+    codes "leveled: damaged at " ++ (decimal place ++ (codes ": " ++ (decimal records
+    ++ (codes " records are kept, " ++ (decimal behind ++ codes " behind them are not\n")))))
+
+-- that nothing is damaged, and how many records there are
+abbrev pub whole_text : ℕ → List ℕ
+whole_text records = codes "leveled: no damage: " ++ (decimal records ++ codes " records\n")
+
+-- the line on standard error
+abbrev pub damage_line : Option ℕ → ℕ → ℕ → List ℕ
+damage_line (Some place) records behind = damage_text place records behind
+damage_line None records behind = whole_text records
 
 -- nothing could be read of the file, and nothing was written; or the lines that draw the maps again
 -- were, which are salvaged of it

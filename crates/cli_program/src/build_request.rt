@@ -1,10 +1,10 @@
 //! The request `build`: the PWAD of a disk's project, written into a file.
-ghost use Rattle.std.specs.Prelude.{◌≡◌, ◌≤◌, List, ℕ, IfErr, IfOk, MatchResult};
+ghost use Rattle.std.specs.Prelude.{◌≡◌, ◌≤◌, IfErr, IfOk, MatchResult};
 ghost use Rattle.std.specs.Io.KnownBytes.{Appends};
 ghost use Rattle.map_tables.specs.Projects.{project_of};
 ghost use Rattle.run_edit.specs.declared.error.EditorError.TheVariants.{WriterFailed};
-ghost use Rattle.wad_build.specs.Counted.{IsBuildCounted};
-ghost use Rattle.run_edit.specs.Building.{built_text};
+ghost use Rattle.cli_files.specs.NewFile.{file_of};
+ghost use Rattle.run_edit.specs.Building.{IsWritten, built_text};
 ghost use Rattle.cli_refusals.specs.Refusals.{RefusesFile};
 ghost use Rattle.run_edit.specs.Recovery.{IsOnlyRead};
 ghost use Rattle.cli_program.specs.Sources.{IsBuiltFrom, OverMaps};
@@ -21,21 +21,22 @@ use store_disk::Disk;
 use store_project::read_maps;
 use wad_build::BuildCounts;
 
-// Builds the maps of a project into a new file, which replaces the one at its path once it is whole; or notes why not.
+// Builds the maps of a project into a new file, which replaces the one at its path once it is whole, and returns the
+// counts and that file; or notes why not.
 fn build_into<E: Files, F: Write + OpenFile + Drop>(
     alloc: Global,
     rt: &E,
     maps: &Maps,
     mut new: NewFile<F>,
     why: &mut Option<Cause>,
-) -> Result<BuildCounts, Refusal>
-    ensures written { IfOk result
-        (λ counts. (wad : List ℕ) × IsBuildCounted (project_of maps.now).maps wad counts) }
+) -> Result<(BuildCounts, F), Refusal>
+    ensures written { IfOk result (λ built. IsWritten (project_of maps.now).maps built.0
+        (F.contents (file_of new)) (F.contents built.1)) }
     ensures refused { IfErr result (RefusesFile (project_of maps.now).maps) }
 {
     match write_wad(alloc, maps, &mut new) {
         Ok(counts) => match new.put(rt) {
-            Ok(()) => Ok(counts),
+            Ok(file) => Ok((counts, file)),
             Err(cause) => {
                 *why = Some(cause);
                 Err(Refusal::Build(WriteError::WriterFailed))
@@ -85,7 +86,7 @@ where
         }
     };
     match build_into(alloc, rt, maps, new, why) {
-        Ok(counts) => tell_built(counts, writer),
+        Ok(built) => tell_built(built.0, writer),
         Err(refusal) => Err(refusal),
     }
 }

@@ -1,7 +1,7 @@
 //! The request `draw`: the lines of a script, drawn onto a disk's project, or tried over maps in memory.
 ghost use Rattle.std.specs.Prelude.{◌≡◌, ◌≤◌, ◌<◌, None, Ok, length, IfOk, IfSome};
 ghost use Rattle.std.specs.Io.KnownBytes.{Keeps};
-ghost use Rattle.cli_program.specs.Drawing.{IsDrawnOnto, IsHandedOn, IsTriedOn, stop_status};
+ghost use Rattle.cli_program.specs.Drawing.{IsDrawnOnto, IsHandedOn, IsTriedOn, TellsRefused, stop_status};
 ghost use Rattle.cli_program.specs.DrawnOver.{IsDrawnOver};
 
 use crate::over_disk::{HandedBack, not_opened, open_project};
@@ -27,7 +27,7 @@ pub struct Script<'a> {
     pub is_verbose: bool,
 }
 
-// Writes which line was refused and why, if one was. Drops what can't be written.
+// Writes which line was refused and why, if one was.
 fn say_stop<F: Write>(
     alloc: Global,
     maps: &Maps,
@@ -36,13 +36,22 @@ fn say_stop<F: Write>(
     lines: &[ScriptLine],
     drawn: Result<Option<Stop>, ScriptError>,
     faults: &mut F,
-)
+) -> Result<(), ScriptError>
     requires { IfOk drawn (λ stop. IfSome stop (λ s. s.place < length lines.now)) }
-    ensures { drawn ≡ Ok None → Keeps (F.contents faults.old) (F.contents faults.new) }
+    ensures told { TellsRefused result script.now lines.now drawn
+        (F.contents faults.old) (F.contents faults.new) }
+    ensures quiet { drawn ≡ Ok None → Keeps (F.contents faults.old) (F.contents faults.new) }
 {
-    if let Ok(Some(stop)) = drawn {
-        let line = &lines[stop.place];
-        let _ = write_refused(alloc, maps, names, script, line, stop.code, faults);
+    let stopped = match drawn {
+        Ok(stopped) => stopped,
+        Err(_) => return Ok(()),
+    };
+    match stopped {
+        Some(stop) => {
+            let line = &lines[stop.place];
+            write_refused(alloc, maps, names, script, line, stop.code, faults)
+        }
+        None => Ok(()),
     }
 }
 
@@ -96,7 +105,8 @@ fn draw_onto<C: Canvas, W: Write, F: Write>(
     let drawn = run_script::draw(alloc, canvas, &mut names, &lines, script.is_verbose, writer);
     let how = handed_on(drawn, writer);
     let maps = canvas.maps();
-    say_stop(alloc, maps, &names, script.name, &lines, drawn, faults);
+    // The status tells of the stop even if this can't be written.
+    let _ = say_stop(alloc, maps, &names, script.name, &lines, drawn, faults);
     how
 }
 

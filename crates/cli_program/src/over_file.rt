@@ -1,5 +1,5 @@
 //! Each request over a project, in the file at a path.
-ghost use Rattle.std.specs.Prelude.{◌≡◌, ◌≤◌, Ok, IfErr, IfOk, is_some, map, option_map, string_bytes};
+ghost use Rattle.std.specs.Prelude.{◌≡◌, ◌≤◌, false, Ok, IfErr, IfOk, is_some, map, option_map, string_bytes};
 ghost use Rattle.std.specs.Io.KnownBytes.{Keeps};
 ghost use Rattle.cli_program.specs.Drawing.{IsDrawnInto};
 ghost use Rattle.cli_program.specs.Dumped.{IsDumpedAt};
@@ -14,11 +14,13 @@ use crate::lint_request::{lint, lint_wad};
 use crate::over_disk::{check, create, edit};
 use crate::picture_request::{picture, picture_wad};
 use crate::salvage_request::salvage_lines;
-use crate::script_file::{read_script, script_name};
+use crate::script_file::read_all;
 use crate::wad_file::{begins_as_wad, check_wad};
-use cli_files::{Access, GaplessFile, Hold, NotedFile, open_held};
+use cli_files::{Access, Cause, GaplessFile, Hold, NotedFile, open_held};
 use cli_print::Wanted;
 use cli_refusals::{Causes, Refusal};
+use run_edit::EditorError;
+use std::fs;
 use std::io::{Read, Write};
 use std::os::unix::fs::FileExt;
 use std::rt::Files;
@@ -180,7 +182,49 @@ where
     ended_over(&file, how, why)
 }
 
-/// Draws a script onto the project in the file at the path. The script is the file at `script`, or the input.
+// Reads a script with this name to its end, and draws it onto the project in the file at the path.
+fn draw_read<E, R, W, F>(
+    rt: &E,
+    path: &str,
+    name: &str,
+    is_verbose: bool,
+    reader: &mut R,
+    writer: &mut W,
+    faults: &mut F,
+    why: &mut Causes,
+) -> Result<u8, Refusal>
+where
+    E: AllocGlobal + Files,
+    E::File: FileExt + Hold,
+    R: Read,
+    W: Write,
+    F: Write,
+    ensures small { IfOk result (λ s. s ≤ 3) }
+    ensures drawn { IsDrawnInto ⟦<FileDisk<&'static NotedFile<E::File>> as Disk>⟧
+        false is_verbose result (R.remaining reader.old) (R.remaining reader.new)
+        (W.contents writer.old) (W.contents writer.new) }
+    ensures quiet { result ≡ Ok 0 → Keeps (F.contents faults.old) (F.contents faults.new) }
+{
+    let text = match read_all(rt.alloc(), reader) {
+        Ok(text) => text,
+        Err(refusal) => return Err(refusal),
+    };
+    let file = match file_at(rt, path, Access::Writes, why) {
+        Ok(file) => file,
+        Err(refusal) => return Err(refusal),
+    };
+    let disk = FileDisk::new(&file, true);
+    let script = Script {
+        name,
+        text: &text,
+        is_verbose,
+    };
+    let how = draw(rt.alloc(), disk, script, writer, faults).how;
+    ended_over(&file, how, why)
+}
+
+/// Draws a script onto the project in the file at the path. The script is the file at `script`, or the input, whose
+/// name in the report of a refused line is `-`; or notes why the script's file can't be opened.
 pub fn draw_file<E, R, W, F>(
     rt: &E,
     path: &str,
@@ -203,22 +247,16 @@ where
         (W.contents writer.old) (W.contents writer.new) }
     ensures quiet { result ≡ Ok 0 → Keeps (F.contents faults.old) (F.contents faults.new) }
 {
-    let text = match read_script(rt, script, reader, &mut why.beside) {
-        Ok(text) => text,
-        Err(refusal) => return Err(refusal),
+    let Some(name) = script else {
+        return draw_read(rt, path, "-", is_verbose, reader, writer, faults, why);
     };
-    let file = match file_at(rt, path, Access::Writes, why) {
-        Ok(file) => file,
-        Err(refusal) => return Err(refusal),
-    };
-    let disk = FileDisk::new(&file, true);
-    let script = Script {
-        name: script_name(script),
-        text: &text,
-        is_verbose,
-    };
-    let how = draw(rt.alloc(), disk, script, writer, faults).how;
-    ended_over(&file, how, why)
+    match fs::open(rt, name) {
+        Ok(mut file) => draw_read(rt, path, name, is_verbose, &mut file, writer, faults, why),
+        Err(error) => {
+            why.beside = Some(Cause::System(error));
+            Err(Refusal::Lines(EditorError::ReaderFailed))
+        }
+    }
 }
 
 /// Writes the lines that draw the maps of the project in the file at the path again, all or those with the names. If

@@ -1,9 +1,11 @@
 //! The request `rebuild`: builds the levels of a WAD anew, and writes the new WAD into a file.
-ghost use Rattle.std.specs.Prelude.{◌≡◌, ◌≤◌, count_by, IfErr, IfOk, MatchResult, map, string_bytes};
-ghost use Rattle.std.specs.Io.KnownBytes.{Appends};
+ghost use Rattle.std.specs.Prelude.{◌≡◌, ◌≤◌, ◌⊎◌, count_by, IfOk, MatchResult, map, string_bytes};
+ghost use Rattle.std.specs.Io.KnownBytes.{Appends, Keeps};
+ghost use Rattle.cli_files.specs.NewFile.{IsMadeOf, file_of};
+ghost use Rattle.wad_rebuild.specs.Rebuilt.{IsRebuiltWad};
 ghost use Rattle.run_edit.specs.declared.error.EditorError.TheVariants.{WriterFailed};
-ghost use Rattle.cli_program.specs.Drawing.{IsUnread};
-ghost use Rattle.cli_program.specs.Rebuilding.{IsRebuiltAt, IsRebuiltOf, IsToldOf, fate_text, fate_texts, items_text, kept_notes, left_as_text, made_text, rebuilt_text, refusal_for, status_rebuilt, was_left, was_made};
+ghost use Rattle.cli_program.specs.Dumped.{OverWadTold};
+ghost use Rattle.cli_program.specs.Rebuilding.{IsRebuiltAt, IsRebuiltOf, IsToldOf, MakesNone, fate_text, fate_texts, items_text, kept_notes, left_as_text, made_text, rebuilt_text, refusal_for, status_rebuilt, was_left, was_made};
 ghost use Rattle.cli_refusals.specs.declared.refusal.Refusal.{Refusal};
 
 use crate::rebuild_notes::write_notes;
@@ -12,7 +14,7 @@ use cli_print::{TURNS, read_whole, write_shown};
 use cli_refusals::{Causes, Refusal, status_told};
 use run_edit::{EditorError, InspectError};
 use std::fs::{self, Files, OpenFile};
-use std::io::Write;
+use std::io::{Read, Write};
 use wad_levels::ReadError;
 use wad_rebuild::{Fate, MadeLumps, RebuildError, RebuiltLevel, RebuiltWad, rebuild_wad};
 
@@ -185,7 +187,9 @@ fn tell_rebuilt<W: Write, F: Write>(
         × IsToldOf rebuilt.now (W.contents writer.old) (W.contents writer.new)
         × Appends (F.contents errors.old) (F.contents errors.new)
         (kept_notes rebuilt.now.levels.items))
-        (λ refusal. refusal ≡ Refusal.Lines WriterFailed) }
+        (λ refusal. (refusal ≡ Refusal.Lines WriterFailed)
+        × (IsToldOf rebuilt.now (W.contents writer.old) (W.contents writer.new)
+        ⊎ Keeps (F.contents errors.old) (F.contents errors.new))) }
 {
     let made = made_count(&rebuilt.levels);
     let left = left_count(&rebuilt.levels);
@@ -211,18 +215,21 @@ fn hand_over<W: Write>(bytes: &[u8], writer: &mut W) -> Result<(), EditorError>
     }
 }
 
-// Writes the WAD into a new file, which replaces the one at its path once it is whole; or notes why it doesn't.
+// Writes the WAD into a new file, which replaces the one at its path once it is whole, and returns that file; or notes
+// why it doesn't.
 fn put_wad<E: Files, F: Write + OpenFile + Drop>(
     rt: &E,
     bytes: &[u8],
     mut new: NewFile<F>,
     why: &mut Option<Cause>,
-) -> Result<(), Refusal>
-    ensures { IfErr result (λ refusal. refusal ≡ Refusal.Lines WriterFailed) }
+) -> Result<F, Refusal>
+    ensures { MatchResult result
+        (λ file. Appends (F.contents (file_of new)) (F.contents file) bytes.now)
+        (λ refusal. refusal ≡ Refusal.Lines WriterFailed) }
 {
     match hand_over(bytes, &mut new) {
         Ok(()) => match new.put(rt) {
-            Ok(()) => Ok(()),
+            Ok(file) => Ok(file),
             Err(cause) => {
                 *why = Some(cause);
                 Err(Refusal::Lines(EditorError::WriterFailed))
@@ -233,6 +240,46 @@ fn put_wad<E: Files, F: Write + OpenFile + Drop>(
             new.take_away(rt);
             Err(Refusal::Lines(error))
         }
+    }
+}
+
+// A WAD that was built anew, and the file that holds it.
+#[derive(Drop)]
+struct Made<F> {
+    rebuilt: RebuiltWad,
+    file: F,
+}
+
+// Builds the levels of the WAD anew that was read at the path, into the file at `out`; or notes why it can't be made.
+fn make<E: AllocGlobal + Files>(
+    rt: &E,
+    path: &str,
+    wad: &[u8],
+    out: &str,
+    names: &[String],
+    why: &mut Option<Cause>,
+) -> Result<Made<E::File>, Refusal>
+where
+    E::File: Hold,
+    ensures { MatchResult result
+        (λ made. IsRebuiltWad wad.now (map string_bytes names.now) made.rebuilt
+        × IsMadeOf E.File.contents made.file made.rebuilt.bytes.items)
+        (MakesNone wad.now (map string_bytes names.now)) }
+{
+    let rebuilt = match rebuild_wad(rt.alloc(), wad, names) {
+        Ok(rebuilt) => rebuilt,
+        Err(error) => return Err(refusal_of(error)),
+    };
+    let new = match open_new_of(rt.alloc(), rt, path, out, Form::Pwad) {
+        Ok(new) => new,
+        Err(cause) => {
+            *why = Some(cause);
+            return Err(Refusal::Lines(EditorError::WriterFailed));
+        }
+    };
+    match put_wad(rt, &rebuilt.bytes, new, why) {
+        Ok(file) => Ok(Made { rebuilt, file }),
+        Err(refusal) => Err(refusal),
     }
 }
 
@@ -257,41 +304,39 @@ where
         (W.contents writer.old) (W.contents writer.new)
         (F.contents errors.old) (F.contents errors.new) }
 {
-    let rebuilt = match rebuild_wad(rt.alloc(), wad, names) {
-        Ok(rebuilt) => rebuilt,
-        Err(error) => return Err(refusal_of(error)),
-    };
-    let new = match open_new_of(rt.alloc(), rt, path, out, Form::Pwad) {
-        Ok(new) => new,
-        Err(cause) => {
-            *why = Some(cause);
-            return Err(Refusal::Lines(EditorError::WriterFailed));
-        }
-    };
-    match put_wad(rt, &rebuilt.bytes, new, why) {
-        Ok(()) => tell_rebuilt(&rebuilt, writer, errors),
+    match make(rt, path, wad, out, names, why) {
+        Ok(made) => tell_rebuilt(&made.rebuilt, writer, errors),
         Err(refusal) => Err(refusal),
     }
 }
 
-// The bytes of the file at the path, or notes why it can't be opened.
-fn read_at<E: AllocGlobal + Files>(
+// Reads a WAD to its end, and does the same with it.
+fn rebuild_read<E, R, W, F>(
     rt: &E,
+    reader: &mut R,
     path: &str,
+    out: &str,
+    names: &[String],
+    writer: &mut W,
+    errors: &mut F,
     why: &mut Option<Cause>,
-) -> Result<Vec<u8>, Refusal>
-    ensures { IfErr result IsUnread }
+) -> Result<u8, Refusal>
+where
+    E: AllocGlobal + Files,
+    E::File: Hold,
+    R: Read,
+    W: Write,
+    F: Write,
+    ensures small { IfOk result (λ s. s ≤ 3) }
+    ensures rebuilt { OverWadTold (R.remaining reader.old) (R.remaining reader.new) result
+        (W.contents writer.old) (W.contents writer.new)
+        (F.contents errors.old) (F.contents errors.new)
+        (λ wad. IsRebuiltOf wad (map string_bytes names.now) result
+        (W.contents writer.old) (W.contents writer.new)
+        (F.contents errors.old) (F.contents errors.new)) }
 {
-    match fs::open(rt, path) {
-        Ok(mut file) => match read_whole(rt.alloc(), &mut file, TURNS) {
-            Ok(bytes) => Ok(bytes),
-            Err(error) => Err(Refusal::Lines(error)),
-        },
-        Err(error) => {
-            *why = Some(Cause::System(error));
-            Err(Refusal::Lines(EditorError::ReaderFailed))
-        }
-    }
+    let wad = read_whole(rt.alloc(), reader, TURNS)?;
+    rebuild_into(rt, path, &wad, out, names, writer, errors, why)
 }
 
 /// Builds the levels of the WAD at the path anew, all or those with the names, and writes the new WAD into the file at
@@ -317,9 +362,20 @@ where
         (W.contents writer.old) (W.contents writer.new)
         (F.contents errors.old) (F.contents errors.new) }
 {
-    let wad = match read_at(rt, path, &mut why.file) {
-        Ok(wad) => wad,
-        Err(refusal) => return Err(refusal),
-    };
-    rebuild_into(rt, path, &wad, out, names, writer, errors, &mut why.out)
+    match fs::open(rt, path) {
+        Ok(mut file) => rebuild_read(
+            rt,
+            &mut file,
+            path,
+            out,
+            names,
+            writer,
+            errors,
+            &mut why.out,
+        ),
+        Err(error) => {
+            why.file = Some(Cause::System(error));
+            Err(Refusal::Lines(EditorError::ReaderFailed))
+        }
+    }
 }

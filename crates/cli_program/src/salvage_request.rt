@@ -1,15 +1,16 @@
 //! The request `dump --salvage`: the lines that draw the maps again which can be read from a damaged project.
-ghost use Rattle.std.specs.Prelude.{◌≡◌, ◌≤◌, ◌⊎◌, IfErr, IfOk};
+ghost use Rattle.std.specs.Prelude.{◌≡◌, ◌≤◌, ◌⊎◌, IfErr, IfOk, OnOk};
+ghost use Rattle.std.specs.Io.KnownBytes.{Appends};
 ghost use Rattle.store_disk.specs.Reading.{OnlyReads};
 ghost use Rattle.store_disk.specs.Stops.{Each};
 ghost use Rattle.run_edit.specs.Recovery.{IsOnlyRead};
-ghost use Rattle.cli_program.specs.Salvaging.{IsSalvagedFrom, IsSalvagedOver, refusal_for_salvage};
+ghost use Rattle.cli_program.specs.Salvaging.{IsSalvagedFrom, IsSalvagedOver, damage_line, damage_text, refusal_for_salvage, whole_text};
 
 use crate::over_disk::HandedBack;
 use cli_dump::tell_lines;
 use cli_refusals::Refusal;
 use std::alloc::Global;
-use std::io::Write;
+use std::io::{self, Write};
 use store_disk::Disk;
 use store_project::ProjectError;
 use store_salvage::{SalvageError, Salvaged, salvage};
@@ -46,17 +47,34 @@ fn read_bytes<D: Disk>(alloc: Global, disk: &mut D) -> Result<Vec<u8>, ProjectEr
     }
 }
 
-// Writes where the file is damaged, how many records are kept and how many aren't.
-fn tell_damage<F: Write>(found: &Salvaged, faults: &mut F) {
-    let kept = found.records;
-    let behind = found.behind;
-    let _ = match found.damage {
-        Some(place) => writeln!(
-            faults,
-            "leveled: damaged at {place}: {kept} records are kept, {behind} behind them are not"
-        ),
-        None => writeln!(faults, "leveled: no damage: {kept} records"),
-    };
+// Writes where a file is damaged, how many records are kept and how many aren't.
+fn write_damage<F: Write>(place: u64, kept: u32, behind: u32, faults: &mut F) -> io::Result<()>
+    ensures { OnOk result (Appends (F.contents faults.old) (F.contents faults.new)
+        (damage_text place kept behind)) }
+{
+    write!(
+        faults,
+        "leveled: damaged at {place}: {kept} records are kept, {behind} behind them are not\n"
+    )
+}
+
+// Writes that a file isn't damaged, and how many records it has.
+fn write_whole<F: Write>(kept: u32, faults: &mut F) -> io::Result<()>
+    ensures { OnOk result (Appends (F.contents faults.old) (F.contents faults.new)
+        (whole_text kept)) }
+{
+    write!(faults, "leveled: no damage: {kept} records\n")
+}
+
+// Writes where the file is damaged, if it is, and how many records are kept.
+fn tell_damage<F: Write>(found: &Salvaged, faults: &mut F) -> io::Result<()>
+    ensures { OnOk result (Appends (F.contents faults.old) (F.contents faults.new)
+        (damage_line found.now.damage found.now.records found.now.behind)) }
+{
+    match found.damage {
+        Some(place) => write_damage(place, found.records, found.behind, faults),
+        None => write_whole(found.records, faults),
+    }
 }
 
 // Writes the lines that draw the maps again which can be read from a file's bytes.
@@ -76,7 +94,8 @@ fn write_salvaged<W: Write, F: Write>(
     };
     let how = tell_lines(alloc, &found.maps, writer);
     if how.is_ok() {
-        tell_damage(&found, faults);
+        // The lines are written, so a report that can't be isn't a refusal.
+        let _ = tell_damage(&found, faults);
     }
     how
 }

@@ -1,7 +1,7 @@
-//! Reads scripts from files or from the input, and tries one over the empty project.
-ghost use Rattle.std.specs.Prelude.{◌≡◌, ◌≤◌, codes, false, Ok, IfErr, IfOk, is_some, MatchOption};
+//! Reads scripts, and tries one in a file over the empty project.
+ghost use Rattle.std.specs.Prelude.{◌≡◌, ◌≤◌, false, Ok, IfErr, IfOk};
 ghost use Rattle.std.specs.Io.KnownBytes.{Keeps};
-ghost use Rattle.cli_program.specs.Drawing.{IsInput, IsScriptTried, IsUnread, IsUnreadInput, IsUnreadOf};
+ghost use Rattle.cli_program.specs.Drawing.{IsInput, IsReadTried, IsScriptTried, IsUnreadOf};
 
 use crate::draw_request::{Script, try_script};
 use cli_files::Cause;
@@ -12,8 +12,8 @@ use std::alloc::Global;
 use std::fs::{self, Files};
 use std::io::{Read, Write};
 
-// All that the reader gives.
-fn read_all<R: Read>(alloc: Global, reader: &mut R) -> Result<Vec<u8>, Refusal>
+/// All that the reader gives.
+pub fn read_all<R: Read>(alloc: Global, reader: &mut R) -> Result<Vec<u8>, Refusal>
     ensures whole { IfOk result (λ bytes. IsInput false bytes.items (R.remaining reader.old)
         (R.remaining reader.new)) }
     ensures refused { IfErr result
@@ -25,49 +25,30 @@ fn read_all<R: Read>(alloc: Global, reader: &mut R) -> Result<Vec<u8>, Refusal>
     }
 }
 
-// All that the file at the path gives, or notes why it can't be opened.
-fn read_file<E: AllocGlobal + Files>(
-    rt: &E,
-    path: &str,
-    why: &mut Option<Cause>,
-) -> Result<Vec<u8>, Refusal>
-    ensures refused { IfErr result IsUnread }
-{
-    match fs::open(rt, path) {
-        Ok(mut file) => read_all(rt.alloc(), &mut file),
-        Err(error) => {
-            *why = Some(Cause::System(error));
-            Err(Refusal::Lines(EditorError::ReaderFailed))
-        }
-    }
-}
-
-/// A script: the whole file at the path, or the whole input if no path is given; or notes why the file can't be opened.
-pub fn read_script<E: AllocGlobal + Files, R: Read>(
-    rt: &E,
-    path: Option<&str>,
+// Reads a script to its end, and tries it over the empty project in memory.
+fn try_read<R: Read, W: Write, F: Write>(
+    alloc: Global,
+    name: &str,
+    is_verbose: bool,
     reader: &mut R,
-    why: &mut Option<Cause>,
-) -> Result<Vec<u8>, Refusal>
-    ensures whole { IfOk result (λ bytes. IsInput (is_some path.entry) bytes.items
-        (R.remaining reader.old) (R.remaining reader.new)) }
-    ensures refused { IfErr result (IsUnreadInput (is_some path.entry)
-        (R.remaining reader.old) (R.remaining reader.new)) }
+    writer: &mut W,
+    faults: &mut F,
+) -> Result<u8, Refusal>
+    ensures small { IfOk result (λ s. s ≤ 3) }
+    ensures tried { IsReadTried is_verbose (R.remaining reader.old) (R.remaining reader.new)
+        result (W.contents writer.old) (W.contents writer.new) }
+    ensures quiet { result ≡ Ok 0 → Keeps (F.contents faults.old) (F.contents faults.new) }
 {
-    match path {
-        Some(path) => read_file(rt, path, why),
-        None => read_all(rt.alloc(), reader),
-    }
-}
-
-/// The name of a script in the report of a refused line: its path, or `-` for the input.
-pub fn script_name<'a>(path: Option<&'a str>) -> &'a str
-    ensures { MatchOption path.entry (result.now ≡ codes "-") (λ p. result.now ≡ p.now) }
-{
-    match path {
-        Some(path) => path,
-        None => "-",
-    }
+    let text = match read_all(alloc, reader) {
+        Ok(text) => text,
+        Err(refusal) => return Err(refusal),
+    };
+    let script = Script {
+        name,
+        text: &text,
+        is_verbose,
+    };
+    try_script(alloc, script, writer, faults)
 }
 
 /// Tries the script in the file at the path over the empty project in memory, or notes why the file can't be opened.
@@ -84,14 +65,11 @@ pub fn try_file<E: AllocGlobal + Files, W: Write, F: Write>(
         (W.contents writer.old) (W.contents writer.new) }
     ensures quiet { result ≡ Ok 0 → Keeps (F.contents faults.old) (F.contents faults.new) }
 {
-    let text = match read_file(rt, path, why) {
-        Ok(text) => text,
-        Err(refusal) => return Err(refusal),
-    };
-    let script = Script {
-        name: path,
-        text: &text,
-        is_verbose,
-    };
-    try_script(rt.alloc(), script, writer, faults)
+    match fs::open(rt, path) {
+        Ok(mut file) => try_read(rt.alloc(), path, is_verbose, &mut file, writer, faults),
+        Err(error) => {
+            *why = Some(Cause::System(error));
+            Err(Refusal::Lines(EditorError::ReaderFailed))
+        }
+    }
 }

@@ -86,15 +86,15 @@ refusal_name of.TreeOutside = codes "TreeOutside"
 -- ---- Lines
 
 -- where a file is damaged
-abbrev pub damage_place_text : Refusal → List ℕ
-damage_place_text (of.Project (opening.Damaged place)) = codes " at " ++ decimal place
-damage_place_text refusal = []
+abbrev pub damage_place : Refusal → List ℕ
+damage_place (of.Project (opening.Damaged place)) = codes " at " ++ decimal place
+damage_place refusal = []
 
 -- `leveled: CODE NAME`, and where a file is damaged
 abbrev pub refusal_line : Refusal → List ℕ
 refusal_line refusal =
     codes "leveled: " ++ decimal (code_of refusal) ++ codes " " ++ refusal_name refusal
-    ++ damage_place_text refusal ++ 10 ∷ []
+    ++ damage_place refusal ++ 10 ∷ []
 
 -- the line behind it: which map can't be built, or why a level is no map
 abbrev pub why_text : Refusal → List ℕ

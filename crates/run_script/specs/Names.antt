@@ -44,7 +44,7 @@ file_name code =
     else codes "Memory"))
 
 -- the name of a refusal
-abbrev pub code_name : ℕ → List ℕ
-code_name code =
+abbrev pub stop_name : ℕ → List ℕ
+stop_name code =
     if nat_lt code 20 then command_name code
     else (if nat_lt code 30 then script_name code else file_name code)

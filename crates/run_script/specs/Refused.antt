@@ -1,7 +1,7 @@
 -- The two lines that are written about a refused line of a script.
 use Rattle.std.specs.Prelude.{◌≡◌, ◌⊎◌, ℕ, List, ◌++◌, ◌∷◌, [], Option, Result, MatchResult, codes, decimal}
 use Rattle.std.specs.Io.KnownBytes.{Appends, Keeps}
-use Rattle.run_script.specs.Names.{code_name}
+use Rattle.run_script.specs.Names.{stop_name}
 use Rattle.run_script.specs.declared.error.ScriptError.{ScriptError}
 use Rattle.run_script.specs.declared.error.ScriptError.TheVariants.{OutOfMemory, WriterFailed}
 
@@ -21,5 +21,5 @@ abbrev pub TellsStop : {U : Type 0} → Result U ScriptError → List ℕ → �
 TellsStop result script line code writer-old writer-new =
     MatchResult result (λ _. (reason : List ℕ)
     × Appends writer-old writer-new
-    (line_place script line.0 ++ (line.1 ++ refusal_text code (code_name code) reason)))
+    (line_place script line.0 ++ (line.1 ++ refusal_text code (stop_name code) reason)))
     (λ e. ((e ≡ OutOfMemory) × Keeps writer-old writer-new) ⊎ (e ≡ WriterFailed))

@@ -1,6 +1,6 @@
 //! The name of each refusal of a line, and what it says, by its number.
 ghost use Rattle.std.specs.Prelude.{◌≡◌};
-ghost use Rattle.run_script.specs.Names.{command_name, file_name, code_name, script_name};
+ghost use Rattle.run_script.specs.Names.{command_name, file_name, stop_name, script_name};
 
 use map_commands::CommandError;
 use map_script::DrawError;
@@ -107,8 +107,8 @@ fn file_name(code: u16) -> &'static str
 }
 
 /// The name of the refusal with this number.
-pub fn code_name(code: u16) -> &'static str
-    ensures { result.now ≡ code_name code }
+pub fn stop_name(code: u16) -> &'static str
+    ensures { result.now ≡ stop_name code }
 {
     if code < 20 {
         command_name(code)

@@ -5,7 +5,7 @@ ghost use Rattle.map_script.specs.Views.{seen};
 ghost use Rattle.run_script.specs.Refused.{TellsStop, line_place, refusal_text};
 ghost use Rattle.run_script.specs.declared.error.ScriptError.TheVariants.{WriterFailed};
 
-use crate::calling::code_name;
+use crate::calling::stop_name;
 use crate::error::ScriptError;
 use crate::reasons::reason_of;
 use map_script::{Names, ScriptLine};
@@ -103,5 +103,5 @@ pub fn write_refused<W: Write>(
     let Ok(reason) = reason_of(alloc, maps, names, line, code) else {
         return Err(ScriptError::OutOfMemory);
     };
-    write_both(script, line, code, code_name(code), reason.as_str(), writer)
+    write_both(script, line, code, stop_name(code), reason.as_str(), writer)
 }

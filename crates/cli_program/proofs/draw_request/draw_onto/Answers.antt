@@ -21,4 +21,4 @@ returns-clause-drawn g c =
     })
 
 pub returns-clause-quiet : goal.returns-clause-quiet
-returns-clause-quiet g c = λ is. c.say_stop.ensures (whole_end _ _ _ _ c.handed_on-how.ensures.handed is)
+returns-clause-quiet g c = λ is. c.say_stop.ensures.quiet (whole_end _ _ _ _ c.handed_on-how.ensures.handed is)
