@@ -33,14 +33,6 @@ all_map f p (x ∷ xs) = ap (λ (b : Bool). p (f x) && b) (all_map f p xs)
 
 -- ---- levels
 
--- one level more was looked at
-pub asked_more : (wad : List ℕ) (names : List (List ℕ)) (ls : List LevelEntries) (n : ℕ) (d : LevelEntries) (old new : List LevelEntries) → n < length ls
-    → old ≡ asked_among wad names (take n ls) → new ≡ old ++ asked_among wad names (get_or ls n d ∷ []) → new ≡ asked_among wad names (take (n + 1) ls)
-asked_more wad names ls n d old new within is more =
-    let test = λ (l : LevelEntries). is_asked names (entry_text wad l.marker) in
-    more ∙ ap (λ (ks : List LevelEntries). ks ++ asked_among wad names (get_or ls n d ∷ [])) is
-    ∙ sym (ap (asked_among wad names) (take_more ls n d within) ∙ filter-append test (take n ls) (get_or ls n d ∷ []))
-
 still_by : (P : LevelEntries → Type 0) (l : LevelEntries) (ls : List LevelEntries) (b : Bool) → P l → All P ls → All P (cond b (l ∷ ls) ls)
 still_by P l ls true here rest = All-cons P l ls here rest
 still_by P l ls false here rest = rest

@@ -16,4 +16,4 @@ pub use hold::{Access, Hold, open_held};
 pub use name::beside;
 pub use new_file::{NewFile, open_new, open_new_of};
 pub use noted::NotedFile;
-pub use replaceable::{Form, may_be_replaced};
+pub use replaceable::Form;

@@ -43,16 +43,6 @@ lines_by names wad l (Some e) is = (no_map_line (entry_name wad l.marker) e ∷ 
 pub some_lines : (names : Option GraphicNames) (wad : List ℕ) (l : LevelEntries) → (lines : List (List ℕ)) × AreLevelLines names wad l lines
 some_lines names wad l = lines_by names wad l (map_refusal wad l) refl
 
--- the line of a level that is no map was written
-pub line_written : (name : Name8) (e : ImportError) (before count : ℕ) (u w : Option (List ℕ)) → count ≡ before + 1 → Appends u w (with_lf (no_map_line name e))
-    → WritesRemarks (Ok count) before (no_map_line name e ∷ []) u w
-line_written name e before count u w is told = (is, subst (λ (t : List ℕ). Appends u w t) (sym (append-nil (with_lf (no_map_line name e)))) told)
-
--- the map that a level is was told of
-pub map_told : (names : Option GraphicNames) (wad : List ℕ) (l : LevelEntries) (r : Result ℕ EditorError) (before : ℕ) (m : Tables) (u w : Option (List ℕ)) → map_refusal wad l ≡ None
-    → m ≡ level_map wad l → WritesRemarks r before (remarks names m) u w → WritesLevel names wad l r before u w
-map_told names wad l r before m u w none is told = (remarks names m, inl (none, ap (remarks names) is), told)
-
 -- the line of a level that is no map was told
 pub refusal_told : (names : Option GraphicNames) (wad : List ℕ) (l : LevelEntries) (r : Result ℕ EditorError) (before : ℕ) (name : Name8) (e : ImportError) (u w : Option (List ℕ)) → name ≡ entry_name wad l.marker
     → RefusesLevelImport wad l (entry_name wad l.marker) e → e ≢ import.OutOfMemory → WritesRemarks r before (no_map_line name e ∷ []) u w → WritesLevel names wad l r before u w
@@ -137,15 +127,6 @@ pub levels_told : (names : Option GraphicNames) (wad : List ℕ) (name : Option 
     → IsWadLintedOf names wad name (Ok status) u x
 levels_told names wad name ls count status u v w x wanted (lines, are, told) is total kept = (ls, lines, wanted, are, total_told lines count status u v w x is told total kept)
 
-pub levels_lost : (names : Option GraphicNames) (wad : List ℕ) (name : Option (List ℕ)) (ls : List LevelEntries) (e : EditorError) (u w : Option (List ℕ)) → AreWanted wad name ls
-    → ((lines : List (List ℕ)) × AreLinesOf names wad ls lines × WritesRemarks (Err e) 0 lines u w) → IsWadLintedOf names wad name (Err (Lines e)) u w
-levels_lost names wad name ls e u w wanted (lines, are, told) = (ls, lines, wanted, are, lines_stopped lines e u w told)
-
--- the writer failed at the end of the lines
-pub end_lost : (names : Option GraphicNames) (wad : List ℕ) (name : Option (List ℕ)) (ls : List LevelEntries) (count : ℕ) (u v w : Option (List ℕ)) → AreWanted wad name ls
-    → ((lines : List (List ℕ)) × AreLinesOf names wad ls lines × WritesRemarks (Ok count) 0 lines u v) → IsWadLintedOf names wad name (Err (Lines WriterFailed)) u w
-end_lost names wad name ls count u v w wanted (lines, are, told) = (ls, lines, wanted, are, tt)
-
 -- ---- Findings
 
 pub level_checked : (wad : List ℕ) (name : Option (List ℕ)) (how : Result ℕ Refusal) (u w : Option (List ℕ)) (l : LevelEntries) (m : Tables) → IsWanted wad name l
@@ -158,16 +139,3 @@ level_checked wad name (Err (Build e)) u w l m wanted none is never = absurd nev
 level_checked wad name (Err NoSuchMap) u w l m wanted none is never = absurd never
 level_checked wad name (Err (NotAMap e)) u w l m wanted none is never = absurd never
 level_checked wad name (Err TreeOutside) u w l m wanted none is never = absurd never
-
--- the level that is wanted is no map
-pub check_refused : (wad : List ℕ) (name : Option (List ℕ)) (r : Refusal) (u : Option (List ℕ)) (l : LevelEntries) → IsWanted wad name l → IsMapRefusal wad l r → IsWadChecked wad name (Err r) u u
-check_refused wad name (Lines OutOfMemory) u l wanted is = Keeps-refl u
-check_refused wad name (NotAMap e) u l wanted is = (l, wanted, is, Keeps-refl u)
-check_refused wad name (Lines InputTooLong) u l wanted never = absurd never
-check_refused wad name (Lines ReaderFailed) u l wanted never = absurd never
-check_refused wad name (Lines WriterFailed) u l wanted never = absurd never
-check_refused wad name (Project e) u l wanted never = absurd never
-check_refused wad name (Level e) u l wanted never = absurd never
-check_refused wad name (Build e) u l wanted never = absurd never
-check_refused wad name NoSuchMap u l wanted never = absurd never
-check_refused wad name TreeOutside u l wanted never = absurd never

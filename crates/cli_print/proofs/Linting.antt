@@ -80,9 +80,6 @@ none_written e before lines u is =
     let front : WritesFront lines u u = record { front = []; back = lines; parted = refl; written = Appends-nil u } in
     subst (λ (why : EditorError). WritesRemarks (Err why) before lines u u) (sym is) front
 
-pub not_written : (e : EditorError) (before : ℕ) (lines : List (List ℕ)) (u w : Option (List ℕ)) → e ≡ WriterFailed → WritesRemarks (Err e) before lines u w
-not_written e before lines u w is = subst (λ (why : EditorError). WritesRemarks (Err why) before lines u w) (sym is) tt
-
 -- no map has a number where none stands
 pub none_there : (o : Option Tables) (m : Tables) → o ≡ None → o ≡ Some m → ⊥
 none_there o m none some = cc
@@ -149,9 +146,3 @@ total_told lines count status u v w x is (sum, told) total kept =
       is ∙ ap status_after same,
       subst (λ (n : ℕ). Appends u x (text_of lines ++ total_text n)) same (Appends-kept u w x (text_of lines ++ total_text count) all kept),
     )
-
-pub lines_stopped : (lines : List (List ℕ)) (e : EditorError) (u w : Option (List ℕ)) → WritesRemarks (Err e) 0 lines u w → AreTold lines (Err (Lines e)) u w
-lines_stopped lines OutOfMemory u w told = told
-lines_stopped lines WriterFailed u w told = tt
-lines_stopped lines InputTooLong u w told = absurd told
-lines_stopped lines ReaderFailed u w told = absurd told

@@ -48,17 +48,3 @@ drawn_to layers name into maps (Err (Build e)) u w m o at laid never = absurd ne
 drawn_to layers name into maps (Err NoSuchMap) u w m o at laid never = absurd never
 drawn_to layers name into maps (Err (NotAMap e)) u w m o at laid never = absurd never
 drawn_to layers name into maps (Err TreeOutside) u w m o at laid never = absurd never
-
--- nothing could be laid over the map that was wanted
-pub not_laid : (layers : Layers) (name : Option (List ℕ)) (into : Bool) (maps : MapsView) (r : Refusal) (u w : Option (List ℕ)) (m : Tables)
-    → drawn_map name (project_of maps) ≡ Some m → NotLaidOver layers.nodes layers.lint m r → Keeps u w → IsPicturedOf layers name into maps (Err r) u w
-not_laid layers name into maps (Build e) u w m at lost kept = (m, at, lost, kept)
-not_laid layers name into maps (Lines OutOfMemory) u w m at lost kept = (inr lost, kept)
-not_laid layers name into maps (Lines WriterFailed) u w m at never kept = absurd never
-not_laid layers name into maps (Lines InputTooLong) u w m at never kept = absurd never
-not_laid layers name into maps (Lines ReaderFailed) u w m at never kept = absurd never
-not_laid layers name into maps (Project e) u w m at never kept = absurd never
-not_laid layers name into maps (Level e) u w m at never kept = absurd never
-not_laid layers name into maps NoSuchMap u w m at never kept = absurd never
-not_laid layers name into maps (NotAMap e) u w m at never kept = absurd never
-not_laid layers name into maps TreeOutside u w m at never kept = absurd never

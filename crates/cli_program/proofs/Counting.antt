@@ -17,13 +17,3 @@ pub built_told : (r : Result ℕ Refusal) (maps : MapsView) (wad : List ℕ) (c 
     → MatchResult r (λ status. (status ≡ 0) × Appends u w (built_text c)) (λ refusal. refusal ≡ Lines WriterFailed) → IsBuiltFrom maps r u w
 built_told (Ok status) maps wad c u w is (done, told) = (wad, c, done, is, told)
 built_told (Err refusal) maps wad c u w is same = subst (λ (why : Refusal). IsBuiltFrom maps (Err why) u w) (sym same) refl
-
--- no PWAD of these maps was made in the file, and nothing told
-pub file_refused : (maps : MapsView) (r : Refusal) (u : Option (List ℕ)) → RefusesFile (project_of maps).maps r → IsBuiltFrom maps (Err r) u u
-file_refused maps (Build e) u is = (is, Keeps-refl u)
-file_refused maps (Lines e) u is = absurd is
-file_refused maps (Project e) u is = absurd is
-file_refused maps (Level e) u is = absurd is
-file_refused maps NoSuchMap u is = absurd is
-file_refused maps (NotAMap e) u is = absurd is
-file_refused maps TreeOutside u is = absurd is

@@ -18,28 +18,6 @@ use Rattle.run_script.specs.Refused.{TellsStop}
 use Rattle.store_disk.specs.declared.disk.Disk.{Ghosts}
 use Rattle.cli_program.specs.Drawing.{IsDrawnInto, IsHandedOn, IsReadTried, IsScriptTried, TellsRefused}
 
--- what was refused is loud
-pub loud : (r : Request) → IsQuiet r 1 → ⊥
-loud Scratch quiet = quiet refl
-loud (Create file slot journal) quiet = quiet refl
-loud (Edit file) quiet = quiet refl
-loud (Check file map) quiet = quiet refl
-loud (Lint file map iwad) quiet = quiet refl
-loud (Draw file script verbose) quiet = cc
-loud (TryScript script verbose) quiet = cc
-loud (Dump file names exact) quiet = quiet
-loud (Salvage file) quiet = quiet
-loud (Picture file map out numbers nodes lint) quiet = quiet refl
-loud (Inspect wad name) quiet = quiet refl
-loud (Levels wad) quiet = quiet refl
-loud (Build file out) quiet = quiet refl
-loud (Rebuild wad out maps) quiet = quiet
-
--- the status 0 is an answer
-pub quiet_end : (how : Result ℕ Refusal) → status_in how ≡ 0 → how ≡ Ok 0
-quiet_end (Ok status) is = ap Ok is
-quiet_end (Err refusal) is = cc
-
 apart : (n : ℕ) → n ≡ 3 → n ≡ 0 → ⊥
 apart n three none = omega arith
 

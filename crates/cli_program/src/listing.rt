@@ -14,7 +14,7 @@ use run_edit::{EditorError, InspectError};
 use std::alloc::Global;
 use std::fs::{self, Files};
 use std::io::{Read, Write};
-use wad_build::level_names;
+use wad_levels::level_names;
 
 // Writes a name as a line.
 fn write_name<W: Write>(name: &Name8, writer: &mut W) -> Result<(), EditorError>

@@ -56,14 +56,6 @@ refused : (cap : ℕ) (old : ProjectMaps) (line : List ℕ) (code : ℕ) (fault 
 refused limit old line code None e told = told
 refused limit old line code (Some f) e told = cc
 
--- a line with a fault is refused with it
-pub faulty : (cap : ℕ) (old : ProjectMaps) (line : List ℕ) (code : ℕ) → project_fault_of line ≡ Some code → ChangesBy cap old line (Err code) old
-faulty limit old line code e = inl (go (project_fault_of line) e, refl)
-  where
-    go : (fault : Option ℕ) → fault ≡ Some code → MatchOption fault (RefusesCommand limit old line code) (λ f. code ≡ f)
-    go None e = cc
-    go (Some f) e = cc
-
 -- what adds nothing takes no memory
 covers-none : (spare : Counts) (need : Need) → need ≡ no_need → Covers spare need
 covers-none spare need none =

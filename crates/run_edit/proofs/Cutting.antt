@@ -88,13 +88,6 @@ unfinished-append (b ∷ bs) ys =
     ∙ sym (ap (λ u. unfinished (u ++ ys)) (unfinished-if b bs true t)))
     (λ f. sym (ap (λ u. unfinished (u ++ ys)) (unfinished-none (b ∷ bs) f)))
 
--- what is unfinished holds no LF
-pub no-break : (bs : List ℕ) → list_any is_break (unfinished bs) ≡ false
-no-break [] = refl
-no-break (b ∷ bs) =
-    two (list_any is_break (b ∷ bs)) (λ t. ap (list_any is_break) (unfinished-if b bs true t) ∙ no-break bs)
-    (λ f. ap (list_any is_break) (unfinished-none (b ∷ bs) f) ∙ f)
-
 left-false : (s t : Bool) → (s || t) ≡ false → s ≡ false
 left-false true t e = e
 left-false false t e = refl
@@ -122,11 +115,3 @@ whole-push bs b e f = whole-none (bs ++ b ∷ []) (any-push bs b e f)
 
 pub unfinished-push : (bs : List ℕ) (b : ℕ) → list_any is_break bs ≡ false → is_break b ≡ false → unfinished (bs ++ b ∷ []) ≡ bs ++ b ∷ []
 unfinished-push bs b e f = unfinished-none (bs ++ b ∷ []) (any-push bs b e f)
-
--- there are no more lines than bytes
-pub length-whole : (bs : List ℕ) → length (whole_lines bs) ≤ length bs
-length-whole [] = omega arith
-length-whole (b ∷ bs) =
-    let h : length (whole_lines bs) ≤ length bs = length-whole bs in
-    two (is_break b) (λ s. let k : length (whole_lines (b ∷ bs)) ≡ length ([] ∷ whole_lines bs) = ap length (whole-break b bs s) in omega arith)
-    (λ s. let k : length (whole_lines (b ∷ bs)) ≡ length (whole_lines bs) = ap length (whole-other b bs s) ∙ length-onto b (whole_lines bs) in omega arith)

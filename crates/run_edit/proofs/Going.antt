@@ -48,16 +48,6 @@ Consumes-append (Some x) None c xs ys p q = absurd p
 Consumes-append (Some x) (Some y) None xs ys p q = absurd q
 Consumes-append (Some x) (Some y) (Some z) xs ys p q = p ∙ ap (λ w. xs ++ w) q ∙ sym (append_assoc xs ys z)
 
-pub Consumes-keeps : (a b c : Option (List ℕ)) (xs : List ℕ) → Consumes a b xs → Keeps b c → Consumes a c xs
-Consumes-keeps None b c xs p q = tt
-Consumes-keeps (Some x) None c xs p q = absurd p
-Consumes-keeps (Some x) (Some y) None xs p q = absurd q
-Consumes-keeps (Some x) (Some y) (Some z) xs p q = p ∙ ap (λ w. xs ++ w) (sym q)
-
-pub Consumes-none : (a : Option (List ℕ)) → Consumes a a []
-Consumes-none None = tt
-Consumes-none (Some x) = refl
-
 -- nothing more was read
 pub Consumes-end : (a b c : Option (List ℕ)) (read buf : List ℕ) (n : ℕ) → n ≡ 0 → Consumes a b read → Consumes b c (take n buf) → Consumes a c read
 Consumes-end a b c read buf n e p q = rw append-nil at (Consumes-append a b c read [] p (rw e at q))
@@ -82,10 +72,6 @@ begun-push kept part b after begun other e = record {
 pub line-of-some : (kept part : List ℕ) → IsBegun kept part → 0 < length kept → line_if_any part ≡ part ∷ []
 line-of-some kept [] begun some = let e : length kept ≡ 0 = ap length begun.front in absurd (omega arith)
 line-of-some kept (b ∷ part) begun some = refl
-
-pub line-of-none : (kept part : List ℕ) → IsBegun kept part → length kept ≡ 0 → line_if_any part ≡ []
-line-of-none kept [] begun none = refl
-line-of-none kept (b ∷ part) begun none = let e : length kept ≡ length (take 257 (b ∷ part)) = ap length begun.front in absurd (omega arith)
 
 whole-at : (bs : List ℕ) (b : ℕ) → b ≡ 10 → list_any is_break bs ≡ false → whole_lines (bs ++ b ∷ []) ≡ bs ∷ []
 whole-at bs b e f = rw e (whole-end bs f)
@@ -249,15 +235,3 @@ module _ {S : Type 0} (answers : S → List ℕ → List ℕ → S → Type 0) w
   Ran-lost OutOfMemory turns first last read r s u w took few (trace, told, never) = absurd never
   Ran-lost InputTooLong turns first last read r s u w took few (trace, told, never) = absurd never
   Ran-lost ReaderFailed turns first last read r s u w took few (trace, told, never) = absurd never
-
-  pub Ran-unread : (n turns : ℕ) (first last : S) (read : List ℕ) (r s u w : Option (List ℕ)) → Consumes r s read → length read ≤ 4096 * turns
-      → AnswersLines answers (Ok n) first last (whole_lines read) u w
-      → (trace : List (Exchange S)) × Ran answers first last trace turns (Err ReaderFailed) r s u w
-  Ran-unread n turns first last read r s u w took few (trace, told, (count, covers)) =
-      (trace, record { read = read; took = took; few = few; whole = tt; in_turn = told; ends = covers })
-
-  pub Ran-cut : (n turns : ℕ) (first last : S) (read : List ℕ) (r s u w : Option (List ℕ)) → Consumes r s read → length read ≤ 4096 * turns
-      → turns ≤ length read → AnswersLines answers (Ok n) first last (whole_lines read) u w
-      → (trace : List (Exchange S)) × Ran answers first last trace turns (Err InputTooLong) r s u w
-  Ran-cut n turns first last read r s u w took few each (trace, told, (count, covers)) =
-      (trace, record { read = read; took = took; few = few; whole = tt; in_turn = told; ends = (each, covers) })

@@ -44,11 +44,6 @@ pub tried_text : {S : Type 0} (facts : Ghosts S) (verbose : Bool) (line : ℕ ×
     → asks facts line.1 text ≡ false → IsTried facts verbose line text old refusal new → DrawsText facts verbose line old refusal new text
 tried_text facts verbose line old new refusal text is tried = rw is tried
 
--- its text is a query
-pub told_text : {S : Type 0} (facts : Ghosts S) (verbose : Bool) (line : ℕ × List ℕ) (old new : Sketch S) (refusal : Option ℕ) (text : List ℕ)
-    → asks facts line.1 text ≡ true → IsQueryTold facts text old refusal new → DrawsText facts verbose line old refusal new text
-told_text facts verbose line old new refusal text is told = rw is told
-
 -- a command that was done, though what it answered was not said or kept
 pub tried_unsaid : {S : Type 0} (facts : Ghosts S) (verbose : Bool) (line : ℕ × List ℕ) (text : List ℕ) (old : Sketch S) (canvas : S) (n : ℕ) (maps : ProjectMaps)
     (firsts : Firsts) → facts.changes old.canvas text (Ok n) canvas → maps ≡ facts.maps_in old.canvas → AddsFirst text maps firsts

@@ -19,7 +19,7 @@ mod walk;
 pub use block_boxes::blocks_of;
 pub use box_place::box_side;
 pub use choice::Choice;
-pub use choosing::{choose_in, choose_in_boxes, choose_ordered};
+pub use choosing::{choose_in_boxes, choose_ordered};
 pub use map_choice::{choose, separates};
 pub use straight::StraightLines;
 pub use strips::by_place;

@@ -129,14 +129,6 @@ entries_long : (at : ℕ) (lumps : List Lump) → length (entries_from at lumps)
 entries_long at [] = refl
 entries_long at (l ∷ lumps) = let n = entries_long (at + length l.bytes) lumps in omega (arith, n)
 
--- how many bytes the WAD has
-pub laid_size : (bytes : List ℕ) (entries : List Entry) (at : ℕ) (d : Draft) → IsLaid bytes entries at d → length bytes + 16 * length entries ≡ wad_size d.lumps + length d.begun
-laid_size bytes entries at d l =
-    let n1 = laid_long bytes entries at d l in
-    let n2 = l.at_is in
-    let n3 = ap (λ (es : List Entry). length es) l.entries_are ∙ entries_long 12 d.lumps in
-    omega (arith, n1, n2, n3)
-
 pub ended :
     (bytes : List ℕ) (entries new : List Entry) (at size end : ℕ) (name : Name8) (d : Draft) → IsLaid bytes entries at d → length name.bytes ≡ 8 → end ≡ length bytes → size ≡ end - at
     → new ≡ entries ++ record { at = at; size = size; name = name } ∷ []

@@ -5,8 +5,8 @@ use lump_records::Name8;
 use std::alloc::{AllocError, Global};
 use std::marker::Model;
 
-/// A WAD that is being written: its bytes so far, with zeros in place of the header, the entries of its lumps, and where
-/// the lump that is begun stands. A contract sees the lumps, and the bytes of the lump that is begun.
+/// A WAD that is being written: its bytes so far, with zeros in place of the header, the entries of its lumps, and
+/// where the lump that is begun stands. A contract sees the lumps, and the bytes of the lump that is begun.
 #[derive(Drop)]
 pub struct WadWriter {
     bytes: Vec<u8>,

@@ -13,7 +13,7 @@ mod lumps;
 mod needs;
 
 pub use drawn::{Drawn, level_lump, read_drawn, read_lists};
-pub use entries::{LevelEntries, LevelForm, levels_in, lump_entry};
+pub use entries::{LevelEntries, LevelForm, levels_in};
 pub use error::ReadError;
 pub use graphics::{Graphics, graphics_in};
 pub use hindrance::{Hindrance, LineNeed};

@@ -7,16 +7,16 @@ use Rattle.std.specs.Prelude.{nat_lt}
 use Rattle.std.proofs.lemmas.Bool.{cases_lt, ltb-true}
 use Rattle.std.proofs.lemmas.Bool.Decides.{nat_tests}
 use Rattle.wad_file.proofs.DraftLemmas.{all_bytes-length, put_both, put_none}
-use Rattle.wad_rebuild.specs.Parts.{Adds, Overfills, RefusesPut}
+use Rattle.wad_rebuild.specs.Parts.{AddsLumps, Overfills, RefusesPut}
 use Rattle.wad_rebuild.specs.declared.error.RebuildError.{RebuildError}
 use Rattle.wad_rebuild.specs.declared.error.RebuildError.TheVariants.{TooLong, NotAWad, DirectoryOutside, NoSuchLevel, LumpOutside, OutOfMemory}
 
 -- nothing is appended
-pub add_none : (a : Draft) → Takes a [] → Adds a a []
+pub add_none : (a : Draft) → Takes a [] → AddsLumps a a []
 add_none a t = record { puts = put_none a t.ready; fits = t }
 
 -- a lump that fits is appended
-pub add_lump : (a b : Draft) (x : Lump) → Takes a (x ∷ []) → Puts a b (x ∷ []) → Adds a b (x ∷ [])
+pub add_lump : (a b : Draft) (x : Lump) → Takes a (x ∷ []) → Puts a b (x ∷ []) → AddsLumps a b (x ∷ [])
 add_lump a b x t p =
     let f = t.fits in
     let n = p.grows in
@@ -47,7 +47,7 @@ one_overfills a x len b t l is so =
     by (inl h) n1 n2 = let e = sym is ∙ so in absurd (grind (arith, nat_tests))
 
 -- one list behind another
-pub add_both : (a b c : Draft) (xs ys : List Lump) → Adds a b xs → Adds b c ys → Adds a c (xs ++ ys)
+pub add_both : (a b c : Draft) (xs ys : List Lump) → AddsLumps a b xs → AddsLumps b c ys → AddsLumps a c (xs ++ ys)
 add_both a b c xs ys p q = record { puts = put_both a b c xs ys p.puts q.puts; fits = q.fits }
 
 overfills_front : (a : Draft) (xs ys : List Lump) → Overfills a xs → Overfills a (xs ++ ys)
@@ -56,7 +56,7 @@ overfills_front a xs ys o =
     let n2 = length-append xs ys in
     omega (arith, n1, n2, o)
 
-overfills_behind : (a b : Draft) (xs ys : List Lump) → Adds a b xs → Overfills b ys → Overfills a (xs ++ ys)
+overfills_behind : (a b : Draft) (xs ys : List Lump) → AddsLumps a b xs → Overfills b ys → Overfills a (xs ++ ys)
 overfills_behind a b xs ys p o =
     let n1 = all_bytes-length xs ys in
     let n2 = length-append xs ys in
@@ -73,7 +73,7 @@ refuse_front a xs ys LumpOutside r = r
 refuse_front a xs ys OutOfMemory r = tt
 
 -- what refuses the second behind the first refuses both
-pub refuse_behind : (a b : Draft) (xs ys : List Lump) (e : RebuildError) → Adds a b xs → RefusesPut b ys e → RefusesPut a (xs ++ ys) e
+pub refuse_behind : (a b : Draft) (xs ys : List Lump) (e : RebuildError) → AddsLumps a b xs → RefusesPut b ys e → RefusesPut a (xs ++ ys) e
 refuse_behind a b xs ys TooLong p r = overfills_behind a b xs ys p r
 refuse_behind a b xs ys NotAWad p r = r
 refuse_behind a b xs ys DirectoryOutside p r = r
@@ -88,15 +88,15 @@ taken xs n x h e =
     ap (λ (k : ℕ). take k xs) s ∙ take-suc xs n x h ∙ ap (λ (y : Lump). take n xs ++ y ∷ []) e
 
 pub add_next :
-    (a b c : Draft) (xs : List Lump) (n : ℕ) (x : Lump) → n < length xs → get_or xs n x ≡ x → Adds a b (take n xs) → Adds b c (x ∷ [])
-    → Adds a c (take (n + 1) xs)
-add_next a b c xs n x h e p q = subst (λ (l : List Lump). Adds a c l) (sym (taken xs n x h e)) (add_both a b c (take n xs) (x ∷ []) p q)
+    (a b c : Draft) (xs : List Lump) (n : ℕ) (x : Lump) → n < length xs → get_or xs n x ≡ x → AddsLumps a b (take n xs) → AddsLumps b c (x ∷ [])
+    → AddsLumps a c (take (n + 1) xs)
+add_next a b c xs n x h e p q = subst (λ (l : List Lump). AddsLumps a c l) (sym (taken xs n x h e)) (add_both a b c (take n xs) (x ∷ []) p q)
 
-pub add_all : (a b : Draft) (xs : List Lump) (n : ℕ) → length xs ≤ n → Adds a b (take n xs) → Adds a b xs
-add_all a b xs n h p = subst (λ (l : List Lump). Adds a b l) (take_all n xs h) p
+pub add_all : (a b : Draft) (xs : List Lump) (n : ℕ) → length xs ≤ n → AddsLumps a b (take n xs) → AddsLumps a b xs
+add_all a b xs n h p = subst (λ (l : List Lump). AddsLumps a b l) (take_all n xs h) p
 
 pub refuse_next :
-    (a b : Draft) (xs : List Lump) (n : ℕ) (x : Lump) (e : RebuildError) → n < length xs → get_or xs n x ≡ x → Adds a b (take n xs)
+    (a b : Draft) (xs : List Lump) (n : ℕ) (x : Lump) (e : RebuildError) → n < length xs → get_or xs n x ≡ x → AddsLumps a b (take n xs)
     → RefusesPut b (x ∷ []) e → RefusesPut a xs e
 refuse_next a b xs n x e h g p r =
     let t = ap (λ (l : List Lump). l ++ drop (n + 1) xs) (sym (taken xs n x h g)) ∙ take-append-drop (n + 1) xs in

@@ -13,7 +13,7 @@ use Rattle.wad_file.specs.declared.error.WadError.{WadError}
 use Rattle.wad_file.proofs.NameLemmas.{any_map}
 use Rattle.wad_levels.specs.Entries.{AreLevels, IsLevelAt}
 use Rattle.wad_levels.specs.declared.entries.LevelEntries.{LevelEntries}
-use Rattle.wad_rebuild.specs.Parts.{Adds, RefusesPut}
+use Rattle.wad_rebuild.specs.Parts.{AddsLumps, RefusesPut}
 use Rattle.wad_rebuild.specs.Rebuilt.{AreRebuilt, IsRebuilt, RefusesRebuild, has_level, is_crowded, lumps_refusal, not_rebuilt, rebuilt_lumps, whole_refusal}
 use Rattle.wad_rebuild.specs.Whole.{IsAcceptedWad, RefusesFinding, RefusesBytes}
 use Rattle.wad_rebuild.specs.declared.error.RebuildError.{RebuildError}
@@ -68,32 +68,13 @@ level_of_name wad name levels a =
 pub of_wad : (wad : List ℕ) (names : List (List ℕ)) → wad_refusal wad ≡ None → whole_refusal wad names ≡ lumps_refusal wad names
 of_wad wad names w = rw w refl
 
-pub of_bytes : (wad : List ℕ) (names : List (List ℕ)) (e : WadError) → wad_refusal wad ≡ Some e → whole_refusal wad names ≡ Some (not_rebuilt e)
-of_bytes wad names e w = rw w refl
-
-pub refuses_inside : (wad : List ℕ) (names : List (List ℕ)) → are_inside wad 0 (lump_count wad) ≡ false → lumps_refusal wad names ≡ Some LumpOutside
-refuses_inside wad names i = rw i refl
-
-pub refuses_crowd : (wad : List ℕ) (names : List (List ℕ)) → are_inside wad 0 (lump_count wad) ≡ true → is_crowded wad ≡ true → lumps_refusal wad names ≡ Some TooLong
-refuses_crowd wad names i c = rw (i, c) refl
-
-pub refuses_names :
-    (wad : List ℕ) (names : List (List ℕ)) → are_inside wad 0 (lump_count wad) ≡ true → is_crowded wad ≡ false → list_all (has_level wad) names ≡ false
-    → lumps_refusal wad names ≡ Some NoSuchLevel
-refuses_names wad names i c n = rw (i, c, n) refl
-
-pub found :
-    (wad : List ℕ) (names : List (List ℕ)) (levels : List LevelEntries) → AreLevels wad levels
-    → are_inside wad 0 (lump_count wad) ≡ true → is_crowded wad ≡ false → list_all (has_level wad) names ≡ true → IsAcceptedWad wad names levels
-found wad names levels a i c n = record { accepted = rw (i, c, n) refl; lumps = i; levels_are = a }
-
 -- ---- what is written
 
 -- the writer has no lump
 pub begun_takes : (a : Draft) → a ≡ no_lumps → Takes a []
 begun_takes a e = let n = ap (λ (d : Draft). wad_size d.lumps) e in record { ready = ap (λ (d : Draft). d.begun) e; fits = omega (arith, n) }
 
-pub finished : (out kind : List ℕ) (a b : Draft) (lumps : List Lump) → a ≡ no_lumps → Adds a b lumps → IsWadOf kind b.lumps out → IsWadOf kind lumps out
+pub finished : (out kind : List ℕ) (a b : Draft) (lumps : List Lump) → a ≡ no_lumps → AddsLumps a b lumps → IsWadOf kind b.lumps out → IsWadOf kind lumps out
 finished out kind a b lumps e p w =
     subst (λ (ls : List Lump). IsWadOf kind ls out) (p.puts.lumps_are ∙ ap (λ (d : Draft). d.lumps ++ lumps) e) w
 
@@ -113,16 +94,6 @@ not_found wad names DirectoryOutside w r = of_wad wad names w ∙ r
 not_found wad names NoSuchLevel w r = of_wad wad names w ∙ r
 not_found wad names LumpOutside w r = of_wad wad names w ∙ r
 not_found wad names OutOfMemory w r = tt
-
-pub outgrown :
-    (wad : List ℕ) (names : List (List ℕ)) (levels : List RebuiltLevel) (e : RebuildError) → whole_refusal wad names ≡ None → AreRebuilt wad names levels
-    → RefusesBytes (rebuilt_lumps wad levels) e → RefusesRebuild wad names e
-outgrown wad names levels TooLong n a r = inr (record { accepted = n; levels = levels; are = a; long = r })
-outgrown wad names levels NotAWad n a r = absurd r
-outgrown wad names levels DirectoryOutside n a r = absurd r
-outgrown wad names levels NoSuchLevel n a r = absurd r
-outgrown wad names levels LumpOutside n a r = absurd r
-outgrown wad names levels OutOfMemory n a r = tt
 
 -- ---- the levels so far, each with what becomes of it
 abbrev pub AreSoFar : List ℕ → List (List ℕ) → List LevelEntries → ℕ → List RebuiltLevel → Type 0

@@ -17,7 +17,7 @@ abbrev pub lumps_up_to : List ℕ → ℕ → RebuiltLevel → List Lump
 lumps_up_to wad k l = lumps_between wad k l.entries.marker ++ lumps_after wad l.entries l.fate
 
 -- these lumps are appended, and the WAD has fewer than four gigabytes
-pub record Adds (old new : Draft) (lumps : List Lump) : Type 0 where
+pub record AddsLumps (old new : Draft) (lumps : List Lump) : Type 0 where
   pub puts : Puts old new lumps
   pub fits : Takes new []
 

@@ -4,7 +4,7 @@ ghost use Rattle.wad_levels.specs.Entries.{IsLevelAt};
 ghost use Rattle.wad_file.specs.Directory.{lump, lump_count};
 ghost use Rattle.wad_file.specs.Drafts.{Takes};
 ghost use Rattle.wad_file.specs.Lumps.{lump_at, lumps_between};
-ghost use Rattle.wad_rebuild.specs.Parts.{Adds, HasLumps, RefusesPut, lumps_up_to};
+ghost use Rattle.wad_rebuild.specs.Parts.{AddsLumps, HasLumps, RefusesPut, lumps_up_to};
 ghost use Rattle.wad_rebuild.specs.Rebuilt.{lumps_after, made_lumps, rebuilt_lumps, ten_bytes, ten_lumps};
 
 use crate::error::RebuildError;
@@ -18,7 +18,7 @@ use wad_levels::{LUMP_NAMES, LevelEntries, level_lump};
 fn put_lump(to: &mut WadWriter, name: Name8, bytes: &[u8]) -> Result<(), RebuildError>
     requires { Takes to.old [] }
     ensures { MatchResult result
-        (λ _. Adds to.old to.new (record { name = name; bytes = bytes.now } ∷ []))
+        (λ _. AddsLumps to.old to.new (record { name = name; bytes = bytes.now } ∷ []))
         (RefusesPut to.old (record { name = name; bytes = bytes.now } ∷ [])) }
 {
     if !to.has_room(bytes.len()) {
@@ -45,7 +45,7 @@ fn put_kept(wad: &Wad<'_>, k: u32, to: &mut WadWriter) -> Result<(), RebuildErro
     requires among { k < lump_count wad.now }
     requires fits { Takes to.old [] }
     ensures { MatchResult result
-        (λ _. Adds to.old to.new (lump_at wad.now k ∷ []))
+        (λ _. AddsLumps to.old to.new (lump_at wad.now k ∷ []))
         (RefusesPut to.old (lump_at wad.now k ∷ [])) }
 {
     put_lump(to, wad.name(k), lump_of(wad, k))
@@ -57,7 +57,7 @@ fn put_between(wad: &Wad<'_>, from: u32, end: u32, to: &mut WadWriter) -> Result
     requires among { end ≤ lump_count wad.now }
     requires fits { Takes to.old [] }
     ensures { MatchResult result
-        (λ _. Adds to.old to.new (lumps_between wad.now from end))
+        (λ _. AddsLumps to.old to.new (lumps_between wad.now from end))
         (RefusesPut to.old (lumps_between wad.now from end)) }
 {
     for k in from..end {
@@ -97,7 +97,7 @@ fn put_ten(
     requires level { IsLevelAt wad.now level }
     requires fits { Takes to.old [] }
     ensures { MatchResult result
-        (λ _. Adds to.old to.new (ten_lumps wad.now level made.now))
+        (λ _. AddsLumps to.old to.new (ten_lumps wad.now level made.now))
         (RefusesPut to.old (ten_lumps wad.now level made.now)) }
 {
     for n in 0..LUMP_NAMES.len() {
@@ -120,7 +120,7 @@ fn put_made(
     requires level { IsLevelAt wad.now level }
     requires fits { Takes to.old [] }
     ensures { MatchResult result
-        (λ _. Adds to.old to.new (made_lumps wad.now level made.now))
+        (λ _. AddsLumps to.old to.new (made_lumps wad.now level made.now))
         (RefusesPut to.old (made_lumps wad.now level made.now)) }
 {
     match put_kept(wad, level.marker, to) {
@@ -139,7 +139,7 @@ fn put_level(wad: &Wad<'_>, level: &RebuiltLevel, to: &mut WadWriter) -> Result<
     requires level { IsLevelAt wad.now level.now.entries }
     requires fits { Takes to.old [] }
     ensures { MatchResult result
-        (λ _. Adds to.old to.new (lumps_after wad.now level.now.entries level.now.fate))
+        (λ _. AddsLumps to.old to.new (lumps_after wad.now level.now.entries level.now.fate))
         (RefusesPut to.old (lumps_after wad.now level.now.entries level.now.fate)) }
 {
     match &level.fate {
@@ -160,7 +160,7 @@ fn put_up_to(
     requires level { IsLevelAt wad.now level.now.entries }
     requires fits { Takes to.old [] }
     ensures { MatchResult result
-        (λ _. Adds to.old to.new (lumps_up_to wad.now k level.now))
+        (λ _. AddsLumps to.old to.new (lumps_up_to wad.now k level.now))
         (RefusesPut to.old (lumps_up_to wad.now k level.now)) }
 {
     match put_between(wad, k, level.entries.marker, to) {
@@ -183,7 +183,7 @@ pub fn put_rebuilt(
     requires levels { All (λ l. IsLevelAt wad.now l.entries) levels.now }
     requires fits { Takes to.old [] }
     ensures { MatchResult result
-        (λ _. Adds to.old to.new (rebuilt_lumps wad.now levels.now))
+        (λ _. AddsLumps to.old to.new (rebuilt_lumps wad.now levels.now))
         (RefusesPut to.old (rebuilt_lumps wad.now levels.now)) }
 {
     let mut next = 0;
