@@ -1,34 +1,28 @@
 -- From what was done over a disk, or of a reader, to what a file leaves open.
 use Rattle.std.proofs.Common.{◌≡◌, ◌⊎◌, inl, inr, ℕ, Bool, List, Option, None, Some, Result, Ok, Err, IfErr, IfOk, refl, sym, subst}
-use Rattle.std.specs.Io.KnownBytes.{Appends}
+use Rattle.std.specs.Io.KnownBytes.{Appends, Keeps}
 use Rattle.std.specs.Prelude.{codes, ◌++◌, ◌∷◌, [], MatchResult, false}
 use Rattle.store_disk.specs.Moments.{LeavesOnly}
 use Rattle.store_disk.specs.Stops.{Each}
 use Rattle.store_disk.specs.declared.disk.Disk.{Ghosts}
 use Rattle.map_tables.specs.Projects.{MapsView, ProjectMaps, empty_project, project_of}
-use Rattle.map_tables.specs.Tables.{Tables}
-use Rattle.store_project.specs.Opening.{IsRefusedRead, StandsOnlyFor}
+use Rattle.store_project.specs.Opening.{HasMaps, IsRefusedRead, StandsOnlyFor}
 use Rattle.store_project.specs.States.{State}
 use Rattle.store_project.specs.declared.reading.Refused.{Refused}
-use Rattle.store_project.specs.Places.{cap_of}
-use Rattle.store_project.specs.Stands.{Stands}
+use Rattle.store_project.specs.Places.{IsAllowed, cap_of}
+use Rattle.store_project.specs.Stands.{Stands, TellsLengths}
 use Rattle.store_project.specs.declared.error.ProjectError.{ProjectError}
 use Rattle.store_project.specs.declared.error.ProjectError.TheVariants.{Refused as RefusedLine, Device, OutOfMemory, Reopen, GenerationsSpent, Damaged, Blank, NotAProject, NotEmpty, BadGeometry}
 use Rattle.store_project.specs.declared.geometry.Geometry.{Geometry}
-use Rattle.wad_levels.specs.Graphics.{GraphicNames}
 use Rattle.run_edit.specs.Recovery.{IsOnlyRead}
-use Rattle.cli_program.specs.Deeds.{IsBuiltInto, IsChecked, IsCheckedAt, IsCreated, IsEdited, IsExamined, IsLintedAt, IsPicturedAt}
+use Rattle.cli_program.specs.Deeds.{IsBuiltInto, IsCheckedAt, IsCreated, IsEdited, IsExamined, IsLintedAt, IsPicturedAt}
 use Rattle.cli_program.specs.Drawing.{EndsUnopened, EndsUnread, IsDrawnOntoSome, IsRefusedFor, IsUnreadOf}
 use Rattle.cli_program.specs.DrawnOver.{IsDrawnOver}
-use Rattle.cli_program.specs.SomeProject.{IsLinted}
-use Rattle.cli_print.specs.Linting.{IsLintedBy, IsLintedIn}
-use Rattle.cli_program.specs.SomeProject.{IsPictured}
-use Rattle.cli_print.specs.Picturing.{IsPicturedOf}
 use Rattle.cli_print.specs.declared.laid_over.Layers.{Layers}
+use Rattle.cli_program.specs.SomeProject.{OverSomeMaps}
 use Rattle.cli_program.specs.Wads.{OverSomeWad, OverWad}
 use Rattle.cli_refusals.specs.Refusals.{IsOfOpening}
-use Rattle.cli_print.specs.Checking.{IsCheckedIn, IsCheckedOf}
-use Rattle.cli_program.specs.Sources.{IsBuiltFrom, IsEditedOver, IsExaminedOf, IsMade, IsOpenedFrom, NotOpened, OverMaps}
+use Rattle.cli_program.specs.Sources.{IsBuiltFrom, IsCounted, IsEditedOver, IsExaminedOf, IsMade, IsOpenedFrom, NotOpened}
 use Rattle.run_edit.specs.declared.error.EditorError.TheVariants.{WriterFailed}
 use Rattle.cli_refusals.specs.declared.refusal.Refusal.{Refusal}
 use Rattle.cli_refusals.specs.declared.refusal.Refusal.TheVariants.{Build, Level, Lines, NoSuchMap, NotAMap, Project, TreeOutside}
@@ -86,29 +80,30 @@ opened_from facts before (Err r) opened reads moments = tt
 
 pub refused_from : {D : Type 0} (facts : Ghosts D) (before : D) (result : Result (State D) (Refused D))
     → IfErr result (λ r. IsRefusedRead (facts.reads r.disk) r.error) → Rereads facts before result → LeavesSame facts before result
-    → IfErr result (λ r. IsRefusedRead (facts.reads before) r.error × IsOnlyRead facts before r.disk)
-refused_from facts before (Ok p) refused reads moments = tt
-refused_from facts before (Err r) refused reads moments =
-    (refused_before (facts.reads before) (facts.reads r.disk) r.error reads.1 refused, record { no_other = reads.0; still = reads.1; any_moment = moments })
+    → IfErr result (λ r. IsCounted facts before r.disk r.error)
+    → IfErr result (λ r. IsRefusedRead (facts.reads before) r.error × IsOnlyRead facts before r.disk × IsCounted facts before r.disk r.error)
+refused_from facts before (Ok p) refused reads moments counted = tt
+refused_from facts before (Err r) refused reads moments counted =
+    (refused_before (facts.reads before) (facts.reads r.disk) r.error reads.1 refused, record { no_other = reads.0; still = reads.1; any_moment = moments }, counted)
 
 -- what isn't opened has no status
-pub no_status : (reads : List ℕ → Type 0) (how : Result ℕ Refusal) (P : ℕ → Type 0) → NotOpened reads how → IfOk how P
-no_status reads how P (e, is, refused) = subst (λ (h : Result ℕ Refusal). IfOk h P) (sym is) tt
+pub no_status : {D : Type 0} (facts : Ghosts D) (before after : D) (how : Result ℕ Refusal) (P : ℕ → Type 0) → NotOpened facts before after how → IfOk how P
+no_status facts before after how P (e, is, refused, counted) = subst (λ (h : Result ℕ Refusal). IfOk h P) (sym is) tt
 
 -- ---- What was made
 
 pub made_told : {D : Type 0} (facts : Ghosts D) (g : Geometry)
     (before after : D) (how : Result ℕ Refusal) → IfErr how (λ r. r ≡ Lines WriterFailed)
-    → Each (facts.may_leave after) (Stands (cap_of g) empty_project 1) → IsMade facts g before after how
-made_told facts g before after (Ok status) failed images = images
-made_told facts g before after (Err e) failed images =
-    subst (λ (r : Refusal). IsMade facts g before after (Err r)) (sym failed) images
+    → Each (facts.may_leave after) (Stands (cap_of g) empty_project 1) → Each (facts.may_leave after) (TellsLengths g) → IsMade facts g before after how
+made_told facts g before after (Ok status) failed images lengths = (images, lengths)
+made_told facts g before after (Err e) failed images lengths =
+    subst (λ (r : Refusal). IsMade facts g before after (Err r)) (sym failed) (images, lengths)
 
 pub created_told : (slot journal : ℕ) (how : Result ℕ Refusal) (u w : Option (List ℕ))
-    → IfOk how (λ status. (status ≡ 0) × Appends u w (codes "created" ++ 10 ∷ [])) → IfErr how (λ r. r ≡ Lines WriterFailed)
+    → IsAllowed slot journal → IfOk how (λ status. (status ≡ 0) × Appends u w (codes "created" ++ 10 ∷ [])) → IfErr how (λ r. r ≡ Lines WriterFailed)
     → IsCreated slot journal how u w
-created_told slot journal (Ok status) u w said failed = said
-created_told slot journal (Err e) u w said failed = subst (λ (r : Refusal). IsCreated slot journal (Err r) u w) (sym failed) refl
+created_told slot journal (Ok status) u w allowed said failed = (said.0, allowed, said.1)
+created_told slot journal (Err e) u w allowed said failed = subst (λ (r : Refusal). IsCreated slot journal (Err r) u w) (sym failed) refl
 
 -- each image stands for the empty project, as the one that was made says
 pub images_empty : (files : List ℕ → Type 0) (g : Geometry) (cap generation : ℕ) (maps : ProjectMaps) → cap ≡ cap_of g → maps ≡ empty_project
@@ -123,84 +118,28 @@ images_empty files g cap generation maps same empty first images = λ file may.
 pub edited : {D : Type 0} (facts : Ghosts D) (before after : D)
     (how : Result ℕ Refusal) (r s u w : Option (List ℕ)) → IsEditedOver facts before after how r s u w
     → IsEdited facts how r s u w
-edited facts before after how r s u w (inl ((e, is, refused), only, unread, unwritten)) =
+edited facts before after how r s u w (inl ((e, is, refused, counted), only, unread, unwritten)) =
     inl (e, is, of_opening (facts.reads before) e refused, unread, unwritten)
 edited facts before after how r s u w (inr (result, first, last, trace, opened, back, is, ran, over)) =
     inr (result, first, last, trace, opened.reopen, is, ran, over)
 
 pub drawn_onto_some : {D : Type 0} (facts : Ghosts D) (before after : D) (verbose : Bool) (script : List ℕ) (how : Result ℕ Refusal) (u w : Option (List ℕ))
     → IsDrawnOver facts before after verbose script how u w → EndsUnopened how u w ⊎ IsDrawnOntoSome facts verbose script how u w
-drawn_onto_some facts before after verbose script how u w (inl ((e, is, refused), only, unwritten)) =
+drawn_onto_some facts before after verbose script how u w (inl ((e, is, refused, counted), only, unwritten)) =
     inl (e, is, of_opening (facts.reads before) e refused, unwritten)
 drawn_onto_some facts before after verbose script how u w (inr (first, last, opened, back, done)) = inr (first, last, opened.reopen, done)
 
-checked_of : (m : Tables) (how : Result ℕ Refusal) (u w : Option (List ℕ)) → IsCheckedOf m how u w → IsChecked how u w
-checked_of m (Ok status) u w (is, told) = (m, is, told)
-checked_of m (Err (Lines e)) u w lost = lost
-checked_of m (Err (Project e)) u w never = absurd never
-checked_of m (Err (Level e)) u w never = absurd never
-checked_of m (Err (Build e)) u w never = absurd never
-checked_of m (Err NoSuchMap) u w never = absurd never
-checked_of m (Err (NotAMap e)) u w never = absurd never
-checked_of m (Err TreeOutside) u w never = absurd never
+-- what was done over a disk, by what it reads and by how its faults are counted
+abbrev pub OverMapsBy : (List ℕ → Type 0) → (ProjectError → Type 0) → Result ℕ Refusal → Option (List ℕ) → Option (List ℕ) → (MapsView → Type 0) → Type 0
+OverMapsBy reads counted how u w does =
+    (((e : ProjectError) × (how ≡ Err (Project e)) × IsRefusedRead reads e × counted e) × Keeps u w)
+    ⊎ ((maps : MapsView) × HasMaps reads maps × does maps)
 
-checked_in : (name : Option (List ℕ)) (maps : MapsView) (how : Result ℕ Refusal) (u w : Option (List ℕ)) → IsCheckedIn name maps how u w → IsCheckedAt name how u w
-checked_in None maps how u w done = inl (checked_of maps.tables how u w done)
-checked_in (Some name) maps how u w (inl (is, none, kept)) = inr (inl (refl, is, kept))
-checked_in (Some name) maps how u w (inr (m, at, done)) = inl (checked_of m how u w done)
-
-pub checked : (name : Option (List ℕ)) (reads : List ℕ → Type 0) (how : Result ℕ Refusal) (u w : Option (List ℕ))
-    → OverMaps reads how u w (λ maps. IsCheckedIn name maps how u w) → IsCheckedAt name how u w
-checked name reads how u w (inl ((e, is, refused), kept)) =
-    subst (λ (h : Result ℕ Refusal). IsCheckedAt name h u w) (sym is) (inl (of_opening reads e refused, kept))
-checked name reads how u w (inr (maps, has, done)) = checked_in name maps how u w done
-
-not_opened : (name : Option (List ℕ)) (names : Option GraphicNames) (maps : MapsView) (e : ProjectError) (u w : Option (List ℕ)) → IsLintedIn name names maps (Err (Project e)) u w → ⊥
-not_opened None names maps e u w never = never
-not_opened (Some name) names maps e u w (inl (is, none, kept)) = cc
-not_opened (Some name) names maps e u w (inr (m, at, never)) = never
-
-linted_of : (asked : Bool) (name : Option (List ℕ)) (maps : MapsView) (how : Result ℕ Refusal) (u w : Option (List ℕ)) → IsLintedBy asked name maps how u w → IsLinted asked name how u w
-linted_of asked name maps (Ok status) u w done = (maps, done)
-linted_of asked name maps (Err (Lines e)) u w done = (maps, done)
-linted_of asked name maps (Err (Project e)) u w (inl (is, never, kept)) = absurd never
-linted_of asked name maps (Err (Project e)) u w (inr (names, are, done)) = absurd (not_opened name names maps e u w done)
-linted_of asked name maps (Err (Level e)) u w done = (maps, done)
-linted_of asked name maps (Err (Build e)) u w done = (maps, done)
-linted_of asked name maps (Err NoSuchMap) u w done = (maps, done)
-linted_of asked name maps (Err (NotAMap e)) u w done = (maps, done)
-linted_of asked name maps (Err TreeOutside) u w done = (maps, done)
-
-linted_some : (asked : Bool) (name : Option (List ℕ)) (reads : List ℕ → Type 0) (how : Result ℕ Refusal) (u w : Option (List ℕ))
-    → OverMaps reads how u w (λ maps. IsLintedBy asked name maps how u w) → IsLinted asked name how u w
-linted_some asked name reads how u w (inl ((e, is, refused), kept)) =
-    subst (λ (h : Result ℕ Refusal). IsLinted asked name h u w) (sym is) (of_opening reads e refused, kept)
-linted_some asked name reads how u w (inr (maps, has, done)) = linted_of asked name maps how u w done
-
-pub linted : (asked : Bool) (name : Option (List ℕ)) (reads : List ℕ → Type 0) (how : Result ℕ Refusal) (u w : Option (List ℕ))
-    → OverMaps reads how u w (λ maps. IsLintedBy asked name maps how u w) → IsLintedAt asked name how u w
-linted asked name reads how u w done = inl (linted_some asked name reads how u w done)
-
-pictured_of : (layers : Layers) (name : Option (List ℕ)) (into : Bool) (maps : MapsView) (how : Result ℕ Refusal) (u w : Option (List ℕ))
-    → IsPicturedOf layers name into maps how u w → IsPictured layers name into how u w
-pictured_of layers name into maps (Ok status) u w done = (maps, done)
-pictured_of layers name into maps (Err (Lines e)) u w done = (maps, done)
-pictured_of layers name into maps (Err NoSuchMap) u w done = (maps, done)
-pictured_of layers name into maps (Err (NotAMap e)) u w never = absurd never
-pictured_of layers name into maps (Err TreeOutside) u w never = absurd never
-pictured_of layers name into maps (Err (Project e)) u w never = absurd never
-pictured_of layers name into maps (Err (Level e)) u w never = absurd never
-pictured_of layers name into maps (Err (Build e)) u w done = (maps, done)
-
-pictured_some : (layers : Layers) (name : Option (List ℕ)) (into : Bool) (reads : List ℕ → Type 0) (how : Result ℕ Refusal) (u w : Option (List ℕ))
-    → OverMaps reads how u w (λ maps. IsPicturedOf layers name into maps how u w) → IsPictured layers name into how u w
-pictured_some layers name into reads how u w (inl ((e, is, refused), kept)) =
-    subst (λ (h : Result ℕ Refusal). IsPictured layers name into h u w) (sym is) (of_opening reads e refused, kept)
-pictured_some layers name into reads how u w (inr (maps, has, done)) = pictured_of layers name into maps how u w done
-
-pub pictured : (layers : Layers) (name : Option (List ℕ)) (into : Bool) (reads : List ℕ → Type 0) (how : Result ℕ Refusal) (u w : Option (List ℕ))
-    → OverMaps reads how u w (λ maps. IsPicturedOf layers name into maps how u w) → IsPicturedAt layers name into how u w
-pictured layers name into reads how u w done = inl (pictured_some layers name into reads how u w done)
+-- what was done with the maps that a disk's bytes stand for was done with some project's
+pub of_some_maps : (reads : List ℕ → Type 0) (counted : ProjectError → Type 0) (how : Result ℕ Refusal) (u w : Option (List ℕ)) (does : MapsView → Type 0)
+    → OverMapsBy reads counted how u w does → OverSomeMaps how u w does
+of_some_maps reads counted how u w does (inl ((e, is, refused, rose), kept)) = inl (e, is, of_opening reads e refused, kept)
+of_some_maps reads counted how u w does (inr (maps, has, done)) = inr (maps, done)
 
 built_of : (maps : MapsView) (how : Result ℕ Refusal) (u w : Option (List ℕ)) → IsBuiltFrom maps how u w → IsBuiltInto how u w
 built_of maps (Ok status) u w (wad, c, is, counted, told) = (maps, wad, c, is, counted, told)
@@ -212,11 +151,11 @@ built_of maps (Err NoSuchMap) u w never = absurd never
 built_of maps (Err (NotAMap e)) u w never = absurd never
 built_of maps (Err TreeOutside) u w never = absurd never
 
-pub built : (reads : List ℕ → Type 0) (how : Result ℕ Refusal) (u w : Option (List ℕ))
-    → OverMaps reads how u w (λ maps. IsBuiltFrom maps how u w) → IsBuiltInto how u w
-built reads how u w (inl ((e, is, refused), kept)) =
+pub built : (reads : List ℕ → Type 0) (counted : ProjectError → Type 0) (how : Result ℕ Refusal) (u w : Option (List ℕ))
+    → OverMapsBy reads counted how u w (λ maps. IsBuiltFrom maps how u w) → IsBuiltInto how u w
+built reads counted how u w (inl ((e, is, refused, rose), kept)) =
     subst (λ (h : Result ℕ Refusal). IsBuiltInto h u w) (sym is) (of_opening reads e refused, kept)
-built reads how u w (inr (maps, has, done)) = built_of maps how u w done
+built reads counted how u w (inr (maps, has, done)) = built_of maps how u w done
 
 pub examined_some : (name : List ℕ) (how : Result ℕ Refusal) (r s u w : Option (List ℕ)) → IsExaminedOf name how r s u w → IsExamined name how u w
 examined_some name (Ok status) r s u w (wad, all, sound, is, told) = (wad, sound, is, told)
@@ -238,6 +177,17 @@ unread_of r s u w how (refusal, is, (e, es, ends, long), kept) = (refusal, is, (
 pub of_some_wad : (r s u w : Option (List ℕ)) (how : Result ℕ Refusal) (does : List ℕ → Type 0) → OverWad r s how u w does → OverSomeWad how u w does
 of_some_wad r s u w how does (inl unread) = inl (unread_of r s u w how unread)
 of_some_wad r s u w how does (inr (wad, all, done)) = inr (wad, done)
+
+-- the same map
+pub checked_as : (m n : Option (List ℕ)) (how : Result ℕ Refusal) (u w : Option (List ℕ)) → m ≡ n → IsCheckedAt m how u w → IsCheckedAt n how u w
+checked_as m n how u w same done = subst (λ (t : Option (List ℕ)). IsCheckedAt t how u w) same done
+
+-- the same layers and map, and into a file or not, for the same reason
+pub pictured_as : (k l : Layers) (m n : Option (List ℕ)) (a b : Bool) (how : Result ℕ Refusal) (u w : Option (List ℕ)) → k ≡ l → m ≡ n → a ≡ b
+    → IsPicturedAt k m a how u w → IsPicturedAt l n b how u w
+pictured_as k l m n a b how u w over same into done =
+    subst (λ (t : Layers). IsPicturedAt t n b how u w) over
+    (subst (λ (t : Option (List ℕ)). IsPicturedAt k t b how u w) same (subst (λ (t : Bool). IsPicturedAt k m t how u w) into done))
 
 -- where a WAD is asked for beside it, or not, for the same reason, and the same map
 pub linted_as : (a b : Bool) (m n : Option (List ℕ)) (how : Result ℕ Refusal) (u w : Option (List ℕ)) → a ≡ b → m ≡ n

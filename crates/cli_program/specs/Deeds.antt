@@ -4,8 +4,7 @@ use Rattle.std.specs.Prelude.{◌≡◌, ◌⊎◌, ℕ, Bool, Option, Result, O
 use Rattle.std.specs.Io.KnownBytes.{Appends, Keeps}
 use Rattle.store_disk.specs.declared.disk.Disk.{Ghosts}
 use Rattle.map_tables.specs.Projects.{MapsView, ProjectMaps, empty_project, project_of}
-use Rattle.map_tables.specs.Tables.{Tables}
-use Rattle.map_checks.specs.Findings.{findings}
+use Rattle.store_project.specs.Places.{IsAllowed}
 use Rattle.store_project.specs.States.{State}
 use Rattle.store_project.specs.declared.error.ProjectError.{ProjectError}
 use Rattle.run_edit.specs.Answers.{RepliesInMemory}
@@ -16,20 +15,21 @@ use Rattle.cli_program.specs.Dumped.{IsDumpedInto}
 use Rattle.run_edit.specs.Editing.{RepliesInProject}
 use Rattle.run_edit.specs.Inspections.{IsInspected}
 use Rattle.cli_program.specs.LevelNames.{IsListed}
-use Rattle.cli_program.specs.SomeProject.{IsLinted}
-use Rattle.cli_program.specs.SomeProject.{IsPictured}
+use Rattle.cli_program.specs.SomeProject.{OverSomeMaps}
 use Rattle.cli_program.specs.Wads.{OverSomeWad}
 use Rattle.cli_print.specs.Reading.{turns}
+use Rattle.cli_print.specs.Checking.{IsCheckedIn}
 use Rattle.cli_print.specs.LevelLines.{IsWadChecked, IsWadLintedBy}
+use Rattle.cli_print.specs.Linting.{IsLintedBy}
+use Rattle.cli_print.specs.Picturing.{IsPicturedOf}
 use Rattle.cli_print.specs.LevelPicture.{IsLevelPicturedOf}
 use Rattle.cli_program.specs.Rebuilding.{IsRebuiltInto}
 use Rattle.cli_program.specs.Salvaging.{IsSalvagedInto}
 use Rattle.cli_print.specs.declared.laid_over.Layers.{Layers}
-use Rattle.cli_refusals.specs.Refusals.{IsOfOpening, NotBuilt, NotChecked, NotCreated, NotExamined}
+use Rattle.cli_refusals.specs.Refusals.{IsOfOpening, NotBuilt, NotCreated, NotExamined}
 use Rattle.run_edit.specs.Runs.{Exchange, Ran}
 use Rattle.run_edit.specs.Sessions.{RunsOver}
-use Rattle.cli_refusals.specs.Statuses.{run_end, status_after, status_told}
-use Rattle.run_edit.specs.Texts.{findings_text}
+use Rattle.cli_refusals.specs.Statuses.{run_end, status_told}
 use Rattle.cli_words.specs.declared.asked.Request.{Request}
 use Rattle.cli_words.specs.declared.asked.Request.TheVariants.{Scratch, Create, Edit, Check, Lint, Draw, TryScript, Dump, Salvage, Picture, Inspect, Levels, Build, Rebuild}
 use Rattle.wad_build.specs.declared.counted.BuildCounts.{BuildCounts}
@@ -50,10 +50,11 @@ IsScratched how reader-old reader-new writer-old writer-new =
     × Ran (RepliesInMemory longest_body) empty_project last trace turns result reader-old reader-new
     writer-old writer-new
 
--- `created` was written, or it was refused
+-- `created` was written, and the lengths that were asked for are allowed; or it was refused
 abbrev pub IsCreated : ℕ → ℕ → Result ℕ Refusal → Option (List ℕ) → Option (List ℕ) → Type 0
 IsCreated slot journal (Ok status) writer-old writer-new =
-    (status ≡ 0) × Appends writer-old writer-new (codes "created" ++ 10 ∷ [])
+    (status ≡ 0) × IsAllowed slot journal
+    × Appends writer-old writer-new (codes "created" ++ 10 ∷ [])
 IsCreated slot journal (Err refusal) writer-old writer-new =
     NotCreated slot journal refusal writer-old writer-new
 
@@ -71,20 +72,13 @@ IsEdited {D = D} facts how reader-old reader-new writer-old writer-new =
     reader-old reader-new writer-old writer-new
     × RunsOver facts first last trace)
 
--- the findings of a map were written, and the status tells whether there are any; or it was refused
-abbrev pub IsChecked : Result ℕ Refusal → Option (List ℕ) → Option (List ℕ) → Type 0
-IsChecked (Ok status) writer-old writer-new =
-    (m : Tables) × (status ≡ status_after (length (findings m)))
-    × Appends writer-old writer-new (findings_text (findings m))
-IsChecked (Err refusal) writer-old writer-new = NotChecked refusal writer-old writer-new
-
--- this was done with a map of some project, the one of the name where one is asked for; or there is
--- none of this name, and nothing was written; or it was done with a level of some WAD
+-- the findings of a map of some project, or of a level of some WAD, were written: of the one of the
+-- name where one is asked for
 abbrev pub IsCheckedAt : Option (List ℕ) → Result ℕ Refusal → Option (List ℕ) → Option (List ℕ)
     → Type 0
 IsCheckedAt name how writer-old writer-new =
-    IsChecked how writer-old writer-new
-    ⊎ ((is_some name ≡ true) × (how ≡ Err of.NoSuchMap) × Keeps writer-old writer-new)
+    OverSomeMaps how writer-old writer-new
+    (λ maps. IsCheckedIn name maps how writer-old writer-new)
     ⊎ OverSomeWad how writer-old writer-new
     (λ wad. IsWadChecked wad name how writer-old writer-new)
 
@@ -92,7 +86,8 @@ IsCheckedAt name how writer-old writer-new =
 abbrev pub IsLintedAt : Bool → Option (List ℕ) → Result ℕ Refusal → Option (List ℕ)
     → Option (List ℕ) → Type 0
 IsLintedAt asked name how writer-old writer-new =
-    IsLinted asked name how writer-old writer-new
+    OverSomeMaps how writer-old writer-new
+    (λ maps. IsLintedBy asked name maps how writer-old writer-new)
     ⊎ OverSomeWad how writer-old writer-new
     (λ wad. IsWadLintedBy asked wad name how writer-old writer-new)
 
@@ -100,7 +95,8 @@ IsLintedAt asked name how writer-old writer-new =
 abbrev pub IsPicturedAt : Layers → Option (List ℕ) → Bool → Result ℕ Refusal → Option (List ℕ)
     → Option (List ℕ) → Type 0
 IsPicturedAt layers name into how writer-old writer-new =
-    IsPictured layers name into how writer-old writer-new
+    OverSomeMaps how writer-old writer-new
+    (λ maps. IsPicturedOf layers name into maps how writer-old writer-new)
     ⊎ OverSomeWad how writer-old writer-new
     (λ wad. IsLevelPicturedOf layers name into wad how writer-old writer-new)
 

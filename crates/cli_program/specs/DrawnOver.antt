@@ -14,7 +14,7 @@ use Rattle.cli_refusals.specs.declared.refusal.Refusal.{Refusal}
 abbrev pub IsDrawnOver : {D : Type 0} → Ghosts D → D → D → Bool → List ℕ → Result ℕ Refusal
     → Option (List ℕ) → Option (List ℕ) → Type 0
 IsDrawnOver {D = D} facts before after verbose script how writer-old writer-new =
-    (NotOpened (facts.reads before) how × IsOnlyRead facts before after
+    (NotOpened facts before after how × IsOnlyRead facts before after
     × Keeps writer-old writer-new)
     ⊎ ((first : State D) × (last : State D) × IsOpenedFrom facts before first
     × (after ≡ last.disk)

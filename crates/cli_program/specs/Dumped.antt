@@ -2,8 +2,9 @@
 use Rattle.std.specs.Prelude.{◌⊎◌, ℕ, Bool, Option, Result, List}
 use Rattle.std.specs.Io.KnownBytes.{Keeps}
 use Rattle.cli_program.specs.Drawing.{EndsUnread, IsRefusedFor, IsUnreadOf}
-use Rattle.cli_program.specs.SomeProject.{IsDumped}
+use Rattle.cli_program.specs.SomeProject.{OverSomeMaps}
 use Rattle.cli_refusals.specs.declared.refusal.Refusal.{Refusal}
+use Rattle.cli_dump.specs.Dumping.{IsDumpedIn}
 use Rattle.cli_dump.specs.LevelDumps.{IsWadDumped}
 use Rattle.cli_print.specs.Reading.{ReadsAll}
 
@@ -21,7 +22,8 @@ OverWadTold reader-old reader-new how writer-old writer-new errors-old errors-ne
 abbrev pub IsDumpedAt : List (List ℕ) → Bool → Result ℕ Refusal → Option (List ℕ)
     → Option (List ℕ) → Option (List ℕ) → Option (List ℕ) → Type 0
 IsDumpedAt names exact how writer-old writer-new errors-old errors-new =
-    (IsDumped names how writer-old writer-new × Keeps errors-old errors-new)
+    (OverSomeMaps how writer-old writer-new
+    (λ maps. IsDumpedIn names maps how writer-old writer-new) × Keeps errors-old errors-new)
     ⊎ (EndsUnread how writer-old writer-new × Keeps errors-old errors-new)
     ⊎ ((wad : List ℕ)
     × IsWadDumped wad names exact how writer-old writer-new errors-old errors-new)

@@ -1,7 +1,8 @@
 -- What the request `dump --salvage` writes (docs/COMMANDS.md, "The program").
 use Rattle.std.specs.Prelude.{◌≡◌, ◌⊎◌, ℕ, Option, None, Some, Result, Err, List, ◌++◌, codes, decimal}
 use Rattle.std.specs.Io.KnownBytes.{Keeps}
-use Rattle.store_disk.specs.Stops.{Each}
+use Rattle.store_disk.specs.Stops.{Each, Rose}
+use Rattle.store_disk.specs.declared.disk.Disk.{Ghosts}
 use Rattle.map_tables.specs.Projects.{MapsView, project_of}
 use Rattle.store_project.specs.declared.error.ProjectError.{ProjectError}
 use Rattle.store_project.specs.declared.error.ProjectError.TheVariants as opening
@@ -52,11 +53,14 @@ IsUnreadFile how writer-old writer-new =
     ((how ≡ Err (of.Project opening.Device)) ⊎ (how ≡ Err (of.Project opening.OutOfMemory)))
     × Keeps writer-old writer-new
 
--- the same of the bytes that a disk reads, or they were not read
-abbrev pub IsSalvagedOver : (List ℕ → Type 0) → Result ℕ Refusal → Option (List ℕ)
+-- the same of the bytes that a disk reads, or they were not read; a fault is told only where the
+-- disk's count of failures rose
+abbrev pub IsSalvagedOver : {D : Type 0} → Ghosts D → D → D → Result ℕ Refusal → Option (List ℕ)
     → Option (List ℕ) → Type 0
-IsSalvagedOver reads how writer-old writer-new = IsUnreadFile how writer-old writer-new
-    ⊎ ((file : List ℕ) × Each reads (λ other. file ≡ other)
+IsSalvagedOver facts before after how writer-old writer-new =
+    (IsUnreadFile how writer-old writer-new × (how ≡ Err (of.Project opening.Device)
+    → Rose (facts.failures before) (facts.failures after)))
+    ⊎ ((file : List ℕ) × Each (facts.reads before) (λ other. file ≡ other)
     × IsSalvagedFrom file how writer-old writer-new)
 
 -- the same of some file's bytes, since a file tells none

@@ -3,12 +3,12 @@
 use Rattle.std.specs.Prelude.{◌≡◌, ◌⊎◌, ℕ, Bool, false, Option, None, Result, Ok, Err, List}
 use Rattle.std.specs.Io.KnownBytes.{Appends, Keeps}
 use Rattle.store_disk.specs.Reading.{OnlyReads}
-use Rattle.store_disk.specs.Stops.{Each}
+use Rattle.store_disk.specs.Stops.{Each, Rose}
 use Rattle.store_disk.specs.declared.disk.Disk.{Ghosts}
 use Rattle.map_tables.specs.Projects.{MapsView, empty_project, project_of}
 use Rattle.store_project.specs.Opening.{HasMaps, IsRefusedRead, RefusesCreate, StandsOnlyFor}
 use Rattle.store_project.specs.Places.{cap_of}
-use Rattle.store_project.specs.Stands.{Stands}
+use Rattle.store_project.specs.Stands.{Stands, TellsLengths}
 use Rattle.store_project.specs.States.{State}
 use Rattle.store_project.specs.declared.error.ProjectError.{ProjectError}
 use Rattle.store_project.specs.declared.error.ProjectError.TheVariants.{Device}
@@ -41,34 +41,42 @@ pub record IsOpenedFrom {D : Type 0} (facts : Ghosts D) (before : D)
       (StandsOnlyFor first.cap (project_of first.maps) first.generation)
   pub only_read : IsOnlyRead facts before first.disk
 
--- no project was opened, because of the disk's bytes, by a fault or for lack of memory
-abbrev pub NotOpened : (List ℕ → Type 0) → Result ℕ Refusal → Type 0
-NotOpened reads how = (e : ProjectError) × (how ≡ Err (of.Project e)) × IsRefusedRead reads e
+-- a fault of the device is told only where the disk's count of failures rose
+abbrev pub IsCounted : {D : Type 0} → Ghosts D → D → D → ProjectError → Type 0
+IsCounted facts before after e = e ≡ Device → Rose (facts.failures before) (facts.failures after)
+
+-- no project was opened, because of the disk's bytes, by a fault that is counted or for lack of memory
+abbrev pub NotOpened : {D : Type 0} → Ghosts D → D → D → Result ℕ Refusal → Type 0
+NotOpened facts before after how =
+    (e : ProjectError) × (how ≡ Err (of.Project e)) × IsRefusedRead (facts.reads before) e
+    × IsCounted facts before after e
 
 -- no project was opened and nothing written, or this was done with the maps that the disk's bytes
 -- stand for
-abbrev pub OverMaps : (List ℕ → Type 0) → Result ℕ Refusal → Option (List ℕ) → Option (List ℕ)
-    → (MapsView → Type 0) → Type 0
-OverMaps reads how writer-old writer-new does =
-    (NotOpened reads how × Keeps writer-old writer-new)
-    ⊎ ((maps : MapsView) × HasMaps reads maps × does maps)
+abbrev pub OverMaps : {D : Type 0} → Ghosts D → D → D → Result ℕ Refusal → Option (List ℕ)
+    → Option (List ℕ) → (MapsView → Type 0) → Type 0
+OverMaps facts before after how writer-old writer-new does =
+    (NotOpened facts before after how × Keeps writer-old writer-new)
+    ⊎ ((maps : MapsView) × HasMaps (facts.reads before) maps × does maps)
 
 -- ---- Requests
 
--- `created` was written or the writer failed, and each image is the empty project's; or none was
--- made, and the disk was only read where it was no fault
+-- `created` was written or the writer failed, and each image is the empty project's, with the lengths
+-- that were asked for; or none was made, and the disk was only read where it was no fault
 abbrev pub IsMade : {D : Type 0} → Ghosts D → Geometry → D → D → Result ℕ Refusal → Type 0
 IsMade facts geometry before after (Err (of.Project e)) =
     RefusesCreate (facts.reads before) geometry e × ((e ≡ Device) ⊎ OnlyReads facts before after)
+    × IsCounted facts before after e
 IsMade facts geometry before after _ =
     Each (facts.may_leave after) (Stands (cap_of geometry) empty_project 1)
+    × Each (facts.may_leave after) (TellsLengths geometry)
 
 -- No project was opened, and nothing read or written; or the lines of the input were answered over
 -- the one that the disk's bytes stand for, and the disk is as the run left it.
 abbrev pub IsEditedOver : {D : Type 0} → Ghosts D → D → D → Result ℕ Refusal → Option (List ℕ)
     → Option (List ℕ) → Option (List ℕ) → Option (List ℕ) → Type 0
 IsEditedOver {D = D} facts before after how reader-old reader-new writer-old writer-new =
-    (NotOpened (facts.reads before) how × IsOnlyRead facts before after
+    (NotOpened facts before after how × IsOnlyRead facts before after
     × Keeps reader-old reader-new × Keeps writer-old writer-new)
     ⊎ ((result : Result ℕ EditorError) × (first : State D) × (last : State D)
     × (trace : List (Exchange (State D)))

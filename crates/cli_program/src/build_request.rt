@@ -9,7 +9,7 @@ ghost use Rattle.cli_refusals.specs.Refusals.{RefusesFile};
 ghost use Rattle.run_edit.specs.Recovery.{IsOnlyRead};
 ghost use Rattle.cli_program.specs.Sources.{IsBuiltFrom, OverMaps};
 
-use crate::over_disk::{HandedBack, not_opened};
+use crate::over_disk::{HandedBack, maps_on};
 use cli_files::{Cause, Form, Hold, NewFile, open_new};
 use cli_refusals::Refusal;
 use map_tables::Maps;
@@ -18,7 +18,6 @@ use std::alloc::Global;
 use std::fs::{Files, OpenFile};
 use std::io::Write;
 use store_disk::Disk;
-use store_project::read_maps;
 use wad_build::BuildCounts;
 
 // Builds the maps of a project into a new file, which replaces the one at its path once it is whole, and returns the
@@ -105,17 +104,17 @@ pub fn build<E: Files, D: Disk, W: Write>(
 where
     E::File: Hold,
     ensures small { IfOk result.how (λ s. s ≤ 3) }
-    ensures built { OverMaps (D.reads disk) result.how
+    ensures built { OverMaps D.Disk disk result.disk result.how
         (W.contents writer.old) (W.contents writer.new)
         (λ maps. IsBuiltFrom maps result.how (W.contents writer.old) (W.contents writer.new)) }
     ensures only_read { IsOnlyRead D.Disk disk result.disk }
 {
     let mut maps = Maps::new(alloc);
-    match read_maps(alloc, disk, &mut maps) {
+    match maps_on(alloc, disk, &mut maps) {
         Ok(disk) => HandedBack {
             how: build_at(alloc, rt, &maps, path, writer, why),
             disk,
         },
-        Err(refused) => not_opened(refused),
+        Err(back) => back,
     }
 }

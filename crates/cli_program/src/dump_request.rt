@@ -6,7 +6,7 @@ ghost use Rattle.cli_program.specs.Dumped.{OverWadTold};
 ghost use Rattle.cli_program.specs.Sources.{OverMaps};
 ghost use Rattle.cli_dump.specs.LevelDumps.{IsWadDumped};
 
-use crate::over_disk::{HandedBack, not_opened};
+use crate::over_disk::{HandedBack, maps_on};
 use cli_dump::{tell_level_dumps, tell_lines_of};
 use cli_print::{TURNS, read_whole};
 use cli_refusals::Refusal;
@@ -14,7 +14,6 @@ use map_tables::Maps;
 use std::alloc::Global;
 use std::io::{Read, Write};
 use store_disk::Disk;
-use store_project::read_maps;
 
 /// Writes the lines that draw the maps of a disk's project again, from the empty project, or, if there are names, those
 /// of each map with one of the names. The disk is only read.
@@ -26,19 +25,19 @@ pub fn dump<D: Disk, W: Write>(
     writer: &mut W,
 ) -> HandedBack<D>
     ensures small { IfOk result.how (λ s. s ≤ 3) }
-    ensures dumped { OverMaps (D.reads disk) result.how
+    ensures dumped { OverMaps D.Disk disk result.disk result.how
         (W.contents writer.old) (W.contents writer.new)
         (λ maps. IsDumpedIn (map string_bytes names.now) maps result.how
         (W.contents writer.old) (W.contents writer.new)) }
     ensures only_read { IsOnlyRead D.Disk disk result.disk }
 {
     let mut maps = Maps::new(alloc);
-    match read_maps(alloc, disk, &mut maps) {
+    match maps_on(alloc, disk, &mut maps) {
         Ok(disk) => HandedBack {
             how: tell_lines_of(alloc, &maps, names, writer),
             disk,
         },
-        Err(refused) => not_opened(refused),
+        Err(back) => back,
     }
 }
 

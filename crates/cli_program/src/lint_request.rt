@@ -7,7 +7,7 @@ ghost use Rattle.run_edit.specs.Recovery.{IsOnlyRead};
 ghost use Rattle.cli_program.specs.Sources.{OverMaps};
 ghost use Rattle.cli_program.specs.Wads.{OverWad};
 
-use crate::over_disk::{HandedBack, not_opened};
+use crate::over_disk::{HandedBack, maps_on};
 use cli_files::Cause;
 use cli_print::{TURNS, read_whole, tell_beside, tell_levels_beside};
 use cli_refusals::Refusal;
@@ -15,7 +15,6 @@ use map_tables::Maps;
 use std::fs::Files;
 use std::io::{Read, Write};
 use store_disk::Disk;
-use store_project::read_maps;
 
 /// Writes about each map of a disk's project, or about the one with the name alone: the findings of `check`, then the
 /// warnings of `map_lint`, then, if `iwad` is given, those of the flats and textures that the WAD at that path lacks.
@@ -31,19 +30,19 @@ pub fn lint<E: AllocGlobal + Files, D: Disk, W: Write>(
     why: &mut Option<Cause>,
 ) -> HandedBack<D>
     ensures small { IfOk result.how (λ s. s ≤ 3) }
-    ensures linted { OverMaps (D.reads disk) result.how
+    ensures linted { OverMaps D.Disk disk result.disk result.how
         (W.contents writer.old) (W.contents writer.new)
         (λ maps. IsLintedBy (is_some iwad.entry) (option_map (λ s. s.now) name.entry) maps
         result.how (W.contents writer.old) (W.contents writer.new)) }
     ensures only_read { IsOnlyRead D.Disk disk result.disk }
 {
     let mut maps = Maps::new(rt.alloc());
-    match read_maps(rt.alloc(), disk, &mut maps) {
+    match maps_on(rt.alloc(), disk, &mut maps) {
         Ok(disk) => HandedBack {
             how: tell_beside(rt, &maps, name, iwad, writer, why),
             disk,
         },
-        Err(refused) => not_opened(refused),
+        Err(back) => back,
     }
 }
 

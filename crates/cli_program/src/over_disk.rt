@@ -4,11 +4,11 @@
 //! inlined, here and in the other requests: else the frame of `perform` would have room for all of them, and touch it.
 ghost use Rattle.std.specs.Prelude.{◌≡◌, ◌≤◌, Err, IfErr, IfOk, option_map};
 ghost use Rattle.std.specs.Io.KnownBytes.{Appends};
-ghost use Rattle.store_project.specs.Opening.{IsRefusedRead};
+ghost use Rattle.store_project.specs.Opening.{HasMaps, IsRefusedRead};
 ghost use Rattle.cli_program.specs.Deeds.{IsCreated};
 ghost use Rattle.run_edit.specs.Recovery.{IsOnlyRead};
 ghost use Rattle.cli_print.specs.Checking.{IsCheckedIn};
-ghost use Rattle.cli_program.specs.Sources.{IsEditedOver, IsMade, IsOpenedFrom, OverMaps};
+ghost use Rattle.cli_program.specs.Sources.{IsCounted, IsEditedOver, IsMade, IsOpenedFrom, NotOpened, OverMaps};
 ghost use Rattle.run_edit.specs.declared.error.EditorError.TheVariants.{WriterFailed};
 ghost use Rattle.cli_refusals.specs.declared.refusal.Refusal.{Refusal};
 
@@ -29,11 +29,11 @@ pub struct HandedBack<D> {
 }
 
 /// The project that a disk's bytes stand for, or why there is none, and the disk, which is only read. A request that
-/// needs the maps alone reads them by `read_maps` into its own.
+/// needs the maps alone reads them by `maps_on` into its own.
 pub fn open_project<D: Disk>(alloc: Global, disk: D) -> Result<Project<D>, Refused<D>>
     ensures opened { IfOk result (IsOpenedFrom D.Disk disk) }
     ensures refused { IfErr result (λ r. IsRefusedRead (D.reads disk) r.error
-        × IsOnlyRead D.Disk disk r.disk) }
+        × IsOnlyRead D.Disk disk r.disk × IsCounted D.Disk disk r.disk r.error) }
 {
     Project::open(alloc, disk)
 }
@@ -46,6 +46,20 @@ pub fn not_opened<D: Disk>(refused: Refused<D>) -> HandedBack<D>
     HandedBack {
         how: Err(Refusal::Project(refused.error)),
         disk: refused.disk,
+    }
+}
+
+/// Reads the maps that a disk's bytes stand for in place of those that are given, and hands back the disk, which is
+/// only read; or how a request ends without them.
+pub fn maps_on<D: Disk>(alloc: Global, disk: D, maps: &mut Maps) -> Result<D, HandedBack<D>>
+    ensures read { IfOk result (λ d. HasMaps (D.reads disk) maps.new × IsOnlyRead D.Disk disk d) }
+    ensures refused { IfErr result (λ r. NotOpened D.Disk disk r.disk r.how
+        × IsOnlyRead D.Disk disk r.disk) }
+    ensures small { IfErr result (λ r. IfOk r.how (λ s. s ≤ 3)) }
+{
+    match read_maps(alloc, disk, maps) {
+        Ok(disk) => Ok(disk),
+        Err(refused) => Err(not_opened(refused)),
     }
 }
 
@@ -124,18 +138,18 @@ pub fn check<D: Disk, W: Write>(
     writer: &mut W,
 ) -> HandedBack<D>
     ensures small { IfOk result.how (λ s. s ≤ 3) }
-    ensures found { OverMaps (D.reads disk) result.how
+    ensures found { OverMaps D.Disk disk result.disk result.how
         (W.contents writer.old) (W.contents writer.new)
         (λ maps. IsCheckedIn (option_map (λ s. s.now) name.entry) maps result.how
         (W.contents writer.old) (W.contents writer.new)) }
     ensures only_read { IsOnlyRead D.Disk disk result.disk }
 {
     let mut maps = Maps::new(alloc);
-    match read_maps(alloc, disk, &mut maps) {
+    match maps_on(alloc, disk, &mut maps) {
         Ok(disk) => HandedBack {
             how: tell_findings(alloc, &maps, name, writer),
             disk,
         },
-        Err(refused) => not_opened(refused),
+        Err(back) => back,
     }
 }

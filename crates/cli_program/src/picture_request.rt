@@ -6,7 +6,7 @@ ghost use Rattle.cli_program.specs.Sources.{OverMaps};
 ghost use Rattle.cli_program.specs.Wads.{OverWad};
 ghost use Rattle.cli_print.specs.LevelPicture.{IsLevelPicturedOf};
 
-use crate::over_disk::{HandedBack, not_opened};
+use crate::over_disk::{HandedBack, maps_on};
 use cli_files::{Cause, Hold};
 use cli_print::{TURNS, Wanted, draw, draw_level, read_whole};
 use cli_refusals::Refusal;
@@ -15,7 +15,6 @@ use std::alloc::Global;
 use std::fs::Files;
 use std::io::{Read, Write};
 use store_disk::Disk;
-use store_project::read_maps;
 
 /// Draws a map of a disk's project as a picture, onto the output or into a file, or notes why the file can't be made.
 /// The file is whole or as it was; it may be new, empty or a picture of a map. The disk is only read.
@@ -31,7 +30,7 @@ pub fn picture<E: Files, D: Disk, W: Write>(
 where
     E::File: Hold,
     ensures small { IfOk result.how (λ s. s ≤ 3) }
-    ensures pictured { OverMaps (D.reads disk) result.how
+    ensures pictured { OverMaps D.Disk disk result.disk result.how
         (W.contents writer.old) (W.contents writer.new)
         (λ maps. IsPicturedOf wanted.entry.layers (option_map (λ s. s.now) wanted.entry.map)
         (is_some wanted.entry.out) maps result.how
@@ -39,12 +38,12 @@ where
     ensures only_read { IsOnlyRead D.Disk disk result.disk }
 {
     let mut maps = Maps::new(alloc);
-    match read_maps(alloc, disk, &mut maps) {
+    match maps_on(alloc, disk, &mut maps) {
         Ok(disk) => HandedBack {
             how: draw(alloc, rt, &maps, wanted, writer, why),
             disk,
         },
-        Err(refused) => not_opened(refused),
+        Err(back) => back,
     }
 }
 

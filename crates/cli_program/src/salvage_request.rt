@@ -2,7 +2,7 @@
 ghost use Rattle.std.specs.Prelude.{◌≡◌, ◌≤◌, ◌⊎◌, IfErr, IfOk, OnOk};
 ghost use Rattle.std.specs.Io.KnownBytes.{Appends};
 ghost use Rattle.store_disk.specs.Reading.{OnlyReads};
-ghost use Rattle.store_disk.specs.Stops.{Each};
+ghost use Rattle.store_disk.specs.Stops.{Each, Rose};
 ghost use Rattle.run_edit.specs.Recovery.{IsOnlyRead};
 ghost use Rattle.cli_program.specs.Salvaging.{IsSalvagedFrom, IsSalvagedOver, damage_line, damage_text, refusal_for_salvage, whole_text};
 
@@ -34,6 +34,8 @@ fn read_bytes<D: Disk>(alloc: Global, disk: &mut D) -> Result<Vec<u8>, ProjectEr
     ensures refused { IfErr result
         (λ e. (e ≡ ProjectError.Device) ⊎ (e ≡ ProjectError.OutOfMemory)) }
     ensures reads { OnlyReads D.Disk disk.old disk.new }
+    ensures count { IfErr result (λ e. e ≡ ProjectError.Device
+        → Rose (D.failures disk.old) (D.failures disk.new)) }
 {
     let Ok(len) = disk.len() else {
         return Err(ProjectError::Device);
@@ -110,7 +112,7 @@ pub fn salvage_lines<D: Disk, W: Write, F: Write>(
     faults: &mut F,
 ) -> HandedBack<D>
     ensures small { IfOk result.how (λ s. s ≤ 3) }
-    ensures salvaged { IsSalvagedOver (D.reads disk) result.how
+    ensures salvaged { IsSalvagedOver D.Disk disk result.disk result.how
         (W.contents writer.old) (W.contents writer.new) }
     ensures only_read { IsOnlyRead D.Disk disk result.disk }
 {

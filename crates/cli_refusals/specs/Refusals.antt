@@ -8,7 +8,6 @@ use Rattle.store_project.specs.Places.{IsAllowed}
 use Rattle.store_project.specs.declared.error.ProjectError.{ProjectError}
 use Rattle.store_project.specs.declared.error.ProjectError.TheVariants.{Device, OutOfMemory, Damaged, Blank, NotAProject, NotEmpty, BadGeometry}
 use Rattle.run_edit.specs.Inspections.{RefusesInspection}
-use Rattle.run_edit.specs.Runs.{Unwritten}
 use Rattle.run_edit.specs.declared.error.EditorError.{EditorError}
 use Rattle.run_edit.specs.declared.error.EditorError.TheVariants.{WriterFailed}
 use Rattle.run_edit.specs.declared.error.WriteError.TheVariants as writing
@@ -38,13 +37,6 @@ NotCreated slot journal (of.Project e) writer-old writer-new =
     IsOfCreating slot journal e × Keeps writer-old writer-new
 NotCreated slot journal (of.Lines e) writer-old writer-new = e ≡ WriterFailed
 NotCreated slot journal _ writer-old writer-new = ⊥
-
--- no project was opened, or there is no memory for the findings, and then nothing was written; or
--- the writer failed
-abbrev pub NotChecked : Refusal → Option (List ℕ) → Option (List ℕ) → Type 0
-NotChecked (of.Project e) writer-old writer-new = IsOfOpening e × Keeps writer-old writer-new
-NotChecked (of.Lines e) writer-old writer-new = Unwritten e writer-old writer-new
-NotChecked _ writer-old writer-new = ⊥
 
 -- a PWAD of these maps was not written into a file: a map isn't built, and named, or the file can't
 -- be written

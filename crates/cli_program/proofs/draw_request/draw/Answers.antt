@@ -4,10 +4,11 @@ use Rattle.cli_program.proofs.Sources.{no_status}
 use Rattle.cli_program.proofs.draw_request.draw.Goals as goal
 
 pub returns-in-Err-clause-small : goal.returns-in-Err-clause-small
-returns-in-Err-clause-small g c = no_status (g.D.Disk.reads c.args.disk) c.not_opened.result.how _ (c.in-Err.refused.error, c.not_opened.ensures.how, c.in-Err.ensures.refused.0)
+returns-in-Err-clause-small g c = no_status g.D.Disk c.args.disk c.in-Err.refused.disk c.not_opened.result.how _
+    (c.in-Err.refused.error, c.not_opened.ensures.how, c.in-Err.ensures.refused.0, c.in-Err.ensures.refused.2)
 
 pub returns-in-Err-clause-drawn : goal.returns-in-Err-clause-drawn
-returns-in-Err-clause-drawn g c = inl ((c.in-Err.refused.error, c.not_opened.ensures.how, c.in-Err.ensures.refused.0), (rw c.not_opened.ensures.disk c.in-Err.ensures.refused.1), Keeps-refl (g.W.Write.contents c.args.writer.now))
+returns-in-Err-clause-drawn g c = rw c.not_opened.ensures.disk (inl ((c.in-Err.refused.error, c.not_opened.ensures.how, c.in-Err.ensures.refused.0, c.in-Err.ensures.refused.2), c.in-Err.ensures.refused.1, Keeps-refl (g.W.Write.contents c.args.writer.now)))
 
 pub returns-clause-drawn : goal.returns-clause-drawn
 returns-clause-drawn g c =

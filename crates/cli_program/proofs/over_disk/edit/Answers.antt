@@ -4,11 +4,12 @@ use Rattle.cli_program.proofs.Sources.{no_status}
 use Rattle.cli_program.proofs.over_disk.edit.Goals as goal
 
 pub returns-in-Err-clause-small : goal.returns-in-Err-clause-small
-returns-in-Err-clause-small g c = no_status (g.D.Disk.reads c.args.disk) c.not_opened.result.how _ (c.in-Err.refused.error, c.not_opened.ensures.how, c.in-Err.ensures.refused.0)
+returns-in-Err-clause-small g c = no_status g.D.Disk c.args.disk c.in-Err.refused.disk c.not_opened.result.how _
+    (c.in-Err.refused.error, c.not_opened.ensures.how, c.in-Err.ensures.refused.0, c.in-Err.ensures.refused.2)
 
 pub returns-in-Err-clause-answered : goal.returns-in-Err-clause-answered
 returns-in-Err-clause-answered g c =
-    inl ((c.in-Err.refused.error, c.not_opened.ensures.how, c.in-Err.ensures.refused.0), (rw c.not_opened.ensures.disk c.in-Err.ensures.refused.1), Keeps-refl (g.R.Read.remaining c.args.reader.now), Keeps-refl (g.W.Write.contents c.args.writer.now))
+    rw c.not_opened.ensures.disk (inl ((c.in-Err.refused.error, c.not_opened.ensures.how, c.in-Err.ensures.refused.0, c.in-Err.ensures.refused.2), c.in-Err.ensures.refused.1, Keeps-refl (g.R.Read.remaining c.args.reader.now), Keeps-refl (g.W.Write.contents c.args.writer.now)))
 
 pub returns-clause-answered : goal.returns-clause-answered
 returns-clause-answered g c =

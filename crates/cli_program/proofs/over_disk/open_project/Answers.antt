@@ -6,3 +6,4 @@ returns-clause-opened g c = opened_from g.D.Disk c.args.disk c.open.result c.ope
 
 pub returns-clause-refused : goal.returns-clause-refused
 returns-clause-refused g c = refused_from g.D.Disk c.args.disk c.open.result c.open.ensures.refused c.open.ensures.reads c.open.ensures.any_moment
+    c.open.ensures.count

@@ -4,7 +4,7 @@ use Rattle.cli_program.proofs.Salvaging.{unread}
 use Rattle.cli_program.proofs.salvage_request.salvage_lines.Goals as goal
 
 pub returns-in-Err-clause-salvaged : goal.returns-in-Err-clause-salvaged
-returns-in-Err-clause-salvaged g c = unread (g.D.Disk.reads c.args.disk) c.in-Err.error (g.W.Write.contents c.args.writer.now) c.in-Err.ensures.refused
+returns-in-Err-clause-salvaged g c = unread g.D.Disk c.args.disk _ c.in-Err.error (g.W.Write.contents c.args.writer.now) c.in-Err.ensures.refused c.in-Err.ensures.count
 
 pub returns-in-Err-clause-only_read : goal.returns-in-Err-clause-only_read
 returns-in-Err-clause-only_read g c =
