@@ -43,7 +43,8 @@ pub record IsOpenedFrom {D : Type 0} (facts : Ghosts D) (before : D)
 
 -- a fault of the device is told only where the disk's count of failures rose
 abbrev pub IsFaultCounted : {D : Type 0} → Ghosts D → D → D → ProjectError → Type 0
-IsFaultCounted facts before after e = e ≡ Device → Rose (facts.failures before) (facts.failures after)
+IsFaultCounted facts before after e =
+    e ≡ Device → Rose (facts.failures before) (facts.failures after)
 
 -- no project was opened, because of the disk's bytes, by a fault that is counted or for lack of memory
 abbrev pub NotOpened : {D : Type 0} → Ghosts D → D → D → Result ℕ Refusal → Type 0
