@@ -36,10 +36,10 @@ RefusesBlockmapOver lines NothingToBuild = lines ≡ []
 RefusesBlockmapOver lines BlockmapTooLarge = (lines ≢ []) × IsTooLarge lines
 RefusesBlockmapOver lines OutOfMemory = Unit {0}
 
--- the same for a map's lines
-
+-- the bytes are the blockmap of a map's lines
 abbrev pub IsBlockmap : Tables → List ℕ → Type 0
 IsBlockmap m bytes = IsBlockmapOver (map_ends m) bytes
 
+-- why a map's lines have no blockmap
 abbrev pub RefusesBlockmap : Tables → BlockmapError → Type 0
 RefusesBlockmap m e = RefusesBlockmapOver (map_ends m) e

@@ -27,9 +27,10 @@ IsRefusalOver lines drawn TooManySegs = HasTooManySegs lines
 IsRefusalOver lines drawn TooManySubsectors = HasTooManySubsectors lines
 IsRefusalOver lines drawn TooDeep = IsTooDeep lines
 
--- ---- a map's lines and vertices
+-- the built tree is that of a map's lines and vertices
 abbrev pub IsBuilt : Tables → Built → Type 0
 IsBuilt m b = IsBuiltOver (edges_of m) m.vertices b
 
+-- why a map's lines and vertices have no built tree
 abbrev pub IsTreeRefusal : Tables → TreeError → Type 0
 IsTreeRefusal m e = IsRefusalOver (edges_of m) m.vertices e

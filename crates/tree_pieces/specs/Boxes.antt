@@ -25,6 +25,7 @@ abbrev pub least_value : Ray → Bounds → ℤ
 least_value r b =
     least_times r.dy b.left b.right -ℤ greatest_times r.dx b.bottom b.top -ℤ ray_offset r
 
+-- the greatest side value of a place in the box
 abbrev pub greatest_value : Ray → Bounds → ℤ
 greatest_value r b =
     greatest_times r.dy b.left b.right -ℤ least_times r.dx b.bottom b.top -ℤ ray_offset r

@@ -35,6 +35,7 @@ first_end lines p = point_at (edge_of lines p) p.from
 abbrev pub last_end : List Edge → Piece → Vertex
 last_end lines p = point_at (edge_of lines p) p.to
 
+-- the rounded ends of a piece, in the order of its line
 abbrev pub ends_of : List Edge → Piece → Ends
 ends_of lines p = record { first = first_end lines p; last = last_end lines p }
 

@@ -54,6 +54,7 @@ pub record IsFirstRefusal (ms : List Tables) (e : BuildError) : Type 0 where
   pub before : All CanBeBuilt (take number ms)
   pub cause : IsBuildRefusal refused e
 
+-- why the maps can't be built: the first that can't be, or no memory
 abbrev pub IsRefusalOfAll : List Tables → BuildError → Type 0
 IsRefusalOfAll ms OutOfMemory = Unit {0}
 IsRefusalOfAll ms e = IsFirstRefusal ms e

@@ -9,6 +9,7 @@ use Rattle.wad_file.specs.declared.error.WadError.TheVariants.{NotAWad, Director
 
 -- ---- the entries
 
+-- how many entries the directory has
 abbrev pub lump_count : List ℕ → ℕ
 lump_count wad = long_at 4 wad
 
@@ -29,6 +30,7 @@ entry wad k =
 abbrev pub entry_text : List ℕ → ℕ → List ℕ
 entry_text wad k = name_text (entry wad k).name
 
+-- the k-th entry's name has the text
 abbrev pub entry_has_name : List ℕ → List ℕ → ℕ → Bool
 entry_has_name wad name k = same_bytes (entry_text wad k) name
 
