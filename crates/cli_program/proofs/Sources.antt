@@ -1,5 +1,5 @@
 -- From what was done over a disk, or of a reader, to what a file leaves open.
-use Rattle.std.proofs.Common.{◌≡◌, ◌⊎◌, inl, inr, ℕ, Bool, List, Option, None, Some, Result, Ok, Err, IfErr, IfOk, refl, sym, subst}
+use Rattle.std.proofs.Common.{◌≡◌, ◌⊎◌, inl, inr, ℕ, Bool, List, Option, Result, Ok, Err, IfErr, IfOk, refl, sym, subst}
 use Rattle.std.specs.Io.KnownBytes.{Appends, Keeps}
 use Rattle.std.specs.Prelude.{codes, ◌++◌, ◌∷◌, [], MatchResult, false}
 use Rattle.store_disk.specs.Moments.{LeavesOnly}
@@ -22,7 +22,7 @@ use Rattle.cli_print.specs.declared.laid_over.Layers.{Layers}
 use Rattle.cli_program.specs.SomeProject.{OverSomeMaps}
 use Rattle.cli_program.specs.Wads.{OverSomeWad, OverWad}
 use Rattle.cli_refusals.specs.Refusals.{IsOfOpening}
-use Rattle.cli_program.specs.Sources.{IsBuiltFrom, IsCounted, IsEditedOver, IsExaminedOf, IsMade, IsOpenedFrom, NotOpened}
+use Rattle.cli_program.specs.Sources.{IsBuiltFrom, IsFaultCounted, IsEditedOver, IsExaminedOf, IsMade, IsOpenedFrom, NotOpened}
 use Rattle.run_edit.specs.declared.error.EditorError.TheVariants.{WriterFailed}
 use Rattle.cli_refusals.specs.declared.refusal.Refusal.{Refusal}
 use Rattle.cli_refusals.specs.declared.refusal.Refusal.TheVariants.{Build, Level, Lines, NoSuchMap, NotAMap, Project, TreeOutside}
@@ -80,8 +80,8 @@ opened_from facts before (Err r) opened reads moments = tt
 
 pub refused_from : {D : Type 0} (facts : Ghosts D) (before : D) (result : Result (State D) (Refused D))
     → IfErr result (λ r. IsRefusedRead (facts.reads r.disk) r.error) → Rereads facts before result → LeavesSame facts before result
-    → IfErr result (λ r. IsCounted facts before r.disk r.error)
-    → IfErr result (λ r. IsRefusedRead (facts.reads before) r.error × IsOnlyRead facts before r.disk × IsCounted facts before r.disk r.error)
+    → IfErr result (λ r. IsFaultCounted facts before r.disk r.error)
+    → IfErr result (λ r. IsRefusedRead (facts.reads before) r.error × IsOnlyRead facts before r.disk × IsFaultCounted facts before r.disk r.error)
 refused_from facts before (Ok p) refused reads moments counted = tt
 refused_from facts before (Err r) refused reads moments counted =
     (refused_before (facts.reads before) (facts.reads r.disk) r.error reads.1 refused, record { no_other = reads.0; still = reads.1; any_moment = moments }, counted)

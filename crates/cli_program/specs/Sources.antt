@@ -42,14 +42,16 @@ pub record IsOpenedFrom {D : Type 0} (facts : Ghosts D) (before : D)
   pub only_read : IsOnlyRead facts before first.disk
 
 -- a fault of the device is told only where the disk's count of failures rose
-abbrev pub IsCounted : {D : Type 0} → Ghosts D → D → D → ProjectError → Type 0
-IsCounted facts before after e = e ≡ Device → Rose (facts.failures before) (facts.failures after)
+abbrev pub IsFaultCounted : {D : Type 0} → Ghosts D → D → D → ProjectError → Type 0
+IsFaultCounted facts before after e =
+    e ≡ Device → Rose (facts.failures before) (facts.failures after)
 
--- no project was opened, because of the disk's bytes, by a fault that is counted or for lack of memory
+-- no project was opened, because of the disk's bytes, by a fault that is counted or for lack of
+-- memory
 abbrev pub NotOpened : {D : Type 0} → Ghosts D → D → D → Result ℕ Refusal → Type 0
 NotOpened facts before after how =
     (e : ProjectError) × (how ≡ Err (of.Project e)) × IsRefusedRead (facts.reads before) e
-    × IsCounted facts before after e
+    × IsFaultCounted facts before after e
 
 -- no project was opened and nothing written, or this was done with the maps that the disk's bytes
 -- stand for
@@ -66,7 +68,7 @@ OverMaps facts before after how writer-old writer-new does =
 abbrev pub IsMade : {D : Type 0} → Ghosts D → Geometry → D → D → Result ℕ Refusal → Type 0
 IsMade facts geometry before after (Err (of.Project e)) =
     RefusesCreate (facts.reads before) geometry e × ((e ≡ Device) ⊎ OnlyReads facts before after)
-    × IsCounted facts before after e
+    × IsFaultCounted facts before after e
 IsMade facts geometry before after _ =
     Each (facts.may_leave after) (Stands (cap_of geometry) empty_project 1)
     × Each (facts.may_leave after) (TellsLengths geometry)

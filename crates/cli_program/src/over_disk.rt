@@ -8,7 +8,7 @@ ghost use Rattle.store_project.specs.Opening.{HasMaps, IsRefusedRead};
 ghost use Rattle.cli_program.specs.Deeds.{IsCreated};
 ghost use Rattle.run_edit.specs.Recovery.{IsOnlyRead};
 ghost use Rattle.cli_print.specs.Checking.{IsCheckedIn};
-ghost use Rattle.cli_program.specs.Sources.{IsCounted, IsEditedOver, IsMade, IsOpenedFrom, NotOpened, OverMaps};
+ghost use Rattle.cli_program.specs.Sources.{IsEditedOver, IsFaultCounted, IsMade, IsOpenedFrom, NotOpened, OverMaps};
 ghost use Rattle.run_edit.specs.declared.error.EditorError.TheVariants.{WriterFailed};
 ghost use Rattle.cli_refusals.specs.declared.refusal.Refusal.{Refusal};
 
@@ -33,7 +33,7 @@ pub struct HandedBack<D> {
 pub fn open_project<D: Disk>(alloc: Global, disk: D) -> Result<Project<D>, Refused<D>>
     ensures opened { IfOk result (IsOpenedFrom D.Disk disk) }
     ensures refused { IfErr result (λ r. IsRefusedRead (D.reads disk) r.error
-        × IsOnlyRead D.Disk disk r.disk × IsCounted D.Disk disk r.disk r.error) }
+        × IsOnlyRead D.Disk disk r.disk × IsFaultCounted D.Disk disk r.disk r.error) }
 {
     Project::open(alloc, disk)
 }
