@@ -46,7 +46,8 @@ abbrev pub IsFaultCounted : {D : Type 0} → Ghosts D → D → D → ProjectErr
 IsFaultCounted facts before after e =
     e ≡ Device → Rose (facts.failures before) (facts.failures after)
 
--- no project was opened, because of the disk's bytes, by a fault that is counted or for lack of memory
+-- no project was opened, because of the disk's bytes, by a fault that is counted or for lack of
+-- memory
 abbrev pub NotOpened : {D : Type 0} → Ghosts D → D → D → Result ℕ Refusal → Type 0
 NotOpened facts before after how =
     (e : ProjectError) × (how ≡ Err (of.Project e)) × IsRefusedRead (facts.reads before) e

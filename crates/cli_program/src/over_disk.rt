@@ -8,7 +8,7 @@ ghost use Rattle.store_project.specs.Opening.{HasMaps, IsRefusedRead};
 ghost use Rattle.cli_program.specs.Deeds.{IsCreated};
 ghost use Rattle.run_edit.specs.Recovery.{IsOnlyRead};
 ghost use Rattle.cli_print.specs.Checking.{IsCheckedIn};
-ghost use Rattle.cli_program.specs.Sources.{IsFaultCounted, IsEditedOver, IsMade, IsOpenedFrom, NotOpened, OverMaps};
+ghost use Rattle.cli_program.specs.Sources.{IsEditedOver, IsFaultCounted, IsMade, IsOpenedFrom, NotOpened, OverMaps};
 ghost use Rattle.run_edit.specs.declared.error.EditorError.TheVariants.{WriterFailed};
 ghost use Rattle.cli_refusals.specs.declared.refusal.Refusal.{Refusal};
 
