@@ -9,12 +9,12 @@ mod lint_request;
 mod listing;
 mod over_disk;
 mod over_file;
+mod over_wad;
 mod picture_request;
 mod program;
 mod rebuild_notes;
 mod rebuild_request;
 mod salvage_request;
 mod script_file;
-mod wad_file;
 
 pub use program::perform;
