@@ -27,7 +27,7 @@ use Rattle.cli_print.specs.Checking.{IsCheckedOf}
 use Rattle.cli_print.specs.Linting.{WritesRemarks, remarks}
 use Rattle.cli_print.specs.ShownNames.{shown}
 use Rattle.cli_print.specs.WantedLevels.{AreWanted, IsWanted}
-use Rattle.cli_print.proofs.Linting.{lines_stopped, none_written, total_told}
+use Rattle.cli_print.proofs.Linting.{none_written, total_told}
 
 -- ---- A level
 

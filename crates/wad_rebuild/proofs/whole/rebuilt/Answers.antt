@@ -4,7 +4,7 @@ use Rattle.wad_levels.specs.Entries.{IsLevelAt}
 use Rattle.wad_rebuild.specs.declared.levels.RebuiltLevel.{RebuiltLevel}
 use Rattle.wad_rebuild.specs.Rebuilt.{IsRebuiltWad, rebuilt_lumps}
 use Rattle.wad_file.specs.Lumps.{IsWadOf}
-use Rattle.wad_rebuild.proofs.WholeLemmas.{levels_all, not_found, of_wad, outgrown}
+use Rattle.wad_rebuild.proofs.WholeLemmas.{levels_all, not_found, of_wad}
 use Rattle.wad_rebuild.proofs.whole.rebuilt.Goals as goal
 
 pub written-requires-clause-levels : goal.written-requires-clause-levels
