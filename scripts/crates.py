@@ -148,12 +148,24 @@ def took(began):
     return f"{seconds // 60:02}:{seconds % 60:02}"
 
 
-def tell(lines, proved, tries, began):
-    """Prints how far the gate is over these crates, and what is under way or comes next."""
+def wrong_bodies(name, folder=TOP):
+    """Returns how many wrong bodies a crate has."""
+    at = f"{folder}/crates/{name}/must-fail"
+    return sum(it.endswith(".edit") for it in os.listdir(at)) if os.path.isdir(at) else 0
+
+
+def tell(lines, proved, kept, tries, edits, began):
+    """Prints how far the gate is over these crates: what is under way or comes next, and what is left, also of wrong bodies."""
     below = needs(lines)
     now = [name for name in lines if name not in proved and all(it in proved for it in below[name])]
+    left = [name for name in lines if name not in proved and name not in now]
+    counted = lambda names: " ".join(f"{name} ({edits[name]})" for name in names)
     parts = [f"{took(began)} {len(proved)} of {len(lines)} crates are proved", f"now: {' '.join(now) or 'the tests and the program are run'}"]
-    parts += [f"wrong bodies begun: {' '.join(tries)}"] if tries else []
+    parts += [f"left: {' '.join(left)}"] if left else []
+    parts += [f"wrong bodies begun: {counted(tries)}"] if tries else []
+    # (of a crate that an earlier run proved, it tried the wrong bodies too)
+    waiting = [name for name in lines if edits[name] and name not in (*kept, *tries)]
+    parts += [f"wrong bodies left: {counted(waiting)}"] if waiting else []
     print("; ".join(parts), flush=True)
 
 
@@ -162,8 +174,9 @@ def run_gate(words, lines, folder=TOP, is_told=True, watch=None):
 
     If `is_told`, prints each of its lines too. Meanwhile another thread calls `watch` with the process.
     """
-    began, proved, tries, said = time.monotonic(), set(), [], []
-    tell(lines, proved, tries, began)
+    began, proved, kept, tries, said = time.monotonic(), set(), set(), [], []
+    edits = {name: wrong_bodies(name, folder) for name in lines}
+    tell(lines, proved, kept, tries, edits, began)
     with subprocess.Popen(["rt", "ci", *words], cwd=folder, stdout=subprocess.PIPE, text=True, errors="replace") as gate:
         watcher = threading.Thread(target=watch or (lambda _: None), args=(gate,))
         watcher.start()
@@ -175,7 +188,9 @@ def run_gate(words, lines, folder=TOP, is_told=True, watch=None):
             if done and done[1] in lines:
                 if line.startswith(f"rt: {done[1]}:"):
                     tries.append(done[1])
+                elif "is kept:" in line:
+                    kept.add(done[1])
                 proved.add(done[1])
-                tell(lines, proved, tries, began)
+                tell(lines, proved, kept, tries, edits, began)
     watcher.join()
     return gate.returncode, said

@@ -189,7 +189,7 @@ fn fault_of(rt: &impl Abort, alloc: Global, wad: &[u8]) -> Result<Option<Fault>,
 }
 
 // Lines; an offset in their PWAD, the byte that is put there, and the fault that it causes. The last one makes the
-// root's left child equal to its right child. `inspection.rt` of `tests_runs` has the faults of a room.
+// root's left child equal to its right child. `inspection.rt` of `tests_program` has the faults of a room.
 #[rattlefmt::skip]
 const FAULTS: &[(&[&[u8]], usize, u8, Fault)] = &[
     (&L, 271, 0, Fault::NodeChild(0)),

@@ -1,13 +1,11 @@
-//! Lines and their answers in memory, and the program's arguments.
+//! Lines and their answers in memory.
 
 use crate::expect::same;
 use crate::streams::{Drip, Endless, Held, Narrow};
-use cli_program::perform;
-use cli_words::{Request, RequestError, request};
 use map_tables::Map;
 use run_edit::{EditorError, run_in_memory, write_findings};
 use std::alloc::Global;
-use std::io::{Read, Write};
+use std::io::Read;
 use std::process::Abort;
 use std::test::Fail;
 
@@ -214,108 +212,6 @@ fn numbers_refusals(rt: HostRuntime) {
     for &(error, code) in CODES {
         same(&rt, &(error, error.code()), &(error, code));
     }
-}
-
-// The status of `scratch` over this reader; it must print this on standard error.
-fn scratch<R: Read, W: Write>(
-    rt: &HostRuntime,
-    reader: &mut R,
-    writer: &mut W,
-    said: &[u8],
-) -> Result<u8, Fail> {
-    let mut faults = Vec::new(rt.alloc());
-    let status = match request(rt.alloc(), &["leveled", "scratch"]) {
-        Ok(asked) => perform(rt, &asked, reader, writer, &mut faults),
-        Err(_) => return Err(Fail::from("no request")),
-    };
-    if faults.as_slice() == said {
-        Ok(status)
-    } else {
-        Err(Fail::from("other faults"))
-    }
-}
-
-// The status of `scratch`, and its output.
-fn written<R: Read>(rt: &HostRuntime, reader: &mut R, said: &[u8]) -> Result<(u8, Vec<u8>), Fail> {
-    let mut out = Vec::new(rt.alloc());
-    let status = scratch(rt, reader, &mut out, said)?;
-    Ok((status, out))
-}
-
-#[test]
-fn performs_scratch(rt: HostRuntime) -> Result<(), Fail> {
-    let (status, out) = written(&rt, &mut ROW, b"")?;
-    assert_eq!(rt; (status, out.as_slice()), (0, ROW_ANSWERS));
-    Ok(())
-}
-
-// Each turn reads one byte, so the run takes many turns.
-#[test]
-fn performs_scratch_byte_by_byte(rt: HostRuntime) -> Result<(), Fail> {
-    let (status, out) = written(&rt, &mut Drip::of(ROW, false), b"")?;
-    assert_eq!(rt; (status, out.as_slice()), (0, ROW_ANSWERS));
-    Ok(())
-}
-
-#[test]
-fn tells_of_a_reader_that_fails(rt: HostRuntime) -> Result<(), Fail> {
-    let mut broken = Drip::of(b"vertex 0 0\nvert", true);
-    let (status, out) = written(&rt, &mut broken, b"leveled: 37 ReaderFailed\n")?;
-    assert_eq!(rt; (status, out.as_slice()), (1, b"ok 0\n".as_slice()));
-    Ok(())
-}
-
-#[test]
-fn tells_of_a_writer_that_fails(rt: HostRuntime) -> Result<(), Fail> {
-    let said = b"leveled: 38 WriterFailed\n";
-    let status = scratch(&rt, &mut ROW, &mut Narrow::of(2), said)?;
-    assert_eq!(rt; status, 1);
-    Ok(())
-}
-
-#[test]
-fn reads_a_request(rt: HostRuntime) {
-    let asked = request(rt.alloc(), &["leveled", "scratch"]);
-    assert!(rt; matches!(asked, Ok(Request::Scratch)));
-}
-
-// Arguments, the status with which clap answers them, and a part of its text.
-#[rattlefmt::skip]
-const WORDS: &[(&[&str], i32, &str)] = &[
-    (&["leveled"], 2, "requires a subcommand"),
-    (&["leveled", "help"], 0, "Usage: leveled <COMMAND>"),
-    (&["leveled", "help", "lint"], 0, "Usage: leveled lint [OPTIONS] <FILE>"),
-    (&["leveled", "help", "bogus"], 2, "unrecognized subcommand 'bogus'"),
-    (&["leveled", "scratch", "x"], 2, "unexpected argument 'x'"),
-    (&["leveled", "--slot"], 2, "unexpected argument '--slot'"),
-    (&["leveled", "--help"], 0, "Usage: leveled <COMMAND>"),
-    (&["leveled", "--version"], 0, "leveled 0.1.0"),
-];
-
-// The status with which clap answers these arguments, and whether its text contains the part.
-fn answered_by_clap(alloc: Global, words: &[&str], part: &str) -> Result<(i32, bool), Fail> {
-    match request(alloc, words) {
-        Err(RequestError::Words(error)) => {
-            let text = error.to_string(alloc)?;
-            Ok((error.exit_code(), text.as_str().contains(part)))
-        }
-        _ => Err(Fail::from("not refused by clap")),
-    }
-}
-
-#[test]
-fn reads_words(rt: HostRuntime) -> Result<(), Fail> {
-    for &(words, status, part) in WORDS {
-        let found = answered_by_clap(rt.alloc(), words, part)?;
-        same(&rt, &(words, found), &(words, (status, true)));
-    }
-    Ok(())
-}
-
-#[test]
-fn reads_a_wish_for_the_refusals(rt: HostRuntime) {
-    let asked = request(rt.alloc(), &["leveled", "help", "codes"]);
-    assert!(rt; matches!(asked, Err(RequestError::Codes)));
 }
 
 #[test]

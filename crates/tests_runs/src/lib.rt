@@ -1,4 +1,4 @@
-//! Tests of runs and of the program: lines and their answers, in memory, over projects and over files.
+//! Tests of runs: lines and their answers, in memory and over projects, and scripts.
 #![tactic(auto)]
 
 #[cfg(test)]
@@ -6,28 +6,13 @@ mod answers;
 #[cfg(test)]
 mod builds;
 #[cfg(test)]
-mod dumps;
-#[cfg(test)]
 mod editor;
 #[cfg(test)]
 mod expect;
 #[cfg(test)]
-mod file_faults;
-#[cfg(test)]
-mod inspection;
-#[cfg(test)]
-mod lints;
-#[cfg(test)]
-mod pictures;
-#[cfg(test)]
 mod project_run;
 #[cfg(test)]
-mod rebuilds;
-#[cfg(test)]
 mod scripts;
-#[cfg(test)]
-mod streams;
+pub mod streams;
 #[cfg(test)]
 mod sweeps;
-#[cfg(test)]
-mod wads;

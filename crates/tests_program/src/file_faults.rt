@@ -1,7 +1,7 @@
 //! What the program reports if a file that it has opened fails.
 
 use crate::expect::same;
-use crate::project_run::over_file;
+use crate::project_file::over_file;
 use std::test::Fail;
 
 // A file of the system that can be opened for writing, but not synced.

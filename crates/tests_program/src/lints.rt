@@ -2,7 +2,7 @@
 
 use crate::expect::same;
 use crate::inspection::performed;
-use crate::project_run::{Ended, over_file};
+use crate::project_file::{Ended, over_file};
 use std::fs;
 use std::test::Fail;
 

@@ -1,0 +1,27 @@
+//! Tests of the program: its arguments, and each subcommand over streams and files.
+#![tactic(auto)]
+
+#[cfg(test)]
+mod dumps;
+#[cfg(test)]
+mod expect;
+#[cfg(test)]
+mod file_faults;
+#[cfg(test)]
+mod inspection;
+#[cfg(test)]
+mod lints;
+#[cfg(test)]
+mod pictures;
+#[cfg(test)]
+mod project_file;
+#[cfg(test)]
+mod rebuilds;
+#[cfg(test)]
+mod scratch;
+#[cfg(test)]
+mod scripts;
+#[cfg(test)]
+mod wads;
+#[cfg(test)]
+mod words;
