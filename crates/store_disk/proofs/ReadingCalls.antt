@@ -7,16 +7,6 @@ use Rattle.store_disk.specs.declared.disk.Disk.{Ghosts}
 
 module _ {D : Type 0} (facts : Ghosts D)
     (only_now : (disk : D) (file : List ℕ) → facts.left_since disk (facts.moment disk) file → facts.may_leave disk file) where
-  -- before the first call
-  pub no_call : (disk : D) → OnlyReads facts disk disk
-  no_call disk = record {
-    no_other = λ file is. is;
-    still = λ file is. is;
-    images = λ file is. is;
-    kept = λ file is. is;
-    any_moment = started facts disk (facts.may_leave disk) (only_now disk);
-  }
-
   -- one call
   pub one_call : (old new : D) → Each (facts.reads new) (facts.reads old) → Each (facts.reads old) (facts.reads new)
       → Each (facts.may_leave new) (facts.may_leave old) → Each (facts.may_leave old) (facts.may_leave new)

@@ -1,16 +1,14 @@
 -- What `open` finds in two slots, and what `first` writes there.
-use Rattle.std.proofs.Common.{◌≡◌, inl, ◌<◌, ◌≤◌, ◌+◌, ◌^◌, ℕ, List, [], ◌∷◌, length, Option, None, Some, sym, ap, subst, arith}
+use Rattle.std.proofs.Common.{◌≡◌, inl, ◌<◌, ◌≤◌, ◌+◌, ◌^◌, ℕ, List, [], ◌∷◌, length, Option, None, Some, ap, subst, arith}
 use Rattle.store_disk.specs.Files.{HasAt, Written}
 use Rattle.store_disk.specs.declared.area.Area.{Area}
 use Rattle.store_disk.proofs.Gates.{closed_now}
 use Rattle.store_disk.proofs.Bytes.{keeps_wider, keeps_then, has_kept, has_left, has_right}
-use Rattle.store_slots.specs.Bodies.{head_bytes, HasHead, HasContent}
+use Rattle.store_slots.specs.Bodies.{head_bytes, HasContent}
 use Rattle.store_slots.specs.Damage.{IsBadSlot}
-use Rattle.store_slots.specs.Handles.{live_of, generation_of, HasSlots}
-use Rattle.store_slots.specs.Heads.{ShowsHead, HasHeads}
+use Rattle.store_slots.specs.Heads.{ShowsHead}
 use Rattle.store_slots.specs.Steps.{IsFirst}
 use Rattle.store_slots.specs.declared.heads.Head.{Head}
-use Rattle.store_slots.specs.declared.slots.Slots.{Slots}
 use Rattle.store_slots.proofs.Kept.{content_kept}
 use Rattle.store_slots.proofs.OneBody.{whole_slot, closed_slot}
 use Rattle.store_slots.proofs.Filling.{written_has}
@@ -19,16 +17,6 @@ use Rattle.store_slots.proofs.Filling.{written_has}
 pub not_bad : (slot : Area) (found : Option Head) (file : List ℕ) → ShowsHead slot found file → IsBadSlot slot file → ⊥
 not_bad slot None file shut = closed_slot slot file shut
 not_bad slot (Some head) file is = whole_slot slot file head.generation head.len is
-
-pub has_slots : (s : Slots) (n : ℕ) (body file : List ℕ) → length body ≡ n → HasHeads s n file → HasAt ((live_of s).base + 13) body file → HasSlots s body file
-has_slots s n body file same heads stands = record {
-  live = record {
-    gate = heads.live.gate;
-    content = record { head = subst (λ (k : ℕ). HasHead (live_of s) (generation_of s) k file) (sym same) heads.live.head; stands = stands };
-  };
-  shut = heads.shut;
-  older = heads.older;
-}
 
 module _ (a b : Area) (body head : List ℕ) (fits : 13 + length body ≤ a.length) (order : a.base + a.length ≤ b.base) (count : length body < 2 ^ 32) (is : head ≡ 165 ∷ head_bytes 1 (length body)) where
   pub is_first : (old one two new : List ℕ) → Written a.base head old one → Written (a.base + 13) body one two → Written b.base (0 ∷ []) two new → IsFirst a b body old new

@@ -4,7 +4,6 @@ use Rattle.store_disk.specs.Files.{HasAt}
 use Rattle.store_disk.specs.declared.area.Area.{Area}
 use Rattle.store_slots.specs.Bodies.{IsOpenWith}
 use Rattle.store_disk.proofs.Bytes.{has_both}
-use Rattle.store_disk.proofs.ReadingCalls.{both_runs}
 use Rattle.store_slots.proofs.heads.read_head.Goals as goal
 
 -- an open slot from its parts
@@ -30,22 +29,3 @@ returns-clause-shows g c = λ file is.
     whole c.args.slot c.in_ok-read_gate.field-0 c.in_ok-generation.generation c.in_ok-len.len file (omega (arith, c.if-branch.false)) (omega arith) (omega arith)
     (omega (arith, c.if-whole-slot.false)) (omega (arith, c.if-whole-behind.false, c.requires.ends file is, c.if-end-place.false))
     (c.in_ok-read_gate.ensures.told file is) (c.in_ok-generation.ensures.told file after_gate) (c.in_ok-len.ensures.told file after_generation)
-
-pub returns-in_err-generation-clause-reads : goal.returns-in_err-generation-clause-reads
-returns-in_err-generation-clause-reads g c =
-    both_runs g.D.Disk g.met.D.Disk.only_now c.args.disk.now c.read_gate.new.disk c.read_generation.new.disk c.read_gate.ensures.reads c.read_generation.ensures.reads
-
-pub returns-in_err-len-clause-reads : goal.returns-in_err-len-clause-reads
-returns-in_err-len-clause-reads g c =
-    let two = both_runs g.D.Disk g.met.D.Disk.only_now c.args.disk.now c.read_gate.new.disk c.read_generation.new.disk c.read_gate.ensures.reads c.read_generation.ensures.reads in
-    both_runs g.D.Disk g.met.D.Disk.only_now c.args.disk.now c.read_generation.new.disk c.read_length.new.disk two c.read_length.ensures.reads
-
-pub returns-then-whole-slot-clause-reads : goal.returns-then-whole-slot-clause-reads
-returns-then-whole-slot-clause-reads g c =
-    let two = both_runs g.D.Disk g.met.D.Disk.only_now c.args.disk.now c.read_gate.new.disk c.read_generation.new.disk c.read_gate.ensures.reads c.read_generation.ensures.reads in
-    both_runs g.D.Disk g.met.D.Disk.only_now c.args.disk.now c.read_generation.new.disk c.read_length.new.disk two c.read_length.ensures.reads
-
-pub returns-clause-reads : goal.returns-clause-reads
-returns-clause-reads g c =
-    let two = both_runs g.D.Disk g.met.D.Disk.only_now c.args.disk.now c.read_gate.new.disk c.read_generation.new.disk c.read_gate.ensures.reads c.read_generation.ensures.reads in
-    both_runs g.D.Disk g.met.D.Disk.only_now c.args.disk.now c.read_generation.new.disk c.read_length.new.disk two c.read_length.ensures.reads
