@@ -1,19 +1,10 @@
 -- Texts: joined, of the items of a list, and escaped for XML.
-use Rattle.std.specs.Prelude.{ℕ, ◌==◌, if◌then◌else◌, List, [], ◌∷◌, ◌++◌, codes, flat_map, length, slice_get}
+use Rattle.std.specs.Prelude.{ℕ, ◌==◌, if◌then◌else◌, List, [], ◌∷◌, codes, flat_map, length, slice_get}
 use Rattle.std.specs.Fmt.{signed_decimal}
 use Rattle.std.specs.List.{range_with_len}
 use Rattle.std.specs.Option.{option_map_or}
+pub use Rattle.lump_text.specs.Texts.{followed, joined}
 use Rattle.map_svg.specs.declared.places.Spot.{Spot}
-
--- a text, followed by those of a list
-abbrev pub followed : List ℕ → List (List ℕ) → List ℕ
-followed x [] = x
-followed x (y ∷ rest) = x ++ followed y rest
-
--- the texts of a list, one after another
-abbrev pub joined : List (List ℕ) → List ℕ
-joined [] = []
-joined (x ∷ rest) = followed x rest
 
 -- the text of the item with the number, empty if there is no such item
 abbrev pub of_item : {X : Type 0} → (X → List ℕ) → List X → ℕ → List ℕ

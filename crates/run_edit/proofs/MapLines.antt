@@ -1,13 +1,11 @@
 -- The lines that tell of the maps, one after another.
-use Rattle.std.proofs.Common.{◌≡◌, ◌∙◌, ◌+◌, ◌<◌, ◌++◌, ℕ, List, [], ◌∷◌, Option, Some, None, Result, Ok, Err, MatchResult, length, get_or, take, sym, ap, subst, arith, append_assoc, append-nil}
+use Rattle.std.proofs.Common.{◌≡◌, ◌∙◌, ◌+◌, ◌<◌, ◌++◌, ℕ, List, [], ◌∷◌, Option, Some, None, Result, Ok, Err, OnOk, length, get_or, take, sym, ap, subst, arith, append_assoc, append-nil}
 use Rattle.std.specs.Prelude.{slice_get}
 use Rattle.std.specs.Io.KnownBytes.{Appends}
 use Rattle.std.proofs.lemmas.List.{length-take-le, take_more}
 use Rattle.std.proofs.lemmas.Option.{slice_get-get_or}
 use Rattle.map_tables.specs.Tables.{Tables, empty_tables}
 use Rattle.run_edit.specs.Texts.{map_line, map_lines}
-use Rattle.run_edit.specs.declared.error.EditorError.{EditorError}
-use Rattle.run_edit.specs.declared.error.EditorError.TheVariants.{WriterFailed}
 use Rattle.run_edit.proofs.Going.{Appends-append}
 
 -- the line of one map more
@@ -29,9 +27,8 @@ lines_more ms n within =
     ∙ ap (λ (k : ℕ). map_lines 0 (take n ms) ++ map_line k (get_or ms n empty_tables)) so_far
 
 -- the map of a number is one map
-pub nth_told : {U : Type 0} (r : Result U EditorError) (o : Option Tables) (n : ℕ) (t : Tables) (u w : Option (List ℕ)) → o ≡ Some t
-    → MatchResult r (λ _. Appends u w (map_line n t)) (λ e. e ≡ WriterFailed)
-    → MatchResult r (λ _. (m : Tables) → o ≡ Some m → Appends u w (map_line n m)) (λ e. e ≡ WriterFailed)
+pub nth_told : {U E : Type 0} (r : Result U E) (o : Option Tables) (n : ℕ) (t : Tables) (u w : Option (List ℕ)) → o ≡ Some t
+    → OnOk r (Appends u w (map_line n t)) → OnOk r ((m : Tables) → o ≡ Some m → Appends u w (map_line n m))
 nth_told (Ok x) o n t u w is told = λ m at.
     let same : t ≡ m = cc in
     subst (λ (k : Tables). Appends u w (map_line n k)) same told

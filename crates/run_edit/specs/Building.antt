@@ -1,7 +1,8 @@
 -- What a build writes and prints (docs/COMMANDS.md, "The program"): a PWAD, and the counts of its
 -- records.
-use Rattle.std.specs.Prelude.{◌++◌, ℕ, List, [], ◌∷◌, All, Option, codes, decimal}
+use Rattle.std.specs.Prelude.{ℕ, List, [], ◌∷◌, All, Option, codes, decimal}
 use Rattle.std.specs.Io.KnownBytes.{Appends, Keeps}
+use Rattle.lump_text.specs.Texts.{joined}
 use Rattle.map_tables.specs.Tables.{Tables}
 use Rattle.wad_build.specs.Counted.{IsBuildCounted}
 use Rattle.wad_build.specs.Projects.{Blames}
@@ -24,6 +25,7 @@ RefusesWriting ms WriterFailed writer-old writer-new = All CanBeBuilt ms
 -- `built`, the counts, and the length of the PWAD
 abbrev pub built_text : BuildCounts → List ℕ
 built_text c =
-    codes "built vertices " ++ decimal c.vertices ++ codes " segs " ++ decimal c.segs
-    ++ codes " subsectors " ++ decimal c.subs ++ codes " nodes " ++ decimal c.nodes
-    ++ codes " bytes " ++ decimal c.bytes ++ 10 ∷ []
+    joined
+    (codes "built vertices " ∷ decimal c.vertices ∷ codes " segs " ∷ decimal c.segs
+    ∷ codes " subsectors " ∷ decimal c.subs ∷ codes " nodes " ∷ decimal c.nodes
+    ∷ codes " bytes " ∷ decimal c.bytes ∷ codes "\n" ∷ [])

@@ -2,6 +2,7 @@
 -- whether it is sound.
 use Rattle.std.specs.Prelude.{◌≡◌, ◌↔◌, ◌++◌, ℕ, Bool, true, List, [], ◌∷◌, length, Option, Some, None, codes, decimal}
 use Rattle.std.specs.Io.KnownBytes.{Appends, Keeps}
+use Rattle.lump_text.specs.Texts.{joined}
 use Rattle.wad_build.specs.Audit.{first_fault}
 use Rattle.wad_levels.specs.Levels.{IsLevel, Lumps, refusal}
 use Rattle.wad_build.specs.Range.{IsInRange}
@@ -16,16 +17,17 @@ use Rattle.run_edit.specs.declared.error.InspectError.TheVariants.{Level, Writer
 -- these counts of the records of the first five lumps
 abbrev pub front_text : ℕ → ℕ → ℕ → ℕ → ℕ → List ℕ
 front_text things lines sides vertices segs =
-    codes "things " ++ decimal things ++ codes " lines " ++ decimal lines ++ codes " sides "
-    ++ decimal sides
-    ++ codes " vertices " ++ decimal vertices ++ codes " segs " ++ decimal segs
+    joined
+    (codes "things " ∷ decimal things ∷ codes " lines " ∷ decimal lines ∷ codes " sides "
+    ∷ decimal sides ∷ codes " vertices " ∷ decimal vertices ∷ codes " segs " ∷ decimal segs ∷ [])
 
 -- these counts of the records of the next three lumps, and the lengths of the last two in bytes
 abbrev pub back_text : ℕ → ℕ → ℕ → ℕ → ℕ → List ℕ
 back_text subs nodes sectors reject blockmap =
-    codes " subsectors " ++ decimal subs ++ codes " nodes " ++ decimal nodes ++ codes " sectors "
-    ++ decimal sectors
-    ++ codes " reject " ++ decimal reject ++ codes " blockmap " ++ decimal blockmap ++ 10 ∷ []
+    joined
+    (codes " subsectors " ∷ decimal subs ∷ codes " nodes " ∷ decimal nodes ∷ codes " sectors "
+    ∷ decimal sectors ∷ codes " reject " ∷ decimal reject ∷ codes " blockmap "
+    ∷ decimal blockmap ∷ codes "\n" ∷ [])
 
 -- how many records the lumps have, and how many bytes REJECT and BLOCKMAP have
 abbrev pub lengths_text : Lumps → List ℕ

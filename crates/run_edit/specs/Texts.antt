@@ -2,6 +2,7 @@
 use Rattle.std.specs.Prelude.{ℕ, ◌+◌, ◌/◌, ◌%◌, nat_lt, if◌then◌else◌, List, [], ◌∷◌, ◌++◌, length, map, flat_map, Result, Ok, Err, codes, decimal}
 use Rattle.std.specs.List.{join_with_byte}
 use Rattle.lump_records.specs.Names.{name_text}
+use Rattle.lump_text.specs.Texts.{joined}
 use Rattle.map_tables.specs.Projects.{ProjectMaps}
 use Rattle.map_tables.specs.Tables.{Tables}
 use Rattle.map_checks.specs.declared.finding.Finding.{Finding}
@@ -44,9 +45,10 @@ hex_text bytes = hex_digits bytes ++ 10 ∷ []
 -- these counts of the items of each kind
 abbrev pub counts_text : ℕ → ℕ → ℕ → ℕ → ℕ → List ℕ
 counts_text vertices sectors sides lines things =
-    codes "vertices " ++ decimal vertices ++ codes " sectors " ++ decimal sectors ++ codes " sides "
-    ++ decimal sides
-    ++ codes " lines " ++ decimal lines ++ codes " things " ++ decimal things ++ 10 ∷ []
+    joined
+    (codes "vertices " ∷ decimal vertices ∷ codes " sectors " ∷ decimal sectors ∷ codes " sides "
+    ∷ decimal sides ∷ codes " lines " ∷ decimal lines ∷ codes " things " ∷ decimal things
+    ∷ codes "\n" ∷ [])
 
 -- how many items there are of each kind
 abbrev pub count_text : Tables → List ℕ

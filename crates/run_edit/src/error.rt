@@ -1,8 +1,10 @@
 //! Why a run, an inspection, a build or a recovery failed, and the number of each refusal.
 ghost use Rattle.std.specs.Prelude.{◌≡◌};
-ghost use Rattle.run_edit.specs.declared.error.InspectError.TheVariants.{Level};
+ghost use Rattle.run_edit.specs.declared.error.EditorError.TheVariants as editor;
+ghost use Rattle.run_edit.specs.declared.error.InspectError.TheVariants as inspect;
 ghost use Rattle.run_edit.specs.declared.error.WriteError.TheVariants.{Build};
 
+use lump_text::WriterFailed;
 use store_project::ProjectError;
 use thiserror::Error;
 use wad_build::{BuildError, ReadError, Unbuilt};
@@ -37,6 +39,14 @@ impl EditorError {
     }
 }
 
+impl From<WriterFailed> for EditorError {
+    ghost from_gives = { λ _ e. e ≡ editor.WriterFailed };
+
+    fn from(_error: WriterFailed) -> EditorError {
+        EditorError::WriterFailed
+    }
+}
+
 /// Why a level was not inspected.
 #[derive(Clone, Copy, Debug, PartialEq, Eq, Error)]
 pub enum InspectError {
@@ -63,10 +73,18 @@ impl InspectError {
 }
 
 impl From<ReadError> for InspectError {
-    ghost from_gives = { λ error e. e ≡ Level error };
+    ghost from_gives = { λ error e. e ≡ inspect.Level error };
 
     fn from(error: ReadError) -> InspectError {
         InspectError::Level(error)
+    }
+}
+
+impl From<WriterFailed> for InspectError {
+    ghost from_gives = { λ _ e. e ≡ inspect.WriterFailed };
+
+    fn from(_error: WriterFailed) -> InspectError {
+        InspectError::WriterFailed
     }
 }
 

@@ -1,35 +1,30 @@
 //! Writes the findings of a map, one on each line.
-ghost use Rattle.std.specs.Prelude.{◌≡◌, IfErr, IfOk, MatchResult, flat_map, length};
+ghost use Rattle.std.specs.Prelude.{◌≡◌, IfErr, IfOk, MatchResult, OnOk, flat_map, length};
 ghost use Rattle.std.specs.Io.KnownBytes.{Appends};
 ghost use Rattle.map_checks.specs.Findings.{findings};
-ghost use Rattle.run_edit.specs.declared.error.EditorError.TheVariants.{WriterFailed};
 ghost use Rattle.run_edit.specs.Texts.{finding_line, findings_text, total_text};
 ghost use Rattle.run_edit.specs.Runs.{Unwritten};
 
 use crate::error::EditorError;
+use lump_text::WriterFailed;
 use map_checks::{Finding, check};
 use map_tables::Map;
 use std::alloc::Global;
 use std::io::Write;
 
 // Writes a finding as a line.
-fn write_finding<W: Write>(finding: &Finding, writer: &mut W) -> Result<(), EditorError>
-    ensures { MatchResult result
-        (λ _. Appends (W.contents writer.old) (W.contents writer.new) (finding_line finding.now))
-        (λ e. e ≡ WriterFailed) }
+fn write_finding<W: Write>(finding: &Finding, writer: &mut W) -> Result<(), WriterFailed>
+    ensures { OnOk result
+        (Appends (W.contents writer.old) (W.contents writer.new) (finding_line finding.now)) }
 {
-    match write!(writer, "{finding}\n") {
-        Ok(()) => Ok(()),
-        Err(_) => Err(EditorError::WriterFailed),
-    }
+    write!(writer, "{finding}\n")?;
+    Ok(())
 }
 
 // Writes a line for each finding.
-fn write_each<W: Write>(found: &[Finding], writer: &mut W) -> Result<(), EditorError>
-    ensures { MatchResult result
-        (λ _. Appends (W.contents writer.old) (W.contents writer.new)
-        (flat_map finding_line found.now))
-        (λ e. e ≡ WriterFailed) }
+fn write_each<W: Write>(found: &[Finding], writer: &mut W) -> Result<(), WriterFailed>
+    ensures { OnOk result (Appends (W.contents writer.old) (W.contents writer.new)
+        (flat_map finding_line found.now)) }
 {
     for finding in found {
         match write_finding(finding, writer) {
@@ -44,7 +39,7 @@ fn write_each<W: Write>(found: &[Finding], writer: &mut W) -> Result<(), EditorE
 pub fn write_total<W: Write>(count: u32, writer: &mut W) -> Result<(), EditorError>
     ensures { MatchResult result
         (λ _. Appends (W.contents writer.old) (W.contents writer.new) (total_text count))
-        (λ e. e ≡ WriterFailed) }
+        (λ e. e ≡ EditorError.WriterFailed) }
 {
     match write!(writer, "findings {count}\n") {
         Ok(()) => Ok(()),

@@ -1,11 +1,11 @@
 //! Writes what `inspect` prints of a level: its lengths, then `sound` or the first fault.
-ghost use Rattle.std.specs.Prelude.{◌≡◌, ◌++◌, IfErr, IfOk, MatchResult, is_none};
+ghost use Rattle.std.specs.Prelude.{◌≡◌, IfErr, IfOk, OnOk};
 ghost use Rattle.std.specs.Io.KnownBytes.{Appends};
 ghost use Rattle.wad_levels.specs.Views.{view};
-ghost use Rattle.run_edit.specs.declared.error.InspectError.TheVariants.{WriterFailed};
 ghost use Rattle.run_edit.specs.Inspections.{IsInspected, RefusesInspection, back_text, fault_name, fault_number, fault_text, front_text, lengths_text, verdict_text};
 
 use crate::error::InspectError;
+use lump_text::WriterFailed;
 use std::alloc::Global;
 use std::io::Write;
 use wad_build::{Fault, Level, audit, read_level};
@@ -60,20 +60,15 @@ fn write_front<W: Write>(
     vertices: usize,
     segs: usize,
     writer: &mut W,
-) -> Result<(), InspectError>
-    ensures { MatchResult result
-        (λ _. Appends (W.contents writer.old) (W.contents writer.new)
-        (front_text things lines sides vertices segs))
-        (λ e. e ≡ WriterFailed) }
+) -> Result<(), WriterFailed>
+    ensures { OnOk result (Appends (W.contents writer.old) (W.contents writer.new)
+        (front_text things lines sides vertices segs)) }
 {
-    let written = write!(
+    write!(
         writer,
         "things {things} lines {lines} sides {sides} vertices {vertices} segs {segs}"
-    );
-    match written {
-        Ok(()) => Ok(()),
-        Err(_) => Err(InspectError::WriterFailed),
-    }
+    )?;
+    Ok(())
 }
 
 // Writes how many records each of the next three lumps has, how many bytes REJECT and BLOCKMAP have, and the LF.
@@ -84,28 +79,21 @@ fn write_back<W: Write>(
     reject: usize,
     blockmap: usize,
     writer: &mut W,
-) -> Result<(), InspectError>
-    ensures { MatchResult result
-        (λ _. Appends (W.contents writer.old) (W.contents writer.new)
-        (back_text subs nodes sectors reject blockmap))
-        (λ e. e ≡ WriterFailed) }
+) -> Result<(), WriterFailed>
+    ensures { OnOk result (Appends (W.contents writer.old) (W.contents writer.new)
+        (back_text subs nodes sectors reject blockmap)) }
 {
-    let written = write!(
+    write!(
         writer,
         " subsectors {subs} nodes {nodes} sectors {sectors} reject {reject} blockmap {blockmap}\n"
-    );
-    match written {
-        Ok(()) => Ok(()),
-        Err(_) => Err(InspectError::WriterFailed),
-    }
+    )?;
+    Ok(())
 }
 
 // Writes how many records the lumps of a level have, and how many bytes REJECT and BLOCKMAP have.
-fn write_lengths<W: Write>(level: &Level, writer: &mut W) -> Result<(), InspectError>
-    ensures { MatchResult result
-        (λ _. Appends (W.contents writer.old) (W.contents writer.new)
-        (lengths_text (view level.now)))
-        (λ e. e ≡ WriterFailed) }
+fn write_lengths<W: Write>(level: &Level, writer: &mut W) -> Result<(), WriterFailed>
+    ensures { OnOk result (Appends (W.contents writer.old) (W.contents writer.new)
+        (lengths_text (view level.now))) }
 {
     let things = level.things.len();
     let lines = level.lines.len();
@@ -117,60 +105,30 @@ fn write_lengths<W: Write>(level: &Level, writer: &mut W) -> Result<(), InspectE
     let sectors = level.sectors.len();
     let reject = level.reject.len();
     let blockmap = level.blockmap.len();
-    match write_front(things, lines, sides, vertices, segs, writer) {
-        Ok(()) => write_back(subs, nodes, sectors, reject, blockmap, writer),
-        Err(error) => Err(error),
-    }
+    write_front(things, lines, sides, vertices, segs, writer)?;
+    write_back(subs, nodes, sectors, reject, blockmap, writer)?;
+    Ok(())
 }
 
 // Writes `fault NAME I`.
-fn write_fault<W: Write>(fault: Fault, writer: &mut W) -> Result<(), InspectError>
-    ensures { MatchResult result
-        (λ _. Appends (W.contents writer.old) (W.contents writer.new) (fault_text fault))
-        (λ e. e ≡ WriterFailed) }
+fn write_fault<W: Write>(fault: Fault, writer: &mut W) -> Result<(), WriterFailed>
+    ensures { OnOk result
+        (Appends (W.contents writer.old) (W.contents writer.new) (fault_text fault)) }
 {
     let name = name_of(fault);
     let number = number_of(fault);
-    match write!(writer, "fault {name} {number}\n") {
-        Ok(()) => Ok(()),
-        Err(_) => Err(InspectError::WriterFailed),
-    }
+    write!(writer, "fault {name} {number}\n")?;
+    Ok(())
 }
 
-// Writes `sound` or the fault, and returns whether the level is sound.
-fn write_verdict<W: Write>(fault: Option<Fault>, writer: &mut W) -> Result<bool, InspectError>
-    ensures { MatchResult result
-        (λ sound. (sound ≡ is_none fault)
-        × Appends (W.contents writer.old) (W.contents writer.new) (verdict_text fault))
-        (λ e. e ≡ WriterFailed) }
+// Writes `sound` or the fault.
+fn write_verdict<W: Write>(fault: Option<Fault>, writer: &mut W) -> Result<(), WriterFailed>
+    ensures { OnOk result
+        (Appends (W.contents writer.old) (W.contents writer.new) (verdict_text fault)) }
 {
     match fault {
-        Some(fault) => match write_fault(fault, writer) {
-            Ok(()) => Ok(false),
-            Err(error) => Err(error),
-        },
-        None => match writer.write_all(b"sound\n") {
-            Ok(()) => Ok(true),
-            Err(_) => Err(InspectError::WriterFailed),
-        },
-    }
-}
-
-// Writes the lengths of a level and the result of its audit, and returns whether it is sound.
-fn write_level<W: Write>(
-    level: &Level,
-    fault: Option<Fault>,
-    writer: &mut W,
-) -> Result<bool, InspectError>
-    ensures { MatchResult result
-        (λ sound. (sound ≡ is_none fault)
-        × Appends (W.contents writer.old) (W.contents writer.new)
-        (lengths_text (view level.now) ++ verdict_text fault))
-        (λ e. e ≡ WriterFailed) }
-{
-    match write_lengths(level, writer) {
-        Ok(()) => write_verdict(fault, writer),
-        Err(error) => Err(error),
+        Some(fault) => write_fault(fault, writer),
+        None => Ok(writer.write_all(b"sound\n")?),
     }
 }
 
@@ -194,5 +152,7 @@ pub fn inspect<W: Write>(
 {
     let level = read_level(alloc, wad, name)?;
     let fault = audit(alloc, &level)?;
-    write_level(&level, fault, writer)
+    write_lengths(&level, writer)?;
+    write_verdict(fault, writer)?;
+    Ok(fault.is_none())
 }
