@@ -9,9 +9,7 @@ use cli_print::map_called;
 use map_tables::Maps;
 use std::alloc::Global;
 use wad_file::Wad;
-use wad_levels::{
-    LevelEntries, ReadError, is_asked_of, last_called, last_of_each, levels_in,
-};
+use wad_levels::{LevelEntries, ReadError, is_asked_of, last_called, last_of_each, levels_in};
 
 // Whether a map has the name.
 fn has_map_called(maps: &Maps, name: &[u8]) -> bool
@@ -112,8 +110,8 @@ fn asked_among(
     }
 }
 
-/// The levels of a WAD that are asked for, in the order of its directory: the last one with each of the names, or all if
-/// there are no names. Each of the names has to be the name of a level.
+/// The levels of a WAD that are asked for, in the order of its directory: the last one with each of the names, or all
+/// if there are no names. Each of the names has to be the name of a level.
 pub(crate) fn asked_levels(
     alloc: Global,
     wad: &Wad<'_>,

@@ -16,7 +16,8 @@ last_called wad levels name = find (is_level_called wad name) (reverse levels)
 
 -- of these levels the last one of each name, for the names that a level has
 abbrev pub last_of_each : List ℕ → List LevelEntries → List (List ℕ) → List LevelEntries
-last_of_each wad levels names = flat_map (λ name. option_to_list (last_called wad levels name)) names
+last_of_each wad levels names =
+    flat_map (λ name. option_to_list (last_called wad levels name)) names
 
 -- the level is one of these
 abbrev pub is_level_among : List LevelEntries → LevelEntries → Bool

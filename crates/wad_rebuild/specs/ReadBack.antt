@@ -26,9 +26,9 @@ pub record IsFindable (wad : List ℕ) (l : RebuiltLevel) : Type 0 where
 -- what was made
 abbrev pub RebuiltLevelsReadBack : Type 0
 RebuiltLevelsReadBack =
-    (wad : List ℕ) (names : List (List ℕ)) (r : RebuiltWad) (n : ℕ) (l : RebuiltLevel) (m : MadeLumps)
-    → IsRebuiltWad wad names r → slice_get r.levels.items n ≡ Some l → l.fate ≡ Made m
-    → IsFindable wad l
+    (wad : List ℕ) (names : List (List ℕ)) (r : RebuiltWad) (n : ℕ) (l : RebuiltLevel)
+    (m : MadeLumps) → IsRebuiltWad wad names r → slice_get r.levels.items n ≡ Some l
+    → l.fate ≡ Made m → IsFindable wad l
     → IsLevel r.bytes.items (name_text l.name) (remade_level (drawn_lists wad l.entries) m)
 
 -- what was drawn of a level is a map, a line uses its last vertex, and no REJECT stays that marks a
