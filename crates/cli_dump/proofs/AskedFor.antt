@@ -1,9 +1,8 @@
 -- What names ask for, one name after another and one level after another.
-use Rattle.std.proofs.Common.{◌≡◌, ◌∙◌, ◌+◌, ◌<◌, ◌≤◌, ℕ, zero, suc, List, [], ◌∷◌, ◌++◌, Bool, true, false, cond, length, get_or, map, take, drop, refl, sym, ap, arith, All, Some}
+use Rattle.std.proofs.Common.{◌≡◌, ◌∙◌, ◌<◌, ◌≤◌, ℕ, zero, suc, List, [], ◌∷◌, Bool, true, false, cond, length, get_or, map, drop, refl, ap, arith, All, Some}
 use Rattle.std.specs.Prelude.{◌&&◌, filter}
 use Rattle.std.specs.List.{list_all}
-use Rattle.std.proofs.lemmas.List.{take_more}
-use Rattle.std.proofs.lemmas.List.Elements.{All-cons, All-head, All-nil, All-tail, filter-append}
+use Rattle.std.proofs.lemmas.List.Elements.{All-cons, All-head, All-nil, All-tail}
 use Rattle.wad_levels.specs.declared.entries.LevelEntries.{LevelEntries}
 use Rattle.wad_levels.specs.Listing.{listing_refusal}
 use Rattle.wad_levels.specs.declared.error.ReadError.{ReadError}

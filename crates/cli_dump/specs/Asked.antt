@@ -1,7 +1,7 @@
 -- The maps of a project and the levels of a WAD that names ask for, any number of names
 -- (docs/COMMANDS.md, "The program").
-use Rattle.std.specs.Prelude.{◌≡◌, ℕ, Bool, true, false, ◌||◌, ◌==◌, is_some, filter, find, length, List}
-use Rattle.std.specs.List.{list_all, list_any}
+use Rattle.std.specs.Prelude.{◌≡◌, ℕ, Bool, true, false, is_some, filter, find, List}
+use Rattle.std.specs.List.{list_all}
 use Rattle.lump_records.specs.Names.{name_text}
 use Rattle.wad_levels.specs.Called.{is_level_asked, last_called}
 use Rattle.wad_levels.specs.Entries.{AreLevels}

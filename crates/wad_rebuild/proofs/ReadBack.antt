@@ -1,31 +1,31 @@
 -- A level that was built anew is read back by its name.
 use Rattle.std.proofs.Common.{◌≡◌, ◌≢◌, ◌∙◌, refl, sym, ap, subst, cond, ℕ, zero, suc, ◌+◌, ◌-◌, ◌<◌, ◌≤◌, ◌⊎◌, inl, inr, Bool, true, false, not, ◌&&◌, ◌||◌, List, [], ◌∷◌, ◌++◌, length, get_or, take, drop, map, filter, arith, append_assoc, append-nil, length-append, Option, Some, None}
-use Rattle.std.specs.Prelude.{All, ◌%◌, ◌==◌, nat_eq, nat_lt, codes, slice_get}
+use Rattle.std.specs.Prelude.{All, ◌%◌, ◌==◌, nat_lt, codes, slice_get}
 use Rattle.std.specs.List.{list_any, range_with_len}
 use Rattle.std.specs.Option.{option_map_or, option_or}
 use Rattle.std.specs.Cmp.Lexicographic.{bytes_decides}
 use Rattle.std.proofs.lemmas.Bool.{cases_lt}
 use Rattle.std.proofs.lemmas.Bool.Decides.{eqb_tells, nat_tests}
 use Rattle.std.proofs.lemmas.List.{get_or-append-add, get_or_append_left, length-drop, length-take-le}
-use Rattle.std.proofs.lemmas.List.Elements.{All-append, All-cons, All-from_get_or, All-head, All-nil, All-tail}
+use Rattle.std.proofs.lemmas.List.Elements.{All-append, All-cons, All-head, All-nil, All-tail}
 use Rattle.lump_records.specs.Lumps.{records_of}
 use Rattle.lump_records.specs.Names.{name_text}
 use Rattle.lump_records.specs.Records.{thing_at, line_at, side_at, vertex_at, seg_at, sub_at, node_at, sector_at}
 use Rattle.lump_records.specs.declared.records.Name8.{Name8}
-use Rattle.wad_file.specs.Directory.{are_inside, entry, entry_has_name, first_failed, has_directory, is_outside, is_wad, last_named, lump, lump_count, standing, wad_refusal}
+use Rattle.wad_file.specs.Directory.{entry, entry_has_name, entry_text, first_failed, has_directory, is_outside, is_wad, last_named, lump, lump_count, standing, wad_refusal}
 use Rattle.wad_file.specs.Fields.{same_bytes}
 use Rattle.wad_file.specs.Lumps.{IsWadOf, Lump, lump_at, lumps_between, lumps_in}
 use Rattle.wad_file.specs.declared.error.WadError.TheVariants as bytes
 use Rattle.wad_file.proofs.DirectoryLemmas.{inside_at}
-use Rattle.wad_levels.specs.Drawn.{DrawnLists, drawn_lists, entries_hindrance, entry_hindrance, form_hindrance, hindrance, level_lump, lists_hindrance, lump_hindrance}
-use Rattle.wad_levels.specs.Entries.{AreLevels, IsLevelAt, goes_on, is_behavior, is_gl, is_level, lump_entry}
-use Rattle.wad_levels.specs.Levels.{has_lumps, is_hexen, lump_names, lumps_behind, marker, marker_at, record_sizes, refusal}
+use Rattle.wad_levels.specs.Drawn.{drawn_lists, entries_hindrance, entry_hindrance, form_hindrance, hindrance, level_lump, lists_hindrance, lump_hindrance}
+use Rattle.wad_levels.specs.Entries.{IsLevelAt, comes_later, goes_on, is_behavior, is_gl, is_gl_marker, is_gl_name, is_level, lump_entry, rank}
+use Rattle.wad_levels.specs.Levels.{are_named, has_lumps, is_hexen, lump_names, lumps_behind, marker, marker_at, record_sizes, refusal}
 use Rattle.wad_levels.specs.declared.entries.LevelEntries.{LevelEntries}
 use Rattle.wad_levels.specs.declared.hindrance.Hindrance.TheVariants as hindering
 use Rattle.wad_levels.proofs.ReadLemmas.{accepts}
 use Rattle.wad_build.specs.Wad.{is_lump_name, with_names}
 use Rattle.wad_build.proofs.PartLemmas.{IsNth, all_inside, all_named, all_whole, last_is, length-with, with_at}
-use Rattle.wad_rebuild.specs.ReadBack.{IsFindable, RebuiltLevelsReadBack}
+use Rattle.wad_rebuild.specs.ReadBack.{RebuiltLevelsReadBack}
 use Rattle.wad_rebuild.specs.Rebuilt.{AreRebuilt, IsFate, IsRebuilt, lumps_after, lumps_from, made_lumps, ten_bytes, ten_lumps}
 use Rattle.wad_rebuild.specs.Remade.{IsRemade, remade_level}
 use Rattle.wad_rebuild.specs.declared.levels.Fate.{Fate}
@@ -52,6 +52,15 @@ or_neither : (a b : Bool) → (a || b) ≡ false → (a ≡ false) × (b ≡ fal
 or_neither true b e = absurd (cc)
 or_neither false b e = (refl, e)
 
+second : (a b : Bool) → a ≡ true → (a && b) ≡ false → b ≡ false
+second true b t e = e
+second false b t e = absurd (cc)
+
+hexen_by : (a b : Bool) → (a ≡ false) ⊎ (b ≡ false) → (a && b) ≡ false
+hexen_by true b (inl e) = absurd (cc)
+hexen_by true b (inr e) = e
+hexen_by false b e = refl
+
 lt_holds : (a b : ℕ) → a < b → nat_lt a b ≡ true
 lt_holds a b h = grind (arith, nat_tests)
 
@@ -73,17 +82,22 @@ none_is test (x ∷ xs) e (suc n) d h = none_is test xs (or_neither (test x) (li
 -- ---- the levels of a WAD follow one another
 
 -- from the k-th entry on
-abbrev pub Follow : List ℕ → ℕ → List RebuiltLevel → Type 0
+abbrev Follow : List ℕ → ℕ → List RebuiltLevel → Type 0
 Follow wad k [] = k ≤ lump_count wad
 Follow wad k (l ∷ ls) = (k ≤ l.entries.marker) × IsLevelAt wad l.entries × Follow wad l.entries.gl_end ls
 
 goes_no_level : (wad : List ℕ) (m j : ℕ) → goes_on wad m j ≡ true → is_level wad j ≡ false
 unfolding goes_on
-goes_no_level wad m j e = not_so (is_level wad j) (and_first (not (is_level wad j)) _ e)
+goes_no_level wad m j e =
+    let level = is_level wad j in
+    let later = nat_lt (rank wad j) 10 in
+    not_so level (and_first (not level) later (and_first (not level && later) (comes_later wad m j) e))
 
 gl_no_level : (wad : List ℕ) (m j : ℕ) → is_gl wad m j ≡ true → is_level wad j ≡ false
 unfolding is_gl
-gl_no_level wad m j e = not_so (is_level wad j) (and_first (not (is_level wad j)) _ e)
+gl_no_level wad m j e =
+    let named = is_gl_name (entry_text wad j) || is_gl_marker (entry_text wad m) (entry_text wad j) in
+    not_so (is_level wad j) (and_first (not (is_level wad j)) named e)
 
 -- no entry of a level but its marker is the marker of a level
 none_inside : (wad : List ℕ) (l : LevelEntries) → IsLevelAt wad l → (j : ℕ) → l.marker + 1 ≤ j → j < l.gl_end → is_level wad j ≡ false
@@ -96,49 +110,58 @@ none_inside wad l at j low high = by (cases_lt j l.lumps_end)
 abbrev markers : List RebuiltLevel → List ℕ
 markers ls = map (λ (l : RebuiltLevel). l.entries.marker) ls
 
--- the levels whose markers are those of `len` entries from the k-th on, none of them before `low`
-follow_from :
-    (wad : List ℕ) (len k low : ℕ) (ls : List RebuiltLevel) → markers ls ≡ filter (is_level wad) (range_with_len k len) → All (λ (l : RebuiltLevel). IsLevelAt wad l.entries) ls
-    → k + len ≡ lump_count wad → low ≤ lump_count wad → ((j : ℕ) → k ≤ j → j < low → is_level wad j ≡ false) → Follow wad low ls
-follow_from wad zero k low [] same each all end none = end
-follow_from wad zero k low (l ∷ ls) same each all end none = absurd (cc)
-follow_from wad (suc len) k low ls same each all end none = by (is_level wad k) refl
+-- what holds of the levels whose markers are those of `len` entries from the k-th on, none of them before `low`
+abbrev FollowFrom : List ℕ → ℕ → ℕ → Type 0
+FollowFrom wad len k =
+    (low : ℕ) (ls : List RebuiltLevel) → markers ls ≡ filter (is_level wad) (range_with_len k len) → All (λ (l : RebuiltLevel). IsLevelAt wad l.entries) ls → k + len ≡ lump_count wad
+    → low ≤ lump_count wad → ((j : ℕ) → k ≤ j → j < low → is_level wad j ≡ false) → Follow wad low ls
+
+low_is : (wad : List ℕ) (k low : ℕ) → ((j : ℕ) → k ≤ j → j < low → is_level wad j ≡ false) → is_level wad k ≡ true → low ≤ k
+low_is wad k low none t = by (cases_lt k low)
   where
-    rest : List ℕ
-    rest = filter (is_level wad) (range_with_len (k + 1) len)
+    by : (k < low) ⊎ (low ≤ k) → low ≤ k
+    by (inl h) = absurd (true_or_not (is_level wad k) t (none k (omega arith) h))
+    by (inr h) = h
 
-    here : (t : Bool) → is_level wad k ≡ t → markers ls ≡ cond t (k ∷ rest) rest
-    here t e = same ∙ ap (λ (b : Bool). cond b (k ∷ rest) rest) e
+-- the k-th entry is a marker
+follow_marker :
+    (wad : List ℕ) (len k low : ℕ) (ls : List RebuiltLevel) → FollowFrom wad len (k + 1) → markers ls ≡ k ∷ filter (is_level wad) (range_with_len (k + 1) len)
+    → All (λ (l : RebuiltLevel). IsLevelAt wad l.entries) ls → k + suc len ≡ lump_count wad → low ≤ k → Follow wad low ls
+follow_marker wad len k low [] behind e each all low_here = absurd (cc)
+follow_marker wad len k low (x ∷ xs) behind e each all low_here =
+    let level = All-head (λ (l : RebuiltLevel). IsLevelAt wad l.entries) x xs each in
+    let at : x.entries.marker ≡ k = cc in
+    let rest : markers xs ≡ filter (is_level wad) (range_with_len (k + 1) len) = cc in (
+      omega (arith, at, low_here),
+      level,
+      behind x.entries.gl_end xs rest (All-tail (λ (l : RebuiltLevel). IsLevelAt wad l.entries) x xs each) (omega (arith, all)) level.gl.among
+          (λ j above below. none_inside wad x.entries level j (omega (arith, at, above)) below),
+    )
 
-    stands : (xs : List RebuiltLevel) → xs ≡ ls → markers xs ≡ k ∷ rest → is_level wad k ≡ true → Follow wad low xs
-    stands [] is e t = absurd (cc)
-    stands (x ∷ xs) is e t =
-        let fine = subst (λ (ys : List RebuiltLevel). All (λ (l : RebuiltLevel). IsLevelAt wad l.entries) ys) (sym is) each in
-        let level = All-head (λ (l : RebuiltLevel). IsLevelAt wad l.entries) x xs fine in
-        let at : x.entries.marker ≡ k = cc in
-        let behind : markers xs ≡ rest = cc in
-        let low_here : low ≤ k = low_is (cases_lt k low) t in (
-          omega (arith, at, low_here),
-          level,
-          follow_from wad len (k + 1) x.entries.gl_end xs behind (All-tail (λ (l : RebuiltLevel). IsLevelAt wad l.entries) x xs fine) (omega (arith, all)) level.gl.among
-              (λ j above below. none_inside wad x.entries level j (omega (arith, at, above)) below),
-        )
-      where
-        low_is : (k < low) ⊎ (low ≤ k) → is_level wad k ≡ true → low ≤ k
-        low_is (inl h) t = absurd (true_or_not (is_level wad k) t (none k (omega arith) h))
-        low_is (inr h) t = h
+follow_step : (wad : List ℕ) (len k : ℕ) → FollowFrom wad len (k + 1) → (t : Bool) → is_level wad k ≡ t → FollowFrom wad (suc len) k
+follow_step wad len k behind true t low ls same each all end none =
+    let rest = filter (is_level wad) (range_with_len (k + 1) len) in
+    follow_marker wad len k low ls behind (same ∙ ap (λ (b : Bool). cond b (k ∷ rest) rest) t) each all (low_is wad k low none t)
+follow_step wad len k behind false t low ls same each all end none =
+    let rest = filter (is_level wad) (range_with_len (k + 1) len) in
+    behind low ls (same ∙ ap (λ (b : Bool). cond b (k ∷ rest) rest) t) each (omega (arith, all)) end (λ j above below. none j (omega arith) below)
 
-    by : (t : Bool) → is_level wad k ≡ t → Follow wad low ls
-    by true e = stands ls refl (here true e) e
-    by false e = follow_from wad len (k + 1) low ls (here false e) each (omega (arith, all)) end (λ j above below. none j (omega arith) below)
+follow_none : (wad : List ℕ) (low : ℕ) (ls : List RebuiltLevel) → markers ls ≡ [] → low ≤ lump_count wad → Follow wad low ls
+follow_none wad low [] e end = end
+follow_none wad low (l ∷ ls) e end = absurd (cc)
 
-pub levels_follow : (wad : List ℕ) (names : List (List ℕ)) (ls : List RebuiltLevel) → AreRebuilt wad names ls → Follow wad 0 ls
+follow_from : (wad : List ℕ) (len k : ℕ) → FollowFrom wad len k
+follow_from wad zero k = λ low ls same each all end none. follow_none wad low ls same end
+follow_from wad (suc len) k = follow_step wad len k (follow_from wad len (k + 1)) (is_level wad k) refl
+
+map_twice : (xs : List RebuiltLevel) → markers xs ≡ map (λ (l : LevelEntries). l.marker) (map (λ (x : RebuiltLevel). x.entries) xs)
+map_twice [] = refl
+map_twice (x ∷ xs) = ap (λ (ns : List ℕ). x.entries.marker ∷ ns) (map_twice xs)
+
+levels_follow : (wad : List ℕ) (names : List (List ℕ)) (ls : List RebuiltLevel) → AreRebuilt wad names ls → Follow wad 0 ls
 levels_follow wad names ls are =
-    follow_from wad (lump_count wad) 0 0 ls (map_twice ls ∙ are.levels_are.markers) (levels_all wad ls are.levels_are.each) (omega arith) (omega arith) (λ j above below. absurd (omega arith))
-  where
-    map_twice : (xs : List RebuiltLevel) → markers xs ≡ map (λ (l : LevelEntries). l.marker) (map (λ (x : RebuiltLevel). x.entries) xs)
-    map_twice [] = refl
-    map_twice (x ∷ xs) = ap (λ (ns : List ℕ). x.entries.marker ∷ ns) (map_twice xs)
+    follow_from wad (lump_count wad) 0 0 ls (map_twice ls ∙ are.levels_are.markers) (levels_all wad ls are.levels_are.each) (omega arith) (omega arith)
+    (λ j above below. absurd (omega arith))
 
 -- ---- the names of the lumps behind a level
 
@@ -225,44 +248,45 @@ last_of_all wad k (l ∷ ls) (low, at, more) h = let in_wad : l.entries.marker <
 -- ---- where the level stands
 
 -- its lumps stand between those before it and those behind it
-pub record Stands (wad : List ℕ) (k : ℕ) (ls : List RebuiltLevel) (x : RebuiltLevel) (m : MadeLumps) : Type 0 where
+record Stands (wad : List ℕ) (k : ℕ) (ls : List RebuiltLevel) (x : RebuiltLevel) (m : MadeLumps) : Type 0 where
   pub before : List Lump
   pub rest : List RebuiltLevel
   pub whole : lumps_from wad k ls ≡ before ++ (made_lumps wad x.entries m ++ lumps_from wad x.entries.gl_end rest)
   pub follow : Follow wad x.entries.gl_end rest
   pub at : IsLevelAt wad x.entries
 
-pub stands_among :
-    (wad : List ℕ) (k : ℕ) (ls : List RebuiltLevel) (n : ℕ) (x : RebuiltLevel) (m : MadeLumps) → Follow wad k ls → slice_get ls n ≡ Some x → x.fate ≡ Made m → Stands wad k ls x m
-stands_among wad k [] n x m follow is made = absurd (none_at n is)
-  where
-    none_at : (i : ℕ) → slice_get {X = RebuiltLevel} [] i ≡ Some x → ⊥
-    none_at zero e = cc
-    none_at (suc i) e = cc
-stands_among wad k (l ∷ ls) zero x m (low, at, more) is made =
-    let same : l ≡ x = cc in
-    subst (λ (y : RebuiltLevel). Stands wad k (l ∷ ls) y m) same
-    (record {
+regroup : (a b c d : List Lump) → a ++ (b ++ (c ++ d)) ≡ (a ++ (b ++ c)) ++ d
+regroup a b c d = simp append_assoc
+
+stands_here :
+    (wad : List ℕ) (k : ℕ) (l : RebuiltLevel) (ls : List RebuiltLevel) (m : MadeLumps) → IsLevelAt wad l.entries → Follow wad l.entries.gl_end ls → l.fate ≡ Made m → Stands wad k (l ∷ ls) l m
+stands_here wad k l ls m at more made =
+    record {
       before = lumps_between wad k l.entries.marker;
       rest = ls;
-      whole = ap (λ (f : Fate). lumps_between wad k l.entries.marker ++ (lumps_after wad l.entries f ++ lumps_from wad l.entries.gl_end ls)) (ap (λ (y : RebuiltLevel). y.fate) same ∙ made);
+      whole = ap (λ (f : Fate). lumps_between wad k l.entries.marker ++ (lumps_after wad l.entries f ++ lumps_from wad l.entries.gl_end ls)) made;
       follow = more;
       at = at;
-    })
+    }
+
+stands_among :
+    (wad : List ℕ) (k : ℕ) (ls : List RebuiltLevel) (n : ℕ) (x : RebuiltLevel) (m : MadeLumps) → Follow wad k ls → slice_get ls n ≡ Some x → x.fate ≡ Made m → Stands wad k ls x m
+stands_among wad k [] zero x m follow is made = absurd (cc)
+stands_among wad k [] (suc n) x m follow is made = absurd (cc)
+stands_among wad k (l ∷ ls) zero x m (low, at, more) is made =
+    let same : l ≡ x = cc in
+    subst (λ (y : RebuiltLevel). Stands wad k (l ∷ ls) y m) same (stands_here wad k l ls m at more (ap (λ (y : RebuiltLevel). y.fate) same ∙ made))
 stands_among wad k (l ∷ ls) (suc n) x m (low, at, more) is made =
     let s = stands_among wad l.entries.gl_end ls n x m more is made in
+    let front = lumps_between wad k l.entries.marker in
+    let own = lumps_after wad l.entries l.fate in
     record {
-      before = lumps_between wad k l.entries.marker ++ (lumps_after wad l.entries l.fate ++ s.before);
+      before = front ++ (own ++ s.before);
       rest = s.rest;
-      whole =
-          ap (λ (xs : List Lump). lumps_between wad k l.entries.marker ++ (lumps_after wad l.entries l.fate ++ xs)) s.whole
-          ∙ regroup (lumps_between wad k l.entries.marker) (lumps_after wad l.entries l.fate) s.before (made_lumps wad x.entries m ++ lumps_from wad x.entries.gl_end s.rest);
+      whole = ap (λ (xs : List Lump). front ++ (own ++ xs)) s.whole ∙ regroup front own s.before (made_lumps wad x.entries m ++ lumps_from wad x.entries.gl_end s.rest);
       follow = s.follow;
       at = s.at;
     }
-  where
-    regroup : (a b c d : List Lump) → a ++ (b ++ (c ++ d)) ≡ (a ++ (b ++ c)) ++ d
-    regroup a b c d = simp append_assoc
 
 -- ---- what was drawn of a level is whole records
 
@@ -291,28 +315,31 @@ lump_long wad k inside = by (cases_lt 0 (entry wad k).size)
     by (inl some) = fits some (cases_lt (length wad) (at + size))
     by (inr none) = let z : size ≡ 0 = omega arith in length-take-le size (drop at wad) (omega arith)
 
+zero_is : (n : ℕ) → (n == 0) ≡ true → n ≡ 0
+zero_is n e = by (eqb_tells n 0)
+  where
+    by : (((n == 0) ≡ true) × (n ≡ 0)) ⊎ (((n == 0) ≡ false) × (n ≢ 0)) → n ≡ 0
+    by (inl h) = h.1
+    by (inr h) = absurd (true_or_not (n == 0) e h.0)
+
+both_pass : (outside whole : Bool) (n : ℕ) → cond outside (Some (hindering.LumpOutside n)) (cond whole None (Some (hindering.LumpLength n))) ≡ None → (outside ≡ false) × (whole ≡ true)
+both_pass true whole n e = absurd (cc)
+both_pass false true n e = (refl, refl)
+both_pass false false n e = absurd (cc)
+
+standing_whole : (wad : List ℕ) (n size k : ℕ) → entry_hindrance wad n size k ≡ None → length (standing wad k) % size ≡ 0
+standing_whole wad n size k e =
+    let passed = both_pass (is_outside wad (entry wad k)) (((entry wad k).size % size) == 0) n e in
+    let stands : standing wad k ≡ lump wad k = ap (λ (b : Bool). cond b [] (lump wad k)) passed.0 in
+    ap (λ (b : List ℕ). length b % size) stands ∙ ap (λ (i : ℕ). i % size) (lump_long wad k passed.0) ∙ zero_is ((entry wad k).size % size) passed.1
+
 -- the level's lump of the number n is whole records of this size
 drawn_whole : (wad : List ℕ) (l : LevelEntries) (n size : ℕ) → lump_hindrance wad l n size ≡ None → length (level_lump wad l n) % size ≡ 0
-drawn_whole wad l n size none = by (lump_entry wad l n) refl
+drawn_whole wad l n size none = by (lump_entry wad l n) none
   where
-    there : (k : ℕ) → (outside whole : Bool) → is_outside wad (entry wad k) ≡ outside → (((entry wad k).size % size) == 0) ≡ whole → entry_hindrance wad n size k ≡ None
-        → length (standing wad k) % size ≡ 0
-    there k true whole o w e = absurd (let f : entry_hindrance wad n size k ≡ Some (hindering.LumpOutside n) = rw o refl in (let g : Some (hindering.LumpOutside n) ≡ None = sym f ∙ e in cc))
-    there k false false o w e = absurd (let f : entry_hindrance wad n size k ≡ Some (hindering.LumpLength n) = rw (o, w) refl in (let g : Some (hindering.LumpLength n) ≡ None = sym f ∙ e in cc))
-    there k false true o w e =
-        let stands : standing wad k ≡ lump wad k = rw o refl in
-        ap (λ (b : List ℕ). length b % size) stands ∙ ap (λ (i : ℕ). i % size) (lump_long wad k o) ∙ is_zero (eqb_tells ((entry wad k).size % size) 0)
-      where
-        is_zero : ((((entry wad k).size % size == 0) ≡ true) × ((entry wad k).size % size ≡ 0)) ⊎ ((((entry wad k).size % size == 0) ≡ false) × ((entry wad k).size % size ≢ 0)) → (entry wad k).size % size ≡ 0
-        is_zero (inl h) = h.1
-        is_zero (inr h) = absurd (true_or_not _ w h.0)
-
-    by : (o : Option ℕ) → lump_entry wad l n ≡ o → length (level_lump wad l n) % size ≡ 0
-    by None e = absurd (let f : lump_hindrance wad l n size ≡ Some (hindering.LumpMissing n) = rw e refl in (let g : Some (hindering.LumpMissing n) ≡ None = sym f ∙ none in cc))
-    by (Some k) e =
-        let h : entry_hindrance wad n size k ≡ None = sym (ap (λ (o : Option ℕ). option_map_or (entry_hindrance wad n size) o (Some (hindering.LumpMissing n))) e) ∙ none in
-        let is : level_lump wad l n ≡ standing wad k = ap (λ (o : Option ℕ). option_map_or (standing wad) o []) e in
-        ap (λ (b : List ℕ). length b % size) is ∙ there k (is_outside wad (entry wad k)) (((entry wad k).size % size) == 0) refl refl h
+    by : (o : Option ℕ) → option_map_or (entry_hindrance wad n size) o (Some (hindering.LumpMissing n)) ≡ None → length (option_map_or (standing wad) o []) % size ≡ 0
+    by None e = absurd (cc)
+    by (Some k) e = standing_whole wad n size k e
 
 record DrawnWhole (wad : List ℕ) (l : LevelEntries) : Type 0 where
   pub things : length (level_lump wad l 0) % 10 ≡ 0
@@ -375,17 +402,23 @@ is_wad_like wad none = by (is_wad wad) (has_directory wad) none
     by true false e = absurd (cc)
     by false b e = absurd (cc)
 
+above_step :
+    (wad name : List ℕ) (c k j : ℕ) (t : Bool) → entry_has_name wad name c ≡ t → cond t (Some c) (last_named wad name c) ≡ Some k → k < j → j < suc c
+    → (last_named wad name c ≡ Some k → j < c → entry_has_name wad name j ≡ false) → entry_has_name wad name j ≡ false
+above_step wad name c k j true t e above below behind = let h : c ≡ k = cc in absurd (omega (arith, h))
+above_step wad name c k j false t e above below behind = by (cases_lt j c)
+  where
+    by : (j < c) ⊎ (c ≤ j) → entry_has_name wad name j ≡ false
+    by (inl q) = behind e q
+    by (inr q) = let h : j ≡ c = omega arith in ap (entry_has_name wad name) h ∙ t
+
 above_last : (wad name : List ℕ) (count k : ℕ) → last_named wad name count ≡ Some k → (j : ℕ) → k < j → j < count → entry_has_name wad name j ≡ false
 above_last wad name zero k e j above below = absurd (omega arith)
-above_last wad name (suc c) k e j above below = by (entry_has_name wad name c) refl (cases_lt j c)
-  where
-    by : (t : Bool) → entry_has_name wad name c ≡ t → (j < c) ⊎ (c ≤ j) → entry_has_name wad name j ≡ false
-    by true t q =
-        let f : last_named wad name (suc c) ≡ Some c = rw t refl in
-        let g : Some c ≡ Some k = sym f ∙ e in
-        let h : c ≡ k = cc in absurd (omega (arith, h))
-    by false t (inl q) = let f : last_named wad name (suc c) ≡ last_named wad name c = rw t refl in above_last wad name c k (sym f ∙ e) j above q
-    by false t (inr q) = let h : j ≡ c = omega arith in ap (entry_has_name wad name) h ∙ t
+above_last wad name (suc c) k e j above below =
+    above_step wad name c k j (entry_has_name wad name c) refl e above below (λ f q. above_last wad name c k f j above q)
+
+has_both : (wad : List ℕ) (at : ℕ) → nat_lt (at + 10) (lump_count wad) ≡ true → are_named wad (at + 1) lump_names ≡ true → has_lumps wad at ≡ true
+has_both wad at r n = rw (r, n) refl
 
 -- ---- a level between other lumps
 
@@ -397,11 +430,11 @@ record HasLevel (kind out : List ℕ) (before after : List Lump) (marker_lump : 
 level_long : (kind out : List ℕ) (before after : List Lump) (x : Lump) (ten : List (List ℕ)) → HasLevel kind out before after x ten → lump_count out ≡ length before + 11 + length after
 level_long kind out before after x ten h =
     let c = count_is kind out _ h.wad in
-    let w = length-with lump_names ten (sym h.many) in
-    let n : length lump_names ≡ 10 = refl in
+    let t : length lump_names ≡ 10 = refl in
+    let w = length-with lump_names ten (t ∙ sym h.many) in
     let a = length-append before ((x ∷ with_names lump_names ten) ++ after) in
     let b = length-append (x ∷ with_names lump_names ten) after in
-    omega (arith, c, w, n, a, b)
+    omega (arith, c, w, t, a, b)
 
 -- its lump of the number n, of all that stand from its marker on
 level_lump_is :
@@ -432,8 +465,8 @@ tenth :
     → IsNth out (length before + 1 + n) (get_or lump_names n no_name) (get_or ten n [])
 tenth kind out before after x ten n h low =
     let k : length before + suc n ≡ length before + 1 + n = omega arith in
-    let w = length-with lump_names ten (sym h.many) in
     let t : length lump_names ≡ 10 = refl in
+    let w = length-with lump_names ten (t ∙ sym h.many) in
     let v = with_at lump_names ten n no_lump no_name (t ∙ sym h.many) (omega (arith, t, low)) in
     let is : lump_at out (length before + 1 + n) ≡ get_or (with_names lump_names ten) n no_lump =
     ap (lump_at out) (sym k) ∙ level_lump_is kind out before after x ten (suc n) no_lump h (omega arith)
@@ -450,7 +483,29 @@ tenth kind out before after x ten n h low =
 
 -- ---- the law
 
--- what the ten lumps hold, of one name, is read
+-- an entry behind the marker has another name
+behind_other :
+    (kind out name : List ℕ) (before after : List Lump) (x : Lump) (ten : List (List ℕ)) → HasLevel kind out before after x ten → is_lump_name name ≡ false → All (IsOther name) after
+    → (j n : ℕ) → j ≡ length before + suc n → n < 10 + length after → entry_has_name out name j ≡ false
+behind_other kind out name before after x ten h free others j n is low = by (cases_lt n 10)
+  where
+    by : (n < 10) ⊎ (10 ≤ n) → entry_has_name out name j ≡ false
+    by (inl q) =
+        let k : length before + suc n ≡ length before + 1 + n = omega arith in
+        let t : length lump_names ≡ 10 = refl in
+        ap (λ (i : ℕ). entry_has_name out name i) (is ∙ k) ∙ ap (λ (y : Name8). same_bytes (name_text y) name) (tenth kind out before after x ten n h q).named
+        ∙ none_is (λ (y : Name8). same_bytes (name_text y) name) lump_names (free_of name free) n no_name (omega (arith, t, q))
+    by (inr q) =
+        let t : length lump_names ≡ 10 = refl in
+        let w = length-with lump_names ten (t ∙ sym h.many) in
+        let r : length (x ∷ with_names lump_names ten) + (n - 10) ≡ suc n = omega (arith, w, t, q) in
+        ap (λ (i : ℕ). entry_has_name out name i) is
+        ∙ ap (λ (y : Lump). same_bytes (name_text y.name) name)
+        (level_lump_is kind out before after x ten (suc n) no_lump h (omega arith) ∙ ap (λ (i : ℕ). get_or ((x ∷ with_names lump_names ten) ++ after) i no_lump) (sym r)
+        ∙ get_or-append-add (x ∷ with_names lump_names ten) after (n - 10) no_lump)
+        ∙ others (n - 10) no_lump (omega (arith, q, low))
+
+-- the marker and the ten lumps are found by the name
 reads :
     (kind out name : List ℕ) (before after : List Lump) (x : Lump) (ten : List (List ℕ)) → HasLevel kind out before after x ten → name_text x.name ≡ name
     → is_lump_name name ≡ false → All (IsOther name) after → is_hexen out (length before) ≡ false → ((n : ℕ) → n < 10 → length (get_or ten n []) % get_or record_sizes n 1 ≡ 0)
@@ -465,80 +520,86 @@ reads kind out name before after x ten h own free others doom whole =
     ap (λ (k : ℕ). entry_has_name out name k) (sym z)
     ∙ ap (λ (y : Lump). same_bytes (name_text y.name) name) (level_lump_is kind out before after x ten 0 no_lump h (omega arith))
     ∙ ap (λ (w : List ℕ). same_bytes w name) own ∙ same_self name in
-    let last = last_is out name (lump_count out) at (omega (arith, l)) here (λ j above below. behind j (j - at - 1) (omega (arith, above)) (omega (arith, l, above, below))) in
+    let last = last_is out name (lump_count out) at (omega (arith, l)) here
+    (λ j above below. behind_other kind out name before after x ten h free others j (j - at - 1) (omega (arith, above)) (omega (arith, l, above, below))) in
     let ok = is_wad_like out h.wad.accepted in
     let room : nat_lt (at + 10) (lump_count out) ≡ true = lt_holds (at + 10) (lump_count out) (omega (arith, l)) in
     let named = all_named out (at + 1) lump_names no_name
-    (λ n b. ap (λ (y : Name8). same_bytes (name_text y) (name_text (get_or lump_names n no_name))) (tenth kind out before after x ten n h (omega (arith, b, t))).named ∙ same_self _) in
-    let both : has_lumps out at ≡ true = rw (room, named) refl in
+    (λ n b. ap (λ (y : Name8). same_bytes (name_text y) (name_text (get_or lump_names n no_name))) (tenth kind out before after x ten n h (omega (arith, b, t))).named
+    ∙ same_self (name_text (get_or lump_names n no_name))) in
     let inside = all_inside out (at + 1) 10 (λ n b. (tenth kind out before after x ten n h b).inside) in
     let sizes = all_whole out (at + 1) record_sizes
     (λ n b. ap (λ (i : ℕ). i % get_or record_sizes n 1) (tenth kind out before after x ten n h (omega (arith, b, s))).size ∙ whole n (omega (arith, b, s))) in
-    (last, accepts out name at ok.0 ok.1 last both doom inside sizes)
-  where
-    -- an entry behind the marker
-    behind : (j n : ℕ) → j ≡ length before + suc n → n < 10 + length after → entry_has_name out name j ≡ false
-    behind j n is low = by (cases_lt n 10)
-      where
-        k : length before + suc n ≡ length before + 1 + n
-        k = omega arith
+    (last, accepts out name at ok.0 ok.1 last (has_both out at room named) doom inside sizes)
 
-        t : length lump_names ≡ 10
-        t = refl
-
-        by : (n < 10) ⊎ (10 ≤ n) → entry_has_name out name j ≡ false
-        by (inl q) =
-            ap (λ (i : ℕ). entry_has_name out name i) (is ∙ k) ∙ ap (λ (y : Name8). same_bytes (name_text y) name) (tenth kind out before after x ten n h q).named
-            ∙ none_is (λ (y : Name8). same_bytes (name_text y) name) lump_names (free_of name free) n no_name (omega (arith, t, q))
-        by (inr q) =
-            let w = length-with lump_names ten (sym h.many) in
-            let r : length (x ∷ with_names lump_names ten) + (n - 10) ≡ suc n = omega (arith, w, t, q) in
-            ap (λ (i : ℕ). entry_has_name out name i) is
-            ∙ ap (λ (y : Lump). same_bytes (name_text y.name) name)
-            (level_lump_is kind out before after x ten (suc n) no_lump h (omega arith) ∙ ap (λ (i : ℕ). get_or ((x ∷ with_names lump_names ten) ++ after) i no_lump) (sym r)
-            ∙ get_or-append-add (x ∷ with_names lump_names ten) after (n - 10) no_lump)
-            ∙ others (n - 10) no_lump (omega (arith, q, low))
+behind_doom : (wad : List ℕ) (k : ℕ) → is_behavior wad k ≡ false → k < lump_count wad → entry_has_name wad (codes "BEHAVIOR") k ≡ false
+unfolding is_behavior
+behind_doom wad k doom inside = second (nat_lt k (lump_count wad)) (entry_has_name wad (codes "BEHAVIOR") k) (lt_holds k (lump_count wad) inside) doom
 
 -- no BEHAVIOR stands behind the ten lumps
 not_hexen :
     (kind out wad : List ℕ) (before : List Lump) (k : ℕ) (ls : List RebuiltLevel) (x : Lump) (ten : List (List ℕ)) → HasLevel kind out before (lumps_from wad k ls) x ten → Follow wad k ls
     → is_behavior wad k ≡ false → is_hexen out (length before) ≡ false
-unfolding is_behavior
 not_hexen kind out wad before k ls x ten h follow doom = by (cases_lt (length before + 11) (lump_count out)) (cases_lt k (lump_count wad))
   where
-    after : List Lump
-    after = lumps_from wad k ls
-
-    l : lump_count out ≡ length before + 11 + length after
-    l = level_long kind out before after x ten h
-
-    w : length (with_names lump_names ten) ≡ 10
-    w = length-with lump_names ten (sym h.many)
-
-    named : k < lump_count wad → entry_has_name wad (codes "BEHAVIOR") k ≡ false
-    named inside = by_both (nat_lt k (lump_count wad)) _ (lt_holds k (lump_count wad) inside) doom
-      where
-        by_both : (a b : Bool) → a ≡ true → (a && b) ≡ false → b ≡ false
-        by_both true b t e = e
-        by_both false b t e = absurd (cc)
-
     by : (length before + 11 < lump_count out) ⊎ (lump_count out ≤ length before + 11) → (k < lump_count wad) ⊎ (lump_count wad ≤ k) → is_hexen out (length before) ≡ false
-    by (inr q) r = let t = lt_fails (length before + 11) (lump_count out) q in rw t refl
-    by (inl q) (inr r) = let e = ap (λ (xs : List Lump). length xs) (last_of_all wad k ls follow r) in let c = l in absurd (omega (arith, c, e, q))
+    by (inr q) r = hexen_by (nat_lt (length before + 11) (lump_count out)) (entry_has_name out (codes "BEHAVIOR") (length before + 11)) (inl (lt_fails (length before + 11) (lump_count out) q))
+    by (inl q) (inr r) =
+        let e = ap (λ (xs : List Lump). length xs) (last_of_all wad k ls follow r) in
+        let c = level_long kind out before (lumps_from wad k ls) x ten h in
+        absurd (omega (arith, c, e, q))
     by (inl q) (inl r) =
-        let c = l in
-        let v = w in
-        let z : length (x ∷ with_names lump_names ten) + 0 ≡ 11 = omega (arith, v) in
+        let after = lumps_from wad k ls in
+        let c = level_long kind out before after x ten h in
+        let t : length lump_names ≡ 10 = refl in
+        let v = length-with lump_names ten (t ∙ sym h.many) in
+        let z : length (x ∷ with_names lump_names ten) + 0 ≡ 11 = omega (arith, v, t) in
         let is : lump_at out (length before + 11) ≡ lump_at wad k =
         level_lump_is kind out before after x ten 11 no_lump h (omega (arith, c, q)) ∙ ap (λ (i : ℕ). get_or ((x ∷ with_names lump_names ten) ++ after) i no_lump) (sym z)
         ∙ get_or-append-add (x ∷ with_names lump_names ten) after 0 no_lump
         ∙ first_from wad k ls no_lump follow r in
-        let n : entry_has_name out (codes "BEHAVIOR") (length before + 11) ≡ false = ap (λ (y : Lump). same_bytes (name_text y.name) (codes "BEHAVIOR")) is ∙ named r in
-        let t = lt_holds (length before + 11) (lump_count out) q in
-        rw (t, n) refl
+        let n : entry_has_name out (codes "BEHAVIOR") (length before + 11) ≡ false =
+        ap (λ (y : Lump). same_bytes (name_text y.name) (codes "BEHAVIOR")) is ∙ behind_doom wad k doom r in
+        hexen_by (nat_lt (length before + 11) (lump_count out)) (entry_has_name out (codes "BEHAVIOR") (length before + 11)) (inr n)
 
 marker_unwrapped : (wad name : List ℕ) (at : ℕ) → marker wad name ≡ Some at → marker_at wad name ≡ at
 marker_unwrapped wad name at m = rw m refl
+
+each_is : (P : RebuiltLevel → Type 0) (xs : List RebuiltLevel) (k : ℕ) (y : RebuiltLevel) → slice_get xs k ≡ Some y → All P xs → P y
+each_is P [] zero y e all = absurd (cc)
+each_is P [] (suc k) y e all = absurd (cc)
+each_is P (x ∷ xs) zero y e all = let same : x ≡ y = cc in subst P same (All-head P x xs all)
+each_is P (x ∷ xs) (suc k) y e all = each_is P xs k y e (All-tail P x xs all)
+
+is_remade : (w : List ℕ) (asked : Bool) (e : LevelEntries) (fate : Fate) (y : MadeLumps) → fate ≡ Made y → IsFate w asked e fate → IsRemade w e y
+is_remade w asked e fate y same fine = (subst (IsFate w asked e) same fine).1
+
+same_lists : (w : List ℕ) (e : LevelEntries) (y : MadeLumps) (o : List ℕ) (at : ℕ) → ((k : ℕ) → k < 10 → get_or (ten_bytes w e y) k [] ≡ lump o (at + 1 + k))
+    → remade_level (drawn_lists w e) y ≡ lumps_behind o at
+same_lists w e y o at p =
+    let p0 : level_lump w e 0 ≡ lump o (at + 1 + 0) = p 0 (omega arith) in
+    let p1 : level_lump w e 1 ≡ lump o (at + 1 + 1) = p 1 (omega arith) in
+    let p2 : level_lump w e 2 ≡ lump o (at + 1 + 2) = p 2 (omega arith) in
+    let p3 : y.vertices.items ≡ lump o (at + 1 + 3) = p 3 (omega arith) in
+    let p4 : y.segs.items ≡ lump o (at + 1 + 4) = p 4 (omega arith) in
+    let p5 : y.subs.items ≡ lump o (at + 1 + 5) = p 5 (omega arith) in
+    let p6 : y.nodes.items ≡ lump o (at + 1 + 6) = p 6 (omega arith) in
+    let p7 : level_lump w e 7 ≡ lump o (at + 1 + 7) = p 7 (omega arith) in
+    let p8 : y.reject.items ≡ lump o (at + 1 + 8) = p 8 (omega arith) in
+    let p9 : y.blockmap.items ≡ lump o (at + 1 + 9) = p 9 (omega arith) in
+    λ i.
+    record {
+      things = records_of thing_at 10 (p0 i);
+      lines = records_of line_at 14 (p1 i);
+      sides = records_of side_at 30 (p2 i);
+      vertices = records_of vertex_at 4 (p3 i);
+      segs = records_of seg_at 12 (p4 i);
+      subs = records_of sub_at 4 (p5 i);
+      nodes = records_of node_at 28 (p6 i);
+      sectors = records_of sector_at 26 (p7 i);
+      reject = p8 i;
+      blockmap = p9 i;
+    }
 
 pub read_back : RebuiltLevelsReadBack
 read_back wad names r n l m rebuilt is made found =
@@ -561,39 +622,3 @@ read_back wad names r n l m rebuilt is made found =
     let holds : (k : ℕ) → k < 10 → get_or (ten_bytes wad e m) k [] ≡ lump out (marker_at out name + 1 + k) =
     (λ k b. sym (tenth (take 4 wad) out s.before after (lump_at wad e.marker) (ten_bytes wad e m) k level b).holds ∙ ap (λ (j : ℕ). lump out (j + 1 + k)) (sym at)) in
     record { accepted = ok.1; holds = same_lists wad e m out (marker_at out name) holds }
-  where
-    each_is : (P : RebuiltLevel → Type 0) (xs : List RebuiltLevel) (k : ℕ) (y : RebuiltLevel) → slice_get xs k ≡ Some y → All P xs → P y
-    each_is P [] zero y e all = absurd (cc)
-    each_is P [] (suc k) y e all = absurd (cc)
-    each_is P (x ∷ xs) zero y e all = let same : x ≡ y = cc in subst P same (All-head P x xs all)
-    each_is P (x ∷ xs) (suc k) y e all = each_is P xs k y e (All-tail P x xs all)
-
-    is_remade : (w : List ℕ) (asked : Bool) (e : LevelEntries) (fate : Fate) (y : MadeLumps) → fate ≡ Made y → IsFate w asked e fate → IsRemade w e y
-    is_remade w asked e fate y same fine = (subst (IsFate w asked e) same fine).1
-
-    same_lists : (w : List ℕ) (e : LevelEntries) (y : MadeLumps) (o : List ℕ) (at : ℕ) → ((k : ℕ) → k < 10 → get_or (ten_bytes w e y) k [] ≡ lump o (at + 1 + k))
-        → remade_level (drawn_lists w e) y ≡ lumps_behind o at
-    same_lists w e y o at p =
-        let p0 : level_lump w e 0 ≡ lump o (at + 1 + 0) = p 0 (omega arith) in
-        let p1 : level_lump w e 1 ≡ lump o (at + 1 + 1) = p 1 (omega arith) in
-        let p2 : level_lump w e 2 ≡ lump o (at + 1 + 2) = p 2 (omega arith) in
-        let p3 : y.vertices.items ≡ lump o (at + 1 + 3) = p 3 (omega arith) in
-        let p4 : y.segs.items ≡ lump o (at + 1 + 4) = p 4 (omega arith) in
-        let p5 : y.subs.items ≡ lump o (at + 1 + 5) = p 5 (omega arith) in
-        let p6 : y.nodes.items ≡ lump o (at + 1 + 6) = p 6 (omega arith) in
-        let p7 : level_lump w e 7 ≡ lump o (at + 1 + 7) = p 7 (omega arith) in
-        let p8 : y.reject.items ≡ lump o (at + 1 + 8) = p 8 (omega arith) in
-        let p9 : y.blockmap.items ≡ lump o (at + 1 + 9) = p 9 (omega arith) in
-        λ i.
-        record {
-          things = records_of thing_at 10 (p0 i);
-          lines = records_of line_at 14 (p1 i);
-          sides = records_of side_at 30 (p2 i);
-          vertices = records_of vertex_at 4 (p3 i);
-          segs = records_of seg_at 12 (p4 i);
-          subs = records_of sub_at 4 (p5 i);
-          nodes = records_of node_at 28 (p6 i);
-          sectors = records_of sector_at 26 (p7 i);
-          reject = p8 i;
-          blockmap = p9 i;
-        }

@@ -1,22 +1,21 @@
 -- What refuses a WAD, and what it has after its levels are built anew.
-use Rattle.std.proofs.Common.{◌≡◌, ◌∙◌, refl, sym, ap, subst, ℕ, zero, suc, ◌+◌, ◌<◌, ◌≤◌, inl, inr, Bool, true, false, ◌&&◌, ◌||◌, List, [], ◌∷◌, ◌++◌, length, get_or, take, drop, map, arith, Some, None}
+use Rattle.std.proofs.Common.{◌≡◌, ◌∙◌, refl, sym, ap, subst, ℕ, zero, suc, ◌+◌, ◌<◌, ◌≤◌, inl, Bool, true, false, ◌&&◌, List, [], ◌∷◌, ◌++◌, length, get_or, take, drop, map, arith, None}
 use Rattle.std.specs.Prelude.{All}
 use Rattle.std.specs.List.{list_all, list_any}
 use Rattle.std.proofs.Math.Seq.{take-suc}
 use Rattle.std.proofs.lemmas.List.{map-append, take_all}
 use Rattle.std.proofs.lemmas.List.Elements.{All-nil, All-cons, All-head, All-push, All-tail}
-use Rattle.wad_file.specs.Directory.{are_inside, entry, entry_text, lump_count, wad_refusal}
+use Rattle.wad_file.specs.Directory.{entry, entry_text, wad_refusal}
 use Rattle.wad_file.specs.Drafts.{Draft, Takes, no_lumps}
 use Rattle.wad_file.specs.Fields.{same_bytes}
 use Rattle.wad_file.specs.Lumps.{IsWadOf, Lump, wad_size}
-use Rattle.wad_file.specs.declared.error.WadError.{WadError}
 use Rattle.wad_file.proofs.NameLemmas.{any_map}
-use Rattle.wad_levels.specs.Called.{is_level_asked}
+use Rattle.wad_levels.specs.Called.{is_asked_of, is_level_asked, last_of_each}
 use Rattle.wad_levels.specs.Entries.{AreLevels, IsLevelAt}
 use Rattle.wad_levels.specs.declared.entries.LevelEntries.{LevelEntries}
 use Rattle.wad_rebuild.specs.Parts.{AddsLumps, RefusesPut}
-use Rattle.wad_rebuild.specs.Rebuilt.{AreRebuilt, IsFate, IsRebuilt, RefusesRebuild, has_level, is_crowded, lumps_refusal, not_rebuilt, rebuilt_lumps, whole_refusal}
-use Rattle.wad_rebuild.specs.Whole.{IsAcceptedWad, RefusesFinding, RefusesBytes}
+use Rattle.wad_rebuild.specs.Rebuilt.{AreRebuilt, IsFate, IsRebuilt, RefusesRebuild, has_level, lumps_refusal, whole_refusal}
+use Rattle.wad_rebuild.specs.Whole.{RefusesFinding, RefusesBytes}
 use Rattle.wad_rebuild.specs.declared.error.RebuildError.{RebuildError}
 use Rattle.wad_rebuild.specs.declared.error.RebuildError.TheVariants.{TooLong, NotAWad, DirectoryOutside, NoSuchLevel, LumpOutside, OutOfMemory}
 use Rattle.wad_rebuild.specs.declared.levels.RebuiltLevel.{RebuiltLevel}
@@ -98,14 +97,15 @@ not_found wad names OutOfMemory w r = tt
 
 -- ---- the levels so far, each with what becomes of it
 pub is_rebuilt :
-    (wad : List ℕ) (levels : List LevelEntries) (names : List (List ℕ)) (x : RebuiltLevel) (l : LevelEntries) (asked : Bool) → x.name ≡ (entry wad l.marker).name
-    → x.entries ≡ l → IsFate wad asked l x.fate → asked ≡ is_level_asked wad levels names l → IsRebuilt wad levels names x
-is_rebuilt wad levels names x l asked n e f a =
+    (wad : List ℕ) (levels last : List LevelEntries) (names : List (List ℕ)) (x : RebuiltLevel) (l : LevelEntries) (asked : Bool) → x.entries ≡ l
+    → x.name ≡ (entry wad l.marker).name → IsFate wad asked l x.fate → asked ≡ is_asked_of names last l → last ≡ last_of_each wad levels names → IsRebuilt wad levels names x
+is_rebuilt wad levels last names x l asked e n f a o =
+    let same = a ∙ ap (λ (ms : List LevelEntries). is_asked_of names ms l) o in
     record {
       name_is = subst (λ (k : LevelEntries). x.name ≡ (entry wad k.marker).name) (sym e) n;
       fate_is =
           subst (λ (k : LevelEntries). IsFate wad (is_level_asked wad levels names k) k x.fate) (sym e)
-          (subst (λ (b : Bool). IsFate wad b l x.fate) a f);
+          (subst (λ (b : Bool). IsFate wad b l x.fate) same f);
     }
 
 abbrev pub AreSoFar : List ℕ → List (List ℕ) → List LevelEntries → ℕ → List RebuiltLevel → Type 0
