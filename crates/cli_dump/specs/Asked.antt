@@ -1,10 +1,10 @@
 -- The maps of a project and the levels of a WAD that names ask for, any number of names
 -- (docs/COMMANDS.md, "The program").
-use Rattle.std.specs.Prelude.{◌≡◌, ℕ, Bool, true, false, ◌||◌, ◌==◌, is_some, filter, find, length, List}
-use Rattle.std.specs.List.{list_all, list_any}
+use Rattle.std.specs.Prelude.{◌≡◌, ℕ, Bool, true, false, is_some, filter, find, List}
+use Rattle.std.specs.List.{list_all}
 use Rattle.lump_records.specs.Names.{name_text}
+use Rattle.wad_levels.specs.Called.{is_level_asked, last_called}
 use Rattle.wad_levels.specs.Entries.{AreLevels}
-use Rattle.wad_file.specs.Directory.{entry_text}
 use Rattle.wad_levels.specs.Listing.{RefusesListing}
 use Rattle.wad_levels.specs.declared.entries.LevelEntries.{LevelEntries}
 use Rattle.wad_levels.specs.declared.error.ReadError.{ReadError}
@@ -13,7 +13,6 @@ use Rattle.map_tables.specs.Projects.{ProjectMaps}
 use Rattle.map_tables.specs.Tables.{Tables}
 use Rattle.wad_file.specs.Names.{is_asked}
 use Rattle.cli_print.specs.Picturing.{is_called}
-use Rattle.cli_print.specs.WantedLevels.{is_level_called}
 
 -- ---- maps
 
@@ -32,14 +31,14 @@ asked_maps names p = filter (λ m. is_asked names (name_text m.name)) p.maps
 
 -- one of these levels has the name, and for each of the names there is one
 abbrev pub has_level_called : List ℕ → List LevelEntries → List ℕ → Bool
-has_level_called wad levels name = is_some (find (is_level_called wad name) levels)
+has_level_called wad levels name = is_some (last_called wad levels name)
 
 abbrev pub have_levels : List ℕ → List LevelEntries → List (List ℕ) → Bool
 have_levels wad levels names = list_all (has_level_called wad levels) names
 
--- those of these levels that are asked for
+-- those of these levels that are asked for: all, or the last one of each name
 abbrev pub asked_among : List ℕ → List (List ℕ) → List LevelEntries → List LevelEntries
-asked_among wad names levels = filter (λ l. is_asked names (entry_text wad l.marker)) levels
+asked_among wad names levels = filter (is_level_asked wad levels names) levels
 
 -- these are the levels of the WAD that are asked for, in the order of its directory, and for each of
 -- the names there is one

@@ -1,16 +1,15 @@
 //! The maps of a project and the levels of a WAD that names ask for.
-ghost use Rattle.std.specs.Prelude.{◌≡◌, ◌∷◌, [], ◌++◌, All, IfErr, IfOk, IsOkUnless, OnOk, map, string_bytes};
+ghost use Rattle.std.specs.Prelude.{◌≡◌, ◌∷◌, [], ◌++◌, All, IfErr, IfOk, IsOkUnless, OnOk, filter, map, string_bytes};
+ghost use Rattle.wad_levels.specs.Called.{is_asked_of};
 ghost use Rattle.wad_levels.specs.Entries.{IsLevelAt};
-ghost use Rattle.wad_file.specs.Directory.{entry_text};
 ghost use Rattle.map_tables.specs.Projects.{project_of};
-ghost use Rattle.wad_file.specs.Names.{is_asked};
 ghost use Rattle.cli_dump.specs.Asked.{AreAsked, RefusesAsked, asked_among, has_level_called, has_map_called, have_levels, have_maps};
 
-use cli_print::{level_called, map_called};
+use cli_print::map_called;
 use map_tables::Maps;
 use std::alloc::Global;
-use wad_file::{Wad, is_asked};
-use wad_levels::{LevelEntries, ReadError, levels_in};
+use wad_file::Wad;
+use wad_levels::{LevelEntries, ReadError, is_asked_of, last_called, last_of_each, levels_in};
 
 // Whether a map has the name.
 fn has_map_called(maps: &Maps, name: &[u8]) -> bool
@@ -36,7 +35,7 @@ fn has_level_called(wad: &Wad<'_>, levels: &[LevelEntries], name: &[u8]) -> bool
     requires levels { All (IsLevelAt wad.now) levels.now }
     ensures { result ≡ has_level_called wad.now levels.now name.now }
 {
-    level_called(wad, levels, name).is_some()
+    last_called(wad, levels, name).is_some()
 }
 
 // Whether each of the names is the name of one of the levels.
@@ -52,35 +51,45 @@ fn have_levels(wad: &Wad<'_>, levels: &[LevelEntries], names: &[String]) -> bool
     true
 }
 
-// Whether the level is asked for.
-fn is_level_asked(wad: &Wad<'_>, names: &[String], level: LevelEntries) -> bool
-    requires level { IsLevelAt wad.now level }
-    ensures { result
-        ≡ is_asked (map string_bytes names.now) (entry_text wad.now level.marker) }
-{
-    let own = wad.name(level.marker);
-    is_asked(names, own.text())
-}
-
 // Adds a level to the others if it is asked for.
 fn add_asked(
-    wad: &Wad<'_>,
     names: &[String],
+    last: &[LevelEntries],
     level: LevelEntries,
     asked: &mut Vec<LevelEntries>,
 ) -> Result<(), ReadError>
-    requires level { IsLevelAt wad.now level }
     ensures added { OnOk result (asked.new.items ≡ asked.old.items
-        ++ asked_among wad.now (map string_bytes names.now) (level ∷ [])) }
+        ++ filter (is_asked_of (map string_bytes names.now) last.now) (level ∷ [])) }
     ensures memory { IsOkUnless result ReadError.OutOfMemory }
 {
-    if !is_level_asked(wad, names, level) {
+    if !is_asked_of(names, last, level) {
         return Ok(());
     }
     match asked.push(level) {
         Ok(()) => Ok(()),
         Err(_) => Err(ReadError::OutOfMemory),
     }
+}
+
+// Those of the levels that are asked for, by their names' last ones.
+fn those_asked(
+    alloc: Global,
+    names: &[String],
+    last: &[LevelEntries],
+    levels: &[LevelEntries],
+) -> Result<Vec<LevelEntries>, ReadError>
+    ensures asked { IfOk result (λ asked. asked.items
+        ≡ filter (is_asked_of (map string_bytes names.now) last.now) levels.now) }
+    ensures memory { IsOkUnless result ReadError.OutOfMemory }
+{
+    let mut asked = Vec::new(alloc);
+    for level in levels {
+        match add_asked(names, last, *level, &mut asked) {
+            Ok(()) => {}
+            Err(error) => return Err(error),
+        }
+    }
+    Ok(asked)
 }
 
 // Those of the levels that are asked for.
@@ -95,18 +104,14 @@ fn asked_among(
         ≡ asked_among wad.now (map string_bytes names.now) levels.now) }
     ensures memory { IsOkUnless result ReadError.OutOfMemory }
 {
-    let mut asked = Vec::new(alloc);
-    for level in levels {
-        match add_asked(wad, names, *level, &mut asked) {
-            Ok(()) => {}
-            Err(error) => return Err(error),
-        }
+    match last_of_each(alloc, wad, levels, names) {
+        Ok(last) => those_asked(alloc, names, &last, levels),
+        Err(error) => Err(error),
     }
-    Ok(asked)
 }
 
-/// The levels of a WAD that are asked for, in the order of its directory: those with the names, or all if there are no
-/// names. Each of the names has to be the name of a level.
+/// The levels of a WAD that are asked for, in the order of its directory: the last one with each of the names, or all
+/// if there are no names. Each of the names has to be the name of a level.
 pub(crate) fn asked_levels(
     alloc: Global,
     wad: &Wad<'_>,

@@ -82,9 +82,9 @@ IsWadLintedBy asked wad name how writer-old writer-new =
     ⊎ ((names : Option GraphicNames) × IsNamedBy asked names
     × IsWadLintedOf names wad name how writer-old writer-new)
 
--- the findings of the map that the level is were written, of the level of the name or of the first
--- one; or, with nothing written, it is no map, or there is no such level; or there was no memory, or
--- the writer failed
+-- the findings of the map that the level is were written, of the last level of the name or of the
+-- first of all; or, with nothing written, it is no map, or there is no such level; or there was no
+-- memory, or the writer failed
 abbrev pub IsWadChecked : List ℕ → Option (List ℕ) → Result ℕ Refusal → Option (List ℕ)
     → Option (List ℕ) → Type 0
 IsWadChecked wad name (Ok status) writer-old writer-new =

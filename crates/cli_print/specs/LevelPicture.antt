@@ -55,8 +55,9 @@ NotPictured layers name wad r =
     ⊎ ((l : LevelEntries) × IsWanted wad name l × RefusesLayers layers wad l r)
     ⊎ (r ≡ of.Lines OutOfMemory)
 
--- the level of the name, or the first one, was drawn as the map that it is after the changes, with
--- what is wanted over it; or nothing was written for that cause; or the writer or the file failed
+-- the last level of the name, or the first of all, was drawn as the map that it is after the
+-- changes, with what is wanted over it; or nothing was written for that cause; or the writer or the
+-- file failed
 abbrev pub IsLevelPicturedOf : Layers → Option (List ℕ) → Bool → List ℕ → Result ℕ Refusal
     → Option (List ℕ) → Option (List ℕ) → Type 0
 IsLevelPicturedOf layers name into wad (Ok status) writer-old writer-new =

@@ -1,34 +1,29 @@
 -- The levels of a WAD that the program's words ask for (docs/COMMANDS.md, "The program").
-use Rattle.std.specs.Prelude.{◌≡◌, ℕ, Bool, List, [], ◌∷◌, find, slice_get, Option, Some, None}
-use Rattle.std.specs.Str.{bytes_eq}
+use Rattle.std.specs.Prelude.{◌≡◌, ℕ, List, [], ◌∷◌, slice_get, Option, Some, None}
+use Rattle.wad_levels.specs.Called.{last_called}
 use Rattle.wad_levels.specs.Entries.{AreLevels}
-use Rattle.wad_file.specs.Directory.{entry_text}
 use Rattle.wad_levels.specs.Listing.{RefusesListing}
 use Rattle.wad_levels.specs.declared.entries.LevelEntries.{LevelEntries}
 use Rattle.wad_levels.specs.declared.error.ReadError.{ReadError}
 use Rattle.wad_levels.specs.declared.error.ReadError.TheVariants.{NoSuchLevel}
 
--- the level is called so
-abbrev pub is_level_called : List ℕ → List ℕ → LevelEntries → Bool
-is_level_called wad name l = bytes_eq (entry_text wad l.marker) name
-
--- of these levels the first one of the name, or the first of all where no name is asked for
-abbrev pub first_wanted : List ℕ → Option (List ℕ) → List LevelEntries → Option LevelEntries
-first_wanted wad None levels = slice_get levels 0
-first_wanted wad (Some name) levels = find (is_level_called wad name) levels
+-- of these levels the last one of the name, or the first of all where no name is asked for
+abbrev pub wanted_of : List ℕ → Option (List ℕ) → List LevelEntries → Option LevelEntries
+wanted_of wad None levels = slice_get levels 0
+wanted_of wad (Some name) levels = last_called wad levels name
 
 -- this is that level of the WAD
 abbrev pub IsWanted : List ℕ → Option (List ℕ) → LevelEntries → Type 0
 IsWanted wad name l =
-    (levels : List LevelEntries) × AreLevels wad levels × (first_wanted wad name levels ≡ Some l)
+    (levels : List LevelEntries) × AreLevels wad levels × (wanted_of wad name levels ≡ Some l)
 
 -- why there is none: the WAD's levels can't be found, or none is the one
 abbrev pub RefusesWanted : List ℕ → Option (List ℕ) → ReadError → Type 0
 RefusesWanted wad name NoSuchLevel =
-    (levels : List LevelEntries) × AreLevels wad levels × (first_wanted wad name levels ≡ None)
+    (levels : List LevelEntries) × AreLevels wad levels × (wanted_of wad name levels ≡ None)
 RefusesWanted wad name e = RefusesListing wad e
 
--- the levels that are looked at: all of the WAD, or the first one of the name
+-- the levels that are looked at: all of the WAD, or the last one of the name
 abbrev pub AreWanted : List ℕ → Option (List ℕ) → List LevelEntries → Type 0
 AreWanted wad None levels = AreLevels wad levels
 AreWanted wad (Some name) levels =

@@ -79,8 +79,8 @@ fn tell_wanted<W: Write>(
     }
 }
 
-/// Writes the findings of the map that a level of a WAD is after the changes of `wad_import`: the first level with the
-/// name, or the first of all. Flushes the writer.
+/// Writes the findings of the map that a level of a WAD is after the changes of `wad_import`: the last level with the
+/// name, or the first of all if no name is asked for. Flushes the writer.
 pub fn tell_level_findings<W: Write>(
     alloc: Global,
     wad: &[u8],

@@ -89,8 +89,9 @@ where
     }
 }
 
-/// Draws the wanted level of a WAD, the first one with the name or the first of all, as the map that it is after
-/// the changes of `wad_import`, as `draw` draws a map. The tree that is shown is the one that the WAD has of it.
+/// Draws the wanted level of a WAD, the last one with the name or the first of all if no name is asked for, as the map
+/// that it is after the changes of `wad_import`, as `draw` draws a map. The tree that is shown is the one that the WAD
+/// has of it.
 pub fn draw_level<E: Files, W: Write>(
     alloc: Global,
     rt: &E,

@@ -166,7 +166,7 @@ fn tell_levels<W: Write>(
     }
 }
 
-/// Writes about the levels of `wad`, all in the order of its directory or the first one with the name: for the map that
+/// Writes about the levels of `wad`, all in the order of its directory or the last one with the name: for the map that
 /// a level is after the changes of `wad_import` what `tell_beside` writes, or that it is no map, and why; and last the
 /// number of these lines. The names of flats and textures come from the WAD at the path `iwad`, if one is given.
 pub fn tell_levels_beside<E: AllocGlobal + Files, W: Write>(

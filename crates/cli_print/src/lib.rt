@@ -26,4 +26,3 @@ pub use pictures::{Wanted, draw, map_called};
 pub use reading::read_whole;
 pub use remarks::tell_beside;
 pub use shown_names::write_shown;
-pub use wanted::level_called;

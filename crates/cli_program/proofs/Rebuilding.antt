@@ -1,11 +1,12 @@
 -- From what is told of each level of a WAD that is built anew to what the request `rebuild` promises.
-use Rattle.std.proofs.Common.{◌≡◌, ◌∙◌, ◌+◌, ◌<◌, ℕ, List, [], ◌∷◌, ◌++◌, Option, Result, Ok, Err, length, get_or, map, take, ◌⊎◌, inl, inr, refl, sym, ap, subst, append-nil}
+use Rattle.std.proofs.Common.{◌≡◌, ◌∙◌, ◌+◌, ◌<◌, ℕ, Bool, List, [], ◌∷◌, ◌++◌, Option, Result, Ok, Err, length, get_or, map, take, ◌⊎◌, inl, inr, refl, sym, ap, subst, append-nil}
 use Rattle.std.specs.Prelude.{All, MatchResult, flat_map}
 use Rattle.std.specs.Io.KnownBytes.{Appends, Keeps}
 use Rattle.std.proofs.KnownBytes.{Appends-trans}
 use Rattle.std.proofs.lemmas.Grind.{flat_map-append}
 use Rattle.std.proofs.lemmas.List.{take_more}
 use Rattle.std.proofs.lemmas.List.Elements.{All-head, All-tail}
+use Rattle.wad_levels.specs.Called.{is_level_asked}
 use Rattle.wad_levels.specs.declared.entries.LevelEntries.{LevelEntries}
 use Rattle.lump_records.specs.Names.{name_text}
 use Rattle.lump_records.specs.declared.records.Name8.{Name8}
@@ -52,17 +53,17 @@ texts_more f xs n x d u v w within is said more =
 
 -- ---- The faults that stay
 
-kept_is : (wad : List ℕ) (names : List (List ℕ)) (l : LevelEntries) (fate : Fate) → IsFate wad names l fate → kept_of fate ≡ kept_in wad l fate
-kept_is wad names l NotAsked is = refl
-kept_is wad names l (Made m) is = is.1.made.kept
-kept_is wad names l (Left c) is = refl
+kept_is : (wad : List ℕ) (asked : Bool) (l : LevelEntries) (fate : Fate) → IsFate wad asked l fate → kept_of fate ≡ kept_in wad l fate
+kept_is wad asked l NotAsked is = refl
+kept_is wad asked l (Made m) is = is.1.made.kept
+kept_is wad asked l (Left c) is = refl
 
 -- what stands beside what was made of the levels is what stays in them
-pub kept_all : (wad : List ℕ) (names : List (List ℕ)) (levels : List RebuiltLevel) → All (IsRebuilt wad names) levels → kept_notes levels ≡ kept_fault_lines wad levels
-kept_all wad names [] all = refl
-kept_all wad names (l ∷ ls) all =
-    let here = kept_is wad names l.entries l.fate (All-head (IsRebuilt wad names) l ls all).fate_is in
-    let rest = kept_all wad names ls (All-tail (IsRebuilt wad names) l ls all) in
+pub kept_all : (wad : List ℕ) (all : List LevelEntries) (names : List (List ℕ)) (levels : List RebuiltLevel) → All (IsRebuilt wad all names) levels → kept_notes levels ≡ kept_fault_lines wad levels
+kept_all wad all names [] each = refl
+kept_all wad all names (l ∷ ls) each =
+    let here = kept_is wad (is_level_asked wad all names l.entries) l.entries l.fate (All-head (IsRebuilt wad all names) l ls each).fate_is in
+    let rest = kept_all wad all names ls (All-tail (IsRebuilt wad all names) l ls each) in
     (λ i. flat_map (kept_line l.name) (here i) ++ rest i)
 
 -- ---- The WAD
@@ -76,7 +77,7 @@ pub rebuilt_told : (how : Result ℕ Refusal) (wad : List ℕ) (names : List (Li
     → MatchResult how (λ status. (status ≡ status_rebuilt r) × IsToldOf r u w × Appends d x (kept_notes r.levels.items)) (λ refusal. (refusal ≡ Lines WriterFailed) × (IsToldOf r u w ⊎ Keeps d x))
     → IsRebuiltOf wad names how u w d x
 rebuilt_told (Ok status) wad names r u w d x is (same, told, beside) =
-    (r, is, same, told, subst (Appends d x) (kept_all wad names r.levels.items is.levels_are.each) beside)
+    (r, is, same, told, subst (Appends d x) (kept_all wad (map (λ (l : RebuiltLevel). l.entries) r.levels.items) names r.levels.items is.levels_are.each) beside)
 rebuilt_told (Err refusal) wad names r u w d x is (failed, inl told) = inr (failed, inl (r, is, told))
 rebuilt_told (Err refusal) wad names r u w d x is (failed, inr kept) = inr (failed, inr kept)
 

@@ -41,8 +41,8 @@ pub enum Request {
         script: String,
         verbose: bool,
     },
-    /// Print the commands that draw the maps of a project, or the levels of a WAD, again: those with these names, or
-    /// all if there is no name. If `exact`, leave out each level that needs a change.
+    /// Print the commands that draw the maps of a project, or the levels of a WAD, again: the last one with each of
+    /// these names, or all if there is no name. If `exact`, leave out each level that needs a change.
     Dump {
         file: String,
         names: Vec<String>,
@@ -68,8 +68,8 @@ pub enum Request {
         file: String,
         out: String,
     },
-    /// Build the nodes of a WAD's levels anew, and write the new WAD to `out`: of the levels with these names, or of
-    /// all if there is no name.
+    /// Build the nodes of a WAD's levels anew, and write the new WAD to `out`: of the last level with each of these
+    /// names, or of all if there is no name.
     Rebuild {
         wad: String,
         out: String,

@@ -95,13 +95,13 @@ pub const DUMP: &str = "\
 Prints commands that draw all maps of FILE again, with the same numbers, in a new project:
 `leveled dump a.lv | leveled edit b.lv` copies the maps into another file. With NAMEs it
 prints the commands for these maps alone, which draw them in a project that lacks them.
-FILE may also be a WAD of any editor: then its levels, or those called NAME, are printed
-as commands. If a level must be changed to become a map, standard error has each change,
-for example `MAP01: thing 3: angle 360 is 0`. A level that can't be made a map even so is
-left out, standard error says why, and the status is 3. With --exact each level that needs
-a change is left out too. --salvage prints the maps of a damaged project as far as its
-commands can be read, and takes neither NAME nor --exact; standard error says where FILE
-is damaged, how many commands are kept and how many are not. FILE isn't changed.";
+FILE may also be a WAD of any editor: then its levels, or the last one of each NAME, are
+printed as commands. If a level must be changed to become a map, standard error has each
+change, for example `MAP01: thing 3: angle 360 is 0`. A level that can't be made a map
+even so is left out, standard error says why, and the status is 3. With --exact each level
+that needs a change is left out too. --salvage prints the maps of a damaged project as far
+as its commands can be read, and takes neither NAME nor --exact; standard error says where
+FILE is damaged, how many commands are kept and how many are not. FILE isn't changed.";
 
 /// `picture`.
 pub const PICTURE: &str = "\
@@ -126,11 +126,11 @@ or a project, is never replaced. FILE isn't changed.";
 
 /// `rebuild`.
 pub const REBUILD: &str = "\
-Builds the nodes and the blockmap of each level of the WAD IN anew, or only of the levels
---map NAME, and writes the new WAD to OUT. A reject table stays if it is long enough, and
-otherwise becomes zeros. GL nodes are left out. Things, lines, sides, sectors and all
-lumps outside these levels stay byte for byte. OUT may be a new path, an empty file, a
-PWAD, or IN itself, even if IN is an IWAD; any other file is never replaced.
+Builds the nodes and the blockmap of each level of the WAD IN anew, or only of the last
+one of each --map NAME, and writes the new WAD to OUT. A reject table stays if it is long
+enough, and otherwise becomes zeros. GL nodes are left out. Things, lines, sides, sectors
+and all lumps outside these levels stay byte for byte. OUT may be a new path, an empty
+file, a PWAD, or IN itself, even if IN is an IWAD; any other file is never replaced.
 Prints a line for each level, then a total. A level that can't be built stays as it was:
 its line says why, and the status is 3. Standard error has a line for each two-sided line
 of a rebuilt level that has no left side, for example

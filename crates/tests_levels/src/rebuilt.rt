@@ -195,8 +195,36 @@ const TWO_BUILT: &[Lump] = &[
     (b"BLOCKMAP", BLOCKS),
 ];
 
-// The lumps of a WAD, the name of the levels to build (empty for all), the lumps afterwards, and the fate of each
-// level.
+// The same WAD with the last of these two built anew.
+const LAST_BUILT: &[Lump] = &[
+    (b"E1M1\0\0\0\0", b""),
+    (b"THINGS\0\0", b""),
+    (b"LINEDEFS", BARE),
+    (b"SIDEDEFS", SIDES),
+    (b"VERTEXES", VERTICES),
+    (b"SEGS\0\0\0\0", b"stale"),
+    (b"SECTORS\0", SECTORS),
+    (b"GL_E1M1\0", b"gl"),
+    (b"MAP02\0\0\0", b""),
+    (b"THINGS\0\0", b""),
+    (b"LINEDEFS", LINES),
+    (b"SIDEDEFS", SIDES),
+    (b"VERTEXES", VERTICES),
+    (b"SECTORS\0", SECTORS),
+    (b"MAP02\0\0\0", b""),
+    (b"THINGS\0\0", b""),
+    (b"LINEDEFS", TURNED),
+    (b"SIDEDEFS", SIDES),
+    (b"VERTEXES", FRONT),
+    (b"SEGS\0\0\0\0", TURNED_SEGS),
+    (b"SSECTORS", SUBS),
+    (b"NODES\0\0\0", b""),
+    (b"SECTORS\0", SECTORS),
+    (b"REJECT\0\0", b"\0"),
+    (b"BLOCKMAP", BLOCKS),
+];
+
+// The lumps of a WAD, the name of the level to build (empty for all), the lumps afterwards, and the fate of each level.
 const WHOLE: &[(&[Lump], &str, &[Lump], &str)] = &[
     (BARE_WAD, "", BUILT_WAD, "made;"),
     (
@@ -211,7 +239,12 @@ const WHOLE: &[(&[Lump], &str, &[Lump], &str)] = &[
         TWO_BUILT,
         "line 0 has no right side;made;made;",
     ),
-    (THREE_LEVELS, "MAP02", TWO_BUILT, "not asked;made;made;"),
+    (
+        THREE_LEVELS,
+        "MAP02",
+        LAST_BUILT,
+        "not asked;not asked;made;",
+    ),
     (
         THREE_LEVELS,
         "E1M1",

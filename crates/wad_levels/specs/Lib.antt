@@ -3,6 +3,7 @@ pub mod Levels
 pub mod Views
 pub mod Listing
 pub mod Entries
+pub mod Called
 pub mod Drawn
 pub mod Lengths
 pub mod Texts

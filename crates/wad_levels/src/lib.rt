@@ -1,6 +1,7 @@
 //! The levels of a WAD, and the level that has a name.
 #![tactic(auto)]
 
+mod called;
 mod drawn;
 mod entries;
 mod error;
@@ -12,6 +13,7 @@ mod listing;
 mod lumps;
 mod needs;
 
+pub use called::{is_asked_of, last_called, last_of_each};
 pub use drawn::{Drawn, level_lump, read_drawn, read_lists};
 pub use entries::{LevelEntries, LevelForm, levels_in};
 pub use error::ReadError;

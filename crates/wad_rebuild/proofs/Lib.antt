@@ -2,3 +2,5 @@ pub mod MadeLemmas
 pub mod AddLemmas
 pub mod PartLemmas
 pub mod WholeLemmas
+pub mod ReadBack
+pub mod MapLevels

@@ -12,6 +12,7 @@ use Rattle.tree_blocks.specs.Layout.{word_bytes}
 use Rattle.tree_blocks.specs.Lump.{IsBlockmapOver}
 use Rattle.wad_levels.specs.Drawn.{DrawnLists, drawn_lists, hindrance}
 use Rattle.wad_levels.specs.declared.entries.LevelEntries.{LevelEntries}
+use Rattle.wad_build.specs.Sound.{HasTree}
 use Rattle.wad_build.proofs.BlockLemmas.{words_long}
 use Rattle.wad_build.proofs.LengthLemmas.{lump_length}
 use Rattle.wad_build.proofs.SoundLemmas.{sound_over}
@@ -42,8 +43,13 @@ whole b m ws r k =
 pub made : (d : DrawnLists) (b : Built) (m : MadeLumps) → HasRecords b m → IsBuiltOver (front_edges d) (used_front d) b → IsBlockmapOver (front_ends d) m.blockmap.items
     → m.reject.items ≡ reject_over (length d.sectors) d.reject → m.kept.items ≡ kept_faults d.lines → IsMadeAnew d m
 made d b m r t k j f =
+    let lists : HasTree b (remade_level d m) = record { vertices = r.vertices; segs = r.segs; subs = r.subs; nodes = r.nodes } in
     record {
-      sound = sound_over (used_front d) b (remade_level d m) (record { vertices = r.vertices; segs = r.segs; subs = r.subs; nodes = r.nodes }) t k;
+      tree = b;
+      built = t;
+      lists = lists;
+      blocks = k;
+      sound = sound_over (used_front d) b (remade_level d m) lists t k;
       reject = j;
       whole = whole b m k.words r k.bytes_are;
       kept = f;

@@ -7,3 +7,4 @@ pub mod Texts
 pub mod Rebuilt
 pub mod Parts
 pub mod Whole
+pub mod ReadBack

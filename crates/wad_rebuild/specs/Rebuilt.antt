@@ -1,7 +1,8 @@
 -- A WAD whose levels are built anew of their own lines, its other lumps as they were (docs/FORMAT.md, "Levels of other WADs").
-use Rattle.std.specs.Prelude.{◌≡◌, ◌≢◌, ◌⊎◌, ℕ, zero, suc, ◌+◌, ◌-◌, ◌/◌, ◌≤◌, Bool, true, false, not, ◌||◌, ◌==◌, nat_lt, List, [], ◌∷◌, ◌++◌, length, map, filter, take, All, Option, Some, None}
+use Rattle.std.specs.Prelude.{◌≡◌, ◌≢◌, ◌⊎◌, ℕ, zero, suc, ◌+◌, ◌-◌, ◌/◌, ◌≤◌, Bool, true, false, not, nat_lt, List, [], ◌∷◌, ◌++◌, length, map, filter, take, All, Option, Some, None}
 use Rattle.std.specs.Option.{option_map, option_or}
 use Rattle.std.specs.List.{list_all, list_any, range_with_len}
+use Rattle.wad_levels.specs.Called.{is_level_asked}
 use Rattle.wad_levels.specs.Drawn.{drawn_lists, level_lump}
 use Rattle.wad_levels.specs.Entries.{AreLevels, is_level}
 use Rattle.wad_file.specs.Directory.{are_inside, entry, entry_text, first_failed, lump_count, wad_refusal}
@@ -23,28 +24,28 @@ use Rattle.wad_rebuild.specs.declared.levels.Fate.TheVariants.{NotAsked, Made, L
 use Rattle.wad_rebuild.specs.declared.levels.RebuiltLevel.{RebuiltLevel}
 use Rattle.wad_rebuild.specs.declared.made.MadeLumps.{MadeLumps}
 use Rattle.wad_rebuild.specs.declared.whole.RebuiltWad.{RebuiltWad}
-use Rattle.wad_file.specs.Names.{is_asked}
 
 -- ---- what becomes of its levels
 
 -- what became of a level is what it had to be: it isn't asked for, or its lumps are built anew of
 -- its own lines, or it is left for its cause
-abbrev pub IsFate : List ℕ → List (List ℕ) → LevelEntries → Fate → Type 0
-IsFate wad names l NotAsked = is_asked names (entry_text wad l.marker) ≡ false
-IsFate wad names l (Made m) = (is_asked names (entry_text wad l.marker) ≡ true) × IsRemade wad l m
-IsFate wad names l (Left c) =
-    (is_asked names (entry_text wad l.marker) ≡ true) × IsLeftFor wad l c × (c ≢ Cause.OutOfMemory)
+abbrev pub IsFate : List ℕ → Bool → LevelEntries → Fate → Type 0
+IsFate wad asked l NotAsked = asked ≡ false
+IsFate wad asked l (Made m) = (asked ≡ true) × IsRemade wad l m
+IsFate wad asked l (Left c) = (asked ≡ true) × IsLeftFor wad l c × (c ≢ Cause.OutOfMemory)
 
--- a level is told under its name with what became of it
-pub record IsRebuilt (wad : List ℕ) (names : List (List ℕ)) (l : RebuiltLevel) : Type 0 where
+-- a level, one of these, is told under its name with what became of it: the names ask for the last
+-- one of each, and where there are none for all
+pub record IsRebuilt (wad : List ℕ) (levels : List LevelEntries) (names : List (List ℕ))
+    (l : RebuiltLevel) : Type 0 where
   pub name_is : l.name ≡ (entry wad l.entries.marker).name
-  pub fate_is : IsFate wad names l.entries l.fate
+  pub fate_is : IsFate wad (is_level_asked wad levels names l.entries) l.entries l.fate
 
 -- they are all levels of the WAD in the order of its directory, each with what became of it
 pub record AreRebuilt (wad : List ℕ) (names : List (List ℕ))
     (levels : List RebuiltLevel) : Type 0 where
   pub levels_are : AreLevels wad (map (λ l. l.entries) levels)
-  pub each : All (IsRebuilt wad names) levels
+  pub each : All (IsRebuilt wad (map (λ l. l.entries) levels) names) levels
 
 -- the faults that stay in a level: those of its lines that prevent no build, if it is built anew
 abbrev pub kept_in : List ℕ → LevelEntries → Fate → List KeptFault

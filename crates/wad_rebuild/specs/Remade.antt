@@ -10,14 +10,14 @@ use Rattle.tree_nodes.specs.Built.{IsBuiltOver, IsRefusalOver}
 use Rattle.tree_nodes.specs.declared.built.Built.{Built}
 use Rattle.tree_nodes.specs.declared.error.TreeError.TheVariants as tree
 use Rattle.tree_blocks.specs.Blocks.{ends_over}
-use Rattle.tree_blocks.specs.Lump.{RefusesBlockmapOver}
+use Rattle.tree_blocks.specs.Lump.{IsBlockmapOver, RefusesBlockmapOver}
 use Rattle.tree_blocks.specs.declared.error.BlockmapError.TheVariants as blockmap
 use Rattle.tree_blocks.specs.declared.line_ends.LineEnds.{LineEnds}
 use Rattle.wad_levels.specs.Drawn.{DrawnLists, drawn_lists, hindrance}
 use Rattle.wad_levels.specs.Levels.{Lumps}
 use Rattle.wad_levels.specs.declared.entries.LevelEntries.{LevelEntries}
 use Rattle.wad_build.specs.Reject.{reject_size}
-use Rattle.wad_build.specs.Sound.{IsSoundOver, no_rejects}
+use Rattle.wad_build.specs.Sound.{HasTree, IsSoundOver, no_rejects}
 use Rattle.wad_rebuild.specs.Kept.{kept_faults}
 use Rattle.wad_rebuild.specs.declared.made.MadeLumps.{MadeLumps}
 use Rattle.wad_rebuild.specs.declared.cause.Cause.{Cause}
@@ -71,9 +71,14 @@ pub record AreWholeLumps (m : MadeLumps) : Type 0 where
   pub nodes : length m.nodes.items % 28 ≡ 0
   pub blockmap : length m.blockmap.items % 2 ≡ 0
 
--- the lumps make the level sound over its own lines, behind the vertices that they use; beside them
--- stand the faults of these lines that stay
+-- the lumps hold a tree that is built of the level's lines, behind the vertices that they use, and the
+-- blockmap of these lines, and so make the level sound; beside them stand the faults of these lines
+-- that stay
 pub record IsMadeAnew (d : DrawnLists) (m : MadeLumps) : Type 0 where
+  pub tree : Built
+  pub built : IsBuiltOver (front_edges d) (used_front d) tree
+  pub lists : HasTree tree (remade_level d m)
+  pub blocks : IsBlockmapOver (front_ends d) m.blockmap.items
   pub sound : IsSoundOver (used_front d) (remade_level d m)
   pub reject : m.reject.items ≡ reject_over (length d.sectors) d.reject
   pub whole : AreWholeLumps m

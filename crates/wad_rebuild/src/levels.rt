@@ -1,12 +1,11 @@
 //! What becomes of each level of a WAD.
 ghost use Rattle.std.specs.Prelude.{◌≡◌, All, IfOk, IsOkUnless, map, string_bytes};
 ghost use Rattle.std.specs.List.{list_all, list_any};
+ghost use Rattle.wad_levels.specs.Called.{last_of_each};
 ghost use Rattle.wad_levels.specs.Entries.{AreLevels, IsLevelAt};
-ghost use Rattle.wad_file.specs.Directory.{entry_text};
+ghost use Rattle.wad_file.specs.Directory.{entry, entry_text};
 ghost use Rattle.wad_file.specs.Fields.{same_bytes};
-ghost use Rattle.lump_records.specs.Names.{name_text};
-ghost use Rattle.wad_rebuild.specs.Rebuilt.{AreRebuilt, IsFate, IsRebuilt, has_level};
-ghost use Rattle.wad_file.specs.Names.{is_asked};
+ghost use Rattle.wad_rebuild.specs.Rebuilt.{AreRebuilt, IsFate, has_level};
 
 use crate::cause::Cause;
 use crate::error::RebuildError;
@@ -14,8 +13,8 @@ use crate::made::MadeLumps;
 use crate::remade::remake;
 use lump_records::Name8;
 use std::alloc::Global;
-use wad_file::{Wad, is_asked};
-use wad_levels::LevelEntries;
+use wad_file::Wad;
+use wad_levels::{LevelEntries, is_asked_of, last_of_each};
 
 /// What became of a level.
 pub enum Fate {
@@ -72,20 +71,18 @@ pub fn have_levels(wad: &Wad<'_>, levels: &[LevelEntries], names: &[String]) -> 
     true
 }
 
-// What becomes of a level.
+// What becomes of a level, whether it is asked for or not.
 fn fate_of(
     alloc: Global,
     wad: &Wad<'_>,
-    names: &[String],
-    name: &Name8,
     level: LevelEntries,
+    is_asked: bool,
 ) -> Result<Fate, RebuildError>
     requires level { IsLevelAt wad.now level }
-    requires name { name_text name.now ≡ entry_text wad.now level.marker }
-    ensures fate { IfOk result (IsFate wad.now (map string_bytes names.now) level) }
+    ensures fate { IfOk result (IsFate wad.now is_asked level) }
     ensures memory { IsOkUnless result RebuildError.OutOfMemory }
 {
-    if !is_asked(names, name.text()) {
+    if !is_asked {
         return Ok(Fate::NotAsked);
     }
     match remake(alloc, wad, level) {
@@ -99,16 +96,17 @@ fn fate_of(
 fn rebuilt_level(
     alloc: Global,
     wad: &Wad<'_>,
-    names: &[String],
     level: LevelEntries,
+    is_asked: bool,
 ) -> Result<RebuiltLevel, RebuildError>
     requires level { IsLevelAt wad.now level }
-    ensures rebuilt { IfOk result (IsRebuilt wad.now (map string_bytes names.now)) }
+    ensures name { IfOk result (λ l. l.name ≡ (entry wad.now level.marker).name) }
     ensures entries { IfOk result (λ l. l.entries ≡ level) }
+    ensures fate { IfOk result (λ l. IsFate wad.now is_asked level l.fate) }
     ensures memory { IsOkUnless result RebuildError.OutOfMemory }
 {
     let name = wad.name(level.marker);
-    let fate = fate_of(alloc, wad, names, &name, level)?;
+    let fate = fate_of(alloc, wad, level, is_asked)?;
     Ok(RebuiltLevel {
         name,
         entries: level,
@@ -116,7 +114,30 @@ fn rebuilt_level(
     })
 }
 
-/// What becomes of the levels, each with its entries.
+// What becomes of the levels, by their names' last ones.
+fn rebuilt_by(
+    alloc: Global,
+    wad: &Wad<'_>,
+    names: &[String],
+    last: &[LevelEntries],
+    levels: &[LevelEntries],
+) -> Result<Vec<RebuiltLevel>, RebuildError>
+    requires levels { AreLevels wad.now levels.now }
+    requires last { last.now ≡ last_of_each wad.now levels.now (map string_bytes names.now) }
+    ensures rebuilt { IfOk result (λ v. AreRebuilt wad.now (map string_bytes names.now) v.items) }
+    ensures memory { IsOkUnless result RebuildError.OutOfMemory }
+{
+    let mut rebuilt = Vec::new(alloc);
+    for level in levels {
+        let is_asked = is_asked_of(names, last, *level);
+        let next = rebuilt_level(alloc, wad, *level, is_asked)?;
+        rebuilt.push(next)?;
+    }
+    Ok(rebuilt)
+}
+
+/// What becomes of the levels, each with its entries: the last one of each name is asked for, or all if there are no
+/// names.
 pub fn rebuilt_levels(
     alloc: Global,
     wad: &Wad<'_>,
@@ -127,10 +148,8 @@ pub fn rebuilt_levels(
     ensures rebuilt { IfOk result (λ v. AreRebuilt wad.now (map string_bytes names.now) v.items) }
     ensures memory { IsOkUnless result RebuildError.OutOfMemory }
 {
-    let mut rebuilt = Vec::new(alloc);
-    for level in levels {
-        let next = rebuilt_level(alloc, wad, names, *level)?;
-        rebuilt.push(next)?;
+    match last_of_each(alloc, wad, levels, names) {
+        Ok(last) => rebuilt_by(alloc, wad, names, &last, levels),
+        Err(_) => Err(RebuildError::OutOfMemory),
     }
-    Ok(rebuilt)
 }

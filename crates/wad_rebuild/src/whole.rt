@@ -95,7 +95,7 @@ fn written(alloc: Global, wad: &Wad<'_>, levels: &[RebuiltLevel]) -> Result<Vec<
     }
 }
 
-// Builds the levels of a WAD anew, all or those with the names.
+// Builds the levels of a WAD anew, all or the last one with each of the names.
 fn rebuilt(alloc: Global, wad: &Wad<'_>, names: &[String]) -> Result<RebuiltWad, RebuildError>
     ensures { MatchResult result
         (IsRebuiltWad wad.now (map string_bytes names.now))
@@ -116,8 +116,8 @@ fn rebuilt(alloc: Global, wad: &Wad<'_>, names: &[String]) -> Result<RebuiltWad,
     }
 }
 
-/// Builds the levels of any editor's WAD anew, all or those with the names (docs/FORMAT.md, "WADs built anew"). All
-/// other lumps stay as they are, in their order.
+/// Builds the levels of any editor's WAD anew, all or the last one with each of the names (docs/FORMAT.md, "WADs built
+/// anew"). All other lumps stay as they are, in their order.
 ///
 /// # Errors
 ///
