@@ -3,8 +3,9 @@ use Rattle.std.specs.Prelude.{ℕ, ◌==◌, if◌then◌else◌, List, [], ◌+
 use Rattle.std.specs.Fmt.{signed_decimal}
 use Rattle.lump_records.specs.declared.records.Line.{Line}
 use Rattle.lump_records.specs.Sides.{has_left, is_two_sided}
+use Rattle.lump_text.specs.Texts.{joined}
 use Rattle.map_tables.specs.Tables.{Tables}
-use Rattle.map_svg.specs.Texts.{joined, path_text}
+use Rattle.map_svg.specs.Texts.{path_text}
 use Rattle.map_tables.specs.WellFormed.{nth_vertex}
 use Rattle.map_picture.specs.Items.{sector_of}
 use Rattle.map_svg.specs.Places.{middle_of, shift_right, spot_of}

@@ -6,8 +6,8 @@ use Rattle.lump_records.specs.declared.records.Line.{Line}
 use Rattle.lump_records.specs.declared.records.Vertex.{Vertex}
 use Rattle.lump_records.specs.Drawing.{squared_distance}
 use Rattle.lump_records.specs.Sides.{has_left}
+use Rattle.lump_text.specs.Texts.{joined}
 use Rattle.map_tables.specs.Tables.{Tables}
-use Rattle.map_svg.specs.Texts.{joined}
 use Rattle.map_tables.specs.WellFormed.{nth_vertex}
 use Rattle.map_picture.specs.Items.{sector_of}
 use Rattle.map_svg.specs.Places.{middle_of, shift_right, spot_of}

@@ -4,11 +4,12 @@ use Rattle.std.specs.Fmt.{signed_decimal}
 use Rattle.std.specs.List.{range_with_len}
 use Rattle.lump_records.specs.Names.{name_text}
 use Rattle.lump_records.specs.declared.records.Name8.{Name8}
+use Rattle.lump_text.specs.Texts.{joined}
 use Rattle.map_tables.specs.declared.kind.Kind.{Kind}
 use Rattle.map_tables.specs.declared.kind.Kind.TheVariants as kind
 use Rattle.map_tables.specs.Tables.{Tables, count_of}
 use Rattle.map_svg.specs.Overlays.{overlay_text}
-use Rattle.map_svg.specs.Texts.{joined, of_item}
+use Rattle.map_svg.specs.Texts.{of_item}
 use Rattle.map_svg.specs.declared.overlay.Overlay.{Overlay}
 use Rattle.map_svg.specs.declared.places.Spot.{Spot}
 use Rattle.map_picture.specs.declared.parts.Part.{Part}

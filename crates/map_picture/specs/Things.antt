@@ -4,8 +4,8 @@ use Rattle.std.specs.Fmt.{signed_decimal}
 use Rattle.lump_records.specs.declared.records.Thing.{Thing}
 use Rattle.map_svg.specs.Places.{spot_of}
 use Rattle.lump_records.specs.Things.{thing_place}
+use Rattle.lump_text.specs.Texts.{joined}
 use Rattle.map_svg.specs.declared.places.Spot.{Spot}
-use Rattle.map_svg.specs.Texts.{joined}
 use Rattle.map_picture.specs.Groups.{class_of, group_of, shape_of}
 
 -- the element's beginning: its id and class, and the thing's place and direction

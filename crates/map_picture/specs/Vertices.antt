@@ -2,9 +2,9 @@
 use Rattle.std.specs.Prelude.{ℕ, List, ◌++◌, codes, decimal, [], ◌∷◌}
 use Rattle.std.specs.Fmt.{signed_decimal}
 use Rattle.lump_records.specs.declared.records.Vertex.{Vertex}
+use Rattle.lump_text.specs.Texts.{joined}
 use Rattle.map_svg.specs.Places.{spot_of}
 use Rattle.map_svg.specs.declared.places.Spot.{Spot}
-use Rattle.map_svg.specs.Texts.{joined}
 
 -- the element's beginning: its id and the dot
 unfoldable pub dot_text : ℕ → Spot → List ℕ

@@ -5,7 +5,8 @@ ghost use Rattle.map_picture.specs.Lines.{ends_text, fields_text, left_side_text
 
 use crate::items::sector_of;
 use lump_records::Line;
-use map_svg::{PictureError, Shift, Spot, middle_of, right_of, spot_of, write_bytes, write_path};
+use lump_text::WriterFailed;
+use map_svg::{Shift, Spot, middle_of, right_of, spot_of, write_bytes, write_path};
 use map_tables::Map;
 use std::io::Write;
 
@@ -24,53 +25,45 @@ fn special_class(line: &Line) -> &'static str
 }
 
 // Writes the beginning of the element: its id, its classes, and the line's vertices.
-fn write_ends<W: Write>(n: u32, line: &Line, writer: &mut W) -> Result<(), PictureError>
+fn write_ends<W: Write>(n: u32, line: &Line, writer: &mut W) -> Result<(), WriterFailed>
     ensures { OnOk result
         (Appends (W.contents writer.old) (W.contents writer.new) (ends_text n line.now)) }
 {
     let (width, special, v1, v2) = (width_class(line), special_class(line), line.v1, line.v2);
-    let written = write!(
+    write!(
         writer,
         "<g id=\"line{n}\" class=\"{width}{special}\">\n<title>line {n}: vertices {v1} {v2}"
-    );
-    match written {
-        Ok(()) => Ok(()),
-        Err(_) => Err(PictureError::WriterFailed),
-    }
+    )?;
+    Ok(())
 }
 
 // Writes a line's flags, special, tag and right side.
-fn write_fields<W: Write>(map: &Map, line: &Line, writer: &mut W) -> Result<(), PictureError>
+fn write_fields<W: Write>(map: &Map, line: &Line, writer: &mut W) -> Result<(), WriterFailed>
     ensures { OnOk result (Appends (W.contents writer.old) (W.contents writer.new)
         (fields_text map.now.tables line.now)) }
 {
     let (flags, special, tag, right) = (line.flags, line.special, line.tag, line.right);
     let sector = sector_of(map, right);
-    let written = write!(
+    write!(
         writer,
         ", flags {flags}, special {special}, tag {tag}, right side {right} (sector {sector})"
-    );
-    match written {
-        Ok(()) => Ok(()),
-        Err(_) => Err(PictureError::WriterFailed),
-    }
+    )?;
+    Ok(())
 }
 
 // Writes a left side and its sector.
 #[tactic(auto, unfolding(crate::specs::Lines::left_side_text))]
-fn write_left_side<W: Write>(left: u16, sector: u16, writer: &mut W) -> Result<(), PictureError>
+fn write_left_side<W: Write>(left: u16, sector: u16, writer: &mut W) -> Result<(), WriterFailed>
     ensures { OnOk result
         (Appends (W.contents writer.old) (W.contents writer.new) (left_side_text left sector)) }
 {
-    match write!(writer, ", left side {left} (sector {sector})") {
-        Ok(()) => Ok(()),
-        Err(_) => Err(PictureError::WriterFailed),
-    }
+    write!(writer, ", left side {left} (sector {sector})")?;
+    Ok(())
 }
 
 // Writes a line's left side, if it has one.
 #[tactic(auto, unfolding(crate::specs::Lines::left_text))]
-fn write_left<W: Write>(map: &Map, line: &Line, writer: &mut W) -> Result<(), PictureError>
+fn write_left<W: Write>(map: &Map, line: &Line, writer: &mut W) -> Result<(), WriterFailed>
     ensures { OnOk result (Appends (W.contents writer.old) (W.contents writer.new)
         (left_text map.now.tables line.now)) }
 {
@@ -83,7 +76,7 @@ fn write_left<W: Write>(map: &Map, line: &Line, writer: &mut W) -> Result<(), Pi
 
 // Writes the beginning of the element and its title.
 #[tactic(auto, unfolding(crate::specs::Lines::title_text))]
-fn write_title<W: Write>(map: &Map, n: u32, line: &Line, writer: &mut W) -> Result<(), PictureError>
+fn write_title<W: Write>(map: &Map, n: u32, line: &Line, writer: &mut W) -> Result<(), WriterFailed>
     ensures { OnOk result (Appends (W.contents writer.old) (W.contents writer.new)
         (title_text map.now.tables n line.now)) }
 {
@@ -93,19 +86,16 @@ fn write_title<W: Write>(map: &Map, n: u32, line: &Line, writer: &mut W) -> Resu
 }
 
 // Writes the tick, and ends the element.
-fn write_tick<W: Write>(middle: Spot, right: Shift, writer: &mut W) -> Result<(), PictureError>
+fn write_tick<W: Write>(middle: Spot, right: Shift, writer: &mut W) -> Result<(), WriterFailed>
     ensures { OnOk result
         (Appends (W.contents writer.old) (W.contents writer.new) (tick_text middle right)) }
 {
     let (x, y, dx, dy) = (middle.x, middle.y, right.dx, right.dy);
-    let written = write!(
+    write!(
         writer,
         "<path class=\"tick\" d=\"M{x} {y}l{dx} {dy}\"/></g>\n"
-    );
-    match written {
-        Ok(()) => Ok(()),
-        Err(_) => Err(PictureError::WriterFailed),
-    }
+    )?;
+    Ok(())
 }
 
 /// Writes the element of a line.
@@ -116,7 +106,7 @@ pub(crate) fn write_line<W: Write>(
     n: u32,
     line: &Line,
     writer: &mut W,
-) -> Result<(), PictureError>
+) -> Result<(), WriterFailed>
     ensures { OnOk result (Appends (W.contents writer.old) (W.contents writer.new)
         (line_text map.now.tables step n line.now)) }
 {

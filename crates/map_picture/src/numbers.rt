@@ -8,32 +8,29 @@ ghost use Rattle.map_picture.specs.declared.parts.Part.{Part};
 use crate::items::sector_of;
 use crate::longest::find_longest;
 use lump_records::{Line, Vertex};
-use map_svg::{PictureError, Shift, Spot, middle_of, right_of, spot_of};
+use lump_text::WriterFailed;
+use map_svg::{Shift, Spot, middle_of, right_of, spot_of};
 use map_tables::{Kind, Map};
 use std::io::Write;
 
 // Writes the beginning of a number's text: its class, and the place beside which it is.
-fn write_anchor<W: Write>(class: &str, place: Spot, writer: &mut W) -> Result<(), PictureError>
+fn write_anchor<W: Write>(class: &str, place: Spot, writer: &mut W) -> Result<(), WriterFailed>
     ensures { OnOk result
         (Appends (W.contents writer.old) (W.contents writer.new) (anchor_text class.now place)) }
 {
     let (x, y) = (place.x, place.y);
-    match write!(writer, "<text class=\"{class}\" x=\"{x}\" y=\"{y}\"") {
-        Ok(()) => Ok(()),
-        Err(_) => Err(PictureError::WriterFailed),
-    }
+    write!(writer, "<text class=\"{class}\" x=\"{x}\" y=\"{y}\"")?;
+    Ok(())
 }
 
 // Writes the vector from the place, and the number.
-fn write_beside<W: Write>(shift: Shift, n: u32, writer: &mut W) -> Result<(), PictureError>
+fn write_beside<W: Write>(shift: Shift, n: u32, writer: &mut W) -> Result<(), WriterFailed>
     ensures { OnOk result
         (Appends (W.contents writer.old) (W.contents writer.new) (beside_text shift n)) }
 {
     let (dx, dy) = (shift.dx, shift.dy);
-    match write!(writer, " dx=\"{dx}\" dy=\"{dy}\">{n}</text>\n") {
-        Ok(()) => Ok(()),
-        Err(_) => Err(PictureError::WriterFailed),
-    }
+    write!(writer, " dx=\"{dx}\" dy=\"{dy}\">{n}</text>\n")?;
+    Ok(())
 }
 
 // Writes a number beside a place.
@@ -44,7 +41,7 @@ fn write_number<W: Write>(
     shift: Shift,
     n: u32,
     writer: &mut W,
-) -> Result<(), PictureError>
+) -> Result<(), WriterFailed>
     ensures { OnOk result (Appends (W.contents writer.old) (W.contents writer.new)
         (number_text class.now place shift n)) }
 {
@@ -69,7 +66,7 @@ pub(crate) fn write_vertex_number<W: Write>(
     n: u32,
     vertex: Vertex,
     writer: &mut W,
-) -> Result<(), PictureError>
+) -> Result<(), WriterFailed>
     ensures { OnOk result
         (Appends (W.contents writer.old) (W.contents writer.new) (vertex_number step n vertex)) }
 {
@@ -84,7 +81,7 @@ pub(crate) fn write_line_number<W: Write>(
     n: u32,
     line: &Line,
     writer: &mut W,
-) -> Result<(), PictureError>
+) -> Result<(), WriterFailed>
     ensures { OnOk result (Appends (W.contents writer.old) (W.contents writer.new)
         (line_number map.now.tables step n line.now)) }
 {
@@ -114,7 +111,7 @@ fn write_sector_number<W: Write>(
     n: u32,
     longest: Option<Line>,
     writer: &mut W,
-) -> Result<(), PictureError>
+) -> Result<(), WriterFailed>
     requires step { step ≤ 1000 }
     requires longest { longest ≡ longest_line map.now.tables n }
     ensures { OnOk result (Appends (W.contents writer.old) (W.contents writer.new)
@@ -136,7 +133,7 @@ pub(crate) fn write_sector_numbers<W: Write>(
     map: &Map,
     step: u32,
     writer: &mut W,
-) -> Result<(), PictureError>
+) -> Result<(), WriterFailed>
     requires { step ≤ 1000 }
     ensures { OnOk result (Appends (W.contents writer.old) (W.contents writer.new)
         (part_text map.now.tables step Part.SectorNumbers)) }

@@ -12,7 +12,8 @@ use crate::things::write_thing;
 use crate::vertices::write_vertex;
 use crate::view::{View, view_of};
 use lump_records::Name8;
-use map_svg::{Overlay, PictureError, Spot, write_bytes, write_overlay};
+use lump_text::WriterFailed;
+use map_svg::{Overlay, Spot, write_bytes, write_overlay};
 use map_tables::Map;
 use std::io::Write;
 
@@ -24,7 +25,7 @@ pub struct PictureOptions {
 }
 
 // Writes the beginning of the picture, with the part of the plane that it shows.
-fn write_opening<W: Write>(view: &View, writer: &mut W) -> Result<(), PictureError>
+fn write_opening<W: Write>(view: &View, writer: &mut W) -> Result<(), WriterFailed>
     ensures { OnOk result
         (Appends (W.contents writer.old) (W.contents writer.new) (opening_text view.now)) }
 {
@@ -35,37 +36,31 @@ fn write_opening<W: Write>(view: &View, writer: &mut W) -> Result<(), PictureErr
         view.height,
         view.step,
     );
-    let written = write!(
+    write!(
         writer,
         "<svg class=\"leveled\" xmlns=\"http://www.w3.org/2000/svg\" version=\"1.1\" width=\"100%\"
 viewBox=\"{left} {top} {width} {height}\" font-size=\"{step}\">
 <title>"
-    );
-    match written {
-        Ok(()) => Ok(()),
-        Err(_) => Err(PictureError::WriterFailed),
-    }
+    )?;
+    Ok(())
 }
 
 // Writes the page on which the map is drawn.
-fn write_page<W: Write>(view: &View, writer: &mut W) -> Result<(), PictureError>
+fn write_page<W: Write>(view: &View, writer: &mut W) -> Result<(), WriterFailed>
     ensures { OnOk result
         (Appends (W.contents writer.old) (W.contents writer.new) (page_text view.now)) }
 {
     let (left, top, width, height) = (view.left, view.top, view.width, view.height);
-    let written = write!(
+    write!(
         writer,
         "<rect class=\"page\" x=\"{left}\" y=\"{top}\" width=\"{width}\" height=\"{height}\"/>\n"
-    );
-    match written {
-        Ok(()) => Ok(()),
-        Err(_) => Err(PictureError::WriterFailed),
-    }
+    )?;
+    Ok(())
 }
 
 // Writes the map's name, and ends the title.
 #[tactic(auto, unfolding(crate::specs::Picture::map_title))]
-fn write_name<W: Write>(name: Name8, writer: &mut W) -> Result<(), PictureError>
+fn write_name<W: Write>(name: Name8, writer: &mut W) -> Result<(), WriterFailed>
     ensures { OnOk result
         (Appends (W.contents writer.old) (W.contents writer.new) (map_title name)) }
 {
@@ -74,7 +69,7 @@ fn write_name<W: Write>(name: Name8, writer: &mut W) -> Result<(), PictureError>
 }
 
 // Writes the style.
-fn write_style<W: Write>(writer: &mut W) -> Result<(), PictureError>
+fn write_style<W: Write>(writer: &mut W) -> Result<(), WriterFailed>
     ensures { OnOk result (Appends (W.contents writer.old) (W.contents writer.new) style_text) }
 {
     write_bytes(STYLE.as_bytes(), writer)
@@ -82,7 +77,7 @@ fn write_style<W: Write>(writer: &mut W) -> Result<(), PictureError>
 
 // Writes the style and the page.
 #[tactic(auto, unfolding(crate::specs::Picture::paper_text))]
-fn write_paper<W: Write>(view: &View, writer: &mut W) -> Result<(), PictureError>
+fn write_paper<W: Write>(view: &View, writer: &mut W) -> Result<(), WriterFailed>
     ensures { OnOk result
         (Appends (W.contents writer.old) (W.contents writer.new) (paper_text view.now)) }
 {
@@ -92,7 +87,7 @@ fn write_paper<W: Write>(view: &View, writer: &mut W) -> Result<(), PictureError
 
 // Writes the head: the view, the map's name, the style and the page.
 #[tactic(auto, unfolding(crate::specs::Picture::head_text))]
-fn write_head<W: Write>(name: Name8, view: &View, writer: &mut W) -> Result<(), PictureError>
+fn write_head<W: Write>(name: Name8, view: &View, writer: &mut W) -> Result<(), WriterFailed>
     ensures { OnOk result
         (Appends (W.contents writer.old) (W.contents writer.new) (head_text view.now name)) }
 {
@@ -108,7 +103,7 @@ fn write_element<W: Write>(
     part: Part,
     n: u32,
     writer: &mut W,
-) -> Result<(), PictureError>
+) -> Result<(), WriterFailed>
     requires { part ≢ Part.SectorNumbers }
     ensures { OnOk result (Appends (W.contents writer.old) (W.contents writer.new)
         (element map.now.tables step part n)) }
@@ -144,7 +139,7 @@ fn write_items<W: Write>(
     step: u32,
     part: Part,
     writer: &mut W,
-) -> Result<(), PictureError>
+) -> Result<(), WriterFailed>
     requires { part ≢ Part.SectorNumbers }
     ensures { OnOk result (Appends (W.contents writer.old) (W.contents writer.new)
         (part_text map.now.tables step part)) }
@@ -164,7 +159,7 @@ fn write_part<W: Write>(
     step: u32,
     part: Part,
     writer: &mut W,
-) -> Result<(), PictureError>
+) -> Result<(), WriterFailed>
     requires { step ≤ 1000 }
     ensures { OnOk result (Appends (W.contents writer.old) (W.contents writer.new)
         (part_text map.now.tables step part)) }
@@ -181,7 +176,7 @@ fn write_parts<W: Write>(
     step: u32,
     parts: &[Part],
     writer: &mut W,
-) -> Result<(), PictureError>
+) -> Result<(), WriterFailed>
     requires { step ≤ 1000 }
     ensures { OnOk result (Appends (W.contents writer.old) (W.contents writer.new)
         (flat_map (part_text map.now.tables step) parts.now)) }
@@ -217,7 +212,7 @@ pub fn write_picture<W: Write>(
     options: PictureOptions,
     overlay: &Overlay,
     writer: &mut W,
-) -> Result<(), PictureError>
+) -> Result<(), WriterFailed>
     ensures { OnOk result (Appends (W.contents writer.old) (W.contents writer.new)
         (picture_of options map.now.tables overlay.now)) }
 {

@@ -5,7 +5,8 @@ ghost use Rattle.map_picture.specs.Things.{mark_text, shape_text, thing_text};
 
 use crate::groups::{class_of, group_of, shape_of};
 use lump_records::Thing;
-use map_svg::{PictureError, Spot, spot_of};
+use lump_text::WriterFailed;
+use map_svg::{Spot, spot_of};
 use std::io::Write;
 
 // Writes the beginning of the element: its id and class, and the thing's place and direction.
@@ -15,19 +16,16 @@ fn write_mark<W: Write>(
     place: Spot,
     turn: i32,
     writer: &mut W,
-) -> Result<(), PictureError>
+) -> Result<(), WriterFailed>
     ensures { OnOk result (Appends (W.contents writer.old) (W.contents writer.new)
         (mark_text n class.now place turn)) }
 {
     let (x, y) = (place.x, place.y);
-    let written = write!(
+    write!(
         writer,
         "<g id=\"thing{n}\" class=\"{class}\" transform=\"translate({x} {y}) rotate({turn})\">\n"
-    );
-    match written {
-        Ok(()) => Ok(()),
-        Err(_) => Err(PictureError::WriterFailed),
-    }
+    )?;
+    Ok(())
 }
 
 // Writes the title and the shape, and ends the element.
@@ -36,19 +34,16 @@ fn write_shape<W: Write>(
     thing: &Thing,
     shape: &str,
     writer: &mut W,
-) -> Result<(), PictureError>
+) -> Result<(), WriterFailed>
     ensures { OnOk result (Appends (W.contents writer.old) (W.contents writer.new)
         (shape_text n thing.now shape.now)) }
 {
     let (kind, angle, options) = (thing.kind, thing.angle, thing.options);
-    let written = write!(
+    write!(
         writer,
         "<title>thing {n}: type {kind}, angle {angle}, options {options}</title>\n<path d=\"{shape}\"/></g>\n"
-    );
-    match written {
-        Ok(()) => Ok(()),
-        Err(_) => Err(PictureError::WriterFailed),
-    }
+    )?;
+    Ok(())
 }
 
 // The angle for `rotate`, which turns in the opposite direction.
@@ -59,17 +54,17 @@ fn turn_of(angle: i16) -> i32
 }
 
 /// Writes the element of a thing.
-#[tactic(auto, unfolding(crate::specs::Things::thing_text))]
 pub(crate) fn write_thing<W: Write>(
     n: u32,
     thing: &Thing,
     writer: &mut W,
-) -> Result<(), PictureError>
+) -> Result<(), WriterFailed>
     ensures { OnOk result
         (Appends (W.contents writer.old) (W.contents writer.new) (thing_text n thing.now)) }
 {
     let group = group_of(thing.kind);
     let place = spot_of(thing.place());
     write_mark(n, class_of(group), place, turn_of(thing.angle), writer)?;
-    write_shape(n, thing, shape_of(group), writer)
+    write_shape(n, thing, shape_of(group), writer)?;
+    Ok(())
 }

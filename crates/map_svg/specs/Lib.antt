@@ -1,5 +1,4 @@
 pub mod Boxes
-pub mod Errors
 pub mod Marks
 pub mod Nodes
 pub mod Overlays

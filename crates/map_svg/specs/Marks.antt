@@ -1,8 +1,9 @@
 -- The element of a mark.
 use Rattle.std.specs.Prelude.{ℕ, List, [], ◌∷◌, ◌++◌, codes, decimal, string_bytes}
 use Rattle.std.specs.Fmt.{signed_decimal}
+use Rattle.lump_text.specs.Texts.{joined}
 use Rattle.map_svg.specs.Places.{spot_of}
-use Rattle.map_svg.specs.Texts.{escaped, joined, path_text}
+use Rattle.map_svg.specs.Texts.{escaped, path_text}
 use Rattle.map_svg.specs.declared.marks.Mark.{Mark}
 use Rattle.map_svg.specs.declared.marks.MarkPlace.{MarkPlace}
 use Rattle.map_svg.specs.declared.marks.MarkPlace.TheVariants.{Along, At, Corner}

@@ -3,9 +3,9 @@ use Rattle.std.specs.Prelude.{ℕ, List, [], ◌∷◌, ◌++◌, codes, decimal
 use Rattle.std.specs.Fmt.{signed_decimal}
 use Rattle.lump_records.specs.declared.records.Bounds.{Bounds}
 use Rattle.lump_records.specs.declared.records.Node.{Node}
+use Rattle.lump_text.specs.Texts.{joined}
 use Rattle.map_svg.specs.Boxes.{box_round}
 use Rattle.map_svg.specs.Places.{back_of, forth_of, spot_of}
-use Rattle.map_svg.specs.Texts.{joined}
 use Rattle.map_svg.specs.declared.places.Shift.{Shift}
 use Rattle.map_svg.specs.declared.places.Spot.{Spot}
 

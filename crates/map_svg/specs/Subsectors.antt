@@ -6,8 +6,9 @@ use Rattle.std.specs.Option.{unwrap_or}
 use Rattle.lump_records.specs.declared.records.Seg.{Seg}
 use Rattle.lump_records.specs.declared.records.Sub.{Sub}
 use Rattle.lump_records.specs.declared.records.Vertex.{Vertex}
+use Rattle.lump_text.specs.Texts.{joined}
 use Rattle.map_svg.specs.Places.{shift_right, spot_of, way_between}
-use Rattle.map_svg.specs.Texts.{joined, of_item}
+use Rattle.map_svg.specs.Texts.{of_item}
 use Rattle.map_svg.specs.declared.overlay.Overlay.{Overlay}
 use Rattle.map_svg.specs.declared.places.Shift.{Shift}
 use Rattle.map_svg.specs.declared.places.Spot.{Spot}

@@ -1,9 +1,9 @@
--- Texts: joined, of the items of a list, and escaped for XML.
+-- Texts: of the items of a list, and escaped for XML.
 use Rattle.std.specs.Prelude.{ℕ, ◌==◌, if◌then◌else◌, List, [], ◌∷◌, codes, flat_map, length, slice_get}
 use Rattle.std.specs.Fmt.{signed_decimal}
 use Rattle.std.specs.List.{range_with_len}
 use Rattle.std.specs.Option.{option_map_or}
-pub use Rattle.lump_text.specs.Texts.{followed, joined}
+use Rattle.lump_text.specs.Texts.{joined}
 use Rattle.map_svg.specs.declared.places.Spot.{Spot}
 
 -- the text of the item with the number, empty if there is no such item

@@ -2,7 +2,6 @@
 #![tactic(auto)]
 
 mod boxes;
-mod error;
 mod marks;
 mod nodes;
 mod overlay;
@@ -11,7 +10,6 @@ mod subsectors;
 mod text;
 
 pub use boxes::box_round;
-pub use error::PictureError;
 pub use marks::{Mark, MarkPlace};
 pub use overlay::{Overlay, write_overlay};
 pub use places::{Shift, Spot, middle_of, right_of, spot_of};

@@ -4,10 +4,10 @@ ghost use Rattle.std.specs.Io.KnownBytes.{Appends};
 ghost use Rattle.map_svg.specs.Marks.{corner_text, marking, marking_opening, marking_path};
 ghost use Rattle.map_svg.specs.Texts.{of_item, of_list};
 
-use crate::error::PictureError;
 use crate::places::{Spot, spot_of};
 use crate::text::{write_bytes, write_escaped, write_path};
 use lump_records::Vertex;
+use lump_text::WriterFailed;
 use std::io::Write;
 
 /// Where a mark is.
@@ -28,26 +28,23 @@ pub struct Mark {
 }
 
 // Writes the beginning of the element of mark `n`, up to its title.
-fn write_marking_opening<W: Write>(n: u64, writer: &mut W) -> Result<(), PictureError>
+#[tactic(auto, unfolding(crate::specs::Marks::marking_opening))]
+fn write_marking_opening<W: Write>(n: u64, writer: &mut W) -> Result<(), WriterFailed>
     ensures { OnOk result
         (Appends (W.contents writer.old) (W.contents writer.new) (marking_opening n)) }
 {
-    match write!(writer, "<g id=\"lint{n}\" class=\"lint\">\n<title>") {
-        Ok(()) => Ok(()),
-        Err(_) => Err(PictureError::WriterFailed),
-    }
+    write!(writer, "<g id=\"lint{n}\" class=\"lint\">\n<title>")?;
+    Ok(())
 }
 
 // Ends the title, and writes the path that marks the corner.
-fn write_corner<W: Write>(corner: Spot, writer: &mut W) -> Result<(), PictureError>
+fn write_corner<W: Write>(corner: Spot, writer: &mut W) -> Result<(), WriterFailed>
     ensures { OnOk result
         (Appends (W.contents writer.old) (W.contents writer.new) (corner_text corner)) }
 {
     let (x, y) = (corner.x, corner.y);
-    match write!(writer, "</title>\n<path d=\"M{x} {y}m32 32h0\"/>") {
-        Ok(()) => Ok(()),
-        Err(_) => Err(PictureError::WriterFailed),
-    }
+    write!(writer, "</title>\n<path d=\"M{x} {y}m32 32h0\"/>")?;
+    Ok(())
 }
 
 // Ends the title, and writes the path that marks the place.
@@ -55,7 +52,7 @@ fn write_marking_path<W: Write>(
     corner: Spot,
     place: MarkPlace,
     writer: &mut W,
-) -> Result<(), PictureError>
+) -> Result<(), WriterFailed>
     ensures { OnOk result
         (Appends (W.contents writer.old) (W.contents writer.new) (marking_path corner place)) }
 {
@@ -73,7 +70,7 @@ fn write_mark<W: Write>(
     n: u64,
     mark: &Mark,
     writer: &mut W,
-) -> Result<(), PictureError>
+) -> Result<(), WriterFailed>
     ensures { OnOk result
         (Appends (W.contents writer.old) (W.contents writer.new) (marking corner n mark.now)) }
 {
@@ -89,7 +86,7 @@ fn write_nth<W: Write>(
     corner: Spot,
     n: usize,
     writer: &mut W,
-) -> Result<(), PictureError>
+) -> Result<(), WriterFailed>
     ensures { OnOk result (Appends (W.contents writer.old) (W.contents writer.new)
         (of_item (marking corner n) marks.now n)) }
 {
@@ -104,7 +101,7 @@ pub(crate) fn write_marks<W: Write>(
     marks: &[Mark],
     corner: Spot,
     writer: &mut W,
-) -> Result<(), PictureError>
+) -> Result<(), WriterFailed>
     ensures { OnOk result (Appends (W.contents writer.old) (W.contents writer.new)
         (of_list (marking corner) marks.now)) }
 {

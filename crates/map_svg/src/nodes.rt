@@ -6,10 +6,10 @@ ghost use Rattle.map_svg.specs.Places.{spot_of};
 ghost use Rattle.map_svg.specs.Texts.{of_item, of_list};
 
 use crate::boxes::box_round;
-use crate::error::PictureError;
 use crate::places::{Shift, Spot, back_of, forth_of, spot_of};
 use crate::text::write_bytes;
 use lump_records::{Bounds, Node, Vertex};
+use lump_text::WriterFailed;
 use std::io::Write;
 
 // The size of a box between two coordinates.
@@ -36,25 +36,22 @@ fn write_clip<W: Write>(
     width: u32,
     height: u32,
     writer: &mut W,
-) -> Result<(), PictureError>
+) -> Result<(), WriterFailed>
     ensures { OnOk result
         (Appends (W.contents writer.old) (W.contents writer.new)
         (clip_text n corner width height)) }
 {
     let (x, y) = (corner.x, corner.y);
-    let written = write!(
+    write!(
         writer,
         "<clipPath id=\"box{n}\">
 <rect x=\"{x}\" y=\"{y}\" width=\"{width}\" height=\"{height}\"/></clipPath>\n"
-    );
-    match written {
-        Ok(()) => Ok(()),
-        Err(_) => Err(PictureError::WriterFailed),
-    }
+    )?;
+    Ok(())
 }
 
 // Writes the clip path of node `n` from its box.
-fn write_box<W: Write>(n: u64, bounds: Bounds, writer: &mut W) -> Result<(), PictureError>
+fn write_box<W: Write>(n: u64, bounds: Bounds, writer: &mut W) -> Result<(), WriterFailed>
     ensures { OnOk result
         (Appends (W.contents writer.old) (W.contents writer.new) (box_text n bounds)) }
 {
@@ -64,57 +61,53 @@ fn write_box<W: Write>(n: u64, bounds: Bounds, writer: &mut W) -> Result<(), Pic
 }
 
 // Writes the beginning of the element of node `n`, up to its title.
-fn write_node_opening<W: Write>(n: u64, writer: &mut W) -> Result<(), PictureError>
+#[tactic(auto, unfolding(crate::specs::Nodes::node_opening))]
+fn write_node_opening<W: Write>(n: u64, writer: &mut W) -> Result<(), WriterFailed>
     ensures { OnOk result
         (Appends (W.contents writer.old) (W.contents writer.new) (node_opening n)) }
 {
-    match write!(
+    write!(
         writer,
         "<g id=\"node{n}\" class=\"node\">\n<title>node {n}: "
-    ) {
-        Ok(()) => Ok(()),
-        Err(_) => Err(PictureError::WriterFailed),
-    }
+    )?;
+    Ok(())
 }
 
 // Writes the node's partition into the title, and ends the title.
-fn write_partition<W: Write>(node: &Node, writer: &mut W) -> Result<(), PictureError>
+#[tactic(auto, using(crate::proofs::Printed::printed), unfolding(crate::specs::Nodes::partition_text))]
+fn write_partition<W: Write>(node: &Node, writer: &mut W) -> Result<(), WriterFailed>
     ensures { OnOk result
         (Appends (W.contents writer.old) (W.contents writer.new) (partition_text node.now)) }
 {
     let (x, y, dx, dy) = (node.x, node.y, node.dx, node.dy);
-    match write!(writer, "from {x} {y} by {dx} {dy}</title>\n") {
-        Ok(()) => Ok(()),
-        Err(_) => Err(PictureError::WriterFailed),
-    }
+    write!(writer, "from {x} {y} by {dx} {dy}</title>\n")?;
+    Ok(())
 }
 
 // Writes the beginning of the path that is clipped to the box of node `n`.
-fn write_clipped<W: Write>(n: u64, writer: &mut W) -> Result<(), PictureError>
+#[tactic(auto, unfolding(crate::specs::Nodes::clipped_by))]
+fn write_clipped<W: Write>(n: u64, writer: &mut W) -> Result<(), WriterFailed>
     ensures { OnOk result
         (Appends (W.contents writer.old) (W.contents writer.new) (clipped_by n)) }
 {
-    match write!(writer, "<path clip-path=\"url(#box{n})\" d=\"") {
-        Ok(()) => Ok(()),
-        Err(_) => Err(PictureError::WriterFailed),
-    }
+    write!(writer, "<path clip-path=\"url(#box{n})\" d=\"")?;
+    Ok(())
 }
 
 // Writes a stroke from a place along a vector.
-fn write_ray<W: Write>(place: Spot, way: Shift, writer: &mut W) -> Result<(), PictureError>
+#[tactic(auto, using(crate::proofs::Printed::printed), unfolding(crate::specs::Nodes::ray_text))]
+fn write_ray<W: Write>(place: Spot, way: Shift, writer: &mut W) -> Result<(), WriterFailed>
     ensures { OnOk result
         (Appends (W.contents writer.old) (W.contents writer.new) (ray_text place way)) }
 {
     let (x, y, dx, dy) = (place.x, place.y, way.dx, way.dy);
-    match write!(writer, "M{x} {y}l{dx} {dy}") {
-        Ok(()) => Ok(()),
-        Err(_) => Err(PictureError::WriterFailed),
-    }
+    write!(writer, "M{x} {y}l{dx} {dy}")?;
+    Ok(())
 }
 
 // Writes the part of the element before the path: the title and the box.
 #[tactic(auto, unfolding(crate::specs::Nodes::node_head))]
-fn write_node_head<W: Write>(n: u64, node: &Node, writer: &mut W) -> Result<(), PictureError>
+fn write_node_head<W: Write>(n: u64, node: &Node, writer: &mut W) -> Result<(), WriterFailed>
     ensures { OnOk result
         (Appends (W.contents writer.old) (W.contents writer.new) (node_head n node.now)) }
 {
@@ -125,7 +118,7 @@ fn write_node_head<W: Write>(n: u64, node: &Node, writer: &mut W) -> Result<(), 
 
 // Writes the path, which runs along the partition in both directions.
 #[tactic(auto, unfolding(crate::specs::Nodes::node_path))]
-fn write_node_path<W: Write>(n: u64, node: &Node, writer: &mut W) -> Result<(), PictureError>
+fn write_node_path<W: Write>(n: u64, node: &Node, writer: &mut W) -> Result<(), WriterFailed>
     ensures { OnOk result
         (Appends (W.contents writer.old) (W.contents writer.new) (node_path n node.now)) }
 {
@@ -141,7 +134,7 @@ fn write_node_path<W: Write>(n: u64, node: &Node, writer: &mut W) -> Result<(), 
 
 // Writes the element of a node.
 #[tactic(auto, unfolding(crate::specs::Nodes::node_element))]
-fn write_node<W: Write>(n: u64, node: &Node, writer: &mut W) -> Result<(), PictureError>
+fn write_node<W: Write>(n: u64, node: &Node, writer: &mut W) -> Result<(), WriterFailed>
     ensures { OnOk result
         (Appends (W.contents writer.old) (W.contents writer.new) (node_element n node.now)) }
 {
@@ -150,7 +143,7 @@ fn write_node<W: Write>(n: u64, node: &Node, writer: &mut W) -> Result<(), Pictu
 }
 
 // Writes the element of the node with the number, if there is one.
-fn write_nth_node<W: Write>(nodes: &[Node], n: usize, writer: &mut W) -> Result<(), PictureError>
+fn write_nth_node<W: Write>(nodes: &[Node], n: usize, writer: &mut W) -> Result<(), WriterFailed>
     ensures { OnOk result (Appends (W.contents writer.old) (W.contents writer.new)
         (of_item (node_element n) nodes.now n)) }
 {
@@ -161,7 +154,7 @@ fn write_nth_node<W: Write>(nodes: &[Node], n: usize, writer: &mut W) -> Result<
 }
 
 /// Writes the elements of the nodes.
-pub(crate) fn write_nodes<W: Write>(nodes: &[Node], writer: &mut W) -> Result<(), PictureError>
+pub(crate) fn write_nodes<W: Write>(nodes: &[Node], writer: &mut W) -> Result<(), WriterFailed>
     ensures { OnOk result (Appends (W.contents writer.old) (W.contents writer.new)
         (of_list node_element nodes.now)) }
 {

@@ -3,12 +3,12 @@ ghost use Rattle.std.specs.Prelude.{OnOk};
 ghost use Rattle.std.specs.Io.KnownBytes.{Appends};
 ghost use Rattle.map_svg.specs.Overlays.{overlay_text};
 
-use crate::error::PictureError;
 use crate::marks::{Mark, write_marks};
 use crate::nodes::write_nodes;
 use crate::places::Spot;
 use crate::subsectors::write_subs;
 use lump_records::{Node, Seg, Sub, Vertex};
+use lump_text::WriterFailed;
 use std::io::Write;
 
 /// The overlay of a picture: a level's tree, as its four lists, and marks. Each list may be empty.
@@ -32,7 +32,7 @@ pub fn write_overlay<W: Write>(
     step: u32,
     corner: Spot,
     writer: &mut W,
-) -> Result<(), PictureError>
+) -> Result<(), WriterFailed>
     ensures { OnOk result (Appends (W.contents writer.old) (W.contents writer.new)
         (overlay_text step corner overlay.now)) }
 {

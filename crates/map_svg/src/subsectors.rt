@@ -4,11 +4,11 @@ ghost use Rattle.std.specs.Io.KnownBytes.{Appends};
 ghost use Rattle.map_svg.specs.Subsectors.{segs_text, seg_text, stroke_text, sub_element, sub_opening, tree_vertex};
 ghost use Rattle.map_svg.specs.Texts.{of_item, of_list};
 
-use crate::error::PictureError;
 use crate::overlay::Overlay;
 use crate::places::{Shift, Spot, right_of, spot_of, way_between};
 use crate::text::write_bytes;
 use lump_records::{Seg, Sub, Vertex};
+use lump_text::WriterFailed;
 use std::io::Write;
 
 // The tree's vertex with the number, (0,0) past the last one.
@@ -23,20 +23,19 @@ fn tree_vertex(overlay: &Overlay, n: u16) -> Vertex
 }
 
 // Writes a stroke along a vector, from a point beside a place.
+#[tactic(auto, using(crate::proofs::Printed::printed), unfolding(crate::specs::Subsectors::stroke_text))]
 fn write_stroke<W: Write>(
     place: Spot,
     aside: Shift,
     way: Shift,
     writer: &mut W,
-) -> Result<(), PictureError>
+) -> Result<(), WriterFailed>
     ensures { OnOk result
         (Appends (W.contents writer.old) (W.contents writer.new) (stroke_text place aside way)) }
 {
     let (x, y, ax, ay, dx, dy) = (place.x, place.y, aside.dx, aside.dy, way.dx, way.dy);
-    match write!(writer, "M{x} {y}m{ax} {ay}l{dx} {dy}") {
-        Ok(()) => Ok(()),
-        Err(_) => Err(PictureError::WriterFailed),
-    }
+    write!(writer, "M{x} {y}m{ax} {ay}l{dx} {dy}")?;
+    Ok(())
 }
 
 // Writes the stroke of a seg, a little to its right.
@@ -46,7 +45,7 @@ fn write_seg<W: Write>(
     step: u32,
     seg: &Seg,
     writer: &mut W,
-) -> Result<(), PictureError>
+) -> Result<(), WriterFailed>
     ensures { OnOk result (Appends (W.contents writer.old) (W.contents writer.new)
         (seg_text overlay.now step seg.now)) }
 {
@@ -62,7 +61,7 @@ fn write_nth_seg<W: Write>(
     step: u32,
     n: u32,
     writer: &mut W,
-) -> Result<(), PictureError>
+) -> Result<(), WriterFailed>
     ensures { OnOk result (Appends (W.contents writer.old) (W.contents writer.new)
         (of_item (seg_text overlay.now step) overlay.now.segs.items n)) }
 {
@@ -85,7 +84,7 @@ fn write_segs<W: Write>(
     step: u32,
     sub: &Sub,
     writer: &mut W,
-) -> Result<(), PictureError>
+) -> Result<(), WriterFailed>
     ensures { OnOk result (Appends (W.contents writer.old) (W.contents writer.new)
         (segs_text overlay.now step sub.now)) }
 {
@@ -99,21 +98,19 @@ fn write_segs<W: Write>(
 }
 
 // Writes the beginning of the element of a subsector: its colour, its title, and the start of its path.
-fn write_sub_opening<W: Write>(n: u64, sub: &Sub, writer: &mut W) -> Result<(), PictureError>
+#[tactic(auto, unfolding(crate::specs::Subsectors::sub_opening))]
+fn write_sub_opening<W: Write>(n: u64, sub: &Sub, writer: &mut W) -> Result<(), WriterFailed>
     ensures { OnOk result
         (Appends (W.contents writer.old) (W.contents writer.new) (sub_opening n sub.now)) }
 {
     let (colour, first, count) = (n % 6, sub.first, sub.count);
-    let written = write!(
+    write!(
         writer,
         "<g id=\"sub{n}\" class=\"sub{colour}\">
 <title>subsector {n}: first seg {first}, count {count}</title>
 <path d=\""
-    );
-    match written {
-        Ok(()) => Ok(()),
-        Err(_) => Err(PictureError::WriterFailed),
-    }
+    )?;
+    Ok(())
 }
 
 // Writes the element of a subsector.
@@ -124,7 +121,7 @@ fn write_sub<W: Write>(
     n: u64,
     sub: &Sub,
     writer: &mut W,
-) -> Result<(), PictureError>
+) -> Result<(), WriterFailed>
     ensures { OnOk result (Appends (W.contents writer.old) (W.contents writer.new)
         (sub_element overlay.now step n sub.now)) }
 {
@@ -139,7 +136,7 @@ fn write_nth_sub<W: Write>(
     step: u32,
     n: usize,
     writer: &mut W,
-) -> Result<(), PictureError>
+) -> Result<(), WriterFailed>
     ensures { OnOk result (Appends (W.contents writer.old) (W.contents writer.new)
         (of_item (sub_element overlay.now step n) overlay.now.subs.items n)) }
 {
@@ -154,7 +151,7 @@ pub(crate) fn write_subs<W: Write>(
     overlay: &Overlay,
     step: u32,
     writer: &mut W,
-) -> Result<(), PictureError>
+) -> Result<(), WriterFailed>
     ensures { OnOk result (Appends (W.contents writer.old) (W.contents writer.new)
         (of_list (sub_element overlay.now step) overlay.now.subs.items)) }
 {

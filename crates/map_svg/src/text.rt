@@ -3,8 +3,8 @@ ghost use Rattle.std.specs.Prelude.{OnOk};
 ghost use Rattle.std.specs.Io.KnownBytes.{Appends};
 ghost use Rattle.map_svg.specs.Texts.{escaped, escaped_byte, path_text};
 
-use crate::error::PictureError;
 use crate::places::Spot;
+use lump_text::WriterFailed;
 use std::io::Write;
 
 /// Writes bytes unchanged.
@@ -12,17 +12,15 @@ use std::io::Write;
 /// # Errors
 ///
 /// `WriterFailed`: any part of them may have been written.
-pub fn write_bytes<W: Write>(bytes: &[u8], writer: &mut W) -> Result<(), PictureError>
+pub fn write_bytes<W: Write>(bytes: &[u8], writer: &mut W) -> Result<(), WriterFailed>
     ensures { OnOk result (Appends (W.contents writer.old) (W.contents writer.new) bytes.now) }
 {
-    match writer.write_all(bytes) {
-        Ok(()) => Ok(()),
-        Err(_) => Err(PictureError::WriterFailed),
-    }
+    writer.write_all(bytes)?;
+    Ok(())
 }
 
 // Writes a byte of a text, escaped for XML.
-fn write_escaped_byte<W: Write>(byte: u8, writer: &mut W) -> Result<(), PictureError>
+fn write_escaped_byte<W: Write>(byte: u8, writer: &mut W) -> Result<(), WriterFailed>
     ensures { OnOk result
         (Appends (W.contents writer.old) (W.contents writer.new) (escaped_byte byte)) }
 {
@@ -42,7 +40,7 @@ fn write_escaped_byte<W: Write>(byte: u8, writer: &mut W) -> Result<(), PictureE
 /// # Errors
 ///
 /// `WriterFailed`: any part of it may have been written.
-pub fn write_escaped<W: Write>(text: &[u8], writer: &mut W) -> Result<(), PictureError>
+pub fn write_escaped<W: Write>(text: &[u8], writer: &mut W) -> Result<(), WriterFailed>
     ensures { OnOk result
         (Appends (W.contents writer.old) (W.contents writer.new) (escaped text.now)) }
 {
@@ -60,13 +58,11 @@ pub fn write_escaped<W: Write>(text: &[u8], writer: &mut W) -> Result<(), Pictur
 /// # Errors
 ///
 /// `WriterFailed`: any part of it may have been written.
-pub fn write_path<W: Write>(from: Spot, to: Spot, writer: &mut W) -> Result<(), PictureError>
+pub fn write_path<W: Write>(from: Spot, to: Spot, writer: &mut W) -> Result<(), WriterFailed>
     ensures { OnOk result
         (Appends (W.contents writer.old) (W.contents writer.new) (path_text from to)) }
 {
     let (x1, y1, x2, y2) = (from.x, from.y, to.x, to.y);
-    match write!(writer, "</title>\n<path d=\"M{x1} {y1}L{x2} {y2}\"/>") {
-        Ok(()) => Ok(()),
-        Err(_) => Err(PictureError::WriterFailed),
-    }
+    write!(writer, "</title>\n<path d=\"M{x1} {y1}L{x2} {y2}\"/>")?;
+    Ok(())
 }

@@ -4,7 +4,8 @@ use crate::drawing::{ROOM, SECTOR, SIDE, drawn};
 use crate::expect::same;
 use lump_records::{Bounds, Node, Seg, Sub, Vertex};
 use map_picture::{PictureOptions, STYLE, write_picture};
-use map_svg::{Mark, MarkPlace, Overlay, PictureError};
+use lump_text::WriterFailed;
+use map_svg::{Mark, MarkPlace, Overlay};
 use std::alloc::Global;
 use std::io;
 use std::io::Write;
@@ -278,7 +279,7 @@ fn tells_of_a_full_writer(rt: HostRuntime) -> Result<(), Fail> {
     let overlay = nothing(rt.alloc());
     let options = PictureOptions { numbers: false };
     let told = write_picture(maps.current(), options, &overlay, &mut Full);
-    same(&rt, &told, &Err(PictureError::WriterFailed));
-    same(&rt, &PictureError::WriterFailed.code(), &38);
+    same(&rt, &told, &Err(WriterFailed));
+    same(&rt, &WriterFailed.code(), &38);
     Ok(())
 }

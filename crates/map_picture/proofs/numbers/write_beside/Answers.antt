@@ -5,9 +5,9 @@ use Rattle.std.specs.Int.{w64}
 use Rattle.map_picture.specs.Numbers.{beside_text}
 use Rattle.map_picture.proofs.numbers.write_beside.Goals as goal
 
-pub returns-in-Ok : goal.returns-in-Ok
+pub returns : goal.returns
 unfolding beside_text
-returns-in-Ok g c =
+returns g c =
     let f1 : FitsSigned w64 c.args.shift.dx = search rules in
     let f2 : FitsSigned w64 c.args.shift.dy = search rules in
-    rw (to_z-of_z w64 c.args.shift.dx f1, to_z-of_z w64 c.args.shift.dy f2) at c.in-Ok.ensures.bytes
+    rw (to_z-of_z w64 c.args.shift.dx f1, to_z-of_z w64 c.args.shift.dy f2) at c.in_ok-write.ensures.bytes

@@ -5,9 +5,9 @@ use Rattle.std.specs.Int.{w32}
 use Rattle.map_picture.specs.Vertices.{dot_text}
 use Rattle.map_picture.proofs.vertices.write_dot.Goals as goal
 
-pub returns-in-Ok : goal.returns-in-Ok
+pub returns : goal.returns
 unfolding dot_text
-returns-in-Ok g c =
+returns g c =
     let f1 : FitsSigned w32 c.args.place.x = search rules in
     let f2 : FitsSigned w32 c.args.place.y = search rules in
-    rw (to_z-of_z w32 c.args.place.x f1, to_z-of_z w32 c.args.place.y f2) at c.in-Ok.ensures.bytes
+    rw (to_z-of_z w32 c.args.place.x f1, to_z-of_z w32 c.args.place.y f2) at c.in_ok-write.ensures.bytes

@@ -5,11 +5,11 @@ use Rattle.std.specs.Int.{w32}
 use Rattle.map_svg.specs.Texts.{path_text}
 use Rattle.map_svg.proofs.text.write_path.Goals as goal
 
-pub returns-in-Ok : goal.returns-in-Ok
+pub returns : goal.returns
 unfolding path_text
-returns-in-Ok g c =
+returns g c =
     let f1 : FitsSigned w32 c.args.from.x = search rules in
     let f2 : FitsSigned w32 c.args.from.y = search rules in
     let f3 : FitsSigned w32 c.args.to.x = search rules in
     let f4 : FitsSigned w32 c.args.to.y = search rules in
-    rw (to_z-of_z w32 c.args.from.x f1, to_z-of_z w32 c.args.from.y f2, to_z-of_z w32 c.args.to.x f3, to_z-of_z w32 c.args.to.y f4) at c.in-Ok.ensures.bytes
+    rw (to_z-of_z w32 c.args.from.x f1, to_z-of_z w32 c.args.from.y f2, to_z-of_z w32 c.args.to.x f3, to_z-of_z w32 c.args.to.y f4) at c.in_ok-write.ensures.bytes
