@@ -1,5 +1,5 @@
 //! The lines of a list of records with the places of their ends, or the first line that can't be built.
-ghost use Rattle.std.specs.Prelude.{◌≡◌, ◌↔◌, IsTrue, All, pos, neg_ℤ, ◌≤ℤ◌, IfOk, IfErr, OnOk, MatchOption};
+ghost use Rattle.std.specs.Prelude.{◌≡◌, ◌↔◌, IsTrue, All, IfOk, IfErr, OnOk, MatchOption};
 ghost use Rattle.lump_records.specs.Drawing.{IsDrawable};
 ghost use Rattle.tree_pieces.specs.Plane.{IsEdge};
 ghost use Rattle.tree_pieces.specs.Edges.{edge_between, edges_in, IsBuildable, IsUndrawable, HasFault, IsLinesRefusal};
@@ -7,15 +7,8 @@ ghost use Rattle.tree_pieces.specs.Edges.{edge_between, edges_in, IsBuildable, I
 use crate::edge::Edge;
 use crate::line_fault::{LineFault, LinesError};
 use crate::lines::Lines;
-use lump_records::{LONGEST_SQUARED, Line, Side, Vertex, squared_distance};
+use lump_records::{LONGEST_SQUARED, Line, Side, Vertex, is_coordinate, squared_distance};
 use std::alloc::Global;
-
-// Whether a coordinate may be drawn.
-fn is_coordinate(z: i16) -> bool
-    ensures { IsTrue result ↔ ((neg_ℤ (pos 16384) ≤ℤ z) × (z ≤ℤ pos 16383)) }
-{
-    -16384 <= z && z <= 16383
-}
 
 // Whether a vertex may be drawn.
 fn is_drawable(v: Vertex) -> bool

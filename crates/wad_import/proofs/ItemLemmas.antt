@@ -4,12 +4,13 @@ use Rattle.std.specs.Prelude.{ℤ, pos, negsuc, int_le, int_lt, ◌≤ℤ◌}
 use Rattle.std.proofs.lemmas.Bool.{and_parts}
 use Rattle.std.proofs.lemmas.Int.{ints}
 use Rattle.lump_records.specs.Drawing.{IsBetween, IsCoordinate}
+use Rattle.lump_records.specs.Things.{thing_place}
 use Rattle.lump_records.specs.declared.records.Thing.{Thing}
 use Rattle.lump_records.specs.declared.records.Side.{Side}
 use Rattle.lump_records.specs.declared.records.Vertex.{Vertex}
 use Rattle.lump_records.specs.declared.records.Sector.{Sector}
 use Rattle.lump_records.proofs.DrawingLemmas.{drawable}
-use Rattle.wad_levels.specs.Drawn.{is_drawable}
+use Rattle.wad_levels.specs.Drawn.{is_coordinate, is_drawable}
 use Rattle.map_tables.specs.Ranges.{IsVertex}
 use Rattle.std.proofs.Math.Nat.{mod-lt}
 use Rattle.wad_import.specs.Mended.{is_kept, mended_angle, mended_light, mended_sector, mended_side, mended_thing}
@@ -22,14 +23,14 @@ use Rattle.wad_import.proofs.NameFacts.{named}
 above : (a b : ℤ) → int_le a b ≡ true → a ≤ℤ b
 above a b h = grind (arith, ints)
 
-coordinate : (z : ℤ) → (int_le (negsuc 16383) z && int_le z (pos 16383)) ≡ true → IsCoordinate z
+coordinate : (z : ℤ) → is_coordinate z ≡ true → IsCoordinate z
 coordinate z h =
     let parts = and_parts (int_le (negsuc 16383) z) (int_le z (pos 16383)) h in
     record { at_least = above (negsuc 16383) z parts.0; at_most = above z (pos 16383) parts.1 }
 
 pub drawn_vertex_is : (v : Vertex) → is_drawable v ≡ true → IsVertex v
 drawn_vertex_is v h =
-    let parts = and_parts (int_le (negsuc 16383) v.x && int_le v.x (pos 16383)) (int_le (negsuc 16383) v.y && int_le v.y (pos 16383)) h in
+    let parts = and_parts (is_coordinate v.x) (is_coordinate v.y) h in
     drawable v (coordinate v.x parts.0) (coordinate v.y parts.1)
 
 light_by : (z : ℤ) (t u : Bool) → int_lt z (pos 0) ≡ t → int_lt (pos 255) z ≡ u → IsBetween (pos 0) (pos 255) (cond t (pos 0) (cond u (pos 255) z))
@@ -72,10 +73,9 @@ side_is s names within =
 
 pub thing_is : (t : Thing) → is_kept t ≡ true → HasThingRanges (mended_thing t)
 thing_is t h =
-    let place = λ (z : ℤ). int_le (negsuc 16383) z && int_le z (pos 16383) in
-    let three = and_parts (place t.x && place t.y && int_le (pos 0) t.kind) (int_le (pos 0) t.options) h in
-    let two = and_parts (place t.x && place t.y) (int_le (pos 0) t.kind) three.0 in
-    let both = and_parts (place t.x) (place t.y) two.0 in
+    let three = and_parts (is_drawable (thing_place t) && int_le (pos 0) t.kind) (int_le (pos 0) t.options) h in
+    let two = and_parts (is_drawable (thing_place t)) (int_le (pos 0) t.kind) three.0 in
+    let both = and_parts (is_coordinate t.x) (is_coordinate t.y) two.0 in
     record {
       x = coordinate t.x both.0;
       y = coordinate t.y both.1;

@@ -1,14 +1,16 @@
 -- What each item of a level is after the changes that make the level a map (docs/FORMAT.md,
 -- "A map of a WAD's level").
-use Rattle.std.specs.Prelude.{ℕ, ◌-◌, ℤ, pos, negsuc, int_le, int_lt, Bool, if◌then◌else◌, not, ◌&&◌, ◌==◌, length, codes}
+use Rattle.std.specs.Prelude.{ℕ, ◌-◌, ℤ, pos, int_le, int_lt, Bool, if◌then◌else◌, not, ◌&&◌, ◌==◌, length, codes}
 use Rattle.std.specs.Int.{int_rem_euclid}
 use Rattle.lump_records.specs.Names.{name_of, name_text}
 use Rattle.lump_records.specs.Sides.{has_left, is_two_sided}
+use Rattle.lump_records.specs.Things.{thing_place}
 use Rattle.lump_records.specs.declared.records.Name8.{Name8}
 use Rattle.lump_records.specs.declared.records.Thing.{Thing}
 use Rattle.lump_records.specs.declared.records.Line.{Line}
 use Rattle.lump_records.specs.declared.records.Side.{Side}
 use Rattle.lump_records.specs.declared.records.Sector.{Sector}
+use Rattle.wad_levels.specs.Drawn.{is_drawable}
 use Rattle.wad_levels.specs.Graphics.{capital_name}
 
 -- the name in capitals up to its first NUL, and `-` where that leaves nothing
@@ -55,11 +57,7 @@ linked_line number x = record (mended_line x) { v1 = number x.v1; v2 = number x.
 
 -- the thing stands at coordinates, and neither its type nor its options are negative
 abbrev pub is_kept : Thing → Bool
-is_kept t =
-    is_place_number t.x && is_place_number t.y && int_le (pos 0) t.kind && int_le (pos 0) t.options
-  where
-    is_place_number : ℤ → Bool
-    is_place_number z = int_le (negsuc 16383) z && int_le z (pos 16383)
+is_kept t = is_drawable (thing_place t) && int_le (pos 0) t.kind && int_le (pos 0) t.options
 
 abbrev pub mended_thing : Thing → Thing
 mended_thing t = record t { angle = mended_angle t.angle }

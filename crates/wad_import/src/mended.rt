@@ -1,9 +1,10 @@
 //! What each item is after the changes.
-ghost use Rattle.std.specs.Prelude.{◌≡◌, ◌&&◌, int_le, negsuc, pos};
+ghost use Rattle.std.specs.Prelude.{◌≡◌};
 ghost use Rattle.wad_levels.specs.Graphics.{capital_name};
 ghost use Rattle.wad_import.specs.Mended.{is_kept, lacks_left_side, mended_angle, mended_light, mended_line, mended_name, mended_sector, mended_side, mended_thing};
 
 use lump_records::{Line, Name8, Sector, Side, Thing};
+use wad_levels::is_drawable;
 
 // The name in capitals, with NUL after its text.
 fn capital_name(name: Name8) -> Name8
@@ -92,18 +93,11 @@ pub fn mended_line(line: &Line) -> Line
     mended
 }
 
-/// Whether the number is a coordinate.
-pub fn is_coordinate(n: i16) -> bool
-    ensures { result ≡ (int_le (negsuc 16383) n && int_le n (pos 16383)) }
-{
-    -16384 <= n && n <= 16383
-}
-
 /// Whether the thing stays in the level.
 pub fn is_kept(thing: &Thing) -> bool
     ensures { result ≡ is_kept thing.now }
 {
-    is_coordinate(thing.x) && is_coordinate(thing.y) && 0 <= thing.kind && 0 <= thing.options
+    is_drawable(thing.place()) && 0 <= thing.kind && 0 <= thing.options
 }
 
 /// The thing after the changes.

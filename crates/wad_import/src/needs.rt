@@ -8,9 +8,9 @@ ghost use Rattle.wad_import.specs.Refused.{first_without, has_flat_names, has_li
 
 use crate::counts::{count_refusal, first_of, reached_vertices};
 use crate::error::ImportError;
-use crate::mended::{is_coordinate, mended_name};
+use crate::mended::mended_name;
 use lump_records::{Line, Name8, Sector, Side, Vertex, is_marker, is_name};
-use wad_levels::{Drawn, has_no_length, other_hindrance};
+use wad_levels::{Drawn, has_no_length, is_drawable, other_hindrance};
 
 // Whether the name, after the changes, may be that of a texture or a flat.
 fn is_nameable(name: Name8) -> bool
@@ -47,18 +47,11 @@ fn has_line_codes(line: &Line) -> bool
     line.flags <= 32767 && line.special <= 32767 && line.tag <= 32767
 }
 
-// Whether both coordinates of the vertex are within a map's limits.
-fn is_drawable(vertex: &Vertex) -> bool
-    ensures { result ≡ is_drawable vertex.now }
-{
-    is_coordinate(vertex.x) && is_coordinate(vertex.y)
-}
-
 // The number of the first vertex outside the coordinates.
 fn vertex_outside(vertices: &[Vertex]) -> Option<usize>
     ensures { result ≡ position (λ x. not (is_drawable x)) vertices.now }
 {
-    vertices.iter().position(|vertex| !is_drawable(vertex))
+    vertices.iter().position(|vertex| !is_drawable(*vertex))
 }
 
 // The refusal of the first vertex outside the coordinates.

@@ -91,12 +91,13 @@ entries_hindrance wad l =
 abbrev pub is_item_number : ℕ → ℕ → Bool
 is_item_number n count = nat_lt n count && nat_le n 32767
 
+-- the number is a coordinate that maps may have
+abbrev pub is_coordinate : ℤ → Bool
+is_coordinate z = int_le (negsuc 16383) z && int_le z (pos 16383)
+
 -- both coordinates of the vertex are ones that maps may have
 abbrev pub is_drawable : Vertex → Bool
 is_drawable v = is_coordinate v.x && is_coordinate v.y
-  where
-    is_coordinate : ℤ → Bool
-    is_coordinate z = int_le (negsuc 16383) z && int_le z (pos 16383)
 
 -- the vertex of this number
 abbrev pub drawn_vertex : DrawnLists → ℕ → Vertex

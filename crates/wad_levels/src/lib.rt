@@ -23,4 +23,4 @@ pub use laws::others_hinder_the_rest;
 pub use level::{Level, read_level};
 pub use listing::{level_names, read_wad};
 pub use lumps::LUMP_NAMES;
-pub use needs::{has_no_length, other_hindrance};
+pub use needs::{has_no_length, is_drawable, other_hindrance};

@@ -1,12 +1,14 @@
 //! Tests what a build needs of the drawn lists.
-ghost use Rattle.std.specs.Prelude.{◌≡◌, ◌&&◌, ◌||◌, ◌==◌, if◌then◌else◌, not, int_le, length, negsuc, pos, position, Some, None};
-ghost use Rattle.wad_levels.specs.Drawn.{drawn_view, has_need, is_item_number, is_drawable, length_hindrance, line_hindrance, lists_hindrance, reference_hindrance, side_hindrance, squared_length, drawn_vertex};
+ghost use Rattle.std.specs.Prelude.{◌≡◌, ◌&&◌, ◌||◌, ◌==◌, if◌then◌else◌, not, length, position, Some, None};
+ghost use Rattle.wad_levels.specs.Drawn.{drawn_view, has_need, is_coordinate, is_item_number, is_drawable, length_hindrance, line_hindrance, lists_hindrance, reference_hindrance, side_hindrance, squared_length, drawn_vertex};
 ghost use Rattle.wad_levels.specs.Lengths.{has_no_length, other_hindrance, other_line_hindrance, with_lengths};
 ghost use Rattle.wad_levels.specs.declared.hindrance.Hindrance.TheVariants.{NoLine};
 
 use crate::drawn::{Drawn, first_of};
 use crate::hindrance::{Hindrance, LineNeed};
-use lump_records::{LONGEST_SQUARED, Line, Vertex, squared_distance};
+use lump_records::{
+    GREATEST_COORDINATE, LEAST_COORDINATE, LONGEST_SQUARED, Line, Vertex, squared_distance,
+};
 
 // Whether the number is that of one of `count` items, and at most 32,767.
 fn is_among(n: u16, count: usize) -> bool
@@ -15,8 +17,8 @@ fn is_among(n: u16, count: usize) -> bool
     (n as usize) < count && n <= 32767
 }
 
-// Whether both coordinates of the vertex are within the limits of a map.
-fn is_drawable(vertex: Vertex) -> bool
+/// Whether both coordinates of the vertex are within the limits of a map.
+pub fn is_drawable(vertex: Vertex) -> bool
     ensures { result ≡ is_drawable vertex }
 {
     is_coordinate(vertex.x) && is_coordinate(vertex.y)
@@ -24,9 +26,9 @@ fn is_drawable(vertex: Vertex) -> bool
 
 // Whether the number is within the limits of a map's coordinates.
 fn is_coordinate(n: i16) -> bool
-    ensures { result ≡ (int_le (negsuc 16383) n && int_le n (pos 16383)) }
+    ensures { result ≡ is_coordinate n }
 {
-    -16384 <= n && n <= 16383
+    LEAST_COORDINATE <= n && n <= GREATEST_COORDINATE
 }
 
 // The vertex with this number.
