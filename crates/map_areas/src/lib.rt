@@ -1,0 +1,20 @@
+//! Areas: a polygon becomes a sector, or a hole in one, and shares what is there.
+#![tactic(auto)]
+
+mod area;
+mod border;
+mod copying;
+mod cuts;
+mod draft;
+mod drawing;
+mod error;
+mod inside;
+mod pillar;
+mod polygon;
+mod round;
+mod uses;
+mod walls;
+
+pub use area::{Area, area_commands};
+pub use error::{AreaError, Part};
+pub use pillar::{Pillar, pillar_commands};

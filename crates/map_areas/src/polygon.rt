@@ -1,0 +1,43 @@
+//! The polygon of some corners, its edges clockwise.
+use crate::error::AreaError;
+use lump_records::Vertex;
+use map_plane::{PlacedLine, doubled_area, edges_of, first_clash};
+use std::alloc::Global;
+
+// The corners in the opposite order.
+fn turned(alloc: Global, corners: &[Vertex]) -> Result<Vec<Vertex>, AreaError> {
+    let mut turned = Vec::from_slice(alloc, corners)?;
+    turned.reverse();
+    Ok(turned)
+}
+
+/// The edges of a simple polygon in their own order, and whether that is clockwise: then the inside is on their right.
+fn edges_if_simple(
+    alloc: Global,
+    corners: &[Vertex],
+) -> Result<(Vec<PlacedLine>, bool), AreaError> {
+    let edges = edges_of(alloc, corners)?;
+    if let Some(edge) = first_clash(&edges) {
+        return Err(AreaError::NotAPolygon { corner: edge.from });
+    }
+    let area = doubled_area(&edges);
+    if edges.len() < 3 || area == 0 {
+        let corner = corners.first().copied().unwrap_or(Vertex { x: 0, y: 0 });
+        return Err(AreaError::NotAPolygon { corner });
+    }
+    Ok((edges, 0 < area))
+}
+
+/// The edges of the polygon, clockwise or the other way round. Refused if it isn't simple.
+pub(crate) fn polygon(
+    alloc: Global,
+    corners: &[Vertex],
+    clockwise: bool,
+) -> Result<Vec<PlacedLine>, AreaError> {
+    let (edges, runs_clockwise) = edges_if_simple(alloc, corners)?;
+    if runs_clockwise == clockwise {
+        return Ok(edges);
+    }
+    let turned = turned(alloc, corners)?;
+    Ok(edges_of(alloc, &turned)?)
+}

@@ -1,0 +1,5 @@
+pub mod Tests
+pub mod Means
+pub mod CrossingPoints
+pub mod Crossings
+pub mod LineReads
