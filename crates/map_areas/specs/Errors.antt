@@ -1,13 +1,14 @@
 -- The numbers of the refusals.
 use Rattle.std.specs.Prelude.{ℕ}
 use Rattle.map_areas.specs.declared.error.AreaError.{AreaError}
-use Rattle.map_areas.specs.declared.error.AreaError.TheVariants.{NotAPolygon, Crossing, SeveralSectors, NotEmpty, OverVertex, Refused, OutOfMemory}
+use Rattle.map_areas.specs.declared.error.AreaError.TheVariants.{OutOfRange, NotAPolygon, Crossing, SeveralSectors, NotEmpty, OverVertex, Refused, OutOfMemory}
 use Rattle.map_tables.specs.Errors as of_map
 use Rattle.map_tables.specs.declared.error.MapError.{MapError}
 use Rattle.map_tables.specs.declared.error.MapError.TheVariants as map_error
 
 -- the number of each refusal
 abbrev pub code_of : AreaError → ℕ
+code_of OutOfRange = 2
 code_of (NotAPolygon corner) = 25
 code_of (Crossing line near) = 26
 code_of (SeveralSectors first second) = 27

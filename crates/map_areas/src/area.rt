@@ -1,10 +1,16 @@
 //! Areas: polygons that become sectors.
+ghost use Rattle.std.specs.Prelude.{All, IfOk};
+ghost use Rattle.map_areas.specs.Drawn.{AreTaken};
+ghost use Rattle.map_commands.specs.Step.{InRange};
+
 use crate::border::{Border, border_of, twice};
 use crate::drawing::{Drawing, Paint, drawing_of};
 use crate::error::AreaError;
 use crate::inside::find_none_inside;
+use crate::plan::Plan;
 use crate::polygon::polygon;
 use crate::round::sector_round;
+use crate::trial::try_commands;
 use lump_records::{Name8, Sector, Vertex};
 use map_commands::Command;
 use map_plane::{PlacedLine, placed_lines};
@@ -23,18 +29,19 @@ pub struct Area {
 fn find_round(
     alloc: Global,
     map: &Map,
+    plan: &Plan,
     lines: &[PlacedLine],
     border: &Border,
 ) -> Result<Option<u16>, AreaError> {
     let doubled = twice(alloc, lines)?;
-    let round = sector_round(map, lines, &doubled, border)?;
+    let round = sector_round(map, plan, lines, &doubled, border)?;
     if round.is_none() {
         find_none_inside(alloc, lines, border)?;
     }
     Ok(round)
 }
 
-// Draws the area, whose border may be drawn, into a draft of the map.
+// Draws the area, whose border may be drawn, into a plan of the map.
 fn draw(
     alloc: Global,
     drawing: &mut Drawing,
@@ -42,14 +49,14 @@ fn draw(
     round: Option<u16>,
     border: &Border,
 ) -> Result<(), AreaError> {
-    let sector = drawing.draft.add_sector(area.sector)?;
+    let sector = drawing.plan.add_sector(area.sector)?;
     drawing.add_vertices(border)?;
     let paint = Paint {
         sector,
         round,
         wall: area.wall,
     };
-    let lines = placed_lines(alloc, &drawing.draft.map)?;
+    let lines = drawing.plan.placed_lines(alloc)?;
     drawing.draw_border(&lines, &paint, border)?;
     if round.is_some() {
         drawing.turn_inside(&lines, &paint, border)?;
@@ -58,13 +65,18 @@ fn draw(
 }
 
 /// The commands that draw the area into the map.
-pub fn area_commands(alloc: Global, map: &Map, area: &Area) -> Result<Vec<Command>, AreaError> {
+pub fn area_commands(alloc: Global, map: &Map, area: &Area) -> Result<Vec<Command>, AreaError>
+    ensures range { IfOk result (λ commands. All InRange commands.items) }
+    ensures taken { IfOk result (λ commands. AreTaken map.now.tables commands.items) }
+{
     let edges = polygon(alloc, &area.corners, true)?;
     let lines = placed_lines(alloc, map)?;
     let border = border_of(alloc, map, &lines, edges)?;
-    let round = find_round(alloc, map, &lines, &border)?;
     let mut drawing = drawing_of(alloc, map)?;
+    let round = find_round(alloc, map, &drawing.plan, &lines, &border)?;
     drawing.cut_lines(alloc, &lines, &border)?;
     draw(alloc, &mut drawing, area, round, &border)?;
-    Ok(drawing.into_commands())
+    let commands = drawing.into_commands();
+    try_commands(alloc, map, &commands)?;
+    Ok(commands)
 }

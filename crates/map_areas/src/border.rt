@@ -1,8 +1,10 @@
 //! The border of a polygon: its edges, and the places at which they are cut.
+use crate::crossing::near_crossing;
 use crate::cuts::{is_between, put_along};
+use crate::drawing::number_of;
 use crate::error::AreaError;
 use lump_records::Vertex;
-use map_plane::{PlacedLine, crosses, is_inside, is_on, is_on_any, near_crossing};
+use map_plane::{PlacedLine, boxes_meet, crosses, is_inside, is_on, is_on_any};
 use map_tables::{Kind, Map};
 use std::alloc::Global;
 
@@ -42,7 +44,7 @@ fn crossing(edge: &PlacedLine, line: &PlacedLine) -> Result<Vertex, AreaError> {
         return Ok(near);
     }
     Err(AreaError::Crossing {
-        line: line.number as u16,
+        line: number_of(line),
         near,
     })
 }
@@ -65,7 +67,7 @@ fn put_crossings(
     edge: &PlacedLine,
 ) -> Result<(), AreaError> {
     for line in lines {
-        if crosses(edge, line) {
+        if boxes_meet(edge, line) && crosses(edge, line) {
             put_along(stops, edge.from, crossing(edge, line)?)?;
         }
     }

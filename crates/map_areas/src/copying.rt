@@ -1,9 +1,16 @@
 //! A copy of a map.
+ghost use Rattle.std.specs.Prelude.{◌≡◌, IfOk, OnOk, [], length};
+ghost use Rattle.map_tables.specs.Edits.{with_name};
+
 use map_tables::{Edit, Item, Kind, Map, MapError, Need};
 use std::alloc::Global;
 
-// Adds the vertices of one map to another one.
-fn copy_vertices(from: &Map, to: &mut Map) -> Result<(), MapError> {
+// Adds the vertices of one map to another one, which has none.
+fn copy_vertices(from: &Map, to: &mut Map) -> Result<(), MapError>
+    requires { to.old.tables.vertices ≡ [] }
+    ensures { OnOk result (to.new.tables
+        ≡ record to.old.tables { vertices = from.now.tables.vertices }) }
+{
     for n in 0..from.count(Kind::Vertex) {
         let vertex = from.vertex(n).unwrap();
         to.edit(Edit::Add(Item::Vertex(vertex)))?;
@@ -12,7 +19,11 @@ fn copy_vertices(from: &Map, to: &mut Map) -> Result<(), MapError> {
 }
 
 // Adds the sectors.
-fn copy_sectors(from: &Map, to: &mut Map) -> Result<(), MapError> {
+fn copy_sectors(from: &Map, to: &mut Map) -> Result<(), MapError>
+    requires { to.old.tables.sectors ≡ [] }
+    ensures { OnOk result (to.new.tables
+        ≡ record to.old.tables { sectors = from.now.tables.sectors }) }
+{
     for n in 0..from.count(Kind::Sector) {
         let sector = from.sector(n).unwrap();
         to.edit(Edit::Add(Item::Sector(sector)))?;
@@ -21,7 +32,11 @@ fn copy_sectors(from: &Map, to: &mut Map) -> Result<(), MapError> {
 }
 
 // Adds the sides.
-fn copy_sides(from: &Map, to: &mut Map) -> Result<(), MapError> {
+fn copy_sides(from: &Map, to: &mut Map) -> Result<(), MapError>
+    requires { to.old.tables.sides ≡ [] }
+    ensures { OnOk result (to.new.tables
+        ≡ record to.old.tables { sides = from.now.tables.sides }) }
+{
     for n in 0..from.count(Kind::Side) {
         let side = from.side(n).unwrap();
         to.edit(Edit::Add(Item::Side(side)))?;
@@ -30,7 +45,11 @@ fn copy_sides(from: &Map, to: &mut Map) -> Result<(), MapError> {
 }
 
 // Adds the lines.
-fn copy_lines(from: &Map, to: &mut Map) -> Result<(), MapError> {
+fn copy_lines(from: &Map, to: &mut Map) -> Result<(), MapError>
+    requires { to.old.tables.lines ≡ [] }
+    ensures { OnOk result (to.new.tables
+        ≡ record to.old.tables { lines = from.now.tables.lines }) }
+{
     for n in 0..from.count(Kind::Line) {
         let line = from.line(n).unwrap();
         to.edit(Edit::Add(Item::Line(line)))?;
@@ -39,7 +58,11 @@ fn copy_lines(from: &Map, to: &mut Map) -> Result<(), MapError> {
 }
 
 // Adds the things.
-fn copy_things(from: &Map, to: &mut Map) -> Result<(), MapError> {
+fn copy_things(from: &Map, to: &mut Map) -> Result<(), MapError>
+    requires { to.old.tables.things ≡ [] }
+    ensures { OnOk result (to.new.tables
+        ≡ record to.old.tables { things = from.now.tables.things }) }
+{
     for n in 0..from.count(Kind::Thing) {
         let thing = from.thing(n).unwrap();
         to.edit(Edit::Add(Item::Thing(thing)))?;
@@ -58,15 +81,29 @@ fn need_of(map: &Map) -> Need {
     }
 }
 
+// Adds the items of one map to another one, which has none.
+fn copy_items(from: &Map, to: &mut Map) -> Result<(), MapError>
+    requires vertices { to.old.tables.vertices ≡ [] }
+    requires sectors { to.old.tables.sectors ≡ [] }
+    requires sides { to.old.tables.sides ≡ [] }
+    requires lines { to.old.tables.lines ≡ [] }
+    requires things { to.old.tables.things ≡ [] }
+    ensures { OnOk result (to.new.tables ≡ with_name from.now.tables to.old.tables.name) }
+{
+    copy_vertices(from, to)?;
+    copy_sectors(from, to)?;
+    copy_sides(from, to)?;
+    copy_lines(from, to)?;
+    copy_things(from, to)
+}
+
 /// A copy of the map.
-pub(crate) fn copy_of(alloc: Global, map: &Map) -> Result<Map, MapError> {
+pub(crate) fn copy_of(alloc: Global, map: &Map) -> Result<Map, MapError>
+    ensures { IfOk result (λ copy. copy.tables ≡ map.now.tables) }
+{
     let mut copy = Map::new(alloc);
     copy.reserve(need_of(map))?;
+    copy_items(map, &mut copy)?;
     copy.set_name(map.name());
-    copy_vertices(map, &mut copy)?;
-    copy_sectors(map, &mut copy)?;
-    copy_sides(map, &mut copy)?;
-    copy_lines(map, &mut copy)?;
-    copy_things(map, &mut copy)?;
     Ok(copy)
 }

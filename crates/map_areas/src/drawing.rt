@@ -1,31 +1,21 @@
 //! Drawing an area.
 use crate::border::Border;
 use crate::cuts::cuts_of;
-use crate::draft::{Draft, draft_of};
 use crate::error::AreaError;
-use crate::round::faced;
+use crate::plan::{Plan, plan_of};
 use crate::uses::Uses;
 use crate::walls::{add_side, add_wall, face, open, open_side, solid_side};
 use lump_records::{Line, NO_SIDE, Name8, Vertex};
 use map_commands::Command;
-use map_plane::{PlacedLine, is_at, vertex_at};
+use map_plane::{PlacedLine, is_at};
 use map_tables::{Map, MapError};
 use std::alloc::Global;
 
-/// What an area is drawn into: a draft, and how often its sides are named.
+/// What an area is drawn into: a plan, and how often its sides are named.
+#[derive(Drop)]
 pub(crate) struct Drawing {
-    pub draft: Draft,
+    pub plan: Plan,
     pub uses: Uses,
-}
-
-// A `drop` of its own, so that a function that owns a drawing frees it by one call.
-impl Drop for Drawing {
-    fn drop(self) {
-        let Drawing {
-            draft: _draft,
-            uses: _uses,
-        } = self;
-    }
 }
 
 /// What is drawn along a border: the new sector, what was there, and the texture of new walls.
@@ -38,15 +28,19 @@ pub(crate) struct Paint {
 
 /// A drawing over the map, as it is.
 pub(crate) fn drawing_of(alloc: Global, map: &Map) -> Result<Drawing, AreaError> {
-    Ok(Drawing {
-        draft: draft_of(alloc, map)?,
-        uses: Uses::of(alloc, map)?,
-    })
+    let plan = plan_of(alloc, map)?;
+    let uses = Uses::of(alloc, &plan)?;
+    Ok(Drawing { plan, uses })
+}
+
+// The number of a line, or one that no line has.
+pub(crate) fn number_of(line: &PlacedLine) -> u16 {
+    u16::try_from(line.number).unwrap_or(u16::MAX)
 }
 
 /// The number of the vertex at the place.
-pub(crate) fn vertex_of(map: &Map, place: Vertex) -> Result<u16, AreaError> {
-    match vertex_at(map, place) {
+pub(crate) fn vertex_of(plan: &Plan, place: Vertex) -> Result<u16, AreaError> {
+    match plan.vertex_at(place) {
         Some(vertex) => Ok(vertex),
         None => Err(AreaError::Refused(MapError::NoVertex)),
     }
@@ -55,26 +49,27 @@ pub(crate) fn vertex_of(map: &Map, place: Vertex) -> Result<u16, AreaError> {
 impl Drawing {
     /// The commands that were drawn.
     pub(crate) fn into_commands(self) -> Vec<Command> {
-        let Drawing { draft, uses: _uses } = self;
-        draft.into_commands()
+        let Drawing { plan, uses: _uses } = self;
+        plan.into_commands()
     }
 
     // Cuts a line at a place between its ends, and answers the number of the part behind the place.
     fn cut(&mut self, number: u16, at: Vertex) -> Result<u16, AreaError> {
-        let line = self.draft.line(number)?;
+        let line = self.plan.line(number)?;
         self.uses.add(line.right);
         self.uses.add(line.left);
-        if !self.draft.map.has_place(at) {
-            return self.draft.split(number, at);
+        match self.plan.vertex_at(at) {
+            Some(vertex) => {
+                self.plan.set_line(number, Line { v2: vertex, ..line })?;
+                self.plan.add_line(Line { v1: vertex, ..line })
+            }
+            None => self.plan.split(number, at),
         }
-        let vertex = vertex_of(&self.draft.map, at)?;
-        self.draft.set_line(number, Line { v2: vertex, ..line })?;
-        self.draft.add_line(Line { v1: vertex, ..line })
     }
 
     // Cuts the line at these places, which lie along it in order.
     fn cut_line(&mut self, line: PlacedLine, cuts: &[Vertex]) -> Result<(), AreaError> {
-        let mut number = line.number as u16;
+        let mut number = number_of(&line);
         for cut in cuts {
             number = self.cut(number, *cut)?;
         }
@@ -98,8 +93,8 @@ impl Drawing {
     /// Adds a vertex at each stop of the border where none is.
     pub(crate) fn add_vertices(&mut self, border: &Border) -> Result<(), AreaError> {
         for stop in &border.stops {
-            if !self.draft.map.has_place(*stop) {
-                self.draft.add_vertex(*stop)?;
+            if self.plan.vertex_at(*stop).is_none() {
+                self.plan.add_vertex(*stop)?;
             }
         }
         Ok(())
@@ -107,20 +102,20 @@ impl Drawing {
 
     // Draws a part of the border where no line is.
     fn draw_part(&mut self, paint: &Paint, from: Vertex, to: Vertex) -> Result<(), AreaError> {
-        let v1 = vertex_of(&self.draft.map, from)?;
-        let v2 = vertex_of(&self.draft.map, to)?;
+        let v1 = vertex_of(&self.plan, from)?;
+        let v2 = vertex_of(&self.plan, to)?;
         match paint.round {
             Some(round) => {
                 let inner = open_side(paint.wall, paint.sector);
-                let right = add_side(&mut self.draft, &mut self.uses, inner)?;
+                let right = add_side(&mut self.plan, &mut self.uses, inner)?;
                 let outer = open_side(paint.wall, round);
-                let left = add_side(&mut self.draft, &mut self.uses, outer)?;
-                add_wall(&mut self.draft, v1, v2, right, left)?;
+                let left = add_side(&mut self.plan, &mut self.uses, outer)?;
+                add_wall(&mut self.plan, v1, v2, right, left)?;
             }
             None => {
                 let inner = solid_side(paint.wall, paint.sector);
-                let right = add_side(&mut self.draft, &mut self.uses, inner)?;
-                add_wall(&mut self.draft, v1, v2, right, NO_SIDE)?;
+                let right = add_side(&mut self.plan, &mut self.uses, inner)?;
+                add_wall(&mut self.plan, v1, v2, right, NO_SIDE)?;
             }
         }
         Ok(())
@@ -138,8 +133,8 @@ impl Drawing {
         for line in lines {
             let runs = is_at(line.from, from) && is_at(line.to, to);
             let returns = is_at(line.from, to) && is_at(line.to, from);
-            if (runs || returns) && faced(&self.draft.map, line.number, runs) == paint.round {
-                return Some((line.number as u16, runs));
+            if (runs || returns) && self.plan.faced(number_of(line), runs) == paint.round {
+                return Some((number_of(line), runs));
             }
         }
         None
@@ -155,9 +150,9 @@ impl Drawing {
     ) -> Result<(), AreaError> {
         match self.find_line(lines, paint, from, to) {
             Some((line, runs)) => match paint.round {
-                Some(_) => face(&mut self.draft, &mut self.uses, line, runs, paint.sector),
+                Some(_) => face(&mut self.plan, &mut self.uses, line, runs, paint.sector),
                 None => open(
-                    &mut self.draft,
+                    &mut self.plan,
                     &mut self.uses,
                     line,
                     paint.wall,
@@ -168,7 +163,7 @@ impl Drawing {
         }
     }
 
-    /// Draws the border. The lines are those of the draft, after the cuts.
+    /// Draws the border. The lines are those of the plan, after the cuts.
     pub(crate) fn draw_border(
         &mut self,
         lines: &[PlacedLine],
@@ -183,14 +178,8 @@ impl Drawing {
 
     // Lets one side of a line face the new sector if it faces the one round the border.
     fn face_if_round(&mut self, paint: &Paint, line: u16, on_right: bool) -> Result<(), AreaError> {
-        if faced(&self.draft.map, u32::from(line), on_right) == paint.round {
-            return face(
-                &mut self.draft,
-                &mut self.uses,
-                line,
-                on_right,
-                paint.sector,
-            );
+        if self.plan.faced(line, on_right) == paint.round {
+            return face(&mut self.plan, &mut self.uses, line, on_right, paint.sector);
         }
         Ok(())
     }
@@ -204,8 +193,8 @@ impl Drawing {
     ) -> Result<(), AreaError> {
         for line in lines {
             if border.holds_middle(line.from, line.to) {
-                self.face_if_round(paint, line.number as u16, true)?;
-                self.face_if_round(paint, line.number as u16, false)?;
+                self.face_if_round(paint, number_of(line), true)?;
+                self.face_if_round(paint, number_of(line), false)?;
             }
         }
         Ok(())

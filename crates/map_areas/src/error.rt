@@ -19,6 +19,8 @@ pub struct Part {
 /// Why an area or a pillar can't be drawn.
 #[derive(Clone, Copy, Debug, PartialEq, Eq, Error)]
 pub enum AreaError {
+    /// A number or a name is out of its range.
+    OutOfRange,
     /// The corners are no simple polygon: at this one another one stands, its edge meets another edge, or there is no area.
     NotAPolygon { corner: Vertex },
     /// An edge crosses the line, but at no whole place. This one is the nearest.
@@ -51,6 +53,7 @@ impl fmt::Display for Part {
 impl fmt::Display for AreaError {
     fn fmt<W: fmt::Write>(&self, f: &mut fmt::Formatter<W>) -> fmt::Result {
         match self {
+            AreaError::OutOfRange => f.write_str("a number or a name is out of its range"),
             AreaError::NotAPolygon { corner } => {
                 write!(f, "no simple polygon at corner ({},{})", corner.x, corner.y)
             }
@@ -105,6 +108,7 @@ impl AreaError {
         ensures { result ≡ code_of self.now }
     {
         match self {
+            AreaError::OutOfRange => 2,
             AreaError::NotAPolygon { .. } => 25,
             AreaError::Crossing { .. } => 26,
             AreaError::SeveralSectors { .. } => 27,

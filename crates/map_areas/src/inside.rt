@@ -1,6 +1,7 @@
 //! Whether lines lie inside a border.
 use crate::border::Border;
 use crate::cuts::cuts_of;
+use crate::drawing::number_of;
 use crate::error::AreaError;
 use lump_records::Vertex;
 use map_plane::PlacedLine;
@@ -28,7 +29,7 @@ pub(crate) fn find_none_inside(
         let cuts = cuts_of(alloc, &border.stops, line)?;
         if holds_a_part(border, line, &cuts) {
             return Err(AreaError::NotEmpty {
-                line: line.number as u16,
+                line: number_of(line),
             });
         }
     }

@@ -4,14 +4,17 @@
 mod area;
 mod border;
 mod copying;
+mod crossing;
 mod cuts;
-mod draft;
 mod drawing;
 mod error;
 mod inside;
 mod pillar;
+mod plan;
 mod polygon;
+mod ranges;
 mod round;
+mod trial;
 mod uses;
 mod walls;
 

@@ -1,7 +1,12 @@
 //! Pillars: polygons with nothing inside.
-use crate::drawing::{Drawing, drawing_of, vertex_of};
+ghost use Rattle.std.specs.Prelude.{All, IfOk};
+ghost use Rattle.map_areas.specs.Drawn.{AreTaken};
+ghost use Rattle.map_commands.specs.Step.{InRange};
+
+use crate::drawing::{Drawing, drawing_of, number_of, vertex_of};
 use crate::error::{AreaError, Part};
 use crate::polygon::polygon;
+use crate::trial::try_commands;
 use crate::walls::{add_side, add_wall, solid_side};
 use lump_records::{NO_SIDE, Name8, Vertex};
 use map_commands::Command;
@@ -71,7 +76,7 @@ fn find_no_line(lines: &[PlacedLine], edges: &[PlacedLine]) -> Result<(), AreaEr
     for line in lines {
         if is_in_the_way(edges, line) {
             return Err(AreaError::NotEmpty {
-                line: line.number as u16,
+                line: number_of(line),
             });
         }
     }
@@ -83,7 +88,9 @@ fn find_no_vertex(map: &Map, edges: &[PlacedLine]) -> Result<(), AreaError> {
     for n in 0..map.count(Kind::Vertex) {
         let vertex = map.vertex(n).unwrap();
         if edges.iter().any(|edge| is_on(edge, vertex)) {
-            return Err(AreaError::OverVertex { vertex: n as u16 });
+            return Err(AreaError::OverVertex {
+                vertex: u16::try_from(n).unwrap_or(u16::MAX),
+            });
         }
     }
     Ok(())
@@ -97,24 +104,23 @@ fn draw(
     sector: u16,
 ) -> Result<(), AreaError> {
     for edge in edges {
-        drawing.draft.add_vertex(edge.from)?;
+        drawing.plan.add_vertex(edge.from)?;
     }
     for edge in edges {
-        let v1 = vertex_of(&drawing.draft.map, edge.from)?;
-        let v2 = vertex_of(&drawing.draft.map, edge.to)?;
+        let v1 = vertex_of(&drawing.plan, edge.from)?;
+        let v2 = vertex_of(&drawing.plan, edge.to)?;
         let side = solid_side(wall, sector);
-        let right = add_side(&mut drawing.draft, &mut drawing.uses, side)?;
-        add_wall(&mut drawing.draft, v1, v2, right, NO_SIDE)?;
+        let right = add_side(&mut drawing.plan, &mut drawing.uses, side)?;
+        add_wall(&mut drawing.plan, v1, v2, right, NO_SIDE)?;
     }
     Ok(())
 }
 
 /// The commands that draw the pillar into the map.
-pub fn pillar_commands(
-    alloc: Global,
-    map: &Map,
-    pillar: &Pillar,
-) -> Result<Vec<Command>, AreaError> {
+pub fn pillar_commands(alloc: Global, map: &Map, pillar: &Pillar) -> Result<Vec<Command>, AreaError>
+    ensures range { IfOk result (λ commands. All InRange commands.items) }
+    ensures taken { IfOk result (λ commands. AreTaken map.now.tables commands.items) }
+{
     let edges = polygon(alloc, &pillar.corners, false)?;
     let lines = placed_lines(alloc, map)?;
     let sector = sector_of(map, &lines, &edges)?;
@@ -122,5 +128,7 @@ pub fn pillar_commands(
     find_no_vertex(map, &edges)?;
     let mut drawing = drawing_of(alloc, map)?;
     draw(&mut drawing, &edges, pillar.wall, sector)?;
-    Ok(drawing.into_commands())
+    let commands = drawing.into_commands();
+    try_commands(alloc, map, &commands)?;
+    Ok(commands)
 }

@@ -1,8 +1,27 @@
 //! The polygon of some corners, its edges clockwise.
 use crate::error::AreaError;
 use lump_records::Vertex;
-use map_plane::{PlacedLine, doubled_area, edges_of, first_clash};
+use map_plane::{PlacedLine, first_clash, polygon_area};
 use std::alloc::Global;
+
+// The edges between neighbouring corners, and from the last corner to the first.
+fn edges_of(alloc: Global, corners: &[Vertex]) -> Result<Vec<PlacedLine>, AreaError> {
+    let mut edges = Vec::new(alloc);
+    let mut number = 0u32;
+    for from in corners {
+        let to = corners
+            .get((number as usize).saturating_add(1))
+            .or(corners.first());
+        edges.push(PlacedLine {
+            number,
+            from: *from,
+            to: *to.unwrap_or(from),
+            is_wall: false,
+        })?;
+        number = number.saturating_add(1);
+    }
+    Ok(edges)
+}
 
 // The corners in the opposite order.
 fn turned(alloc: Global, corners: &[Vertex]) -> Result<Vec<Vertex>, AreaError> {
@@ -11,7 +30,7 @@ fn turned(alloc: Global, corners: &[Vertex]) -> Result<Vec<Vertex>, AreaError> {
     Ok(turned)
 }
 
-/// The edges of a simple polygon in their own order, and whether that is clockwise: then the inside is on their right.
+// The edges of a simple polygon in their own order, and whether that is clockwise: then the inside is on their right.
 fn edges_if_simple(
     alloc: Global,
     corners: &[Vertex],
@@ -20,7 +39,7 @@ fn edges_if_simple(
     if let Some(edge) = first_clash(&edges) {
         return Err(AreaError::NotAPolygon { corner: edge.from });
     }
-    let area = doubled_area(&edges);
+    let area = polygon_area(&edges);
     if edges.len() < 3 || area == 0 {
         let corner = corners.first().copied().unwrap_or(Vertex { x: 0, y: 0 });
         return Err(AreaError::NotAPolygon { corner });
@@ -39,5 +58,5 @@ pub(crate) fn polygon(
         return Ok(edges);
     }
     let turned = turned(alloc, corners)?;
-    Ok(edges_of(alloc, &turned)?)
+    edges_of(alloc, &turned)
 }

@@ -1,6 +1,6 @@
 //! How many lines use each side of a map.
 use crate::error::AreaError;
-use map_tables::{Kind, Map};
+use crate::plan::Plan;
 use std::alloc::Global;
 
 /// For each side, how often a line names it.
@@ -10,12 +10,11 @@ pub(crate) struct Uses {
 }
 
 impl Uses {
-    /// How often the lines of the map name each side.
-    pub(crate) fn of(alloc: Global, map: &Map) -> Result<Uses, AreaError> {
-        let counts = vec![in alloc; 0u32; map.count(Kind::Side) as usize]?;
+    /// How often the lines of the plan name each side.
+    pub(crate) fn of(alloc: Global, plan: &Plan) -> Result<Uses, AreaError> {
+        let counts = vec![in alloc; 0u32; plan.sides.len()]?;
         let mut uses = Uses { counts };
-        for n in 0..map.count(Kind::Line) {
-            let line = map.line(n).unwrap();
+        for line in &plan.lines {
             uses.add(line.right);
             uses.add(line.left);
         }

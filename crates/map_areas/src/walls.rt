@@ -1,6 +1,6 @@
 //! The lines of a border: new ones, and those that are there.
-use crate::draft::Draft;
 use crate::error::AreaError;
+use crate::plan::Plan;
 use crate::uses::Uses;
 use lump_records::{Line, NO_SIDE, Name8, Side};
 
@@ -62,42 +62,42 @@ fn opened_flags(flags: u16) -> u16 {
 }
 
 /// Adds a side that one line will have.
-pub(crate) fn add_side(draft: &mut Draft, uses: &mut Uses, side: Side) -> Result<u16, AreaError> {
-    let number = draft.add_side(side)?;
+pub(crate) fn add_side(plan: &mut Plan, uses: &mut Uses, side: Side) -> Result<u16, AreaError> {
+    let number = plan.add_side(side)?;
     uses.push()?;
     Ok(number)
 }
 
 // Changes a side for one line alone, and answers the side's number: a new one if another line has it too.
 fn change_side(
-    draft: &mut Draft,
+    plan: &mut Plan,
     uses: &mut Uses,
     number: u16,
     side: Side,
 ) -> Result<u16, AreaError> {
     if uses.are_several(number) {
         uses.take(number);
-        return add_side(draft, uses, side);
+        return add_side(plan, uses, side);
     }
-    draft.set_side(number, side)?;
+    plan.set_side(number, side)?;
     Ok(number)
 }
 
 /// Lets one side of a line face another sector.
 pub(crate) fn face(
-    draft: &mut Draft,
+    plan: &mut Plan,
     uses: &mut Uses,
     number: u16,
     on_right: bool,
     sector: u16,
 ) -> Result<(), AreaError> {
-    let line = draft.line(number)?;
+    let line = plan.line(number)?;
     let old = if on_right { line.right } else { line.left };
     let side = Side {
         sector,
-        ..draft.side(old)?
+        ..plan.side(old)?
     };
-    let new = change_side(draft, uses, old, side)?;
+    let new = change_side(plan, uses, old, side)?;
     if new == old {
         return Ok(());
     }
@@ -106,39 +106,39 @@ pub(crate) fn face(
     } else {
         Line { left: new, ..line }
     };
-    draft.set_line(number, line)
+    plan.set_line(number, line)
 }
 
 /// Gives a line without a left side one that faces the sector: the line becomes two-sided.
 pub(crate) fn open(
-    draft: &mut Draft,
+    plan: &mut Plan,
     uses: &mut Uses,
     number: u16,
     wall: Name8,
     sector: u16,
 ) -> Result<(), AreaError> {
-    let line = draft.line(number)?;
-    let side = opened(&draft.side(line.right)?);
-    let right = change_side(draft, uses, line.right, side)?;
-    let left = add_side(draft, uses, open_side(wall, sector))?;
+    let line = plan.line(number)?;
+    let side = opened(&plan.side(line.right)?);
+    let right = change_side(plan, uses, line.right, side)?;
+    let left = add_side(plan, uses, open_side(wall, sector))?;
     let line = Line {
         flags: opened_flags(line.flags),
         right,
         left,
         ..line
     };
-    draft.set_line(number, line)
+    plan.set_line(number, line)
 }
 
 /// Adds a line between two vertices with these sides, of which the left one may be missing.
 pub(crate) fn add_wall(
-    draft: &mut Draft,
+    plan: &mut Plan,
     v1: u16,
     v2: u16,
     right: u16,
     left: u16,
 ) -> Result<u16, AreaError> {
-    draft.add_line(Line {
+    plan.add_line(Line {
         v1,
         v2,
         flags: if left == NO_SIDE { 1 } else { 4 },

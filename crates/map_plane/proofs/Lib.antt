@@ -3,3 +3,4 @@ pub mod Means
 pub mod CrossingPoints
 pub mod Crossings
 pub mod LineReads
+pub mod NearestSteps

@@ -30,11 +30,19 @@ gap l p = unsigned_abs (side_value_at l p)
 unfoldable pub is_behind : PlacedLine → Vertex → Bool
 is_behind l p = int_eq (side_value_at l p) (pos 0) && int_lt (pos 0) (lean l)
 
+-- a place, or what is just above it, is on the left of a line that goes up past it
+unfoldable pub is_left : PlacedLine → Vertex → Bool
+is_left l p = int_lt (side_value_at l p) (pos 0) || is_behind l p
+
+-- a place, or what is just above it, is on the right of a line that goes down past it
+unfoldable pub is_right : PlacedLine → Vertex → Bool
+is_right l p = int_lt (pos 0) (side_value_at l p) || is_behind l p
+
 -- a line crosses a place's row, from its lower end up to its upper end, which doesn't count, and the place, or what is
 -- just above it, lies to the west of it
 unfoldable pub is_east : PlacedLine → Vertex → Bool
-is_east l p = (climbs_past l p.y && (int_lt (side_value_at l p) (pos 0) || is_behind l p))
-    || (comes_down p.y l.from.y l.to.y && (int_lt (pos 0) (side_value_at l p) || is_behind l p))
+is_east l p =
+    if climbs_past l p.y then is_left l p else comes_down p.y l.from.y l.to.y && is_right l p
 
 -- from one point of a row on, line l goes less to the east than line k
 unfoldable pub leans_less : PlacedLine → PlacedLine → Bool

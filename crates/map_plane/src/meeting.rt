@@ -1,5 +1,5 @@
 //! Whether two lines have a point in common that isn't an end of both.
-ghost use Rattle.std.specs.Prelude.{◌≡◌};
+ghost use Rattle.std.specs.Prelude.{◌≡◌, ◌&&◌, ◌^◌, ◌≤ℤ◌, pos, neg_ℤ};
 ghost use Rattle.map_plane.specs.Meeting.{is_under, spans_meet, boxes_meet, side_value_at, is_on, is_at, ends_at, abuts, has_on_both_sides, doubles, share, meets};
 
 use crate::places::PlacedLine;
@@ -21,9 +21,9 @@ pub fn spans_meet(a: i16, b: i16, c: i16, d: i16) -> bool
     is_under(a, b, c, d) && is_under(c, d, a, b)
 }
 
-// Whether the boxes of the lines have a point in common.
+/// Whether the boxes of the lines have a point in common.
 #[tactic(auto, unfolding(crate::specs::Meeting::boxes_meet))]
-fn boxes_meet(l: &PlacedLine, k: &PlacedLine) -> bool
+pub fn boxes_meet(l: &PlacedLine, k: &PlacedLine) -> bool
     ensures { result ≡ boxes_meet l.now k.now }
 {
     spans_meet(l.from.x, l.to.x, k.from.x, k.to.x) && spans_meet(l.from.y, l.to.y, k.from.y, k.to.y)
@@ -31,8 +31,10 @@ fn boxes_meet(l: &PlacedLine, k: &PlacedLine) -> bool
 
 /// How far the place lies to the right of the line, times the line's length.
 #[tactic(auto, unfolding(crate::specs::Meeting::side_value_at))]
-pub(crate) fn side_of(line: &PlacedLine, place: Vertex) -> i64
-    ensures { result ≡ side_value_at line.now place }
+pub fn side_of(line: &PlacedLine, place: Vertex) -> i64
+    ensures value { result ≡ side_value_at line.now place }
+    ensures low { neg_ℤ (pos (2 ^ 48)) ≤ℤ result }
+    ensures high { result ≤ℤ pos (2 ^ 48) }
 {
     Ray::between(line.from, line.to).side_value(place.into())
 }
@@ -71,9 +73,9 @@ fn abuts(k: &PlacedLine, l: &PlacedLine) -> bool
     is_on(l, k.from) && !ends_at(l, k.from) || is_on(l, k.to) && !ends_at(l, k.to)
 }
 
-/// Whether the ends of line k lie on both sides of line l's straight line.
+// Whether the ends of line k lie on both sides of line l's straight line.
 #[tactic(auto, unfolding(crate::specs::Meeting::has_on_both_sides))]
-pub fn has_on_both_sides(l: &PlacedLine, k: &PlacedLine) -> bool
+fn has_on_both_sides(l: &PlacedLine, k: &PlacedLine) -> bool
     ensures { result ≡ has_on_both_sides l.now k.now }
 {
     let from = side_of(l, k.from);
@@ -108,4 +110,11 @@ pub fn meets(l: &PlacedLine, k: &PlacedLine) -> bool
     ensures { result ≡ meets l.now k.now }
 {
     l.number != k.number && boxes_meet(l, k) && share(l, k)
+}
+
+/// Whether each of the lines has its ends on both sides of the other.
+pub fn crosses(l: &PlacedLine, k: &PlacedLine) -> bool
+    ensures { result ≡ (has_on_both_sides l.now k.now && has_on_both_sides k.now l.now) }
+{
+    has_on_both_sides(l, k) && has_on_both_sides(k, l)
 }

@@ -1,32 +1,14 @@
 //! Polygons: their edges as lines, in order; each edge begins at the corner that has its number.
-ghost use Rattle.std.specs.Prelude.{◌≡◌, ◌≤◌, Option, count_by, IfOk, IsTrue};
+ghost use Rattle.std.specs.Prelude.{◌≡◌, count_by, IfNone, IfSome, false, true};
 ghost use Rattle.std.specs.List.{list_any};
-ghost use Rattle.map_plane.specs.Meeting.{is_on, meets};
+ghost use Rattle.map_plane.specs.Meeting.{is_on};
 ghost use Rattle.map_plane.specs.Nearest.{is_east};
-ghost use Rattle.map_plane.specs.Polygon.{clashes, corner_edges, is_on_border, is_inside, polygon_area};
+ghost use Rattle.map_plane.specs.Polygon.{clashes, has_clash, is_inside, polygon_area};
 
+use crate::east::is_east;
 use crate::meeting::{is_at, is_on, meets, side_of};
-use crate::nearest::is_east;
 use crate::places::PlacedLine;
 use lump_records::Vertex;
-use std::alloc::{AllocError, Global};
-
-/// The edges between neighbouring corners, and from the last corner to the first.
-pub fn edges_of(alloc: Global, corners: &[Vertex]) -> Result<Vec<PlacedLine>, AllocError> {
-    let mut edges = Vec::new(alloc);
-    let mut number = 0u32;
-    for from in corners {
-        let to = corners.get(number as usize + 1).or(corners.first());
-        edges.push(PlacedLine {
-            number,
-            from: *from,
-            to: *to.unwrap_or(from),
-            is_wall: false,
-        })?;
-        number = number.saturating_add(1);
-    }
-    Ok(edges)
-}
 
 // Whether two edges have a corner in common that isn't where one ends and the other begins, or another point.
 #[tactic(auto, unfolding(crate::specs::Polygon::clashes))]
@@ -37,16 +19,19 @@ fn clashes(e: &PlacedLine, k: &PlacedLine) -> bool
 }
 
 // Whether the edge clashes with another one.
-fn clashes_with_any(edges: &[PlacedLine], edge: &PlacedLine) -> bool
-    ensures { result ≡ list_any (clashes edge.now) edges.now }
+fn has_clash(edges: &[PlacedLine], edge: &PlacedLine) -> bool
+    ensures { result ≡ has_clash edges.now edge.now }
 {
     edges.iter().any(|other| clashes(edge, other))
 }
 
 /// The first edge that begins where another one does, or has a point in common with another one that isn't an end of both.
-pub fn first_clash(edges: &[PlacedLine]) -> Option<PlacedLine> {
+pub fn first_clash(edges: &[PlacedLine]) -> Option<PlacedLine>
+    ensures none { IfNone result (list_any (has_clash edges.now) edges.now ≡ false) }
+    ensures some { IfSome result (λ e. has_clash edges.now e ≡ true) }
+{
     for edge in edges {
-        if clashes_with_any(edges, edge) {
+        if has_clash(edges, edge) {
             return Some(*edge);
         }
     }
@@ -54,7 +39,9 @@ pub fn first_clash(edges: &[PlacedLine]) -> Option<PlacedLine> {
 }
 
 /// Twice the area of the polygon: above 0 if its edges run clockwise, so that the inside is on their right.
-pub fn doubled_area(edges: &[PlacedLine]) -> i128 {
+pub fn polygon_area(edges: &[PlacedLine]) -> i128
+    ensures { result ≡ polygon_area edges.now }
+{
     let mut area = 0i128;
     for edge in edges {
         area += i128::from(side_of(edge, Vertex { x: 0, y: 0 }));
@@ -62,9 +49,18 @@ pub fn doubled_area(edges: &[PlacedLine]) -> i128 {
     area
 }
 
-/// Whether the place is inside the polygon: of its edges, an odd number is to the east. It isn't on an edge.
-pub fn is_inside(edges: &[PlacedLine], place: Vertex) -> bool {
-    edges.iter().filter(|edge| is_east(edge, place)).count() % 2 == 1
+// How many edges are to the east of the place.
+fn count_east(edges: &[PlacedLine], place: Vertex) -> usize
+    ensures { result ≡ count_by (λ e. is_east e place) edges.now }
+{
+    edges.iter().filter(|edge| is_east(edge, place)).count()
+}
+
+/// Whether the place is inside the polygon: of its edges, an odd number is to the east. For a place on no edge.
+pub fn is_inside(edges: &[PlacedLine], place: Vertex) -> bool
+    ensures { result ≡ is_inside edges.now place }
+{
+    count_east(edges, place) % 2 == 1
 }
 
 /// Whether the place is on an edge.

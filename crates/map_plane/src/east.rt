@@ -1,7 +1,7 @@
 //! The line that is nearest to the east of a place, and the sector that it shows the place.
 ghost use Rattle.std.specs.Prelude.{◌≡◌, ◌≤◌, ◌*◌, ◌^◌, ◌≤ℤ◌, ◌*ℤ◌, pos, neg_ℤ, Option, fold, unsigned_abs};
 ghost use Rattle.map_plane.specs.Meeting.{side_value_at};
-ghost use Rattle.map_plane.specs.Nearest.{climbs_past, gap, height, is_east, is_nearer, lean, leans_less, nearer_of, nearest, sector_of_place, sector_shown, side_shown};
+ghost use Rattle.map_plane.specs.Nearest.{climbs_past, gap, height, is_behind, is_east, is_left, is_nearer, is_right, lean, leans_less, nearer_of, nearest, sector_of_place, sector_shown, side_shown};
 ghost use Rattle.map_plane.specs.Places.{placed_lines};
 
 use crate::meeting::side_of;
@@ -25,11 +25,10 @@ fn lean(line: &PlacedLine) -> i64
     ensures low { neg_ℤ (pos 65535) ≤ℤ result }
     ensures high { result ≤ℤ pos 65535 }
 {
-    let across = i64::from(line.to.x) - i64::from(line.from.x);
     if line.from.y < line.to.y {
-        across
+        i64::from(line.to.x) - i64::from(line.from.x)
     } else {
-        -across
+        i64::from(line.from.x) - i64::from(line.to.x)
     }
 }
 
@@ -60,16 +59,44 @@ fn scaled(gap: u64, height: u64) -> u64
     gap * height
 }
 
+// Whether the place lies on the line's straight line, which leans to the east.
+#[tactic(auto, unfolding(crate::specs::Nearest::is_behind))]
+fn is_behind(line: &PlacedLine, place: Vertex) -> bool
+    ensures { result ≡ is_behind line.now place }
+{
+    let side = side_of(line, place);
+    side == 0 && 0 < lean(line)
+}
+
+// Whether the place is on the left of the line, which goes up past it, or just above it is.
+#[tactic(auto, unfolding(crate::specs::Nearest::is_left))]
+fn is_left(line: &PlacedLine, place: Vertex) -> bool
+    ensures { result ≡ is_left line.now place }
+{
+    let side = side_of(line, place);
+    side < 0 || is_behind(line, place)
+}
+
+// Whether the place is on the right of the line, which goes down past it, or just above it is.
+#[tactic(auto, unfolding(crate::specs::Nearest::is_right))]
+fn is_right(line: &PlacedLine, place: Vertex) -> bool
+    ensures { result ≡ is_right line.now place }
+{
+    let side = side_of(line, place);
+    0 < side || is_behind(line, place)
+}
+
 /// Whether the line crosses the place's row and lies to the east of the place, or of what is just above it. The lower end
 /// of a line counts, its upper end doesn't.
 #[tactic(auto, unfolding(crate::specs::Nearest::is_east))]
 pub fn is_east(line: &PlacedLine, place: Vertex) -> bool
     ensures { result ≡ is_east line.now place }
 {
-    let side = side_of(line, place);
-    let is_behind = side == 0 && 0 < lean(line);
-    climbs_past(line, place.y) && (side < 0 || is_behind)
-        || comes_down(place.y, line.from.y, line.to.y) && (0 < side || is_behind)
+    if climbs_past(line, place.y) {
+        is_left(line, place)
+    } else {
+        comes_down(place.y, line.from.y, line.to.y) && is_right(line, place)
+    }
 }
 
 // Whether line l goes less to the east than line k, from the same point of the row on.
