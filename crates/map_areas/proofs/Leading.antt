@@ -1,7 +1,8 @@
 -- Commands in turn: one more command, and the outcome of an edit.
-use Rattle.std.proofs.Common.{◌≡◌, ℕ, zero, suc, ◌+◌, ◌<◌, Bool, true, false, ◌||◌, List, [], ◌∷◌, ◌++◌, length, get_or, set, nat_lt, Option, Some, refl, sym, ap, ◌∙◌, subst, arith}
+use Rattle.std.proofs.Common.{◌≡◌, ℕ, zero, suc, ◌+◌, ◌<◌, Bool, true, false, ◌||◌, List, [], ◌∷◌, ◌++◌, length, get_or, set, take, nat_lt, ◌≤◌, Option, Some, refl, sym, ap, ◌∙◌, subst, arith}
 use Rattle.std.specs.Prelude.{None, Result, Ok, Err}
 use Rattle.std.proofs.Math.ListN.{length-set}
+use Rattle.std.proofs.lemmas.List.{take_more, take_all}
 use Rattle.lump_records.specs.Limits.{item_limit}
 use Rattle.lump_records.specs.declared.records.Line.{Line}
 use Rattle.lump_records.specs.declared.records.Vertex.{Vertex}
@@ -13,7 +14,7 @@ use Rattle.map_commands.specs.Step.{InRange, after, faults}
 use Rattle.map_commands.specs.Splits.{split_faults, with_split, cut_short, cut_off, line_or_some}
 use Rattle.map_commands.specs.declared.command.Command.{Command}
 use Rattle.map_commands.specs.declared.command.LineSplit.{LineSplit}
-use Rattle.map_areas.specs.Drawn.{Takes, LeadTo}
+use Rattle.map_areas.specs.Drawn.{TakesCommand, LeadTo}
 
 -- an edit that is made is accepted, and leaves its map
 pub unless-ok : {S X : Type 0} (o : Option ℕ) (s t : S) (x y : X) → unless o s x ≡ Ok (t, y) → (o ≡ None) × (t ≡ s)
@@ -21,7 +22,7 @@ unless-ok None s t x y e = (refl, cc)
 unless-ok (Some code) s t x y e = cc
 
 -- one more command that is accepted
-pub LeadTo-more : (old : Tables) (cs : List Command) (mid : Tables) (c : Command) (new : Tables) → LeadTo old cs mid → Takes mid c new → LeadTo old (cs ++ c ∷ []) new
+pub LeadTo-more : (old : Tables) (cs : List Command) (mid : Tables) (c : Command) (new : Tables) → LeadTo old cs mid → TakesCommand mid c new → LeadTo old (cs ++ c ∷ []) new
 LeadTo-more old [] mid c new h t =
     subst (λ (m : Tables). InRange c × (least (faults m c) ≡ None) × (new ≡ after m c)) h (t.range, t.accepted, t.left)
 LeadTo-more old (d ∷ ds) mid c new h t = (h.0, h.1, LeadTo-more (after old d) ds mid c new h.2 t)
@@ -80,3 +81,14 @@ pub split_left : (m : Tables) (s : LineSplit) (short rest : Line) (t1 t2 t3 : Ta
 split_left m s short rest t1 t2 t3 h1 h2 h3 e1 e2 =
     h3 ∙ ap (λ (t : Tables). with_line t rest) (h2 ∙ ap (λ (t : Tables). with_line_at t s.line short) h1)
     ∙ (λ i. with_line (with_line_at (with_vertex m s.at) s.line (e1 i)) (e2 i))
+
+-- one more command of a list
+pub LeadTo-step : (old : Tables) (cs : List Command) (i : ℕ) (mid : Tables) (c : Command) (new : Tables) → i < length cs → c ≡ get_or cs i c
+    → LeadTo old (take i cs) mid → TakesCommand mid c new → LeadTo old (take (i + 1) cs) new
+LeadTo-step old cs i mid c new lt is h t =
+    subst (λ (ds : List Command). LeadTo old ds new)
+    (ap (λ (d : Command). take i cs ++ d ∷ []) is ∙ sym (take_more cs i c lt)) (LeadTo-more old (take i cs) mid c new h t)
+
+-- all commands of a list
+pub LeadTo-all : (old : Tables) (cs : List Command) (n : ℕ) (new : Tables) → length cs ≤ n → LeadTo old (take n cs) new → LeadTo old cs new
+LeadTo-all old cs n new le h = subst (λ (ds : List Command). LeadTo old ds new) (take_all n cs le) h

@@ -6,7 +6,7 @@ use Rattle.map_commands.specs.Step.{InRange, after, faults}
 use Rattle.map_commands.specs.declared.command.Command.{Command}
 
 -- the map accepts the command, which leaves another one
-pub record Takes (old : Tables) (c : Command) (new : Tables) : Type 0 where
+pub record TakesCommand (old : Tables) (c : Command) (new : Tables) : Type 0 where
   pub range : InRange c
   pub accepted : least (faults old c) ≡ None
   pub left : new ≡ after old c

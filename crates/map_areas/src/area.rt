@@ -25,7 +25,8 @@ pub struct Area {
     pub wall: Name8,
 }
 
-// What is round the border of the area. Refused if that isn't one sector or the void, or if a line lies inside in the void.
+// What is round the border of the area. Refused if that isn't one sector or the void, or, in the void, if a line lies
+// inside.
 fn find_round(
     alloc: Global,
     map: &Map,

@@ -21,7 +21,8 @@ pub struct Part {
 pub enum AreaError {
     /// A number or a name is out of its range.
     OutOfRange,
-    /// The corners are no simple polygon: at this one another one stands, its edge meets another edge, or there is no area.
+    /// The corners are no simple polygon: at this one another one stands, its edge meets another edge, or there is no
+    /// area.
     NotAPolygon { corner: Vertex },
     /// An edge crosses the line, but at no whole place. This one is the nearest.
     Crossing { line: u16, near: Vertex },

@@ -1,6 +1,6 @@
 //! The trial of commands over a copy of a map: none of them comes out unless each is accepted.
 ghost use Rattle.std.specs.Prelude.{◌≡◌, All, OnOk};
-ghost use Rattle.map_areas.specs.Drawn.{AreTaken, Takes};
+ghost use Rattle.map_areas.specs.Drawn.{AreTaken, TakesCommand};
 ghost use Rattle.map_commands.specs.Step.{InRange};
 ghost use Rattle.map_commands.specs.declared.command.Command.TheVariants as command;
 
@@ -14,7 +14,7 @@ use std::alloc::Global;
 
 // Makes an edit of one item.
 fn try_edit(map: &mut Map, edit: &Edit) -> Result<(), AreaError>
-    ensures { OnOk result (Takes map.old.tables (command.Edit edit.now) map.new.tables) }
+    ensures { OnOk result (TakesCommand map.old.tables (command.Edit edit.now) map.new.tables) }
 {
     if !is_edit(edit) {
         return Err(AreaError::OutOfRange);
@@ -25,7 +25,7 @@ fn try_edit(map: &mut Map, edit: &Edit) -> Result<(), AreaError>
 
 // Cuts a line in two.
 fn try_split(map: &mut Map, split: &LineSplit) -> Result<(), AreaError>
-    ensures { OnOk result (Takes map.old.tables (command.Split split.now) map.new.tables) }
+    ensures { OnOk result (TakesCommand map.old.tables (command.Split split.now) map.new.tables) }
 {
     if !is_split(split.line, split.at) {
         return Err(AreaError::OutOfRange);
@@ -47,7 +47,7 @@ fn try_split(map: &mut Map, split: &LineSplit) -> Result<(), AreaError>
 
 // Makes what a command says of the map. No area gives it a name or draws a room.
 fn try_command(map: &mut Map, command: &Command) -> Result<(), AreaError>
-    ensures { OnOk result (Takes map.old.tables command.now map.new.tables) }
+    ensures { OnOk result (TakesCommand map.old.tables command.now map.new.tables) }
 {
     match command {
         Command::Edit(edit) => try_edit(map, edit),

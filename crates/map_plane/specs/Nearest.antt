@@ -19,8 +19,8 @@ unfoldable pub lean : PlacedLine → ℤ
 lean l = if int_lt l.from.y l.to.y then l.to.x -ℤ l.from.x else l.from.x -ℤ l.to.x
 
 -- how many rows the ends of a line are apart
-unfoldable pub height : PlacedLine → ℕ
-height l = unsigned_abs (l.to.y -ℤ l.from.y)
+unfoldable pub row_count : PlacedLine → ℕ
+row_count l = unsigned_abs (l.to.y -ℤ l.from.y)
 
 -- how far a place is from a line along its row, times the line's height
 unfoldable pub gap : PlacedLine → Vertex → ℕ
@@ -31,27 +31,27 @@ unfoldable pub is_behind : PlacedLine → Vertex → Bool
 is_behind l p = int_eq (side_value_at l p) (pos 0) && int_lt (pos 0) (lean l)
 
 -- a place, or what is just above it, is on the left of a line that goes up past it
-unfoldable pub is_left : PlacedLine → Vertex → Bool
-is_left l p = int_lt (side_value_at l p) (pos 0) || is_behind l p
+unfoldable pub lies_left : PlacedLine → Vertex → Bool
+lies_left l p = int_lt (side_value_at l p) (pos 0) || is_behind l p
 
 -- a place, or what is just above it, is on the right of a line that goes down past it
-unfoldable pub is_right : PlacedLine → Vertex → Bool
-is_right l p = int_lt (pos 0) (side_value_at l p) || is_behind l p
+unfoldable pub lies_right : PlacedLine → Vertex → Bool
+lies_right l p = int_lt (pos 0) (side_value_at l p) || is_behind l p
 
 -- a line crosses a place's row, from its lower end up to its upper end, which doesn't count, and the place, or what is
 -- just above it, lies to the west of it
 unfoldable pub is_east : PlacedLine → Vertex → Bool
 is_east l p =
-    if climbs_past l p.y then is_left l p else comes_down p.y l.from.y l.to.y && is_right l p
+    if climbs_past l p.y then lies_left l p else comes_down p.y l.from.y l.to.y && lies_right l p
 
 -- from one point of a row on, line l goes less to the east than line k
 unfoldable pub leans_less : PlacedLine → PlacedLine → Bool
-leans_less l k = int_lt (lean l *ℤ pos (height k)) (lean k *ℤ pos (height l))
+leans_less l k = int_lt (lean l *ℤ pos (row_count k)) (lean k *ℤ pos (row_count l))
 
 -- of two lines to the east of a place, l is nearer than k: on the place's row, or just above it
 unfoldable pub is_nearer : Vertex → PlacedLine → PlacedLine → Bool
-is_nearer p l k = nat_lt (gap l p * height k) (gap k p * height l)
-    || ((gap l p * height k == gap k p * height l) && leans_less l k)
+is_nearer p l k = nat_lt (gap l p * row_count k) (gap k p * row_count l)
+    || ((gap l p * row_count k == gap k p * row_count l) && leans_less l k)
 
 -- the nearer to a place of a line to its east, if there is one, and another one, if it is to the east too
 unfoldable pub nearer_of : Vertex → Option PlacedLine → PlacedLine → Option PlacedLine

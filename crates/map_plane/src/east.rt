@@ -1,7 +1,8 @@
 //! The line that is nearest to the east of a place, and the sector that it shows the place.
 ghost use Rattle.std.specs.Prelude.{◌≡◌, ◌≤◌, ◌*◌, ◌^◌, ◌≤ℤ◌, ◌*ℤ◌, pos, neg_ℤ, Option, fold, unsigned_abs};
+ghost use Rattle.std.specs.Option.{option_and_then};
 ghost use Rattle.map_plane.specs.Meeting.{side_value_at};
-ghost use Rattle.map_plane.specs.Nearest.{climbs_past, gap, height, is_behind, is_east, is_left, is_nearer, is_right, lean, leans_less, nearer_of, nearest, sector_of_place, sector_shown, side_shown};
+ghost use Rattle.map_plane.specs.Nearest.{climbs_past, gap, row_count, is_behind, is_east, lies_left, is_nearer, lies_right, lean, leans_less, nearer_of, nearest, sector_of_place, sector_shown, side_shown};
 ghost use Rattle.map_plane.specs.Places.{placed_lines};
 
 use crate::meeting::side_of;
@@ -33,9 +34,9 @@ fn lean(line: &PlacedLine) -> i64
 }
 
 // How many rows the ends of the line are apart.
-#[tactic(auto, unfolding(crate::specs::Nearest::height))]
-fn height(line: &PlacedLine) -> u64
-    ensures value { result ≡ height line.now }
+#[tactic(auto, unfolding(crate::specs::Nearest::row_count))]
+fn row_count(line: &PlacedLine) -> u64
+    ensures value { result ≡ row_count line.now }
     ensures high { result ≤ 65535 }
 {
     (i64::from(line.to.y) - i64::from(line.from.y)).unsigned_abs()
@@ -69,33 +70,33 @@ fn is_behind(line: &PlacedLine, place: Vertex) -> bool
 }
 
 // Whether the place is on the left of the line, which goes up past it, or just above it is.
-#[tactic(auto, unfolding(crate::specs::Nearest::is_left))]
-fn is_left(line: &PlacedLine, place: Vertex) -> bool
-    ensures { result ≡ is_left line.now place }
+#[tactic(auto, unfolding(crate::specs::Nearest::lies_left))]
+fn lies_left(line: &PlacedLine, place: Vertex) -> bool
+    ensures { result ≡ lies_left line.now place }
 {
     let side = side_of(line, place);
     side < 0 || is_behind(line, place)
 }
 
 // Whether the place is on the right of the line, which goes down past it, or just above it is.
-#[tactic(auto, unfolding(crate::specs::Nearest::is_right))]
-fn is_right(line: &PlacedLine, place: Vertex) -> bool
-    ensures { result ≡ is_right line.now place }
+#[tactic(auto, unfolding(crate::specs::Nearest::lies_right))]
+fn lies_right(line: &PlacedLine, place: Vertex) -> bool
+    ensures { result ≡ lies_right line.now place }
 {
     let side = side_of(line, place);
     0 < side || is_behind(line, place)
 }
 
-/// Whether the line crosses the place's row and lies to the east of the place, or of what is just above it. The lower end
-/// of a line counts, its upper end doesn't.
+/// Whether the line crosses the place's row and lies to the east of the place, or of what is just above it. The lower
+/// end of a line counts, its upper end doesn't.
 #[tactic(auto, unfolding(crate::specs::Nearest::is_east))]
 pub fn is_east(line: &PlacedLine, place: Vertex) -> bool
     ensures { result ≡ is_east line.now place }
 {
     if climbs_past(line, place.y) {
-        is_left(line, place)
+        lies_left(line, place)
     } else {
-        comes_down(place.y, line.from.y, line.to.y) && is_right(line, place)
+        comes_down(place.y, line.from.y, line.to.y) && lies_right(line, place)
     }
 }
 
@@ -104,7 +105,7 @@ pub fn is_east(line: &PlacedLine, place: Vertex) -> bool
 fn leans_less(l: &PlacedLine, k: &PlacedLine) -> bool
     ensures { result ≡ leans_less l.now k.now }
 {
-    product(lean(l), height(k) as i64) < product(lean(k), height(l) as i64)
+    product(lean(l), row_count(k) as i64) < product(lean(k), row_count(l) as i64)
 }
 
 // Whether line l is nearer to the place than line k: both are to the east of it.
@@ -112,8 +113,8 @@ fn leans_less(l: &PlacedLine, k: &PlacedLine) -> bool
 fn is_nearer(place: Vertex, l: &PlacedLine, k: &PlacedLine) -> bool
     ensures { result ≡ is_nearer place l.now k.now }
 {
-    let first = scaled(gap(l, place), height(k));
-    let second = scaled(gap(k, place), height(l));
+    let first = scaled(gap(l, place), row_count(k));
+    let second = scaled(gap(k, place), row_count(l));
     first < second || first == second && leans_less(l, k)
 }
 
@@ -162,6 +163,16 @@ pub fn sector_shown(map: &Map, line: &PlacedLine, place: Vertex) -> Option<u16>
     Some(map.side(u32::from(side))?.sector)
 }
 
+// The sector that a line to the east shows the place, if there is one.
+fn shown_by(map: &Map, line: Option<PlacedLine>, place: Vertex) -> Option<u16>
+    ensures { result ≡ option_and_then (sector_shown map.now.tables place) line }
+{
+    match line {
+        Some(line) => sector_shown(map, &line, place),
+        None => None,
+    }
+}
+
 /// The sector that the place belongs to: what the nearest line to its east shows it. `None` is the void.
 pub fn sector_at(map: &Map, place: Vertex) -> Option<u16>
     ensures { result ≡ sector_of_place map.now.tables place }
@@ -171,5 +182,5 @@ pub fn sector_at(map: &Map, place: Vertex) -> Option<u16>
         let line = map.line(n).unwrap();
         best = nearer_of(place, best, placed(map, n, &line));
     }
-    sector_shown(map, &best?, place)
+    shown_by(map, best, place)
 }

@@ -25,7 +25,8 @@ fn has_clash(edges: &[PlacedLine], edge: &PlacedLine) -> bool
     edges.iter().any(|other| clashes(edge, other))
 }
 
-/// The first edge that begins where another one does, or has a point in common with another one that isn't an end of both.
+/// The first edge that begins where another one does, or has a point in common with another one that isn't an end of
+/// both.
 pub fn first_clash(edges: &[PlacedLine]) -> Option<PlacedLine>
     ensures none { IfNone result (list_any (has_clash edges.now) edges.now ≡ false) }
     ensures some { IfSome result (λ e. has_clash edges.now e ≡ true) }

@@ -62,13 +62,15 @@ const AREAS: &[(&[Corners], &[&[u8]], Corners, &str)] = &[
         "sector 0 128 FLOOR4_8 CEIL3_5 160 0 0\nset-side 0 0 0 - - WALL 2\nset-side 1 0 0 - - WALL 2\n\
          set-side 2 0 0 WALL WALL - 2\nset-side 3 0 0 - - WALL 2\n"),
     // a wall whose side four lines share
-    (&[HALL], &[b"set-line 1 1 2 1 0 0 0 -", b"set-line 2 2 3 1 0 0 0 -", b"set-line 3 3 0 1 0 0 0 -"], &[(256, 96), (256, 160), (288, 160), (288, 96)],
+    (&[HALL], &[b"set-line 1 1 2 1 0 0 0 -", b"set-line 2 2 3 1 0 0 0 -", b"set-line 3 3 0 1 0 0 0 -"],
+        &[(256, 96), (256, 160), (288, 160), (288, 96)],
         "split 2 256 160\nsplit 4 256 96\nsector 0 128 FLOOR4_8 CEIL3_5 160 0 0\nvertex 288 160\n\
          vertex 288 96\nside 0 0 WALL WALL - 0\nside 0 0 BROWN1 BROWN1 - 1\nset-line 4 4 5 4 0 0 4 5\n\
          side 0 0 - - BROWN1 1\nline 4 6 1 0 0 6 -\nside 0 0 - - BROWN1 1\nline 6 7 1 0 0 7 -\n\
          side 0 0 - - BROWN1 1\nline 7 5 1 0 0 8 -\n"),
     // both parts of a cut line keep its tag
-    (&[HALL], &[b"set-line 2 2 3 257 31 7 2 -", b"set-side 2 5 0 STEP1 - WALL 0"], &[(256, 96), (256, 160), (288, 160), (288, 96)],
+    (&[HALL], &[b"set-line 2 2 3 257 31 7 2 -", b"set-side 2 5 0 STEP1 - WALL 0"],
+        &[(256, 96), (256, 160), (288, 160), (288, 96)],
         "split 2 256 160\nsplit 4 256 96\nsector 0 128 FLOOR4_8 CEIL3_5 160 0 0\nvertex 288 160\n\
          vertex 288 96\nside 5 0 STEP1 WALL - 0\nside 0 0 BROWN1 BROWN1 - 1\nset-line 4 4 5 260 31 7 4 5\n\
          side 0 0 - - BROWN1 1\nline 4 6 1 0 0 6 -\nside 0 0 - - BROWN1 1\nline 6 7 1 0 0 7 -\n\

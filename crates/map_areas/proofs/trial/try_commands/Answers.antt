@@ -1,11 +1,9 @@
-use Rattle.std.proofs.Common.{◌≡◌, ◌+◌, length, take, sym, ap, ◌∙◌, subst, arith, List}
-use Rattle.map_commands.specs.declared.command.Command.{Command}
-use Rattle.map_areas.specs.Drawn.{LeadTo}
-use Rattle.map_areas.proofs.Leading.{LeadTo-more, LeadTo-range}
+use Rattle.std.proofs.Common.{arith}
+use Rattle.map_areas.proofs.Leading.{LeadTo-step, LeadTo-all, LeadTo-range}
 use Rattle.map_areas.proofs.trial.try_commands.Goals as goal
 
 pub loop-command-preserved : goal.loop-command-preserved
-loop-command-preserved c = ?
+loop-command-preserved c = LeadTo-step _ _ _ _ _ _ (omega arith) (search rules) c.loop-command.invariant c.in_ok-try_command.ensures
 
 pub returns : goal.returns
 returns c = ?

@@ -22,16 +22,6 @@ loop-n-preserved c =
     ∙ ap (nearer_of p (nearest (take c.loop-n.n (placed_lines m)) p)) c.placed.ensures
     ∙ sym (nearest_more (placed_lines m) p c.loop-n.n (placed m (c.loop-n.n, c.unwrap-line.result)) there)
 
-pub returns-in_err-best : goal.returns-in_err-best
-returns-in_err-best c =
-    let m = c.args.map.now.tables in
-    let p = c.args.place in
-    let full : c.loop-n.best ≡ nearest (placed_lines m) p =
-    c.loop-n.invariant
-    ∙ ap (λ (ls : List PlacedLine). nearest ls p)
-    (take_all c.loop-n.n (placed_lines m) (omega (arith, length-placed_lines m, c.count-n-end.ensures.number, c.loop-n-test.false))) in
-    ap (option_and_then (sector_shown m p)) (sym c.in_err-best.was ∙ full)
-
 pub returns : goal.returns
 returns c =
     let m = c.args.map.now.tables in
@@ -40,4 +30,4 @@ returns c =
     c.loop-n.invariant
     ∙ ap (λ (ls : List PlacedLine). nearest ls p)
     (take_all c.loop-n.n (placed_lines m) (omega (arith, length-placed_lines m, c.count-n-end.ensures.number, c.loop-n-test.false))) in
-    c.sector_shown.ensures ∙ ap (option_and_then (sector_shown m p)) (sym c.in_ok-best.was ∙ full)
+    c.shown_by.ensures ∙ ap (option_and_then (sector_shown m p)) full
