@@ -1,6 +1,7 @@
 //! A copy of a map.
 ghost use Rattle.std.specs.Prelude.{◌≡◌, IfOk, OnOk, [], length};
 ghost use Rattle.map_tables.specs.Edits.{with_name};
+ghost use Rattle.map_tables.specs.WellFormed.{WellFormed};
 
 use map_tables::{Edit, Item, Kind, Map, MapError, Need};
 use std::alloc::Global;
@@ -71,7 +72,9 @@ fn copy_things(from: &Map, to: &mut Map) -> Result<(), MapError>
 }
 
 // Room for all items of the map.
-fn need_of(map: &Map) -> Need {
+fn need_of(map: &Map) -> Need
+    ensures { WellFormed map.now.tables }
+{
     Need {
         vertices: map.count(Kind::Vertex),
         sectors: map.count(Kind::Sector),
@@ -94,7 +97,8 @@ fn copy_items(from: &Map, to: &mut Map) -> Result<(), MapError>
     copy_sectors(from, to)?;
     copy_sides(from, to)?;
     copy_lines(from, to)?;
-    copy_things(from, to)
+    copy_things(from, to)?;
+    Ok(())
 }
 
 /// A copy of the map.

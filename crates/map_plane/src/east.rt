@@ -90,7 +90,7 @@ fn lies_right(line: &PlacedLine, place: Vertex) -> bool
 /// Whether the line crosses the place's row and lies to the east of the place, or of what is just above it. The lower
 /// end of a line counts, its upper end doesn't.
 #[tactic(auto, unfolding(crate::specs::Nearest::is_east))]
-pub fn is_east(line: &PlacedLine, place: Vertex) -> bool
+pub(crate) fn is_east(line: &PlacedLine, place: Vertex) -> bool
     ensures { result ≡ is_east line.now place }
 {
     if climbs_past(line, place.y) {

@@ -9,7 +9,7 @@ mod outside;
 mod places;
 mod polygon;
 
-pub use east::{is_east, nearest, sector_at, sector_shown};
+pub use east::{nearest, sector_at, sector_shown};
 pub use found::{line_at, thing_at, vertex_at};
 pub use laws::tell_crossings;
 pub use meeting::{boxes_meet, crosses, ends_at, is_at, is_on, meets, side_of, spans_meet};

@@ -4,8 +4,10 @@ use Rattle.std.proofs.lemmas.Option.{MatchOption-at_some}
 use Rattle.map_tables.specs.Edits.{with_thing}
 use Rattle.map_tables.specs.Ranges.{IsThing}
 use Rattle.map_tables.specs.Tables.{Tables}
+use Rattle.map_tables.specs.declared.edit.Edit.TheVariants.{Add}
+use Rattle.map_tables.specs.declared.edit.Item.TheVariants as item
 use Rattle.map_areas.proofs.Copies.{is_there, one_more, all_there}
-use Rattle.map_areas.proofs.Leading.{unless-ok}
+use Rattle.map_areas.proofs.Leading.{edited-made}
 use Rattle.map_areas.proofs.copying.copy_things.Goals as goal
 
 pub unwrap-thing-requires : goal.unwrap-thing-requires
@@ -20,7 +22,7 @@ loop-n-init c = λ i. record c.args.to.now.tables { things = c.requires i }
 pub loop-n-preserved : goal.loop-n-preserved
 loop-n-preserved c =
     let m = c.args.to.now.tables in
-    (unless-ok _ _ _ _ _ c.in_ok-edit.ensures.edit).1
+    (edited-made c.loop-n.to.tables (Add (item.Thing c.unwrap-thing.result)) _ _ c.in_ok-edit.ensures.edit).1
     ∙ ap (λ (t : Tables). with_thing t c.unwrap-thing.result) c.loop-n.invariant
     ∙ (λ i. record m {
       things = one_more c.args.from.now.tables.things c.loop-n.n c.unwrap-thing.result (sym c.thing.ensures.item ∙ c.unwrap-thing.ensures) i;
