@@ -22,7 +22,7 @@ use Rattle.map_areas.specs.Drawn.{TakesCommand, LeadTo}
 -- ---- an edit
 
 -- what was made, if something was
-made_of : {S X : Type 0} → S → Result (S × X) ℕ → S
+abbrev made_of : {S X : Type 0} → S → Result (S × X) ℕ → S
 made_of d (Ok p) = p.0
 made_of d (Err e) = d
 
@@ -121,10 +121,17 @@ split_made m s l v t1 t2 t3 n1 n2 n3 range le ve h1 h2 h3 =
     let rest : cut_off l v ≡ cut_off (line_or_some m.lines s.line) (length m.vertices) = λ i. cut_off (le i) (ve i) in
     let second : t2 ≡ with_line_at (with_vertex m s.at) s.line (cut_short (line_or_some m.lines s.line) (length m.vertices)) =
     d2.1 ∙ (λ i. with_line_at (d1.1 i) s.line (short i)) in
+    let second_faults : least (set_line_faults t1 s.line (cut_short l v))
+    ≡ least (set_line_faults (with_vertex m s.at) s.line (cut_short (line_or_some m.lines s.line) (length m.vertices))) =
+    λ i. least (set_line_faults (d1.1 i) s.line (short i)) in
+    let third_faults : least (line_faults t2 (cut_off l v))
+    ≡ least
+    (line_faults (with_line_at (with_vertex m s.at) s.line (cut_short (line_or_some m.lines s.line) (length m.vertices)))
+    (cut_off (line_or_some m.lines s.line) (length m.vertices))) =
+    λ i. least (line_faults (second i) (rest i)) in
+    let left : with_line t2 (cut_off l v) ≡ with_split m s = λ i. with_line (second i) (rest i) in
     record {
       range = range;
-      accepted =
-          split_taken m s d1.0 (sym (λ i. least (set_line_faults (d1.1 i) s.line (short i))) ∙ d2.0)
-          (sym (λ i. least (line_faults (second i) (rest i))) ∙ d3.0);
-      left = d3.1 ∙ (λ i. with_line (second i) (rest i));
+      accepted = split_taken m s d1.0 (sym second_faults ∙ d2.0) (sym third_faults ∙ d3.0);
+      left = d3.1 ∙ left;
     }
