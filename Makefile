@@ -39,6 +39,7 @@ stress: all
 	bench/full bin/leveled
 	bench/damage bin/leveled
 	bench/round bin/leveled
+	bench/areas bin/leveled
 	bench/limits
 	bench/memory
 

@@ -9,11 +9,11 @@ use Rattle.std.specs.Ordering.{int_eq}
 use Rattle.std.proofs.lemmas.List.Sums.{sum_by-cons}
 use Rattle.std.proofs.lemmas.Map.Views.{any-filter_same}
 use Rattle.lump_records.specs.declared.records.Vertex.{Vertex}
-use Rattle.map_lint.specs.declared.places.PlacedLine.{PlacedLine}
-use Rattle.map_lint.specs.Meeting.{is_under, spans_meet, boxes_meet, is_on, side_value_at, share, meets}
-use Rattle.map_lint.specs.Outside.{is_on_wall, comes_down, faces, turns_away, is_place_outside}
+use Rattle.map_plane.specs.declared.places.PlacedLine.{PlacedLine}
+use Rattle.map_plane.specs.Meeting.{is_under, spans_meet, boxes_meet, is_on, side_value_at, share, meets}
+use Rattle.map_plane.specs.Outside.{is_on_wall, comes_down, faces, turns_away, is_place_outside}
 use Rattle.map_lint.specs.Bands.{band_bottom, band_top, is_in_band, IsBandOf}
-use Rattle.map_lint.proofs.Tests.{and_both, or_either, or_left, or_right, or_none, le_says, le_is, lt_says, both, under_says}
+use Rattle.map_plane.proofs.Tests.{and_both, or_either, or_left, or_right, or_none, le_says, le_is, lt_says, both, under_says}
 
 -- ---- spans
 

@@ -8,10 +8,10 @@ use Rattle.std.proofs.Math.ListN.{set}
 use Rattle.std.proofs.lemmas.Bool.Decides.{eqb_tells}
 use Rattle.std.proofs.lemmas.List.{get_or_default, get_or-set_same, get_or-set_other, length-set}
 use Rattle.lump_records.specs.declared.records.Bounds.{Bounds}
-use Rattle.map_lint.specs.declared.places.PlacedLine.{PlacedLine}
-use Rattle.map_lint.specs.Meeting.{is_under, spans_meet, boxes_meet, share, meets}
+use Rattle.map_plane.specs.declared.places.PlacedLine.{PlacedLine}
+use Rattle.map_plane.specs.Meeting.{is_under, spans_meet, boxes_meet, share, meets}
 use Rattle.map_lint.specs.Boxes.{widened_by, may_meet, IsWithin, KeepsBoxes, GrowsBoxes, HasBox}
-use Rattle.map_lint.proofs.Tests.{and_both, both}
+use Rattle.map_plane.proofs.Tests.{and_both, both}
 use Rattle.map_lint.proofs.BandLemmas.{under_top, under_bottom, spans_begin}
 
 -- spans that meet still do if the second one grows

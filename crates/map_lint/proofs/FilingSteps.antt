@@ -5,10 +5,10 @@ use Rattle.std.specs.Int.{int_min, int_max}
 use Rattle.std.proofs.Math.ListN.{set}
 use Rattle.std.proofs.lemmas.Int.{ints, clamps}
 use Rattle.std.proofs.lemmas.List.{get_or-replicate, get_or-set_other, get_or-set_same, length-replicate, length-set}
-use Rattle.map_lint.specs.declared.places.PlacedLine.{PlacedLine}
-use Rattle.map_lint.specs.Meeting.{is_under, spans_meet}
+use Rattle.map_plane.specs.declared.places.PlacedLine.{PlacedLine}
+use Rattle.map_plane.specs.Meeting.{is_under, spans_meet}
 use Rattle.map_lint.specs.Bands.{band_bottom, band_top, is_in_band, IsBandOf, AreBands, FilesLine}
-use Rattle.map_lint.proofs.Tests.{and_both, both, under_says}
+use Rattle.map_plane.proofs.Tests.{and_both, both, under_says}
 use Rattle.map_lint.proofs.BandLemmas.{under_top, under_bottom}
 
 -- ---- which bands

@@ -1,12 +1,8 @@
-pub mod Tests
 pub mod TagSteps
 pub mod AreaSteps
 pub mod BandLemmas
 pub mod FilingSteps
 pub mod BoxSteps
 pub mod BorderSteps
-pub mod Means
-pub mod CrossingPoints
-pub mod Crossings
 pub mod RuleSteps
 pub mod GraphicSteps

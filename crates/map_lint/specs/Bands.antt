@@ -1,10 +1,10 @@
 -- Lines in bands of 128 rows, so that a line or a thing is compared only with the lines near it.
 use Rattle.std.specs.Prelude.{◌≡◌, ℕ, ◌*◌, ◌<◌, Bool, List, [], ◌∷◌, ◌++◌, length, filter, get_or, ℤ, pos, ◌+ℤ◌, ◌-ℤ◌, ◌≤ℤ◌}
-use Rattle.map_lint.specs.declared.places.PlacedLine.{PlacedLine}
+use Rattle.map_plane.specs.declared.places.PlacedLine.{PlacedLine}
 use Rattle.map_lint.specs.declared.bands.FiledLines.{FiledLines}
 use Rattle.map_tables.specs.Tables.{Tables}
-use Rattle.map_lint.specs.Meeting.{spans_meet}
-use Rattle.map_lint.specs.Places.{placed_lines}
+use Rattle.map_plane.specs.Meeting.{spans_meet}
+use Rattle.map_plane.specs.Places.{placed_lines}
 
 -- the lowest row of band b
 abbrev pub band_bottom : ℕ → ℤ

@@ -2,8 +2,8 @@
 use Rattle.std.specs.Prelude.{ℕ, ◌*◌, ◌/◌, ◌<◌, ◌≤◌, Bool, ◌&&◌, List, length, get_or, ◌≤ℤ◌}
 use Rattle.std.specs.Int.{int_min, int_max}
 use Rattle.lump_records.specs.declared.records.Bounds.{Bounds}
-use Rattle.map_lint.specs.declared.places.PlacedLine.{PlacedLine}
-use Rattle.map_lint.specs.Meeting.{spans_meet}
+use Rattle.map_plane.specs.declared.places.PlacedLine.{PlacedLine}
+use Rattle.map_plane.specs.Meeting.{spans_meet}
 
 -- the box round a line
 abbrev pub round_line : PlacedLine → Bounds

@@ -1,8 +1,4 @@
 pub mod Errors
-pub mod Places
-pub mod Meeting
-pub mod Segments
-pub mod Outside
 pub mod Bands
 pub mod Boxes
 pub mod Texts

@@ -17,9 +17,9 @@ use Rattle.map_lint.specs.Starts.{things_of_type, starts_twice}
 use Rattle.map_lint.specs.Tags.{tag_missing, tag_of_no_sector, tag_of_no_line}
 use Rattle.map_lint.specs.Areas.{is_inside_out}
 use Rattle.lump_records.specs.Things.{thing_place}
-use Rattle.map_lint.specs.Places.{placed_lines}
-use Rattle.map_lint.specs.Meeting.{meets_another}
-use Rattle.map_lint.specs.Outside.{is_place_outside}
+use Rattle.map_plane.specs.Places.{placed_lines}
+use Rattle.map_plane.specs.Meeting.{meets_another}
+use Rattle.map_plane.specs.Outside.{is_place_outside}
 use Rattle.map_lint.specs.Whereabouts.{whereabouts_of}
 
 -- there is an item n, and it passes the test

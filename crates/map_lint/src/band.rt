@@ -3,12 +3,11 @@ ghost use Rattle.std.specs.Prelude.{◌≡◌, ◌≤◌, ◌*◌, length, OnOk}
 ghost use Rattle.std.specs.Int.{int_max, int_min};
 ghost use Rattle.std.specs.List.{list_any};
 ghost use Rattle.map_lint.specs.Boxes.{GrowsBoxes, HasBox, KeepsBoxes, may_meet, round_line, widened_by};
-ghost use Rattle.map_lint.specs.Meeting.{meets};
+ghost use Rattle.map_plane.specs.Meeting.{meets};
 
 use crate::error::LintError;
-use crate::meeting::{meets, spans_meet};
-use crate::places::PlacedLine;
 use lump_records::Bounds;
+use map_plane::{PlacedLine, meets, spans_meet};
 use std::alloc::Global;
 use std::marker::Model;
 
@@ -23,7 +22,7 @@ pub(crate) struct Band {
 
 impl Model for Band {
     ghost use Rattle.std.specs.Prelude.{List};
-    ghost use Rattle.map_lint.specs.declared.places.PlacedLine.{PlacedLine};
+    ghost use Rattle.map_plane.specs.declared.places.PlacedLine.{PlacedLine};
     ghost use Rattle.map_lint.specs.Boxes.{KeepsBoxes};
 
     ghost Value = { List PlacedLine };

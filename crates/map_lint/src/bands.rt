@@ -2,15 +2,14 @@
 ghost use Rattle.std.specs.Prelude.{◌≡◌, [], length, IfOk, OnOk};
 ghost use Rattle.std.specs.Int.{int_min, int_max};
 ghost use Rattle.std.specs.List.{list_any};
-ghost use Rattle.map_lint.specs.Meeting.{meets, meets_another};
-ghost use Rattle.map_lint.specs.Outside.{is_place_outside};
+ghost use Rattle.map_plane.specs.Meeting.{meets, meets_another};
+ghost use Rattle.map_plane.specs.Outside.{is_place_outside};
 ghost use Rattle.map_lint.specs.Bands.{IsBandOf, FilesLine, AreBands, AreFiled, AreFiledLines};
 
 use crate::band::Band;
 use crate::error::LintError;
-use crate::outside::is_outside;
-use crate::places::{PlacedLine, placed_lines};
 use lump_records::Vertex;
+use map_plane::{PlacedLine, is_outside, placed_lines};
 use map_tables::Map;
 use std::alloc::Global;
 

@@ -9,10 +9,6 @@ mod error;
 mod facts;
 mod graphics;
 mod known;
-mod laws;
-mod meeting;
-mod outside;
-mod places;
 mod report;
 mod rules;
 mod starts;
@@ -22,7 +18,6 @@ mod whereabouts;
 
 pub use error::LintError;
 pub use graphics::lint_graphics;
-pub use laws::tell_crossings;
 pub use report::lint;
 pub use warning::{Rule, Warning};
 pub use whereabouts::Whereabouts;

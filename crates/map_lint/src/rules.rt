@@ -6,9 +6,9 @@ ghost use Rattle.map_lint.specs.Tallies.{MarksTags, MarksBordered, AreAreas};
 ghost use Rattle.map_lint.specs.Tags.{tag_of, line_tag, tag_of_no_sector, tag_of_no_line, needs_line};
 ghost use Rattle.map_lint.specs.Areas.{is_inside_out};
 ghost use Rattle.map_lint.specs.Bands.{AreFiledLines};
-ghost use Rattle.map_lint.specs.Outside.{is_place_outside};
+ghost use Rattle.map_plane.specs.Outside.{is_place_outside};
 ghost use Rattle.lump_records.specs.Things.{thing_place};
-ghost use Rattle.map_lint.specs.Places.{placed_lines};
+ghost use Rattle.map_plane.specs.Places.{placed_lines};
 ghost use Rattle.map_lint.specs.Facts.{AreFacts};
 ghost use Rattle.map_lint.specs.Rules.{at_item, names_wall, texture_hidden, number_breaks, sector_breaks, line_breaks, thing_breaks, breaks, reach};
 

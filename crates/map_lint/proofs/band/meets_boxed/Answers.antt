@@ -1,5 +1,5 @@
 use Rattle.std.proofs.Common.{sym, ◌∙◌, arith}
-use Rattle.map_lint.specs.Meeting.{meets}
+use Rattle.map_plane.specs.Meeting.{meets}
 use Rattle.map_lint.proofs.BoxSteps.{none_in_box, none_found}
 use Rattle.map_lint.proofs.band.meets_boxed.Goals as goal
 

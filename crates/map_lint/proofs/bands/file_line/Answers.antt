@@ -1,7 +1,7 @@
 use Rattle.std.proofs.Common.{◌≡◌, ◌<◌, ◌+◌, List, [], ◌∷◌, ◌++◌, get_or, subst, sym, ap, ◌∙◌, arith}
 use Rattle.std.proofs.Math.ListN.{set}
 use Rattle.std.proofs.lemmas.List.{get_or_default}
-use Rattle.map_lint.specs.declared.places.PlacedLine.{PlacedLine}
+use Rattle.map_plane.specs.declared.places.PlacedLine.{PlacedLine}
 use Rattle.map_lint.proofs.FilingSteps.{FiledTo, in_bands, filed_none, filed_more, filed_all}
 use Rattle.map_lint.proofs.bands.file_line.Goals as goal
 

@@ -1,7 +1,7 @@
 use Rattle.std.proofs.Common.{List, [], ap, ◌∙◌, arith}
 use Rattle.std.proofs.lemmas.List.{get_or_default}
-use Rattle.map_lint.specs.declared.places.PlacedLine.{PlacedLine}
-use Rattle.map_lint.specs.Outside.{is_place_outside}
+use Rattle.map_plane.specs.declared.places.PlacedLine.{PlacedLine}
+use Rattle.map_plane.specs.Outside.{is_place_outside}
 use Rattle.map_lint.proofs.BandLemmas.{outside_in_band}
 use Rattle.map_lint.proofs.bands.is_in_no_sector.Goals as goal
 

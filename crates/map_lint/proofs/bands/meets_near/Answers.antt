@@ -1,7 +1,7 @@
 use Rattle.std.proofs.Common.{◌≡◌, ℕ, ◌+◌, ◌<◌, ◌≤◌, false, [], filter, below_more, sym, ap, ◌∙◌, arith}
 use Rattle.std.specs.List.{list_any}
 use Rattle.std.proofs.lemmas.List.{get_or_default}
-use Rattle.map_lint.specs.Meeting.{meets}
+use Rattle.map_plane.specs.Meeting.{meets}
 use Rattle.map_lint.specs.Bands.{is_in_band}
 use Rattle.map_lint.proofs.BandLemmas.{any_of_filtered, none_in_parts, meets_in_band}
 use Rattle.map_lint.proofs.bands.meets_near.Goals as goal

@@ -1,7 +1,7 @@
 use Rattle.std.proofs.Common.{◌≡◌, ℕ, ◌<◌, ◌≤◌, false, filter}
 use Rattle.std.specs.List.{list_any}
 use Rattle.map_lint.specs.Bands.{is_in_band}
-use Rattle.map_lint.specs.Meeting.{meets}
+use Rattle.map_plane.specs.Meeting.{meets}
 use Rattle.map_lint.proofs.bands.meets_near.Given as goal
 
 -- no line of the bands so far meets the line

@@ -1,0 +1,20 @@
+-- A map's items added to an empty table, one at a time.
+use Rattle.std.proofs.Common.{◌≡◌, ℕ, ◌+◌, ◌<◌, List, [], ◌∷◌, ◌++◌, get_or, length, take, Option, Some, refl, sym, ap, ◌∙◌, subst, arith}
+use Rattle.std.specs.List.{slice_get}
+use Rattle.std.specs.Option.{IsSome}
+use Rattle.std.proofs.lemmas.List.{take_more, take_all}
+use Rattle.std.proofs.lemmas.Option.{slice_get-get_or, slice_get_within, get_or_from_slice_get}
+
+-- an item whose number is below the count is there
+pub is_there : {A : Type 0} (xs : List A) (n : ℕ) (o : Option A) → o ≡ slice_get xs n → n < length xs → IsSome o
+is_there [] n o e h = absurd (omega arith)
+is_there (x ∷ xs) n o e h = subst IsSome (sym (e ∙ slice_get-get_or (x ∷ xs) n x h)) refl
+
+-- one more item
+pub one_more : {X : Type 0} (xs : List X) (n : ℕ) (x : X) → slice_get xs n ≡ Some x → take n xs ++ x ∷ [] ≡ take (n + 1) xs
+one_more xs n x is =
+    ap (λ y. take n xs ++ y ∷ []) (sym (get_or_from_slice_get xs n x x is)) ∙ sym (take_more xs n x (slice_get_within xs n x is))
+
+-- all items
+pub all_there : {X : Type 0} (xs : List X) (n : ℕ) → length xs ≡ n → take n xs ≡ xs
+all_there xs n same = take_all n xs (omega arith)

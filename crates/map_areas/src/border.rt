@@ -1,0 +1,134 @@
+//! The border of a polygon: its edges, and the places at which they are cut.
+use crate::crossing::near_crossing;
+use crate::cuts::{is_between, put_along};
+use crate::drawing::number_of;
+use crate::error::AreaError;
+use lump_records::Vertex;
+use map_plane::{PlacedLine, boxes_meet, crosses, is_inside, is_on, is_on_any};
+use map_tables::{Kind, Map};
+use std::alloc::Global;
+
+/// The edges of a polygon, clockwise, the same at twice the size, and the places at which they are cut, in order.
+#[derive(Drop)]
+pub(crate) struct Border {
+    pub edges: Vec<PlacedLine>,
+    pub doubled: Vec<PlacedLine>,
+    pub stops: Vec<Vertex>,
+}
+
+/// The sum of two places: at twice the size it is in the middle of the two.
+pub(crate) fn sum(a: Vertex, b: Vertex) -> Vertex {
+    Vertex {
+        x: a.x.saturating_add(b.x),
+        y: a.y.saturating_add(b.y),
+    }
+}
+
+/// The lines at twice the size, so that each middle of two places is a place. No coordinate is greater than 16,384.
+pub(crate) fn twice(alloc: Global, lines: &[PlacedLine]) -> Result<Vec<PlacedLine>, AreaError> {
+    let mut doubled = Vec::with_capacity(alloc, lines.len())?;
+    for line in lines {
+        doubled.push(PlacedLine {
+            from: sum(line.from, line.from),
+            to: sum(line.to, line.to),
+            ..*line
+        })?;
+    }
+    Ok(doubled)
+}
+
+// The whole place at which the edge crosses the line.
+fn crossing(edge: &PlacedLine, line: &PlacedLine) -> Result<Vertex, AreaError> {
+    let near = near_crossing(edge, line);
+    if is_on(edge, near) && is_on(line, near) {
+        return Ok(near);
+    }
+    Err(AreaError::Crossing {
+        line: number_of(line),
+        near,
+    })
+}
+
+// Adds the vertices that lie between the ends of the edge.
+fn put_vertices(stops: &mut Vec<Vertex>, map: &Map, edge: &PlacedLine) -> Result<(), AreaError> {
+    for n in 0..map.count(Kind::Vertex) {
+        let vertex = map.vertex(n).unwrap();
+        if is_between(edge, vertex) {
+            put_along(stops, edge.from, vertex)?;
+        }
+    }
+    Ok(())
+}
+
+// Adds the places at which the edge crosses lines.
+fn put_crossings(
+    stops: &mut Vec<Vertex>,
+    lines: &[PlacedLine],
+    edge: &PlacedLine,
+) -> Result<(), AreaError> {
+    for line in lines {
+        if boxes_meet(edge, line) && crosses(edge, line) {
+            put_along(stops, edge.from, crossing(edge, line)?)?;
+        }
+    }
+    Ok(())
+}
+
+// Where the edge is cut, in order: its start, the vertices on it, and its crossings with lines.
+fn stops_of(
+    alloc: Global,
+    map: &Map,
+    lines: &[PlacedLine],
+    edge: &PlacedLine,
+) -> Result<Vec<Vertex>, AreaError> {
+    let mut stops = Vec::new(alloc);
+    stops.push(edge.from)?;
+    put_vertices(&mut stops, map, edge)?;
+    put_crossings(&mut stops, lines, edge)?;
+    Ok(stops)
+}
+
+// Where the edges are cut, in order round the polygon.
+fn all_stops(
+    alloc: Global,
+    map: &Map,
+    lines: &[PlacedLine],
+    edges: &[PlacedLine],
+) -> Result<Vec<Vertex>, AreaError> {
+    let mut all = Vec::new(alloc);
+    for edge in edges {
+        let stops = stops_of(alloc, map, lines, edge)?;
+        all.extend_from_slice(&stops)?;
+    }
+    Ok(all)
+}
+
+/// The border of the polygon with these edges. Refused if an edge crosses a line at no whole place.
+pub(crate) fn border_of(
+    alloc: Global,
+    map: &Map,
+    lines: &[PlacedLine],
+    edges: Vec<PlacedLine>,
+) -> Result<Border, AreaError> {
+    let doubled = twice(alloc, &edges)?;
+    let stops = all_stops(alloc, map, lines, &edges)?;
+    Ok(Border {
+        edges,
+        doubled,
+        stops,
+    })
+}
+
+impl Border {
+    /// Whether the middle of the two places is inside the polygon, and not on an edge.
+    pub(crate) fn holds_middle(&self, a: Vertex, b: Vertex) -> bool {
+        let middle = sum(a, b);
+        is_inside(&self.doubled, middle) && !is_on_any(&self.doubled, middle)
+    }
+
+    /// The end of the part of the border that begins at the stop with the number.
+    pub(crate) fn next(&self, n: usize, from: Vertex) -> Vertex {
+        let next = self.stops.get(n.saturating_add(1));
+        next.or(self.stops.first()).copied().unwrap_or(from)
+    }
+}

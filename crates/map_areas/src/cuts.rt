@@ -1,0 +1,56 @@
+//! Places along a line, in order.
+use crate::error::AreaError;
+use lump_records::Vertex;
+use map_plane::{PlacedLine, ends_at, is_on, spans_meet};
+use std::alloc::Global;
+
+// How far two places are apart, along the axes.
+fn distance(a: Vertex, b: Vertex) -> u32 {
+    let across = (i32::from(a.x) - i32::from(b.x)).unsigned_abs();
+    across.saturating_add((i32::from(a.y) - i32::from(b.y)).unsigned_abs())
+}
+
+/// Adds the place to places that lie along a line which begins at `from`, in order, if it isn't one of them.
+pub(crate) fn put_along(
+    places: &mut Vec<Vertex>,
+    from: Vertex,
+    place: Vertex,
+) -> Result<(), AreaError> {
+    let far = distance(from, place);
+    let at = places
+        .iter()
+        .position(|other| far <= distance(from, *other))
+        .unwrap_or(places.len())
+        .min(places.len());
+    if places
+        .get(at)
+        .is_some_and(|other| distance(from, *other) == far)
+    {
+        return Ok(());
+    }
+    places.insert(at, place)?;
+    Ok(())
+}
+
+/// Whether the place lies on the line, between its ends.
+pub(crate) fn is_between(line: &PlacedLine, place: Vertex) -> bool {
+    spans_meet(line.from.x, line.to.x, place.x, place.x)
+        && spans_meet(line.from.y, line.to.y, place.y, place.y)
+        && is_on(line, place)
+        && !ends_at(line, place)
+}
+
+/// Those of the places that lie between the line's ends, in their order along it.
+pub(crate) fn cuts_of(
+    alloc: Global,
+    places: &[Vertex],
+    line: &PlacedLine,
+) -> Result<Vec<Vertex>, AreaError> {
+    let mut cuts = Vec::new(alloc);
+    for place in places {
+        if is_between(line, *place) {
+            put_along(&mut cuts, line.from, *place)?;
+        }
+    }
+    Ok(cuts)
+}

@@ -1,0 +1,23 @@
+//! Areas: a polygon becomes a sector, or a hole in one, and shares what is there.
+#![tactic(auto)]
+
+mod area;
+mod border;
+mod copying;
+mod crossing;
+mod cuts;
+mod drawing;
+mod error;
+mod inside;
+mod pillar;
+mod plan;
+mod polygon;
+mod ranges;
+mod round;
+mod trial;
+mod uses;
+mod walls;
+
+pub use area::{Area, area_commands};
+pub use error::{AreaError, Part};
+pub use pillar::{Pillar, pillar_commands};

@@ -1,0 +1,134 @@
+//! Pillars: polygons with nothing inside.
+ghost use Rattle.std.specs.Prelude.{All, IfOk};
+ghost use Rattle.map_areas.specs.Drawn.{AreTaken};
+ghost use Rattle.map_commands.specs.Step.{InRange};
+
+use crate::drawing::{Drawing, drawing_of, number_of, vertex_of};
+use crate::error::{AreaError, Part};
+use crate::polygon::polygon;
+use crate::trial::try_commands;
+use crate::walls::{add_side, add_wall, solid_side};
+use lump_records::{NO_SIDE, Name8, Vertex};
+use map_commands::Command;
+use map_plane::{PlacedLine, crosses, is_inside, is_on, nearest, placed_lines, sector_shown};
+use map_tables::{Kind, Map};
+use std::alloc::Global;
+
+/// A polygon with nothing inside, in a sector. Its corners are in order, either way round.
+#[derive(Drop)]
+pub struct Pillar {
+    pub corners: Vec<Vertex>,
+    pub wall: Name8,
+}
+
+// The edge, and the sector that its first end belongs to.
+fn part_at(map: &Map, lines: &[PlacedLine], edge: &PlacedLine) -> Part {
+    let sector = match nearest(lines, edge.from) {
+        Some(line) => sector_shown(map, &line, edge.from),
+        None => None,
+    };
+    Part {
+        from: edge.from,
+        to: edge.to,
+        sector,
+    }
+}
+
+// The sector that all corners belong to.
+fn sector_of(map: &Map, lines: &[PlacedLine], edges: &[PlacedLine]) -> Result<u16, AreaError> {
+    let mut first: Option<Part> = None;
+    for edge in edges {
+        let part = part_at(map, lines, edge);
+        let first_part = first.unwrap_or(part);
+        if part.sector.is_none() || part.sector != first_part.sector {
+            return Err(AreaError::SeveralSectors {
+                first: first_part,
+                second: part,
+            });
+        }
+        first = Some(first_part);
+    }
+    match first {
+        Some(
+            Part {
+                sector: Some(sector),
+                ..
+            },
+        ) => Ok(sector),
+        _ => Err(AreaError::NotAPolygon {
+            corner: Vertex { x: 0, y: 0 },
+        }),
+    }
+}
+
+// Whether two lines have a point in common.
+fn touches(l: &PlacedLine, k: &PlacedLine) -> bool {
+    crosses(l, k) || is_on(l, k.from) || is_on(l, k.to) || is_on(k, l.from) || is_on(k, l.to)
+}
+
+// Whether the line has a point in common with an edge, or lies inside.
+fn is_in_the_way(edges: &[PlacedLine], line: &PlacedLine) -> bool {
+    edges.iter().any(|edge| touches(edge, line)) || is_inside(edges, line.from)
+}
+
+// Refuses the first line that isn't wholly outside.
+fn find_no_line(lines: &[PlacedLine], edges: &[PlacedLine]) -> Result<(), AreaError> {
+    for line in lines {
+        if is_in_the_way(edges, line) {
+            return Err(AreaError::NotEmpty {
+                line: number_of(line),
+            });
+        }
+    }
+    Ok(())
+}
+
+// Refuses the first vertex that is on an edge.
+fn find_no_vertex(map: &Map, edges: &[PlacedLine]) -> Result<(), AreaError> {
+    for n in 0..map.count(Kind::Vertex) {
+        let vertex = map.vertex(n).unwrap();
+        if edges.iter().any(|edge| is_on(edge, vertex)) {
+            return Err(AreaError::OverVertex {
+                vertex: u16::try_from(n).unwrap_or(u16::MAX),
+            });
+        }
+    }
+    Ok(())
+}
+
+// Draws a wall along each edge: the sector is on the right.
+fn draw(
+    drawing: &mut Drawing,
+    edges: &[PlacedLine],
+    wall: Name8,
+    sector: u16,
+) -> Result<(), AreaError> {
+    for edge in edges {
+        drawing.plan.add_vertex(edge.from)?;
+    }
+    for edge in edges {
+        let v1 = vertex_of(&drawing.plan, edge.from)?;
+        let v2 = vertex_of(&drawing.plan, edge.to)?;
+        let side = solid_side(wall, sector);
+        let right = add_side(&mut drawing.plan, &mut drawing.uses, side)?;
+        add_wall(&mut drawing.plan, v1, v2, right, NO_SIDE)?;
+    }
+    Ok(())
+}
+
+/// The commands that draw the pillar into the map.
+pub fn pillar_commands(alloc: Global, map: &Map, pillar: &Pillar) -> Result<Vec<Command>, AreaError>
+    ensures range { IfOk result (λ commands. All InRange commands.items) }
+    ensures taken { IfOk result (λ commands. AreTaken map.now.tables commands.items) }
+{
+    let edges = polygon(alloc, &pillar.corners, false)?;
+    let lines = placed_lines(alloc, map)?;
+    let sector = sector_of(map, &lines, &edges)?;
+    find_no_line(&lines, &edges)?;
+    find_no_vertex(map, &edges)?;
+    let mut drawing = drawing_of(alloc, map)?;
+    draw(&mut drawing, &edges, pillar.wall, sector)?;
+    let commands = drawing.into_commands();
+    try_commands(alloc, map, &commands)?;
+    Ok(commands)
+}

@@ -1,0 +1,6 @@
+pub mod Tests
+pub mod Means
+pub mod CrossingPoints
+pub mod Crossings
+pub mod LineReads
+pub mod NearestSteps
