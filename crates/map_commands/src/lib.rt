@@ -17,8 +17,12 @@ mod unread;
 mod words;
 
 pub use command::{Command, LineSplit, RoomPlan};
+pub use decision::growth_of;
 pub use error::CommandError;
+pub use keywords::{Head, LAST_ITEM, LAST_SECTOR, head_text, kind_in, last_number};
 pub use project::{
     ProjectCommand, Ready, accept_each_spelling, apply, commit, end_in_one_way,
     lead_to_one_project, need_of, parse, print, ready, spell_one_command,
 };
+pub use unread::UnreadWords;
+pub use words::{next_part, number_in};

@@ -14,7 +14,7 @@ pub struct UnreadWords<'a> {
 }
 
 impl<'a> UnreadWords<'a> {
-    ghost use Rattle.std.specs.Prelude.{◌≡◌, [], ◌∷◌, pos, ◌≤◌, ◌≤ℤ◌, ◌||◌, ◌==◌, nat_le, IsTrue, Some, None, IfOk, IfErr, MatchOption, decimal, option_copied};
+    ghost use Rattle.std.specs.Prelude.{◌≡◌, [], ◌∷◌, pos, ◌<◌, ◌≤◌, ◌≤ℤ◌, ◌||◌, ◌==◌, nat_le, length, drop, IsTrue, Some, None, IfOk, IfErr, MatchBool, MatchOption, decimal, option_copied};
     ghost use Rattle.std.specs.Fmt.{signed_decimal};
     ghost use Rattle.lump_records.specs.Drawing.{IsBetween};
     ghost use Rattle.lump_records.specs.Names.{IsNamed, is_marker, is_name, name_text};
@@ -32,6 +32,17 @@ impl<'a> UnreadWords<'a> {
         ensures words { (reading result).words ≡ parts_behind (option_copied rest.entry) }
     {
         UnreadWords { rest, fault: None }
+    }
+
+    /// Whether no word is left.
+    pub fn is_empty(&self) -> bool
+        ensures { MatchBool result ((reading self.now).words ≡ [])
+            (0 < length (reading self.now).words) }
+    {
+        match self.rest {
+            None => true,
+            Some(_) => false,
+        }
     }
 
     /// Takes the next word.
@@ -66,6 +77,7 @@ impl<'a> UnreadWords<'a> {
     /// Reads a number between two bounds. After a fault it returns some number between them.
     pub fn number(&mut self, low: i16, high: i16) -> i16
         requires { low ≤ℤ high }
+        ensures rest { (reading self.new).words ≡ drop 1 (reading self.old).words }
         ensures reads { Reads (reading self.old) (reading self.new) (Number low high)
             (signed_decimal result) }
         ensures range { IsBetween low high result }
@@ -88,6 +100,7 @@ impl<'a> UnreadWords<'a> {
     /// Reads the number of an item.
     pub fn item(&mut self, last: u16) -> u16
         requires { last ≤ 32767 }
+        ensures rest { (reading self.new).words ≡ drop 1 (reading self.old).words }
         ensures reads { Reads (reading self.old) (reading self.new) (Number (pos 0) (pos last))
             (decimal result) }
         ensures range { result ≤ last }
@@ -123,6 +136,7 @@ impl<'a> UnreadWords<'a> {
 
     /// Reads the name of a flat or a texture. After a fault it returns some name.
     pub fn name(&mut self) -> Name8
+        ensures rest { (reading self.new).words ≡ drop 1 (reading self.old).words }
         ensures reads { Reads (reading self.old) (reading self.new) (Named is_name)
             (name_text result) }
         ensures range { IsNamed is_name result }

@@ -1,5 +1,5 @@
 //! The parts of a line between its spaces, and those that are numbers.
-ghost use Rattle.std.specs.Prelude.{◌≡◌, ◌∷◌, IfOk, IfNone, IfSome, false, min, option_copied, true};
+ghost use Rattle.std.specs.Prelude.{◌≡◌, ◌∷◌, ◌<◌, IfOk, IfNone, IfSome, false, length, min, option_copied, true};
 ghost use Rattle.std.specs.Str.Parse.{digits_value};
 ghost use Rattle.std.specs.Fmt.{signed_decimal};
 ghost use Rattle.std.specs.List.{list_all};
@@ -30,7 +30,8 @@ pub fn has_word_form(bytes: &[u8]) -> bool
 
 /// The part before the first space, and what follows that space, if there is one.
 pub fn next_part(line: &[u8]) -> (&[u8], Option<&[u8]>)
-    ensures { parts line.now ≡ result.0.now ∷ parts_behind (option_copied result.1) }
+    ensures parts { parts line.now ≡ result.0.now ∷ parts_behind (option_copied result.1) }
+    ensures short { IfSome result.1 (λ rest. length rest.now < length line.now) }
 {
     for (i, b) in line.iter().enumerate() {
         if *b == b' ' {
