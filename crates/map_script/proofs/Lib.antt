@@ -1,3 +1,4 @@
 pub mod Cleaning
+pub mod Placing
 pub mod Replacing
 pub mod Wording

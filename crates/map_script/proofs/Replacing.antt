@@ -2,6 +2,7 @@
 use Rattle.std.proofs.Common.{◌≡◌, ℕ, ◌+◌, ◌-◌, ◌*◌, cond, List, [], ◌∷◌, ◌++◌, drop, refl, sym, ◌∙◌, ap, arith, Option, Some, Result, Ok, Err}
 use Rattle.std.specs.Prelude.{bytes_eq, min}
 use Rattle.std.specs.List.{fold}
+use Rattle.map_tables.specs.Tables.{Tables}
 use Rattle.map_script.specs.Lines.{in_front, joined_line, words_for}
 use Rattle.map_script.specs.Words.{text_words}
 use Rattle.map_script.specs.declared.error.DrawError.{DrawError}
@@ -54,10 +55,10 @@ behind_more text w (Ok ws) = refl
 behind_more text w (Err e) = refl
 
 -- no word is left
-pub replaced_all : (known : List (List ℕ × Numbers)) (text rest command out : List ℕ) → text_words rest ≡ []
-    → behind text (words_for known (text_words rest)) ≡ behind [] (words_for known (text_words command)) → out
-    ≡ drop 1 text → joined_line (words_for known (text_words command)) ≡ Ok out
-replaced_all known text rest command out e h is =
-    joined_behind (words_for known (text_words command))
-    ∙ ap unspaced (sym h ∙ ap (λ ws. behind text (words_for known ws)) e)
+pub replaced_all : (known : List (List ℕ × Numbers)) (m : Tables) (text rest command out : List ℕ) → text_words rest ≡ []
+    → behind text (words_for known m (text_words rest)) ≡ behind [] (words_for known m (text_words command)) → out
+    ≡ drop 1 text → joined_line (words_for known m (text_words command)) ≡ Ok out
+replaced_all known m text rest command out e h is =
+    joined_behind (words_for known m (text_words command))
+    ∙ ap unspaced (sym h ∙ ap (λ ws. behind text (words_for known m ws)) e)
     ∙ ap (λ t. Ok t) (sym is)

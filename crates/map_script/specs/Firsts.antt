@@ -1,5 +1,5 @@
 -- The first item of each kind that a command adds to the current map.
-use Rattle.std.specs.Prelude.{ℕ, zero, suc, Option, Some, None}
+use Rattle.std.specs.Prelude.{ℕ, zero, suc, nat_lt, if◌then◌else◌, Option, Some, None}
 use Rattle.map_tables.specs.declared.kind.Kind.{Kind}
 use Rattle.map_tables.specs.declared.kind.Kind.TheVariants as kind
 use Rattle.map_tables.specs.declared.edit.Need.{Need}
@@ -7,6 +7,7 @@ use Rattle.map_tables.specs.Tables.{Tables, count_of}
 use Rattle.map_commands.specs.ProjectReadiness.{project_need_of}
 use Rattle.map_commands.specs.declared.project.command.ProjectCommand.{ProjectCommand}
 use Rattle.map_script.specs.declared.firsts.Firsts.{Firsts}
+use Rattle.map_script.specs.declared.firsts.ItemCounts.{ItemCounts}
 
 -- the number of the first of some items that are appended to a table, if there are any
 abbrev pub first_new : ℕ → ℕ → Option ℕ
@@ -26,6 +27,30 @@ firsts_in need m = record {
 -- the first items that a command adds to the current map
 abbrev pub firsts_of : ProjectCommand → Tables → Firsts
 firsts_of c m = firsts_in (project_need_of c) m
+
+-- how many items a map has of each kind
+abbrev pub counts_of : Tables → ItemCounts
+counts_of m = record {
+  vertices = count_of m kind.Vertex;
+  sectors = count_of m kind.Sector;
+  sides = count_of m kind.Side;
+  lines = count_of m kind.Line;
+  things = count_of m kind.Thing;
+}
+
+-- the number of the first item that a table has gained, if it has
+abbrev pub first_gained : ℕ → ℕ → Option ℕ
+first_gained before after = if nat_lt before after then Some before else None
+
+-- the first items of each kind that a map has gained since it had these counts
+abbrev pub firsts_since : ItemCounts → Tables → Firsts
+firsts_since before m = record {
+  vertex = first_gained before.vertices (count_of m kind.Vertex);
+  sector = first_gained before.sectors (count_of m kind.Sector);
+  side = first_gained before.sides (count_of m kind.Side);
+  line = first_gained before.lines (count_of m kind.Line);
+  thing = first_gained before.things (count_of m kind.Thing);
+}
 
 -- the first item of a kind
 abbrev pub first_of : Firsts → Kind → Option ℕ

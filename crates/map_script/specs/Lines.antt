@@ -1,6 +1,7 @@
 -- The command line that a line of a script stands for.
 use Rattle.std.specs.Prelude.{◌≡◌, ℕ, Bool, true, ◌==◌, if◌then◌else◌, List, [], ◌∷◌, Option, Some, None, Result, Ok, Err, codes, bytes_eq, decimal}
 use Rattle.std.specs.List.{join_with_byte}
+use Rattle.map_tables.specs.Tables.{Tables}
 use Rattle.map_script.specs.Names.{is_script_name, number_for}
 use Rattle.map_script.specs.Texts.{with_word}
 use Rattle.map_script.specs.Words.{text_words}
@@ -29,9 +30,10 @@ number_word (Ok n) = Ok (decimal n)
 number_word (Err e) = Err e
 
 -- the word that a word stands for: a number for a reference, otherwise the word itself
-abbrev pub word_for : List (List ℕ × Numbers) → List ℕ → Result (List ℕ) DrawError
-word_for known [] = Ok []
-word_for known (b ∷ bs) = if b == 36 then number_word (number_for known bs) else Ok (b ∷ bs)
+abbrev pub word_for : List (List ℕ × Numbers) → Tables → List ℕ → Result (List ℕ) DrawError
+word_for known m [] = Ok []
+word_for known m (b ∷ bs) =
+    if b == 36 then number_word (number_for known m bs) else Ok (b ∷ bs)
 
 -- a word before others, or the leftmost error
 abbrev pub in_front : Result (List ℕ) DrawError → Result (List (List ℕ)) DrawError
@@ -41,20 +43,22 @@ in_front (Ok w) (Err e) = Err e
 in_front (Ok w) (Ok ws) = Ok (w ∷ ws)
 
 -- the words that the words stand for, or the leftmost error
-abbrev pub words_for : List (List ℕ × Numbers) → List (List ℕ) → Result (List (List ℕ)) DrawError
-words_for known [] = Ok []
-words_for known (w ∷ ws) = in_front (word_for known w) (words_for known ws)
+abbrev pub words_for : List (List ℕ × Numbers) → Tables → List (List ℕ)
+    → Result (List (List ℕ)) DrawError
+words_for known m [] = Ok []
+words_for known m (w ∷ ws) = in_front (word_for known m w) (words_for known m ws)
 
 -- the words, separated by single spaces
 abbrev pub joined_line : Result (List (List ℕ)) DrawError → Result (List ℕ) DrawError
 joined_line (Ok ws) = Ok (join_with_byte 32 ws)
 joined_line (Err e) = Err e
 
--- the command line that a line stands for, or its error: that of a bad name comes before that of a bad reference
-abbrev pub line_for : List (List ℕ × Numbers) → List ℕ → Result (List ℕ) DrawError
-line_for known line =
+-- the command line that a line stands for over the current map, or its error: that of a bad name
+-- comes before that of a bad reference
+abbrev pub line_for : List (List ℕ × Numbers) → Tables → List ℕ → Result (List ℕ) DrawError
+line_for known m line =
     if has_good_name (name_in (text_words line))
-    then joined_line (words_for known (command_words (text_words line))) else Err NotAName
+    then joined_line (words_for known m (command_words (text_words line))) else Err NotAName
 
 -- the call returned the error that the definition gives, or memory ran out
 abbrev pub TellsScriptFault : {X : Type 0} → DrawError → Result X DrawError → Type 0

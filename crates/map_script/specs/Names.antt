@@ -1,12 +1,21 @@
 -- Names, and the numbers that references stand for.
 use Rattle.std.specs.Prelude.{ℕ, Bool, true, false, ◌+◌, ◌-◌, ◌*◌, ◌&&◌, ◌||◌, ◌==◌, nat_le, nat_lt, if◌then◌else◌, List, [], ◌∷◌, length, take, drop, fold, position, Option, Some, None, Result, Ok, Err, bytes_eq}
 use Rattle.std.specs.List.{list_all}
-use Rattle.std.specs.Option.{is_some}
+use Rattle.std.specs.Option.{is_some, is_none}
+use Rattle.map_tables.specs.Tables.{Tables}
 use Rattle.map_tables.specs.declared.kind.Kind.{Kind}
+use Rattle.map_tables.specs.declared.kind.Kind.TheVariants as kind
+use Rattle.lump_records.specs.declared.records.Vertex.{Vertex}
 use Rattle.map_commands.specs.Grammar.{kind_of}
+use Rattle.map_commands.specs.Places.{coordinate, place_fault}
+use Rattle.map_commands.specs.Words.{is_numeral, numeral_value}
+use Rattle.map_plane.specs.Found.{stands_at}
+use Rattle.map_plane.specs.Meeting.{is_at, is_on}
+use Rattle.map_plane.specs.Nearest.{sector_of_place}
+use Rattle.map_plane.specs.Places.{placed_lines}
 use Rattle.map_script.specs.Firsts.{first_of}
 use Rattle.map_script.specs.declared.error.DrawError.{DrawError}
-use Rattle.map_script.specs.declared.error.DrawError.TheVariants.{NotAReference, UnknownName, NothingAdded, NumberTooLarge}
+use Rattle.map_script.specs.declared.error.DrawError.TheVariants.{NotAReference, UnknownName, NothingAdded, NumberTooLarge, NothingThere}
 use Rattle.map_script.specs.declared.firsts.Firsts.{Firsts}
 use Rattle.map_script.specs.declared.firsts.Numbers.{Numbers}
 use Rattle.lump_records.specs.Names.{is_digit}
@@ -29,7 +38,7 @@ abbrev pub numbers_of : List (List ℕ × Numbers) → List ℕ → Option Numbe
 numbers_of known name =
     fold (λ found entry. if bytes_eq entry.0 name then Some entry.1 else found) None known
 
--- ---- References: NAME or NAME.KIND, each with or without +N
+-- ---- References: NAME, NAME.KIND or KIND(X,Y), each with or without +N
 
 -- a text cut at an index: the bytes before it and those after it; the whole text if there is no index
 abbrev pub text_cut_at : List ℕ → Option ℕ → List ℕ × Option (List ℕ)
@@ -87,7 +96,67 @@ number_by known name kind more =
     then number_in (numbers_of known name) kind more
     else Err NotAReference
 
+-- ---- KIND(X,Y)
+
+-- the number of the item that is at a place, the least of several: a vertex or a thing that stands
+-- there, a line that it lies on, the sector that it belongs to
+abbrev pub number_at_place : Tables → Kind → Vertex → Option ℕ
+number_at_place m kind.Vertex place = position (is_at place) m.vertices
+number_at_place m kind.Sector place = sector_of_place m place
+number_at_place m kind.Side place = None
+number_at_place m kind.Line place = position (λ l. is_on l place) (placed_lines m)
+number_at_place m kind.Thing place = position (stands_at place) m.things
+
+-- whether items of the kind are at places
+abbrev pub has_places : Kind → Bool
+has_places kind.Side = false
+has_places _ = true
+
+-- whether a number can be one of a place
+abbrev pub is_coordinate_word : List ℕ → Bool
+is_coordinate_word w = is_none (place_fault coordinate w)
+
+-- the place that two numbers write
+abbrev pub place_of : List ℕ → List ℕ → Vertex
+place_of x y = record { x = numeral_value x; y = numeral_value y }
+
+-- the number of the item at a place that two numbers write: none where no place has them
+abbrev pub number_there : Tables → Kind → List ℕ → List ℕ → Option ℕ
+number_there m k x y =
+    if is_coordinate_word x && is_coordinate_word y
+    then number_at_place m k (place_of x y) else None
+
+-- the number of an item at a place and what is added, or NothingThere
+abbrev pub sum_there : Option ℕ → ℕ → Result ℕ DrawError
+sum_there None more = Err NothingThere
+sum_there (Some n) more = sum_of (Some n) more
+
+-- the number that KIND and X,Y stand for
+abbrev pub number_by_place : Tables → Option Kind → List ℕ → Option (List ℕ) → Option (List ℕ)
+    → Result ℕ DrawError
+number_by_place m None x y more = Err NotAReference
+number_by_place m (Some k) x None more = Err NotAReference
+number_by_place m (Some k) x (Some y) more =
+    if has_places k && (is_numeral x && (is_numeral y && is_sum_part more))
+    then sum_there (number_there m k x y) (added_by more)
+    else Err NotAReference
+
+-- the same of what stands behind the `(`: X,Y and a `)` that ends it
+abbrev pub number_behind_bracket : Tables → Option Kind → List ℕ × Option (List ℕ)
+    → Option (List ℕ) → Result ℕ DrawError
+number_behind_bracket m k (xy, Some []) more =
+    number_by_place m k (cut 44 xy).0 (cut 44 xy).1 more
+number_behind_bracket m k _ more = Err NotAReference
+
+-- the number that a reference without its +N stands for: with a `(` by its place, else by its name
+abbrev pub number_of_base : List (List ℕ × Numbers) → Tables → List ℕ → List ℕ × Option (List ℕ)
+    → Option (List ℕ) → Result ℕ DrawError
+number_of_base known m base (kind, None) more =
+    number_by known (cut 46 base).0 (cut 46 base).1 more
+number_of_base known m base (kind, Some rest) more =
+    number_behind_bracket m (kind_of kind) (cut 41 rest) more
+
 -- the number that a reference stands for, given without its `$`
-abbrev pub number_for : List (List ℕ × Numbers) → List ℕ → Result ℕ DrawError
-number_for known text =
-    number_by known (cut 46 (cut 43 text).0).0 (cut 46 (cut 43 text).0).1 (cut 43 text).1
+abbrev pub number_for : List (List ℕ × Numbers) → Tables → List ℕ → Result ℕ DrawError
+number_for known m text =
+    number_of_base known m (cut 43 text).0 (cut 40 (cut 43 text).0) (cut 43 text).1

@@ -11,7 +11,7 @@ use thiserror::Error;
 pub enum DrawError {
     /// In `NAME = COMMAND` the word before `=` is not a name.
     NotAName,
-    /// A word that begins with `$` isn't `$NAME` or `$NAME.KIND`, with or without `+N` after it.
+    /// A word that begins with `$` isn't `$NAME`, `$NAME.KIND` or `$KIND(X,Y)`, with or without `+N` after it.
     NotAReference,
     /// No earlier line has this name.
     UnknownName,
@@ -19,6 +19,8 @@ pub enum DrawError {
     NothingAdded,
     /// The sum is greater than 32,767, the greatest number that a command may have.
     NumberTooLarge,
+    /// No item of this kind is at this place.
+    NothingThere,
     OutOfMemory,
 }
 
@@ -74,6 +76,7 @@ impl DrawError {
             DrawError::UnknownName => (22, "no line before has this name"),
             DrawError::NothingAdded => (23, "the command of this name added no such item"),
             DrawError::NumberTooLarge => (24, "the sum is greater than 32767"),
+            DrawError::NothingThere => (45, "nothing is at this place"),
             DrawError::OutOfMemory => (31, "out of memory"),
         }
     }

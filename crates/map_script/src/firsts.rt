@@ -1,6 +1,6 @@
 //! The numbers that a name keeps: its command's answer, and the first items that the command added.
 ghost use Rattle.std.specs.Prelude.{◌≡◌};
-ghost use Rattle.map_script.specs.Firsts.{first_new, first_of, firsts_of};
+ghost use Rattle.map_script.specs.Firsts.{counts_of, first_gained, first_new, first_of, firsts_of, firsts_since};
 
 use map_commands::{ProjectCommand, need_of};
 use map_tables::{Kind, Map};
@@ -21,6 +21,16 @@ pub struct Numbers {
     /// The number that the command answered.
     pub answer: u32,
     pub firsts: Firsts,
+}
+
+/// How many items a map has of each kind.
+#[derive(Clone, Copy)]
+pub struct ItemCounts {
+    pub vertices: u32,
+    pub sectors: u32,
+    pub sides: u32,
+    pub lines: u32,
+    pub things: u32,
 }
 
 impl Firsts {
@@ -56,5 +66,38 @@ pub fn firsts_of(command: &ProjectCommand, map: &Map) -> Firsts
         side: first_new(need.sides, map.count(Kind::Side)),
         line: first_new(need.lines, map.count(Kind::Line)),
         thing: first_new(need.things, map.count(Kind::Thing)),
+    }
+}
+
+/// How many items the map has of each kind.
+pub fn counts_of(map: &Map) -> ItemCounts
+    ensures { result ≡ counts_of map.now.tables }
+{
+    ItemCounts {
+        vertices: map.count(Kind::Vertex),
+        sectors: map.count(Kind::Sector),
+        sides: map.count(Kind::Side),
+        lines: map.count(Kind::Line),
+        things: map.count(Kind::Thing),
+    }
+}
+
+// The number of the first item that a table has gained.
+fn first_gained(before: u32, after: u32) -> Option<u32>
+    ensures { result ≡ first_gained before after }
+{
+    if before < after { Some(before) } else { None }
+}
+
+/// The first item of each kind that the current map has gained since it had these counts.
+pub fn firsts_since(before: &ItemCounts, map: &Map) -> Firsts
+    ensures { result ≡ firsts_since before.now map.now.tables }
+{
+    Firsts {
+        vertex: first_gained(before.vertices, map.count(Kind::Vertex)),
+        sector: first_gained(before.sectors, map.count(Kind::Sector)),
+        side: first_gained(before.sides, map.count(Kind::Side)),
+        line: first_gained(before.lines, map.count(Kind::Line)),
+        thing: first_gained(before.things, map.count(Kind::Thing)),
     }
 }

@@ -12,7 +12,7 @@ mod text;
 mod words;
 
 pub use error::DrawError;
-pub use firsts::{Firsts, Numbers, firsts_of};
+pub use firsts::{Firsts, ItemCounts, Numbers, counts_of, firsts_of, firsts_since};
 pub use names::Names;
 pub use resolving::{defined_name, resolve};
 pub use script::{ScriptLine, script_lines};

@@ -1,28 +1,22 @@
-//! The numbers that references stand for: `$NAME` or `$NAME.KIND`, with or without `+N`.
-ghost use Rattle.std.specs.Prelude.{◌≡◌, ◌≤◌, ◌<◌, ◌+◌, ◌-◌, ◌*◌, ◌==◌, min, length, position, bytes_eq, IfSome, option_copied};
+//! The numbers that references stand for: `$NAME`, `$NAME.KIND` or `$KIND(X,Y)`, with or without `+N`.
+ghost use Rattle.std.specs.Prelude.{◌≡◌, ◌≤◌, ◌<◌, ◌+◌, ◌-◌, ◌*◌, ◌==◌, min, length, position, IfSome, option_copied};
 ghost use Rattle.std.specs.List.{list_all};
 ghost use Rattle.map_commands.specs.Grammar.{kind_of};
-ghost use Rattle.map_commands.specs.Spelling.{kind_word};
+ghost use Rattle.map_commands.specs.Words.{is_numeral};
 ghost use Rattle.map_script.specs.Known.{known};
 ghost use Rattle.lump_records.specs.Names.{is_digit};
-ghost use Rattle.map_script.specs.Names.{added_by, base_of, cut, is_kind_part, is_letter, is_script_name, is_script_name_byte, is_sum_part, number_by, number_for, number_in, sum_of, value_of};
+ghost use Rattle.map_script.specs.Names.{added_by, base_of, cut, is_kind_part, is_letter, is_script_name, is_script_name_byte, is_sum_part, has_places, number_at_place, number_behind_bracket, number_by, number_by_place, number_for, number_in, number_there, sum_of, sum_there, value_of};
 
 use crate::error::DrawError;
 use crate::firsts::Numbers;
 use crate::names::Names;
-use map_tables::Kind;
+use lump_records::{GREATEST_COORDINATE, LEAST_COORDINATE, Vertex};
+use map_commands::{CommandError, kind_in, number_in as number_in_range};
+use map_plane::{line_at, sector_at, thing_at, vertex_at};
+use map_tables::{Kind, Map};
 
 // The greatest number that a command may have.
 const GREATEST: u32 = 32767;
-
-// All tables.
-const KINDS: [Kind; 5] = [
-    Kind::Vertex,
-    Kind::Sector,
-    Kind::Side,
-    Kind::Line,
-    Kind::Thing,
-];
 
 fn is_digit(b: u8) -> bool
     ensures { result ≡ is_digit b }
@@ -57,33 +51,6 @@ pub fn is_name(word: &[u8]) -> bool
         [] => false,
         [first, rest @ ..] => is_letter(*first) && are_name_bytes(rest),
     }
-}
-
-// The word of a table.
-fn kind_text(kind: Kind) -> &'static str
-    ensures { result.now ≡ kind_word kind }
-{
-    match kind {
-        Kind::Vertex => "vertex",
-        Kind::Sector => "sector",
-        Kind::Side => "side",
-        Kind::Line => "line",
-        Kind::Thing => "thing",
-    }
-}
-
-// Whether the word is that of the table.
-fn is_kind(word: &[u8], kind: Kind) -> bool
-    ensures { result ≡ bytes_eq word.now (kind_word kind) }
-{
-    word == kind_text(kind).as_bytes()
-}
-
-// The table that a word names.
-fn kind_in(word: &[u8]) -> Option<Kind>
-    ensures { result ≡ kind_of word.now }
-{
-    KINDS.iter().copied().find(|kind| is_kind(word, *kind))
 }
 
 // Whether each byte is a digit.
@@ -204,15 +171,128 @@ fn number_in(
     }
 }
 
-/// The number that a reference stands for; `text` is the reference without its `$`.
-pub fn number_for(names: &Names, text: &[u8]) -> Result<u32, DrawError>
-    ensures { result ≡ number_for (known names.now) text.now }
+// The number that these parts of a reference to a name stand for.
+fn number_by(
+    names: &Names,
+    name: &[u8],
+    kind: Option<&[u8]>,
+    more: Option<&[u8]>,
+) -> Result<u32, DrawError>
+    ensures { result ≡ number_by (known names.now) name.now (option_copied kind.entry)
+        (option_copied more.entry) }
 {
-    let (base, more) = cut(text, b'+');
-    let (name, kind) = cut(base, b'.');
     if is_name(name) && is_kind_part(kind) && is_sum_part(more) {
         number_in(names.find(name), kind, more)
     } else {
         Err(DrawError::NotAReference)
+    }
+}
+
+// The number of the item that is at a place.
+fn number_at_place(map: &Map, kind: Kind, place: Vertex) -> Option<u16>
+    ensures { result ≡ number_at_place map.now.tables kind place }
+{
+    match kind {
+        Kind::Vertex => vertex_at(map, place),
+        Kind::Sector => sector_at(map, place),
+        Kind::Side => None,
+        Kind::Line => line_at(map, place),
+        Kind::Thing => thing_at(map, place),
+    }
+}
+
+// Whether items of the kind are at places.
+fn has_places(kind: Kind) -> bool
+    ensures { result ≡ has_places kind }
+{
+    match kind {
+        Kind::Side => false,
+        _ => true,
+    }
+}
+
+// Whether the word is a number, however great.
+fn is_whole(word: &[u8]) -> bool
+    ensures { result ≡ is_numeral word.now }
+{
+    match number_in_range(word, LEAST_COORDINATE, GREATEST_COORDINATE) {
+        Err(CommandError::NotACommand) => false,
+        _ => true,
+    }
+}
+
+// The number of the item at the place that two numbers write.
+fn number_there(map: &Map, kind: Kind, x: &[u8], y: &[u8]) -> Option<u16>
+    ensures { result ≡ number_there map.now.tables kind x.now y.now }
+{
+    let x = number_in_range(x, LEAST_COORDINATE, GREATEST_COORDINATE);
+    let y = number_in_range(y, LEAST_COORDINATE, GREATEST_COORDINATE);
+    match (x, y) {
+        (Ok(x), Ok(y)) => number_at_place(map, kind, Vertex { x, y }),
+        _ => None,
+    }
+}
+
+// The number of an item at a place and what is added.
+fn sum_there(there: Option<u16>, more: Option<&[u8]>) -> Result<u32, DrawError>
+    ensures { result ≡ sum_there there (added_by (option_copied more.entry)) }
+{
+    match there {
+        Some(number) => sum_of(Some(u32::from(number)), more),
+        None => Err(DrawError::NothingThere),
+    }
+}
+
+// The number that a kind and a place stand for.
+fn number_by_place(
+    map: &Map,
+    kind: Option<Kind>,
+    x: &[u8],
+    y: Option<&[u8]>,
+    more: Option<&[u8]>,
+) -> Result<u32, DrawError>
+    ensures { result ≡ number_by_place map.now.tables kind x.now (option_copied y.entry)
+        (option_copied more.entry) }
+{
+    let (Some(kind), Some(y)) = (kind, y) else {
+        return Err(DrawError::NotAReference);
+    };
+    if has_places(kind) && is_whole(x) && is_whole(y) && is_sum_part(more) {
+        sum_there(number_there(map, kind, x, y), more)
+    } else {
+        Err(DrawError::NotAReference)
+    }
+}
+
+// The number that a kind and what stands behind its bracket stand for.
+fn number_behind_bracket(
+    map: &Map,
+    kind: Option<Kind>,
+    rest: &[u8],
+    more: Option<&[u8]>,
+) -> Result<u32, DrawError>
+    ensures { result ≡ number_behind_bracket map.now.tables kind (cut 41 rest.now)
+        (option_copied more.entry) }
+{
+    match cut(rest, b')') {
+        (place, Some([])) => {
+            let (x, y) = cut(place, b',');
+            number_by_place(map, kind, x, y, more)
+        }
+        _ => Err(DrawError::NotAReference),
+    }
+}
+
+/// The number that a reference stands for over the current map; `text` is the reference without its `$`.
+pub fn number_for(names: &Names, map: &Map, text: &[u8]) -> Result<u32, DrawError>
+    ensures { result ≡ number_for (known names.now) map.now.tables text.now }
+{
+    let (base, more) = cut(text, b'+');
+    match cut(base, b'(') {
+        (kind, Some(rest)) => number_behind_bracket(map, kind_in(kind), rest, more),
+        (_, None) => {
+            let (name, kind) = cut(base, b'.');
+            number_by(names, name, kind, more)
+        }
     }
 }

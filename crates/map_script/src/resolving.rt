@@ -10,6 +10,7 @@ use crate::names::Names;
 use crate::reference::{is_name, number_for};
 use crate::text::{put_word, without_first};
 use crate::words::next_word;
+use map_tables::Map;
 use std::alloc::Global;
 
 // The name that a line defines, if any, and its command.
@@ -52,12 +53,14 @@ fn put_number(
     alloc: Global,
     text: &mut Vec<u8>,
     names: &Names,
+    map: &Map,
     reference: &[u8],
 ) -> Result<(), DrawError>
-    ensures { PutsWord result (number_word (number_for (known names.now) reference.now))
+    ensures { PutsWord result
+        (number_word (number_for (known names.now) map.now.tables reference.now))
         text.old.items text.new.items }
 {
-    match number_for(names, reference) {
+    match number_for(names, map, reference) {
         Ok(number) => {
             let digits = format!(in alloc; "{number}")?;
             put_word(text, digits.as_bytes())
@@ -71,29 +74,32 @@ fn put_resolved(
     alloc: Global,
     text: &mut Vec<u8>,
     names: &Names,
+    map: &Map,
     word: &[u8],
 ) -> Result<(), DrawError>
-    ensures { PutsWord result (word_for (known names.now) word.now) text.old.items text.new.items }
+    ensures { PutsWord result (word_for (known names.now) map.now.tables word.now)
+        text.old.items text.new.items }
 {
     match word {
-        [b'$', reference @ ..] => put_number(alloc, text, names, reference),
+        [b'$', reference @ ..] => put_number(alloc, text, names, map, reference),
         _ => put_word(text, word),
     }
 }
 
 // The words of a command, with numbers in place of references.
 #[tactic(auto, using(crate::proofs::Replacing::behind_more))]
-fn replaced(alloc: Global, names: &Names, command: &[u8]) -> Result<Vec<u8>, DrawError>
+fn replaced(alloc: Global, names: &Names, map: &Map, command: &[u8]) -> Result<Vec<u8>, DrawError>
     ensures ok { IfOk result (λ text.
-        joined_line (words_for (known names.now) (text_words command.now)) ≡ Ok text.items) }
+        joined_line (words_for (known names.now) map.now.tables (text_words command.now))
+        ≡ Ok text.items) }
     ensures fault { IfErr result
         (λ e. TellsScriptFault e
-        (joined_line (words_for (known names.now) (text_words command.now)))) }
+        (joined_line (words_for (known names.now) map.now.tables (text_words command.now)))) }
 {
     let mut text = Vec::new(alloc);
     let mut rest = command;
     while let Some((word, behind)) = next_word(rest) {
-        match put_resolved(alloc, &mut text, names, word) {
+        match put_resolved(alloc, &mut text, names, map, word) {
             Ok(()) => rest = behind,
             Err(error) => return Err(error),
         }
@@ -101,18 +107,21 @@ fn replaced(alloc: Global, names: &Names, command: &[u8]) -> Result<Vec<u8>, Dra
     Ok(without_first(text))
 }
 
-/// Resolves a line of a script to a command line: removes `NAME =`, and replaces references by numbers.
+/// Resolves a line of a script to a command line: removes `NAME =`, and replaces references by numbers. `map` is the
+/// current map, in which the places of references are looked for.
 ///
 /// # Errors
 ///
 /// `NotAName`, or otherwise the error of the leftmost reference that stands for no number; or `OutOfMemory`.
-pub fn resolve(alloc: Global, names: &Names, line: &[u8]) -> Result<Vec<u8>, DrawError>
-    ensures ok { IfOk result (λ text. line_for (known names.now) line.now ≡ Ok text.items) }
-    ensures fault { IfErr result (λ e. TellsScriptFault e (line_for (known names.now) line.now)) }
+pub fn resolve(alloc: Global, names: &Names, map: &Map, line: &[u8]) -> Result<Vec<u8>, DrawError>
+    ensures ok { IfOk result
+        (λ text. line_for (known names.now) map.now.tables line.now ≡ Ok text.items) }
+    ensures fault { IfErr result
+        (λ e. TellsScriptFault e (line_for (known names.now) map.now.tables line.now)) }
 {
     let (name, command) = parted(line);
     if has_good_name(name) {
-        replaced(alloc, names, command)
+        replaced(alloc, names, map, command)
     } else {
         Err(DrawError::NotAName)
     }

@@ -37,6 +37,16 @@ const NAMED: &[(&[u8], Result<&[u8], u16>)] = &[
     (b"hall = room 0 0 256 256 0 128 FLOOR4_8 CEIL3_5 STARTAN3 160",
         Ok(b"room 0 0 256 256 0 128 FLOOR4_8 CEIL3_5 STARTAN3 160")),
     (b"cut = split $hall.line+2 256 128", Ok(b"split 2 256 128")),
+    (b"line $vertex(256,256) $line(0,64) $vertex(0,0)+5 0 0 0 -", Ok(b"line 2 0 5 0 0 0 -")),
+    (b"split $sector(1,255) 0 0", Ok(b"split 0 0 0")), (b"split $line(0,0) 0 0", Ok(b"split 0 0 0")),
+    (b"split $line(256,0)+1 0 0", Ok(b"split 4 0 0")), (b"split $sector(256,1) 0 0", Err(45)),
+    (b"split $vertex(1,0) 0 0", Err(45)), (b"split $thing(0,0) 0 0", Err(45)),
+    (b"split $vertex(99999,0) 0 0", Err(45)), (b"split $vertex(0,-0) 0 0", Err(21)),
+    (b"split $side(0,0) 0 0", Err(21)), (b"split $vertex(0) 0 0", Err(21)),
+    (b"split $vertex(0,0 0 0", Err(21)), (b"split $vertex(0,0)1 0 0", Err(21)),
+    (b"split $vertex(0,0)+ 0 0", Err(21)), (b"split $vertex(0,0,0) 0 0", Err(21)),
+    (b"split $vertices(0,0) 0 0", Err(21)), (b"thing 0 0 90 $vertex(0,0)+32767 7", Ok(b"thing 0 0 90 32767 7")),
+    (b"split $vertex(256,0)+32767 0 0", Err(24)), (b"split $line(0,1)+$ 0 0", Err(21)),
     (b"line $cut.vertex $hall.vertex+1 1 0 0 $hall.side -", Ok(b"line 4 1 1 0 0 0 -")),
     (b"vertex $cut $cut.line", Ok(b"vertex 4 4")),
     (b"hall = vertex $hall+7 9", Ok(b"vertex 7 9")),
@@ -69,7 +79,7 @@ fn replaces_names(rt: HostRuntime) -> Result<(), Fail> {
     let mut maps = Maps::new(rt.alloc());
     let mut names = Names::new(rt.alloc());
     for &(line, want) in NAMED {
-        let found = resolve(rt.alloc(), &names, line);
+        let found = resolve(rt.alloc(), &names, maps.current(), line);
         let text = found
             .as_ref()
             .map(|text| text.as_slice())

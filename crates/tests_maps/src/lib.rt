@@ -27,3 +27,5 @@ mod maps;
 mod maptables;
 #[cfg(test)]
 mod picture;
+#[cfg(test)]
+mod shapes;

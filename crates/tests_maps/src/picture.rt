@@ -3,8 +3,8 @@
 use crate::drawing::{ROOM, SECTOR, SIDE, drawn};
 use crate::expect::same;
 use lump_records::{Bounds, Node, Seg, Sub, Vertex};
-use map_picture::{PictureOptions, STYLE, write_picture};
 use lump_text::WriterFailed;
+use map_picture::{PictureOptions, STYLE, write_picture};
 use map_svg::{Mark, MarkPlace, Overlay};
 use std::alloc::Global;
 use std::io;

@@ -8,5 +8,5 @@ pub returns-clause-ok : goal.returns-clause-ok
 returns-clause-ok c =
     let rest = c.loop-word.rest.now in
     let none : text_words rest ≡ [] = search rules in
-    replaced_all (known c.args.names.now) c.loop-word.text.items rest c.args.command.now c.without_first.result.items
+    replaced_all (known c.args.names.now) c.args.map.now.tables c.loop-word.text.items rest c.args.command.now c.without_first.result.items
     none c.loop-word.invariant c.without_first.ensures

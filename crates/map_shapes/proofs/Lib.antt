@@ -1,0 +1,6 @@
+pub mod Corners
+pub mod DoorFaults
+pub mod FieldWords
+pub mod Items
+pub mod Settings
+pub mod Texts

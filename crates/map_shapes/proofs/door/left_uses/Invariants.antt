@@ -1,0 +1,7 @@
+use Rattle.std.proofs.Common.{◌≡◌, ◌≤◌, take}
+use Rattle.std.specs.Prelude.{◌==◌, count_by}
+use Rattle.map_shapes.proofs.door.left_uses.Given as goal
+
+-- the uses so far
+abbrev pub invariant-loop-n : goal.invariant-loop-n
+invariant-loop-n l = (l.uses ≡ count_by (λ line. line.left == l.side) (take l.n l.map.tables.lines)) × (l.uses ≤ l.n)
