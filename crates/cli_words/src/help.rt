@@ -85,10 +85,13 @@ Draws the lines of SCRIPT, or of standard input, in order, each as `edit` would:
 is on the disk before the next one begins. A script may have blank lines, indentation,
 several spaces between words, and comments: a word that begins with # starts one.
 `hall = room ..` keeps the numbers of the new items, so that `$hall.line+2` stands for the
-third wall of this room in the lines that follow. `draw` stops at the first refused line,
-and standard error says which one it is and what is wrong with it; the status is then 3,
-and what the lines before it drew stays. --verbose prints the answer to each command.
-`draw --check SCRIPT` tries a script on maps in memory, and opens no project file.";
+third wall of this room in the lines that follow, and `$line(256,128)` for the line at this
+place. Four words draw shapes by several commands: `area` a sector inside some corners,
+`pillar` walls round nothing, `door` a door in place of a sector, `change` an item with
+other values, as `change line $line(256,128) SPECIAL=11`. `draw` stops at the first refused
+line, and standard error says which one it is and what is wrong with it; the status is
+then 3, and what the lines before it drew stays. --verbose prints the answer to each
+command. `draw --check SCRIPT` tries a script on maps in memory, and opens no project file.";
 
 /// `dump`.
 pub const DUMP: &str = "\
@@ -147,9 +150,9 @@ of the WAD's levels.";
 pub const CODES: &str = "\
 A refused line is answered `no CODE`; a refused request prints `leveled: CODE NAME` to
 standard error. The maps in memory stay as they were. Numbers 1 to 19 refuse a command,
-and 20 to 24 a line of a script; 30 to 38 come from the disk, from memory, or from the
-input or output, 40 to 44 from a project file, 60 to 66 from a build, and 50 and 70 to 78
-from a WAD. What is wrong, or what to do about it:
+numbers 20 to 29 and 45 a line of a script; 30 to 38 come from the disk, from memory, or
+from the input or output, 40 to 44 from a project file, 60 to 66 from a build, and 50
+and 70 to 78 from a WAD. What is wrong, or what to do about it:
 
  1 NotACommand         look for two spaces, a blank line, CR, a tab, a missing word
  2 OutOfRange          COMMANDS.md has the ranges; a room begins at its lower left corner
@@ -171,10 +174,15 @@ from a WAD. What is wrong, or what to do about it:
 18 NoSuchMap           `maps` lists the names
 19 CurrentMap          make another map current first
 20 NotAName            in a script: a name is a letter, then letters, digits and _
-21 NotAReference       in a script: give $NAME or $NAME.KIND, with or without +N
+21 NotAReference       in a script: give $NAME, $NAME.KIND or $KIND(X,Y), perhaps with +N
 22 UnknownName         in a script: no earlier line has this name; check its spelling
 23 NothingAdded        in a script: name an item that the command adds
 24 NumberTooLarge      in a script: the sum is above 32767; check the +N
+25 NotAPolygon         in a script: give the corners of a shape in order, each once
+26 Crossing            in a script: move a corner; lines cross at whole places only
+27 SeveralSectors      in a script: draw each part as an area of its own
+28 NotEmpty            in a script: draw the outer area first, then what is in it
+29 NoDoor              in a script: draw the sectors on both sides of the door first
 30 Device              check the disk, or end the program that has FILE open; reopen it
 31 Memory              free some memory, and give the line again
 32 Reopen              open FILE again; every acknowledged command is there
@@ -189,6 +197,7 @@ from a WAD. What is wrong, or what to do about it:
 42 NotAProject         check FILE's name, or the program's version
 43 NotEmpty            choose another name for a new project
 44 BadGeometry         a slot has 33 to 2007015 bytes, a journal 512 to 1048576
+45 NothingThere        in a script: look at `picture --numbers`, or draw it first
 50 LumpLength          the WAD is damaged
 60 NothingToBuild      a map has no line: draw one, or drop the map
 61 TooManyVertices     draw fewer lines, or fewer crossings

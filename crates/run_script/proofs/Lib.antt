@@ -1,2 +1,4 @@
+pub mod Currents
 pub mod LineEnds
+pub mod ShapeSteps
 pub mod Sketches

@@ -1,7 +1,7 @@
 -- Scripts that are drawn line by line.
-use Rattle.std.proofs.Common.{◌≡◌, ◌⊎◌, inl, inr, ℕ, ◌+◌, ◌<◌, ◌≤◌, List, [], ◌∷◌, ◌++◌, Bool, None, map, length, get_or, take, drop, refl, sym, ◌∙◌, ap, subst, arith, append_assoc}
+use Rattle.std.proofs.Common.{◌≡◌, ◌⊎◌, inl, inr, ℕ, ◌+◌, ◌<◌, List, [], ◌∷◌, ◌++◌, Bool, None, map, length, get_or, take, drop, refl, sym, ◌∙◌, ap, subst, arith, append_assoc}
 use Rattle.std.proofs.lemmas.List.{length-map, length-take-le, map-append, take_more, take-append-drop}
-use Rattle.run_script.specs.Drawn.{DrawsAll, DrawsFront, DrawsLine, IsCutOff, Sketch}
+use Rattle.run_script.specs.Drawn.{DrawsAll, DrawsLine, IsCutOff, Sketch}
 use Rattle.run_script.specs.declared.canvas.Canvas.{Ghosts}
 
 -- one line more

@@ -60,6 +60,7 @@ abbrev pub project_canvas : {D : Type 0} → Ghosts D → canvas.Ghosts (State D
 project_canvas facts = record {
   changes = ChangesProject facts;
   maps_in = λ s. project_of s.maps;
+  cap_in = λ s. s.cap;
   is_query = is_query_line;
   tells = TellsOfProject;
 }
@@ -69,6 +70,7 @@ abbrev pub draft_canvas : canvas.Ghosts ProjectMaps
 draft_canvas = record {
   changes = ChangesBy LONGEST_BODY;
   maps_in = λ p. p;
+  cap_in = λ _. LONGEST_BODY;
   is_query = is_query_line;
   tells = TellsOfMaps;
 }

@@ -5,11 +5,13 @@ use Rattle.map_tables.specs.Projects.{ProjectMaps, current_map}
 use Rattle.map_commands.specs.ProjectCommands.{InProjectRange, project_spelling}
 use Rattle.map_commands.specs.declared.project.command.ProjectCommand.{ProjectCommand}
 use Rattle.map_script.specs.Errors.{code_of}
-use Rattle.map_script.specs.Firsts.{firsts_of}
+use Rattle.map_script.specs.Firsts.{counts_of, firsts_of, firsts_since}
 use Rattle.map_script.specs.Lines.{line_for, name_in}
 use Rattle.map_script.specs.Words.{text_words}
 use Rattle.map_script.specs.declared.firsts.Firsts.{Firsts}
 use Rattle.map_script.specs.declared.firsts.Numbers.{Numbers}
+use Rattle.map_shapes.specs.Shapes.{is_shape_line}
+use Rattle.run_script.specs.Shaped.{DrawsShape}
 use Rattle.run_script.specs.declared.canvas.Canvas.{Ghosts}
 use Rattle.run_script.specs.declared.drawing.Stop.{Stop}
 use Rattle.run_script.specs.declared.error.ScriptError.{ScriptError}
@@ -32,13 +34,30 @@ pub record Stays {S : Type 0} (old new : Sketch S) : Type 0 where
   pub names : new.names ≡ old.names
   pub written : Keeps old.written new.written
 
--- ---- A command
+-- ---- A command or a shape
 
 -- if a line is a command, these are the first items that it adds to the maps
 abbrev pub AddsFirst : List ℕ → ProjectMaps → Firsts → Type 0
 AddsFirst text p firsts =
     (c : ProjectCommand) → InProjectRange c → text ≡ project_spelling c
     → firsts ≡ firsts_of c (current_map p)
+
+-- the first if the test holds, else the second
+abbrev pub OneOf : Bool → Type 0 → Type 0 → Type 0
+OneOf true P Q = P
+OneOf false P Q = Q
+
+-- what a line does that is no query: a shape, or else a command
+abbrev pub Does : {S : Type 0} → Ghosts S → List ℕ → S → Result ℕ ℕ → S → Type 0
+Does facts text old outcome new =
+    OneOf (is_shape_line text) (DrawsShape facts text old outcome new)
+    (facts.changes old text outcome new)
+
+-- the first items that it added: what the current map gained by a shape, or what a command adds
+abbrev pub Added : List ℕ → ProjectMaps → ProjectMaps → Firsts → Type 0
+Added text p q firsts =
+    OneOf (is_shape_line text)
+    (firsts ≡ firsts_since (counts_of (current_map p)) (current_map q)) (AddsFirst text p firsts)
 
 -- the names, with the one that a line gives to its numbers
 abbrev pub with_given_name : Option (List ℕ) → Numbers → List (List ℕ × Numbers)
@@ -51,24 +70,25 @@ abbrev pub noted_text : Bool → ℕ → ℕ → List ℕ
 noted_text true number n = decimal number ++ codes ": ok " ++ decimal n ++ 10 ∷ []
 noted_text false number n = []
 
--- how a line ends whose command had this outcome: refused with the code; or its name keeps the
--- numbers, and its answer is written if wanted
-abbrev pub EndsChange : {S : Type 0} → Bool → ℕ × List ℕ → List ℕ → ProjectMaps → Result ℕ ℕ
-    → Sketch S → Option ℕ → Sketch S → Type 0
-EndsChange verbose line text p (Err code) old refusal new =
+-- how a line ends that had this outcome: refused with the code; or its name keeps the numbers, and
+-- its answer is written if wanted
+abbrev pub EndsChange : {S : Type 0} → Bool → ℕ × List ℕ → List ℕ → ProjectMaps → ProjectMaps
+    → Result ℕ ℕ → Sketch S → Option ℕ → Sketch S → Type 0
+EndsChange verbose line text p q (Err code) old refusal new =
     (refusal ≡ Some code) × (new.names ≡ old.names) × Keeps old.written new.written
-EndsChange verbose line text p (Ok n) old refusal new =
+EndsChange verbose line text p q (Ok n) old refusal new =
     (refusal ≡ None) × Appends old.written new.written (noted_text verbose line.0 n)
-    × ((firsts : Firsts) × AddsFirst text p firsts
+    × ((firsts : Firsts) × Added text p q firsts
     × (new.names ≡ with_given_name (name_in (text_words line.1))
     (record { answer = n; firsts = firsts }) old.names))
 
--- the command of a line was tried, and it ended so
+-- a line that is no query was tried, and it ended so
 abbrev pub IsTried : {S : Type 0} → Ghosts S → Bool → ℕ × List ℕ → List ℕ → Sketch S → Option ℕ
     → Sketch S → Type 0
 IsTried facts verbose line text old refusal new =
-    (outcome : Result ℕ ℕ) × facts.changes old.canvas text outcome new.canvas
-    × EndsChange verbose line text (facts.maps_in old.canvas) outcome old refusal new
+    (outcome : Result ℕ ℕ) × Does facts text old.canvas outcome new.canvas
+    × EndsChange verbose line text (facts.maps_in old.canvas) (facts.maps_in new.canvas) outcome
+    old refusal new
 
 -- ---- A line
 
@@ -83,11 +103,6 @@ IsQueryTold facts text old refusal new =
     facts.tells old.canvas text refusal old.written new.written
     × (new.canvas ≡ old.canvas) × (new.names ≡ old.names)
 
--- the first if the test holds, else the second
-abbrev pub OneOf : Bool → Type 0 → Type 0 → Type 0
-OneOf true P Q = P
-OneOf false P Q = Q
-
 -- a line, with this text once its names are resolved, was drawn, or refused with this code
 abbrev pub DrawsText : {S : Type 0} → Ghosts S → Bool → ℕ × List ℕ → Sketch S → Option ℕ → Sketch S
     → List ℕ → Type 0
@@ -100,7 +115,8 @@ DrawsText facts verbose line old refusal new text =
 abbrev pub DrawsLine : {S : Type 0} → Ghosts S → Bool → ℕ × List ℕ → Sketch S → Option ℕ → Sketch S
     → Type 0
 DrawsLine facts verbose line old refusal new =
-    MatchResult (line_for old.names line.1) (DrawsText facts verbose line old refusal new)
+    MatchResult (line_for old.names (current_map (facts.maps_in old.canvas)) line.1)
+    (DrawsText facts verbose line old refusal new)
     (λ fault. (refusal ≡ Some (code_of fault)) × Stays old new)
     ⊎ ((refusal ≡ Some 31) × Stays old new)
 

@@ -3,3 +3,4 @@ pub mod Drawn
 pub mod Errors
 pub mod Names
 pub mod Refused
+pub mod Shaped

@@ -1,5 +1,5 @@
 -- The names of the refusals of a script's lines, by their numbers (docs/COMMANDS.md, "The refusals").
-use Rattle.std.specs.Prelude.{ℕ, ◌==◌, nat_lt, List, codes, if◌then◌else◌}
+use Rattle.std.specs.Prelude.{ℕ, ◌==◌, ◌||◌, nat_lt, List, codes, if◌then◌else◌}
 
 -- the name of one of a command
 abbrev pub command_name : ℕ → List ℕ
@@ -25,7 +25,7 @@ command_name code =
     else (if code == 19 then codes "CurrentMap"
     else codes "Memory"))))))))))))))))))
 
--- the name of one of the names in a script
+-- the name of one of the names, places and shapes in a script
 abbrev pub script_name : ℕ → List ℕ
 script_name code =
     if code == 20 then codes "NotAName"
@@ -33,7 +33,12 @@ script_name code =
     else (if code == 22 then codes "UnknownName"
     else (if code == 23 then codes "NothingAdded"
     else (if code == 24 then codes "NumberTooLarge"
-    else codes "Memory"))))
+    else (if code == 25 then codes "NotAPolygon"
+    else (if code == 26 then codes "Crossing"
+    else (if code == 27 then codes "SeveralSectors"
+    else (if code == 28 then codes "NotEmpty"
+    else (if code == 29 then codes "NoDoor"
+    else codes "NothingThere")))))))))
 
 -- the name of one of a project file
 abbrev pub file_name : ℕ → List ℕ
@@ -47,4 +52,4 @@ file_name code =
 abbrev pub stop_name : ℕ → List ℕ
 stop_name code =
     if nat_lt code 20 then command_name code
-    else (if nat_lt code 30 then script_name code else file_name code)
+    else (if nat_lt code 30 || (code == 45) then script_name code else file_name code)

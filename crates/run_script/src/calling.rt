@@ -38,6 +38,7 @@ const OF_NAMES: &[DrawError] = &[
     DrawError::UnknownName,
     DrawError::NothingAdded,
     DrawError::NumberTooLarge,
+    DrawError::NothingThere,
 ];
 
 // The refusals of lines that come from store_project.
@@ -90,7 +91,12 @@ fn script_name(code: u16) -> &'static str
         22 => "UnknownName",
         23 => "NothingAdded",
         24 => "NumberTooLarge",
-        _ => "Memory",
+        25 => "NotAPolygon",
+        26 => "Crossing",
+        27 => "SeveralSectors",
+        28 => "NotEmpty",
+        29 => "NoDoor",
+        _ => "NothingThere",
     }
 }
 
@@ -112,7 +118,7 @@ pub fn stop_name(code: u16) -> &'static str
 {
     if code < 20 {
         command_name(code)
-    } else if code < 30 {
+    } else if code < 30 || code == 45 {
         script_name(code)
     } else {
         file_name(code)

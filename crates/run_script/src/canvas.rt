@@ -16,6 +16,9 @@ pub trait Canvas {
     // The maps that a state has.
     ghost maps_in: { Self → ProjectMaps };
 
+    // How long the body of all maps may be, in bytes.
+    ghost cap_in: { Self → ℕ };
+
     // Whether a line is a query.
     ghost is_query: { List ℕ → Bool };
 
@@ -29,6 +32,10 @@ pub trait Canvas {
     /// The maps as they are.
     fn maps(&self) -> &Maps
         ensures { project_of result.now ≡ maps_in self.now };
+
+    /// How long the body of all maps may be, in bytes.
+    fn cap(&self) -> u32
+        ensures { result ≡ cap_in self.now };
 
     /// Whether a line is a query.
     fn is_query(line: &[u8]) -> bool

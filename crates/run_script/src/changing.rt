@@ -1,17 +1,19 @@
 //! Applies the commands of a script, keeps their numbers under names, and prints their answers if asked to.
-ghost use Rattle.std.specs.Prelude.{◌≡◌, ◌⊎◌, None, IfErr, IfOk, MatchResult};
+ghost use Rattle.std.specs.Prelude.{◌≡◌, ◌⊎◌, None, Ok, Err, IfErr, IfOk, MatchResult};
 ghost use Rattle.std.specs.Option.{option_copied};
 ghost use Rattle.std.specs.Io.KnownBytes.{Appends};
 ghost use Rattle.map_tables.specs.Projects.{project_of};
 ghost use Rattle.map_script.specs.Known.{known};
 ghost use Rattle.map_script.specs.Views.{seen};
 ghost use Rattle.run_script.specs.declared.error.ScriptError.TheVariants.{OutOfMemory, WriterFailed};
-ghost use Rattle.run_script.specs.Drawn.{AddsFirst, IsTried, Sketch, noted_text, sketch_of, with_given_name};
+ghost use Rattle.run_script.specs.Drawn.{Added, AddsFirst, Does, IsTried, Sketch, noted_text, sketch_of, with_given_name};
 
 use crate::canvas::Canvas;
 use crate::error::ScriptError;
+use crate::shaping::draw_shape;
 use map_commands::parse;
 use map_script::{Firsts, Names, Numbers, ScriptLine, defined_name, firsts_of};
+use map_shapes::is_shape_line;
 use map_tables::Maps;
 use std::alloc::Global;
 use std::io::Write;
@@ -76,6 +78,34 @@ fn note<W: Write>(
     }
 }
 
+// Does a command, and returns its numbers, or the code of its refusal.
+fn do_command<C: Canvas>(canvas: &mut C, text: &[u8]) -> Result<Numbers, u16>
+    ensures { MatchResult result
+        (λ n. C.Canvas.changes canvas.old text.now (Ok n.answer) canvas.new
+        × AddsFirst text.now (C.Canvas.maps_in canvas.old) n.firsts)
+        (λ code. C.Canvas.changes canvas.old text.now (Err code) canvas.new) }
+{
+    let firsts = added_by(canvas.maps(), text);
+    match canvas.change(text) {
+        Ok(answer) => Ok(Numbers { answer, firsts }),
+        Err(code) => Err(code),
+    }
+}
+
+// Does what a line says, a command or a shape, and returns its numbers, or the code of its refusal.
+fn do_line<C: Canvas>(alloc: Global, canvas: &mut C, text: &[u8]) -> Result<Numbers, u16>
+    ensures { MatchResult result
+        (λ n. Does C.Canvas text.now canvas.old (Ok n.answer) canvas.new
+        × Added text.now (C.Canvas.maps_in canvas.old) (C.Canvas.maps_in canvas.new) n.firsts)
+        (λ code. Does C.Canvas text.now canvas.old (Err code) canvas.new) }
+{
+    if is_shape_line(text) {
+        draw_shape(alloc, canvas, text)
+    } else {
+        do_command(canvas, text)
+    }
+}
+
 /// Tries the command of a line; `text` is the line with its names replaced by numbers. If it is accepted, its numbers
 /// are kept under the line's name, and its answer is written if `is_verbose`. Returns the code of a refusal.
 ///
@@ -101,17 +131,15 @@ pub fn try_command<C: Canvas, W: Write>(
         (sketch_of canvas.old (known names.old) (W.contents writer.old))
         None new × (canvas.new ≡ new.canvas))) }
 {
-    let firsts = added_by(canvas.maps(), text);
-    let answer = match canvas.change(text) {
-        Ok(answer) => answer,
+    let numbers = match do_line(alloc, canvas, text) {
+        Ok(numbers) => numbers,
         Err(code) => return Ok(Some(code)),
     };
-    let numbers = Numbers { answer, firsts };
     match keep_name(alloc, names, defined_name(&line.text), numbers) {
         Ok(()) => {}
         Err(error) => return Err(error),
     }
-    match note(is_verbose, line.number, answer, writer) {
+    match note(is_verbose, line.number, numbers.answer, writer) {
         Ok(()) => Ok(None),
         Err(error) => Err(error),
     }

@@ -56,6 +56,8 @@ impl Canvas for Draft {
 
     ghost maps_in = { λ p. p };
 
+    ghost cap_in = { λ _. LONGEST_BODY };
+
     ghost is_query = { is_query_line };
 
     ghost tells = { TellsOfMaps };
@@ -70,6 +72,10 @@ impl Canvas for Draft {
 
     fn maps(&self) -> &Maps {
         &self.maps
+    }
+
+    fn cap(&self) -> u32 {
+        LONGEST_BODY
     }
 
     fn is_query(line: &[u8]) -> bool {

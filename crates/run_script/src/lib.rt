@@ -13,6 +13,8 @@ mod line;
 mod project_canvas;
 mod reasons;
 mod refused;
+mod shape_reasons;
+mod shaping;
 
 pub use canvas::Canvas;
 pub use draft::Draft;

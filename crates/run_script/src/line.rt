@@ -44,7 +44,7 @@ pub fn draw_line<C: Canvas, W: Write>(
         × DrawsLine C.Canvas is_verbose (seen line.now) old None new
         × (canvas.new ≡ new.canvas)))) }
 {
-    let text = match resolve(alloc, names, &line.text) {
+    let text = match resolve(alloc, names, canvas.maps().current(), &line.text) {
         Ok(text) => text,
         Err(error) => return Ok(Some(error.code())),
     };

@@ -29,6 +29,8 @@ impl<D: Disk> Canvas for Project<D> {
 
     ghost maps_in = { λ s. project_of s.maps };
 
+    ghost cap_in = { λ s. s.cap };
+
     ghost is_query = { is_query_line };
 
     ghost tells = { TellsOfProject };
@@ -39,6 +41,10 @@ impl<D: Disk> Canvas for Project<D> {
 
     fn maps(&self) -> &Maps {
         Project::maps(self)
+    }
+
+    fn cap(&self) -> u32 {
+        Project::cap(self)
     }
 
     fn is_query(line: &[u8]) -> bool {

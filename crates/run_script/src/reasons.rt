@@ -1,9 +1,11 @@
 //! Says what was wrong with a refused line.
 use crate::calling::says;
 use crate::forms::{count_words, first_word, form_near, form_of, range_at};
+use crate::shape_reasons::{decide, meant_shape, places_of};
 use lump_records::{Vertex, is_marker, is_name};
 use map_commands::{Command, ProjectCommand, RoomPlan, parse};
-use map_script::{Names, ScriptLine, resolve};
+use map_script::{DrawError, Names, ScriptLine, resolve};
+use map_shapes::{ShapeError, ShapeHead, shape_head_in};
 use map_tables::{Edit, Item, Kind, Map, Maps};
 use run_edit::read_query;
 use std::alloc::{AllocError, Global};
@@ -18,6 +20,9 @@ fn meant(alloc: Global, text: &str) -> Result<String, AllocError> {
         return format!(in alloc; "a query answers no number that a name could keep");
     }
     let first = first_word(text);
+    if let Some(head) = shape_head_in(first.as_bytes()) {
+        return meant_shape(alloc, text, head);
+    }
     let count = count_words(text);
     match form_of(first) {
         Some(form) => {
@@ -90,6 +95,19 @@ fn bad_name(alloc: Global, text: &str, form: &str) -> Result<String, AllocError>
         }
     }
     says(alloc, 15)
+}
+
+// What stands before the first of this sign.
+fn first_part(text: &str, sign: char) -> &str {
+    match text.split_once(sign) {
+        Some((front, _)) => front,
+        None => text,
+    }
+}
+
+// What a refusal of a shape says.
+fn says_shape(alloc: Global, error: &ShapeError) -> Result<String, AllocError> {
+    format!(in alloc; "{error}")
 }
 
 // Says how many items of a kind the map has.
@@ -179,6 +197,83 @@ fn reason_of_text(alloc: Global, maps: &Maps, text: &str, code: u16) -> Result<S
     }
 }
 
+// Says what was wrong with a line of a shape whose names are resolved.
+fn reason_of_shape(
+    alloc: Global,
+    maps: &Maps,
+    text: &str,
+    head: ShapeHead,
+    code: u16,
+) -> Result<String, AllocError> {
+    if code == 2 || code == 15 {
+        let places = places_of(alloc, text, head)?;
+        return match code {
+            2 => out_of_range(alloc, &places.text, &places.form),
+            _ => bad_name(alloc, &places.text, &places.form),
+        };
+    }
+    match (decide(alloc, maps.current(), text.as_bytes()), head) {
+        (Err(error), _) if code > 24 => says_shape(alloc, &error),
+        (Ok(Some(line)), ShapeHead::Change) => match str::from_utf8(&line) {
+            Ok(text) => reason_of_text(alloc, maps, text, code),
+            Err(_) => says(alloc, code),
+        },
+        _ => reason_of_text(alloc, maps, text, code),
+    }
+}
+
+// The word of a line whose place has no item.
+fn empty_place<'a>(alloc: Global, map: &Map, names: &Names, line: &'a str) -> Option<&'a str> {
+    for word in line.split(' ') {
+        if let Err(DrawError::NothingThere) = resolve(alloc, names, map, word.as_bytes()) {
+            return Some(word);
+        }
+    }
+    None
+}
+
+// Says of which kind no item is at which place.
+fn nothing_there(
+    alloc: Global,
+    map: &Map,
+    names: &Names,
+    line: &str,
+) -> Result<String, AllocError> {
+    let Some(word) = empty_place(alloc, map, names, line) else {
+        return says(alloc, 45);
+    };
+    let place = match word.split_once('(') {
+        Some((_, behind)) => first_part(behind, ')'),
+        None => word,
+    };
+    match first_part(word, '(') {
+        "$vertex" => format!(in alloc; "no vertex stands at ({place})"),
+        "$thing" => format!(in alloc; "no thing stands at ({place})"),
+        "$line" => format!(in alloc; "no line runs through ({place})"),
+        _ => format!(in alloc; "no sector is at ({place})"),
+    }
+}
+
+// Says what was wrong with a line whose references stand for nothing.
+fn reason_of_reference(
+    alloc: Global,
+    map: &Map,
+    names: &Names,
+    line: &[u8],
+    error: DrawError,
+) -> Result<String, AllocError> {
+    let Ok(line) = str::from_utf8(line) else {
+        return says(alloc, error.code());
+    };
+    match error {
+        DrawError::NothingThere => nothing_there(alloc, map, names, line),
+        DrawError::NotAReference if line.contains('(') => format!(in alloc;
+            "a place is $vertex(X,Y), $line(X,Y), $sector(X,Y) or $thing(X,Y), with or without +N"
+        ),
+        _ => says(alloc, error.code()),
+    }
+}
+
 /// Says what was wrong with a line of a script, given the maps as they are and the names of the earlier lines.
 pub fn reason_of(
     alloc: Global,
@@ -187,11 +282,15 @@ pub fn reason_of(
     line: &ScriptLine,
     code: u16,
 ) -> Result<String, AllocError> {
-    let Ok(text) = resolve(alloc, names, &line.text) else {
-        return says(alloc, code);
+    let text = match resolve(alloc, names, maps.current(), &line.text) {
+        Ok(text) => text,
+        Err(error) => return reason_of_reference(alloc, maps.current(), names, &line.text, error),
     };
     match str::from_utf8(&text) {
-        Ok(text) => reason_of_text(alloc, maps, text, code),
+        Ok(text) => match shape_head_in(first_word(text).as_bytes()) {
+            Some(head) => reason_of_shape(alloc, maps, text, head, code),
+            None => reason_of_text(alloc, maps, text, code),
+        },
         Err(_) => format!(in alloc; "a word has a byte that is no letter, digit or sign"),
     }
 }

@@ -97,6 +97,13 @@ impl<D: Disk> Project<D> {
         self.slots.generation()
     }
 
+    /// How long the body of all maps may be, in bytes.
+    pub fn cap(&self) -> u32
+        ensures { result ≡ self.now.cap }
+    {
+        self.geometry.cap()
+    }
+
     /// Whether the project must be opened again, because a device fault left it unknown what the disk holds.
     pub fn must_reopen(&self) -> bool
         ensures reopen { result ≡ self.now.must_reopen }

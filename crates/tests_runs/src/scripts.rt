@@ -40,6 +40,13 @@ const SCRIPTS: &[(&[u8], bool, &[u8], &[u8])] = &[
     (b"", true, b"", b""),
     (b"hall = room 0 0 256 256 0 128 FLOOR4_8 CEIL3_5 STARTAN3 160\ncut = split $hall.line+2 256 128\n\
         vertex 9 $cut.vertex\ncount\n", false, b"vertices 6 sectors 1 sides 4 lines 5 things 0\n", b""),
+    (b"room 0 0 256 256 0 128 FLOOR4_8 CEIL3_5 STARTAN3 160\n\
+        wall = change line $line(256,128) SPECIAL=11\n\
+        split $wall 256 128\nchange sector $sector(1,1) LIGHT=9 F=-8\nthing 8 9 0 1 7\n\
+        change thing $thing(8,9) ANGLE=90\ndoor 0 BIGDOOR2 DOORTRAK", true,
+        b"1: ok 0\n2: ok 2\n3: ok 4\n4: ok 0\n5: ok 0\n6: ok 0\n",
+        b"level.txt:7: door 0 BIGDOOR2 DOORTRAK: 29 NoDoor\n  \
+        no line has sector 0 on one side and another sector on the other\n"),
     (b"vertex 0 0\ncount\nsplt 2 256 160\nvertex 9 9\ncount\n", false,
         b"vertices 1 sectors 0 sides 0 lines 0 things 0\n",
         b"level.txt:3: splt 2 256 160: 1 NotACommand\n  perhaps this is meant: split LINE X Y\n"),
@@ -78,6 +85,30 @@ const REFUSED: &[(&[u8], &[u8])] = &[
     (b"name E0M1", b"15 BadName\n  E0M1 stands for a map's name: MAP01 to MAP99, or E1M1 to E9M9\n"),
     (b"sector 0 128 FLOOR4_8 sky 160 0 0",
         b"15 BadName\n  sky stands for CN, a name of one to eight of A-Z, 0-9, _, -, [, ] and \\\n"),
+    (b"area 0 128 FLOOR4_8 CEIL3_5 STARTAN3 300 0 0 0 9 9 9",
+        b"2 OutOfRange\n  300 stands for LIGHT, a number from 0 to 255\n"),
+    (b"pillar STONE2 0 0 0 9 9 99999", b"2 OutOfRange\n  99999 stands for Y, a number from -16384 to 16383\n"),
+    (b"change sector 0 F=0 LIGHT=256", b"2 OutOfRange\n  256 stands for LIGHT, a number from 0 to 255\n"),
+    (b"change sector 0 CN=sky",
+        b"15 BadName\n  sky stands for CN, a name of one to eight of A-Z, 0-9, _, -, [, ] and \\\n"),
+    (b"change sector 0 LIGH=9",
+        b"1 NotACommand\n  change KIND NUMBER NAME=VALUE .. has for a sector one or more of \
+        F C FN CN LIGHT SPECIAL TAG, each once\n"),
+    (b"door 0 BIGDOOR2", b"1 NotACommand\n  a word is missing, is too many or hasn't the form of its place in: \
+        door SECTOR FACE TRACK [SPECIAL]\n"),
+    (b"door 0 BIGDOOR2 DOORTRAK", b"29 NoDoor\n  no line has sector 0 on one side and another sector on the other\n"),
+    (b"door 1 BIGDOOR2 DOORTRAK", b"4 NoSector\n  sectors of the map: 1, numbered from 0\n"),
+    (b"change thing 0 X=0", b"7 NoThing\n  things of the map: 0, numbered from 0\n"),
+    (b"change line 0 FLAGS=4", b"11 TwoSidedWithoutLeft\n  the line is two-sided and has no left side\n"),
+    (b"change vertex 0 X=9 Y=9", b"10 PlaceTaken\n  vertex 5 stands at 9 9\n"),
+    (b"split $line(16,10) 16 10", b"45 NothingThere\n  no line runs through (16,10)\n"),
+    (b"line $vertex(0,0) $vertex(0,1) 1 0 0 0 -", b"45 NothingThere\n  no vertex stands at (0,1)\n"),
+    (b"drop thing $thing(-1,99999)", b"45 NothingThere\n  no thing stands at (-1,99999)\n"),
+    (b"drop sector $sector(40,5)", b"45 NothingThere\n  no sector is at (40,5)\n"),
+    (b"drop line $line(16,05)",
+        b"21 NotAReference\n  a place is $vertex(X,Y), $line(X,Y), $sector(X,Y) or $thing(X,Y), with or without +N\n"),
+    (b"drop side $side(16,5)",
+        b"21 NotAReference\n  a place is $vertex(X,Y), $line(X,Y), $sector(X,Y) or $thing(X,Y), with or without +N\n"),
     (b"drop-map MAP01", b"19 CurrentMap\n  the map is the current one\n"),
     (b"split $hal 0 0", b"22 UnknownName\n  no line before has this name\n"),
 ];

@@ -1,4 +1,4 @@
-use Rattle.std.proofs.Common.{◌≤◌, ◌+◌, List, ◌++◌, ◌∷◌, [], ℕ, map, length, take, drop, arith, refl, ap, subst}
+use Rattle.std.proofs.Common.{◌≤◌, ◌+◌, List, ℕ, map, length, take, drop, arith, refl, ap, subst}
 use Rattle.std.proofs.lemmas.List.{take_all}
 use Rattle.map_script.specs.Known.{known}
 use Rattle.map_script.specs.Views.{seen}

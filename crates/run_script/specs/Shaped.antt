@@ -1,0 +1,68 @@
+-- What a line of a shape does: it is decided as a whole over the maps as they are, and then its
+-- commands are done in turn (docs/COMMANDS.md, "Shapes").
+use Rattle.std.specs.Prelude.{◌≡◌, ◌⊎◌, ℕ, ◌+◌, Bool, true, false, nat_le, List, [], ◌∷◌, ◌++◌, Result, Ok, Err}
+use Rattle.std.specs.List.{sum_by}
+use Rattle.map_commands.specs.ProjectCommands.{project_spelling}
+use Rattle.map_commands.specs.Step.{growth_of, need_of}
+use Rattle.map_commands.specs.declared.command.Command.{Command}
+use Rattle.map_commands.specs.declared.project.command.ProjectCommand.TheVariants.{Current}
+use Rattle.map_shapes.specs.Commands.{IsDecided, RefusesDecision}
+use Rattle.map_tables.specs.Projects.{ProjectMaps, body_len, current_map}
+use Rattle.run_script.specs.declared.canvas.Canvas.{Ghosts}
+
+-- a command of the current map as a line
+abbrev pub command_line : Command → List ℕ
+command_line c = project_spelling (Current c)
+
+-- by how many bytes commands lengthen a body
+abbrev pub growth_of_all : List Command → ℕ
+growth_of_all commands = sum_by (λ c. growth_of (need_of c)) commands
+
+-- whether a body that may be so long has room for what commands add
+abbrev pub has_room : ProjectMaps → ℕ → List Command → Bool
+has_room p cap commands = nat_le (body_len p + growth_of_all commands) cap
+
+-- commands were done in turn, each accepted
+abbrev pub DoesAll : {S : Type 0} → Ghosts S → List Command → S → S → Type 0
+DoesAll facts [] old new = new ≡ old
+DoesAll {S = S} facts (c ∷ cs) old new =
+    (mid : S) × ((number : ℕ) × facts.changes old (command_line c) (Ok number) mid)
+    × DoesAll facts cs mid new
+
+-- commands were done in turn up to one that was refused with this code, or for which there was no
+-- memory
+abbrev pub StopsAmong : {S : Type 0} → Ghosts S → List Command → S → ℕ → S → Type 0
+StopsAmong {S = S} facts cs old code new =
+    (mid : S) × (front : List Command) × (c : Command) × (back : List Command)
+    × (cs ≡ front ++ c ∷ back) × DoesAll facts front old mid
+    × (facts.changes mid (command_line c) (Err code) new ⊎ ((code ≡ 31) × (new ≡ mid)))
+
+-- how commands ended that were to be done in turn
+abbrev pub EndsAll : {S X : Type 0} → Ghosts S → List Command → S → Result X ℕ → S → Type 0
+EndsAll facts cs old (Ok x) new = DoesAll facts cs old new
+EndsAll facts cs old (Err code) new = StopsAmong facts cs old code new
+
+-- the line becomes these commands, for which there is room, and answers this number
+abbrev pub IsPlanned : ProjectMaps → ℕ → List ℕ → List Command → ℕ → Type 0
+IsPlanned p cap line commands answer =
+    IsDecided (current_map p) line commands answer × (has_room p cap commands ≡ true)
+
+-- the line is refused as a whole: by itself or the map, or with 14 because there is no room
+abbrev pub RefusesWhole : ProjectMaps → ℕ → List ℕ → ℕ → Type 0
+RefusesWhole p cap line code =
+    RefusesDecision (current_map p) line code
+    ⊎ ((code ≡ 14) × (commands : List Command) × (answer : ℕ)
+    × IsDecided (current_map p) line commands answer × (has_room p cap commands ≡ false))
+
+-- how a line of a shape ended: its commands were done; or it was refused as a whole, and nothing
+-- changed; or some of them were done before one was refused
+abbrev pub DrawsShape : {S : Type 0} → Ghosts S → List ℕ → S → Result ℕ ℕ → S → Type 0
+DrawsShape facts line old (Ok answer) new =
+    (commands : List Command)
+    × IsPlanned (facts.maps_in old) (facts.cap_in old) line commands answer
+    × DoesAll facts commands old new
+DrawsShape facts line old (Err code) new =
+    (RefusesWhole (facts.maps_in old) (facts.cap_in old) line code × (new ≡ old))
+    ⊎ ((commands : List Command) × (answer : ℕ)
+    × IsPlanned (facts.maps_in old) (facts.cap_in old) line commands answer
+    × StopsAmong facts commands old code new)
