@@ -1,5 +1,5 @@
 //! Polygons: their edges as lines, in order; each edge begins at the corner that has its number.
-ghost use Rattle.std.specs.Prelude.{◌≡◌, count_by, IfNone, IfSome, false, true};
+ghost use Rattle.std.specs.Prelude.{◌≡◌, count_by, find, IfNone, IfSome, false, true};
 ghost use Rattle.std.specs.List.{list_any};
 ghost use Rattle.map_plane.specs.Meeting.{is_on};
 ghost use Rattle.map_plane.specs.Nearest.{is_east};
@@ -28,6 +28,7 @@ fn has_clash(edges: &[PlacedLine], edge: &PlacedLine) -> bool
 /// The first edge that begins where another one does, or has a point in common with another one that isn't an end of
 /// both.
 pub fn first_clash(edges: &[PlacedLine]) -> Option<PlacedLine>
+    ensures first { result ≡ find (has_clash edges.now) edges.now }
     ensures none { IfNone result (list_any (has_clash edges.now) edges.now ≡ false) }
     ensures some { IfSome result (λ e. has_clash edges.now e ≡ true) }
 {
