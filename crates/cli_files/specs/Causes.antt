@@ -1,7 +1,7 @@
 -- The line that says why a file can't be opened or made (docs/COMMANDS.md, "Reasons and statuses").
 use Rattle.std.specs.Prelude.{◌≡◌, ◌++◌, ◌∷◌, ℕ, List, [], Option, Some, codes}
 use Rattle.cli_files.specs.declared.cause.Cause.{Cause}
-use Rattle.cli_files.specs.declared.cause.Cause.TheVariants.{System, Held, NotRegular, NoPwad, NoPicture, OutOfMemory}
+use Rattle.cli_files.specs.declared.cause.Cause.TheVariants.{System, Held, NotRegular, NoPwad, NoPicture, Changed, OutOfMemory}
 use Rattle.cli_files.specs.declared.replaceable.Form.{Form}
 use Rattle.cli_files.specs.declared.replaceable.Form.TheVariants.{Pwad, Picture}
 
@@ -16,6 +16,7 @@ Says Held reason = reason ≡ codes "is open in another program"
 Says NotRegular reason = reason ≡ codes "is no regular file"
 Says NoPwad reason = reason ≡ codes "is no PWAD; it is left alone"
 Says NoPicture reason = reason ≡ codes "is no picture of a map; it is left alone"
+Says Changed reason = reason ≡ codes "has changed meanwhile; it is left alone"
 Says OutOfMemory reason = reason ≡ codes "finds no memory"
 
 -- why a file that is there can't be opened and locked
@@ -33,9 +34,16 @@ IsOfOpeningNew form Held = Unit {0}
 IsOfOpeningNew form NotRegular = ⊥
 IsOfOpeningNew form NoPwad = form ≡ Some Pwad
 IsOfOpeningNew form NoPicture = form ≡ Some Picture
+IsOfOpeningNew form Changed = ⊥
 IsOfOpeningNew form OutOfMemory = Unit {0}
 
 -- the system refused it
 abbrev pub IsOfSystem : Cause → Type 0
 IsOfSystem (System error) = Unit {0}
 IsOfSystem _ = ⊥
+
+-- why a new file can't take the place of another
+abbrev pub IsOfPutting : Cause → Type 0
+IsOfPutting (System error) = Unit {0}
+IsOfPutting Changed = Unit {0}
+IsOfPutting _ = ⊥

@@ -21,3 +21,7 @@ IsReplaceable form bytes = BeginsOrEmpty (front_of form) bytes
 abbrev pub WasAllowed : {F : Type 0} → (F → Option (List ℕ)) → Option Form → Type 0
 WasAllowed remaining None = Unit {0}
 WasAllowed {F = F} remaining (Some form) = (file : F) × IfSome (remaining file) (IsReplaceable form)
+
+-- the same of a file that was taken for one which a killed program left
+abbrev pub WasOurs : {F : Type 0} → (F → Option (List ℕ)) → Form → Type 0
+WasOurs remaining form = WasAllowed remaining (Some form)

@@ -20,6 +20,8 @@ pub enum Cause {
     NoPwad,
     /// It is neither empty nor a picture of a map.
     NoPicture,
+    /// It was changed or replaced while the new file was made.
+    Changed,
     /// There is no memory for its name.
     OutOfMemory,
 }
@@ -83,6 +85,7 @@ pub fn write_cause<W: Write>(
         Cause::NotRegular => write_reason(path, "is no regular file", writer),
         Cause::NoPwad => write_reason(path, "is no PWAD; it is left alone", writer),
         Cause::NoPicture => write_reason(path, "is no picture of a map; it is left alone", writer),
+        Cause::Changed => write_reason(path, "has changed meanwhile; it is left alone", writer),
         Cause::OutOfMemory => write_reason(path, "finds no memory", writer),
     }
 }

@@ -4,16 +4,18 @@
 mod cause;
 mod gapless;
 mod hold;
+mod making;
 mod name;
 mod new_file;
 mod noted;
 mod replaceable;
+mod stamp;
 mod target;
 
 pub use cause::{Cause, write_cause, write_reason};
 pub use gapless::GaplessFile;
 pub use hold::{Access, Hold, open_held};
 pub use name::beside;
-pub use new_file::{NewFile, open_new, open_new_of};
+pub use new_file::{NewFile, Noted, open_new, open_new_of};
 pub use noted::NotedFile;
 pub use replaceable::Form;

@@ -1,25 +1,40 @@
 //! A new file that replaces the file at a path once it is whole.
-ghost use Rattle.std.specs.Prelude.{◌≡◌, None, Some, Ok, true, IfErr, IfOk, OnOk};
-ghost use Rattle.cli_files.specs.Causes.{IsOfOpeningNew};
-ghost use Rattle.cli_files.specs.Locks.{IsLocked};
+ghost use Rattle.std.specs.Prelude.{◌≡◌, None, Some, IfErr, OnOk};
+ghost use Rattle.cli_files.specs.Causes.{IsOfOpeningNew, IsOfPutting};
 ghost use Rattle.cli_files.specs.Replaced.{WasAllowed};
 
-use crate::hold::{Hold, held};
-use crate::name::beside;
+use crate::Cause;
+use crate::hold::Hold;
+use crate::making::{Made, Purpose, lead_to_one, make_beside};
 use crate::replaceable::{Form, may_be_replaced};
+use crate::stamp::{Stamp, check_unchanged, stamp_at};
 use crate::target::target_of;
-use crate::{Access, Cause};
 use std::alloc::Global;
 use std::fs::{self, Files, OpenFile, OpenOptions, Permissions};
 use std::io::{self, ErrorKind, Write};
-use std::os::unix::fs::MetadataExt;
 use std::path::PathBuf;
 
-// The path of a new file, and the path that it is renamed to once it is whole.
+// The path of a new file, the path that it is renamed to once it is whole, and what stood there at first.
 #[derive(Drop)]
 struct Names {
     new: PathBuf,
     target: PathBuf,
+    was: Option<Stamp>,
+}
+
+/// What stands at a path before a request reads anything.
+#[derive(Clone, Copy)]
+pub struct Noted {
+    was: Option<Stamp>,
+}
+
+impl Noted {
+    /// Notes what stands at the path. If that can't be told, it is as if nothing stood there.
+    pub fn at<E: Files>(rt: &E, path: &str) -> Noted {
+        Noted {
+            was: stamp_at(rt, path).unwrap_or(None),
+        }
+    }
 }
 
 /// A file that is being made for a path. The bytes are written to a new file in the same folder, which `put` renames to
@@ -49,53 +64,6 @@ impl<F: Write> Write for NewFile<F> {
     }
 }
 
-// Whether the open file is the one at the path.
-fn stands_at<E: Files>(rt: &E, file: &E::File, path: &str) -> io::Result<bool> {
-    let found = rt.metadata(path)?;
-    let own = file.metadata()?;
-    Ok(found.dev() == own.dev() && found.ino() == own.ino())
-}
-
-// Makes a new file at the path, and fails if there is one already.
-fn make<E: Files>(rt: &E, path: &str) -> io::Result<E::File> {
-    OpenOptions::new()
-        .write(true)
-        .create_new(true)
-        .open(rt, path)
-}
-
-// Replaces the new file that a killed program left. If the program that made it still runs, it is left alone.
-fn make_again<E: Files>(rt: &E, path: &str) -> Result<E::File, Cause>
-where
-    E::File: Hold,
-    ensures { IfErr result (IsOfOpeningNew None) }
-{
-    let left = fs::open(rt, path)?;
-    held(&left, true)?;
-    rt.remove_file(path)?;
-    Ok(make(rt, path)?)
-}
-
-// Makes a new file at the path and locks it. A program that finds one there gets the lock before it removes the file.
-fn make_held<E: Files>(rt: &E, path: &str) -> Result<E::File, Cause>
-where
-    E::File: Hold,
-    ensures locked { IfOk result (λ file. IsLocked E.File.locks file true (Ok tt)) }
-    ensures refused { IfErr result (IsOfOpeningNew None) }
-{
-    let file = match make(rt, path) {
-        Ok(file) => file,
-        Err(error) if error.kind() == ErrorKind::AlreadyExists => make_again(rt, path)?,
-        Err(error) => return Err(Cause::System(error)),
-    };
-    held(&file, true)?;
-    if stands_at(rt, &file, path)? {
-        Ok(file)
-    } else {
-        Err(Cause::Held)
-    }
-}
-
 // Refuses a file that may not be written, or, if a form is given, that is neither empty nor of this form.
 fn check_replaceable<E: Files>(
     alloc: Global,
@@ -119,24 +87,37 @@ fn check_replaceable<E: Files>(
     }
 }
 
+// What a new file is made for, and what must still stand at its path.
+#[derive(Clone, Copy)]
+struct Order<'a> {
+    purpose: Purpose<'a>,
+    // The form that the file at the path must have; any if there is none.
+    over: Option<Form>,
+    was: Option<Stamp>,
+}
+
 // Opens a new file beside the one that the path leads to, with the permissions of that one.
 fn open_beside<E: Files>(
     alloc: Global,
     rt: &E,
     path: &str,
-    form: Option<Form>,
+    order: Order<'_>,
     permissions: Option<Permissions>,
 ) -> Result<NewFile<E::File>, Cause>
 where
     E::File: Hold,
-    ensures { IfErr result (IsOfOpeningNew form) }
+    ensures { IfErr result (IsOfOpeningNew order.entry.over) }
 {
     let target = target_of(alloc, rt, path)?;
     if permissions.is_some() {
-        check_replaceable(alloc, rt, target.as_path().as_str(), form)?;
+        check_replaceable(alloc, rt, target.as_path().as_str(), order.over)?;
     }
-    let new = beside(alloc, target.as_path().as_str())?;
-    let file = make_held(rt, new.as_path().as_str())?;
+    let Made { file, path: new } = make_beside(
+        alloc,
+        rt,
+        target.as_path().as_str(),
+        order.purpose,
+    )?;
     if let Some(permissions) = permissions {
         if let Err(error) = file.set_permissions(permissions) {
             let _ = rt.remove_file(new.as_path().as_str());
@@ -145,7 +126,11 @@ where
     }
     Ok(NewFile {
         file,
-        names: Some(Names { new, target }),
+        names: Some(Names {
+            new,
+            target,
+            was: order.was,
+        }),
         fault: None,
     })
 }
@@ -162,24 +147,24 @@ fn open_itself<E: Files>(rt: &E, path: &str) -> Result<NewFile<E::File>, Cause>
     })
 }
 
-// Opens a new file for a path. A file that is there must be empty or of the form; without a form it may be any file.
+// Opens a new file for a path. A file that is there must be the one that was noted.
 fn open_for<E: Files>(
     alloc: Global,
     rt: &E,
     path: &str,
-    form: Option<Form>,
+    order: Order<'_>,
 ) -> Result<NewFile<E::File>, Cause>
 where
     E::File: Hold,
-    ensures { IfErr result (IsOfOpeningNew form) }
+    ensures { IfErr result (IsOfOpeningNew order.entry.over) }
 {
     match rt.metadata(path) {
         Ok(found) if found.is_file() => {
-            open_beside(alloc, rt, path, form, Some(found.permissions()))
+            open_beside(alloc, rt, path, order, Some(found.permissions()))
         }
         Ok(_) => open_itself(rt, path),
         Err(error) if error.kind() == ErrorKind::NotFound => {
-            open_beside(alloc, rt, path, form, None)
+            open_beside(alloc, rt, path, order, None)
         }
         Err(error) => Err(Cause::System(error)),
     }
@@ -202,18 +187,17 @@ where
     E::File: Hold,
     ensures { IfErr result (IsOfOpeningNew (Some form)) }
 {
-    open_for(alloc, rt, path, Some(form))
+    let order = Order {
+        purpose: Purpose { form, read: None },
+        over: Some(form),
+        was: Noted::at(rt, path).was,
+    };
+    open_for(alloc, rt, path, order)
 }
 
-// Whether both paths lead to the same existing file.
-fn lead_to_one<E: Files>(rt: &E, one: &str, other: &str) -> io::Result<bool> {
-    let one = rt.metadata(one)?;
-    let other = rt.metadata(other)?;
-    Ok(one.dev() == other.dev() && one.ino() == other.ino())
-}
-
-/// Opens a new file as `open_new` does, for bytes that are made from the file at `read`. If the path leads to that same
-/// file, it may be of any form.
+/// Opens a new file as `open_new` does, for bytes that are made from the file at `read`, which is never removed. If the
+/// path leads to that same file, it may be of any form. `noted` is what stood at the path before that file was read:
+/// if it has been changed or replaced since, `put` refuses.
 ///
 /// # Errors
 ///
@@ -224,15 +208,23 @@ pub fn open_new_of<E: Files>(
     read: &str,
     path: &str,
     form: Form,
+    noted: Noted,
 ) -> Result<NewFile<E::File>, Cause>
 where
     E::File: Hold,
     ensures { IfErr result (IsOfOpeningNew (Some form)) }
 {
-    match lead_to_one(rt, read, path) {
-        Ok(true) => open_for(alloc, rt, path, None),
-        _ => open_for(alloc, rt, path, Some(form)),
-    }
+    let purpose = Purpose {
+        form,
+        read: Some(read),
+    };
+    let was = noted.was;
+    let over = match lead_to_one(rt, read, path) {
+        Ok(true) => None,
+        _ => Some(form),
+    };
+    let order = Order { purpose, over, was };
+    open_for(alloc, rt, path, order)
 }
 
 // Syncs the folder of a path, if possible.
@@ -246,9 +238,20 @@ fn sync_folder<E: Files>(rt: &E, path: &PathBuf) {
     }
 }
 
+// Syncs a new file, and renames it to its path if there still stands what stood there.
+fn synced_over<E: Files, F: OpenFile>(rt: &E, file: &F, names: &Names) -> Result<(), Cause>
+    ensures { IfErr result IsOfPutting }
+{
+    file.sync_all()?;
+    let target = names.target.as_path().as_str();
+    check_unchanged(rt, target, names.was)?;
+    rt.rename(names.new.as_path().as_str(), target)?;
+    Ok(())
+}
+
 impl<F: OpenFile + Drop> NewFile<F> {
     ghost use Rattle.std.specs.Prelude.{◌≡◌, IfErr, IfOk, IfSome};
-    ghost use Rattle.cli_files.specs.Causes.{IsOfSystem};
+    ghost use Rattle.cli_files.specs.Causes.{IsOfPutting, IsOfSystem};
     ghost use Rattle.cli_files.specs.NewFile.{file_of};
 
     /// Why the last failed write failed; `None` if none failed.
@@ -262,28 +265,25 @@ impl<F: OpenFile + Drop> NewFile<F> {
     ///
     /// # Errors
     ///
-    /// `System`; the file at the path is then as it was.
+    /// `Changed` if another file stands at the path than when this one was opened, or the same one changed; `System`.
+    /// What stands at the path then stays.
     pub fn put<E: Files>(self, rt: &E) -> Result<F, Cause>
         ensures put { IfOk result (λ file. file ≡ file_of self) }
-        ensures refused { IfErr result IsOfSystem }
+        ensures refused { IfErr result IsOfPutting }
     {
         let NewFile { file, names, .. } = self;
         let Some(names) = names else {
             return Ok(file);
         };
         let new = names.new.as_path().as_str();
-        let put = match file.sync_all() {
-            Ok(()) => rt.rename(new, names.target.as_path().as_str()),
-            Err(error) => Err(error),
-        };
-        match put {
+        match synced_over(rt, &file, &names) {
             Ok(()) => {
                 sync_folder(rt, &names.target);
                 Ok(file)
             }
-            Err(error) => {
+            Err(cause) => {
                 let _ = rt.remove_file(new);
-                Err(Cause::System(error))
+                Err(cause)
             }
         }
     }

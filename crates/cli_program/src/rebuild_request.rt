@@ -9,7 +9,7 @@ ghost use Rattle.cli_program.specs.Rebuilding.{IsRebuiltAt, IsRebuiltOf, IsToldO
 ghost use Rattle.cli_refusals.specs.declared.refusal.Refusal.{Refusal};
 
 use crate::rebuild_notes::write_notes;
-use cli_files::{Cause, Form, Hold, NewFile, open_new_of};
+use cli_files::{Cause, Form, Hold, NewFile, Noted, open_new_of};
 use cli_print::{TURNS, read_whole, write_shown};
 use cli_refusals::{Causes, Refusal, status_told};
 use run_edit::{EditorError, InspectError};
@@ -243,6 +243,14 @@ fn put_wad<E: Files, F: Write + OpenFile + Drop>(
     }
 }
 
+// The paths of a WAD and of the file that is made of it, and what stood at the latter before the WAD was read.
+#[derive(Clone, Copy)]
+struct Paths<'a> {
+    wad: &'a str,
+    out: &'a str,
+    noted: Noted,
+}
+
 // A WAD that was built anew, and the file that holds it.
 #[derive(Drop)]
 struct Made<F> {
@@ -250,12 +258,11 @@ struct Made<F> {
     file: F,
 }
 
-// Builds the levels of the WAD anew that was read at the path, into the file at `out`; or notes why it can't be made.
+// Builds the levels of the WAD anew that was read, into its new file; or notes why that can't be made.
 fn make<E: AllocGlobal + Files>(
     rt: &E,
-    path: &str,
+    paths: Paths<'_>,
     wad: &[u8],
-    out: &str,
     names: &[String],
     why: &mut Option<Cause>,
 ) -> Result<Made<E::File>, Refusal>
@@ -270,7 +277,8 @@ where
         Ok(rebuilt) => rebuilt,
         Err(error) => return Err(refusal_of(error)),
     };
-    let new = match open_new_of(rt.alloc(), rt, path, out, Form::Pwad) {
+    let form = Form::Pwad;
+    let new = match open_new_of(rt.alloc(), rt, paths.wad, paths.out, form, paths.noted) {
         Ok(new) => new,
         Err(cause) => {
             *why = Some(cause);
@@ -283,12 +291,11 @@ where
     }
 }
 
-// Builds the levels of the WAD anew that was read at the path, into the file at `out`, and reports on each.
+// Builds the levels of the WAD anew that was read, into its new file, and reports on each.
 fn rebuild_into<E, W, F>(
     rt: &E,
-    path: &str,
+    paths: Paths<'_>,
     wad: &[u8],
-    out: &str,
     names: &[String],
     writer: &mut W,
     errors: &mut F,
@@ -304,7 +311,7 @@ where
         (W.contents writer.old) (W.contents writer.new)
         (F.contents errors.old) (F.contents errors.new) }
 {
-    match make(rt, path, wad, out, names, why) {
+    match make(rt, paths, wad, names, why) {
         Ok(made) => tell_rebuilt(&made.rebuilt, writer, errors),
         Err(refusal) => Err(refusal),
     }
@@ -314,8 +321,7 @@ where
 fn rebuild_read<E, R, W, F>(
     rt: &E,
     reader: &mut R,
-    path: &str,
-    out: &str,
+    paths: Paths<'_>,
     names: &[String],
     writer: &mut W,
     errors: &mut F,
@@ -336,13 +342,13 @@ where
         (F.contents errors.old) (F.contents errors.new)) }
 {
     let wad = read_whole(rt.alloc(), reader, TURNS)?;
-    rebuild_into(rt, path, &wad, out, names, writer, errors, why)
+    rebuild_into(rt, paths, &wad, names, writer, errors, why)
 }
 
 /// Builds the levels of the WAD at the path anew, all or those with the names, and writes the new WAD into the file at
 /// `out`. Writes what became of each level, and on `errors` the faults that stay in those that were built anew; or
 /// notes why a file can't be opened or made. The WAD is read whole first, so `out` may be its path; otherwise `out` may
-/// be new, empty or a PWAD. That file is whole or as it was.
+/// be new, empty or a PWAD. That file is whole or as it was; if it is changed or replaced meanwhile, it stays so.
 pub fn rebuild<E, W, F>(
     rt: &E,
     path: &str,
@@ -362,17 +368,17 @@ where
         (W.contents writer.old) (W.contents writer.new)
         (F.contents errors.old) (F.contents errors.new) }
 {
+    let noted = Noted::at(rt, out);
+    let paths = Paths {
+        wad: path,
+        out,
+        noted,
+    };
     match fs::open(rt, path) {
-        Ok(mut file) => rebuild_read(
-            rt,
-            &mut file,
-            path,
-            out,
-            names,
-            writer,
-            errors,
-            &mut why.out,
-        ),
+        Ok(mut file) => {
+            let why = &mut why.out;
+            rebuild_read(rt, &mut file, paths, names, writer, errors, why)
+        }
         Err(error) => {
             why.file = Some(Cause::System(error));
             Err(Refusal::Lines(EditorError::ReaderFailed))
