@@ -19,3 +19,7 @@ pub mod Building
 pub mod RangeLemmas
 pub mod Orders
 pub mod Everywhere
+pub mod OneField
+pub mod OneNumbering
+pub mod OneTree
+pub mod OneBuild

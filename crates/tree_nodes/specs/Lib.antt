@@ -10,3 +10,4 @@ pub mod Boxed
 pub mod Growth
 pub mod Refusals
 pub mod Built
+pub mod Laws

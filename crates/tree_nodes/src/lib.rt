@@ -6,6 +6,7 @@ mod built;
 mod corners;
 mod error;
 mod growth;
+mod laws;
 mod parting;
 mod segs;
 mod shape;
@@ -14,3 +15,4 @@ mod subsectors;
 
 pub use built::{Built, build_lines, build_tree};
 pub use error::TreeError;
+pub use laws::lines_have_one_build;

@@ -14,3 +14,4 @@ pub mod ReadBackLemmas
 pub mod CopyLemmas
 pub mod ProjectLemmas
 pub mod CountedLemmas
+pub mod OneLevel

@@ -12,7 +12,7 @@ use Rattle.wad_build.specs.Wad.{Part, AreParts, IsPart, all_lumps, lumps_of, lev
 use Rattle.wad_file.specs.Lumps.{all_bytes}
 use Rattle.wad_build.specs.Views.{built_view, level_parts}
 use Rattle.wad_build.specs.Sound.{CanBeBuilt, IsBuildRefusal, IsSoundBuild}
-use Rattle.wad_build.specs.Projects.{IsLevelOf, AreLevelsOf, AreSoundLevels, HoldsOnly, IsSoundBuildOfAll, IsRefusalOfAll, Blames, parts_under}
+use Rattle.wad_build.specs.Projects.{IsLevelOf, AreLevelsOf, AreBuiltLevels, AreSoundLevels, HoldsOnly, IsSoundBuildOfAll, IsRefusalOfAll, Blames, parts_under}
 use Rattle.wad_build.specs.Errors.{blamed}
 use Rattle.wad_build.specs.declared.levels.NamedLevel.{NamedLevel}
 use Rattle.wad_build.specs.declared.error.Unbuilt.{Unbuilt}
@@ -142,11 +142,18 @@ sound_levels [] (x ∷ xs) a = absurd a
 sound_levels (m ∷ ms) [] a = absurd a
 sound_levels (m ∷ ms) (x ∷ xs) a = (level_sound m (built_view x.level) a.0.level, sound_levels ms xs a.1)
 
+built_levels : (ms : List Tables) (xs : List NamedLevel) → AreLevelsOf ms xs → AreBuiltLevels ms (levels_in xs)
+built_levels [] [] a = tt
+built_levels [] (x ∷ xs) a = absurd a
+built_levels (m ∷ ms) [] a = absurd a
+built_levels (m ∷ ms) (x ∷ xs) a = (a.0.level, built_levels ms xs a.1)
+
 pub holds_only : (wad : List ℕ) (ms : List Tables) (xs : List NamedLevel) → AreLevelsOf ms xs → wad ≡ wad_bytes (all_lumps (level_parts xs)) → HoldsOnly ms wad
 holds_only wad ms xs a w =
     record {
       levels = levels_in xs;
       sound = sound_levels ms xs a;
+      built = built_levels ms xs a;
       bytes = w ∙ ap (λ (ps : List Part). wad_bytes (all_lumps ps)) (same_parts ms xs a);
     }
 

@@ -205,6 +205,7 @@ holds_one m l wad name n b w =
     record {
       levels = l ∷ [];
       sound = (level_sound m l b, tt);
+      built = (b, tt);
       bytes = w ∙ ap (λ (x : Name8). wad_bytes (all_lumps (level_part x l ∷ []))) n;
     }
 

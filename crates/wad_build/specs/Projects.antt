@@ -33,17 +33,25 @@ AreSoundLevels [] (l ∷ ls) = ⊥
 AreSoundLevels (m ∷ ms) [] = ⊥
 AreSoundLevels (m ∷ ms) (l ∷ ls) = IsSoundLevel m l × AreSoundLevels ms ls
 
+-- the levels are ones that are built of the maps, in their order
+abbrev pub AreBuiltLevels : List Tables → List Lumps → Type 0
+AreBuiltLevels [] [] = Unit {0}
+AreBuiltLevels [] (l ∷ ls) = ⊥
+AreBuiltLevels (m ∷ ms) [] = ⊥
+AreBuiltLevels (m ∷ ms) (l ∷ ls) = IsBuiltLevel m l × AreBuiltLevels ms ls
+
 -- levels as the parts of one file, each under the name of its map
 abbrev pub parts_under : List Tables → List Lumps → List Part
 parts_under [] ls = []
 parts_under (m ∷ ms) [] = []
 parts_under (m ∷ ms) (l ∷ ls) = level_part m.name l ∷ parts_under ms ls
 
--- the bytes are the PWAD of a sound level of each map under its name, in the maps' order, and of
--- nothing else
+-- the bytes are the PWAD of a level of each map under its name, sound and built of that map, in the
+-- maps' order, and of nothing else
 pub record HoldsOnly (ms : List Tables) (wad : List ℕ) : Type 0 where
   pub levels : List Lumps
   pub sound : AreSoundLevels ms levels
+  pub built : AreBuiltLevels ms levels
   pub bytes : wad ≡ wad_bytes (all_lumps (parts_under ms levels))
 
 -- the refusal is that of the first map by number that can't be built

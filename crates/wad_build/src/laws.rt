@@ -1,10 +1,12 @@
-//! A law about what a built PWAD reads back as. The function's body is empty: its contract is the law.
+//! Laws about what is built: what a built PWAD reads back as, and that a map has one. The functions' bodies are empty:
+//! their contracts are the laws.
 ghost use Rattle.std.specs.Prelude.{◌≡◌, ℕ, List, None};
 ghost use Rattle.lump_records.specs.Names.{name_text};
 ghost use Rattle.map_tables.specs.Tables.{Tables};
 ghost use Rattle.wad_build.specs.Audit.{first_fault};
 ghost use Rattle.wad_levels.specs.Levels.{IsLevel, Lumps};
-ghost use Rattle.wad_build.specs.Sound.{IsSoundBuild, IsSoundLevel};
+ghost use Rattle.wad_build.specs.Projects.{HoldsOnly};
+ghost use Rattle.wad_build.specs.Sound.{IsBuiltLevel, IsSoundBuild, IsSoundLevel};
 ghost use Rattle.wad_levels.specs.Views.{RefusesLevel};
 ghost use Rattle.wad_levels.specs.declared.error.ReadError.{ReadError};
 
@@ -17,4 +19,10 @@ pub fn sound_builds_read_back()
         → IsSoundBuild m wad → RefusesLevel wad (name_text m.name) e → e ≡ ReadError.OutOfMemory }
     ensures no_fault { (m : Tables) (level : Lumps)
         → IsSoundLevel m level → first_fault level ≡ None }
+{}
+
+/// A map has one built level, and maps have one PWAD: the contract of `build_all` leaves no byte of it open.
+pub fn maps_have_one_build()
+    ensures level { (m : Tables) (a b : Lumps) → IsBuiltLevel m a → IsBuiltLevel m b → a ≡ b }
+    ensures bytes { (ms : List Tables) (a b : List ℕ) → HoldsOnly ms a → HoldsOnly ms b → a ≡ b }
 {}

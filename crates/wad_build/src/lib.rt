@@ -23,7 +23,7 @@ pub use build::{build_wad, built_levels_are_sound};
 pub use counted::{BuildCounts, BuiltWad};
 pub use error::{BuildError, Unbuilt};
 pub use fault::Fault;
-pub use laws::sound_builds_read_back;
+pub use laws::{maps_have_one_build, sound_builds_read_back};
 pub use projects::{build_all, build_counted};
 pub use visibility::reject;
 pub use wad_levels::{Level, ReadError, level_names, read_level};

@@ -4,3 +4,5 @@ pub mod PartLemmas
 pub mod WholeLemmas
 pub mod ReadBack
 pub mod MapLevels
+pub mod BuildBytes
+pub mod OwnLevels

@@ -47,6 +47,7 @@ made d b m r t k j f =
     record {
       tree = b;
       built = t;
+      records = r;
       lists = lists;
       blocks = k;
       sound = sound_over (used_front d) b (remade_level d m) lists t k;

@@ -1,6 +1,5 @@
 -- A level that could be a map's is made anew as a build makes it.
-use Rattle.std.proofs.Common.{◌≡◌, ◌∙◌, ap, subst, List, length, take}
-use Rattle.std.proofs.lemmas.List.{take_all}
+use Rattle.std.proofs.Common.{◌≡◌, ◌∙◌, ap, subst, List, length}
 use Rattle.lump_records.specs.declared.records.Line.{Line}
 use Rattle.lump_records.specs.declared.records.Sector.{Sector}
 use Rattle.lump_records.specs.declared.records.Vertex.{Vertex}
@@ -12,16 +11,11 @@ use Rattle.tree_pieces.specs.Edges.{edges_in}
 use Rattle.wad_build.specs.Sound.{no_rejects}
 use Rattle.wad_levels.specs.Drawn.{DrawnLists}
 use Rattle.wad_rebuild.specs.ReadBack.{IsDrawnAs, RebuiltMapsAreBuilt}
-use Rattle.wad_rebuild.specs.Remade.{reject_over, used_count, used_front}
-
--- no vertex is left out
-front : (m : Tables) (d : DrawnLists) → IsDrawnAs m d → used_front d ≡ m.vertices
-front m d is =
-    ap (λ (ls : List Line). take (used_count ls) d.vertices) is.lines ∙ ap (take (used_count m.lines)) is.vertices ∙ take_all (used_count m.lines) m.vertices is.used
+use Rattle.wad_rebuild.specs.Remade.{reject_over, used_front}
 
 -- what is said of vertices and lines is said of the map's
 over : (P : List Vertex → List Line → Type 0) (m : Tables) (d : DrawnLists) → IsDrawnAs m d → P (used_front d) d.lines → P m.vertices m.lines
-over P m d is p = subst (λ (ls : List Line). P m.vertices ls) is.lines (subst (λ (vs : List Vertex). P vs d.lines) (front m d is) p)
+over P m d is p = subst (λ (ls : List Line). P m.vertices ls) is.lines (subst (λ (vs : List Vertex). P vs d.lines) is.vertices p)
 
 pub built_again : RebuiltMapsAreBuilt
 built_again m d made is anew =

@@ -341,13 +341,13 @@ drawn_whole wad l n size none = by (lump_entry wad l n) none
     by None e = absurd (cc)
     by (Some k) e = standing_whole wad n size k e
 
-record DrawnWhole (wad : List ℕ) (l : LevelEntries) : Type 0 where
+pub record DrawnWhole (wad : List ℕ) (l : LevelEntries) : Type 0 where
   pub things : length (level_lump wad l 0) % 10 ≡ 0
   pub lines : length (level_lump wad l 1) % 14 ≡ 0
   pub sides : length (level_lump wad l 2) % 30 ≡ 0
   pub sectors : length (level_lump wad l 7) % 26 ≡ 0
 
-drawn_are_whole : (wad : List ℕ) (l : LevelEntries) → hindrance wad l ≡ None → DrawnWhole wad l
+pub drawn_are_whole : (wad : List ℕ) (l : LevelEntries) → hindrance wad l ≡ None → DrawnWhole wad l
 drawn_are_whole wad l none =
     let entries = (option_parts (entries_hindrance wad l) (lists_hindrance (drawn_lists wad l)) none).0 in
     let from_0 = (option_parts (form_hindrance l.form) _ entries).1 in

@@ -19,6 +19,7 @@ use Rattle.wad_levels.specs.declared.entries.LevelEntries.{LevelEntries}
 use Rattle.wad_build.specs.Reject.{reject_size}
 use Rattle.wad_build.specs.Sound.{HasTree, IsSoundOver, no_rejects}
 use Rattle.wad_rebuild.specs.Kept.{kept_faults}
+use Rattle.wad_rebuild.specs.Made.{HasRecords}
 use Rattle.wad_rebuild.specs.declared.made.MadeLumps.{MadeLumps}
 use Rattle.wad_rebuild.specs.declared.cause.Cause.{Cause}
 use Rattle.wad_rebuild.specs.declared.cause.Cause.TheVariants.{Hindered, TooManySectors, NoTree, NoBlockmap, OutOfMemory}
@@ -71,12 +72,13 @@ pub record AreWholeLumps (m : MadeLumps) : Type 0 where
   pub nodes : length m.nodes.items % 28 ≡ 0
   pub blockmap : length m.blockmap.items % 2 ≡ 0
 
--- the lumps hold a tree that is built of the level's lines, behind the vertices that they use, and the
--- blockmap of these lines, and so make the level sound; beside them stand the faults of these lines
--- that stay
+-- the lumps are the bytes of a tree that is built of the level's lines, behind the vertices that they
+-- use, and of the blockmap of these lines, and so make the level sound; beside them stand the faults of
+-- these lines that stay
 pub record IsMadeAnew (d : DrawnLists) (m : MadeLumps) : Type 0 where
   pub tree : Built
   pub built : IsBuiltOver (front_edges d) (used_front d) tree
+  pub records : HasRecords tree m
   pub lists : HasTree tree (remade_level d m)
   pub blocks : IsBlockmapOver (front_ends d) m.blockmap.items
   pub sound : IsSoundOver (used_front d) (remade_level d m)

@@ -16,7 +16,10 @@ mod whole;
 pub use cause::Cause;
 pub use error::RebuildError;
 pub use kept::KeptFault;
-pub use laws::{rebuilt_levels_read_back, rebuilt_maps_are_built};
+pub use laws::{
+    built_levels_are_drawn, rebuilt_levels_read_back, rebuilt_lumps_are_the_builds,
+    rebuilt_maps_are_built,
+};
 pub use levels::{Fate, RebuiltLevel};
 pub use made::MadeLumps;
 pub use remade::remake;
