@@ -17,7 +17,7 @@ use Rattle.map_commands.specs.Step.{InRange, after, faults}
 use Rattle.map_commands.specs.declared.command.Command.{Command}
 use Rattle.map_commands.specs.declared.command.Command.TheVariants.{Split}
 use Rattle.map_commands.specs.declared.command.LineSplit.{LineSplit}
-use Rattle.map_areas.specs.Drawn.{TakesCommand, LeadTo}
+use Rattle.map_areas.specs.Drawn.{TakesCommand, LeadTo, drawn}
 
 -- ---- an edit
 
@@ -46,6 +46,11 @@ pub LeadTo-step : (old : Tables) (cs : List Command) (i : ℕ) (mid : Tables) (d
     → LeadTo old (take i cs) mid → TakesCommand mid (get_or cs i d) new → LeadTo old (take (i + 1) cs) new
 LeadTo-step old cs i mid d new lt h t =
     subst (λ (ds : List Command). LeadTo old ds new) (sym (take_more cs i d lt)) (LeadTo-more old (take i cs) mid (get_or cs i d) new h t)
+
+-- the map that commands lead to is the one that they leave
+pub LeadTo-drawn : (old : Tables) (cs : List Command) (new : Tables) → LeadTo old cs new → new ≡ drawn old cs
+LeadTo-drawn old [] new h = h
+LeadTo-drawn old (c ∷ cs) new h = LeadTo-drawn (after old c) cs new h.2
 
 -- all commands of a list
 pub LeadTo-all : (old : Tables) (cs : List Command) (n : ℕ) (new : Tables) → length cs ≤ n → LeadTo old (take n cs) new → LeadTo old cs new
@@ -134,4 +139,5 @@ split_made m s l v t1 t2 t3 n1 n2 n3 range le ve h1 h2 h3 =
       range = range;
       accepted = split_taken m s d1.0 (sym second_faults ∙ d2.0) (sym third_faults ∙ d3.0);
       left = d3.1 ∙ left;
+      draws = tt;
     }

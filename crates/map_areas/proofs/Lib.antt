@@ -1,2 +1,5 @@
 pub mod Leading
 pub mod Copies
+pub mod Keeping
+pub mod Becoming
+pub mod Whole

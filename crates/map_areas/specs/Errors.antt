@@ -21,3 +21,10 @@ code_of OutOfMemory = 31
 abbrev pub refused_as : MapError → AreaError
 refused_as map_error.OutOfMemory = OutOfMemory
 refused_as e = Refused e
+
+-- the refusal of a command: a number or a name is out of its range, the map refuses it, or memory lacks
+abbrev pub IsCommandRefusal : AreaError → Type 0
+IsCommandRefusal OutOfRange = Unit {0}
+IsCommandRefusal (Refused e) = Unit {0}
+IsCommandRefusal OutOfMemory = Unit {0}
+IsCommandRefusal e = ⊥

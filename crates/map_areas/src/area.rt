@@ -1,12 +1,14 @@
 //! Areas: polygons that become sectors.
 ghost use Rattle.std.specs.Prelude.{All, IfOk};
-ghost use Rattle.map_areas.specs.Drawn.{AreTaken};
+ghost use Rattle.map_areas.specs.Drawn.{AreTaken, drawn};
+ghost use Rattle.map_areas.specs.Stays.{KeepsRest};
 ghost use Rattle.map_commands.specs.Step.{InRange};
 
 use crate::border::{Border, border_of, twice};
 use crate::drawing::{Drawing, Paint, drawing_of};
 use crate::error::AreaError;
 use crate::inside::find_none_inside;
+use crate::kept::find_kept;
 use crate::plan::Plan;
 use crate::polygon::polygon;
 use crate::round::sector_round;
@@ -14,7 +16,7 @@ use crate::trial::try_commands;
 use lump_records::{Name8, Sector, Vertex};
 use map_commands::Command;
 use map_plane::{PlacedLine, placed_lines};
-use map_tables::Map;
+use map_tables::{Kind, Map, MapError};
 use std::alloc::Global;
 
 /// A polygon that becomes a sector. Its corners are in order, either way round; WALL is the texture of its walls.
@@ -49,7 +51,7 @@ fn draw(
     area: &Area,
     round: Option<u16>,
     border: &Border,
-) -> Result<(), AreaError> {
+) -> Result<(), MapError> {
     let sector = drawing.plan.add_sector(area.sector)?;
     drawing.add_vertices(border)?;
     let paint = Paint {
@@ -69,6 +71,8 @@ fn draw(
 pub fn area_commands(alloc: Global, map: &Map, area: &Area) -> Result<Vec<Command>, AreaError>
     ensures range { IfOk result (λ commands. All InRange commands.items) }
     ensures taken { IfOk result (λ commands. AreTaken map.now.tables commands.items) }
+    ensures stays { IfOk result (λ commands.
+        KeepsRest map.now.tables (drawn map.now.tables commands.items)) }
 {
     let edges = polygon(alloc, &area.corners, true)?;
     let lines = placed_lines(alloc, map)?;
@@ -78,6 +82,9 @@ pub fn area_commands(alloc: Global, map: &Map, area: &Area) -> Result<Vec<Comman
     drawing.cut_lines(alloc, &lines, &border)?;
     draw(alloc, &mut drawing, area, round, &border)?;
     let commands = drawing.into_commands();
-    try_commands(alloc, map, &commands)?;
+    let all = commands.as_slice();
+    let new = try_commands(alloc, map, all)?;
+    let sector = map.count(Kind::Sector);
+    find_kept(map, &new, sector as u16)?;
     Ok(commands)
 }

@@ -1,8 +1,7 @@
 //! Places along a line, in order.
-use crate::error::AreaError;
 use lump_records::Vertex;
 use map_plane::{PlacedLine, ends_at, is_on, spans_meet};
-use std::alloc::Global;
+use std::alloc::{AllocError, Global};
 
 // How far two places are apart, along the axes.
 fn distance(a: Vertex, b: Vertex) -> u32 {
@@ -15,7 +14,7 @@ pub(crate) fn put_along(
     places: &mut Vec<Vertex>,
     from: Vertex,
     place: Vertex,
-) -> Result<(), AreaError> {
+) -> Result<(), AllocError> {
     let far = distance(from, place);
     let at = places
         .iter()
@@ -45,7 +44,7 @@ pub(crate) fn cuts_of(
     alloc: Global,
     places: &[Vertex],
     line: &PlacedLine,
-) -> Result<Vec<Vertex>, AreaError> {
+) -> Result<Vec<Vertex>, AllocError> {
     let mut cuts = Vec::new(alloc);
     for place in places {
         if is_between(line, *place) {

@@ -1,7 +1,6 @@
 //! Drawing an area.
 use crate::border::Border;
 use crate::cuts::cuts_of;
-use crate::error::AreaError;
 use crate::plan::{Plan, plan_of};
 use crate::uses::Uses;
 use crate::walls::{add_side, add_wall, face, open, open_side, solid_side};
@@ -27,7 +26,7 @@ pub(crate) struct Paint {
 }
 
 /// A drawing over the map, as it is.
-pub(crate) fn drawing_of(alloc: Global, map: &Map) -> Result<Drawing, AreaError> {
+pub(crate) fn drawing_of(alloc: Global, map: &Map) -> Result<Drawing, MapError> {
     let plan = plan_of(alloc, map)?;
     let uses = Uses::of(alloc, &plan)?;
     Ok(Drawing { plan, uses })
@@ -39,10 +38,10 @@ pub(crate) fn number_of(line: &PlacedLine) -> u16 {
 }
 
 /// The number of the vertex at the place.
-pub(crate) fn vertex_of(plan: &Plan, place: Vertex) -> Result<u16, AreaError> {
+pub(crate) fn vertex_of(plan: &Plan, place: Vertex) -> Result<u16, MapError> {
     match plan.vertex_at(place) {
         Some(vertex) => Ok(vertex),
-        None => Err(AreaError::Refused(MapError::NoVertex)),
+        None => Err(MapError::NoVertex),
     }
 }
 
@@ -54,7 +53,7 @@ impl Drawing {
     }
 
     // Cuts a line at a place between its ends, and answers the number of the part behind the place.
-    fn cut(&mut self, number: u16, at: Vertex) -> Result<u16, AreaError> {
+    fn cut(&mut self, number: u16, at: Vertex) -> Result<u16, MapError> {
         let line = self.plan.line(number)?;
         self.uses.add(line.right);
         self.uses.add(line.left);
@@ -68,7 +67,7 @@ impl Drawing {
     }
 
     // Cuts the line at these places, which lie along it in order.
-    fn cut_line(&mut self, line: PlacedLine, cuts: &[Vertex]) -> Result<(), AreaError> {
+    fn cut_line(&mut self, line: PlacedLine, cuts: &[Vertex]) -> Result<(), MapError> {
         let mut number = number_of(&line);
         for cut in cuts {
             number = self.cut(number, *cut)?;
@@ -82,7 +81,7 @@ impl Drawing {
         alloc: Global,
         lines: &[PlacedLine],
         border: &Border,
-    ) -> Result<(), AreaError> {
+    ) -> Result<(), MapError> {
         for line in lines {
             let cuts = cuts_of(alloc, &border.stops, line)?;
             self.cut_line(*line, &cuts)?;
@@ -91,7 +90,7 @@ impl Drawing {
     }
 
     /// Adds a vertex at each stop of the border where none is.
-    pub(crate) fn add_vertices(&mut self, border: &Border) -> Result<(), AreaError> {
+    pub(crate) fn add_vertices(&mut self, border: &Border) -> Result<(), MapError> {
         for stop in &border.stops {
             if self.plan.vertex_at(*stop).is_none() {
                 self.plan.add_vertex(*stop)?;
@@ -101,7 +100,7 @@ impl Drawing {
     }
 
     // Draws a part of the border where no line is.
-    fn draw_part(&mut self, paint: &Paint, from: Vertex, to: Vertex) -> Result<(), AreaError> {
+    fn draw_part(&mut self, paint: &Paint, from: Vertex, to: Vertex) -> Result<(), MapError> {
         let v1 = vertex_of(&self.plan, from)?;
         let v2 = vertex_of(&self.plan, to)?;
         match paint.round {
@@ -147,7 +146,7 @@ impl Drawing {
         paint: &Paint,
         from: Vertex,
         to: Vertex,
-    ) -> Result<(), AreaError> {
+    ) -> Result<(), MapError> {
         match self.find_line(lines, paint, from, to) {
             Some((line, runs)) => match paint.round {
                 Some(_) => face(&mut self.plan, &mut self.uses, line, runs, paint.sector),
@@ -169,7 +168,7 @@ impl Drawing {
         lines: &[PlacedLine],
         paint: &Paint,
         border: &Border,
-    ) -> Result<(), AreaError> {
+    ) -> Result<(), MapError> {
         for (n, from) in border.stops.iter().enumerate() {
             self.draw_along(lines, paint, *from, border.next(n, *from))?;
         }
@@ -177,7 +176,7 @@ impl Drawing {
     }
 
     // Lets one side of a line face the new sector if it faces the one round the border.
-    fn face_if_round(&mut self, paint: &Paint, line: u16, on_right: bool) -> Result<(), AreaError> {
+    fn face_if_round(&mut self, paint: &Paint, line: u16, on_right: bool) -> Result<(), MapError> {
         if self.plan.faced(line, on_right) == paint.round {
             return face(&mut self.plan, &mut self.uses, line, on_right, paint.sector);
         }
@@ -190,7 +189,7 @@ impl Drawing {
         lines: &[PlacedLine],
         paint: &Paint,
         border: &Border,
-    ) -> Result<(), AreaError> {
+    ) -> Result<(), MapError> {
         for line in lines {
             if border.holds_middle(line.from, line.to) {
                 self.face_if_round(paint, number_of(line), true)?;

@@ -9,6 +9,7 @@ mod cuts;
 mod drawing;
 mod error;
 mod inside;
+mod kept;
 mod pillar;
 mod plan;
 mod polygon;

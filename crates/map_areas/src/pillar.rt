@@ -1,6 +1,7 @@
 //! Pillars: polygons with nothing inside.
 ghost use Rattle.std.specs.Prelude.{All, IfOk};
-ghost use Rattle.map_areas.specs.Drawn.{AreTaken};
+ghost use Rattle.map_areas.specs.Drawn.{AreTaken, drawn};
+ghost use Rattle.map_areas.specs.Stays.{KeepsItems};
 ghost use Rattle.map_commands.specs.Step.{InRange};
 
 use crate::drawing::{Drawing, drawing_of, number_of, vertex_of};
@@ -11,7 +12,7 @@ use crate::walls::{add_side, add_wall, solid_side};
 use lump_records::{NO_SIDE, Name8, Vertex};
 use map_commands::Command;
 use map_plane::{PlacedLine, crosses, is_inside, is_on, nearest, placed_lines, sector_shown};
-use map_tables::{Kind, Map};
+use map_tables::{Kind, Map, MapError};
 use std::alloc::Global;
 
 /// A polygon with nothing inside, in a sector. Its corners are in order, either way round.
@@ -102,7 +103,7 @@ fn draw(
     edges: &[PlacedLine],
     wall: Name8,
     sector: u16,
-) -> Result<(), AreaError> {
+) -> Result<(), MapError> {
     for edge in edges {
         drawing.plan.add_vertex(edge.from)?;
     }
@@ -120,6 +121,8 @@ fn draw(
 pub fn pillar_commands(alloc: Global, map: &Map, pillar: &Pillar) -> Result<Vec<Command>, AreaError>
     ensures range { IfOk result (λ commands. All InRange commands.items) }
     ensures taken { IfOk result (λ commands. AreTaken map.now.tables commands.items) }
+    ensures stays { IfOk result (λ commands.
+        KeepsItems map.now.tables (drawn map.now.tables commands.items)) }
 {
     let edges = polygon(alloc, &pillar.corners, false)?;
     let lines = placed_lines(alloc, map)?;
@@ -129,6 +132,7 @@ pub fn pillar_commands(alloc: Global, map: &Map, pillar: &Pillar) -> Result<Vec<
     let mut drawing = drawing_of(alloc, map)?;
     draw(&mut drawing, &edges, pillar.wall, sector)?;
     let commands = drawing.into_commands();
-    try_commands(alloc, map, &commands)?;
+    let all = commands.as_slice();
+    let _new = try_commands(alloc, map, all)?;
     Ok(commands)
 }

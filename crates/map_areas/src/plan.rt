@@ -1,5 +1,4 @@
 //! A plan: the lists of a map, and the commands that draw into them.
-use crate::error::AreaError;
 use lump_records::{Line, Sector, Side, Vertex};
 use map_commands::{Command, LineSplit};
 use map_plane::PlacedLine;
@@ -22,7 +21,7 @@ fn number_of(index: usize) -> u16 {
 }
 
 // The vertices of a map.
-fn vertices_of(alloc: Global, map: &Map) -> Result<Vec<Vertex>, AreaError> {
+fn vertices_of(alloc: Global, map: &Map) -> Result<Vec<Vertex>, MapError> {
     let mut vertices = Vec::with_capacity(alloc, map.count(Kind::Vertex) as usize)?;
     for n in 0..map.count(Kind::Vertex) {
         let vertex = map.vertex(n).unwrap();
@@ -32,7 +31,7 @@ fn vertices_of(alloc: Global, map: &Map) -> Result<Vec<Vertex>, AreaError> {
 }
 
 // The sides of a map.
-fn sides_of(alloc: Global, map: &Map) -> Result<Vec<Side>, AreaError> {
+fn sides_of(alloc: Global, map: &Map) -> Result<Vec<Side>, MapError> {
     let mut sides = Vec::with_capacity(alloc, map.count(Kind::Side) as usize)?;
     for n in 0..map.count(Kind::Side) {
         let side = map.side(n).unwrap();
@@ -42,7 +41,7 @@ fn sides_of(alloc: Global, map: &Map) -> Result<Vec<Side>, AreaError> {
 }
 
 // The lines of a map.
-fn lines_of(alloc: Global, map: &Map) -> Result<Vec<Line>, AreaError> {
+fn lines_of(alloc: Global, map: &Map) -> Result<Vec<Line>, MapError> {
     let mut lines = Vec::with_capacity(alloc, map.count(Kind::Line) as usize)?;
     for n in 0..map.count(Kind::Line) {
         let line = map.line(n).unwrap();
@@ -52,7 +51,7 @@ fn lines_of(alloc: Global, map: &Map) -> Result<Vec<Line>, AreaError> {
 }
 
 /// A plan of the map, as it is.
-pub(crate) fn plan_of(alloc: Global, map: &Map) -> Result<Plan, AreaError> {
+pub(crate) fn plan_of(alloc: Global, map: &Map) -> Result<Plan, MapError> {
     Ok(Plan {
         vertices: vertices_of(alloc, map)?,
         sides: sides_of(alloc, map)?,
@@ -76,13 +75,13 @@ impl Plan {
     }
 
     // Notes an edit of one item.
-    fn note(&mut self, edit: Edit) -> Result<(), AreaError> {
+    fn note(&mut self, edit: Edit) -> Result<(), MapError> {
         self.commands.push(Command::Edit(edit))?;
         Ok(())
     }
 
     /// Draws a vertex, and answers its number.
-    pub(crate) fn add_vertex(&mut self, vertex: Vertex) -> Result<u16, AreaError> {
+    pub(crate) fn add_vertex(&mut self, vertex: Vertex) -> Result<u16, MapError> {
         let number = number_of(self.vertices.len());
         self.vertices.push(vertex)?;
         self.note(Edit::Add(Item::Vertex(vertex)))?;
@@ -90,7 +89,7 @@ impl Plan {
     }
 
     /// Draws a sector, and answers its number.
-    pub(crate) fn add_sector(&mut self, sector: Sector) -> Result<u16, AreaError> {
+    pub(crate) fn add_sector(&mut self, sector: Sector) -> Result<u16, MapError> {
         let number = number_of(self.sector_count);
         self.sector_count = self.sector_count.saturating_add(1);
         self.note(Edit::Add(Item::Sector(sector)))?;
@@ -98,7 +97,7 @@ impl Plan {
     }
 
     /// Draws a side, and answers its number.
-    pub(crate) fn add_side(&mut self, side: Side) -> Result<u16, AreaError> {
+    pub(crate) fn add_side(&mut self, side: Side) -> Result<u16, MapError> {
         let number = number_of(self.sides.len());
         self.sides.push(side)?;
         self.note(Edit::Add(Item::Side(side)))?;
@@ -106,7 +105,7 @@ impl Plan {
     }
 
     /// Draws a line, and answers its number.
-    pub(crate) fn add_line(&mut self, line: Line) -> Result<u16, AreaError> {
+    pub(crate) fn add_line(&mut self, line: Line) -> Result<u16, MapError> {
         let number = number_of(self.lines.len());
         self.lines.push(line)?;
         self.note(Edit::Add(Item::Line(line)))?;
@@ -114,7 +113,7 @@ impl Plan {
     }
 
     /// Changes the side with the number.
-    pub(crate) fn set_side(&mut self, number: u16, side: Side) -> Result<(), AreaError> {
+    pub(crate) fn set_side(&mut self, number: u16, side: Side) -> Result<(), MapError> {
         if let Some(old) = self.sides.get_mut(usize::from(number)) {
             *old = side;
         }
@@ -129,29 +128,29 @@ impl Plan {
     }
 
     /// Changes the line with the number.
-    pub(crate) fn set_line(&mut self, number: u16, line: Line) -> Result<(), AreaError> {
+    pub(crate) fn set_line(&mut self, number: u16, line: Line) -> Result<(), MapError> {
         self.put_line(number, line);
         self.note(Edit::Set(number, Item::Line(line)))
     }
 
     /// The line with the number.
-    pub(crate) fn line(&self, number: u16) -> Result<Line, AreaError> {
+    pub(crate) fn line(&self, number: u16) -> Result<Line, MapError> {
         match self.lines.get(usize::from(number)) {
             Some(line) => Ok(*line),
-            None => Err(AreaError::Refused(MapError::NoLine)),
+            None => Err(MapError::NoLine),
         }
     }
 
     /// The side with the number.
-    pub(crate) fn side(&self, number: u16) -> Result<Side, AreaError> {
+    pub(crate) fn side(&self, number: u16) -> Result<Side, MapError> {
         match self.sides.get(usize::from(number)) {
             Some(side) => Ok(*side),
-            None => Err(AreaError::Refused(MapError::NoSide)),
+            None => Err(MapError::NoSide),
         }
     }
 
     /// Cuts the line with the number in two at a place where no vertex is, and answers the number of the new line.
-    pub(crate) fn split(&mut self, number: u16, at: Vertex) -> Result<u16, AreaError> {
+    pub(crate) fn split(&mut self, number: u16, at: Vertex) -> Result<u16, MapError> {
         let line = self.line(number)?;
         let vertex = number_of(self.vertices.len());
         let new = number_of(self.lines.len());
@@ -183,7 +182,7 @@ impl Plan {
     }
 
     /// The lines with the places of their ends.
-    pub(crate) fn placed_lines(&self, alloc: Global) -> Result<Vec<PlacedLine>, AreaError> {
+    pub(crate) fn placed_lines(&self, alloc: Global) -> Result<Vec<PlacedLine>, MapError> {
         let mut placed = Vec::with_capacity(alloc, self.lines.len())?;
         let mut number = 0u32;
         for line in &self.lines {

@@ -1,5 +1,6 @@
 //! Whether the numbers and names of what an edit adds or sets are in their ranges.
 ghost use Rattle.std.specs.Prelude.{◌≡◌, ◌↔◌, ◌≤◌, IsTrue, pos};
+ghost use Rattle.map_areas.specs.Stays.{IsDrawing, IsNoThing, IsOfWall};
 ghost use Rattle.map_tables.specs.Ranges.{IsBetween, IsCode, IsEdit, IsItem, IsLine, IsNamed, IsSector, IsShort, IsSide, IsVertex, is_name, last_of, name_of, name_text};
 ghost use Rattle.map_tables.specs.Tables.{kind_of_item};
 
@@ -124,7 +125,8 @@ fn is_line(line: &Line) -> bool
 
 // Whether the item is in range. No area has a thing.
 fn is_item(item: &Item) -> bool
-    ensures { IsTrue result → IsItem item.now }
+    ensures range { IsTrue result → IsItem item.now }
+    ensures kind { IsTrue result → IsNoThing item.now }
 {
     match item {
         Item::Vertex(vertex) => is_vertex(vertex),
@@ -135,19 +137,22 @@ fn is_item(item: &Item) -> bool
     }
 }
 
-// Whether an item that is set may have the number.
+// Whether an item that is set may have the number. An area changes sides and lines alone.
 fn is_number(number: u16, item: &Item) -> bool
-    ensures { IsTrue result → number ≤ last_of (kind_of_item item.now) }
+    ensures range { IsTrue result → number ≤ last_of (kind_of_item item.now) }
+    ensures kind { IsTrue result → IsOfWall item.now }
 {
     match item {
-        Item::Sector(_) => number <= 4095,
-        _ => number <= LAST_ITEM,
+        Item::Side(_) => number <= LAST_ITEM,
+        Item::Line(_) => number <= LAST_ITEM,
+        _ => false,
     }
 }
 
 /// Whether the edit is in range. No area drops an item.
 pub(crate) fn is_edit(edit: &Edit) -> bool
-    ensures { IsTrue result → IsEdit edit.now }
+    ensures range { IsTrue result → IsEdit edit.now }
+    ensures kind { IsTrue result → IsDrawing edit.now }
 {
     match edit {
         Edit::Add(item) => is_item(item),

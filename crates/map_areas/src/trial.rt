@@ -1,6 +1,8 @@
 //! The trial of commands over a copy of a map: none of them comes out unless each is accepted.
-ghost use Rattle.std.specs.Prelude.{◌≡◌, All, OnOk};
-ghost use Rattle.map_areas.specs.Drawn.{AreTaken, TakesCommand};
+ghost use Rattle.std.specs.Prelude.{◌≡◌, All, IfErr, IfOk, OnOk};
+ghost use Rattle.map_areas.specs.Drawn.{LeadTo, TakesCommand};
+ghost use Rattle.map_areas.specs.Errors.{IsCommandRefusal};
+ghost use Rattle.map_areas.specs.Stays.{KeepsItems};
 ghost use Rattle.map_commands.specs.Step.{InRange};
 ghost use Rattle.map_commands.specs.declared.command.Command.TheVariants as command;
 
@@ -14,7 +16,9 @@ use std::alloc::Global;
 
 // Makes an edit of one item.
 fn try_edit(map: &mut Map, edit: &Edit) -> Result<(), AreaError>
-    ensures { OnOk result (TakesCommand map.old.tables (command.Edit edit.now) map.new.tables) }
+    ensures taken { OnOk result
+        (TakesCommand map.old.tables (command.Edit edit.now) map.new.tables) }
+    ensures refused { IfErr result IsCommandRefusal }
 {
     if !is_edit(edit) {
         return Err(AreaError::OutOfRange);
@@ -25,7 +29,9 @@ fn try_edit(map: &mut Map, edit: &Edit) -> Result<(), AreaError>
 
 // Cuts a line in two.
 fn try_split(map: &mut Map, split: &LineSplit) -> Result<(), AreaError>
-    ensures { OnOk result (TakesCommand map.old.tables (command.Split split.now) map.new.tables) }
+    ensures taken { OnOk result
+        (TakesCommand map.old.tables (command.Split split.now) map.new.tables) }
+    ensures refused { IfErr result IsCommandRefusal }
 {
     if !is_split(split.line, split.at) {
         return Err(AreaError::OutOfRange);
@@ -47,7 +53,8 @@ fn try_split(map: &mut Map, split: &LineSplit) -> Result<(), AreaError>
 
 // Makes what a command says of the map. No area gives it a name or draws a room.
 fn try_command(map: &mut Map, command: &Command) -> Result<(), AreaError>
-    ensures { OnOk result (TakesCommand map.old.tables command.now map.new.tables) }
+    ensures taken { OnOk result (TakesCommand map.old.tables command.now map.new.tables) }
+    ensures refused { IfErr result IsCommandRefusal }
 {
     match command {
         Command::Edit(edit) => try_edit(map, edit),
@@ -56,14 +63,17 @@ fn try_command(map: &mut Map, command: &Command) -> Result<(), AreaError>
     }
 }
 
-/// Tries the commands over a copy of the map: the first that is refused refuses them all.
-pub(crate) fn try_commands(alloc: Global, map: &Map, commands: &[Command]) -> Result<(), AreaError>
+/// Tries the commands over a copy of the map, and answers the map that they leave: the first that is refused refuses
+/// them all.
+pub(crate) fn try_commands(alloc: Global, map: &Map, commands: &[Command]) -> Result<Map, AreaError>
     ensures range { OnOk result (All InRange commands.now) }
-    ensures taken { OnOk result (AreTaken map.now.tables commands.now) }
+    ensures taken { IfOk result (λ new. LeadTo map.now.tables commands.now new.tables) }
+    ensures stays { IfOk result (λ new. KeepsItems map.now.tables new.tables) }
+    ensures refused { IfErr result IsCommandRefusal }
 {
     let mut copy = copy_of(alloc, map)?;
     for command in commands {
         try_command(&mut copy, command)?;
     }
-    Ok(())
+    Ok(copy)
 }

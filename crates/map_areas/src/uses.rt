@@ -1,6 +1,6 @@
 //! How many lines use each side of a map.
-use crate::error::AreaError;
 use crate::plan::Plan;
+use map_tables::MapError;
 use std::alloc::Global;
 
 /// For each side, how often a line names it.
@@ -11,7 +11,7 @@ pub(crate) struct Uses {
 
 impl Uses {
     /// How often the lines of the plan name each side.
-    pub(crate) fn of(alloc: Global, plan: &Plan) -> Result<Uses, AreaError> {
+    pub(crate) fn of(alloc: Global, plan: &Plan) -> Result<Uses, MapError> {
         let counts = vec![in alloc; 0u32; plan.sides.len()]?;
         let mut uses = Uses { counts };
         for line in &plan.lines {
@@ -36,7 +36,7 @@ impl Uses {
     }
 
     /// A new side, which one line will name.
-    pub(crate) fn push(&mut self) -> Result<(), AreaError> {
+    pub(crate) fn push(&mut self) -> Result<(), MapError> {
         self.counts.push(1)?;
         Ok(())
     }

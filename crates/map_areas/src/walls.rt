@@ -1,11 +1,14 @@
 //! The lines of a border: new ones, and those that are there.
-use crate::error::AreaError;
+ghost use Rattle.std.specs.Prelude.{◌≡◌};
+ghost use Rattle.map_areas.specs.Stays.{opened_flags};
+
 use crate::plan::Plan;
 use crate::uses::Uses;
 use lump_records::{Line, NO_SIDE, Name8, Side};
+use map_tables::MapError;
 
-// The name that means "no texture".
-const NO_TEXTURE: Name8 = Name8 {
+/// The name that means "no texture".
+pub(crate) const NO_TEXTURE: Name8 = Name8 {
     bytes: *b"-\0\0\0\0\0\0\0",
 };
 
@@ -51,30 +54,22 @@ fn opened(side: &Side) -> Side {
     }
 }
 
-// The flags with 4, two-sided, and without 1, which stops players.
-fn opened_flags(flags: u16) -> u16 {
-    let passable = flags - flags % 2;
-    if passable / 4 % 2 == 0 {
-        passable + 4
-    } else {
-        passable
-    }
+/// The flags with 4, two-sided, and without 1, which stops players.
+pub(crate) fn opened_flags(flags: u16) -> u16
+    ensures { result ≡ opened_flags flags }
+{
+    flags & 65534 | 4
 }
 
 /// Adds a side that one line will have.
-pub(crate) fn add_side(plan: &mut Plan, uses: &mut Uses, side: Side) -> Result<u16, AreaError> {
+pub(crate) fn add_side(plan: &mut Plan, uses: &mut Uses, side: Side) -> Result<u16, MapError> {
     let number = plan.add_side(side)?;
     uses.push()?;
     Ok(number)
 }
 
 // Changes a side for one line alone, and answers the side's number: a new one if another line has it too.
-fn change_side(
-    plan: &mut Plan,
-    uses: &mut Uses,
-    number: u16,
-    side: Side,
-) -> Result<u16, AreaError> {
+fn change_side(plan: &mut Plan, uses: &mut Uses, number: u16, side: Side) -> Result<u16, MapError> {
     if uses.are_several(number) {
         uses.take(number);
         return add_side(plan, uses, side);
@@ -90,7 +85,7 @@ pub(crate) fn face(
     number: u16,
     on_right: bool,
     sector: u16,
-) -> Result<(), AreaError> {
+) -> Result<(), MapError> {
     let line = plan.line(number)?;
     let old = if on_right { line.right } else { line.left };
     let side = Side {
@@ -116,7 +111,7 @@ pub(crate) fn open(
     number: u16,
     wall: Name8,
     sector: u16,
-) -> Result<(), AreaError> {
+) -> Result<(), MapError> {
     let line = plan.line(number)?;
     let side = opened(&plan.side(line.right)?);
     let right = change_side(plan, uses, line.right, side)?;
@@ -137,7 +132,7 @@ pub(crate) fn add_wall(
     v2: u16,
     right: u16,
     left: u16,
-) -> Result<u16, AreaError> {
+) -> Result<u16, MapError> {
     plan.add_line(Line {
         v1,
         v2,

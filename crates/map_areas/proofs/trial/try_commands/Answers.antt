@@ -1,19 +1,33 @@
-use Rattle.std.proofs.Common.{arith}
+use Rattle.std.proofs.Common.{◌≡◌, sym, subst, arith}
+use Rattle.map_tables.specs.Tables.{Tables}
+use Rattle.map_areas.specs.Stays.{KeepsItems}
+use Rattle.map_areas.proofs.Keeping.{keeps_same, taken_keeps}
 use Rattle.map_areas.proofs.Leading.{LeadTo-step, LeadTo-all, LeadTo-range}
 use Rattle.map_areas.proofs.trial.try_commands.Goals as goal
 
-pub loop-command-preserved : goal.loop-command-preserved
-loop-command-preserved c =
-    LeadTo-step c.args.map.now.tables c.args.commands.now c.loop-command.command-index c.loop-command.copy.tables _ _ c.loop-command-test.true
-    c.loop-command.invariant c.in_ok-try_command.ensures
+pub loop-command-init : goal.loop-command-init
+loop-command-init c = record {
+  taken = c.in_ok-copy.ensures;
+  stays =
+      subst (λ (t : Tables). KeepsItems c.args.map.now.tables t) (sym c.in_ok-copy.ensures) (keeps_same c.args.map.now.tables);
+}
 
-pub returns : goal.returns
-returns c =
-    let m = c.args.map.now.tables in
-    let cs = c.args.commands.now in
-    let new = c.loop-command.copy.tables in
-    let all = LeadTo-all m cs c.loop-command.command-index new c.loop-command-test.false c.loop-command.invariant in
-    record {
-      range = λ k d lt. LeadTo-range m cs new all k d lt;
-      taken = (new, all);
-    }
+pub loop-command-preserved : goal.loop-command-preserved
+loop-command-preserved c = record {
+  taken =
+      LeadTo-step c.args.map.now.tables c.args.commands.now c.loop-command.command-index c.loop-command.copy.tables _ _ c.loop-command-test.true
+      c.loop-command.invariant.taken c.in_ok-try_command.ensures.taken;
+  stays =
+      taken_keeps c.args.map.now.tables c.loop-command.copy.tables _ _ c.loop-command.invariant.stays c.in_ok-try_command.ensures.taken;
+}
+
+pub returns-clause-range : goal.returns-clause-range
+returns-clause-range c = λ k d lt.
+    LeadTo-range c.args.map.now.tables c.args.commands.now c.loop-command.copy.tables
+    (LeadTo-all c.args.map.now.tables c.args.commands.now c.loop-command.command-index c.loop-command.copy.tables c.loop-command-test.false
+    c.loop-command.invariant.taken) k d lt
+
+pub returns-clause-taken : goal.returns-clause-taken
+returns-clause-taken c =
+    LeadTo-all c.args.map.now.tables c.args.commands.now c.loop-command.command-index c.loop-command.copy.tables c.loop-command-test.false
+    c.loop-command.invariant.taken

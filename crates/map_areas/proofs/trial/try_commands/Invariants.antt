@@ -1,7 +1,11 @@
 use Rattle.std.proofs.Common.{take}
 use Rattle.map_areas.specs.Drawn.{LeadTo}
+use Rattle.map_areas.specs.Stays.{KeepsItems}
 use Rattle.map_areas.proofs.trial.try_commands.Given as goal
 
 -- the copy is the map after the commands so far
 abbrev pub invariant-loop-command : goal.invariant-loop-command
-invariant-loop-command l = LeadTo l.map.tables (take l.command-index l.commands) l.copy.tables
+invariant-loop-command l = record {
+  taken : LeadTo l.map.tables (take l.command-index l.commands) l.copy.tables;
+  stays : KeepsItems l.map.tables l.copy.tables;
+}

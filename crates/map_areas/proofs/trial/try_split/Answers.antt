@@ -5,8 +5,8 @@ use Rattle.map_commands.specs.Rooms.{wall}
 use Rattle.map_areas.proofs.Leading.{split_made}
 use Rattle.map_areas.proofs.trial.try_split.Goals as goal
 
-pub returns : goal.returns
-returns c =
+pub returns-clause-taken : goal.returns-clause-taken
+returns-clause-taken c =
     let m = c.args.map.now.tables in
     let s = c.args.split.now in
     split_made m s c.in-Some.line c.count-vertex.result _ _ _ _ _ _ (c.if-not-is_split.ensures (search rules))

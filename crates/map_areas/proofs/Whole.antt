@@ -1,0 +1,22 @@
+-- What the steps of a shape say together.
+use Rattle.std.proofs.Common.{◌≡◌, ℕ, List, length, subst}
+use Rattle.map_commands.specs.declared.command.Command.{Command}
+use Rattle.map_tables.specs.Tables.{Tables}
+use Rattle.map_areas.proofs.Leading.{LeadTo-drawn}
+use Rattle.map_areas.specs.Drawn.{LeadTo, drawn}
+use Rattle.map_areas.specs.Stays.{BecomesLine, BecomesSide, EachBecomes, KeepsItems, KeepsRest}
+
+-- the map that commands lead to keeps the tables, so the one that they leave does
+pub keeps_drawn : (m new : Tables) (cs : List Command) → LeadTo m cs new → KeepsItems m new → KeepsItems m (drawn m cs)
+keeps_drawn m new cs h keeps = subst (λ (t : Tables). KeepsItems m t) (LeadTo-drawn m cs new h) keeps
+
+-- what stays in the map that commands lead to stays in the one that they leave
+pub stays_drawn : (m new : Tables) (cs : List Command) (s : ℕ) → LeadTo m cs new → s ≡ length m.sectors → KeepsItems m new
+    → EachBecomes (BecomesSide s) m.sides new.sides → EachBecomes BecomesLine m.lines new.lines → KeepsRest m (drawn m cs)
+stays_drawn m new cs s h number keeps sides lines =
+    subst (λ (t : Tables). KeepsRest m t) (LeadTo-drawn m cs new h)
+    (record {
+      tables = keeps;
+      sides = subst (λ (k : ℕ). EachBecomes (BecomesSide k) m.sides new.sides) number sides;
+      lines = lines;
+    })

@@ -1,0 +1,120 @@
+//! What becomes of the sides and lines that were there, looked at in the map that the commands leave.
+ghost use Rattle.std.specs.Prelude.{◌≡◌, ◌↔◌, ◌⊎◌, IfErr, IsTrue, OnOk};
+ghost use Rattle.map_areas.specs.Errors.{IsCommandRefusal};
+ghost use Rattle.map_areas.specs.Stays.{BecomesLine, BecomesSide, EachBecomes, IsMadeOpen, TakesOver, no_texture, opened_flags};
+
+use crate::error::AreaError;
+use crate::walls::{NO_TEXTURE, opened_flags};
+use lump_records::{Line, Name8, Side};
+use map_tables::{Kind, Map};
+
+// Whether a texture stays, or the middle texture comes where there was none.
+fn takes_over(was: &Name8, middle: &Name8, is: &Name8) -> bool
+    ensures { IsTrue result → TakesOver was.now middle.now is.now }
+{
+    *is == *was || *was == NO_TEXTURE && *is == *middle
+}
+
+// Whether nothing but the textures changed, and there is none in the middle now.
+fn has_other_textures(old: &Side, new: &Side) -> bool
+    ensures { IsTrue result ↔ (new.now ≡ record old.now {
+      upper = new.now.upper;
+      lower = new.now.lower;
+      middle = no_texture;
+    }) }
+{
+    *new == Side {
+        upper: new.upper,
+        lower: new.lower,
+        middle: NO_TEXTURE,
+        ..*old
+    }
+}
+
+// Whether the side became one of a two-sided line.
+fn is_opened(old: &Side, new: &Side) -> bool
+    ensures { IsTrue result → IsMadeOpen old.now new.now }
+{
+    has_other_textures(old, new)
+        && takes_over(&old.upper, &old.middle, &new.upper)
+        && takes_over(&old.lower, &old.middle, &new.lower)
+}
+
+// Whether the side is the same but for the sector that it faces.
+fn is_turned(old: &Side, new: &Side, sector: u16) -> bool
+    ensures { IsTrue result ↔ (new.now ≡ record old.now { sector = sector }) }
+{
+    *new == Side { sector, ..*old }
+}
+
+// Whether the side became what an area makes of sides.
+fn is_kept_side(old: &Side, new: &Side, sector: u16) -> bool
+    ensures { IsTrue result → BecomesSide sector old.now new.now }
+{
+    *new == *old || is_turned(old, new, sector) || is_opened(old, new)
+}
+
+// Whether the flags are the same, or those of a line that became two-sided.
+fn has_flags(old: u16, new: u16) -> bool
+    ensures { IsTrue result → (new ≡ old) ⊎ (new ≡ opened_flags old) }
+{
+    new == old || new == opened_flags(old)
+}
+
+// Whether the line became what an area makes of lines.
+fn is_kept_line(old: &Line, new: &Line) -> bool
+    ensures { IsTrue result → BecomesLine old.now new.now }
+{
+    new.v1 == old.v1
+        && new.special == old.special
+        && new.tag == old.tag
+        && has_flags(old.flags, new.flags)
+}
+
+// Whether each side became what an area makes of sides.
+fn keeps_sides(map: &Map, new: &Map, sector: u16) -> bool
+    ensures { IsTrue result
+        → EachBecomes (BecomesSide sector) map.now.tables.sides new.now.tables.sides }
+{
+    for n in 0..map.count(Kind::Side) {
+        let side = map.side(n).unwrap();
+        let Some(found) = new.side(n) else {
+            return false;
+        };
+        if !is_kept_side(&side, &found, sector) {
+            return false;
+        }
+    }
+    true
+}
+
+// Whether each line became what an area makes of lines.
+fn keeps_lines(map: &Map, new: &Map) -> bool
+    ensures { IsTrue result
+        → EachBecomes BecomesLine map.now.tables.lines new.now.tables.lines }
+{
+    for n in 0..map.count(Kind::Line) {
+        let line = map.line(n).unwrap();
+        let Some(found) = new.line(n) else {
+            return false;
+        };
+        if !is_kept_line(&line, &found) {
+            return false;
+        }
+    }
+    true
+}
+
+/// Refuses commands that would leave a map in which something else became of a side or a line than an area makes of it.
+pub(crate) fn find_kept(map: &Map, new: &Map, sector: u16) -> Result<(), AreaError>
+    ensures sides { OnOk result
+        (EachBecomes (BecomesSide sector) map.now.tables.sides new.now.tables.sides) }
+    ensures lines { OnOk result
+        (EachBecomes BecomesLine map.now.tables.lines new.now.tables.lines) }
+    ensures refused { IfErr result IsCommandRefusal }
+{
+    if keeps_sides(map, new, sector) && keeps_lines(map, new) {
+        return Ok(());
+    }
+    Err(AreaError::OutOfRange)
+}
