@@ -1,8 +1,10 @@
 -- What the steps of a shape say together.
 use Rattle.std.proofs.Common.{◌≡◌, ℕ, List, length, subst}
 use Rattle.map_commands.specs.declared.command.Command.{Command}
+use Rattle.map_plane.specs.declared.places.PlacedLine.{PlacedLine}
 use Rattle.map_tables.specs.Tables.{Tables}
 use Rattle.map_areas.proofs.Leading.{LeadTo-drawn}
+use Rattle.map_areas.specs.Apart.{KeepsAlone, doubled}
 use Rattle.map_areas.specs.Drawn.{LeadTo, drawn}
 use Rattle.map_areas.specs.Stays.{BecomesLine, BecomesSide, EachBecomes, KeepsItems, KeepsRest}
 
@@ -11,12 +13,16 @@ pub keeps_drawn : (m new : Tables) (cs : List Command) → LeadTo m cs new → K
 keeps_drawn m new cs h keeps = subst (λ (t : Tables). KeepsItems m t) (LeadTo-drawn m cs new h) keeps
 
 -- what stays in the map that commands lead to stays in the one that they leave
-pub stays_drawn : (m new : Tables) (cs : List Command) (s : ℕ) → LeadTo m cs new → s ≡ length m.sectors → KeepsItems m new
-    → EachBecomes (BecomesSide s) m.sides new.sides → EachBecomes BecomesLine m.lines new.lines → KeepsRest m (drawn m cs)
-stays_drawn m new cs s h number keeps sides lines =
-    subst (λ (t : Tables). KeepsRest m t) (LeadTo-drawn m cs new h)
+pub stays_drawn : (m new : Tables) (cs : List Command) (es fs ds : List PlacedLine) (s : ℕ) → LeadTo m cs new → fs ≡ es → ds ≡ doubled fs
+    → s ≡ length m.sectors → KeepsItems m new → EachBecomes (BecomesSide s) m.sides new.sides → EachBecomes BecomesLine m.lines new.lines
+    → ((n : ℕ) → KeepsAlone fs ds m new n) → KeepsRest es m (drawn m cs)
+stays_drawn m new cs es fs ds s h edges twice number keeps sides lines alone =
+    subst (λ (t : Tables). KeepsRest es m t) (LeadTo-drawn m cs new h)
     (record {
       tables = keeps;
       sides = subst (λ (k : ℕ). EachBecomes (BecomesSide k) m.sides new.sides) number sides;
       lines = lines;
+      alone =
+          subst (λ (gs : List PlacedLine). (n : ℕ) → KeepsAlone gs (doubled gs) m new n) edges
+          (subst (λ (gs : List PlacedLine). (n : ℕ) → KeepsAlone fs gs m new n) twice alone);
     })

@@ -1,3 +1,5 @@
 pub mod Errors
 pub mod Drawn
 pub mod Stays
+pub mod Outlines
+pub mod Apart

@@ -4,6 +4,7 @@ use Rattle.lump_records.specs.Names.{name_of}
 use Rattle.lump_records.specs.declared.records.Line.{Line}
 use Rattle.lump_records.specs.declared.records.Name8.{Name8}
 use Rattle.lump_records.specs.declared.records.Side.{Side}
+use Rattle.map_plane.specs.declared.places.PlacedLine.{PlacedLine}
 use Rattle.map_tables.specs.Tables.{Tables}
 use Rattle.map_tables.specs.declared.edit.Edit.{Edit}
 use Rattle.map_tables.specs.declared.edit.Edit.TheVariants.{Add, Set, Drop}
@@ -11,6 +12,7 @@ use Rattle.map_tables.specs.declared.edit.Item.{Item}
 use Rattle.map_tables.specs.declared.edit.Item.TheVariants as item
 use Rattle.map_commands.specs.declared.command.Command.{Command}
 use Rattle.map_commands.specs.declared.command.Command.TheVariants as command
+use Rattle.map_areas.specs.Apart.{KeepsEachAlone}
 
 -- the item is a side or a line
 abbrev pub IsOfWall : Item → Type 0
@@ -84,8 +86,10 @@ pub record BecomesLine (old new : Line) : Type 0 where
   pub flags : (new.flags ≡ old.flags) ⊎ (new.flags ≡ opened_flags old.flags)
 
 -- what stays when an area is drawn: vertices, sectors and things, each side but for what becomes of those on the border
--- or inside, and each line but for where it ends, what becomes of its flags, and its sides
-pub record KeepsRest (old new : Tables) : Type 0 where
+-- or inside, each line but for where it ends, what becomes of its flags, and its sides, and each line that the outline
+-- leaves alone altogether
+pub record KeepsRest (es : List PlacedLine) (old new : Tables) : Type 0 where
   pub tables : KeepsItems old new
   pub sides : EachBecomes (BecomesSide (length old.sectors)) old.sides new.sides
   pub lines : EachBecomes BecomesLine old.lines new.lines
+  pub alone : KeepsEachAlone es old new

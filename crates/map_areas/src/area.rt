@@ -1,9 +1,11 @@
 //! Areas: polygons that become sectors.
-ghost use Rattle.std.specs.Prelude.{All, IfOk};
+ghost use Rattle.std.specs.Prelude.{All, IfOk, true};
 ghost use Rattle.map_areas.specs.Drawn.{AreTaken, drawn};
+ghost use Rattle.map_areas.specs.Outlines.{edges_round};
 ghost use Rattle.map_areas.specs.Stays.{KeepsRest};
 ghost use Rattle.map_commands.specs.Step.{InRange};
 
+use crate::alone::find_alone;
 use crate::border::{Border, border_of, twice};
 use crate::drawing::{Drawing, Paint, drawing_of};
 use crate::error::AreaError;
@@ -72,7 +74,8 @@ pub fn area_commands(alloc: Global, map: &Map, area: &Area) -> Result<Vec<Comman
     ensures range { IfOk result (λ commands. All InRange commands.items) }
     ensures taken { IfOk result (λ commands. AreTaken map.now.tables commands.items) }
     ensures stays { IfOk result (λ commands.
-        KeepsRest map.now.tables (drawn map.now.tables commands.items)) }
+        KeepsRest (edges_round true area.now.corners.items) map.now.tables
+        (drawn map.now.tables commands.items)) }
 {
     let edges = polygon(alloc, &area.corners, true)?;
     let lines = placed_lines(alloc, map)?;
@@ -84,7 +87,9 @@ pub fn area_commands(alloc: Global, map: &Map, area: &Area) -> Result<Vec<Comman
     let commands = drawing.into_commands();
     let all = commands.as_slice();
     let new = try_commands(alloc, map, all)?;
-    let sector = map.count(Kind::Sector);
-    find_kept(map, &new, sector as u16)?;
+    let sectors = map.count(Kind::Sector);
+    let sector = sectors as u16;
+    find_kept(map, &new, sector)?;
+    find_alone(map, &new, &border)?;
     Ok(commands)
 }

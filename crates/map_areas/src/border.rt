@@ -1,4 +1,7 @@
 //! The border of a polygon: its edges, and the places at which they are cut.
+ghost use Rattle.std.specs.Prelude.{◌≡◌, IfOk};
+ghost use Rattle.map_areas.specs.Apart.{doubled, doubled_line, place_sum};
+
 use crate::crossing::near_crossing;
 use crate::cuts::{is_between, put_along};
 use crate::drawing::number_of;
@@ -6,7 +9,7 @@ use crate::error::AreaError;
 use lump_records::Vertex;
 use map_plane::{PlacedLine, boxes_meet, crosses, is_inside, is_on, is_on_any};
 use map_tables::{Kind, Map};
-use std::alloc::Global;
+use std::alloc::{AllocError, Global};
 
 /// The edges of a polygon, clockwise, the same at twice the size, and the places at which they are cut, in order.
 #[derive(Drop)]
@@ -17,22 +20,35 @@ pub(crate) struct Border {
 }
 
 /// The sum of two places: at twice the size it is in the middle of the two.
-pub(crate) fn sum(a: Vertex, b: Vertex) -> Vertex {
+#[tactic(auto, unfolding(crate::specs::Apart::place_sum))]
+pub(crate) fn sum(a: Vertex, b: Vertex) -> Vertex
+    ensures { result ≡ place_sum a b }
+{
     Vertex {
         x: a.x.saturating_add(b.x),
         y: a.y.saturating_add(b.y),
     }
 }
 
+// The line at twice the size.
+#[tactic(auto, unfolding(crate::specs::Apart::doubled_line))]
+fn doubled_line(line: &PlacedLine) -> PlacedLine
+    ensures { result ≡ doubled_line line.now }
+{
+    PlacedLine {
+        from: sum(line.from, line.from),
+        to: sum(line.to, line.to),
+        ..*line
+    }
+}
+
 /// The lines at twice the size, so that each middle of two places is a place. No coordinate is greater than 16,384.
-pub(crate) fn twice(alloc: Global, lines: &[PlacedLine]) -> Result<Vec<PlacedLine>, AreaError> {
+pub(crate) fn twice(alloc: Global, lines: &[PlacedLine]) -> Result<Vec<PlacedLine>, AllocError>
+    ensures { IfOk result (λ twice. twice.items ≡ doubled lines.now) }
+{
     let mut doubled = Vec::with_capacity(alloc, lines.len())?;
     for line in lines {
-        doubled.push(PlacedLine {
-            from: sum(line.from, line.from),
-            to: sum(line.to, line.to),
-            ..*line
-        })?;
+        doubled.push(doubled_line(line))?;
     }
     Ok(doubled)
 }
@@ -109,7 +125,10 @@ pub(crate) fn border_of(
     map: &Map,
     lines: &[PlacedLine],
     edges: Vec<PlacedLine>,
-) -> Result<Border, AreaError> {
+) -> Result<Border, AreaError>
+    ensures edges { IfOk result (λ border. border.edges.items ≡ edges.items) }
+    ensures doubled { IfOk result (λ border. border.doubled.items ≡ doubled edges.items) }
+{
     let doubled = twice(alloc, &edges)?;
     let stops = all_stops(alloc, map, lines, &edges)?;
     Ok(Border {

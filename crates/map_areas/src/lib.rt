@@ -1,6 +1,7 @@
 //! Areas: a polygon becomes a sector, or a hole in one, and shares what is there.
 #![tactic(auto)]
 
+mod alone;
 mod area;
 mod border;
 mod copying;

@@ -1,50 +1,83 @@
 //! The polygon of some corners, its edges clockwise.
+ghost use Rattle.std.specs.Prelude.{◌≡◌, IfOk, reverse, slice_get};
+ghost use Rattle.map_areas.specs.Outlines.{edge_from, outline_edges, edges_round, next_corner, runs_clockwise};
+
 use crate::error::AreaError;
 use lump_records::Vertex;
 use map_plane::{PlacedLine, first_clash, polygon_area};
-use std::alloc::Global;
+use std::alloc::{AllocError, Global};
 
-// The edges between neighbouring corners, and from the last corner to the first.
-fn edges_of(alloc: Global, corners: &[Vertex]) -> Result<Vec<PlacedLine>, AreaError> {
+// The corner with the number.
+fn corner_at(corners: &[Vertex], n: usize) -> Option<Vertex>
+    ensures { result ≡ slice_get corners.now n }
+{
+    corners.get(n).copied()
+}
+
+// The corner after one with its number: after the last comes the first.
+fn next_corner(corners: &[Vertex], number: u32, from: Vertex) -> Vertex
+    ensures { result ≡ next_corner corners.now (number, from) }
+{
+    let next = corner_at(corners, number as usize + 1);
+    let first = corner_at(corners, 0);
+    next.or(first).unwrap_or(from)
+}
+
+// The edge from a corner with its number to the next one, or from the last to the first.
+fn edge_from(corners: &[Vertex], number: u32, from: Vertex) -> PlacedLine
+    ensures { result ≡ edge_from corners.now (number, from) }
+{
+    PlacedLine {
+        number,
+        from,
+        to: next_corner(corners, number, from),
+        is_wall: false,
+    }
+}
+
+// The edges between neighbouring corners, and from the last corner to the first. More than a number can count find no
+// memory.
+fn outline_edges(alloc: Global, corners: &[Vertex]) -> Result<Vec<PlacedLine>, AreaError>
+    ensures { IfOk result (λ edges. edges.items ≡ outline_edges corners.now) }
+{
+    let Ok(count) = u32::try_from(corners.len()) else {
+        return Err(AreaError::OutOfMemory);
+    };
     let mut edges = Vec::new(alloc);
-    let mut number = 0u32;
-    for from in corners {
-        let to = corners
-            .get((number as usize).saturating_add(1))
-            .or(corners.first());
-        edges.push(PlacedLine {
-            number,
-            from: *from,
-            to: *to.unwrap_or(from),
-            is_wall: false,
-        })?;
-        number = number.saturating_add(1);
+    for n in 0..count {
+        let corner = corner_at(corners, n as usize).unwrap();
+        edges.push(edge_from(corners, n, corner))?;
     }
     Ok(edges)
 }
 
 // The corners in the opposite order.
-fn turned(alloc: Global, corners: &[Vertex]) -> Result<Vec<Vertex>, AreaError> {
+fn turned(alloc: Global, corners: &[Vertex]) -> Result<Vec<Vertex>, AllocError>
+    ensures { IfOk result (λ turned. turned.items ≡ reverse corners.now) }
+{
     let mut turned = Vec::from_slice(alloc, corners)?;
     turned.reverse();
     Ok(turned)
 }
 
-// The edges of a simple polygon in their own order, and whether that is clockwise: then the inside is on their right.
-fn edges_if_simple(
-    alloc: Global,
-    corners: &[Vertex],
-) -> Result<(Vec<PlacedLine>, bool), AreaError> {
-    let edges = edges_of(alloc, corners)?;
-    if let Some(edge) = first_clash(&edges) {
-        return Err(AreaError::NotAPolygon { corner: edge.from });
+// The corner at which the edges are no simple polygon: where one clashes, or the first if they are too few or have no
+// area.
+fn bad_corner(edges: &[PlacedLine]) -> Option<Vertex> {
+    if let Some(edge) = first_clash(edges) {
+        return Some(edge.from);
     }
-    let area = polygon_area(&edges);
-    if edges.len() < 3 || area == 0 {
-        let corner = corners.first().copied().unwrap_or(Vertex { x: 0, y: 0 });
-        return Err(AreaError::NotAPolygon { corner });
+    if edges.len() < 3 || polygon_area(edges) == 0 {
+        let first = edges.first().map(|edge| edge.from);
+        return Some(first.unwrap_or(Vertex { x: 0, y: 0 }));
     }
-    Ok((edges, 0 < area))
+    None
+}
+
+// Whether the edges run clockwise: then the inside is on their right.
+fn runs_clockwise(edges: &[PlacedLine]) -> bool
+    ensures { result ≡ runs_clockwise edges.now }
+{
+    0 < polygon_area(edges)
 }
 
 /// The edges of the polygon, clockwise or the other way round. Refused if it isn't simple.
@@ -52,11 +85,16 @@ pub(crate) fn polygon(
     alloc: Global,
     corners: &[Vertex],
     clockwise: bool,
-) -> Result<Vec<PlacedLine>, AreaError> {
-    let (edges, runs_clockwise) = edges_if_simple(alloc, corners)?;
-    if runs_clockwise == clockwise {
+) -> Result<Vec<PlacedLine>, AreaError>
+    ensures { IfOk result (λ edges. edges.items ≡ edges_round clockwise corners.now) }
+{
+    let edges = outline_edges(alloc, corners)?;
+    if let Some(corner) = bad_corner(&edges) {
+        return Err(AreaError::NotAPolygon { corner });
+    }
+    if runs_clockwise(&edges) == clockwise {
         return Ok(edges);
     }
     let turned = turned(alloc, corners)?;
-    edges_of(alloc, &turned)
+    outline_edges(alloc, &turned)
 }
