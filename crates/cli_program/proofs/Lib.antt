@@ -3,5 +3,7 @@ pub mod DumpedLemmas
 pub mod Examined
 pub mod Rebuilding
 pub mod Salvaging
+pub mod Scripted
 pub mod Scripts
+pub mod SourceDone
 pub mod Sources

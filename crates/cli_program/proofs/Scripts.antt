@@ -1,9 +1,11 @@
 -- Requests about scripts, and how loud each request is.
-use Rattle.std.proofs.Common.{◌≡◌, ℕ, Bool, false, true, List, Option, None, Some, Result, Ok, Err, ◌∙◌, ◌<◌, get_or, inl, inr, length, refl, ap, arith, subst, sym}
+use Rattle.std.proofs.Common.{◌≡◌, ◌⊎◌, map, ℕ, Bool, false, true, List, Option, None, Some, Result, Ok, Err, ◌∙◌, ◌<◌, get_or, inl, inr, length, refl, ap, arith, subst, sym}
 use Rattle.cli_words.specs.declared.asked.Request.{Request}
 use Rattle.cli_words.specs.declared.asked.Request.TheVariants.{Scratch, Create, Edit, Check, Lint, Draw, TryScript, Dump, Salvage, Picture, Inspect, Levels, Build, Rebuild}
 use Rattle.cli_refusals.specs.Statuses.{status_in}
 use Rattle.cli_refusals.specs.declared.refusal.Refusal.{Refusal}
+use Rattle.run_script.specs.Drawn.{IsScriptDrawn}
+use Rattle.run_script.specs.declared.canvas.Canvas as canvas
 use Rattle.run_script.specs.declared.drawing.Stop.{Stop}
 use Rattle.run_script.specs.declared.error.ScriptError.{ScriptError}
 use Rattle.run_script.specs.declared.error.ScriptError.TheVariants as cut
@@ -12,11 +14,12 @@ use Rattle.cli_program.proofs.Sources.{unread_of}
 use Rattle.std.proofs.KnownBytes.{Keeps-refl}
 use Rattle.std.proofs.lemmas.Option.{slice_get_read}
 use Rattle.std.specs.Prelude.{IfOk, IfSome}
+use Rattle.map_script.specs.Scripts.{script_lines}
 use Rattle.map_script.specs.Views.{seen}
 use Rattle.map_script.specs.declared.script.ScriptLine.{ScriptLine}
 use Rattle.run_script.specs.Refused.{TellsStop}
 use Rattle.store_disk.specs.declared.disk.Disk.{Ghosts}
-use Rattle.cli_program.specs.Drawing.{IsDrawnInto, IsHandedOn, IsReadTried, IsScriptTried, TellsRefused}
+use Rattle.cli_program.specs.Drawing.{IsDrawnInto, IsHandedOn, IsReadTried, IsScriptTried, TellsRefused, TellsStopFrom}
 
 apart : (n : ℕ) → n ≡ 3 → n ≡ 0 → ⊥
 apart n three none = omega arith
@@ -56,3 +59,20 @@ told_refused told script lines drawn field stop line d x whole some inside is sa
     subst (λ (r : Result (Option Stop) ScriptError). IfOk r (λ o. IfSome o (λ s. s.place < length lines))) here inside in
     subst (λ (r : Result (Option Stop) ScriptError). TellsRefused told script lines r d x) (sym here)
     (line, slice_get_read lines (length lines) stop.place line refl below is, said)
+
+-- a script that was drawn, and how it ended, with what was told of it
+pub told_end : {S : Type 0} (facts : canvas.Ghosts S) (verbose : Bool) (name script : List ℕ) (lines : List ScriptLine) (drawn : Result (Option Stop) ScriptError)
+    (told : Result (Unit {0}) ScriptError) (old new : S) (how : Result ℕ Refusal) (u v w d x : Option (List ℕ)) → map seen lines ≡ script_lines script
+    → IsScriptDrawn facts verbose (script_lines script) drawn old u new v → IsHandedOn drawn how v w → TellsRefused told name lines drawn d x
+    → IfOk how (λ s. (s ≡ 0) ⊎ ((s ≡ 3) × TellsStopFrom facts verbose name script old u d x))
+told_end facts verbose name script lines (Ok None) told old new how u v w d x same is (inl (ended, kept)) said =
+    subst (λ (h : Result ℕ Refusal). IfOk h (λ s. (s ≡ 0) ⊎ ((s ≡ 3) × TellsStopFrom facts verbose name script old u d x))) (sym ended) (inl refl)
+told_end facts verbose name script lines (Ok (Some stop)) told old new how u v w d x same is (inl (ended, kept)) said =
+    subst (λ (h : Result ℕ Refusal). IfOk h (λ s. (s ≡ 0) ⊎ ((s ≡ 3) × TellsStopFrom facts verbose name script old u d x))) (sym ended)
+    (inr (refl, (stop, new, v, is, lines, same, told, said)))
+told_end facts verbose name script lines (Err cut.OutOfMemory) told old new how u v w d x same is (inl (ended, kept)) said =
+    subst (λ (h : Result ℕ Refusal). IfOk h (λ s. (s ≡ 0) ⊎ ((s ≡ 3) × TellsStopFrom facts verbose name script old u d x))) (sym ended) tt
+told_end facts verbose name script lines (Err cut.WriterFailed) told old new how u v w d x same is (inl (ended, kept)) said =
+    subst (λ (h : Result ℕ Refusal). IfOk h (λ s. (s ≡ 0) ⊎ ((s ≡ 3) × TellsStopFrom facts verbose name script old u d x))) (sym ended) tt
+told_end facts verbose name script lines drawn told old new how u v w d x same is (inr failed) said =
+    subst (λ (h : Result ℕ Refusal). IfOk h (λ s. (s ≡ 0) ⊎ ((s ≡ 3) × TellsStopFrom facts verbose name script old u d x))) (sym failed) tt

@@ -15,14 +15,12 @@ use Rattle.store_project.specs.declared.error.ProjectError.{ProjectError}
 use Rattle.store_project.specs.declared.error.ProjectError.TheVariants.{Refused as RefusedLine, Device, OutOfMemory, Reopen, GenerationsSpent, Damaged, Blank, NotAProject, NotEmpty, BadGeometry}
 use Rattle.store_project.specs.declared.geometry.Geometry.{Geometry}
 use Rattle.run_edit.specs.Recovery.{IsOnlyRead}
-use Rattle.cli_program.specs.Deeds.{IsBuiltInto, IsCheckedAt, IsCreated, IsEdited, IsExamined, IsLintedAt, IsPicturedAt}
+use Rattle.cli_program.specs.Deeds.{IsCreated, IsEdited, IsExamined}
 use Rattle.cli_program.specs.Drawing.{EndsUnopened, EndsUnread, IsDrawnOntoSome, IsRefusedFor, IsUnreadOf}
 use Rattle.cli_program.specs.DrawnOver.{IsDrawnOver}
-use Rattle.cli_print.specs.declared.laid_over.Layers.{Layers}
-use Rattle.cli_program.specs.SomeProject.{OverSomeMaps}
-use Rattle.cli_program.specs.Wads.{OverSomeWad, OverWad}
+use Rattle.cli_program.specs.SomeSource.{OverSomeMaps}
 use Rattle.cli_refusals.specs.Refusals.{IsOfOpening}
-use Rattle.cli_program.specs.Sources.{IsBuiltFrom, IsFaultCounted, IsEditedOver, IsExaminedOf, IsMade, IsOpenedFrom, NotOpened}
+use Rattle.cli_program.specs.Sources.{IsFaultCounted, IsEditedOver, IsExaminedOf, IsMade, IsOpenedFrom, NotOpened}
 use Rattle.run_edit.specs.declared.error.EditorError.TheVariants.{WriterFailed}
 use Rattle.cli_refusals.specs.declared.refusal.Refusal.{Refusal}
 use Rattle.cli_refusals.specs.declared.refusal.Refusal.TheVariants.{Build, Level, Lines, NoSuchMap, NotAMap, Project, TreeOutside}
@@ -141,22 +139,6 @@ pub of_some_maps : (reads : List ℕ → Type 0) (counted : ProjectError → Typ
 of_some_maps reads counted how u w does (inl ((e, is, refused, rose), kept)) = inl (e, is, of_opening reads e refused, kept)
 of_some_maps reads counted how u w does (inr (maps, has, done)) = inr (maps, done)
 
-built_of : (maps : MapsView) (how : Result ℕ Refusal) (u w : Option (List ℕ)) → IsBuiltFrom maps how u w → IsBuiltInto how u w
-built_of maps (Ok status) u w (wad, c, is, counted, told) = (maps, wad, c, is, counted, told)
-built_of maps (Err (Lines e)) u w lost = lost
-built_of maps (Err (Build e)) u w (refused, kept) = ((maps, refused), kept)
-built_of maps (Err (Project e)) u w never = absurd never
-built_of maps (Err (Level e)) u w never = absurd never
-built_of maps (Err NoSuchMap) u w never = absurd never
-built_of maps (Err (NotAMap e)) u w never = absurd never
-built_of maps (Err TreeOutside) u w never = absurd never
-
-pub built : (reads : List ℕ → Type 0) (counted : ProjectError → Type 0) (how : Result ℕ Refusal) (u w : Option (List ℕ))
-    → OverMapsBy reads counted how u w (λ maps. IsBuiltFrom maps how u w) → IsBuiltInto how u w
-built reads counted how u w (inl ((e, is, refused, rose), kept)) =
-    subst (λ (h : Result ℕ Refusal). IsBuiltInto h u w) (sym is) (of_opening reads e refused, kept)
-built reads counted how u w (inr (maps, has, done)) = built_of maps how u w done
-
 pub examined_some : (name : List ℕ) (how : Result ℕ Refusal) (r s u w : Option (List ℕ)) → IsExaminedOf name how r s u w → IsExamined name how u w
 examined_some name (Ok status) r s u w (wad, all, sound, is, told) = (wad, sound, is, told)
 examined_some name (Err (Level e)) r s u w (wad, all, refused) = (wad, refused)
@@ -172,26 +154,3 @@ examined_some name (Err TreeOutside) r s u w never = absurd never
 -- a file tells no bytes, and so not how long it was
 pub unread_of : (r s u w : Option (List ℕ)) (how : Result ℕ Refusal) → IsRefusedFor (IsUnreadOf r s) how u w → EndsUnread how u w
 unread_of r s u w how (refusal, is, (e, es, ends, long), kept) = (refusal, is, (e, es, ends), kept)
-
--- what was done with all that a reader gave was done with some bytes
-pub of_some_wad : (r s u w : Option (List ℕ)) (how : Result ℕ Refusal) (does : List ℕ → Type 0) → OverWad r s how u w does → OverSomeWad how u w does
-of_some_wad r s u w how does (inl unread) = inl (unread_of r s u w how unread)
-of_some_wad r s u w how does (inr (wad, all, done)) = inr (wad, done)
-
--- the same map
-pub checked_as : (m n : Option (List ℕ)) (how : Result ℕ Refusal) (u w : Option (List ℕ)) → m ≡ n → IsCheckedAt m how u w → IsCheckedAt n how u w
-checked_as m n how u w same done = subst (λ (t : Option (List ℕ)). IsCheckedAt t how u w) same done
-
--- the same layers and map, and into a file or not, for the same reason
-pub pictured_as : (k l : Layers) (m n : Option (List ℕ)) (a b : Bool) (how : Result ℕ Refusal) (u w : Option (List ℕ)) → k ≡ l → m ≡ n → a ≡ b
-    → IsPicturedAt k m a how u w → IsPicturedAt l n b how u w
-pictured_as k l m n a b how u w over same into done =
-    subst (λ (t : Layers). IsPicturedAt t n b how u w) over
-    (subst (λ (t : Option (List ℕ)). IsPicturedAt k t b how u w) same (subst (λ (t : Bool). IsPicturedAt k m t how u w) into done))
-
--- where a WAD is asked for beside it, or not, for the same reason, and the same map
-pub linted_as : (a b : Bool) (m n : Option (List ℕ)) (how : Result ℕ Refusal) (u w : Option (List ℕ)) → a ≡ b → m ≡ n
-    → IsLintedAt a m how u w → IsLintedAt b n how u w
-linted_as a b m n how u w same named done =
-    subst (λ (t : Bool). IsLintedAt t n how u w) same
-    (subst (λ (t : Option (List ℕ)). IsLintedAt a t how u w) named done)

@@ -1,38 +1,27 @@
 -- What was done for a request (docs/COMMANDS.md, "The program"). How it ended is a status, or the
--- refusal. A file tells no bytes, so which project or WAD it was is left open.
+-- refusal. A file tells no bytes, so which project, WAD or script it was is left open.
 use Rattle.std.specs.Prelude.{◌≡◌, ◌⊎◌, ℕ, Bool, Option, Result, Ok, Err, List, [], ◌∷◌, ◌++◌, codes, string_bytes, false, is_some, map, option_map}
 use Rattle.std.specs.Io.KnownBytes.{Appends, Keeps}
 use Rattle.store_disk.specs.declared.disk.Disk.{Ghosts}
-use Rattle.map_tables.specs.Projects.{MapsView, ProjectMaps, empty_project, project_of}
+use Rattle.map_tables.specs.Projects.{ProjectMaps, empty_project}
 use Rattle.store_project.specs.Places.{IsAllowed}
 use Rattle.store_project.specs.States.{State}
 use Rattle.store_project.specs.declared.error.ProjectError.{ProjectError}
 use Rattle.run_edit.specs.Answers.{RepliesInMemory}
-use Rattle.wad_build.specs.Counted.{IsBuildCounted}
-use Rattle.run_edit.specs.Building.{built_text}
 use Rattle.cli_program.specs.Drawing.{IsDrawnInto, IsScriptTried}
-use Rattle.cli_program.specs.Dumped.{IsDumpedInto}
 use Rattle.run_edit.specs.Editing.{RepliesInProject}
 use Rattle.run_edit.specs.Inspections.{IsInspected}
 use Rattle.cli_program.specs.LevelNames.{IsListed}
-use Rattle.cli_program.specs.SomeProject.{OverSomeMaps}
-use Rattle.cli_program.specs.Wads.{OverSomeWad}
+use Rattle.cli_program.specs.SourceDeeds.{IsDoneWithSome}
 use Rattle.cli_print.specs.Reading.{turns}
-use Rattle.cli_print.specs.Checking.{IsCheckedIn}
-use Rattle.cli_print.specs.LevelLines.{IsWadChecked, IsWadLintedBy}
-use Rattle.cli_print.specs.Linting.{IsLintedBy}
-use Rattle.cli_print.specs.Picturing.{IsPicturedOf}
-use Rattle.cli_print.specs.LevelPicture.{IsLevelPicturedOf}
 use Rattle.cli_program.specs.Rebuilding.{IsRebuiltInto}
 use Rattle.cli_program.specs.Salvaging.{IsSalvagedInto}
-use Rattle.cli_print.specs.declared.laid_over.Layers.{Layers}
-use Rattle.cli_refusals.specs.Refusals.{IsOfOpening, NotBuilt, NotCreated, NotExamined}
+use Rattle.cli_refusals.specs.Refusals.{IsOfOpening, NotCreated, NotExamined}
 use Rattle.run_edit.specs.Runs.{Exchange, Ran}
 use Rattle.run_edit.specs.Sessions.{RunsOver}
 use Rattle.cli_refusals.specs.Statuses.{run_end, status_told}
 use Rattle.cli_words.specs.declared.asked.Request.{Request}
 use Rattle.cli_words.specs.declared.asked.Request.TheVariants.{Scratch, Create, Edit, Check, Lint, Draw, TryScript, Dump, Salvage, Picture, Inspect, Levels, Build, Rebuild}
-use Rattle.wad_build.specs.declared.counted.BuildCounts.{BuildCounts}
 use Rattle.run_edit.specs.declared.error.EditorError.{EditorError}
 use Rattle.cli_refusals.specs.declared.refusal.Refusal.{Refusal}
 use Rattle.cli_refusals.specs.declared.refusal.Refusal.TheVariants as of
@@ -72,34 +61,6 @@ IsEdited {D = D} facts how reader-old reader-new writer-old writer-new =
     reader-old reader-new writer-old writer-new
     × RunsOver facts first last trace)
 
--- the findings of a map of some project, or of a level of some WAD, were written: of the one of the
--- name where one is asked for
-abbrev pub IsCheckedAt : Option (List ℕ) → Result ℕ Refusal → Option (List ℕ) → Option (List ℕ)
-    → Type 0
-IsCheckedAt name how writer-old writer-new =
-    OverSomeMaps how writer-old writer-new
-    (λ maps. IsCheckedIn name maps how writer-old writer-new)
-    ⊎ OverSomeWad how writer-old writer-new
-    (λ wad. IsWadChecked wad name how writer-old writer-new)
-
--- what there is to say of the maps of some project, or of the levels of some WAD, was told
-abbrev pub IsLintedAt : Bool → Option (List ℕ) → Result ℕ Refusal → Option (List ℕ)
-    → Option (List ℕ) → Type 0
-IsLintedAt asked name how writer-old writer-new =
-    OverSomeMaps how writer-old writer-new
-    (λ maps. IsLintedBy asked name maps how writer-old writer-new)
-    ⊎ OverSomeWad how writer-old writer-new
-    (λ wad. IsWadLintedBy asked wad name how writer-old writer-new)
-
--- a map of some project, or a level of some WAD, was drawn
-abbrev pub IsPicturedAt : Layers → Option (List ℕ) → Bool → Result ℕ Refusal → Option (List ℕ)
-    → Option (List ℕ) → Type 0
-IsPicturedAt layers name into how writer-old writer-new =
-    OverSomeMaps how writer-old writer-new
-    (λ maps. IsPicturedOf layers name into maps how writer-old writer-new)
-    ⊎ OverSomeWad how writer-old writer-new
-    (λ wad. IsLevelPicturedOf layers name into wad how writer-old writer-new)
-
 -- the level of the name in what was read of a WAD was inspected, and the status tells whether it is
 -- sound; or it was refused
 abbrev pub IsExamined : List ℕ → Result ℕ Refusal → Option (List ℕ) → Option (List ℕ) → Type 0
@@ -107,14 +68,6 @@ IsExamined name (Ok status) writer-old writer-new =
     (wad : List ℕ) × (sound : Bool) × (status ≡ status_told sound)
     × IsInspected wad name sound writer-old writer-new
 IsExamined name (Err refusal) writer-old writer-new = NotExamined name refusal writer-old writer-new
-
--- the counts of a sound build of some project's maps were told, or it was refused
-abbrev pub IsBuiltInto : Result ℕ Refusal → Option (List ℕ) → Option (List ℕ) → Type 0
-IsBuiltInto (Ok status) writer-old writer-new =
-    (maps : MapsView) × (wad : List ℕ) × (c : BuildCounts) × (status ≡ 0)
-    × IsBuildCounted (project_of maps).maps wad c
-    × Appends writer-old writer-new (built_text c)
-IsBuiltInto (Err refusal) writer-old writer-new = NotBuilt refusal writer-old writer-new
 
 -- what was done for a request that ended so; only a run reads the input
 abbrev pub IsPerformed : {D : Type 0} → Ghosts D → Request → Result ℕ Refusal → Option (List ℕ)
@@ -126,32 +79,27 @@ IsPerformed facts (Create file slot journal) how reader-old reader-new writer-ol
 IsPerformed facts (Edit file) how reader-old reader-new writer-old writer-new =
     IsEdited facts how reader-old reader-new writer-old writer-new
 IsPerformed facts (Check file map) how reader-old reader-new writer-old writer-new =
-    IsCheckedAt (option_map string_bytes map) how writer-old writer-new
-    × Keeps reader-old reader-new
+    IsDoneWithSome (Check file map) how writer-old writer-new × Keeps reader-old reader-new
 IsPerformed facts (Lint file map iwad) how reader-old reader-new writer-old writer-new =
-    IsLintedAt (is_some iwad) (option_map string_bytes map) how writer-old writer-new
-    × Keeps reader-old reader-new
+    IsDoneWithSome (Lint file map iwad) how writer-old writer-new × Keeps reader-old reader-new
 IsPerformed facts (Draw file script verbose) how reader-old reader-new writer-old writer-new =
     IsDrawnInto facts (is_some script) verbose how reader-old reader-new writer-old writer-new
 IsPerformed facts (TryScript script verbose) how reader-old reader-new writer-old writer-new =
     IsScriptTried verbose how writer-old writer-new × Keeps reader-old reader-new
 IsPerformed facts (Dump file names exact) how reader-old reader-new writer-old writer-new =
-    IsDumpedInto (map string_bytes names.items) exact how writer-old writer-new
-    × Keeps reader-old reader-new
+    IsDoneWithSome (Dump file names exact) how writer-old writer-new × Keeps reader-old reader-new
 IsPerformed facts (Salvage file) how reader-old reader-new writer-old writer-new =
     IsSalvagedInto how writer-old writer-new × Keeps reader-old reader-new
 IsPerformed facts (Picture file map out numbers nodes lint) how reader-old reader-new writer-old
     writer-new =
-    IsPicturedAt (record { numbers = numbers; nodes = nodes; lint = lint })
-    (option_map string_bytes map) (is_some out) how
-    writer-old writer-new
+    IsDoneWithSome (Picture file map out numbers nodes lint) how writer-old writer-new
     × Keeps reader-old reader-new
 IsPerformed facts (Inspect wad name) how reader-old reader-new writer-old writer-new =
     IsExamined (string_bytes name) how writer-old writer-new × Keeps reader-old reader-new
 IsPerformed facts (Levels wad) how reader-old reader-new writer-old writer-new =
     IsListed how writer-old writer-new × Keeps reader-old reader-new
 IsPerformed facts (Build file out) how reader-old reader-new writer-old writer-new =
-    IsBuiltInto how writer-old writer-new × Keeps reader-old reader-new
+    IsDoneWithSome (Build file out) how writer-old writer-new × Keeps reader-old reader-new
 IsPerformed facts (Rebuild wad out maps) how reader-old reader-new writer-old writer-new =
     IsRebuiltInto (map string_bytes maps.items) how writer-old writer-new
     × Keeps reader-old reader-new

@@ -1,5 +1,5 @@
 -- What the request `draw` does (docs/COMMANDS.md, "Scripts").
-use Rattle.std.specs.Prelude.{◌≡◌, ◌⊎◌, ℕ, Bool, true, false, List, Option, Some, None, Result, Ok, Err, slice_get}
+use Rattle.std.specs.Prelude.{◌≡◌, ◌⊎◌, ℕ, Bool, true, false, List, Option, Some, None, Result, Ok, Err, map, slice_get}
 use Rattle.std.specs.Io.KnownBytes.{Consumes, IsAtEnd, Keeps}
 use Rattle.store_disk.specs.declared.disk.Disk.{Ghosts}
 use Rattle.map_tables.specs.Projects.{ProjectMaps, empty_project}
@@ -72,6 +72,17 @@ TellsRefused told script lines (Ok (Some stop)) faults-old faults-new =
     × TellsStop told script (seen line) stop.code faults-old faults-new
 TellsRefused told script lines (Ok None) faults-old faults-new = Keeps faults-old faults-new
 TellsRefused told script lines (Err e) faults-old faults-new = Keeps faults-old faults-new
+
+-- a line of the script was refused, drawn from this canvas on, and it was told which one and why
+abbrev pub TellsStopFrom : {S : Type 0} → canvas.Ghosts S → Bool → List ℕ → List ℕ → S
+    → Option (List ℕ) → Option (List ℕ) → Option (List ℕ) → Type 0
+TellsStopFrom {S = S} facts verbose name script old writer-old faults-old faults-new =
+    (stop : Stop) × (new : S) × (writer-new : Option (List ℕ))
+    × IsScriptDrawn facts verbose (script_lines script) (Ok (Some stop)) old writer-old
+    new writer-new
+    × (lines : List ScriptLine) × (map seen lines ≡ script_lines script)
+    × (told : Result (Unit {0}) ScriptError)
+    × TellsRefused told name lines (Ok (Some stop)) faults-old faults-new
 
 -- ---- Memory and a file
 

@@ -2,11 +2,14 @@ pub mod Deeds
 pub mod Drawing
 pub mod Dumped
 pub mod DrawnOver
+pub mod Heads
 pub mod Kinds
 pub mod LevelNames
 pub mod Notes
 pub mod Rebuilding
 pub mod Salvaging
-pub mod SomeProject
+pub mod ScriptMaps
+pub mod SomeSource
+pub mod SourceDeeds
 pub mod Sources
 pub mod Wads

@@ -1,17 +1,26 @@
--- What is told of the levels of a WAD on standard error (docs/COMMANDS.md, "The program").
+-- What is told on standard error that is no refusal (docs/COMMANDS.md, "The program").
 use Rattle.std.specs.Prelude.{◌≡◌, ℕ, Option, Result, Ok, List, map, string_bytes}
-use Rattle.cli_program.specs.Dumped.{IsDumpedAt}
 use Rattle.cli_program.specs.Rebuilding.{IsRebuiltAt}
+use Rattle.cli_program.specs.SourceDeeds.{IsDoneWith}
 use Rattle.cli_refusals.specs.declared.refusal.Refusal.{Refusal}
 use Rattle.cli_words.specs.declared.asked.Request.{Request}
-use Rattle.cli_words.specs.declared.asked.Request.TheVariants.{Dump, Rebuild}
+use Rattle.cli_words.specs.declared.asked.Request.TheVariants.{Check, Lint, Dump, Picture, Build, Rebuild}
 
--- a dump, or what builds levels anew, told this on standard error
+-- a request over a file that may be a script, or what builds levels anew, told this on standard error
 abbrev pub TellsNotes : Request → Result ℕ Refusal → Option (List ℕ) → Option (List ℕ)
     → Option (List ℕ) → Option (List ℕ) → Type 0
+TellsNotes (Check file map) how writer-old writer-new errors-old errors-new =
+    IsDoneWith (Check file map) how writer-old writer-new errors-old errors-new
+TellsNotes (Lint file map iwad) how writer-old writer-new errors-old errors-new =
+    IsDoneWith (Lint file map iwad) how writer-old writer-new errors-old errors-new
 TellsNotes (Dump file names exact) how writer-old writer-new errors-old errors-new =
-    IsDumpedAt (map string_bytes names.items) exact how writer-old writer-new
+    IsDoneWith (Dump file names exact) how writer-old writer-new errors-old errors-new
+TellsNotes (Picture file map out numbers nodes lint) how writer-old writer-new errors-old
+    errors-new =
+    IsDoneWith (Picture file map out numbers nodes lint) how writer-old writer-new
     errors-old errors-new
+TellsNotes (Build file out) how writer-old writer-new errors-old errors-new =
+    IsDoneWith (Build file out) how writer-old writer-new errors-old errors-new
 TellsNotes (Rebuild wad out maps) how writer-old writer-new errors-old errors-new =
     IsRebuiltAt (map string_bytes maps.items) how writer-old writer-new errors-old errors-new
 TellsNotes request how writer-old writer-new errors-old errors-new = Unit {0}

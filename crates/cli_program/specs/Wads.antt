@@ -1,13 +1,8 @@
 -- What was told and shown of a WAD that stands in place of a project (docs/COMMANDS.md, "The program").
-use Rattle.std.specs.Prelude.{◌⊎◌, ℕ, Bool, ◌||◌, List, Option, Result, codes}
-use Rattle.std.specs.Str.{bytes_eq}
-use Rattle.cli_program.specs.Drawing.{EndsUnread, IsRefusedFor, IsUnreadOf}
+use Rattle.std.specs.Prelude.{◌⊎◌, ℕ, List, Option, Result}
+use Rattle.cli_program.specs.Drawing.{IsRefusedFor, IsUnreadOf}
 use Rattle.cli_refusals.specs.declared.refusal.Refusal.{Refusal}
 use Rattle.cli_print.specs.Reading.{ReadsAll}
-
--- the first four bytes of a file are those of a WAD
-abbrev pub is_wad_head : List ℕ → Bool
-is_wad_head head = bytes_eq head (codes "IWAD") || bytes_eq head (codes "PWAD")
 
 -- the WAD was not read to its end, and nothing was written; or this was done with all that the
 -- reader gave
@@ -16,9 +11,3 @@ abbrev pub OverWad : Option (List ℕ) → Option (List ℕ) → Result ℕ Refu
 OverWad reader-old reader-new how writer-old writer-new does =
     IsRefusedFor (IsUnreadOf reader-old reader-new) how writer-old writer-new
     ⊎ ((wad : List ℕ) × ReadsAll reader-old reader-new wad × does wad)
-
--- the same with some bytes, since a file tells none
-abbrev pub OverSomeWad : Result ℕ Refusal → Option (List ℕ) → Option (List ℕ)
-    → (List ℕ → Type 0) → Type 0
-OverSomeWad how writer-old writer-new does =
-    EndsUnread how writer-old writer-new ⊎ ((wad : List ℕ) × does wad)

@@ -63,8 +63,9 @@ fn tell_built<W: Write>(counts: BuildCounts, writer: &mut W) -> Result<u8, Refus
     }
 }
 
-// Builds maps into the file at the path, which may be new, empty or a PWAD, and writes what was made.
-fn build_at<E: Files, W: Write>(
+/// Builds maps into the file at the path, which may be new, empty or a PWAD, and writes what was made; or notes why the
+/// file can't be made.
+pub fn build_at<E: Files, W: Write>(
     alloc: Global,
     rt: &E,
     maps: &Maps,

@@ -1,8 +1,9 @@
 //! The request `draw`: the lines of a script, drawn onto a disk's project, or tried over maps in memory.
-ghost use Rattle.std.specs.Prelude.{◌≡◌, ◌≤◌, ◌<◌, None, Ok, length, IfOk, IfSome};
+ghost use Rattle.std.specs.Prelude.{◌≡◌, ◌≤◌, ◌<◌, ◌⊎◌, None, Ok, length, IfOk, IfSome, MatchOption};
 ghost use Rattle.std.specs.Io.KnownBytes.{Keeps};
-ghost use Rattle.cli_program.specs.Drawing.{IsDrawnOnto, IsHandedOn, IsTriedOn, TellsRefused, stop_status};
+ghost use Rattle.cli_program.specs.Drawing.{IsDrawnOnto, IsHandedOn, IsTriedOn, TellsRefused, TellsStopFrom, stop_status};
 ghost use Rattle.cli_program.specs.DrawnOver.{IsDrawnOver};
+ghost use Rattle.cli_program.specs.ScriptMaps.{DrawsWhole, IsStoppedFrom};
 
 use crate::over_disk::{HandedBack, not_opened, open_project};
 use cli_refusals::{DONE, Refusal};
@@ -11,7 +12,7 @@ use map_tables::Maps;
 use run_edit::EditorError;
 use run_script::{Canvas, Draft, ScriptError, Stop, write_refused};
 use std::alloc::Global;
-use std::io::Write;
+use std::io::{self, Write};
 use store_disk::Disk;
 
 // The status if a line was refused.
@@ -96,6 +97,10 @@ fn draw_onto<C: Canvas, W: Write, F: Write>(
     ensures drawn { IsDrawnOnto C.Canvas script.entry.is_verbose script.entry.text.now result
         canvas.old canvas.new (W.contents writer.old) (W.contents writer.new) }
     ensures quiet { result ≡ Ok 0 → Keeps (F.contents faults.old) (F.contents faults.new) }
+    ensures told { IfOk result (λ s. (s ≡ 0) ⊎ ((s ≡ 3)
+        × TellsStopFrom C.Canvas script.entry.is_verbose script.entry.name.now
+        script.entry.text.now canvas.old (W.contents writer.old)
+        (F.contents faults.old) (F.contents faults.new))) }
 {
     let lines = match script_lines(alloc, script.text) {
         Ok(lines) => lines,
@@ -152,4 +157,33 @@ pub fn try_script<W: Write, F: Write>(
 {
     let mut draft = Draft::new(alloc);
     draw_onto(alloc, &mut draft, script, writer, faults)
+}
+
+/// Draws a script onto maps in memory as a whole, or returns how a request ends if not all lines were drawn. A refused
+/// one is reported on `faults`. Answers to queries are not written.
+pub fn draw_whole<F: Write>(
+    alloc: Global,
+    name: &str,
+    text: &[u8],
+    draft: &mut Draft,
+    faults: &mut F,
+) -> Option<Result<u8, Refusal>>
+    ensures drawn { MatchOption result
+        (DrawsWhole text.now draft.old draft.new
+        × Keeps (F.contents faults.old) (F.contents faults.new))
+        (λ how. IsStoppedFrom draft.old name.now text.now how
+        (F.contents faults.old) (F.contents faults.new)) }
+    ensures small { IfSome result (λ how. IfOk how (λ s. s ≤ 3)) }
+{
+    let script = Script {
+        name,
+        text,
+        is_verbose: false,
+    };
+    match draw_onto(alloc, draft, script, &mut io::sink(), faults) {
+        Ok(status) if status == DONE => None,
+        Ok(status) => Some(Ok(status)),
+        // A sink takes all that is written, so nothing else cuts a script off.
+        Err(_) => Some(Err(Refusal::Lines(EditorError::OutOfMemory))),
+    }
 }

@@ -9,6 +9,8 @@ mod lint_request;
 mod listing;
 mod over_disk;
 mod over_file;
+mod over_script;
+mod over_source;
 mod over_wad;
 mod picture_request;
 mod program;
@@ -16,5 +18,7 @@ mod rebuild_notes;
 mod rebuild_request;
 mod salvage_request;
 mod script_file;
+mod script_maps;
+mod source;
 
 pub use program::perform;

@@ -1,23 +1,16 @@
-//! Each request over a project, in the file at a path.
-ghost use Rattle.std.specs.Prelude.{◌≡◌, ◌≤◌, false, Ok, IfErr, IfOk, is_some, map, option_map, string_bytes};
+//! The requests that make a project or change one, and `dump --salvage`, over the file at a path.
+ghost use Rattle.std.specs.Prelude.{◌≡◌, ◌≤◌, false, Ok, IfErr, IfOk, is_some};
 ghost use Rattle.std.specs.Io.KnownBytes.{Keeps};
 ghost use Rattle.cli_program.specs.Drawing.{IsDrawnInto};
-ghost use Rattle.cli_program.specs.Dumped.{IsDumpedAt};
 ghost use Rattle.cli_program.specs.Salvaging.{IsSalvagedInto};
-ghost use Rattle.cli_program.specs.Deeds.{IsBuiltInto, IsCheckedAt, IsCreated, IsEdited, IsLintedAt, IsPicturedAt};
+ghost use Rattle.cli_program.specs.Deeds.{IsCreated, IsEdited};
 ghost use Rattle.cli_refusals.specs.declared.refusal.Refusal.{Refusal};
 
-use crate::build_request::build;
 use crate::draw_request::{Script, draw};
-use crate::dump_request::{dump, dump_wad};
-use crate::lint_request::{lint, lint_wad};
-use crate::over_disk::{check, create, edit};
-use crate::over_wad::{begins_as_wad, check_wad};
-use crate::picture_request::{picture, picture_wad};
+use crate::over_disk::{create, edit};
 use crate::salvage_request::salvage_lines;
 use crate::script_file::read_all;
 use cli_files::{Access, Cause, GaplessFile, Hold, NotedFile, open_held};
-use cli_print::Wanted;
 use cli_refusals::{Causes, Refusal};
 use run_edit::EditorError;
 use std::fs;
@@ -27,8 +20,8 @@ use std::rt::Files;
 use store_disk::{Disk, FileDisk};
 use store_project::{Geometry, ProjectError};
 
-// Opens a request's file and holds it until it is closed, or notes why it can't.
-fn open_at<E: Files>(
+/// Opens a request's file and holds it until it is closed, or notes why it can't.
+pub fn open_at<E: Files>(
     rt: &E,
     path: &str,
     access: Access,
@@ -62,8 +55,8 @@ where
     Ok(NotedFile::new(file))
 }
 
-// How a request over a file ended; if the file failed, notes why.
-fn ended_over<F>(
+/// How a request over a file ended; if the file failed, notes why.
+pub fn ended_over<F>(
     file: &NotedFile<F>,
     how: Result<u8, Refusal>,
     why: &mut Causes,
@@ -123,62 +116,6 @@ where
     let file = file_at(rt, path, Access::Writes, why)?;
     let disk = FileDisk::new(&file, true);
     let how = edit(rt.alloc(), disk, reader, writer).how;
-    ended_over(&file, how, why)
-}
-
-/// Writes what is wrong or unfinished in a map of the project in the file at the path, the one with the name or the
-/// current one; if the file is a WAD, in its level with the name, or in the first one.
-pub fn check_file<E, W>(
-    rt: &E,
-    path: &str,
-    name: Option<&str>,
-    writer: &mut W,
-    why: &mut Causes,
-) -> Result<u8, Refusal>
-where
-    E: AllocGlobal + Files,
-    E::File: FileExt + Hold,
-    W: Write,
-    ensures small { IfOk result (λ s. s ≤ 3) }
-    ensures found { IsCheckedAt (option_map (λ s. s.now) name.entry) result
-        (W.contents writer.old) (W.contents writer.new) }
-{
-    let mut file = open_at(rt, path, Access::Reads, why)?;
-    if begins_as_wad(&file) {
-        return check_wad(rt.alloc(), &mut file, name, writer);
-    }
-    let file = NotedFile::new(file);
-    let disk = FileDisk::new(&file, false);
-    let how = check(rt.alloc(), disk, name, writer).how;
-    ended_over(&file, how, why)
-}
-
-/// Writes what is wrong, unfinished or doubtful in each map of the project in the file at the path, or in the one with
-/// the name alone, and which flats and textures the WAD at the path `iwad` lacks, if one is given. If the file is a
-/// WAD, does the same with its levels.
-pub fn lint_file<E, W>(
-    rt: &E,
-    path: &str,
-    name: Option<&str>,
-    iwad: Option<&str>,
-    writer: &mut W,
-    why: &mut Causes,
-) -> Result<u8, Refusal>
-where
-    E: AllocGlobal + Files,
-    E::File: FileExt + Hold,
-    W: Write,
-    ensures small { IfOk result (λ s. s ≤ 3) }
-    ensures linted { IsLintedAt (is_some iwad.entry) (option_map (λ s. s.now) name.entry) result
-        (W.contents writer.old) (W.contents writer.new) }
-{
-    let mut file = open_at(rt, path, Access::Reads, why)?;
-    if begins_as_wad(&file) {
-        return lint_wad(rt, &mut file, name, iwad, writer, &mut why.beside);
-    }
-    let file = NotedFile::new(file);
-    let disk = FileDisk::new(&file, false);
-    let how = lint(rt, disk, name, iwad, writer, &mut why.beside).how;
     ended_over(&file, how, why)
 }
 
@@ -259,37 +196,6 @@ where
     }
 }
 
-/// Writes the lines that draw the maps of the project in the file at the path again, all or those with the names. If
-/// the file is a WAD, does the same with its levels, and reports on `errors` their changes, and which are left.
-pub fn dump_file<E, W, F>(
-    rt: &E,
-    path: &str,
-    names: &[String],
-    is_exact: bool,
-    writer: &mut W,
-    errors: &mut F,
-    why: &mut Causes,
-) -> Result<u8, Refusal>
-where
-    E: AllocGlobal + Files,
-    E::File: FileExt + Hold,
-    W: Write,
-    F: Write,
-    ensures small { IfOk result (λ s. s ≤ 3) }
-    ensures dumped { IsDumpedAt (map string_bytes names.now) is_exact
-        result (W.contents writer.old) (W.contents writer.new)
-        (F.contents errors.old) (F.contents errors.new) }
-{
-    let mut file = open_at(rt, path, Access::Reads, why)?;
-    if begins_as_wad(&file) {
-        return dump_wad(rt.alloc(), &mut file, names, is_exact, writer, errors);
-    }
-    let file = NotedFile::new(file);
-    let disk = FileDisk::new(&file, false);
-    let how = dump(rt.alloc(), disk, names, writer).how;
-    ended_over(&file, how, why)
-}
-
 /// Writes the lines that draw the maps again which can be read from the project in the file at the path, damaged or
 /// not, and reports where it is damaged.
 pub fn salvage_file<E, W, F>(
@@ -310,52 +216,5 @@ where
     let file = file_at(rt, path, Access::Reads, why)?;
     let disk = FileDisk::new(&file, false);
     let how = salvage_lines(rt.alloc(), disk, writer, faults).how;
-    ended_over(&file, how, why)
-}
-
-/// Draws a map of the project in the file at the path; if the file is a WAD, a level of it.
-pub fn picture_file<E, W>(
-    rt: &E,
-    path: &str,
-    wanted: Wanted<'_>,
-    writer: &mut W,
-    why: &mut Causes,
-) -> Result<u8, Refusal>
-where
-    E: AllocGlobal + Files,
-    E::File: FileExt + Hold,
-    W: Write,
-    ensures small { IfOk result (λ s. s ≤ 3) }
-    ensures pictured { IsPicturedAt wanted.entry.layers (option_map (λ s. s.now) wanted.entry.map)
-        (is_some wanted.entry.out) result (W.contents writer.old) (W.contents writer.new) }
-{
-    let mut file = open_at(rt, path, Access::Reads, why)?;
-    if begins_as_wad(&file) {
-        return picture_wad(rt.alloc(), rt, &mut file, wanted, writer, &mut why.out);
-    }
-    let file = NotedFile::new(file);
-    let disk = FileDisk::new(&file, false);
-    let how = picture(rt.alloc(), rt, disk, wanted, writer, &mut why.out).how;
-    ended_over(&file, how, why)
-}
-
-/// Builds the maps of the project in the file at the path into the file at `out`.
-pub fn build_file<E, W>(
-    rt: &E,
-    path: &str,
-    out: &str,
-    writer: &mut W,
-    why: &mut Causes,
-) -> Result<u8, Refusal>
-where
-    E: AllocGlobal + Files,
-    E::File: FileExt + Hold,
-    W: Write,
-    ensures small { IfOk result (λ s. s ≤ 3) }
-    ensures built { IsBuiltInto result (W.contents writer.old) (W.contents writer.new) }
-{
-    let file = file_at(rt, path, Access::Reads, why)?;
-    let disk = FileDisk::new(&file, false);
-    let how = build(rt.alloc(), rt, disk, out, writer, &mut why.out).how;
     ended_over(&file, how, why)
 }

@@ -1,29 +1,12 @@
-//! A file that may be a WAD.
-ghost use Rattle.std.specs.Prelude.{◌≡◌, ◌≤◌, IfOk, option_map};
-ghost use Rattle.cli_program.specs.Wads.{OverWad, is_wad_head};
+//! The request `check` over a WAD.
+ghost use Rattle.std.specs.Prelude.{◌≤◌, IfOk, option_map};
+ghost use Rattle.cli_program.specs.Wads.{OverWad};
 ghost use Rattle.cli_print.specs.LevelLines.{IsWadChecked};
 
 use cli_print::{TURNS, read_whole, tell_level_findings};
 use cli_refusals::Refusal;
 use std::alloc::Global;
 use std::io::{Read, Write};
-use std::os::unix::fs::FileExt;
-
-// Whether the first four bytes of a file are those of a WAD.
-fn is_wad_head(head: &[u8]) -> bool
-    ensures { result ≡ is_wad_head head.now }
-{
-    head == b"IWAD".as_slice() || head == b"PWAD".as_slice()
-}
-
-/// Whether a file begins as a WAD does. One that can't be read doesn't.
-pub fn begins_as_wad<F: FileExt>(file: &F) -> bool {
-    let mut head = [0; 4];
-    match file.read_exact_at(&mut head, 0) {
-        Ok(()) => is_wad_head(&head),
-        Err(_) => false,
-    }
-}
 
 /// Reads a WAD to its end and writes what is wrong or unfinished in its level with the name, or in the first one.
 #[inline(never)]

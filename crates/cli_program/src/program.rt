@@ -2,17 +2,16 @@
 ghost use Rattle.std.specs.Prelude.{◌≡◌, ◌≤◌, ℕ, false, true, IfOk, List, Option, Result};
 ghost use Rattle.std.specs.Io.KnownBytes.{Keeps};
 ghost use Rattle.cli_program.specs.Deeds.{IsPerformed, IsScratched};
-ghost use Rattle.cli_program.specs.Kinds.{IsQuiet, is_over_wad, tells_beside};
+ghost use Rattle.cli_program.specs.Kinds.{IsQuiet, is_over_source, is_over_wad, tells_beside};
 ghost use Rattle.cli_program.specs.Notes.{HasToldNotes, TellsNotes};
+ghost use Rattle.cli_program.specs.SourceDeeds.{IsDoneWith};
 ghost use Rattle.cli_refusals.specs.Statuses.{status_in};
 ghost use Rattle.cli_refusals.specs.declared.refusal.Refusal.{Refusal};
 
 use crate::examining::examine;
 use crate::listing::list_levels;
-use crate::over_file::{
-    build_file, check_file, create_file, draw_file, dump_file, edit_file, lint_file, picture_file,
-    salvage_file,
-};
+use crate::over_file::{create_file, draw_file, edit_file, salvage_file};
+use crate::over_source::{build_file, check_file, dump_file, lint_file, picture_file};
 use crate::rebuild_request::rebuild;
 use crate::script_file::try_file;
 use cli_files::{Hold, NotedFile};
@@ -89,20 +88,64 @@ where
             journal,
         } => create_file(rt, file.as_str(), *slot, *journal, writer, why),
         Request::Edit { file } => edit_file(rt, file.as_str(), reader, writer, why),
+        Request::Check { .. }
+        | Request::Lint { .. }
+        | Request::Draw { .. }
+        | Request::TryScript { .. }
+        | Request::Dump { .. }
+        | Request::Salvage { .. }
+        | Request::Picture { .. }
+        | Request::Build { .. }
+        | Request::Rebuild { .. } => unreachable!(),
+        _ => done_with_wad(rt, request, writer, why),
+    }
+}
+
+// Whether a request is over a file that may be a project, a WAD or a script, and only reads it.
+fn is_over_source(request: &Request) -> bool
+    ensures { result ≡ is_over_source request.now }
+{
+    match request {
+        Request::Check { .. }
+        | Request::Lint { .. }
+        | Request::Dump { .. }
+        | Request::Picture { .. }
+        | Request::Build { .. } => true,
+        _ => false,
+    }
+}
+
+// Does what is asked for by a request over a file that may be a project, a WAD or a script.
+fn done_with_source<E, W, F>(
+    rt: &E,
+    request: &Request,
+    writer: &mut W,
+    faults: &mut F,
+    why: &mut Causes,
+) -> Result<u8, Refusal>
+where
+    E: AllocGlobal + Files,
+    E::File: FileExt + Hold,
+    W: Write,
+    F: Write,
+    requires { is_over_source request.now ≡ true }
+    ensures done { IsDoneWith request.now result (W.contents writer.old) (W.contents writer.new)
+        (F.contents faults.old) (F.contents faults.new) }
+    ensures small { IfOk result (λ s. s ≤ 3) }
+{
+    match request {
         Request::Check { file, map } => {
             let map = map.as_deref();
-            check_file(rt, file.as_str(), map, writer, why)
+            check_file(rt, file.as_str(), map, writer, faults, why)
         }
         Request::Lint { file, map, iwad } => {
             let map = map.as_deref();
             let iwad = iwad.as_deref();
-            lint_file(rt, file.as_str(), map, iwad, writer, why)
+            lint_file(rt, file.as_str(), map, iwad, writer, faults, why)
         }
-        Request::Draw { .. }
-        | Request::TryScript { .. }
-        | Request::Dump { .. }
-        | Request::Salvage { .. }
-        | Request::Rebuild { .. } => unreachable!(),
+        Request::Dump { file, names, exact } => {
+            dump_file(rt, file.as_str(), names, *exact, writer, faults, why)
+        }
         Request::Picture {
             file,
             map,
@@ -116,10 +159,12 @@ where
                 layers: layers_of(*numbers, *nodes, *lint),
                 out: out.as_deref(),
             };
-            picture_file(rt, file.as_str(), wanted, writer, why)
+            picture_file(rt, file.as_str(), wanted, writer, faults, why)
         }
-        Request::Build { file, out } => build_file(rt, file.as_str(), out.as_str(), writer, why),
-        _ => done_with_wad(rt, request, writer, why),
+        Request::Build { file, out } => {
+            build_file(rt, file.as_str(), out.as_str(), writer, faults, why)
+        }
+        _ => unreachable!(),
     }
 }
 
@@ -170,13 +215,11 @@ where
             let path = script.as_str();
             try_file(rt, path, *verbose, writer, faults, &mut why.file)
         }
-        Request::Dump { file, names, exact } => {
-            dump_file(rt, file.as_str(), names, *exact, writer, faults, why)
-        }
         Request::Salvage { file } => salvage_file(rt, file.as_str(), writer, faults, why),
         Request::Rebuild { wad, out, maps } => {
             rebuild(rt, wad.as_str(), out.as_str(), maps, writer, faults, why)
         }
+        _ if is_over_source(request) => done_with_source(rt, request, writer, faults, why),
         _ => done_quietly(rt, request, reader, writer, why),
     }
 }

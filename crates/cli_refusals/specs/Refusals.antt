@@ -1,7 +1,6 @@
 -- Why a request was refused (docs/COMMANDS.md, "The program"), and what was written then.
 use Rattle.std.specs.Prelude.{◌≡◌, ◌⊎◌, ℕ, Option, List}
 use Rattle.std.specs.Io.KnownBytes.{Keeps}
-use Rattle.map_tables.specs.Projects.{MapsView, project_of}
 use Rattle.map_tables.specs.Tables.{Tables}
 use Rattle.wad_build.specs.Projects.{Blames}
 use Rattle.store_project.specs.Places.{IsAllowed}
@@ -44,17 +43,6 @@ abbrev pub RefusesFile : List Tables → Refusal → Type 0
 RefusesFile ms (of.Build (writing.Build unbuilt)) = Blames ms unbuilt.error unbuilt.map
 RefusesFile ms (of.Build writing.WriterFailed) = Unit {0}
 RefusesFile ms _ = ⊥
-
--- no project was opened, or no PWAD of its maps written, and then nothing was told; or the file to
--- be made can't be opened or holds a project, or the writer failed
-abbrev pub NotBuilt : Refusal → Option (List ℕ) → Option (List ℕ) → Type 0
-NotBuilt (of.Project e) writer-old writer-new = IsOfOpening e × Keeps writer-old writer-new
-NotBuilt (of.Build e) writer-old writer-new =
-    ((maps : MapsView) × RefusesFile (project_of maps).maps (of.Build e))
-    × Keeps writer-old writer-new
-NotBuilt (of.Lines e) writer-old writer-new = e ≡ WriterFailed
-NotBuilt (of.Level e) writer-old writer-new = ⊥
-NotBuilt _ writer-old writer-new = ⊥
 
 -- the WAD was not read to its end, and then nothing was written; or what was read of it was not
 -- inspected; or the writer failed

@@ -250,7 +250,7 @@ pub fn leveled<'a>(alloc: Global) -> Result<Command<'a>, AllocError>
     match with_subcommands(alloc) {
         Ok(program) => Ok(
             program
-                .version("0.1.0")
+                .version("1.0.0")
                 .subcommand_required(true)
                 .disable_help_subcommand(true),
         ),

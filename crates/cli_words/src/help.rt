@@ -34,8 +34,8 @@ Queries, which change nothing:
 The program ends when its input ends. A last line without a newline is answered too.
 
 Exit status: 0 done; 1 refused, with `leveled: CODE NAME` on standard error; 2 the
-arguments are wrong; 3 `check` or `lint` has findings, `inspect` found a fault, `draw`
-refused a line, or `dump` or `rebuild` skipped a level.
+arguments are wrong; 3 `check` or `lint` has findings, `inspect` found a fault, a line of a
+script was refused, or `dump` or `rebuild` skipped a level.
 
 `leveled help SUBCOMMAND` explains a subcommand. `leveled help codes` says what to do
 about each CODE. `make install` also installs the manual page leveled(1) and, in
@@ -67,7 +67,8 @@ that the disk failed: each later line is answered `no 32` until FILE is opened a
 pub const CHECK: &str = "\
 Prints what is wrong or unfinished in the map MAP of FILE, by default the current map: a
 line for each finding, then `findings N`. The status is 3 unless N is 0. FILE may also be
-a WAD: MAP is then one of its levels, by default the first. FILE isn't changed.";
+a WAD: MAP is then one of its levels, by default the first. Or FILE is a script: it is
+drawn in memory, and its maps are looked at. FILE isn't changed.";
 
 /// `lint`.
 pub const LINT: &str = "\
@@ -75,9 +76,10 @@ Checks every map of FILE, or only MAP. Prints what `check` finds, and what proba
 play as intended. Each line begins with the map's name, for example
 `MAP01 line-crossed 12 at (64,64) (128,-64)`; the last line is `findings N`. The status
 is 3 unless N is 0. FILE may also be a WAD: then its levels are checked, and
-`E1M1 no-map REASON` means that a level can't be made a map. With --iwad it also prints
-which flats and textures of the maps WAD lacks; WAD is usually an IWAD, for example
-doom2.wad. COMMANDS.md says what to do about each line. FILE isn't changed.";
+`E1M1 no-map REASON` means that a level can't be made a map. Or FILE is a script: it is
+drawn in memory, and its maps are checked. With --iwad it also prints which flats and
+textures of the maps WAD lacks; WAD is usually an IWAD, for example doom2.wad. COMMANDS.md
+says what to do about each line. FILE isn't changed.";
 
 /// `draw`.
 pub const DRAW: &str = "\
@@ -102,16 +104,18 @@ FILE may also be a WAD of any editor: then its levels, or the last one of each N
 printed as commands. If a level must be changed to become a map, standard error has each
 change, for example `MAP01: thing 3: angle 360 is 0`. A level that can't be made a map
 even so is left out, standard error says why, and the status is 3. With --exact each level
-that needs a change is left out too. --salvage prints the maps of a damaged project as far
-as its commands can be read, and takes neither NAME nor --exact; standard error says where
-FILE is damaged, how many commands are kept and how many are not. FILE isn't changed.";
+that needs a change is left out too. Or FILE is a script: it is drawn in memory, and its
+maps are printed as commands without names and sums. --salvage prints the maps of a
+damaged project as far as its commands can be read, and takes neither NAME nor --exact;
+standard error says where FILE is damaged, how many commands are kept and how many are
+not. FILE isn't changed.";
 
 /// `picture`.
 pub const PICTURE: &str = "\
 Draws the map MAP of FILE, by default the current map, as SVG, which a browser shows. FILE
-may also be a WAD: MAP is then one of its levels, by default the first. A short tick marks
-the right side of each line. In a browser, point at a line, a vertex or a thing to read
-its fields.
+may also be a WAD: MAP is then one of its levels, by default the first. Or FILE is a
+script, which is drawn in memory. A short tick marks the right side of each line. In a
+browser, point at a line, a vertex or a thing to read its fields.
 The picture goes to standard output, or to OUT, which may be a new path, an empty file or
 a picture that this program made. --numbers adds the numbers of vertices, lines and
 sectors. --nodes adds the partitions and subsectors that `build` makes of the map; for a
@@ -125,7 +129,9 @@ Builds all maps of FILE into one PWAD, writes it to OUT, and prints how many rec
 has and its length. If a map can't be built, OUT stays as it was, and a second line on
 standard error names the map and says why: `leveled: 60 NothingToBuild` means that it has
 no line. OUT may be a new path, an empty file or a PWAD; any other file, such as an IWAD
-or a project, is never replaced. FILE isn't changed.";
+or a project, is never replaced. FILE may also be a script, which is drawn in memory: if a
+line is refused, OUT stays as it was, standard error says which one, and the status is 3.
+FILE isn't changed.";
 
 /// `rebuild`.
 pub const REBUILD: &str = "\
@@ -150,7 +156,7 @@ of the WAD's levels.";
 pub const CODES: &str = "\
 A refused line is answered `no CODE`; a refused request prints `leveled: CODE NAME` to
 standard error. The maps in memory stay as they were. Numbers 1 to 19 refuse a command,
-numbers 20 to 29 and 45 a line of a script; 30 to 38 come from the disk, from memory, or
+numbers 20 to 29, 45 and 46 a line of a script; 30 to 38 come from the disk, from memory, or
 from the input or output, 40 to 44 from a project file, 60 to 66 from a build, and 50
 and 70 to 78 from a WAD. What is wrong, or what to do about it:
 
@@ -194,10 +200,11 @@ and 70 to 78 from a WAD. What is wrong, or what to do about it:
 38 WriterFailed        check where the output goes; what was answered is done
 40 Damaged             use a copy from before the damage, or `dump --salvage`
 41 Blank               `create` was stopped: remove FILE, and create it again
-42 NotAProject         check FILE's name, or the program's version
+42 NotAProject         check FILE's name: it is empty, or no project, WAD or script
 43 NotEmpty            choose another name for a new project
 44 BadGeometry         a slot has 33 to 2007015 bytes, a journal 512 to 1048576
 45 NothingThere        in a script: look at `picture --numbers`, or draw it first
+46 BadSum              in a script: correct the sum that the line below names
 50 LumpLength          the WAD is damaged
 60 NothingToBuild      a map has no line: draw one, or drop the map
 61 TooManyVertices     draw fewer lines, or fewer crossings

@@ -1,16 +1,19 @@
 //! The program `leveled`: passes its arguments to `request`, and the request to `perform`.
 #![tactic(auto)]
 
-ghost use Rattle.std.specs.Prelude.{◌≤◌};
+ghost use Rattle.std.specs.Prelude.{◌≡◌, ◌≤◌, IsTrue, if◌then◌else◌, map};
+ghost use Rattle.leveled.specs.Answers.{AsksForHelp, EndsWords, IsAnswered};
 
 use clap::Error;
 use clap::error::ErrorKind;
+use cli_files::NotedFile;
 use cli_program::perform;
 use cli_words::{CODES, Request, RequestError, request};
 use std::env::{self, Env, FillError};
 use std::fs::{self, File};
-use std::io::{self, BufWriter, IsTerminal};
+use std::io::{self, BufWriter, IsTerminal, Read, Write};
 use std::process::ExitCode;
+use store_disk::{Disk, FileDisk};
 
 // The status of a request that was done.
 const DONE: u8 = 0;
@@ -60,7 +63,7 @@ fn refuse_unread(rt: &HostRuntime, error: &io::Error) -> u8
 
 // The status after an attempt to print to standard output what the arguments ask for.
 fn after_printing(rt: &HostRuntime, is_printed: bool) -> u8
-    ensures { result ≤ 2 }
+    ensures { result ≡ (if is_printed then 0 else 1) }
 {
     if is_printed {
         return DONE;
@@ -72,7 +75,8 @@ fn after_printing(rt: &HostRuntime, is_printed: bool) -> u8
 // Prints clap's answer to the arguments, and returns the status. Help and the version are what was asked for, so they
 // go to standard output.
 fn answer_words(rt: &HostRuntime, error: &Error) -> u8
-    ensures { result ≤ 2 }
+    ensures help { AsksForHelp error.now → result ≤ 1 }
+    ensures other { ¬ AsksForHelp error.now → result ≡ 2 }
 {
     if error.kind() == ErrorKind::OutOfMemory {
         complain_of_memory(rt);
@@ -87,7 +91,8 @@ fn answer_words(rt: &HostRuntime, error: &Error) -> u8
 
 // Prints what arguments that are no request ask for, or why they are none, and returns the status.
 fn refuse(rt: &HostRuntime, error: &RequestError) -> u8
-    ensures { result ≤ 2 }
+    ensures small { result ≤ 2 }
+    ensures ends { EndsWords error.now result }
 {
     match error {
         RequestError::Words(error) => answer_words(rt, error),
@@ -120,18 +125,26 @@ fn greet(rt: &HostRuntime, request: &Request) {
     }
 }
 
-// Does what the arguments ask for, and returns the status.
-fn answer(rt: &HostRuntime, words: &[&str]) -> u8
-    ensures { result ≤ 3 }
+// Does what the arguments ask for, with standard input, output and error passed in, and returns the status: that of
+// `perform`, or that of words which are no request.
+fn answer<R: Read, W: Write, F: Write>(
+    rt: &HostRuntime,
+    words: &[&str],
+    reader: &mut R,
+    writer: &mut W,
+    faults: &mut F,
+) -> u8
+    ensures status { result ≤ 3 }
+    ensures answered { IsAnswered ⟦<FileDisk<&'static NotedFile<File>> as Disk>⟧
+        (map (λ w. w.now) words.now) result
+        (R.remaining reader.old) (R.remaining reader.new)
+        (W.contents writer.old) (W.contents writer.new)
+        (F.contents faults.old) (F.contents faults.new) }
 {
     match request(rt.alloc(), words) {
         Ok(request) => {
-            let Ok(mut out) = BufWriter::new(rt.alloc(), rt.stdout()) else {
-                complain_of_memory(rt);
-                return REFUSED;
-            };
             greet(rt, &request);
-            perform(rt, &request, &mut rt.stdin(), &mut out, &mut rt.stderr())
+            perform(rt, &request, reader, writer, faults)
         }
         Err(error) => refuse(rt, &error),
     }
@@ -169,7 +182,17 @@ fn run(rt: &HostRuntime) -> u8
         complain_of_memory(rt);
         return REFUSED;
     };
-    answer(rt, texts.as_slice())
+    let Ok(mut out) = BufWriter::new(rt.alloc(), rt.stdout()) else {
+        complain_of_memory(rt);
+        return REFUSED;
+    };
+    answer(
+        rt,
+        texts.as_slice(),
+        &mut rt.stdin(),
+        &mut out,
+        &mut rt.stderr(),
+    )
 }
 
 fn main(rt: HostRuntime) -> ExitCode {

@@ -1,5 +1,5 @@
 -- What becomes of the items of a list, one after another.
-use Rattle.std.proofs.Common.{◌≡◌, ℕ, ◌+◌, ◌<◌, List, Option, Some, subst, below_more}
+use Rattle.std.proofs.Common.{◌≡◌, ℕ, ◌+◌, ◌<◌, List, Some, subst, below_more}
 use Rattle.std.specs.List.{slice_get}
 
 -- the item with a number is still there, and what became of it is as the relation says

@@ -1,5 +1,5 @@
 -- What commands keep of a map, one after another.
-use Rattle.std.proofs.Common.{◌≡◌, ℕ, List, [], ◌∷◌, ◌++◌, refl, sym, ap, ◌∙◌, subst, append_assoc, append-nil}
+use Rattle.std.proofs.Common.{List, [], ◌∷◌, ◌++◌, refl, sym, ap, ◌∙◌, subst, append_assoc, append-nil}
 use Rattle.map_tables.specs.Edits.{after_edit}
 use Rattle.map_tables.specs.Tables.{Tables}
 use Rattle.map_tables.specs.declared.edit.Edit.{Edit}

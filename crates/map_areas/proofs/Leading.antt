@@ -3,7 +3,6 @@ use Rattle.std.proofs.Common.{◌≡◌, ℕ, zero, suc, ◌+◌, ◌<◌, ◌�
 use Rattle.std.proofs.lemmas.List.{take_more, take_all, length-set}
 use Rattle.lump_records.specs.Limits.{item_limit}
 use Rattle.lump_records.specs.declared.records.Line.{Line}
-use Rattle.lump_records.specs.declared.records.Vertex.{Vertex}
 use Rattle.map_tables.specs.EditFaults.{edit_faults}
 use Rattle.map_tables.specs.Edits.{after_edit, edit_number, edited, with_vertex, with_line_at, with_line}
 use Rattle.map_tables.specs.Faults.{vertex_faults, set_line_faults, line_faults, is_too_long, is_taken, lacks, lacks_room, has_left, is_two_sided}

@@ -4,3 +4,4 @@ pub mod Keeping
 pub mod Becoming
 pub mod LeftAlone
 pub mod Whole
+pub mod Bordering

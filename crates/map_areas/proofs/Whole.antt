@@ -5,6 +5,7 @@ use Rattle.map_plane.specs.declared.places.PlacedLine.{PlacedLine}
 use Rattle.map_tables.specs.Tables.{Tables}
 use Rattle.map_areas.proofs.Leading.{LeadTo-drawn}
 use Rattle.map_areas.specs.Apart.{KeepsAlone, doubled}
+use Rattle.map_areas.specs.Bordered.{IsBordered}
 use Rattle.map_areas.specs.Drawn.{LeadTo, drawn}
 use Rattle.map_areas.specs.Stays.{BecomesLine, BecomesSide, EachBecomes, KeepsItems, KeepsRest}
 
@@ -26,3 +27,9 @@ stays_drawn m new cs es fs ds s h edges twice number keeps sides lines alone =
           subst (λ (gs : List PlacedLine). (n : ℕ) → KeepsAlone gs (doubled gs) m new n) edges
           (subst (λ (gs : List PlacedLine). (n : ℕ) → KeepsAlone fs gs m new n) twice alone);
     })
+
+-- a border that lines cover in the map that commands lead to is covered in the one that they leave
+pub bordered_drawn : (m new : Tables) (cs : List Command) (es fs : List PlacedLine) (s : ℕ) → LeadTo m cs new → fs ≡ es → IsBordered fs s new
+    → IsBordered es s (drawn m cs)
+bordered_drawn m new cs es fs s h edges covered =
+    subst (λ (t : Tables). IsBordered es s t) (LeadTo-drawn m cs new h) (subst (λ (gs : List PlacedLine). IsBordered gs s new) edges covered)

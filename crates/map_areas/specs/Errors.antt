@@ -1,5 +1,5 @@
 -- The numbers of the refusals.
-use Rattle.std.specs.Prelude.{ℕ}
+use Rattle.std.specs.Prelude.{◌≡◌, ℕ}
 use Rattle.map_areas.specs.declared.error.AreaError.{AreaError}
 use Rattle.map_areas.specs.declared.error.AreaError.TheVariants.{OutOfRange, NotAPolygon, Crossing, SeveralSectors, NotEmpty, OverVertex, Refused, OutOfMemory}
 use Rattle.map_tables.specs.Errors as of_map
@@ -28,3 +28,12 @@ IsCommandRefusal OutOfRange = Unit {0}
 IsCommandRefusal (Refused e) = Unit {0}
 IsCommandRefusal OutOfMemory = Unit {0}
 IsCommandRefusal e = ⊥
+
+-- the refusal is lack of memory
+abbrev pub IsOfMemory : AreaError → Type 0
+IsOfMemory e = e ≡ OutOfMemory
+
+-- the refusal isn't that of the outline
+abbrev pub IsOfMap : AreaError → Type 0
+IsOfMap (NotAPolygon corner) = ⊥
+IsOfMap e = Unit {0}

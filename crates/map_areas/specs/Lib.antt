@@ -3,3 +3,4 @@ pub mod Drawn
 pub mod Stays
 pub mod Outlines
 pub mod Apart
+pub mod Bordered

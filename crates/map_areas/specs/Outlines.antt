@@ -1,9 +1,12 @@
 -- The outline of a shape: its corners in order, and the edges between them.
-use Rattle.std.specs.Prelude.{ℕ, ◌+◌, Bool, true, false, if◌then◌else◌, List, map, reverse, slice_get, unwrap_or, ℤ, pos, int_lt}
+use Rattle.std.specs.Prelude.{◌≡◌, ℕ, ◌+◌, Bool, ◌||◌, true, false, if◌then◌else◌, List, find, length, map, nat_lt, reverse, slice_get, unwrap_or, Option, Some, None, Result, Ok, Err, pos, int_lt}
 use Rattle.std.specs.List.{enumerate_from}
-use Rattle.std.specs.Option.{option_or}
+use Rattle.std.specs.Option.{option_map, option_or}
+use Rattle.std.specs.Ordering.{int_eq}
 use Rattle.lump_records.specs.declared.records.Vertex.{Vertex}
-use Rattle.map_plane.specs.Polygon.{polygon_area}
+use Rattle.map_areas.specs.declared.error.AreaError.{AreaError}
+use Rattle.map_areas.specs.declared.error.AreaError.TheVariants.{NotAPolygon, OutOfMemory}
+use Rattle.map_plane.specs.Polygon.{has_clash, polygon_area}
 use Rattle.map_plane.specs.declared.places.PlacedLine.{PlacedLine}
 
 -- the corner after one with its number: after the last comes the first
@@ -34,3 +37,25 @@ edges_round true cs =
     if runs_clockwise (outline_edges cs) then outline_edges cs else outline_edges (reverse cs)
 edges_round false cs =
     if runs_clockwise (outline_edges cs) then outline_edges (reverse cs) else outline_edges cs
+
+-- the corners are too few for a polygon, or it has no area
+abbrev pub lacks_area : List PlacedLine → Bool
+lacks_area es = nat_lt (length es) 3 || int_eq (polygon_area es) (pos 0)
+
+-- the place of the first corner; without corners that of the origin
+abbrev pub first_corner : List PlacedLine → Vertex
+first_corner es =
+    unwrap_or (option_map (λ e. e.from) (slice_get es 0)) (record { x = pos 0; y = pos 0 })
+
+-- the corner at which edges are no simple polygon: where the first edge begins that clashes with another one, or else
+-- the first corner if they have no area; none if they are a simple polygon
+abbrev pub bad_corner : List PlacedLine → Option Vertex
+bad_corner es = option_or (option_map (λ e. e.from) (find (has_clash es) es))
+    (if lacks_area es then Some (first_corner es) else None)
+
+-- 25 comes exactly if the corners are no simple polygon, and names the corner; memory may lack before that is known
+abbrev pub JudgesCorners : {X : Type 0} → List Vertex → Result X AreaError → Type 0
+JudgesCorners cs (Ok x) = bad_corner (outline_edges cs) ≡ None
+JudgesCorners cs (Err (NotAPolygon corner)) = bad_corner (outline_edges cs) ≡ Some corner
+JudgesCorners cs (Err OutOfMemory) = Unit {0}
+JudgesCorners cs (Err e) = bad_corner (outline_edges cs) ≡ None

@@ -1,12 +1,16 @@
 //! Areas: polygons that become sectors.
-ghost use Rattle.std.specs.Prelude.{All, IfOk, true};
+ghost use Rattle.std.specs.Prelude.{ℕ, All, IfErr, IfOk, OnOk, length, true};
+ghost use Rattle.map_areas.specs.Apart.{KeepsAlone};
+ghost use Rattle.map_areas.specs.Bordered.{IsBordered};
 ghost use Rattle.map_areas.specs.Drawn.{AreTaken, drawn};
-ghost use Rattle.map_areas.specs.Outlines.{edges_round};
-ghost use Rattle.map_areas.specs.Stays.{KeepsRest};
+ghost use Rattle.map_areas.specs.Errors.{IsOfMap};
+ghost use Rattle.map_areas.specs.Outlines.{JudgesCorners, edges_round};
+ghost use Rattle.map_areas.specs.Stays.{BecomesLine, BecomesSide, EachBecomes, KeepsRest};
 ghost use Rattle.map_commands.specs.Step.{InRange};
 
 use crate::alone::find_alone;
 use crate::border::{Border, border_of, twice};
+use crate::bordered::find_bordered;
 use crate::drawing::{Drawing, Paint, drawing_of};
 use crate::error::AreaError;
 use crate::inside::find_none_inside;
@@ -37,7 +41,9 @@ fn find_round(
     plan: &Plan,
     lines: &[PlacedLine],
     border: &Border,
-) -> Result<Option<u16>, AreaError> {
+) -> Result<Option<u16>, AreaError>
+    ensures refused { IfErr result IsOfMap }
+{
     let doubled = twice(alloc, lines)?;
     let round = sector_round(map, plan, lines, &doubled, border)?;
     if round.is_none() {
@@ -69,15 +75,42 @@ fn draw(
     Ok(())
 }
 
-/// The commands that draw the area into the map.
-pub fn area_commands(alloc: Global, map: &Map, area: &Area) -> Result<Vec<Command>, AreaError>
+// Refuses commands that would leave the second map, if something else becomes of what was there than an area makes of
+// it, or lines don't lead along the border.
+fn look_at(alloc: Global, map: &Map, new: &Map, border: &Border) -> Result<(), AreaError>
+    ensures sides { OnOk result (EachBecomes (BecomesSide (length map.now.tables.sectors))
+        map.now.tables.sides new.now.tables.sides) }
+    ensures lines { OnOk result
+        (EachBecomes BecomesLine map.now.tables.lines new.now.tables.lines) }
+    ensures alone { OnOk result ((n : ℕ) → KeepsAlone border.now.edges.items
+        border.now.doubled.items map.now.tables new.now.tables n) }
+    ensures border { OnOk result (IsBordered border.now.edges.items
+        (length map.now.tables.sectors) new.now.tables) }
+    ensures refused { IfErr result IsOfMap }
+{
+    let sectors = map.count(Kind::Sector);
+    let sector = sectors as u16;
+    find_kept(map, new, sector)?;
+    find_alone(map, new, border)?;
+    let lines = placed_lines(alloc, new)?;
+    find_bordered(new, &lines, sector, border)
+}
+
+// The commands that draw the area, whose edges run clockwise, into the map.
+fn commands_within(
+    alloc: Global,
+    map: &Map,
+    area: &Area,
+    edges: Vec<PlacedLine>,
+) -> Result<Vec<Command>, AreaError>
     ensures range { IfOk result (λ commands. All InRange commands.items) }
     ensures taken { IfOk result (λ commands. AreTaken map.now.tables commands.items) }
     ensures stays { IfOk result (λ commands.
-        KeepsRest (edges_round true area.now.corners.items) map.now.tables
-        (drawn map.now.tables commands.items)) }
+        KeepsRest edges.items map.now.tables (drawn map.now.tables commands.items)) }
+    ensures border { IfOk result (λ commands. IsBordered edges.items
+        (length map.now.tables.sectors) (drawn map.now.tables commands.items)) }
+    ensures refused { IfErr result IsOfMap }
 {
-    let edges = polygon(alloc, &area.corners, true)?;
     let lines = placed_lines(alloc, map)?;
     let border = border_of(alloc, map, &lines, edges)?;
     let mut drawing = drawing_of(alloc, map)?;
@@ -87,9 +120,22 @@ pub fn area_commands(alloc: Global, map: &Map, area: &Area) -> Result<Vec<Comman
     let commands = drawing.into_commands();
     let all = commands.as_slice();
     let new = try_commands(alloc, map, all)?;
-    let sectors = map.count(Kind::Sector);
-    let sector = sectors as u16;
-    find_kept(map, &new, sector)?;
-    find_alone(map, &new, &border)?;
+    look_at(alloc, map, &new, &border)?;
     Ok(commands)
+}
+
+/// The commands that draw the area into the map.
+pub fn area_commands(alloc: Global, map: &Map, area: &Area) -> Result<Vec<Command>, AreaError>
+    ensures polygon { JudgesCorners area.now.corners.items result }
+    ensures range { IfOk result (λ commands. All InRange commands.items) }
+    ensures taken { IfOk result (λ commands. AreTaken map.now.tables commands.items) }
+    ensures stays { IfOk result (λ commands.
+        KeepsRest (edges_round true area.now.corners.items) map.now.tables
+        (drawn map.now.tables commands.items)) }
+    ensures border { IfOk result (λ commands.
+        IsBordered (edges_round true area.now.corners.items)
+        (length map.now.tables.sectors) (drawn map.now.tables commands.items)) }
+{
+    let edges = polygon(alloc, &area.corners, true)?;
+    commands_within(alloc, map, area, edges)
 }

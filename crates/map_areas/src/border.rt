@@ -1,6 +1,7 @@
 //! The border of a polygon: its edges, and the places at which they are cut.
-ghost use Rattle.std.specs.Prelude.{◌≡◌, IfOk};
+ghost use Rattle.std.specs.Prelude.{◌≡◌, IfErr, IfOk};
 ghost use Rattle.map_areas.specs.Apart.{doubled, doubled_line, place_sum};
+ghost use Rattle.map_areas.specs.Errors.{IsOfMap};
 
 use crate::crossing::near_crossing;
 use crate::cuts::{is_between, put_along};
@@ -54,7 +55,9 @@ pub(crate) fn twice(alloc: Global, lines: &[PlacedLine]) -> Result<Vec<PlacedLin
 }
 
 // The whole place at which the edge crosses the line.
-fn crossing(edge: &PlacedLine, line: &PlacedLine) -> Result<Vertex, AreaError> {
+fn crossing(edge: &PlacedLine, line: &PlacedLine) -> Result<Vertex, AreaError>
+    ensures refused { IfErr result IsOfMap }
+{
     let near = near_crossing(edge, line);
     if is_on(edge, near) && is_on(line, near) {
         return Ok(near);
@@ -66,7 +69,9 @@ fn crossing(edge: &PlacedLine, line: &PlacedLine) -> Result<Vertex, AreaError> {
 }
 
 // Adds the vertices that lie between the ends of the edge.
-fn put_vertices(stops: &mut Vec<Vertex>, map: &Map, edge: &PlacedLine) -> Result<(), AreaError> {
+fn put_vertices(stops: &mut Vec<Vertex>, map: &Map, edge: &PlacedLine) -> Result<(), AreaError>
+    ensures refused { IfErr result IsOfMap }
+{
     for n in 0..map.count(Kind::Vertex) {
         let vertex = map.vertex(n).unwrap();
         if is_between(edge, vertex) {
@@ -81,7 +86,9 @@ fn put_crossings(
     stops: &mut Vec<Vertex>,
     lines: &[PlacedLine],
     edge: &PlacedLine,
-) -> Result<(), AreaError> {
+) -> Result<(), AreaError>
+    ensures refused { IfErr result IsOfMap }
+{
     for line in lines {
         if boxes_meet(edge, line) && crosses(edge, line) {
             put_along(stops, edge.from, crossing(edge, line)?)?;
@@ -96,7 +103,9 @@ fn stops_of(
     map: &Map,
     lines: &[PlacedLine],
     edge: &PlacedLine,
-) -> Result<Vec<Vertex>, AreaError> {
+) -> Result<Vec<Vertex>, AreaError>
+    ensures refused { IfErr result IsOfMap }
+{
     let mut stops = Vec::new(alloc);
     stops.push(edge.from)?;
     put_vertices(&mut stops, map, edge)?;
@@ -110,7 +119,9 @@ fn all_stops(
     map: &Map,
     lines: &[PlacedLine],
     edges: &[PlacedLine],
-) -> Result<Vec<Vertex>, AreaError> {
+) -> Result<Vec<Vertex>, AreaError>
+    ensures refused { IfErr result IsOfMap }
+{
     let mut all = Vec::new(alloc);
     for edge in edges {
         let stops = stops_of(alloc, map, lines, edge)?;
@@ -128,6 +139,7 @@ pub(crate) fn border_of(
 ) -> Result<Border, AreaError>
     ensures edges { IfOk result (λ border. border.edges.items ≡ edges.items) }
     ensures doubled { IfOk result (λ border. border.doubled.items ≡ doubled edges.items) }
+    ensures refused { IfErr result IsOfMap }
 {
     let doubled = twice(alloc, &edges)?;
     let stops = all_stops(alloc, map, lines, &edges)?;

@@ -1,4 +1,7 @@
 //! Whether lines lie inside a border.
+ghost use Rattle.std.specs.Prelude.{IfErr};
+ghost use Rattle.map_areas.specs.Errors.{IsOfMap};
+
 use crate::border::Border;
 use crate::cuts::cuts_of;
 use crate::drawing::number_of;
@@ -24,7 +27,9 @@ pub(crate) fn find_none_inside(
     alloc: Global,
     lines: &[PlacedLine],
     border: &Border,
-) -> Result<(), AreaError> {
+) -> Result<(), AreaError>
+    ensures refused { IfErr result IsOfMap }
+{
     for line in lines {
         let cuts = cuts_of(alloc, &border.stops, line)?;
         if holds_a_part(border, line, &cuts) {

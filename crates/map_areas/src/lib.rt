@@ -4,6 +4,7 @@
 mod alone;
 mod area;
 mod border;
+mod bordered;
 mod copying;
 mod crossing;
 mod cuts;

@@ -1,6 +1,8 @@
 //! Pillars: polygons with nothing inside.
-ghost use Rattle.std.specs.Prelude.{All, IfOk};
+ghost use Rattle.std.specs.Prelude.{All, IfErr, IfOk};
 ghost use Rattle.map_areas.specs.Drawn.{AreTaken, drawn};
+ghost use Rattle.map_areas.specs.Errors.{IsOfMap};
+ghost use Rattle.map_areas.specs.Outlines.{JudgesCorners};
 ghost use Rattle.map_areas.specs.Stays.{KeepsItems};
 ghost use Rattle.map_commands.specs.Step.{InRange};
 
@@ -36,7 +38,9 @@ fn part_at(map: &Map, lines: &[PlacedLine], edge: &PlacedLine) -> Part {
 }
 
 // The sector that all corners belong to.
-fn sector_of(map: &Map, lines: &[PlacedLine], edges: &[PlacedLine]) -> Result<u16, AreaError> {
+fn sector_of(map: &Map, lines: &[PlacedLine], edges: &[PlacedLine]) -> Result<u16, AreaError>
+    ensures refused { IfErr result IsOfMap }
+{
     let mut first: Option<Part> = None;
     for edge in edges {
         let part = part_at(map, lines, edge);
@@ -56,9 +60,7 @@ fn sector_of(map: &Map, lines: &[PlacedLine], edges: &[PlacedLine]) -> Result<u1
                 ..
             },
         ) => Ok(sector),
-        _ => Err(AreaError::NotAPolygon {
-            corner: Vertex { x: 0, y: 0 },
-        }),
+        _ => Err(AreaError::OutOfRange),
     }
 }
 
@@ -73,7 +75,9 @@ fn is_in_the_way(edges: &[PlacedLine], line: &PlacedLine) -> bool {
 }
 
 // Refuses the first line that isn't wholly outside.
-fn find_no_line(lines: &[PlacedLine], edges: &[PlacedLine]) -> Result<(), AreaError> {
+fn find_no_line(lines: &[PlacedLine], edges: &[PlacedLine]) -> Result<(), AreaError>
+    ensures refused { IfErr result IsOfMap }
+{
     for line in lines {
         if is_in_the_way(edges, line) {
             return Err(AreaError::NotEmpty {
@@ -85,7 +89,9 @@ fn find_no_line(lines: &[PlacedLine], edges: &[PlacedLine]) -> Result<(), AreaEr
 }
 
 // Refuses the first vertex that is on an edge.
-fn find_no_vertex(map: &Map, edges: &[PlacedLine]) -> Result<(), AreaError> {
+fn find_no_vertex(map: &Map, edges: &[PlacedLine]) -> Result<(), AreaError>
+    ensures refused { IfErr result IsOfMap }
+{
     for n in 0..map.count(Kind::Vertex) {
         let vertex = map.vertex(n).unwrap();
         if edges.iter().any(|edge| is_on(edge, vertex)) {
@@ -117,22 +123,39 @@ fn draw(
     Ok(())
 }
 
+// The commands that draw the pillar, whose edges run the other way round, into the map.
+fn commands_within(
+    alloc: Global,
+    map: &Map,
+    wall: Name8,
+    edges: &[PlacedLine],
+) -> Result<Vec<Command>, AreaError>
+    ensures range { IfOk result (λ commands. All InRange commands.items) }
+    ensures taken { IfOk result (λ commands. AreTaken map.now.tables commands.items) }
+    ensures stays { IfOk result (λ commands.
+        KeepsItems map.now.tables (drawn map.now.tables commands.items)) }
+    ensures refused { IfErr result IsOfMap }
+{
+    let lines = placed_lines(alloc, map)?;
+    let sector = sector_of(map, &lines, edges)?;
+    find_no_line(&lines, edges)?;
+    find_no_vertex(map, edges)?;
+    let mut drawing = drawing_of(alloc, map)?;
+    draw(&mut drawing, edges, wall, sector)?;
+    let commands = drawing.into_commands();
+    let all = commands.as_slice();
+    let _new = try_commands(alloc, map, all)?;
+    Ok(commands)
+}
+
 /// The commands that draw the pillar into the map.
 pub fn pillar_commands(alloc: Global, map: &Map, pillar: &Pillar) -> Result<Vec<Command>, AreaError>
+    ensures polygon { JudgesCorners pillar.now.corners.items result }
     ensures range { IfOk result (λ commands. All InRange commands.items) }
     ensures taken { IfOk result (λ commands. AreTaken map.now.tables commands.items) }
     ensures stays { IfOk result (λ commands.
         KeepsItems map.now.tables (drawn map.now.tables commands.items)) }
 {
     let edges = polygon(alloc, &pillar.corners, false)?;
-    let lines = placed_lines(alloc, map)?;
-    let sector = sector_of(map, &lines, &edges)?;
-    find_no_line(&lines, &edges)?;
-    find_no_vertex(map, &edges)?;
-    let mut drawing = drawing_of(alloc, map)?;
-    draw(&mut drawing, &edges, pillar.wall, sector)?;
-    let commands = drawing.into_commands();
-    let all = commands.as_slice();
-    let _new = try_commands(alloc, map, all)?;
-    Ok(commands)
+    commands_within(alloc, map, pillar.wall, &edges)
 }

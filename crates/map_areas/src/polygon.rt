@@ -1,6 +1,7 @@
 //! The polygon of some corners, its edges clockwise.
-ghost use Rattle.std.specs.Prelude.{◌≡◌, IfOk, reverse, slice_get};
-ghost use Rattle.map_areas.specs.Outlines.{edge_from, outline_edges, edges_round, next_corner, runs_clockwise};
+ghost use Rattle.std.specs.Prelude.{◌≡◌, IfErr, IfOk, reverse, slice_get};
+ghost use Rattle.map_areas.specs.Errors.{IsOfMemory};
+ghost use Rattle.map_areas.specs.Outlines.{JudgesCorners, bad_corner, edge_from, edges_round, first_corner, lacks_area, next_corner, outline_edges, runs_clockwise};
 
 use crate::error::AreaError;
 use lump_records::Vertex;
@@ -38,7 +39,8 @@ fn edge_from(corners: &[Vertex], number: u32, from: Vertex) -> PlacedLine
 // The edges between neighbouring corners, and from the last corner to the first. More than a number can count find no
 // memory.
 fn outline_edges(alloc: Global, corners: &[Vertex]) -> Result<Vec<PlacedLine>, AreaError>
-    ensures { IfOk result (λ edges. edges.items ≡ outline_edges corners.now) }
+    ensures edges { IfOk result (λ edges. edges.items ≡ outline_edges corners.now) }
+    ensures memory { IfErr result IsOfMemory }
 {
     let Ok(count) = u32::try_from(corners.len()) else {
         return Err(AreaError::OutOfMemory);
@@ -60,17 +62,33 @@ fn turned(alloc: Global, corners: &[Vertex]) -> Result<Vec<Vertex>, AllocError>
     Ok(turned)
 }
 
+// Whether the edges are too few, or have no area.
+fn lacks_area(edges: &[PlacedLine]) -> bool
+    ensures { result ≡ lacks_area edges.now }
+{
+    edges.len() < 3 || polygon_area(edges) == 0
+}
+
+// The first corner, or the origin where there is none.
+fn first_corner(edges: &[PlacedLine]) -> Vertex
+    ensures { result ≡ first_corner edges.now }
+{
+    match edges.first() {
+        Some(edge) => edge.from,
+        None => Vertex { x: 0, y: 0 },
+    }
+}
+
 // The corner at which the edges are no simple polygon: where one clashes, or the first if they are too few or have no
 // area.
-fn bad_corner(edges: &[PlacedLine]) -> Option<Vertex> {
-    if let Some(edge) = first_clash(edges) {
-        return Some(edge.from);
+fn bad_corner(edges: &[PlacedLine]) -> Option<Vertex>
+    ensures { result ≡ bad_corner edges.now }
+{
+    match first_clash(edges) {
+        Some(edge) => Some(edge.from),
+        None if lacks_area(edges) => Some(first_corner(edges)),
+        None => None,
     }
-    if edges.len() < 3 || polygon_area(edges) == 0 {
-        let first = edges.first().map(|edge| edge.from);
-        return Some(first.unwrap_or(Vertex { x: 0, y: 0 }));
-    }
-    None
 }
 
 // Whether the edges run clockwise: then the inside is on their right.
@@ -86,7 +104,8 @@ pub(crate) fn polygon(
     corners: &[Vertex],
     clockwise: bool,
 ) -> Result<Vec<PlacedLine>, AreaError>
-    ensures { IfOk result (λ edges. edges.items ≡ edges_round clockwise corners.now) }
+    ensures edges { IfOk result (λ edges. edges.items ≡ edges_round clockwise corners.now) }
+    ensures polygon { JudgesCorners corners.now result }
 {
     let edges = outline_edges(alloc, corners)?;
     if let Some(corner) = bad_corner(&edges) {

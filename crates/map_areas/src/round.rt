@@ -1,4 +1,7 @@
 //! What is round a border before anything is drawn.
+ghost use Rattle.std.specs.Prelude.{IfErr};
+ghost use Rattle.map_areas.specs.Errors.{IsOfMap};
+
 use crate::border::{Border, sum};
 use crate::drawing::number_of;
 use crate::error::{AreaError, Part};
@@ -56,7 +59,9 @@ pub(crate) fn sector_round(
     lines: &[PlacedLine],
     doubled: &[PlacedLine],
     border: &Border,
-) -> Result<Option<u16>, AreaError> {
+) -> Result<Option<u16>, AreaError>
+    ensures refused { IfErr result IsOfMap }
+{
     let mut first: Option<Part> = None;
     for (n, from) in border.stops.iter().enumerate() {
         let to = border.next(n, *from);

@@ -1,5 +1,5 @@
 -- Lines that share a row share a band, so a search of the bands misses none.
-use Rattle.std.proofs.Common.{◌≡◌, ℕ, ◌+◌, ◌-◌, ◌/◌, ◌<◌, ◌≤◌, Bool, true, false, cond, ◌&&◌, ◌||◌, List, [], ◌∷◌, filter, count_by, refl, sym, ap, ◌∙◌, ◌⊎◌, ⊎_elim, ℤ, pos, negsuc, neg_ℤ, ◌-ℤ◌, ◌≤ℤ◌, not, zero-add, arith}
+use Rattle.std.proofs.Common.{◌≡◌, ℕ, ◌+◌, ◌-◌, ◌/◌, ◌<◌, ◌≤◌, Bool, true, false, cond, ◌&&◌, ◌||◌, List, [], ◌∷◌, filter, fold, count_by, Option, Some, None, refl, sym, ap, ◌∙◌, ◌⊎◌, ⊎_elim, ℤ, pos, negsuc, neg_ℤ, ◌-ℤ◌, ◌≤ℤ◌, not, zero-add, arith}
 use Rattle.std.specs.Prelude.{int_le, int_lt, nat_le, ◌==◌}
 use Rattle.std.specs.Int.{int_min, int_max}
 use Rattle.std.specs.List.{list_any}
@@ -11,6 +11,7 @@ use Rattle.std.proofs.lemmas.Map.Views.{any-filter_same}
 use Rattle.lump_records.specs.declared.records.Vertex.{Vertex}
 use Rattle.map_plane.specs.declared.places.PlacedLine.{PlacedLine}
 use Rattle.map_plane.specs.Meeting.{is_under, spans_meet, boxes_meet, is_on, side_value_at, share, meets}
+use Rattle.map_plane.specs.Nearest.{climbs_past, lies_left, lies_right, is_east, is_nearer, nearer_of, nearest}
 use Rattle.map_plane.specs.Outside.{is_on_wall, comes_down, faces, turns_away, is_place_outside}
 use Rattle.map_lint.specs.Bands.{band_bottom, band_top, is_in_band, IsBandOf}
 use Rattle.map_plane.proofs.Tests.{and_both, or_either, or_left, or_right, or_none, le_says, le_is, lt_says, both, under_says}
@@ -197,3 +198,51 @@ outside_in_band ls p n band =
     let facing = count_of_filtered (faces p) (is_in_band n) (faces_near p n band) ls in
     let turned = count_of_filtered (turns_away p) (is_in_band n) (turned_near p n band) ls in
     λ i. walls i || nat_le (facing i) (turned i)
+
+-- ---- the nearest line to the east
+
+east_near : (p : Vertex) (n : ℕ) → IsBandOf p.y n → (l : PlacedLine) → is_east l p ≡ true → is_in_band n l ≡ true
+unfolding is_east climbs_past
+east_near p n band l h =
+    ⊎_elim
+    (λ up. down_near p n band l l.to.y l.from.y up (omega (arith, ints, clamps)) (omega (arith, ints, clamps)))
+    (λ level.
+    let here : (comes_down p.y l.from.y l.to.y && lies_right l p) ≡ true =
+    sym (ap (λ (q : Bool). cond q (lies_left l p) (comes_down p.y l.from.y l.to.y && lies_right l p)) level) ∙ h in
+    down_near p n band l l.from.y l.to.y (and_both (comes_down p.y l.from.y l.to.y) (lies_right l p) here).0 refl refl)
+    (cases_Bool (comes_down p.y l.to.y l.from.y))
+
+none_past : (q : Bool) (l : PlacedLine) → q ≡ false → cond q (Some l) None ≡ None
+none_past true l h = cc
+none_past false l h = refl
+
+same_past : (q r : Bool) (l k : PlacedLine) → q ≡ false → cond (q && r) (Some l) (Some k) ≡ Some k
+same_past true r l k h = cc
+same_past false r l k h = refl
+
+-- a line of another band is no nearer
+passed_over : (p : Vertex) (n : ℕ) → IsBandOf p.y n → (best : Option PlacedLine) (l : PlacedLine) → is_in_band n l ≡ false → nearer_of p best l ≡ best
+unfolding nearer_of
+passed_over p n band best l apart =
+    ⊎_elim
+    (λ e. let here = east_near p n band l e in cc)
+    (λ e. elim best as (λ o. nearer_of p o l ≡ o) [
+      | None ↦ none_past (is_east l p) l e
+      | Some k ↦ same_past (is_east l p) (is_nearer p l k) l k e
+    ])
+    (cases_Bool (is_east l p))
+
+fold_kept : {X A : Type 0} (f : A → X → A) (keep : Bool) (a : A) (x : X) (fs xs : List X) → (keep ≡ false → f a x ≡ a)
+    → ((b : A) → fold f b fs ≡ fold f b xs) → fold f a (cond keep (x ∷ fs) fs) ≡ fold f (f a x) xs
+fold_kept f true a x fs xs skip same = same (f a x)
+fold_kept f false a x fs xs skip same = same a ∙ ap (λ b. fold f b xs) (sym (skip refl))
+
+-- a fold over some of the items is that over all if the others change nothing
+fold_of_filtered : {X A : Type 0} (f : A → X → A) (keep : X → Bool) → ((a : A) (x : X) → keep x ≡ false → f a x ≡ a)
+    → (xs : List X) (a : A) → fold f a (filter keep xs) ≡ fold f a xs
+fold_of_filtered f keep skip [] a = refl
+fold_of_filtered f keep skip (x ∷ xs) a = fold_kept f (keep x) a x (filter keep xs) xs (skip a x) (λ b. fold_of_filtered f keep skip xs b)
+
+-- the nearest of the lines of a place's band is the nearest of all
+pub nearest_in_band : (ls : List PlacedLine) (p : Vertex) (n : ℕ) → IsBandOf p.y n → nearest (filter (is_in_band n) ls) p ≡ nearest ls p
+nearest_in_band ls p n band = fold_of_filtered (nearer_of p) (is_in_band n) (passed_over p n band) ls None

@@ -1,3 +1,4 @@
+pub mod ItemSteps
 pub mod TagSteps
 pub mod AreaSteps
 pub mod BandLemmas

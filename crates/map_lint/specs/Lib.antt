@@ -7,6 +7,14 @@ pub mod Starts
 pub mod Tags
 pub mod Areas
 pub mod Borders
+pub mod Sided
+pub mod Specials
+pub mod Donuts
+pub mod Scrolls
+pub mod Teleports
+pub mod Exits
+pub mod Locks
+pub mod Neighbours
 pub mod Whereabouts
 pub mod Rules
 pub mod Graphics

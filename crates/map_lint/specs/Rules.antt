@@ -6,16 +6,23 @@ use Rattle.lump_records.specs.declared.records.Line.{Line}
 use Rattle.lump_records.specs.declared.records.Side.{Side}
 use Rattle.lump_records.specs.declared.records.Sector.{Sector}
 use Rattle.lump_records.specs.declared.records.Thing.{Thing}
-use Rattle.lump_records.specs.Sides.{is_two_sided}
+use Rattle.lump_records.specs.Sides.{has_left, is_two_sided}
 use Rattle.map_tables.specs.Tables.{Tables}
 use Rattle.map_checks.specs.Textures.{side_in, is_missing}
 use Rattle.map_lint.specs.declared.warning.Rule.{Rule}
-use Rattle.map_lint.specs.declared.warning.Rule.TheVariants.{PlayerStart, OneStart, DeathmatchStarts, CeilingAboveFloor, TagGiven, TagOfSector, TagOfLine, LineSpecialKnown, SectorSpecialKnown, ThingKnown, TextureShows, SectorInside, LinesApart, ThingInside, FlatKnown}
+use Rattle.map_lint.specs.declared.warning.Rule.TheVariants.{PlayerStart, OneStart, DeathmatchStarts, CeilingAboveFloor, TagGiven, TagOfSector, TagOfLine, LineSpecialKnown, SectorSpecialKnown, ThingKnown, TextureShows, SectorInside, LinesApart, ThingInside, DoorBacked, DonutBacked, ScrollsFit, TeleportLands, LevelEnds, KeyGiven, NeighboursFit, FlatKnown}
 use Rattle.map_lint.specs.declared.warning.Warning.{Warning}
 use Rattle.map_lint.specs.Known.{is_known_thing, is_known_line, is_known_sector}
 use Rattle.map_lint.specs.Starts.{things_of_type, starts_twice}
 use Rattle.map_lint.specs.Tags.{tag_missing, tag_of_no_sector, tag_of_no_line}
 use Rattle.map_lint.specs.Areas.{is_inside_out}
+use Rattle.map_lint.specs.Donuts.{is_donut_gap}
+use Rattle.map_lint.specs.Exits.{has_exit}
+use Rattle.map_lint.specs.Locks.{stays_locked}
+use Rattle.map_lint.specs.Neighbours.{overfills_list}
+use Rattle.map_lint.specs.Scrolls.{is_scroll_too_many}
+use Rattle.map_lint.specs.Specials.{doors, has_special}
+use Rattle.map_lint.specs.Teleports.{leads_nowhere}
 use Rattle.lump_records.specs.Things.{thing_place}
 use Rattle.map_plane.specs.Places.{placed_lines}
 use Rattle.map_plane.specs.Meeting.{meets_another}
@@ -37,13 +44,21 @@ texture_hidden m l =
     is_two_sided l && ((side_in m l.right).sector == (side_in m l.left).sector)
     && (names_wall (side_in m l.right) || names_wall (side_in m l.left))
 
+-- the line is a door that opens by hand, and has no left side
+abbrev pub door_without_back : Line → Bool
+door_without_back l = has_special doors l && not (has_left l)
+
 -- the rule is one that needs only a number, and the number breaks it: it is player 1, a count of deathmatch starts,
--- or the number of a sector or a line
+-- no exit, or the number of a sector or a line
 abbrev pub number_breaks : Tables → Rule → ℕ → Bool
 number_breaks m PlayerStart n = (n == 1) && (things_of_type m 1 == 0)
 number_breaks m DeathmatchStarts n = nat_lt 0 n && (things_of_type m 11 == n)
 number_breaks m SectorInside n = is_inside_out m n
 number_breaks m LinesApart n = meets_another (placed_lines m) n
+number_breaks m DonutBacked n = is_donut_gap m n
+number_breaks m ScrollsFit n = is_scroll_too_many m n
+number_breaks m LevelEnds n = (n == 0) && not (has_exit m)
+number_breaks m NeighboursFit n = overfills_list m n
 number_breaks m _ n = false
 
 -- the sector breaks the rule
@@ -59,6 +74,9 @@ line_breaks m TagGiven l = tag_missing l
 line_breaks m TagOfSector l = tag_of_no_sector m l
 line_breaks m LineSpecialKnown l = not (is_known_line l)
 line_breaks m TextureShows l = texture_hidden m l
+line_breaks m DoorBacked l = door_without_back l
+line_breaks m TeleportLands l = leads_nowhere m l
+line_breaks m KeyGiven l = stays_locked m.things l
 line_breaks m _ l = false
 
 -- the thing breaks the rule
@@ -75,8 +93,8 @@ breaks m rule n =
     || at_item (line_breaks m rule) m.lines n
     || at_item (thing_breaks m rule) m.things n
 
--- how many numbers are tested for the rule: for player 1, for fewer than four deathmatch starts, or for the items
--- of a table
+-- how many numbers are tested for the rule: for player 1, for fewer than four deathmatch starts, for no exit, or for
+-- the items of a table
 unfoldable pub reach : Tables → Rule → ℕ
 reach m PlayerStart = 2
 reach m DeathmatchStarts = 4
@@ -84,10 +102,12 @@ reach m CeilingAboveFloor = length m.sectors
 reach m TagOfLine = length m.sectors
 reach m SectorSpecialKnown = length m.sectors
 reach m SectorInside = length m.sectors
+reach m NeighboursFit = length m.sectors
 reach m FlatKnown = length m.sectors
 reach m OneStart = length m.things
 reach m ThingKnown = length m.things
 reach m ThingInside = length m.things
+reach m LevelEnds = 1
 reach m _ = length m.lines
 
 -- the rules in their order
@@ -96,7 +116,8 @@ rules_in_order =
     PlayerStart ∷ OneStart ∷ DeathmatchStarts ∷ CeilingAboveFloor ∷ TagGiven ∷ TagOfSector
     ∷ TagOfLine
     ∷ LineSpecialKnown ∷ SectorSpecialKnown ∷ ThingKnown ∷ TextureShows ∷ SectorInside ∷ LinesApart
-    ∷ ThingInside ∷ []
+    ∷ ThingInside ∷ DoorBacked ∷ DonutBacked ∷ ScrollsFit ∷ TeleportLands ∷ LevelEnds ∷ KeyGiven
+    ∷ NeighboursFit ∷ []
 
 -- the warning that a number breaks the rule
 abbrev pub warning_of : Tables → Rule → ℕ → Warning

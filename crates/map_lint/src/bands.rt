@@ -3,13 +3,14 @@ ghost use Rattle.std.specs.Prelude.{◌≡◌, [], length, IfOk, OnOk};
 ghost use Rattle.std.specs.Int.{int_min, int_max};
 ghost use Rattle.std.specs.List.{list_any};
 ghost use Rattle.map_plane.specs.Meeting.{meets, meets_another};
+ghost use Rattle.map_plane.specs.Nearest.{nearest, sector_of_place};
 ghost use Rattle.map_plane.specs.Outside.{is_place_outside};
 ghost use Rattle.map_lint.specs.Bands.{IsBandOf, FilesLine, AreBands, AreFiled, AreFiledLines};
 
 use crate::band::Band;
 use crate::error::LintError;
 use lump_records::Vertex;
-use map_plane::{PlacedLine, is_outside, placed_lines};
+use map_plane::{PlacedLine, is_outside, nearest, placed_lines, sector_shown};
 use map_tables::Map;
 use std::alloc::Global;
 
@@ -125,4 +126,23 @@ pub(crate) fn is_in_no_sector(filed: &FiledLines, place: Vertex) -> bool
     ensures { result ≡ is_place_outside filed.now.lines.items place }
 {
     is_outside(filed.bands[band_at(place)].lines(), place)
+}
+
+// The nearest of the lines to the east of the place.
+fn nearest_here(filed: &FiledLines, place: Vertex) -> Option<PlacedLine>
+    requires { AreFiled filed.now }
+    ensures { result ≡ nearest filed.now.lines.items place }
+{
+    nearest(filed.bands[band_at(place)].lines(), place)
+}
+
+/// The sector that the place belongs to: what the nearest line to its east shows it. `None` is the void.
+pub(crate) fn sector_here(map: &Map, filed: &FiledLines, place: Vertex) -> Option<u16>
+    requires { AreFiledLines map.now.tables filed.now }
+    ensures { result ≡ sector_of_place map.now.tables place }
+{
+    match nearest_here(filed, place) {
+        Some(line) => sector_shown(map, &line, place),
+        None => None,
+    }
 }

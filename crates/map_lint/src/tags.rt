@@ -2,8 +2,10 @@
 ghost use Rattle.std.specs.Prelude.{◌≡◌, IfOk};
 ghost use Rattle.map_lint.specs.Tags.{tag_of, line_tag};
 ghost use Rattle.map_lint.specs.Tallies.{MarksTags};
+ghost use Rattle.map_lint.specs.Specials.{special_tag};
 
 use crate::error::LintError;
+use crate::specials::special_tag;
 use lump_records::Sector;
 use map_tables::{Kind, Map};
 use std::alloc::Global;
@@ -15,8 +17,8 @@ pub(crate) fn tag_of(sector: &Sector) -> u16
     sector.tag.unsigned_abs()
 }
 
-// How many tags there are. It is a function, so that no proof evaluates the number.
-fn tag_count() -> usize
+/// How many tags there are. It is a function, so that no proof evaluates the number.
+pub(crate) fn tag_count() -> usize
     ensures { result ≡ 65536 }
 {
     65_536
@@ -42,6 +44,23 @@ pub(crate) fn tags_of_lines(alloc: Global, map: &Map) -> Result<Vec<bool>, LintE
     for n in 0..map.count(Kind::Line) {
         let line = map.line(n).unwrap();
         tags[usize::from(line.tag)] = true;
+    }
+    Ok(tags)
+}
+
+/// Marks the tags of the lines with one of these specials. It may mark 0, which is no tag.
+pub(crate) fn special_tags(
+    alloc: Global,
+    map: &Map,
+    runs: &[(i32, i32)],
+) -> Result<Vec<bool>, LintError>
+    ensures { IfOk result
+        (λ tags. MarksTags (special_tag runs.now) map.now.tables.lines tags.items) }
+{
+    let mut tags = vec![in alloc; false; tag_count()]?;
+    for n in 0..map.count(Kind::Line) {
+        let line = map.line(n).unwrap();
+        tags[usize::from(special_tag(runs, &line))] = true;
     }
     Ok(tags)
 }

@@ -3,7 +3,7 @@ use crate::whereabouts::Whereabouts;
 use std::fmt;
 
 /// What a level should keep. The number of a warning is that of the item that breaks the rule, except for two rules
-/// on starts, which say what it is.
+/// on starts and one on exits, which say what it is.
 #[derive(Clone, Copy, Debug, PartialEq, Eq)]
 pub enum Rule {
     /// The first player has a start. The number is 1.
@@ -35,6 +35,20 @@ pub enum Rule {
     LinesApart,
     /// A thing lies in a sector.
     ThingInside,
+    /// A door that opens by hand has a left side, which is what opens.
+    DoorBacked,
+    /// A line has the left side, or the two sides, that a donut needs there.
+    DonutBacked,
+    /// At most 64 lines scroll. The number is that of the 65th.
+    ScrollsFit,
+    /// A teleporter leads somewhere: if sectors have its tag, a landing belongs to one of them.
+    TeleportLands,
+    /// Something ends the level. The number is 0, of what does.
+    LevelEnds,
+    /// A door that a key opens has a key of its colour.
+    KeyGiven,
+    /// A sector that rises to the next higher floor has at most 22 lines across which a higher one lies.
+    NeighboursFit,
     /// The flats of a sector are among those of a WAD.
     FlatKnown,
     /// The textures of a line's sides are among those of a WAD.
@@ -72,6 +86,13 @@ impl Rule {
             Rule::SectorInside => "sector-inside-out",
             Rule::LinesApart => "line-crossed",
             Rule::ThingInside => "thing-outside",
+            Rule::DoorBacked => "door-without-back",
+            Rule::DonutBacked => "donut-without-back",
+            Rule::ScrollsFit => "too-many-scrolls",
+            Rule::TeleportLands => "teleport-nowhere",
+            Rule::LevelEnds => "no-exit",
+            Rule::KeyGiven => "key-missing",
+            Rule::NeighboursFit => "too-many-neighbours",
             Rule::FlatKnown => "flat-unknown",
             Rule::TextureKnown => "texture-unknown",
         }

@@ -53,6 +53,11 @@ pub(crate) fn whereabouts_of(map: &Map, rule: Rule, n: u32) -> Whereabouts
         Rule::LineSpecialKnown => along_line(map, n),
         Rule::TextureShows => along_line(map, n),
         Rule::LinesApart => along_line(map, n),
+        Rule::DoorBacked => along_line(map, n),
+        Rule::DonutBacked => along_line(map, n),
+        Rule::ScrollsFit => along_line(map, n),
+        Rule::TeleportLands => along_line(map, n),
+        Rule::KeyGiven => along_line(map, n),
         Rule::TextureKnown => along_line(map, n),
         _ => Whereabouts::Unplaced,
     }

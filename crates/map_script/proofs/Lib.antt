@@ -1,4 +1,7 @@
 pub mod Cleaning
 pub mod Placing
 pub mod Replacing
+pub mod SumCuts
+pub mod SumNumbers
+pub mod Table
 pub mod Wording

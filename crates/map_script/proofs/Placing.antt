@@ -1,6 +1,6 @@
 -- The least item of a list that passes a test.
-use Rattle.std.proofs.Common.{◌≡◌, ◌⊎◌, inl, inr, ℕ, ◌<◌, ◌≤◌, Bool, true, false, cond, List, [], ◌∷◌, length, get_or, take, refl, sym, ◌∙◌, ap, subst, arith, Option, Some, None, ltb}
-use Rattle.std.specs.Prelude.{MatchOption, slice_get}
+use Rattle.std.proofs.Common.{◌≡◌, inl, inr, ℕ, ◌<◌, ◌≤◌, Bool, true, false, cond, List, [], ◌∷◌, length, get_or, take, refl, sym, ◌∙◌, ap, arith, Option, Some, None, ltb}
+use Rattle.std.specs.Prelude.{slice_get}
 use Rattle.std.specs.List.{list_any, position, position_or_len}
 use Rattle.std.specs.Option.{option_map_or}
 use Rattle.std.proofs.lemmas.Bool.{both_ways, cases_lt}
@@ -41,10 +41,10 @@ first-is p xs n d h =
 none-is : {X : Type 0} (p : X → Bool) (xs : List X) (d : X) → list_any p xs ≡ false → position_or_len p xs ≡ length xs
 none-is p xs d none = position_or_len_is p xs (length xs) d (omega arith) (λ k lt. fails_at p xs k d none lt) (λ lt. absurd (omega arith))
 
-ltb_no : (n m : ℕ) → m ≤ n → ltb n m ≡ false
+pub ltb_no : (n m : ℕ) → m ≤ n → ltb n m ≡ false
 ltb_no n m h = grind (arith, nat_tests)
 
-ltb_yes : (n m : ℕ) → n < m → ltb n m ≡ true
+pub ltb_yes : (n m : ℕ) → n < m → ltb n m ≡ true
 ltb_yes n m h = grind (arith, nat_tests)
 
 at-len : (n m : ℕ) → n ≡ m → ◌≡◌ {A = Option ℕ} (cond (ltb n m) (Some n) None) None

@@ -1,20 +1,14 @@
 -- Lines with numbers in place of references, word by word.
-use Rattle.std.proofs.Common.{◌≡◌, ℕ, ◌+◌, ◌-◌, ◌*◌, cond, List, [], ◌∷◌, ◌++◌, drop, refl, sym, ◌∙◌, ap, arith, Option, Some, Result, Ok, Err}
-use Rattle.std.specs.Prelude.{bytes_eq, min}
+use Rattle.std.proofs.Common.{◌≡◌, ℕ, ◌+◌, ◌-◌, ◌*◌, List, [], ◌∷◌, ◌++◌, drop, refl, sym, ◌∙◌, ap, arith, Result, Ok, Err}
+use Rattle.std.specs.Prelude.{min}
 use Rattle.std.specs.List.{fold}
 use Rattle.map_tables.specs.Tables.{Tables}
 use Rattle.map_script.specs.Lines.{in_front, joined_line, words_for}
 use Rattle.map_script.specs.Words.{text_words}
 use Rattle.map_script.specs.declared.error.DrawError.{DrawError}
-use Rattle.map_script.specs.declared.firsts.Numbers.{Numbers}
+use Rattle.map_script.specs.Meant.{Meant}
 use Rattle.map_script.proofs.Cleaning as cleaning
 use Rattle.map_script.proofs.Cleaning.{with_words}
-
--- ---- Names
-
--- what is found for a name after one more entry
-abbrev pub newer : List ℕ → Option Numbers → List ℕ × Numbers → Option Numbers
-newer name found entry = cond (bytes_eq entry.0 name) (Some entry.1) found
 
 -- ---- Digits
 
@@ -22,16 +16,16 @@ newer name found entry = cond (bytes_eq entry.0 name) (Some entry.1) found
 abbrev pub with_digit : ℕ → ℕ → ℕ
 with_digit n d = n * 10 + (d - 48)
 
-least-step : (v d : ℕ) → min 32768 (with_digit (min 32768 v) d) ≡ min 32768 (with_digit v d)
-least-step v d = omega arith
+least-step : (m v d : ℕ) → min m (with_digit (min m v) d) ≡ min m (with_digit v d)
+least-step m v d = omega arith
 
--- a number above 32768 may be replaced by 32768
-pub least_fold : (v : ℕ) (ds : List ℕ) → min 32768 (fold with_digit (min 32768 v) ds) ≡ min 32768 (fold with_digit v ds)
-least_fold v [] = omega arith
-least_fold v (d ∷ ds) =
-    sym (least_fold (with_digit (min 32768 v) d) ds)
-    ∙ ap (λ n. min 32768 (fold with_digit n ds)) (least-step v d)
-    ∙ least_fold (with_digit v d) ds
+-- a number above the greatest one may be replaced by it
+pub least_fold : (m v : ℕ) (ds : List ℕ) → min m (fold with_digit (min m v) ds) ≡ min m (fold with_digit v ds)
+least_fold m v [] = omega arith
+least_fold m v (d ∷ ds) =
+    sym (least_fold m (with_digit (min m v) d) ds)
+    ∙ ap (λ n. min m (fold with_digit n ds)) (least-step m v d)
+    ∙ least_fold m (with_digit v d) ds
 
 -- ---- Words
 
@@ -55,7 +49,7 @@ behind_more text w (Ok ws) = refl
 behind_more text w (Err e) = refl
 
 -- no word is left
-pub replaced_all : (known : List (List ℕ × Numbers)) (m : Tables) (text rest command out : List ℕ) → text_words rest ≡ []
+pub replaced_all : (known : List (List ℕ × Meant)) (m : Tables) (text rest command out : List ℕ) → text_words rest ≡ []
     → behind text (words_for known m (text_words rest)) ≡ behind [] (words_for known m (text_words command)) → out
     ≡ drop 1 text → joined_line (words_for known m (text_words command)) ≡ Ok out
 replaced_all known m text rest command out e h is =

@@ -1,13 +1,23 @@
 -- The names as contracts see them.
-use Rattle.std.specs.Prelude.{ℕ, List, map}
-use Rattle.map_script.specs.declared.firsts.Numbers.{Numbers}
-use Rattle.map_script.specs.declared.names.Entry.{Entry}
+use Rattle.std.specs.Prelude.{ℕ, List, map, Option, Some, None, Vec}
+use Rattle.std.specs.Global.{Global}
+use Rattle.map_script.specs.Meant.{Meant}
+use Rattle.map_script.specs.declared.meaning.Meaning.{Meaning}
 use Rattle.map_script.specs.declared.names.Names.{Names}
 
--- a name and its numbers
-abbrev pub known_entry : Entry → List ℕ × Numbers
-known_entry entry = (entry.name.items, entry.numbers)
+-- what a name stands for
+abbrev pub meant : Meaning → Meant
+meant meaning = record { words = meaning.words.items; firsts = meaning.firsts }
 
--- the names and their numbers, the newest last
-abbrev pub known : Names → List (List ℕ × Numbers)
-known names = map known_entry names.entries.items
+-- the same, if there is such a name
+abbrev pub meant_in : Option Meaning → Option Meant
+meant_in None = None
+meant_in (Some meaning) = Some (meant meaning)
+
+-- a name and what it stands for
+abbrev pub known_entry : Vec ℕ Global × Meaning → List ℕ × Meant
+known_entry entry = (entry.0.items, meant entry.1)
+
+-- the names, each with what it stands for
+abbrev pub known : Names → List (List ℕ × Meant)
+known names = map known_entry names.table.entries

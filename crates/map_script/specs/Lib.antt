@@ -1,9 +1,14 @@
+pub mod Cuts
 pub mod Errors
 pub mod Firsts
 pub mod Known
 pub mod Lines
+pub mod Meant
 pub mod Names
+pub mod Own
+pub mod Reckoned
 pub mod Scripts
+pub mod Sums
 pub mod Texts
 pub mod Views
 pub mod Words

@@ -1,13 +1,18 @@
 -- The command line that a line of a script stands for.
-use Rattle.std.specs.Prelude.{◌≡◌, ℕ, Bool, true, ◌==◌, if◌then◌else◌, List, [], ◌∷◌, Option, Some, None, Result, Ok, Err, codes, bytes_eq, decimal}
-use Rattle.std.specs.List.{join_with_byte}
+use Rattle.std.specs.Prelude.{◌≡◌, ℕ, ℤ, Bool, true, ◌+◌, ◌==◌, ◌||◌, ◌&&◌, not, if◌then◌else◌, List, [], ◌∷◌, ◌++◌, take, drop, position, slice_index, Option, Some, None, Result, Ok, Err, codes, bytes_eq, decimal, Vec}
+use Rattle.std.specs.Global.{Global}
+use Rattle.std.specs.Fmt.{signed_decimal}
+use Rattle.std.specs.List.{join_with_byte, list_any}
+use Rattle.std.specs.Option.{is_none}
 use Rattle.map_tables.specs.Tables.{Tables}
-use Rattle.map_script.specs.Names.{is_script_name, number_for}
+use Rattle.map_script.specs.Meant.{Meant, meant_by, with_meaning, worded}
+use Rattle.map_script.specs.Names.{is_no_reference, is_script_name, number_for}
+use Rattle.map_script.specs.Own.{is_own_word}
+use Rattle.map_script.specs.Sums.{sum_value}
 use Rattle.map_script.specs.Texts.{with_word}
 use Rattle.map_script.specs.Words.{text_words}
 use Rattle.map_script.specs.declared.error.DrawError.{DrawError}
-use Rattle.map_script.specs.declared.error.DrawError.TheVariants.{NotAName, OutOfMemory}
-use Rattle.map_script.specs.declared.firsts.Numbers.{Numbers}
+use Rattle.map_script.specs.declared.error.DrawError.TheVariants.{NotALet, NotAName, OutOfMemory}
 
 -- the name that a line defines: NAME of NAME = COMMAND
 abbrev pub name_in : List (List ℕ) → Option (List ℕ)
@@ -29,11 +34,58 @@ abbrev pub number_word : Result ℕ DrawError → Result (List ℕ) DrawError
 number_word (Ok n) = Ok (decimal n)
 number_word (Err e) = Err e
 
--- the word that a word stands for: a number for a reference, otherwise the word itself
-abbrev pub word_for : List (List ℕ × Numbers) → Tables → List ℕ → Result (List ℕ) DrawError
-word_for known m [] = Ok []
-word_for known m (b ∷ bs) =
-    if b == 36 then number_word (number_for known m bs) else Ok (b ∷ bs)
+-- a number of a sum as a word
+abbrev pub sum_word : Result ℤ DrawError → Result (List ℕ) DrawError
+sum_word (Ok n) = Ok (signed_decimal n)
+sum_word (Err e) = Err e
+
+-- the word of a reference, which is this number; a word that is no reference is a sum
+abbrev pub reference_word : List (List ℕ × Meant) → Tables → List ℕ → Result ℕ DrawError
+    → Result (List ℕ) DrawError
+reference_word known m text number =
+    if is_no_reference number then sum_word (sum_value 65 known m text) else number_word number
+
+-- the words of a name, or else the word of a reference
+abbrev pub named_word : List (List ℕ × Meant) → Tables → List ℕ → Option Meant → Result ℕ DrawError
+    → Result (List ℕ) DrawError
+named_word known m text (Some meant) number = Ok meant.words
+named_word known m text None number = reference_word known m text number
+
+-- a word with a `$`, or one that begins with `(`
+abbrev pub is_reckoned : List ℕ → Bool
+is_reckoned text = (slice_index text 0 == 40) || list_any (λ b. b == 36) text
+
+-- what such a word stands for: a name, a reference or a sum
+abbrev pub reckoned_word : List (List ℕ × Meant) → Tables → List ℕ → Result (List ℕ) DrawError
+reckoned_word known m [] = Ok []
+reckoned_word known m (b ∷ bs) =
+    if b == 36
+    then named_word known m (b ∷ bs) (meant_by known bs) (number_for known m bs)
+    else sum_word (sum_value 65 known m (b ∷ bs))
+
+-- a word or a VALUE
+abbrev pub value_word : List (List ℕ × Meant) → Tables → List ℕ → Result (List ℕ) DrawError
+value_word known m text = if is_reckoned text then reckoned_word known m text else Ok text
+
+-- `NAME=` and VALUE of a word whose first `=` is here, or nothing and the whole word
+abbrev pub field_at : List ℕ → Option ℕ → List ℕ × List ℕ
+field_at text None = ([], text)
+field_at text (Some i) =
+    if is_script_name (take i text) then (take (i + 1) text, drop (i + 1) text) else ([], text)
+
+-- `NAME=` and VALUE of a word, or nothing and the whole word
+abbrev pub field_parts : List ℕ → List ℕ × List ℕ
+field_parts text = field_at text (position (λ b. b == 61) text)
+
+-- a word behind `NAME=`
+abbrev pub behind_field : List ℕ → Result (List ℕ) DrawError → Result (List ℕ) DrawError
+behind_field front (Ok w) = Ok (front ++ w)
+behind_field front (Err e) = Err e
+
+-- the word that a word stands for
+unfoldable pub word_for : List (List ℕ × Meant) → Tables → List ℕ → Result (List ℕ) DrawError
+word_for known m text =
+    behind_field (field_parts text).0 (value_word known m (field_parts text).1)
 
 -- a word before others, or the leftmost error
 abbrev pub in_front : Result (List ℕ) DrawError → Result (List (List ℕ)) DrawError
@@ -43,7 +95,7 @@ in_front (Ok w) (Err e) = Err e
 in_front (Ok w) (Ok ws) = Ok (w ∷ ws)
 
 -- the words that the words stand for, or the leftmost error
-abbrev pub words_for : List (List ℕ × Numbers) → Tables → List (List ℕ)
+abbrev pub words_for : List (List ℕ × Meant) → Tables → List (List ℕ)
     → Result (List (List ℕ)) DrawError
 words_for known m [] = Ok []
 words_for known m (w ∷ ws) = in_front (word_for known m w) (words_for known m ws)
@@ -55,15 +107,45 @@ joined_line (Err e) = Err e
 
 -- the command line that a line stands for over the current map, or its error: that of a bad name
 -- comes before that of a bad reference
-abbrev pub line_for : List (List ℕ × Numbers) → Tables → List ℕ → Result (List ℕ) DrawError
+abbrev pub line_for : List (List ℕ × Meant) → Tables → List ℕ → Result (List ℕ) DrawError
 line_for known m line =
     if has_good_name (name_in (text_words line))
     then joined_line (words_for known m (command_words (text_words line))) else Err NotAName
+
+-- ---- let NAME WORD ..
+
+-- what stands behind the first word of `let NAME WORD ..`
+abbrev pub let_words : List (List ℕ) → Option (List (List ℕ))
+let_words [] = None
+let_words (w ∷ ws) =
+    if bytes_eq w (codes "let") && is_none (name_in (w ∷ ws)) then Some ws else None
+
+-- the names, with one that now stands for words
+abbrev pub with_words : List (List ℕ × Meant) → List ℕ → Result (List ℕ) DrawError
+    → Result (List (List ℕ × Meant)) DrawError
+with_words known name (Ok words) = Ok (with_meaning known name (worded words))
+with_words known name (Err e) = Err e
+
+-- the names after NAME WORD .., or what is wrong with it
+abbrev pub names_after : List (List ℕ × Meant) → Tables → List (List ℕ)
+    → Result (List (List ℕ × Meant)) DrawError
+names_after known m [] = Err NotALet
+names_after known m (n ∷ []) = Err NotALet
+names_after known m (n ∷ w ∷ ws) =
+    if is_script_name n && not (is_own_word n)
+    then with_words known n (joined_line (words_for known m (w ∷ ws))) else Err NotAName
+
+-- ---- How a call ended
 
 -- the call returned the error that the definition gives, or memory ran out
 abbrev pub TellsScriptFault : {X : Type 0} → DrawError → Result X DrawError → Type 0
 TellsScriptFault OutOfMemory outcome = Unit {0}
 TellsScriptFault e outcome = outcome ≡ Err e
+
+-- the call returned the word or the error that the definition gives, or memory ran out
+abbrev pub MakesWord : Result (Vec ℕ Global) DrawError → Result (List ℕ) DrawError → Type 0
+MakesWord (Ok word) outcome = outcome ≡ Ok word.items
+MakesWord (Err e) outcome = TellsScriptFault e outcome
 
 -- the word that the definition gives was appended to the text, or the call returned the definition's error, or
 -- memory ran out

@@ -1,5 +1,5 @@
 -- Names, and the numbers that references stand for.
-use Rattle.std.specs.Prelude.{ℕ, Bool, true, false, ◌+◌, ◌-◌, ◌*◌, ◌&&◌, ◌||◌, ◌==◌, nat_le, nat_lt, if◌then◌else◌, List, [], ◌∷◌, length, take, drop, fold, position, Option, Some, None, Result, Ok, Err, bytes_eq}
+use Rattle.std.specs.Prelude.{ℕ, Bool, true, false, ◌+◌, ◌-◌, ◌*◌, ◌&&◌, ◌||◌, ◌==◌, nat_le, if◌then◌else◌, List, [], ◌∷◌, take, drop, fold, position, Option, Some, None, Result, Ok, Err}
 use Rattle.std.specs.List.{list_all}
 use Rattle.std.specs.Option.{is_some, is_none}
 use Rattle.map_tables.specs.Tables.{Tables}
@@ -14,10 +14,10 @@ use Rattle.map_plane.specs.Meeting.{is_at, is_on}
 use Rattle.map_plane.specs.Nearest.{sector_of_place}
 use Rattle.map_plane.specs.Places.{placed_lines}
 use Rattle.map_script.specs.Firsts.{first_of}
+use Rattle.map_script.specs.Meant.{Meant, meant_by}
 use Rattle.map_script.specs.declared.error.DrawError.{DrawError}
 use Rattle.map_script.specs.declared.error.DrawError.TheVariants.{NotAReference, UnknownName, NothingAdded, NumberTooLarge, NothingThere}
 use Rattle.map_script.specs.declared.firsts.Firsts.{Firsts}
-use Rattle.map_script.specs.declared.firsts.Numbers.{Numbers}
 use Rattle.lump_records.specs.Names.{is_digit}
 
 -- a letter, A to Z or a to z
@@ -32,11 +32,6 @@ is_script_name_byte b = is_letter b || (is_digit b || (b == 95))
 abbrev pub is_script_name : List ℕ → Bool
 is_script_name [] = false
 is_script_name (b ∷ bs) = is_letter b && list_all is_script_name_byte bs
-
--- the numbers of a name, as it was last defined
-abbrev pub numbers_of : List (List ℕ × Numbers) → List ℕ → Option Numbers
-numbers_of known name =
-    fold (λ found entry. if bytes_eq entry.0 name then Some entry.1 else found) None known
 
 -- ---- References: NAME, NAME.KIND or KIND(X,Y), each with or without +N
 
@@ -54,10 +49,14 @@ abbrev pub is_kind_part : Option (List ℕ) → Bool
 is_kind_part None = true
 is_kind_part (Some w) = is_some (kind_of w)
 
--- no part, or one or more digits
+-- a number without a sign
+abbrev pub is_natural_word : List ℕ → Bool
+is_natural_word w = is_numeral w && list_all is_digit w
+
+-- no part, or a number without a sign
 abbrev pub is_sum_part : Option (List ℕ) → Bool
 is_sum_part None = true
-is_sum_part (Some w) = nat_lt 0 (length w) && list_all is_digit w
+is_sum_part (Some w) = is_natural_word w
 
 -- the number that digits stand for
 abbrev pub value_of : List ℕ → ℕ
@@ -73,27 +72,29 @@ abbrev pub first_named : Firsts → Option Kind → Option ℕ
 first_named firsts None = None
 first_named firsts (Some k) = first_of firsts k
 
--- the number that NAME or NAME.KIND stands for, if there is one
-abbrev pub base_of : Numbers → Option (List ℕ) → Option ℕ
-base_of numbers None = Some numbers.answer
-base_of numbers (Some w) = first_named numbers.firsts (kind_of w)
-
 -- the sum, which must be at most 32767
 abbrev pub sum_of : Option ℕ → ℕ → Result ℕ DrawError
 sum_of None more = Err NothingAdded
 sum_of (Some n) more = if nat_le (n + more) 32767 then Ok (n + more) else Err NumberTooLarge
 
+-- the number that words and what is added stand for, if the words are a number without a sign
+abbrev pub words_and : List ℕ → ℕ → Result ℕ DrawError
+words_and words more =
+    if is_natural_word words then sum_of (Some (value_of words)) more else Err NotAReference
+
 -- the number that a name, its kind and its sum stand for
-abbrev pub number_in : Option Numbers → Option (List ℕ) → Option (List ℕ) → Result ℕ DrawError
+abbrev pub number_in : Option Meant → Option (List ℕ) → Option (List ℕ) → Result ℕ DrawError
 number_in None kind more = Err UnknownName
-number_in (Some numbers) kind more = sum_of (base_of numbers kind) (added_by more)
+number_in (Some meant) None more = words_and meant.words (added_by more)
+number_in (Some meant) (Some w) more =
+    sum_of (first_named meant.firsts (kind_of w)) (added_by more)
 
 -- the number that these parts of a reference stand for, or what is wrong with the reference
-abbrev pub number_by : List (List ℕ × Numbers) → List ℕ → Option (List ℕ) → Option (List ℕ)
+abbrev pub number_by : List (List ℕ × Meant) → List ℕ → Option (List ℕ) → Option (List ℕ)
     → Result ℕ DrawError
 number_by known name kind more =
     if is_script_name name && (is_kind_part kind && is_sum_part more)
-    then number_in (numbers_of known name) kind more
+    then number_in (meant_by known name) kind more
     else Err NotAReference
 
 -- ---- KIND(X,Y)
@@ -149,7 +150,7 @@ number_behind_bracket m k (xy, Some []) more =
 number_behind_bracket m k _ more = Err NotAReference
 
 -- the number that a reference without its +N stands for: with a `(` by its place, else by its name
-abbrev pub number_of_base : List (List ℕ × Numbers) → Tables → List ℕ → List ℕ × Option (List ℕ)
+abbrev pub number_of_base : List (List ℕ × Meant) → Tables → List ℕ → List ℕ × Option (List ℕ)
     → Option (List ℕ) → Result ℕ DrawError
 number_of_base known m base (kind, None) more =
     number_by known (cut 46 base).0 (cut 46 base).1 more
@@ -157,6 +158,12 @@ number_of_base known m base (kind, Some rest) more =
     number_behind_bracket m (kind_of kind) (cut 41 rest) more
 
 -- the number that a reference stands for, given without its `$`
-abbrev pub number_for : List (List ℕ × Numbers) → Tables → List ℕ → Result ℕ DrawError
+abbrev pub number_for : List (List ℕ × Meant) → Tables → List ℕ → Result ℕ DrawError
 number_for known m text =
     number_of_base known m (cut 43 text).0 (cut 40 (cut 43 text).0) (cut 43 text).1
+
+-- whether a text is no reference at all
+abbrev pub is_no_reference : Result ℕ DrawError → Bool
+is_no_reference (Ok n) = false
+is_no_reference (Err NotAReference) = true
+is_no_reference (Err e) = false

@@ -9,7 +9,9 @@ use thiserror::Error;
 /// Why a line of a script can't be resolved to a command line.
 #[derive(Clone, Copy, Debug, PartialEq, Eq, Error)]
 pub enum DrawError {
-    /// In `NAME = COMMAND` the word before `=` is not a name.
+    /// Behind `let` stand no name and a word.
+    NotALet,
+    /// In `NAME = COMMAND` the word before `=` is not a name, or the name of a `let` is none or a word of the language.
     NotAName,
     /// A word that begins with `$` isn't `$NAME`, `$NAME.KIND` or `$KIND(X,Y)`, with or without `+N` after it.
     NotAReference,
@@ -21,6 +23,14 @@ pub enum DrawError {
     NumberTooLarge,
     /// No item of this kind is at this place.
     NothingThere,
+    /// A part of a sum is no number.
+    NotANumber,
+    /// A quotient in a sum isn't whole, or divides by 0.
+    NotWhole,
+    /// A number of a sum has more than 64 bits.
+    TooGreat,
+    /// The parts of a sum nest more than 64 deep.
+    TooDeep,
     OutOfMemory,
 }
 
@@ -68,6 +78,7 @@ impl DrawError {
         ensures text { result.1.now ≡ message_of self.now }
     {
         match self {
+            DrawError::NotALet => (1, "a name and one or more words stand behind let"),
             DrawError::NotAName => (20, "a name is a letter, then letters, digits and _"),
             DrawError::NotAReference => (
                 21,
@@ -77,6 +88,10 @@ impl DrawError {
             DrawError::NothingAdded => (23, "the command of this name added no such item"),
             DrawError::NumberTooLarge => (24, "the sum is greater than 32767"),
             DrawError::NothingThere => (45, "nothing is at this place"),
+            DrawError::NotANumber => (46, "a part of the sum isn't a number"),
+            DrawError::NotWhole => (46, "a quotient of the sum isn't a whole number"),
+            DrawError::TooGreat => (46, "a number of the sum has more than 64 bits"),
+            DrawError::TooDeep => (46, "the parts of the sum nest more than 64 deep"),
             DrawError::OutOfMemory => (31, "out of memory"),
         }
     }

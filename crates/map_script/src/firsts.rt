@@ -23,6 +23,15 @@ pub struct Numbers {
     pub firsts: Firsts,
 }
 
+/// No item.
+pub const NO_FIRSTS: Firsts = Firsts {
+    vertex: None,
+    sector: None,
+    side: None,
+    line: None,
+    thing: None,
+};
+
 /// How many items a map has of each kind.
 #[derive(Clone, Copy)]
 pub struct ItemCounts {

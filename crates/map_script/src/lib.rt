@@ -2,17 +2,25 @@
 //! resolved.
 #![tactic(auto)]
 
+mod cutting;
 mod error;
 mod firsts;
+mod letting;
+mod meaning;
 mod names;
+mod own_words;
+mod reckoning;
 mod reference;
 mod resolving;
 mod script;
+mod sums;
 mod text;
 mod words;
 
 pub use error::DrawError;
 pub use firsts::{Firsts, ItemCounts, Numbers, counts_of, firsts_of, firsts_since};
+pub use letting::{give_words, let_words};
+pub use meaning::Meaning;
 pub use names::Names;
 pub use resolving::{defined_name, resolve};
 pub use script::{ScriptLine, script_lines};

@@ -1,64 +1,92 @@
-//! The names that lines of a script define, and their numbers.
+//! The names that lines of a script define, and what they stand for.
 use crate::error::DrawError;
-use crate::firsts::Numbers;
+use crate::firsts::{Firsts, NO_FIRSTS, Numbers};
+use crate::meaning::Meaning;
+use crate::text::copied;
+use indexmap::IndexMap;
 use std::alloc::Global;
 
-// A name and its numbers.
-#[derive(Drop)]
-struct Entry {
-    name: Vec<u8>,
-    numbers: Numbers,
-}
-
-/// The names defined so far. A name that is defined again has the newer numbers.
+/// The names defined so far. A name that is defined again stands for what is newer.
 #[derive(Drop)]
 pub struct Names {
-    entries: Vec<Entry>,
+    table: IndexMap<Vec<u8>, Meaning>,
 }
 
 impl Names {
-    ghost use Rattle.std.specs.Prelude.{◌≡◌, [], ◌∷◌, ◌++◌, IfOk, IsOkUnless, OnErr};
+    ghost use Rattle.std.specs.Prelude.{◌≡◌, [], IfOk, IsOkUnless, OnErr, option_copied};
     ghost use Rattle.map_script.specs.declared.error.DrawError.TheVariants.{OutOfMemory};
-    ghost use Rattle.map_script.specs.Names.{numbers_of};
-    ghost use Rattle.map_script.specs.Known.{known};
+    ghost use Rattle.map_script.specs.Known.{known, meant_in};
+    ghost use Rattle.map_script.specs.Meant.{meant_by, numbered, with_meaning, worded};
 
     /// Without any name. It allocates no memory.
     pub fn new(alloc: Global) -> Self
         ensures { known result ≡ [] }
     {
         Names {
-            entries: Vec::new(alloc),
+            table: IndexMap::new(alloc),
         }
     }
 
-    /// Defines a name with its numbers.
+    // Defines a name by words and first items.
+    fn put(
+        &mut self,
+        alloc: Global,
+        name: &[u8],
+        words: &[u8],
+        firsts: Firsts,
+    ) -> Result<(), DrawError>
+        ensures ok { IfOk result (λ _. known self.new ≡ with_meaning (known self.old) name.now
+            (record { words = words.now; firsts = firsts })) }
+        ensures memory { IsOkUnless result OutOfMemory }
+        ensures refused { OnErr result (known self.new ≡ known self.old) }
+    {
+        let name = copied(alloc, name)?;
+        let words = copied(alloc, words)?;
+        match self.table.insert(name, Meaning { words, firsts }) {
+            Ok(_) => Ok(()),
+            Err(_) => Err(DrawError::OutOfMemory),
+        }
+    }
+
+    /// Defines a name by the numbers of a command: it stands for the number that the command answered.
     ///
     /// # Errors
     ///
     /// `OutOfMemory`: the names are unchanged.
     pub fn define(&mut self, alloc: Global, name: &[u8], numbers: Numbers) -> Result<(), DrawError>
         ensures ok { IfOk result
-            (λ _. known self.new ≡ known self.old ++ (name.now, numbers) ∷ []) }
+            (λ _. known self.new ≡ with_meaning (known self.old) name.now (numbered numbers)) }
         ensures memory { IsOkUnless result OutOfMemory }
         ensures refused { OnErr result (known self.new ≡ known self.old) }
     {
-        let name = name.to_vec(alloc)?;
-        match self.entries.push(Entry { name, numbers }) {
-            Ok(()) => Ok(()),
-            Err(_) => Err(DrawError::OutOfMemory),
-        }
+        let answer = numbers.answer;
+        let digits = format!(in alloc; "{answer}")?;
+        self.put(alloc, name, digits.as_bytes(), numbers.firsts)
     }
 
-    /// The numbers of a name, if it is defined.
-    pub fn find(&self, name: &[u8]) -> Option<Numbers>
-        ensures { result ≡ numbers_of (known self.now) name.now }
+    /// Defines a name that stands for words, separated by single spaces.
+    ///
+    /// # Errors
+    ///
+    /// `OutOfMemory`: the names are unchanged.
+    pub fn define_words(
+        &mut self,
+        alloc: Global,
+        name: &[u8],
+        words: &[u8],
+    ) -> Result<(), DrawError>
+        ensures ok { IfOk result
+            (λ _. known self.new ≡ with_meaning (known self.old) name.now (worded words.now)) }
+        ensures memory { IsOkUnless result OutOfMemory }
+        ensures refused { OnErr result (known self.new ≡ known self.old) }
     {
-        let mut found = None;
-        for entry in &self.entries {
-            if entry.name.as_slice() == name {
-                found = Some(entry.numbers);
-            }
-        }
-        found
+        self.put(alloc, name, words, NO_FIRSTS)
+    }
+
+    /// What a name stands for, if it is defined.
+    pub fn find(&self, name: &[u8]) -> Option<&Meaning>
+        ensures { meant_in (option_copied result) ≡ meant_by (known self.now) name.now }
+    {
+        self.table.get(name)
     }
 }

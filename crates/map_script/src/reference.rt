@@ -1,14 +1,16 @@
 //! The numbers that references stand for: `$NAME`, `$NAME.KIND` or `$KIND(X,Y)`, with or without `+N`.
-ghost use Rattle.std.specs.Prelude.{◌≡◌, ◌≤◌, ◌<◌, ◌+◌, ◌-◌, ◌*◌, ◌==◌, min, length, position, IfSome, option_copied};
+ghost use Rattle.std.specs.Prelude.{◌≡◌, ◌≤◌, ◌<◌, ◌+◌, ◌-◌, ◌*◌, ◌==◌, min, nat_le, if◌then◌else◌, ◌^◌, length, position, IfSome, option_copied};
 ghost use Rattle.std.specs.List.{list_all};
 ghost use Rattle.map_commands.specs.Grammar.{kind_of};
 ghost use Rattle.map_commands.specs.Words.{is_numeral};
-ghost use Rattle.map_script.specs.Known.{known};
+ghost use Rattle.map_script.specs.Known.{known, meant_in};
+ghost use Rattle.map_script.specs.Meant.{meant_by};
 ghost use Rattle.lump_records.specs.Names.{is_digit};
-ghost use Rattle.map_script.specs.Names.{added_by, base_of, cut, is_kind_part, is_letter, is_script_name, is_script_name_byte, is_sum_part, has_places, number_at_place, number_behind_bracket, number_by, number_by_place, number_for, number_in, number_there, sum_of, sum_there, value_of};
+ghost use Rattle.map_script.specs.Names.{added_by, cut, first_named, is_kind_part, is_natural_word, is_letter, is_no_reference, is_script_name, is_script_name_byte, is_sum_part, has_places, number_at_place, number_behind_bracket, number_by, number_by_place, number_for, number_in, number_there, sum_of, sum_there, value_of, words_and};
 
 use crate::error::DrawError;
-use crate::firsts::Numbers;
+use crate::firsts::Firsts;
+use crate::meaning::Meaning;
 use crate::names::Names;
 use lump_records::{GREATEST_COORDINATE, LEAST_COORDINATE, Vertex};
 use map_commands::{CommandError, kind_in, number_in as number_in_range};
@@ -16,7 +18,7 @@ use map_plane::{line_at, sector_at, thing_at, vertex_at};
 use map_tables::{Kind, Map};
 
 // The greatest number that a command may have.
-const GREATEST: u32 = 32767;
+const GREATEST: u64 = 32767;
 
 fn is_digit(b: u8) -> bool
     ensures { result ≡ is_digit b }
@@ -60,16 +62,16 @@ fn are_digits(text: &[u8]) -> bool
     text.iter().all(|b| is_digit(*b))
 }
 
-// The index of the first byte `c`.
-fn place_of(text: &[u8], c: u8) -> Option<usize>
+/// The index of the first byte `c`.
+pub fn place_of(text: &[u8], c: u8) -> Option<usize>
     ensures place { result ≡ position (λ b. b == c) text.now }
     ensures within { IfSome result (λ i. i < length text.now) }
 {
     text.iter().position(|b| *b == c)
 }
 
-// Cuts the text at the first byte `c`: what is before it, and what is after it if there is one.
-fn cut(text: &[u8], c: u8) -> (&[u8], Option<&[u8]>)
+/// Cuts the text at the first byte `c`: what is before it, and what is after it if there is one.
+pub fn cut(text: &[u8], c: u8) -> (&[u8], Option<&[u8]>)
     ensures { (result.0.now, option_copied result.1) ≡ cut c text.now }
 {
     match place_of(text, c) {
@@ -88,40 +90,55 @@ fn is_kind_part(part: Option<&[u8]>) -> bool
     }
 }
 
-// Whether there is no such part, or it is one or more digits.
+/// Whether the word is a number, however great.
+pub fn is_whole(word: &[u8]) -> bool
+    ensures { result ≡ is_numeral word.now }
+{
+    match number_in_range(word, LEAST_COORDINATE, GREATEST_COORDINATE) {
+        Err(CommandError::NotACommand) => false,
+        _ => true,
+    }
+}
+
+// Whether the word is a number without a sign.
+fn is_natural(word: &[u8]) -> bool
+    ensures { result ≡ is_natural_word word.now }
+{
+    is_whole(word) && are_digits(word)
+}
+
+// Whether there is no such part, or it is a number without a sign.
 fn is_sum_part(part: Option<&[u8]>) -> bool
     ensures { result ≡ is_sum_part (option_copied part.entry) }
 {
     match part {
-        Some(digits) => !digits.is_empty() && are_digits(digits),
+        Some(word) => is_natural(word),
         None => true,
     }
 }
 
-// The number with one more digit, or 32768 if it is greater than that.
-fn with_digit(value: u32, digit: u8) -> u32
-    requires { value ≤ 32768 }
-    ensures { result ≡ min 32768 (value * 10 + (digit - 48)) }
+// The number with one more digit, or the greatest one if it is greater than that.
+fn with_digit(value: u64, digit: u8) -> u64
+    ensures { result ≡ min (2 ^ 64 - 1) (value * 10 + (digit - 48)) }
 {
-    (value * 10 + u32::from(digit.saturating_sub(b'0'))).min(GREATEST + 1)
+    let more = u64::from(digit.saturating_sub(b'0'));
+    value.saturating_mul(10).saturating_add(more)
 }
 
-// The number that the digits stand for, or 32768 if it is greater than that.
-fn value_of(digits: &[u8]) -> u32
-    ensures value { result ≡ min 32768 (value_of digits.now) }
-    ensures few { result ≤ 32768 }
+/// The number that digits stand for, or the greatest one if it is greater than that.
+pub fn value_of(digits: &[u8]) -> u64
+    ensures { result ≡ min (2 ^ 64 - 1) (value_of digits.now) }
 {
-    let mut value: u32 = 0;
+    let mut value: u64 = 0;
     for b in digits {
         value = with_digit(value, *b);
     }
     value
 }
 
-// The number that is added, or 32768 if it is greater than that.
-fn added_by(part: Option<&[u8]>) -> u32
-    ensures value { result ≡ min 32768 (added_by (option_copied part.entry)) }
-    ensures few { result ≤ 32768 }
+// The number that is added, or the greatest one if it is greater than that.
+fn added_by(part: Option<&[u8]>) -> u64
+    ensures { result ≡ min (2 ^ 64 - 1) (added_by (option_copied part.entry)) }
 {
     match part {
         Some(digits) => value_of(digits),
@@ -129,16 +146,24 @@ fn added_by(part: Option<&[u8]>) -> u32
     }
 }
 
-// The number that `NAME` or `NAME.KIND` stands for, if there is one.
-fn base_of(numbers: &Numbers, kind: Option<&[u8]>) -> Option<u32>
-    ensures { result ≡ base_of numbers.now (option_copied kind.entry) }
+// The first item of a table, if there is such a table.
+fn first_named(firsts: &Firsts, kind: &[u8]) -> Option<u32>
+    ensures { result ≡ first_named firsts.now (kind_of kind.now) }
 {
-    match kind {
-        Some(word) => match kind_in(word) {
-            Some(kind) => numbers.firsts.of(kind),
-            None => None,
-        },
-        None => Some(numbers.answer),
+    match kind_in(kind) {
+        Some(kind) => firsts.of(kind),
+        None => None,
+    }
+}
+
+// The sum of two numbers, if a command may have it.
+fn sum_within(base: u64, more: u64) -> Option<u32>
+    ensures { result ≡ (if nat_le (base + more) 32767 then Some (base + more) else None) }
+{
+    if base <= GREATEST && more <= GREATEST && base + more <= GREATEST {
+        Some((base + more) as u32)
+    } else {
+        None
     }
 }
 
@@ -149,25 +174,38 @@ fn sum_of(base: Option<u32>, more: Option<&[u8]>) -> Result<u32, DrawError>
     let Some(base) = base else {
         return Err(DrawError::NothingAdded);
     };
-    let more = added_by(more);
-    if base <= GREATEST && base + more <= GREATEST {
-        Ok(base + more)
-    } else {
-        Err(DrawError::NumberTooLarge)
+    match sum_within(u64::from(base), added_by(more)) {
+        Some(sum) => Ok(sum),
+        None => Err(DrawError::NumberTooLarge),
+    }
+}
+
+// The number that words and what is added stand for, if the words are a number without a sign.
+fn words_and(words: &[u8], more: Option<&[u8]>) -> Result<u32, DrawError>
+    ensures { result ≡ words_and words.now (added_by (option_copied more.entry)) }
+{
+    if !is_natural(words) {
+        return Err(DrawError::NotAReference);
+    }
+    match sum_within(value_of(words), added_by(more)) {
+        Some(sum) => Ok(sum),
+        None => Err(DrawError::NumberTooLarge),
     }
 }
 
 // The number that a name, its kind and its sum stand for.
 fn number_in(
-    numbers: Option<Numbers>,
+    meaning: Option<&Meaning>,
     kind: Option<&[u8]>,
     more: Option<&[u8]>,
 ) -> Result<u32, DrawError>
-    ensures { result ≡ number_in numbers (option_copied kind.entry) (option_copied more.entry) }
+    ensures { result ≡ number_in (meant_in (option_copied meaning.entry))
+        (option_copied kind.entry) (option_copied more.entry) }
 {
-    match numbers {
-        Some(numbers) => sum_of(base_of(&numbers, kind), more),
-        None => Err(DrawError::UnknownName),
+    match (meaning, kind) {
+        (Some(meaning), Some(kind)) => sum_of(first_named(&meaning.firsts, kind), more),
+        (Some(meaning), None) => words_and(&meaning.words, more),
+        (None, _) => Err(DrawError::UnknownName),
     }
 }
 
@@ -188,8 +226,8 @@ fn number_by(
     }
 }
 
-// The number of the item that is at a place.
-fn number_at_place(map: &Map, kind: Kind, place: Vertex) -> Option<u16>
+/// The number of the item that is at a place.
+pub fn number_at_place(map: &Map, kind: Kind, place: Vertex) -> Option<u16>
     ensures { result ≡ number_at_place map.now.tables kind place }
 {
     match kind {
@@ -201,22 +239,12 @@ fn number_at_place(map: &Map, kind: Kind, place: Vertex) -> Option<u16>
     }
 }
 
-// Whether items of the kind are at places.
-fn has_places(kind: Kind) -> bool
+/// Whether items of the kind are at places.
+pub fn has_places(kind: Kind) -> bool
     ensures { result ≡ has_places kind }
 {
     match kind {
         Kind::Side => false,
-        _ => true,
-    }
-}
-
-// Whether the word is a number, however great.
-fn is_whole(word: &[u8]) -> bool
-    ensures { result ≡ is_numeral word.now }
-{
-    match number_in_range(word, LEAST_COORDINATE, GREATEST_COORDINATE) {
-        Err(CommandError::NotACommand) => false,
         _ => true,
     }
 }
@@ -294,5 +322,15 @@ pub fn number_for(names: &Names, map: &Map, text: &[u8]) -> Result<u32, DrawErro
             let (name, kind) = cut(base, b'.');
             number_by(names, name, kind, more)
         }
+    }
+}
+
+/// Whether a text is no reference at all, by the number that it should stand for.
+pub fn is_no_reference(number: Result<u32, DrawError>) -> bool
+    ensures { result ≡ is_no_reference number }
+{
+    match number {
+        Err(DrawError::NotAReference) => true,
+        _ => false,
     }
 }

@@ -1,17 +1,26 @@
 //! Resolves a cleaned line of a script to a command line.
-ghost use Rattle.std.specs.Prelude.{◌≡◌, IfErr, IfOk, Ok, option_copied};
+ghost use Rattle.std.specs.Prelude.{◌≡◌, ◌++◌, ◌<◌, ◌==◌, IfErr, IfOk, IsOkUnless, Ok, option_copied, slice_index};
+ghost use Rattle.std.specs.List.{list_any};
+ghost use Rattle.map_script.specs.declared.error.DrawError.TheVariants.{OutOfMemory};
 ghost use Rattle.map_script.specs.Known.{known};
-ghost use Rattle.map_script.specs.Lines.{PutsWord, TellsScriptFault, command_words, has_good_name, joined_line, line_for, name_in, number_word, word_for, words_for};
+ghost use Rattle.map_script.specs.Lines.{MakesWord, PutsWord, TellsScriptFault, command_words, field_parts, has_good_name, is_reckoned, joined_line, line_for, name_in, named_word, reckoned_word, reference_word, sum_word, word_for, words_for};
+ghost use Rattle.map_script.specs.Meant.{meant_by};
 ghost use Rattle.map_script.specs.Names.{number_for};
+ghost use Rattle.map_script.specs.Sums.{sum_value};
+ghost use Rattle.map_script.specs.Texts.{with_word};
 ghost use Rattle.map_script.specs.Words.{text_words};
 
 use crate::error::DrawError;
 use crate::names::Names;
-use crate::reference::{is_name, number_for};
-use crate::text::{put_word, without_first};
+use crate::reference::{is_name, is_no_reference, number_for, place_of};
+use crate::sums::sum_value;
+use crate::text::without_first;
 use crate::words::next_word;
 use map_tables::Map;
 use std::alloc::Global;
+
+// One more than how deep signs and parentheses of a sum may nest.
+const DEPTH: u32 = 65;
 
 // The name that a line defines, if any, and its command.
 fn parted(line: &[u8]) -> (Option<&[u8]>, &[u8])
@@ -48,28 +57,122 @@ fn has_good_name(name: Option<&[u8]>) -> bool
     }
 }
 
-// Appends the number that a reference stands for.
-fn put_number(
-    alloc: Global,
-    text: &mut Vec<u8>,
-    names: &Names,
-    map: &Map,
-    reference: &[u8],
-) -> Result<(), DrawError>
-    ensures { PutsWord result
-        (number_word (number_for (known names.now) map.now.tables reference.now))
-        text.old.items text.new.items }
+// The number of a sum, as a word.
+fn sum_word(alloc: Global, names: &Names, map: &Map, text: &[u8]) -> Result<Vec<u8>, DrawError>
+    ensures { MakesWord result
+        (sum_word (sum_value 65 (known names.now) map.now.tables text.now)) }
 {
-    match number_for(names, map, reference) {
+    match sum_value(DEPTH, names, map, text) {
         Ok(number) => {
             let digits = format!(in alloc; "{number}")?;
-            put_word(text, digits.as_bytes())
+            Ok(digits.as_bytes().to_vec(alloc)?)
         }
         Err(error) => Err(error),
     }
 }
 
-// Appends a word, or the number that it stands for if it is a reference.
+// The word of a reference, given without its `$`; a word that is no reference is a sum.
+fn reference_word(
+    alloc: Global,
+    names: &Names,
+    map: &Map,
+    text: &[u8],
+    reference: &[u8],
+) -> Result<Vec<u8>, DrawError>
+    ensures { MakesWord result (reference_word (known names.now) map.now.tables text.now
+        (number_for (known names.now) map.now.tables reference.now)) }
+{
+    let number = number_for(names, map, reference);
+    if is_no_reference(number) {
+        return sum_word(alloc, names, map, text);
+    }
+    match number {
+        Ok(number) => {
+            let digits = format!(in alloc; "{number}")?;
+            Ok(digits.as_bytes().to_vec(alloc)?)
+        }
+        Err(error) => Err(error),
+    }
+}
+
+// The words of a name, or else the word of a reference.
+fn named_word(
+    alloc: Global,
+    names: &Names,
+    map: &Map,
+    text: &[u8],
+    reference: &[u8],
+) -> Result<Vec<u8>, DrawError>
+    ensures { MakesWord result (named_word (known names.now) map.now.tables text.now
+        (meant_by (known names.now) reference.now)
+        (number_for (known names.now) map.now.tables reference.now)) }
+{
+    match names.find(reference) {
+        Some(meaning) => Ok(meaning.words.as_slice().to_vec(alloc)?),
+        None => reference_word(alloc, names, map, text, reference),
+    }
+}
+
+// Whether a text has a `$`.
+fn has_dollar(text: &[u8]) -> bool
+    ensures { result ≡ list_any (λ b. b == 36) text.now }
+{
+    text.iter().any(|b| *b == b'$')
+}
+
+// Whether a word has a `$` or begins with `(`.
+fn is_reckoned(text: &[u8]) -> bool
+    ensures { result ≡ is_reckoned text.now }
+{
+    begins(text, b'(') || has_dollar(text)
+}
+
+// Whether a text begins with a byte other than 0.
+fn begins(text: &[u8], first: u8) -> bool
+    requires { 0 < first }
+    ensures { result ≡ (slice_index text.now 0 == first) }
+{
+    match text {
+        [b, ..] => *b == first,
+        [] => false,
+    }
+}
+
+// What a word with a `$`, or one that begins with `(`, stands for.
+fn reckoned_word(alloc: Global, names: &Names, map: &Map, text: &[u8]) -> Result<Vec<u8>, DrawError>
+    ensures { MakesWord result (reckoned_word (known names.now) map.now.tables text.now) }
+{
+    match text {
+        [] => Ok(Vec::new(alloc)),
+        [b'$', reference @ ..] => named_word(alloc, names, map, text, reference),
+        _ => sum_word(alloc, names, map, text),
+    }
+}
+
+// `NAME=` and VALUE of a word, or nothing and the whole word.
+fn field_parts(word: &[u8]) -> (&[u8], &[u8])
+    ensures { (result.0.now, result.1.now) ≡ field_parts word.now }
+{
+    match place_of(word, b'=') {
+        Some(i) if is_name(&word[..i]) => (&word[..i + 1], &word[i + 1..]),
+        _ => (&[], word),
+    }
+}
+
+// Appends a space and a word in two parts.
+fn put_parts(text: &mut Vec<u8>, front: &[u8], back: &[u8]) -> Result<(), DrawError>
+    ensures ok { IfOk result
+        (λ _. text.new.items ≡ with_word text.old.items (front.now ++ back.now)) }
+    ensures memory { IsOkUnless result OutOfMemory }
+{
+    text.push(b' ')?;
+    text.extend_from_slice(front)?;
+    text.extend_from_slice(back)?;
+    Ok(())
+}
+
+// Appends what a word stands for.
+#[tactic(auto, unfolding(crate::specs::Lines::word_for))]
 fn put_resolved(
     alloc: Global,
     text: &mut Vec<u8>,
@@ -80,15 +183,24 @@ fn put_resolved(
     ensures { PutsWord result (word_for (known names.now) map.now.tables word.now)
         text.old.items text.new.items }
 {
-    match word {
-        [b'$', reference @ ..] => put_number(alloc, text, names, map, reference),
-        _ => put_word(text, word),
+    let (front, value) = field_parts(word);
+    if !is_reckoned(value) {
+        return put_parts(text, front, value);
+    }
+    match reckoned_word(alloc, names, map, value) {
+        Ok(found) => put_parts(text, front, &found),
+        Err(error) => Err(error),
     }
 }
 
-// The words of a command, with numbers in place of references.
+/// What the words of a text stand for, separated by single spaces.
 #[tactic(auto, using(crate::proofs::Replacing::behind_more))]
-fn replaced(alloc: Global, names: &Names, map: &Map, command: &[u8]) -> Result<Vec<u8>, DrawError>
+pub fn replaced(
+    alloc: Global,
+    names: &Names,
+    map: &Map,
+    command: &[u8],
+) -> Result<Vec<u8>, DrawError>
     ensures ok { IfOk result (λ text.
         joined_line (words_for (known names.now) map.now.tables (text_words command.now))
         ≡ Ok text.items) }

@@ -4,6 +4,7 @@ ghost use Rattle.map_script.specs.declared.error.DrawError.TheVariants.{OutOfMem
 ghost use Rattle.map_script.specs.Texts.{with_word};
 
 use crate::error::DrawError;
+use std::alloc::Global;
 
 /// Appends a space and a word.
 pub fn put_word(text: &mut Vec<u8>, word: &[u8]) -> Result<(), DrawError>
@@ -23,4 +24,12 @@ pub fn without_first(mut text: Vec<u8>) -> Vec<u8>
         text.remove(0);
     }
     text
+}
+
+/// A copy of a text.
+pub fn copied(alloc: Global, text: &[u8]) -> Result<Vec<u8>, DrawError>
+    ensures ok { IfOk result (λ copy. copy.items ≡ text.now) }
+    ensures memory { IsOkUnless result OutOfMemory }
+{
+    Ok(text.to_vec(alloc)?)
 }

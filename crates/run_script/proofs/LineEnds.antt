@@ -4,13 +4,15 @@ use Rattle.std.specs.Prelude.{◌⊎◌, MatchResult}
 use Rattle.std.specs.Io.KnownBytes.{Appends, append_known}
 use Rattle.map_script.specs.Errors.{code_of}
 use Rattle.map_tables.specs.Projects.{current_map}
-use Rattle.map_script.specs.Lines.{TellsScriptFault, line_for, name_in}
+use Rattle.map_script.specs.Lines.{TellsScriptFault, let_words, line_for, name_in, names_after}
+use Rattle.map_script.specs.Meant.{Meant}
 use Rattle.map_script.specs.Words.{text_words}
 use Rattle.map_script.specs.declared.firsts.Firsts.{Firsts}
 use Rattle.map_script.specs.declared.firsts.Numbers.{Numbers}
 use Rattle.map_script.specs.declared.error.DrawError.{DrawError}
-use Rattle.map_script.specs.declared.error.DrawError.TheVariants.{NotAName, NotAReference, UnknownName, NothingAdded, NumberTooLarge, NothingThere, OutOfMemory}
-use Rattle.run_script.specs.Drawn.{Added, Does, DrawsLine, DrawsText, IsTried, Sketch, Stays, asks, noted_text, sketch_of, with_given_name}
+use Rattle.map_script.specs.declared.error.DrawError.TheVariants.{NotALet, NotAName, NotAReference, UnknownName, NothingAdded, NumberTooLarge, NothingThere, NotANumber, NotWhole, TooGreat, TooDeep, OutOfMemory}
+use Rattle.run_script.specs.Drawn.{Added, Does, DrawsLet, DrawsLine, DrawsOther, DrawsText, IsTried, Sketch, Stays, asks, sketch_of}
+use Rattle.run_script.specs.Given.{GivesWords, noted_text, with_given_name}
 use Rattle.run_script.specs.declared.canvas.Canvas.{Ghosts}
 use Rattle.run_script.specs.declared.error.ScriptError.{ScriptError}
 use Rattle.run_script.specs.declared.error.ScriptError.TheVariants as cut
@@ -21,23 +23,28 @@ Appends-known None bs = tt
 Appends-known (Some xs) bs = refl
 
 faulty : {S : Type 0} (facts : Ghosts S) (verbose : Bool) (line : ℕ × List ℕ) (old new : Sketch S) (e : DrawError)
-    → line_for old.names (current_map (facts.maps_in old.canvas)) line.1 ≡ Err e → Stays old new → DrawsLine facts verbose line old (Some (code_of e)) new
+    → line_for old.names (current_map (facts.maps_in old.canvas)) line.1 ≡ Err e → Stays old new → DrawsOther facts verbose line old (Some (code_of e)) new
 faulty facts verbose line old new e is stays = inl (rw is (refl, stays))
 
 -- a line that stands for nothing, or that finds no memory
 pub refused_line : {S : Type 0} (facts : Ghosts S) (verbose : Bool) (line : ℕ × List ℕ) (old new : Sketch S) (e : DrawError)
-    → TellsScriptFault e (line_for old.names (current_map (facts.maps_in old.canvas)) line.1) → Stays old new → DrawsLine facts verbose line old (Some (code_of e)) new
+    → TellsScriptFault e (line_for old.names (current_map (facts.maps_in old.canvas)) line.1) → Stays old new → DrawsOther facts verbose line old (Some (code_of e)) new
 refused_line facts verbose line old new NotAName is stays = faulty facts verbose line old new NotAName is stays
 refused_line facts verbose line old new NotAReference is stays = faulty facts verbose line old new NotAReference is stays
 refused_line facts verbose line old new UnknownName is stays = faulty facts verbose line old new UnknownName is stays
 refused_line facts verbose line old new NothingAdded is stays = faulty facts verbose line old new NothingAdded is stays
 refused_line facts verbose line old new NumberTooLarge is stays = faulty facts verbose line old new NumberTooLarge is stays
 refused_line facts verbose line old new NothingThere is stays = faulty facts verbose line old new NothingThere is stays
+refused_line facts verbose line old new NotALet is stays = faulty facts verbose line old new NotALet is stays
+refused_line facts verbose line old new NotANumber is stays = faulty facts verbose line old new NotANumber is stays
+refused_line facts verbose line old new NotWhole is stays = faulty facts verbose line old new NotWhole is stays
+refused_line facts verbose line old new TooGreat is stays = faulty facts verbose line old new TooGreat is stays
+refused_line facts verbose line old new TooDeep is stays = faulty facts verbose line old new TooDeep is stays
 refused_line facts verbose line old new OutOfMemory is stays = inr (refl, stays)
 
 -- a line that stands for a text
 pub resolved_line : {S : Type 0} (facts : Ghosts S) (verbose : Bool) (line : ℕ × List ℕ) (old new : Sketch S) (refusal : Option ℕ) (text : List ℕ)
-    → line_for old.names (current_map (facts.maps_in old.canvas)) line.1 ≡ Ok text → DrawsText facts verbose line old refusal new text → DrawsLine facts verbose line old refusal new
+    → line_for old.names (current_map (facts.maps_in old.canvas)) line.1 ≡ Ok text → DrawsText facts verbose line old refusal new text → DrawsOther facts verbose line old refusal new
 resolved_line facts verbose line old new refusal text is drawn = inl (rw is drawn)
 
 -- its text is a command
@@ -63,10 +70,61 @@ pub ended_line : {S : Type 0} (facts : Ghosts S) (verbose : Bool) (line : ℕ ×
     (r : Result (Option ℕ) ScriptError) → line_for old.names (current_map (facts.maps_in old.canvas)) line.1 ≡ Ok text → asks facts line.1 text ≡ false
     → MatchResult r (λ refusal. IsTried facts verbose line text old refusal new)
     (λ e. ((e ≡ cut.OutOfMemory) ⊎ (e ≡ cut.WriterFailed)) × ((x : Sketch S) × IsTried facts verbose line text old None x × (canvas ≡ x.canvas)))
-    → MatchResult r (λ refusal. DrawsLine facts verbose line old refusal new)
+    → MatchResult r (λ refusal. DrawsOther facts verbose line old refusal new)
     (λ e. ((e ≡ cut.OutOfMemory) ⊎ (e ≡ cut.WriterFailed))
-    × ((canvas ≡ old.canvas) ⊎ ((x : Sketch S) × DrawsLine facts verbose line old None x × (canvas ≡ x.canvas))))
+    × ((canvas ≡ old.canvas) ⊎ ((x : Sketch S) × DrawsOther facts verbose line old None x × (canvas ≡ x.canvas))))
 ended_line facts verbose line old new canvas text (Ok refusal) is none tried =
     resolved_line facts verbose line old new refusal text is (tried_text facts verbose line old new refusal text none tried)
 ended_line facts verbose line old new canvas text (Err e) is none (cause, (x, tried, at)) =
     (cause, inr (x, resolved_line facts verbose line old x None text is (tried_text facts verbose line old x None text none tried), at))
+
+-- ---- Words that are given a name
+
+-- words that were given a name
+pub given_words : {S : Type 0} (facts : Ghosts S) (words : List (List ℕ)) (canvas : S) (old new : List (List ℕ × Meant))
+    → names_after old (current_map (facts.maps_in canvas)) words ≡ Ok new → GivesWords facts words canvas old None new
+given_words facts words canvas old new is = inl (rw is (refl, refl))
+
+not-given : {S : Type 0} (facts : Ghosts S) (words : List (List ℕ)) (canvas : S) (old new : List (List ℕ × Meant)) (e : DrawError)
+    → names_after old (current_map (facts.maps_in canvas)) words ≡ Err e → new ≡ old → GivesWords facts words canvas old (Some (code_of e)) new
+not-given facts words canvas old new e is same = inl (rw is (refl, same))
+
+-- words that were refused a name
+pub refused_words : {S : Type 0} (facts : Ghosts S) (words : List (List ℕ)) (canvas : S) (old new : List (List ℕ × Meant)) (e : DrawError)
+    → TellsScriptFault e (names_after old (current_map (facts.maps_in canvas)) words) → new ≡ old
+    → GivesWords facts words canvas old (Some (code_of e)) new
+refused_words facts words canvas old new NotALet is same = not-given facts words canvas old new NotALet is same
+refused_words facts words canvas old new NotAName is same = not-given facts words canvas old new NotAName is same
+refused_words facts words canvas old new NotAReference is same = not-given facts words canvas old new NotAReference is same
+refused_words facts words canvas old new UnknownName is same = not-given facts words canvas old new UnknownName is same
+refused_words facts words canvas old new NothingAdded is same = not-given facts words canvas old new NothingAdded is same
+refused_words facts words canvas old new NumberTooLarge is same = not-given facts words canvas old new NumberTooLarge is same
+refused_words facts words canvas old new NothingThere is same = not-given facts words canvas old new NothingThere is same
+refused_words facts words canvas old new NotANumber is same = not-given facts words canvas old new NotANumber is same
+refused_words facts words canvas old new NotWhole is same = not-given facts words canvas old new NotWhole is same
+refused_words facts words canvas old new TooGreat is same = not-given facts words canvas old new TooGreat is same
+refused_words facts words canvas old new TooDeep is same = not-given facts words canvas old new TooDeep is same
+refused_words facts words canvas old new OutOfMemory is same = inr (refl, same)
+
+-- a line that gives words a name
+pub let_line : {S : Type 0} (facts : Ghosts S) (verbose : Bool) (line : ℕ × List ℕ) (old new : Sketch S) (refusal : Option ℕ) (words : List (List ℕ))
+    → let_words (text_words line.1) ≡ Some words → DrawsLet facts words old refusal new → DrawsLine facts verbose line old refusal new
+let_line facts verbose line old new refusal words is drawn = rw is drawn
+
+-- another line
+other_line : {S : Type 0} (facts : Ghosts S) (verbose : Bool) (line : ℕ × List ℕ) (old new : Sketch S) (refusal : Option ℕ)
+    → let_words (text_words line.1) ≡ None → DrawsOther facts verbose line old refusal new → DrawsLine facts verbose line old refusal new
+other_line facts verbose line old new refusal is drawn = rw is drawn
+
+-- how another line ends
+pub other_ends : {S : Type 0} (facts : Ghosts S) (verbose : Bool) (line : ℕ × List ℕ) (old new : Sketch S) (canvas : S) (r : Result (Option ℕ) ScriptError)
+    → let_words (text_words line.1) ≡ None
+    → MatchResult r (λ refusal. DrawsOther facts verbose line old refusal new)
+    (λ e. ((e ≡ cut.OutOfMemory) ⊎ (e ≡ cut.WriterFailed))
+    × ((canvas ≡ old.canvas) ⊎ ((x : Sketch S) × DrawsOther facts verbose line old None x × (canvas ≡ x.canvas))))
+    → MatchResult r (λ refusal. DrawsLine facts verbose line old refusal new)
+    (λ e. ((e ≡ cut.OutOfMemory) ⊎ (e ≡ cut.WriterFailed))
+    × ((canvas ≡ old.canvas) ⊎ ((x : Sketch S) × DrawsLine facts verbose line old None x × (canvas ≡ x.canvas))))
+other_ends facts verbose line old new canvas (Ok refusal) is drawn = other_line facts verbose line old new refusal is drawn
+other_ends facts verbose line old new canvas (Err e) is (cause, inl same) = (cause, inl same)
+other_ends facts verbose line old new canvas (Err e) is (cause, inr (x, drawn, at)) = (cause, inr (x, other_line facts verbose line old x None is drawn, at))

@@ -1,16 +1,16 @@
 -- What the lines of a script draw, one after the other (docs/COMMANDS.md, "Scripts").
-use Rattle.std.specs.Prelude.{◌≡◌, ◌⊎◌, ℕ, Bool, true, false, ◌&&◌, not, is_some, List, [], ◌∷◌, ◌++◌, Option, Some, None, Result, Ok, Err, MatchResult, codes, decimal, length}
+use Rattle.std.specs.Prelude.{◌≡◌, ◌⊎◌, ℕ, Bool, true, false, ◌&&◌, not, is_some, List, [], ◌∷◌, ◌++◌, Option, Some, None, Result, Ok, Err, MatchOption, MatchResult, length}
 use Rattle.std.specs.Io.KnownBytes.{Appends, Keeps}
 use Rattle.map_tables.specs.Projects.{ProjectMaps, current_map}
-use Rattle.map_commands.specs.ProjectCommands.{InProjectRange, project_spelling}
-use Rattle.map_commands.specs.declared.project.command.ProjectCommand.{ProjectCommand}
 use Rattle.map_script.specs.Errors.{code_of}
-use Rattle.map_script.specs.Firsts.{counts_of, firsts_of, firsts_since}
-use Rattle.map_script.specs.Lines.{line_for, name_in}
+use Rattle.map_script.specs.Firsts.{counts_of, firsts_since}
+use Rattle.map_script.specs.Lines.{let_words, line_for, name_in}
+use Rattle.map_script.specs.Meant.{Meant}
 use Rattle.map_script.specs.Words.{text_words}
 use Rattle.map_script.specs.declared.firsts.Firsts.{Firsts}
 use Rattle.map_script.specs.declared.firsts.Numbers.{Numbers}
 use Rattle.map_shapes.specs.Shapes.{is_shape_line}
+use Rattle.run_script.specs.Given.{AddsFirst, GivesWords, noted_text, with_given_name}
 use Rattle.run_script.specs.Shaped.{DrawsShape}
 use Rattle.run_script.specs.declared.canvas.Canvas.{Ghosts}
 use Rattle.run_script.specs.declared.drawing.Stop.{Stop}
@@ -21,11 +21,11 @@ use Rattle.run_script.specs.declared.error.ScriptError.TheVariants.{OutOfMemory,
 -- holds
 pub record Sketch (S : Type 0) : Type 0 where
   pub canvas : S
-  pub names : List (List ℕ × Numbers)
+  pub names : List (List ℕ × Meant)
   pub written : Option (List ℕ)
 
 -- the sketch with this canvas, these names, and a writer that holds this
-abbrev pub sketch_of : {S : Type 0} → S → List (List ℕ × Numbers) → Option (List ℕ) → Sketch S
+abbrev pub sketch_of : {S : Type 0} → S → List (List ℕ × Meant) → Option (List ℕ) → Sketch S
 sketch_of canvas names written = record { canvas = canvas; names = names; written = written }
 
 -- nothing has changed
@@ -35,12 +35,6 @@ pub record Stays {S : Type 0} (old new : Sketch S) : Type 0 where
   pub written : Keeps old.written new.written
 
 -- ---- A command or a shape
-
--- if a line is a command, these are the first items that it adds to the maps
-abbrev pub AddsFirst : List ℕ → ProjectMaps → Firsts → Type 0
-AddsFirst text p firsts =
-    (c : ProjectCommand) → InProjectRange c → text ≡ project_spelling c
-    → firsts ≡ firsts_of c (current_map p)
 
 -- the first if the test holds, else the second
 abbrev pub OneOf : Bool → Type 0 → Type 0 → Type 0
@@ -58,17 +52,6 @@ abbrev pub Added : List ℕ → ProjectMaps → ProjectMaps → Firsts → Type 
 Added text p q firsts =
     OneOf (is_shape_line text)
     (firsts ≡ firsts_since (counts_of (current_map p)) (current_map q)) (AddsFirst text p firsts)
-
--- the names, with the one that a line gives to its numbers
-abbrev pub with_given_name : Option (List ℕ) → Numbers → List (List ℕ × Numbers)
-    → List (List ℕ × Numbers)
-with_given_name None numbers names = names
-with_given_name (Some name) numbers names = names ++ (name, numbers) ∷ []
-
--- `NUMBER: ok N`, if the answers to commands are written
-abbrev pub noted_text : Bool → ℕ → ℕ → List ℕ
-noted_text true number n = decimal number ++ codes ": ok " ++ decimal n ++ 10 ∷ []
-noted_text false number n = []
 
 -- how a line ends that had this outcome: refused with the code; or its name keeps the numbers, and
 -- its answer is written if wanted
@@ -110,15 +93,29 @@ DrawsText facts verbose line old refusal new text =
     OneOf (asks facts line.1 text) (IsQueryTold facts text old refusal new)
     (IsTried facts verbose line text old refusal new)
 
--- A line of a script was drawn, or refused with this code: for its text, because its names can't be
--- resolved, or for lack of memory.
-abbrev pub DrawsLine : {S : Type 0} → Ghosts S → Bool → ℕ × List ℕ → Sketch S → Option ℕ → Sketch S
+-- A line that gives no words a name was drawn, or refused with this code: for its text, because its
+-- names can't be resolved, or for lack of memory.
+abbrev pub DrawsOther : {S : Type 0} → Ghosts S → Bool → ℕ × List ℕ → Sketch S → Option ℕ → Sketch S
     → Type 0
-DrawsLine facts verbose line old refusal new =
+DrawsOther facts verbose line old refusal new =
     MatchResult (line_for old.names (current_map (facts.maps_in old.canvas)) line.1)
     (DrawsText facts verbose line old refusal new)
     (λ fault. (refusal ≡ Some (code_of fault)) × Stays old new)
     ⊎ ((refusal ≡ Some 31) × Stays old new)
+
+-- words were given a name, or refused with this code; all else stays
+abbrev pub DrawsLet : {S : Type 0} → Ghosts S → List (List ℕ) → Sketch S → Option ℕ → Sketch S
+    → Type 0
+DrawsLet facts words old refusal new =
+    GivesWords facts words old.canvas old.names refusal new.names
+    × (new.canvas ≡ old.canvas) × Keeps old.written new.written
+
+-- a line of a script was drawn, or refused with this code
+abbrev pub DrawsLine : {S : Type 0} → Ghosts S → Bool → ℕ × List ℕ → Sketch S → Option ℕ → Sketch S
+    → Type 0
+DrawsLine facts verbose line old refusal new =
+    MatchOption (let_words (text_words line.1)) (DrawsOther facts verbose line old refusal new)
+    (λ words. DrawsLet facts words old refusal new)
 
 -- ---- A script
 

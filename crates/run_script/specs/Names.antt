@@ -38,7 +38,8 @@ script_name code =
     else (if code == 27 then codes "SeveralSectors"
     else (if code == 28 then codes "NotEmpty"
     else (if code == 29 then codes "NoDoor"
-    else codes "NothingThere")))))))))
+    else (if code == 46 then codes "BadSum"
+    else codes "NothingThere"))))))))))
 
 -- the name of one of a project file
 abbrev pub file_name : ℕ → List ℕ
@@ -52,4 +53,5 @@ file_name code =
 abbrev pub stop_name : ℕ → List ℕ
 stop_name code =
     if nat_lt code 20 then command_name code
-    else (if nat_lt code 30 || (code == 45) then script_name code else file_name code)
+    else (if nat_lt code 30 || ((code == 45) || (code == 46)) then script_name code
+    else file_name code)

@@ -39,6 +39,7 @@ const OF_NAMES: &[DrawError] = &[
     DrawError::NothingAdded,
     DrawError::NumberTooLarge,
     DrawError::NothingThere,
+    DrawError::NotANumber,
 ];
 
 // The refusals of lines that come from store_project.
@@ -96,6 +97,7 @@ fn script_name(code: u16) -> &'static str
         27 => "SeveralSectors",
         28 => "NotEmpty",
         29 => "NoDoor",
+        46 => "BadSum",
         _ => "NothingThere",
     }
 }
@@ -118,7 +120,7 @@ pub fn stop_name(code: u16) -> &'static str
 {
     if code < 20 {
         command_name(code)
-    } else if code < 30 || code == 45 {
+    } else if code < 30 || code == 45 || code == 46 {
         script_name(code)
     } else {
         file_name(code)

@@ -6,7 +6,8 @@ ghost use Rattle.map_tables.specs.Projects.{project_of};
 ghost use Rattle.map_script.specs.Known.{known};
 ghost use Rattle.map_script.specs.Views.{seen};
 ghost use Rattle.run_script.specs.declared.error.ScriptError.TheVariants.{OutOfMemory, WriterFailed};
-ghost use Rattle.run_script.specs.Drawn.{Added, AddsFirst, Does, IsTried, Sketch, noted_text, sketch_of, with_given_name};
+ghost use Rattle.run_script.specs.Drawn.{Added, Does, IsTried, Sketch, sketch_of};
+ghost use Rattle.run_script.specs.Given.{AddsFirst, noted_text, with_given_name};
 
 use crate::canvas::Canvas;
 use crate::error::ScriptError;

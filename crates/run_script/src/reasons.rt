@@ -4,7 +4,7 @@ use crate::forms::{count_words, first_word, form_near, form_of, range_at};
 use crate::shape_reasons::{decide, meant_shape, places_of};
 use lump_records::{Vertex, is_marker, is_name};
 use map_commands::{Command, ProjectCommand, RoomPlan, parse};
-use map_script::{DrawError, Names, ScriptLine, resolve};
+use map_script::{DrawError, Names, ScriptLine, let_words, resolve};
 use map_shapes::{ShapeError, ShapeHead, shape_head_in};
 use map_tables::{Edit, Item, Kind, Map, Maps};
 use run_edit::read_query;
@@ -222,35 +222,60 @@ fn reason_of_shape(
     }
 }
 
-// The word of a line whose place has no item.
-fn empty_place<'a>(alloc: Global, map: &Map, names: &Names, line: &'a str) -> Option<&'a str> {
+// The word of a line that is refused with this error.
+fn bad_word<'a>(
+    alloc: Global,
+    map: &Map,
+    names: &Names,
+    line: &'a str,
+    error: DrawError,
+) -> Option<&'a str> {
     for word in line.split(' ') {
-        if let Err(DrawError::NothingThere) = resolve(alloc, names, map, word.as_bytes()) {
-            return Some(word);
+        if let Err(found) = resolve(alloc, names, map, word.as_bytes()) {
+            if found == error {
+                return Some(word);
+            }
         }
     }
     None
 }
 
-// Says of which kind no item is at which place.
+// Says of which kind no item is at which place, or which word it is if that has more than one place.
 fn nothing_there(
     alloc: Global,
     map: &Map,
     names: &Names,
     line: &str,
 ) -> Result<String, AllocError> {
-    let Some(word) = empty_place(alloc, map, names, line) else {
+    let Some(word) = bad_word(alloc, map, names, line, DrawError::NothingThere) else {
         return says(alloc, 45);
     };
-    let place = match word.split_once('(') {
-        Some((_, behind)) => first_part(behind, ')'),
-        None => word,
+    let (kind, behind) = match word.split_once('(') {
+        Some((kind, behind)) => (kind, behind),
+        None => (word, ""),
     };
-    match first_part(word, '(') {
-        "$vertex" => format!(in alloc; "no vertex stands at ({place})"),
-        "$thing" => format!(in alloc; "no thing stands at ({place})"),
-        "$line" => format!(in alloc; "no line runs through ({place})"),
-        _ => format!(in alloc; "no sector is at ({place})"),
+    let place = first_part(behind, ')');
+    let is_alone = place.len() < behind.len() && behind.len() - place.len() == 1;
+    match kind {
+        "$vertex" if is_alone => format!(in alloc; "no vertex stands at ({place})"),
+        "$thing" if is_alone => format!(in alloc; "no thing stands at ({place})"),
+        "$line" if is_alone => format!(in alloc; "no line runs through ({place})"),
+        "$sector" if is_alone => format!(in alloc; "no sector is at ({place})"),
+        _ => format!(in alloc; "{word}: nothing is at a place in it"),
+    }
+}
+
+// Says which sum of a line has no value, and why.
+fn bad_sum(
+    alloc: Global,
+    map: &Map,
+    names: &Names,
+    line: &str,
+    error: DrawError,
+) -> Result<String, AllocError> {
+    match bad_word(alloc, map, names, line, error) {
+        Some(word) => format!(in alloc; "{word}: {error}"),
+        None => format!(in alloc; "{error}"),
     }
 }
 
@@ -267,10 +292,33 @@ fn reason_of_reference(
     };
     match error {
         DrawError::NothingThere => nothing_there(alloc, map, names, line),
+        DrawError::NotANumber | DrawError::NotWhole | DrawError::TooGreat | DrawError::TooDeep => {
+            bad_sum(alloc, map, names, line, error)
+        }
         DrawError::NotAReference if line.contains('(') => format!(in alloc;
             "a place is $vertex(X,Y), $line(X,Y), $sector(X,Y) or $thing(X,Y), with or without +N"
         ),
         _ => says(alloc, error.code()),
+    }
+}
+
+// Says what was wrong with the NAME WORD .. of a `let`.
+fn reason_of_let(
+    alloc: Global,
+    map: &Map,
+    names: &Names,
+    words: &[u8],
+    code: u16,
+) -> Result<String, AllocError> {
+    match code {
+        1 => format!(in alloc; "this is its form: let NAME WORD .."),
+        20 => format!(in alloc;
+            "NAME is a letter, then letters, digits and _, and no word of the language"
+        ),
+        _ => match resolve(alloc, names, map, words) {
+            Ok(_) => says(alloc, code),
+            Err(error) => reason_of_reference(alloc, map, names, words, error),
+        },
     }
 }
 
@@ -282,6 +330,9 @@ pub fn reason_of(
     line: &ScriptLine,
     code: u16,
 ) -> Result<String, AllocError> {
+    if let Some(words) = let_words(&line.text) {
+        return reason_of_let(alloc, maps.current(), names, words, code);
+    }
     let text = match resolve(alloc, names, maps.current(), &line.text) {
         Ok(text) => text,
         Err(error) => return reason_of_reference(alloc, maps.current(), names, &line.text, error),

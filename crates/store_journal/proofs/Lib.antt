@@ -1,4 +1,5 @@
 pub mod Lengths
+pub mod Groups
 pub mod Parts
 pub mod OneReading
 pub mod Kept

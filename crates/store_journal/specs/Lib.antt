@@ -1,6 +1,7 @@
 pub mod Records
 pub mod Damage
 pub mod Append
+pub mod Groups
 pub mod Payloads
 pub mod State
 pub mod View

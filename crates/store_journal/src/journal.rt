@@ -1,21 +1,23 @@
 //! A journal: a record counts if its gate is open. A closed gate follows the last record; it is on the disk before
 //! anything is written after it.
-ghost use Rattle.std.specs.Prelude.{◌≡◌, ◌≤◌, ◌<◌, ◌⊎◌, ◌↔◌, ◌+◌, [], ◌∷◌, length, slice_get, option_copied, true, false, OnOk, OnErr, IsErrOf, IfErr, IfOk};
+ghost use Rattle.std.specs.Prelude.{◌≡◌, ◌≤◌, ◌<◌, ◌⊎◌, ◌↔◌, ◌+◌, ◌-◌, ℕ, List, [], ◌∷◌, length, slice_get, option_copied, true, false, OnOk, OnErr, IsErrOf, IfErr, IfOk};
 ghost use Rattle.store_disk.specs.Moments.{LeavesOnly};
 ghost use Rattle.store_disk.specs.Stops.{CountsFaults, From, Follows, Each, LeadsBy};
-ghost use Rattle.store_disk.specs.Gates.{IsClosedAt};
+ghost use Rattle.store_disk.specs.Gates.{IsClosedAt, open_gate};
 ghost use Rattle.store_disk.specs.Files.{Failed, Torn, Written};
 ghost use Rattle.store_journal.specs.Append.{Appends, MayAppend};
 ghost use Rattle.store_journal.specs.Damage.{IsJournalDamagedAt};
+ghost use Rattle.store_journal.specs.Groups.{IsGroup, IsGroupOf};
 ghost use Rattle.store_journal.specs.Refusals.{IfGateDamaged, RefusesAppend, RefusesToOpenJournal};
 ghost use Rattle.store_disk.specs.Reading.{OnlyReads};
 ghost use Rattle.store_journal.specs.Records.{IsJournal};
 ghost use Rattle.store_journal.specs.State.{opened, journal_at, room_of, gate_of, IsAbove, IsReadyIn};
 
 use crate::JournalError;
+use crate::group::Group;
 use crate::payloads::Payloads;
 use crate::reading::read_records;
-use crate::record::{LEAST, record_len, write_record};
+use crate::record::{BLOCK, LEAST, put_block, write_records};
 use std::alloc::Global;
 use std::marker::Model;
 use store_disk::{Area, CLOSED_GATE, Disk};
@@ -156,6 +158,35 @@ impl Journal {
         (self.area.length - self.next).checked_sub(LEAST as u32)
     }
 
+    // Writes records behind the next gate, which it then opens. `behind` is what is to stand after that gate.
+    fn put<D: Disk>(&mut self, disk: &mut D, behind: &[u8]) -> Result<(), JournalError>
+        requires go { self.old.must_reopen ≡ false }
+        requires group { IsGroup (open_gate ∷ behind.now) }
+        requires room { self.old.next + length behind.now < self.old.area.length }
+        requires ready { IsReadyIn self.old (D.may_leave disk.old) }
+        ensures appended { OnOk result
+            ((more : List (List ℕ)) → IsGroupOf more (open_gate ∷ behind.now)
+            → Follows (Appends self.old.area more) (D.may_leave disk.old)
+            (D.may_leave disk.new)) }
+        ensures durable { OnOk result (Each (D.may_leave disk.new) (D.reads disk.new)) }
+        ensures next { OnOk result (self.new
+            ≡ record self.old { next = self.old.next + length behind.now; must_reopen = false }) }
+        ensures ready { IsReadyIn self.new (D.may_leave disk.new) }
+        ensures any_moment { (more : List (List ℕ)) → IsGroupOf more (open_gate ∷ behind.now)
+            → LeavesOnly D.Disk disk.old disk.new
+            (From (D.may_leave disk.old) (MayAppend self.old.area more)) }
+        ensures device { IfErr result (λ e. (e ≡ JournalError.Device)
+            × (self.new ≡ record self.old { must_reopen = true })) }
+        ensures count { CountsFaults JournalError.Device (D.failures disk.old)
+            (D.failures disk.new) result }
+    {
+        self.must_reopen = true;
+        write_records(disk, self.area, self.next, behind)?;
+        self.next += behind.len() as u32;
+        self.must_reopen = false;
+        Ok(())
+    }
+
     /// Appends a payload of at most 256 bytes; it is on the device when the call returns. The call allocates no memory
     /// and makes four device calls.
     ///
@@ -167,7 +198,7 @@ impl Journal {
 
         // After an Ok each file that a stop may leave has the record, and the journal can take the next one.
         ensures appended { OnOk result
-            (Follows (Appends self.old.area payload.now) (D.may_leave disk.old)
+            (Follows (Appends self.old.area (payload.now ∷ [])) (D.may_leave disk.old)
             (D.may_leave disk.new)) }
         ensures durable { OnOk result (Each (D.may_leave disk.new) (D.reads disk.new)) }
         ensures next { OnOk result (self.new
@@ -179,7 +210,7 @@ impl Journal {
 
         // A stop at any moment of the call leaves the earlier records, with or without the new one.
         ensures any_moment { LeavesOnly D.Disk disk.old disk.new
-            (From (D.may_leave disk.old) (MayAppend self.old.area payload.now)) }
+            (From (D.may_leave disk.old) (MayAppend self.old.area (payload.now ∷ []))) }
 
         ensures device { IsErrOf result JournalError.Device
             → (self.new ≡ record self.old { must_reopen = true }) }
@@ -199,11 +230,56 @@ impl Journal {
             Some(room) if payload.len() <= room as usize => {}
             _ => return Err(JournalError::JournalFull),
         }
-        self.must_reopen = true;
-        write_record(disk, self.area, self.next, payload)?;
-        self.next += record_len(payload) as u32;
-        self.must_reopen = false;
-        Ok(())
+        let mut block = [0; BLOCK];
+        put_block(&mut block, payload);
+        self.put(disk, &block[..payload.len() + 5])
+    }
+
+    /// Appends the payloads of a group; all of them are on the device when the call returns. Like `append` it allocates
+    /// no memory and makes four device calls.
+    ///
+    /// After a `Device` each call is refused with `Reopen`. Otherwise the refusal is `JournalFull` exactly if the group
+    /// is more than six bytes longer than `room`, which leaves those out. Both come before any device call.
+    pub fn append_all<D: Disk>(&mut self, disk: &mut D, group: &Group) -> Result<(), JournalError>
+        requires some { 1 < length group.now }
+        requires ready { IsReadyIn self.old (D.may_leave disk.old) }
+
+        // After an Ok each file that a stop may leave has the records, and the journal can take the next one.
+        ensures appended { OnOk result ((more : List (List ℕ)) → IsGroupOf more group.now
+            → Follows (Appends self.old.area more) (D.may_leave disk.old)
+            (D.may_leave disk.new)) }
+        ensures durable { OnOk result (Each (D.may_leave disk.new) (D.reads disk.new)) }
+        ensures next { OnOk result (self.new
+            ≡ record self.old {
+              next = self.old.next + (length group.now - 1);
+              must_reopen = false;
+            }) }
+        ensures ready { IsReadyIn self.new (D.may_leave disk.new) }
+
+        // A stop at any moment of the call leaves the earlier records, with or without all of the new ones.
+        ensures any_moment { (more : List (List ℕ)) → IsGroupOf more group.now
+            → LeavesOnly D.Disk disk.old disk.new
+            (From (D.may_leave disk.old) (MayAppend self.old.area more)) }
+
+        ensures device { IsErrOf result JournalError.Device
+            → (self.new ≡ record self.old { must_reopen = true }) }
+        ensures reopen { IsErrOf result JournalError.Reopen ↔ (self.old.must_reopen ≡ true) }
+        ensures full { IsErrOf result JournalError.JournalFull ↔ ((self.old.must_reopen ≡ false)
+            × IsAbove (room_of self.old) (length group.now - 6)) }
+        ensures nothing { IfErr result (λ e.
+            (e ≡ JournalError.Device) ⊎ ((disk.new ≡ disk.old) × (self.new ≡ self.old))) }
+        ensures no_other { IfErr result RefusesAppend }
+        ensures count { CountsFaults JournalError.Device (D.failures disk.old)
+            (D.failures disk.new) result }
+    {
+        if self.must_reopen {
+            return Err(JournalError::Reopen);
+        }
+        match self.room() {
+            Some(room) if group.len() <= room as usize + LEAST as usize => {}
+            _ => return Err(JournalError::JournalFull),
+        }
+        self.put(disk, group.behind())
     }
 }
 

@@ -2,6 +2,7 @@
 #![tactic(auto)]
 
 mod error;
+mod group;
 mod journal;
 mod law;
 mod payloads;
@@ -9,6 +10,7 @@ mod reading;
 mod record;
 
 pub use error::JournalError;
+pub use group::Group;
 pub use journal::{Journal, blank};
 pub use law::{begin_in_their_area, stand_by_themselves, stand_for_one_list};
 pub use reading::Reader;

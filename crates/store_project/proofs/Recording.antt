@@ -18,12 +18,20 @@ use Rattle.store_project.specs.Turns.{KeepsHeader}
 use Rattle.store_project.specs.declared.places.Parts.{Parts}
 use Rattle.store_project.proofs.Placing.{header_kept}
 
+pub leads_append : (cap : ℕ) (old : ProjectMaps) (lines more : List (List ℕ)) (mid new : ProjectMaps)
+    → Leads cap old lines mid → Leads cap mid more new → Leads cap old (lines ++ more) new
+leads_append cap old [] more mid new leads further = subst (λ (m : ProjectMaps). Leads cap m more new) leads further
+leads_append cap old (l ∷ lines) more mid new leads further = (leads.0, leads.1, leads_append cap leads.0 lines more mid new leads.2 further)
+
+-- one line
+pub leads_one : (cap : ℕ) (old : ProjectMaps) (line : List ℕ) (new : ProjectMaps) → LeadsTo cap old line new → Leads cap old (line ∷ []) new
+leads_one cap old line new leads = (new, leads, refl)
+
 pub leads_push : (cap : ℕ) (old : ProjectMaps) (lines : List (List ℕ)) (line : List ℕ) (mid new : ProjectMaps)
     → Leads cap old lines mid → LeadsTo cap mid line new → Leads cap old (lines ++ line ∷ []) new
-leads_push cap old [] line mid new leads more = (new, subst (λ (m : ProjectMaps). LeadsTo cap m line new) leads more, refl)
-leads_push cap old (l ∷ lines) line mid new leads more = (leads.0, leads.1, leads_push cap leads.0 lines line mid new leads.2 more)
+leads_push cap old lines line mid new leads more = leads_append cap old lines (line ∷ []) mid new leads (leads_one cap mid line new more)
 
-module _ (cap g : ℕ) (q : Parts) (order : IsInOrder q) (area : Area) (is : area ≡ q.journal) (line : List ℕ) where
+module _ (cap g : ℕ) (q : Parts) (order : IsInOrder q) (area : Area) (is : area ≡ q.journal) (more : List (List ℕ)) where
   stands_with : (map now : ProjectMaps) (old new : List ℕ) → KeepsOutside area.base area.length old new → (st : StandsAt cap q map g old)
       → (lines : List (List ℕ)) → IsJournal area lines new → Leads cap st.base lines now → StandsAt cap q now g new
   stands_with map now old new keeps st lines journal leads =
@@ -43,15 +51,15 @@ module _ (cap g : ℕ) (q : Parts) (order : IsInOrder q) (area : Area) (is : are
   of_journal : (lines : List (List ℕ)) (file : List ℕ) → IsJournal q.journal lines file → IsJournal area lines file
   of_journal lines file journal = subst (λ (a : Area). IsJournal a lines file) (sym is) journal
 
-  pub appended : (map next : ProjectMaps) (old new : List ℕ) → LeadsTo cap map line next → Appends area line old new → StandsAt cap q map g old → StandsAt cap q next g new
+  pub appended : (map next : ProjectMaps) (old new : List ℕ) → Leads cap map more next → Appends area more old new → StandsAt cap q map g old → StandsAt cap q next g new
   appended map next old new leads step st =
-      stands_with map next old new step.keeps st (st.lines ++ line ∷ []) (step.journal st.lines (of_journal st.lines old st.journal)) (leads_push cap st.base st.lines line map next st.leads leads)
+      stands_with map next old new step.keeps st (st.lines ++ more) (step.journal st.lines (of_journal st.lines old st.journal)) (leads_append cap st.base st.lines more map next st.leads leads)
 
-  pub may_append : (map next : ProjectMaps) (old new : List ℕ) → LeadsTo cap map line next → MayAppend area line old new
+  pub may_append : (map next : ProjectMaps) (old new : List ℕ) → Leads cap map more next → MayAppend area more old new
       → StandsAt cap q map g old → StandsAt cap q map g new ⊎ StandsAt cap q next g new
   may_append map next old new leads step st =
       ⊎_elim (λ same. inl (stands_with map map old new step.keeps st st.lines same st.leads))
-      (λ more. inr (stands_with map next old new step.keeps st (st.lines ++ line ∷ []) more (leads_push cap st.base st.lines line map next st.leads leads)))
+      (λ longer. inr (stands_with map next old new step.keeps st (st.lines ++ more) longer (leads_append cap st.base st.lines more map next st.leads leads)))
       (step.journal st.lines (of_journal st.lines old st.journal))
 
   pub append_header : (old new : List ℕ) → KeepsOutside area.base area.length old new → KeepsHeader old new

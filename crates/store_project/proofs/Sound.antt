@@ -1,5 +1,5 @@
 -- What a change of the live slot, and an append, make of a project that is sound.
-use Rattle.std.proofs.Common.{◌≡◌, inl, inr, ⊎_elim, ◌<◌, ◌≤◌, ◌+◌, ℕ, Bool, true, false, List, [], ◌∷◌, length, eqb, cond, Option, None, Some, Result, Ok, Err, nat_lt, ◌&&◌, refl, sym, ◌∙◌, ap, subst, arith}
+use Rattle.std.proofs.Common.{◌≡◌, ◌⊎◌, inl, inr, ⊎_elim, ◌<◌, ◌≤◌, ◌+◌, ℕ, Bool, true, false, List, [], ◌∷◌, length, eqb, cond, Option, None, Some, Result, Ok, Err, nat_lt, ◌&&◌, refl, sym, ◌∙◌, ap, subst, arith}
 use Rattle.std.specs.Option.{is_none}
 use Rattle.std.proofs.lemmas.Bool.{true≢false}
 use Rattle.std.proofs.lemmas.Bool.Decides.{nat_tests}
@@ -19,7 +19,7 @@ use Rattle.map_commands.specs.declared.project.command.ProjectCommand.{ProjectCo
 use Rattle.map_commands.proofs.ProjectSteps.{none-of-both}
 use Rattle.store_project.specs.Places.{IsInOrder, cap_of, which_parts}
 use Rattle.store_project.specs.Stands.{HasGeometry, Stands, StandsAt, StandsFor, IsOutcome}
-use Rattle.map_commands.specs.ProjectLines.{LeadsTo}
+use Rattle.map_commands.specs.ProjectLines.{Leads, LeadsTo}
 use Rattle.store_project.specs.States.{State, IsProjectKept}
 use Rattle.store_project.specs.Turns.{turned, KeepsHeader, MayTurn, Turns}
 use Rattle.store_project.specs.Fields.{project_state, parts_in, IsProjectFramed, IsReady, IsProjectSound}
@@ -28,7 +28,7 @@ use Rattle.store_project.specs.declared.places.Parts.{Parts}
 use Rattle.store_project.specs.declared.project.Project.TheInside.{Inside}
 use Rattle.store_project.proofs.Placing.{in_order, tells_parts, geometry_kept, other_length}
 use Rattle.store_project.proofs.Bodies.{project_size}
-use Rattle.store_project.proofs.Recording.{appended, may_append, append_header, slots_kept}
+use Rattle.store_project.proofs.Recording.{appended, leads_one, may_append, append_header, slots_kept}
 use Rattle.store_disk.specs.Files.{KeepsOutside}
 use Rattle.store_disk.specs.Areas as areas
 use Rattle.store_disk.specs.declared.disk.Disk.{Ghosts}
@@ -194,21 +194,32 @@ module _ {D : Type 0} (facts : Ghosts D) (p : Inside D) (framed : IsProjectFrame
         }
 
     -- during an append
-    pub append_moments : (new : D) (line : List ℕ) (next : ProjectMaps) → LeadsTo cap (project_of p.maps) line next
-        → LeavesOnly facts p.disk new (From (facts.may_leave p.disk) (MayAppend p.journal.area line)) → LeavesOnly facts p.disk new (IsOutcome cap (project_of p.maps) line)
-    append_moments new line next leads leaves = weaker facts p.disk new (From (facts.may_leave p.disk) (MayAppend p.journal.area line)) (IsOutcome cap (project_of p.maps) line) leaves
+    pub append_moments : (new : D) (more : List (List ℕ)) (next : ProjectMaps) → Leads cap (project_of p.maps) more next
+        → LeavesOnly facts p.disk new (From (facts.may_leave p.disk) (MayAppend p.journal.area more))
+        → LeavesOnly facts p.disk new (λ file. StandsFor cap (project_of p.maps) file ⊎ StandsFor cap next file)
+    append_moments new more next leads leaves =
+        weaker facts p.disk new (From (facts.may_leave p.disk) (MayAppend p.journal.area more)) (λ file. StandsFor cap (project_of p.maps) file ⊎ StandsFor cap next file) leaves
         (λ file from.
-        let has = kept_header from.0 file (append_header cap g q order p.journal.area framed.journal line from.0 file from.2.keeps) (ready.geometry from.0 from.1) in
-        ⊎_elim (λ same. inl (g, stands_here (project_of p.maps) file has same)) (λ more. inr (next, leads, (g, stands_here next file has more)))
-        (may_append cap g q order p.journal.area framed.journal line (project_of p.maps) next from.0 file leads from.2 (ready.stands from.0 from.1)))
+        let has = kept_header from.0 file (append_header cap g q order p.journal.area framed.journal more from.0 file from.2.keeps) (ready.geometry from.0 from.1) in
+        ⊎_elim (λ same. inl (g, stands_here (project_of p.maps) file has same)) (λ longer. inr (g, stands_here next file has longer))
+        (may_append cap g q order p.journal.area framed.journal more (project_of p.maps) next from.0 file leads from.2 (ready.stands from.0 from.1)))
+
+    -- of one line
+    pub line_moments : (new : D) (line : List ℕ) (next : ProjectMaps) → LeadsTo cap (project_of p.maps) line next
+        → LeavesOnly facts p.disk new (From (facts.may_leave p.disk) (MayAppend p.journal.area (line ∷ []))) → LeavesOnly facts p.disk new (IsOutcome cap (project_of p.maps) line)
+    line_moments new line next leads leaves =
+        weaker facts p.disk new (λ file. StandsFor cap (project_of p.maps) file ⊎ StandsFor cap next file) (IsOutcome cap (project_of p.maps) line)
+        (append_moments new (line ∷ []) next (leads_one cap (project_of p.maps) line next leads) leaves)
+        (λ file stands. ⊎_elim (λ same. inl same) (λ longer. inr (next, leads, longer)) stands)
 
     -- and after it
-    pub sound_recorded : (new : D) (j : journal.JournalState) (m : MapsView) (line : List ℕ) (next : ProjectMaps) → LeadsTo cap (project_of p.maps) line next → project_of m ≡ next → body_len next ≤ cap
-        → Follows (Appends p.journal.area line) (facts.may_leave p.disk) (facts.may_leave new) → j
-        ≡ record p.journal { next = p.journal.next + 5 + length line; must_reopen = false }
+    pub sound_recorded : (new : D) (j : journal.JournalState) (end : ℕ) (m : MapsView) (more : List (List ℕ)) (next : ProjectMaps) → Leads cap (project_of p.maps) more next
+        → project_of m ≡ next → body_len next ≤ cap
+        → Follows (Appends p.journal.area more) (facts.may_leave p.disk) (facts.may_leave new)
+        → j ≡ record p.journal { next = end; must_reopen = false }
         → journal.IsReadyIn j (facts.may_leave new)
         → IsProjectSound facts (record p { disk = new; journal = j; maps = m })
-    sound_recorded new j m line next leads map_is short appends journal_is ends =
+    sound_recorded new j end m more next leads map_is short appends journal_is ends =
         let area : j.area ≡ p.journal.area = ap (λ (k : journal.JournalState). k.area) journal_is in
         let go : j.must_reopen ≡ false = ap (λ (k : journal.JournalState). k.must_reopen) journal_is in
         record {
@@ -225,11 +236,11 @@ module _ {D : Type 0} (facts : Ghosts D) (p : Inside D) (framed : IsProjectFrame
             journal = go;
             geometry = λ file left.
                 let from = appends file left in
-                kept_header from.0 file (append_header cap g q order p.journal.area framed.journal line from.0 file from.2.keeps) (ready.geometry from.0 from.1);
+                kept_header from.0 file (append_header cap g q order p.journal.area framed.journal more from.0 file from.2.keeps) (ready.geometry from.0 from.1);
             stands = λ file left.
                 let from = appends file left in
                 subst (λ (t : ProjectMaps). StandsAt cap q t g file) (sym map_is)
-                (appended cap g q order p.journal.area framed.journal line (project_of p.maps) next from.0 file leads from.2 (ready.stands from.0 from.1));
+                (appended cap g q order p.journal.area framed.journal more (project_of p.maps) next from.0 file leads from.2 (ready.stands from.0 from.1));
             slots = λ file left.
                 let from = appends file left in
                 let has = ready.slots from.0 from.1 in (

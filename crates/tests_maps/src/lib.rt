@@ -29,3 +29,5 @@ mod maptables;
 mod picture;
 #[cfg(test)]
 mod shapes;
+#[cfg(test)]
+mod stops;

@@ -9,7 +9,7 @@ use std::alloc::Global;
 use std::test::Fail;
 
 // The warnings as text, one on each line.
-fn report(alloc: Global, map: &Map) -> Result<String, Fail> {
+pub fn report(alloc: Global, map: &Map) -> Result<String, Fail> {
     let mut text = String::new(alloc);
     for warning in &lint(alloc, map)? {
         writeln!(text, "{warning}")?;
@@ -17,7 +17,10 @@ fn report(alloc: Global, map: &Map) -> Result<String, Fail> {
     Ok(text)
 }
 
-const START: &[u8] = b"thing 64 64 90 1 7";
+pub const START: &[u8] = b"thing 64 64 90 1 7";
+
+// The brain of a boss, whose death ends the level.
+pub const BRAIN: &[u8] = b"thing 100 100 90 88 7";
 
 const STARTS: [&[u8]; 5] = [
     START,
@@ -34,10 +37,10 @@ const REVERSED: [&[u8]; 5] = [
     b"set-line 0 1 0 1 0 0 0 -", b"set-line 1 2 1 1 0 0 1 -", b"set-line 2 3 2 1 0 0 2 -", b"set-line 3 0 3 1 0 0 3 -",
 ];
 
-// A door that needs no tag, a lift without a tag, a lift whose tag no sector has, and a lift with the tag of a sector.
+// A switch that needs no tag, a lift without a tag, a lift whose tag no sector has, and one with the tag of a sector.
 #[rattlefmt::skip]
 const LIFTS: [&[u8]; 6] = [
-    START, b"set-line 0 0 1 1 1 0 0 -", b"set-line 1 1 2 1 62 0 1 -", b"set-line 2 2 3 1 62 7 2 -",
+    START, b"set-line 0 0 1 1 11 0 0 -", b"set-line 1 1 2 1 62 0 1 -", b"set-line 2 2 3 1 62 7 2 -",
     b"set-line 3 3 0 1 62 5 3 -", b"set-sector 0 0 128 FLOOR4_8 CEIL3_5 160 0 5",
 ];
 
@@ -69,8 +72,8 @@ const TRIANGLE: [&[u8]; 6] = [
     ROOM, START, SECTOR, b"vertex 32 32", b"vertex 96 32", b"vertex 96 64",
 ];
 
-// Lines that draw a map, further lines, and its warnings. Line 0 of a room goes from (0,0) to (0,128), and so on
-// clockwise.
+// Lines that draw a map, further lines, and its warnings; the brain of a boss is drawn last. Line 0 of a room goes from
+// (0,0) to (0,128), and so on clockwise.
 #[rattlefmt::skip]
 const REPORTS: &[(&[&[u8]], &[&[u8]], &str)] = &[
     (&[ROOM], &[START], ""),
@@ -90,7 +93,7 @@ const REPORTS: &[(&[&[u8]], &[&[u8]], &str)] = &[
     (&TWO_ROOMS, &[START, b"set-side 4 0 0 - STEP1 - 0"],
         "texture-hidden 2 at (128,128) (128,0)\n"),
     (&TWO_ROOMS, &[START, b"set-side 4 0 0 - - MIDGRATE 0"], ""),
-    (&[ROOM], &REVERSED, "sector-inside-out 0\nthing-outside 0 at (64,64)\n"),
+    (&[ROOM], &REVERSED, "sector-inside-out 0\nthing-outside 0 at (64,64)\nthing-outside 1 at (100,100)\n"),
     // a sector without a line, with lines that have it on both sides, inside out, and the right way round
     (&[ROOM], &[START, SECTOR], ""),
     (&TRIANGLE, &[b"side 0 0 - - - 1", b"line 4 5 4 0 0 4 4", b"line 5 6 4 0 0 4 4", b"line 6 4 4 0 0 4 4"], ""),
@@ -130,24 +133,30 @@ const REPORTS: &[(&[&[u8]], &[&[u8]], &str)] = &[
     (&TWO_ROOMS, &[START, b"thing 128 64 90 2001 7"], ""),
 ];
 
-// The warnings of the map that the lines and the further lines draw.
-fn report_of(alloc: Global, lines: &[&[u8]], further: &[&[u8]]) -> Result<String, Fail> {
+// The warnings of the map that the lines, the further lines and the last ones draw.
+pub fn report_of(
+    alloc: Global,
+    lines: &[&[u8]],
+    further: &[&[u8]],
+    last: &[&[u8]],
+) -> Result<String, Fail> {
     let mut maps = drawn(alloc, lines)?;
     draw(&mut maps, further)?;
+    draw(&mut maps, last)?;
     report(alloc, maps.current())
 }
 
 #[test]
 fn maps_have_their_warnings(rt: HostRuntime) -> Result<(), Fail> {
     for &(lines, further, warnings) in REPORTS {
-        let found = report_of(rt.alloc(), lines, further)?;
+        let found = report_of(rt.alloc(), lines, further, &[BRAIN])?;
         same(&rt, &found.as_str(), &warnings);
     }
     Ok(())
 }
 
-// The warnings of a room without a start and with a thing outside it.
-const FOUND: [Warning; 2] = [
+// The warnings of a room without a start or an exit, and with a thing outside it.
+const FOUND: [Warning; 3] = [
     Warning {
         rule: Rule::PlayerStart,
         number: 1,
@@ -157,6 +166,11 @@ const FOUND: [Warning; 2] = [
         rule: Rule::ThingInside,
         number: 0,
         whereabouts: Whereabouts::At(Vertex { x: 200, y: 64 }),
+    },
+    Warning {
+        rule: Rule::LevelEnds,
+        number: 0,
+        whereabouts: Whereabouts::Unplaced,
     },
 ];
 

@@ -6,23 +6,24 @@ use crate::project_file::{Ended, over_file};
 use std::fs;
 use std::test::Fail;
 
-// The lines that draw a project, and the status and the output of `lint`. In a room with a start it finds nothing. A
-// vertex without a line is a finding; a thing of a type that Doom doesn't have is a warning.
+// The lines that draw a project, and the status and the output of `lint`. In a room with a start and the brain of a
+// boss, whose death ends the level, it finds nothing. A vertex without a line is a finding; a thing of a type that Doom
+// doesn't have is a warning.
 const ROWS: &[(&[u8], u8, &[u8])] = &[
     (
-        b"room 0 0 256 256 0 128 FLOOR4_8 CEIL3_5 STARTAN3 160\nthing 64 64 0 1 7\n",
+        b"room 0 0 256 256 0 128 FLOOR4_8 CEIL3_5 STARTAN3 160\nthing 64 64 0 1 7\nthing 128 128 0 88 7\n",
         0,
         b"findings 0\n",
     ),
     (
-        b"room 0 0 256 256 0 128 FLOOR4_8 CEIL3_5 STARTAN3 160\nthing 64 64 0 1 7\n\
+        b"room 0 0 256 256 0 128 FLOOR4_8 CEIL3_5 STARTAN3 160\nthing 64 64 0 1 7\nthing 128 128 0 88 7\n\
           thing 192 192 0 9999 7\nvertex 512 0\n",
         3,
-        b"MAP01 vertex 4 unused\nMAP01 thing-type-unknown 1 at (192,192)\nfindings 2\n",
+        b"MAP01 vertex 4 unused\nMAP01 thing-type-unknown 2 at (192,192)\nfindings 2\n",
     ),
     (
-        b"room 0 0 256 256 0 128 FLOOR4_8 CEIL3_5 STARTAN3 160\nthing 64 64 0 1 7\n\
-          map MAP02\nroom 0 0 256 256 0 128 FLOOR4_8 CEIL3_5 STARTAN3 160\nthing 64 64 0 1 7\n\
+        b"room 0 0 256 256 0 128 FLOOR4_8 CEIL3_5 STARTAN3 160\nthing 64 64 0 1 7\nthing 128 128 0 88 7\n\
+          map MAP02\nroom 0 0 256 256 0 128 FLOOR4_8 CEIL3_5 STARTAN3 160\nthing 64 64 0 1 7\nthing 128 128 0 88 7\n\
           vertex 512 0\nmap MAP01\n",
         3,
         b"MAP02 vertex 4 unused\nfindings 1\n",
@@ -52,7 +53,8 @@ fn says_what_is_found_in_each_map(rt: HostRuntime) -> Result<(), Fail> {
 // Two maps. The first has a vertex without a line, and a ceiling that is no flat of the WAD; the second has a sky, and
 // a wall that is no texture of the WAD.
 const NAMES: &[u8] = b"room 0 0 256 256 0 128 FLOOR4_8 CEIL3_5 STARTAN3 160\nthing 64 64 0 1 7\n\
-    vertex 512 0\nmap MAP02\nroom 0 0 256 256 0 128 FLOOR4_8 F_SKY1 STARTAN3 160\nthing 64 64 0 1 7\n\
+    thing 128 128 0 88 7\nvertex 512 0\nmap MAP02\n\
+    room 0 0 256 256 0 128 FLOOR4_8 F_SKY1 STARTAN3 160\nthing 64 64 0 1 7\nthing 128 128 0 88 7\n\
     set-side 2 0 0 - - STARTAN2 0\n";
 
 // A WAD with the flat FLOOR4_8 and the texture STARTAN3, and the same with the texture's name outside its lump.

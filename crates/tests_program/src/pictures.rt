@@ -31,7 +31,7 @@ const NUMBERED: &[u8] = br#"<rect class="page" x="-64" y="-64" width="128" heigh
 "#;
 
 // The part after the style with marks for what `lint` prints: at the vertex, that no line uses it; and in the corner,
-// that there is no start, as a finding and as a warning.
+// that there is no start, as a finding and as a warning, and no exit.
 const LINTED: &[u8] = br#"<rect class="page" x="-64" y="-64" width="128" height="128"/>
 <path id="vertex0" class="vertex" d="M0 0h0"><title>vertex 0: 0 0</title></path>
 <g id="lint0" class="lint">
@@ -42,6 +42,9 @@ const LINTED: &[u8] = br#"<rect class="page" x="-64" y="-64" width="128" height=
 <path d="M-64 -64m32 32h0"/></g>
 <g id="lint2" class="lint">
 <title>no-start 1</title>
+<path d="M-64 -64m32 32h0"/></g>
+<g id="lint3" class="lint">
+<title>no-exit 0</title>
 <path d="M-64 -64m32 32h0"/></g>
 </svg>
 "#;

@@ -57,25 +57,25 @@ pub fn wad_of(alloc: Global, levels: &[Level]) -> Result<Vec<u8>, Fail> {
 // A call of the program: its arguments, its status, its output, and its standard error.
 type Call = (&'static [&'static str], u8, &'static [u8], &'static [u8]);
 
-// The calls. A room without a start has a finding and a warning for that.
+// The calls. A room without a start has a finding and a warning for that; no room has an exit.
 const CALLS: &[Call] = &[
     (
         &["leveled", "lint", "levels.wad"],
         3,
-        b"MAP01 no player start\nMAP01 no-start 1\n\
-          E1M2 no-map LINEDEFS is no whole number of records\nfindings 3\n",
+        b"MAP01 no player start\nMAP01 no-start 1\nMAP01 no-exit 0\nE1M1 no-exit 0\n\
+          E1M2 no-map LINEDEFS is no whole number of records\nMAP01 no-exit 0\nfindings 6\n",
         b"",
     ),
     (
         &["leveled", "lint", "levels.wad", "E1M1"],
-        0,
-        b"findings 0\n",
+        3,
+        b"E1M1 no-exit 0\nfindings 1\n",
         b"",
     ),
     (
         &["leveled", "lint", "levels.wad", "MAP01"],
-        0,
-        b"findings 0\n",
+        3,
+        b"MAP01 no-exit 0\nfindings 1\n",
         b"",
     ),
     (
@@ -136,7 +136,7 @@ const CALLS: &[Call] = &[
     (
         &["leveled", "lint", "levels.lv", "MAP01"],
         3,
-        b"MAP01 no player start\nMAP01 no-start 1\nfindings 2\n",
+        b"MAP01 no player start\nMAP01 no-start 1\nMAP01 no-exit 0\nfindings 3\n",
         b"",
     ),
     (

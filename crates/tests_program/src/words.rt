@@ -21,7 +21,7 @@ const WORDS: &[(&[&str], i32, &str)] = &[
     (&["leveled", "scratch", "x"], 2, "unexpected argument 'x'"),
     (&["leveled", "--slot"], 2, "unexpected argument '--slot'"),
     (&["leveled", "--help"], 0, "Usage: leveled <COMMAND>"),
-    (&["leveled", "--version"], 0, "leveled 0.1.0"),
+    (&["leveled", "--version"], 0, "leveled 1.0.0"),
 ];
 
 // The status with which clap answers these arguments, and whether its text contains the part.

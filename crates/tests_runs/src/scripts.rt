@@ -47,6 +47,9 @@ const SCRIPTS: &[(&[u8], bool, &[u8], &[u8])] = &[
         b"1: ok 0\n2: ok 2\n3: ok 4\n4: ok 0\n5: ok 0\n6: ok 0\n",
         b"level.txt:7: door 0 BIGDOOR2 DOORTRAK: 29 NoDoor\n  \
         no line has sector 0 on one side and another sector on the other\n"),
+    (b"let w 64\nlet stone 0 128 FLOOR4_8 CEIL3_5 STARTAN3 160\narea $stone 0 0 0 2*$w 2*$w 2*$w 2*$w 0\n\
+        change sector 0 LIGHT=$w-8\nwall = split $line($w,0) $w 0\nthing $w $w/2 90 1 7\ncount", true,
+        b"3: ok 0\n4: ok 0\n5: ok 4\n6: ok 0\nvertices 5 sectors 1 sides 4 lines 5 things 1\n", b""),
     (b"vertex 0 0\ncount\nsplt 2 256 160\nvertex 9 9\ncount\n", false,
         b"vertices 1 sectors 0 sides 0 lines 0 things 0\n",
         b"level.txt:3: splt 2 256 160: 1 NotACommand\n  perhaps this is meant: split LINE X Y\n"),
@@ -105,11 +108,15 @@ const REFUSED: &[(&[u8], &[u8])] = &[
     (b"line $vertex(0,0) $vertex(0,1) 1 0 0 0 -", b"45 NothingThere\n  no vertex stands at (0,1)\n"),
     (b"drop thing $thing(-1,99999)", b"45 NothingThere\n  no thing stands at (-1,99999)\n"),
     (b"drop sector $sector(40,5)", b"45 NothingThere\n  no sector is at (40,5)\n"),
-    (b"drop line $line(16,05)",
-        b"21 NotAReference\n  a place is $vertex(X,Y), $line(X,Y), $sector(X,Y) or $thing(X,Y), with or without +N\n"),
+    (b"vertex ($vertex(4,4)+1)*2 0", b"45 NothingThere\n  ($vertex(4,4)+1)*2: nothing is at a place in it\n"),
+    (b"drop line $line(16,05)", b"46 BadSum\n  $line(16,05): a part of the sum isn't a number\n"),
     (b"drop side $side(16,5)",
         b"21 NotAReference\n  a place is $vertex(X,Y), $line(X,Y), $sector(X,Y) or $thing(X,Y), with or without +N\n"),
     (b"drop-map MAP01", b"19 CurrentMap\n  the map is the current one\n"),
+    (b"let x", b"1 NotACommand\n  this is its form: let NAME WORD ..\n"),
+    (b"let line 3", b"20 NotAName\n  NAME is a letter, then letters, digits and _, and no word of the language\n"),
+    (b"let x 3 $v/0", b"46 BadSum\n  $v/0: a quotient of the sum isn't a whole number\n"),
+    (b"vertex $v*2 $v+01", b"46 BadSum\n  $v+01: a part of the sum isn't a number\n"),
     (b"split $hal 0 0", b"22 UnknownName\n  no line before has this name\n"),
 ];
 

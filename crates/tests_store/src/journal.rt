@@ -64,8 +64,8 @@ fn bytes_from<D: Disk>(alloc: Global, disk: &mut D, at: u64) -> Result<Vec<u8>, 
     Ok(bytes)
 }
 
-// The disk has these bytes from an offset to its end.
-fn expect_bytes<D: Disk>(
+/// The disk has these bytes from an offset to its end.
+pub fn expect_bytes<D: Disk>(
     rt: &impl Abort,
     alloc: Global,
     disk: &mut D,

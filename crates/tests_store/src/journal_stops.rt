@@ -90,9 +90,9 @@ fn expect_stops(
     Ok(())
 }
 
-// A disk with a journal of one record, whose k-th call after the opening fails, none if `k` is 0. The 11 calls before
-// that are two to blank the journal, four to append the first record, and five to open the journal.
-fn disk_with_first(alloc: Global, k: u64, part: u32) -> Result<Failing, Fail> {
+/// A disk with a journal of one record, whose k-th call after the opening fails, none if `k` is 0. The 11 calls before
+/// that are two to blank the journal, four to append the first record, and five to open the journal.
+pub fn disk_with_first(alloc: Global, k: u64, part: u32) -> Result<Failing, Fail> {
     let call = if k == 0 { 0 } else { k.saturating_add(11) };
     let mut disk = failing(alloc, call, part)?;
     begin(&mut disk)?;

@@ -10,6 +10,8 @@ mod expect;
 #[cfg(test)]
 mod file_disk;
 #[cfg(test)]
+mod group_stops;
+#[cfg(test)]
 mod journal;
 #[cfg(test)]
 mod journal_stops;

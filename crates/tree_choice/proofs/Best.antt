@@ -19,7 +19,7 @@ use Rattle.tree_pieces.proofs.Stops.{rights, lefts, splits, rights_near, lefts_n
 use Rattle.tree_choice.specs.declared.choice.Choice.{Choice}
 use Rattle.tree_choice.specs.declared.counts.Counts.{Counts}
 use Rattle.tree_choice.specs.Counts.{AreCounts, cost_by}
-use Rattle.tree_choice.specs.SoFar.{IsBestBefore, SoFar, limit_by, taken_in}
+use Rattle.tree_choice.specs.SoFar.{IsBestBefore, SoFar, IsBound, limit_by, taken_in}
 
 -- what stands at a place of a list
 pub stands_at : {X : Type 0} (xs : List X) (n : ℕ) (d : X) → n < length xs → slice_get xs n ≡ Some (get_or xs n d)
@@ -51,8 +51,8 @@ kept l a b e = grind (arith, nat_tests)
 better : (l a b : ℕ) → (nat_eq l 0 || nat_le a b) ≡ false → (0 < l) × (b < a)
 better l a b e = grind (arith, nat_tests)
 
-module _ (lines : List Edge) (ps : List Piece) (used : List Bool) (n : ℕ) (p : Piece) (at : slice_get ps n ≡ Some p) where
-  limit_is : (c : Choice) → (b : IsBestBefore lines ps used n c) → limit_by (Some c) ≡ cost lines b.piece ps
+module _ (lines : List Edge) (ps : List Piece) (used : List Bool) (bound n : ℕ) (p : Piece) (at : slice_get ps n ≡ Some p) where
+  limit_is : (c : Choice) → (b : IsBestBefore lines ps used n c) → limit_by bound (Some c) ≡ cost lines b.piece ps
   limit_is c b = by_numbers _ _ _ _ _ _ b.splits b.right b.left
     where
       by_numbers : (s r l S R L : ℕ) → s ≡ S → r ≡ R → l ≡ L → 8 * s + ((r - l) + (l - r)) ≡ 8 * S + ((R - L) + (L - R))
@@ -66,12 +66,12 @@ module _ (lines : List Edge) (ps : List Piece) (used : List Bool) (n : ℕ) (p :
       same s = let f = ap (slice_get ps) s in let g : Some p ≡ Some q = sym at ∙ sym f ∙ e in cc
 
   -- p costs too much, or is no candidate: the best stays
-  pub stays : (best : Option Choice) → length ps < 2 ^ 32 → SoFar lines ps used n best → (IsCandidate lines ps used p → limit_by best ≤ cost lines p ps) → SoFar lines ps used (n + 1) best
-  stays None few before dear =
-      λ j q h e k. ⊎_elim (λ l. before j q l e k) (λ s. let d =
-      dear (subst (IsCandidate lines ps used) (sym s) k) in let m = cost_small lines p ps in absurd (omega arith))
+  pub stays : (best : Option Choice) → SoFar lines ps used bound n best → (IsCandidate lines ps used p → limit_by bound best ≤ cost lines p ps) → SoFar lines ps used bound (n + 1) best
+  stays None before dear =
+      λ j q h e k. ⊎_elim (λ l. before j q l e k)
+      (λ t. subst (λ (x : Piece). bound ≤ cost lines x ps) t (dear (subst (IsCandidate lines ps used) (sym t) k)))
       (earlier_or_here j q h e)
-  stays (Some c) few b dear = record {
+  stays (Some c) b dear = record {
     piece = b.piece;
     stands = b.stands;
     candidate = b.candidate;
@@ -85,8 +85,8 @@ module _ (lines : List Edge) (ps : List Piece) (used : List Bool) (n : ℕ) (p :
   }
 
   -- p costs less: it becomes the best
-  pub takes : (best : Option Choice) (c : Choice) → SoFar lines ps used n best → IsCandidate lines ps used p
-      → cost lines p ps < limit_by best → c.at ≡ n → c.splits ≡ count_by (is_split lines p) ps → c.right
+  pub takes : (best : Option Choice) (c : Choice) → SoFar lines ps used bound n best → IsCandidate lines ps used p
+      → cost lines p ps < limit_by bound best → c.at ≡ n → c.splits ≡ count_by (is_split lines p) ps → c.right
       ≡ length (right_parts lines p ps) → c.left ≡ length (left_parts lines p ps) → IsBestBefore lines ps used (n + 1) c
   takes best c before can cheap here s r l = record {
     piece = p;
@@ -99,25 +99,25 @@ module _ (lines : List Edge) (ps : List Piece) (used : List Bool) (n : ℕ) (p :
     left = l;
   }
     where
-      dearer : (best : Option Choice) → SoFar lines ps used n best → cost lines p ps < limit_by best
+      dearer : (best : Option Choice) → SoFar lines ps used bound n best → cost lines p ps < limit_by bound best
           → (j : ℕ) (q : Piece) → j < n → slice_get ps j ≡ Some q → IsCandidate lines ps used q
           → cost lines p ps < cost lines q ps
-      dearer None none m j q h e k = absurd (none j q h e k)
+      dearer None none m j q h e k = let a = none j q h e k in let b : cost lines p ps < bound = m in omega arith
       dearer (Some b) was m j q h e k = let a = was.least j q h e k in let f = limit_is b was in omega arith
 
   -- the test on a counted piece decides
-  by_test : (best : Option Choice) (c : Counts) → length ps < 2 ^ 32 → SoFar lines ps used n best
-      → slice_get used p.line ≡ Some false → AreCounts lines p ps c → (b : Bool)
-      → (b ≡ true → (c.left ≡ 0) ⊎ (limit_by best ≤ cost_by c))
-      → (b ≡ false → (0 < c.left) × (cost_by c < limit_by best))
-      → SoFar lines ps used (n + 1) (cond b best (Some
+  by_test : (limit : ℕ) (best : Option Choice) (c : Counts) → limit ≡ limit_by bound best
+      → SoFar lines ps used bound n best → slice_get used p.line ≡ Some false → AreCounts lines p ps c → (b : Bool)
+      → (b ≡ true → (c.left ≡ 0) ⊎ (limit ≤ cost_by c))
+      → (b ≡ false → (0 < c.left) × (cost_by c < limit))
+      → SoFar lines ps used bound (n + 1) (cond b best (Some
       (record { at = n; splits = c.splits; right = c.right; left = c.left })))
-  by_test best c few so free k true f g =
+  by_test limit best c is so free k true f g =
       ⊎_elim
-      (λ z. stays best few so (λ can. let l = k.left in let s = can.1 in absurd (omega arith)))
-      (λ d. stays best few so (λ can. let m = cost_by_counts lines p ps c k in omega arith))
+      (λ z. stays best so (λ can. let l = k.left in let s = can.1 in absurd (omega arith)))
+      (λ d. stays best so (λ can. let m = cost_by_counts lines p ps c k in omega arith))
       (f refl)
-  by_test best c few so free k false f g =
+  by_test limit best c is so free k false f g =
       let h = g refl in
       let positive = h.0 in
       let cheap = h.1 in
@@ -126,27 +126,28 @@ module _ (lines : List Edge) (ps : List Piece) (used : List Bool) (n : ℕ) (p :
       takes best _ so (free, omega arith) (omega arith) refl k.splits k.right k.left
 
   -- a counted piece of an unused line is taken in
-  pub taken : (best : Option Choice) (o : Option Counts) → length ps < 2 ^ 32 → SoFar lines ps used n best
-      → slice_get used p.line ≡ Some false → MatchOption o (limit_by best ≤ cost lines p ps)
-      (λ c. AreCounts lines p ps c) → SoFar lines ps used (n + 1) (taken_in n best o)
-  taken best None few so free m = stays best few so (λ can. m)
-  taken best (Some c) few so free k =
-      by_test best c few so free k (nat_eq c.left 0 || nat_le (limit_by best) (cost_by c))
-      (kept (c.left) (limit_by best) (cost_by c)) (better (c.left) (limit_by best) (cost_by c))
+  pub taken : (limit : ℕ) (best : Option Choice) (o : Option Counts) → limit ≡ limit_by bound best
+      → SoFar lines ps used bound n best → slice_get used p.line ≡ Some false
+      → MatchOption o (limit ≤ cost lines p ps) (λ c. AreCounts lines p ps c)
+      → SoFar lines ps used bound (n + 1) (taken_in limit n best o)
+  taken limit best None is so free m = stays best so (λ can. let d : limit ≤ cost lines p ps = m in omega arith)
+  taken limit best (Some c) is so free k =
+      by_test limit best c is so free k (nat_eq c.left 0 || nat_le limit (cost_by c))
+      (kept (c.left) limit (cost_by c)) (better (c.left) limit (cost_by c))
 
 -- a piece on the straight line of an earlier piece of an unused line needs no count
-pub skips : (lines : List Edge) (ps : List Piece) (used : List Bool) (n : ℕ) (p : Piece) → slice_get ps n ≡ Some p
-    → All IsEdge lines → All (IsPiece lines) ps → (best : Option Choice) → length ps < 2 ^ 32
-    → SoFar lines ps used n best → HasEarlier lines ps used n p → SoFar lines ps used (n + 1) best
-skips lines ps used n p at drawn each best few before h =
+pub skips : (lines : List Edge) (ps : List Piece) (used : List Bool) (bound n : ℕ) (p : Piece) → slice_get ps n ≡ Some p
+    → All IsEdge lines → All (IsPiece lines) ps → (best : Option Choice)
+    → SoFar lines ps used bound n best → HasEarlier lines ps used n p → SoFar lines ps used bound (n + 1) best
+skips lines ps used bound n p at drawn each best before h =
     let on : OnOneLine lines h.piece p = record { drawn = drawn; first = All-at (IsPiece lines) ps h.place h.piece each h.stands; second = All-at (IsPiece lines) ps n p each at; along = h.along } in
-    stays lines ps used n p at best few before (λ k. dear best before (candidate_too lines used h.piece p ps n on each at h.free k) (same_cost lines h.piece p ps on each))
+    stays lines ps used bound n p at best before (λ k. dear best before (candidate_too lines used h.piece p ps n on each at h.free k) (same_cost lines h.piece p ps on each))
   where
-    dear : (best : Option Choice) → SoFar lines ps used n best → IsCandidate lines ps used h.piece → cost lines p ps ≡ cost lines h.piece ps → limit_by best ≤ cost lines p ps
-    dear None none can e = absurd (none h.place h.piece h.before h.stands can)
+    dear : (best : Option Choice) → SoFar lines ps used bound n best → IsCandidate lines ps used h.piece → cost lines p ps ≡ cost lines h.piece ps → limit_by bound best ≤ cost lines p ps
+    dear None none can e = let a = none h.place h.piece h.before h.stands can in omega arith
     dear (Some c) b can e =
         let l = b.least h.place h.piece h.before h.stands can in
-        let m = limit_is lines ps used n p at c b in
+        let m = limit_is lines ps used bound n p at c b in
         omega arith
 
 -- what was seen under a number is an earlier piece on the same straight line
@@ -159,10 +160,15 @@ earlier_found lines ps used n p k d each known h w free along =
     record { place = k; piece = get_or ps k d; before = h; stands = at; free = stands_at used (get_or ps k d).line false (omega arith) ∙ ap Some free; along = along }
 
 -- what is known once all pieces are looked at
-pub finished : (lines : List Edge) (ps : List Piece) (used : List Bool) (n : ℕ) (best : Option Choice) → length ps ≤ n
-    → SoFar lines ps used n best → MatchOption best (HasNoChoice lines ps used) (λ c. IsChoice lines ps used c)
-finished lines ps used n None h none = λ i p at can. none i p (let w = slice_get_within ps i p at in omega arith) at can
-finished lines ps used n (Some c) h b = record {
+pub finished : (lines : List Edge) (ps : List Piece) (used : List Bool) (bound n : ℕ) (best : Option Choice)
+    → length ps < 2 ^ 32 → IsBound lines ps used bound → length ps ≤ n → SoFar lines ps used bound n best
+    → MatchOption best (HasNoChoice lines ps used) (λ c. IsChoice lines ps used c)
+finished lines ps used bound n None few is h none =
+    λ i p at can. ⊎_elim
+    (λ e. let w = slice_get_within ps i p at in let a = none i p (omega arith) at can in let m = cost_small lines p ps in absurd (omega arith))
+    (λ u. let w = slice_get_within ps u.place u.piece u.stands in let a = none u.place u.piece (omega arith) u.stands u.candidate in let b = u.below in absurd (omega arith))
+    is
+finished lines ps used bound n (Some c) few is h b = record {
   piece = b.piece;
   best = record {
     stands = b.stands;
@@ -183,8 +189,8 @@ pub before_within : (ps : List Piece) (i n : ℕ) (p : Piece) → i < n → slic
 before_within ps i n p h e = let w = slice_get_within ps n p e in omega arith
 
 -- a piece of a used line is no candidate
-pub used_stays : (lines : List Edge) (ps : List Piece) (used : List Bool) (n : ℕ) (p : Piece) → slice_get ps n ≡ Some p
-    → (best : Option Choice) → length ps < 2 ^ 32 → p.line < length used → get_or used p.line false ≡ true
-    → SoFar lines ps used n best → SoFar lines ps used (n + 1) best
-used_stays lines ps used n p stands best few within flag so_far =
-    stays lines ps used n p stands best few so_far (λ h. let e = stands_at used p.line false within ∙ ap Some flag in let f = h.0 in cc)
+pub used_stays : (lines : List Edge) (ps : List Piece) (used : List Bool) (bound n : ℕ) (p : Piece)
+    → slice_get ps n ≡ Some p → (best : Option Choice) → p.line < length used → get_or used p.line false ≡ true
+    → SoFar lines ps used bound n best → SoFar lines ps used bound (n + 1) best
+used_stays lines ps used bound n p stands best within flag so_far =
+    stays lines ps used bound n p stands best so_far (λ h. let e = stands_at used p.line false within ∙ ap Some flag in let f = h.0 in cc)

@@ -12,3 +12,6 @@ pub mod ClearLemmas
 pub mod Corners
 pub mod WholeLines
 pub mod ClearBlocks
+pub mod Known
+pub mod Exchanged
+pub mod Taking

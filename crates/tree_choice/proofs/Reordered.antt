@@ -14,7 +14,7 @@ use Rattle.tree_choice.specs.declared.counts.Counts.{Counts}
 use Rattle.tree_choice.specs.Counts.{AreCounts}
 
 -- how many values an option holds
-abbrev weight : {Y : Type 0} → Option Y → ℕ
+abbrev pub weight : {Y : Type 0} → Option Y → ℕ
 weight None = 0
 weight (Some y) = 1
 
@@ -23,7 +23,7 @@ one_more {Y} None ys = let a : weight {Y = Y} None ≡ 0 = refl in let b : lengt
 one_more {Y} (Some y) ys = let a : weight (Some y) ≡ 1 = refl in let b : length (cons_option (Some y) ys) ≡ suc (length ys) = refl in omega arith
 
 -- what is kept of a list is the sum of what is kept of each element
-kept_sum : {X Y : Type 0} (f : X → Option Y) (xs : List X) → length (filter_map f xs) ≡ sum_by (λ x. weight (f x)) xs
+pub kept_sum : {X Y : Type 0} (f : X → Option Y) (xs : List X) → length (filter_map f xs) ≡ sum_by (λ x. weight (f x)) xs
 kept_sum f [] = refl
 kept_sum {X} {Y} f (x ∷ xs) =
     by_numbers _ _ _ _ (sum_by (λ (z : X). weight (f z)) (x ∷ [])) (weight (f x)) (one_more (f x) (filter_map f xs))

@@ -14,18 +14,18 @@ pub struct Choice {
     pub left: u32,
 }
 
-// The cost that another candidate must stay below to be chosen; the greatest number if there is no candidate yet.
-pub(crate) fn limit_of(best: Option<Choice>) -> u64
-    ensures { result ≡ limit_by best }
+// The cost that another candidate must stay below to be chosen: that of the best one, or a bound if there is none yet.
+pub(crate) fn limit_of(bound: u64, best: Option<Choice>) -> u64
+    ensures { result ≡ limit_by bound best }
 {
     match best {
-        None => u64::MAX,
+        None => bound,
         Some(choice) => { 8 * choice.splits as u64 + choice.right.abs_diff(choice.left) as u64 }
     }
 }
 
 // The best candidate after one more piece of an unused line was counted. The new one is taken if it separates the list
-// and costs less.
+// and costs less than the limit.
 pub(crate) fn take_in(
     at: usize,
     best: Option<Choice>,
@@ -33,8 +33,7 @@ pub(crate) fn take_in(
     counted: Option<Counts>,
 ) -> Option<Choice>
     requires place { at < 2 ^ 32 }
-    requires limit { limit ≡ limit_by best }
-    ensures { result ≡ taken_in at best counted }
+    ensures { result ≡ taken_in limit at best counted }
 {
     match counted {
         None => best,

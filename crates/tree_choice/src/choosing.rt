@@ -7,13 +7,16 @@ ghost use Rattle.tree_pieces.specs.Boxes.{boxes_of};
 ghost use Rattle.tree_choice.specs.Blocks.{AreBlocks, AreGroups};
 ghost use Rattle.tree_choice.specs.Counts.{AreCountsBelow};
 ghost use Rattle.tree_choice.specs.Choices.{IsChosen};
-ghost use Rattle.tree_choice.specs.SoFar.{SoFar};
+ghost use Rattle.tree_choice.specs.SoFar.{SoFar, no_bound};
 ghost use Rattle.tree_choice.specs.Columns.{HoldsEnds, HoldsBoxes};
+ghost use Rattle.tree_choice.specs.Floors.{AreFloors};
 
 use crate::block_boxes::note_groups;
+use crate::bound::bound_of;
 use crate::candidate::NotedPieces;
 use crate::choice::{Choice, limit_of, take_in};
 use crate::counts::count_below;
+use crate::floors::{Floor, far_limit, floor_at, note_floor};
 use crate::straight::StraightLines;
 use crate::walk::count_by_boxes;
 use lump_records::Bounds;
@@ -33,13 +36,13 @@ fn consider(
     requires few { length pieces.now < 2 ^ 32 }
     requires piece { IsPiece lines.now piece.now }
     requires stands { slice_get pieces.now at ≡ Some piece.now }
-    requires so_far { SoFar lines.now pieces.now used.now at best }
-    ensures { SoFar lines.now pieces.now used.now (at + 1) result }
+    requires so_far { SoFar lines.now pieces.now used.now no_bound at best }
+    ensures { SoFar lines.now pieces.now used.now no_bound (at + 1) result }
 {
     if used[piece.line as usize] {
         return best;
     }
-    let limit = limit_of(best);
+    let limit = limit_of(u64::MAX, best);
     let counted = count_below(lines, piece, pieces, limit);
     take_in(at, best, limit, counted)
 }
@@ -59,17 +62,19 @@ pub fn choose_in(lines: &Lines, pieces: &[Piece], used: &[bool]) -> Option<Choic
 }
 
 // The same as `consider`, but by boxes and rounded ends, and without counting a piece on the straight line of an
-// earlier one.
+// earlier one, or one of which it is known that it costs the limit or more.
 fn consider_ordered(
     lines: &Lines,
     pieces: &[Piece],
     ordered: &[Piece],
     blocks: &[Bounds],
     used: &[bool],
+    bound: u64,
     at: usize,
     piece: &Piece,
     best: Option<Choice>,
     straight: &mut StraightLines,
+    floors: &mut [Floor],
 ) -> Option<Choice>
     requires pieces { All (IsPiece lines.now) pieces.now }
     requires ordered { IsPermutation pieces.now ordered.now }
@@ -82,21 +87,27 @@ fn consider_ordered(
     requires sides { HoldsBoxes blocks.now straight.old.sides }
     requires groups { AreGroups (boxes_of lines.now ordered.now) straight.old.groups.items }
     requires room { length blocks.now ≤ length straight.old.noted.items }
-    requires so_far { SoFar lines.now pieces.now used.now at best }
-    ensures so_far { SoFar lines.now pieces.now used.now (at + 1) result }
+    requires floors { AreFloors lines.now pieces.now pieces.now floors.old }
+    requires so_far { SoFar lines.now pieces.now used.now bound at best }
+    ensures so_far { SoFar lines.now pieces.now used.now bound (at + 1) result }
     ensures ends { straight.new.ends ≡ straight.old.ends }
     ensures sides { straight.new.sides ≡ straight.old.sides }
     ensures groups { straight.new.groups ≡ straight.old.groups }
     ensures room { length straight.new.noted.items ≡ length straight.old.noted.items }
+    ensures floors { AreFloors lines.now pieces.now pieces.now floors.new }
 {
     if used[piece.line as usize] {
+        return best;
+    }
+    let limit = limit_of(bound, best);
+    let known = floor_at(floors, at);
+    if known.reaches(limit) {
         return best;
     }
     if straight.has_earlier(lines, pieces, used, at, piece) {
         lines.are_drawn();
         return best;
     }
-    let limit = limit_of(best);
     let list = NotedPieces {
         pieces: ordered,
         ends: &straight.ends,
@@ -104,8 +115,54 @@ fn consider_ordered(
         corners: &straight.sides,
         groups: &straight.groups,
     };
-    let counted = count_by_boxes(lines, piece, &list, &mut straight.noted, limit);
+    let far = far_limit(floors, limit);
+    let counted = count_by_boxes(lines, piece, &list, &mut straight.noted, far);
+    note_floor(floors, at, counted, far);
     take_in(at, best, limit, counted)
+}
+
+/// The same choice as `choose_in`, by what is known of the pieces, and by the boxes of the pieces and of blocks of
+/// sixteen of them. `floors` has what is known of the first pieces, or nothing; afterwards it has what is known of them
+/// then. A list of which nothing is remembered is chosen from sooner without floors, since with them each candidate is
+/// counted to the end. `straight` saves counts, whatever it holds. `ordered` holds the same pieces in any order, as
+/// `by_place` gives one, and the boxes are those of this list.
+pub fn choose_above(
+    lines: &Lines,
+    pieces: &[Piece],
+    ordered: &[Piece],
+    boxes: &[Bounds],
+    blocks: &[Bounds],
+    used: &[bool],
+    straight: &mut StraightLines,
+    floors: &mut [Floor],
+) -> Option<Choice>
+    requires pieces { All (IsPiece lines.now) pieces.now }
+    requires ordered { IsPermutation pieces.now ordered.now }
+    requires boxes { boxes.now ≡ boxes_of lines.now ordered.now }
+    requires blocks { AreBlocks boxes.now blocks.now }
+    requires known { length used.now ≡ length lines.now }
+    requires few { length pieces.now < 2 ^ 32 }
+    requires floors { AreFloors lines.now pieces.now pieces.now floors.old }
+    ensures choice { IsChosen lines.now pieces.now used.now result }
+    ensures floors { AreFloors lines.now pieces.now pieces.now floors.new }
+{
+    if !straight.ends.has_room(ordered.len())
+        || !straight.sides.has_room(blocks.len())
+        || straight.noted.len() < blocks.len()
+    {
+        return choose_in(lines, pieces, used);
+    }
+    straight.ends.note(lines, ordered);
+    straight.sides.note(blocks);
+    note_groups(boxes, &mut straight.groups);
+    let bound = bound_of(lines, pieces, ordered, blocks, used, straight, floors);
+    let mut best = None;
+    for (at, piece) in pieces.iter().enumerate() {
+        best = consider_ordered(
+            lines, pieces, ordered, blocks, used, bound, at, piece, best, straight, floors,
+        );
+    }
+    best
 }
 
 /// The same choice as `choose_in`, by the boxes of the pieces and of blocks of sixteen of them.
@@ -128,22 +185,16 @@ pub fn choose_ordered(
     requires few { length pieces.now < 2 ^ 32 }
     ensures { IsChosen lines.now pieces.now used.now result }
 {
-    if !straight.ends.has_room(ordered.len())
-        || !straight.sides.has_room(blocks.len())
-        || straight.noted.len() < blocks.len()
-    {
-        return choose_in(lines, pieces, used);
-    }
-    straight.ends.note(lines, ordered);
-    straight.sides.note(blocks);
-    note_groups(boxes, &mut straight.groups);
-    let mut best = None;
-    for (at, piece) in pieces.iter().enumerate() {
-        best = consider_ordered(
-            lines, pieces, ordered, blocks, used, at, piece, best, straight,
-        );
-    }
-    best
+    choose_above(
+        lines,
+        pieces,
+        ordered,
+        boxes,
+        blocks,
+        used,
+        straight,
+        &mut [],
+    )
 }
 
 /// The same choice as `choose_in`, by the boxes of the pieces and of blocks of sixteen of them.

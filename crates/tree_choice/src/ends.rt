@@ -1,5 +1,5 @@
 //! The rounded ends of pieces, noted once for all candidates of a list.
-ghost use Rattle.std.specs.Prelude.{◌≡◌, ◌≤◌, length, take, drop, All, true};
+ghost use Rattle.std.specs.Prelude.{◌≡◌, ◌≤◌, length, take, drop, All, true, IfOk};
 ghost use Rattle.tree_pieces.specs.Pieces.{IsPiece};
 
 use lump_records::Vertex;
@@ -26,7 +26,9 @@ impl EndColumns {
     ghost use Rattle.tree_choice.specs.Columns.{IsWideEnough, HoldsEnds};
 
     /// Room for the ends of so many pieces.
-    pub(crate) fn with_room(alloc: Global, count: usize) -> Result<EndColumns, AllocError> {
+    pub(crate) fn with_room(alloc: Global, count: usize) -> Result<EndColumns, AllocError>
+        ensures { IfOk result (λ columns. IsWideEnough columns count) }
+    {
         let nowhere = Vertex { x: 0, y: 0 };
         let firsts = Vec::from_elem(alloc, nowhere, count)?;
         let lasts = Vec::from_elem(alloc, nowhere, count)?;

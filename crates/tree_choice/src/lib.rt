@@ -2,6 +2,7 @@
 #![tactic(auto)]
 
 mod block_boxes;
+mod bound;
 mod box_place;
 mod candidate;
 mod choice;
@@ -9,6 +10,8 @@ mod choosing;
 mod corner_columns;
 mod counts;
 mod ends;
+mod exchange;
+mod floors;
 mod map_choice;
 mod margins;
 mod sorting;
@@ -19,7 +22,9 @@ mod walk;
 pub use block_boxes::blocks_of;
 pub use box_place::box_side;
 pub use choice::Choice;
-pub use choosing::{choose_in_boxes, choose_ordered};
+pub use choosing::{choose_above, choose_in_boxes, choose_ordered};
+pub use exchange::floors_of_part;
+pub use floors::Floor;
 pub use map_choice::{choose, separates};
 pub use straight::StraightLines;
 pub use strips::by_place;

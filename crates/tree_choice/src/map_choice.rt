@@ -5,7 +5,7 @@ ghost use Rattle.tree_pieces.specs.Pieces.{IsPiece};
 ghost use Rattle.tree_pieces.specs.Tree.{Separates};
 ghost use Rattle.tree_choice.specs.Counts.{AreCountsBelow};
 ghost use Rattle.tree_choice.specs.Choices.{IsChosen};
-ghost use Rattle.tree_choice.specs.SoFar.{SoFar};
+ghost use Rattle.tree_choice.specs.SoFar.{SoFar, no_bound};
 
 use crate::choice::{Choice, limit_of, take_in};
 use crate::counts::Counts;
@@ -59,13 +59,13 @@ fn consider(
     requires few { length pieces.now < 2 ^ 32 }
     requires piece { IsPiece (edges_of map.now.tables) piece.now }
     requires stands { slice_get pieces.now at ≡ Some piece.now }
-    requires so_far { SoFar (edges_of map.now.tables) pieces.now used.now at best }
-    ensures { SoFar (edges_of map.now.tables) pieces.now used.now (at + 1) result }
+    requires so_far { SoFar (edges_of map.now.tables) pieces.now used.now no_bound at best }
+    ensures { SoFar (edges_of map.now.tables) pieces.now used.now no_bound (at + 1) result }
 {
     if used[piece.line as usize] {
         return best;
     }
-    let limit = limit_of(best);
+    let limit = limit_of(u64::MAX, best);
     let counted = count_in_map(map, piece, pieces, limit);
     take_in(at, best, limit, counted)
 }

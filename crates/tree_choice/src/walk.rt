@@ -205,7 +205,7 @@ fn count_open_ones(by: &Candidate, pieces: &[Piece], places: &[u8], clear: Count
 
 // The counts of a block: first of the pieces that their rounded ends decide, then of the others. It is None if the
 // first ones already make the cost reach the limit.
-fn count_list(by: &Candidate, list: &EndedPieces, limit: u64) -> Option<Counts>
+pub(crate) fn count_list(by: &Candidate, list: &EndedPieces, limit: u64) -> Option<Counts>
     requires candidate { IsSighted by.now }
     requires list { AreEnded by.now.lines.now list.now }
     requires few { length list.now.pieces.now ≤ 16 }

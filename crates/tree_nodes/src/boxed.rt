@@ -5,6 +5,7 @@ ghost use Rattle.tree_nodes.specs.Boxed.{IsBoxed, IsPlacedList};
 
 use lump_records::Bounds;
 use std::alloc::{AllocError, Global};
+use tree_choice::Floor;
 use tree_pieces::{Lines, Piece, boxes_in};
 
 /// A list of pieces, with the box of each in the same order.
@@ -39,30 +40,37 @@ impl BoxedPieces {
         Ok(BoxedPieces { pieces, boxes })
     }
 
-    /// The same list, with this order beside it.
-    pub(crate) fn with_order(self, placed: Option<BoxedPieces>) -> PlacedPieces
-        ensures { result ≡ record { pieces = self.pieces; boxes = self.boxes; placed = placed } }
+    /// The same list, with this order and what is known of its pieces beside it.
+    pub(crate) fn with_order(self, placed: Option<BoxedPieces>, floors: Vec<Floor>) -> PlacedPieces
+        ensures { result ≡ record {
+          pieces = self.pieces;
+          boxes = self.boxes;
+          placed = placed;
+          floors = floors;
+        } }
     {
         let BoxedPieces { pieces, boxes } = self;
         PlacedPieces {
             pieces,
             boxes,
             placed,
+            floors,
         }
     }
 }
 
 /// A list of pieces with the box of each in the same order. A long list also has the same pieces and boxes in an order
-/// by places.
+/// by places. A list that is most of the one above has what is known of its pieces' costs; the others have no floors.
 #[derive(Drop)]
 pub(crate) struct PlacedPieces {
     pub pieces: Vec<Piece>,
     pub boxes: Vec<Bounds>,
     pub placed: Option<BoxedPieces>,
+    pub floors: Vec<Floor>,
 }
 
 impl PlacedPieces {
-    /// These pieces, each with its box, without an order by places.
+    /// These pieces, each with its box, without an order by places, and with nothing known of them.
     pub(crate) fn of(
         alloc: Global,
         lines: &Lines,
@@ -77,6 +85,7 @@ impl PlacedPieces {
             pieces,
             boxes,
             placed: None,
+            floors: Vec::new(alloc),
         })
     }
 }

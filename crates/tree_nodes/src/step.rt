@@ -5,6 +5,7 @@ ghost use Rattle.tree_pieces.specs.Pieces.{IsPiece};
 ghost use Rattle.tree_pieces.specs.Boxes.{boxes_of};
 ghost use Rattle.tree_pieces.specs.Division.{right_parts, left_parts};
 ghost use Rattle.tree_choice.specs.Choices.{IsChosen};
+ghost use Rattle.tree_choice.specs.Floors.{AreFloors};
 ghost use Rattle.tree_nodes.specs.Boxed.{IsPlaced, IsPlacedList};
 ghost use Rattle.tree_nodes.specs.Growth.{IsListStep, HasBoxes};
 
@@ -12,7 +13,10 @@ use crate::boxed::{BoxedPieces, PlacedPieces};
 use crate::parting::{Sides, part_list};
 use lump_records::Bounds;
 use std::alloc::{AllocError, Global};
-use tree_choice::{Choice, StraightLines, blocks_of, by_place, choose_in_boxes, choose_ordered};
+use tree_choice::{
+    Choice, Floor, StraightLines, blocks_of, by_place, choose_above, choose_in_boxes,
+    floors_of_part,
+};
 use tree_pieces::{Lines, Piece};
 
 // The most pieces of a list that is one block.
@@ -26,7 +30,7 @@ const EVERYWHERE: Bounds = Bounds {
     right: i16::MAX,
 };
 
-// Longer lists than this have an order by places.
+// Longer lists than this have an order by places, and remember what their pieces cost.
 const LONG: usize = 256;
 
 /// What a list of pieces becomes: a leaf, or a partition and the two lists of the parts with their boxes.
@@ -122,6 +126,26 @@ fn parted_order(
     }
 }
 
+// What is known of the pieces of a part. Only a part that is most of a list has floors: in another one too much has
+// changed, and a short one is soon counted.
+fn floors_in(
+    alloc: Global,
+    lines: &Lines,
+    list: &[Piece],
+    floors: &[Floor],
+    part: &[Piece],
+) -> Result<Vec<Floor>, AllocError>
+    requires pieces { All (IsPiece lines.now) list.now }
+    requires part { All (IsPiece lines.now) part.now }
+    requires floors { AreFloors lines.now list.now list.now floors.now }
+    ensures { IfOk result (λ known. AreFloors lines.now part.now part.now known.items) }
+{
+    if part.len() <= LONG || part.len() < list.len() - list.len() / 8 {
+        return Ok(Vec::new(alloc));
+    }
+    floors_of_part(alloc, lines, list, floors, part)
+}
+
 // The parts of a list on the two sides of a partition, with their boxes and orders. The order is divided first: once
 // its parts stand, its own memory is free for those of the list.
 fn part_placed(
@@ -132,9 +156,11 @@ fn part_placed(
     list: &[Piece],
     boxes: &[Bounds],
     placed: Option<BoxedPieces>,
+    floors: &[Floor],
 ) -> Result<PlacedSides, AllocError>
     requires partition { IsPiece lines.now partition.now }
     requires pieces { All (IsPiece lines.now) list.now }
+    requires floors { AreFloors lines.now list.now list.now floors.now }
     requires boxes { boxes.now ≡ boxes_of lines.now list.now }
     requires placed { IfSome placed (IsPlaced lines.now list.now) }
     ensures right { IfOk result
@@ -144,11 +170,14 @@ fn part_placed(
     ensures right_boxed { IfOk result (λ sides. IsPlacedList lines.now sides.right) }
     ensures left_boxed { IfOk result (λ sides. IsPlacedList lines.now sides.left) }
 {
+    lines.are_drawn();
     let orders = parted_order(alloc, lines, partition, choice, list, placed)?;
     let Sides { right, left } = part_list(alloc, lines, partition, choice, list, boxes)?;
+    let right_floors = floors_in(alloc, lines, list, floors, &right.pieces)?;
+    let left_floors = floors_in(alloc, lines, list, floors, &left.pieces)?;
     Ok(PlacedSides {
-        right: right.with_order(orders.right),
-        left: left.with_order(orders.left),
+        right: right.with_order(orders.right, right_floors),
+        left: left.with_order(orders.left, left_floors),
     })
 }
 
@@ -160,15 +189,18 @@ fn choice_by_place(
     order: &BoxedPieces,
     used: &[bool],
     straight: &mut StraightLines,
+    floors: &mut [Floor],
 ) -> Result<Option<Choice>, AllocError>
     requires pieces { All (IsPiece lines.now) list.now }
     requires order { IsPlaced lines.now list.now order.now }
     requires known { length used.now ≡ length lines.now }
     requires few { length list.now < 2 ^ 31 }
-    ensures { IfOk result (IsChosen lines.now list.now used.now) }
+    requires floors { AreFloors lines.now list.now list.now floors.old }
+    ensures choice { IfOk result (IsChosen lines.now list.now used.now) }
+    ensures floors { AreFloors lines.now list.now list.now floors.new }
 {
     let blocks = blocks_of(alloc, &order.boxes)?;
-    Ok(choose_ordered(
+    Ok(choose_above(
         lines,
         list,
         &order.pieces,
@@ -176,6 +208,7 @@ fn choice_by_place(
         &blocks,
         used,
         straight,
+        floors,
     ))
 }
 
@@ -207,22 +240,25 @@ fn choice_of(
     placed: &Option<BoxedPieces>,
     used: &[bool],
     straight: &mut StraightLines,
+    floors: &mut [Floor],
 ) -> Result<Option<Choice>, AllocError>
     requires pieces { All (IsPiece lines.now) list.now }
     requires boxes { boxes.now ≡ boxes_of lines.now list.now }
     requires placed { IfSome placed.now (IsPlaced lines.now list.now) }
     requires known { length used.now ≡ length lines.now }
     requires few { length list.now < 2 ^ 31 }
-    ensures { IfOk result (IsChosen lines.now list.now used.now) }
+    requires floors { AreFloors lines.now list.now list.now floors.old }
+    ensures choice { IfOk result (IsChosen lines.now list.now used.now) }
+    ensures floors { AreFloors lines.now list.now list.now floors.new }
 {
     match placed {
-        Some(order) => choice_by_place(alloc, lines, list, order, used, straight),
+        Some(order) => choice_by_place(alloc, lines, list, order, used, straight, floors),
         None => {
             if 0 < list.len() && list.len() <= FEW {
                 return Ok(choice_of_few(lines, list, boxes, used, straight));
             }
             let blocks = blocks_of(alloc, boxes)?;
-            Ok(choose_in_boxes(lines, list, boxes, &blocks, used, straight))
+            Ok(choose_above(lines, list, list, boxes, &blocks, used, straight, floors))
         }
     }
 }
@@ -246,15 +282,25 @@ pub(crate) fn step_in(
         pieces,
         boxes,
         placed,
+        mut floors,
     } = list;
     let order = order_of(alloc, lines, &pieces, placed)?;
-    let choice = match choice_of(alloc, lines, &pieces, &boxes, &order, used, straight)? {
+    let choice = match choice_of(
+        alloc,
+        lines,
+        &pieces,
+        &boxes,
+        &order,
+        used,
+        straight,
+        &mut floors,
+    )? {
         None => return Ok(Step::Leaf(pieces)),
         Some(choice) => choice,
     };
     let partition = pieces[choice.at as usize];
     let PlacedSides { right, left } = part_placed(
-        alloc, lines, &partition, choice, &pieces, &boxes, order,
+        alloc, lines, &partition, choice, &pieces, &boxes, order, &floors,
     )?;
     Ok(Step::Parts {
         partition,

@@ -2,6 +2,7 @@ use Rattle.std.proofs.Common.{List, ℕ, ap, map, string_bytes, subst}
 use Rattle.std.proofs.KnownBytes.{Keeps-refl}
 use Rattle.cli_program.specs.Rebuilding.{IsRebuiltAt}
 use Rattle.cli_program.proofs.Scripts.{drawn_into_as}
+use Rattle.cli_program.proofs.SourceDone.{noted_with, performed_with, quiet_with}
 use Rattle.cli_program.proofs.program.done.Goals as goal
 
 pub returns-in-Draw-clause-performed : goal.returns-in-Draw-clause-performed
@@ -18,7 +19,23 @@ returns-in-Rebuild-clause-performed g c =
       (
         d,
         x,
-        subst (λ (names : List (List ℕ)). IsRebuiltAt names c.rebuild.result u w d x) (ap (map string_bytes) c.deref-in-Rebuild.ensures.value) c.rebuild.ensures.rebuilt,
+        subst (λ (names : List (List ℕ)). IsRebuiltAt names c.rebuild.result u w d x) (ap (map string_bytes) c.deref.ensures.value) c.rebuild.ensures.rebuilt,
       ),
       Keeps-refl (g.R.Read.remaining c.args.reader.now),
     )
+
+pub returns-in_default-clause-performed : goal.returns-in_default-clause-performed
+returns-in_default-clause-performed g c =
+    performed_with _ c.args.request.now c.done_with_source.result (g.R.Read.remaining c.args.reader.now) (g.W.Write.contents c.args.writer.now)
+    (g.W.Write.contents c.done_with_source.new.writer) (g.F.Write.contents c.args.faults.now) (g.F.Write.contents c.done_with_source.new.faults)
+    c.done_with_source.ensures.done
+
+pub returns-in_default-clause-quiet : goal.returns-in_default-clause-quiet
+returns-in_default-clause-quiet g c = λ is.
+    quiet_with c.args.request.now c.done_with_source.result (g.W.Write.contents c.args.writer.now) (g.W.Write.contents c.done_with_source.new.writer)
+    (g.F.Write.contents c.args.faults.now) (g.F.Write.contents c.done_with_source.new.faults) c.done_with_source.ensures.done is
+
+pub returns-in_default-clause-told : goal.returns-in_default-clause-told
+returns-in_default-clause-told g c =
+    noted_with c.args.request.now c.done_with_source.result (g.W.Write.contents c.args.writer.now) (g.W.Write.contents c.done_with_source.new.writer)
+    (g.F.Write.contents c.args.faults.now) (g.F.Write.contents c.done_with_source.new.faults) c.done_with_source.ensures.done

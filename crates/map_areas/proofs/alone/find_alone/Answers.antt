@@ -1,4 +1,4 @@
-use Rattle.std.proofs.Common.{◌≡◌, ℕ, ◌<◌, true, length, sym, ◌∙◌, arith, rules, below_more}
+use Rattle.std.proofs.Common.{◌≡◌, ◌<◌, true, length, sym, ◌∙◌, arith, rules, below_more}
 use Rattle.std.proofs.lemmas.Option.{slice_get_within}
 use Rattle.map_plane.specs.Places.{placed}
 use Rattle.map_areas.specs.Apart.{KeepsAlone, KeepsRecord, is_alone}

@@ -1,4 +1,4 @@
-use Rattle.std.proofs.Common.{◌≡◌, ap, ◌∙◌}
+use Rattle.std.proofs.Common.{ap, ◌∙◌}
 use Rattle.map_tables.specs.Tables.{Tables}
 use Rattle.map_areas.proofs.copying.copy_items.Goals as goal
 

@@ -1,4 +1,4 @@
-use Rattle.std.proofs.Common.{◌≡◌, sym, ap, ◌∙◌, subst}
+use Rattle.std.proofs.Common.{sym, ap, ◌∙◌, subst}
 use Rattle.lump_records.specs.Names.{IsNamed, is_marker}
 use Rattle.lump_records.specs.declared.records.Name8.{Name8}
 use Rattle.map_tables.specs.Edits.{with_name}

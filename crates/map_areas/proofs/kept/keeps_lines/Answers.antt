@@ -1,4 +1,4 @@
-use Rattle.std.proofs.Common.{◌≡◌, arith, sym, ◌∙◌, rules}
+use Rattle.std.proofs.Common.{arith, sym, ◌∙◌, rules}
 use Rattle.map_areas.specs.Stays.{BecomesLine}
 use Rattle.map_areas.proofs.Becoming.{becomes_more}
 use Rattle.map_areas.proofs.Copies.{is_there}

@@ -33,8 +33,8 @@ loop-n-preserved c =
     ∙ ap (λ (l : PlacedLine). map (edge_from cs) (take c.loop-n.n (enumerate_from 0 cs)) ++ l ∷ []) c.edge_from.ensures
     ∙ numbered_more (edge_from cs) cs c.loop-n.n c.unwrap-corner.result (sym c.corner_at.ensures ∙ c.unwrap-corner.ensures)
 
-pub returns : goal.returns
-returns c =
+pub returns-clause-edges : goal.returns-clause-edges
+returns-clause-edges c =
     let cs = c.args.corners.now in
     c.loop-n.invariant
     ∙ ap (map (edge_from cs)) (take_all c.loop-n.n (enumerate_from 0 cs) (omega (arith, length-enumerate_from 0 cs, c.loop-n-test.false)))

@@ -1,4 +1,4 @@
-use Rattle.std.proofs.Common.{◌≡◌, sym, subst, arith}
+use Rattle.std.proofs.Common.{sym, subst}
 use Rattle.map_tables.specs.Tables.{Tables}
 use Rattle.map_areas.specs.Stays.{KeepsItems}
 use Rattle.map_areas.proofs.Keeping.{keeps_same, taken_keeps}

@@ -2,7 +2,7 @@ use Rattle.std.proofs.Common.{◌≤◌, ◌+◌, List, ℕ, map, length, take, 
 use Rattle.std.proofs.lemmas.List.{take_all}
 use Rattle.map_script.specs.Known.{known}
 use Rattle.map_script.specs.Views.{seen}
-use Rattle.map_script.specs.declared.firsts.Numbers.{Numbers}
+use Rattle.map_script.specs.Meant.{Meant}
 use Rattle.map_script.specs.declared.script.ScriptLine.{ScriptLine}
 use Rattle.run_script.specs.Drawn.{DrawsAll, first_sketch, sketch_of}
 use Rattle.run_script.proofs.Sketches.{DrawsAll-more, cut_off_at, front_len, map_more, map_parts}
@@ -63,4 +63,4 @@ returns-clause-drawn g c =
 
 pub loop-place-init : goal.loop-place-init
 loop-place-init g c =
-    ap (λ (names : List (List ℕ × Numbers)). sketch_of c.args.canvas.now names (g.W.Write.contents c.args.writer.now)) c.requires
+    ap (λ (names : List (List ℕ × Meant)). sketch_of c.args.canvas.now names (g.W.Write.contents c.args.writer.now)) c.requires

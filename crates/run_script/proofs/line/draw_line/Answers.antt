@@ -1,39 +1,27 @@
-use Rattle.std.proofs.Common.{◌≡◌, ◌∙◌, List, ℕ, Ok, false, refl, subst, sym, ap, ap₂}
-use Rattle.std.specs.Prelude.{Some}
+use Rattle.std.proofs.Common.{◌≡◌, ◌∙◌, List, ℕ, None, Some, refl, sym, ap}
 use Rattle.std.proofs.KnownBytes.{Keeps-refl}
 use Rattle.map_script.specs.Known.{known}
-use Rattle.map_script.specs.Lines.{TellsScriptFault, line_for}
+use Rattle.map_script.specs.Lines.{let_words}
 use Rattle.map_script.specs.Views.{seen}
-use Rattle.run_script.specs.Drawn.{DrawsLine, asks, sketch_of}
-use Rattle.map_tables.specs.Projects.{current_map}
-use Rattle.map_tables.specs.Tables.{Tables}
-use Rattle.run_script.proofs.Currents.{current_is}
-use Rattle.run_script.proofs.LineEnds.{ended_line, refused_line}
+use Rattle.map_script.specs.Words.{text_words}
+use Rattle.run_script.specs.Drawn.{sketch_of}
+use Rattle.run_script.proofs.LineEnds.{let_line, other_ends}
 use Rattle.run_script.proofs.line.draw_line.Goals as goal
 
-pub returns-in-Err : goal.returns-in-Err
-returns-in-Err g c =
-    let old = sketch_of c.args.canvas.now (known c.args.names.now) (g.W.Write.contents c.args.writer.now) in
-    let same = c.current.ensures.tables ∙ current_is c.maps.result.now ∙ ap current_map c.maps.ensures in
-    let told = subst (λ (l : List ℕ). TellsScriptFault c.in-Err.error (line_for (known c.args.names.now) (current_map (g.C.Canvas.maps_in c.args.canvas.now)) l)) c.deref.ensures.value
-    (subst (λ (m : Tables). TellsScriptFault c.in-Err.error (line_for (known c.args.names.now) m c.deref.result.now)) same c.in-Err.ensures.fault) in
-    subst (λ (n : ℕ). DrawsLine g.C.Canvas c.args.is_verbose (seen c.args.line.now) old (Some n) old) (sym c.code.ensures)
-    (refused_line g.C.Canvas c.args.is_verbose (seen c.args.line.now) old old c.in-Err.error told
-    (record { canvas = refl; names = refl; written = Keeps-refl (g.W.Write.contents c.args.writer.now) }))
-
-pub returns : goal.returns
-returns g c =
-    let names = known c.args.names.now in
-    let old = sketch_of c.args.canvas.now names (g.W.Write.contents c.args.writer.now) in
-    let new = sketch_of c.try_command.new.canvas (known c.try_command.new.names) (g.W.Write.contents c.try_command.new.writer) in
+pub returns-in-Some : goal.returns-in-Some
+returns-in-Some g c =
     let line : List ℕ = c.args.line.now.text.items in
-    let text : List ℕ = c.deref-else-asks.result.now in
-    let map = current_map (g.C.Canvas.maps_in c.args.canvas.now) in
-    let same : c.current.result.now.tables ≡ map = c.current.ensures.tables ∙ current_is c.maps.result.now ∙ ap current_map c.maps.ensures in
-    let is : line_for names map line ≡ Ok text =
-    ap (λ (l : List ℕ). line_for names map l) (sym c.deref.ensures.value) ∙ ap (λ (m : Tables). line_for names m c.deref.result.now) (sym same) ∙ c.in-Ok.ensures.ok
-    ∙ ap Ok (sym c.deref-else-asks.ensures.value) in
-    let none : asks g.C.Canvas line text ≡ false =
-    ap₂ (λ (l : List ℕ) (t : List ℕ). asks g.C.Canvas l t) (sym c.deref-2.ensures.value) (c.deref-else-asks.ensures.value ∙ sym c.deref-3.ensures.value)
-    ∙ sym c.asks.ensures ∙ c.if-asks.false in
-    ended_line g.C.Canvas c.args.is_verbose (seen c.args.line.now) old new c.try_command.new.canvas text c.try_command.result is none c.try_command.ensures
+    let words = text_words c.in-Some.words.now in
+    let old = sketch_of c.args.canvas.now (known c.args.names.now) (g.W.Write.contents c.args.writer.now) in
+    let new = sketch_of c.args.canvas.now (known c.draw_let.new.names) (g.W.Write.contents c.args.writer.now) in
+    let is : let_words (text_words line) ≡ Some words = ap (λ (l : List ℕ). let_words (text_words l)) (sym c.deref.ensures.value) ∙ c.in-Some.ensures in
+    let_line g.C.Canvas c.args.is_verbose (seen c.args.line.now) old new c.draw_let.result words is
+    (c.draw_let.ensures, refl, Keeps-refl (g.W.Write.contents c.args.writer.now))
+
+pub returns-in-None : goal.returns-in-None
+returns-in-None g c =
+    let line : List ℕ = c.args.line.now.text.items in
+    let old = sketch_of c.args.canvas.now (known c.args.names.now) (g.W.Write.contents c.args.writer.now) in
+    let new = sketch_of c.draw_other.new.canvas (known c.draw_other.new.names) (g.W.Write.contents c.draw_other.new.writer) in
+    let is : let_words (text_words line) ≡ None = ap (λ (l : List ℕ). let_words (text_words l)) (sym c.deref.ensures.value) ∙ c.in-None.ensures in
+    other_ends g.C.Canvas c.args.is_verbose (seen c.args.line.now) old new c.draw_other.new.canvas c.draw_other.result is c.draw_other.ensures

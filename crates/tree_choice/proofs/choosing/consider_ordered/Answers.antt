@@ -1,17 +1,16 @@
 use Rattle.std.proofs.Common.{◌≤◌, ◌+◌, ◌∙◌, ap, sym, subst, ℕ, Some, false, arith}
 use Rattle.std.proofs.lemmas.Option.{slice_get_within}
 use Rattle.std.proofs.lemmas.List.Sorted.{length_permutation, All-permutation}
-use Rattle.std.specs.Prelude.{MatchOption}
 use Rattle.tree_pieces.specs.Pieces.{IsPiece}
 use Rattle.tree_pieces.specs.Tree.{cost}
-use Rattle.tree_choice.specs.Counts.{AreCounts}
 use Rattle.tree_choice.specs.SoFar.{SoFar}
-use Rattle.tree_choice.proofs.Best.{stands_at, skips, taken, line_known, used_stays}
+use Rattle.tree_choice.proofs.Best.{stands_at, skips, stays, taken, line_known, used_stays}
+use Rattle.tree_choice.proofs.Known.{nearer}
 use Rattle.tree_choice.proofs.Reordered.{reordered}
 use Rattle.tree_choice.proofs.choosing.consider_ordered.Goals as goal
 
-pub take_in-requires-clause-place : goal.take_in-requires-clause-place
-take_in-requires-clause-place c = let w = slice_get_within c.args.pieces.now c.args.at c.args.piece.now c.requires.stands in let f = c.requires.few in omega arith
+pub take_in-requires : goal.take_in-requires
+take_in-requires c = let w = slice_get_within c.args.pieces.now c.args.at c.args.piece.now c.requires.stands in let f = c.requires.few in omega arith
 
 pub count_by_boxes-counted-requires-clause-list : goal.count_by_boxes-counted-requires-clause-list
 count_by_boxes-counted-requires-clause-list c =
@@ -28,24 +27,43 @@ count_by_boxes-counted-requires-clause-list c =
 
 pub returns-then-has_earlier-clause-so_far : goal.returns-then-has_earlier-clause-so_far
 returns-then-has_earlier-clause-so_far c =
-    skips c.args.lines.now c.args.pieces.now c.args.used.now c.args.at c.args.piece.now c.requires.stands c.are_drawn.ensures c.requires.pieces c.args.best c.requires.few c.requires.so_far (c.has_earlier.ensures.earlier c.if-has_earlier.true)
+    skips c.args.lines.now c.args.pieces.now c.args.used.now c.args.bound c.args.at c.args.piece.now c.requires.stands c.are_drawn.ensures c.requires.pieces c.args.best c.requires.so_far (c.has_earlier.ensures.earlier c.if-has_earlier.true)
+
+pub returns-then-reaches-clause-so_far : goal.returns-then-reaches-clause-so_far
+returns-then-reaches-clause-so_far c =
+    let lines = c.args.lines.now in
+    let p = c.args.piece.now in
+    let ps = c.args.pieces.now in
+    let known = c.floor_at-known.ensures lines ps ps p c.requires.floors c.requires.stands in
+    stays lines ps c.args.used.now c.args.bound c.args.at p c.requires.stands c.args.best c.requires.so_far
+    (λ can. subst (λ (limit : ℕ). limit ≤ cost lines p ps) c.limit_of-limit.ensures (c.reaches.ensures lines ps p known c.if-reaches.true can.1))
 
 pub returns-clause-so_far : goal.returns-clause-so_far
 returns-clause-so_far c =
     let lines = c.args.lines.now in
     let p = c.args.piece.now in
     let ps = c.args.pieces.now in
-    let within = line_known lines c.args.used.now p c.requires.piece c.requires.known in
-    let free = stands_at c.args.used.now p.line false within ∙ ap Some c.if-used-piece.false in
+    let used = c.args.used.now in
+    let within = line_known lines used p c.requires.piece c.requires.known in
+    let free = stands_at used p.line false within ∙ ap Some c.if-used-piece.false in
     let o = c.count_by_boxes-counted.result in
-    let e = reordered lines p ps c.args.ordered.now c.requires.ordered c.limit_of-limit.result o c.count_by_boxes-counted.ensures.counts in
-    let m = subst (λ (limit : ℕ). MatchOption o (limit ≤ cost lines p ps) (λ k. AreCounts lines p ps k)) c.limit_of-limit.ensures e in
-    subst (SoFar lines ps c.args.used.now (c.args.at + 1)) (sym c.take_in.ensures)
-    (taken lines ps c.args.used.now c.args.at p c.requires.stands c.args.best o c.requires.few c.requires.so_far free m)
+    let e = reordered lines p ps c.args.ordered.now c.requires.ordered c.far_limit-far.result o c.count_by_boxes-counted.ensures.counts in
+    let m = nearer lines p ps c.limit_of-limit.result c.far_limit-far.result o c.far_limit-far.ensures e in
+    subst (SoFar lines ps used c.args.bound (c.args.at + 1)) (sym c.take_in.ensures)
+    (taken lines ps used c.args.bound c.args.at p c.requires.stands c.limit_of-limit.result c.args.best o c.limit_of-limit.ensures c.requires.so_far free m)
+
+pub returns-clause-floors : goal.returns-clause-floors
+returns-clause-floors c =
+    let lines = c.args.lines.now in
+    let p = c.args.piece.now in
+    let ps = c.args.pieces.now in
+    let o = c.count_by_boxes-counted.result in
+    c.note_floor.ensures lines ps ps p c.requires.floors c.requires.stands
+    (reordered lines p ps c.args.ordered.now c.requires.ordered c.far_limit-far.result o c.count_by_boxes-counted.ensures.counts)
 
 pub returns-then-used-piece-clause-so_far : goal.returns-then-used-piece-clause-so_far
 returns-then-used-piece-clause-so_far c =
     let lines = c.args.lines.now in
     let used = c.args.used.now in
     let p = c.args.piece.now in
-    used_stays lines c.args.pieces.now used c.args.at p c.requires.stands c.args.best c.requires.few (line_known lines used p c.requires.piece c.requires.known) c.if-used-piece.true c.requires.so_far
+    used_stays lines c.args.pieces.now used c.args.bound c.args.at p c.requires.stands c.args.best (line_known lines used p c.requires.piece c.requires.known) c.if-used-piece.true c.requires.so_far

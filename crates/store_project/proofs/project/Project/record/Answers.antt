@@ -1,11 +1,12 @@
-use Rattle.std.proofs.Common.{◌∙◌, ap, sym, subst}
+use Rattle.std.proofs.Common.{[], ◌∷◌, ◌∙◌, ap, sym, subst}
 use Rattle.map_tables.specs.Projects.{project_of}
 use Rattle.store_disk.specs.Moments.{LeavesOnly}
 use Rattle.map_commands.specs.ProjectStep.{project_after, project_number_of}
 use Rattle.store_project.specs.Places.{cap_of}
 use Rattle.store_project.specs.Stands.{IsOutcome}
 use Rattle.map_commands.specs.ProjectLines.{LeadsTo}
-use Rattle.store_project.proofs.Sound.{step_fits, is_kept, append_moments, sound_recorded}
+use Rattle.store_project.proofs.Recording.{leads_one}
+use Rattle.store_project.proofs.Sound.{step_fits, is_kept, line_moments, sound_recorded}
 use Rattle.store_project.proofs.project.Project.record.Goals as goal
 
 pub invariant_of-self : goal.invariant_of-self
@@ -23,8 +24,8 @@ invariant_of-self g c =
       },
     ) in
     let short = step_fits (project_of p.maps) leads.1.command (cap_of p.geometry) (project_after (project_of p.maps) c.args.ready.command) leads.0 leads.1.stepped in
-    sound_recorded g.D.Disk p c.self.invariant.framed ready c.append.new.disk c.append.new.self c.commit.new.maps c.args.line.now (project_after (project_of p.maps) c.args.ready.command)
-    leads c.commit.ensures.project short c.in-Ok.ensures.appended c.in-Ok.ensures.next c.in-Ok.ensures.ready
+    sound_recorded g.D.Disk p c.self.invariant.framed ready c.append.new.disk c.append.new.self _ c.commit.new.maps (c.args.line.now ∷ [])
+    (project_after (project_of p.maps) c.args.ready.command) (leads_one (cap_of p.geometry) (project_of p.maps) c.args.line.now (project_after (project_of p.maps) c.args.ready.command) leads) c.commit.ensures.project short c.in-Ok.ensures.appended c.in-Ok.ensures.next c.in-Ok.ensures.ready
 
 pub returns-in-Ok-clause-kept : goal.returns-in-Ok-clause-kept
 returns-in-Ok-clause-kept g c =
@@ -46,7 +47,7 @@ returns-in-Ok-clause-any_moment g c =
       },
     ) in
     subst (λ (v : _). LeavesOnly g.D.Disk v.disk c.append.new.disk (IsOutcome v.cap (project_of v.maps) c.args.line.now)) c.self.view_is
-    (append_moments g.D.Disk p c.self.invariant.framed ready c.append.new.disk c.args.line.now (project_after (project_of p.maps) c.args.ready.command) leads c.append.ensures.any_moment)
+    (line_moments g.D.Disk p c.self.invariant.framed ready c.append.new.disk c.args.line.now (project_after (project_of p.maps) c.args.ready.command) leads c.append.ensures.any_moment)
 
 pub returns-in-Err-Device-clause-any_moment : goal.returns-in-Err-Device-clause-any_moment
 returns-in-Err-Device-clause-any_moment g c =
@@ -63,4 +64,4 @@ returns-in-Err-Device-clause-any_moment g c =
       },
     ) in
     subst (λ (v : _). LeavesOnly g.D.Disk v.disk c.append.new.disk (IsOutcome v.cap (project_of v.maps) c.args.line.now)) c.self.view_is
-    (append_moments g.D.Disk p c.self.invariant.framed ready c.append.new.disk c.args.line.now (project_after (project_of p.maps) c.args.ready.command) leads c.append.ensures.any_moment)
+    (line_moments g.D.Disk p c.self.invariant.framed ready c.append.new.disk c.args.line.now (project_after (project_of p.maps) c.args.ready.command) leads c.append.ensures.any_moment)

@@ -1,0 +1,106 @@
+-- The maps that a script draws where it stands in place of a project (docs/COMMANDS.md, "Scripts in
+-- place of a project").
+use Rattle.std.specs.Prelude.{◌≡◌, ◌⊎◌, ◌==◌, ◌&&◌, ◌+◌, ℕ, Bool, false, List, Option, None, Result, Ok, Err, codes, option_map, slice_get, unwrap_or}
+use Rattle.std.specs.Io.KnownBytes.{Keeps}
+use Rattle.map_tables.specs.Projects.{MapsView, ProjectMaps, empty_project, project_of}
+use Rattle.map_tables.specs.Tables.{Tables, count_of}
+use Rattle.map_tables.specs.declared.kind.Kind.TheVariants.{Vertex, Sector, Side, Line, Thing}
+use Rattle.map_script.specs.Scripts.{script_lines}
+use Rattle.run_edit.specs.Answers.{ChangesBy}
+use Rattle.run_edit.specs.declared.limits.TheConstants.{LONGEST_BODY}
+use Rattle.run_edit.specs.declared.error.EditorError.TheVariants.{OutOfMemory}
+use Rattle.run_script.specs.Canvases.{draft_canvas}
+use Rattle.run_script.specs.Drawn.{IsScriptDrawn, OneOf}
+use Rattle.cli_print.specs.Picturing.{is_called}
+use Rattle.cli_print.specs.Reading.{ReadsAll}
+use Rattle.cli_program.specs.Drawing.{IsUnreadOf, TellsStopFrom}
+use Rattle.cli_refusals.specs.declared.refusal.Refusal.{Refusal}
+use Rattle.cli_refusals.specs.declared.refusal.Refusal.TheVariants as of
+
+-- ---- Which maps
+
+-- how many items a map has
+abbrev pub item_count : Tables → ℕ
+item_count m =
+    count_of m Vertex + count_of m Sector + count_of m Side + count_of m Line + count_of m Thing
+
+-- the map is MAP01, and empty
+abbrev pub is_untouched : Tables → Bool
+is_untouched m = is_called (codes "MAP01") m && (item_count m == 0)
+
+-- the first map is the empty MAP01
+abbrev pub begins_untouched : ProjectMaps → Bool
+begins_untouched p = unwrap_or (option_map is_untouched (slice_get p.maps 0)) false
+
+-- the same maps; but an empty MAP01 before them is dropped, by the command that refuses to drop the
+-- current map
+abbrev pub IsWithoutUntouched : ProjectMaps → ProjectMaps → Type 0
+IsWithoutUntouched old new =
+    OneOf (begins_untouched old)
+    ((outcome : Result ℕ ℕ) × ChangesBy LONGEST_BODY old (codes "drop-map MAP01") outcome new)
+    (new ≡ old)
+
+-- all lines of the script were drawn from these maps on to those, whatever its queries answered
+abbrev pub DrawsWhole : List ℕ → ProjectMaps → ProjectMaps → Type 0
+DrawsWhole text old new =
+    (answers : Option (List ℕ))
+    × IsScriptDrawn draft_canvas false (script_lines text) (Ok None) old None new answers
+
+-- the maps are those that the script draws over the empty project
+abbrev pub AreDrawnBy : List ℕ → ProjectMaps → Type 0
+AreDrawnBy text p =
+    (last : ProjectMaps) × DrawsWhole text empty_project last × IsWithoutUntouched last p
+
+-- ---- How it ends
+
+-- not all lines of the script were drawn from these maps on: one was refused and told, or there was
+-- no memory
+abbrev pub IsStoppedFrom : ProjectMaps → List ℕ → List ℕ → Result ℕ Refusal → Option (List ℕ)
+    → Option (List ℕ) → Type 0
+IsStoppedFrom old name text (Ok status) faults-old faults-new =
+    (status ≡ 3) × TellsStopFrom draft_canvas false name text old None faults-old faults-new
+IsStoppedFrom old name text (Err refusal) faults-old faults-new = refusal ≡ of.Lines OutOfMemory
+
+-- the same over the empty project
+abbrev pub IsStopped : List ℕ → List ℕ → Result ℕ Refusal → Option (List ℕ) → Option (List ℕ)
+    → Type 0
+IsStopped name text how faults-old faults-new =
+    IsStoppedFrom empty_project name text how faults-old faults-new
+
+-- the maps are those that all that the reader gave draws, and nothing was told
+abbrev pub IsReadDrawn : Option (List ℕ) → Option (List ℕ) → ProjectMaps → Option (List ℕ)
+    → Option (List ℕ) → Type 0
+IsReadDrawn reader-old reader-new p faults-old faults-new =
+    (text : List ℕ) × ReadsAll reader-old reader-new text × AreDrawnBy text p
+    × Keeps faults-old faults-new
+
+-- the script can't be read, or not all of its lines were drawn
+abbrev pub NotReadDrawn : List ℕ → Option (List ℕ) → Option (List ℕ) → Result ℕ Refusal
+    → Option (List ℕ) → Option (List ℕ) → Type 0
+NotReadDrawn name reader-old reader-new how faults-old faults-new =
+    ((refusal : Refusal) × (how ≡ Err refusal) × IsUnreadOf reader-old reader-new refusal
+    × Keeps faults-old faults-new)
+    ⊎ ((text : List ℕ) × ReadsAll reader-old reader-new text
+    × IsStopped name text how faults-old faults-new)
+
+-- ---- What was done
+
+-- there are no maps of the script, and nothing was written; or this was done with those that all
+-- that the reader gave draws
+abbrev pub OverScript : List ℕ → Option (List ℕ) → Option (List ℕ) → Result ℕ Refusal
+    → Option (List ℕ) → Option (List ℕ) → Option (List ℕ) → Option (List ℕ)
+    → (MapsView → Type 0) → Type 0
+OverScript name reader-old reader-new how writer-old writer-new faults-old faults-new does =
+    (NotReadDrawn name reader-old reader-new how faults-old faults-new
+    × Keeps writer-old writer-new)
+    ⊎ ((maps : MapsView) × IsReadDrawn reader-old reader-new (project_of maps)
+    faults-old faults-new × does maps)
+
+-- the same with some text, since a file tells none
+abbrev pub OverSomeScript : List ℕ → Result ℕ Refusal → Option (List ℕ) → Option (List ℕ)
+    → Option (List ℕ) → Option (List ℕ) → (MapsView → Type 0) → Type 0
+OverSomeScript name how writer-old writer-new faults-old faults-new does =
+    (text : List ℕ)
+    × ((IsStopped name text how faults-old faults-new × Keeps writer-old writer-new)
+    ⊎ ((maps : MapsView) × AreDrawnBy text (project_of maps) × Keeps faults-old faults-new
+    × does maps))

@@ -1,0 +1,84 @@
+-- What was done for a request over a project, a WAD or a script (docs/COMMANDS.md, "The program"), and
+-- what was told on standard error: nothing, but for a refused line of a script, or notes on levels.
+use Rattle.std.specs.Prelude.{◌≡◌, ℕ, Bool, Option, Result, List, is_some, map, option_map, string_bytes}
+use Rattle.std.specs.Io.KnownBytes.{Keeps}
+use Rattle.cli_dump.specs.Dumping.{IsDumpedIn}
+use Rattle.cli_dump.specs.LevelDumps.{IsWadDumped}
+use Rattle.cli_print.specs.Checking.{IsCheckedIn}
+use Rattle.cli_print.specs.LevelLines.{IsWadChecked, IsWadLintedBy}
+use Rattle.cli_print.specs.LevelPicture.{IsLevelPicturedOf}
+use Rattle.cli_print.specs.Linting.{IsLintedBy}
+use Rattle.cli_print.specs.Picturing.{IsPicturedOf}
+use Rattle.cli_print.specs.declared.laid_over.Layers.{Layers}
+use Rattle.cli_program.specs.SomeSource.{OverSome}
+use Rattle.cli_program.specs.Sources.{IsBuiltFrom}
+use Rattle.cli_refusals.specs.declared.refusal.Refusal.{Refusal}
+use Rattle.cli_words.specs.declared.asked.Request.{Request}
+use Rattle.cli_words.specs.declared.asked.Request.TheVariants.{Check, Lint, Dump, Picture, Build}
+
+-- the findings of a map of the file at the path, or of a level, were written: of the one of the name
+-- where one is asked for
+abbrev pub IsCheckedAt : List ℕ → Option (List ℕ) → Result ℕ Refusal → Option (List ℕ)
+    → Option (List ℕ) → Option (List ℕ) → Option (List ℕ) → Type 0
+IsCheckedAt path name how writer-old writer-new faults-old faults-new =
+    OverSome path how writer-old writer-new faults-old faults-new
+    (λ maps. IsCheckedIn name maps how writer-old writer-new)
+    (λ wad. IsWadChecked wad name how writer-old writer-new × Keeps faults-old faults-new)
+
+-- what there is to say of the maps of the file at the path, or of its levels, was told
+abbrev pub IsLintedAt : List ℕ → Bool → Option (List ℕ) → Result ℕ Refusal → Option (List ℕ)
+    → Option (List ℕ) → Option (List ℕ) → Option (List ℕ) → Type 0
+IsLintedAt path asked name how writer-old writer-new faults-old faults-new =
+    OverSome path how writer-old writer-new faults-old faults-new
+    (λ maps. IsLintedBy asked name maps how writer-old writer-new)
+    (λ wad. IsWadLintedBy asked wad name how writer-old writer-new × Keeps faults-old faults-new)
+
+-- a map of the file at the path, or a level, was drawn
+abbrev pub IsPicturedAt : List ℕ → Layers → Option (List ℕ) → Bool → Result ℕ Refusal
+    → Option (List ℕ) → Option (List ℕ) → Option (List ℕ) → Option (List ℕ) → Type 0
+IsPicturedAt path layers name into how writer-old writer-new faults-old faults-new =
+    OverSome path how writer-old writer-new faults-old faults-new
+    (λ maps. IsPicturedOf layers name into maps how writer-old writer-new)
+    (λ wad. IsLevelPicturedOf layers name into wad how writer-old writer-new
+    × Keeps faults-old faults-new)
+
+-- the maps of the file at the path were dumped; or the levels of a WAD, and their notes told
+abbrev pub IsDumpedAt : List ℕ → List (List ℕ) → Bool → Result ℕ Refusal → Option (List ℕ)
+    → Option (List ℕ) → Option (List ℕ) → Option (List ℕ) → Type 0
+IsDumpedAt path names exact how writer-old writer-new faults-old faults-new =
+    OverSome path how writer-old writer-new faults-old faults-new
+    (λ maps. IsDumpedIn names maps how writer-old writer-new)
+    (λ wad. IsWadDumped wad names exact how writer-old writer-new faults-old faults-new)
+
+-- the maps of the file at the path, which is no WAD, were built, and the counts told
+abbrev pub IsBuiltAt : List ℕ → Result ℕ Refusal → Option (List ℕ) → Option (List ℕ)
+    → Option (List ℕ) → Option (List ℕ) → Type 0
+IsBuiltAt path how writer-old writer-new faults-old faults-new =
+    OverSome path how writer-old writer-new faults-old faults-new
+    (λ maps. IsBuiltFrom maps how writer-old writer-new) (λ wad. ⊥)
+
+-- one of these was done, as the request asks for
+abbrev pub IsDoneWith : Request → Result ℕ Refusal → Option (List ℕ) → Option (List ℕ)
+    → Option (List ℕ) → Option (List ℕ) → Type 0
+IsDoneWith (Check file map) how writer-old writer-new faults-old faults-new =
+    IsCheckedAt (string_bytes file) (option_map string_bytes map) how writer-old writer-new
+    faults-old faults-new
+IsDoneWith (Lint file map iwad) how writer-old writer-new faults-old faults-new =
+    IsLintedAt (string_bytes file) (is_some iwad) (option_map string_bytes map) how
+    writer-old writer-new faults-old faults-new
+IsDoneWith (Dump file names exact) how writer-old writer-new faults-old faults-new =
+    IsDumpedAt (string_bytes file) (map string_bytes names.items) exact how writer-old writer-new
+    faults-old faults-new
+IsDoneWith (Picture file map out numbers nodes lint) how writer-old writer-new
+    faults-old faults-new =
+    IsPicturedAt (string_bytes file) (record { numbers = numbers; nodes = nodes; lint = lint })
+    (option_map string_bytes map) (is_some out) how writer-old writer-new faults-old faults-new
+IsDoneWith (Build file out) how writer-old writer-new faults-old faults-new =
+    IsBuiltAt (string_bytes file) how writer-old writer-new faults-old faults-new
+IsDoneWith request how writer-old writer-new faults-old faults-new = ⊥
+
+-- the same, whatever was told
+abbrev pub IsDoneWithSome : Request → Result ℕ Refusal → Option (List ℕ) → Option (List ℕ) → Type 0
+IsDoneWithSome request how writer-old writer-new =
+    (faults-old faults-new : Option (List ℕ))
+    × IsDoneWith request how writer-old writer-new faults-old faults-new

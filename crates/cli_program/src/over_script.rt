@@ -1,0 +1,149 @@
+//! The requests over a script in place of a project: each does with the maps that the script draws in memory what it
+//! does with a project's.
+ghost use Rattle.std.specs.Prelude.{◌≡◌, ◌≤◌, IfOk, is_some, map, option_map, string_bytes};
+ghost use Rattle.cli_dump.specs.Dumping.{IsDumpedIn};
+ghost use Rattle.cli_print.specs.Checking.{IsCheckedIn};
+ghost use Rattle.cli_print.specs.Linting.{IsLintedBy};
+ghost use Rattle.cli_print.specs.Picturing.{IsPicturedOf};
+ghost use Rattle.cli_program.specs.ScriptMaps.{OverScript};
+ghost use Rattle.cli_program.specs.Sources.{IsBuiltFrom};
+
+use crate::build_request::build_at;
+use crate::script_maps::draw_maps;
+use cli_dump::tell_lines_of;
+use cli_files::{Cause, Hold};
+use cli_print::{Wanted, draw, tell_beside, tell_findings};
+use cli_refusals::Refusal;
+use run_script::{Canvas, Draft};
+use std::alloc::Global;
+use std::fs::Files;
+use std::io::{Read, Write};
+
+/// Writes what is wrong or unfinished in the map with the name that a script draws, or in the current one.
+#[inline(never)]
+pub fn check_script<R: Read, W: Write, F: Write>(
+    alloc: Global,
+    script: &str,
+    reader: &mut R,
+    name: Option<&str>,
+    writer: &mut W,
+    faults: &mut F,
+) -> Result<u8, Refusal>
+    ensures small { IfOk result (λ s. s ≤ 3) }
+    ensures found { OverScript script.now (R.remaining reader.old) (R.remaining reader.new) result
+        (W.contents writer.old) (W.contents writer.new)
+        (F.contents faults.old) (F.contents faults.new)
+        (λ maps. IsCheckedIn (option_map (λ s. s.now) name.entry) maps result
+        (W.contents writer.old) (W.contents writer.new)) }
+{
+    let mut draft = Draft::new(alloc);
+    match draw_maps(alloc, script, reader, &mut draft, faults) {
+        Some(how) => how,
+        None => tell_findings(alloc, draft.maps(), name, writer),
+    }
+}
+
+/// Writes about each map that a script draws, or about the one with the name alone, what `lint` says of a project's.
+#[inline(never)]
+pub fn lint_script<E: AllocGlobal + Files, R: Read, W: Write, F: Write>(
+    rt: &E,
+    script: &str,
+    reader: &mut R,
+    name: Option<&str>,
+    iwad: Option<&str>,
+    writer: &mut W,
+    faults: &mut F,
+    why: &mut Option<Cause>,
+) -> Result<u8, Refusal>
+    ensures small { IfOk result (λ s. s ≤ 3) }
+    ensures linted { OverScript script.now (R.remaining reader.old) (R.remaining reader.new) result
+        (W.contents writer.old) (W.contents writer.new)
+        (F.contents faults.old) (F.contents faults.new)
+        (λ maps. IsLintedBy (is_some iwad.entry) (option_map (λ s. s.now) name.entry) maps
+        result (W.contents writer.old) (W.contents writer.new)) }
+{
+    let mut draft = Draft::new(rt.alloc());
+    match draw_maps(rt.alloc(), script, reader, &mut draft, faults) {
+        Some(how) => how,
+        None => tell_beside(rt, draft.maps(), name, iwad, writer, why),
+    }
+}
+
+/// Writes the lines that draw the maps of a script again, or, if there are names, those of each map with one of the
+/// names.
+#[inline(never)]
+pub fn dump_script<R: Read, W: Write, F: Write>(
+    alloc: Global,
+    script: &str,
+    reader: &mut R,
+    names: &[String],
+    writer: &mut W,
+    faults: &mut F,
+) -> Result<u8, Refusal>
+    ensures small { IfOk result (λ s. s ≤ 3) }
+    ensures dumped { OverScript script.now (R.remaining reader.old) (R.remaining reader.new) result
+        (W.contents writer.old) (W.contents writer.new)
+        (F.contents faults.old) (F.contents faults.new)
+        (λ maps. IsDumpedIn (map string_bytes names.now) maps result
+        (W.contents writer.old) (W.contents writer.new)) }
+{
+    let mut draft = Draft::new(alloc);
+    match draw_maps(alloc, script, reader, &mut draft, faults) {
+        Some(how) => how,
+        None => tell_lines_of(alloc, draft.maps(), names, writer),
+    }
+}
+
+/// Draws a map of a script as a picture, onto the output or into a file, or notes why the file can't be made.
+#[inline(never)]
+pub fn picture_script<E: AllocGlobal + Files, R: Read, W: Write, F: Write>(
+    rt: &E,
+    script: &str,
+    reader: &mut R,
+    wanted: Wanted<'_>,
+    writer: &mut W,
+    faults: &mut F,
+    why: &mut Option<Cause>,
+) -> Result<u8, Refusal>
+where
+    E::File: Hold,
+    ensures small { IfOk result (λ s. s ≤ 3) }
+    ensures pictured { OverScript script.now (R.remaining reader.old) (R.remaining reader.new)
+        result (W.contents writer.old) (W.contents writer.new)
+        (F.contents faults.old) (F.contents faults.new)
+        (λ maps. IsPicturedOf wanted.entry.layers (option_map (λ s. s.now) wanted.entry.map)
+        (is_some wanted.entry.out) maps result (W.contents writer.old) (W.contents writer.new)) }
+{
+    let mut draft = Draft::new(rt.alloc());
+    match draw_maps(rt.alloc(), script, reader, &mut draft, faults) {
+        Some(how) => how,
+        None => draw(rt.alloc(), rt, draft.maps(), wanted, writer, why),
+    }
+}
+
+/// Builds the maps of a script into the file at `out`, or notes why the file can't be made. If a line is refused, the
+/// file stays as it is.
+#[inline(never)]
+pub fn build_script<E: AllocGlobal + Files, R: Read, W: Write, F: Write>(
+    rt: &E,
+    script: &str,
+    reader: &mut R,
+    out: &str,
+    writer: &mut W,
+    faults: &mut F,
+    why: &mut Option<Cause>,
+) -> Result<u8, Refusal>
+where
+    E::File: Hold,
+    ensures small { IfOk result (λ s. s ≤ 3) }
+    ensures built { OverScript script.now (R.remaining reader.old) (R.remaining reader.new) result
+        (W.contents writer.old) (W.contents writer.new)
+        (F.contents faults.old) (F.contents faults.new)
+        (λ maps. IsBuiltFrom maps result (W.contents writer.old) (W.contents writer.new)) }
+{
+    let mut draft = Draft::new(rt.alloc());
+    match draw_maps(rt.alloc(), script, reader, &mut draft, faults) {
+        Some(how) => how,
+        None => build_at(rt.alloc(), rt, draft.maps(), out, writer, why),
+    }
+}

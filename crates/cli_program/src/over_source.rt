@@ -1,0 +1,183 @@
+//! The requests that only read a project, in the file at a path, which may also be a WAD or a script: `build` takes no
+//! WAD.
+ghost use Rattle.std.specs.Prelude.{◌≡◌, ◌≤◌, IfOk, is_some, map, option_map, string_bytes};
+ghost use Rattle.cli_program.specs.SourceDeeds.{IsBuiltAt, IsCheckedAt, IsDumpedAt, IsLintedAt, IsPicturedAt};
+
+use crate::build_request::build;
+use crate::dump_request::{dump, dump_wad};
+use crate::lint_request::{lint, lint_wad};
+use crate::over_disk::check;
+use crate::over_file::{ended_over, open_at};
+use crate::over_script::{build_script, check_script, dump_script, lint_script, picture_script};
+use crate::over_wad::check_wad;
+use crate::picture_request::{picture, picture_wad};
+use crate::source::{Source, source_in};
+use cli_files::{Access, Hold, NotedFile};
+use cli_print::Wanted;
+use cli_refusals::{Causes, Refusal};
+use std::io::Write;
+use std::os::unix::fs::FileExt;
+use std::rt::Files;
+use store_disk::FileDisk;
+
+/// Writes what is wrong or unfinished in a map, the one with the name or the current one; if the file is a WAD, in its
+/// level with the name, or in the first one.
+pub fn check_file<E, W, F>(
+    rt: &E,
+    path: &str,
+    name: Option<&str>,
+    writer: &mut W,
+    faults: &mut F,
+    why: &mut Causes,
+) -> Result<u8, Refusal>
+where
+    E: AllocGlobal + Files,
+    E::File: FileExt + Hold,
+    W: Write,
+    F: Write,
+    ensures small { IfOk result (λ s. s ≤ 3) }
+    ensures found { IsCheckedAt path.now (option_map (λ s. s.now) name.entry) result
+        (W.contents writer.old) (W.contents writer.new)
+        (F.contents faults.old) (F.contents faults.new) }
+{
+    let mut file = open_at(rt, path, Access::Reads, why)?;
+    match source_in(&file) {
+        Source::Wad => return check_wad(rt.alloc(), &mut file, name, writer),
+        Source::Script => return check_script(rt.alloc(), path, &mut file, name, writer, faults),
+        Source::Project => {}
+    }
+    let file = NotedFile::new(file);
+    let disk = FileDisk::new(&file, false);
+    let how = check(rt.alloc(), disk, name, writer).how;
+    ended_over(&file, how, why)
+}
+
+/// Writes what is wrong, unfinished or doubtful in each map, or in the one with the name alone, and which flats and
+/// textures the WAD at the path `iwad` lacks, if one is given. If the file is a WAD, does the same with its levels.
+pub fn lint_file<E, W, F>(
+    rt: &E,
+    path: &str,
+    name: Option<&str>,
+    iwad: Option<&str>,
+    writer: &mut W,
+    faults: &mut F,
+    why: &mut Causes,
+) -> Result<u8, Refusal>
+where
+    E: AllocGlobal + Files,
+    E::File: FileExt + Hold,
+    W: Write,
+    F: Write,
+    ensures small { IfOk result (λ s. s ≤ 3) }
+    ensures linted { IsLintedAt path.now (is_some iwad.entry) (option_map (λ s. s.now) name.entry)
+        result (W.contents writer.old) (W.contents writer.new)
+        (F.contents faults.old) (F.contents faults.new) }
+{
+    let mut file = open_at(rt, path, Access::Reads, why)?;
+    let beside = &mut why.beside;
+    match source_in(&file) {
+        Source::Wad => return lint_wad(rt, &mut file, name, iwad, writer, beside),
+        Source::Script => {
+            return lint_script(rt, path, &mut file, name, iwad, writer, faults, beside);
+        }
+        Source::Project => {}
+    }
+    let file = NotedFile::new(file);
+    let disk = FileDisk::new(&file, false);
+    let how = lint(rt, disk, name, iwad, writer, beside).how;
+    ended_over(&file, how, why)
+}
+
+/// Writes the lines that draw the maps again, all or those with the names. If the file is a WAD, does the same with its
+/// levels, and reports on `faults` their changes, and which are left.
+pub fn dump_file<E, W, F>(
+    rt: &E,
+    path: &str,
+    names: &[String],
+    is_exact: bool,
+    writer: &mut W,
+    faults: &mut F,
+    why: &mut Causes,
+) -> Result<u8, Refusal>
+where
+    E: AllocGlobal + Files,
+    E::File: FileExt + Hold,
+    W: Write,
+    F: Write,
+    ensures small { IfOk result (λ s. s ≤ 3) }
+    ensures dumped { IsDumpedAt path.now (map string_bytes names.now) is_exact result
+        (W.contents writer.old) (W.contents writer.new)
+        (F.contents faults.old) (F.contents faults.new) }
+{
+    let mut file = open_at(rt, path, Access::Reads, why)?;
+    match source_in(&file) {
+        Source::Wad => return dump_wad(rt.alloc(), &mut file, names, is_exact, writer, faults),
+        Source::Script => return dump_script(rt.alloc(), path, &mut file, names, writer, faults),
+        Source::Project => {}
+    }
+    let file = NotedFile::new(file);
+    let disk = FileDisk::new(&file, false);
+    let how = dump(rt.alloc(), disk, names, writer).how;
+    ended_over(&file, how, why)
+}
+
+/// Draws a map as a picture; if the file is a WAD, a level of it.
+pub fn picture_file<E, W, F>(
+    rt: &E,
+    path: &str,
+    wanted: Wanted<'_>,
+    writer: &mut W,
+    faults: &mut F,
+    why: &mut Causes,
+) -> Result<u8, Refusal>
+where
+    E: AllocGlobal + Files,
+    E::File: FileExt + Hold,
+    W: Write,
+    F: Write,
+    ensures small { IfOk result (λ s. s ≤ 3) }
+    ensures pictured { IsPicturedAt path.now wanted.entry.layers
+        (option_map (λ s. s.now) wanted.entry.map) (is_some wanted.entry.out) result
+        (W.contents writer.old) (W.contents writer.new)
+        (F.contents faults.old) (F.contents faults.new) }
+{
+    let mut file = open_at(rt, path, Access::Reads, why)?;
+    let out = &mut why.out;
+    match source_in(&file) {
+        Source::Wad => return picture_wad(rt.alloc(), rt, &mut file, wanted, writer, out),
+        Source::Script => return picture_script(rt, path, &mut file, wanted, writer, faults, out),
+        Source::Project => {}
+    }
+    let file = NotedFile::new(file);
+    let disk = FileDisk::new(&file, false);
+    let how = picture(rt.alloc(), rt, disk, wanted, writer, out).how;
+    ended_over(&file, how, why)
+}
+
+/// Builds the maps into the file at `out`. A WAD is refused as a file that is no project.
+pub fn build_file<E, W, F>(
+    rt: &E,
+    path: &str,
+    out: &str,
+    writer: &mut W,
+    faults: &mut F,
+    why: &mut Causes,
+) -> Result<u8, Refusal>
+where
+    E: AllocGlobal + Files,
+    E::File: FileExt + Hold,
+    W: Write,
+    F: Write,
+    ensures small { IfOk result (λ s. s ≤ 3) }
+    ensures built { IsBuiltAt path.now result (W.contents writer.old) (W.contents writer.new)
+        (F.contents faults.old) (F.contents faults.new) }
+{
+    let mut file = open_at(rt, path, Access::Reads, why)?;
+    if let Source::Script = source_in(&file) {
+        return build_script(rt, path, &mut file, out, writer, faults, &mut why.out);
+    }
+    let file = NotedFile::new(file);
+    let disk = FileDisk::new(&file, false);
+    let how = build(rt.alloc(), rt, disk, out, writer, &mut why.out).how;
+    ended_over(&file, how, why)
+}

@@ -1,0 +1,39 @@
+-- What a line of a script gives: first items, a name to numbers or words, a note of its answer.
+use Rattle.std.specs.Prelude.{◌≡◌, ◌⊎◌, ℕ, Bool, true, false, List, [], ◌∷◌, ◌++◌, Option, Some, None, MatchResult, codes, decimal}
+use Rattle.map_tables.specs.Projects.{ProjectMaps, current_map}
+use Rattle.map_commands.specs.ProjectCommands.{InProjectRange, project_spelling}
+use Rattle.map_commands.specs.declared.project.command.ProjectCommand.{ProjectCommand}
+use Rattle.map_script.specs.Errors.{code_of}
+use Rattle.map_script.specs.Firsts.{firsts_of}
+use Rattle.map_script.specs.Lines.{names_after}
+use Rattle.map_script.specs.Meant.{Meant, numbered, with_meaning}
+use Rattle.map_script.specs.declared.firsts.Firsts.{Firsts}
+use Rattle.map_script.specs.declared.firsts.Numbers.{Numbers}
+use Rattle.run_script.specs.declared.canvas.Canvas.{Ghosts}
+
+-- if a line is a command, these are the first items that it adds to the maps
+abbrev pub AddsFirst : List ℕ → ProjectMaps → Firsts → Type 0
+AddsFirst text p firsts =
+    (c : ProjectCommand) → InProjectRange c → text ≡ project_spelling c
+    → firsts ≡ firsts_of c (current_map p)
+
+-- the names, with the one that a line gives to its numbers
+abbrev pub with_given_name : Option (List ℕ) → Numbers → List (List ℕ × Meant)
+    → List (List ℕ × Meant)
+with_given_name None numbers names = names
+with_given_name (Some name) numbers names = with_meaning names name (numbered numbers)
+
+-- `NUMBER: ok N`, if the answers to commands are written
+abbrev pub noted_text : Bool → ℕ → ℕ → List ℕ
+noted_text true number n = decimal number ++ codes ": ok " ++ decimal n ++ 10 ∷ []
+noted_text false number n = []
+
+-- the names after NAME WORD .., or refused with this code: for what is wrong with it, or for lack of
+-- memory
+abbrev pub GivesWords : {S : Type 0} → Ghosts S → List (List ℕ) → S → List (List ℕ × Meant)
+    → Option ℕ → List (List ℕ × Meant) → Type 0
+GivesWords facts words canvas old refusal new =
+    MatchResult (names_after old (current_map (facts.maps_in canvas)) words)
+    (λ names. (refusal ≡ None) × (new ≡ names))
+    (λ fault. (refusal ≡ Some (code_of fault)) × (new ≡ old))
+    ⊎ ((refusal ≡ Some 31) × (new ≡ old))

@@ -1,0 +1,244 @@
+//! A journal's groups: their bytes, and what stops leave when a call of an append of a group fails.
+ghost use Rattle.std.specs.Prelude.{◌<◌, length};
+ghost use Rattle.store_journal.specs.State.{IsReadyIn};
+
+use crate::expect::same;
+use crate::journal::{Failing, expect_bytes, is_opened_with};
+use crate::journal_stops::disk_with_first;
+use crate::ready::{blanked, opened};
+use std::alloc::Global;
+use std::process::Abort;
+use std::test::Fail;
+use store_disk::{Disk, Fill, MemoryDisk};
+use store_journal::{Group, Journal, JournalError};
+
+// How many payloads a group has, and the last of them; the others are empty.
+type Many = (usize, &'static [u8]);
+
+// The last one fills the area, after the record of `first`.
+const GROUPS: &[Many] = &[(1, b"second"), (2, b"second"), (100, b""), (100, b"x")];
+
+fn group_of(alloc: Global, many: &Many) -> Result<Group, Fail> {
+    let mut group = Group::new(alloc)?;
+    for _ in 1..many.0 {
+        group.push(b"")?;
+    }
+    if many.1.len() <= 256 {
+        group.push(many.1)?;
+    }
+    Ok(group)
+}
+
+// The call that failed, how many bytes of its write were still written, the stop's fill, and whether the stop left the
+// longest image.
+type Stop = (u64, u32, Fill, bool);
+
+// How many records a stop left, and whether they are `first` alone, or `first` and the whole group.
+fn left_of<D: Disk>(
+    alloc: Global,
+    left: &mut D,
+    many: &Many,
+) -> Result<(usize, bool, bool), JournalError> {
+    let journal = opened(alloc, left)?;
+    let count = journal.count();
+    let first = journal.payload(0) == Some(b"first".as_slice());
+    let whole = count == many.0.saturating_add(1) && journal.payload(many.0) == Some(many.1);
+    Ok((count, first && count == 1, first && whole))
+}
+
+// A stop left the whole group; or none of it, if its append wasn't `done`.
+fn expect_left<D: Disk>(
+    rt: &impl Abort,
+    alloc: Global,
+    left: &mut D,
+    many: &Many,
+    done: bool,
+    stop: &Stop,
+) -> Result<(), JournalError> {
+    let (count, none, whole) = left_of(alloc, left, many)?;
+    same(
+        rt,
+        &(stop, many, count, whole || (!done && none)),
+        &(stop, many, count, true),
+    );
+    Ok(())
+}
+
+// What a stop may leave in place of bytes that weren't synced.
+const FILLS: &[Fill] = &[
+    Fill::Stable,
+    Fill::Written,
+    Fill::Byte(0),
+    Fill::Byte(165),
+    Fill::Upto(1),
+    Fill::Upto(7),
+];
+
+// The same for stops with each fill, and the longest and the shortest image.
+fn expect_stops(
+    rt: &impl Abort,
+    alloc: Global,
+    disk: &MemoryDisk,
+    many: &Many,
+    done: bool,
+    call: (u64, u32),
+) -> Result<(), Fail> {
+    for &fill in FILLS {
+        let mut short = disk.stop(alloc, fill, false)?;
+        expect_left(
+            rt,
+            alloc,
+            &mut short,
+            many,
+            done,
+            &(call.0, call.1, fill, false),
+        )?;
+        let mut long = disk.stop(alloc, fill, true)?;
+        expect_left(
+            rt,
+            alloc,
+            &mut long,
+            many,
+            done,
+            &(call.0, call.1, fill, true),
+        )?;
+    }
+    Ok(())
+}
+
+// Appends a group while the k-th call fails, none if `k` is 0. Returns whether that succeeded.
+fn expect_appended<D: Disk>(
+    rt: &impl Abort,
+    journal: &mut Journal,
+    disk: &mut D,
+    group: &Group,
+    k: u64,
+) -> bool
+    requires some { 1 < length group.now }
+    requires ready { IsReadyIn journal.old (D.may_leave disk.old) }
+{
+    let ended = journal.append_all(disk, group);
+    if k == 0 {
+        same(rt, &ended, &Ok(()));
+        return true;
+    }
+    // The journal must now be reopened. It refuses each append, and makes no call of the disk.
+    let again = journal.append_all(disk, group);
+    same(
+        rt,
+        &(k, ended, again),
+        &(k, Err(JournalError::Device), Err(JournalError::Reopen)),
+    );
+    false
+}
+
+// Appends a group to the journal with the record `first` while the k-th device call fails, none if `k` is 0, and tests
+// what stops leave.
+fn expect_outcomes(
+    rt: &impl Abort,
+    alloc: Global,
+    disk: &mut Failing,
+    many: &Many,
+    call: (u64, u32),
+) -> Result<(), Fail> {
+    let group = group_of(alloc, many)?;
+    let mut journal = opened(alloc, disk)?;
+    if group.is_empty() {
+        return Ok(());
+    }
+    let done = expect_appended(rt, &mut journal, disk, &group, call.0);
+    expect_stops(rt, alloc, disk.inner(), many, done, call)?;
+    expect_left(
+        rt,
+        alloc,
+        disk,
+        many,
+        done,
+        &(call.0, call.1, Fill::Written, true),
+    )?;
+    Ok(())
+}
+
+const PARTS: &[u32] = &[0, 1, 5, 11, 505];
+
+#[test]
+fn stops_at_every_call_of_a_group(rt: HostRuntime) -> Result<(), Fail> {
+    for many in GROUPS {
+        for k in 0..5 {
+            for &part in PARTS {
+                let mut disk = disk_with_first(rt.alloc(), k, part)?;
+                expect_outcomes(&rt, rt.alloc(), &mut disk, many, (k, part))?;
+            }
+        }
+    }
+    Ok(())
+}
+
+// A group of these payloads.
+fn group_with(alloc: Global, payloads: &[&[u8]]) -> Result<Group, Fail> {
+    let mut group = Group::new(alloc)?;
+    for payload in payloads {
+        if payload.len() <= 256 {
+            group.push(payload)?;
+        }
+    }
+    Ok(group)
+}
+
+// Appends a group to a blank area, once and then again, and returns how that ended.
+fn append_twice<D: Disk>(
+    disk: &mut D,
+    group: &Group,
+) -> Result<[Result<(), JournalError>; 2], JournalError>
+    requires { 1 < length group.now }
+{
+    let mut journal = blanked(disk)?;
+    let first = journal.append_all(disk, group);
+    let second = journal.append_all(disk, group);
+    Ok([first, second])
+}
+
+// The same of a group with these payloads: the bytes that the area then has, and how each append ended.
+fn expect_twice(
+    rt: &impl Abort,
+    alloc: Global,
+    payloads: &[&[u8]],
+    wanted: &[Result<(), JournalError>; 2],
+    bytes: &[u8],
+) -> Result<(), Fail> {
+    let mut disk = MemoryDisk::new(alloc, 1024, 4096)?;
+    let group = group_with(alloc, payloads)?;
+    if group.is_empty() {
+        return Ok(());
+    }
+    same(rt, &append_twice(&mut disk, &group)?, wanted);
+    expect_bytes(rt, alloc, &mut disk, 144, bytes)
+}
+
+#[test]
+fn appends_a_group_as_a_whole(rt: HostRuntime) -> Result<(), Fail> {
+    expect_twice(
+        &rt,
+        rt.alloc(),
+        &[b"a", b"", b"bc"],
+        &[Ok(()), Ok(())],
+        b"\xa5\x01\0\0\0a\xa5\0\0\0\0\xa5\x02\0\0\0bc\xa5\x01\0\0\0a\xa5\0\0\0\0\xa5\x02\0\0\0bc\0",
+    )
+}
+
+// Twice this payload and its record's six other bytes are more than the 512 of the area.
+const HALF: &[u8; 251] = &[b'x'; 251];
+
+#[test]
+fn refuses_a_group_that_does_not_fit(rt: HostRuntime) -> Result<(), Fail> {
+    let mut disk = MemoryDisk::new(rt.alloc(), 1024, 4096)?;
+    let group = group_with(rt.alloc(), &[HALF])?;
+    if group.is_empty() {
+        return Ok(());
+    }
+    let ended = append_twice(&mut disk, &group)?;
+    assert_eq!(rt; ended, [Ok(()), Err(JournalError::JournalFull)]);
+    let is_one = is_opened_with(rt.alloc(), &mut disk, &[HALF])?;
+    assert!(rt; is_one);
+    Ok(())
+}

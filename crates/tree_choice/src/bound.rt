@@ -1,0 +1,92 @@
+//! A number that a choice costs less than, found before the candidates are gone over.
+ghost use Rattle.std.specs.Prelude.{◌≡◌, ◌≤◌, ◌<◌, ◌^◌, length, All, IfSome};
+ghost use Rattle.std.specs.List.Sorted.{IsPermutation};
+ghost use Rattle.tree_pieces.specs.Pieces.{IsPiece};
+ghost use Rattle.tree_pieces.specs.Boxes.{boxes_of};
+ghost use Rattle.tree_choice.specs.Blocks.{AreBlocks, AreGroups};
+ghost use Rattle.tree_choice.specs.Columns.{HoldsEnds, HoldsBoxes};
+ghost use Rattle.tree_choice.specs.SoFar.{IsBound};
+
+use crate::candidate::NotedPieces;
+use crate::floors::Floor;
+use crate::straight::StraightLines;
+use crate::walk::count_by_boxes;
+use lump_records::Bounds;
+use tree_pieces::{Lines, Piece};
+
+// What a floor of a piece is worth as the first one counted: its cost, or the greatest number if nothing is known or
+// the piece isn't to be counted.
+fn worth(floor: Floor) -> u64 {
+    match floor {
+        Floor::AtLeast(0) => u64::MAX,
+        Floor::AtLeast(cost) => cost,
+        Floor::NoneLeft => u64::MAX,
+    }
+}
+
+// The place of a piece of an unused line of which the least is known. It is likely to be the choice, or close to it.
+fn least_known(lines: &Lines, pieces: &[Piece], used: &[bool], floors: &[Floor]) -> usize
+    requires pieces { All (IsPiece lines.now) pieces.now }
+    requires known { length used.now ≡ length lines.now }
+{
+    let mut least = u64::MAX;
+    let mut place = pieces.len();
+    for (n, floor) in floors.iter().enumerate() {
+        let cost = worth(*floor);
+        if cost < least && n < pieces.len() && !used[pieces[n].line as usize] {
+            least = cost;
+            place = n;
+        }
+    }
+    place
+}
+
+/// A number that the choice costs less than: one more than the cost of the piece of which the least is known, or the
+/// greatest number if nothing is known.
+pub(crate) fn bound_of(
+    lines: &Lines,
+    pieces: &[Piece],
+    ordered: &[Piece],
+    blocks: &[Bounds],
+    used: &[bool],
+    straight: &mut StraightLines,
+    floors: &[Floor],
+) -> u64
+    requires pieces { All (IsPiece lines.now) pieces.now }
+    requires ordered { IsPermutation pieces.now ordered.now }
+    requires blocks { AreBlocks (boxes_of lines.now ordered.now) blocks.now }
+    requires known { length used.now ≡ length lines.now }
+    requires few { length pieces.now < 2 ^ 32 }
+    requires noted { HoldsEnds lines.now ordered.now straight.old.ends }
+    requires sides { HoldsBoxes blocks.now straight.old.sides }
+    requires groups { AreGroups (boxes_of lines.now ordered.now) straight.old.groups.items }
+    requires room { length blocks.now ≤ length straight.old.noted.items }
+    ensures bound { IsBound lines.now pieces.now used.now result }
+    ensures ends { straight.new.ends ≡ straight.old.ends }
+    ensures sides { straight.new.sides ≡ straight.old.sides }
+    ensures groups { straight.new.groups ≡ straight.old.groups }
+    ensures room { length straight.new.noted.items ≡ length straight.old.noted.items }
+{
+    let at = least_known(lines, pieces, used, floors);
+    if at >= pieces.len() || used[pieces[at].line as usize] {
+        return u64::MAX;
+    }
+    let list = NotedPieces {
+        pieces: ordered,
+        ends: &straight.ends,
+        blocks,
+        corners: &straight.sides,
+        groups: &straight.groups,
+    };
+    let piece = &pieces[at];
+    match count_by_boxes(lines, piece, &list, &mut straight.noted, u64::MAX) {
+        None => u64::MAX,
+        Some(counts) => {
+            if counts.left == 0 {
+                u64::MAX
+            } else {
+                counts.cost() + 1
+            }
+        }
+    }
+}
