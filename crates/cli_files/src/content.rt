@@ -1,5 +1,5 @@
 //! What a file holds, by its first bytes.
-ghost use Rattle.std.specs.Prelude.{◌≡◌};
+ghost use Rattle.std.specs.Prelude.{◌≡◌, take};
 ghost use Rattle.cli_files.specs.Contents.{content_of};
 
 use std::io;
@@ -66,6 +66,11 @@ pub fn content_in<F: FileExt>(file: &F) -> io::Result<Content> {
 }
 
 /// What bytes hold that were read whole.
-pub fn content_within(bytes: &[u8]) -> Content {
-    content_of(&bytes[..bytes.len().min(HEAD)])
+pub fn content_within(bytes: &[u8]) -> Content
+    ensures { result ≡ content_of (take 512 bytes.now) }
+{
+    if bytes.len() <= HEAD {
+        return content_of(bytes);
+    }
+    content_of(&bytes[..HEAD])
 }

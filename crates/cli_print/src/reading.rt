@@ -2,7 +2,7 @@
 ghost use Rattle.std.specs.Prelude.{◌≡◌, IfErr, IfOk};
 ghost use Rattle.std.specs.Io.KnownBytes.{Consumes, IsAtEnd};
 ghost use Rattle.cli_refusals.specs.Refusals.{EndsReading};
-ghost use Rattle.cli_print.specs.Reading.{IsTooLongAfter};
+ghost use Rattle.cli_print.specs.Reading.{IsTooLongAfter, no_wad};
 
 use cli_files::{Cause, Content, content_within};
 use run_edit::EditorError;
@@ -45,14 +45,16 @@ pub fn read_whole<R: Read>(
 }
 
 // What bytes hold that are no WAD.
-fn no_wad(bytes: &[u8]) -> Option<Cause> {
+fn no_wad(bytes: &[u8]) -> Option<Cause>
+    ensures { result ≡ no_wad bytes.now }
+{
     match content_within(bytes) {
         Content::Wad => None,
         content => Some(Cause::Holds(content)),
     }
 }
 
-/// Does the same with a WAD; or notes what it holds instead, for whoever refuses it.
+/// Does the same with a WAD, and notes what it holds if that is no WAD, for whoever refuses it.
 pub fn read_wad<R: Read>(
     alloc: Global,
     reader: &mut R,
@@ -65,6 +67,7 @@ pub fn read_wad<R: Read>(
     ensures refused { IfErr result EndsReading }
     ensures long { IfErr result
         (IsTooLongAfter turns (R.remaining reader.old) (R.remaining reader.new)) }
+    ensures noted { IfOk result (λ bytes. why.new ≡ no_wad bytes.items) }
 {
     let wad = read_whole(alloc, reader, turns, why)?;
     *why = no_wad(&wad);
