@@ -5,3 +5,5 @@ pub mod Outside
 pub mod Found
 pub mod Nearest
 pub mod Polygon
+pub mod Bands
+pub mod Boxes

@@ -1,0 +1,11 @@
+pub mod Tags
+pub mod Specials
+pub mod Sided
+pub mod Doors
+pub mod Donuts
+pub mod Scrolls
+pub mod Teleports
+pub mod Exits
+pub mod Locks
+pub mod Neighbours
+pub mod Game
