@@ -38,7 +38,7 @@ under_bottom a b c d y h k =
     (λ ge. or_left (int_le c a) (int_le c b) (le_is c a (omega (arith, ints, clamps))))))
 
 -- a line with a row in a band has its box in it
-row_in_band : (l : PlacedLine) (y : ℤ) (n : ℕ) → int_min l.from.y l.to.y ≤ℤ y → y ≤ℤ int_max l.from.y l.to.y → IsBandOf y n → is_in_band n l ≡ true
+pub row_in_band : (l : PlacedLine) (y : ℤ) (n : ℕ) → int_min l.from.y l.to.y ≤ℤ y → y ≤ℤ int_max l.from.y l.to.y → IsBandOf y n → is_in_band n l ≡ true
 unfolding is_in_band spans_meet
 row_in_band l y n low high band =
     both (is_under l.from.y l.to.y (band_bottom n) (band_top n)) (is_under (band_bottom n) (band_top n) l.from.y l.to.y)
@@ -86,7 +86,7 @@ row_of : (y : ℤ) → neg_ℤ (pos 32768) ≤ℤ y → (r : ℕ) × (y ≡ pos 
 row_of (pos n) h = (n + 32768, omega (arith, ints))
 row_of (negsuc n) h = (32767 - n, omega (arith, ints))
 
-band_between : (first last : ℕ) (low y high : ℤ) → IsBandOf low first → IsBandOf high last → low ≤ℤ y → y ≤ℤ high
+pub band_between : (first last : ℕ) (low y high : ℤ) → IsBandOf low first → IsBandOf high last → low ≤ℤ y → y ≤ℤ high
     → (b : ℕ) × (first ≤ b) × (b < last + 1) × IsBandOf y b
 band_between first last low y high f l below above =
     let r = row_of y (omega (arith, ints, f.low)) in

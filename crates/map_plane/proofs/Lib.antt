@@ -7,3 +7,4 @@ pub mod NearestSteps
 pub mod BandLemmas
 pub mod FilingSteps
 pub mod BoxSteps
+pub mod SquareLemmas

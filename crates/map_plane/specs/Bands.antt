@@ -39,7 +39,11 @@ pub record FilesLine (l : PlacedLine) (old new : List (List PlacedLine)) : Type 
 abbrev pub AreFiled : FiledLines → Type 0
 AreFiled f = AreBands f.lines.items f.bands.items
 
--- the lines are the map's, and the bands hold them
-pub record AreFiledLines (m : Tables) (f : FiledLines) : Type 0 where
-  pub lines : f.lines.items ≡ placed_lines m
+-- the lines are these, and the bands hold them
+pub record IsFiling (ls : List PlacedLine) (f : FiledLines) : Type 0 where
+  pub lines : f.lines.items ≡ ls
   pub filed : AreFiled f
+
+-- the lines are the map's, and the bands hold them
+abbrev pub AreFiledLines : Tables → FiledLines → Type 0
+AreFiledLines m f = IsFiling (placed_lines m) f

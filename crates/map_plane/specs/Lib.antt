@@ -7,3 +7,4 @@ pub mod Nearest
 pub mod Polygon
 pub mod Bands
 pub mod Boxes
+pub mod Squares

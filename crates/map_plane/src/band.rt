@@ -139,7 +139,7 @@ impl Band {
     }
 
     /// The band's lines.
-    pub(crate) fn lines(&self) -> &[PlacedLine]
+    pub fn lines(&self) -> &[PlacedLine]
         ensures { result.now ≡ self.now }
     {
         &self.lines

@@ -5,7 +5,7 @@ ghost use Rattle.std.specs.List.{list_any};
 ghost use Rattle.map_plane.specs.Meeting.{meets, meets_another};
 ghost use Rattle.map_plane.specs.Nearest.{nearest, sector_of_place};
 ghost use Rattle.map_plane.specs.Outside.{is_place_outside};
-ghost use Rattle.map_plane.specs.Bands.{IsBandOf, FilesLine, AreBands, AreFiled, AreFiledLines};
+ghost use Rattle.map_plane.specs.Bands.{IsBandOf, FilesLine, AreBands, AreFiled, IsFiling, AreFiledLines};
 
 use crate::band::Band;
 use crate::east::{nearest, sector_shown};
@@ -22,8 +22,8 @@ pub struct FiledLines {
     pub bands: Vec<Band>,
 }
 
-// The number of the band that has the row.
-fn band_of(y: i16) -> usize
+/// The number of the band that has the row.
+pub fn band_of(y: i16) -> usize
     ensures { IsBandOf y result }
 {
     let row = i32::from(y) + 32_768;
@@ -86,13 +86,20 @@ fn bands_of(alloc: Global, lines: &[PlacedLine]) -> Result<Vec<Band>, AllocError
     Ok(bands)
 }
 
+/// The lines, and those of each band.
+pub fn file_each(alloc: Global, lines: Vec<PlacedLine>) -> Result<FiledLines, AllocError>
+    ensures { IfOk result (λ filed. IsFiling lines.items filed) }
+{
+    let bands = bands_of(alloc, &lines)?;
+    Ok(FiledLines { lines, bands })
+}
+
 /// The lines of the map, and those of each band.
 pub fn file_lines(alloc: Global, map: &Map) -> Result<FiledLines, AllocError>
     ensures { IfOk result (AreFiledLines map.now.tables) }
 {
     let lines = placed_lines(alloc, map)?;
-    let bands = bands_of(alloc, &lines)?;
-    Ok(FiledLines { lines, bands })
+    file_each(alloc, lines)
 }
 
 // Whether the line meets another one. Both then have a band in common, so only the line's own bands are searched.
