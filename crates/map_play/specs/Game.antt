@@ -2,6 +2,8 @@
 use Rattle.std.specs.Prelude.{◌≡◌}
 use Rattle.map_tables.specs.Tables.{Tables}
 use Rattle.map_play.specs.declared.game.GameFacts.{GameFacts}
+use Rattle.map_plane.specs.Bands.{IsFiling}
+use Rattle.map_play.specs.Points.{solid_points}
 use Rattle.map_play.specs.Donuts.{donut_gaps}
 use Rattle.map_play.specs.Exits.{has_exit}
 use Rattle.map_play.specs.Locks.{AreKeys}
@@ -21,3 +23,4 @@ pub record AreGameFacts (m : Tables) (f : GameFacts) : Type 0 where
   pub landing_tags : MarksTags (landing_tag m) m.things f.landing_tags.items
   pub has_exit : f.has_exit ≡ has_exit m
   pub keys : AreKeys m.things f.keys
+  pub solids : IsFiling (solid_points m) f.solids

@@ -8,4 +8,10 @@ pub mod Teleports
 pub mod Exits
 pub mod Locks
 pub mod Neighbours
+pub mod Bodies
+pub mod Games
+pub mod Walls
+pub mod Crowds
+pub mod Points
+pub mod Stuck
 pub mod Game

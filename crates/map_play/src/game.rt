@@ -6,8 +6,10 @@ ghost use Rattle.map_play.specs.Game.{AreGameFacts};
 ghost use Rattle.map_play.specs.Locks.{stays_locked};
 ghost use Rattle.map_play.specs.Neighbours.{overfills_list};
 ghost use Rattle.map_play.specs.Scrolls.{is_scroll_too_many};
+ghost use Rattle.map_play.specs.Stuck.{is_stuck};
 ghost use Rattle.map_play.specs.Teleports.{leads_nowhere};
 
+use crate::crowds::file_solids;
 use crate::donuts::{donut_gaps, is_gap};
 use crate::exits::has_exit;
 use crate::items::{lines_of, sectors_of, things_of};
@@ -16,6 +18,7 @@ use crate::neighbours::has_too_many_higher;
 use crate::scrolls::{is_one_too_many, scrolling};
 use crate::sided::{SidedLine, sided_lines};
 use crate::specials::RAISERS;
+use crate::stuck::is_stuck_among;
 use crate::tags::{special_tags, tags_of_sectors};
 use crate::teleports::{landing_tags, lands_nowhere};
 use lump_records::Line;
@@ -25,7 +28,8 @@ use std::alloc::{AllocError, Global};
 
 /// The tags that sectors have, the lines with the sectors on their sides, the tags of the lines that raise a floor to
 /// the next higher one, the lines that lack a side which a donut needs, the lines that scroll, the tags of the sectors
-/// with landings, whether something ends the level, and the colours of its keys.
+/// with landings, whether something ends the level, the colours of its keys, and its solid things as points in bands of
+/// rows.
 #[derive(Drop)]
 pub struct GameFacts {
     pub sector_tags: Vec<bool>,
@@ -36,6 +40,7 @@ pub struct GameFacts {
     pub landing_tags: Vec<bool>,
     pub has_exit: bool,
     pub keys: Keys,
+    pub solids: FiledLines,
 }
 
 /// What decides whether a game of the map goes on. The lines are those of the map, in their bands.
@@ -54,6 +59,7 @@ pub fn game_facts(alloc: Global, map: &Map, filed: &FiledLines) -> Result<GameFa
     let landing_tags = landing_tags(alloc, map, filed)?;
     let has_exit = has_exit(map, &lines, &sectors, &things);
     let keys = keys_of(&things);
+    let solids = file_solids(alloc, map)?;
     Ok(GameFacts {
         sector_tags,
         sided,
@@ -63,6 +69,7 @@ pub fn game_facts(alloc: Global, map: &Map, filed: &FiledLines) -> Result<GameFa
         landing_tags,
         has_exit,
         keys,
+        solids,
     })
 }
 
@@ -104,4 +111,13 @@ pub fn overfills_list(map: &Map, game: &GameFacts, n: u32) -> bool
     ensures { result ≡ overfills_list map.now.tables n }
 {
     has_too_many_higher(map, &game.raiser_tags, &game.sided, n)
+}
+
+/// Whether thing n is stuck: it is a player's start or a monster, and a line or another solid thing holds it.
+pub fn is_stuck(map: &Map, filed: &FiledLines, game: &GameFacts, n: u32) -> bool
+    requires filed { AreFiledLines map.now.tables filed.now }
+    requires game { AreGameFacts map.now.tables game.now }
+    ensures { result ≡ is_stuck map.now.tables n }
+{
+    is_stuck_among(map, filed, &game.solids, n)
 }

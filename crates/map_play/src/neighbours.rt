@@ -10,8 +10,8 @@ use crate::sided::SidedLine;
 use crate::tags::tag_of;
 use map_tables::Map;
 
-// The floor of the sector with the number, or 0.
-fn floor_of(map: &Map, n: u32) -> i16
+/// The floor of the sector with the number, or 0.
+pub(crate) fn floor_of(map: &Map, n: u32) -> i16
     ensures { result ≡ floor_of map.now.tables.sectors n }
 {
     match map.sector(n) {

@@ -1,7 +1,8 @@
 //! The lines of a map with the sectors on their sides.
-ghost use Rattle.std.specs.Prelude.{◌≡◌, IfOk};
+ghost use Rattle.std.specs.Prelude.{◌≡◌, ◌≢◌, IfOk};
+ghost use Rattle.lump_records.specs.Sides.{no_side};
 ghost use Rattle.map_tables.specs.WellFormed.{HasSides};
-ghost use Rattle.map_play.specs.Sided.{right_sector_of, sector_on_left, sided, sided_lines};
+ghost use Rattle.map_play.specs.Sided.{right_sector_of, left_sector_of, sector_on_left, sided, sided_lines};
 
 use lump_records::Line;
 use map_tables::{Kind, Map};
@@ -16,12 +17,21 @@ pub struct SidedLine {
     pub is_two_sided: bool,
 }
 
-// The sector on the line's right.
-fn sector_on_right(map: &Map, line: &Line) -> u16
+/// The sector on the line's right.
+pub(crate) fn sector_on_right(map: &Map, line: &Line) -> u16
     requires { HasSides map.now.tables.sides line.now }
     ensures { result ≡ right_sector_of map.now.tables line.now }
 {
     map.side(u32::from(line.right)).unwrap().sector
+}
+
+/// The sector on the line's left side, which it has.
+pub(crate) fn sector_behind(map: &Map, line: &Line) -> u16
+    requires sides { HasSides map.now.tables.sides line.now }
+    requires left { line.now.left ≢ no_side }
+    ensures { result ≡ left_sector_of map.now.tables line.now }
+{
+    map.side(u32::from(line.left)).unwrap().sector
 }
 
 // The sector on the line's left, if it has a left side.
@@ -32,8 +42,7 @@ fn sector_on_left(map: &Map, line: &Line) -> Option<u16>
     if !line.has_left() {
         return None;
     }
-    let left = map.side(u32::from(line.left)).unwrap();
-    Some(left.sector)
+    Some(sector_behind(map, line))
 }
 
 // A line with its number and the sectors on its sides.
