@@ -10,7 +10,7 @@ use Rattle.lump_records.specs.Sides.{is_two_sided}
 use Rattle.map_tables.specs.Tables.{Tables}
 use Rattle.map_checks.specs.Textures.{side_in, is_missing}
 use Rattle.map_lint.specs.declared.warning.Rule.{Rule}
-use Rattle.map_lint.specs.declared.warning.Rule.TheVariants.{PlayerStart, OneStart, DeathmatchStarts, CeilingAboveFloor, TagGiven, TagOfSector, TagOfLine, LineSpecialKnown, SectorSpecialKnown, ThingKnown, TextureShows, SectorInside, LinesApart, ThingInside, DoorBacked, DonutBacked, ScrollsFit, TeleportLands, LevelEnds, KeyGiven, NeighboursFit, FlatKnown}
+use Rattle.map_lint.specs.declared.warning.Rule.TheVariants.{PlayerStart, OneStart, DeathmatchStarts, CeilingAboveFloor, TagGiven, TagOfSector, TagOfLine, LineSpecialKnown, SectorSpecialKnown, ThingKnown, TextureShows, SectorInside, LinesApart, ThingInside, DoorBacked, DonutBacked, ScrollsFit, TeleportLands, LevelEnds, KeyGiven, NeighboursFit, ThingFree, FlatKnown}
 use Rattle.map_lint.specs.declared.warning.Warning.{Warning}
 use Rattle.map_lint.specs.Known.{is_known_thing, is_known_line, is_known_sector}
 use Rattle.map_lint.specs.Starts.{things_of_type, starts_twice}
@@ -22,6 +22,7 @@ use Rattle.map_play.specs.Locks.{stays_locked}
 use Rattle.map_play.specs.Neighbours.{overfills_list}
 use Rattle.map_play.specs.Scrolls.{is_scroll_too_many}
 use Rattle.map_play.specs.Doors.{door_without_back}
+use Rattle.map_play.specs.Stuck.{is_stuck}
 use Rattle.map_play.specs.Teleports.{leads_nowhere}
 use Rattle.lump_records.specs.Things.{thing_place}
 use Rattle.map_plane.specs.Places.{placed_lines}
@@ -45,7 +46,7 @@ texture_hidden m l =
     && (names_wall (side_in m l.right) || names_wall (side_in m l.left))
 
 -- the rule is one that needs only a number, and the number breaks it: it is player 1, a count of deathmatch starts,
--- no exit, or the number of a sector or a line
+-- no exit, or the number of a sector, a line or a thing
 abbrev pub number_breaks : Tables → Rule → ℕ → Bool
 number_breaks m PlayerStart n = (n == 1) && (things_of_type m 1 == 0)
 number_breaks m DeathmatchStarts n = nat_lt 0 n && (things_of_type m 11 == n)
@@ -55,6 +56,7 @@ number_breaks m DonutBacked n = is_donut_gap m n
 number_breaks m ScrollsFit n = is_scroll_too_many m n
 number_breaks m LevelEnds n = (n == 0) && not (has_exit m)
 number_breaks m NeighboursFit n = overfills_list m n
+number_breaks m ThingFree n = is_stuck m n
 number_breaks m _ n = false
 
 -- the sector breaks the rule
@@ -103,6 +105,7 @@ reach m FlatKnown = length m.sectors
 reach m OneStart = length m.things
 reach m ThingKnown = length m.things
 reach m ThingInside = length m.things
+reach m ThingFree = length m.things
 reach m LevelEnds = 1
 reach m _ = length m.lines
 
@@ -113,7 +116,7 @@ rules_in_order =
     ∷ TagOfLine
     ∷ LineSpecialKnown ∷ SectorSpecialKnown ∷ ThingKnown ∷ TextureShows ∷ SectorInside ∷ LinesApart
     ∷ ThingInside ∷ DoorBacked ∷ DonutBacked ∷ ScrollsFit ∷ TeleportLands ∷ LevelEnds ∷ KeyGiven
-    ∷ NeighboursFit ∷ []
+    ∷ NeighboursFit ∷ ThingFree ∷ []
 
 -- the warning that a number breaks the rule
 abbrev pub warning_of : Tables → Rule → ℕ → Warning

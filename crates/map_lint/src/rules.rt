@@ -20,7 +20,7 @@ use crate::warning::Rule;
 use lump_records::{Line, Name8, Sector, Side, Thing};
 use map_plane::{FiledLines, is_in_no_sector, meets_another};
 use map_play::{
-    door_without_back, is_donut_gap, is_scroll_too_many, leads_nowhere, overfills_list,
+    door_without_back, is_donut_gap, is_scroll_too_many, is_stuck, leads_nowhere, overfills_list,
     stays_locked, tag_of,
 };
 use map_tables::{Kind, Map};
@@ -102,6 +102,7 @@ fn number_breaks(map: &Map, facts: &Facts, rule: Rule, n: u32) -> bool
         Rule::ScrollsFit => is_scroll_too_many(map, &facts.game, n),
         Rule::LevelEnds => n == 0 && !facts.game.has_exit,
         Rule::NeighboursFit => overfills_list(map, &facts.game, n),
+        Rule::ThingFree => is_stuck(map, &facts.filed, &facts.game, n),
         _ => false,
     }
 }
@@ -220,6 +221,7 @@ pub(crate) fn reach(map: &Map, rule: Rule) -> u32
         Rule::OneStart => map.count(Kind::Thing),
         Rule::ThingKnown => map.count(Kind::Thing),
         Rule::ThingInside => map.count(Kind::Thing),
+        Rule::ThingFree => map.count(Kind::Thing),
         Rule::LevelEnds => 1,
         _ => map.count(Kind::Line),
     }
