@@ -18,3 +18,4 @@ pub mod Holding
 pub mod Reopening
 pub mod Excluding
 pub mod LineFaults
+pub mod Grouping

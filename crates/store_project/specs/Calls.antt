@@ -72,10 +72,9 @@ pub record Puts {D : Type 0} (facts : Ghosts D)
     (old : State D) (staged : List Staged) (answer : Result Unit ProjectError) (new : State D) :
     Type 0 where
   pub after : ProjectMaps
-  pub ready : old.must_reopen ≡ false
   pub accepted : AcceptsAll old.cap (project_of old.maps) staged after
   pub ends : EndsPut facts answer old new after
-  pub any_moment : LeavesOnly facts old.disk new.disk
+  pub any_moment : old.must_reopen ≡ false → LeavesOnly facts old.disk new.disk
       (StandsForEither old.cap (project_of old.maps) after)
   pub kept : IsProjectKept facts new
   pub same_cap : new.cap ≡ old.cap

@@ -9,7 +9,7 @@ use Rattle.map_commands.specs.Errors as commands
 use Rattle.map_commands.specs.ProjectLines.{Accepts, LeadsTo, RefusesLine}
 use Rattle.store_project.specs.States.{State}
 use Rattle.store_project.specs.declared.error.ProjectError.{ProjectError}
-use Rattle.store_project.specs.declared.error.ProjectError.TheVariants.{Device, OutOfMemory, Refused}
+use Rattle.store_project.specs.declared.error.ProjectError.TheVariants.{Device, OutOfMemory, Reopen, Refused}
 
 -- what a contract sees of a group: the maps after its lines, and what these lines are in a journal
 pub record GroupState : Type 0 where
@@ -31,11 +31,10 @@ AcceptsAll cap old [] new = new ≡ old
 AcceptsAll cap old (s ∷ staged) new =
     (mid : ProjectMaps) × Accepts cap old s.line mid s.number × AcceptsAll cap mid staged new
 
--- The group holds these lines. They lead from the project's maps to the group's, the project's
--- journal has room for them, and the project needn't be opened again.
+-- The group holds these lines. They lead from the project's maps to the group's, and the project's
+-- journal has room for them.
 pub record CanPut {D : Type 0} (project : State D) (group : GroupState) (staged : List Staged) :
     Type 0 where
-  pub ready : project.must_reopen ≡ false
   pub lines : IsGroupOf (lines_of staged) group.bytes
   pub accepted : AcceptsAll project.cap (project_of project.maps) staged (project_of group.maps)
   pub room : 1 < length group.bytes → ¬ IsAbove project.room (length group.bytes - 6)
@@ -77,13 +76,19 @@ abbrev pub staged_after : List Staged → List ℕ → Result (Option ℕ) Proje
 staged_after staged line (Ok (Some n)) = staged ++ record { line = line; number = n } ∷ []
 staged_after staged line _ = staged
 
--- how a `put` of lines that lead to these maps ended: they are the project's; or the device failed,
--- the maps are as before, and the project must be opened again
+-- how a `put` was refused: only after `Device` must the project be opened again, and only `Reopen`
+-- leaves it so
+abbrev pub RefusesPut : {D : Type 0} → Ghosts D → ProjectError → State D → State D → Type 0
+RefusesPut facts Device old new = (old.must_reopen ≡ false) × (new.must_reopen ≡ true)
+    × Rose (facts.failures old.disk) (facts.failures new.disk)
+RefusesPut facts Reopen old new = (old.must_reopen ≡ true) × (new ≡ old)
+RefusesPut facts _ old new = ⊥
+
+-- how a `put` of lines that lead to these maps ended: they are the project's, or it was refused with
+-- the maps as they were
 abbrev pub EndsPut : {D : Type 0} → Ghosts D → Result Unit ProjectError → State D → State D
     → ProjectMaps → Type 0
-EndsPut facts (Ok _) old new maps = (new.must_reopen ≡ false) × (project_of new.maps ≡ maps)
-    × (new.generation ≡ old.generation)
-EndsPut facts (Err Device) old new maps = (new.must_reopen ≡ true)
-    × (project_of new.maps ≡ project_of old.maps)
-    × Rose (facts.failures old.disk) (facts.failures new.disk)
-EndsPut facts (Err _) old new maps = ⊥
+EndsPut facts (Ok _) old new maps = (old.must_reopen ≡ false) × (new.must_reopen ≡ false)
+    × (project_of new.maps ≡ maps) × (new.generation ≡ old.generation)
+EndsPut facts (Err e) old new maps = (project_of new.maps ≡ project_of old.maps)
+    × RefusesPut facts e old new

@@ -119,18 +119,22 @@ impl<D: Disk> Project<D> {
     /// Puts the lines of a group on the disk, by four device calls; after an `Ok` all of them are there, and its maps
     /// are the project's. An empty group takes no device call.
     ///
-    /// The refusal is `Device`. Then the maps are as before, and each call is refused with `Reopen` until the file is
-    /// opened again.
+    /// After a `Device` the maps are as before, and each call is refused with `Reopen` until the file is opened again.
+    /// There is no other refusal.
     pub fn put(&mut self, group: ProjectGroup) -> Result<(), ProjectError>
         requires { IsGroupFor self.old group }
         ensures ends { EndsPut D.Disk result self.old self.new (project_of group.maps) }
 
         // A stop at any moment of the call leaves the maps without the group's lines or with all of them.
-        ensures any_moment { LeavesOnly D.Disk self.old.disk self.new.disk
+        ensures any_moment { self.old.must_reopen ≡ false
+            → LeavesOnly D.Disk self.old.disk self.new.disk
             (StandsForEither self.old.cap (project_of self.old.maps) (project_of group.maps)) }
         ensures kept { IsProjectKept D.Disk self.new }
         ensures cap { self.new.cap ≡ self.old.cap }
     {
+        if self.must_reopen {
+            return Err(ProjectError::Reopen);
+        }
         let ProjectGroup { maps, lines } = group;
         if lines.is_empty() {
             return Ok(());
