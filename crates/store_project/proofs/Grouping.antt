@@ -13,14 +13,14 @@ use Rattle.store_journal.proofs.Lengths.{length-push, length-record}
 use Rattle.map_tables.specs.Projects.{ProjectMaps, body_len, project_of}
 use Rattle.map_commands.specs.ProjectLines.{Accepts, Leads}
 use Rattle.store_project.specs.Fields.{IsProjectFramed, IsProjectSound, IsReady, project_state}
-use Rattle.store_project.specs.Groups.{AcceptsAll, CanPut, GroupState, IsFullFor, IsGroupFor, Staged, lines_of}
+use Rattle.store_project.specs.Groups.{AcceptsAll, CanPut, GroupState, IsFullFor, IsGroupFor, Staged, staged_lines}
 use Rattle.store_project.specs.Places.{cap_of}
 use Rattle.store_project.specs.Stands.{StandsForEither}
 use Rattle.store_project.specs.States.{State}
 use Rattle.store_project.specs.declared.project.Project.TheInside.{Inside}
 use Rattle.store_project.proofs.Sound.{append_moments, sound_recorded, step_fits}
 
-pub leads_all : (cap : ℕ) (old : ProjectMaps) (staged : List Staged) (new : ProjectMaps) → AcceptsAll cap old staged new → Leads cap old (lines_of staged) new
+pub leads_all : (cap : ℕ) (old : ProjectMaps) (staged : List Staged) (new : ProjectMaps) → AcceptsAll cap old staged new → Leads cap old (staged_lines staged) new
 leads_all cap old [] new same = same
 leads_all cap old (s ∷ staged) new (mid, accepts, more) = (mid, (s.number, accepts), leads_all cap mid staged new more)
 
@@ -36,15 +36,15 @@ all_fit cap old (s ∷ staged) new short (mid, accepts, more) =
     all_fit cap mid staged new (step_fits old accepts.command cap mid s.number accepts.stepped) more
 
 -- a group of no bytes but the last gate's holds no lines
-pub none_staged : (cap : ℕ) (old : ProjectMaps) (staged : List Staged) (new : ProjectMaps) (bytes : List ℕ) → IsGroupOf (lines_of staged) bytes → IsGroupOf [] bytes
+pub none_staged : (cap : ℕ) (old : ProjectMaps) (staged : List Staged) (new : ProjectMaps) (bytes : List ℕ) → IsGroupOf (staged_lines staged) bytes → IsGroupOf [] bytes
     → AcceptsAll cap old staged new → new ≡ old
 none_staged cap old [] new bytes is none same = same
 none_staged cap old (s ∷ staged) new bytes is none accepts =
     absurd (omega (
       arith,
-      length-group (lines_of (s ∷ staged)) bytes is,
+      length-group (staged_lines (s ∷ staged)) bytes is,
       length-group [] bytes none,
-      length-append (record_bytes s.line) (records_bytes (lines_of staged)),
+      length-append (record_bytes s.line) (records_bytes (staged_lines staged)),
       length-record s.line,
     ))
 
@@ -60,7 +60,7 @@ module _ {D : Type 0} (project : State D) (old new : GroupState) (staged : List 
       → ((lines : List (List ℕ)) → IsGroupOf lines old.bytes → IsGroupOf (lines ++ s.line ∷ []) new.bytes)
       → Accepts project.cap (project_of old.maps) s.line (project_of new.maps) s.number → CanPut project new (staged ++ s ∷ [])
   can_push s can room pushed accepts =
-      let lines = lines_of staged in
+      let lines = staged_lines staged in
       let pushes : IsGroupOf (lines ++ s.line ∷ []) new.bytes = pushed lines can.lines in
       record {
         lines = subst (λ (ls : List (List ℕ)). IsGroupOf ls new.bytes) (sym (map-append (λ (t : Staged). t.line) staged (s ∷ []))) pushes;
@@ -72,7 +72,7 @@ module _ {D : Type 0} (project : State D) (old new : GroupState) (staged : List 
 
 module _ {D : Type 0} (facts : Ghosts D) (p : Inside D) (framed : IsProjectFramed p) (ready : IsReady facts p) (group : GroupState) (can : IsGroupFor (project_state p) group) where
   abbrev lines : List (List ℕ)
-  lines = lines_of can.0
+  lines = staged_lines can.0
 
   leads : Leads (cap_of p.geometry) (project_of p.maps) lines (project_of group.maps)
   leads = leads_all (cap_of p.geometry) (project_of p.maps) can.0 (project_of group.maps) can.1.accepted

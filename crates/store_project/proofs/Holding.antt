@@ -13,14 +13,14 @@ use Rattle.map_tables.specs.Projects.{empty_project, ProjectMaps, project_of}
 use Rattle.store_project.specs.Stands.{IsOutcome, StandsFor, StandsForEither}
 use Rattle.map_commands.specs.ProjectLines.{Leads}
 use Rattle.store_project.specs.States.{State, IsProjectKept}
-use Rattle.store_project.specs.Groups.{RefusesPut, Staged, lines_of}
+use Rattle.store_project.specs.Groups.{RefusesToPut, Staged, staged_lines}
 use Rattle.store_project.specs.Outcomes.{RefusesApply, RefusesCheckpoint}
 use Rattle.store_project.specs.declared.error.ProjectError.{ProjectError}
 use Rattle.store_project.specs.declared.error.ProjectError.TheVariants.{Device, OutOfMemory, Reopen, GenerationsSpent, Refused, Damaged, Blank, NotAProject, NotEmpty, BadGeometry}
 use Rattle.store_project.proofs.Grouping.{leads_all}
 use Rattle.store_project.proofs.Recording.{leads_append, leads_one}
 use Rattle.store_project.specs.Sessions.{HoldsEach, KeepEach, KeepsAcknowledged, Opens, Passes, PassInTurn, Session}
-use Rattle.store_project.specs.Calls.{Applies, ProjectCall, Puts, acknowledged, acknowledged_by, accepted, accepted_by, begins, AllMade, Made}
+use Rattle.store_project.specs.Calls.{Applies, ProjectCall, PutsGroup, acknowledged, acknowledged_by, accepted, accepted_by, begins, AllMade, Made}
 use Rattle.store_project.specs.Calls.ProjectCall.{Apply, Checkpoint, Put}
 
 -- the file stands for the map, or for the one that the lines lead to
@@ -68,7 +68,7 @@ module _ {D : Type 0} (facts : Ghosts D) (old new : State D) where
   no_checkpoint BadGeometry reopen is = absurd is
 
   -- a `put` is refused by the device, or where the project must be opened again
-  put_refused : (e : ProjectError) → RefusesPut facts e old new → ((e ≡ Device) × (old.must_reopen ≡ false) × (new.must_reopen ≡ true)) ⊎ ((old.must_reopen ≡ true) × (new ≡ old))
+  put_refused : (e : ProjectError) → RefusesToPut facts e old new → ((e ≡ Device) × (old.must_reopen ≡ false) × (new.must_reopen ≡ true)) ⊎ ((old.must_reopen ≡ true) × (new ≡ old))
   put_refused Device (a, b, rose) = inl (refl, a, b)
   put_refused Reopen (a, same) = inr (a, same)
   put_refused OutOfMemory is = absurd is
@@ -106,7 +106,7 @@ module _ {D : Type 0} (facts : Ghosts D) (old new : State D) where
       moments = weaker facts old.disk new.disk (StandsFor old.cap (project_of old.maps)) (IsOutcomeOf old.cap (project_of old.maps) []) leaves (λ file stands. inl stands);
       cap_is = cap_is;
       kept = kept;
-      ends = elim (cases_Bool new.must_reopen) [ | inl reopen ↦ inr (reopen, refl) | inr still ↦ inl (still, refl, same) ];
+      ends = elim (cases_Bool new.must_reopen) [ inl reopen ↦ inr (reopen, refl) | inr still ↦ inl (still, refl, same) ];
     }
 
     line_moments : (line : List ℕ) (answer : Result ℕ ProjectError) → Applies facts old line answer new
@@ -115,10 +115,10 @@ module _ {D : Type 0} (facts : Ghosts D) (old new : State D) where
         weaker facts old.disk new.disk (IsOutcome old.cap (project_of old.maps) line) (IsOutcomeOf old.cap (project_of old.maps) (line ∷ [])) (made.any_moment ready)
         (λ file stands. ⊎_elim (λ same. inl same) (λ led. inr (led.0, leads_one old.cap (project_of old.maps) line led.0 led.1, led.2)) stands)
 
-    group_moments : (staged : List Staged) (answer : Result Unit ProjectError) → Puts facts old staged answer new
-        → LeavesOnly facts old.disk new.disk (IsOutcomeOf old.cap (project_of old.maps) (lines_of staged))
+    group_moments : (staged : List Staged) (answer : Result Unit ProjectError) → PutsGroup facts old staged answer new
+        → LeavesOnly facts old.disk new.disk (IsOutcomeOf old.cap (project_of old.maps) (staged_lines staged))
     group_moments staged answer made =
-        weaker facts old.disk new.disk (StandsForEither old.cap (project_of old.maps) made.after) (IsOutcomeOf old.cap (project_of old.maps) (lines_of staged)) (made.any_moment ready)
+        weaker facts old.disk new.disk (StandsForEither old.cap (project_of old.maps) made.after) (IsOutcomeOf old.cap (project_of old.maps) (staged_lines staged)) (made.any_moment ready)
         (λ file stands. ⊎_elim (λ same. inl same) (λ led. inr (made.after, leads_all old.cap (project_of old.maps) staged made.after made.accepted, led)) stands)
 
     goes : (call : ProjectCall) → Made facts old call new → Goes (accepted_by call) (acknowledged_by call)
@@ -145,13 +145,13 @@ module _ {D : Type 0} (facts : Ghosts D) (old new : State D) where
       ends = inl (
         made.ends.1,
         refl,
-        subst (λ (m : ProjectMaps). Leads old.cap (project_of old.maps) (lines_of staged) m) (sym made.ends.2)
+        subst (λ (m : ProjectMaps). Leads old.cap (project_of old.maps) (staged_lines staged) m) (sym made.ends.2)
             (leads_all old.cap (project_of old.maps) staged made.after made.accepted),
       );
     }
     goes (Put staged (Err e)) made =
         ⊎_elim
-        (λ device. subst (λ (t : Bool). Goes (cond t (lines_of staged) []) []) (sym (ap (λ (x : ProjectError). begins {T = Unit {0}} (Err x)) device.0))
+        (λ device. subst (λ (t : Bool). Goes (cond t (staged_lines staged) []) []) (sym (ap (λ (x : ProjectError). begins {T = Unit {0}} (Err x)) device.0))
         (record { moments = group_moments staged (Err e) made; cap_is = made.same_cap; kept = made.kept; ends = inr (device.2, refl) }))
         (λ stuck. absurd (true≢false (sym stuck.0 ∙ ready)))
         (put_refused e made.ends.1)

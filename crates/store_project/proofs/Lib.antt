@@ -13,7 +13,6 @@ pub mod Openings
 pub mod Spent
 pub mod Wanting
 pub mod OneMap
-pub mod Fronts
 pub mod Holding
 pub mod Reopening
 pub mod Excluding

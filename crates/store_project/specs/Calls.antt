@@ -3,7 +3,7 @@ use Rattle.std.specs.Prelude.{◌≡◌, ◌⊎◌, ℕ, Bool, true, false, if�
 use Rattle.store_disk.specs.Moments.{LeavesOnly}
 use Rattle.store_disk.specs.declared.disk.Disk.{Ghosts}
 use Rattle.map_tables.specs.Projects.{ProjectMaps, project_of}
-use Rattle.store_project.specs.Groups.{AcceptsAll, EndsPut, Staged, lines_of}
+use Rattle.store_project.specs.Groups.{AcceptsAll, EndsPut, Staged, staged_lines}
 use Rattle.store_project.specs.Stands.{IsOutcome, StandsFor, StandsForEither}
 use Rattle.store_project.specs.States.{State, IsProjectKept}
 use Rattle.store_project.specs.Outcomes.{CanLack, EndsApply, EndsCheckpoint}
@@ -22,7 +22,7 @@ abbrev pub acknowledged_by : ProjectCall → List (List ℕ)
 acknowledged_by (Apply line (Ok n)) = line ∷ []
 acknowledged_by (Apply line (Err e)) = []
 acknowledged_by (Checkpoint answer) = []
-acknowledged_by (Put staged (Ok done)) = lines_of staged
+acknowledged_by (Put staged (Ok done)) = staged_lines staged
 acknowledged_by (Put staged (Err e)) = []
 
 -- the lines that were acknowledged
@@ -39,7 +39,7 @@ begins (Err _) = false
 abbrev pub accepted_by : ProjectCall → List (List ℕ)
 accepted_by (Apply line answer) = if begins answer then line ∷ [] else []
 accepted_by (Checkpoint answer) = []
-accepted_by (Put staged answer) = if begins answer then lines_of staged else []
+accepted_by (Put staged answer) = if begins answer then staged_lines staged else []
 
 -- the lines that were accepted and begun
 abbrev pub accepted : List ProjectCall → List (List ℕ)
@@ -68,7 +68,7 @@ pub record Checkpoints {D : Type 0} (facts : Ghosts D)
   pub same_cap : new.cap ≡ old.cap
 
 -- what `put` promises of a group of these lines
-pub record Puts {D : Type 0} (facts : Ghosts D)
+pub record PutsGroup {D : Type 0} (facts : Ghosts D)
     (old : State D) (staged : List Staged) (answer : Result Unit ProjectError) (new : State D) :
     Type 0 where
   pub after : ProjectMaps
@@ -83,7 +83,7 @@ pub record Puts {D : Type 0} (facts : Ghosts D)
 abbrev pub Made : {D : Type 0} → Ghosts D → State D → ProjectCall → State D → Type 0
 Made facts old (Apply line answer) new = Applies facts old line answer new
 Made facts old (Checkpoint answer) new = Checkpoints facts old answer new
-Made facts old (Put staged answer) new = Puts facts old staged answer new
+Made facts old (Put staged answer) new = PutsGroup facts old staged answer new
 
 -- calls in turn
 abbrev pub AllMade : {D : Type 0} → Ghosts D → State D → List ProjectCall → State D → Type 0

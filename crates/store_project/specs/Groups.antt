@@ -22,8 +22,8 @@ pub record Staged : Type 0 where
   pub number : ℕ
 
 -- the lines alone
-abbrev pub lines_of : List Staged → List (List ℕ)
-lines_of staged = map (λ s. s.line) staged
+abbrev pub staged_lines : List Staged → List (List ℕ)
+staged_lines staged = map (λ s. s.line) staged
 
 -- the lines lead from one project to the other, each accepted with its number
 abbrev pub AcceptsAll : ℕ → ProjectMaps → List Staged → ProjectMaps → Type 0
@@ -35,7 +35,7 @@ AcceptsAll cap old (s ∷ staged) new =
 -- journal has room for them.
 pub record CanPut {D : Type 0} (project : State D) (group : GroupState) (staged : List Staged) :
     Type 0 where
-  pub lines : IsGroupOf (lines_of staged) group.bytes
+  pub lines : IsGroupOf (staged_lines staged) group.bytes
   pub accepted : AcceptsAll project.cap (project_of project.maps) staged (project_of group.maps)
   pub room : 1 < length group.bytes → ¬ IsAbove project.room (length group.bytes - 6)
 
@@ -78,11 +78,11 @@ staged_after staged line _ = staged
 
 -- how a `put` was refused: only after `Device` must the project be opened again, and only `Reopen`
 -- leaves it so
-abbrev pub RefusesPut : {D : Type 0} → Ghosts D → ProjectError → State D → State D → Type 0
-RefusesPut facts Device old new = (old.must_reopen ≡ false) × (new.must_reopen ≡ true)
+abbrev pub RefusesToPut : {D : Type 0} → Ghosts D → ProjectError → State D → State D → Type 0
+RefusesToPut facts Device old new = (old.must_reopen ≡ false) × (new.must_reopen ≡ true)
     × Rose (facts.failures old.disk) (facts.failures new.disk)
-RefusesPut facts Reopen old new = (old.must_reopen ≡ true) × (new ≡ old)
-RefusesPut facts _ old new = ⊥
+RefusesToPut facts Reopen old new = (old.must_reopen ≡ true) × (new ≡ old)
+RefusesToPut facts _ old new = ⊥
 
 -- how a `put` of lines that lead to these maps ended: they are the project's, or it was refused with
 -- the maps as they were
@@ -91,4 +91,4 @@ abbrev pub EndsPut : {D : Type 0} → Ghosts D → Result Unit ProjectError → 
 EndsPut facts (Ok _) old new maps = (old.must_reopen ≡ false) × (new.must_reopen ≡ false)
     × (project_of new.maps ≡ maps) × (new.generation ≡ old.generation)
 EndsPut facts (Err e) old new maps = (project_of new.maps ≡ project_of old.maps)
-    × RefusesPut facts e old new
+    × RefusesToPut facts e old new

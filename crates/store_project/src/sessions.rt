@@ -4,7 +4,7 @@ ghost use Rattle.std.specs.Prelude.{◌≡◌, ◌⊎◌, ◌++◌, ◌∷◌, [
 ghost use Rattle.store_disk.specs.Moments.{LeavesOnly};
 ghost use Rattle.store_disk.specs.Stops.{Each};
 ghost use Rattle.map_tables.specs.Projects.{empty_project, project_of};
-ghost use Rattle.store_project.specs.Calls.{Applies, Checkpoints, Puts};
+ghost use Rattle.store_project.specs.Calls.{Applies, Checkpoints, PutsGroup};
 ghost use Rattle.store_project.specs.Groups.{CanPut, IsGroupFor, Staged};
 ghost use Rattle.store_project.specs.Opening.{RefusesCreate};
 ghost use Rattle.store_project.specs.Places.{cap_of, IsAllowed};
@@ -75,7 +75,7 @@ pub fn checkpoints<D: Disk>(project: &mut Project<D>) -> Result<u64, ProjectErro
 pub fn puts<D: Disk>(project: &mut Project<D>, group: ProjectGroup) -> Result<(), ProjectError>
     requires { IsGroupFor project.old group }
     ensures { (staged : List Staged) → CanPut project.old group staged
-        → Puts D.Disk project.old staged result project.new }
+        → PutsGroup D.Disk project.old staged result project.new }
 {
     project.put(group)
 }

@@ -90,9 +90,9 @@ impl<D: Disk> Project<D> {
 
     /// Decides the command that a line is over the maps of a group, and adds it to the group. It makes no device call.
     ///
-    /// The answer is the command's number, or the refusal that `apply` would give over these maps. `None` if the line
-    /// is accepted and the journal has no room for it behind the group's lines: then put the group and stage the line in
-    /// a new one, or apply it if the group is empty. Without a number the group is as it was.
+    /// The answer is the command's number, or the refusal that `apply` would give over these maps. It is `None` if the
+    /// line is accepted and the journal has no room for it behind the group's lines: then put the group and stage the
+    /// line in a new one, or apply it if the group is empty. Without a number the group is as it was.
     pub fn stage(&self, group: &mut ProjectGroup, line: &[u8]) -> Result<Option<u32>, ProjectError>
         requires { IsGroupFor self.now group.old }
         ensures ends { EndsStage self.now result group.old group.new line.now }
