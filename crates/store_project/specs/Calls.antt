@@ -10,7 +10,7 @@ use Rattle.store_project.specs.Outcomes.{CanLack, EndsApply, EndsCheckpoint}
 use Rattle.store_project.specs.declared.error.ProjectError.{ProjectError}
 use Rattle.store_project.specs.declared.error.ProjectError.TheVariants.{Device, OutOfMemory}
 
--- a call that writes, and what it answered: `apply` of a line, `checkpoint`, or `put` of a group of
+-- a call that may write, and what it answered: `apply` of a line, `checkpoint`, or `put` of a group of
 -- lines, each with the number that it was answered
 pub data ProjectCall : Type 0 where
   Apply : List ℕ → Result ℕ ProjectError → ProjectCall
