@@ -1,5 +1,5 @@
 -- The lines of a group, and what one more makes of it.
-use Rattle.std.proofs.Common.{◌≡◌, ◌≤◌, ◌<◌, ◌+◌, ◌-◌, ℕ, false, List, [], ◌∷◌, ◌++◌, length, length-append, refl, sym, ◌∙◌, ap, subst, arith}
+use Rattle.std.proofs.Common.{◌≡◌, ◌≤◌, ◌+◌, ◌-◌, ℕ, false, List, [], ◌∷◌, ◌++◌, length, length-append, refl, sym, subst, arith}
 use Rattle.std.proofs.lemmas.List.{map-append}
 use Rattle.store_disk.specs.Moments.{LeavesOnly}
 use Rattle.store_disk.specs.Stops.{From, Follows}

@@ -19,7 +19,7 @@ use store_disk::Disk;
 
 /// After any list of commands, over any number of sessions, stopped before or within any disk write: each image
 /// stands for the map of a prefix of the accepted commands that holds every acknowledged one, and that is what `open`
-/// gives. The function has no body: its contract is the law.
+/// gives. The prefix has all lines of a group or none. The function has no body: its contract is the law.
 pub fn hold_each_acknowledged<D: Disk>()
     ensures any_moment { (cap : ℕ) (before : List Session) (s : Session) (mid : State D)
         (last : State D)

@@ -1,5 +1,5 @@
 //! Groups of commands: each is decided at once, and all of them go to the disk by one call.
-ghost use Rattle.std.specs.Prelude.{◌≡◌, ◌≤◌, ◌⊎◌, ◌↔◌, ◌+◌, [], length, false, true, IfOk, IfErr, IsErrOf};
+ghost use Rattle.std.specs.Prelude.{◌≡◌, ◌⊎◌, ◌↔◌, ◌+◌, [], false, true, IfOk, IfErr, IsErrOf};
 ghost use Rattle.store_disk.specs.Moments.{LeavesOnly};
 ghost use Rattle.store_journal.specs.State.{IsAbove};
 ghost use Rattle.map_tables.specs.Projects.{project_of};

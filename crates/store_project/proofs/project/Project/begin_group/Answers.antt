@@ -1,6 +1,5 @@
 use Rattle.std.proofs.Common.{◌∙◌, length, ap, arith}
 use Rattle.map_tables.specs.Projects.{project_of}
-use Rattle.store_project.specs.Groups.{CanPut}
 use Rattle.store_project.proofs.project.Project.begin_group.Goals as goal
 
 pub returns-in-Ok-new-clause-begun : goal.returns-in-Ok-new-clause-begun

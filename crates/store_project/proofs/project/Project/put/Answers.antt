@@ -1,4 +1,4 @@
-use Rattle.std.proofs.Common.{rules, ◌≡◌, ◌∙◌, ◌<◌, ◌-◌, ℕ, [], Err, inl, inr, ⊎_elim, true, false, length, refl, sym, ap, subst}
+use Rattle.std.proofs.Common.{rules, ◌≡◌, ◌∙◌, ◌<◌, ◌-◌, [], Err, inl, ⊎_elim, false, length, refl, sym, ap, subst}
 use Rattle.std.proofs.lemmas.Bool.{true≢false}
 use Rattle.store_disk.specs.Moments.{LeavesOnly}
 use Rattle.store_disk.proofs.Moments.{weaker}
