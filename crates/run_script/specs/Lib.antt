@@ -1,7 +1,9 @@
+pub mod Blocks
 pub mod Canvases
 pub mod Drawn
 pub mod Errors
 pub mod Given
 pub mod Names
+pub mod Places
 pub mod Refused
 pub mod Shaped
