@@ -4,11 +4,11 @@ use Rattle.std.specs.List.{enumerate_from}
 use Rattle.map_script.specs.Loops.{closes, opens}
 
 -- the lines, each behind its place among them, from 0
-abbrev pub placed : List (ℕ × List ℕ) → List (ℕ × ℕ × List ℕ)
+abbrev pub placed : List (ℕ × List ℕ) → List (ℕ × (ℕ × List ℕ))
 placed lines = enumerate_from 0 lines
 
 -- the lines from one place up to another
-abbrev pub between : List (ℕ × ℕ × List ℕ) → ℕ → ℕ → List (ℕ × ℕ × List ℕ)
+abbrev pub between : List (ℕ × (ℕ × List ℕ)) → ℕ → ℕ → List (ℕ × (ℕ × List ℕ))
 between lines from until = drop from (take until lines)
 
 -- how many blocks are open behind a line, if so many were before it
@@ -20,17 +20,17 @@ depth_after depth line =
 
 -- how many lines stand before the `end` of a block, if within it so many blocks are open: all lines
 -- if none is its `end`
-abbrev pub body_len : ℕ → List (ℕ × ℕ × List ℕ) → ℕ
+abbrev pub body_len : ℕ → List (ℕ × (ℕ × List ℕ)) → ℕ
 body_len depth [] = 0
 body_len depth (l ∷ ls) =
     if closes l.1.1 && (depth == 0) then 0 else suc (body_len (depth_after depth l.1.1) ls)
 
 -- the lines of a block, which begins these lines
-abbrev pub body_of : List (ℕ × ℕ × List ℕ) → List (ℕ × ℕ × List ℕ)
+abbrev pub body_of : List (ℕ × (ℕ × List ℕ)) → List (ℕ × (ℕ × List ℕ))
 body_of lines = take (body_len 0 lines) lines
 
 -- the lines behind its `end`
-abbrev pub behind_body : List (ℕ × ℕ × List ℕ) → List (ℕ × ℕ × List ℕ)
+abbrev pub behind_body : List (ℕ × (ℕ × List ℕ)) → List (ℕ × (ℕ × List ℕ))
 behind_body lines = drop (body_len 0 lines + 1) lines
 
 -- ---- Their order
@@ -41,7 +41,7 @@ is_misplaced depth line = (closes line && (depth == 0)) || (opens line && (depth
 
 -- the place of the first misplaced line, if so many blocks are open, the outermost of which begins
 -- at a place; or else the place of the outermost block that has no `end`
-abbrev pub fault_within : ℕ → ℕ → List (ℕ × ℕ × List ℕ) → Option ℕ
+abbrev pub fault_within : ℕ → ℕ → List (ℕ × (ℕ × List ℕ)) → Option ℕ
 fault_within outer depth [] = if depth == 0 then None else Some outer
 fault_within outer depth (l ∷ ls) =
     if is_misplaced depth l.1.1 then Some l.0

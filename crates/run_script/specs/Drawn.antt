@@ -129,21 +129,21 @@ pub record Turn : Type 0 where
   pub place : ℕ
   pub number : ℤ
   pub last : ℤ
-  pub body : List (ℕ × ℕ × List ℕ)
-  pub behind : List (ℕ × ℕ × List ℕ)
+  pub body : List (ℕ × (ℕ × List ℕ))
+  pub behind : List (ℕ × (ℕ × List ℕ))
   pub held : ℕ
 
 -- where a script has come: the names, the lines to come in the innermost turn, and the turns of the
 -- open blocks, the outermost first
 pub record Position : Type 0 where
   pub names : Scope
-  pub lines : List (ℕ × ℕ × List ℕ)
+  pub lines : List (ℕ × (ℕ × List ℕ))
   pub turns : List Turn
 
 -- the same, with what it is drawn onto and what the writer holds
 pub record Progress (S : Type 0) : Type 0 where
   pub sketch : Sketch S
-  pub lines : List (ℕ × ℕ × List ℕ)
+  pub lines : List (ℕ × (ℕ × List ℕ))
   pub turns : List Turn
 
 -- a script has come to a position, with nothing drawn or written since a sketch
@@ -163,7 +163,7 @@ in_turn names turns t = record {
 }
 
 -- the first turn of a loop: NAME FROM TO at a place, before these lines
-abbrev pub first_turn : List (List ℕ) → Range → ℕ → List (ℕ × ℕ × List ℕ) → ℕ → Turn
+abbrev pub first_turn : List (List ℕ) → Range → ℕ → List (ℕ × (ℕ × List ℕ)) → ℕ → Turn
 first_turn words range place lines held = record {
   name = loop_name words;
   place = place;
@@ -188,7 +188,7 @@ next_turn t = record {
 
 -- behind the line of a loop, before these lines: in its first turn, or behind its block if it has
 -- none
-abbrev pub after_opening : Scope → List Turn → List (List ℕ) → Range → ℕ → List (ℕ × ℕ × List ℕ)
+abbrev pub after_opening : Scope → List Turn → List (List ℕ) → Range → ℕ → List (ℕ × (ℕ × List ℕ))
     → Position
 after_opening names turns words range place lines =
     if int_le range.from range.to
@@ -206,7 +206,7 @@ after_turn names turns t =
 
 -- the line of a loop, NAME FROM TO at a place, was met before these lines, or refused with this code:
 -- for what is wrong with it, or for lack of memory
-abbrev pub OpensLoop : {S : Type 0} → Ghosts S → List (List ℕ) → ℕ → List (ℕ × ℕ × List ℕ) → S
+abbrev pub OpensLoop : {S : Type 0} → Ghosts S → List (List ℕ) → ℕ → List (ℕ × (ℕ × List ℕ)) → S
     → Scope → List Turn → Option ℕ → Position → Type 0
 OpensLoop facts words place lines canvas names turns refusal new =
     MatchResult (loop_range names.names (current_map (facts.maps_in canvas)) words)
@@ -221,14 +221,14 @@ EndsTurn names turns refusal new =
     × (((refusal ≡ None) × (new ≡ after_turn names outer turn)) ⊎ (refusal ≡ Some 31))
 
 -- another line was drawn before these lines, or refused with this code
-abbrev pub DrawsNext : {S : Type 0} → Ghosts S → Bool → ℕ × List ℕ → List (ℕ × ℕ × List ℕ)
+abbrev pub DrawsNext : {S : Type 0} → Ghosts S → Bool → ℕ × List ℕ → List (ℕ × (ℕ × List ℕ))
     → Progress S → Option ℕ → Progress S → Type 0
 DrawsNext facts verbose line lines old refusal new =
     DrawsLine facts verbose line old.sketch refusal new.sketch
     × (new.lines ≡ lines) × (new.turns ≡ old.turns)
 
 -- the same where these lines are to come in the turn: the first of them, or else its end
-abbrev pub AdvancesOver : {S : Type 0} → Ghosts S → Bool → List (ℕ × ℕ × List ℕ) → Progress S
+abbrev pub AdvancesOver : {S : Type 0} → Ghosts S → Bool → List (ℕ × (ℕ × List ℕ)) → Progress S
     → Option ℕ → Progress S → Type 0
 AdvancesOver facts verbose [] old refusal new =
     (at : Position) × EndsTurn old.sketch.names old.turns refusal at
@@ -256,7 +256,7 @@ abbrev pub IsOver : {S : Type 0} → Progress S → Type 0
 IsOver p = (p.lines ≡ []) × (p.turns ≡ [])
 
 -- the place of the next line, if these are to come, or else of the loop whose turn ends next
-abbrev pub IsAtPlace : List (ℕ × ℕ × List ℕ) → List Turn → ℕ → Type 0
+abbrev pub IsAtPlace : List (ℕ × (ℕ × List ℕ)) → List Turn → ℕ → Type 0
 IsAtPlace [] turns place =
     (outer : List Turn) × (turn : Turn) × (turns ≡ outer ++ turn ∷ []) × (place ≡ turn.place)
 IsAtPlace (l ∷ ls) turns place = place ≡ l.0

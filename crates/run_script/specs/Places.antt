@@ -12,7 +12,7 @@ use Rattle.run_script.specs.declared.reading.Block.{Block}
 use Rattle.run_script.specs.declared.reading.Reading.{Reading}
 
 -- a block in its turn, among these lines
-abbrev pub turn_of : List (ℕ × ℕ × List ℕ) → Block → Turn
+abbrev pub turn_of : List (ℕ × (ℕ × List ℕ)) → Block → Turn
 turn_of lines b = record {
   name = b.name.items;
   place = b.place;
@@ -24,11 +24,11 @@ turn_of lines b = record {
 }
 
 -- the turns of blocks
-abbrev pub turns_of : List (ℕ × ℕ × List ℕ) → List Block → List Turn
+abbrev pub turns_of : List (ℕ × (ℕ × List ℕ)) → List Block → List Turn
 turns_of lines blocks = map (turn_of lines) blocks
 
 -- where these lines have been read to
-abbrev pub position_of : List (ℕ × ℕ × List ℕ) → Scope → Reading → Position
+abbrev pub position_of : List (ℕ × (ℕ × List ℕ)) → Scope → Reading → Position
 position_of lines names r = record {
   names = names;
   lines = between lines r.place r.until;
@@ -36,7 +36,7 @@ position_of lines names r = record {
 }
 
 -- the same, with what it is drawn onto and what the writer holds
-abbrev pub progress_of : {S : Type 0} → List (ℕ × ℕ × List ℕ) → S → Scope → Option (List ℕ)
+abbrev pub progress_of : {S : Type 0} → List (ℕ × (ℕ × List ℕ)) → S → Scope → Option (List ℕ)
     → Reading → Progress S
 progress_of lines canvas names written r = record {
   sketch = sketch_of canvas names written;
@@ -58,17 +58,17 @@ pub record IsWithin (count : ℕ) (r : Reading) : Type 0 where
 -- a block was entered at its next turn, of these names, within these
 pub record Enters (names : Scope) (outer : List Block) (b : Block) (named : Scope) (r : Reading)
     : Type 0 where
-  pub names : named ≡ with_number names b.name.items b.number
+  pub held : named ≡ with_number names b.name.items b.number
   pub place : r.place ≡ b.place + 1
   pub until : r.until ≡ b.end
   pub blocks : r.blocks.items ≡ outer ++ b ∷ []
 
 -- the block of a loop in its first turn: NAME FROM TO at the next line, its `end` at this place
-pub record IsFirst (words : List (List ℕ)) (end : ℕ) (range : Range) (names : Scope) (r : Reading)
+pub record IsFirst (words : List (List ℕ)) (close : ℕ) (range : Range) (names : Scope) (r : Reading)
     (b : Block) : Type 0 where
   pub name : b.name.items ≡ loop_name words
   pub place : b.place ≡ r.place
-  pub end : b.end ≡ end
+  pub end : b.end ≡ close
   pub until : b.until ≡ r.until
   pub number : b.number ≡ range.from
   pub last : b.last ≡ range.to

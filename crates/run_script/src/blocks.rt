@@ -1,5 +1,6 @@
 //! The blocks of a script: where they end, and whether they are in order.
-ghost use Rattle.std.specs.Prelude.{◌≡◌, ◌&&◌, ◌==◌, ◌+◌, ◌<◌, ◌≤◌, ◌^◌, length, map, IfSome};
+ghost use Rattle.std.specs.Prelude.{◌≡◌, ◌&&◌, ◌==◌, if◌then◌else◌, ◌+◌, ◌<◌, ◌≤◌, ◌^◌, length, map, IfSome};
+ghost use Rattle.map_script.specs.Loops.{closes};
 ghost use Rattle.map_script.specs.Views.{seen};
 ghost use Rattle.run_script.specs.Blocks.{between, block_fault, body_len, depth_after, is_misplaced, placed};
 
@@ -52,6 +53,13 @@ fn is_misplaced(depth: usize, line: &[u8]) -> bool
     (closes(line) && depth == 0) || (opens(line) && depth == 64)
 }
 
+// Where the outermost open block begins, seen from a place: there if none is open before it.
+fn outermost(depth: usize, outer: usize, place: usize) -> usize
+    ensures { result ≡ (if depth == 0 then place else outer) }
+{
+    if depth == 0 { place } else { outer }
+}
+
 /// The place of the line at which the blocks of a script are out of order, if they are.
 pub fn block_fault(lines: &[ScriptLine]) -> Option<usize>
     ensures place { result ≡ block_fault (map seen lines.now) }
@@ -64,9 +72,7 @@ pub fn block_fault(lines: &[ScriptLine]) -> Option<usize>
         if is_misplaced(depth, text) {
             return Some(place);
         }
-        if depth == 0 {
-            outer = place;
-        }
+        outer = outermost(depth, outer, place);
         depth = depth_after(depth, text);
     }
     if depth == 0 { None } else { Some(outer) }

@@ -62,14 +62,8 @@ fn draw_next<C: Canvas, W: Write>(
     if let Some(words) = loop_words(&line.text) {
         return Ok(open_loop(alloc, canvas, names, lines, reading, words));
     }
-    match draw_line(alloc, canvas, names, line, is_verbose, writer) {
-        Ok(None) => {
-            reading.place += 1;
-            Ok(None)
-        }
-        Ok(Some(code)) => Ok(Some(code)),
-        Err(error) => Err(error),
-    }
+    reading.place += 1;
+    draw_line(alloc, canvas, names, line, is_verbose, writer)
 }
 
 // Draws the next line, or ends the innermost turn, and returns the code of a refusal.
@@ -115,7 +109,7 @@ fn draw_all<C: Canvas, W: Write>(
     ensures place { IfOk result (λ stop. IfSome stop (λ s. s.place < length lines.now)) }
 {
     let mut reading = first_reading(alloc, lines);
-    for _drawn in 0..MORE_LINES + lines.len() {
+    for _count in 0..MORE_LINES + lines.len() {
         let Some(place) = place_at_hand(lines, &reading) else {
             return Ok(None);
         };

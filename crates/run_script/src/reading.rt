@@ -1,6 +1,7 @@
 //! How far a script has been read: its next line, and the blocks that are open, each in a turn of its loop.
-ghost use Rattle.std.specs.Prelude.{◌≡◌, ◌⊎◌, ◌+◌, ◌<◌, ◌≤◌, ◌^◌, ℕ, [], None, Some, IfNone, IfOk, IfSome, IsOkUnless, MatchOption, MatchResult, length, map, vec_len};
+ghost use Rattle.std.specs.Prelude.{◌≡◌, ◌⊎◌, ◌+◌, ◌+ℤ◌, pos, int_le, int_lt, if◌then◌else◌, ◌<◌, ◌≤◌, ◌^◌, ℕ, [], None, Some, IfNone, IfOk, IfSome, IsOkUnless, MatchOption, MatchResult, length, map, vec_len};
 ghost use Rattle.map_script.specs.Known.{scope_of};
+ghost use Rattle.map_script.specs.Loops.{loop_name};
 ghost use Rattle.map_script.specs.Views.{seen};
 ghost use Rattle.map_script.specs.Words.{text_words};
 ghost use Rattle.map_script.specs.declared.error.DrawError.TheVariants.{OutOfMemory};
@@ -83,6 +84,14 @@ fn enter(
     Ok(())
 }
 
+// A copy of a loop's name; `words` is the NAME FROM TO of its line.
+fn name_of(alloc: Global, words: &[u8]) -> Result<Vec<u8>, DrawError>
+    ensures ok { IfOk result (λ name. name.items ≡ loop_name (text_words words.now)) }
+    ensures memory { IsOkUnless result OutOfMemory }
+{
+    Ok(loop_name(words).to_vec(alloc)?)
+}
+
 // Enters the first turn of a loop; `words` is the NAME FROM TO of its line, the next one.
 fn open_first(
     alloc: Global,
@@ -90,16 +99,17 @@ fn open_first(
     reading: &mut Reading,
     words: &[u8],
     end: usize,
-    range: Range,
+    range: &Range,
 ) -> Result<(), DrawError>
     requires { reading.old.place < 2 ^ 63 }
     ensures ok { IfOk result (λ _. (b : Block)
-        × IsFirst (text_words words.now) end range (scope_of names.old) reading.old b
+        × IsFirst (text_words words.now) end range.now (scope_of names.old) reading.old b
         × Enters (scope_of names.old) reading.old.blocks.items b (scope_of names.new) reading.new) }
     ensures memory { IsOkUnless result OutOfMemory }
 {
+    let name = name_of(alloc, words)?;
     let block = Block {
-        name: loop_name(words).to_vec(alloc)?,
+        name,
         place: reading.place,
         end,
         until: reading.until,
@@ -108,6 +118,13 @@ fn open_first(
         held: names.held_count(),
     };
     enter(alloc, names, reading, block)
+}
+
+// Whether a loop has a turn.
+fn has_turn(range: &Range) -> bool
+    ensures { result ≡ int_le range.now.from range.now.to }
+{
+    range.from <= range.to
 }
 
 /// Meets the line of a loop, the next one: begins its first turn, or goes behind its block. `words` is the line's NAME
@@ -135,13 +152,25 @@ pub fn open_loop<C: Canvas>(
     };
     let from = reading.place + 1;
     let end = from + body_len(lines, from, reading.until);
-    if range.to < range.from {
+    if !has_turn(&range) {
         reading.place = end + 1;
         return None;
     }
-    match open_first(alloc, names, reading, words, end, range) {
+    match open_first(alloc, names, reading, words, end, &range) {
         Ok(()) => None,
         Err(error) => Some(error.code()),
+    }
+}
+
+// The number of the turn after one, if that isn't the last.
+fn next_number(block: &Block) -> Option<i64>
+    ensures { result ≡ (if int_lt block.now.number block.now.last
+        then Some (block.now.number +ℤ pos 1) else None) }
+{
+    if block.number < block.last {
+        Some(block.number + 1)
+    } else {
+        None
     }
 }
 
@@ -163,12 +192,11 @@ pub fn end_turn(
         return None;
     };
     names.release(block.held);
-    if block.last <= block.number {
+    let Some(number) = next_number(&block) else {
         reading.place = block.end + 1;
         reading.until = block.until;
         return None;
-    }
-    let number = block.number + 1;
+    };
     match enter(alloc, names, reading, Block { number, ..block }) {
         Ok(()) => None,
         Err(error) => Some(error.code()),
