@@ -111,8 +111,11 @@ turned all names named bs outer b c r split more is e =
       turns,
       t,
       turns_more all bs outer b split,
-      inl (refl, entered all (released names b.held) named outer c r (next_turn t) e is
-      ∙ sym (ap (λ q. cond q (in_turn (released names t.held) turns (next_turn t)) (record { names = released names t.held; lines = t.behind; turns = turns })) more)),
+      inl (
+        refl,
+        entered all (released names b.held) named outer c r (next_turn t) e is
+            ∙ sym (ap (λ q. cond q (in_turn (released names t.held) turns (next_turn t)) (record { names = released names t.held; lines = t.behind; turns = turns })) more),
+      ),
     )
 
 -- or it is left

@@ -48,5 +48,5 @@ fault_within outer depth (l ∷ ls) =
     else fault_within (if depth == 0 then l.0 else outer) (depth_after depth l.1.1) ls
 
 -- the place of the line at which the blocks of a script are out of order, if they are
-abbrev pub block_fault : List (ℕ × List ℕ) → Option ℕ
-block_fault lines = fault_within 0 0 (placed lines)
+abbrev pub order_fault : List (ℕ × List ℕ) → Option ℕ
+order_fault lines = fault_within 0 0 (placed lines)

@@ -12,7 +12,7 @@ use Rattle.map_script.specs.declared.firsts.Firsts.{Firsts}
 use Rattle.map_script.specs.declared.firsts.Numbers.{Numbers}
 use Rattle.map_script.specs.declared.looping.Range.{Range}
 use Rattle.map_shapes.specs.Shapes.{is_shape_line}
-use Rattle.run_script.specs.Blocks.{behind_body, block_fault, body_of, placed}
+use Rattle.run_script.specs.Blocks.{behind_body, order_fault, body_of, placed}
 use Rattle.run_script.specs.Given.{AddsFirst, GivesWords, noted_text, with_given_name}
 use Rattle.run_script.specs.Shaped.{DrawsShape}
 use Rattle.run_script.specs.declared.canvas.Canvas.{Ghosts}
@@ -342,7 +342,7 @@ pub record IsOutOfOrder {S : Type 0} (place : ℕ) (result : Result (Option Stop
 abbrev pub IsScriptDrawn : {S : Type 0} → Ghosts S → Bool → List (ℕ × List ℕ)
     → Result (Option Stop) ScriptError → S → Option (List ℕ) → S → Option (List ℕ) → Type 0
 IsScriptDrawn facts verbose lines result canvas-old writer-old canvas-new writer-new =
-    MatchOption (block_fault lines)
+    MatchOption (order_fault lines)
     (EndsFrom facts verbose (at_first canvas-old writer-old lines) (line_limit lines) result
     canvas-new writer-new)
     (λ place. IsOutOfOrder place result canvas-old writer-old canvas-new writer-new)

@@ -2,7 +2,7 @@
 ghost use Rattle.std.specs.Prelude.{◌≡◌, ◌&&◌, ◌==◌, if◌then◌else◌, ◌+◌, ◌<◌, ◌≤◌, ◌^◌, length, map, IfSome};
 ghost use Rattle.map_script.specs.Loops.{closes};
 ghost use Rattle.map_script.specs.Views.{seen};
-ghost use Rattle.run_script.specs.Blocks.{between, block_fault, body_len, depth_after, is_misplaced, placed};
+ghost use Rattle.run_script.specs.Blocks.{between, order_fault, body_len, depth_after, is_misplaced, placed};
 
 use map_script::{ScriptLine, closes, opens};
 
@@ -61,8 +61,8 @@ fn outermost(depth: usize, outer: usize, place: usize) -> usize
 }
 
 /// The place of the line at which the blocks of a script are out of order, if they are.
-pub fn block_fault(lines: &[ScriptLine]) -> Option<usize>
-    ensures place { result ≡ block_fault (map seen lines.now) }
+pub fn order_fault(lines: &[ScriptLine]) -> Option<usize>
+    ensures place { result ≡ order_fault (map seen lines.now) }
     ensures within { IfSome result (λ p. p < length lines.now) }
 {
     let mut outer = 0;

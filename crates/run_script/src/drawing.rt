@@ -6,7 +6,7 @@ ghost use Rattle.run_script.specs.Blocks.{placed};
 ghost use Rattle.run_script.specs.Drawn.{EndsFrom, IsScriptDrawn, at_first, line_limit};
 ghost use Rattle.run_script.specs.Places.{AdvancesTo, IsFirstReading, IsWithin, progress_of};
 
-use crate::blocks::block_fault;
+use crate::blocks::order_fault;
 use crate::canvas::Canvas;
 use crate::error::ScriptError;
 use crate::line::draw_line;
@@ -158,7 +158,7 @@ pub fn draw<C: Canvas, W: Write>(
         canvas.old (W.contents writer.old) canvas.new (W.contents writer.new) }
     ensures place { IfOk result (λ stop. IfSome stop (λ s. s.place < length lines.now)) }
 {
-    match block_fault(lines) {
+    match order_fault(lines) {
         Some(place) => {
             let code = DrawError::OpenBlock.code();
             Ok(Some(Stop { place, code }))

@@ -3,9 +3,9 @@ use Rattle.std.specs.Prelude.{zero, suc}
 use Rattle.std.proofs.lemmas.Bool.Decides.{nat_tests}
 use Rattle.map_script.specs.Views.{seen}
 use Rattle.map_script.specs.declared.script.ScriptLine.{ScriptLine}
-use Rattle.run_script.specs.Blocks.{between, block_fault, depth_after, fault_within, is_misplaced, placed}
+use Rattle.run_script.specs.Blocks.{between, order_fault, depth_after, fault_within, is_misplaced, placed}
 use Rattle.run_script.proofs.PlacedLines.{all_between, next_line, none_left}
-use Rattle.run_script.proofs.blocks.block_fault.Goals as goal
+use Rattle.run_script.proofs.blocks.order_fault.Goals as goal
 
 -- one line more
 fault_at : (lines : List ScriptLine) (i until outer depth further deeper : ℕ) (x : ScriptLine) (text word : List ℕ) (misplaced : Bool) → x ≡ get_or lines i x
@@ -84,11 +84,11 @@ loop-place-preserved c =
 pub returns-then-depth-eq0-clause-place : goal.returns-then-depth-eq0-clause-place
 returns-then-depth-eq0-clause-place c =
     let lines : List ScriptLine = c.args.lines.now in
-    whole c.loop-place.outer c.loop-place.depth (between (placed (map seen lines)) c.loop-place.place (length lines)) (block_fault (map seen lines))
+    whole c.loop-place.outer c.loop-place.depth (between (placed (map seen lines)) c.loop-place.place (length lines)) (order_fault (map seen lines))
     c.loop-place.invariant.fault (none_left c.loop-place.place (length lines) (placed (map seen lines)) c.loop-place-test.false) c.if-depth-eq0.true
 
 pub returns-else-depth-eq0-clause-place : goal.returns-else-depth-eq0-clause-place
 returns-else-depth-eq0-clause-place c =
     let lines : List ScriptLine = c.args.lines.now in
-    unclosed c.loop-place.outer c.loop-place.depth (between (placed (map seen lines)) c.loop-place.place (length lines)) (block_fault (map seen lines))
+    unclosed c.loop-place.outer c.loop-place.depth (between (placed (map seen lines)) c.loop-place.place (length lines)) (order_fault (map seen lines))
     c.loop-place.invariant.fault (none_left c.loop-place.place (length lines) (placed (map seen lines)) c.loop-place-test.false) c.if-depth-eq0.false
