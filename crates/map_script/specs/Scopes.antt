@@ -22,8 +22,8 @@ abbrev pub with_let : Scope → List ℕ → Meant → Scope
 with_let s name now = if s.held == 0 then with_given s name now else with_held s name now
 
 -- the name of a loop stands for the number of a turn
-abbrev pub with_number : Scope → List ℕ → ℤ → Scope
-with_number s name number = with_held s name (worded (signed_decimal number))
+abbrev pub with_turn_name : Scope → List ℕ → ℤ → Scope
+with_turn_name s name number = with_held s name (worded (signed_decimal number))
 
 -- blocks have ended, and hold so many names, or all if they held fewer
 abbrev pub released : Scope → ℕ → Scope

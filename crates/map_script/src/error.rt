@@ -13,7 +13,7 @@ pub enum DrawError {
     NotALet,
     /// Behind `for` stand no name and two numbers.
     NotALoop,
-    /// In `NAME = COMMAND` the word before `=` is not a name, or the name of a `let` or a `for` is none or a word of the
+    /// In `NAME = COMMAND` the word before `=` is no name, or that of a `let` or a `for` is none or a word of the
     /// language.
     NotAName,
     /// A word that begins with `$` isn't `$NAME`, `$NAME.KIND` or `$KIND(X,Y)`, with or without `+N` after it.

@@ -44,7 +44,7 @@ impl Names {
     ghost use Rattle.map_script.specs.declared.error.DrawError.TheVariants.{OutOfMemory};
     ghost use Rattle.map_script.specs.Known.{known, meant_in, scope_of};
     ghost use Rattle.map_script.specs.Meant.{meant_by, numbered, with_meaning, worded};
-    ghost use Rattle.map_script.specs.Scopes.{released, with_given, with_held, with_let, with_number};
+    ghost use Rattle.map_script.specs.Scopes.{released, with_given, with_held, with_let, with_turn_name};
 
     /// Without any name. It allocates no memory.
     pub fn new(alloc: Global) -> Self
@@ -144,7 +144,7 @@ impl Names {
     /// `OutOfMemory`: the names are unchanged.
     pub fn hold_number(&mut self, alloc: Global, name: &[u8], number: i64) -> Result<(), DrawError>
         ensures ok { IfOk result
-            (λ _. scope_of self.new ≡ with_number (scope_of self.old) name.now number) }
+            (λ _. scope_of self.new ≡ with_turn_name (scope_of self.old) name.now number) }
         ensures memory { IsOkUnless result OutOfMemory }
         ensures refused { OnErr result (scope_of self.new ≡ scope_of self.old) }
     {

@@ -6,8 +6,9 @@ use Rattle.std.proofs.lemmas.List.{drop-drop, drop-take, length-map, take_all, t
 use Rattle.std.proofs.lemmas.List.FromFn.{length-enumerate_from}
 use Rattle.map_script.specs.Views.{seen}
 use Rattle.map_script.specs.declared.script.ScriptLine.{ScriptLine}
-use Rattle.run_script.specs.Blocks.{behind_body, between, body_len, body_of, placed}
-use Rattle.run_script.specs.Drawn.{IsAtPlace, Turn}
+use Rattle.run_script.specs.Blocks.{behind_body, lines_between, block_len, body_of, with_places}
+use Rattle.run_script.specs.Drawn.{IsAtPlace}
+use Rattle.run_script.specs.Turns.{Turn}
 
 -- ---- The line at a place
 
@@ -25,12 +26,12 @@ numbered_at n (suc i) (suc u) (l ∷ ls) x is below inside =
 
 -- the lines from a place on, where a line stands there
 pub next_line : (lines : List ScriptLine) (i until : ℕ) (x : ScriptLine) → x ≡ get_or lines i x → i < length lines → i < until
-    → between (placed (map seen lines)) i until ≡ (i, seen x) ∷ between (placed (map seen lines)) (i + 1) until
+    → lines_between (with_places (map seen lines)) i until ≡ (i, seen x) ∷ lines_between (with_places (map seen lines)) (i + 1) until
 next_line lines i until x is below inside =
     let after : suc i ≡ i + 1 = omega arith in
     let here : 0 + i ≡ i = omega arith in
     numbered_at 0 i until lines x is below inside
-    ∙ ap₂ (λ (k m : ℕ). (k, seen x) ∷ drop m (take until (placed (map seen lines)))) here after
+    ∙ ap₂ (λ (k m : ℕ). (k, seen x) ∷ drop m (take until (with_places (map seen lines)))) here after
 
 pub item_at : (lines : List ScriptLine) (i : ℕ) → i < length lines → (x : ScriptLine) × (x ≡ get_or lines i x)
 item_at [] i below = absurd (omega (arith, below))
@@ -39,7 +40,7 @@ item_at (l ∷ ls) (suc i) below = item_at ls i (omega (arith, below))
 
 -- it is the place that is at hand
 pub at_next_line : (lines : List ScriptLine) (i until : ℕ) (turns : List Turn) → i < length lines → i < until
-    → IsAtPlace (between (placed (map seen lines)) i until) turns i
+    → IsAtPlace (lines_between (with_places (map seen lines)) i until) turns i
 at_next_line lines i until turns below inside =
     let (x, is) = item_at lines i below in
     subst (λ (left : List (ℕ × (ℕ × List ℕ))). IsAtPlace left turns i) (sym (next_line lines i until x is below inside)) refl
@@ -56,10 +57,10 @@ none_left zero (suc u) (x ∷ xs) over = absurd (omega (arith, over))
 none_left (suc i) (suc u) (x ∷ xs) over = none_left i u xs (omega (arith, over))
 
 -- all lines
-pub all_between : (lines : List ScriptLine) → between (placed (map seen lines)) 0 (length lines) ≡ placed (map seen lines)
+pub all_between : (lines : List ScriptLine) → lines_between (with_places (map seen lines)) 0 (length lines) ≡ with_places (map seen lines)
 all_between lines =
-    let len : length (placed (map seen lines)) ≡ length lines = length-enumerate_from 0 (map seen lines) ∙ length-map lines seen in
-    take_all (length lines) (placed (map seen lines)) (omega (arith, len))
+    let len : length (with_places (map seen lines)) ≡ length lines = length-enumerate_from 0 (map seen lines) ∙ length-map lines seen in
+    take_all (length lines) (with_places (map seen lines)) (omega (arith, len))
 
 -- ---- The lines of a block
 
@@ -69,7 +70,7 @@ take_front (suc k) zero xs le = absurd (omega (arith, le))
 take_front (suc k) (suc m) [] le = refl
 take_front (suc k) (suc m) (x ∷ xs) le = ap (λ ys. x ∷ ys) (take_front k m xs (omega (arith, le)))
 
-front_between : (all : List (ℕ × (ℕ × List ℕ))) (from k until end : ℕ) → from + k ≤ until → end ≡ from + k → take k (between all from until) ≡ between all from end
+front_between : (all : List (ℕ × (ℕ × List ℕ))) (from k until end : ℕ) → from + k ≤ until → end ≡ from + k → take k (lines_between all from until) ≡ lines_between all from end
 front_between all from k until end le is =
     let rest : until ≡ from + (until - from) = omega (arith, le) in
     let less : k ≤ until - from = omega (arith, le) in
@@ -77,14 +78,14 @@ front_between all from k until end le is =
     ∙ sym (drop-take from k all) ∙ ap (λ n. drop from (take n all)) (sym is)
 
 -- the lines of a block that begins at a place and ends at another
-pub body_is : (all : List (ℕ × (ℕ × List ℕ))) (from k until end : ℕ) → k ≡ body_len 0 (between all from until) → from + k ≤ until → end ≡ from + k
-    → body_of (between all from until) ≡ between all from end
+pub body_is : (all : List (ℕ × (ℕ × List ℕ))) (from k until end : ℕ) → k ≡ block_len 0 (lines_between all from until) → from + k ≤ until → end ≡ from + k
+    → body_of (lines_between all from until) ≡ lines_between all from end
 body_is all from k until end is le at =
-    ap (λ n. take n (between all from until)) (sym is) ∙ front_between all from k until end le at
+    ap (λ n. take n (lines_between all from until)) (sym is) ∙ front_between all from k until end le at
 
 -- the lines behind it
-pub behind_is : (all : List (ℕ × (ℕ × List ℕ))) (from k until end : ℕ) → k ≡ body_len 0 (between all from until) → end ≡ from + k
-    → behind_body (between all from until) ≡ between all (end + 1) until
+pub behind_is : (all : List (ℕ × (ℕ × List ℕ))) (from k until end : ℕ) → k ≡ block_len 0 (lines_between all from until) → end ≡ from + k
+    → behind_body (lines_between all from until) ≡ lines_between all (end + 1) until
 behind_is all from k until end is at =
     let place : from + (k + 1) ≡ end + 1 = omega (arith, at) in
-    ap (λ n. drop (n + 1) (between all from until)) (sym is) ∙ drop-drop (k + 1) from (take until all) ∙ ap (λ n. drop n (take until all)) place
+    ap (λ n. drop (n + 1) (lines_between all from until)) (sym is) ∙ drop-drop (k + 1) from (take until all) ∙ ap (λ n. drop n (take until all)) place

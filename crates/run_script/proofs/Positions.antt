@@ -4,21 +4,16 @@ use Rattle.std.specs.Prelude.{All, int_le, int_lt}
 use Rattle.std.proofs.lemmas.List.{map-append, take_all, take_more}
 use Rattle.std.proofs.lemmas.List.Elements.{All-push}
 use Rattle.map_script.specs.Loops.{loop_range}
-use Rattle.map_script.specs.Scopes.{Scope, released, with_number}
+use Rattle.map_script.specs.Scopes.{Scope, released, with_turn_name}
 use Rattle.map_script.specs.declared.looping.Range.{Range}
 use Rattle.map_tables.specs.Projects.{current_map}
-use Rattle.run_script.specs.Blocks.{behind_body, between, body_len, body_of}
-use Rattle.run_script.specs.Drawn.{EndsTurn, OpensLoop, Position, Turn, after_opening, after_turn, first_turn, in_turn, next_turn}
-use Rattle.run_script.specs.Places.{Enters, IsBlockWithin, IsFirst, IsWithin, position_of, turn_of, turns_of}
+use Rattle.run_script.specs.Blocks.{behind_body, lines_between, block_len, body_of}
+use Rattle.run_script.specs.Turns.{EndsTurn, OpensLoop, Position, Turn, after_opening, after_turn, first_turn, in_turn, next_turn}
+use Rattle.run_script.specs.Places.{Enters, IsBlockWithin, IsFirstBlock, IsWithinLines, position_of, turn_of, turns_of}
 use Rattle.run_script.specs.declared.canvas.Canvas.{Ghosts}
 use Rattle.run_script.specs.declared.reading.Block.{Block}
 use Rattle.run_script.specs.declared.reading.Reading.{Reading}
 use Rattle.run_script.proofs.PlacedLines.{behind_is, body_is}
-
--- the last of some blocks, behind the others
-pub last_block : (bs : List Block) (b : Block) (n : ℕ) → b ≡ get_or bs n b → length bs ≡ n + 1 → bs ≡ take n bs ++ b ∷ []
-last_block bs b n is len =
-    sym (take_all (n + 1) bs (omega (arith, len))) ∙ take_more bs n b (omega (arith, len)) ∙ ap (λ (x : Block). take n bs ++ x ∷ []) (sym is)
 
 -- one turn more
 pub turns_more : (all : List (ℕ × (ℕ × List ℕ))) (bs outer : List Block) (b : Block) → bs ≡ outer ++ b ∷ []
@@ -29,8 +24,8 @@ turns_more all bs outer b is = ap (turns_of all) is ∙ map-append (turn_of all)
 pub entered : (all : List (ℕ × (ℕ × List ℕ))) (names named : Scope) (outer : List Block) (b : Block) (r : Reading) (t : Turn)
     → Enters names outer b named r → turn_of all b ≡ t → position_of all named r ≡ in_turn names (turns_of all outer) t
 entered all names named outer b r t e is =
-    let held : named ≡ with_number names t.name t.number = e.held ∙ ap (λ (u : Turn). with_number names u.name u.number) is in
-    let lines : between all r.place r.until ≡ t.body = ap₂ (λ (i j : ℕ). between all i j) e.place e.until ∙ ap (λ (u : Turn). u.body) is in
+    let held : named ≡ with_turn_name names t.name t.number = e.held ∙ ap (λ (u : Turn). with_turn_name names u.name u.number) is in
+    let lines : lines_between all r.place r.until ≡ t.body = ap₂ (λ (i j : ℕ). lines_between all i j) e.place e.until ∙ ap (λ (u : Turn). u.body) is in
     let turns : turns_of all r.blocks.items ≡ turns_of all outer ++ t ∷ [] =
     turns_more all r.blocks.items outer b e.blocks ∙ ap (λ (u : Turn). turns_of all outer ++ u ∷ []) is in
     λ i. record { names = held i; lines = lines i; turns = turns i }
@@ -41,13 +36,13 @@ enters_from names others named outer b r same e = subst (λ (n : Scope). Enters 
 
 -- the block of a loop is in its first turn
 pub first_block : (all : List (ℕ × (ℕ × List ℕ))) (words : List (List ℕ)) (close len : ℕ) (range : Range) (names : Scope) (r : Reading) (b : Block)
-    → IsFirst words close range names r b → len ≡ body_len 0 (between all (r.place + 1) r.until) → r.place + 1 + len ≤ r.until → close ≡ r.place + 1 + len
-    → turn_of all b ≡ first_turn words range r.place (between all (r.place + 1) r.until) names.held
+    → IsFirstBlock words close range names r b → len ≡ block_len 0 (lines_between all (r.place + 1) r.until) → r.place + 1 + len ≤ r.until → close ≡ r.place + 1 + len
+    → turn_of all b ≡ first_turn words range r.place (lines_between all (r.place + 1) r.until) names.held
 first_block all words close len range names r b f is within at =
-    let body : between all (b.place + 1) b.end ≡ body_of (between all (r.place + 1) r.until) =
-    ap₂ (λ (i j : ℕ). between all (i + 1) j) f.place f.end ∙ sym (body_is all (r.place + 1) len r.until close is within at) in
-    let behind : between all (b.end + 1) b.until ≡ behind_body (between all (r.place + 1) r.until) =
-    ap₂ (λ (i j : ℕ). between all (i + 1) j) f.end f.until ∙ sym (behind_is all (r.place + 1) len r.until close is at) in
+    let body : lines_between all (b.place + 1) b.end ≡ body_of (lines_between all (r.place + 1) r.until) =
+    ap₂ (λ (i j : ℕ). lines_between all (i + 1) j) f.place f.end ∙ sym (body_is all (r.place + 1) len r.until close is within at) in
+    let behind : lines_between all (b.end + 1) b.until ≡ behind_body (lines_between all (r.place + 1) r.until) =
+    ap₂ (λ (i j : ℕ). lines_between all (i + 1) j) f.end f.until ∙ sym (behind_is all (r.place + 1) len r.until close is at) in
     λ i. record {
       name = f.name i;
       place = f.place i;
@@ -57,15 +52,6 @@ first_block all words close len range names r b f is within at =
       behind = behind i;
       held = f.held i;
     }
-
--- it stands within the lines
-pub first_within : (count : ℕ) (words : List (List ℕ)) (close : ℕ) (range : Range) (names : Scope) (r : Reading) (b : Block) → IsFirst words close range names r b
-    → IsWithin count r → r.place < r.until → close ≤ r.until → IsBlockWithin count b
-first_within count words close range names r b f w some le = record {
-  place = omega (arith, f.place, w.until);
-  end = omega (arith, f.end, w.until);
-  until = omega (arith, f.until, w.until);
-}
 
 -- behind the line of a loop that has a turn
 pub opened : (words : List (List ℕ)) (range : Range) (place : ℕ) (lines : List (ℕ × (ℕ × List ℕ))) (names : Scope)
@@ -79,16 +65,6 @@ pub range_known : {S : Type 0} (facts : Ghosts S) (words : List (List ℕ)) (pla
     (turns : List Turn) (range : Range) (p : Position) → loop_range names.names (current_map (facts.maps_in canvas)) words ≡ Ok range
     → p ≡ after_opening names turns words range place lines → OpensLoop facts words place lines canvas names turns None p
 range_known facts words place lines canvas names turns range p is opens = inl (rw is (refl, opens))
-
--- and of one that has none
-pub skipped : (all : List (ℕ × (ℕ × List ℕ))) (words : List (List ℕ)) (range : Range) (place from len until close : ℕ) (names : Scope) (turns : List Turn)
-    → int_le range.from range.to ≡ false → len ≡ body_len 0 (between all from until) → close ≡ from + len
-    → ◌≡◌ {A = Position} (record { names = names; lines = between all (close + 1) until; turns = turns })
-    (after_opening names turns words range place (between all from until))
-skipped all words range place from len until close names turns none is at =
-    let lines : List (ℕ × (ℕ × List ℕ)) = between all from until in
-    (λ i. record { names = names; lines = sym (behind_is all from len until close is at) i; turns = turns })
-    ∙ sym (ap (λ t. cond t (in_turn names turns (first_turn words range place lines names.held)) (record { names = names; lines = behind_body lines; turns = turns })) none)
 
 -- ---- The end of a turn
 
@@ -121,7 +97,7 @@ turned all names named bs outer b c r split more is e =
 -- or it is left
 pub left : (all : List (ℕ × (ℕ × List ℕ))) (names : Scope) (bs outer : List Block) (b : Block) → bs ≡ outer ++ b ∷ []
     → int_lt b.number b.last ≡ false
-    → EndsTurn names (turns_of all bs) None (record { names = released names b.held; lines = between all (b.end + 1) b.until; turns = turns_of all outer })
+    → EndsTurn names (turns_of all bs) None (record { names = released names b.held; lines = lines_between all (b.end + 1) b.until; turns = turns_of all outer })
 left all names bs outer b split none =
     let turns = turns_of all outer in
     let t : Turn = turn_of all b in (
@@ -138,7 +114,7 @@ not-turned all names bs outer b code p split is = (turns_of all outer, turn_of a
 
 -- a block that was entered stands within the lines, as those around it
 pub entered_within : (count : ℕ) (names named : Scope) (outer : List Block) (b : Block) (r : Reading) → Enters names outer b named r → All (IsBlockWithin count) outer
-    → IsBlockWithin count b → IsWithin count r
+    → IsBlockWithin count b → IsWithinLines count r
 entered_within count names named outer b r e all w = record {
   until = omega (arith, e.until, w.end);
   blocks = subst (λ (bs : List Block). All (IsBlockWithin count) bs) (sym e.blocks) (All-push (IsBlockWithin count) outer b all w);

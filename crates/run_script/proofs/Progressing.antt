@@ -11,9 +11,11 @@ use Rattle.map_script.specs.Words.{text_words}
 use Rattle.map_script.specs.declared.names.Held.{Held}
 use Rattle.map_script.specs.declared.names.Names.{Names}
 use Rattle.map_script.specs.declared.script.ScriptLine.{ScriptLine}
-use Rattle.run_script.specs.Blocks.{between, placed}
-use Rattle.run_script.specs.Drawn.{Advances, AdvancesOver, DrawsLine, DrawsNext, EndsTurn, IsCutOff, OpensLoop, Position, Progress, Reaches, Sketch, Turn, at_first, at_position, sketch_of}
-use Rattle.run_script.specs.Places.{AdvancesTo, IsBlockWithin, IsFirstReading, IsWithin, position_of, progress_of, turns_of}
+use Rattle.run_script.specs.Blocks.{lines_between, with_places}
+use Rattle.run_script.specs.Drawn.{Advances, AdvancesOver, ComesTo, DrawsNext, IsCutOff, Progress, at_first, at_position}
+use Rattle.run_script.specs.Lines.{DrawsLine, Sketch, sketch_of}
+use Rattle.run_script.specs.Turns.{EndsTurn, OpensLoop, Position, Turn}
+use Rattle.run_script.specs.Places.{AdvancesTo, IsBlockWithin, IsFirstReading, IsWithinLines, position_of, progress_of, turns_of}
 use Rattle.run_script.specs.declared.canvas.Canvas.{Ghosts}
 use Rattle.run_script.specs.declared.error.ScriptError.{ScriptError}
 use Rattle.run_script.specs.declared.error.ScriptError.TheVariants as cut
@@ -43,27 +45,27 @@ at_other facts verbose l ls old new refusal is drawn = rw is drawn
 pub met_loop : {S : Type 0} (facts : Ghosts S) (verbose : Bool) (lines : List ScriptLine) (x : ScriptLine) (canvas : S) (names named : Scope) (w : Option (List ℕ))
     (r s : Reading) (words : List (List ℕ)) (refusal : Option ℕ) → x ≡ get_or lines r.place x → r.place < length lines → r.place < r.until
     → loop_words (text_words x.text.items) ≡ Some words
-    → OpensLoop facts words r.place (between (placed (map seen lines)) (r.place + 1) r.until) canvas names (turns_of (placed (map seen lines)) r.blocks.items) refusal
-    (position_of (placed (map seen lines)) named s)
-    → Advances facts verbose (progress_of (placed (map seen lines)) canvas names w r) refusal (progress_of (placed (map seen lines)) canvas named w s)
+    → OpensLoop facts words r.place (lines_between (with_places (map seen lines)) (r.place + 1) r.until) canvas names (turns_of (with_places (map seen lines)) r.blocks.items) refusal
+    (position_of (with_places (map seen lines)) named s)
+    → Advances facts verbose (progress_of (with_places (map seen lines)) canvas names w r) refusal (progress_of (with_places (map seen lines)) canvas named w s)
 met_loop facts verbose lines x canvas names named w r s words refusal is below inside loop opens =
-    let all : List (ℕ × (ℕ × List ℕ)) = placed (map seen lines) in
+    let all : List (ℕ × (ℕ × List ℕ)) = with_places (map seen lines) in
     let old = progress_of all canvas names w r in
     let new = progress_of all canvas named w s in
     subst (λ (left : List (ℕ × (ℕ × List ℕ))). AdvancesOver facts verbose left old refusal new) (sym (next_line lines r.place r.until x is below inside))
-    (at_loop facts verbose (r.place, seen x) (between all (r.place + 1) r.until) old new words refusal (position_of all named s) loop opens refl)
+    (at_loop facts verbose (r.place, seen x) (lines_between all (r.place + 1) r.until) old new words refusal (position_of all named s) loop opens refl)
 
 -- another line
 drew_other : {S : Type 0} (facts : Ghosts S) (verbose : Bool) (lines : List ScriptLine) (x : ScriptLine) (s : Sketch S) (r : Reading) (new : Progress S)
     (refusal : Option ℕ) → x ≡ get_or lines r.place x → r.place < length lines → r.place < r.until → loop_words (text_words x.text.items) ≡ None
-    → DrawsNext facts verbose (seen x) (between (placed (map seen lines)) (r.place + 1) r.until) (progress_of (placed (map seen lines)) s.canvas s.names s.written r)
+    → DrawsNext facts verbose (seen x) (lines_between (with_places (map seen lines)) (r.place + 1) r.until) (progress_of (with_places (map seen lines)) s.canvas s.names s.written r)
     refusal new
-    → Advances facts verbose (progress_of (placed (map seen lines)) s.canvas s.names s.written r) refusal new
+    → Advances facts verbose (progress_of (with_places (map seen lines)) s.canvas s.names s.written r) refusal new
 drew_other facts verbose lines x s r new refusal is below inside other drawn =
-    let all : List (ℕ × (ℕ × List ℕ)) = placed (map seen lines) in
+    let all : List (ℕ × (ℕ × List ℕ)) = with_places (map seen lines) in
     let old = progress_of all s.canvas s.names s.written r in
     subst (λ (left : List (ℕ × (ℕ × List ℕ))). AdvancesOver facts verbose left old refusal new) (sym (next_line lines r.place r.until x is below inside))
-    (at_other facts verbose (r.place, seen x) (between all (r.place + 1) r.until) old new refusal other drawn)
+    (at_other facts verbose (r.place, seen x) (lines_between all (r.place + 1) r.until) old new refusal other drawn)
 
 -- how another line ends
 pub ended_next : {S : Type 0} (facts : Ghosts S) (verbose : Bool) (lines : List ScriptLine) (x : ScriptLine) (old new : Sketch S) (canvas : S) (r s : Reading)
@@ -72,41 +74,31 @@ pub ended_next : {S : Type 0} (facts : Ghosts S) (verbose : Bool) (lines : List 
     → MatchResult result (λ refusal. DrawsLine facts verbose (seen x) old refusal new)
     (λ e. ((e ≡ cut.OutOfMemory) ⊎ (e ≡ cut.WriterFailed))
     × ((canvas ≡ old.canvas) ⊎ ((y : Sketch S) × DrawsLine facts verbose (seen x) old None y × (canvas ≡ y.canvas))))
-    → AdvancesTo facts verbose (progress_of (placed (map seen lines)) old.canvas old.names old.written r) result
-    (progress_of (placed (map seen lines)) new.canvas new.names new.written s)
+    → AdvancesTo facts verbose (progress_of (with_places (map seen lines)) old.canvas old.names old.written r) result
+    (progress_of (with_places (map seen lines)) new.canvas new.names new.written s)
 ended_next facts verbose lines x old new canvas r s (Ok refusal) is below inside other place until blocks has drawn =
-    let all : List (ℕ × (ℕ × List ℕ)) = placed (map seen lines) in
+    let all : List (ℕ × (ℕ × List ℕ)) = with_places (map seen lines) in
     drew_other facts verbose lines x old r (progress_of all new.canvas new.names new.written s) refusal is below inside other
-    (drawn, ap₂ (λ (i j : ℕ). between all i j) place until, ap (turns_of all) blocks)
+    (drawn, ap₂ (λ (i j : ℕ). lines_between all i j) place until, ap (turns_of all) blocks)
 ended_next facts verbose lines x old new canvas r s (Err e) is below inside other place until blocks has (cause, inl same) = (cause, inl (has ∙ same))
 ended_next {S} facts verbose lines x old new canvas r s (Err e) is below inside other place until blocks has (cause, inr (y, drawn, at)) =
-    let all : List (ℕ × (ℕ × List ℕ)) = placed (map seen lines) in
-    let last : Progress S = record { sketch = y; lines = between all (r.place + 1) r.until; turns = turns_of all r.blocks.items } in (
+    let all : List (ℕ × (ℕ × List ℕ)) = with_places (map seen lines) in
+    let last : Progress S = record { sketch = y; lines = lines_between all (r.place + 1) r.until; turns = turns_of all r.blocks.items } in (
       cause,
       inr (last, drew_other facts verbose lines x old r last None is below inside other (drawn, refl, refl), has ∙ at),
     )
 
--- the end of a turn
-pub ended_turn : {S : Type 0} (facts : Ghosts S) (verbose : Bool) (all : List (ℕ × (ℕ × List ℕ))) (canvas : S) (names named : Scope) (w : Option (List ℕ))
-    (r s : Reading) (refusal : Option ℕ) → r.until ≤ r.place → EndsTurn names (turns_of all r.blocks.items) refusal (position_of all named s)
-    → Advances facts verbose (progress_of all canvas names w r) refusal (progress_of all canvas named w s)
-ended_turn facts verbose all canvas names named w r s refusal over ends =
-    let old = progress_of all canvas names w r in
-    let new = progress_of all canvas named w s in
-    subst (λ (left : List (ℕ × (ℕ × List ℕ))). AdvancesOver facts verbose left old refusal new) (sym (none_left r.place r.until all over))
-    (position_of all named s, ends, refl)
-
 -- ---- Many of them
 
 -- one more
-pub Reaches-more : {S : Type 0} (facts : Ghosts S) (verbose : Bool) (first mid new : Progress S) (n : ℕ) → Reaches facts verbose first n mid
-    → Advances facts verbose mid None new → Reaches facts verbose first (n + 1) new
-Reaches-more facts verbose first mid new n reached drawn =
+pub ComesTo-more : {S : Type 0} (facts : Ghosts S) (verbose : Bool) (first mid new : Progress S) (n : ℕ) → ComesTo facts verbose first n mid
+    → Advances facts verbose mid None new → ComesTo facts verbose first (n + 1) new
+ComesTo-more facts verbose first mid new n reached drawn =
     let more : suc n ≡ n + 1 = omega arith in
-    subst (λ m. Reaches facts verbose first m new) more (mid, reached, drawn)
+    subst (λ m. ComesTo facts verbose first m new) more (mid, reached, drawn)
 
 -- lines were drawn, and perhaps one more, when a call was cut off
-pub cut_off_at : {S : Type 0} (facts : Ghosts S) (verbose : Bool) (first mid : Progress S) (canvas : S) (n : ℕ) → Reaches facts verbose first n mid
+pub cut_off_at : {S : Type 0} (facts : Ghosts S) (verbose : Bool) (first mid : Progress S) (canvas : S) (n : ℕ) → ComesTo facts verbose first n mid
     → (canvas ≡ mid.sketch.canvas) ⊎ ((last : Progress S) × Advances facts verbose mid None last × (canvas ≡ last.sketch.canvas))
     → IsCutOff facts verbose first canvas
 cut_off_at facts verbose first mid canvas n reached (inl same) = record { count = n; last = mid; reached = reached; has = same }
@@ -121,14 +113,14 @@ held_len (h ∷ hs) others = held_len hs (held_entry h ∷ others) ∙ omega ari
 
 -- before the first line
 pub at_start : {S : Type 0} (canvas : S) (names : Names) (w : Option (List ℕ)) (lines : List ScriptLine) (r : Reading) → known names ≡ []
-    → IsFirstReading (length lines) r → progress_of (placed (map seen lines)) canvas (scope_of names) w r ≡ at_first canvas w (map seen lines)
+    → IsFirstReading (length lines) r → progress_of (with_places (map seen lines)) canvas (scope_of names) w r ≡ at_first canvas w (map seen lines)
 at_start canvas names w lines r none first =
     let count : length names.held.items + length (map known_entry names.table.entries) ≡ 0 =
     sym (held_len names.held.items (map known_entry names.table.entries)) ∙ ap length none in
     let held : length names.held.items ≡ 0 = omega (arith, count) in
-    let all : between (placed (map seen lines)) r.place r.until ≡ placed (map seen lines) =
-    ap₂ (λ (i j : ℕ). between (placed (map seen lines)) i j) first.place first.until ∙ all_between lines in
-    let turns : turns_of (placed (map seen lines)) r.blocks.items ≡ [] = ap (turns_of (placed (map seen lines))) first.blocks in
+    let all : lines_between (with_places (map seen lines)) r.place r.until ≡ with_places (map seen lines) =
+    ap₂ (λ (i j : ℕ). lines_between (with_places (map seen lines)) i j) first.place first.until ∙ all_between lines in
+    let turns : turns_of (with_places (map seen lines)) r.blocks.items ≡ [] = ap (turns_of (with_places (map seen lines))) first.blocks in
     λ i. record {
       sketch = record { canvas = canvas; names = record { names = none i; held = held i }; written = w };
       lines = all i;
@@ -136,7 +128,7 @@ at_start canvas names w lines r none first =
     }
 
 -- it is within the lines
-pub start_within : (count : ℕ) (r : Reading) → IsFirstReading count r → IsWithin count r
+pub start_within : (count : ℕ) (r : Reading) → IsFirstReading count r → IsWithinLines count r
 start_within count r first = record {
   until = omega (arith, first.until);
   blocks = subst (λ (bs : List Block). All (IsBlockWithin count) bs) (sym first.blocks) (All-nil (IsBlockWithin count));

@@ -4,12 +4,12 @@ use Rattle.std.specs.List.{enumerate_from}
 use Rattle.map_script.specs.Loops.{closes, opens}
 
 -- the lines, each behind its place among them, from 0
-abbrev pub placed : List (ℕ × List ℕ) → List (ℕ × (ℕ × List ℕ))
-placed lines = enumerate_from 0 lines
+abbrev pub with_places : List (ℕ × List ℕ) → List (ℕ × (ℕ × List ℕ))
+with_places lines = enumerate_from 0 lines
 
 -- the lines from one place up to another
-abbrev pub between : List (ℕ × (ℕ × List ℕ)) → ℕ → ℕ → List (ℕ × (ℕ × List ℕ))
-between lines from until = drop from (take until lines)
+abbrev pub lines_between : List (ℕ × (ℕ × List ℕ)) → ℕ → ℕ → List (ℕ × (ℕ × List ℕ))
+lines_between lines from until = drop from (take until lines)
 
 -- how many blocks are open behind a line, if so many were before it
 abbrev pub depth_after : ℕ → List ℕ → ℕ
@@ -20,18 +20,18 @@ depth_after depth line =
 
 -- how many lines stand before the `end` of a block, if within it so many blocks are open: all lines
 -- if none is its `end`
-abbrev pub body_len : ℕ → List (ℕ × (ℕ × List ℕ)) → ℕ
-body_len depth [] = 0
-body_len depth (l ∷ ls) =
-    if closes l.1.1 && (depth == 0) then 0 else suc (body_len (depth_after depth l.1.1) ls)
+abbrev pub block_len : ℕ → List (ℕ × (ℕ × List ℕ)) → ℕ
+block_len depth [] = 0
+block_len depth (l ∷ ls) =
+    if closes l.1.1 && (depth == 0) then 0 else suc (block_len (depth_after depth l.1.1) ls)
 
 -- the lines of a block, which begins these lines
 abbrev pub body_of : List (ℕ × (ℕ × List ℕ)) → List (ℕ × (ℕ × List ℕ))
-body_of lines = take (body_len 0 lines) lines
+body_of lines = take (block_len 0 lines) lines
 
 -- the lines behind its `end`
 abbrev pub behind_body : List (ℕ × (ℕ × List ℕ)) → List (ℕ × (ℕ × List ℕ))
-behind_body lines = drop (body_len 0 lines + 1) lines
+behind_body lines = drop (block_len 0 lines + 1) lines
 
 -- ---- Their order
 
@@ -49,4 +49,4 @@ fault_within outer depth (l ∷ ls) =
 
 -- the place of the line at which the blocks of a script are out of order, if they are
 abbrev pub order_fault : List (ℕ × List ℕ) → Option ℕ
-order_fault lines = fault_within 0 0 (placed lines)
+order_fault lines = fault_within 0 0 (with_places lines)

@@ -1,10 +1,12 @@
 -- How far a script has been read, by the places of its lines.
 use Rattle.std.specs.Prelude.{◌≡◌, ◌⊎◌, ℕ, ◌+◌, ◌<◌, ◌≤◌, All, Bool, List, [], ◌∷◌, ◌++◌, map, Option, None, Result, Ok, Err}
 use Rattle.map_script.specs.Loops.{loop_name}
-use Rattle.map_script.specs.Scopes.{Scope, with_number}
+use Rattle.map_script.specs.Scopes.{Scope, with_turn_name}
 use Rattle.map_script.specs.declared.looping.Range.{Range}
-use Rattle.run_script.specs.Blocks.{between}
-use Rattle.run_script.specs.Drawn.{Advances, Position, Progress, Turn, sketch_of}
+use Rattle.run_script.specs.Blocks.{lines_between}
+use Rattle.run_script.specs.Drawn.{Advances, Progress}
+use Rattle.run_script.specs.Lines.{sketch_of}
+use Rattle.run_script.specs.Turns.{Position, Turn}
 use Rattle.run_script.specs.declared.canvas.Canvas.{Ghosts}
 use Rattle.run_script.specs.declared.error.ScriptError.{ScriptError}
 use Rattle.run_script.specs.declared.error.ScriptError.TheVariants.{OutOfMemory, WriterFailed}
@@ -18,8 +20,8 @@ turn_of lines b = record {
   place = b.place;
   number = b.number;
   last = b.last;
-  body = between lines (b.place + 1) b.end;
-  behind = between lines (b.end + 1) b.until;
+  body = lines_between lines (b.place + 1) b.end;
+  behind = lines_between lines (b.end + 1) b.until;
   held = b.held;
 }
 
@@ -31,7 +33,7 @@ turns_of lines blocks = map (turn_of lines) blocks
 abbrev pub position_of : List (ℕ × (ℕ × List ℕ)) → Scope → Reading → Position
 position_of lines names r = record {
   names = names;
-  lines = between lines r.place r.until;
+  lines = lines_between lines r.place r.until;
   turns = turns_of lines r.blocks.items;
 }
 
@@ -40,7 +42,7 @@ abbrev pub progress_of : {S : Type 0} → List (ℕ × (ℕ × List ℕ)) → S 
     → Reading → Progress S
 progress_of lines canvas names written r = record {
   sketch = sketch_of canvas names written;
-  lines = between lines r.place r.until;
+  lines = lines_between lines r.place r.until;
   turns = turns_of lines r.blocks.items;
 }
 
@@ -51,21 +53,21 @@ pub record IsBlockWithin (count : ℕ) (b : Block) : Type 0 where
   pub until : b.until ≤ count
 
 -- what is read does
-pub record IsWithin (count : ℕ) (r : Reading) : Type 0 where
+pub record IsWithinLines (count : ℕ) (r : Reading) : Type 0 where
   pub until : r.until ≤ count
   pub blocks : All (IsBlockWithin count) r.blocks.items
 
 -- a block was entered at its next turn, of these names, within these
 pub record Enters (names : Scope) (outer : List Block) (b : Block) (named : Scope) (r : Reading)
     : Type 0 where
-  pub held : named ≡ with_number names b.name.items b.number
+  pub held : named ≡ with_turn_name names b.name.items b.number
   pub place : r.place ≡ b.place + 1
   pub until : r.until ≡ b.end
   pub blocks : r.blocks.items ≡ outer ++ b ∷ []
 
 -- the block of a loop in its first turn: NAME FROM TO at the next line, its `end` at this place
-pub record IsFirst (words : List (List ℕ)) (close : ℕ) (range : Range) (names : Scope) (r : Reading)
-    (b : Block) : Type 0 where
+pub record IsFirstBlock (words : List (List ℕ)) (close : ℕ) (range : Range) (names : Scope)
+    (r : Reading) (b : Block) : Type 0 where
   pub name : b.name.items ≡ loop_name words
   pub place : b.place ≡ r.place
   pub end : b.end ≡ close

@@ -2,7 +2,7 @@
 ghost use Rattle.std.specs.Prelude.{◌≡◌, ◌&&◌, ◌==◌, if◌then◌else◌, ◌+◌, ◌<◌, ◌≤◌, ◌^◌, length, map, IfSome};
 ghost use Rattle.map_script.specs.Loops.{closes};
 ghost use Rattle.map_script.specs.Views.{seen};
-ghost use Rattle.run_script.specs.Blocks.{between, order_fault, body_len, depth_after, is_misplaced, placed};
+ghost use Rattle.run_script.specs.Blocks.{lines_between, order_fault, block_len, depth_after, is_misplaced, with_places};
 
 use map_script::{ScriptLine, closes, opens};
 
@@ -29,10 +29,11 @@ fn ends_block(depth: usize, line: &[u8]) -> bool
 }
 
 /// How many of the lines from one on stand in the block that they begin: those before its `end`.
-pub fn body_len(lines: &[ScriptLine], from: usize, until: usize) -> usize
+pub fn block_len(lines: &[ScriptLine], from: usize, until: usize) -> usize
     requires begins { from ≤ until }
     requires ends { until ≤ length lines.now }
-    ensures len { result ≡ body_len 0 (between (placed (map seen lines.now)) from until) }
+    ensures len { result
+        ≡ block_len 0 (lines_between (with_places (map seen lines.now)) from until) }
     ensures within { from + result ≤ until }
 {
     let mut depth = 0;

@@ -6,7 +6,7 @@ ghost use Rattle.map_tables.specs.Projects.{project_of};
 ghost use Rattle.map_script.specs.Known.{scope_of};
 ghost use Rattle.map_script.specs.Views.{seen};
 ghost use Rattle.run_script.specs.declared.error.ScriptError.TheVariants.{OutOfMemory, WriterFailed};
-ghost use Rattle.run_script.specs.Drawn.{Added, Does, IsTried, Sketch, sketch_of};
+ghost use Rattle.run_script.specs.Lines.{Added, Does, IsTried, Sketch, sketch_of};
 ghost use Rattle.run_script.specs.Given.{AddsFirst, noted_text, with_given_name};
 
 use crate::canvas::Canvas;
@@ -45,8 +45,8 @@ fn keep_name(
     name: Option<&[u8]>,
     numbers: Numbers,
 ) -> Result<(), ScriptError>
-    ensures ok { IfOk result (λ _.
-        scope_of names.new ≡ with_given_name (option_copied name.entry) numbers (scope_of names.old)) }
+    ensures ok { IfOk result (λ _. scope_of names.new
+        ≡ with_given_name (option_copied name.entry) numbers (scope_of names.old)) }
     ensures refused { IfErr result (λ e. e ≡ OutOfMemory) }
 {
     match name {

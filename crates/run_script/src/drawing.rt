@@ -2,9 +2,9 @@
 ghost use Rattle.std.specs.Prelude.{◌≡◌, ◌⊎◌, ◌<◌, [], length, map, vec_len, IfNone, IfOk, IfSome};
 ghost use Rattle.map_script.specs.Known.{known, scope_of};
 ghost use Rattle.map_script.specs.Views.{seen};
-ghost use Rattle.run_script.specs.Blocks.{placed};
+ghost use Rattle.run_script.specs.Blocks.{with_places};
 ghost use Rattle.run_script.specs.Drawn.{EndsFrom, IsScriptDrawn, at_first, line_limit};
-ghost use Rattle.run_script.specs.Places.{AdvancesTo, IsFirstReading, IsWithin, progress_of};
+ghost use Rattle.run_script.specs.Places.{AdvancesTo, IsFirstReading, IsWithinLines, progress_of};
 
 use crate::blocks::order_fault;
 use crate::canvas::Canvas;
@@ -48,15 +48,15 @@ fn draw_next<C: Canvas, W: Write>(
     is_verbose: bool,
     writer: &mut W,
 ) -> Result<Option<u16>, ScriptError>
-    requires within { IsWithin (length lines.now) reading.old }
+    requires within { IsWithinLines (length lines.now) reading.old }
     requires some { reading.old.place < reading.old.until }
-    ensures advanced { let all = placed (map seen lines.now) in
+    ensures advanced { let all = with_places (map seen lines.now) in
         AdvancesTo C.Canvas is_verbose
         (progress_of all canvas.old (scope_of names.old) (W.contents writer.old) reading.old)
         result
         (progress_of all canvas.new (scope_of names.new) (W.contents writer.new) reading.new) }
     ensures within { IfOk result (λ refusal.
-        IfNone refusal (IsWithin (length lines.now) reading.new)) }
+        IfNone refusal (IsWithinLines (length lines.now) reading.new)) }
 {
     let line = &lines[reading.place];
     if let Some(words) = loop_words(&line.text) {
@@ -76,15 +76,15 @@ fn advance<C: Canvas, W: Write>(
     is_verbose: bool,
     writer: &mut W,
 ) -> Result<Option<u16>, ScriptError>
-    requires within { IsWithin (length lines.now) reading.old }
+    requires within { IsWithinLines (length lines.now) reading.old }
     requires some { (reading.old.place < reading.old.until) ⊎ (0 < vec_len reading.old.blocks) }
-    ensures advanced { let all = placed (map seen lines.now) in
+    ensures advanced { let all = with_places (map seen lines.now) in
         AdvancesTo C.Canvas is_verbose
         (progress_of all canvas.old (scope_of names.old) (W.contents writer.old) reading.old)
         result
         (progress_of all canvas.new (scope_of names.new) (W.contents writer.new) reading.new) }
     ensures within { IfOk result (λ refusal.
-        IfNone refusal (IsWithin (length lines.now) reading.new)) }
+        IfNone refusal (IsWithinLines (length lines.now) reading.new)) }
 {
     if reading.place < reading.until {
         draw_next(alloc, canvas, names, lines, reading, is_verbose, writer)

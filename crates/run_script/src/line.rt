@@ -4,7 +4,7 @@ ghost use Rattle.map_script.specs.Known.{scope_of};
 ghost use Rattle.map_script.specs.Views.{seen};
 ghost use Rattle.map_script.specs.Words.{text_words};
 ghost use Rattle.run_script.specs.declared.error.ScriptError.TheVariants.{OutOfMemory, WriterFailed};
-ghost use Rattle.run_script.specs.Drawn.{DrawsLine, DrawsOther, Sketch, asks, sketch_of};
+ghost use Rattle.run_script.specs.Lines.{DrawsLine, DrawsOther, Sketch, asks, sketch_of};
 ghost use Rattle.run_script.specs.Given.{GivesWords};
 
 use crate::canvas::Canvas;

@@ -5,12 +5,13 @@ ghost use Rattle.map_script.specs.Loops.{loop_name};
 ghost use Rattle.map_script.specs.Views.{seen};
 ghost use Rattle.map_script.specs.Words.{text_words};
 ghost use Rattle.map_script.specs.declared.error.DrawError.TheVariants.{OutOfMemory};
-ghost use Rattle.run_script.specs.Blocks.{between, placed};
-ghost use Rattle.run_script.specs.Drawn.{EndsTurn, IsAtPlace, OpensLoop};
+ghost use Rattle.run_script.specs.Blocks.{lines_between, with_places};
+ghost use Rattle.run_script.specs.Drawn.{IsAtPlace};
+ghost use Rattle.run_script.specs.Turns.{EndsTurn, OpensLoop};
 ghost use Rattle.run_script.specs.declared.reading.Block.{Block};
-ghost use Rattle.run_script.specs.Places.{Enters, IsFirst, IsWithin, position_of, turns_of};
+ghost use Rattle.run_script.specs.Places.{Enters, IsFirstBlock, IsWithinLines, position_of, turns_of};
 
-use crate::blocks::body_len;
+use crate::blocks::block_len;
 use crate::canvas::Canvas;
 use map_script::{DrawError, Names, Range, ScriptLine, loop_name, loop_range};
 use std::alloc::Global;
@@ -47,9 +48,9 @@ pub struct Reading {
 
 /// The place of the next line, or of the loop whose turn ends next, if the script isn't over.
 pub fn place_at_hand(lines: &[ScriptLine], reading: &Reading) -> Option<usize>
-    requires { IsWithin (length lines.now) reading.now }
-    ensures place { let all = placed (map seen lines.now) in
-        let left = between all reading.now.place reading.now.until in
+    requires { IsWithinLines (length lines.now) reading.now }
+    ensures place { let all = with_places (map seen lines.now) in
+        let left = lines_between all reading.now.place reading.now.until in
         let turns = turns_of all reading.now.blocks.items in
         MatchOption result ((left ≡ []) × (turns ≡ [])) (λ place. IsAtPlace left turns place) }
     ensures within { IfSome result (λ place. place < length lines.now) }
@@ -103,7 +104,7 @@ fn open_first(
 ) -> Result<(), DrawError>
     requires { reading.old.place < 2 ^ 63 }
     ensures ok { IfOk result (λ _. (b : Block)
-        × IsFirst (text_words words.now) end range.now (scope_of names.old) reading.old b
+        × IsFirstBlock (text_words words.now) end range.now (scope_of names.old) reading.old b
         × Enters (scope_of names.old) reading.old.blocks.items b (scope_of names.new) reading.new) }
     ensures memory { IsOkUnless result OutOfMemory }
 {
@@ -137,21 +138,21 @@ pub fn open_loop<C: Canvas>(
     reading: &mut Reading,
     words: &[u8],
 ) -> Option<u16>
-    requires within { IsWithin (length lines.now) reading.old }
+    requires within { IsWithinLines (length lines.now) reading.old }
     requires some { reading.old.place < reading.old.until }
-    ensures opened { let all = placed (map seen lines.now) in
+    ensures opened { let all = with_places (map seen lines.now) in
         OpensLoop C.Canvas (text_words words.now) reading.old.place
-        (between all (reading.old.place + 1) reading.old.until) canvas.now (scope_of names.old)
-        (turns_of all reading.old.blocks.items) result
+        (lines_between all (reading.old.place + 1) reading.old.until)
+        canvas.now (scope_of names.old) (turns_of all reading.old.blocks.items) result
         (position_of all (scope_of names.new) reading.new) }
-    ensures within { IfNone result (IsWithin (length lines.now) reading.new) }
+    ensures within { IfNone result (IsWithinLines (length lines.now) reading.new) }
 {
     let range = match loop_range(alloc, names, canvas.maps().current(), words) {
         Ok(range) => range,
         Err(error) => return Some(error.code()),
     };
     let from = reading.place + 1;
-    let end = from + body_len(lines, from, reading.until);
+    let end = from + block_len(lines, from, reading.until);
     if !has_turn(&range) {
         reading.place = end + 1;
         return None;
@@ -181,12 +182,12 @@ pub fn end_turn(
     lines: &[ScriptLine],
     reading: &mut Reading,
 ) -> Option<u16>
-    requires within { IsWithin (length lines.now) reading.old }
+    requires within { IsWithinLines (length lines.now) reading.old }
     requires some { 0 < vec_len reading.old.blocks }
-    ensures ended { let all = placed (map seen lines.now) in
+    ensures ended { let all = with_places (map seen lines.now) in
         EndsTurn (scope_of names.old) (turns_of all reading.old.blocks.items) result
         (position_of all (scope_of names.new) reading.new) }
-    ensures within { IfNone result (IsWithin (length lines.now) reading.new) }
+    ensures within { IfNone result (IsWithinLines (length lines.now) reading.new) }
 {
     let Some(block) = reading.blocks.pop() else {
         return None;

@@ -27,6 +27,6 @@ loop-i-preserved c =
     one_more hs name i (bytes_eq name h.name.items) c.if-eq.newest c.loop-i.newest (newest_more hs i h name c.index-held-i.is c.loop-i-test.true)
     c.loop-i.invariant.0 c.loop-i.invariant.1
     (elim c.if-eq.branch [
-      then-eq w ↦ w.newest-is ∙ sym (ap (λ t. cond t (Some i) c.loop-i.newest) (same ∙ w.if-eq.true))
+      | then-eq w ↦ w.newest-is ∙ sym (ap (λ t. cond t (Some i) c.loop-i.newest) (same ∙ w.if-eq.true))
       | else-eq w ↦ w.newest-is ∙ sym (ap (λ t. cond t (Some i) c.loop-i.newest) (same ∙ w.if-eq.false))
     ])

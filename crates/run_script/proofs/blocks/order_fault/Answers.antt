@@ -3,7 +3,7 @@ use Rattle.std.specs.Prelude.{zero, suc}
 use Rattle.std.proofs.lemmas.Bool.Decides.{nat_tests}
 use Rattle.map_script.specs.Views.{seen}
 use Rattle.map_script.specs.declared.script.ScriptLine.{ScriptLine}
-use Rattle.run_script.specs.Blocks.{between, order_fault, depth_after, fault_within, is_misplaced, placed}
+use Rattle.run_script.specs.Blocks.{lines_between, order_fault, depth_after, fault_within, is_misplaced, with_places}
 use Rattle.run_script.proofs.PlacedLines.{all_between, next_line, none_left}
 use Rattle.run_script.proofs.blocks.order_fault.Goals as goal
 
@@ -11,10 +11,10 @@ use Rattle.run_script.proofs.blocks.order_fault.Goals as goal
 fault_at : (lines : List ScriptLine) (i until outer depth further deeper : ℕ) (x : ScriptLine) (text word : List ℕ) (misplaced : Bool) → x ≡ get_or lines i x
     → i < length lines → i < until → text ≡ (get_or lines i x).text.items → word ≡ (get_or lines i x).text.items → misplaced ≡ is_misplaced depth text
     → further ≡ cond (depth == 0) i outer → deeper ≡ depth_after depth word
-    → fault_within outer depth (between (placed (map seen lines)) i until)
-    ≡ cond misplaced (Some i) (fault_within further deeper (between (placed (map seen lines)) (i + 1) until))
+    → fault_within outer depth (lines_between (with_places (map seen lines)) i until)
+    ≡ cond misplaced (Some i) (fault_within further deeper (lines_between (with_places (map seen lines)) (i + 1) until))
 fault_at lines i until outer depth further deeper x text word misplaced is below inside same also wrong begun so =
-    let rest : List (ℕ × (ℕ × List ℕ)) = between (placed (map seen lines)) (i + 1) until in
+    let rest : List (ℕ × (ℕ × List ℕ)) = lines_between (with_places (map seen lines)) (i + 1) until in
     let here : x.text.items ≡ text = ap (λ (l : ScriptLine). l.text.items) is ∙ sym same in
     let there : x.text.items ≡ word = ap (λ (l : ScriptLine). l.text.items) is ∙ sym also in
     ap (fault_within outer depth) (next_line lines i until x is below inside)
@@ -57,7 +57,7 @@ returns-then-is_misplaced-clause-place c =
     let outer = c.loop-place.outer in
     let depth = c.loop-place.depth in
     let text : List ℕ = c.deref.result.now in
-    let rest : List (ℕ × (ℕ × List ℕ)) = between (placed (map seen lines)) (i + 1) (length lines) in
+    let rest : List (ℕ × (ℕ × List ℕ)) = lines_between (with_places (map seen lines)) (i + 1) (length lines) in
     sym (fault_at lines i (length lines) outer depth (cond (depth == 0) i outer) (depth_after depth text) c.index-lines-place.result text text c.is_misplaced.result
     c.index-lines-place.is c.loop-place-test.true c.loop-place-test.true c.deref.ensures.value c.deref.ensures.value c.is_misplaced.ensures refl refl
     ∙ ap (λ t. cond t (Some i) (fault_within (cond (depth == 0) i outer) (depth_after depth text) rest)) c.if-is_misplaced.true)
@@ -67,7 +67,7 @@ pub loop-place-preserved : goal.loop-place-preserved
 loop-place-preserved c =
     let lines : List ScriptLine = c.args.lines.now in
     let i = c.loop-place.place in
-    let rest : List (ℕ × (ℕ × List ℕ)) = between (placed (map seen lines)) (i + 1) (length lines) in
+    let rest : List (ℕ × (ℕ × List ℕ)) = lines_between (with_places (map seen lines)) (i + 1) (length lines) in
     let further = c.outermost-outer.result in
     let deeper = c.depth_after-depth.result in
     let more =
@@ -84,11 +84,11 @@ loop-place-preserved c =
 pub returns-then-depth-eq0-clause-place : goal.returns-then-depth-eq0-clause-place
 returns-then-depth-eq0-clause-place c =
     let lines : List ScriptLine = c.args.lines.now in
-    whole c.loop-place.outer c.loop-place.depth (between (placed (map seen lines)) c.loop-place.place (length lines)) (order_fault (map seen lines))
-    c.loop-place.invariant.fault (none_left c.loop-place.place (length lines) (placed (map seen lines)) c.loop-place-test.false) c.if-depth-eq0.true
+    whole c.loop-place.outer c.loop-place.depth (lines_between (with_places (map seen lines)) c.loop-place.place (length lines)) (order_fault (map seen lines))
+    c.loop-place.invariant.fault (none_left c.loop-place.place (length lines) (with_places (map seen lines)) c.loop-place-test.false) c.if-depth-eq0.true
 
 pub returns-else-depth-eq0-clause-place : goal.returns-else-depth-eq0-clause-place
 returns-else-depth-eq0-clause-place c =
     let lines : List ScriptLine = c.args.lines.now in
-    unclosed c.loop-place.outer c.loop-place.depth (between (placed (map seen lines)) c.loop-place.place (length lines)) (order_fault (map seen lines))
-    c.loop-place.invariant.fault (none_left c.loop-place.place (length lines) (placed (map seen lines)) c.loop-place-test.false) c.if-depth-eq0.false
+    unclosed c.loop-place.outer c.loop-place.depth (lines_between (with_places (map seen lines)) c.loop-place.place (length lines)) (order_fault (map seen lines))
+    c.loop-place.invariant.fault (none_left c.loop-place.place (length lines) (with_places (map seen lines)) c.loop-place-test.false) c.if-depth-eq0.false

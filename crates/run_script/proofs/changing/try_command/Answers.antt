@@ -1,7 +1,7 @@
 use Rattle.std.proofs.Common.{inl, inr}
 use Rattle.map_script.specs.Known.{scope_of}
 use Rattle.map_script.specs.Views.{seen}
-use Rattle.run_script.specs.Drawn.{sketch_of}
+use Rattle.run_script.specs.Lines.{sketch_of}
 use Rattle.run_script.proofs.LineEnds.{tried_unsaid}
 use Rattle.run_script.proofs.changing.try_command.Goals as goal
 

@@ -4,10 +4,10 @@ use Rattle.map_script.specs.Errors.{code_of}
 use Rattle.map_script.specs.Known.{known, scope_of}
 use Rattle.map_script.specs.Views.{seen}
 use Rattle.map_script.specs.declared.script.ScriptLine.{ScriptLine}
-use Rattle.run_script.specs.Blocks.{placed}
-use Rattle.run_script.specs.Drawn.{Reaches, at_first, line_limit}
+use Rattle.run_script.specs.Blocks.{with_places}
+use Rattle.run_script.specs.Drawn.{ComesTo, at_first, line_limit}
 use Rattle.run_script.specs.Places.{progress_of}
-use Rattle.run_script.proofs.Progressing.{Reaches-more, at_start, cut_off_at, start_within}
+use Rattle.run_script.proofs.Progressing.{ComesTo-more, at_start, cut_off_at, start_within}
 use Rattle.run_script.proofs.drawing.draw_all.Goals as goal
 
 pub loop-count-init : goal.loop-count-init
@@ -19,11 +19,11 @@ loop-count-init g c = record {
 
 pub loop-count-preserved : goal.loop-count-preserved
 loop-count-preserved g c =
-    let all : List (ℕ × (ℕ × List ℕ)) = placed (map seen c.args.lines.now) in
+    let all : List (ℕ × (ℕ × List ℕ)) = with_places (map seen c.args.lines.now) in
     let advanced = rw c.in-Ok-None.field-0-is at c.in-Ok-None.ensures.advanced in
     let within = rw c.in-Ok-None.field-0-is at c.in-Ok-None.ensures.within in
     record {
-      reached = Reaches-more g.C.Canvas c.args.is_verbose (at_first c.args.canvas.now (g.W.Write.contents c.args.writer.now) (map seen c.args.lines.now))
+      reached = ComesTo-more g.C.Canvas c.args.is_verbose (at_first c.args.canvas.now (g.W.Write.contents c.args.writer.now) (map seen c.args.lines.now))
           (progress_of all c.loop-count.canvas (scope_of c.loop-count.names) (g.W.Write.contents c.loop-count.writer) c.loop-count.reading)
           (progress_of all c.advance.new.canvas (scope_of c.advance.new.names) (g.W.Write.contents c.advance.new.writer) c.advance.new.reading)
           c.loop-count._count c.loop-count.invariant.reached advanced;
@@ -36,7 +36,7 @@ limit_is lines = ap (λ n. 1000000 + n) (length-map lines seen)
 
 pub returns-in_default-clause-drawn : goal.returns-in_default-clause-drawn
 returns-in_default-clause-drawn g c =
-    let all : List (ℕ × (ℕ × List ℕ)) = placed (map seen c.args.lines.now) in
+    let all : List (ℕ × (ℕ × List ℕ)) = with_places (map seen c.args.lines.now) in
     let limit = limit_is c.args.lines.now in
     record {
       count = c.loop-count._count;
@@ -49,7 +49,7 @@ returns-in_default-clause-drawn g c =
 
 pub returns-in-Ok-Some-clause-drawn : goal.returns-in-Ok-Some-clause-drawn
 returns-in-Ok-Some-clause-drawn g c =
-    let all : List (ℕ × (ℕ × List ℕ)) = placed (map seen c.args.lines.now) in
+    let all : List (ℕ × (ℕ × List ℕ)) = with_places (map seen c.args.lines.now) in
     let limit = limit_is c.args.lines.now in
     let advanced = rw c.in-Ok-Some.field-0-is at c.in-Ok-Some.ensures.advanced in
     record {
@@ -64,7 +64,7 @@ returns-in-Ok-Some-clause-drawn g c =
 
 pub returns-in-Err-clause-drawn : goal.returns-in-Err-clause-drawn
 returns-in-Err-clause-drawn g c =
-    let all : List (ℕ × (ℕ × List ℕ)) = placed (map seen c.args.lines.now) in (
+    let all : List (ℕ × (ℕ × List ℕ)) = with_places (map seen c.args.lines.now) in (
       c.in-Err.ensures.advanced.0,
       cut_off_at g.C.Canvas c.args.is_verbose (at_first c.args.canvas.now (g.W.Write.contents c.args.writer.now) (map seen c.args.lines.now))
           (progress_of all c.loop-count.canvas (scope_of c.loop-count.names) (g.W.Write.contents c.loop-count.writer) c.loop-count.reading)
@@ -73,7 +73,7 @@ returns-in-Err-clause-drawn g c =
 
 pub returns-in-None-clause-drawn : goal.returns-in-None-clause-drawn
 returns-in-None-clause-drawn g c =
-    let all : List (ℕ × (ℕ × List ℕ)) = placed (map seen c.args.lines.now) in
+    let all : List (ℕ × (ℕ × List ℕ)) = with_places (map seen c.args.lines.now) in
     let limit = limit_is c.args.lines.now in
     record {
       count = c.loop-count._count;
@@ -86,7 +86,7 @@ returns-in-None-clause-drawn g c =
 
 pub returns-clause-drawn : goal.returns-clause-drawn
 returns-clause-drawn g c =
-    let all : List (ℕ × (ℕ × List ℕ)) = placed (map seen c.args.lines.now) in
+    let all : List (ℕ × (ℕ × List ℕ)) = with_places (map seen c.args.lines.now) in
     let limit = limit_is c.args.lines.now in
     let last = progress_of all c.loop-count.canvas (scope_of c.loop-count.names) (g.W.Write.contents c.loop-count.writer) c.loop-count.reading in
     record {

@@ -4,7 +4,7 @@ use Rattle.map_script.specs.Loops.{loop_words}
 use Rattle.map_script.specs.Views.{seen}
 use Rattle.map_script.specs.Words.{text_words}
 use Rattle.map_script.specs.declared.script.ScriptLine.{ScriptLine}
-use Rattle.run_script.specs.Drawn.{sketch_of}
+use Rattle.run_script.specs.Lines.{sketch_of}
 use Rattle.run_script.proofs.Progressing.{any_ok, ended_next, met_loop}
 use Rattle.run_script.proofs.drawing.draw_next.Goals as goal
 

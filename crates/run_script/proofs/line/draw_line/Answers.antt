@@ -4,7 +4,7 @@ use Rattle.map_script.specs.Known.{scope_of}
 use Rattle.map_script.specs.Lines.{let_words}
 use Rattle.map_script.specs.Views.{seen}
 use Rattle.map_script.specs.Words.{text_words}
-use Rattle.run_script.specs.Drawn.{sketch_of}
+use Rattle.run_script.specs.Lines.{sketch_of}
 use Rattle.run_script.proofs.LineEnds.{let_line, other_ends}
 use Rattle.run_script.proofs.line.draw_line.Goals as goal
 

@@ -4,7 +4,7 @@ use Rattle.std.proofs.KnownBytes.{Keeps-refl}
 use Rattle.map_script.specs.Known.{known, scope_of}
 use Rattle.map_script.specs.Lines.{TellsScriptFault, line_for}
 use Rattle.map_script.specs.Views.{seen}
-use Rattle.run_script.specs.Drawn.{DrawsOther, asks, sketch_of}
+use Rattle.run_script.specs.Lines.{DrawsOther, asks, sketch_of}
 use Rattle.map_tables.specs.Projects.{current_map}
 use Rattle.map_tables.specs.Tables.{Tables}
 use Rattle.run_script.proofs.Currents.{current_is}

@@ -8,8 +8,8 @@ use Rattle.map_script.specs.Errors.{code_of}
 use Rattle.map_script.specs.Known.{scope_of}
 use Rattle.map_script.specs.Scopes.{Scope, released}
 use Rattle.map_script.specs.Views.{seen}
-use Rattle.run_script.specs.Blocks.{between, placed}
-use Rattle.run_script.specs.Drawn.{EndsTurn}
+use Rattle.run_script.specs.Blocks.{lines_between, with_places}
+use Rattle.run_script.specs.Turns.{EndsTurn}
 use Rattle.run_script.specs.Places.{Enters, IsBlockWithin, position_of, turns_of}
 use Rattle.run_script.specs.declared.reading.Block.{Block}
 use Rattle.run_script.proofs.Positions.{entered_within, enters_from, left, next_is, none_next, not-turned, turned}
@@ -17,13 +17,13 @@ use Rattle.run_script.proofs.reading.end_turn.Goals as goal
 
 pub returns-in_default-next_number-clause-ended : goal.returns-in_default-next_number-clause-ended
 returns-in_default-next_number-clause-ended c =
-    let all : List (ℕ × (ℕ × List ℕ)) = placed (map seen c.args.lines.now) in
+    let all : List (ℕ × (ℕ × List ℕ)) = with_places (map seen c.args.lines.now) in
     let b : Block = c.in-Some.block in
     let bs : List Block = c.args.reading.now.blocks.items in
     let outer : List Block = c.pop.new.self.items in
     let last : int_lt b.number b.last ≡ false = none_next (int_lt b.number b.last) (b.number +ℤ pos 1) c.in_default-next_number.ensures in
     subst (λ (named : Scope). EndsTurn (scope_of c.args.names.now) (turns_of all bs) None
-    (record { names = named; lines = between all (b.end + 1) b.until; turns = turns_of all outer })) (sym c.release.ensures)
+    (record { names = named; lines = lines_between all (b.end + 1) b.until; turns = turns_of all outer })) (sym c.release.ensures)
     (left all (scope_of c.args.names.now) bs outer b c.in-Some.ensures.items last)
 
 pub returns-in_default-next_number-clause-within : goal.returns-in_default-next_number-clause-within
@@ -34,7 +34,7 @@ returns-in_default-next_number-clause-within c =
 
 pub returns-in-Ok-clause-ended : goal.returns-in-Ok-clause-ended
 returns-in-Ok-clause-ended c =
-    let all : List (ℕ × (ℕ × List ℕ)) = placed (map seen c.args.lines.now) in
+    let all : List (ℕ × (ℕ × List ℕ)) = with_places (map seen c.args.lines.now) in
     let b : Block = c.in-Some.block in
     let outer : List Block = c.pop.new.self.items in
     let (more, next) = next_is (int_lt b.number b.last) c.in-Some-next_number.number (b.number +ℤ pos 1) c.in-Some-next_number.ensures in
@@ -46,8 +46,8 @@ returns-in-Ok-clause-ended c =
       place = b.place;
       number = (number ∙ next) i;
       last = last i;
-      body = between all (b.place + 1) b.end;
-      behind = between all (b.end + 1) b.until;
+      body = lines_between all (b.place + 1) b.end;
+      behind = lines_between all (b.end + 1) b.until;
       held = b.held;
     })
     (enters_from _ _ _ _ _ _ c.release.ensures c.in-Ok.ensures.ok)
@@ -61,5 +61,5 @@ returns-in-Ok-clause-within c =
 
 pub returns-in-Err-clause-ended : goal.returns-in-Err-clause-ended
 returns-in-Err-clause-ended c =
-    let all : List (ℕ × (ℕ × List ℕ)) = placed (map seen c.args.lines.now) in
+    let all : List (ℕ × (ℕ × List ℕ)) = with_places (map seen c.args.lines.now) in
     not-turned all (scope_of c.args.names.now) c.args.reading.now.blocks.items c.pop.new.self.items c.in-Some.block c.code.result _ c.in-Some.ensures.items (c.code.ensures ∙ ap code_of c.in-Err.ensures.memory)

@@ -7,15 +7,15 @@ use Rattle.map_script.specs.Known.{scope_of}
 use Rattle.map_script.specs.Scopes.{Scope}
 use Rattle.map_script.specs.Words.{text_words}
 use Rattle.map_script.specs.declared.looping.Range.{Range}
-use Rattle.run_script.specs.Places.{Enters, IsFirst}
+use Rattle.run_script.specs.Places.{Enters, IsFirstBlock}
 use Rattle.run_script.specs.declared.reading.Block.{Block}
 use Rattle.run_script.specs.declared.reading.Reading.{Reading}
 use Rattle.run_script.proofs.reading.open_first.Goals as goal
 
 -- the block that was entered is the first
 first_entered : {X E : Type 0} (result : Result X E) (words : List (List ℕ)) (close : ℕ) (range : Range) (names named : Scope) (r s : Reading) (b : Block)
-    → IsFirst words close range names r b → IfOk result (λ _. Enters names r.blocks.items b named s)
-    → IfOk result (λ _. (c : Block) × IsFirst words close range names r c × Enters names r.blocks.items c named s)
+    → IsFirstBlock words close range names r b → IfOk result (λ _. Enters names r.blocks.items b named s)
+    → IfOk result (λ _. (c : Block) × IsFirstBlock words close range names r c × Enters names r.blocks.items c named s)
 first_entered (Ok x) words close range names named r s b first entered = (b, first, entered)
 first_entered (Err e) words close range names named r s b first entered = tt
 
