@@ -349,11 +349,11 @@ pub fn reason_of(
     line: &ScriptLine,
     code: u16,
 ) -> Result<String, AllocError> {
-    if let Some(words) = let_words(&line.text) {
-        return reason_of_let(alloc, maps.current(), names, words, code);
-    }
     if code == DrawError::OpenBlock.code() || code == DrawError::TooManyLines.code() {
         return says(alloc, code);
+    }
+    if let Some(words) = let_words(&line.text) {
+        return reason_of_let(alloc, maps.current(), names, words, code);
     }
     if let Some(words) = loop_words(&line.text) {
         return reason_of_loop(alloc, maps.current(), names, words, code);
