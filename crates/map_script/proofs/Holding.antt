@@ -127,7 +127,9 @@ front_less hs zero others =
 front_less [] (suc k) others =
     let none : 0 ≡ 0 - suc k = omega arith in
     ap (λ n. drop n others) none
-front_less (h ∷ hs) (suc k) others = front_less hs k (held_entry h ∷ others)
+front_less (h ∷ hs) (suc k) others =
+    let same : length hs - k ≡ suc (length hs) - suc k = omega arith in
+    front_less hs k (held_entry h ∷ others) ∙ ap (λ n. drop n (in_front_of hs (held_entry h ∷ others))) same
 
 -- ---- All of this
 
