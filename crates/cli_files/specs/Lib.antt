@@ -1,5 +1,6 @@
 pub mod Accesses
 pub mod Causes
+pub mod Contents
 pub mod GaplessFile
 pub mod Locks
 pub mod Names

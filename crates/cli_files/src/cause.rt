@@ -1,13 +1,14 @@
-//! Why a file can't be opened or made, and the line that says so.
+//! Why a file can't be opened or made, or what it holds, and the line that says so.
 ghost use Rattle.std.specs.Prelude.{◌≡◌, ℕ, List, OnOk};
 ghost use Rattle.std.specs.Io.KnownBytes.{Appends};
-ghost use Rattle.cli_files.specs.Causes.{Says, cause_line};
+ghost use Rattle.cli_files.specs.Causes.{Says, cause_line, content_text};
 ghost use Rattle.cli_files.specs.declared.cause.Cause.TheVariants.{OutOfMemory, System};
 
+use crate::content::Content;
 use std::alloc::{AllocError, Global};
 use std::io::{self, Write};
 
-/// Why a file can't be opened or made.
+/// Why a file can't be opened, made or read, or what it holds in place of what was asked for.
 #[derive(Clone, Copy)]
 pub enum Cause {
     /// The system refused it.
@@ -16,6 +17,8 @@ pub enum Cause {
     Held,
     /// It is a folder, a pipe or a device.
     NotRegular,
+    /// It holds this, and no such thing as was asked for.
+    Holds(Content),
     /// It is neither empty nor a PWAD.
     NoPwad,
     /// It is neither empty nor a picture of a map.
@@ -47,6 +50,20 @@ fn without_number(told: &str) -> &str {
     match told.split_once(" (os error ") {
         Some((reason, _)) => reason,
         None => told,
+    }
+}
+
+// What is said of a file that holds something else than was asked for.
+fn content_text(content: Content) -> &'static str
+    ensures { result.now ≡ content_text content }
+{
+    match content {
+        Content::Nothing => "is empty",
+        Content::Project => "is a project",
+        Content::Wad => "is a WAD",
+        Content::Picture => "is a picture",
+        Content::Text => "is a script, or another text",
+        Content::Other => "is no project, no WAD and no text",
     }
 }
 
@@ -83,6 +100,7 @@ pub fn write_cause<W: Write>(
         }
         Cause::Held => write_reason(path, "is open in another program", writer),
         Cause::NotRegular => write_reason(path, "is no regular file", writer),
+        Cause::Holds(content) => write_reason(path, content_text(*content), writer),
         Cause::NoPwad => write_reason(path, "is no PWAD; it is left alone", writer),
         Cause::NoPicture => write_reason(path, "is no picture of a map; it is left alone", writer),
         Cause::Changed => write_reason(path, "has changed meanwhile; it is left alone", writer),

@@ -2,6 +2,7 @@
 #![tactic(auto)]
 
 mod cause;
+mod content;
 mod gapless;
 mod hold;
 mod making;
@@ -13,6 +14,7 @@ mod stamp;
 mod target;
 
 pub use cause::{Cause, write_cause, write_reason};
+pub use content::{Content, content_in, content_within};
 pub use gapless::GaplessFile;
 pub use hold::{Access, Hold, open_held};
 pub use name::beside;

@@ -1,6 +1,11 @@
 -- What was read of a reader that tells its bytes.
-use Rattle.std.specs.Prelude.{◌≡◌, ◌≤◌, ℕ, Option, List, length}
+use Rattle.std.specs.Prelude.{◌≡◌, ◌≤◌, ℕ, Option, None, Some, List, length, take}
 use Rattle.std.specs.Io.KnownBytes.{Consumes, IsAtEnd}
+use Rattle.cli_files.specs.Contents.{content_of}
+use Rattle.cli_files.specs.declared.cause.Cause.{Cause}
+use Rattle.cli_files.specs.declared.cause.Cause.TheVariants.{Holds}
+use Rattle.cli_files.specs.declared.content.Content.{Content}
+use Rattle.cli_files.specs.declared.content.Content.TheVariants.{Wad}
 use Rattle.run_edit.specs.declared.error.EditorError.{EditorError}
 use Rattle.run_edit.specs.declared.error.EditorError.TheVariants.{InputTooLong}
 
@@ -17,3 +22,12 @@ abbrev pub IsTooLongAfter : ℕ → Option (List ℕ) → Option (List ℕ) → 
 IsTooLongAfter reads reader-old reader-new e =
     e ≡ InputTooLong
     → (bytes : List ℕ) × Consumes reader-old reader-new bytes × (reads ≤ length bytes)
+
+-- what is noted of content where a WAD is asked for: nothing of a WAD
+abbrev pub noted_of : Content → Option Cause
+noted_of Wad = None
+noted_of held = Some (Holds held)
+
+-- what is noted of bytes that were read in place of a WAD
+abbrev pub no_wad : List ℕ → Option Cause
+no_wad bytes = noted_of (content_of (take 512 bytes))

@@ -4,7 +4,7 @@ ghost use Rattle.wad_levels.specs.Graphics.{graphics_view};
 ghost use Rattle.cli_print.specs.Linting.{IsNamedBy, IsNamedOf, RefusesNaming};
 
 use crate::limits::TURNS;
-use crate::reading::read_whole;
+use crate::reading::read_wad;
 use cli_files::Cause;
 use cli_refusals::Refusal;
 use run_edit::{EditorError, InspectError};
@@ -13,18 +13,23 @@ use std::fs::{self, Files};
 use std::io::Read;
 use wad_levels::{Graphics, graphics_in};
 
-// The names in all that the reader gives.
-fn graphics_read<R: Read>(alloc: Global, reader: &mut R, turns: u32) -> Result<Graphics, Refusal>
+// The names in all that the reader gives, or notes why it can't be read.
+fn graphics_read<R: Read>(
+    alloc: Global,
+    reader: &mut R,
+    turns: u32,
+    why: &mut Option<Cause>,
+) -> Result<Graphics, Refusal>
     ensures { IsNamedOf result (R.remaining reader.old) (R.remaining reader.new) }
 {
-    let wad = read_whole(alloc, reader, turns)?;
+    let wad = read_wad(alloc, reader, turns, why)?;
     match graphics_in(alloc, &wad) {
         Ok(graphics) => Ok(graphics),
         Err(error) => Err(Refusal::Level(InspectError::Level(error))),
     }
 }
 
-// The names of the WAD at the path, or notes why it can't be opened.
+// The names of the WAD at the path, or notes why it can't be opened or read.
 fn graphics_at<E: AllocGlobal + Files>(
     rt: &E,
     path: &str,
@@ -34,7 +39,7 @@ fn graphics_at<E: AllocGlobal + Files>(
     ensures refused { IfErr result RefusesNaming }
 {
     match fs::open(rt, path) {
-        Ok(mut file) => graphics_read(rt.alloc(), &mut file, TURNS),
+        Ok(mut file) => graphics_read(rt.alloc(), &mut file, TURNS, why),
         Err(error) => {
             *why = Some(Cause::System(error));
             Err(Refusal::Lines(EditorError::ReaderFailed))
@@ -42,7 +47,8 @@ fn graphics_at<E: AllocGlobal + Files>(
     }
 }
 
-/// The names of the flats and textures of the WAD at the path, if one is given, or notes why it can't be opened.
+/// The names of the flats and textures of the WAD at the path, if one is given, or notes why it can't be opened or
+/// read.
 pub fn graphics_given<E: AllocGlobal + Files>(
     rt: &E,
     path: Option<&str>,

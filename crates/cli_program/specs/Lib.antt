@@ -2,7 +2,6 @@ pub mod Deeds
 pub mod Drawing
 pub mod Dumped
 pub mod DrawnOver
-pub mod Heads
 pub mod Kinds
 pub mod LevelNames
 pub mod Notes

@@ -8,7 +8,8 @@ ghost use Rattle.cli_dump.specs.LevelDumps.{IsWadDumped};
 
 use crate::over_disk::{HandedBack, maps_on};
 use cli_dump::{tell_level_dumps, tell_lines_of};
-use cli_print::{TURNS, read_whole};
+use cli_files::Cause;
+use cli_print::{TURNS, read_wad};
 use cli_refusals::Refusal;
 use map_tables::Maps;
 use std::alloc::Global;
@@ -42,7 +43,7 @@ pub fn dump<D: Disk, W: Write>(
 }
 
 /// Reads a WAD to its end and writes the lines that draw its levels, all or those with the names; reports on `errors`
-/// what is changed of them, and which are left.
+/// what is changed of them, and which are left; or notes why the WAD can't be read.
 pub fn dump_wad<R: Read, W: Write, F: Write>(
     alloc: Global,
     reader: &mut R,
@@ -50,6 +51,7 @@ pub fn dump_wad<R: Read, W: Write, F: Write>(
     is_exact: bool,
     writer: &mut W,
     errors: &mut F,
+    why: &mut Option<Cause>,
 ) -> Result<u8, Refusal>
     ensures small { IfOk result (λ s. s ≤ 3) }
     ensures dumped { OverWadTold (R.remaining reader.old) (R.remaining reader.new) result
@@ -59,6 +61,6 @@ pub fn dump_wad<R: Read, W: Write, F: Write>(
         result (W.contents writer.old) (W.contents writer.new)
         (F.contents errors.old) (F.contents errors.new)) }
 {
-    let wad = read_whole(alloc, reader, TURNS)?;
+    let wad = read_wad(alloc, reader, TURNS, why)?;
     tell_level_dumps(alloc, &wad, names, is_exact, writer, errors)
 }

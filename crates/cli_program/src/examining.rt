@@ -4,27 +4,29 @@ ghost use Rattle.cli_program.specs.Deeds.{IsExamined};
 ghost use Rattle.cli_program.specs.Sources.{IsExaminedOf};
 
 use cli_files::Cause;
-use cli_print::{TURNS, read_whole};
+use cli_print::{TURNS, read_wad};
 use cli_refusals::{Refusal, status_told};
 use run_edit::{EditorError, inspect};
 use std::alloc::Global;
 use std::fs::{self, Files};
 use std::io::{Read, Write};
 
-// Inspects the level with the name in all that the reader gives, flushes the writer, and returns the status.
+// Inspects the level with the name in all that the reader gives, flushes the writer, and returns the status, or notes
+// why it can't be read.
 fn examine_read<R: Read, W: Write>(
     alloc: Global,
     reader: &mut R,
     name: &[u8],
     turns: u32,
     writer: &mut W,
+    why: &mut Option<Cause>,
 ) -> Result<u8, Refusal>
     ensures small { IfOk result (λ s. s ≤ 3) }
     ensures examined { IsExaminedOf name.now result
         (R.remaining reader.old) (R.remaining reader.new)
         (W.contents writer.old) (W.contents writer.new) }
 {
-    let wad = read_whole(alloc, reader, turns)?;
+    let wad = read_wad(alloc, reader, turns, why)?;
     let sound = inspect(alloc, &wad, name, writer)?;
     match writer.flush() {
         Ok(()) => Ok(status_told(sound)),
@@ -32,7 +34,8 @@ fn examine_read<R: Read, W: Write>(
     }
 }
 
-/// Inspects the level with the name in the WAD at the path, and returns the status, or notes why it can't be opened.
+/// Inspects the level with the name in the WAD at the path, and returns the status, or notes why it can't be opened or
+/// read.
 pub fn examine<E: AllocGlobal + Files, W: Write>(
     rt: &E,
     path: &str,
@@ -45,7 +48,7 @@ pub fn examine<E: AllocGlobal + Files, W: Write>(
         (W.contents writer.old) (W.contents writer.new) }
 {
     match fs::open(rt, path) {
-        Ok(mut file) => examine_read(rt.alloc(), &mut file, name.as_bytes(), TURNS, writer),
+        Ok(mut file) => examine_read(rt.alloc(), &mut file, name.as_bytes(), TURNS, writer, why),
         Err(error) => {
             *why = Some(Cause::System(error));
             Err(Refusal::Lines(EditorError::ReaderFailed))

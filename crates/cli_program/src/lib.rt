@@ -19,6 +19,5 @@ mod rebuild_request;
 mod salvage_request;
 mod script_file;
 mod script_maps;
-mod source;
 
 pub use program::perform;

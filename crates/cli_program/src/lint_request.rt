@@ -9,8 +9,8 @@ ghost use Rattle.cli_program.specs.Wads.{OverWad};
 
 use crate::over_disk::{HandedBack, maps_on};
 use cli_files::Cause;
-use cli_print::{TURNS, read_whole, tell_beside, tell_levels_beside};
-use cli_refusals::Refusal;
+use cli_print::{TURNS, read_wad, tell_beside, tell_levels_beside};
+use cli_refusals::{Causes, Refusal};
 use map_tables::Maps;
 use std::fs::Files;
 use std::io::{Read, Write};
@@ -46,7 +46,7 @@ pub fn lint<E: AllocGlobal + Files, D: Disk, W: Write>(
     }
 }
 
-/// Reads a WAD to its end and does the same with its levels.
+/// Reads a WAD to its end and does the same with its levels, or notes why it can't be read.
 #[inline(never)]
 pub fn lint_wad<E: AllocGlobal + Files, R: Read, W: Write>(
     rt: &E,
@@ -54,7 +54,7 @@ pub fn lint_wad<E: AllocGlobal + Files, R: Read, W: Write>(
     name: Option<&str>,
     iwad: Option<&str>,
     writer: &mut W,
-    why: &mut Option<Cause>,
+    why: &mut Causes,
 ) -> Result<u8, Refusal>
     ensures small { IfOk result (λ s. s ≤ 3) }
     ensures linted { OverWad (R.remaining reader.old) (R.remaining reader.new) result
@@ -62,6 +62,6 @@ pub fn lint_wad<E: AllocGlobal + Files, R: Read, W: Write>(
         (λ wad. IsWadLintedBy (is_some iwad.entry) wad (option_map (λ s. s.now) name.entry)
         result (W.contents writer.old) (W.contents writer.new)) }
 {
-    let wad = read_whole(rt.alloc(), reader, TURNS)?;
-    tell_levels_beside(rt, &wad, name, iwad, writer, why)
+    let wad = read_wad(rt.alloc(), reader, TURNS, &mut why.file)?;
+    tell_levels_beside(rt, &wad, name, iwad, writer, &mut why.beside)
 }

@@ -7,7 +7,7 @@ ghost use Rattle.run_edit.specs.declared.error.EditorError.TheVariants.{WriterFa
 ghost use Rattle.wad_levels.specs.Listing.{listing_refusal};
 
 use cli_files::Cause;
-use cli_print::{TURNS, read_whole, write_shown};
+use cli_print::{TURNS, read_wad, write_shown};
 use cli_refusals::{DONE, Refusal};
 use lump_records::Name8;
 use run_edit::{EditorError, InspectError};
@@ -65,18 +65,19 @@ fn write_levels<W: Write>(alloc: Global, wad: &[u8], writer: &mut W) -> Result<(
     }
 }
 
-// Writes the names of the levels in all that the reader gives, and flushes the writer.
+// Writes the names of the levels in all that the reader gives, and flushes the writer, or notes why it can't be read.
 fn list_read<R: Read, W: Write>(
     alloc: Global,
     reader: &mut R,
     turns: u32,
     writer: &mut W,
+    why: &mut Option<Cause>,
 ) -> Result<u8, Refusal>
     ensures small { IfOk result (λ s. s ≤ 3) }
     ensures listed { IsListedOf result (R.remaining reader.old) (R.remaining reader.new)
         (W.contents writer.old) (W.contents writer.new) }
 {
-    let wad = read_whole(alloc, reader, turns)?;
+    let wad = read_wad(alloc, reader, turns, why)?;
     write_levels(alloc, &wad, writer)?;
     match writer.flush() {
         Ok(()) => Ok(DONE),
@@ -85,7 +86,7 @@ fn list_read<R: Read, W: Write>(
 }
 
 /// Writes the names of the levels of the WAD at the path, a line each, in the order of its directory,
-/// or notes why it can't be opened.
+/// or notes why it can't be opened or read.
 pub fn list_levels<E: AllocGlobal + Files, W: Write>(
     rt: &E,
     path: &str,
@@ -96,7 +97,7 @@ pub fn list_levels<E: AllocGlobal + Files, W: Write>(
     ensures listed { IsListed result (W.contents writer.old) (W.contents writer.new) }
 {
     match fs::open(rt, path) {
-        Ok(mut file) => list_read(rt.alloc(), &mut file, TURNS, writer),
+        Ok(mut file) => list_read(rt.alloc(), &mut file, TURNS, writer, why),
         Err(error) => {
             *why = Some(Cause::System(error));
             Err(Refusal::Lines(EditorError::ReaderFailed))

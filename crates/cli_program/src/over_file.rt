@@ -10,7 +10,7 @@ use crate::draw_request::{Script, draw};
 use crate::over_disk::{create, edit};
 use crate::salvage_request::salvage_lines;
 use crate::script_file::read_all;
-use cli_files::{Access, Cause, GaplessFile, Hold, NotedFile, open_held};
+use cli_files::{Access, Cause, Content, GaplessFile, Hold, NotedFile, content_in, open_held};
 use cli_refusals::{Causes, Refusal};
 use run_edit::EditorError;
 use std::fs;
@@ -55,16 +55,35 @@ where
     Ok(NotedFile::new(file))
 }
 
-/// How a request over a file ended; if the file failed, notes why.
-pub fn ended_over<F>(
+// What a file holds that is no empty one.
+fn held_in<F: FileExt>(file: &F) -> Option<Cause> {
+    match content_in(file) {
+        Ok(content) => Some(Cause::Holds(content)),
+        Err(_) => None,
+    }
+}
+
+// What a file holds that is no project. A project of another version begins as one.
+fn no_project<F: FileExt>(file: &F) -> Option<Cause> {
+    match content_in(file) {
+        Ok(Content::Project) => None,
+        Ok(content) => Some(Cause::Holds(content)),
+        Err(_) => None,
+    }
+}
+
+/// How a request over a file ended; if the file failed, notes why, and if it is no project, what it is.
+pub fn ended_over<F: FileExt>(
     file: &NotedFile<F>,
     how: Result<u8, Refusal>,
     why: &mut Causes,
 ) -> Result<u8, Refusal>
     ensures { result ≡ how }
 {
-    if let Err(Refusal::Project(ProjectError::Device)) = &how {
-        why.file = file.fault();
+    match &how {
+        Err(Refusal::Project(ProjectError::Device)) => why.file = file.fault(),
+        Err(Refusal::Project(ProjectError::NotAProject)) => why.file = no_project(&file),
+        _ => {}
     }
     how
 }
@@ -89,8 +108,10 @@ where
     let geometry = Geometry { slot, journal };
     let file = GaplessFile::new(open_at(rt, path, Access::Making, why)?);
     let how = create(rt.alloc(), FileDisk::new(&file, true), geometry, writer).how;
-    if let Err(Refusal::Project(ProjectError::Device)) = how {
-        why.file = file.take_back();
+    match how {
+        Err(Refusal::Project(ProjectError::Device)) => why.file = file.take_back(),
+        Err(Refusal::Project(ProjectError::NotEmpty)) => why.file = held_in(&&file),
+        _ => {}
     }
     how
 }
@@ -142,7 +163,7 @@ where
         (W.contents writer.old) (W.contents writer.new) }
     ensures quiet { result ≡ Ok 0 → Keeps (F.contents faults.old) (F.contents faults.new) }
 {
-    let text = match read_all(rt.alloc(), reader) {
+    let text = match read_all(rt.alloc(), reader, &mut why.beside) {
         Ok(text) => text,
         Err(refusal) => return Err(refusal),
     };
@@ -161,7 +182,7 @@ where
 }
 
 /// Draws a script onto the project in the file at the path. The script is the file at `script`, or the input, whose
-/// name in the report of a refused line is `-`; or notes why the script's file can't be opened.
+/// name in the report of a refused line is `-`; or notes why the script can't be opened or read.
 pub fn draw_file<E, R, W, F>(
     rt: &E,
     path: &str,

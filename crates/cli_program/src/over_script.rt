@@ -1,5 +1,5 @@
 //! The requests over a script in place of a project: each does with the maps that the script draws in memory what it
-//! does with a project's.
+//! does with a project's, or notes why a file can't be read or made.
 ghost use Rattle.std.specs.Prelude.{◌≡◌, ◌≤◌, IfOk, is_some, map, option_map, string_bytes};
 ghost use Rattle.cli_dump.specs.Dumping.{IsDumpedIn};
 ghost use Rattle.cli_print.specs.Checking.{IsCheckedIn};
@@ -13,7 +13,7 @@ use crate::script_maps::draw_maps;
 use cli_dump::tell_lines_of;
 use cli_files::{Cause, Hold};
 use cli_print::{Wanted, draw, tell_beside, tell_findings};
-use cli_refusals::Refusal;
+use cli_refusals::{Causes, Refusal};
 use run_script::{Canvas, Draft};
 use std::alloc::Global;
 use std::fs::Files;
@@ -28,6 +28,7 @@ pub fn check_script<R: Read, W: Write, F: Write>(
     name: Option<&str>,
     writer: &mut W,
     faults: &mut F,
+    why: &mut Option<Cause>,
 ) -> Result<u8, Refusal>
     ensures small { IfOk result (λ s. s ≤ 3) }
     ensures found { OverScript script.now (R.remaining reader.old) (R.remaining reader.new) result
@@ -37,7 +38,7 @@ pub fn check_script<R: Read, W: Write, F: Write>(
         (W.contents writer.old) (W.contents writer.new)) }
 {
     let mut draft = Draft::new(alloc);
-    match draw_maps(alloc, script, reader, &mut draft, faults) {
+    match draw_maps(alloc, script, reader, &mut draft, faults, why) {
         Some(how) => how,
         None => tell_findings(alloc, draft.maps(), name, writer),
     }
@@ -53,7 +54,7 @@ pub fn lint_script<E: AllocGlobal + Files, R: Read, W: Write, F: Write>(
     iwad: Option<&str>,
     writer: &mut W,
     faults: &mut F,
-    why: &mut Option<Cause>,
+    why: &mut Causes,
 ) -> Result<u8, Refusal>
     ensures small { IfOk result (λ s. s ≤ 3) }
     ensures linted { OverScript script.now (R.remaining reader.old) (R.remaining reader.new) result
@@ -63,9 +64,16 @@ pub fn lint_script<E: AllocGlobal + Files, R: Read, W: Write, F: Write>(
         result (W.contents writer.old) (W.contents writer.new)) }
 {
     let mut draft = Draft::new(rt.alloc());
-    match draw_maps(rt.alloc(), script, reader, &mut draft, faults) {
+    match draw_maps(
+        rt.alloc(),
+        script,
+        reader,
+        &mut draft,
+        faults,
+        &mut why.file,
+    ) {
         Some(how) => how,
-        None => tell_beside(rt, draft.maps(), name, iwad, writer, why),
+        None => tell_beside(rt, draft.maps(), name, iwad, writer, &mut why.beside),
     }
 }
 
@@ -79,6 +87,7 @@ pub fn dump_script<R: Read, W: Write, F: Write>(
     names: &[String],
     writer: &mut W,
     faults: &mut F,
+    why: &mut Option<Cause>,
 ) -> Result<u8, Refusal>
     ensures small { IfOk result (λ s. s ≤ 3) }
     ensures dumped { OverScript script.now (R.remaining reader.old) (R.remaining reader.new) result
@@ -88,7 +97,7 @@ pub fn dump_script<R: Read, W: Write, F: Write>(
         (W.contents writer.old) (W.contents writer.new)) }
 {
     let mut draft = Draft::new(alloc);
-    match draw_maps(alloc, script, reader, &mut draft, faults) {
+    match draw_maps(alloc, script, reader, &mut draft, faults, why) {
         Some(how) => how,
         None => tell_lines_of(alloc, draft.maps(), names, writer),
     }
@@ -103,7 +112,7 @@ pub fn picture_script<E: AllocGlobal + Files, R: Read, W: Write, F: Write>(
     wanted: Wanted<'_>,
     writer: &mut W,
     faults: &mut F,
-    why: &mut Option<Cause>,
+    why: &mut Causes,
 ) -> Result<u8, Refusal>
 where
     E::File: Hold,
@@ -115,9 +124,16 @@ where
         (is_some wanted.entry.out) maps result (W.contents writer.old) (W.contents writer.new)) }
 {
     let mut draft = Draft::new(rt.alloc());
-    match draw_maps(rt.alloc(), script, reader, &mut draft, faults) {
+    match draw_maps(
+        rt.alloc(),
+        script,
+        reader,
+        &mut draft,
+        faults,
+        &mut why.file,
+    ) {
         Some(how) => how,
-        None => draw(rt.alloc(), rt, draft.maps(), wanted, writer, why),
+        None => draw(rt.alloc(), rt, draft.maps(), wanted, writer, &mut why.out),
     }
 }
 
@@ -131,7 +147,7 @@ pub fn build_script<E: AllocGlobal + Files, R: Read, W: Write, F: Write>(
     out: &str,
     writer: &mut W,
     faults: &mut F,
-    why: &mut Option<Cause>,
+    why: &mut Causes,
 ) -> Result<u8, Refusal>
 where
     E::File: Hold,
@@ -142,8 +158,15 @@ where
         (λ maps. IsBuiltFrom maps result (W.contents writer.old) (W.contents writer.new)) }
 {
     let mut draft = Draft::new(rt.alloc());
-    match draw_maps(rt.alloc(), script, reader, &mut draft, faults) {
+    match draw_maps(
+        rt.alloc(),
+        script,
+        reader,
+        &mut draft,
+        faults,
+        &mut why.file,
+    ) {
         Some(how) => how,
-        None => build_at(rt.alloc(), rt, draft.maps(), out, writer, why),
+        None => build_at(rt.alloc(), rt, draft.maps(), out, writer, &mut why.out),
     }
 }

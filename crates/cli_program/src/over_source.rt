@@ -11,8 +11,7 @@ use crate::over_file::{ended_over, open_at};
 use crate::over_script::{build_script, check_script, dump_script, lint_script, picture_script};
 use crate::over_wad::check_wad;
 use crate::picture_request::{picture, picture_wad};
-use crate::source::{Source, source_in};
-use cli_files::{Access, Hold, NotedFile};
+use cli_files::{Access, Content, Hold, NotedFile, content_in};
 use cli_print::Wanted;
 use cli_refusals::{Causes, Refusal};
 use std::io::Write;
@@ -41,10 +40,18 @@ where
         (F.contents faults.old) (F.contents faults.new) }
 {
     let mut file = open_at(rt, path, Access::Reads, why)?;
-    match source_in(&file) {
-        Source::Wad => return check_wad(rt.alloc(), &mut file, name, writer),
-        Source::Script => return check_script(rt.alloc(), path, &mut file, name, writer, faults),
-        Source::Project => {}
+    match content_in(&file) {
+        Ok(Content::Wad) => return check_wad(rt.alloc(), &mut file, name, writer, &mut why.file),
+        Ok(Content::Text | Content::Picture) => return check_script(
+            rt.alloc(),
+            path,
+            &mut file,
+            name,
+            writer,
+            faults,
+            &mut why.file,
+        ),
+        _ => {}
     }
     let file = NotedFile::new(file);
     let disk = FileDisk::new(&file, false);
@@ -74,17 +81,16 @@ where
         (F.contents faults.old) (F.contents faults.new) }
 {
     let mut file = open_at(rt, path, Access::Reads, why)?;
-    let beside = &mut why.beside;
-    match source_in(&file) {
-        Source::Wad => return lint_wad(rt, &mut file, name, iwad, writer, beside),
-        Source::Script => {
-            return lint_script(rt, path, &mut file, name, iwad, writer, faults, beside);
+    match content_in(&file) {
+        Ok(Content::Wad) => return lint_wad(rt, &mut file, name, iwad, writer, why),
+        Ok(Content::Text | Content::Picture) => {
+            return lint_script(rt, path, &mut file, name, iwad, writer, faults, why);
         }
-        Source::Project => {}
+        _ => {}
     }
     let file = NotedFile::new(file);
     let disk = FileDisk::new(&file, false);
-    let how = lint(rt, disk, name, iwad, writer, beside).how;
+    let how = lint(rt, disk, name, iwad, writer, &mut why.beside).how;
     ended_over(&file, how, why)
 }
 
@@ -110,10 +116,26 @@ where
         (F.contents faults.old) (F.contents faults.new) }
 {
     let mut file = open_at(rt, path, Access::Reads, why)?;
-    match source_in(&file) {
-        Source::Wad => return dump_wad(rt.alloc(), &mut file, names, is_exact, writer, faults),
-        Source::Script => return dump_script(rt.alloc(), path, &mut file, names, writer, faults),
-        Source::Project => {}
+    match content_in(&file) {
+        Ok(Content::Wad) => return dump_wad(
+            rt.alloc(),
+            &mut file,
+            names,
+            is_exact,
+            writer,
+            faults,
+            &mut why.file,
+        ),
+        Ok(Content::Text | Content::Picture) => return dump_script(
+            rt.alloc(),
+            path,
+            &mut file,
+            names,
+            writer,
+            faults,
+            &mut why.file,
+        ),
+        _ => {}
     }
     let file = NotedFile::new(file);
     let disk = FileDisk::new(&file, false);
@@ -142,15 +164,16 @@ where
         (F.contents faults.old) (F.contents faults.new) }
 {
     let mut file = open_at(rt, path, Access::Reads, why)?;
-    let out = &mut why.out;
-    match source_in(&file) {
-        Source::Wad => return picture_wad(rt.alloc(), rt, &mut file, wanted, writer, out),
-        Source::Script => return picture_script(rt, path, &mut file, wanted, writer, faults, out),
-        Source::Project => {}
+    match content_in(&file) {
+        Ok(Content::Wad) => return picture_wad(rt.alloc(), rt, &mut file, wanted, writer, why),
+        Ok(Content::Text | Content::Picture) => return picture_script(
+            rt, path, &mut file, wanted, writer, faults, why,
+        ),
+        _ => {}
     }
     let file = NotedFile::new(file);
     let disk = FileDisk::new(&file, false);
-    let how = picture(rt.alloc(), rt, disk, wanted, writer, out).how;
+    let how = picture(rt.alloc(), rt, disk, wanted, writer, &mut why.out).how;
     ended_over(&file, how, why)
 }
 
@@ -173,8 +196,8 @@ where
         (F.contents faults.old) (F.contents faults.new) }
 {
     let mut file = open_at(rt, path, Access::Reads, why)?;
-    if let Source::Script = source_in(&file) {
-        return build_script(rt, path, &mut file, out, writer, faults, &mut why.out);
+    if let Ok(Content::Text | Content::Picture) = content_in(&file) {
+        return build_script(rt, path, &mut file, out, writer, faults, why);
     }
     let file = NotedFile::new(file);
     let disk = FileDisk::new(&file, false);

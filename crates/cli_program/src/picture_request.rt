@@ -8,8 +8,8 @@ ghost use Rattle.cli_print.specs.LevelPicture.{IsLevelPicturedOf};
 
 use crate::over_disk::{HandedBack, maps_on};
 use cli_files::{Cause, Hold};
-use cli_print::{TURNS, Wanted, draw, draw_level, read_whole};
-use cli_refusals::Refusal;
+use cli_print::{TURNS, Wanted, draw, draw_level, read_wad};
+use cli_refusals::{Causes, Refusal};
 use map_tables::Maps;
 use std::alloc::Global;
 use std::fs::Files;
@@ -47,7 +47,7 @@ where
     }
 }
 
-/// Reads a WAD to its end and draws a level of it in the same way.
+/// Reads a WAD to its end and draws a level of it in the same way, or notes why it can't be read.
 #[inline(never)]
 pub fn picture_wad<E: Files, R: Read, W: Write>(
     alloc: Global,
@@ -55,7 +55,7 @@ pub fn picture_wad<E: Files, R: Read, W: Write>(
     reader: &mut R,
     wanted: Wanted<'_>,
     writer: &mut W,
-    why: &mut Option<Cause>,
+    why: &mut Causes,
 ) -> Result<u8, Refusal>
 where
     E::File: Hold,
@@ -65,6 +65,6 @@ where
         (λ wad. IsLevelPicturedOf wanted.entry.layers (option_map (λ s. s.now) wanted.entry.map)
         (is_some wanted.entry.out) wad result (W.contents writer.old) (W.contents writer.new)) }
 {
-    let wad = read_whole(alloc, reader, TURNS)?;
-    draw_level(alloc, rt, &wad, wanted, writer, why)
+    let wad = read_wad(alloc, reader, TURNS, &mut why.file)?;
+    draw_level(alloc, rt, &wad, wanted, writer, &mut why.out)
 }

@@ -10,7 +10,7 @@ ghost use Rattle.cli_refusals.specs.declared.refusal.Refusal.{Refusal};
 
 use crate::rebuild_notes::write_notes;
 use cli_files::{Cause, Form, Hold, NewFile, Noted, open_new_of};
-use cli_print::{TURNS, read_whole, write_shown};
+use cli_print::{TURNS, read_wad, write_shown};
 use cli_refusals::{Causes, Refusal, status_told};
 use run_edit::{EditorError, InspectError};
 use std::fs::{self, Files, OpenFile};
@@ -317,7 +317,7 @@ where
     }
 }
 
-// Reads a WAD to its end, and does the same with it.
+// Reads a WAD to its end, and does the same with it; or notes why it can't be read.
 fn rebuild_read<E, R, W, F>(
     rt: &E,
     reader: &mut R,
@@ -325,7 +325,7 @@ fn rebuild_read<E, R, W, F>(
     names: &[String],
     writer: &mut W,
     errors: &mut F,
-    why: &mut Option<Cause>,
+    why: &mut Causes,
 ) -> Result<u8, Refusal>
 where
     E: AllocGlobal + Files,
@@ -341,14 +341,15 @@ where
         (W.contents writer.old) (W.contents writer.new)
         (F.contents errors.old) (F.contents errors.new)) }
 {
-    let wad = read_whole(rt.alloc(), reader, TURNS)?;
-    rebuild_into(rt, paths, &wad, names, writer, errors, why)
+    let wad = read_wad(rt.alloc(), reader, TURNS, &mut why.file)?;
+    rebuild_into(rt, paths, &wad, names, writer, errors, &mut why.out)
 }
 
 /// Builds the levels of the WAD at the path anew, all or those with the names, and writes the new WAD into the file at
 /// `out`. Writes what became of each level, and on `errors` the faults that stay in those that were built anew; or
-/// notes why a file can't be opened or made. The WAD is read whole first, so `out` may be its path; otherwise `out` may
-/// be new, empty or a PWAD. That file is whole or as it was; if it is changed or replaced meanwhile, it stays so.
+/// notes why a file can't be opened, read or made. The WAD is read whole first, so `out` may be its path; otherwise
+/// `out` may be new, empty or a PWAD. That file is whole or as it was; if it is changed or replaced meanwhile, it stays
+/// so.
 pub fn rebuild<E, W, F>(
     rt: &E,
     path: &str,
@@ -375,10 +376,7 @@ where
         noted,
     };
     match fs::open(rt, path) {
-        Ok(mut file) => {
-            let why = &mut why.out;
-            rebuild_read(rt, &mut file, paths, names, writer, errors, why)
-        }
+        Ok(mut file) => rebuild_read(rt, &mut file, paths, names, writer, errors, why),
         Err(error) => {
             why.file = Some(Cause::System(error));
             Err(Refusal::Lines(EditorError::ReaderFailed))

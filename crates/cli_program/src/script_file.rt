@@ -12,20 +12,24 @@ use std::alloc::Global;
 use std::fs::{self, Files};
 use std::io::{Read, Write};
 
-/// All that the reader gives.
-pub fn read_all<R: Read>(alloc: Global, reader: &mut R) -> Result<Vec<u8>, Refusal>
+/// All that the reader gives, or notes why it can't be read.
+pub fn read_all<R: Read>(
+    alloc: Global,
+    reader: &mut R,
+    why: &mut Option<Cause>,
+) -> Result<Vec<u8>, Refusal>
     ensures whole { IfOk result (λ bytes. IsInput false bytes.items (R.remaining reader.old)
         (R.remaining reader.new)) }
     ensures refused { IfErr result
         (IsUnreadOf (R.remaining reader.old) (R.remaining reader.new)) }
 {
-    match read_whole(alloc, reader, TURNS) {
+    match read_whole(alloc, reader, TURNS, why) {
         Ok(bytes) => Ok(bytes),
         Err(error) => Err(Refusal::Lines(error)),
     }
 }
 
-// Reads a script to its end, and tries it over the empty project in memory.
+// Reads a script to its end, and tries it over the empty project in memory; or notes why it can't be read.
 fn try_read<R: Read, W: Write, F: Write>(
     alloc: Global,
     name: &str,
@@ -33,13 +37,14 @@ fn try_read<R: Read, W: Write, F: Write>(
     reader: &mut R,
     writer: &mut W,
     faults: &mut F,
+    why: &mut Option<Cause>,
 ) -> Result<u8, Refusal>
     ensures small { IfOk result (λ s. s ≤ 3) }
     ensures tried { IsReadTried is_verbose (R.remaining reader.old) (R.remaining reader.new)
         result (W.contents writer.old) (W.contents writer.new) }
     ensures quiet { result ≡ Ok 0 → Keeps (F.contents faults.old) (F.contents faults.new) }
 {
-    let text = match read_all(alloc, reader) {
+    let text = match read_all(alloc, reader, why) {
         Ok(text) => text,
         Err(refusal) => return Err(refusal),
     };
@@ -51,7 +56,8 @@ fn try_read<R: Read, W: Write, F: Write>(
     try_script(alloc, script, writer, faults)
 }
 
-/// Tries the script in the file at the path over the empty project in memory, or notes why the file can't be opened.
+/// Tries the script in the file at the path over the empty project in memory, or notes why the file can't be opened
+/// or read.
 pub fn try_file<E: AllocGlobal + Files, W: Write, F: Write>(
     rt: &E,
     path: &str,
@@ -66,7 +72,7 @@ pub fn try_file<E: AllocGlobal + Files, W: Write, F: Write>(
     ensures quiet { result ≡ Ok 0 → Keeps (F.contents faults.old) (F.contents faults.new) }
 {
     match fs::open(rt, path) {
-        Ok(mut file) => try_read(rt.alloc(), path, is_verbose, &mut file, writer, faults),
+        Ok(mut file) => try_read(rt.alloc(), path, is_verbose, &mut file, writer, faults, why),
         Err(error) => {
             *why = Some(Cause::System(error));
             Err(Refusal::Lines(EditorError::ReaderFailed))

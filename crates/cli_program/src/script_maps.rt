@@ -5,6 +5,7 @@ ghost use Rattle.cli_program.specs.ScriptMaps.{IsReadDrawn, IsWithoutUntouched, 
 
 use crate::draw_request::draw_whole;
 use crate::script_file::read_all;
+use cli_files::Cause;
 use cli_refusals::Refusal;
 use map_tables::{Kind, Map, Maps};
 use run_script::{Canvas, Draft};
@@ -52,14 +53,15 @@ fn drop_untouched(draft: &mut Draft)
 }
 
 /// Draws all that the reader gives, a script with this name, over the empty project, and leaves out an empty MAP01. If
-/// a line is refused, reports it on `faults`. Returns how a request ends that finds no maps so. Answers to queries are
-/// not written.
+/// a line is refused, reports it on `faults`; if the reader fails, notes why. Returns how a request ends that finds no
+/// maps so. Answers to queries are not written.
 pub fn draw_maps<R: Read, F: Write>(
     alloc: Global,
     name: &str,
     reader: &mut R,
     draft: &mut Draft,
     faults: &mut F,
+    why: &mut Option<Cause>,
 ) -> Option<Result<u8, Refusal>>
     requires { draft.old ≡ empty_project }
     ensures maps { MatchOption result
@@ -69,7 +71,7 @@ pub fn draw_maps<R: Read, F: Write>(
         (F.contents faults.old) (F.contents faults.new)) }
     ensures small { IfSome result (λ how. IfOk how (λ s. s ≤ 3)) }
 {
-    let text = match read_all(alloc, reader) {
+    let text = match read_all(alloc, reader, why) {
         Ok(text) => text,
         Err(refusal) => return Some(Err(refusal)),
     };

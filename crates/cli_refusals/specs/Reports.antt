@@ -96,10 +96,13 @@ refusal_line refusal =
     codes "leveled: " ++ decimal (code_of refusal) ++ codes " " ++ refusal_name refusal
     ++ damage_place refusal ++ 10 ∷ []
 
--- the line behind it: which map can't be built, or why a level is no map
+-- the line behind it: which map can't be built, why a level is no map, or what builds one that lacks
+-- lumps
 abbrev pub why_text : Refusal → List ℕ
 why_text (of.Build (writing.Build unbuilt)) = unbuilt_text unbuilt
 why_text (of.NotAMap error) = codes "  " ++ import_refusal_text error ++ 10 ∷ []
+why_text (of.Level (inspecting.Level level.LumpMissing)) =
+    codes "  not all of its lumps are there: `leveled rebuild IN OUT` builds them" ++ 10 ∷ []
 why_text refusal = []
 
 -- all that is said of a refused request, without the reasons of the system

@@ -33,7 +33,8 @@ pub enum Refusal {
     TreeOutside,
 }
 
-/// Why a request's files can't be opened or made, if that is known; at most one of `out` and `beside` is given.
+/// Why a request's files can't be opened, read or made, or what they hold instead, if that is known; at most one of
+/// `out` and `beside` is given.
 #[derive(Clone, Copy)]
 pub struct Causes {
     /// Of FILE or WAD.
@@ -182,7 +183,7 @@ fn write_refusal<F: Write>(refusal: &Refusal, faults: &mut F) -> io::Result<()>
     }
 }
 
-// Writes which map can't be built, or why a level is no map.
+// Writes which map can't be built, why a level is no map, or what builds one that lacks lumps.
 fn write_why<F: Write>(refusal: &Refusal, faults: &mut F) -> io::Result<()>
     ensures { OnOk result (Appends (F.contents faults.old) (F.contents faults.new)
         (why_text refusal.now)) }
@@ -190,12 +191,18 @@ fn write_why<F: Write>(refusal: &Refusal, faults: &mut F) -> io::Result<()>
     match refusal {
         Refusal::Build(WriteError::Build(unbuilt)) => write_unbuilt(*unbuilt, faults),
         Refusal::NotAMap(error) => writeln!(faults, "  {error}"),
+        Refusal::Level(InspectError::Level(ReadError::LumpMissing)) => {
+            writeln!(
+                faults,
+                "  not all of its lumps are there: `leveled rebuild IN OUT` builds them"
+            )
+        }
         _ => Ok(()),
     }
 }
 
 /// Writes why a request was refused, as `leveled: CODE NAME`; also the place where a file is damaged, which map can't
-/// be built, or why a level is no map.
+/// be built, why a level is no map, or what builds one that lacks lumps.
 ///
 /// # Errors
 ///
@@ -212,7 +219,7 @@ pub fn report<F: Write>(refusal: &Refusal, faults: &mut F) -> io::Result<()>
     }
 }
 
-// The file that a request opens, and the one that it makes, or reads beside it.
+// The file that a request opens, and the one that it makes, or reads beside it. A script without a file is the input.
 fn paths_of(request: &Request) -> (&str, &str) {
     match request {
         Request::Scratch => ("", ""),
@@ -241,12 +248,12 @@ fn paths_of(request: &Request) -> (&str, &str) {
             ..
         } => match other {
             Some(other) => (file.as_str(), other.as_str()),
-            None => (file.as_str(), ""),
+            None => (file.as_str(), "standard input"),
         },
     }
 }
 
-/// Writes why a file can't be opened or made, as `  PATH: REASON`, if that is known.
+/// Writes why a file can't be opened, read or made, or what it holds instead, as `  PATH: REASON`, if that is known.
 pub fn report_causes<F: Write>(alloc: Global, request: &Request, why: &Causes, faults: &mut F) {
     let (file, other) = paths_of(request);
     if let Some(cause) = &why.file {

@@ -9,9 +9,10 @@ use Rattle.lump_records.specs.declared.records.Side.{Side}
 use Rattle.lump_records.specs.Sides.{has_left}
 use Rattle.map_tables.specs.Tables.{Tables}
 use Rattle.map_checks.specs.Textures.{side_in}
-use Rattle.map_lint.specs.Borders.{right_sector_of, left_sector_of, borders}
+use Rattle.map_play.specs.Sided.{right_sector_of, left_sector_of}
+use Rattle.map_lint.specs.Borders.{borders}
 use Rattle.map_lint.specs.Tallies.{MarksBordered, MarksSides}
-use Rattle.map_lint.proofs.TagSteps.{or_false, get_or-set_mark}
+use Rattle.map_play.proofs.TagSteps.{or_false, get_or-set_mark}
 
 or_assoc : (a b c : Bool) → (a || b || c) ≡ (a || (b || c))
 or_assoc true b c = refl

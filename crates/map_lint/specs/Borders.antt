@@ -4,15 +4,7 @@ use Rattle.std.specs.List.{list_any}
 use Rattle.lump_records.specs.declared.records.Line.{Line}
 use Rattle.lump_records.specs.Sides.{has_left}
 use Rattle.map_tables.specs.Tables.{Tables}
-use Rattle.map_checks.specs.Textures.{side_in}
-
--- the sector on a line's right
-abbrev pub right_sector_of : Tables → Line → ℕ
-right_sector_of m l = (side_in m l.right).sector
-
--- the sector on a line's left
-abbrev pub left_sector_of : Tables → Line → ℕ
-left_sector_of m l = (side_in m l.left).sector
+use Rattle.map_play.specs.Sided.{right_sector_of, left_sector_of}
 
 -- the line has the sector on exactly one side
 abbrev pub borders : Tables → ℕ → Line → Bool

@@ -6,23 +6,24 @@ use Rattle.lump_records.specs.declared.records.Line.{Line}
 use Rattle.lump_records.specs.declared.records.Side.{Side}
 use Rattle.lump_records.specs.declared.records.Sector.{Sector}
 use Rattle.lump_records.specs.declared.records.Thing.{Thing}
-use Rattle.lump_records.specs.Sides.{has_left, is_two_sided}
+use Rattle.lump_records.specs.Sides.{is_two_sided}
 use Rattle.map_tables.specs.Tables.{Tables}
 use Rattle.map_checks.specs.Textures.{side_in, is_missing}
 use Rattle.map_lint.specs.declared.warning.Rule.{Rule}
-use Rattle.map_lint.specs.declared.warning.Rule.TheVariants.{PlayerStart, OneStart, DeathmatchStarts, CeilingAboveFloor, TagGiven, TagOfSector, TagOfLine, LineSpecialKnown, SectorSpecialKnown, ThingKnown, TextureShows, SectorInside, LinesApart, ThingInside, DoorBacked, DonutBacked, ScrollsFit, TeleportLands, LevelEnds, KeyGiven, NeighboursFit, FlatKnown}
+use Rattle.map_lint.specs.declared.warning.Rule.TheVariants.{PlayerStart, OneStart, DeathmatchStarts, CeilingAboveFloor, TagGiven, TagOfSector, TagOfLine, LineSpecialKnown, SectorSpecialKnown, ThingKnown, TextureShows, SectorInside, LinesApart, ThingInside, DoorBacked, DonutBacked, ScrollsFit, TeleportLands, LevelEnds, KeyGiven, NeighboursFit, ThingFree, FlatKnown}
 use Rattle.map_lint.specs.declared.warning.Warning.{Warning}
 use Rattle.map_lint.specs.Known.{is_known_thing, is_known_line, is_known_sector}
 use Rattle.map_lint.specs.Starts.{things_of_type, starts_twice}
 use Rattle.map_lint.specs.Tags.{tag_missing, tag_of_no_sector, tag_of_no_line}
 use Rattle.map_lint.specs.Areas.{is_inside_out}
-use Rattle.map_lint.specs.Donuts.{is_donut_gap}
-use Rattle.map_lint.specs.Exits.{has_exit}
-use Rattle.map_lint.specs.Locks.{stays_locked}
-use Rattle.map_lint.specs.Neighbours.{overfills_list}
-use Rattle.map_lint.specs.Scrolls.{is_scroll_too_many}
-use Rattle.map_lint.specs.Specials.{doors, has_special}
-use Rattle.map_lint.specs.Teleports.{leads_nowhere}
+use Rattle.map_play.specs.Donuts.{is_donut_gap}
+use Rattle.map_play.specs.Exits.{has_exit}
+use Rattle.map_play.specs.Locks.{stays_locked}
+use Rattle.map_play.specs.Neighbours.{overfills_list}
+use Rattle.map_play.specs.Scrolls.{is_scroll_too_many}
+use Rattle.map_play.specs.Doors.{door_without_back}
+use Rattle.map_play.specs.Stuck.{is_stuck}
+use Rattle.map_play.specs.Teleports.{leads_nowhere}
 use Rattle.lump_records.specs.Things.{thing_place}
 use Rattle.map_plane.specs.Places.{placed_lines}
 use Rattle.map_plane.specs.Meeting.{meets_another}
@@ -44,12 +45,8 @@ texture_hidden m l =
     is_two_sided l && ((side_in m l.right).sector == (side_in m l.left).sector)
     && (names_wall (side_in m l.right) || names_wall (side_in m l.left))
 
--- the line is a door that opens by hand, and has no left side
-abbrev pub door_without_back : Line → Bool
-door_without_back l = has_special doors l && not (has_left l)
-
 -- the rule is one that needs only a number, and the number breaks it: it is player 1, a count of deathmatch starts,
--- no exit, or the number of a sector or a line
+-- no exit, or the number of a sector, a line or a thing
 abbrev pub number_breaks : Tables → Rule → ℕ → Bool
 number_breaks m PlayerStart n = (n == 1) && (things_of_type m 1 == 0)
 number_breaks m DeathmatchStarts n = nat_lt 0 n && (things_of_type m 11 == n)
@@ -59,6 +56,7 @@ number_breaks m DonutBacked n = is_donut_gap m n
 number_breaks m ScrollsFit n = is_scroll_too_many m n
 number_breaks m LevelEnds n = (n == 0) && not (has_exit m)
 number_breaks m NeighboursFit n = overfills_list m n
+number_breaks m ThingFree n = is_stuck m n
 number_breaks m _ n = false
 
 -- the sector breaks the rule
@@ -107,6 +105,7 @@ reach m FlatKnown = length m.sectors
 reach m OneStart = length m.things
 reach m ThingKnown = length m.things
 reach m ThingInside = length m.things
+reach m ThingFree = length m.things
 reach m LevelEnds = 1
 reach m _ = length m.lines
 
@@ -117,7 +116,7 @@ rules_in_order =
     ∷ TagOfLine
     ∷ LineSpecialKnown ∷ SectorSpecialKnown ∷ ThingKnown ∷ TextureShows ∷ SectorInside ∷ LinesApart
     ∷ ThingInside ∷ DoorBacked ∷ DonutBacked ∷ ScrollsFit ∷ TeleportLands ∷ LevelEnds ∷ KeyGiven
-    ∷ NeighboursFit ∷ []
+    ∷ NeighboursFit ∷ ThingFree ∷ []
 
 -- the warning that a number breaks the rule
 abbrev pub warning_of : Tables → Rule → ℕ → Warning

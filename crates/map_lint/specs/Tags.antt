@@ -1,14 +1,11 @@
--- Tags: the numbers that connect a line's special with sectors.
-use Rattle.std.specs.Prelude.{ℕ, Bool, ◌&&◌, ◌==◌, not, unsigned_abs}
+-- Tags that a line lacks, or that connect it with no sector, and tags of sectors that no line has.
+use Rattle.std.specs.Prelude.{ℕ, Bool, ◌&&◌, ◌==◌, not}
 use Rattle.std.specs.List.{list_any}
 use Rattle.lump_records.specs.declared.records.Line.{Line}
 use Rattle.lump_records.specs.declared.records.Sector.{Sector}
 use Rattle.map_tables.specs.Tables.{Tables}
+use Rattle.map_play.specs.Tags.{tag_of}
 use Rattle.map_lint.specs.Known.{needs_tag}
-
--- a sector's tag, which is never negative
-abbrev pub tag_of : Sector → ℕ
-tag_of s = unsigned_abs s.tag
 
 -- a line's tag
 abbrev pub line_tag : Line → ℕ

@@ -1,4 +1,4 @@
--- What the bodies of the functions count: the tags in use, and the areas of sectors.
+-- What the bodies of the functions count: the starts, the borders and the areas of sectors.
 use Rattle.std.specs.Prelude.{◌≡◌, ℕ, ◌*◌, ◌<◌, ◌^◌, Bool, false, ◌==◌, ◌||◌, List, length, get_or, take, flat_map, fold, ℤ, pos, ◌+ℤ◌, ◌≤ℤ◌}
 use Rattle.std.specs.List.{list_any}
 use Rattle.map_tables.specs.Tables.{Tables}
@@ -7,11 +7,6 @@ use Rattle.lump_records.specs.declared.records.Line.{Line}
 use Rattle.map_lint.specs.Areas.{part_in, doubled_area}
 use Rattle.map_lint.specs.Borders.{borders}
 use Rattle.map_lint.specs.Starts.{things_of_type}
-
--- the mark of each tag says whether an item has it
-pub record MarksTags {X : Type 0} (tag : X → ℕ) (xs : List X) (marks : List Bool) : Type 0 where
-  pub count : length marks ≡ 65536
-  pub marked : (t : ℕ) → t < 65536 → get_or marks t false ≡ list_any (λ x. tag x == t) xs
 
 -- the first n counts are the numbers of things of types 0 to n - 1
 pub record AreStarts (m : Tables) (n : ℕ) (starts : List ℕ) : Type 0 where

@@ -6,7 +6,7 @@ use Rattle.map_lint.specs.declared.warning.Warning.{Warning}
 use Rattle.map_lint.specs.declared.whereabouts.Whereabouts.{Whereabouts}
 use Rattle.map_lint.specs.declared.whereabouts.Whereabouts.TheVariants.{Unplaced, At, Between}
 use Rattle.map_lint.specs.declared.warning.Rule.{Rule}
-use Rattle.map_lint.specs.declared.warning.Rule.TheVariants.{PlayerStart, OneStart, DeathmatchStarts, CeilingAboveFloor, TagGiven, TagOfSector, TagOfLine, LineSpecialKnown, SectorSpecialKnown, ThingKnown, TextureShows, SectorInside, LinesApart, ThingInside, DoorBacked, DonutBacked, ScrollsFit, TeleportLands, LevelEnds, KeyGiven, NeighboursFit, FlatKnown, TextureKnown}
+use Rattle.map_lint.specs.declared.warning.Rule.TheVariants.{PlayerStart, OneStart, DeathmatchStarts, CeilingAboveFloor, TagGiven, TagOfSector, TagOfLine, LineSpecialKnown, SectorSpecialKnown, ThingKnown, TextureShows, SectorInside, LinesApart, ThingInside, DoorBacked, DonutBacked, ScrollsFit, TeleportLands, LevelEnds, KeyGiven, NeighboursFit, ThingFree, FlatKnown, TextureKnown}
 
 -- the word for a broken rule
 abbrev pub word_of : Rule → List ℕ
@@ -31,6 +31,7 @@ word_of TeleportLands = codes "teleport-nowhere"
 word_of LevelEnds = codes "no-exit"
 word_of KeyGiven = codes "key-missing"
 word_of NeighboursFit = codes "too-many-neighbours"
+word_of ThingFree = codes "thing-stuck"
 word_of FlatKnown = codes "flat-unknown"
 word_of TextureKnown = codes "texture-unknown"
 

@@ -4,7 +4,7 @@ use Rattle.std.specs.Option.{option_map_or}
 use Rattle.map_tables.specs.Tables.{Tables}
 use Rattle.map_tables.specs.WellFormed.{nth_vertex}
 use Rattle.map_lint.specs.declared.warning.Rule.{Rule}
-use Rattle.map_lint.specs.declared.warning.Rule.TheVariants.{OneStart, TagGiven, TagOfSector, LineSpecialKnown, ThingKnown, TextureShows, LinesApart, ThingInside, DoorBacked, DonutBacked, ScrollsFit, TeleportLands, KeyGiven, TextureKnown}
+use Rattle.map_lint.specs.declared.warning.Rule.TheVariants.{OneStart, ThingFree, TagGiven, TagOfSector, LineSpecialKnown, ThingKnown, TextureShows, LinesApart, ThingInside, DoorBacked, DonutBacked, ScrollsFit, TeleportLands, KeyGiven, TextureKnown}
 use Rattle.map_lint.specs.declared.whereabouts.Whereabouts.{Whereabouts}
 use Rattle.map_lint.specs.declared.whereabouts.Whereabouts.TheVariants.{Unplaced, At, Between}
 use Rattle.lump_records.specs.Things.{thing_place}
@@ -24,6 +24,7 @@ unfoldable pub whereabouts_of : Tables → Rule → ℕ → Whereabouts
 whereabouts_of m OneStart n = at_thing m n
 whereabouts_of m ThingKnown n = at_thing m n
 whereabouts_of m ThingInside n = at_thing m n
+whereabouts_of m ThingFree n = at_thing m n
 whereabouts_of m TagGiven n = along_line m n
 whereabouts_of m TagOfSector n = along_line m n
 whereabouts_of m LineSpecialKnown n = along_line m n

@@ -2,26 +2,15 @@
 #![tactic(auto)]
 
 mod areas;
-mod band;
-mod bands;
 mod borders;
-mod donuts;
 mod error;
-mod exits;
 mod facts;
 mod graphics;
-mod items;
 mod known;
-mod locks;
-mod neighbours;
 mod report;
 mod rules;
-mod scrolls;
-mod sided;
-mod specials;
 mod starts;
 mod tags;
-mod teleports;
 mod warning;
 mod whereabouts;
 

@@ -12,7 +12,7 @@ use map_tables::Map;
 use std::alloc::Global;
 
 // The rules, in the order of their warnings.
-const RULES: [Rule; 21] = [
+const RULES: [Rule; 22] = [
     Rule::PlayerStart,
     Rule::OneStart,
     Rule::DeathmatchStarts,
@@ -34,6 +34,7 @@ const RULES: [Rule; 21] = [
     Rule::LevelEnds,
     Rule::KeyGiven,
     Rule::NeighboursFit,
+    Rule::ThingFree,
 ];
 
 // Adds a warning for each number that breaks the rule.
@@ -61,8 +62,9 @@ fn list_breaches(
 
 /// Lists what a level maker wants to know before playing the level, and `map_checks` doesn't report: a warning for
 /// each item of the map that breaks a rule, by rule in the order of `Rule`, then by number. Its time grows linearly
-/// with the map's size and, for crossing lines, with the pairs of lines that share a band of 128 rows; for donuts and
-/// rising floors with the sectors that have their tags times the lines. Fails only if memory runs out.
+/// with the map's size and, for crossing lines, with the pairs of lines that share a band of 128 rows; for players and
+/// monsters with the lines and the solid things in the bands near them; for donuts and rising floors with the sectors
+/// that have their tags times the lines. Fails only if memory runs out.
 pub fn lint(alloc: Global, map: &Map) -> Result<Vec<Warning>, LintError>
     ensures found { IfOk result (λ found. found.items ≡ warnings map.now.tables) }
     ensures memory { IsOkUnless result LintError.OutOfMemory }

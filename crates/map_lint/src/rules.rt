@@ -2,30 +2,27 @@
 ghost use Rattle.std.specs.Prelude.{◌≡◌, not};
 ghost use Rattle.map_tables.specs.WellFormed.{HasSides};
 ghost use Rattle.map_checks.specs.Textures.{is_missing};
-ghost use Rattle.map_lint.specs.Tallies.{MarksTags, MarksBordered, AreAreas};
-ghost use Rattle.map_lint.specs.Tags.{tag_of, line_tag, tag_of_no_sector, tag_of_no_line, needs_line};
+ghost use Rattle.map_play.specs.Tags.{tag_of, MarksTags};
+ghost use Rattle.map_lint.specs.Tallies.{MarksBordered, AreAreas};
+ghost use Rattle.map_lint.specs.Tags.{line_tag, tag_of_no_sector, tag_of_no_line, needs_line};
 ghost use Rattle.map_lint.specs.Areas.{is_inside_out};
-ghost use Rattle.map_lint.specs.Bands.{AreFiledLines};
+ghost use Rattle.map_plane.specs.Bands.{AreFiledLines};
 ghost use Rattle.map_plane.specs.Outside.{is_place_outside};
 ghost use Rattle.lump_records.specs.Things.{thing_place};
 ghost use Rattle.map_plane.specs.Places.{placed_lines};
-ghost use Rattle.map_lint.specs.Facts.{AreFacts, AreGameFacts};
-ghost use Rattle.map_lint.specs.Neighbours.{overfills_list};
-ghost use Rattle.map_lint.specs.Rules.{at_item, names_wall, texture_hidden, door_without_back, number_breaks, sector_breaks, line_breaks, thing_breaks, breaks, reach};
+ghost use Rattle.map_lint.specs.Facts.{AreFacts};
+ghost use Rattle.map_lint.specs.Rules.{at_item, names_wall, texture_hidden, number_breaks, sector_breaks, line_breaks, thing_breaks, breaks, reach};
 
-use crate::bands::{FiledLines, is_in_no_sector, meets_another};
-use crate::donuts::is_gap;
-use crate::facts::{Facts, GameFacts};
+use crate::facts::Facts;
 use crate::known::{is_known_line, is_known_sector, is_known_thing, needs_tag};
-use crate::locks::stays_locked;
-use crate::neighbours::overfills_list;
-use crate::scrolls::is_one_too_many;
-use crate::specials::{DOORS, has_special};
 use crate::starts::{starts_twice, things_of_type};
-use crate::tags::tag_of;
-use crate::teleports::leads_nowhere;
 use crate::warning::Rule;
 use lump_records::{Line, Name8, Sector, Side, Thing};
+use map_plane::{FiledLines, is_in_no_sector, meets_another};
+use map_play::{
+    door_without_back, is_donut_gap, is_scroll_too_many, is_stuck, leads_nowhere, overfills_list,
+    stays_locked, tag_of,
+};
 use map_tables::{Kind, Map};
 
 // Whether the line's special needs a tag, and no sector has the line's tag.
@@ -91,21 +88,6 @@ fn is_inside_out(map: &Map, bordered: &[bool], areas: &[i128], n: u32) -> bool
     }
 }
 
-// Whether the line is a door that opens by hand, and has no left side.
-fn door_without_back(line: &Line) -> bool
-    ensures { result ≡ door_without_back line.now }
-{
-    has_special(&DOORS, line) && !line.has_left()
-}
-
-// Whether sector n rises to the next higher floor, and has more than 22 higher neighbours.
-fn overfills(map: &Map, game: &GameFacts, n: u32) -> bool
-    requires { AreGameFacts map.now.tables game.now }
-    ensures { result ≡ overfills_list map.now.tables n }
-{
-    overfills_list(map, &game.raiser_tags, &game.sided, n)
-}
-
 // Whether the rule is one that needs only a number, and the number breaks it.
 fn number_breaks(map: &Map, facts: &Facts, rule: Rule, n: u32) -> bool
     requires { AreFacts map.now.tables facts.now }
@@ -116,10 +98,11 @@ fn number_breaks(map: &Map, facts: &Facts, rule: Rule, n: u32) -> bool
         Rule::DeathmatchStarts => 0 < n && things_of_type(map, 11) == n,
         Rule::SectorInside => is_inside_out(map, &facts.bordered, &facts.areas, n),
         Rule::LinesApart => meets_another(&facts.filed, n),
-        Rule::DonutBacked => is_gap(&facts.game.donut_gaps, n),
-        Rule::ScrollsFit => is_one_too_many(&facts.game.scrolling, n),
+        Rule::DonutBacked => is_donut_gap(map, &facts.game, n),
+        Rule::ScrollsFit => is_scroll_too_many(map, &facts.game, n),
         Rule::LevelEnds => n == 0 && !facts.game.has_exit,
-        Rule::NeighboursFit => overfills(map, &facts.game, n),
+        Rule::NeighboursFit => overfills_list(map, &facts.game, n),
+        Rule::ThingFree => is_stuck(map, &facts.filed, &facts.game, n),
         _ => false,
     }
 }
@@ -145,14 +128,12 @@ fn line_breaks(map: &Map, facts: &Facts, rule: Rule, line: &Line) -> bool
 {
     match rule {
         Rule::TagGiven => needs_tag(line) && line.tag == 0,
-        Rule::TagOfSector => tag_of_no_sector(map, &facts.sector_tags, line),
+        Rule::TagOfSector => tag_of_no_sector(map, &facts.game.sector_tags, line),
         Rule::LineSpecialKnown => !is_known_line(line),
         Rule::TextureShows => texture_hidden(map, line),
         Rule::DoorBacked => door_without_back(line),
-        Rule::TeleportLands => {
-            leads_nowhere(map, &facts.sector_tags, &facts.game.landing_tags, line)
-        }
-        Rule::KeyGiven => stays_locked(map, facts.game.keys, line),
+        Rule::TeleportLands => leads_nowhere(map, &facts.game, line),
+        Rule::KeyGiven => stays_locked(map, &facts.game, line),
         _ => false,
     }
 }
@@ -240,6 +221,7 @@ pub(crate) fn reach(map: &Map, rule: Rule) -> u32
         Rule::OneStart => map.count(Kind::Thing),
         Rule::ThingKnown => map.count(Kind::Thing),
         Rule::ThingInside => map.count(Kind::Thing),
+        Rule::ThingFree => map.count(Kind::Thing),
         Rule::LevelEnds => 1,
         _ => map.count(Kind::Line),
     }

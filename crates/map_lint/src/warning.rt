@@ -49,6 +49,9 @@ pub enum Rule {
     KeyGiven,
     /// A sector that rises to the next higher floor has at most 22 lines across which a higher one lies.
     NeighboursFit,
+    /// A player's start or a monster stands free: no line that stops it reaches into its square, and no other solid
+    /// thing.
+    ThingFree,
     /// The flats of a sector are among those of a WAD.
     FlatKnown,
     /// The textures of a line's sides are among those of a WAD.
@@ -93,6 +96,7 @@ impl Rule {
             Rule::LevelEnds => "no-exit",
             Rule::KeyGiven => "key-missing",
             Rule::NeighboursFit => "too-many-neighbours",
+            Rule::ThingFree => "thing-stuck",
             Rule::FlatKnown => "flat-unknown",
             Rule::TextureKnown => "texture-unknown",
         }

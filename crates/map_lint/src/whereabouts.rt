@@ -48,6 +48,7 @@ pub(crate) fn whereabouts_of(map: &Map, rule: Rule, n: u32) -> Whereabouts
         Rule::OneStart => at_thing(map, n),
         Rule::ThingKnown => at_thing(map, n),
         Rule::ThingInside => at_thing(map, n),
+        Rule::ThingFree => at_thing(map, n),
         Rule::TagGiven => along_line(map, n),
         Rule::TagOfSector => along_line(map, n),
         Rule::LineSpecialKnown => along_line(map, n),

@@ -4,3 +4,7 @@ pub mod CrossingPoints
 pub mod Crossings
 pub mod LineReads
 pub mod NearestSteps
+pub mod BandLemmas
+pub mod FilingSteps
+pub mod BoxSteps
+pub mod SquareLemmas

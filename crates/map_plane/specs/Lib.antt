@@ -5,3 +5,6 @@ pub mod Outside
 pub mod Found
 pub mod Nearest
 pub mod Polygon
+pub mod Bands
+pub mod Boxes
+pub mod Squares

@@ -106,7 +106,7 @@ fn share(l: &PlacedLine, k: &PlacedLine) -> bool
 
 /// Whether lines k and l are two different lines, their boxes meet, and a point of both isn't an end of both.
 #[tactic(auto, unfolding(crate::specs::Meeting::meets))]
-pub fn meets(l: &PlacedLine, k: &PlacedLine) -> bool
+pub(crate) fn meets(l: &PlacedLine, k: &PlacedLine) -> bool
     ensures { result ≡ meets l.now k.now }
 {
     l.number != k.number && boxes_meet(l, k) && share(l, k)

@@ -64,7 +64,7 @@ fn count_turned(lines: &[PlacedLine], place: Vertex) -> usize
 
 /// Whether the place lies in no sector, among these lines.
 #[tactic(auto, unfolding(crate::specs::Outside::is_place_outside))]
-pub fn is_outside(lines: &[PlacedLine], place: Vertex) -> bool
+pub(crate) fn is_outside(lines: &[PlacedLine], place: Vertex) -> bool
     ensures { result ≡ is_place_outside lines.now place }
 {
     is_on_any_wall(lines, place) || count_facing(lines, place) <= count_turned(lines, place)

@@ -1,35 +1,26 @@
 -- The calls that a run makes, the moments between them, and what stands at its exit.
-use Rattle.std.proofs.Common.{◌≡◌, ◌∙◌, ◌⊎◌, inl, inr, ⊎_elim, ℕ, ◌≤◌, Bool, true, false, cond, List, [], ◌∷◌, ◌++◌, length, Option, Some, None, Result, Ok, Err, refl, sym, ap, subst}
+use Rattle.std.proofs.Common.{◌≡◌, ◌∙◌, ◌⊎◌, inl, inr, ℕ, ◌≤◌, true, false, List, [], ◌∷◌, Option, Some, None, Result, Ok, Err, refl, sym, ap, subst}
 use Rattle.std.specs.Prelude.{MatchOption}
 use Rattle.std.proofs.lemmas.Bool.{cases_Bool, true≢false}
 use Rattle.store_disk.specs.Moments.{LeavesOnly}
 use Rattle.store_disk.specs.Stops.{Each}
 use Rattle.store_disk.specs.declared.disk.Disk.{Ghosts}
-use Rattle.store_disk.proofs.Moments.{started, weaker}
+use Rattle.store_disk.proofs.Moments.{started}
 use Rattle.map_tables.specs.Projects.{ProjectMaps, project_of}
-use Rattle.store_project.specs.Calls.{AllMade, Applies, ProjectCall, accepted, acknowledged, begins}
+use Rattle.store_project.specs.Calls.{AllMade, Applies, ProjectCall}
+use Rattle.store_project.specs.Calls.ProjectCall.{Apply}
 use Rattle.store_project.specs.Outcomes.{EndsApply, RefusesApply}
 use Rattle.store_project.specs.Stands.{IsOutcome}
 use Rattle.store_project.specs.States.{State, IsProjectKept}
 use Rattle.store_project.specs.declared.error.ProjectError.{ProjectError}
 use Rattle.store_project.specs.declared.error.ProjectError.TheVariants.{Device, OutOfMemory, Reopen, GenerationsSpent, Refused, Damaged, Blank, NotAProject, NotEmpty, BadGeometry}
-use Rattle.store_project.proofs.Fronts.{begins_with}
-use Rattle.store_project.proofs.Holding.{Holds, fronts, moves}
+use Rattle.store_project.proofs.Holding.{session_moments}
 use Rattle.run_edit.specs.Editing.{AnswersQuery, IsTold, MayLack, RepliesInProject, outcome_in}
 use Rattle.run_edit.specs.Queries.{query_of}
 use Rattle.run_edit.specs.Runs.{Exchange, IsTrace}
-use Rattle.run_edit.specs.Sessions.{AllReopen, AreCalls, HoldsAcknowledged, HoldsThroughout, IsInDoubt, RunsOver}
+use Rattle.run_edit.specs.Sessions.{AllReopen, AreCalls, HoldsThroughout, IsInDoubt, RunsOver}
 use Rattle.run_edit.specs.Texts.{outcome_text, refused_text}
 use Rattle.run_edit.specs.declared.query.Query.{Query}
-
-accepted_append : (xs ys : List ProjectCall) → accepted (xs ++ ys) ≡ accepted xs ++ accepted ys
-accepted_append [] ys = refl
-accepted_append ((None, answer) ∷ xs) ys = accepted_append xs ys
-accepted_append ((Some line, answer) ∷ xs) ys = at (begins answer) (accepted_append xs ys)
-  where
-    at : (t : Bool) → accepted (xs ++ ys) ≡ accepted xs ++ accepted ys → cond t (line ∷ accepted (xs ++ ys)) (accepted (xs ++ ys)) ≡ cond t (line ∷ accepted xs) (accepted xs) ++ accepted ys
-    at true e = ap (λ (l : List (List ℕ)). line ∷ l) e
-    at false e = e
 
 module _ {D : Type 0} (facts : Ghosts D) where
   abbrev Told : State D → List ℕ → List ℕ → State D → Type 0
@@ -47,13 +38,13 @@ module _ {D : Type 0} (facts : Ghosts D) where
 
   abbrev CallsOf : Option (List ℕ × Query) → Exchange (State D) → List (Exchange (State D)) → List ProjectCall → Type 0
   CallsOf o e trace calls = MatchOption o
-      ((answer : Result ℕ ProjectError) × (rest : List ProjectCall) × (calls ≡ (Some e.line, answer) ∷ rest)
+      ((answer : Result ℕ ProjectError) × (rest : List ProjectCall) × (calls ≡ Apply e.line answer ∷ rest)
       × (e.text ≡ outcome_text (outcome_in answer)) × AreCalls trace rest)
       (λ q. AreCalls trace calls)
 
   one_call : (o : Option (List ℕ × Query)) (e : Exchange (State D)) (trace : List (Exchange (State D))) (old new : State D) → ToldOf o old e
       → ((calls : List ProjectCall) × AreCalls trace calls × Made e.after calls new) → (calls : List ProjectCall) × CallsOf o e trace calls × Made old calls new
-  one_call None e trace old new (inl (answer, applies, is)) (calls, are, made) = ((Some e.line, answer) ∷ calls, (answer, calls, refl, is, are), (e.after, applies, made))
+  one_call None e trace old new (inl (answer, applies, is)) (calls, are, made) = (Apply e.line answer ∷ calls, (answer, calls, refl, is, are), (e.after, applies, made))
   one_call None e trace old new (inr ((never, same), is)) rest = absurd never
   one_call (Some q) e trace old new (inl (told, same)) (calls, are, made) = (calls, are, subst (λ (s : State D). Made s calls new) same made)
   one_call (Some q) e trace old new (inr ((lacks, same), is)) (calls, are, made) = (calls, are, subst (λ (s : State D). Made s calls new) same made)
@@ -180,24 +171,7 @@ module _ {D : Type 0} (facts : Ghosts D) where
     module _ (only_now : (d : D) (file : List ℕ) → facts.left_since d (facts.moment d) file → facts.may_leave d file) where
       pub run_moments : (old : State D) (calls : List ProjectCall) (new : State D) → IsProjectKept facts old → old.must_reopen ≡ false → HoldsThroughout facts old calls new
       run_moments old calls new kept ready front back mid split still before behind =
-          ⊎_elim
-          (λ well. weaker facts mid.disk new.disk (Holds facts only_now counts_now old.cap
-          (project_of old.maps) (acknowledged front ++ accepted back) (length (acknowledged front)))
-          (HoldsAcknowledged old.cap (project_of old.maps) (record { front = front; back = back }))
-          (moves facts only_now counts_now old.cap (project_of old.maps) back (acknowledged front) mid new well.1 well.0 behind)
-          (λ file h. (
-            h.map,
-            record {
-              lines = h.lines;
-              rest = h.rest;
-              prefix = accepted_append front back ∙ ap (λ (l : List (List ℕ)). l ++ accepted back) well.2 ∙ h.prefix;
-              holds = begins_with h.lines h.rest (acknowledged front) (accepted back) (sym h.prefix) h.holds;
-              leads = h.leads;
-            },
-            h.stands,
-          )))
-          (λ bad. absurd (true≢false (sym bad.0 ∙ still)))
-          (fronts facts only_now counts_now old.cap (project_of old.maps) front [] old mid (record { cap_is = refl; leads = refl; kept = kept }) ready before)
+          session_moments facts only_now counts_now old.cap (record { front = front; back = back }) old mid new refl ready kept before behind
 
       -- the moments of one line
       quiet : (old : State D) (line : List ℕ) → IsProjectKept facts old → old.must_reopen ≡ false → LeavesOnly facts old.disk old.disk (IsOutcome old.cap (project_of old.maps) line)

@@ -1,11 +1,12 @@
 -- What the disk of a project holds while lines are answered, and at the end of a run.
-use Rattle.std.specs.Prelude.{◌≡◌, ◌⊎◌, ℕ, true, false, List, [], ◌∷◌, ◌++◌, Some, MatchOption, Result}
+use Rattle.std.specs.Prelude.{◌≡◌, ◌⊎◌, ℕ, true, false, List, [], ◌∷◌, ◌++◌, MatchOption, Result}
 use mathlib.Core.Logic.{inl, inr}
 use Rattle.store_disk.specs.Moments.{LeavesOnly}
 use Rattle.store_disk.specs.Stops.{Each}
 use Rattle.store_disk.specs.declared.disk.Disk.{Ghosts}
 use Rattle.map_tables.specs.Projects.{ProjectMaps, project_of}
 use Rattle.store_project.specs.Calls.{AllMade, ProjectCall, Made}
+use Rattle.store_project.specs.Calls.ProjectCall.{Apply}
 use Rattle.store_project.specs.Sessions.{KeepsAcknowledged, Session}
 use Rattle.store_project.specs.Stands.{IsOutcome, StandsFor}
 use Rattle.store_project.specs.States.{State, IsProjectKept}
@@ -21,7 +22,7 @@ abbrev pub AreCalls : {S : Type 0} → List (Exchange S) → List ProjectCall �
 AreCalls [] calls = calls ≡ []
 AreCalls (e ∷ trace) calls = MatchOption (query_of e.line)
     ((answer : Result ℕ ProjectError) × (rest : List ProjectCall)
-    × (calls ≡ (Some e.line, answer) ∷ rest)
+    × (calls ≡ Apply e.line answer ∷ rest)
     × (e.text ≡ outcome_text (outcome_in answer)) × AreCalls trace rest)
     (λ q. AreCalls trace calls)
 
@@ -73,8 +74,8 @@ pub record RunsOver {D : Type 0} (facts : Ghosts D) (old new : State D)
   pub in_doubt : old.must_reopen ≡ false → new.must_reopen ≡ true → IsInDoubt facts trace new
   pub reopen : old.must_reopen ≡ true → (new ≡ old) × AllReopen trace
 
--- one step of a session: a call of `apply` or `checkpoint` with its result, or a run with its lines
--- and their answers
+-- one step of a session: a call of `apply`, `checkpoint` or `put` with its result, or a run with its
+-- lines and their answers
 abbrev pub Deed : Type 0 → Type 0
 Deed D = ProjectCall ⊎ List (Exchange (State D))
 

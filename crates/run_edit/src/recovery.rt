@@ -18,9 +18,9 @@ use store_disk::Disk;
 use store_project::{Project, Refused, hold_each_acknowledged};
 use wad_build::build_all;
 
-/// A session may consist of runs as well as calls of `apply` and `checkpoint`: by the contract of `run`, a run is the
-/// calls that its lines made. So a session is a list of calls, as `hold_each_acknowledged` requires, and may stop
-/// between any two of them. The function has an empty body: its contract is the law.
+/// A session may consist of runs as well as calls of `apply`, `checkpoint` and `put`: by the contract of `run`, a run
+/// is the calls that its lines made. So a session is a list of calls, as `hold_each_acknowledged` requires, and may
+/// stop between any two of them. The function has an empty body: its contract is the law.
 pub fn sessions_hold_runs<D: Disk>()
     ensures { (first : State D) (deeds : List (Deed D)) (front back : List ProjectCall)
         (last : State D)

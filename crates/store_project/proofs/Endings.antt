@@ -17,6 +17,7 @@ use Rattle.map_commands.specs.declared.error.CommandError.TheVariants as command
 use Rattle.map_commands.specs.ProjectLines.{Accepts, LeadsTo}
 use Rattle.map_commands.proofs.ProjectSteps.{refused-by}
 use Rattle.store_project.proofs.LineFaults.{low_fault}
+use Rattle.store_project.specs.Groups.{RefusesStage}
 use Rattle.store_project.specs.States.{State}
 use Rattle.store_project.specs.Outcomes.{EndsApply, RefusesApply, RefusesCheckpoint, TurnsWhereFull}
 use Rattle.map_commands.specs.ProjectLines.{RefusesCommand, RefusesLine}
@@ -80,19 +81,6 @@ split command.MapNameTaken r change is by = inr (is, by)
 split command.NoSuchMap r change is by = inr (is, by)
 split command.CurrentMap r change is by = inr (is, by)
 
--- a line that is no command is refused as such, and never for lack of memory
-pub fault_refused : {D : Type 0} (facts : Ghosts D) (old new : State D) (line : List ℕ) (e : CommandError) (r : ProjectError) → IsRefusalOf r e → project_fault_of line ≡ Some (commands.code_of e)
-    → old.must_reopen ≡ false → new.must_reopen ≡ false → RefusesApply facts r old new line
-fault_refused facts old new line e r is fault ready still = at (split e r refused is (refused-by e refused (omega (arith, low_fault line (commands.code_of e) fault)) refl))
-  where
-    refused : Result (ProjectMaps × ℕ) ℕ
-    refused = Err (commands.code_of e)
-
-    at : ((r ≡ OutOfMemory) × IsOk refused) ⊎ ((r ≡ Refused e) × (refused ≡ Err (commands.code_of e))) → RefusesApply facts r old new line
-    at (inl (memory, ok)) = absurd (true≢false (sym ok))
-    at (inr (told, same)) = subst (λ (q : ProjectError). RefusesApply facts q old new line) (sym told)
-        (ready, still, subst (λ (o : Option ℕ). MatchOption o (RefusesCommand old.cap (project_of old.maps) line (commands.code_of e)) (λ f. commands.code_of e ≡ f)) (sym fault) refl)
-
 -- a command that the step accepts
 accepted_leads : (n : ℕ) (m : ProjectMaps) (line : List ℕ) (c : ProjectCommand) → InProjectRange c → line
     ≡ project_spelling c → (change : Result (ProjectMaps × ℕ) ℕ) → step m c n ≡ change → IsOk change
@@ -100,22 +88,45 @@ accepted_leads : (n : ℕ) (m : ProjectMaps) (line : List ℕ) (c : ProjectComma
 accepted_leads n m line c range line_is (Ok new) stepped ok = (new.0, (new.1, record { command = c; range = range; line_is = line_is; stepped = stepped }))
 accepted_leads n m line c range line_is (Err e) stepped ok = absurd (true≢false (sym ok))
 
-pub refused_ends : {D : Type 0} (facts : Ghosts D) (old new : State D) (line : List ℕ) (c : ProjectCommand)
-    (e : CommandError) (r : ProjectError) → IsRefusalOf r e
-    → readiness.RefusesStep e (step (project_of old.maps) c old.cap)
-    → InProjectRange c → line ≡ project_spelling c → project_fault_of line ≡ None → old.must_reopen ≡ false → new.must_reopen ≡ false → RefusesApply facts r old new line
-refused_ends facts old new line c e r is by range line_is whole ready still = at (split e r (step (project_of old.maps) c old.cap) is by)
-  where
-    line_refused : step (project_of old.maps) c old.cap ≡ Err (commands.code_of e) → RefusesLine old.cap (project_of old.maps) line (commands.code_of e)
-    line_refused stepped =
-        subst (λ (o : Option ℕ). MatchOption o (RefusesCommand old.cap (project_of old.maps) line (commands.code_of e))
-        (λ fault. commands.code_of e ≡ fault)) (sym whole)
-        (record { command = c; range = range; line_is = line_is; stepped = stepped })
+module _ (n : ℕ) (m : ProjectMaps) (line : List ℕ) (e : CommandError) (r : ProjectError) (is : IsRefusalOf r e) where
+  -- a line that is no command is refused as such, and never for lack of memory
+  pub fault_told : project_fault_of line ≡ Some (commands.code_of e) → RefusesStage r n m line
+  fault_told fault = at (split e r refused is (refused-by e refused (omega (arith, low_fault line (commands.code_of e) fault)) refl))
+    where
+      refused : Result (ProjectMaps × ℕ) ℕ
+      refused = Err (commands.code_of e)
 
-    at : ((r ≡ OutOfMemory) × IsOk (step (project_of old.maps) c old.cap)) ⊎ ((r ≡ Refused e) × (step (project_of old.maps) c old.cap ≡ Err (commands.code_of e))) → RefusesApply facts r old new line
-    at (inl (memory, ok)) = subst (λ (q : ProjectError). RefusesApply facts q old new line) (sym memory)
-        (ready, still, accepted_leads old.cap (project_of old.maps) line c range line_is (step (project_of old.maps) c old.cap) refl ok)
-    at (inr (refused, stepped)) = subst (λ (q : ProjectError). RefusesApply facts q old new line) (sym refused) (ready, still, line_refused stepped)
+      at : ((r ≡ OutOfMemory) × IsOk refused) ⊎ ((r ≡ Refused e) × (refused ≡ Err (commands.code_of e))) → RefusesStage r n m line
+      at (inl (memory, ok)) = absurd (true≢false (sym ok))
+      at (inr (told, same)) = subst (λ (q : ProjectError). RefusesStage q n m line) (sym told)
+          (subst (λ (o : Option ℕ). MatchOption o (RefusesCommand n m line (commands.code_of e)) (λ f. commands.code_of e ≡ f)) (sym fault) refl)
+
+  -- a command is refused as the step refuses it
+  pub step_told : (c : ProjectCommand) → readiness.RefusesStep e (step m c n) → InProjectRange c → line ≡ project_spelling c → project_fault_of line ≡ None → RefusesStage r n m line
+  step_told c by range line_is whole = at (split e r (step m c n) is by)
+    where
+      line_refused : step m c n ≡ Err (commands.code_of e) → RefusesLine n m line (commands.code_of e)
+      line_refused stepped =
+          subst (λ (o : Option ℕ). MatchOption o (RefusesCommand n m line (commands.code_of e)) (λ fault. commands.code_of e ≡ fault)) (sym whole)
+          (record { command = c; range = range; line_is = line_is; stepped = stepped })
+
+      at : ((r ≡ OutOfMemory) × IsOk (step m c n)) ⊎ ((r ≡ Refused e) × (step m c n ≡ Err (commands.code_of e))) → RefusesStage r n m line
+      at (inl (memory, ok)) = subst (λ (q : ProjectError). RefusesStage q n m line) (sym memory) (accepted_leads n m line c range line_is (step m c n) refl ok)
+      at (inr (refused, stepped)) = subst (λ (q : ProjectError). RefusesStage q n m line) (sym refused) (line_refused stepped)
+
+-- a line that is refused over the maps of a project
+module _ {D : Type 0} (facts : Ghosts D) (old new : State D) (line : List ℕ) (ready : old.must_reopen ≡ false) (still : new.must_reopen ≡ false) where
+  pub line_refused : (r : ProjectError) → RefusesStage r old.cap (project_of old.maps) line → RefusesApply facts r old new line
+  line_refused Device told = absurd told
+  line_refused OutOfMemory told = (ready, still, told)
+  line_refused Reopen told = absurd told
+  line_refused GenerationsSpent told = absurd told
+  line_refused (Refused e) told = (ready, still, told)
+  line_refused (Damaged place) told = absurd told
+  line_refused Blank told = absurd told
+  line_refused NotAProject told = absurd told
+  line_refused NotEmpty told = absurd told
+  line_refused BadGeometry told = absurd told
 
 -- a line for which no room could be made, of a map that accepts it
 module _ {D : Type 0} (facts : Ghosts D) (old mid new : State D) (line : List ℕ) (ready : old.must_reopen ≡ false)

@@ -1,45 +1,58 @@
--- The moments of a session: each image stands for a prefix that holds what was acknowledged before.
-use Rattle.std.proofs.Common.{◌≡◌, ◌⊎◌, inl, inr, ⊎_elim, ◌≤◌, ℕ, Bool, true, false, cond, List, [], ◌∷◌, ◌++◌, length, length-append, Some, None, Ok, Err, refl, sym, ◌∙◌, ap, subst, arith}
+-- The moments of sessions: each image stands for what the commands of some first calls lead to, and these hold what was
+-- acknowledged before.
+use Rattle.std.proofs.Common.{◌≡◌, ◌⊎◌, inl, inr, ⊎_elim, ◌≤◌, ℕ, Bool, true, false, cond, List, [], ◌∷◌, ◌++◌, Ok, Err, Result, refl, sym, ◌∙◌, ap, subst}
 use Rattle.std.proofs.lemmas.Bool.{cases_Bool, true≢false}
+use Rattle.std.proofs.lemmas.Grind.{flat_map-append}
 use Rattle.std.proofs.lemmas.List.{append_assoc, append-nil}
 use Rattle.store_disk.specs.Moments.{LeavesOnly}
 use Rattle.store_disk.specs.Stops.{Each}
 use Rattle.store_disk.specs.declared.disk.Disk.{Ghosts}
 use Rattle.store_disk.proofs.Moments.{started, weaker, and_then}
 use Rattle.map_tables.specs.Projects.{empty_project, ProjectMaps, project_of}
-use Rattle.store_project.specs.Stands.{IsOutcome, StandsFor}
-use Rattle.map_commands.specs.ProjectLines.{Leads, LeadsTo}
+use Rattle.store_project.specs.Stands.{IsOutcome, StandsFor, StandsForEither}
+use Rattle.map_commands.specs.ProjectLines.{Leads}
 use Rattle.store_project.specs.States.{State, IsProjectKept}
+use Rattle.store_project.specs.Groups.{RefusesToPut, Staged, staged_lines}
 use Rattle.store_project.specs.Outcomes.{RefusesApply, RefusesCheckpoint}
 use Rattle.store_project.specs.declared.error.ProjectError.{ProjectError}
 use Rattle.store_project.specs.declared.error.ProjectError.TheVariants.{Device, OutOfMemory, Reopen, GenerationsSpent, Refused, Damaged, Blank, NotAProject, NotEmpty, BadGeometry}
-use Rattle.store_project.proofs.Fronts.{begins_with}
-use Rattle.store_project.proofs.Recording.{leads_push}
+use Rattle.store_project.proofs.Grouping.{leads_all}
+use Rattle.store_project.proofs.Recording.{leads_append, leads_one}
 use Rattle.store_project.specs.Sessions.{HoldsEach, KeepEach, KeepsAcknowledged, Opens, Passes, PassInTurn, Session}
-use Rattle.store_project.specs.Calls.{ProjectCall, acknowledged, accepted, begins, AllMade}
+use Rattle.store_project.specs.Calls.{Applies, ProjectCall, PutsGroup, acknowledged, acknowledged_by, accepted, accepted_by, begins, AllMade, Made}
+use Rattle.store_project.specs.Calls.ProjectCall.{Apply, Checkpoint, Put}
 
-accepted_append : (xs ys : List ProjectCall) → accepted (xs ++ ys) ≡ accepted xs ++ accepted ys
-accepted_append [] ys = refl
-accepted_append ((None, answer) ∷ xs) ys = accepted_append xs ys
-accepted_append ((Some line, answer) ∷ xs) ys = at (begins answer) (accepted_append xs ys)
-  where
-    at : (t : Bool) → accepted (xs ++ ys) ≡ accepted xs ++ accepted ys → cond t (line ∷ accepted (xs ++ ys)) (accepted (xs ++ ys)) ≡ cond t (line ∷ accepted xs) (accepted xs) ++ accepted ys
-    at true e = ap (λ (l : List (List ℕ)). line ∷ l) e
-    at false e = e
+-- the file stands for the map, or for the one that the lines lead to
+abbrev IsOutcomeOf : ℕ → ProjectMaps → List (List ℕ) → List ℕ → Type 0
+IsOutcomeOf cap map lines file = StandsFor cap map file
+    ⊎ ((next : ProjectMaps) × Leads cap map lines next × StandsFor cap next file)
 
-module _ {D : Type 0} (facts : Ghosts D) (old new : State D) (line : List ℕ) where
+-- only a device fault begins what it refuses
+begun_device : (e : ProjectError) → begins {T = ℕ} (Err e) ≡ true → e ≡ Device
+begun_device Device is = refl
+begun_device OutOfMemory is = absurd (true≢false (sym is))
+begun_device Reopen is = absurd (true≢false (sym is))
+begun_device GenerationsSpent is = absurd (true≢false (sym is))
+begun_device (Refused e) is = absurd (true≢false (sym is))
+begun_device (Damaged place) is = absurd (true≢false (sym is))
+begun_device Blank is = absurd (true≢false (sym is))
+begun_device NotAProject is = absurd (true≢false (sym is))
+begun_device NotEmpty is = absurd (true≢false (sym is))
+begun_device BadGeometry is = absurd (true≢false (sym is))
+
+module _ {D : Type 0} (facts : Ghosts D) (old new : State D) where
   -- a project that must be opened again stays
-  no_apply : (e : ProjectError) → old.must_reopen ≡ true → RefusesApply facts e old new line → new ≡ old
-  no_apply Device reopen (a, b, rose) = absurd (true≢false (sym reopen ∙ a))
-  no_apply OutOfMemory reopen (a, b, leads) = absurd (true≢false (sym reopen ∙ a))
-  no_apply Reopen reopen (a, same) = same
-  no_apply GenerationsSpent reopen (a, b, last, above, leads) = absurd (true≢false (sym reopen ∙ a))
-  no_apply (Refused e) reopen (a, b, is) = absurd (true≢false (sym reopen ∙ a))
-  no_apply (Damaged place) reopen is = absurd is
-  no_apply Blank reopen is = absurd is
-  no_apply NotAProject reopen is = absurd is
-  no_apply NotEmpty reopen is = absurd is
-  no_apply BadGeometry reopen is = absurd is
+  no_apply : (line : List ℕ) (e : ProjectError) → old.must_reopen ≡ true → RefusesApply facts e old new line → new ≡ old
+  no_apply line Device reopen (a, b, rose) = absurd (true≢false (sym reopen ∙ a))
+  no_apply line OutOfMemory reopen (a, b, leads) = absurd (true≢false (sym reopen ∙ a))
+  no_apply line Reopen reopen (a, same) = same
+  no_apply line GenerationsSpent reopen (a, b, last, above, leads) = absurd (true≢false (sym reopen ∙ a))
+  no_apply line (Refused e) reopen (a, b, is) = absurd (true≢false (sym reopen ∙ a))
+  no_apply line (Damaged place) reopen is = absurd is
+  no_apply line Blank reopen is = absurd is
+  no_apply line NotAProject reopen is = absurd is
+  no_apply line NotEmpty reopen is = absurd is
+  no_apply line BadGeometry reopen is = absurd is
 
   no_checkpoint : (e : ProjectError) → old.must_reopen ≡ true → RefusesCheckpoint facts e old new → new ≡ old
   no_checkpoint Device reopen (a, b, rose) = absurd (true≢false (sym reopen ∙ a))
@@ -53,251 +66,248 @@ module _ {D : Type 0} (facts : Ghosts D) (old new : State D) (line : List ℕ) w
   no_checkpoint NotEmpty reopen is = absurd is
   no_checkpoint BadGeometry reopen is = absurd is
 
-  -- a line that was begun and refused leaves the project to be opened again
-  faulted : (e : ProjectError) → begins (Err e) ≡ true → RefusesApply facts e old new line → new.must_reopen ≡ true
-  faulted Device is (a, b, rose) = b
-  faulted OutOfMemory is r = absurd (true≢false (sym is))
-  faulted Reopen is r = absurd (true≢false (sym is))
-  faulted GenerationsSpent is r = absurd (true≢false (sym is))
-  faulted (Refused e) is r = absurd (true≢false (sym is))
-  faulted (Damaged place) is r = absurd (true≢false (sym is))
-  faulted Blank is r = absurd (true≢false (sym is))
-  faulted NotAProject is r = absurd (true≢false (sym is))
-  faulted NotEmpty is r = absurd (true≢false (sym is))
-  faulted BadGeometry is r = absurd (true≢false (sym is))
+  -- a `put` is refused by the device, or where the project must be opened again
+  put_refused : (e : ProjectError) → RefusesToPut facts e old new → ((e ≡ Device) × (old.must_reopen ≡ false) × (new.must_reopen ≡ true)) ⊎ ((old.must_reopen ≡ true) × (new ≡ old))
+  put_refused Device (a, b, rose) = inl (refl, a, b)
+  put_refused Reopen (a, same) = inr (a, same)
+  put_refused OutOfMemory is = absurd is
+  put_refused GenerationsSpent is = absurd is
+  put_refused (Refused e) is = absurd is
+  put_refused (Damaged place) is = absurd is
+  put_refused Blank is = absurd is
+  put_refused NotAProject is = absurd is
+  put_refused NotEmpty is = absurd is
+  put_refused BadGeometry is = absurd is
+
+  made_stuck : (call : ProjectCall) → old.must_reopen ≡ true → Made facts old call new → (new ≡ old) × (acknowledged_by call ≡ [])
+  made_stuck (Apply line (Ok n)) reopen made = absurd (true≢false (sym reopen ∙ made.ends.0))
+  made_stuck (Apply line (Err e)) reopen made = (no_apply line e reopen made.ends.1, refl)
+  made_stuck (Checkpoint (Ok n)) reopen made = absurd (true≢false (sym reopen ∙ made.ends.0))
+  made_stuck (Checkpoint (Err e)) reopen made = (no_checkpoint e reopen made.ends, refl)
+  made_stuck (Put staged (Ok done)) reopen made = absurd (true≢false (sym reopen ∙ made.ends.0))
+  made_stuck (Put staged (Err e)) reopen made =
+      ⊎_elim (λ device. absurd (true≢false (sym reopen ∙ device.1))) (λ same. (same.1, refl)) (put_refused e made.ends.1)
+
+  -- What a call that accepted some lines, and acknowledged some, makes of a project that needn't be opened again: it
+  -- went on with all the lines, or must be opened again.
+  record Goes (begun told : List (List ℕ)) : Type 0 where
+    pub moments : LeavesOnly facts old.disk new.disk (IsOutcomeOf old.cap (project_of old.maps) begun)
+    pub cap_is : new.cap ≡ old.cap
+    pub kept : IsProjectKept facts new
+    pub ends : ((new.must_reopen ≡ false) × (told ≡ begun) × Leads old.cap (project_of old.maps) begun (project_of new.maps))
+        ⊎ ((new.must_reopen ≡ true) × (told ≡ []))
+
+  module _ (ready : old.must_reopen ≡ false) where
+    -- a call that keeps the map at every moment
+    quietly : LeavesOnly facts old.disk new.disk (StandsFor old.cap (project_of old.maps)) → new.cap ≡ old.cap → IsProjectKept facts new
+        → project_of new.maps ≡ project_of old.maps → Goes [] []
+    quietly leaves cap_is kept same = record {
+      moments = weaker facts old.disk new.disk (StandsFor old.cap (project_of old.maps)) (IsOutcomeOf old.cap (project_of old.maps) []) leaves (λ file stands. inl stands);
+      cap_is = cap_is;
+      kept = kept;
+      ends = elim (cases_Bool new.must_reopen) [ inl reopen ↦ inr (reopen, refl) | inr still ↦ inl (still, refl, same) ];
+    }
+
+    line_moments : (line : List ℕ) (answer : Result ℕ ProjectError) → Applies facts old line answer new
+        → LeavesOnly facts old.disk new.disk (IsOutcomeOf old.cap (project_of old.maps) (line ∷ []))
+    line_moments line answer made =
+        weaker facts old.disk new.disk (IsOutcome old.cap (project_of old.maps) line) (IsOutcomeOf old.cap (project_of old.maps) (line ∷ [])) (made.any_moment ready)
+        (λ file stands. ⊎_elim (λ same. inl same) (λ led. inr (led.0, leads_one old.cap (project_of old.maps) line led.0 led.1, led.2)) stands)
+
+    group_moments : (staged : List Staged) (answer : Result Unit ProjectError) → PutsGroup facts old staged answer new
+        → LeavesOnly facts old.disk new.disk (IsOutcomeOf old.cap (project_of old.maps) (staged_lines staged))
+    group_moments staged answer made =
+        weaker facts old.disk new.disk (StandsForEither old.cap (project_of old.maps) made.after) (IsOutcomeOf old.cap (project_of old.maps) (staged_lines staged)) (made.any_moment ready)
+        (λ file stands. ⊎_elim (λ same. inl same) (λ led. inr (made.after, leads_all old.cap (project_of old.maps) staged made.after made.accepted, led)) stands)
+
+    goes : (call : ProjectCall) → Made facts old call new → Goes (accepted_by call) (acknowledged_by call)
+    goes (Apply line (Ok n)) made = record {
+      moments = line_moments line (Ok n) made;
+      cap_is = made.same_cap;
+      kept = made.kept;
+      ends = inl (made.ends.1, refl, leads_one old.cap (project_of old.maps) line (project_of new.maps) (n, made.ends.2));
+    }
+    goes (Apply line (Err e)) made = at (begins {T = ℕ} (Err e)) refl
+      where
+        at : (t : Bool) → begins {T = ℕ} (Err e) ≡ t → Goes (cond t (line ∷ []) []) []
+        at true is =
+            let told = subst (λ (x : ProjectError). RefusesApply facts x old new line) (begun_device e is) made.ends.1 in
+            record { moments = line_moments line (Err e) made; cap_is = made.same_cap; kept = made.kept; ends = inr (told.1, refl) }
+        at false is = quietly
+            (⊎_elim (λ device. absurd (true≢false (sym (ap (λ (x : ProjectError). begins {T = ℕ} (Err x)) device) ∙ is))) (λ leaves. leaves) (made.refused_moment ready))
+            made.same_cap made.kept made.ends.0
+    goes (Checkpoint answer) made = quietly (made.any_moment ready) made.same_cap made.kept (ap project_of made.maps)
+    goes (Put staged (Ok done)) made = record {
+      moments = group_moments staged (Ok done) made;
+      cap_is = made.same_cap;
+      kept = made.kept;
+      ends = inl (
+        made.ends.1,
+        refl,
+        subst (λ (m : ProjectMaps). Leads old.cap (project_of old.maps) (staged_lines staged) m) (sym made.ends.2)
+            (leads_all old.cap (project_of old.maps) staged made.after made.accepted),
+      );
+    }
+    goes (Put staged (Err e)) made =
+        ⊎_elim
+        (λ device. subst (λ (t : Bool). Goes (cond t (staged_lines staged) []) []) (sym (ap (λ (x : ProjectError). begins {T = Unit {0}} (Err x)) device.0))
+        (record { moments = group_moments staged (Err e) made; cap_is = made.same_cap; kept = made.kept; ends = inr (device.2, refl) }))
+        (λ stuck. absurd (true≢false (sym stuck.0 ∙ ready)))
+        (put_refused e made.ends.1)
 
 module _ {D : Type 0} (facts : Ghosts D)
     (only_now : (d : D) (file : List ℕ) → facts.left_since d (facts.moment d) file → facts.may_leave d file)
     (counts_now : (d : D) (t : ℕ) (file : List ℕ) → t ≤ facts.moment d → facts.may_leave d file → facts.left_since d t file) where
-  stuck : (calls : List ProjectCall) (old new : State D) → old.must_reopen ≡ true → AllMade facts old calls new → new ≡ old
-  stuck [] old new reopen same = same
-  stuck ((Some line, Ok n) ∷ calls) old new reopen (mid, made, more) = absurd (true≢false (sym reopen ∙ made.ends.0))
-  stuck ((Some line, Err e) ∷ calls) old new reopen (mid, made, more) =
-      let same : mid ≡ old = no_apply facts old mid line e reopen made.ends.1 in
-      stuck calls mid new (ap (λ (s : State D). s.must_reopen) same ∙ reopen) more ∙ same
-  stuck ((None, Ok n) ∷ calls) old new reopen (mid, made, more) = absurd (true≢false (sym reopen ∙ made.ends.0))
-  stuck ((None, Err e) ∷ calls) old new reopen (mid, made, more) =
-      let same : mid ≡ old = no_checkpoint facts old mid [] e reopen made.ends in
-      stuck calls mid new (ap (λ (s : State D). s.must_reopen) same ∙ reopen) more ∙ same
-
-  unacknowledged : (calls : List ProjectCall) (old new : State D) → old.must_reopen ≡ true → AllMade facts old calls new → acknowledged calls ≡ []
-  unacknowledged [] old new reopen same = refl
-  unacknowledged ((Some line, Ok n) ∷ calls) old new reopen (mid, made, more) = absurd (true≢false (sym reopen ∙ made.ends.0))
-  unacknowledged ((Some line, Err e) ∷ calls) old new reopen (mid, made, more) =
-      unacknowledged calls mid new (ap (λ (s : State D). s.must_reopen) (no_apply facts old mid line e reopen made.ends.1) ∙ reopen) more
-  unacknowledged ((None, Ok n) ∷ calls) old new reopen (mid, made, more) = absurd (true≢false (sym reopen ∙ made.ends.0))
-  unacknowledged ((None, Err e) ∷ calls) old new reopen (mid, made, more) =
-      unacknowledged calls mid new (ap (λ (s : State D). s.must_reopen) (no_checkpoint facts old mid [] e reopen made.ends) ∙ reopen) more
-
-  -- the accepted lines begin with the acknowledged ones, since behind a line that was begun and refused there are none
-  acknowledged_first : (calls : List ProjectCall) (old new : State D) → AllMade facts old calls new
-      → (more : List (List ℕ)) × (accepted calls ≡ acknowledged calls ++ more)
-  acknowledged_first [] old new same = ([], refl)
-  acknowledged_first ((None, answer) ∷ calls) old new (mid, made, more) = acknowledged_first calls mid new more
-  acknowledged_first ((Some line, Ok n) ∷ calls) old new (mid, made, more) =
-      let rest = acknowledged_first calls mid new more in
-      (rest.0, ap (λ (l : List (List ℕ)). line ∷ l) rest.1)
-  acknowledged_first ((Some line, Err e) ∷ calls) old new (mid, made, more) = at (acknowledged_first calls mid new more) (begins (Err e)) refl
-    where
-      the_lines : Bool → List (List ℕ)
-      the_lines t = cond t (line ∷ accepted calls) (accepted calls)
-
-      at : (further : List (List ℕ)) × (accepted calls ≡ acknowledged calls ++ further) → (t : Bool) → begins (Err e) ≡ t
-          → (further : List (List ℕ)) × (the_lines t ≡ acknowledged calls ++ further)
-      at behind true is =
-          let none : acknowledged calls ≡ [] = unacknowledged calls mid new (faulted facts old mid line e is made.ends.1) more in
-          (line ∷ accepted calls, ap (λ (l : List (List ℕ)). l ++ line ∷ accepted calls) (sym none))
-      at behind false is = behind
-
-  -- the calls behind the first
-  go_on : (old mid new : State D) (calls : List ProjectCall) (P : List ℕ → Type 0) → AllMade facts mid calls new → LeavesOnly facts old.disk mid.disk P
-      → (mid.must_reopen ≡ false → LeavesOnly facts mid.disk new.disk P) → LeavesOnly facts old.disk new.disk P
-  go_on old mid new calls P more first second = elim (cases_Bool mid.must_reopen) [
-    | inl reopen ↦ subst (λ (s : State D). LeavesOnly facts old.disk s.disk P) (sym (stuck calls mid new reopen more)) first
-    | inr still ↦ and_then facts old.disk mid.disk new.disk P first (second still)
-  ]
+  stuck : (calls : List ProjectCall) (old new : State D) → old.must_reopen ≡ true → AllMade facts old calls new → (new ≡ old) × (acknowledged calls ≡ [])
+  stuck [] old new reopen same = (same, refl)
+  stuck (call ∷ calls) old new reopen (mid, made, more) =
+      let first = made_stuck facts old mid call reopen made in
+      let rest = stuck calls mid new (ap (λ (s : State D). s.must_reopen) first.0 ∙ reopen) more in
+      (rest.0 ∙ first.0, ap (λ (l : List (List ℕ)). l ++ acknowledged calls) first.1 ∙ rest.1)
 
   module _ (limit : ℕ) (base : ProjectMaps) where
-    -- a prefix of at least so many of the lines leads to a map that the file stands for
-    pub record Holds (all : List (List ℕ)) (n : ℕ) (file : List ℕ) : Type 0 where
-      pub lines : List (List ℕ)
-      pub rest : List (List ℕ)
-      pub prefix : all ≡ lines ++ rest
-      pub holds : n ≤ length lines
+    -- The file stands for the map to which some first ones of the calls lead, behind these lines; and what they accepted
+    -- begins with what was told.
+    record Holds (done : List (List ℕ)) (calls : List ProjectCall) (told : List (List ℕ)) (file : List ℕ) : Type 0 where
+      pub front : List ProjectCall
+      pub back : List ProjectCall
+      pub prefix : calls ≡ front ++ back
+      pub more : List (List ℕ)
+      pub holds : accepted front ≡ told ++ more
       pub map : ProjectMaps
-      pub leads : Leads limit base lines map
+      pub leads : Leads limit base (done ++ accepted front) map
       pub stands : StandsFor limit map file
 
     -- these lines lead to the project's map
-    pub record Known (done : List (List ℕ)) (now : State D) : Type 0 where
+    record Known (done : List (List ℕ)) (now : State D) : Type 0 where
       pub cap_is : now.cap ≡ limit
       pub leads : Leads limit base done (project_of now.maps)
       pub kept : IsProjectKept facts now
 
-    here : (done rest all : List (List ℕ)) (now : State D) → Known done now → all ≡ done ++ rest → (file : List ℕ) → StandsFor now.cap (project_of now.maps) file → Holds all (length done) file
-    here done rest all now known is file stands = record {
-      lines = done;
-      rest = rest;
-      prefix = is;
-      holds = omega arith;
-      map = (project_of now.maps);
-      leads = known.leads;
+    -- before the calls
+    here : (done : List (List ℕ)) (calls : List ProjectCall) (now : State D) → Known done now → (file : List ℕ) → StandsFor now.cap (project_of now.maps) file → Holds done calls [] file
+    here done calls now known file stands = record {
+      front = [];
+      back = calls;
+      prefix = refl;
+      more = [];
+      holds = refl;
+      map = project_of now.maps;
+      leads = subst (λ (l : List (List ℕ)). Leads limit base l (project_of now.maps)) (sym (append-nil done)) known.leads;
       stands = subst (λ (k : ℕ). StandsFor k (project_of now.maps) file) known.cap_is stands;
     }
 
-    led : (done : List (List ℕ)) (line : List ℕ) (now : State D) (next : ProjectMaps) → Known done now → LeadsTo now.cap (project_of now.maps) line next → Leads limit base (done ++ line ∷ []) next
-    led done line now next known leads = leads_push limit base done line (project_of now.maps) next known.leads (subst (λ (k : ℕ). LeadsTo k (project_of now.maps) line next) known.cap_is leads)
+    -- during the first
+    within : (done : List (List ℕ)) (call : ProjectCall) (calls : List ProjectCall) (now : State D) → Known done now → (file : List ℕ)
+        → IsOutcomeOf now.cap (project_of now.maps) (accepted_by call) file → Holds done (call ∷ calls) [] file
+    within done call calls now known file stands =
+        ⊎_elim (λ same. here done (call ∷ calls) now known file same)
+        (λ led.
+        let leads : Leads limit (project_of now.maps) (accepted_by call) led.0 = subst (λ (k : ℕ). Leads k (project_of now.maps) (accepted_by call) led.0) known.cap_is led.1 in
+        record {
+          front = call ∷ [];
+          back = calls;
+          prefix = refl;
+          more = accepted (call ∷ []);
+          holds = refl;
+          map = led.0;
+          leads = subst (λ (l : List (List ℕ)). Leads limit base (done ++ l) led.0) (sym (append-nil (accepted_by call)))
+              (leads_append limit base done (accepted_by call) (project_of now.maps) led.0 known.leads leads);
+          stands = subst (λ (k : ℕ). StandsFor k led.0 file) known.cap_is led.2;
+        })
+        stands
 
-    outcome : (done : List (List ℕ)) (line : List ℕ) (rest all : List (List ℕ)) (now : State D) → Known done now → all
-        ≡ done ++ line ∷ rest → (file : List ℕ) → IsOutcome now.cap (project_of now.maps) line file
-        → Holds all (length done) file
-    outcome done line rest all now known is file (inl stands) = here done (line ∷ rest) all now known is file stands
-    outcome done line rest all now known is file (inr (next, leads, stands)) = record {
-      lines = done ++ line ∷ [];
-      rest = rest;
-      prefix = is ∙ sym (append_assoc done (line ∷ []) rest);
-      holds = omega (arith, length-append done (line ∷ []));
-      map = next;
-      leads = led done line now next known leads;
-      stands = subst (λ (k : ℕ). StandsFor k next file) known.cap_is stands;
+    -- behind the first
+    behind : (done : List (List ℕ)) (call : ProjectCall) (calls : List ProjectCall) (told : List (List ℕ)) (file : List ℕ) → acknowledged_by call ≡ accepted_by call
+        → Holds (done ++ accepted_by call) calls told file → Holds done (call ∷ calls) (acknowledged_by call ++ told) file
+    behind done call calls told file same h = record {
+      front = call ∷ h.front;
+      back = h.back;
+      prefix = ap (λ (cs : List ProjectCall). call ∷ cs) h.prefix;
+      more = h.more;
+      holds = ap (λ (l : List (List ℕ)). accepted_by call ++ l) h.holds ∙ sym (append_assoc (accepted_by call) told h.more)
+          ∙ ap (λ (l : List (List ℕ)). (l ++ told) ++ h.more) (sym same);
+      map = h.map;
+      leads = subst (λ (l : List (List ℕ)). Leads limit base l h.map) (append_assoc done (accepted_by call) (accepted h.front)) h.leads;
+      stands = h.stands;
     }
 
-    same_map : (done : List (List ℕ)) (old mid : State D) → Known done old → mid.cap ≡ old.cap → (project_of mid.maps) ≡ (project_of old.maps) → IsProjectKept facts mid → Known done mid
-    same_map done old mid known cap_is map_is kept = record {
-      cap_is = cap_is ∙ known.cap_is;
-      leads = subst (λ (t : ProjectMaps). Leads limit base done t) (sym map_is) known.leads;
-      kept = kept;
+    -- whatever was told
+    at_all : (done : List (List ℕ)) (calls : List ProjectCall) (told : List (List ℕ)) (file : List ℕ) → Holds done calls told file → Holds done calls [] file
+    at_all done calls told file h = record {
+      front = h.front;
+      back = h.back;
+      prefix = h.prefix;
+      more = accepted h.front;
+      holds = refl;
+      map = h.map;
+      leads = h.leads;
+      stands = h.stands;
     }
 
-    pub moves : (calls : List ProjectCall) (done : List (List ℕ)) (old new : State D) → Known done old → old.must_reopen ≡ false → AllMade facts old calls new
-        → LeavesOnly facts old.disk new.disk (Holds (done ++ accepted calls) (length done))
+    known_then : (done begun told : List (List ℕ)) (old mid : State D) → Known done old → Goes facts old mid begun told
+        → Leads old.cap (project_of old.maps) begun (project_of mid.maps) → Known (done ++ begun) mid
+    known_then done begun told old mid known go leads = record {
+      cap_is = go.cap_is ∙ known.cap_is;
+      leads = leads_append limit base done begun (project_of old.maps) (project_of mid.maps) known.leads
+          (subst (λ (k : ℕ). Leads k (project_of old.maps) begun (project_of mid.maps)) known.cap_is leads);
+      kept = go.kept;
+    }
+
+    first_moments : (done : List (List ℕ)) (call : ProjectCall) (calls : List ProjectCall) (old mid : State D) → Known done old
+        → Goes facts old mid (accepted_by call) (acknowledged_by call) → LeavesOnly facts old.disk mid.disk (Holds done (call ∷ calls) [])
+    first_moments done call calls old mid known go =
+        weaker facts old.disk mid.disk (IsOutcomeOf old.cap (project_of old.maps) (accepted_by call)) (Holds done (call ∷ calls) []) go.moments (within done call calls old known)
+
+    moves : (calls : List ProjectCall) (done : List (List ℕ)) (old new : State D) → Known done old → old.must_reopen ≡ false → AllMade facts old calls new
+        → LeavesOnly facts old.disk new.disk (Holds done calls [])
     moves [] done old new known ready same =
-        subst (λ (s : State D). LeavesOnly facts old.disk s.disk (Holds (done ++ []) (length done))) (sym same)
-        (started facts old.disk (Holds (done ++ []) (length done)) (λ file left. here done [] (done ++ []) old known refl file (old.generation, known.kept ready file (only_now old.disk file left))))
-    moves ((None, answer) ∷ calls) done old new known ready (mid, made, more) =
-        go_on old mid new calls (Holds (done ++ accepted calls) (length done)) more
-        (weaker facts old.disk mid.disk (StandsFor old.cap (project_of old.maps))
-        (Holds (done ++ accepted calls) (length done)) (made.any_moment ready)
-        (here done (accepted calls) (done ++ accepted calls) old known refl))
-        (λ still. moves calls done mid new (same_map done old mid known made.same_cap (ap project_of made.maps) made.kept) still more)
-    moves ((Some line, Ok n) ∷ calls) done old new known ready (mid, made, more) =
-        let all = done ++ line ∷ accepted calls in
-        let then_known : Known (done ++ line ∷ []) mid = record {
-          cap_is = made.same_cap ∙ known.cap_is;
-          leads = led done line old (project_of mid.maps) known (n, made.ends.2);
-          kept = made.kept;
-        } in
-        go_on old mid new calls (Holds all (length done)) more
-        (weaker facts old.disk mid.disk (IsOutcome old.cap (project_of old.maps) line) (Holds all (length done)) (made.any_moment ready) (outcome done line (accepted calls) all old known refl))
-        (λ still. weaker facts mid.disk new.disk (Holds ((done ++ line ∷ []) ++ accepted calls) (length (done ++ line ∷ []))) (Holds all (length done))
-        (moves calls (done ++ line ∷ []) mid new then_known still more)
-        (λ file h. record {
-          lines = h.lines;
-          rest = h.rest;
-          prefix = sym (append_assoc done (line ∷ []) (accepted calls)) ∙ h.prefix;
-          holds = omega (arith, h.holds, length-append done (line ∷ []));
-          map = h.map;
-          leads = h.leads;
-          stands = h.stands;
-        }))
-    moves ((Some line, Err e) ∷ calls) done old new known ready (mid, made, more) = at (λ stays still. moves calls done mid new stays still more) (begins (Err e)) refl
-      where
-        stays : Known done mid
-        stays = same_map done old mid known made.same_cap made.ends.0 made.kept
+        subst (λ (s : State D). LeavesOnly facts old.disk s.disk (Holds done [] [])) (sym same)
+        (started facts old.disk (Holds done [] []) (λ file left. here done [] old known file (old.generation, known.kept ready file (only_now old.disk file left))))
+    moves (call ∷ calls) done old new known ready (mid, made, more) =
+        let go = goes facts old mid ready call made in
+        let first = first_moments done call calls old mid known go in
+        ⊎_elim
+        (λ well. and_then facts old.disk mid.disk new.disk (Holds done (call ∷ calls) []) first
+        (weaker facts mid.disk new.disk (Holds (done ++ accepted_by call) calls []) (Holds done (call ∷ calls) [])
+        (moves calls (done ++ accepted_by call) mid new (known_then done (accepted_by call) (acknowledged_by call) old mid known go well.2) well.0 more)
+        (λ file h. at_all done (call ∷ calls) (acknowledged_by call ++ []) file (behind done call calls [] file well.1 h))))
+        (λ bad. subst (λ (s : State D). LeavesOnly facts old.disk s.disk (Holds done (call ∷ calls) [])) (sym (stuck calls mid new bad.0 more).0) first)
+        go.ends
 
-        the_lines : Bool → List (List ℕ)
-        the_lines t = cond t (line ∷ accepted calls) (accepted calls)
+    -- after some calls: all that they accepted is acknowledged, and leads to the map; or the project must be opened again
+    abbrev AfterOf : List (List ℕ) → List ProjectCall → State D → Type 0
+    AfterOf done calls new = ((new.must_reopen ≡ false) × (acknowledged calls ≡ accepted calls) × Known (done ++ accepted calls) new)
+        ⊎ ((new.must_reopen ≡ true) × Each (facts.may_leave new.disk) (Holds done calls (acknowledged calls)))
 
-        at : (Known done mid → mid.must_reopen ≡ false → LeavesOnly facts mid.disk new.disk (Holds (done ++ accepted calls) (length done))) → (t : Bool) → begins (Err e) ≡ t
-            → LeavesOnly facts old.disk new.disk (Holds (done ++ the_lines t) (length done))
-        at behind true is = go_on old mid new calls (Holds (done ++ line ∷ accepted calls) (length done)) more
-            (weaker facts old.disk mid.disk (IsOutcome old.cap (project_of old.maps) line) (Holds (done ++ line ∷ accepted calls) (length done)) (made.any_moment ready)
-            (outcome done line (accepted calls) (done ++ line ∷ accepted calls) old known refl))
-            (λ still. absurd (true≢false (sym (faulted facts old mid line e is made.ends.1) ∙ still)))
-        at behind false is = go_on old mid new calls (Holds (done ++ accepted calls) (length done)) more
-            (⊎_elim (λ device. absurd (true≢false (sym (ap (λ (x : ProjectError). begins (Err x)) device) ∙ is)))
-            (λ quiet. weaker facts old.disk mid.disk (StandsFor old.cap (project_of old.maps))
-            (Holds (done ++ accepted calls) (length done)) quiet
-            (here done (accepted calls) (done ++ accepted calls) old known refl))
-            (made.refused_moment ready))
-            (λ still. behind stays still)
-
-    -- after some calls: the acknowledged lines lead to the map; or the project must be opened again
-    abbrev AfterOf : List (List ℕ) → List (List ℕ) → List (List ℕ) → State D → Type 0
-    AfterOf done acc ack new = ((new.must_reopen ≡ false) × Known (done ++ ack) new × (acc ≡ ack))
-        ⊎ ((new.must_reopen ≡ true) × Each (facts.may_leave new.disk) (Holds (done ++ acc) (length (done ++ ack))))
-
-    broken : (done all : List (List ℕ)) (calls : List ProjectCall) (old mid new : State D) → mid.must_reopen ≡ true → AllMade facts mid calls new
-        → LeavesOnly facts old.disk mid.disk (Holds all (length done)) → (new.must_reopen ≡ true) × Each (facts.may_leave new.disk) (Holds all (length (done ++ acknowledged calls)))
-    broken done all calls old mid new reopen more first =
-        let same : new ≡ mid = stuck calls mid new reopen more in
-        let none : length (acknowledged calls) ≡ 0 = ap length (unacknowledged calls mid new reopen more) in (
-          ap (λ (s : State D). s.must_reopen) same ∙ reopen,
-          λ file left.
-              let h = first.each file (counts_now mid.disk (facts.moment old.disk) file first.later (subst (λ (s : State D). facts.may_leave s.disk file) same left)) in
-              record {
-                lines = h.lines;
-                rest = h.rest;
-                prefix = h.prefix;
-                holds = omega (arith, h.holds, length-append done (acknowledged calls), none);
-                map = h.map;
-                leads = h.leads;
-                stands = h.stands;
-              },
-        )
-
-    pub fronts : (calls : List ProjectCall) (done : List (List ℕ)) (old new : State D) → Known done old → old.must_reopen ≡ false → AllMade facts old calls new
-        → AfterOf done (accepted calls) (acknowledged calls) new
+    fronts : (calls : List ProjectCall) (done : List (List ℕ)) (old new : State D) → Known done old → old.must_reopen ≡ false → AllMade facts old calls new → AfterOf done calls new
     fronts [] done old new known ready same =
         inl (
           ap (λ (s : State D). s.must_reopen) same ∙ ready,
-          subst (λ (s : State D). Known (done ++ []) s) (sym same)
-              (subst (λ (l : List (List ℕ)). Known l old) (sym (append-nil done)) known),
           refl,
+          subst (λ (s : State D). Known (done ++ []) s) (sym same) (subst (λ (l : List (List ℕ)). Known l old) (sym (append-nil done)) known),
         )
-    fronts ((None, answer) ∷ calls) done old new known ready (mid, made, more) = elim (cases_Bool mid.must_reopen) [
-      | inl reopen ↦ inr (broken done (done ++ accepted calls) calls old mid new reopen more
-          (weaker facts old.disk mid.disk (StandsFor old.cap (project_of old.maps))
-          (Holds (done ++ accepted calls) (length done)) (made.any_moment ready)
-          (here done (accepted calls) (done ++ accepted calls) old known refl)))
-      | inr still ↦ fronts calls done mid new (same_map done old mid known made.same_cap (ap project_of made.maps) made.kept) still more
-    ]
-    fronts ((Some line, Ok n) ∷ calls) done old new known ready (mid, made, more) =
-        let then_known : Known (done ++ line ∷ []) mid = record {
-          cap_is = made.same_cap ∙ known.cap_is;
-          leads = led done line old (project_of mid.maps) known (n, made.ends.2);
-          kept = made.kept;
-        } in
+    fronts (call ∷ calls) done old new known ready (mid, made, more) =
+        let go = goes facts old mid ready call made in
         ⊎_elim
-        (λ well. inl (well.0, subst (λ (l : List (List ℕ)). Known l new) (append_assoc done (line ∷ []) (acknowledged calls)) well.1, ap (λ (l : List (List ℕ)). line ∷ l) well.2))
-        (λ bad. inr (
-          bad.0,
-          λ file left.
-              subst (λ (l : List (List ℕ)). Holds l (length (done ++ line ∷ acknowledged calls)) file) (append_assoc done (line ∷ []) (accepted calls))
-              (subst (λ (l : List (List ℕ)). Holds ((done ++ line ∷ []) ++ accepted calls) (length l) file) (append_assoc done (line ∷ []) (acknowledged calls)) (bad.1 file left)),
+        (λ well. ⊎_elim
+        (λ on. inl (
+          on.0,
+          ap (λ (l : List (List ℕ)). l ++ acknowledged calls) well.1 ∙ ap (λ (l : List (List ℕ)). accepted_by call ++ l) on.1,
+          subst (λ (l : List (List ℕ)). Known l new) (append_assoc done (accepted_by call) (accepted calls)) on.2,
         ))
-        (fronts calls (done ++ line ∷ []) mid new then_known made.ends.1 more)
-    fronts ((Some line, Err e) ∷ calls) done old new known ready (mid, made, more) = at (λ stays still. fronts calls done mid new stays still more) (begins (Err e)) refl
-      where
-        stays : Known done mid
-        stays = same_map done old mid known made.same_cap made.ends.0 made.kept
-
-        the_lines : Bool → List (List ℕ)
-        the_lines t = cond t (line ∷ accepted calls) (accepted calls)
-
-        at : (Known done mid → mid.must_reopen ≡ false → AfterOf done (accepted calls) (acknowledged calls) new) → (t : Bool) → begins (Err e) ≡ t → AfterOf done (the_lines t) (acknowledged calls) new
-        at behind true is = inr (broken done (done ++ line ∷ accepted calls) calls old mid new (faulted facts old mid line e is made.ends.1) more
-            (weaker facts old.disk mid.disk (IsOutcome old.cap (project_of old.maps) line) (Holds (done ++ line ∷ accepted calls) (length done)) (made.any_moment ready)
-            (outcome done line (accepted calls) (done ++ line ∷ accepted calls) old known refl)))
-        at behind false is = elim (cases_Bool mid.must_reopen) [
-          | inl reopen ↦ inr (broken done (done ++ accepted calls) calls old mid new reopen more
-              (⊎_elim (λ device. absurd (true≢false (sym (ap (λ (x : ProjectError). begins (Err x)) device) ∙ is)))
-              (λ quiet. weaker facts old.disk mid.disk (StandsFor old.cap (project_of old.maps))
-              (Holds (done ++ accepted calls) (length done)) quiet
-              (here done (accepted calls) (done ++ accepted calls) old known refl))
-              (made.refused_moment ready)))
-          | inr still ↦ behind stays still
-        ]
+        (λ bad. inr (bad.0, λ file left. behind done call calls (acknowledged calls) file well.1 (bad.1 file left)))
+        (fronts calls (done ++ accepted_by call) mid new (known_then done (accepted_by call) (acknowledged_by call) old mid known go well.2) well.0 more))
+        (λ bad.
+        let first = first_moments done call calls old mid known go in
+        let end = stuck calls mid new bad.0 more in
+        inr (
+          ap (λ (s : State D). s.must_reopen) end.0 ∙ bad.0,
+          λ file left.
+              subst (λ (l : List (List ℕ)). Holds done (call ∷ calls) l file) (sym (ap (λ (l : List (List ℕ)). l ++ acknowledged calls) bad.1 ∙ end.1))
+              (first.each file (counts_now mid.disk (facts.moment old.disk) file first.later (subst (λ (s : State D). facts.may_leave s.disk file) end.0 left))),
+        ))
+        go.ends
 
   -- ---- a session
 
@@ -305,34 +315,34 @@ module _ {D : Type 0} (facts : Ghosts D)
   abbrev StandsAfter : ℕ → ProjectMaps → Session → List ℕ → Type 0
   StandsAfter cap base s file = (map : ProjectMaps) × KeepsAcknowledged cap base s map × StandsFor cap map file
 
-  session_moments : (cap : ℕ) (s : Session) (first mid last : State D) → first.cap ≡ cap → first.must_reopen ≡ false → IsProjectKept facts first
+  pub session_moments : (cap : ℕ) (s : Session) (first mid last : State D) → first.cap ≡ cap → first.must_reopen ≡ false → IsProjectKept facts first
       → AllMade facts first s.front mid → AllMade facts mid s.back last
       → LeavesOnly facts mid.disk last.disk (StandsAfter cap (project_of first.maps) s)
   session_moments cap s first mid last cap_is ready kept front back =
       ⊎_elim
-      (λ well. weaker facts mid.disk last.disk (Holds cap (project_of first.maps) (acknowledged s.front ++ accepted s.back) (length (acknowledged s.front))) (StandsAfter cap (project_of first.maps) s)
-      (moves cap (project_of first.maps) s.back (acknowledged s.front) mid last well.1 well.0 back)
-      (λ file h. (
+      (λ well. weaker facts mid.disk last.disk (Holds cap (project_of first.maps) (accepted s.front) s.back []) (StandsAfter cap (project_of first.maps) s)
+      (moves cap (project_of first.maps) s.back (accepted s.front) mid last well.2 well.0 back)
+      (λ file h.
+      let both : accepted (s.front ++ h.front) ≡ accepted s.front ++ accepted h.front = flat_map-append accepted_by s.front h.front in (
         h.map,
         record {
-          lines = h.lines;
-          rest = h.rest;
-          prefix = accepted_append s.front s.back ∙ ap (λ (l : List (List ℕ)). l ++ accepted s.back) well.2 ∙ h.prefix;
-          holds = begins_with h.lines h.rest (acknowledged s.front) (accepted s.back) (sym h.prefix) h.holds;
-          leads = h.leads;
+          calls = s.front ++ h.front;
+          rest = h.back;
+          prefix = ap (λ (cs : List ProjectCall). s.front ++ cs) h.prefix ∙ sym (append_assoc s.front h.front h.back);
+          holds = (accepted h.front, both ∙ ap (λ (l : List (List ℕ)). l ++ accepted h.front) (sym well.1));
+          leads = subst (λ (l : List (List ℕ)). Leads cap (project_of first.maps) l h.map) (sym both) h.leads;
         },
         h.stands,
       )))
-      (λ bad. subst (λ (t : State D). LeavesOnly facts mid.disk t.disk (StandsAfter cap (project_of first.maps) s)) (sym (stuck s.back mid last bad.0 back))
+      (λ bad. subst (λ (t : State D). LeavesOnly facts mid.disk t.disk (StandsAfter cap (project_of first.maps) s)) (sym (stuck s.back mid last bad.0 back).0)
       (started facts mid.disk (StandsAfter cap (project_of first.maps) s) (λ file left.
-      let h = bad.1 file (only_now mid.disk file left) in
-      let first_ones = acknowledged_first s.front first mid front in (
+      let h = bad.1 file (only_now mid.disk file left) in (
         h.map,
         record {
-          lines = h.lines;
-          rest = h.rest ++ accepted s.back;
-          prefix = accepted_append s.front s.back ∙ ap (λ (l : List (List ℕ)). l ++ accepted s.back) h.prefix ∙ append_assoc h.lines h.rest (accepted s.back);
-          holds = begins_with h.lines h.rest (acknowledged s.front) first_ones.0 (sym h.prefix ∙ first_ones.1) h.holds;
+          calls = h.front;
+          rest = h.back ++ s.back;
+          prefix = ap (λ (cs : List ProjectCall). cs ++ s.back) h.prefix ∙ append_assoc h.front h.back s.back;
+          holds = (h.more, h.holds);
           leads = h.leads;
         },
         h.stands,

@@ -13,8 +13,8 @@ pub mod Openings
 pub mod Spent
 pub mod Wanting
 pub mod OneMap
-pub mod Fronts
 pub mod Holding
 pub mod Reopening
 pub mod Excluding
 pub mod LineFaults
+pub mod Grouping

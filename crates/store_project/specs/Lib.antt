@@ -6,6 +6,7 @@ pub mod Outcomes
 pub mod Refusals
 pub mod Turns
 pub mod Fields
+pub mod Groups
 pub mod Calls
 pub mod Sessions
 pub mod Opening

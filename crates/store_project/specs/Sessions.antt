@@ -17,15 +17,16 @@ pub record Session : Type 0 where
   pub front : List ProjectCall
   pub back : List ProjectCall
 
--- A prefix of the session's accepted commands leads from the one map to the other, and begins with
--- the commands that were acknowledged up to the moment.
+-- The commands that the session's first calls accepted lead from the one map to the other, and begin
+-- with the commands that were acknowledged up to the moment. So all lines of a group are kept, or
+-- none.
 pub record KeepsAcknowledged (cap : ℕ) (base : ProjectMaps) (s : Session) (map : ProjectMaps) :
     Type 0 where
-  pub lines : List (List ℕ)
-  pub rest : List (List ℕ)
-  pub prefix : accepted (s.front ++ s.back) ≡ lines ++ rest
-  pub holds : (more : List (List ℕ)) × (lines ≡ acknowledged s.front ++ more)
-  pub leads : Leads cap base lines map
+  pub calls : List ProjectCall
+  pub rest : List ProjectCall
+  pub prefix : s.front ++ s.back ≡ calls ++ rest
+  pub holds : (more : List (List ℕ)) × (accepted calls ≡ acknowledged s.front ++ more)
+  pub leads : Leads cap base (accepted calls) map
 
 -- the same of sessions in turn, each from the map that the one before led to
 abbrev pub KeepEach : ℕ → ProjectMaps → List Session → ProjectMaps → Type 0

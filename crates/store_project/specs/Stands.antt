@@ -53,3 +53,7 @@ StandsFor cap map file = (generation : ℕ) × Stands cap map generation file
 abbrev pub IsOutcome : ℕ → ProjectMaps → List ℕ → List ℕ → Type 0
 IsOutcome cap map line file = StandsFor cap map file
     ⊎ ((new : ProjectMaps) × LeadsTo cap map line new × StandsFor cap new file)
+
+-- the file stands for the one map or for the other
+abbrev pub StandsForEither : ℕ → ProjectMaps → ProjectMaps → List ℕ → Type 0
+StandsForEither cap one other file = StandsFor cap one file ⊎ StandsFor cap other file

@@ -1,4 +1,6 @@
 //! A project on a disk: each accepted command is there before it is acknowledged.
+mod group;
+
 ghost use Rattle.std.specs.Prelude.{◌≡◌, ◌≤◌, ◌<◌, ◌⊎◌, ◌↔◌, ◌+◌, ◌-◌, ◌^◌, [], length, false, true, Ok, IfOk, IfErr, IsErrOf, IfSome, MatchResult, OnOk};
 ghost use Rattle.store_disk.specs.Moments.{LeavesOnly};
 ghost use Rattle.store_disk.specs.Stops.{Each};
@@ -15,6 +17,7 @@ use crate::geometry::Geometry;
 use crate::opening::write_new;
 use crate::places::Places;
 use crate::reading::{Refused, read_through};
+pub use group::ProjectGroup;
 use map_commands::{Ready, commit, parse, ready};
 use map_tables::{Map, Maps};
 use std::alloc::Global;

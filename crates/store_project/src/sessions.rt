@@ -4,7 +4,8 @@ ghost use Rattle.std.specs.Prelude.{◌≡◌, ◌⊎◌, ◌++◌, ◌∷◌, [
 ghost use Rattle.store_disk.specs.Moments.{LeavesOnly};
 ghost use Rattle.store_disk.specs.Stops.{Each};
 ghost use Rattle.map_tables.specs.Projects.{empty_project, project_of};
-ghost use Rattle.store_project.specs.Calls.{Applies, Checkpoints};
+ghost use Rattle.store_project.specs.Calls.{Applies, Checkpoints, PutsGroup};
+ghost use Rattle.store_project.specs.Groups.{CanPut, IsGroupFor, Staged};
 ghost use Rattle.store_project.specs.Opening.{RefusesCreate};
 ghost use Rattle.store_project.specs.Places.{cap_of, IsAllowed};
 ghost use Rattle.store_project.specs.Sessions.{Creates, HoldsEach, IsLeftBy, KeepEach, Opens, PassInTurn, RefusesOpen, Session};
@@ -12,13 +13,13 @@ ghost use Rattle.store_project.specs.Stands.{TellsLengths};
 ghost use Rattle.store_project.specs.States.{State};
 ghost use Rattle.store_project.specs.declared.error.ProjectError.{ProjectError};
 
-use crate::{Geometry, Project, ProjectError, Refused};
+use crate::{Geometry, Project, ProjectError, ProjectGroup, Refused};
 use std::alloc::Global;
 use store_disk::Disk;
 
 /// After any list of commands, over any number of sessions, stopped before or within any disk write: each image
 /// stands for the map of a prefix of the accepted commands that holds every acknowledged one, and that is what `open`
-/// gives. The function has no body: its contract is the law.
+/// gives. The prefix has all lines of a group or none. The function has no body: its contract is the law.
 pub fn hold_each_acknowledged<D: Disk>()
     ensures any_moment { (cap : ℕ) (before : List Session) (s : Session) (mid : State D)
         (last : State D)
@@ -68,6 +69,15 @@ pub fn checkpoints<D: Disk>(project: &mut Project<D>) -> Result<u64, ProjectErro
     ensures { Checkpoints D.Disk project.old result project.new }
 {
     project.checkpoint()
+}
+
+/// `Project::put` of a group of some lines, likewise.
+pub fn puts<D: Disk>(project: &mut Project<D>, group: ProjectGroup) -> Result<(), ProjectError>
+    requires { IsGroupFor project.old group }
+    ensures { (staged : List Staged) → CanPut project.old group staged
+        → PutsGroup D.Disk project.old staged result project.new }
+{
+    project.put(group)
 }
 
 /// `Project::create`, with whose project the first session begins. Its refusals are the same.

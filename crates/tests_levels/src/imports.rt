@@ -56,7 +56,7 @@ const FLAT_LINES: &[u8] = &[
 
 // The report on that level and its map: lines 1 and 3 are left out, so no line uses vertices 3 and 4.
 const FLAT_TOLD: &str =
-    "3 vertices, 1 things; vertices 2: left out behind the last that a line uses; \
+    "3 vertices, 1 things; vertices left out behind the last that a line uses: 2; \
     line 1: left out, since it has no length; line 2: without flag 4, since it has no left side; \
     line 3: left out, since it has no length; line 0 1; line 1 2";
 
@@ -116,7 +116,7 @@ const IMPORTED: &[(&[u8], &[u8], &[u8], &[u8], &[u8], &str)] = &[
         SIDES,
         VERTICES_MORE,
         SECTORS,
-        "2 vertices, 1 things; vertices 1: left out behind the last that a line uses",
+        "2 vertices, 1 things; vertices left out behind the last that a line uses: 1",
     ),
     (
         THINGS,

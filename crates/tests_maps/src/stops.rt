@@ -215,3 +215,168 @@ fn a_sector_rises_beside_twenty_two_lines(rt: HostRuntime) -> Result<(), Fail> {
     }
     Ok(())
 }
+
+// A line that ends the level.
+const EXIT: &[u8] = b"set-line 0 0 1 1 11 0 0 -";
+
+// A hall with a start and an end.
+const BEGUN: [&[u8]; 3] = [HALL, START, EXIT];
+
+// A further thing in the hall, and the warnings: players, 16 wide to each side, at walls and in a corner; an imp, 20
+// wide; a spider mastermind, 128 wide; a lamp and a barrel, which don't move; an imp in no game.
+#[rattlefmt::skip]
+const AT_WALLS: &[(&[u8], &str)] = &[
+    (b"thing 16 256 90 2 7", ""),
+    (b"thing 15 256 90 2 7", "thing-stuck 1 at (15,256)\n"),
+    (b"thing 496 496 90 2 7", ""),
+    (b"thing 496 497 90 2 7", "thing-stuck 1 at (496,497)\n"),
+    (b"thing 256 500 90 11 7", "few-deathmatch-starts 1\nthing-stuck 1 at (256,500)\n"),
+    (b"thing 492 256 90 3001 7", ""),
+    (b"thing 493 256 90 3001 7", "thing-stuck 1 at (493,256)\n"),
+    (b"thing 384 256 90 7 7", ""),
+    (b"thing 385 256 90 7 7", "thing-stuck 1 at (385,256)\n"),
+    (b"thing 510 256 90 2028 7", ""),
+    (b"thing 256 510 90 2035 7", ""),
+    (b"thing 500 256 90 3001 0", ""),
+];
+
+// A further thing in the hall, and the warnings: an imp beside the start and across a corner from it; a lamp and a
+// barrel, 16 and 10 wide, which aren't told; what hangs there, not solid and solid; another player; a thing that
+// stands only where several play, and one of a single skill; a start of deathmatches.
+#[rattlefmt::skip]
+const AT_THE_START: &[(&[u8], &str)] = &[
+    (b"thing 100 64 90 3001 7", ""),
+    (b"thing 99 64 90 3001 7", "thing-stuck 0 at (64,64)\nthing-stuck 1 at (99,64)\n"),
+    (b"thing 99 100 90 3001 7", ""),
+    (b"thing 99 99 90 3001 7", "thing-stuck 0 at (64,64)\nthing-stuck 1 at (99,99)\n"),
+    (b"thing 96 64 90 2028 7", ""),
+    (b"thing 95 64 90 2028 7", "thing-stuck 0 at (64,64)\n"),
+    (b"thing 64 90 90 2035 7", ""),
+    (b"thing 64 89 90 2035 7", "thing-stuck 0 at (64,64)\n"),
+    (b"thing 64 64 90 60 7", ""),
+    (b"thing 64 64 90 50 7", "thing-stuck 0 at (64,64)\n"),
+    (b"thing 96 64 90 2 7", ""),
+    (b"thing 95 64 90 2 7", "thing-stuck 0 at (64,64)\nthing-stuck 1 at (95,64)\n"),
+    (b"thing 80 64 90 3001 23", "thing-stuck 0 at (64,64)\nthing-stuck 1 at (80,64)\n"),
+    (b"thing 80 64 90 3001 4", "thing-stuck 0 at (64,64)\nthing-stuck 1 at (80,64)\n"),
+    (b"thing 64 64 90 11 7", "few-deathmatch-starts 1\n"),
+];
+
+// Two further things in the hall, and the warnings: an imp beside the widest thing, to the east and to the north; an
+// imp and a demon at one place, with no skill in common, and with one; an imp at a start, which stands in each skill;
+// one at a start of deathmatches.
+#[rattlefmt::skip]
+const IN_PAIRS: &[(&[u8], &[u8], &str)] = &[
+    (b"thing 256 256 90 7 7", b"thing 404 256 90 3001 7", ""),
+    (b"thing 256 256 90 7 7", b"thing 403 256 90 3001 7",
+        "thing-stuck 1 at (256,256)\nthing-stuck 2 at (403,256)\n"),
+    (b"thing 256 256 90 7 7", b"thing 256 404 90 3001 7", ""),
+    (b"thing 256 256 90 7 7", b"thing 256 403 90 3001 7",
+        "thing-stuck 1 at (256,256)\nthing-stuck 2 at (256,403)\n"),
+    (b"thing 256 256 90 3001 1", b"thing 256 256 90 3002 6", ""),
+    (b"thing 256 256 90 3001 3", b"thing 256 256 90 3002 6",
+        "thing-stuck 1 at (256,256)\nthing-stuck 2 at (256,256)\n"),
+    (b"thing 256 256 90 2 0", b"thing 256 256 90 3001 4",
+        "thing-stuck 1 at (256,256)\nthing-stuck 2 at (256,256)\n"),
+    (b"thing 256 256 90 11 7", b"thing 256 256 90 3001 7",
+        "few-deathmatch-starts 1\nthing-stuck 1 at (256,256)\nthing-stuck 2 at (256,256)\n"),
+];
+
+// The ends of an upright line and of a sloped one.
+const ENDS_OF_LINES: [&[u8]; 4] = [
+    b"vertex 256 100",
+    b"vertex 256 400",
+    b"vertex 100 200",
+    b"vertex 200 300",
+];
+
+// A line with the hall on both sides, a further thing, and the warnings: the line has no flag of a wall, is
+// impassable, or blocks monsters; the thing stands on it, beside it, or at its end.
+#[rattlefmt::skip]
+const AT_LINES: &[(&[u8], &[u8], &str)] = &[
+    (b"line 4 5 4 0 0 0 0", b"thing 256 256 90 3001 7", ""),
+    (b"line 4 5 5 0 0 0 0", b"thing 271 256 90 2 7", "thing-stuck 1 at (271,256)\n"),
+    (b"line 4 5 5 0 0 0 0", b"thing 272 256 90 2 7", ""),
+    (b"line 4 5 6 0 0 0 0", b"thing 256 256 90 2 7", ""),
+    (b"line 4 5 6 0 0 0 0", b"thing 256 256 90 3001 7", "thing-stuck 1 at (256,256)\n"),
+    (b"line 4 5 5 0 0 0 0", b"thing 256 416 90 2 7", ""),
+    (b"line 4 5 5 0 0 0 0", b"thing 256 415 90 2 7", "thing-stuck 1 at (256,415)\n"),
+    (b"line 6 7 5 0 0 0 0", b"thing 182 250 90 2 7", ""),
+    (b"line 6 7 5 0 0 0 0", b"thing 181 250 90 2 7", "thing-stuck 1 at (181,250)\n"),
+    (b"line 6 7 5 0 0 0 0", b"thing 150 282 90 2 7", ""),
+    (b"line 6 7 5 0 0 0 0", b"thing 150 281 90 2 7", "thing-stuck 1 at (150,281)\n"),
+    (b"line 6 7 5 0 0 0 0", b"thing 216 316 90 2 7", ""),
+    (b"line 6 7 5 0 0 0 0", b"thing 215 315 90 2 7", "thing-stuck 1 at (215,315)\n"),
+];
+
+// A start in a corner, and an end.
+const IN_A_CORNER: [&[u8]; 2] = [b"thing 20 20 90 1 7", EXIT];
+
+// The sectors of two rooms, a thing, and the warnings: a player is 56 high, a cyberdemon 110.
+#[rattlefmt::skip]
+const AT_OPENINGS: &[(&[u8], &[u8], &[u8], &str)] = &[
+    (b"set-sector 0 0 128 FLOOR4_8 CEIL3_5 160 0 0", b"set-sector 1 72 128 FLOOR4_8 CEIL3_5 160 0 0",
+        b"thing 113 64 90 2 7", ""),
+    (b"set-sector 0 0 128 FLOOR4_8 CEIL3_5 160 0 0", b"set-sector 1 73 128 FLOOR4_8 CEIL3_5 160 0 0",
+        b"thing 113 64 90 2 7", "thing-stuck 1 at (113,64)\n"),
+    (b"set-sector 0 0 128 FLOOR4_8 CEIL3_5 160 0 0", b"set-sector 1 73 128 FLOOR4_8 CEIL3_5 160 0 0",
+        b"thing 112 64 90 2 7", ""),
+    (b"set-sector 0 40 128 FLOOR4_8 CEIL3_5 160 0 0", b"set-sector 1 0 96 FLOOR4_8 CEIL3_5 160 0 0",
+        b"thing 120 64 90 2 7", ""),
+    (b"set-sector 0 40 128 FLOOR4_8 CEIL3_5 160 0 0", b"set-sector 1 0 95 FLOOR4_8 CEIL3_5 160 0 0",
+        b"thing 120 64 90 2 7", "thing-stuck 1 at (120,64)\n"),
+    (b"set-sector 0 0 128 FLOOR4_8 CEIL3_5 160 0 0", b"set-sector 1 0 110 FLOOR4_8 CEIL3_5 160 0 0",
+        b"thing 100 64 90 16 7", ""),
+    (b"set-sector 0 0 128 FLOOR4_8 CEIL3_5 160 0 0", b"set-sector 1 0 109 FLOOR4_8 CEIL3_5 160 0 0",
+        b"thing 100 64 90 16 7", "thing-stuck 1 at (100,64)\n"),
+];
+
+#[test]
+fn walls_hold_things(rt: HostRuntime) -> Result<(), Fail> {
+    for &(thing, warnings) in AT_WALLS {
+        let found = report_of(rt.alloc(), &BEGUN, &[thing], &[])?;
+        same(&rt, &found.as_str(), &warnings);
+    }
+    Ok(())
+}
+
+#[test]
+fn things_hold_a_player(rt: HostRuntime) -> Result<(), Fail> {
+    for &(thing, warnings) in AT_THE_START {
+        let found = report_of(rt.alloc(), &BEGUN, &[thing], &[])?;
+        same(&rt, &found.as_str(), &warnings);
+    }
+    Ok(())
+}
+
+#[test]
+fn things_hold_one_another(rt: HostRuntime) -> Result<(), Fail> {
+    for &(first, second, warnings) in IN_PAIRS {
+        let found = report_of(rt.alloc(), &BEGUN, &[first, second], &[])?;
+        same(&rt, &found.as_str(), &warnings);
+    }
+    Ok(())
+}
+
+#[test]
+fn lines_hold_things_by_their_flags(rt: HostRuntime) -> Result<(), Fail> {
+    for &(line, thing, warnings) in AT_LINES {
+        let found = report_of(rt.alloc(), &BEGUN, &ENDS_OF_LINES, &[line, thing])?;
+        same(&rt, &found.as_str(), &warnings);
+    }
+    Ok(())
+}
+
+#[test]
+fn low_openings_hold_things(rt: HostRuntime) -> Result<(), Fail> {
+    for &(first, second, thing, warnings) in AT_OPENINGS {
+        let found = report_of(
+            rt.alloc(),
+            &TWO_ROOMS,
+            &IN_A_CORNER,
+            &[first, second, thing],
+        )?;
+        same(&rt, &found.as_str(), &warnings);
+    }
+    Ok(())
+}

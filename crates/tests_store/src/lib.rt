@@ -18,6 +18,8 @@ mod journal_stops;
 #[cfg(test)]
 mod project;
 #[cfg(test)]
+mod project_groups;
+#[cfg(test)]
 mod project_room;
 #[cfg(test)]
 mod project_stops;

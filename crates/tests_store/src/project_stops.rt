@@ -9,11 +9,11 @@ use std::test::Fail;
 use store_disk::{DeviceFault, Disk, FaultDisk, Fill, MemoryDisk};
 use store_project::{Project, ProjectError};
 
-// A new project on a disk with an injected fault. The first 8 device calls are those of `create`.
-type Failing = Project<FaultDisk<MemoryDisk>>;
+/// A new project on a disk with an injected fault. The first 8 device calls are those of `create`.
+pub type Failing = Project<FaultDisk<MemoryDisk>>;
 
-// A new project whose k-th device call fails, after the first `part` bytes of its write.
-fn failing(alloc: Global, k: u64, part: u32) -> Result<Failing, Fail> {
+/// A new project whose k-th device call fails, after the first `part` bytes of its write.
+pub fn failing(alloc: Global, k: u64, part: u32) -> Result<Failing, Fail> {
     Ok(created(alloc, FaultDisk::new(empty_disk(alloc)?, k, part), SMALL)?)
 }
 
@@ -103,9 +103,9 @@ const LINES: &[Line] = &[
     (&[b"map MAP02"], 4, b"drop-map MAP01", [0, 2], [0, 1]),
 ];
 
-// Opens the project of a disk after a failed call, after stops and without one: it has the counts `new` if what was
-// written is kept, and else `old`.
-fn expect_counts(
+/// Opens the project of a disk after a failed call, after stops and without one: it has the counts `new` if what was
+/// written is kept, and else `old`.
+pub fn expect_counts(
     rt: &impl Abort,
     alloc: Global,
     disk: FaultDisk<MemoryDisk>,

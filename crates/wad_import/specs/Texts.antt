@@ -13,7 +13,7 @@ use Rattle.wad_import.specs.declared.error.ImportError.TheVariants.{Hindered, No
 -- the text of a change: the item, its number in decimal, and what is changed
 abbrev pub change_text : Change → List ℕ
 change_text (VerticesBehind n) =
-    codes "vertices " ++ decimal n ++ codes ": left out behind the last that a line uses"
+    codes "vertices left out behind the last that a line uses: " ++ decimal n
 change_text (VertexAgain n first) =
     codes "vertex " ++ decimal n ++ codes ": is at the place of vertex " ++ decimal first
 change_text (Light n old new) =

@@ -36,7 +36,7 @@ impl fmt::Display for Change {
         match self {
             Change::VerticesBehind(n) => write!(
                 f,
-                "vertices {n}: left out behind the last that a line uses"
+                "vertices left out behind the last that a line uses: {n}"
             ),
             Change::VertexAgain(n, first) => write!(
                 f,

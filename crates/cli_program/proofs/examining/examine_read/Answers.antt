@@ -9,6 +9,6 @@ returns-in-Ok-clause-examined g c =
     let w = g.W.Write.contents c.inspect.new.writer in
     let sound = c.in_ok-sound.sound in
     examined c.in_ok-wad.wad.items c.args.name.now sound c.status_told.result (g.R.Read.remaining c.args.reader.now)
-    (g.R.Read.remaining c.read_whole.new.reader) u w (g.W.Write.contents c.flush.new.self) c.in_ok-wad.ensures.whole c.status_told.ensures.status
+    (g.R.Read.remaining c.read_wad.new.reader) u w (g.W.Write.contents c.flush.new.self) c.in_ok-wad.ensures.whole c.status_told.ensures.status
     (subst (λ (wad : List ℕ). IsInspected wad c.args.name.now sound u w) c.deref.ensures.value c.in_ok-sound.ensures.told)
     c.in-Ok.ensures.bytes

@@ -1,7 +1,7 @@
 use Rattle.std.proofs.Common.{sym, ◌∙◌, arith}
 use Rattle.map_checks.proofs.ItemReads.{is_there}
 use Rattle.map_lint.specs.Tags.{line_tag}
-use Rattle.map_lint.proofs.TagSteps.{marks_more}
+use Rattle.map_play.proofs.TagSteps.{marks_more}
 use Rattle.map_lint.proofs.tags.tags_of_lines.Goals as goal
 
 pub unwrap-line-requires : goal.unwrap-line-requires

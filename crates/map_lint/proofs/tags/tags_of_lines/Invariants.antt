@@ -1,6 +1,6 @@
 use Rattle.std.proofs.Common.{take}
 use Rattle.map_lint.specs.Tags.{line_tag}
-use Rattle.map_lint.specs.Tallies.{MarksTags}
+use Rattle.map_play.specs.Tags.{MarksTags}
 use Rattle.map_lint.proofs.tags.tags_of_lines.Given as goal
 
 abbrev pub invariant-loop-n : goal.invariant-loop-n

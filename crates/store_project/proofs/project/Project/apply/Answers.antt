@@ -9,7 +9,7 @@ use Rattle.store_project.specs.Outcomes.{EndsApply, TurnsWhereFull}
 use Rattle.store_project.specs.Places.{cap_of}
 use Rattle.store_project.specs.Stands.{IsOutcome, Stands, StandsFor}
 use Rattle.store_project.proofs.Sound.{both_moments, is_kept, kept_view, no_moment, no_outcome, room_moments}
-use Rattle.store_project.proofs.Endings.{ends_from, fault_refused, refused_ends, room_refused, turned_then}
+use Rattle.store_project.proofs.Endings.{ends_from, fault_told, line_refused, room_refused, step_told, turned_then}
 use Rattle.store_journal.specs.State.{IsAbove}
 use Rattle.store_project.specs.declared.error.ProjectError.TheVariants.{GenerationsSpent}
 use Rattle.store_project.proofs.Spent.{device_or, err_ok, error_same, not_refused}
@@ -79,8 +79,9 @@ returns-in-Err-ready-clause-ends g c =
     let by = subst (λ (v : _). readiness.RefusesStep c.in-Err-ready.error (step (project_of v.maps) c.in-Ok.command v.cap)) c.self.view_is
     (subst (λ (k : ℕ). readiness.RefusesStep c.in-Err-ready.error (step (project_of c.self.inside.maps) c.in-Ok.command k)) c.cap.ensures c.in-Err-ready.ensures.refused) in (
       c.ready.ensures.project ∙ ap (λ (v : _). (project_of v.maps)) c.self.view_is,
-      refused_ends g.D.Disk c.args.self.now _ c.args.line.now c.in-Ok.command c.in-Err-ready.error c.refusal_of-in-Err-ready.result c.refusal_of-in-Err-ready.ensures by
-          c.in-Ok.ensures.ok.1 c.in-Ok.ensures.ok.0 c.in-Ok.ensures.fault (sym (ap (λ (v : _). v.must_reopen) c.self.view_is) ∙ c.if-self.false) c.if-self.false,
+      line_refused g.D.Disk c.args.self.now _ c.args.line.now (sym (ap (λ (v : _). v.must_reopen) c.self.view_is) ∙ c.if-self.false) c.if-self.false c.refusal_of-in-Err-ready.result
+          (step_told c.args.self.now.cap (project_of c.args.self.now.maps) c.args.line.now c.in-Err-ready.error c.refusal_of-in-Err-ready.result c.refusal_of-in-Err-ready.ensures
+          c.in-Ok.command by c.in-Ok.ensures.ok.1 c.in-Ok.ensures.ok.0 c.in-Ok.ensures.fault),
     )
 
 pub returns-in-Err-clause-spent : goal.returns-in-Err-clause-spent
@@ -153,5 +154,6 @@ pub returns-in-Err-clause-ends : goal.returns-in-Err-clause-ends
 returns-in-Err-clause-ends g c = (
   refl,
   (let still = sym (ap (λ (v : _). v.must_reopen) c.self.view_is) ∙ c.if-self.false in
-      fault_refused g.D.Disk c.args.self.now c.args.self.now c.args.line.now c.in-Err.error c.refusal_of.result c.refusal_of.ensures c.in-Err.ensures.fault still still),
+      line_refused g.D.Disk c.args.self.now c.args.self.now c.args.line.now still still c.refusal_of.result
+      (fault_told c.args.self.now.cap (project_of c.args.self.now.maps) c.args.line.now c.in-Err.error c.refusal_of.result c.refusal_of.ensures c.in-Err.ensures.fault)),
 )

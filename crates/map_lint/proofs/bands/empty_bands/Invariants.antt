@@ -1,5 +1,0 @@
-use Rattle.std.specs.Prelude.{◌≡◌, replicate, []}
-use Rattle.map_lint.proofs.bands.empty_bands.Given as goal
-
-abbrev pub invariant-loop-band : goal.invariant-loop-band
-invariant-loop-band l = l.bands.items ≡ replicate l._band []

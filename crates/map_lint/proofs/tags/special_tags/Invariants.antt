@@ -1,7 +1,0 @@
-use Rattle.std.proofs.Common.{take}
-use Rattle.map_lint.specs.Specials.{special_tag}
-use Rattle.map_lint.specs.Tallies.{MarksTags}
-use Rattle.map_lint.proofs.tags.special_tags.Given as goal
-
-abbrev pub invariant-loop-n : goal.invariant-loop-n
-invariant-loop-n l = MarksTags (special_tag l.runs) (take l.n l.map.tables.lines) l.tags.items

@@ -1,0 +1,3 @@
+pub mod ItemSteps
+pub mod TagSteps
+pub mod BlockSteps

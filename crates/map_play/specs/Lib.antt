@@ -1,0 +1,17 @@
+pub mod Tags
+pub mod Specials
+pub mod Sided
+pub mod Doors
+pub mod Donuts
+pub mod Scrolls
+pub mod Teleports
+pub mod Exits
+pub mod Locks
+pub mod Neighbours
+pub mod Bodies
+pub mod Games
+pub mod Walls
+pub mod Crowds
+pub mod Points
+pub mod Stuck
+pub mod Game

@@ -1,0 +1,154 @@
+//! Groups of commands: each is decided at once, and all of them go to the disk by one call.
+ghost use Rattle.std.specs.Prelude.{◌≡◌, ◌⊎◌, ◌↔◌, ◌+◌, [], false, true, IfOk, IfErr, IsErrOf};
+ghost use Rattle.store_disk.specs.Moments.{LeavesOnly};
+ghost use Rattle.store_journal.specs.State.{IsAbove};
+ghost use Rattle.map_tables.specs.Projects.{project_of};
+
+use crate::ProjectError;
+use crate::error::refusal_of;
+use crate::project::Project;
+use map_commands::{commit, parse, ready};
+use map_tables::Maps;
+use std::alloc::{AllocError, Global};
+use std::marker::Model;
+use store_disk::Disk;
+use store_journal::{Group, JournalError};
+
+/// Command lines that were accepted over the maps of a project, and the maps after them. Neither the project nor its
+/// disk has them yet.
+#[derive(Drop)]
+pub struct ProjectGroup {
+    maps: Maps,
+    lines: Group,
+}
+
+impl Model for ProjectGroup {
+    ghost use Rattle.store_project.specs.Groups.{GroupState};
+
+    ghost Value = { GroupState };
+
+    ghost view = { λ group. record { maps = group.maps; bytes = group.lines } };
+}
+
+impl ProjectGroup {
+    /// The maps after the group's lines.
+    pub fn maps(&self) -> &Maps
+        ensures { result.now ≡ self.now.maps }
+    {
+        &self.maps
+    }
+}
+
+// The same maps once more, by way of their body.
+fn copy_of(alloc: Global, maps: &Maps) -> Result<Maps, AllocError>
+    ensures { IfOk result (λ copy. project_of copy ≡ project_of maps.now) }
+{
+    let Ok(body) = maps.encode_body(alloc) else {
+        return Err(AllocError);
+    };
+    match Maps::decode_body(alloc, &body) {
+        Ok(copy) => Ok(copy),
+        Err(_) => Err(AllocError),
+    }
+}
+
+impl<D: Disk> Project<D> {
+    ghost use Rattle.std.specs.Prelude.{List};
+    ghost use Rattle.store_project.specs.Groups.{CanPut, EndsPut, EndsStage, IsGroupFor, Staged, staged_after};
+    ghost use Rattle.store_project.specs.Stands.{StandsForEither};
+    ghost use Rattle.store_project.specs.States.{IsProjectKept};
+
+    /// An empty group over the project's maps, which it copies.
+    pub fn begin_group(&self) -> Result<ProjectGroup, ProjectError>
+        ensures begun { IfOk result (λ group. CanPut self.now group []) }
+        ensures reopen { IsErrOf result ProjectError.Reopen ↔ (self.now.must_reopen ≡ true) }
+        ensures no_other { IfErr result
+            (λ e. (e ≡ ProjectError.Reopen) ⊎ (e ≡ ProjectError.OutOfMemory)) }
+    {
+        if self.must_reopen {
+            return Err(ProjectError::Reopen);
+        }
+        let Ok(maps) = copy_of(self.alloc, &self.maps) else {
+            return Err(ProjectError::OutOfMemory);
+        };
+        match Group::new(self.alloc) {
+            Ok(lines) => Ok(ProjectGroup { maps, lines }),
+            Err(_) => Err(ProjectError::OutOfMemory),
+        }
+    }
+
+    // Whether the journal has room for records of so many bytes and then for a line of so many.
+    fn has_room_behind(&self, records: usize, len: usize) -> bool
+        ensures full { result ≡ false → IsAbove self.now.room (records + len) }
+        ensures room { result ≡ true → ¬ IsAbove self.now.room (records + len) }
+    {
+        match self.journal.room() {
+            Some(room) => len <= room as usize && records <= room as usize - len,
+            None => false,
+        }
+    }
+
+    /// Decides the command that a line is over the maps of a group, and adds it to the group. It makes no device call.
+    ///
+    /// The answer is the command's number, or the refusal that `apply` would give over these maps. It is `None` if the
+    /// line is accepted and the journal has no room for it behind the group's lines: then put the group and stage the
+    /// line in a new one, or apply it if the group is empty. Without a number the group is as it was.
+    pub fn stage(&self, group: &mut ProjectGroup, line: &[u8]) -> Result<Option<u32>, ProjectError>
+        requires { IsGroupFor self.now group.old }
+        ensures ends { EndsStage self.now result group.old group.new line.now }
+        ensures can { (staged : List Staged) → CanPut self.now group.old staged
+            → CanPut self.now group.new (staged_after staged line.now result) }
+    {
+        let command = match parse(line) {
+            Ok(command) => command,
+            Err(error) => return Err(refusal_of(error)),
+        };
+        let ready = match ready(&mut group.maps, &command, self.geometry.cap()) {
+            Ok(ready) => ready,
+            Err(error) => return Err(refusal_of(error)),
+        };
+        if !self.has_room_behind(group.lines.len() - 1, line.len()) {
+            return Ok(None);
+        }
+        match group.lines.push(line) {
+            Ok(()) => Ok(Some(commit(&mut group.maps, ready))),
+            Err(_) => Err(ProjectError::OutOfMemory),
+        }
+    }
+
+    /// Puts the lines of a group on the disk, by four device calls; after an `Ok` all of them are there, and its maps
+    /// are the project's. An empty group takes no device call.
+    ///
+    /// After a `Device` the maps are as before, and each call is refused with `Reopen` until the file is opened again.
+    /// There is no other refusal.
+    pub fn put(&mut self, group: ProjectGroup) -> Result<(), ProjectError>
+        requires { IsGroupFor self.old group }
+        ensures ends { EndsPut D.Disk result self.old self.new (project_of group.maps) }
+
+        // A stop at any moment of the call leaves the maps without the group's lines or with all of them.
+        ensures any_moment { self.old.must_reopen ≡ false
+            → LeavesOnly D.Disk self.old.disk self.new.disk
+            (StandsForEither self.old.cap (project_of self.old.maps) (project_of group.maps)) }
+        ensures kept { IsProjectKept D.Disk self.new }
+        ensures cap { self.new.cap ≡ self.old.cap }
+    {
+        if self.must_reopen {
+            return Err(ProjectError::Reopen);
+        }
+        let ProjectGroup { maps, lines } = group;
+        if lines.is_empty() {
+            return Ok(());
+        }
+        match self.journal.append_all(&mut self.disk, &lines) {
+            Ok(()) => {
+                self.maps = maps;
+                Ok(())
+            }
+            Err(JournalError::Device) => {
+                self.must_reopen = true;
+                Err(ProjectError::Device)
+            }
+            Err(_) => unreachable!(),
+        }
+    }
+}

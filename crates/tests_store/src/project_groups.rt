@@ -1,0 +1,147 @@
+//! Groups of a project's lines: what is answered to them, and what stops leave when a call of a put fails.
+ghost use Rattle.store_project.specs.Groups.{IsGroupFor};
+
+use crate::expect::same;
+use crate::project::bytes_from;
+use crate::project_stops::{expect_counts, failing};
+use crate::small::{SMALL, created, empty_disk, vertices};
+use map_commands::CommandError;
+use std::alloc::Global;
+use std::process::Abort;
+use std::test::Fail;
+use store_disk::{DeviceFault, Disk, FaultDisk, MemoryDisk};
+use store_project::{Project, ProjectError, ProjectGroup};
+
+// A line, and what `stage` answers to it.
+type Answer = (&'static [u8], Result<Option<u32>, ProjectError>);
+
+const NO_COMMAND: ProjectError = ProjectError::Refused(CommandError::NotACommand);
+
+const NO_VERTEX: ProjectError = ProjectError::Refused(CommandError::NoVertex);
+
+// The numbers are those after the lines before.
+#[rattlefmt::skip]
+const LINES: &[Answer] = &[
+    (b"drop vertex 0", Err(NO_VERTEX)), (b"vertex 0 0", Ok(Some(0))), (b"no command", Err(NO_COMMAND)),
+    (b"vertex 1 0", Ok(Some(1))), (b"drop vertex 2", Err(NO_VERTEX)),
+];
+
+// What the accepted ones are in a journal.
+const RECORDS: &[u8] = b"\xa5\x0a\0\0\0vertex 0 0\xa5\x0a\0\0\0vertex 1 0\0";
+
+// Stages lines, and tests their answers. The project has none of them yet.
+fn expect_staged<D: Disk>(
+    rt: &impl Abort,
+    project: &Project<D>,
+    group: &mut ProjectGroup,
+    lines: &[Answer],
+)
+    requires { IsGroupFor project.now group.old }
+    ensures { IsGroupFor project.now group.new }
+{
+    for &(line, wanted) in lines {
+        let found = project.stage(group, line);
+        same(rt, &(line, found, vertices(project)), &(line, wanted, 0));
+    }
+}
+
+// Puts the lines in one group, and returns how that ended and how many vertices the project then has.
+fn put_lines<D: Disk>(
+    rt: &impl Abort,
+    project: &mut Project<D>,
+) -> Result<(Result<(), ProjectError>, u32), ProjectError> {
+    let mut group = project.begin_group()?;
+    expect_staged(rt, project, &mut group, LINES);
+    let ended = project.put(group);
+    Ok((ended, vertices(project)))
+}
+
+// The disk of a new project that has put the lines, whose k-th device call fails.
+fn disk_after_put(rt: &impl Abort, alloc: Global, k: u64) -> Result<FaultDisk<MemoryDisk>, Fail> {
+    let mut project = failing(alloc, k, 0)?;
+    same(rt, &put_lines(rt, &mut project)?, &(Ok(()), 2));
+    Ok(project.into_disk())
+}
+
+// The first 8 device calls are those of `create`.
+#[test]
+fn puts_a_group_by_four_calls(rt: HostRuntime) -> Result<(), Fail> {
+    let mut disk = disk_after_put(&rt, rt.alloc(), 13)?;
+    same(&rt, &disk.len(), &Err(DeviceFault));
+    let bytes = bytes_from(rt.alloc(), &mut disk, 144, RECORDS.len())?;
+    same(&rt, &bytes.as_slice(), &RECORDS);
+    Ok(())
+}
+
+// The ways in which the four calls can fail: the call, and how many bytes it still writes; and whether the group's
+// first gate is open if all that was written stays.
+const FAULTS: &[(u64, u32, bool)] = &[
+    (9, 0, false),
+    (9, 15, false),
+    (9, 30, false),
+    (10, 0, false),
+    (11, 0, false),
+    (11, 1, true),
+    (12, 0, true),
+];
+
+// The disk of a project, during whose put of the lines the call fails.
+fn disk_after_fault(
+    rt: &impl Abort,
+    alloc: Global,
+    k: u64,
+    part: u32,
+) -> Result<FaultDisk<MemoryDisk>, Fail> {
+    let mut project = failing(alloc, k, part)?;
+    let ended = put_lines(rt, &mut project)?;
+    same(rt, &(k, ended), &(k, (Err(ProjectError::Device), 0)));
+    let further = (project.apply(b"vertex 0 0"), project.begin_group().is_ok());
+    same(rt, &(k, further), &(k, (Err(ProjectError::Reopen), false)));
+    Ok(project.into_disk())
+}
+
+#[test]
+fn keeps_all_of_a_group_or_none(rt: HostRuntime) -> Result<(), Fail> {
+    for &(k, part, is_open) in FAULTS {
+        let disk = disk_after_fault(&rt, rt.alloc(), k, part)?;
+        let left = if is_open { [2, 1] } else { [0, 1] };
+        expect_counts(&rt, rt.alloc(), disk, [0, 1], left)?;
+    }
+    Ok(())
+}
+
+// Stages a line 34 times, and once more, for which the journal has no room.
+fn fill_group<D: Disk>(rt: &impl Abort, project: &Project<D>, group: &mut ProjectGroup)
+    requires { IsGroupFor project.now group.old }
+    ensures { IsGroupFor project.now group.new }
+{
+    for n in 0..34 {
+        same(
+            rt,
+            &(n, project.stage(group, b"name MAP01")),
+            &(n, Ok(Some(0))),
+        );
+    }
+    same(rt, &project.stage(group, b"name MAP01"), &Ok(None));
+}
+
+// Puts a group that fills the journal, and then applies a line for which a checkpoint makes room.
+fn fill_and_apply<D: Disk>(rt: &impl Abort, project: &mut Project<D>) -> Result<(), ProjectError> {
+    let mut group = project.begin_group()?;
+    fill_group(rt, project, &mut group);
+    same(
+        rt,
+        &(project.put(group), project.generation()),
+        &(Ok(()), 1),
+    );
+    let answered = project.apply(b"name MAP01");
+    same(rt, &(answered, project.generation()), &(Ok(0), 2));
+    Ok(())
+}
+
+#[test]
+fn fills_the_journal_by_a_group(rt: HostRuntime) -> Result<(), Fail> {
+    let mut project = created(rt.alloc(), empty_disk(rt.alloc())?, SMALL)?;
+    fill_and_apply(&rt, &mut project)?;
+    Ok(())
+}
