@@ -6,7 +6,7 @@ use Rattle.std.proofs.lemmas.List.{drop-drop, drop-take, length-map, take_all, t
 use Rattle.std.proofs.lemmas.List.FromFn.{length-enumerate_from}
 use Rattle.map_script.specs.Views.{seen}
 use Rattle.map_script.specs.declared.script.ScriptLine.{ScriptLine}
-use Rattle.run_script.specs.Blocks.{behind_body, lines_between, block_len, body_of, with_places}
+use Rattle.run_script.specs.Blocks.{behind_block, lines_between, block_len, block_lines, with_places}
 use Rattle.run_script.specs.Drawn.{IsAtPlace}
 use Rattle.run_script.specs.Turns.{Turn}
 
@@ -79,13 +79,13 @@ front_between all from k until end le is =
 
 -- the lines of a block that begins at a place and ends at another
 pub body_is : (all : List (ℕ × (ℕ × List ℕ))) (from k until end : ℕ) → k ≡ block_len 0 (lines_between all from until) → from + k ≤ until → end ≡ from + k
-    → body_of (lines_between all from until) ≡ lines_between all from end
+    → block_lines (lines_between all from until) ≡ lines_between all from end
 body_is all from k until end is le at =
     ap (λ n. take n (lines_between all from until)) (sym is) ∙ front_between all from k until end le at
 
 -- the lines behind it
 pub behind_is : (all : List (ℕ × (ℕ × List ℕ))) (from k until end : ℕ) → k ≡ block_len 0 (lines_between all from until) → end ≡ from + k
-    → behind_body (lines_between all from until) ≡ lines_between all (end + 1) until
+    → behind_block (lines_between all from until) ≡ lines_between all (end + 1) until
 behind_is all from k until end is at =
     let place : from + (k + 1) ≡ end + 1 = omega (arith, at) in
     ap (λ n. drop (n + 1) (lines_between all from until)) (sym is) ∙ drop-drop (k + 1) from (take until all) ∙ ap (λ n. drop n (take until all)) place

@@ -7,7 +7,7 @@ use Rattle.map_script.specs.Loops.{loop_range}
 use Rattle.map_script.specs.Scopes.{Scope, released, with_turn_name}
 use Rattle.map_script.specs.declared.looping.Range.{Range}
 use Rattle.map_tables.specs.Projects.{current_map}
-use Rattle.run_script.specs.Blocks.{behind_body, lines_between, block_len, body_of}
+use Rattle.run_script.specs.Blocks.{behind_block, lines_between, block_len, block_lines}
 use Rattle.run_script.specs.Turns.{EndsTurn, OpensLoop, Position, Turn, after_opening, after_turn, first_turn, in_turn, next_turn}
 use Rattle.run_script.specs.Places.{Enters, IsBlockWithin, IsFirstBlock, IsWithinLines, position_of, turn_of, turns_of}
 use Rattle.run_script.specs.declared.canvas.Canvas.{Ghosts}
@@ -39,9 +39,9 @@ pub first_block : (all : List (ℕ × (ℕ × List ℕ))) (words : List (List �
     → IsFirstBlock words close range names r b → len ≡ block_len 0 (lines_between all (r.place + 1) r.until) → r.place + 1 + len ≤ r.until → close ≡ r.place + 1 + len
     → turn_of all b ≡ first_turn words range r.place (lines_between all (r.place + 1) r.until) names.held
 first_block all words close len range names r b f is within at =
-    let body : lines_between all (b.place + 1) b.end ≡ body_of (lines_between all (r.place + 1) r.until) =
+    let body : lines_between all (b.place + 1) b.end ≡ block_lines (lines_between all (r.place + 1) r.until) =
     ap₂ (λ (i j : ℕ). lines_between all (i + 1) j) f.place f.end ∙ sym (body_is all (r.place + 1) len r.until close is within at) in
-    let behind : lines_between all (b.end + 1) b.until ≡ behind_body (lines_between all (r.place + 1) r.until) =
+    let behind : lines_between all (b.end + 1) b.until ≡ behind_block (lines_between all (r.place + 1) r.until) =
     ap₂ (λ (i j : ℕ). lines_between all (i + 1) j) f.end f.until ∙ sym (behind_is all (r.place + 1) len r.until close is at) in
     λ i. record {
       name = f.name i;
@@ -58,7 +58,7 @@ pub opened : (words : List (List ℕ)) (range : Range) (place : ℕ) (lines : Li
     (turns : List Turn) (p : Position) → int_le range.from range.to ≡ true → p ≡ in_turn names turns (first_turn words range place lines names.held)
     → p ≡ after_opening names turns words range place lines
 opened words range place lines names turns p some is =
-    is ∙ sym (ap (λ t. cond t (in_turn names turns (first_turn words range place lines names.held)) (record { names = names; lines = behind_body lines; turns = turns })) some)
+    is ∙ sym (ap (λ t. cond t (in_turn names turns (first_turn words range place lines names.held)) (record { names = names; lines = behind_block lines; turns = turns })) some)
 
 -- the numbers of a loop are known
 pub range_known : {S : Type 0} (facts : Ghosts S) (words : List (List ℕ)) (place : ℕ) (lines : List (ℕ × (ℕ × List ℕ))) (canvas : S) (names : Scope)

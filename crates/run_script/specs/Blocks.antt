@@ -26,12 +26,12 @@ block_len depth (l ∷ ls) =
     if closes l.1.1 && (depth == 0) then 0 else suc (block_len (depth_after depth l.1.1) ls)
 
 -- the lines of a block, which begins these lines
-abbrev pub body_of : List (ℕ × (ℕ × List ℕ)) → List (ℕ × (ℕ × List ℕ))
-body_of lines = take (block_len 0 lines) lines
+abbrev pub block_lines : List (ℕ × (ℕ × List ℕ)) → List (ℕ × (ℕ × List ℕ))
+block_lines lines = take (block_len 0 lines) lines
 
 -- the lines behind its `end`
-abbrev pub behind_body : List (ℕ × (ℕ × List ℕ)) → List (ℕ × (ℕ × List ℕ))
-behind_body lines = drop (block_len 0 lines + 1) lines
+abbrev pub behind_block : List (ℕ × (ℕ × List ℕ)) → List (ℕ × (ℕ × List ℕ))
+behind_block lines = drop (block_len 0 lines + 1) lines
 
 -- ---- Their order
 

@@ -5,7 +5,7 @@ use Rattle.map_script.specs.Errors.{code_of}
 use Rattle.map_script.specs.Loops.{loop_name, loop_range}
 use Rattle.map_script.specs.Scopes.{Scope, released, with_turn_name}
 use Rattle.map_script.specs.declared.looping.Range.{Range}
-use Rattle.run_script.specs.Blocks.{behind_body, body_of}
+use Rattle.run_script.specs.Blocks.{behind_block, block_lines}
 use Rattle.run_script.specs.declared.canvas.Canvas.{Ghosts}
 
 -- a turn of a loop: its name and its place, the number of the turn and the last one, the lines of its
@@ -41,8 +41,8 @@ first_turn words range place lines held = record {
   place = place;
   number = range.from;
   last = range.to;
-  body = body_of lines;
-  behind = behind_body lines;
+  body = block_lines lines;
+  behind = behind_block lines;
   held = held;
 }
 
@@ -65,7 +65,7 @@ abbrev pub after_opening : Scope → List Turn → List (List ℕ) → Range →
 after_opening names turns words range place lines =
     if int_le range.from range.to
     then in_turn names turns (first_turn words range place lines names.held)
-    else record { names = names; lines = behind_body lines; turns = turns }
+    else record { names = names; lines = behind_block lines; turns = turns }
 
 -- behind a turn, without the names that it held: in the next one, or behind the block
 abbrev pub after_turn : Scope → List Turn → Turn → Position

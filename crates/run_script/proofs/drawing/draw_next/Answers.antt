@@ -19,7 +19,9 @@ returns-in-Some-clause-advanced g c =
     r c.open_loop.new.reading (text_words c.in-Some.words.now) c.open_loop.result c.index-lines-reading.is below c.requires.some loop c.open_loop.ensures.opened
 
 pub returns-clause-within : goal.returns-clause-within
-returns-clause-within g c = any_ok c.draw_line.result (record { until = c.requires.within.until; blocks = c.requires.within.blocks })
+returns-clause-within g c =
+    let within = c.requires.within in
+    any_ok c.draw_line.result (record { until = within.until; blocks = within.blocks })
 
 pub returns-clause-advanced : goal.returns-clause-advanced
 returns-clause-advanced g c =
