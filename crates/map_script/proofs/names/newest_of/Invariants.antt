@@ -1,4 +1,4 @@
-use Rattle.std.proofs.Common.{◌≡◌, ◌<◌, take, length}
+use Rattle.std.proofs.Common.{◌≡◌, ◌<◌, take}
 use Rattle.std.specs.Prelude.{IfSome}
 use Rattle.map_script.specs.Known.{newest_of}
 use Rattle.map_script.proofs.names.newest_of.Given as goal

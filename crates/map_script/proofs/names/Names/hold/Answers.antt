@@ -1,4 +1,4 @@
-use Rattle.std.proofs.Common.{◌≡◌, ◌∙◌, ◌+◌, ◌∷◌, ℕ, List, [], map, length, ap, ap₂}
+use Rattle.std.proofs.Common.{◌∙◌, ◌∷◌, ℕ, List, [], map, length, ap, ap₂}
 use Rattle.std.proofs.lemmas.List.{length-append}
 use Rattle.map_script.specs.Known.{in_front_of, known, known_entry}
 use Rattle.map_script.specs.Meant.{Meant, no_firsts, worded}

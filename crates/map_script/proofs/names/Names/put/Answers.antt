@@ -1,6 +1,6 @@
-use Rattle.std.proofs.Common.{◌≡◌, ◌∙◌, ℕ, List, None, Some, map, length, ap, ap₂, refl, sym}
+use Rattle.std.proofs.Common.{◌≡◌, ◌∙◌, ℕ, List, None, Some, map, ap, ap₂, refl, sym}
 use Rattle.std.proofs.lemmas.List.{length-set}
-use Rattle.map_script.specs.Known.{held_entry, in_front_of, known, known_entry, meant, newest_of}
+use Rattle.map_script.specs.Known.{in_front_of, known, known_entry, meant, newest_of}
 use Rattle.map_script.specs.Meant.{Meant, with_meaning}
 use Rattle.map_script.specs.declared.meaning.Meaning.{Meaning}
 use Rattle.map_script.specs.declared.names.Held.{Held}
